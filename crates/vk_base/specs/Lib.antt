@@ -1,3 +1,4 @@
 pub mod Messages
 pub mod Pids
 pub mod Ranges
+pub mod Settings

@@ -7,6 +7,7 @@
 
 mod answer;
 mod call;
+mod config;
 mod data;
 mod frame_bytes;
 mod kernel;
@@ -19,6 +20,7 @@ mod step;
 
 pub use answer::{Answer, CallOutcome, Ending, Refusal};
 pub use call::{Call, Scope};
+pub use config::{Config, ConfigRefusal, ProcessSpec, Times};
 pub use data::Data;
 pub use frame_bytes::FrameBytes;
 pub use kernel::{Exchange, Name, Observation, Process, Stage, State};
