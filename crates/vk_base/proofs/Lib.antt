@@ -1,2 +1,3 @@
 pub mod PidLemmas
 pub mod SettingsLemmas
+pub mod Examples

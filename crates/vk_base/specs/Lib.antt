@@ -1,4 +1,6 @@
+pub mod Kernel
 pub mod Messages
 pub mod Pids
 pub mod Ranges
 pub mod Settings
+pub mod Sound

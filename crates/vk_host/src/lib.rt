@@ -1,0 +1,10 @@
+//! One workstation with its kernel: events in, answers and the steps of the one-machine kernel out.
+//!
+//! Stands on vk_base. What an event is answered, and which steps it amounts to, is `specs/Entries.antt`; that the steps
+//! of every history are a run with exactly its observations is [`histories_are_runs`]. The tables are private: a crate
+//! above knows that they stand for a kernel, and nothing else of them.
+#![tactic(auto)]
+
+mod event;
+
+pub use event::{EventAnswer, StationEvent};
