@@ -1,3 +1,10 @@
 pub mod PidLemmas
 pub mod SettingsLemmas
+pub mod Tables
+pub mod Held
+pub mod FilterLemmas
+pub mod StepLemmas
+pub mod Queues
+pub mod RunLemmas
+pub mod SoundLemmas
 pub mod Examples

@@ -1,5 +1,5 @@
 -- Pids of the same numbers are one, and a test tells them apart.
-use Rattle.std.proofs.Common.{◌≡◌, ℕ, ◌<◌, Bool, true, false, nat_lt, Option, Some, None, refl, sym, arith}
+use Rattle.std.proofs.Common.{◌≡◌, ℕ, ◌<◌, Bool, true, false, nat_lt, Some, refl, sym, arith}
 use borrow.Author.Tests.{ltb-true, ltb-false}
 use denote.Struct.Props.{props}
 use Rattle.vk_base.specs.declared.pid.Pid.{Pid}
@@ -11,7 +11,7 @@ below_prop m n = hlevel props
 one_proof : {m n : ℕ} (p q : m < n) → p ≡ q
 one_proof {m} {n} p q = below_prop m n p q
 
-of_numbers : (host local : ℕ) (a d : 0 < host) (b e : host < 65535) (c f : 0 < local) → (let x : Pid = record { host = host; local = local; some_host = a; one_host = b; some_local = c } in let y : Pid = record { host = host; local = local; some_host = d; one_host = e; some_local = f } in x ≡ y)
+pub of_numbers : (host local : ℕ) (a d : 0 < host) (b e : host < 65535) (c f : 0 < local) → (let x : Pid = record { host = host; local = local; some_host = a; one_host = b; some_local = c } in let y : Pid = record { host = host; local = local; some_host = d; one_host = e; some_local = f } in x ≡ y)
 of_numbers host local a d b e c f = λ i. record { host = host; local = local; some_host = one_proof a d i; one_host = one_proof b e i; some_local = one_proof c f i }
 
 pid_by-is : (host local : ℕ) (a b c : Bool) (ea : nat_lt 0 host ≡ a) (eb : nat_lt host 65535 ≡ b) (ec : nat_lt 0 local ≡ c) (p : 0 < host) (q : host < 65535) (r : 0 < local) → pid_by host local a b c ea eb ec ≡ Some (record { host = host; local = local; some_host = p; one_host = q; some_local = r })

@@ -1,0 +1,15 @@
+//! Laws of every run of the one-machine kernel. Each is the contract of a function without a body.
+
+ghost use Rattle.std.specs.Prelude.{◌≡◌, List, Some};
+ghost use Rattle.vk_base.specs.declared.config.ProcessSpec.{ProcessSpec};
+ghost use Rattle.vk_base.specs.declared.step.Step.{Step};
+ghost use Rattle.vk_base.specs.Kernel.{Kernel, Effect, Run, opening, effect, run};
+ghost use Rattle.vk_base.specs.Sound.{IsSound};
+
+/// In every kernel that a run reaches no exchange lies beyond its sender's number of Sends, a local exchange that is
+/// queued or taken has its sender waiting on it, and a message arrives once.
+pub fn kernels_are_sound()
+    ensures opening { (specs : List ProcessSpec) → IsSound (opening specs) }
+    ensures step { (k : Kernel) (s : Step) (e : Effect) → IsSound k → effect k s ≡ Some e → IsSound e.after }
+    ensures run { (k : Kernel) (ss : List Step) (r : Run) → IsSound k → run k ss ≡ Some r → IsSound r.after }
+{}
