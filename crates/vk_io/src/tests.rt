@@ -1,6 +1,8 @@
 // Each source and sink once, where a call fails in the middle.
-use crate::{Failed, MemorySink, MemorySource, ReadRefusal, Sink, Source, StdSink, StdSource};
-use crate::{SureSink, SureSource, read_all, write_all};
+use crate::{
+    Failed, MemorySink, MemorySource, ReadRefusal, Sink, Source, StdSink, StdSource, SureSink,
+    SureSource, read_all, write_all,
+};
 use std::test::Fail;
 
 #[test]

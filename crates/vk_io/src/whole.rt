@@ -42,7 +42,8 @@ pub fn read_all<S: Source>(
         if count == 0 {
             return Ok(bytes);
         }
-        if count > most - bytes.len() {
+        let room = most - bytes.len();
+        if count > room {
             return Err(ReadRefusal::TooLong);
         }
         if bytes.extend_from_slice(&piece[..count]).is_err() {
