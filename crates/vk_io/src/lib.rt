@@ -1,0 +1,18 @@
+//! Where bytes come from and where they go. A `Source` gives bytes and a `Sink` takes them, each
+//! counts its faults, and a call fails only where that count rose. There are sources and sinks in
+//! memory, whose calls fail as they are told, and ones over std's readers and writers. `read_all`
+//! and `write_all` work over any of them. It stands on std alone.
+#![tactic(auto)]
+
+mod ends;
+mod memory;
+mod standard;
+mod whole;
+
+pub use ends::{Failed, Sink, Source};
+pub use memory::{MemorySink, MemorySource, SureSink, SureSource};
+pub use standard::{StdSink, StdSource};
+pub use whole::{ReadRefusal, read_all, write_all};
+
+#[cfg(test)]
+mod tests;

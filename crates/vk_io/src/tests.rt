@@ -1,0 +1,74 @@
+// Each source and sink once, where a call fails in the middle.
+use crate::{
+    Failed, MemorySink, MemorySource, ReadRefusal, Sink, Source, StdSink, StdSource, SureSink,
+    SureSource, read_all, write_all,
+};
+use std::test::Fail;
+
+#[test]
+fn reads_a_reader_of_std(rt: HostRuntime) -> Result<(), Fail> {
+    let bytes = vec![in rt.alloc(); 7u8; 70000]?;
+    let mut source = StdSource::new(bytes.as_slice());
+    let read = read_all(rt.alloc(), &mut source, 70000)?;
+    assert!(rt; read.as_slice() == bytes.as_slice());
+    assert_eq!(rt; source.faults(), 0);
+
+    let mut longer = StdSource::new(bytes.as_slice());
+    let refused = read_all(rt.alloc(), &mut longer, 69999);
+    assert!(rt; matches!(refused, Err(ReadRefusal::TooLong)));
+    Ok(())
+}
+
+#[test]
+fn writes_to_a_writer_of_std(rt: HostRuntime) -> Result<(), Fail> {
+    let mut kept = Vec::new(rt.alloc());
+    let mut sink = StdSink::new(&mut kept);
+    write_all(&mut sink, b"some bytes")?;
+    sink.flush()?;
+    assert_eq!(rt; sink.faults(), 0);
+    drop(sink);
+    assert_eq!(rt; kept.as_slice(), b"some bytes".as_slice());
+
+    // A writer with room for four bytes takes none of the rest.
+    let mut room = [0u8; 4];
+    let mut full = StdSink::new(room.as_mut_slice());
+    assert!(rt; write_all(&mut full, b"bytes").is_err());
+    assert_eq!(rt; full.faults(), 1);
+    Ok(())
+}
+
+#[test]
+fn reads_on_after_a_fault(rt: HostRuntime) -> Result<(), Fail> {
+    let bytes = b"abc".to_vec(rt.alloc())?;
+    let failing = vec![in rt.alloc(); 2u64]?;
+    let mut source = MemorySource::new(bytes, failing, 1);
+    let refused = read_all(rt.alloc(), &mut source, 3);
+    assert!(rt; matches!(refused, Err(ReadRefusal::Failed)));
+    assert_eq!(rt; source.faults(), 1);
+    let rest = read_all(rt.alloc(), &mut source, 2)?;
+    assert_eq!(rt; rest.as_slice(), b"bc".as_slice());
+
+    let mut sure = SureSource::new(rest);
+    let refused = read_all(rt.alloc(), &mut sure, 1);
+    assert!(rt; matches!(refused, Err(ReadRefusal::TooLong)));
+    assert_eq!(rt; sure.faults(), 0);
+    Ok(())
+}
+
+#[test]
+fn writes_on_after_a_fault(rt: HostRuntime) -> Result<(), Fail> {
+    let failing = vec![in rt.alloc(); 2u64, 4]?;
+    let mut sink = MemorySink::new(rt.alloc(), failing, 2);
+    assert!(rt; matches!(write_all(&mut sink, b"abcd"), Err(Failed)));
+    assert_eq!(rt; sink.written(), b"ab".as_slice());
+    write_all(&mut sink, b"cd")?;
+    assert!(rt; matches!(sink.flush(), Err(Failed)));
+    sink.flush()?;
+    assert_eq!(rt; sink.written(), b"abcd".as_slice());
+    assert_eq!(rt; sink.faults(), 2);
+
+    let mut sure = SureSink::new();
+    write_all(&mut sure, b"abcd")?;
+    assert_eq!(rt; sure.faults(), 0);
+    Ok(())
+}
