@@ -1,15 +1,26 @@
 //! Lines of a text, and words of a line.
 
-ghost use Rattle.std.specs.Prelude.{◌≡◌, ◌==◌, ◌+◌, ◌<◌, ◌≤◌, [], ◌∷◌, length, drop, MatchOption, IfSome};
+ghost use Rattle.std.specs.Prelude.{◌≡◌, ◌==◌, ◌+◌, ◌<◌, ◌≤◌, [], ◌∷◌, length, drop, position, MatchOption, IfSome};
 ghost use Rattle.std.specs.List.{before_first};
 ghost use Rattle.vk_text.specs.Lines.{lines_of, words_from, StartsNoWord};
+
+/// Where the first such byte stands.
+pub fn place_of(bytes: &[u8], byte: u8) -> Option<usize>
+    ensures place { result ≡ position (λ b. b == byte) bytes.now }
+    ensures within { IfSome result (λ at. at < length bytes.now) }
+{
+    bytes.iter().position(|b| *b == byte)
+}
 
 /// What stands before the first such byte, or all where there is none.
 fn before(bytes: &[u8], byte: u8) -> &[u8]
     ensures { result.now ≡ before_first (λ b. b == byte) bytes.now }
 {
-    match bytes.iter().position(|b| *b == byte) {
-        Some(at) => bytes.split_at(at).0,
+    match place_of(bytes, byte) {
+        Some(at) => {
+            let (front, _) = bytes.split_at(at);
+            front
+        }
         None => bytes,
     }
 }

@@ -1,11 +1,12 @@
 //! Words and what they spell.
 
-ghost use Rattle.std.specs.Prelude.{◌≡◌, ◌==◌, ◌+◌, ◌-◌, ◌*◌, ◌^◌, ◌<◌, ◌≤◌, true, IsTrue, length, position, SomeIff, IfSome, option_map};
+ghost use Rattle.std.specs.Prelude.{◌≡◌, ◌==◌, ◌+◌, ◌-◌, ◌*◌, ◌^◌, ◌<◌, ◌≤◌, true, IsTrue, length, SomeIff, IfSome, option_map};
 ghost use Rattle.std.specs.Char.{is_ascii_digit};
 ghost use Rattle.std.specs.List.{list_all};
 ghost use Rattle.std.specs.Str.Parse.{digits_value};
 ghost use Rattle.vk_text.specs.Words.{number_of, pid_of, is_lower_hex, lower_hex, padded, message_of};
 
+use crate::line::place_of;
 use vk_base::{Message, Pid};
 
 /// The number with one more digit, where the byte is a digit and the number is below 2^64.
@@ -42,20 +43,12 @@ pub fn number(word: &[u8], most: u64) -> Option<u64>
     if value <= most { Some(value) } else { None }
 }
 
-/// Where the first point stands.
-fn point(word: &[u8]) -> Option<usize>
-    ensures place { result ≡ position (λ c. c == 46) word.now }
-    ensures within { IfSome result (λ at. at < length word.now) }
-{
-    word.iter().position(|c| *c == b'.')
-}
-
 /// The pid that the word spells: `H.L`.
 #[tactic(auto, unfolding(crate::specs::Words::pid_of))]
 pub fn pid(word: &[u8]) -> Option<Pid>
     ensures { result ≡ pid_of word.now }
 {
-    let point = point(word)?;
+    let point = place_of(word, b'.')?;
     let (host, _) = word.split_at(point);
     let (_, local) = word.split_at(point + 1);
     let host = number(host, 65535)?;
