@@ -1,7 +1,7 @@
 //! Calls as words of a line.
 
 ghost use Rattle.std.specs.Prelude.{◌≡◌, Some, None, MatchOption};
-ghost use Rattle.vk_text.specs.Calls.{first_as, send_of, reply_of, call_of};
+ghost use Rattle.vk_text.specs.Calls.{first_as, ended, send_of, reply_of, call_of};
 ghost use Rattle.vk_text.specs.Lines.{is_end, words_from};
 ghost use Rattle.vk_text.specs.Words.{pid_of, message_of};
 
@@ -34,17 +34,20 @@ fn next_message(line: &[u8], at: usize) -> Option<(Message, usize)>
     Some((message(word)?, next))
 }
 
+/// The call, where no word is left.
+fn ended(line: &[u8], at: usize, call: Call) -> Option<Call>
+    ensures { result ≡ ended (words_from line.now at) call }
+{
+    if is_end(line, at) { Some(call) } else { None }
+}
+
 #[tactic(auto, unfolding(crate::specs::Calls::send_of))]
 fn read_send(line: &[u8], at: usize) -> Option<Call>
     ensures { result ≡ send_of (words_from line.now at) }
 {
     let (target, at) = next_pid(line, at)?;
     let (message, at) = next_message(line, at)?;
-    if is_end(line, at) {
-        Some(Call::Send { target, message })
-    } else {
-        None
-    }
+    ended(line, at, Call::Send { target, message })
 }
 
 #[tactic(auto, unfolding(crate::specs::Calls::reply_of))]
@@ -53,14 +56,11 @@ fn read_reply(line: &[u8], at: usize) -> Option<Call>
 {
     let (message, at) = next_message(line, at)?;
     let (to, at) = next_pid(line, at)?;
-    if is_end(line, at) {
-        Some(Call::Reply { message, to })
-    } else {
-        None
-    }
+    ended(line, at, Call::Reply { message, to })
 }
 
-/// The call that the rest of the line from `at` on spells, one of `send PID M`, `receive` and `reply M PID`.
+/// The call that the rest of the line from `at` on spells, one of `send PID M`, `receive` and `reply M PID`. `None`
+/// exactly where the rest is none of these.
 pub fn read_call(line: &[u8], at: usize) -> Option<Call>
     ensures { result ≡ call_of (words_from line.now at) }
 {
@@ -68,11 +68,7 @@ pub fn read_call(line: &[u8], at: usize) -> Option<Call>
     if word == b"send".as_slice() {
         read_send(line, at)
     } else if word == b"receive".as_slice() {
-        if is_end(line, at) {
-            Some(Call::Receive)
-        } else {
-            None
-        }
+        ended(line, at, Call::Receive)
     } else if word == b"reply".as_slice() {
         read_reply(line, at)
     } else {

@@ -7,7 +7,7 @@ ghost use Rattle.vk_text.specs.Spelling.{spaced, pid_text, bytes_text, message_t
 
 use itoa::Buffer;
 use std::alloc::Global;
-use vk_base::{Call, Message, NoMemory, Pid, Scope};
+use vk_base::{Call, Data, Message, NoMemory, Pid, Scope};
 
 /// Room for a call with neither long numbers nor bytes to store.
 const ROOM: usize = 64;
@@ -45,9 +45,9 @@ pub fn put_pid(alloc: Global, into: &mut Vec<u8>, pid: Pid) -> Result<(), NoMemo
     ensures ok { OnOk result (into.new.items ≡ into.old.items ++ pid_text pid) }
     ensures err { OnErr result (into.new.items ≡ into.old.items) }
 {
-    let mut text = Vec::with_capacity(alloc, 11)?;
-    write_pid(alloc, &mut text, pid)?;
-    put(into, text.as_slice())
+    let mut whole = Vec::with_capacity(alloc, 11)?;
+    write_pid(alloc, &mut whole, pid)?;
+    put(into, whole.as_slice())
 }
 
 /// How many bytes stand up to the last that is not 0.
@@ -165,14 +165,8 @@ fn with_bytes(alloc: Global, mut text: Vec<u8>, bytes: &[u8]) -> Result<Vec<u8>,
     Ok(text)
 }
 
-fn with_two(alloc: Global, text: Vec<u8>, start: u32, count: u32) -> Result<Vec<u8>, NoMemory>
-    ensures { IfOk result (λ more. more.items ≡ text.items ++ 32 ∷ decimal start ++ 32 ∷ decimal count) }
-{
-    let text = with_number(alloc, text, start)?;
-    with_number(alloc, text, count)
-}
-
-fn with_three(
+/// `DEST SRC COUNT`, behind a text.
+fn with_places(
     alloc: Global,
     text: Vec<u8>,
     dest: u32,
@@ -181,35 +175,51 @@ fn with_three(
 ) -> Result<Vec<u8>, NoMemory>
     ensures { IfOk result (λ more. more.items ≡ text.items ++ 32 ∷ decimal dest ++ 32 ∷ decimal src ++ 32 ∷ decimal count) }
 {
-    let text = with_two(alloc, text, dest, src)?;
+    let text = with_number(alloc, text, dest)?;
+    let text = with_number(alloc, text, src)?;
     with_number(alloc, text, count)
 }
 
-/// The text of a call that carries a message.
+/// `send PID M`
 fn send_text(alloc: Global, target: Pid, message: &Message) -> Result<Vec<u8>, NoMemory>
     ensures { IfOk result (λ text. text.items ≡ spaced (codes "send") (pid_text target ∷ message_text message.now ∷ [])) }
 {
-    let text = begin(alloc, b"send")?;
-    let text = with_pid(alloc, text, target)?;
+    let text = with_pid(alloc, begin(alloc, b"send")?, target)?;
     with_message(alloc, text, message)
 }
 
-/// `word M PID`
+/// `WORD START COUNT`
+fn range_text(alloc: Global, word: &[u8], start: u32, count: u32) -> Result<Vec<u8>, NoMemory>
+    ensures { IfOk result (λ text. text.items ≡ spaced word.now (decimal start ∷ decimal count ∷ [])) }
+{
+    let text = with_number(alloc, begin(alloc, word)?, start)?;
+    with_number(alloc, text, count)
+}
+
+/// `WORD M PID`
 fn reply_text(alloc: Global, word: &[u8], message: &Message, to: Pid) -> Result<Vec<u8>, NoMemory>
     ensures { IfOk result (λ text. text.items ≡ spaced word.now (message_text message.now ∷ pid_text to ∷ [])) }
 {
-    let text = begin(alloc, word)?;
-    let text = with_message(alloc, text, message)?;
+    let text = with_message(alloc, begin(alloc, word)?, message)?;
     with_pid(alloc, text, to)
 }
 
-fn move_text(alloc: Global, word: &[u8], partner: Pid) -> Result<Vec<u8>, NoMemory>
-    ensures { IfOk result (λ text. text.items ≡ spaced word.now (pid_text partner ∷ [])) }
+/// `WORD PID DEST SRC COUNT`
+fn move_text(
+    alloc: Global,
+    word: &[u8],
+    partner: Pid,
+    dest: u32,
+    src: u32,
+    count: u32,
+) -> Result<Vec<u8>, NoMemory>
+    ensures { IfOk result (λ text. text.items ≡ spaced word.now (pid_text partner ∷ decimal dest ∷ decimal src ∷ decimal count ∷ [])) }
 {
-    let text = begin(alloc, word)?;
-    with_pid(alloc, text, partner)
+    let text = with_pid(alloc, begin(alloc, word)?, partner)?;
+    with_places(alloc, text, dest, src, count)
 }
 
+/// `setpid LOGICAL PID SCOPE`
 fn set_pid_text(alloc: Global, logical: u32, pid: Pid, scope: Scope) -> Result<Vec<u8>, NoMemory>
     ensures { IfOk result (λ text. text.items ≡ spaced (codes "setpid") (decimal logical ∷ pid_text pid ∷ scope_text scope ∷ [])) }
 {
@@ -218,7 +228,22 @@ fn set_pid_text(alloc: Global, logical: u32, pid: Pid, scope: Scope) -> Result<V
     with_word(text, scope_word(scope))
 }
 
-/// The text of a call.
+/// `getpid LOGICAL SCOPE`
+fn get_pid_text(alloc: Global, logical: u32, scope: Scope) -> Result<Vec<u8>, NoMemory>
+    ensures { IfOk result (λ text. text.items ≡ spaced (codes "getpid") (decimal logical ∷ scope_text scope ∷ [])) }
+{
+    let text = with_number(alloc, begin(alloc, b"getpid")?, logical)?;
+    with_word(text, scope_word(scope))
+}
+
+/// `store START B`
+fn store_text(alloc: Global, start: u32, bytes: &Data) -> Result<Vec<u8>, NoMemory>
+    ensures { IfOk result (λ text. text.items ≡ spaced (codes "store") (decimal start ∷ bytes_text bytes.now ∷ [])) }
+{
+    let text = with_number(alloc, begin(alloc, b"store")?, start)?;
+    with_bytes(alloc, text, bytes.as_slice())
+}
+
 #[tactic(auto, unfolding(crate::specs::Spelling::call_text))]
 fn call_text(alloc: Global, call: &Call) -> Result<Vec<u8>, NoMemory>
     ensures { IfOk result (λ text. text.items ≡ call_text call.now) }
@@ -229,12 +254,7 @@ fn call_text(alloc: Global, call: &Call) -> Result<Vec<u8>, NoMemory>
             ref message,
         } => send_text(alloc, target, message),
         Call::Receive => begin(alloc, b"receive"),
-        Call::ReceiveSegment { start, count } => with_two(
-            alloc,
-            begin(alloc, b"receivesegment")?,
-            start,
-            count,
-        ),
+        Call::ReceiveSegment { start, count } => range_text(alloc, b"receivesegment", start, count),
         Call::Reply { ref message, to } => reply_text(alloc, b"reply", message, to),
         Call::ReplySegment {
             ref message,
@@ -243,53 +263,29 @@ fn call_text(alloc: Global, call: &Call) -> Result<Vec<u8>, NoMemory>
             src,
             count,
         } => {
-            with_three(
-                alloc,
-                reply_text(alloc, b"replysegment", message, to)?,
-                dest,
-                src,
-                count,
-            )
+            let text = reply_text(alloc, b"replysegment", message, to)?;
+            with_places(alloc, text, dest, src, count)
         }
         Call::MoveTo {
             partner,
             dest,
             src,
             count,
-        } => with_three(
-            alloc,
-            move_text(alloc, b"moveto", partner)?,
-            dest,
-            src,
-            count,
-        ),
+        } => move_text(alloc, b"moveto", partner, dest, src, count),
         Call::MoveFrom {
             partner,
             dest,
             src,
             count,
-        } => with_three(
-            alloc,
-            move_text(alloc, b"movefrom", partner)?,
-            dest,
-            src,
-            count,
-        ),
+        } => move_text(alloc, b"movefrom", partner, dest, src, count),
         Call::SetPid {
             logical,
             pid,
             scope,
         } => set_pid_text(alloc, logical, pid, scope),
-        Call::GetPid { logical, scope } => with_word(
-            with_number(alloc, begin(alloc, b"getpid")?, logical)?,
-            scope_word(scope),
-        ),
-        Call::Load { start, count } => with_two(alloc, begin(alloc, b"load")?, start, count),
-        Call::Store { start, ref bytes } => with_bytes(
-            alloc,
-            with_number(alloc, begin(alloc, b"store")?, start)?,
-            bytes.as_slice(),
-        ),
+        Call::GetPid { logical, scope } => get_pid_text(alloc, logical, scope),
+        Call::Load { start, count } => range_text(alloc, b"load", start, count),
+        Call::Store { start, ref bytes } => store_text(alloc, start, bytes),
         Call::Exit => begin(alloc, b"exit"),
     }
 }
