@@ -1,11 +1,11 @@
 -- Hexadecimal and messages.
-use Rattle.std.proofs.Common.{◌≡◌, ℕ, ◌+◌, ◌-◌, ◌*◌, ◌/◌, ◌<◌, ◌≤◌, ◌==◌, ◌&&◌, not, nat_le, nat_lt, Bool, true, false, cond, List, [], ◌∷◌, ◌++◌, length, get_or, slice_index, take, drop, replicate, codes, bytes_eq, Option, Some, None, Result, Ok, Err, MatchResult, if◌then◌else◌, unwrap_or, ◌⊎◌, refl, arith, ap, sym, ◌∙◌, inl, inr, subst}
+use Rattle.std.proofs.Common.{◌≡◌, ℕ, ◌-◌, ◌*◌, ◌/◌, ◌<◌, ◌≤◌, ◌==◌, ◌&&◌, not, nat_le, Bool, true, false, cond, List, [], ◌∷◌, ◌++◌, length, slice_index, take, drop, replicate, codes, bytes_eq, Option, Some, None, Result, Ok, Err, MatchResult, if◌then◌else◌, unwrap_or, ◌⊎◌, refl, arith, ap, sym, ◌∙◌, inl, inr, subst}
 use Rattle.std.specs.Prelude.{option_map}
 use Rattle.std.specs.List.{list_all}
 use Rattle.std.specs.Result.{result_ok}
 use Rattle.std.proofs.lemmas.Bool.{cond-false, lt-leb, le-leb}
 use Rattle.std.proofs.lemmas.Grind.{common_steps}
-use Rattle.std.proofs.lemmas.List.{drop-replicate, length-take-le}
+use Rattle.std.proofs.lemmas.List.{drop-replicate}
 use Rattle.hex.specs.Hex.{decode_of, decode_sized}
 use Rattle.hex.specs.declared.error.FromHexError.{FromHexError}
 use Rattle.hex.proofs.HexLemmas.{decode_of-ok, decode_sized-ok, decode_sized-twice}
@@ -68,25 +68,21 @@ by_read word (Some bytes) h len = by_count word bytes (two_a_byte word bytes h) 
 pub no_message : (word : List ℕ) → bytes_eq word (codes "-") ≡ false → (length word < 2) ⊎ (64 < length word) → None ≡ message_of word
 no_message word h len = sym (no_dash word h ∙ by_read word (lower_hex word) refl len)
 
-turned : {A : Type 0} (t : Bool) (x y : A) → cond (not t) x y ≡ cond t y x
-turned true x y = refl
-turned false x y = refl
-
 last_byte : (bytes zeros : List ℕ) (n : ℕ) → 0 < length bytes → n ≡ length bytes - 1 → slice_index (bytes ++ zeros) n ≡ slice_index bytes (length bytes - 1)
 last_byte bytes zeros n some h = grind (arith, common_steps)
 
-by_last : (bytes : List ℕ) (n : ℕ) → length bytes ≤ 32 → 0 < length bytes → n ≡ length bytes - 1 → shown bytes ≡ cond (slice_index (padded bytes).0 n == 0) None (Some (padded bytes))
+by_last : (bytes : List ℕ) (n : ℕ) → length bytes ≤ 32 → 0 < length bytes → n ≡ length bytes - 1 → shown bytes ≡ cond (not (slice_index (padded bytes).0 n == 0)) (Some (padded bytes)) None
 unfolding shown
 by_last bytes n le some h =
-    rw (le-leb (length bytes) 32 le, last_byte bytes (replicate (32 - length bytes) 0) n some h) (turned (slice_index bytes (length bytes - 1) == 0) (Some (padded bytes)) None)
+    rw (le-leb (length bytes) 32 le, last_byte bytes (replicate (32 - length bytes) 0) n some h) refl
 
-by_message : (word : List ℕ) (m : Message) (o : Option (List ℕ)) → lower_hex word ≡ o → Some m ≡ option_map padded o → 2 ≤ length word → length word ≤ 64 → (o >>= shown) ≡ cond (slice_index m.0 (length word / 2 - 1) == 0) None (Some m)
+by_message : (word : List ℕ) (m : Message) (o : Option (List ℕ)) → lower_hex word ≡ o → Some m ≡ option_map padded o → 2 ≤ length word → length word ≤ 64 → (o >>= shown) ≡ cond (not (slice_index m.0 (length word / 2 - 1) == 0)) (Some m) None
 by_message word m None h is low high = cc
 by_message word m (Some bytes) h is low high =
     let twice : length word ≡ 2 * length bytes = two_a_byte word bytes h in
     let same : m ≡ padded bytes = ap (λ (r : Option Message). unwrap_or r m) is in
-    subst (λ (x : Message). shown bytes ≡ cond (slice_index x.0 (length word / 2 - 1) == 0) None (Some x)) (sym same) (by_last bytes (length word / 2 - 1) (omega arith) (omega arith) (omega arith))
+    subst (λ (x : Message). shown bytes ≡ cond (not (slice_index x.0 (length word / 2 - 1) == 0)) (Some x) None) (sym same) (by_last bytes (length word / 2 - 1) (omega arith) (omega arith) (omega arith))
 
 -- the message that was decoded, if its last byte that was written is not 0
-pub message_shown : (word : List ℕ) (m : Message) → bytes_eq word (codes "-") ≡ false → Some m ≡ option_map padded (lower_hex word) → 2 ≤ length word → length word ≤ 64 → message_of word ≡ cond (slice_index m.0 (length word / 2 - 1) == 0) None (Some m)
+pub message_shown : (word : List ℕ) (m : Message) → bytes_eq word (codes "-") ≡ false → Some m ≡ option_map padded (lower_hex word) → 2 ≤ length word → length word ≤ 64 → message_of word ≡ cond (not (slice_index m.0 (length word / 2 - 1) == 0)) (Some m) None
 message_shown word m h is low high = no_dash word h ∙ by_message word m (lower_hex word) refl is low high

@@ -1,6 +1,6 @@
 //! Words and what they spell.
 
-ghost use Rattle.std.specs.Prelude.{◌≡◌, ◌==◌, ◌+◌, ◌-◌, ◌*◌, ◌^◌, ◌<◌, ◌≤◌, true, IsTrue, length, SomeIff, IfSome, option_map};
+ghost use Rattle.std.specs.Prelude.{◌≡◌, ◌==◌, ◌+◌, ◌-◌, ◌*◌, ◌^◌, ◌<◌, ◌≤◌, true, not, IsTrue, slice_index, length, SomeIff, IfSome, option_map};
 ghost use Rattle.std.specs.Char.{is_ascii_digit};
 ghost use Rattle.std.specs.List.{list_all};
 ghost use Rattle.std.specs.Str.Parse.{digits_value};
@@ -84,6 +84,15 @@ fn unhexed(word: &[u8]) -> Option<Message>
     }
 }
 
+/// Whether the last of the first `len` bytes is not 0.
+fn ends_filled(message: &Message, len: usize) -> bool
+    requires some { 0 < len }
+    requires within { len ≤ 32 }
+    ensures { result ≡ not (slice_index message.now.0 (len - 1) == 0) }
+{
+    message.0[len - 1] != 0
+}
+
 /// The message that the word spells: lower-case hexadecimal of the bytes up to the last that is not 0, or `-` where all
 /// 32 bytes are 0.
 #[tactic(auto, unfolding(crate::specs::Words::message_of))]
@@ -97,9 +106,9 @@ pub fn message(word: &[u8]) -> Option<Message>
         return None;
     }
     let message = unhexed(word)?;
-    if message.0[word.len() / 2 - 1] == 0 {
-        None
-    } else {
+    if ends_filled(&message, word.len() / 2) {
         Some(message)
+    } else {
+        None
     }
 }
