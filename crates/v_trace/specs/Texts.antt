@@ -1,0 +1,55 @@
+-- The texts of steps and of answers.
+use Rattle.std.specs.Prelude.{ℕ, List, [], ◌∷◌, decimal, codes}
+use Rattle.vk_base.specs.declared.answer.Answer.{Answer}
+use Rattle.vk_base.specs.declared.answer.Answer.TheVariants as answers
+use Rattle.vk_base.specs.declared.answer.Ending.{Ending}
+use Rattle.vk_base.specs.declared.answer.Ending.TheVariants as endings
+use Rattle.vk_base.specs.declared.answer.Refusal.{Refusal}
+use Rattle.vk_base.specs.declared.answer.Refusal.TheVariants as refusals
+use Rattle.vk_base.specs.declared.step.Step.{Step}
+use Rattle.vk_base.specs.declared.step.Step.TheVariants as steps
+use Rattle.vk_text.specs.Spelling.{spaced, pid_text, bytes_text, message_text, call_text}
+
+abbrev pub refusal_text : Refusal → List ℕ
+refusal_text refusals.NoProcess = codes "noprocess"
+refusal_text refusals.TimedOut = codes "timedout"
+refusal_text refusals.BadSegment = codes "badsegment"
+refusal_text refusals.NotAwaiting = codes "notawaiting"
+refusal_text refusals.NoAccess = codes "noaccess"
+refusal_text refusals.BadRange = codes "badrange"
+refusal_text refusals.TooLong = codes "toolong"
+refusal_text refusals.Gone = codes "gone"
+refusal_text refusals.NotFound = codes "notfound"
+refusal_text refusals.NamesFull = codes "namesfull"
+refusal_text refusals.Busy = codes "busy"
+refusal_text refusals.NotYet = codes "notyet"
+refusal_text refusals.Dead = codes "dead"
+
+abbrev pub ending_text : Ending → List ℕ
+ending_text endings.Ok = codes "ok"
+ending_text endings.NoProcess = codes "noprocess"
+ending_text endings.TimedOut = codes "timedout"
+ending_text endings.Gone = codes "gone"
+
+unfoldable pub answer_text : Answer → List ℕ
+answer_text answers.Ok = codes "ok"
+answer_text (answers.Replied message) = spaced (codes "ok") (message_text message ∷ [])
+answer_text (answers.Received from message) = spaced (codes "ok") (pid_text from ∷ message_text message ∷ [])
+answer_text (answers.ReceivedSegment from message count) = spaced (codes "ok") (pid_text from ∷ message_text message ∷ decimal count ∷ [])
+answer_text (answers.Found pid) = spaced (codes "ok") (pid_text pid ∷ [])
+answer_text (answers.Loaded bytes) = spaced (codes "ok") (bytes_text bytes ∷ [])
+answer_text (answers.Refused why) = refusal_text why
+
+unfoldable pub step_text : Step → List ℕ
+step_text (steps.Call pid call) = spaced (codes "call") (pid_text pid ∷ call_text call ∷ [])
+step_text (steps.Arrive sender number) = spaced (codes "arrive") (pid_text sender ∷ decimal number ∷ [])
+step_text (steps.Take pid) = spaced (codes "take") (pid_text pid ∷ [])
+step_text (steps.Finish pid) = spaced (codes "finish") (pid_text pid ∷ [])
+step_text (steps.Fail pid why) = spaced (codes "fail") (pid_text pid ∷ ending_text why ∷ [])
+step_text (steps.OpenMove sender number moving) = spaced (codes "open") (pid_text sender ∷ decimal number ∷ decimal moving ∷ [])
+step_text (steps.Copy sender number moving offset count) = spaced (codes "copy") (pid_text sender ∷ decimal number ∷ decimal moving ∷ decimal offset ∷ decimal count ∷ [])
+step_text (steps.End pid why) = spaced (codes "end") (pid_text pid ∷ ending_text why ∷ [])
+step_text (steps.Hear asker number pid) = spaced (codes "hear") (pid_text asker ∷ decimal number ∷ pid_text pid ∷ [])
+step_text (steps.Found asker pid) = spaced (codes "found") (pid_text asker ∷ pid_text pid ∷ [])
+step_text (steps.Lost asker) = spaced (codes "lost") (pid_text asker ∷ [])
+step_text (steps.Collect pid) = spaced (codes "collect") (pid_text pid ∷ [])

@@ -1,0 +1,4 @@
+pub mod Firsts
+pub mod Hexadecimal
+pub mod Numerals
+pub mod Parts

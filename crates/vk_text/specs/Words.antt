@@ -1,0 +1,55 @@
+-- Words and what they spell.
+use Rattle.std.specs.Prelude.{ℕ, ◌+◌, ◌-◌, ◌==◌, ◌&&◌, ◌||◌, not, nat_le, Bool, List, [], ◌++◌, length, take, drop, replicate, slice_index, position, codes, bytes_eq, Option, Some, None, if◌then◌else◌}
+use Rattle.std.specs.Char.{is_ascii_digit}
+use Rattle.std.specs.Int.{is_in_range}
+use Rattle.std.specs.List.{list_all}
+use Rattle.std.specs.Result.{result_ok}
+use Rattle.std.specs.Str.Parse.{digits_value}
+use Rattle.hex.specs.Hex.{decode_of}
+use Rattle.vk_base.specs.Pids.{pid_of_numbers}
+use Rattle.vk_base.specs.declared.message.Message.{Message}
+use Rattle.vk_base.specs.declared.pid.Pid.{Pid}
+
+-- what is read next from a value that was read, if one was
+infixl 10 ◌>>=◌
+abbrev pub ◌>>=◌ : {A B : Type 0} → Option A → (A → Option B) → Option B
+None >>= f = None
+(Some x) >>= f = f x
+
+-- decimal digits, at least one, and none before others is a leading `0`
+abbrev pub is_numeral : List ℕ → Bool
+is_numeral word = list_all is_ascii_digit word && not (length word == 0) && (length word == 1 || not (slice_index word 0 == 48))
+
+-- a number of at most `most`
+unfoldable pub number_of : ℕ → List ℕ → Option ℕ
+number_of most word = if is_numeral word && nat_le (digits_value 10 word) most then Some (digits_value 10 word) else None
+
+-- `H.L`, two numbers with a point between
+unfoldable pub pid_of : List ℕ → Option Pid
+pid_of word = do
+  point ← position (λ c. c == 46) word
+  host ← number_of 65535 (take point word)
+  local ← number_of 65535 (drop (point + 1) word)
+  pid_of_numbers host local
+
+-- `0` to `9` and `a` to `f`
+abbrev pub is_lower_hex : ℕ → Bool
+is_lower_hex c = is_ascii_digit c || is_in_range 97 102 c
+
+-- the bytes of which this is the lower-case hexadecimal
+abbrev pub lower_hex : List ℕ → Option (List ℕ)
+lower_hex word = if list_all is_lower_hex word then result_ok (decode_of word) else None
+
+-- there is a last byte, and it is not 0
+abbrev pub ends_filled : List ℕ → Bool
+ends_filled bytes = not (slice_index bytes (length bytes - 1) == 0)
+
+-- the message of these bytes and zeros behind
+abbrev pub padded : List ℕ → Message
+padded bytes = record { 0 = bytes ++ replicate (32 - length bytes) 0 }
+
+-- lower-case hexadecimal of the bytes up to the last that is not 0; `-` where all are 0
+unfoldable pub message_of : List ℕ → Option Message
+message_of word =
+    if bytes_eq word (codes "-") then Some (padded [])
+    else lower_hex word >>= λ bytes. if nat_le (length bytes) 32 && ends_filled bytes then Some (padded bytes) else None

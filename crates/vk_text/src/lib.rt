@@ -1,0 +1,17 @@
+//! Words of texts: the lines of a text, the words of a line, and how numbers, pids, messages, bytes, scopes and calls
+//! are spelled. What is read and what is written go by the definitions of `specs/`.
+//!
+//! Stands on the values of `vk_base`. It knows no whole text: schedules, traces and reports are read and written above.
+#![tactic(auto)]
+
+mod call;
+mod line;
+mod spelling;
+#[cfg(test)]
+mod tests;
+mod word;
+
+pub use call::{is_end, read_call};
+pub use line::{next_line, next_word};
+pub use spelling::{put_bytes, put_call, put_message, put_number, put_pid};
+pub use word::{message, number, pid};

@@ -1,0 +1,57 @@
+//! Vectors of words, and calls that are read and written again.
+
+use super::{
+    message, next_line, next_word, number, pid, put_call, put_message, put_pid, read_call,
+};
+use std::test::Fail;
+use vk_base::{Message, Pid};
+
+#[test]
+fn words_and_calls(rt: HostRuntime) -> Result<(), Fail> {
+    let alloc = rt.alloc();
+    assert!(rt; number(b"0", 9) == Some(0));
+    assert!(rt; number(b"10", 10) == Some(10));
+    assert!(rt; number(b"11", 10).is_none());
+    assert!(rt; number(b"00", 10).is_none());
+    assert!(rt; number(b"+1", 10).is_none());
+    assert!(rt; number(b"", 10).is_none());
+    assert!(rt; number(b"18446744073709551615", u64::MAX) == Some(u64::MAX));
+    assert!(rt; number(b"18446744073709551616", u64::MAX).is_none());
+
+    assert!(rt; pid(b"1.65535") == Pid::new(1, 65535));
+    assert!(rt; pid(b"1.65535").is_some());
+    assert!(rt; pid(b"0.1").is_none());
+    assert!(rt; pid(b"65535.1").is_none());
+    assert!(rt; pid(b"1.0").is_none());
+    assert!(rt; pid(b"1.1.1").is_none());
+
+    let mut bytes = [0u8; 32];
+    assert!(rt; message(b"-") == Some(Message(bytes)));
+    bytes[0] = 10;
+    assert!(rt; message(b"0a") == Some(Message(bytes)));
+    assert!(rt; message(b"0A").is_none());
+    assert!(rt; message(b"0a00").is_none());
+    assert!(rt; message(b"0a0").is_none());
+    let long = b"0102030405060708091011121314151617181920212223242526272829303132";
+    let mut text = Vec::new(alloc);
+    let all = message(long).ok_or("64 digits")?;
+    put_message(alloc, &mut text, &all)?;
+    assert!(rt; text.as_slice() == long.as_slice());
+    assert!(rt;
+        message(b"010203040506070809101112131415161718192021222324252627282930313233").is_none()
+    );
+
+    let line = b"call 1.1 send 2.1 0a";
+    let (at, _) = next_line(line, 0).ok_or("a line")?;
+    let (word, next) = next_word(at, 5).ok_or("a word")?;
+    assert!(rt; word == b"1.1".as_slice());
+    let call = read_call(line, next).ok_or("a call")?;
+    let mut text = Vec::new(alloc);
+    put_call(alloc, &mut text, &call)?;
+    assert!(rt; text.as_slice() == b"send 2.1 0a".as_slice());
+    assert!(rt; read_call(b"receive ", 0).is_none());
+    assert!(rt; read_call(b"reply 0b  1.1", 0).is_none());
+    put_pid(alloc, &mut text, Pid { host: 1, local: 2 })?;
+    assert!(rt; text.as_slice() == b"send 2.1 0a1.2".as_slice());
+    Ok(())
+}
