@@ -1,11 +1,14 @@
 -- The greatest number at which a process holds a sender.
 use Rattle.std.proofs.Common.{◌≡◌, ℕ, zero, suc, ◌<◌, ◌≤◌, Bool, true, false, Option, Some, None, refl, sym, ap, ◌∙◌, arith}
-use Rattle.std.proofs.lemmas.Bool.{cond-true, cond-false}
+use Rattle.std.proofs.lemmas.Bool.{and_parts, both_ways, cond-true, cond-false}
 use Rattle.std.proofs.lemmas.Option.{same_Some, none-some}
 use Rattle.vk_base.specs.declared.kernel.Exchange.{Exchange}
 use Rattle.vk_base.specs.declared.kernel.Name.{Name}
+use Rattle.vk_base.specs.declared.kernel.Process.{Process}
 use Rattle.vk_base.specs.declared.pid.Pid.{Pid}
-use Rattle.vk_base.specs.Kernel.{holds_of, name_of, is_held_by, held_up_to}
+use Rattle.vk_base.specs.Kernel.{Kernel, holds_of, name_of, is_held_by, is_taken, held, held_up_to}
+use Rattle.vk_base.specs.Pids.{same_pid}
+use Rattle.vk_base.proofs.StepLemmas.{bind_is}
 
 -- whether the process holds the sender at this number
 abbrev pub holds_at : (Name → Option Exchange) → Pid → Pid → ℕ → Bool
@@ -46,3 +49,26 @@ pub held_is : (exchanges : Name → Option Exchange) (r sender : Pid) (bound n :
 unfolding held_up_to
 held_is exchanges r sender zero n e = absurd (none-some n e)
 held_is exchanges r sender (suc bound) n e = by_test exchanges r sender bound n (holds_at exchanges r sender (suc bound)) refl (held_is exchanges r sender bound n) e
+
+some_that_holds : {A : Type 0} (test : A → Bool) (o : Option A) → holds_of test o ≡ true → (x : A) × (o ≡ Some x) × (test x ≡ true)
+some_that_holds test None t = absurd (both_ways false refl t)
+some_that_holds test (Some x) t = (x, refl, t)
+
+-- the exchange that is meant where a process holds a sender
+pub record IsHolding (k : Kernel) (r sender : Pid) (number : ℕ) : Type 0 where
+  pub process : Process
+  pub sends : k.procs sender ≡ Some process
+  pub within : IsHeldAt k.exchanges r sender process.sends number
+  pub exchange : Exchange
+  pub is : k.exchanges (name_of sender number) ≡ Some exchange
+  pub target : same_pid exchange.target r ≡ true
+  pub taken : is_taken exchange.stage ≡ true
+
+pub holding_is : (k : Kernel) (r sender : Pid) (number : ℕ) → held k r sender ≡ Some number → IsHolding k r sender number
+unfolding held
+holding_is k r sender number e =
+    let p = bind_is (k.procs sender) _ number e in
+    let within = held_is k.exchanges r sender p.0.sends number p.2 in
+    let x = some_that_holds (is_held_by r) (k.exchanges (name_of sender number)) within.is in
+    let parts = and_parts (same_pid x.0.target r) (is_taken x.0.stage) x.2 in
+    record { process = p.0; sends = p.1; within = within; exchange = x.0; is = x.1; target = parts.0; taken = parts.1 }

@@ -126,7 +126,7 @@ once_more : (k : Kernel) (name : Name) (b : Bool) → IsDistinct same_name k.arr
 once_more k name true once new = distinct_push same_name_laws k.arrived name once new
 once_more k name false once new = once
 
-ready_sends_none : (s : State) → is_ready s ≡ true → sending s ≡ None
+pub ready_sends_none : (s : State) → is_ready s ≡ true → sending s ≡ None
 ready_sends_none states.Ready t = refl
 ready_sends_none (states.Blocked c) t = absurd (both_ways false refl t)
 ready_sends_none (states.Done c a) t = refl

@@ -6,5 +6,7 @@
 #![tactic(auto)]
 
 mod event;
+mod laws;
 
 pub use event::{EventAnswer, StationEvent};
+pub use laws::histories_are_runs;

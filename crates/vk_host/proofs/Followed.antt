@@ -1,0 +1,124 @@
+-- What holds of the kernel between the events of a history, and what each step of a local work does to it.
+use Rattle.std.proofs.Common.{◌≡◌, Bool, true, false, cond, ◌||◌, List, [], ◌∷◌, find, Option, Some, None, is_some, IsSome, option_map, refl, sym, ap, subst, ◌∙◌, inl, inr}
+use Rattle.std.proofs.lemmas.Bool.{cases_Bool, both_ways}
+use Rattle.std.proofs.lemmas.Option.{same_Some, none-some}
+use Rattle.std.specs.List.{list_any}
+use Rattle.vk_base.specs.declared.answer.Answer.{Answer}
+use Rattle.vk_base.specs.declared.answer.Answer.TheVariants as answers
+use Rattle.vk_base.specs.declared.call.Call.{Call}
+use Rattle.vk_base.specs.declared.call.Call.TheVariants as calls
+use Rattle.vk_base.specs.declared.config.ProcessSpec.{ProcessSpec}
+use Rattle.vk_base.specs.declared.kernel.Exchange.{Exchange}
+use Rattle.vk_base.specs.declared.kernel.Name.{Name}
+use Rattle.vk_base.specs.declared.kernel.Process.{Process}
+use Rattle.vk_base.specs.declared.kernel.Stage.{Stage}
+use Rattle.vk_base.specs.declared.kernel.Stage.TheVariants as stages
+use Rattle.vk_base.specs.declared.kernel.State.{State}
+use Rattle.vk_base.specs.declared.kernel.State.TheVariants as states
+use Rattle.vk_base.specs.declared.message.Message.{Message}
+use Rattle.vk_base.specs.declared.pid.Pid.{Pid}
+use Rattle.vk_base.specs.Kernel.{Kernel, Taking, Finishing, Collecting, opening, opened, put_process, put_exchange, with_state, with_stage, taking, taken, finishing, finished, collecting, receiving, sending, finished_call}
+use Rattle.vk_base.specs.Pids.{same_pid}
+use Rattle.vk_base.specs.Ranges.{with_bytes}
+use Rattle.vk_base.specs.Settings.{is_process, has_process}
+use Rattle.vk_base.specs.Sound.{IsSound}
+use Rattle.vk_base.proofs.SoundLemmas.{sound_opening, sound_taken, sound_finished, sound_collected}
+use Rattle.vk_base.proofs.StepLemmas.{taking_is, finishing_is, collecting_is}
+use Rattle.vk_base.proofs.Tables.{same_pid_is, put_process_at, put_process_other}
+use Rattle.vk_host.specs.Entries.{is_not_yet, no_call}
+
+-- what a process in this state began last
+abbrev pub Began : State → Option Call → Type 0
+Began states.Ready last = Unit {0}
+Began (states.Blocked c) last = last ≡ Some c
+Began (states.Done c a) last = (last ≡ Some c) × (is_not_yet a ≡ false)
+
+pub record IsFollowed (specs : List ProcessSpec) (k : Kernel) (last : Pid → Option Call) : Type 0 where
+  pub sound : IsSound k
+  -- every process of the configuration is there
+  pub there : (pid : Pid) → has_process specs pid ≡ true → IsSome (k.procs pid)
+  -- a process that waits, or has something to collect, is in the call that it began last
+  pub began : (pid : Pid) (p : Process) → k.procs pid ≡ Some p → Began p.state (last pid)
+
+-- The opening kernel.
+find_there : (test : ProcessSpec → Bool) (specs : List ProcessSpec) → list_any test specs ≡ true → IsSome (option_map opened (find test specs))
+find_there test [] t = absurd (both_ways false refl t)
+find_there test (s ∷ ss) t = by_test (test s) (find_there test ss) t
+  where
+    by_test : (b : Bool) → (list_any test ss ≡ true → IsSome (option_map opened (find test ss))) → (b || list_any test ss) ≡ true → IsSome (option_map opened (cond b (Some s) (find test ss)))
+    by_test true again t = refl
+    by_test false again t = again t
+
+opened_is_ready : (o : Option ProcessSpec) (p : Process) → option_map opened o ≡ Some p → p.state ≡ states.Ready
+opened_is_ready None p e = absurd (none-some p e)
+opened_is_ready (Some s) p e = sym (ap (λ (x : Process). x.state) (same_Some (opened s) p e))
+
+pub followed_opening : (specs : List ProcessSpec) → IsFollowed specs (opening specs) no_call
+followed_opening specs = record {
+  sound = sound_opening specs;
+  there = λ pid t. find_there (is_process pid) specs t;
+  began = λ pid p e. subst (λ s. Began s (no_call pid)) (sym (opened_is_ready (find (is_process pid) specs) p e)) tt;
+}
+
+-- A process is put, and what it began last with it.
+pub followed_put : (specs : List ProcessSpec) (k : Kernel) (last after : Pid → Option Call) (pid : Pid) (p : Process) (exchanges : Name → Option Exchange) (arrived : List Name) →
+    IsFollowed specs k last → IsSound (record { procs = put_process k.procs pid p; exchanges = exchanges; arrived = arrived }) → Began p.state (after pid) → ((q : Pid) → same_pid q pid ≡ false → last q ≡ after q) →
+    IsFollowed specs (record { procs = put_process k.procs pid p; exchanges = exchanges; arrived = arrived }) after
+followed_put specs k last after pid p exchanges arrived f sound here others = record {
+  sound = sound;
+  there = λ q has. elim (cases_Bool (same_pid q pid)) [
+    | inl t ↦ ap is_some (put_process_at k.procs pid p q t)
+    | inr u ↦ ap is_some (put_process_other k.procs pid p q u) ∙ f.there q has
+  ];
+  began = λ q x is. elim (cases_Bool (same_pid q pid)) [
+    | inl t ↦ subst (λ (y : Process). Began y.state (after q)) (same_Some p x (sym (put_process_at k.procs pid p q t) ∙ is)) (subst (λ a. Began p.state (after a)) (sym (same_pid_is q pid t)) here)
+    | inr u ↦ subst (Began x.state) (others q u) (f.began q x (sym (put_process_other k.procs pid p q u) ∙ is))
+  ];
+}
+
+pub followed_stage : (specs : List ProcessSpec) (k : Kernel) (last : Pid → Option Call) (name : Name) (e : Exchange) (s : Stage) → IsFollowed specs k last → IsSound (with_stage k name e s) → IsFollowed specs (with_stage k name e s) last
+followed_stage specs k last name e s f sound = record { sound = sound; there = f.there; began = f.began }
+
+-- Take
+receiving_is : (s : State) (c : Call) → receiving s ≡ Some c → s ≡ states.Blocked c
+receiving_is states.Ready c e = absurd (none-some c e)
+receiving_is (states.Blocked calls.Receive) c e = ap states.Blocked (same_Some calls.Receive c e)
+receiving_is (states.Blocked d) c e = absurd (none-some c e)
+receiving_is (states.Done d a) c e = absurd (none-some c e)
+
+pub followed_taken : (specs : List ProcessSpec) (k : Kernel) (last : Pid → Option Call) (r : Pid) (t : Taking) → IsFollowed specs k last → taking k r ≡ Some t → IsFollowed specs (taken k r t) last
+followed_taken specs k last r t f e =
+    let is = taking_is k r t e in
+    let begun = subst (λ s. Began s (last r)) (receiving_is t.process.state t.call is.call) (f.began r t.process is.process) in
+    followed_put specs k last last r (record t.process { state = states.Done t.call (answers.Received t.name.sender t.exchange.message) }) (put_exchange k.exchanges t.name (record t.exchange { stage = stages.Taken })) k.arrived
+    f (sound_taken k r t f.sound e) (begun, refl) (λ q u. refl)
+
+-- Finish
+sending_is : (s : State) (target : Pid) (m : Message) → sending s ≡ Some (target, m) → s ≡ states.Blocked (calls.Send target m)
+sending_is states.Ready target m e = absurd (none-some (target, m) e)
+sending_is (states.Blocked (calls.Send t n)) target m e = ap (λ (x : Pid × Message). states.Blocked (calls.Send x.0 x.1)) (same_Some (t, n) (target, m) e)
+sending_is (states.Blocked c) target m e = absurd (none-some (target, m) e)
+sending_is (states.Done c a) target m e = absurd (none-some (target, m) e)
+
+pub followed_finished : (specs : List ProcessSpec) (k : Kernel) (last : Pid → Option Call) (s : Pid) (f : Finishing) → IsFollowed specs k last → finishing k s ≡ Some f → IsFollowed specs (finished k s f) last
+followed_finished specs k last s f follows e =
+    let is = finishing_is k s f e in
+    let begun = subst (λ x. Began x (last s)) (sending_is f.process.state f.target f.message is.send) (follows.began s f.process is.process) in
+    followed_put specs k last last s (record f.process { memory = with_bytes f.process.memory f.dest f.bytes; state = states.Done (calls.Send f.target f.message) (answers.Replied f.reply) }) k.exchanges k.arrived
+    follows (sound_finished k s f follows.sound e) (begun, refl) (λ q u. refl)
+
+-- Collect
+done_is : (s : State) (c : Call) (a : Answer) → finished_call s ≡ Some (c, a) → s ≡ states.Done c a
+done_is states.Ready c a e = absurd (none-some (c, a) e)
+done_is (states.Blocked d) c a e = absurd (none-some (c, a) e)
+done_is (states.Done d b) c a e = ap (λ (x : Call × Answer). states.Done x.0 x.1) (same_Some (d, b) (c, a) e)
+
+-- what is handed out is the answer to the call that was begun last
+pub collected_is : (specs : List ProcessSpec) (k : Kernel) (last : Pid → Option Call) (pid : Pid) (d : Collecting) → IsFollowed specs k last → collecting k pid ≡ Some d → (last pid ≡ Some d.call) × (is_not_yet d.answer ≡ false)
+collected_is specs k last pid d f e =
+    let is = collecting_is k pid d e in
+    subst (λ s. Began s (last pid)) (done_is d.process.state d.call d.answer is.done) (f.began pid d.process is.process)
+
+pub followed_collected : (specs : List ProcessSpec) (k : Kernel) (last : Pid → Option Call) (pid : Pid) (d : Collecting) → IsFollowed specs k last → collecting k pid ≡ Some d → IsFollowed specs (with_state k pid d.process states.Ready) last
+followed_collected specs k last pid d f e =
+    followed_put specs k last last pid (record d.process { state = states.Ready }) k.exchanges k.arrived f (sound_collected k pid d f.sound e) tt (λ q u. refl)
