@@ -26,7 +26,7 @@ when false x y h = cc
 
 nothing : {A : Type 0} (xs : List A) → (length xs == 0) ≡ true → xs ≡ []
 nothing [] h = refl
-nothing (x ∷ xs) h = cc
+nothing (x ∷ xs) h = absurd (omega (arith, eqb-true (length (x ∷ xs)) 0 h))
 
 all_more : {A : Type 0} (p : A → Bool) (xs : List A) (x : A) → list_all p xs ≡ true → p x ≡ true → list_all p (xs ++ x ∷ []) ≡ true
 all_more p xs x h e = list_all-append p xs (x ∷ []) ∙ and_from (list_all p xs) (p x && true) h (and_from (p x) true e refl)

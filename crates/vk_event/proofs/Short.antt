@@ -1,5 +1,5 @@
 -- A short message grants no part of a memory but the empty one.
-use Rattle.std.proofs.Common.{◌≡◌, ℕ, ◌+◌, ◌==◌, ◌||◌, Bool, true, false, cond, List, [], ◌∷◌, drop, refl, sym, ap, ◌∙◌}
+use Rattle.std.proofs.Common.{◌≡◌, ℕ, ◌+◌, ◌==◌, ◌||◌, Bool, true, false, cond, List, [], ◌∷◌, drop, zero, suc, refl, sym, ap, ◌∙◌}
 use Rattle.std.specs.Int.{w32, from_be_bytes}
 use Rattle.std.specs.List.{list_all, slice_index}
 use Rattle.std.proofs.lemmas.Bool.{and_parts, eqb-true}
@@ -11,7 +11,7 @@ use Rattle.vk_event.specs.Forms.{is_short}
 
 zero_at : (xs : List ℕ) (i : ℕ) → list_all (λ b. b == 0) xs ≡ true → slice_index xs i ≡ 0
 zero_at [] i h = refl
-zero_at (x ∷ xs) 0 h = eqb-true x 0 (and_parts (x == 0) (list_all (λ b. b == 0) xs) h).0
+zero_at (x ∷ xs) zero h = eqb-true x 0 (and_parts (x == 0) (list_all (λ b. b == 0) xs) h).0
 zero_at (x ∷ xs) (suc i) h = zero_at xs i (and_parts (x == 0) (list_all (λ b. b == 0) xs) h).1
 
 -- its bytes from 24 on are 0
