@@ -1,5 +1,5 @@
 -- What a text spells is lawful.
-use Rattle.std.proofs.Common.{◌≡◌, ◌≤◌, ◌<◌, ℕ, ◌+◌, ◌==◌, ◌&&◌, ◌++◌, nat_lt, Bool, true, false, cond, List, [], ◌∷◌, length, Option, Some, None, Result, Ok, Err, refl, sym, ap, subst, ◌∙◌, arith, lit≤}
+use Rattle.std.proofs.Common.{◌≡◌, ◌≤◌, ℕ, ◌+◌, ◌==◌, ◌&&◌, ◌++◌, nat_lt, Bool, true, false, cond, List, [], ◌∷◌, length, Option, Some, None, Result, Ok, Err, refl, sym, ap, subst, ◌∙◌, arith, lit≤}
 use Rattle.std.specs.List.{list_all}
 use Rattle.std.specs.Prelude.{is_none, codes, bytes_eq}
 use Rattle.std.proofs.lemmas.Bool.{and_parts, and_from, eqb-true, eq-eqb, ltb-false}
@@ -73,9 +73,9 @@ unfolding line_step
 line_fits d e [] fits h = cc
 line_fits d e (w ∷ ws) fits h =
     choice (Fits e) (bytes_eq w (codes "process")) _ _ (Some e) (bound (Fits e) (process_of ws) (with_process d) e (λ s. process_fits d e s fits))
-      (choice (Fits e) (bytes_eq w (codes "call")) _ _ (Some e) (bound (Fits e) (call_event_of ws) (with_event d) e (λ x. event_fits d e x fits))
-        (choice (Fits e) (bytes_eq w (codes "collect")) _ _ (Some e) (bound (Fits e) (collect_event_of ws) (with_event d) e (λ x. event_fits d e x fits)) (λ n. cc)))
-      h
+    (choice (Fits e) (bytes_eq w (codes "call")) _ _ (Some e) (bound (Fits e) (call_event_of ws) (with_event d) e (λ x. event_fits d e x fits))
+    (choice (Fits e) (bytes_eq w (codes "collect")) _ _ (Some e) (bound (Fits e) (collect_event_of ws) (with_event d) e (λ x. event_fits d e x fits)) (λ n. cc)))
+    h
 
 few_by : (b : Bool) (r : TextRefusal) (d e : Schedule) → nat_lt 100000 (length d.events) ≡ b → cond b (Err r) (Ok d) ≡ Ok e → (d ≡ e) × (length d.events ≤ 100000)
 few_by true r d e t h = cc
@@ -98,8 +98,8 @@ lines_are_lawful d s n [] is h = let e : d ≡ s = cc in subst IsLawful e is
 lines_are_lawful d s n (l ∷ ls) is h =
     let words = words_from l 0 in
     after s (numbered n (line_step d words)) (λ e. read_lines e (n + 1) ls)
-      (λ e. taken d e n (line_step d words) (λ f. line_fits d f words (record { events = is.events; station = is.station })))
-      (λ e lawful. lines_are_lawful e s (n + 1) ls lawful) h
+    (λ e. taken d e n (line_step d words) (λ f. line_fits d f words (record { events = is.events; station = is.station })))
+    (λ e lawful. lines_are_lawful e s (n + 1) ls lawful) h
 
 all_by : (b : Bool) (s : Schedule) (r : TextRefusal) (ls : List (List ℕ)) → cond b (read_lines empty_schedule 2 ls) (Err r) ≡ Ok s → IsLawful s
 all_by true s r ls h = lines_are_lawful empty_schedule s 2 ls (record { events = refl; station = refl; few = lit≤ tt }) h

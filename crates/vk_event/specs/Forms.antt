@@ -1,5 +1,5 @@
 -- Which lawful processes and events are built. Every other one is refused as if it were not lawful.
-use Rattle.std.specs.Prelude.{ℕ, ◌==◌, ◌&&◌, Bool, true, false, List, drop}
+use Rattle.std.specs.Prelude.{◌==◌, ◌&&◌, Bool, true, false, List, drop}
 use Rattle.std.specs.List.{list_all}
 use Rattle.vk_base.specs.Pids.{same_host}
 use Rattle.vk_base.specs.declared.call.Call.{Call}

@@ -1,5 +1,5 @@
 -- Lawful schedules.
-use Rattle.std.specs.Prelude.{ℕ, ◌≡◌, ◌≤◌, ◌==◌, ◌&&◌, Bool, true, List, [], ◌∷◌, length}
+use Rattle.std.specs.Prelude.{◌≡◌, ◌≤◌, ◌==◌, ◌&&◌, Bool, true, List, [], ◌∷◌, length}
 use Rattle.std.specs.List.{list_all}
 use Rattle.vk_base.specs.Settings.{has_process, has_station}
 use Rattle.vk_base.specs.declared.config.ProcessSpec.{ProcessSpec}

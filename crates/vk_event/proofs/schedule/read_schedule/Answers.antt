@@ -23,4 +23,4 @@ returns-clause-schedule c =
 pub returns-clause-lawful : goal.returns-clause-lawful
 returns-clause-lawful c =
     schedule_is_lawful c.args.text.now c.into_schedule.result
-      (read_end _ _ _ _ c.loop-line.invariant.read c.in_default-next_line.ensures.line ∙ ap Ok (sym c.into_schedule.ensures))
+    (read_end _ _ _ _ c.loop-line.invariant.read c.in_default-next_line.ensures.line ∙ ap Ok (sym c.into_schedule.ensures))
