@@ -65,7 +65,7 @@ pub numbers : NumbersAreSpelledOnce
 numbers most n word m = (λ h. number_spelled most n word m h, λ h. ap (number_of most) h.0 ∙ number_read most n m h.1)
 
 -- what was read step by step
-bound : {A B : Type 0} (o : Option A) (f : A → Option B) (b : B) → (o >>= f) ≡ Some b → (a : A) × (o ≡ Some a) × (f a ≡ Some b)
+pub bound : {A B : Type 0} (o : Option A) (f : A → Option B) (b : B) → (o >>= f) ≡ Some b → (a : A) × (o ≡ Some a) × (f a ≡ Some b)
 bound None f b h = cc
 bound (Some a) f b h = (a, refl, h)
 
