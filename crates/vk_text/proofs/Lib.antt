@@ -4,4 +4,5 @@ pub mod Hexadecimal
 pub mod Messages
 pub mod Numerals
 pub mod Parts
+pub mod ReadBack
 pub mod Spelled

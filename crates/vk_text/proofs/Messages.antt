@@ -135,10 +135,13 @@ taken m n i fit = elim (cases_lt i n) [
   | inr back ↦ let past : get_or (take n m) i 0 ≡ 0 = get_or_past (take n m) i 0 (omega (arith, length-take n m)) in omega arith
 ]
 
+pub filled_fits : (m : List ℕ) → IsBytes m → IsBytes (filled m)
+filled_fits m fit = λ i. taken m (length m - suffix_len (λ b. b == 0) m) i fit
+
 pub message_read : (m : Message) → length m.0 ≡ 32 → IsBytes m.0 → message_of (message_text m) ≡ Some m
 unfolding message_text
 message_read m len fit =
-    text_read (filled m.0) m (λ i. taken m.0 (length m.0 - suffix_len (λ b. b == 0) m.0) i fit) (omega (arith, length-filled m.0)) (ends m.0) (padded-filled m.0 len)
+    text_read (filled m.0) m (filled_fits m.0 fit) (omega (arith, length-filled m.0)) (ends m.0) (padded-filled m.0 len)
 
 pub messages : MessagesAreSpelledOnce
-messages m word len fit = (λ h. message_spelled m word h, λ h. ap message_of h ∙ message_read m len fit)
+messages m word fit = (λ h. message_spelled m word h, λ h. ap message_of h ∙ message_read m fit.0 fit.1)

@@ -22,6 +22,9 @@ digits_test = search rules
 own : IsNumeralModel (λ ds. list_all is_ascii_digit ds ≡ true) (digits_value 10)
 own = numerals_by_value _ digits_test
 
+pub decimal_digits : (n : ℕ) → n < 2 ^ 64 → list_all is_ascii_digit (decimal n) ≡ true
+decimal_digits n h = digits_decimal own n h
+
 no_zero_leads : (len first : ℕ) → (len == 1 || not (first == 48)) ≡ true → first ≡ 48 → len ≡ 1
 no_zero_leads len first h zero = grind arith
 
@@ -109,7 +112,7 @@ pid_spelled p word h =
     let back : drop (at.0 + 1) word ≡ decimal p.local = (number_spelled 65535 local.0 (drop (at.0 + 1) word) (omega arith) local.1).0 ∙ ap decimal same.1 in
     parted word at.0 at.1 ∙ ap (λ (l : List ℕ). l ++ 46 ∷ drop (at.0 + 1) word) front ∙ ap (λ (l : List ℕ). decimal p.host ++ 46 ∷ l) back ∙ sym (append_assoc (decimal p.host) (46 ∷ []) (decimal p.local))
 
-no_digit : (c : ℕ) → is_ascii_digit c ≡ true → (c == 46) ≡ false
+pub no_digit : (c : ℕ) → is_ascii_digit c ≡ true → (c == 46) ≡ false
 no_digit c h = grind arith
 
 point_after : (ds more : List ℕ) → list_all is_ascii_digit ds ≡ true → position (λ c. c == 46) (ds ++ 46 ∷ more) ≡ Some (length ds)
@@ -122,7 +125,7 @@ point_after ds more h =
     (λ l. let here : get_or (ds ++ 46 ∷ more) (length ds) 0 ≡ 46 = grind (arith, common_steps) in ap (λ n. n == 46) here) in
     rw (place, lt-ltb (length ds) (length (ds ++ 46 ∷ more)) (omega arith)) refl
 
-pid_read : (p : Pid) → p.local < 2 ^ 16 → pid_of (pid_text p) ≡ Some p
+pub pid_read : (p : Pid) → p.local < 2 ^ 16 → pid_of (pid_text p) ≡ Some p
 unfolding pid_of
 pid_read p small =
     let host = p.one_host in
