@@ -140,7 +140,7 @@ step call 3.1 send 3.1 01
 10 3:10 notyet
 11 3:11 ok 3333
 step collect 3.3
-end 11 14 0
+end 11 13 0
 ",
         status: Status::Done,
     },
