@@ -7,7 +7,7 @@ ghost use Rattle.vk_base.specs.Kernel.{Kernel};
 ghost use Rattle.vk_event.specs.Lawful.{IsLawful};
 ghost use Rattle.vk_host.specs.Entries.{is_built, entry_of, steps_of, after_event, history};
 ghost use Rattle.vk_host.specs.Stands.{Stands, is_at, is_own};
-ghost use Rattle.vk_top.specs.Report.{station_event, entry_text, report_from, report_of};
+ghost use Rattle.vk_top.specs.Report.{station_event, entry_text, report_from, report_of, station_of, history_of_schedule};
 
 use crate::report::{put, put_end, put_head, put_steps};
 use std::alloc::Global;
@@ -80,6 +80,19 @@ fn put_events(
     put_end(alloc, text, number, steps)
 }
 
+/// The report of the schedule, without its first line.
+fn put_history(alloc: Global, text: &mut Vec<u8>, schedule: &Schedule) -> Result<(), NoMemory>
+    requires { IsLawful schedule.now }
+    ensures { OnOk result (text.new.items ≡ text.old.items ++ report_from (station_of schedule.now.config.specs) 0 0 (history_of_schedule schedule.now)) }
+{
+    let Some(first) = schedule.config.specs().first() else {
+        return put_end(alloc, text, 0, 0);
+    };
+    let host = first.pid.host;
+    let mut station = Host::new(alloc, &schedule.config, host)?;
+    put_events(alloc, &mut station, text, host, schedule.events.as_slice())
+}
+
 /// The report of the schedule.
 pub fn report(alloc: Global, schedule: &Schedule) -> Result<Vec<u8>, NoMemory>
     requires { IsLawful schedule.now }
@@ -87,13 +100,6 @@ pub fn report(alloc: Global, schedule: &Schedule) -> Result<Vec<u8>, NoMemory>
 {
     let mut text = Vec::new(alloc);
     put(&mut text, b"vkernel report 1\n")?;
-    match schedule.config.specs().first() {
-        Some(spec) => {
-            let host = spec.pid.host;
-            let mut station = Host::new(alloc, &schedule.config, host)?;
-            put_events(alloc, &mut station, &mut text, host, schedule.events.as_slice())?;
-        }
-        None => put_end(alloc, &mut text, 0, 0)?,
-    }
+    put_history(alloc, &mut text, schedule)?;
     Ok(text)
 }
