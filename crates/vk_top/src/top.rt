@@ -1,4 +1,4 @@
-ghost use Rattle.std.specs.Prelude.{◌≡◌, ◌≤◌, ◌⊎◌, ◌↔◌, ℕ, [], Ok, false, true, map, take, string_bytes, IfOk, IfErr, IfSome};
+ghost use Rattle.std.specs.Prelude.{◌≡◌, ◌≤◌, ◌⊎◌, ◌↔◌, ℕ, [], Some, Ok, false, true, map, take, string_bytes, IfOk, IfErr, IfSome};
 ghost use Rattle.std.specs.Io.KnownBytes.{Appends};
 ghost use Rattle.vk_event.specs.Lawful.{IsLawful};
 ghost use Rattle.vk_event.specs.Schedule.{schedule_of};
@@ -71,7 +71,7 @@ pub fn vkernel<S: Source, K: Sink>(
 
     // Done: all of the input is the text of a schedule, whose report is written.
     ensures done { result ≡ Status.Done → IfSome (S.left input.old) (λ i. IsReported i (K.written output.old) (K.written output.new)) }
-    ensures whole { result ≡ Status.Done → IfSome (S.left input.new) (λ rest. rest ≡ []) }
+    ensures whole { result ≡ Status.Done → IfSome (S.left input.old) (λ i. S.left input.new ≡ Some []) }
     ensures bad { (line : ℕ) → result ≡ Status.BadInput line → IfSome (S.left input.old) (λ i. IsBadAt i line) }
     ensures limit { result ≡ Status.Limit → IfSome (S.left input.old) IsOverLimit }
     ensures read_fault { result ≡ Status.ReadFault → Rose (S.fault_count input.old) (S.fault_count input.new) }
