@@ -61,7 +61,7 @@ unfoldable pub read_lines : Schedule → ℕ → List (List ℕ) → Result Sche
 read_lines d n [] = Ok d
 read_lines d n (l ∷ ls) = or_refuse (numbered n (line_step d (words_from l 0))) (λ e. read_lines e (n + 1) ls)
 
--- format 1's times and pool, and neither processes nor events
+-- the times and the pool of format 1, without processes or events
 abbrev pub empty_schedule : Schedule
 empty_schedule = record { config = record { times = record { tries = 5; interval = 4; life = 8 }; pool = 16; specs = [] }; events = [] }
 
