@@ -6,7 +6,7 @@ ghost use Rattle.vk_host.specs.Entries.{is_built_call};
 ghost use Rattle.vk_host.specs.Tables.{Outcome, is_seat, is_awaiting, own_refusal, refusal_by, message_from, front_of, takes, taken_seats, served, served_steps, sent_seats, next_name_in, serving, accepted_by, called_by, call_outcome, collected, collect_seats, collect_steps, collect_answer};
 
 use crate::event::EventAnswer;
-use crate::seat::{self, Seat, is_ready, is_receiving, seat_of, sending};
+use crate::seat::{self, Seat, answer_of, is_ready, is_receiving, seat_of, sending};
 use vk_base::{Answer, Call, Message, Name, Pid, Refusal, Step, StepList};
 
 /// Whether the sender awaits a reply from the holder, which has taken its message.
@@ -14,7 +14,7 @@ fn is_awaiting(seats: &[Seat], holder: Pid, sender: Pid) -> bool
     ensures { result ≡ is_awaiting seats.now holder sender }
 {
     match seat_of(seats, sender) {
-        Some(seat) => match sending(&seat.state) {
+        Some(seat) => match sending(&seat.doing) {
             Some((target, _)) => target == holder && seat.taken,
             None => false,
         },
@@ -41,7 +41,7 @@ fn refusal(seats: &[Seat], pid: Pid, call: &Call) -> Option<Refusal>
     let Some(seat) = seat_of(seats, pid) else {
         return Some(Refusal::Dead);
     };
-    if is_ready(&seat.state) {
+    if is_ready(&seat.doing) {
         own_refusal(seats, pid, call)
     } else {
         Some(Refusal::Busy)
@@ -54,7 +54,7 @@ fn front(seats: &[Seat], receiver: Pid) -> Option<Name>
     ensures { result ≡ front_of seats.now receiver }
 {
     let seat = seat_of(seats, receiver)?;
-    if is_receiving(&seat.state) {
+    if is_receiving(&seat.doing) {
         seat.queue.first()
     } else {
         None
@@ -66,7 +66,7 @@ fn front(seats: &[Seat], receiver: Pid) -> Option<Name>
 fn message_from(seats: &[Seat], name: Name) -> Option<Message>
     ensures { result ≡ message_from seats.now name }
 {
-    let (_, message) = sending(&seat_of(seats, name.sender)?.state)?;
+    let (_, message) = sending(&seat_of(seats, name.sender)?.doing)?;
     Some(message)
 }
 
@@ -89,11 +89,7 @@ fn serve(seats: &mut [Seat], steps: &mut StepList, receiver: Pid)
     if let Some((name, message)) = takes(seats, receiver) {
         seat::dequeue(seats, receiver);
         seat::mark_taken(seats, name.sender);
-        let answer = Answer::Received {
-            from: name.sender,
-            message,
-        };
-        seat::finish(seats, receiver, answer);
+        seat::receive(seats, receiver, name.sender, message);
         steps.push(Step::Take { pid: receiver });
     }
 }
@@ -135,12 +131,12 @@ fn accept(seats: &mut [Seat], steps: &mut StepList, pid: Pid, call: &Call) -> Ev
             EventAnswer::Begun
         }
         Call::Receive => {
-            seat::block(seats, pid, Call::Receive);
+            seat::wait_for_message(seats, pid);
             serve(seats, steps, pid);
             EventAnswer::Begun
         }
         Call::Reply { message, to } => {
-            seat::finish(seats, to, Answer::Replied { message });
+            seat::take_reply(seats, to, message);
             steps.push(Step::Finish { pid: to });
             EventAnswer::Answered { answer: Answer::Ok }
         }
@@ -169,6 +165,13 @@ pub fn call(seats: &mut [Seat], steps: &mut StepList, pid: Pid, call: &Call) -> 
     }
 }
 
+/// The answer that the process has to collect.
+fn collected(seats: &[Seat], pid: Pid) -> Option<Answer>
+    ensures { result ≡ collected seats.now pid }
+{
+    answer_of(&seat_of(seats, pid)?.doing)
+}
+
 /// A collect: a process that is done gets its answer and is ready again. Another is told that there is nothing yet.
 pub fn collect(seats: &mut [Seat], steps: &mut StepList, pid: Pid) -> EventAnswer
     requires { array_vec_len steps.old + 1 ≤ 40 }
@@ -176,7 +179,7 @@ pub fn collect(seats: &mut [Seat], steps: &mut StepList, pid: Pid) -> EventAnswe
     ensures steps { steps.new.items ≡ steps.old.items ++ collect_steps pid (collected seats.old pid) }
     ensures answer { result ≡ collect_answer (collected seats.old pid) }
 {
-    match seat::collected(seats, pid) {
+    match collected(seats, pid) {
         Some(answer) => {
             seat::make_ready(seats, pid);
             steps.push(Step::Collect { pid });
