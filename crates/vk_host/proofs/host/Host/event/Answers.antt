@@ -1,9 +1,6 @@
-use Rattle.std.proofs.Common.{◌≡◌, ◌∙◌, ap, sym, subst, ◌++◌, ◌∷◌, ◌+◌, ◌^◌, ◌<◌, List, true, take, drop, length}
-use Rattle.vk_base.specs.declared.pid.Pid.{Pid}
+use Rattle.std.proofs.Common.{◌∙◌, ap, sym, subst, ◌++◌, ◌∷◌, ◌^◌, ◌<◌, List, length}
 use Rattle.vk_base.specs.declared.step.Step.{Step}
 use Rattle.vk_base.specs.declared.step.Step.TheVariants as steps
-use Rattle.vk_base.specs.Kernel.{Kernel}
-use Rattle.vk_host.specs.declared.seat.Seat.{Seat}
 use Rattle.std.specs.List.{find}
 use Rattle.std.specs.Option.{is_some}
 use Rattle.vk_host.specs.Stands.{Stands, is_at, is_own}
