@@ -1,5 +1,5 @@
 -- Events of the tables, from what their fields hold to what is said of them.
-use Rattle.std.proofs.Common.{◌≡◌, ℕ, ◌+◌, ◌^◌, ◌≤◌, ◌<◌, Bool, true, false, cond, ◌==◌, ◌&&◌, ◌||◌, List, [], ◌∷◌, ◌++◌, length, take, drop, filter, map, Option, Some, None, refl, sym, ap, ◌∙◌, subst, arith, inl, inr}
+use Rattle.std.proofs.Common.{◌≡◌, ℕ, ◌+◌, ◌^◌, ◌≤◌, ◌<◌, Bool, true, false, cond, ◌==◌, ◌&&◌, ◌||◌, List, [], ◌∷◌, ◌++◌, length, take, drop, filter, map, Option, Some, None, refl, sym, ap, ◌∙◌, subst, arith}
 use Rattle.std.specs.List.{find, count_by}
 use Rattle.std.specs.Option.{option_map, is_some}
 use Rattle.std.proofs.lemmas.Bool.{eqb-true, eq-eqb, cond-true, cond-false}
@@ -17,7 +17,7 @@ use Rattle.vk_base.specs.declared.pid.Pid.{Pid}
 use Rattle.vk_base.specs.declared.config.ProcessSpec.{ProcessSpec}
 use Rattle.vk_base.specs.declared.step.Step.{Step}
 use Rattle.vk_base.specs.declared.step.Step.TheVariants as steps
-use Rattle.vk_base.specs.Kernel.{Kernel, finished_call, queue_of, opening, opened, is_allowed}
+use Rattle.vk_base.specs.Kernel.{Kernel, finished_call, queue_of, opening, opened}
 use Rattle.vk_base.specs.Settings.{is_on, is_process, has_process}
 use Rattle.vk_base.specs.Pids.{same_pid}
 use Rattle.vk_base.proofs.SoundLemmas.{sound_opening}
@@ -26,7 +26,7 @@ use Rattle.vk_host.specs.declared.event.EventAnswer.{EventAnswer}
 use Rattle.vk_host.specs.declared.event.StationEvent.{StationEvent}
 use Rattle.vk_host.specs.declared.event.StationEvent.TheVariants as events
 use Rattle.vk_host.specs.declared.seat.Seat.{Seat}
-use Rattle.vk_host.specs.Entries.{is_built, is_built_call, after_event}
+use Rattle.vk_host.specs.Entries.{is_built, after_event}
 use Rattle.vk_host.specs.Stands.{IsSeated, Fits, AreSeats, Stands, is_at, is_own, is_done, opening_seat, opening_seats}
 use Rattle.vk_host.specs.Tables.{Tables, is_seat, change_first, state_of, waiting, send_begun, enqueued, dequeued, marked_taken, received, replied, made_ready, next_name_in, sent_seats, takes, served, serving, refusal_by, accepted_by, called_by, call_outcome, collected, collect_seats, collect_steps, collect_answer}
 use Rattle.vk_host.proofs.Seats.{find-either}
