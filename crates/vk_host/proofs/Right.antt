@@ -31,7 +31,7 @@ use Rattle.vk_host.specs.declared.seat.Doing.TheVariants as doings
 use Rattle.vk_host.specs.declared.seat.Seat.{Seat}
 use Rattle.vk_host.specs.Entries.{grants_nothing, is_built_call, answer_by, answer_of, answer_to, take_where, follow_up, steps_of, after_event}
 use Rattle.vk_host.specs.Stands.{IsSeated, AreSeats}
-use Rattle.vk_host.specs.Tables.{Outcome, is_seat, change_first, state_of, waiting, made_ready, answer_of as answer_held, is_awaiting, own_refusal, refusal_in, refusal_by, takes, served, served_steps, serving, sent_seats, accepted_by, called_by, call_outcome, collected, collect_seats, collect_steps, collect_answer}
+use Rattle.vk_host.specs.Tables.{Outcome, is_seat, change_first, state_of, waiting, made_ready, doing_in, answer_of as answer_held, is_awaiting, own_refusal, refusal_in, refusal_by, takes, served, served_steps, serving, sent_seats, accepted_by, called_by, call_outcome, collected, collect_seats, collect_steps, collect_answer}
 use Rattle.vk_host.proofs.Keeping.{seats_later, seats_state, seats_taken}
 use Rattle.vk_host.proofs.Reading.{shown, refusal_same, takes_same, awaiting_host}
 use Rattle.vk_host.proofs.Replying.{replied, reply_is, finish, finish_is, seats_replied}
@@ -228,7 +228,7 @@ module _ (host n : ℕ) (seats : List Seat) (k : Kernel) (pid : Pid) (s : Seat) 
       }
 
   collected_is : collected seats pid ≡ option_map (λ d. d.1) (finished_call (state_of s.doing))
-  collected_is = ap (λ o. o >>= λ s. answer_held s.doing) found ∙ by s.doing
+  collected_is = ap (λ o. answer_held (doing_in o)) found ∙ by s.doing
     where
       by : (d : Doing) → answer_held d ≡ option_map (λ d. d.1) (finished_call (state_of d))
       by doings.Ready = refl

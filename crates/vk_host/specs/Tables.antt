@@ -16,6 +16,8 @@ use Rattle.vk_base.specs.declared.step.Step.{Step}
 use Rattle.vk_base.specs.declared.step.Step.TheVariants as steps
 use Rattle.vk_base.specs.Kernel.{◌>>=◌, name_of, is_ready, receiving, sending, finished_call, first_of}
 use Rattle.vk_base.specs.Pids.{same_pid, same_host}
+use Rattle.vk_host.specs.declared.calls.Verdict.{Verdict}
+use Rattle.vk_host.specs.declared.calls.Verdict.TheVariants as verdicts
 use Rattle.vk_host.specs.declared.event.EventAnswer.{EventAnswer}
 use Rattle.vk_host.specs.declared.event.EventAnswer.TheVariants as events_answered
 use Rattle.vk_host.specs.declared.event.StationEvent.{StationEvent}
@@ -87,9 +89,13 @@ answer_of (doings.Sending target m) = None
 answer_of (doings.Received from m) = Some (answers.Received from m)
 answer_of (doings.Replied target m reply) = Some (answers.Replied reply)
 
+abbrev pub doing_in : Option Seat → Doing
+doing_in None = doings.Ready
+doing_in (Some s) = s.doing
+
 -- the answer that a process has to collect
 abbrev pub collected : List Seat → Pid → Option Answer
-collected seats pid = find (is_seat pid) seats >>= λ s. answer_of s.doing
+collected seats pid = answer_of (doing_in (find (is_seat pid) seats))
 
 -- Refusals.
 
@@ -140,6 +146,11 @@ served seats r (Some t) = taken_seats seats r t
 abbrev pub served_steps : Pid → Option (Name × Message) → List Step
 served_steps r None = []
 served_steps r (Some t) = steps.Take r ∷ []
+
+abbrev pub verdict_answer : Verdict → EventAnswer
+verdict_answer verdicts.Begun = events_answered.Begun
+verdict_answer verdicts.Ok = events_answered.Answered answers.Ok
+verdict_answer (verdicts.Refused why) = events_answered.Answered (answers.Refused why)
 
 -- Calls: the tables, the steps behind the call's own and the answer.
 pub record Outcome : Type 0 where

@@ -70,8 +70,7 @@ impl Host {
         ensures { IsEvent self.old self.new (StationEvent.Call pid call.now) result }
     {
         self.events += 1;
-        self.steps.clear();
-        calls::call(&mut self.seats, &mut self.steps, pid, call)
+        calls::call(&mut self.seats, &mut self.steps, pid, call).answer()
     }
 
     /// The event that the process collects its answer. Takes no memory.
@@ -81,8 +80,8 @@ impl Host {
         ensures { IsEvent self.old self.new (StationEvent.Collect pid) result }
     {
         self.events += 1;
-        self.steps.clear();
-        calls::collect(&mut self.seats, &mut self.steps, pid)
+        let doing = calls::collect(&mut self.seats, &mut self.steps, pid);
+        calls::collect_answer(&doing)
     }
 
     /// The steps of the last event, in order.

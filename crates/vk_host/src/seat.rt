@@ -3,10 +3,10 @@
 ghost use Rattle.std.specs.Prelude.{◌≡◌, ◌++◌, ◌∷◌, ◌+◌, [], Bool, true, false, is_some, find, option_copied, position, drop, if◌then◌else◌, min, ◌^◌, ◌-◌};
 ghost use Rattle.circular_buffer.specs.Buffer.{keep_last};
 ghost use Rattle.vk_base.specs.Kernel.{receiving, sending, is_ready, finished_call};
-ghost use Rattle.vk_host.specs.Tables.{is_seat, change_first, state_of, waiting, send_begun, enqueued, dequeued, marked_taken, received, replied, made_ready, replied_by, answer_of};
+ghost use Rattle.vk_host.specs.Tables.{is_seat, change_first, state_of, waiting, send_begun, enqueued, dequeued, marked_taken, received, replied, made_ready, replied_by, doing_in};
 
 use crate::queue::Queue;
-use vk_base::{Answer, Message, Name, Pid};
+use vk_base::{Message, Name, Pid};
 
 /// What a process of the station does. It waits for a message, or for the reply to its Send; or it has received a message,
 /// or the reply to its Send, and has not collected it.
@@ -80,14 +80,13 @@ pub fn is_done(doing: &Doing) -> bool
     matches!(doing, Doing::Received { .. } | Doing::Replied { .. })
 }
 
-/// The answer that a process has to collect.
-pub fn answer_of(doing: &Doing) -> Option<Answer>
-    ensures { result ≡ answer_of doing.now }
+/// What a process of the station does; one that is not of the station does nothing.
+pub fn doing_of(seats: &[Seat], pid: Pid) -> Doing
+    ensures { result ≡ doing_in (find (is_seat pid) seats.now) }
 {
-    match *doing {
-        Doing::Received { from, message } => Some(Answer::Received { from, message }),
-        Doing::Replied { reply, .. } => Some(Answer::Replied { message: reply }),
-        _ => None,
+    match seat_of(seats, pid) {
+        Some(seat) => seat.doing,
+        None => Doing::Ready,
     }
 }
 

@@ -19,10 +19,9 @@ returns c =
     let right = λ (k : Kernel) (stands : Stands c.args.self.now k). call_event c.args.self.now k c.args.pid c.args.call.now (events.Call c.args.pid c.args.call.now) refl c.requires.own c.requires.built c.requires.few stands in
     let right_inside = λ (k : Kernel) (stands : Stands c.args.self.now k). call_event inside k c.args.pid c.args.call.now (events.Call c.args.pid c.args.call.now) refl (ap (λ t. is_at t c.args.pid) c.self.view_is ∙ c.requires.own) c.requires.built (subst (λ (x : Tables). x.events < 2 ^ 48) (sym c.self.view_is) c.requires.few) (subst (λ x. Stands x k) (sym c.self.view_is) stands) in
     record {
-      answer = λ k stands. c.call.ensures.answer ∙ ap (λ xs. (call_outcome xs c.args.pid c.args.call.now).answer) now ∙ (right k stands).answer_is;
+      answer = λ k stands. c.answer.ensures ∙ c.call.ensures.answer ∙ ap (λ xs. (call_outcome xs c.args.pid c.args.call.now).answer) now ∙ (right k stands).answer_is;
       steps = λ k stands.
           c.call.ensures.steps
-          ∙ ap (λ (xs : List Step). xs ++ steps.Call c.args.pid c.args.call.now ∷ (call_outcome c.deref_mut.result.now c.args.pid c.args.call.now).steps) c.clear.ensures
           ∙ ap (λ xs. steps.Call c.args.pid c.args.call.now ∷ (call_outcome xs c.args.pid c.args.call.now).steps) now
           ∙ (right k stands).steps_are;
       allowed = λ k stands. (right k stands).allowed;
