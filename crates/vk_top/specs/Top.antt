@@ -59,13 +59,3 @@ IsEarly status.Limit = Unit {0}
 IsEarly status.Done = ⊥
 IsEarly status.WriteFault = ⊥
 IsEarly status.NoMemory = ⊥
-
--- the answers once the work has begun
-abbrev pub IsLate : Status → Type 0
-IsLate status.Done = Unit {0}
-IsLate status.WriteFault = Unit {0}
-IsLate status.NoMemory = Unit {0}
-IsLate status.Usage = ⊥
-IsLate (status.BadInput line) = ⊥
-IsLate status.ReadFault = ⊥
-IsLate status.Limit = ⊥

@@ -36,6 +36,6 @@ returns c =
     let first = station_of-first c.specs.result.now s.config.specs c.in-Some.first.now c.specs.ensures.specs c.in-Some.ensures.value in
     on_ok_weaker c.put_events.result
     (λ written. written (opening s.config.specs) c.in_ok-station.ensures.stands
-      ∙ ap (λ es. c.args.text.now.items ++ report_from c.in-Some.first.now.pid.host 0 0 (history_of s.config.specs (map station_event es))) c.as_slice.ensures
-      ∙ ap (λ h. c.args.text.now.items ++ report_from h 0 0 (history_of s.config.specs (map station_event s.events))) (sym first))
+    ∙ ap (λ es. c.args.text.now.items ++ report_from c.in-Some.first.now.pid.host 0 0 (history_of s.config.specs (map station_event es))) c.as_slice.ensures
+    ∙ ap (λ h. c.args.text.now.items ++ report_from h 0 0 (history_of s.config.specs (map station_event s.events))) (sym first))
     c.put_events.ensures
