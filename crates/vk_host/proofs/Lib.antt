@@ -1,2 +1,11 @@
+pub mod Changes
+pub mod Events
 pub mod Followed
 pub mod Histories
+pub mod Keeping
+pub mod Reading
+pub mod Replying
+pub mod Right
+pub mod Room
+pub mod Seats
+pub mod Sending

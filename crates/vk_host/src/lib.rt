@@ -5,8 +5,13 @@
 //! above knows that they stand for a kernel, and nothing else of them.
 #![tactic(auto)]
 
+mod calls;
 mod event;
+mod host;
 mod laws;
+mod queue;
+mod seat;
 
 pub use event::{EventAnswer, StationEvent};
+pub use host::Host;
 pub use laws::histories_are_runs;

@@ -5,6 +5,7 @@
 #![tactic(auto)]
 
 mod call;
+mod law;
 mod line;
 mod spelling;
 #[cfg(test)]
@@ -12,6 +13,7 @@ mod tests;
 mod word;
 
 pub use call::{is_end, read_call};
+pub use law::{words_are_spelled_once, written_is_read};
 pub use line::{next_line, next_word};
 pub use spelling::{put_bytes, put_call, put_message, put_number, put_pid};
 pub use word::{message, number, pid};

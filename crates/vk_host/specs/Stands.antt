@@ -1,0 +1,74 @@
+-- When a station's tables stand for a kernel.
+use Rattle.std.specs.Prelude.{ℕ, ◌≡◌, ◌+◌, ◌≤◌, Bool, true, false, ◌==◌, ◌&&◌, List, [], filter, find, map, length, Option, Some, None, is_some, if◌then◌else◌}
+use Rattle.vk_base.specs.declared.call.Call.TheVariants as calls
+use Rattle.vk_base.specs.declared.config.ProcessSpec.{ProcessSpec}
+use Rattle.vk_base.specs.declared.kernel.Exchange.{Exchange}
+use Rattle.vk_base.specs.declared.kernel.Name.{Name}
+use Rattle.vk_base.specs.declared.kernel.Process.{Process}
+use Rattle.vk_base.specs.declared.kernel.Stage.TheVariants as stages
+use Rattle.vk_base.specs.declared.kernel.State.TheVariants as states
+use Rattle.vk_base.specs.declared.message.Message.{Message}
+use Rattle.vk_base.specs.declared.pid.Pid.{Pid}
+use Rattle.vk_base.specs.declared.step.Step.TheVariants as steps
+use Rattle.vk_base.specs.Kernel.{Kernel, name_of, queue_of, is_allowed}
+use Rattle.vk_base.specs.Settings.{is_on}
+use Rattle.vk_base.specs.Sound.{IsSound, is_open}
+use Rattle.vk_host.specs.declared.event.StationEvent.{StationEvent}
+use Rattle.vk_host.specs.declared.event.StationEvent.TheVariants as events
+use Rattle.vk_host.specs.declared.seat.Seat.{Seat}
+use Rattle.vk_host.specs.Tables.{Tables, is_seat}
+
+-- the exchange of this name has this target and message, and was taken or is queued
+pub record IsSent (k : Kernel) (name : Name) (target : Pid) (m : Message) (taken : Bool) : Type 0 where
+  pub exchange : Exchange
+  pub is : k.exchanges name ≡ Some exchange
+  pub target_is : exchange.target ≡ target
+  pub message_is : exchange.message ≡ m
+  pub stage_is : exchange.stage ≡ (if taken then stages.Taken else stages.Queued)
+
+-- what the tables keep of a process is so in the kernel
+pub record IsSeated (k : Kernel) (pid : Pid) (s : Seat) : Type 0 where
+  pub process : Process
+  pub is : k.procs pid ≡ Some process
+  pub alive : process.alive ≡ true
+  pub state : process.state ≡ s.state
+  pub sends : process.sends ≡ s.sends
+  pub queue : queue_of k pid ≡ s.queue
+  pub sent : (target : Pid) (m : Message) → s.state ≡ states.Blocked (calls.Send target m) → IsSent k (name_of pid s.sends) target m s.taken
+
+abbrev pub Fits : Kernel → Pid → Option Seat → Type 0
+Fits k pid None = k.procs pid ≡ None
+Fits k pid (Some s) = IsSeated k pid s
+
+-- the seats are the processes of this host, as the kernel has them, and none has begun more Sends than there were events
+pub record AreSeats (host events : ℕ) (seats : List Seat) (k : Kernel) : Type 0 where
+  pub fits : (pid : Pid) → pid.host ≡ host → Fits k pid (find (is_seat pid) seats)
+  pub own : (pid : Pid) (s : Seat) → find (is_seat pid) seats ≡ Some s → (pid.host ≡ host) × (s.sends ≤ events)
+  -- nothing has come from another station
+  pub home : (n : Name) (e : Exchange) → k.exchanges n ≡ Some e → e.target.host ≡ host → is_open e.stage ≡ true → n.sender.host ≡ host
+  pub few : length seats ≤ 32
+
+-- the tables of a station stand for the kernel
+pub record Stands (t : Tables) (k : Kernel) : Type 0 where
+  pub sound : IsSound k
+  pub seats : AreSeats t.host t.events t.seats k
+
+-- the process is one of the station
+abbrev pub is_at : Tables → Pid → Bool
+is_at t pid = is_some (find (is_seat pid) t.seats)
+
+-- the process whose event it is is one of the station
+abbrev pub is_own : Tables → StationEvent → Bool
+is_own t (events.Call pid c) = is_at t pid
+is_own t (events.Collect pid) = is_at t pid
+is_own t e = true
+
+abbrev pub is_done : Kernel → Pid → Bool
+is_done k pid = is_allowed k (steps.Collect pid)
+
+-- the seats of a station that has just started
+abbrev pub opening_seat : ProcessSpec → Seat
+opening_seat s = record { pid = s.pid; state = states.Ready; sends = 0; taken = false; queue = [] }
+
+abbrev pub opening_seats : ℕ → List ProcessSpec → List Seat
+opening_seats host specs = map opening_seat (filter (is_on host) specs)

@@ -1,0 +1,164 @@
+-- What a station's tables become: the words of its private functions. When tables stand for a kernel is `Stands.antt`.
+use Rattle.std.specs.Prelude.{ℕ, ◌≡◌, ◌+◌, ◌-◌, ◌^◌, min, Bool, true, false, ◌==◌, ◌&&◌, not, List, [], ◌∷◌, ◌++◌, drop, find, Option, Some, None, is_some, option_map, if◌then◌else◌}
+use Rattle.circular_buffer.specs.Buffer.{keep_last}
+use Rattle.vk_base.specs.declared.answer.Answer.{Answer}
+use Rattle.vk_base.specs.declared.answer.Answer.TheVariants as answers
+use Rattle.vk_base.specs.declared.answer.Refusal.{Refusal}
+use Rattle.vk_base.specs.declared.answer.Refusal.TheVariants as refusals
+use Rattle.vk_base.specs.declared.call.Call.{Call}
+use Rattle.vk_base.specs.declared.call.Call.TheVariants as calls
+use Rattle.vk_base.specs.declared.kernel.Name.{Name}
+use Rattle.vk_base.specs.declared.kernel.State.{State}
+use Rattle.vk_base.specs.declared.kernel.State.TheVariants as states
+use Rattle.vk_base.specs.declared.message.Message.{Message}
+use Rattle.vk_base.specs.declared.pid.Pid.{Pid}
+use Rattle.vk_base.specs.declared.step.Step.{Step}
+use Rattle.vk_base.specs.declared.step.Step.TheVariants as steps
+use Rattle.vk_base.specs.Kernel.{◌>>=◌, name_of, is_ready, receiving, sending, finished_call, first_of}
+use Rattle.vk_base.specs.Pids.{same_pid, same_host}
+use Rattle.vk_host.specs.declared.event.EventAnswer.{EventAnswer}
+use Rattle.vk_host.specs.declared.event.EventAnswer.TheVariants as events_answered
+use Rattle.vk_host.specs.declared.event.StationEvent.{StationEvent}
+use Rattle.vk_host.specs.declared.event.StationEvent.TheVariants as events
+use Rattle.vk_host.specs.declared.seat.Seat.{Seat}
+
+-- what contracts see of a `Host`
+pub record Tables : Type 0 where
+  pub host : ℕ
+  pub seats : List Seat
+  pub steps : List Step
+  pub events : ℕ
+
+abbrev pub is_seat : Pid → Seat → Bool
+is_seat pid s = same_pid s.pid pid
+
+-- a list with the first element that passes changed
+abbrev pub change_first : {X : Type 0} → (X → Bool) → (X → X) → List X → List X
+change_first p f [] = []
+change_first p f (x ∷ xs) = if p x then f x ∷ xs else x ∷ change_first p f xs
+
+-- Changes of one process.
+abbrev pub blocked : Call → Seat → Seat
+blocked c s = record s { state = states.Blocked c }
+
+abbrev pub send_begun : Pid → Message → Seat → Seat
+send_begun target m s = record s { state = states.Blocked (calls.Send target m); sends = min (s.sends + 1) (2 ^ 64 - 1); taken = false }
+
+abbrev pub enqueued : Name → Seat → Seat
+enqueued name s = record s { queue = keep_last 32 (s.queue ++ name ∷ []) }
+
+abbrev pub dequeued : Seat → Seat
+dequeued s = record s { queue = drop 1 s.queue }
+
+abbrev pub marked_taken : Seat → Seat
+marked_taken s = record s { taken = true }
+
+abbrev pub done_by : State → Answer → State
+done_by (states.Blocked c) a = states.Done c a
+done_by states.Ready a = states.Ready
+done_by (states.Done c b) a = states.Done c b
+
+abbrev pub done_with : Answer → Seat → Seat
+done_with a s = record s { state = done_by s.state a }
+
+abbrev pub made_ready : Seat → Seat
+made_ready s = record s { state = states.Ready }
+
+-- the answer that a process has to collect
+abbrev pub collected : List Seat → Pid → Option Answer
+collected seats pid = find (is_seat pid) seats >>= λ s. finished_call s.state >>= λ d. Some d.1
+
+-- Refusals.
+
+abbrev pub is_awaiting_seat : Pid → Seat → Option (Pid × Message) → Bool
+is_awaiting_seat holder s None = false
+is_awaiting_seat holder s (Some m) = same_pid m.0 holder && s.taken
+
+abbrev pub is_awaiting_in : Pid → Option Seat → Bool
+is_awaiting_in holder None = false
+is_awaiting_in holder (Some s) = is_awaiting_seat holder s (sending s.state)
+
+-- the sender awaits a reply from the holder
+abbrev pub is_awaiting : List Seat → Pid → Pid → Bool
+is_awaiting seats holder sender = is_awaiting_in holder (find (is_seat sender) seats)
+
+abbrev pub own_refusal : List Seat → Pid → Call → Option Refusal
+own_refusal seats pid (calls.Send target m) = if is_some (find (is_seat target) seats) then None else Some refusals.NoProcess
+own_refusal seats pid (calls.Reply m to) = if is_awaiting seats pid to then None else Some refusals.NotAwaiting
+own_refusal seats pid c = None
+
+abbrev pub refusal_in : List Seat → Pid → Call → Option Seat → Option Refusal
+refusal_in seats pid c None = Some refusals.Dead
+refusal_in seats pid c (Some s) = if is_ready s.state then own_refusal seats pid c else Some refusals.Busy
+
+unfoldable pub refusal_by : List Seat → Pid → Call → Option Refusal
+refusal_by seats pid c = refusal_in seats pid c (find (is_seat pid) seats)
+
+-- Take.
+
+-- the message of the Send in which the sender is blocked
+unfoldable pub message_from : List Seat → Name → Option Message
+message_from seats name = find (is_seat name.sender) seats >>= λ s. sending s.state >>= λ m. Some m.1
+
+unfoldable pub front_of : List Seat → Pid → Option Name
+front_of seats r = find (is_seat r) seats >>= λ s. if is_some (receiving s.state) then first_of s.queue else None
+
+-- what the process may take now
+unfoldable pub takes : List Seat → Pid → Option (Name × Message)
+takes seats r = front_of seats r >>= λ name. message_from seats name >>= λ m. Some (name, m)
+
+abbrev pub taken_seats : List Seat → Pid → Name × Message → List Seat
+taken_seats seats r t = change_first (is_seat r) (done_with (answers.Received t.0.sender t.1)) (change_first (is_seat t.0.sender) marked_taken (change_first (is_seat r) dequeued seats))
+
+abbrev pub served : List Seat → Pid → Option (Name × Message) → List Seat
+served seats r None = seats
+served seats r (Some t) = taken_seats seats r t
+
+abbrev pub served_steps : Pid → Option (Name × Message) → List Step
+served_steps r None = []
+served_steps r (Some t) = steps.Take r ∷ []
+
+-- Calls: the tables, the steps behind the call's own and the answer.
+pub record Outcome : Type 0 where
+  pub seats : List Seat
+  pub steps : List Step
+  pub answer : EventAnswer
+
+unfoldable pub serving : List Seat → Pid → Outcome
+serving seats r = record { seats = served seats r (takes seats r); steps = served_steps r (takes seats r); answer = events_answered.Begun }
+
+abbrev pub next_name_in : Pid → Option Seat → Name
+next_name_in pid None = name_of pid 0
+next_name_in pid (Some s) = name_of pid s.sends
+
+-- a Send of this process to a process of the station has begun
+unfoldable pub sent_seats : List Seat → Pid → Pid → Message → List Seat
+sent_seats seats pid target m =
+    let begun = change_first (is_seat pid) (send_begun target m) seats in
+    change_first (is_seat target) (enqueued (next_name_in pid (find (is_seat pid) begun))) begun
+
+abbrev pub accepted_by : List Seat → Pid → Call → Outcome
+accepted_by seats pid (calls.Send target m) = serving (sent_seats seats pid target m) target
+accepted_by seats pid calls.Receive = serving (change_first (is_seat pid) (blocked calls.Receive) seats) pid
+accepted_by seats pid (calls.Reply m to) = record { seats = change_first (is_seat to) (done_with (answers.Replied m)) seats; steps = steps.Finish to ∷ []; answer = events_answered.Answered answers.Ok }
+accepted_by seats pid c = record { seats = seats; steps = []; answer = events_answered.Begun }
+
+abbrev pub called_by : List Seat → Pid → Call → Option Refusal → Outcome
+called_by seats pid c None = accepted_by seats pid c
+called_by seats pid c (Some why) = record { seats = seats; steps = []; answer = events_answered.Answered (answers.Refused why) }
+
+unfoldable pub call_outcome : List Seat → Pid → Call → Outcome
+call_outcome seats pid c = called_by seats pid c (refusal_by seats pid c)
+
+-- Collects.
+abbrev pub collect_seats : List Seat → Pid → Option Answer → List Seat
+collect_seats seats pid None = seats
+collect_seats seats pid (Some a) = change_first (is_seat pid) made_ready seats
+
+abbrev pub collect_steps : Pid → Option Answer → List Step
+collect_steps pid None = []
+collect_steps pid (Some a) = steps.Collect pid ∷ []
+
+abbrev pub collect_answer : Option Answer → EventAnswer
+collect_answer None = events_answered.Answered (answers.Refused refusals.NotYet)
+collect_answer (Some a) = events_answered.Answered a

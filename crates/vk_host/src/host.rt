@@ -1,0 +1,118 @@
+ghost use Rattle.std.specs.Prelude.{◌≡◌, ◌≤◌, ◌<◌, ◌+◌, ◌^◌, ◌==◌, ◌&&◌, ◌++◌, ◌∷◌, [], true, is_some, IfOk, IsSome, find};
+ghost use Rattle.vk_base.specs.declared.pid.Pid.{Pid as ThePid};
+ghost use Rattle.vk_base.specs.Kernel.{Kernel, opening, run};
+ghost use Rattle.vk_base.specs.Settings.{has_station, has_process};
+ghost use Rattle.vk_host.specs.Entries.{is_built, answer_to, steps_of, after_event};
+ghost use Rattle.vk_host.specs.Stands.{Stands, is_at, is_own, is_done, opening_seats};
+ghost use Rattle.vk_host.specs.Tables.{Tables, is_seat, change_first, made_ready, collected};
+
+use crate::calls;
+use crate::event::{EventAnswer, StationEvent};
+use crate::queue::Queue;
+use crate::seat::{self, Seat, seat_of};
+use arrayvec::ArrayVec;
+use std::alloc::Global;
+use std::marker::Model;
+use vk_base::{Config, NoMemory, Pid, ProcessSpec, State, StepList};
+
+/// One station: its processes, their queues, and the steps of its last event.
+#[derive(Drop)]
+pub struct Host {
+    host: u16,
+    seats: Vec<Seat>,
+    steps: StepList,
+    events: u64,
+}
+
+impl Model for Host {
+    ghost use Rattle.vk_host.specs.Tables.{Tables};
+
+    ghost Value = { Tables };
+
+    ghost view = { λ h. record { host = h.host; seats = h.seats.items; steps = h.steps.items; events = h.events } };
+}
+
+impl Host {
+    /// The station of this host, before its first event. All memory of the station is taken here.
+    pub fn new(alloc: Global, config: &Config, host: u16) -> Result<Self, NoMemory>
+        requires { has_station config.now.specs host ≡ true }
+        ensures stands { IfOk result (λ h. Stands h (opening config.now.specs)) }
+        ensures start { IfOk result (λ h. (h.events ≡ 0) × (h.steps ≡ [])) }
+        ensures processes { IfOk result (λ h. (pid : ThePid) → is_at h pid ≡ (pid.host == host && has_process config.now.specs pid)) }
+    {
+        Ok(Host {
+            host,
+            seats: opening_seats(alloc, config.specs(), host)?,
+            steps: ArrayVec::new(),
+            events: 0,
+        })
+    }
+
+    /// One event. The answer and the steps are those that the event has in the kernel that the tables stand for; they
+    /// stand for the kernel after it then. Takes no memory.
+    pub fn event(&mut self, event: &StationEvent) -> EventAnswer
+        requires few { self.old.events < 2 ^ 48 }
+        requires own { is_own self.old event.now ≡ true }
+        requires built { is_built event.now ≡ true }
+        ensures answer { (k : Kernel) → Stands self.old k → result ≡ answer_to k event.now }
+        ensures steps { (k : Kernel) → Stands self.old k → self.new.steps ≡ steps_of k event.now }
+        ensures allowed { (k : Kernel) → Stands self.old k → IsSome (run k (steps_of k event.now)) }
+        ensures stands { (k : Kernel) → Stands self.old k → Stands self.new (after_event k event.now) }
+        ensures events { self.new.events ≡ self.old.events + 1 }
+        ensures processes { (pid : ThePid) → is_at self.new pid ≡ is_at self.old pid }
+    {
+        self.events += 1;
+        self.steps.clear();
+        match event {
+            StationEvent::Call { pid, call } => {
+                calls::call(&mut self.seats, &mut self.steps, *pid, call)
+            }
+            StationEvent::Collect { pid } => calls::collect(&mut self.seats, &mut self.steps, *pid),
+            StationEvent::Tick | StationEvent::Deliver { .. } => unreachable!(),
+        }
+    }
+
+    /// The steps of the last event, in order.
+    pub fn steps(&self) -> &StepList
+        ensures { result.now.items ≡ self.now.steps }
+    {
+        &self.steps
+    }
+
+    /// How many events there were.
+    pub fn events(&self) -> u64
+        ensures { result ≡ self.now.events }
+    {
+        self.events
+    }
+
+    /// Whether the process has an answer to collect.
+    pub fn is_done(&self, pid: Pid) -> bool
+        requires { is_at self.now pid ≡ true }
+        ensures { (k : Kernel) → Stands self.now k → result ≡ is_done k pid }
+    {
+        match seat_of(&self.seats, pid) {
+            Some(seat) => seat::is_done(&seat.state),
+            None => false,
+        }
+    }
+}
+
+/// The processes of the host, each of which is ready and has sent nothing.
+fn opening_seats(alloc: Global, specs: &[ProcessSpec], host: u16) -> Result<Vec<Seat>, NoMemory>
+    ensures { IfOk result (λ seats. seats.items ≡ opening_seats host specs.now) }
+{
+    let mut seats = Vec::new(alloc);
+    for spec in specs {
+        if spec.pid.host == host {
+            seats.push(Seat {
+                pid: spec.pid,
+                state: State::Ready,
+                sends: 0,
+                taken: false,
+                queue: Queue::new(alloc)?,
+            })?;
+        }
+    }
+    Ok(seats)
+}
