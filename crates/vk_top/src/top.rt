@@ -1,7 +1,6 @@
-ghost use Rattle.std.specs.Prelude.{◌≡◌, ◌≤◌, ◌⊎◌, ◌↔◌, ℕ, [], Some, Ok, false, true, map, take, string_bytes, IfOk, IfErr, IfSome};
+ghost use Rattle.std.specs.Prelude.{◌≡◌, ◌≤◌, ◌⊎◌, ◌↔◌, ℕ, [], Some, false, true, map, take, string_bytes, IfSome};
 ghost use Rattle.std.specs.Io.KnownBytes.{Appends};
 ghost use Rattle.vk_event.specs.Lawful.{IsLawful};
-ghost use Rattle.vk_event.specs.Schedule.{schedule_of};
 ghost use Rattle.vk_io.specs.Causes.{Rose};
 ghost use Rattle.vk_top.specs.Report.{report_of};
 ghost use Rattle.vk_top.specs.Top.{is_replay, IsReported, IsBadAt, IsOverLimit, status_of, output_of, IsEarly};
