@@ -1,10 +1,7 @@
 -- Lists with the first element that passes a test changed: against the place that `position` gives, and under a search.
-use Rattle.std.proofs.Common.{◌≡◌, ℕ, zero, suc, ◌+◌, ◌<◌, ◌≤◌, Bool, true, false, cond, not, List, [], ◌∷◌, length, get_or, set, refl, ap, arith, Option, Some, None, sym, ◌∙◌, inl, inr}
-use Rattle.std.specs.List.{position, position_or_len, find}
-use Rattle.std.specs.Option.{option_map}
-use Rattle.std.proofs.lemmas.Bool.{cases_Bool}
+use Rattle.std.proofs.Common.{◌≡◌, ℕ, zero, suc, ◌+◌, ◌<◌, ◌≤◌, Bool, true, false, cond, not, List, [], ◌∷◌, length, get_or, set, refl, ap, arith, Some, None, sym, ◌∙◌}
+use Rattle.std.specs.List.{position, position_or_len}
 use Rattle.std.proofs.lemmas.List.Quantifiers.{position-Some}
-use Rattle.std.proofs.lemmas.Grind.{common_steps}
 use Rattle.vk_host.specs.Tables.{change_first}
 
 module _ {X : Type 0} (p : X → Bool) (f : X → X) where

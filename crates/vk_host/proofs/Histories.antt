@@ -35,9 +35,9 @@ use Rattle.vk_host.specs.Entries.{grants_nothing, is_built_call, is_lawful, answ
 use Rattle.vk_host.proofs.Followed.{IsFollowed, followed_opening, followed_put, followed_stage, followed_taken, followed_finished, followed_collected, collected_is}
 
 -- These steps are a run with these observations, and what holds between events holds behind them.
-record Goes (specs : List ProcessSpec) (k : Kernel) (ss : List Step) (last : Pid → Option Call) (os : List Observation) : Type 0 where
-  is : run k ss ≡ Some (record { after = fold next k ss; seen = os })
-  follows : IsFollowed specs (fold next k ss) last
+pub record Goes (specs : List ProcessSpec) (k : Kernel) (ss : List Step) (last : Pid → Option Call) (os : List Observation) : Type 0 where
+  pub is : run k ss ≡ Some (record { after = fold next k ss; seen = os })
+  pub follows : IsFollowed specs (fold next k ss) last
 
 goes_nowhere : (specs : List ProcessSpec) (k : Kernel) (last : Pid → Option Call) → IsFollowed specs k last → Goes specs k [] last []
 goes_nowhere specs k last f = record { is = run_nothing k; follows = f }
@@ -91,7 +91,7 @@ collect_goes specs k pid last f = by_collecting (collecting k pid) refl
 abbrev CallGoes : List ProcessSpec → Kernel → Pid → Call → (Pid → Option Call) → Option Effect → Type 0
 CallGoes specs k pid c last o = Goes specs k (steps.Call pid c ∷ follow_up (after_effect k o) pid c (answer_of o)) (begun_after last (events.Call pid c) (answer_of o)) (option_to_list (seen_of last (events.Call pid c) (answer_of o)))
 
-no_follow_up : (k : Kernel) (pid : Pid) (c : Call) (why : Refusal) → [] ≡ follow_up k pid c (events_answered.Answered (answers.Refused why))
+pub no_follow_up : (k : Kernel) (pid : Pid) (c : Call) (why : Refusal) → [] ≡ follow_up k pid c (events_answered.Answered (answers.Refused why))
 unfolding follow_up
 no_follow_up k pid (calls.Send target m) why = refl
 no_follow_up k pid calls.Receive why = refl
@@ -140,7 +140,7 @@ receive_goes specs k pid p last f at fit does =
     goes_first specs k (steps.Call pid calls.Receive) (unseen after) (take_where after pid) (begun_now last pid calls.Receive) [] does (take_goes specs after pid (begun_now last pid calls.Receive) follows)
 
 -- Where all parts of a Finish are there, it is allowed.
-bind_some : {A B : Type 0} (o : Option A) (f : A → Option B) (a : A) (b : Option B) → o ≡ Some a → f a ≡ b → (o >>= f) ≡ b
+pub bind_some : {A B : Type 0} (o : Option A) (f : A → Option B) (a : A) (b : Option B) → o ≡ Some a → f a ≡ b → (o >>= f) ≡ b
 bind_some o f a b first second = ap (λ x. x >>= f) first ∙ second
 
 finishes : (k : Kernel) (s : Pid) (p : Process) (target : Pid) (m : Message) (e : Exchange) (reply : Message) (dest : ℕ) (bytes : List ℕ) →
@@ -153,7 +153,7 @@ finishes k s p target m e reply dest bytes process send exchange answer =
     (bind_some (k.exchanges (name_of s p.sends)) _ e _ exchange
     (bind_some (reply_of e.stage) _ (reply, dest, bytes) _ answer refl)))
 
-abbrev replied : Kernel → Name → Exchange → Message → Kernel
+abbrev pub replied : Kernel → Name → Exchange → Message → Kernel
 replied k name e m = with_stage k name e (stages.Replied m 0 [])
 
 -- the local sender of what was taken waits for the reply
@@ -168,7 +168,7 @@ finishing_after k pid to number e m sound local at target was_taken =
       finishes (replied k (name_of to number) e m) to w.process e.target e.message x m 0 [] w.is (ap sending w.blocked) there refl,
     )
 
-is_there : (o : Option ℕ) (why : Refusal) → first_that_holds ((not (is_some o), why) ∷ []) ≡ None → (n : ℕ) × (o ≡ Some n)
+pub is_there : (o : Option ℕ) (why : Refusal) → first_that_holds ((not (is_some o), why) ∷ []) ≡ None → (n : ℕ) × (o ≡ Some n)
 is_there None why e = absurd (none-some why (sym e))
 is_there (Some n) why e = (n, refl)
 
@@ -228,7 +228,7 @@ by_process specs k pid c last (Some p) f at there built =
     let does : effect k (steps.Call pid c) ≡ called k pid p c (call_refusal k pid p c) = bind_some (k.procs pid) _ p _ at refl in
     subst (CallGoes specs k pid c last) (sym does) (by_refusal specs k pid p c last (call_refusal k pid p c) f at built refl does)
 
-event_goes : (specs : List ProcessSpec) (k : Kernel) (e : StationEvent) (last : Pid → Option Call) → is_lawful specs e ≡ true → IsFollowed specs k last →
+pub event_goes : (specs : List ProcessSpec) (k : Kernel) (e : StationEvent) (last : Pid → Option Call) → is_lawful specs e ≡ true → IsFollowed specs k last →
     Goes specs k (steps_of k e) (begun_after last e (answer_to k e)) (option_to_list (seen_of last e (answer_to k e)))
 unfolding steps_of
 event_goes specs k (events.Call pid c) last lawful f =

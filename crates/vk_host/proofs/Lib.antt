@@ -5,6 +5,7 @@ pub mod Histories
 pub mod Keeping
 pub mod Reading
 pub mod Replying
+pub mod Rest
 pub mod Right
 pub mod Room
 pub mod Seats

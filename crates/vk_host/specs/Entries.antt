@@ -1,8 +1,7 @@
 -- What an event of a station is: its answer and its steps, and what the processes see of a history.
 --
 -- Only the events of `is_built` are built. Of any other nothing is said here.
-use Rattle.std.specs.Prelude.{ℕ, ◌≡◌, Bool, true, false, ◌==◌, ◌&&◌, List, [], ◌∷◌, ◌++◌, flat_map, fold, Option, Some, None, option_map, option_to_list, if◌then◌else◌}
-use Rattle.std.specs.List.{list_all}
+use Rattle.std.specs.Prelude.{◌≡◌, Bool, true, false, ◌==◌, ◌&&◌, List, [], ◌∷◌, ◌++◌, flat_map, fold, Option, Some, None, option_to_list, if◌then◌else◌}
 use Rattle.vk_base.specs.declared.answer.Answer.{Answer}
 use Rattle.vk_base.specs.declared.answer.Answer.TheVariants as answers
 use Rattle.vk_base.specs.declared.answer.Refusal.{Refusal}
@@ -15,7 +14,7 @@ use Rattle.vk_base.specs.declared.message.Message.{Message}
 use Rattle.vk_base.specs.declared.pid.Pid.{Pid}
 use Rattle.vk_base.specs.declared.step.Step.{Step}
 use Rattle.vk_base.specs.declared.step.Step.TheVariants as steps
-use Rattle.vk_base.specs.Kernel.{◌>>=◌, Kernel, Effect, Run, effect, is_allowed, next, opening, run}
+use Rattle.vk_base.specs.Kernel.{◌>>=◌, Kernel, Effect, effect, is_allowed, next, opening, run}
 use Rattle.vk_base.specs.Messages.{segment_of}
 use Rattle.vk_base.specs.Pids.{same_pid, same_host}
 use Rattle.vk_base.specs.Settings.{has_process}
@@ -165,3 +164,13 @@ history_of specs es = history (opening specs) es
 pub record IsRunOf (specs : List ProcessSpec) (es : List StationEvent) : Type 0 where
   pub last : Kernel
   pub run : run (opening specs) (all_steps (history_of specs es)) ≡ Some (record { after = last; seen = observed no_call (history_of specs es) })
+
+-- Rest.
+
+-- the kernel after these events, in order
+abbrev pub after_all : Kernel → List StationEvent → Kernel
+after_all k es = fold after_event k es
+
+-- no Take is allowed: where a process is blocked in a receive, its queue is empty
+abbrev pub IsAtRest : Kernel → Type 0
+IsAtRest k = (r : Pid) → is_allowed k (steps.Take r) ≡ false

@@ -1,4 +1,5 @@
 pub mod Firsts
+pub mod Fronts
 pub mod HexDigits
 pub mod Hexadecimal
 pub mod Messages

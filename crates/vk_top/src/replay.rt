@@ -6,26 +6,25 @@ ghost use Rattle.vk_base.specs.declared.pid.Pid.{Pid as ThePid};
 ghost use Rattle.vk_base.specs.Kernel.{Kernel};
 ghost use Rattle.vk_event.specs.Lawful.{IsLawful};
 ghost use Rattle.vk_host.specs.Entries.{is_built, entry_of, steps_of, after_event, history};
-ghost use Rattle.vk_host.specs.Stands.{Stands, is_at, is_own};
+ghost use Rattle.vk_host.specs.Stands.{Stands, IsEvent, is_at, is_own};
 ghost use Rattle.vk_top.specs.Report.{station_event, entry_text, report_from, report_of, station_of, history_of_schedule};
 
 use crate::report::{put, put_end, put_head, put_steps};
 use std::alloc::Global;
 use vk_base::NoMemory;
 use vk_event::{Event, Schedule};
-use vk_host::{Host, StationEvent};
+use vk_host::{EventAnswer, Host};
 
-/// What the event is at its station.
-fn station_event(event: &Event) -> StationEvent
-    requires { is_built (station_event event.now) ≡ true }
-    ensures { result ≡ station_event event.now }
+/// The event happens at its station.
+fn play(station: &mut Host, event: &Event) -> EventAnswer
+    requires few { station.old.events < 2 ^ 48 }
+    requires own { is_own station.old (station_event event.now) ≡ true }
+    requires built { is_built (station_event event.now) ≡ true }
+    ensures { IsEvent station.old station.new (station_event event.now) result }
 {
     match event {
-        Event::Call { pid, call } => StationEvent::Call {
-            pid: *pid,
-            call: call.copy(),
-        },
-        Event::Collect { pid } => StationEvent::Collect { pid: *pid },
+        Event::Call { pid, call } => station.call(*pid, call),
+        Event::Collect { pid } => station.collect(*pid),
         Event::Tick { .. } | Event::Deliver { .. } => unreachable!(),
     }
 }
@@ -49,8 +48,7 @@ fn put_event(
     ensures events { OnOk result (station.new.events ≡ station.old.events + 1) }
     ensures processes { OnOk result ((pid : ThePid) → is_at station.new pid ≡ is_at station.old pid) }
 {
-    let event = station_event(event);
-    let answer = station.event(&event);
+    let answer = play(station, event);
     put_head(alloc, text, number, host, number, &answer)?;
     let steps = station.steps();
     put_steps(alloc, text, steps.as_slice())?;

@@ -1,6 +1,5 @@
-use Rattle.std.proofs.Common.{◌≡◌, ◌∙◌, ap, sym, Some}
+use Rattle.std.proofs.Common.{◌∙◌, ap, sym}
 use Rattle.std.specs.List.{find}
-use Rattle.vk_host.specs.declared.seat.Seat.{Seat}
 use Rattle.vk_host.specs.Tables.{Tables, is_seat}
 use Rattle.vk_host.proofs.Events.{done_here}
 use Rattle.vk_host.proofs.host.Host.is_done.Goals as goal

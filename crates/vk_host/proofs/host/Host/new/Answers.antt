@@ -1,4 +1,4 @@
-use Rattle.std.proofs.Common.{◌≡◌, ◌∙◌, ◌≤◌, ap, sym, subst, refl}
+use Rattle.std.proofs.Common.{◌∙◌, ◌≤◌, ap, subst, refl}
 use Rattle.std.specs.List.{count_by}
 use Rattle.vk_base.specs.Settings.{is_on}
 use Rattle.vk_host.specs.Stands.{opening_seats}

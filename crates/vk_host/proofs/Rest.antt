@@ -1,0 +1,237 @@
+-- At the end of every event no process could take a message.
+use Rattle.std.proofs.Common.{◌≡◌, ℕ, ◌+◌, Bool, true, false, cond, List, [], ◌∷◌, ◌++◌, fold, Option, Some, None, is_some, refl, sym, ap, subst, ◌∙◌, inl, inr, if◌then◌else◌}
+use Rattle.std.proofs.lemmas.Bool.{cases_Bool, and_parts, and_right, both_ways, cond-true}
+use Rattle.std.proofs.lemmas.Option.{same_Some, none-some}
+use Rattle.std.specs.List.{list_all}
+use Rattle.vk_base.specs.declared.answer.Answer.TheVariants as answers
+use Rattle.vk_base.specs.declared.answer.Refusal.{Refusal}
+use Rattle.vk_base.specs.declared.answer.Refusal.TheVariants as refusals
+use Rattle.vk_base.specs.declared.call.Call.{Call}
+use Rattle.vk_base.specs.declared.call.Call.TheVariants as calls
+use Rattle.vk_base.specs.declared.config.ProcessSpec.{ProcessSpec}
+use Rattle.vk_base.specs.declared.kernel.Exchange.{Exchange}
+use Rattle.vk_base.specs.declared.kernel.Name.{Name}
+use Rattle.vk_base.specs.declared.kernel.Process.{Process}
+use Rattle.vk_base.specs.declared.kernel.Stage.{Stage}
+use Rattle.vk_base.specs.declared.kernel.Stage.TheVariants as stages
+use Rattle.vk_base.specs.declared.kernel.State.TheVariants as states
+use Rattle.vk_base.specs.declared.message.Message.{Message}
+use Rattle.vk_base.specs.declared.pid.Pid.{Pid}
+use Rattle.vk_base.specs.declared.step.Step.{Step}
+use Rattle.vk_base.specs.declared.step.Step.TheVariants as steps
+use Rattle.vk_base.specs.Kernel.{◌>>=◌, Kernel, Effect, Taking, Finishing, Collecting, opening, next, is_allowed, after_effect, unseen, answered, called, accepted, call_refusal, holds_of, name_of, first_of, queue_of, is_queued, is_queued_at, is_taken, put_process, put_exchange, with_state, sent, sent_exchange, taking, taken, finishing, finished, collecting, receiving, held}
+use Rattle.vk_base.specs.Pids.{same_pid, same_host}
+use Rattle.vk_base.specs.Ranges.{with_bytes}
+use Rattle.vk_base.specs.Settings.{has_process}
+use Rattle.vk_base.specs.Sound.{IsSound}
+use Rattle.vk_base.proofs.FilterLemmas.{first_passes}
+use Rattle.vk_base.proofs.Held.{holding_is}
+use Rattle.vk_base.proofs.Queues.{queued_in, queue-state, queue-stage, queue-sent_elsewhere, queue-taken_elsewhere}
+use Rattle.vk_base.proofs.StepLemmas.{IsFit, fit_is, taking_is}
+use Rattle.vk_base.proofs.Tables.{same_pid_is, same_pid_laws, put_process_at, put_process_other}
+use Rattle.vk_host.specs.declared.event.StationEvent.{StationEvent}
+use Rattle.vk_host.specs.declared.event.StationEvent.TheVariants as events
+use Rattle.vk_host.specs.Entries.{grants_nothing, is_built_call, is_lawful, answer_of, answer_to, take_where, follow_up, steps_of, after_event, after_all, begun_after, no_call, IsAtRest}
+use Rattle.vk_host.proofs.Followed.{IsFollowed, followed_opening}
+use Rattle.vk_host.proofs.Histories.{event_goes, no_follow_up, bind_some, is_there, replied}
+
+-- The process is in no receive, or its queue is empty.
+abbrev Rests : Kernel → Pid → Type 0
+Rests k r = (p : Process) (c : Call) (n : Name) → k.procs r ≡ Some p → receiving p.state ≡ Some c → first_of (queue_of k r) ≡ Some n → ⊥
+
+abbrev AllRest : Kernel → Type 0
+AllRest k = (r : Pid) → Rests k r
+
+-- all but this one
+abbrev OthersRest : Kernel → Pid → Type 0
+OthersRest k r = (q : Pid) → same_pid q r ≡ false → Rests k q
+
+like_before : (k after : Kernel) (q : Pid) → after.procs q ≡ k.procs q → queue_of after q ≡ queue_of k q → Rests k q → Rests after q
+like_before k after q same_process same_queue rests p c n at call first = rests p c n (sym same_process ∙ at) call (ap first_of (sym same_queue) ∙ first)
+
+busy : (k : Kernel) (q : Pid) (p : Process) → k.procs q ≡ Some p → receiving p.state ≡ None → Rests k q
+busy k q p is none x c n at call first = none-some c (sym none ∙ ap (λ (y : Process). receiving y.state) (same_Some p x (sym is ∙ at)) ∙ call)
+
+-- A process that is put is in no receive.
+put_rests : (k : Kernel) (pid : Pid) (p : Process) (exchanges : Name → Option Exchange) (arrived : List Name) (q : Pid) → receiving p.state ≡ None →
+    (same_pid q pid ≡ false → queue_of (record { procs = put_process k.procs pid p; exchanges = exchanges; arrived = arrived }) q ≡ queue_of k q) →
+    (same_pid q pid ≡ false → Rests k q) → Rests (record { procs = put_process k.procs pid p; exchanges = exchanges; arrived = arrived }) q
+put_rests k pid p exchanges arrived q none same_queue rests = elim (cases_Bool (same_pid q pid)) [
+  | inl t ↦ busy (record { procs = put_process k.procs pid p; exchanges = exchanges; arrived = arrived }) q p (put_process_at k.procs pid p q t) none
+  | inr f ↦ like_before k (record { procs = put_process k.procs pid p; exchanges = exchanges; arrived = arrived }) q (put_process_other k.procs pid p q f) (same_queue f) (rests f)
+]
+
+other_way : (p q : Pid) → same_pid p q ≡ false → same_pid q p ≡ false
+other_way p q f = sym (same_pid_laws.symm p q) ∙ f
+
+-- What rests takes nothing, and what takes nothing rests.
+takes_nothing : (k : Kernel) (r : Pid) → Rests k r → is_allowed k (steps.Take r) ≡ false
+takes_nothing k r rests = by_taking (taking k r) refl
+  where
+    by_taking : (o : Option Taking) → taking k r ≡ o → is_some (o >>= λ t. Some (unseen (taken k r t))) ≡ false
+    by_taking None is = refl
+    by_taking (Some t) is = let x = taking_is k r t is in absurd (rests t.process t.call t.name x.process x.call x.first)
+
+first_there : (ns : List Name) (n : Name) → first_of ns ≡ Some n → (rest : List Name) × (ns ≡ n ∷ rest)
+first_there [] n e = absurd (none-some n e)
+first_there (m ∷ ns) n e = (ns, ap (λ x. x ∷ ns) (same_Some m n e))
+
+some_there : (test : Exchange → Bool) (o : Option Exchange) → holds_of test o ≡ true → (x : Exchange) × (o ≡ Some x)
+some_there test None t = absurd (both_ways false refl t)
+some_there test (Some x) t = (x, refl)
+
+queued_there : (k : Kernel) (r : Pid) (n : Name) → first_of (queue_of k r) ≡ Some n → (x : Exchange) × (k.exchanges n ≡ Some x)
+unfolding queue_of
+queued_there k r n first =
+    let whole = first_there (queue_of k r) n first in
+    some_there (is_queued_at r) (k.exchanges n) (first_passes (queued_in k.exchanges r) k.arrived n whole.0 whole.1)
+
+rests_where : (k : Kernel) (r : Pid) → taking k r ≡ None → Rests k r
+unfolding taking
+rests_where k r none p c n at call first =
+    let x = queued_there k r n first in
+    let there = bind_some (k.procs r) _ p (Some (record { process = p; call = c; name = n; exchange = x.0 })) at
+    (bind_some (receiving p.state) _ c _ call (bind_some (first_of (queue_of k r)) _ n _ first (bind_some (k.exchanges n) _ x.0 _ x.1 refl))) in
+    none-some (record { process = p; call = c; name = n; exchange = x.0 }) (sym none ∙ there)
+
+-- Where the others rest, all rest once this one took what it may take.
+taken_rests : (k : Kernel) (r : Pid) (t : Taking) → OthersRest k r → taking k r ≡ Some t → AllRest (taken k r t)
+taken_rests k r t others is q =
+    put_rests k r (record t.process { state = states.Done t.call (answers.Received t.name.sender t.exchange.message) }) (put_exchange k.exchanges t.name (record t.exchange { stage = stages.Taken })) k.arrived q refl
+    (λ f. queue-taken_elsewhere k r t q is (other_way q r f)) (others q)
+
+served_rests : (k : Kernel) (r : Pid) → OthersRest k r → AllRest (fold next k (take_where k r))
+served_rests k r others = by_taking (taking k r) refl
+  where
+    nothing : taking k r ≡ None → AllRest k
+    nothing none q = elim (cases_Bool (same_pid q r)) [
+      | inl t ↦ subst (Rests k) (sym (same_pid_is q r t)) (rests_where k r none)
+      | inr f ↦ others q f
+    ]
+
+    by_taking : (o : Option Taking) → taking k r ≡ o → AllRest (fold next k (cond (is_some (o >>= λ t. Some (unseen (taken k r t)))) (steps.Take r ∷ []) []))
+    by_taking None is = nothing is
+    by_taking (Some t) is = subst AllRest (sym (ap (λ o. after_effect k (o >>= λ x. Some (unseen (taken k r x)))) is)) (taken_rests k r t others is)
+
+-- Where all rest, all rest after a Finish.
+queue_finished : (k : Kernel) (s : Pid) (f : Finishing) (q : Pid) → queue_of (finished k s f) q ≡ queue_of k q
+unfolding queue_of
+queue_finished k s f q = refl
+
+finish_rests : (k : Kernel) (s : Pid) → AllRest k → AllRest (next k (steps.Finish s))
+finish_rests k s rest = by_finishing (finishing k s)
+  where
+    by_finishing : (o : Option Finishing) → AllRest (after_effect k (o >>= λ f. Some (unseen (finished k s f))))
+    by_finishing None = rest
+    by_finishing (Some f) = λ q.
+        put_rests k s (record f.process { memory = with_bytes f.process.memory f.dest f.bytes; state = states.Done (calls.Send f.target f.message) (answers.Replied f.reply) }) k.exchanges k.arrived q refl
+        (λ other. queue_finished k s f q) (λ other. rest q)
+
+-- A collect.
+collect_rests : (k : Kernel) (pid : Pid) → AllRest k → AllRest (after_event k (events.Collect pid))
+unfolding after_event steps_of
+collect_rests k pid rest = by_collecting (collecting k pid) refl
+  where
+    by_collecting : (o : Option Collecting) → collecting k pid ≡ o → AllRest (fold next k (cond (is_some (o >>= λ d. Some (answered (with_state k pid d.process states.Ready) pid d.call d.answer))) (steps.Collect pid ∷ []) []))
+    by_collecting None is = rest
+    by_collecting (Some d) is =
+        subst AllRest (sym (ap (λ o. after_effect k (o >>= λ x. Some (answered (with_state k pid x.process states.Ready) pid x.call x.answer))) is))
+        (λ q. put_rests k pid (record d.process { state = states.Ready }) k.exchanges k.arrived q refl (λ f. queue-state k pid d.process states.Ready q) (λ f. rest q))
+
+-- A call, which has this effect.
+abbrev CallRests : Kernel → Pid → Call → Option Effect → Type 0
+CallRests k pid c o = AllRest (fold next (after_effect k o) (follow_up (after_effect k o) pid c (answer_of o)))
+
+refused_rests : (k : Kernel) (pid : Pid) (c : Call) (why : Refusal) → AllRest k → CallRests k pid c (Some (answered k pid c (answers.Refused why)))
+refused_rests k pid c why rest = let P : List Step → Type 0 = λ ss. AllRest (fold next k ss) in subst P (no_follow_up k pid c why) rest
+
+others_rest_after_send : (k : Kernel) (pid : Pid) (p : Process) (target : Pid) (m : Message) → IsSound k → AllRest k → k.procs pid ≡ Some p → OthersRest (sent k pid p target m) target
+unfolding sent
+others_rest_after_send k pid p target m sound rest at q f =
+    put_rests k pid (record p { state = states.Blocked (calls.Send target m); sends = p.sends + 1 }) (put_exchange k.exchanges (name_of pid (p.sends + 1)) (sent_exchange pid p target m))
+    (if same_host pid target then k.arrived ++ name_of pid (p.sends + 1) ∷ [] else k.arrived) q refl
+    (λ other. queue-sent_elsewhere k pid p target m q sound at (and_right (same_host pid target) (same_pid target q) (other_way q target f))) (λ other. rest q)
+
+send_rests : (k : Kernel) (pid : Pid) (p : Process) (target : Pid) (m : Message) → IsSound k → AllRest k → k.procs pid ≡ Some p → same_host pid target ≡ true → CallRests k pid (calls.Send target m) (Some (unseen (sent k pid p target m)))
+unfolding follow_up
+send_rests k pid p target m sound rest at local =
+    let P : List Step → Type 0 = λ ss. AllRest (fold next (sent k pid p target m) ss) in
+    subst P (sym (cond-true (same_host pid target) (take_where (sent k pid p target m) target) [] local))
+    (served_rests (sent k pid p target m) target (others_rest_after_send k pid p target m sound rest at))
+
+receive_rests : (k : Kernel) (pid : Pid) (p : Process) → AllRest k → CallRests k pid calls.Receive (Some (unseen (with_state k pid p (states.Blocked calls.Receive))))
+unfolding follow_up
+receive_rests k pid p rest =
+    let after : Kernel = with_state k pid p (states.Blocked calls.Receive) in
+    served_rests after pid
+    (λ q f. like_before k after q (put_process_other k.procs pid (record p { state = states.Blocked calls.Receive }) q f) (queue-state k pid p (states.Blocked calls.Receive) q) (rest q))
+
+-- A Reply changes no queue.
+taken_is_not_queued : (s : Stage) → is_taken s ≡ true → false ≡ is_queued s
+taken_is_not_queued stages.Queued t = absurd (both_ways false refl t)
+taken_is_not_queued s t = refl
+
+replied_rests : (k : Kernel) (pid to : Pid) (m : Message) (number : ℕ) (e : Exchange) → AllRest k → k.exchanges (name_of to number) ≡ Some e → is_taken e.stage ≡ true →
+    CallRests k pid (calls.Reply m to) (Some (answered (replied k (name_of to number) e m) pid (calls.Reply m to) answers.Ok))
+unfolding follow_up
+replied_rests k pid to m number e rest at was_taken = by_local (same_host pid to)
+  where
+    after : Kernel
+    after = replied k (name_of to number) e m
+
+    rest_after : AllRest (replied k (name_of to number) e m)
+    rest_after q = like_before k (replied k (name_of to number) e m) q refl (queue-stage k (name_of to number) e (stages.Replied m 0 []) q at (taken_is_not_queued e.stage was_taken)) (rest q)
+
+    by_local : (b : Bool) → AllRest (fold next (replied k (name_of to number) e m) (cond b (steps.Finish to ∷ []) []))
+    by_local true = finish_rests after to rest_after
+    by_local false = rest_after
+
+reply_rests : (k : Kernel) (pid : Pid) (p : Process) (m : Message) (to : Pid) → AllRest k → IsFit k pid p (calls.Reply m to) → CallRests k pid (calls.Reply m to) (accepted k pid p (calls.Reply m to))
+reply_rests k pid p m to rest fit =
+    let number = is_there (held k pid to) refusals.NotAwaiting fit.rest in
+    let h = holding_is k pid to number.0 number.1 in
+    let is : accepted k pid p (calls.Reply m to) ≡ Some (answered (replied k (name_of to number.0) h.exchange m) pid (calls.Reply m to) answers.Ok) =
+    bind_some (held k pid to) _ number.0 _ number.1 (bind_some (k.exchanges (name_of to number.0)) _ h.exchange _ h.is refl) in
+    subst (CallRests k pid (calls.Reply m to)) (sym is) (replied_rests k pid to m number.0 h.exchange rest h.is h.taken)
+
+accepted_rests : (k : Kernel) (pid : Pid) (p : Process) (c : Call) → IsSound k → AllRest k → k.procs pid ≡ Some p → IsFit k pid p c → is_built_call pid c ≡ true → CallRests k pid c (accepted k pid p c)
+accepted_rests k pid p (calls.Send target m) sound rest at fit built = send_rests k pid p target m sound rest at (and_parts (same_host pid target) (grants_nothing m) built).0
+accepted_rests k pid p calls.Receive sound rest at fit built = receive_rests k pid p rest
+accepted_rests k pid p (calls.Reply m to) sound rest at fit built = reply_rests k pid p m to rest fit
+accepted_rests k pid p c sound rest at fit built = absurd (both_ways false refl built)
+
+by_refusal : (k : Kernel) (pid : Pid) (p : Process) (c : Call) (why : Option Refusal) → IsSound k → AllRest k → k.procs pid ≡ Some p → is_built_call pid c ≡ true → call_refusal k pid p c ≡ why → CallRests k pid c (called k pid p c why)
+by_refusal k pid p c None sound rest at built fine = accepted_rests k pid p c sound rest at (fit_is k pid p c fine) built
+by_refusal k pid p c (Some why) sound rest at built fine = refused_rests k pid c why rest
+
+-- a process that is not there makes no call
+nobody_rests : (k : Kernel) (pid : Pid) (c : Call) → AllRest k → CallRests k pid c None
+nobody_rests k pid c rest = let P : List Step → Type 0 = λ ss. AllRest (fold next k ss) in subst P (no_follow_up k pid c refusals.NotYet) rest
+
+call_rests : (k : Kernel) (pid : Pid) (c : Call) (o : Option Process) → IsSound k → AllRest k → k.procs pid ≡ o → is_built_call pid c ≡ true → CallRests k pid c (o >>= λ p. called k pid p c (call_refusal k pid p c))
+call_rests k pid c None sound rest at built = nobody_rests k pid c rest
+call_rests k pid c (Some p) sound rest at built = by_refusal k pid p c (call_refusal k pid p c) sound rest at built refl
+
+event_rests : (specs : List ProcessSpec) (k : Kernel) (e : StationEvent) → is_lawful specs e ≡ true → IsSound k → AllRest k → AllRest (after_event k e)
+unfolding after_event steps_of
+event_rests specs k (events.Call pid c) lawful sound rest = call_rests k pid c (k.procs pid) sound rest refl (and_parts (has_process specs pid) (is_built_call pid c) lawful).1
+event_rests specs k (events.Collect pid) lawful sound rest = collect_rests k pid rest
+event_rests specs k e lawful sound rest = absurd (both_ways false refl lawful)
+
+-- Histories.
+rest_from : (specs : List ProcessSpec) (k : Kernel) (es : List StationEvent) (last : Pid → Option Call) → list_all (is_lawful specs) es ≡ true → IsFollowed specs k last → AllRest k → AllRest (after_all k es)
+unfolding after_event
+rest_from specs k [] last lawful f rest = rest
+rest_from specs k (e ∷ es) last lawful f rest =
+    let parts = and_parts (is_lawful specs e) (list_all (is_lawful specs) es) lawful in
+    let first = event_goes specs k e last parts.0 f in
+    rest_from specs (after_event k e) es (begun_after last e (answer_to k e)) parts.1 first.follows (event_rests specs k e parts.0 f.sound rest)
+
+-- nothing has arrived yet
+opening_rests : (specs : List ProcessSpec) → AllRest (opening specs)
+unfolding queue_of
+opening_rests specs r p c n at call first = none-some n first
+
+pub history_rests : (specs : List ProcessSpec) (es : List StationEvent) → list_all (is_lawful specs) es ≡ true → IsAtRest (after_all (opening specs) es)
+history_rests specs es lawful r =
+    takes_nothing (after_all (opening specs) es) r (rest_from specs (opening specs) es no_call lawful (followed_opening specs) (opening_rests specs) r)
