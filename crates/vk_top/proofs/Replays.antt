@@ -1,7 +1,6 @@
 -- Events that are played one after another, and what is written of them.
-use Rattle.std.proofs.Common.{◌≡◌, ℕ, ◌+◌, ◌<◌, Bool, true, false, List, [], ◌∷◌, ◌++◌, length, map, get_or, drop, refl, ap, sym, ◌∙◌, subst, append_assoc}
+use Rattle.std.proofs.Common.{◌≡◌, ℕ, ◌+◌, ◌<◌, List, [], ◌∷◌, ◌++◌, length, map, get_or, drop, refl, ap, sym, ◌∙◌, append_assoc}
 use Rattle.std.proofs.lemmas.List.{drop_more}
-use Rattle.std.specs.List.{list_all}
 use Rattle.vk_base.specs.declared.pid.Pid.{Pid}
 use Rattle.vk_base.specs.Kernel.{Kernel}
 use Rattle.vk_event.specs.declared.event.Event.{Event}
@@ -38,16 +37,16 @@ IsReplayedTo-more host number steps n old new text longer whole events i e withi
     let next : drop i events ≡ e ∷ drop (i + 1) events = drop_more events i e within ∙ ap (λ x. x ∷ drop (i + 1) events) (sym is) in
     let rest = report_from host (number + 1) (steps + n) (history (after_event k (station_event e)) (map station_event (drop (i + 1) events))) in
     let counted : report_from host (number + 1) (steps + n) (history (after_event k (station_event e)) (map station_event (drop (i + 1) events))) ≡ report_from host (number + 1) (steps + length (steps_of k (station_event e))) (history (after_event k (station_event e)) (map station_event (drop (i + 1) events))) =
-        ap (λ m. report_from host (number + 1) (steps + m) (history (after_event k (station_event e)) (map station_event (drop (i + 1) events)))) (count k so_far.stands) in
+    ap (λ m. report_from host (number + 1) (steps + m) (history (after_event k (station_event e)) (map station_event (drop (i + 1) events)))) (count k so_far.stands) in
     record {
       kernel = after_event k (station_event e);
       stands = stands k so_far.stands;
       text_is =
-        ap (λ t. t ++ rest) (written k so_far.stands)
-        ∙ append_assoc text (entry_text host (number + 1) (entry_of k (station_event e))) rest
-        ∙ ap (λ r. text ++ (entry_text host (number + 1) (entry_of k (station_event e)) ++ r)) counted
-        ∙ ap (λ l. text ++ report_from host number steps (history k (map station_event l))) (sym next)
-        ∙ so_far.text_is;
+          ap (λ t. t ++ rest) (written k so_far.stands)
+          ∙ append_assoc text (entry_text host (number + 1) (entry_of k (station_event e))) rest
+          ∙ ap (λ r. text ++ (entry_text host (number + 1) (entry_of k (station_event e)) ++ r)) counted
+          ∙ ap (λ l. text ++ report_from host number steps (history k (map station_event l))) (sym next)
+          ∙ so_far.text_is;
     }
 
 -- no event is left

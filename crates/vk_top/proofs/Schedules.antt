@@ -9,7 +9,6 @@ use Rattle.vk_base.specs.declared.call.Call.TheVariants as calls
 use Rattle.vk_base.specs.declared.config.ProcessSpec.{ProcessSpec}
 use Rattle.vk_base.specs.declared.message.Message.{Message}
 use Rattle.vk_base.specs.declared.pid.Pid.{Pid}
-use Rattle.vk_base.specs.Messages.{segment_of}
 use Rattle.vk_base.specs.Settings.{has_process, has_station, is_process}
 use Rattle.vk_event.proofs.Short.{short_start, short_len}
 use Rattle.vk_event.specs.declared.event.Event.{Event}

@@ -12,7 +12,7 @@ use Rattle.vk_host.specs.declared.event.StationEvent.TheVariants as events
 use Rattle.vk_host.specs.Entries.{Entry, history_of}
 use Rattle.v_trace.specs.Texts.{answer_text, step_text}
 
--- The word or words of an answer.
+-- the words of what an event is answered
 abbrev pub event_answer_text : EventAnswer → List ℕ
 event_answer_text answers.Begun = codes "begun"
 event_answer_text (answers.Answered answer) = answer_text answer
@@ -36,7 +36,7 @@ step_lines steps = flat_map step_line steps
 abbrev pub entry_text : ℕ → ℕ → Entry → List ℕ
 entry_text host n entry = head_line n host n entry.answer ++ step_lines entry.steps
 
--- `end EVENTS STEPS FRAMES`; no frame leaves a station that has no other beside it
+-- `end EVENTS STEPS FRAMES`; a station that is alone emits no frame
 abbrev pub end_line : ℕ → ℕ → List ℕ
 end_line events steps = codes "end " ++ decimal events ++ codes " " ++ decimal steps ++ codes " 0\n"
 

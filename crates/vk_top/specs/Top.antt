@@ -1,5 +1,5 @@
 -- What the top call answers and writes.
-use Rattle.std.specs.Prelude.{ℕ, ◌≡◌, ◌<◌, ◌≤◌, ◌⊎◌, nat_lt, Bool, true, false, List, [], ◌∷◌, length, map, codes, bytes_eq, Option, Result, Ok, Err, if◌then◌else◌}
+use Rattle.std.specs.Prelude.{ℕ, ◌≡◌, ◌<◌, ◌≤◌, ◌⊎◌, nat_lt, Bool, false, List, [], ◌∷◌, length, map, codes, bytes_eq, Option, Result, Ok, Err, if◌then◌else◌}
 use Rattle.std.specs.Io.KnownBytes.{Appends}
 use Rattle.vk_event.specs.declared.schedule.Schedule.{Schedule}
 use Rattle.vk_event.specs.declared.schedule.TextRefusal.{TextRefusal}
@@ -59,13 +59,3 @@ IsEarly status.Limit = Unit {0}
 IsEarly status.Done = ⊥
 IsEarly status.WriteFault = ⊥
 IsEarly status.NoMemory = ⊥
-
--- the answers once the work has begun
-abbrev pub IsLate : Status → Type 0
-IsLate status.Done = Unit {0}
-IsLate status.WriteFault = Unit {0}
-IsLate status.NoMemory = Unit {0}
-IsLate status.Usage = ⊥
-IsLate (status.BadInput line) = ⊥
-IsLate status.ReadFault = ⊥
-IsLate status.Limit = ⊥

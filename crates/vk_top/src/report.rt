@@ -20,11 +20,7 @@ pub fn put(text: &mut Vec<u8>, bytes: &[u8]) -> Result<(), NoMemory>
     }
 }
 
-fn put_event_answer(
-    alloc: Global,
-    text: &mut Vec<u8>,
-    answer: &EventAnswer,
-) -> Result<(), NoMemory>
+fn put_event_answer(alloc: Global, text: &mut Vec<u8>, answer: &EventAnswer) -> Result<(), NoMemory>
     ensures { OnOk result (text.new.items ≡ text.old.items ++ event_answer_text answer.now) }
 {
     match answer {

@@ -21,7 +21,7 @@ pub enum Status {
     WriteFault,
     /// There was no memory for the work.
     NoMemory,
-    /// The input, or what it asks for, is too large.
+    /// The input has too many bytes or events.
     Limit,
 }
 

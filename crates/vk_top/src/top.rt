@@ -1,10 +1,9 @@
-ghost use Rattle.std.specs.Prelude.{◌≡◌, ◌≤◌, ◌⊎◌, ◌↔◌, ℕ, [], Some, Ok, false, true, map, take, string_bytes, IfOk, IfErr, IfSome};
+ghost use Rattle.std.specs.Prelude.{◌≡◌, ◌≤◌, ◌⊎◌, ◌↔◌, ℕ, [], Some, false, true, map, take, string_bytes, IfSome};
 ghost use Rattle.std.specs.Io.KnownBytes.{Appends};
 ghost use Rattle.vk_event.specs.Lawful.{IsLawful};
-ghost use Rattle.vk_event.specs.Schedule.{schedule_of};
 ghost use Rattle.vk_io.specs.Causes.{Rose};
 ghost use Rattle.vk_top.specs.Report.{report_of};
-ghost use Rattle.vk_top.specs.Top.{is_replay, IsReported, IsBadAt, IsOverLimit, status_of, output_of, IsEarly, IsLate};
+ghost use Rattle.vk_top.specs.Top.{is_replay, IsReported, IsBadAt, IsOverLimit, status_of, output_of, IsEarly};
 
 use crate::replay::report;
 use crate::status::Status;
@@ -47,7 +46,7 @@ fn write_report<K: Sink>(output: &mut K, text: &[u8]) -> Status
 fn replay<K: Sink>(alloc: Global, output: &mut K, schedule: &Schedule) -> Status
     requires { IsLawful schedule.now }
     ensures done { result ≡ Status.Done → Appends (K.written output.old) (K.written output.new) (report_of schedule.now) }
-    ensures kinds { IsLate result }
+    ensures kinds { (result ≡ Status.Done) ⊎ (result ≡ Status.WriteFault) ⊎ (result ≡ Status.NoMemory) }
     ensures cause { result ≡ Status.WriteFault → Rose (K.fault_count output.old) (K.fault_count output.new) }
     ensures front { (n : ℕ) × Appends (K.written output.old) (K.written output.new) (take n (report_of schedule.now)) }
     ensures never_falls { K.fault_count output.old ≤ K.fault_count output.new }
@@ -59,7 +58,8 @@ fn replay<K: Sink>(alloc: Global, output: &mut K, schedule: &Schedule) -> Status
 }
 
 /// The whole work that the words ask for. `replay` reads a schedule and writes its report. The words come first, then the
-/// input is read to its end, then its text is read, and only then is anything written.
+/// input is read to its end, then its text is read, and only then is anything written. `Limit` comes for more than
+/// 16,777,216 bytes and for more than 100,000 events before any bad line. After the report the output is flushed once.
 pub fn vkernel<S: Source, K: Sink>(
     alloc: Global,
     words: &[String],
@@ -76,6 +76,8 @@ pub fn vkernel<S: Source, K: Sink>(
     ensures limit { result ≡ Status.Limit → IfSome (S.left input.old) IsOverLimit }
     ensures read_fault { result ≡ Status.ReadFault → Rose (S.fault_count input.old) (S.fault_count input.new) }
     ensures write_fault { result ≡ Status.WriteFault → Rose (K.fault_count output.old) (K.fault_count output.new) }
+    // A write is tried only where the input is a schedule.
+    ensures writing { result ≡ Status.WriteFault → IfSome (S.left input.old) (λ i. status_of i ≡ Status.Done) }
 
     // Where no fault was met and memory sufficed, the input alone decides.
     ensures complete { is_replay (map string_bytes words.now) ≡ true
