@@ -1,12 +1,12 @@
 //! The text of an answer.
 
-ghost use Rattle.std.specs.Prelude.{◌≡◌, [], ◌∷◌, ◌++◌, codes, decimal, IfOk, OnOk, OnErr};
-ghost use Rattle.vk_text.specs.Spelling.{spaced, pid_text, message_text, bytes_text};
+ghost use Rattle.std.specs.Prelude.{◌≡◌, [], ◌∷◌, ◌++◌, codes, decimal, OnOk, OnErr};
+ghost use Rattle.vk_text.specs.Spelling.{Begins, spaced, pid_text, message_text, bytes_text};
 ghost use Rattle.v_trace.specs.Texts.{refusal_text, answer_text};
 
-use crate::parts::{begin, put, with_bytes, with_message, with_number, with_pid};
 use std::alloc::Global;
-use vk_base::{Answer, Message, NoMemory, Pid, Refusal};
+use vk_base::{Answer, Data, Message, NoMemory, Pid, Refusal};
+use vk_text::{put, write_bytes, write_message, write_number, write_pid};
 
 fn refusal_word(why: Refusal) -> &'static [u8]
     ensures { result.now ≡ refusal_text why }
@@ -28,33 +28,81 @@ fn refusal_word(why: Refusal) -> &'static [u8]
     }
 }
 
-/// `ok PID M`
-fn received_text(alloc: Global, from: Pid, message: &Message) -> Result<Vec<u8>, NoMemory>
-    ensures { IfOk result (λ text. text.items ≡ spaced (codes "ok") (pid_text from ∷ message_text message.now ∷ [])) }
+/// Appends `ok M`.
+fn write_replied(alloc: Global, into: &mut Vec<u8>, message: &Message) -> Result<(), NoMemory>
+    ensures ok { OnOk result (into.new.items ≡ into.old.items ++ spaced (codes "ok") (message_text message.now ∷ [])) }
+    ensures front { OnErr result (Begins into.old.items into.new.items) }
 {
-    let text = with_pid(alloc, begin(alloc, b"ok")?, from)?;
-    with_message(alloc, text, message)
+    put(into, b"ok")?;
+    write_message(alloc, into, message)
 }
 
+/// Appends `ok PID M`.
+fn write_received(
+    alloc: Global,
+    into: &mut Vec<u8>,
+    from: Pid,
+    message: &Message,
+) -> Result<(), NoMemory>
+    ensures ok { OnOk result (into.new.items ≡ into.old.items ++ spaced (codes "ok") (pid_text from ∷ message_text message.now ∷ [])) }
+    ensures front { OnErr result (Begins into.old.items into.new.items) }
+{
+    put(into, b"ok")?;
+    write_pid(alloc, into, from)?;
+    write_message(alloc, into, message)
+}
+
+/// Appends `ok PID M COUNT`.
+fn write_received_segment(
+    alloc: Global,
+    into: &mut Vec<u8>,
+    from: Pid,
+    message: &Message,
+    count: u32,
+) -> Result<(), NoMemory>
+    ensures ok { OnOk result (into.new.items ≡ into.old.items ++ spaced (codes "ok") (pid_text from ∷ message_text message.now ∷ decimal count ∷ [])) }
+    ensures front { OnErr result (Begins into.old.items into.new.items) }
+{
+    write_received(alloc, into, from, message)?;
+    write_number(alloc, into, u64::from(count))
+}
+
+/// Appends `ok PID`.
+fn write_found(alloc: Global, into: &mut Vec<u8>, pid: Pid) -> Result<(), NoMemory>
+    ensures ok { OnOk result (into.new.items ≡ into.old.items ++ spaced (codes "ok") (pid_text pid ∷ [])) }
+    ensures front { OnErr result (Begins into.old.items into.new.items) }
+{
+    put(into, b"ok")?;
+    write_pid(alloc, into, pid)
+}
+
+/// Appends `ok B`.
+fn write_loaded(alloc: Global, into: &mut Vec<u8>, bytes: &Data) -> Result<(), NoMemory>
+    ensures ok { OnOk result (into.new.items ≡ into.old.items ++ spaced (codes "ok") (bytes_text bytes.now ∷ [])) }
+    ensures front { OnErr result (Begins into.old.items into.new.items) }
+{
+    put(into, b"ok")?;
+    write_bytes(alloc, into, bytes.as_slice())
+}
+
+/// Appends the answer; a refusal may leave a part of it.
 #[tactic(auto, unfolding(crate::specs::Texts::answer_text))]
-fn answer_text(alloc: Global, answer: &Answer) -> Result<Vec<u8>, NoMemory>
-    ensures { IfOk result (λ text. text.items ≡ answer_text answer.now) }
+fn write_answer(alloc: Global, into: &mut Vec<u8>, answer: &Answer) -> Result<(), NoMemory>
+    ensures ok { OnOk result (into.new.items ≡ into.old.items ++ answer_text answer.now) }
+    ensures front { OnErr result (Begins into.old.items into.new.items) }
 {
     match *answer {
-        Answer::Ok => begin(alloc, b"ok"),
-        Answer::Replied { ref message } => with_message(alloc, begin(alloc, b"ok")?, message),
-        Answer::Received { from, ref message } => received_text(alloc, from, message),
+        Answer::Ok => put(into, b"ok"),
+        Answer::Replied { ref message } => write_replied(alloc, into, message),
+        Answer::Received { from, ref message } => write_received(alloc, into, from, message),
         Answer::ReceivedSegment {
             from,
             ref message,
             count,
-        } => {
-            let text = received_text(alloc, from, message)?;
-            with_number(alloc, text, u64::from(count))
-        }
-        Answer::Found { pid } => with_pid(alloc, begin(alloc, b"ok")?, pid),
-        Answer::Loaded { ref bytes } => with_bytes(alloc, begin(alloc, b"ok")?, bytes.as_slice()),
-        Answer::Refused { why } => begin(alloc, refusal_word(why)),
+        } => write_received_segment(alloc, into, from, message, count),
+        Answer::Found { pid } => write_found(alloc, into, pid),
+        Answer::Loaded { ref bytes } => write_loaded(alloc, into, bytes),
+        Answer::Refused { why } => put(into, refusal_word(why)),
     }
 }
 
@@ -63,6 +111,10 @@ pub fn put_answer(alloc: Global, into: &mut Vec<u8>, answer: &Answer) -> Result<
     ensures ok { OnOk result (into.new.items ≡ into.old.items ++ answer_text answer.now) }
     ensures err { OnErr result (into.new.items ≡ into.old.items) }
 {
-    let text = answer_text(alloc, answer)?;
-    put(into, text.as_slice())
+    let len = into.len();
+    let written = write_answer(alloc, into, answer);
+    if written.is_err() {
+        into.truncate(len);
+    }
+    written
 }

@@ -4,7 +4,6 @@
 #![tactic(auto)]
 
 mod answer;
-mod parts;
 mod step;
 #[cfg(test)]
 mod tests;

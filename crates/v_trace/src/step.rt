@@ -1,12 +1,12 @@
 //! The text of a step.
 
-ghost use Rattle.std.specs.Prelude.{◌≡◌, [], ◌∷◌, ◌++◌, codes, decimal, IfOk, OnOk, OnErr};
-ghost use Rattle.vk_text.specs.Spelling.{spaced, pid_text, call_text};
+ghost use Rattle.std.specs.Prelude.{◌≡◌, [], ◌∷◌, ◌++◌, codes, decimal, OnOk, OnErr};
+ghost use Rattle.vk_text.specs.Spelling.{Begins, spaced, pid_text, call_text};
 ghost use Rattle.v_trace.specs.Texts.{ending_text, step_text};
 
-use crate::parts::{begin, put, with_call, with_number, with_pid, with_word};
 use std::alloc::Global;
 use vk_base::{Call, Ending, NoMemory, Pid, Step};
+use vk_text::{put, write_call, write_number, write_pid, write_word};
 
 fn ending_word(why: Ending) -> &'static [u8]
     ensures { result.now ≡ ending_text why }
@@ -19,82 +19,150 @@ fn ending_word(why: Ending) -> &'static [u8]
     }
 }
 
-/// `WORD PID`
-fn pid_text(alloc: Global, word: &[u8], pid: Pid) -> Result<Vec<u8>, NoMemory>
-    ensures { IfOk result (λ text. text.items ≡ spaced word.now (pid_text pid ∷ [])) }
+/// Appends `WORD PID`.
+fn write_of(alloc: Global, into: &mut Vec<u8>, word: &[u8], pid: Pid) -> Result<(), NoMemory>
+    ensures ok { OnOk result (into.new.items ≡ into.old.items ++ spaced word.now (pid_text pid ∷ [])) }
+    ensures front { OnErr result (Begins into.old.items into.new.items) }
 {
-    with_pid(alloc, begin(alloc, word)?, pid)
+    put(into, word)?;
+    write_pid(alloc, into, pid)
 }
 
-/// `WORD PID NUMBER`
-fn number_text(alloc: Global, word: &[u8], pid: Pid, number: u64) -> Result<Vec<u8>, NoMemory>
-    ensures { IfOk result (λ text. text.items ≡ spaced word.now (pid_text pid ∷ decimal number ∷ [])) }
+/// Appends `call PID CALL`.
+fn write_made(alloc: Global, into: &mut Vec<u8>, pid: Pid, call: &Call) -> Result<(), NoMemory>
+    ensures ok { OnOk result (into.new.items ≡ into.old.items ++ spaced (codes "call") (pid_text pid ∷ call_text call.now ∷ [])) }
+    ensures front { OnErr result (Begins into.old.items into.new.items) }
 {
-    with_number(alloc, pid_text(alloc, word, pid)?, number)
+    write_of(alloc, into, b"call", pid)?;
+    write_call(alloc, into, call)
 }
 
-/// `WORD PID ENDING`
-fn ending_line(alloc: Global, word: &[u8], pid: Pid, why: Ending) -> Result<Vec<u8>, NoMemory>
-    ensures { IfOk result (λ text. text.items ≡ spaced word.now (pid_text pid ∷ ending_text why ∷ [])) }
-{
-    with_word(pid_text(alloc, word, pid)?, ending_word(why))
-}
-
-/// `WORD SENDER NUMBER MOVE`
-fn move_text(
+/// Appends `WORD PID NUMBER`.
+fn write_numbered(
     alloc: Global,
+    into: &mut Vec<u8>,
+    word: &[u8],
+    pid: Pid,
+    number: u64,
+) -> Result<(), NoMemory>
+    ensures ok { OnOk result (into.new.items ≡ into.old.items ++ spaced word.now (pid_text pid ∷ decimal number ∷ [])) }
+    ensures front { OnErr result (Begins into.old.items into.new.items) }
+{
+    write_of(alloc, into, word, pid)?;
+    write_number(alloc, into, number)
+}
+
+/// Appends `WORD PID ENDING`.
+fn write_ending(
+    alloc: Global,
+    into: &mut Vec<u8>,
+    word: &[u8],
+    pid: Pid,
+    why: Ending,
+) -> Result<(), NoMemory>
+    ensures ok { OnOk result (into.new.items ≡ into.old.items ++ spaced word.now (pid_text pid ∷ ending_text why ∷ [])) }
+    ensures front { OnErr result (Begins into.old.items into.new.items) }
+{
+    write_of(alloc, into, word, pid)?;
+    write_word(into, ending_word(why))
+}
+
+/// Appends `WORD SENDER NUMBER MOVE`.
+fn write_move(
+    alloc: Global,
+    into: &mut Vec<u8>,
     word: &[u8],
     sender: Pid,
     number: u64,
     moving: u64,
-) -> Result<Vec<u8>, NoMemory>
-    ensures { IfOk result (λ text. text.items ≡ spaced word.now (pid_text sender ∷ decimal number ∷ decimal moving ∷ [])) }
+) -> Result<(), NoMemory>
+    ensures ok { OnOk result (into.new.items ≡ into.old.items ++ spaced word.now (pid_text sender ∷ decimal number ∷ decimal moving ∷ [])) }
+    ensures front { OnErr result (Begins into.old.items into.new.items) }
 {
-    with_number(alloc, number_text(alloc, word, sender, number)?, moving)
+    write_numbered(alloc, into, word, sender, number)?;
+    write_number(alloc, into, moving)
 }
 
-/// Two more numbers.
-fn with_two(alloc: Global, text: Vec<u8>, offset: u32, count: u32) -> Result<Vec<u8>, NoMemory>
-    ensures { IfOk result (λ more. more.items ≡ text.items ++ 32 ∷ decimal offset ++ 32 ∷ decimal count) }
+/// Appends ` OFFSET COUNT`.
+fn write_range(alloc: Global, into: &mut Vec<u8>, offset: u32, count: u32) -> Result<(), NoMemory>
+    ensures ok { OnOk result (into.new.items ≡ into.old.items ++ 32 ∷ decimal offset ++ 32 ∷ decimal count) }
+    ensures front { OnErr result (Begins into.old.items into.new.items) }
 {
-    let text = with_number(alloc, text, u64::from(offset))?;
-    with_number(alloc, text, u64::from(count))
+    write_number(alloc, into, u64::from(offset))?;
+    write_number(alloc, into, u64::from(count))
 }
 
+/// Appends `WORD SENDER NUMBER MOVE OFFSET COUNT`.
+fn write_copy(
+    alloc: Global,
+    into: &mut Vec<u8>,
+    word: &[u8],
+    sender: Pid,
+    number: u64,
+    moving: u64,
+    offset: u32,
+    count: u32,
+) -> Result<(), NoMemory>
+    ensures ok { OnOk result (into.new.items ≡ into.old.items ++ spaced word.now (pid_text sender ∷ decimal number ∷ decimal moving ∷ decimal offset ∷ decimal count ∷ [])) }
+    ensures front { OnErr result (Begins into.old.items into.new.items) }
+{
+    write_move(alloc, into, word, sender, number, moving)?;
+    write_range(alloc, into, offset, count)
+}
+
+/// Appends `hear ASKER NUMBER PID`.
+fn write_heard(
+    alloc: Global,
+    into: &mut Vec<u8>,
+    asker: Pid,
+    number: u64,
+    pid: Pid,
+) -> Result<(), NoMemory>
+    ensures ok { OnOk result (into.new.items ≡ into.old.items ++ spaced (codes "hear") (pid_text asker ∷ decimal number ∷ pid_text pid ∷ [])) }
+    ensures front { OnErr result (Begins into.old.items into.new.items) }
+{
+    write_numbered(alloc, into, b"hear", asker, number)?;
+    write_pid(alloc, into, pid)
+}
+
+/// Appends `found ASKER PID`.
+fn write_found(alloc: Global, into: &mut Vec<u8>, asker: Pid, pid: Pid) -> Result<(), NoMemory>
+    ensures ok { OnOk result (into.new.items ≡ into.old.items ++ spaced (codes "found") (pid_text asker ∷ pid_text pid ∷ [])) }
+    ensures front { OnErr result (Begins into.old.items into.new.items) }
+{
+    write_of(alloc, into, b"found", asker)?;
+    write_pid(alloc, into, pid)
+}
+
+/// Appends the step; a refusal may leave a part of it.
 #[tactic(auto, unfolding(crate::specs::Texts::step_text))]
-fn step_text(alloc: Global, step: &Step) -> Result<Vec<u8>, NoMemory>
-    ensures { IfOk result (λ text. text.items ≡ step_text step.now) }
+fn write_step(alloc: Global, into: &mut Vec<u8>, step: &Step) -> Result<(), NoMemory>
+    ensures ok { OnOk result (into.new.items ≡ into.old.items ++ step_text step.now) }
+    ensures front { OnErr result (Begins into.old.items into.new.items) }
 {
     match *step {
-        Step::Call { pid, ref call } => with_call(alloc, pid_text(alloc, b"call", pid)?, call),
-        Step::Arrive { sender, number } => number_text(alloc, b"arrive", sender, number),
-        Step::Take { pid } => pid_text(alloc, b"take", pid),
-        Step::Finish { pid } => pid_text(alloc, b"finish", pid),
-        Step::Fail { pid, why } => ending_line(alloc, b"fail", pid, why),
+        Step::Call { pid, ref call } => write_made(alloc, into, pid, call),
+        Step::Arrive { sender, number } => write_numbered(alloc, into, b"arrive", sender, number),
+        Step::Take { pid } => write_of(alloc, into, b"take", pid),
+        Step::Finish { pid } => write_of(alloc, into, b"finish", pid),
+        Step::Fail { pid, why } => write_ending(alloc, into, b"fail", pid, why),
         Step::OpenMove {
             sender,
             number,
             moving,
-        } => move_text(alloc, b"open", sender, number, moving),
+        } => write_move(alloc, into, b"open", sender, number, moving),
         Step::Copy {
             sender,
             number,
             moving,
             offset,
             count,
-        } => {
-            let text = move_text(alloc, b"copy", sender, number, moving)?;
-            with_two(alloc, text, offset, count)
-        }
-        Step::End { pid, why } => ending_line(alloc, b"end", pid, why),
-        Step::Hear { asker, number, pid } => with_pid(
-            alloc,
-            number_text(alloc, b"hear", asker, number)?,
-            pid,
-        ),
-        Step::Found { asker, pid } => with_pid(alloc, pid_text(alloc, b"found", asker)?, pid),
-        Step::Lost { asker } => pid_text(alloc, b"lost", asker),
-        Step::Collect { pid } => pid_text(alloc, b"collect", pid),
+        } => write_copy(alloc, into, b"copy", sender, number, moving, offset, count),
+        Step::End { pid, why } => write_ending(alloc, into, b"end", pid, why),
+        Step::Hear { asker, number, pid } => write_heard(alloc, into, asker, number, pid),
+        Step::Found { asker, pid } => write_found(alloc, into, asker, pid),
+        Step::Lost { asker } => write_of(alloc, into, b"lost", asker),
+        Step::Collect { pid } => write_of(alloc, into, b"collect", pid),
     }
 }
 
@@ -103,6 +171,10 @@ pub fn put_step(alloc: Global, into: &mut Vec<u8>, step: &Step) -> Result<(), No
     ensures ok { OnOk result (into.new.items ≡ into.old.items ++ step_text step.now) }
     ensures err { OnErr result (into.new.items ≡ into.old.items) }
 {
-    let text = step_text(alloc, step)?;
-    put(into, text.as_slice())
+    let len = into.len();
+    let written = write_step(alloc, into, step);
+    if written.is_err() {
+        into.truncate(len);
+    }
+    written
 }

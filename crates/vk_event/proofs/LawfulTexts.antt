@@ -37,9 +37,10 @@ station_more (t ∷ ts) s h e =
     let same : t.pid.host ≡ s.pid.host = eqb-true t.pid.host s.pid.host (and_parts (t.pid.host == s.pid.host) (list_all (λ u. u.pid.host == s.pid.host) ts) e).0 in
     all_more (λ u. u.pid.host == t.pid.host) ts s h (eq-eqb s.pid.host t.pid.host (sym same))
 
-process_fits : (d e : Schedule) (s : ProcessSpec) → Fits d → with_process d s ≡ Some e → Fits e
+process_fits : (d e : Schedule) (o : Option ProcessSpec) → Fits d → with_process d o ≡ Some e → Fits e
 unfolding with_process
-process_fits d e s fits h =
+process_fits d e None fits h = cc
+process_fits d e (Some s) fits h =
     let test : Bool = length d.events == 0 && is_none (fault_of d.config.specs s) && is_built_process d.config.specs s in
     let more : Schedule = record d { config = record d.config { specs = d.config.specs ++ s ∷ [] } } in
     let got = when test more e h in
@@ -50,9 +51,10 @@ process_fits d e s fits h =
       station = station_more d.config.specs s fits.station outer.1;
     })
 
-event_fits : (d e : Schedule) (x : Event) → Fits d → with_event d x ≡ Some e → Fits e
+event_fits : (d e : Schedule) (o : Option Event) → Fits d → with_event d o ≡ Some e → Fits e
 unfolding with_event
-event_fits d e x fits h =
+event_fits d e None fits h = cc
+event_fits d e (Some x) fits h =
     let more : Schedule = record d { events = d.events ++ x ∷ [] } in
     let got = when (is_lawful_event d.config.specs x) more e h in
     subst Fits got.1 (record {
@@ -64,17 +66,13 @@ choice : (P : Type 0) (b : Bool) (x y z : Option Schedule) → (x ≡ z → P) �
 choice P true x y z f g h = f h
 choice P false x y z f g h = g h
 
-bound : {A : Type 0} (P : Type 0) (o : Option A) (f : A → Option Schedule) (e : Schedule) → ((a : A) → f a ≡ Some e → P) → (o >>= f) ≡ Some e → P
-bound P None f e g h = cc
-bound P (Some a) f e g h = g a h
-
 line_fits : (d e : Schedule) (ws : List (List ℕ)) → Fits d → line_step d ws ≡ Some e → Fits e
 unfolding line_step
 line_fits d e [] fits h = cc
 line_fits d e (w ∷ ws) fits h =
-    choice (Fits e) (bytes_eq w (codes "process")) _ _ (Some e) (bound (Fits e) (process_of ws) (with_process d) e (λ s. process_fits d e s fits))
-    (choice (Fits e) (bytes_eq w (codes "call")) _ _ (Some e) (bound (Fits e) (call_event_of ws) (with_event d) e (λ x. event_fits d e x fits))
-    (choice (Fits e) (bytes_eq w (codes "collect")) _ _ (Some e) (bound (Fits e) (collect_event_of ws) (with_event d) e (λ x. event_fits d e x fits)) (λ n. cc)))
+    choice (Fits e) (bytes_eq w (codes "process")) _ _ (Some e) (process_fits d e (process_of ws) fits)
+    (choice (Fits e) (bytes_eq w (codes "call")) _ _ (Some e) (event_fits d e (call_event_of ws) fits)
+    (choice (Fits e) (bytes_eq w (codes "collect")) _ _ (Some e) (event_fits d e (collect_event_of ws) fits) (λ n. cc)))
     h
 
 few_by : (b : Bool) (r : TextRefusal) (d e : Schedule) → nat_lt 100000 (length d.events) ≡ b → cond b (Err r) (Ok d) ≡ Ok e → (d ≡ e) × (length d.events ≤ 100000)

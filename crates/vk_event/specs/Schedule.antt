@@ -27,23 +27,25 @@ unfoldable pub collect_event_of : List (List ℕ) → Option Event
 collect_event_of ws = first_as pid_of ws >>= λ (pid, ws). if is_end ws then Some (events.Collect pid) else None
 
 -- one process more, which stands before all events
-unfoldable pub with_process : Schedule → ProcessSpec → Option Schedule
-with_process d s =
+unfoldable pub with_process : Schedule → Option ProcessSpec → Option Schedule
+with_process d None = None
+with_process d (Some s) =
     if length d.events == 0 && is_none (fault_of d.config.specs s) && is_built_process d.config.specs s
     then Some (record d { config = record d.config { specs = d.config.specs ++ s ∷ [] } })
     else None
 
 -- one event more
-unfoldable pub with_event : Schedule → Event → Option Schedule
-with_event d e = if is_lawful_event d.config.specs e then Some (record d { events = d.events ++ e ∷ [] }) else None
+unfoldable pub with_event : Schedule → Option Event → Option Schedule
+with_event d None = None
+with_event d (Some e) = if is_lawful_event d.config.specs e then Some (record d { events = d.events ++ e ∷ [] }) else None
 
 -- the schedule with the line of these words, where it is a good one
 unfoldable pub line_step : Schedule → List (List ℕ) → Option Schedule
 line_step d [] = None
 line_step d (w ∷ ws) =
-    if bytes_eq w (codes "process") then process_of ws >>= with_process d
-    else if bytes_eq w (codes "call") then call_event_of ws >>= with_event d
-    else if bytes_eq w (codes "collect") then collect_event_of ws >>= with_event d
+    if bytes_eq w (codes "process") then with_process d (process_of ws)
+    else if bytes_eq w (codes "call") then with_event d (call_event_of ws)
+    else if bytes_eq w (codes "collect") then with_event d (collect_event_of ws)
     else None
 
 -- a line of this number is taken, or it is bad, or there are too many events with it
@@ -60,7 +62,7 @@ unfoldable pub read_lines : Schedule → ℕ → List (List ℕ) → Result Sche
 read_lines d n [] = Ok d
 read_lines d n (l ∷ ls) = or_refuse (numbered n (line_step d (words_from l 0))) (λ e. read_lines e (n + 1) ls)
 
--- format 1's times and pool, and neither processes nor events
+-- the times and the pool of format 1, without processes or events
 abbrev pub empty_schedule : Schedule
 empty_schedule = record { config = record { times = record { tries = 5; interval = 4; life = 8 }; pool = 16; specs = [] }; events = [] }
 

@@ -1,10 +1,10 @@
 //! Which processes and events a schedule may have.
 
 ghost use Rattle.std.specs.Prelude.{◌≡◌};
-ghost use Rattle.vk_event.specs.Forms.{is_built_process, is_short, is_built_call, is_built_event};
-ghost use Rattle.vk_event.specs.Lawful.{has_actors, is_lawful_event};
+ghost use Rattle.vk_event.specs.Forms.{is_built_process, is_short, is_built_call};
+ghost use Rattle.vk_event.specs.Lawful.{is_lawful_event};
+ghost use Rattle.vk_event.specs.declared.event.Event.TheVariants as events;
 
-use crate::event::Event;
 use vk_base::{Call, Config, Message, Pid, ProcessSpec};
 
 pub fn is_built_process(before: &[ProcessSpec], spec: ProcessSpec) -> bool
@@ -33,28 +33,16 @@ fn is_built_call(pid: Pid, call: &Call) -> bool
     }
 }
 
-fn is_built_event(event: &Event) -> bool
-    ensures { result ≡ is_built_event event.now }
+/// Whether a schedule with this configuration may have the event of this call.
+pub fn is_lawful_call(config: &Config, pid: Pid, call: &Call) -> bool
+    ensures { result ≡ is_lawful_event config.now.specs (events.Call pid call.now) }
 {
-    match event {
-        Event::Call { pid, call } => is_built_call(*pid, call),
-        Event::Collect { .. } => true,
-        _ => false,
-    }
+    config.has_process(pid) && is_built_call(pid, call)
 }
 
-fn has_actors(config: &Config, event: &Event) -> bool
-    ensures { result ≡ has_actors config.now.specs event.now }
+/// Whether it may have a collect of this process.
+pub fn is_lawful_collect(config: &Config, pid: Pid) -> bool
+    ensures { result ≡ is_lawful_event config.now.specs (events.Collect pid) }
 {
-    match event {
-        Event::Call { pid, .. } | Event::Collect { pid } => config.has_process(*pid),
-        Event::Tick { host } => config.has_station(*host),
-        Event::Deliver { to, from, .. } => config.has_station(*to) && config.has_station(*from),
-    }
-}
-
-pub fn is_lawful_event(config: &Config, event: &Event) -> bool
-    ensures { result ≡ is_lawful_event config.now.specs event.now }
-{
-    has_actors(config, event) && is_built_event(event)
+    config.has_process(pid)
 }

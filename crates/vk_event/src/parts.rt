@@ -1,20 +1,19 @@
-//! What stands behind the first word of a line.
+//! Words behind the first of a line.
 
 ghost use Rattle.std.specs.Prelude.{◌≡◌, Some, None, MatchOption};
 ghost use Rattle.vk_text.specs.Calls.{first_as};
 ghost use Rattle.vk_text.specs.Lines.{words_from};
 ghost use Rattle.vk_text.specs.Words.{number_of, pid_of};
-ghost use Rattle.vk_event.specs.Schedule.{process_of, call_event_of, collect_event_of};
+ghost use Rattle.vk_event.specs.Schedule.{process_of};
 
-use crate::event::Event;
 use vk_base::{Pid, ProcessSpec};
-use vk_text::{is_end, next_word, number, pid, read_call};
+use vk_text::{is_end, next_word, number, pid};
 
 /// The greatest number of bytes of a memory.
 const SIZE: u64 = 131_072;
 
 /// The pid that the word at `at` spells, and where the next word would start.
-fn next_pid(line: &[u8], at: usize) -> Option<(Pid, usize)>
+pub fn next_pid(line: &[u8], at: usize) -> Option<(Pid, usize)>
     ensures { MatchOption result (first_as pid_of (words_from line.now at) ≡ None)
         (λ r. first_as pid_of (words_from line.now at) ≡ Some (r.0, words_from line.now r.1)) }
 {
@@ -41,29 +40,6 @@ pub fn read_process(line: &[u8], at: usize) -> Option<ProcessSpec>
     let (size, at) = next_size(line, at)?;
     if is_end(line, at) {
         Some(ProcessSpec { pid, size })
-    } else {
-        None
-    }
-}
-
-/// `PID CALLTEXT`
-#[tactic(auto, unfolding(crate::specs::Schedule::call_event_of))]
-pub fn read_call_event(line: &[u8], at: usize) -> Option<Event>
-    ensures { result ≡ call_event_of (words_from line.now at) }
-{
-    let (pid, at) = next_pid(line, at)?;
-    let call = read_call(line, at)?;
-    Some(Event::Call { pid, call })
-}
-
-/// `PID`
-#[tactic(auto, unfolding(crate::specs::Schedule::collect_event_of))]
-pub fn read_collect_event(line: &[u8], at: usize) -> Option<Event>
-    ensures { result ≡ collect_event_of (words_from line.now at) }
-{
-    let (pid, at) = next_pid(line, at)?;
-    if is_end(line, at) {
-        Some(Event::Collect { pid })
     } else {
         None
     }

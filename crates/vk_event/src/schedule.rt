@@ -3,15 +3,15 @@
 ghost use Rattle.std.specs.Prelude.{◌≡◌, ◌⊎◌, Ok, Err, Some, None, length, IfOk, IfErr, MatchResult};
 ghost use Rattle.vk_text.specs.Lines.{words_from};
 ghost use Rattle.vk_event.specs.Lawful.{IsLawful};
-ghost use Rattle.vk_event.specs.Schedule.{with_process, with_event, line_step, numbered, empty_schedule, schedule_of};
+ghost use Rattle.vk_event.specs.Schedule.{process_of, call_event_of, collect_event_of, with_process, with_event, line_step, numbered, empty_schedule, schedule_of};
 
 use crate::event::Event;
-use crate::lawful::{is_built_process, is_lawful_event};
-use crate::parts::{read_call_event, read_collect_event, read_process};
+use crate::lawful::{is_built_process, is_lawful_call, is_lawful_collect};
+use crate::parts::{next_pid, read_process};
 use std::alloc::Global;
 use std::marker::Model;
-use vk_base::{Config, ConfigRefusal, List, ProcessSpec, Times};
-use vk_text::{next_line, next_word};
+use vk_base::{Config, ConfigRefusal, List, Times};
+use vk_text::{is_end, next_line, next_word, read_call};
 
 /// The greatest number of events.
 const EVENTS: usize = 100_000;
@@ -43,7 +43,7 @@ pub enum TextRefusal {
 }
 
 /// Why a line is not taken.
-#[derive(Drop)]
+#[derive(Clone, Copy)]
 enum LineRefusal {
     Bad,
     NoMemory,
@@ -77,11 +77,15 @@ impl Reader {
         }
     }
 
+    /// Takes the process `PID SIZE`, which starts at `at`.
     #[tactic(auto, unfolding(crate::specs::Schedule::with_process))]
-    fn add_process(&mut self, spec: ProcessSpec) -> Result<(), LineRefusal>
-        ensures { MatchResult result (λ _. with_process self.old spec ≡ Some self.new)
-            (λ e. (e ≡ LineRefusal.NoMemory) ⊎ (with_process self.old spec ≡ None)) }
+    fn take_process(&mut self, line: &[u8], at: usize) -> Result<(), LineRefusal>
+        ensures { MatchResult result (λ _. with_process self.old (process_of (words_from line.now at)) ≡ Some self.new)
+            (λ e. (e ≡ LineRefusal.NoMemory) ⊎ (with_process self.old (process_of (words_from line.now at)) ≡ None)) }
     {
+        let Some(spec) = read_process(line, at) else {
+            return Err(LineRefusal::Bad);
+        };
         if !self.events.is_empty() || !is_built_process(self.config.specs(), spec) {
             return Err(LineRefusal::Bad);
         }
@@ -92,15 +96,40 @@ impl Reader {
         }
     }
 
-    #[tactic(auto, unfolding(crate::specs::Schedule::with_event))]
-    fn add_event(&mut self, event: Event) -> Result<(), LineRefusal>
-        ensures { MatchResult result (λ _. with_event self.old event ≡ Some self.new)
-            (λ e. (e ≡ LineRefusal.NoMemory) ⊎ (with_event self.old event ≡ None)) }
+    /// Takes the event `PID CALLTEXT`, which starts at `at`.
+    #[tactic(auto, unfolding(crate::specs::Schedule::call_event_of, crate::specs::Schedule::with_event))]
+    fn take_call(&mut self, line: &[u8], at: usize) -> Result<(), LineRefusal>
+        ensures { MatchResult result (λ _. with_event self.old (call_event_of (words_from line.now at)) ≡ Some self.new)
+            (λ e. (e ≡ LineRefusal.NoMemory) ⊎ (with_event self.old (call_event_of (words_from line.now at)) ≡ None)) }
     {
-        if !is_lawful_event(&self.config, &event) {
+        let Some((pid, at)) = next_pid(line, at) else {
+            return Err(LineRefusal::Bad);
+        };
+        let Some(call) = read_call(line, at) else {
+            return Err(LineRefusal::Bad);
+        };
+        if !is_lawful_call(&self.config, pid, &call) {
             return Err(LineRefusal::Bad);
         }
-        match self.events.push(event) {
+        match self.events.push(Event::Call { pid, call }) {
+            Ok(()) => Ok(()),
+            Err(_) => Err(LineRefusal::NoMemory),
+        }
+    }
+
+    /// Takes the event `PID` of a collect, which starts at `at`.
+    #[tactic(auto, unfolding(crate::specs::Schedule::collect_event_of, crate::specs::Schedule::with_event))]
+    fn take_collect(&mut self, line: &[u8], at: usize) -> Result<(), LineRefusal>
+        ensures { MatchResult result (λ _. with_event self.old (collect_event_of (words_from line.now at)) ≡ Some self.new)
+            (λ e. (e ≡ LineRefusal.NoMemory) ⊎ (with_event self.old (collect_event_of (words_from line.now at)) ≡ None)) }
+    {
+        let Some((pid, at)) = next_pid(line, at) else {
+            return Err(LineRefusal::Bad);
+        };
+        if !is_end(line, at) || !is_lawful_collect(&self.config, pid) {
+            return Err(LineRefusal::Bad);
+        }
+        match self.events.push(Event::Collect { pid }) {
             Ok(()) => Ok(()),
             Err(_) => Err(LineRefusal::NoMemory),
         }
@@ -116,11 +145,11 @@ impl Reader {
             return Err(LineRefusal::Bad);
         };
         if word == b"process".as_slice() {
-            self.add_process(read_process(line, at).ok_or(LineRefusal::Bad)?)
+            self.take_process(line, at)
         } else if word == b"call".as_slice() {
-            self.add_event(read_call_event(line, at).ok_or(LineRefusal::Bad)?)
+            self.take_call(line, at)
         } else if word == b"collect".as_slice() {
-            self.add_event(read_collect_event(line, at).ok_or(LineRefusal::Bad)?)
+            self.take_collect(line, at)
         } else {
             Err(LineRefusal::Bad)
         }

@@ -28,7 +28,7 @@ use Rattle.vk_host.specs.declared.event.StationEvent.TheVariants as events
 use Rattle.vk_host.specs.declared.seat.Seat.{Seat}
 use Rattle.vk_host.specs.Entries.{is_built, after_event}
 use Rattle.vk_host.specs.Stands.{IsSeated, Fits, AreSeats, Stands, is_at, is_own, is_done, opening_seat, opening_seats}
-use Rattle.vk_host.specs.Tables.{Tables, is_seat, change_first, blocked, send_begun, enqueued, dequeued, marked_taken, done_with, made_ready, next_name_in, sent_seats, takes, served, serving, refusal_by, accepted_by, called_by, call_outcome, collected, collect_seats, collect_steps, collect_answer}
+use Rattle.vk_host.specs.Tables.{Tables, is_seat, change_first, state_of, waiting, send_begun, enqueued, dequeued, marked_taken, received, replied, made_ready, next_name_in, sent_seats, takes, served, serving, refusal_by, accepted_by, called_by, call_outcome, collected, collect_seats, collect_steps, collect_answer}
 use Rattle.vk_host.proofs.Seats.{find-either}
 use Rattle.vk_host.proofs.Right.{Right, call_right, collect_right, collect_allowed}
 
@@ -67,11 +67,11 @@ collect_event t k pid e is own stands =
     subst (Right t.host t.events (collect_seats t.seats pid (collected t.seats pid)) (collect_steps pid (collected t.seats pid)) (collect_answer (collected t.seats pid)) k) (sym is)
     (collect_right t.host t.events t.seats k pid here.seat stands.sound stands.seats here.host here.found here.seated)
 
-pub done_here : (t : Tables) (k : Kernel) (pid : Pid) (s : Seat) → is_at t pid ≡ true → find (is_seat pid) t.seats ≡ Some s → Stands t k → is_some (finished_call s.state) ≡ is_done k pid
+pub done_here : (t : Tables) (k : Kernel) (pid : Pid) (s : Seat) → is_at t pid ≡ true → find (is_seat pid) t.seats ≡ Some s → Stands t k → is_some (finished_call (state_of s.doing)) ≡ is_done k pid
 done_here t k pid s at found stands =
     let here = is_here t k pid at stands in
     let same : s ≡ here.seat = same_Some s here.seat (sym found ∙ here.found) in
-    ap (λ (x : Seat). is_some (finished_call x.state)) same
+    ap (λ (x : Seat). is_some (finished_call (state_of x.doing))) same
     ∙ collect_allowed t.host t.events t.seats k pid here.seat stands.sound stands.seats here.host here.found here.seated
 
 -- The processes of the station stay.
@@ -90,7 +90,7 @@ stays q pid f seats keeps = ap is_some (find-either pid f keeps q seats) ∙ eit
 stays_served : (q r : Pid) (seats : List Seat) (o : Option (Name × Message)) → is_some (find (is_seat q) (served seats r o)) ≡ is_some (find (is_seat q) seats)
 stays_served q r seats None = refl
 stays_served q r seats (Some t) =
-    stays q r (done_with (answers.Received t.0.sender t.1)) (change_first (is_seat t.0.sender) marked_taken (change_first (is_seat r) dequeued seats)) (λ s. refl)
+    stays q r (received t.0.sender t.1) (change_first (is_seat t.0.sender) marked_taken (change_first (is_seat r) dequeued seats)) (λ s. refl)
     ∙ stays q t.0.sender marked_taken (change_first (is_seat r) dequeued seats) (λ s. refl)
     ∙ stays q r dequeued seats (λ s. refl)
 
@@ -103,9 +103,9 @@ stays_accepted q pid (calls.Send target m) seats =
     ∙ stays q target (enqueued (next_name_in pid (find (is_seat pid) begun))) begun (λ s. refl)
     ∙ stays q pid (send_begun target m) seats (λ s. refl)
 stays_accepted q pid calls.Receive seats =
-    stays_served q pid (change_first (is_seat pid) (blocked calls.Receive) seats) (takes (change_first (is_seat pid) (blocked calls.Receive) seats) pid)
-    ∙ stays q pid (blocked calls.Receive) seats (λ s. refl)
-stays_accepted q pid (calls.Reply m to) seats = stays q to (done_with (answers.Replied m)) seats (λ s. refl)
+    stays_served q pid (change_first (is_seat pid) waiting seats) (takes (change_first (is_seat pid) waiting seats) pid)
+    ∙ stays q pid waiting seats (λ s. refl)
+stays_accepted q pid (calls.Reply m to) seats = stays q to (replied m) seats (λ s. refl)
 stays_accepted q pid c seats = refl
 
 stays_called : (q pid : Pid) (c : Call) (seats : List Seat) (o : Option Refusal) → is_some (find (is_seat q) (called_by seats pid c o).seats) ≡ is_some (find (is_seat q) seats)

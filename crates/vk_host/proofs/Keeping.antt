@@ -1,9 +1,11 @@
 -- The tables stand for the kernel after a step, where they stood for the one before it.
-use Rattle.std.proofs.Common.{◌≡◌, ℕ, ◌≤◌, Bool, true, false, cond, ◌==◌, ◌&&◌, List, ◌∷◌, drop, Option, Some, None, refl, sym, ap, ◌∙◌, subst, arith, inl, inr}
+use Rattle.std.proofs.Common.{◌≡◌, ℕ, suc, ◌+◌, ◌-◌, ◌^◌, min, ◌≤◌, ◌<◌, Bool, true, false, cond, ◌==◌, ◌&&◌, ◌||◌, List, [], ◌∷◌, ◌++◌, length, drop, Option, Some, None, refl, sym, ap, ◌∙◌, subst, arith, inl, inr, if◌then◌else◌}
 use Rattle.std.specs.List.{find}
 use Rattle.std.specs.Option.{option_map}
-use Rattle.std.proofs.lemmas.Bool.{cases_Bool}
+use Rattle.std.proofs.lemmas.Bool.{cases_Bool, eqb-true, eq-eqb, and_from, cond-true}
+use Rattle.std.proofs.lemmas.Grind.{common_steps}
 use Rattle.std.proofs.lemmas.Option.{same_Some, none-some}
+use Rattle.circular_buffer.specs.Buffer.{keep_last}
 use Rattle.vk_base.specs.declared.answer.Answer.{Answer}
 use Rattle.vk_base.specs.declared.answer.Answer.TheVariants as answers
 use Rattle.vk_base.specs.declared.call.Call.{Call}
@@ -11,21 +13,23 @@ use Rattle.vk_base.specs.declared.call.Call.TheVariants as calls
 use Rattle.vk_base.specs.declared.kernel.Exchange.{Exchange}
 use Rattle.vk_base.specs.declared.kernel.Name.{Name}
 use Rattle.vk_base.specs.declared.kernel.Process.{Process}
+use Rattle.vk_base.specs.declared.kernel.Stage.{Stage}
 use Rattle.vk_base.specs.declared.kernel.Stage.TheVariants as stages
 use Rattle.vk_base.specs.declared.kernel.State.{State}
 use Rattle.vk_base.specs.declared.kernel.State.TheVariants as states
 use Rattle.vk_base.specs.declared.message.Message.{Message}
 use Rattle.vk_base.specs.declared.pid.Pid.{Pid}
-use Rattle.vk_base.specs.Kernel.{Kernel, Taking, name_of, same_name, put_exchange, sending, receiving, queue_of, is_queued, with_state, with_stage, sent, taken, taking}
-use Rattle.vk_base.specs.Pids.{same_pid}
+use Rattle.vk_base.specs.Kernel.{Kernel, Taking, name_of, same_name, put_process, put_exchange, sending, receiving, queue_of, is_queued, with_state, with_stage, sent, sent_exchange, taken, taking, first_of}
+use Rattle.vk_base.specs.Pids.{same_pid, same_host}
 use Rattle.vk_base.specs.Sound.{IsSound, is_open}
-use Rattle.vk_base.proofs.Queues.{queue-state, queue-taken_here, queue-taken_elsewhere, taken_was_queued}
+use Rattle.vk_base.proofs.Queues.{queue-state, queue-stage, queue-sent_here, queue-sent_elsewhere, queue-taken_here, queue-taken_elsewhere, taken_was_queued}
 use Rattle.vk_base.proofs.StepLemmas.{IsTaking, taking_is}
-use Rattle.vk_base.proofs.Tables.{same_pid_is, same_name_is, put_process_here, put_process_other, put_exchange_here, put_exchange_at, put_exchange_other}
+use Rattle.vk_base.proofs.Tables.{same_pid_is, same_pid_self, same_name_is, put_process_here, put_process_other, put_exchange_here, put_exchange_at, put_exchange_other}
 use Rattle.vk_host.specs.declared.seat.Seat.{Seat}
 use Rattle.vk_host.specs.Stands.{IsSent, IsSeated, Fits, AreSeats}
-use Rattle.vk_host.specs.Tables.{is_seat, change_first, dequeued, marked_taken, done_with, done_by, taken_seats}
-use Rattle.vk_host.proofs.Reading.{shown, IsSender, sender_of, has_seat, open_queued}
+use Rattle.vk_host.specs.Tables.{is_seat, change_first, send_begun, enqueued, dequeued, marked_taken, received, state_of, next_name_in, sent_seats, taken_seats}
+use Rattle.vk_host.proofs.Reading.{shown, IsSender, sender_of, has_seat, open_queued, IsHeld}
+use Rattle.vk_host.proofs.Room.{room_in_queue}
 use Rattle.vk_host.proofs.Seats.{find-changed, find-unchanged, find-either, length-change_first, same_pid_sym}
 
 -- What each part of `AreSeats` says, for other events and another kernel.
@@ -60,7 +64,7 @@ pub sent_moved : (k l : Kernel) (name : Name) (target : Pid) (m : Message) (take
 sent_moved k l name target m taken e h = record { exchange = h.exchange; is = e ∙ h.is; target_is = h.target_is; message_is = h.message_is; stage_is = h.stage_is }
 
 -- A process that the kernel has as before, with a seat that may differ in its queue and in whether its message was taken.
-pub reseated : (k l : Kernel) (q : Pid) (s t : Seat) → l.procs q ≡ k.procs q → t.state ≡ s.state → t.sends ≡ s.sends → queue_of l q ≡ t.queue → ((target : Pid) (m : Message) → s.state ≡ states.Blocked (calls.Send target m) → IsSent l (name_of q s.sends) target m t.taken) → IsSeated k q s → IsSeated l q t
+pub reseated : (k l : Kernel) (q : Pid) (s t : Seat) → l.procs q ≡ k.procs q → state_of t.doing ≡ state_of s.doing → t.sends ≡ s.sends → queue_of l q ≡ t.queue → ((target : Pid) (m : Message) → state_of s.doing ≡ states.Blocked (calls.Send target m) → IsSent l (name_of q s.sends) target m t.taken) → IsSeated k q s → IsSeated l q t
 reseated k l q s t procs state sends queue sent h = record {
   process = h.process;
   is = procs ∙ h.is;
@@ -77,7 +81,7 @@ fits_still k l q None procs queue exchanges fits = procs ∙ fits
 fits_still k l q (Some s) procs queue exchanges fits = reseated k l q s s procs refl refl (queue ∙ fits.queue) (λ target m blocked. sent_moved k l (name_of q s.sends) target m s.taken (exchanges s.sends) (fits.sent target m blocked)) fits
 
 -- A process that does something else from now on, and no Send.
-seated_done : (k l : Kernel) (pid : Pid) (p : Process) (s t : Seat) → l.procs pid ≡ Some p → p.alive ≡ true → p.state ≡ t.state → sending t.state ≡ None → p.sends ≡ s.sends → t.sends ≡ s.sends → t.queue ≡ s.queue → queue_of l pid ≡ queue_of k pid → IsSeated k pid s → IsSeated l pid t
+seated_done : (k l : Kernel) (pid : Pid) (p : Process) (s t : Seat) → l.procs pid ≡ Some p → p.alive ≡ true → p.state ≡ state_of t.doing → sending (state_of t.doing) ≡ None → p.sends ≡ s.sends → t.sends ≡ s.sends → t.queue ≡ s.queue → queue_of l pid ≡ queue_of k pid → IsSeated k pid s → IsSeated l pid t
 seated_done k l pid p s t procs alive state free sends same_sends same_queue queue h = record {
   process = p;
   is = procs;
@@ -101,7 +105,7 @@ seats_later host n m seats k more h = record {
 pub seats_done : (host n m : ℕ) (seats : List Seat) (k l : Kernel) (pid : Pid) (p : Process) (s : Seat) (f : Seat → Seat) → n ≤ m →
     ((x : Seat) → (f x).pid ≡ x.pid) → ((x : Seat) → (f x).sends ≡ x.sends) → ((x : Seat) → (f x).queue ≡ x.queue) →
     find (is_seat pid) seats ≡ Some s → IsSeated k pid s →
-    l.procs pid ≡ Some p → p.alive ≡ true → p.state ≡ (f s).state → sending (f s).state ≡ None → p.sends ≡ s.sends →
+    l.procs pid ≡ Some p → p.alive ≡ true → p.state ≡ state_of (f s).doing → sending (state_of (f s).doing) ≡ None → p.sends ≡ s.sends →
     ((q : Pid) → same_pid q pid ≡ false → l.procs q ≡ k.procs q) → ((q : Pid) → queue_of l q ≡ queue_of k q) → ((q : Pid) (number : ℕ) → same_pid q pid ≡ false → l.exchanges (name_of q number) ≡ k.exchanges (name_of q number)) → Home host l.exchanges →
     AreSeats host n seats k → AreSeats host m (change_first (is_seat pid) f seats) l
 seats_done host n m seats k l pid p s f more keeps keeps_sends keeps_queue found seated procs alive state free sends others queues exchanges home h = record {
@@ -119,7 +123,7 @@ seats_done host n m seats k l pid p s f more keeps keeps_sends keeps_queue found
 -- One process does something else, and no Send.
 pub seats_state : (host n m : ℕ) (seats : List Seat) (k : Kernel) (pid : Pid) (p : Process) (s : Seat) (state : State) (f : Seat → Seat) → n ≤ m →
     ((x : Seat) → (f x).pid ≡ x.pid) → ((x : Seat) → (f x).sends ≡ x.sends) → ((x : Seat) → (f x).queue ≡ x.queue) →
-    find (is_seat pid) seats ≡ Some s → IsSeated k pid s → k.procs pid ≡ Some p → state ≡ (f s).state → sending state ≡ None →
+    find (is_seat pid) seats ≡ Some s → IsSeated k pid s → k.procs pid ≡ Some p → state ≡ state_of (f s).doing → sending state ≡ None →
     AreSeats host n seats k → AreSeats host m (change_first (is_seat pid) f seats) (with_state k pid p state)
 seats_state host n m seats k pid p s state f more keeps keeps_sends keeps_queue found seated is state_is free h =
     let same : seated.process ≡ p = same_Some seated.process p (sym seated.is ∙ is) in
@@ -137,14 +141,11 @@ seats_state host n m seats k pid p s state f more keeps keeps_sends keeps_queue 
 
 -- Take.
 
-pub receiving_is : (s : State) (c : Call) → receiving s ≡ Some c → s ≡ states.Blocked c
-receiving_is states.Ready c e = absurd (none-some c e)
-receiving_is (states.Done d a) c e = absurd (none-some c e)
-receiving_is (states.Blocked calls.Receive) c e = ap states.Blocked (same_Some calls.Receive c e)
-receiving_is (states.Blocked d) c e = absurd (none-some c e)
-
-receiving_free : (s : State) (c : Call) (a : Answer) → receiving s ≡ Some c → sending (states.Done c a) ≡ None
-receiving_free s c a e = refl
+receiving_call : (s : State) (c : Call) → receiving s ≡ Some c → c ≡ calls.Receive
+receiving_call states.Ready c e = absurd (none-some c e)
+receiving_call (states.Done d a) c e = absurd (none-some c e)
+receiving_call (states.Blocked calls.Receive) c e = sym (same_Some calls.Receive c e)
+receiving_call (states.Blocked d) c e = absurd (none-some c e)
 
 -- the queue without its first
 dropped : (names rest : List Name) (n : Name) → names ≡ n ∷ rest → rest ≡ drop 1 names
@@ -223,7 +224,5 @@ module _ (host n : ℕ) (seats : List Seat) (k : Kernel) (r : Pid) (t : Taking) 
   seats_taken =
       let answer = answers.Received t.name.sender t.exchange.message in
       let has = has_seat staged r t.process (find (is_seat r) marked_seats) takes_is.process (seats_staged.fits r here) in
-      let process : has.2.process ≡ t.process = same_Some has.2.process t.process (sym has.2.is ∙ takes_is.process) in
-      let blocked : has.0.state ≡ states.Blocked t.call = sym has.2.state ∙ ap (λ (p : Process). p.state) process ∙ receiving_is t.process.state t.call takes_is.call in
-      seats_state host n n marked_seats staged r t.process has.0 (states.Done t.call answer) (done_with answer) (omega arith) (λ x. refl) (λ x. refl) (λ x. refl) has.1 has.2 takes_is.process
-      (ap (λ s. done_by s answer) (sym blocked)) refl seats_staged
+      seats_state host n n marked_seats staged r t.process has.0 (states.Done t.call answer) (received t.name.sender t.exchange.message) (omega arith) (λ x. refl) (λ x. refl) (λ x. refl) has.1 has.2 takes_is.process
+      (ap (λ c. states.Done c answer) (receiving_call t.process.state t.call takes_is.call)) refl seats_staged

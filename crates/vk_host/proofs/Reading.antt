@@ -1,5 +1,5 @@
 -- What the tables say is what the kernel says that they stand for.
-use Rattle.std.proofs.Common.{◌≡◌, ℕ, ◌+◌, Bool, true, false, not, ◌==◌, ◌&&◌, ◌||◌, List, [], ◌∷◌, length, Option, Some, None, refl, sym, ap, ◌∙◌, subst, arith, inl, inr, if◌then◌else◌}
+use Rattle.std.proofs.Common.{◌≡◌, ℕ, ◌+◌, ◌≤◌, ◌<◌, Bool, true, false, cond, not, ◌==◌, ◌&&◌, ◌||◌, nat_le, List, [], ◌∷◌, length, Option, Some, None, refl, sym, ap, ap₂, ◌∙◌, subst, arith, inl, inr, if◌then◌else◌}
 use Rattle.std.specs.List.{find}
 use Rattle.std.specs.Option.{option_map, is_some}
 use Rattle.std.proofs.lemmas.Bool.{cases_Bool, eqb-true, eq-eqb, le-leb, and_parts, and_from}
@@ -17,7 +17,7 @@ use Rattle.vk_base.specs.declared.kernel.State.{State}
 use Rattle.vk_base.specs.declared.kernel.State.TheVariants as states
 use Rattle.vk_base.specs.declared.message.Message.{Message}
 use Rattle.vk_base.specs.declared.pid.Pid.{Pid}
-use Rattle.vk_base.specs.Kernel.{◌>>=◌, Kernel, Taking, name_of, holds_of, is_ready, receiving, sending, first_of, is_queued, is_taken, is_queued_at, is_held_by, held_up_to, held, is_live, queue_of, taking, tests_of, call_refusal, first_that_holds}
+use Rattle.vk_base.specs.Kernel.{◌>>=◌, Kernel, Taking, name_of, holds_of, is_ready, receiving, sending, as_send, finished_call, first_of, is_queued, is_taken, is_queued_at, is_held_by, held_up_to, held, is_live, queue_of, taking, tests_of, call_refusal, first_that_holds}
 use Rattle.vk_base.specs.Messages.{segment_of}
 use Rattle.vk_base.specs.Pids.{same_pid, same_host}
 use Rattle.vk_base.specs.Ranges.{lies_in}
@@ -28,7 +28,8 @@ use Rattle.vk_base.proofs.Tables.{same_pid_is, same_pid_self}
 use Rattle.vk_host.specs.declared.seat.Seat.{Seat}
 use Rattle.vk_host.specs.Entries.{is_built_call, grants_nothing}
 use Rattle.vk_host.specs.Stands.{IsSent, IsSeated, Fits, AreSeats}
-use Rattle.vk_host.specs.Tables.{is_seat, is_awaiting, is_awaiting_in, is_awaiting_seat, own_refusal, refusal_in, refusal_by, message_from, front_of, takes}
+use Rattle.vk_host.specs.Tables.{is_seat, state_of, is_awaiting, is_awaiting_in, is_awaiting_seat, own_refusal, refusal_in, refusal_by, message_from, front_of, takes}
+use Rattle.vk_host.proofs.Seats.{found_pid}
 
 pub sending_is : (s : State) (target : Pid) (m : Message) → sending s ≡ Some (target, m) → s ≡ states.Blocked (calls.Send target m)
 sending_is states.Ready target m e = absurd (none-some _ e)
@@ -81,7 +82,7 @@ pub record IsSender (k : Kernel) (seats : List Seat) (name : Name) (e : Exchange
   pub seat : Seat
   pub found : find (is_seat name.sender) seats ≡ Some seat
   pub seated : IsSeated k name.sender seat
-  pub state : seat.state ≡ states.Blocked (calls.Send e.target e.message)
+  pub state : state_of seat.doing ≡ states.Blocked (calls.Send e.target e.message)
   pub last : seat.sends ≡ name.number
 
 pub sender_of : (host n : ℕ) (seats : List Seat) (k : Kernel) (name : Name) (e : Exchange) → IsSound k → AreSeats host n seats k → k.exchanges name ≡ Some e → e.target.host ≡ host → is_open e.stage ≡ true → IsSender k seats name e
@@ -109,15 +110,15 @@ stage_taken false = refl
 pub record IsHeld (k : Kernel) (holder sender : Pid) (s : Seat) : Type 0 where
   pub target : Pid
   pub message : Message
-  pub state : s.state ≡ states.Blocked (calls.Send target message)
+  pub state : state_of s.doing ≡ states.Blocked (calls.Send target message)
   pub target_is : target ≡ holder
   pub sent : IsSent k (name_of sender s.sends) target message true
 
-held_by : (k : Kernel) (holder sender : Pid) (s : Seat) (o : Option (Pid × Message)) → IsSeated k sender s → sending s.state ≡ o → is_awaiting_seat holder s o ≡ true → IsHeld k holder sender s
+held_by : (k : Kernel) (holder sender : Pid) (s : Seat) (o : Option (Pid × Message)) → IsSeated k sender s → sending (state_of s.doing) ≡ o → is_awaiting_seat holder s o ≡ true → IsHeld k holder sender s
 held_by k holder sender s None seated is h = cc
 held_by k holder sender s (Some m) seated is h =
     let parts = and_parts (same_pid m.0 holder) s.taken h in
-    let state = sending_is s.state m.0 m.1 is in
+    let state = sending_is (state_of s.doing) m.0 m.1 is in
     record {
       target = m.0;
       message = m.1;
@@ -129,7 +130,7 @@ held_by k holder sender s (Some m) seated is h =
 -- where the tables say that a sender awaits a reply
 pub awaiting_seat : (k : Kernel) (holder sender : Pid) (o : Option Seat) → Fits k sender o → is_awaiting_in holder o ≡ true → (s : Seat) × (o ≡ Some s) × IsSeated k sender s × IsHeld k holder sender s
 awaiting_seat k holder sender None fits h = cc
-awaiting_seat k holder sender (Some s) fits h = (s, refl, fits, held_by k holder sender s (sending s.state) fits refl h)
+awaiting_seat k holder sender (Some s) fits h = (s, refl, fits, held_by k holder sender s (sending (state_of s.doing)) fits refl h)
 
 holds_by : (holder : Pid) (o : Option Exchange) (e : Exchange) → o ≡ Some e → same_pid e.target holder ≡ true → is_taken e.stage ≡ true → holds_of (is_held_by holder) o ≡ true
 holds_by holder None e is target taken = absurd (none-some e is)
@@ -245,7 +246,7 @@ shown t = (t.name, t.exchange.message)
 pub message_same : (k : Kernel) (seats : List Seat) (name : Name) (e : Exchange) → IsSender k seats name e → message_from seats name ≡ Some e.message
 unfolding message_from
 message_same k seats name e sender =
-    ap (λ o. o >>= λ s. sending s.state >>= λ m. Some m.1) sender.found
+    ap (λ o. o >>= λ s. sending (state_of s.doing) >>= λ m. Some m.1) sender.found
     ∙ ap (λ x. sending x >>= λ m. Some m.1) sender.state
 
 takes_queue : (host n : ℕ) (seats : List Seat) (k : Kernel) (r : Pid) (p : Process) (c : Call) (queue : List Name) → IsSound k → AreSeats host n seats k → r.host ≡ host → queue_of k r ≡ queue →
@@ -264,11 +265,11 @@ takes_state host n seats k r p None queue sound tables here is = refl
 takes_state host n seats k r p (Some c) queue sound tables here is = takes_queue host n seats k r p c queue sound tables here is
 
 takes_seat : (host n : ℕ) (seats : List Seat) (k : Kernel) (r : Pid) (o : Option Seat) → IsSound k → AreSeats host n seats k → r.host ≡ host → Fits k r o →
-    ((o >>= λ s. if is_some (receiving s.state) then first_of s.queue else None) >>= λ name. message_from seats name >>= λ m. Some (name, m)) ≡ option_map shown (taking k r)
+    ((o >>= λ s. if is_some (receiving (state_of s.doing)) then first_of s.queue else None) >>= λ name. message_from seats name >>= λ m. Some (name, m)) ≡ option_map shown (taking k r)
 unfolding taking
 takes_seat host n seats k r None sound tables here fits = sym (ap (λ o. option_map shown (o >>= λ p. receiving p.state >>= λ c. first_of (queue_of k r) >>= λ name. k.exchanges name >>= λ e. Some (record { process = p; call = c; name = name; exchange = e }))) fits)
 takes_seat host n seats k r (Some s) sound tables here fits =
-    takes_state host n seats k r fits.process (receiving s.state) s.queue sound tables here fits.queue
+    takes_state host n seats k r fits.process (receiving (state_of s.doing)) s.queue sound tables here fits.queue
     ∙ ap (λ x. option_map shown (receiving x >>= λ c. first_of s.queue >>= λ name. k.exchanges name >>= λ e. Some (record { process = fits.process; call = c; name = name; exchange = e }))) (sym fits.state)
     ∙ ap (λ queue. option_map shown (receiving fits.process.state >>= λ c. first_of queue >>= λ name. k.exchanges name >>= λ e. Some (record { process = fits.process; call = c; name = name; exchange = e }))) (sym fits.queue)
     ∙ sym (ap (λ o. option_map shown (o >>= λ p. receiving p.state >>= λ c. first_of (queue_of k r) >>= λ name. k.exchanges name >>= λ e. Some (record { process = p; call = c; name = name; exchange = e }))) fits.is)

@@ -1,6 +1,8 @@
 -- The tables stand for the kernel after a local Reply and its Finish.
-use Rattle.std.proofs.Common.{◌≡◌, ℕ, true, false, ◌==◌, ◌&&◌, List, [], Some, refl, sym, ap, ◌∙◌, arith}
+use Rattle.std.proofs.Common.{◌≡◌, ℕ, ◌+◌, ◌≤◌, Bool, true, false, ◌==◌, ◌&&◌, List, [], ◌∷◌, Option, Some, None, refl, sym, ap, ◌∙◌, subst, arith}
 use Rattle.std.specs.List.{find}
+use Rattle.std.proofs.lemmas.Option.{same_Some, none-some}
+use Rattle.vk_base.specs.declared.answer.Answer.{Answer}
 use Rattle.vk_base.specs.declared.answer.Answer.TheVariants as answers
 use Rattle.vk_base.specs.declared.call.Call.TheVariants as calls
 use Rattle.vk_base.specs.declared.kernel.Exchange.{Exchange}
@@ -11,15 +13,26 @@ use Rattle.vk_base.specs.declared.kernel.Stage.TheVariants as stages
 use Rattle.vk_base.specs.declared.kernel.State.TheVariants as states
 use Rattle.vk_base.specs.declared.message.Message.{Message}
 use Rattle.vk_base.specs.declared.pid.Pid.{Pid}
-use Rattle.vk_base.specs.Kernel.{◌>>=◌, Kernel, Finishing, name_of, sending, is_queued, reply_of, queue_of, with_stage, answered, accepted, finishing, finished}
+use Rattle.vk_base.specs.Kernel.{◌>>=◌, Kernel, Effect, Finishing, name_of, put_process, put_exchange, sending, is_queued, reply_of, queue_of, held, with_stage, answered, accepted, finishing, finished}
+use Rattle.vk_base.specs.Pids.{same_pid}
 use Rattle.vk_base.specs.Sound.{IsSound, is_open}
 use Rattle.vk_base.proofs.Queues.{queue-stage}
 use Rattle.vk_base.proofs.Tables.{put_process_here, put_process_other, put_exchange_here, put_exchange_other}
 use Rattle.vk_host.specs.declared.seat.Seat.{Seat}
 use Rattle.vk_host.specs.Stands.{IsSeated, AreSeats}
-use Rattle.vk_host.specs.Tables.{is_seat, change_first, is_awaiting, done_with, done_by}
+use Rattle.vk_host.specs.Tables.{is_seat, change_first, is_awaiting, state_of, replied_by, replied as replied_seat}
+use Rattle.vk_host.specs.declared.seat.Doing.{Doing}
+use Rattle.vk_host.specs.declared.seat.Doing.TheVariants as doings
 use Rattle.vk_host.proofs.Keeping.{home_put, seats_done}
 use Rattle.vk_host.proofs.Reading.{IsHeld, awaiting_is, held_awaiting}
+
+-- a Send that has its reply is done with it
+replied_is : (d : Doing) (target : Pid) (m reply : Message) → state_of d ≡ states.Blocked (calls.Send target m) → state_of (replied_by d reply) ≡ states.Done (calls.Send target m) (answers.Replied reply)
+replied_is doings.Ready target m reply e = absurd (none-some _ (ap sending e))
+replied_is doings.Receiving target m reply e = absurd (none-some _ (ap sending e))
+replied_is (doings.Received from n) target m reply e = absurd (none-some _ (ap sending e))
+replied_is (doings.Replied other n old) target m reply e = absurd (none-some _ (ap sending e))
+replied_is (doings.Sending other n) target m reply e = let same = same_Some (other, n) (target, m) (ap sending e) in λ i. states.Done (calls.Send (same i).0 (same i).1) (answers.Replied reply)
 
 -- queues do not depend on the processes
 queue-procs : (k l : Kernel) (q : Pid) → l.exchanges ≡ k.exchanges → l.arrived ≡ k.arrived → queue_of l q ≡ queue_of k q
@@ -70,15 +83,15 @@ module _ (host n : ℕ) (seats : List Seat) (k : Kernel) (pid to : Pid) (p : Pro
   taken_not_queued = ap is_queued has.3.sent.stage_is
 
   -- the tables after both stand for the kernel after both
-  pub seats_replied : AreSeats host n (change_first (is_seat to) (done_with (answers.Replied m)) seats) (finished replied to finish)
+  pub seats_replied : AreSeats host n (change_first (is_seat to) (replied_seat m) seats) (finished replied to finish)
   seats_replied =
       let after = finished replied to finish in
       let state = states.Done (calls.Send has.3.target has.3.message) (answers.Replied m) in
-      seats_done host n n seats k after to _ seat (done_with (answers.Replied m)) (omega arith) (λ x. refl) (λ x. refl) (λ x. refl) has.1 has.2
+      seats_done host n n seats k after to _ seat (replied_seat m) (omega arith) (λ x. refl) (λ x. refl) (λ x. refl) has.1 has.2
       (put_process_here replied.procs to _)
       has.2.alive
-      (ap (λ x. done_by x (answers.Replied m)) (sym has.3.state))
-      (ap (λ x. sending (done_by x (answers.Replied m))) has.3.state)
+      (sym (replied_is seat.doing has.3.target has.3.message m has.3.state))
+      (ap sending (replied_is seat.doing has.3.target has.3.message m has.3.state))
       has.2.sends
       (λ q apart. put_process_other replied.procs to _ q apart)
       (λ q. queue-procs replied after q refl refl ∙ queue-stage k name exchange reply q has.3.sent.is (sym taken_not_queued))

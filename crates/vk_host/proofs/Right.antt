@@ -1,21 +1,22 @@
 -- An event's answer and steps are those that it has in the kernel, and the tables stand for the kernel after it.
-use Rattle.std.proofs.Common.{◌≡◌, ℕ, ◌+◌, ◌^◌, ◌<◌, Bool, true, false, cond, List, [], ◌∷◌, Option, Some, None, refl, sym, ap, ◌∙◌, subst, arith}
+use Rattle.std.proofs.Common.{◌≡◌, ℕ, ◌+◌, ◌^◌, ◌≤◌, ◌<◌, Bool, true, false, cond, ◌==◌, ◌&&◌, List, [], ◌∷◌, Option, Some, None, refl, sym, ap, ◌∙◌, subst, arith}
 use Rattle.std.specs.List.{find, fold}
 use Rattle.std.specs.Option.{option_map, is_some, IsSome}
-use Rattle.std.proofs.lemmas.Bool.{eqb-true, eq-eqb, and_parts}
-use Rattle.std.proofs.lemmas.Option.{none-some}
+use Rattle.std.proofs.lemmas.Bool.{eqb-true, eq-eqb, and_parts, cond-true, cond-false}
+use Rattle.std.proofs.lemmas.Option.{same_Some, none-some}
 use Rattle.vk_base.specs.declared.answer.Answer.{Answer}
 use Rattle.vk_base.specs.declared.answer.Answer.TheVariants as answers
 use Rattle.vk_base.specs.declared.answer.Refusal.{Refusal}
 use Rattle.vk_base.specs.declared.answer.Refusal.TheVariants as refusals
 use Rattle.vk_base.specs.declared.call.Call.{Call}
 use Rattle.vk_base.specs.declared.call.Call.TheVariants as calls
+use Rattle.vk_base.specs.declared.kernel.Process.{Process}
 use Rattle.vk_base.specs.declared.kernel.State.TheVariants as states
 use Rattle.vk_base.specs.declared.message.Message.{Message}
 use Rattle.vk_base.specs.declared.pid.Pid.{Pid}
 use Rattle.vk_base.specs.declared.step.Step.{Step}
 use Rattle.vk_base.specs.declared.step.Step.TheVariants as steps
-use Rattle.vk_base.specs.Kernel.{◌>>=◌, Kernel, Effect, Run, Taking, effect, next, after_effect, run, unseen, answered, called, call_refusal, with_state, sent, taking, taken, finished, collecting, finished_call, sending, is_ready}
+use Rattle.vk_base.specs.Kernel.{◌>>=◌, Kernel, Effect, Run, Taking, Collecting, effect, next, after_effect, run, unseen, answered, called, call_refusal, with_state, sent, taking, taken, finished, finishing, collecting, finished_call, sending, is_ready}
 use Rattle.vk_base.specs.Pids.{same_host}
 use Rattle.vk_base.specs.Sound.{IsSound}
 use Rattle.vk_base.proofs.RunLemmas.{run_step, run_on, run_nothing}
@@ -25,10 +26,12 @@ use Rattle.vk_host.specs.declared.event.EventAnswer.{EventAnswer}
 use Rattle.vk_host.specs.declared.event.EventAnswer.TheVariants as given_answers
 use Rattle.vk_host.specs.declared.event.StationEvent.{StationEvent}
 use Rattle.vk_host.specs.declared.event.StationEvent.TheVariants as events
+use Rattle.vk_host.specs.declared.seat.Doing.{Doing}
+use Rattle.vk_host.specs.declared.seat.Doing.TheVariants as doings
 use Rattle.vk_host.specs.declared.seat.Seat.{Seat}
 use Rattle.vk_host.specs.Entries.{grants_nothing, is_built_call, answer_by, answer_of, answer_to, take_where, follow_up, steps_of, after_event}
 use Rattle.vk_host.specs.Stands.{IsSeated, AreSeats}
-use Rattle.vk_host.specs.Tables.{is_seat, change_first, blocked, made_ready, is_awaiting, own_refusal, refusal_in, refusal_by, served, served_steps, serving, sent_seats, accepted_by, called_by, call_outcome, collected, collect_seats, collect_steps, collect_answer}
+use Rattle.vk_host.specs.Tables.{Outcome, is_seat, change_first, state_of, waiting, made_ready, doing_in, answer_of as answer_held, is_awaiting, own_refusal, refusal_in, refusal_by, takes, served, served_steps, serving, sent_seats, accepted_by, called_by, call_outcome, collected, collect_seats, collect_steps, collect_answer}
 use Rattle.vk_host.proofs.Keeping.{seats_later, seats_state, seats_taken}
 use Rattle.vk_host.proofs.Reading.{shown, refusal_same, takes_same, awaiting_host}
 use Rattle.vk_host.proofs.Replying.{replied, reply_is, finish, finish_is, seats_replied}
@@ -134,8 +137,8 @@ module _ (host n : ℕ) (seats : List Seat) (k : Kernel) (pid : Pid) (s : Seat) 
   later = seats_later host n (n + 1) seats k (omega arith) tables
 
   -- a call that is not refused is one of a process that is ready
-  free_by : (c : Call) → call_refusal k pid seated.process c ≡ None → sending s.state ≡ None
-  free_by c e = ready_sends_none s.state (ap is_ready (sym seated.state) ∙ (fit_is k pid seated.process c e).ready)
+  free_by : (c : Call) → call_refusal k pid seated.process c ≡ None → sending (state_of s.doing) ≡ None
+  free_by c e = ready_sends_none (state_of s.doing) (ap is_ready (sym seated.state) ∙ (fit_is k pid seated.process c e).ready)
 
   accepted_right : (c : Call) → is_built_call pid c ≡ true → call_refusal k pid seated.process c ≡ None → own_refusal seats pid c ≡ None →
       Right host n (accepted_by seats pid c).seats (steps.Call pid c ∷ (accepted_by seats pid c).steps) (accepted_by seats pid c).answer k (events.Call pid c)
@@ -145,8 +148,8 @@ module _ (host n : ℕ) (seats : List Seat) (k : Kernel) (pid : Pid) (s : Seat) 
       (sym (eqb-true pid.host target.host local) ∙ here)
       (seats_sent host n seats k pid s target m sound tables here found seated (free_by (calls.Send target m) free) local few)
   accepted_right calls.Receive built free own =
-      call_served host n (change_first (is_seat pid) (blocked calls.Receive) seats) k (with_state k pid seated.process (states.Blocked calls.Receive)) pid calls.Receive pid sound (effect_by calls.Receive None free) (receive_follows (with_state k pid seated.process (states.Blocked calls.Receive)) pid) here
-      (seats_state host n (n + 1) seats k pid seated.process s (states.Blocked calls.Receive) (blocked calls.Receive) (omega arith) (λ x. refl) (λ x. refl) (λ x. refl) found seated seated.is refl refl tables)
+      call_served host n (change_first (is_seat pid) waiting seats) k (with_state k pid seated.process (states.Blocked calls.Receive)) pid calls.Receive pid sound (effect_by calls.Receive None free) (receive_follows (with_state k pid seated.process (states.Blocked calls.Receive)) pid) here
+      (seats_state host n (n + 1) seats k pid seated.process s (states.Blocked calls.Receive) waiting (omega arith) (λ x. refl) (λ x. refl) (λ x. refl) found seated seated.is refl refl tables)
   accepted_right (calls.Reply m to) built free own =
       let awaits = awaits_by seats pid to (is_awaiting seats pid to) own in
       let local = eq-eqb pid.host to.host (here ∙ sym (awaiting_host host n seats k pid to tables awaits)) in
@@ -165,7 +168,7 @@ module _ (host n : ℕ) (seats : List Seat) (k : Kernel) (pid : Pid) (s : Seat) 
 
   own_by : (c : Call) → refusal_by seats pid c ≡ None → own_refusal seats pid c ≡ None
   unfolding refusal_by
-  own_by c e = ready_by (is_ready s.state) (own_refusal seats pid c) (sym (ap (λ o. refusal_of o) found) ∙ e)
+  own_by c e = ready_by (is_ready (state_of s.doing)) (own_refusal seats pid c) (sym (ap (λ o. refusal_of o) found) ∙ e)
     where
       refusal_of : Option Seat → Option Refusal
       refusal_of o = refusal_in seats pid c o
@@ -182,21 +185,21 @@ module _ (host n : ℕ) (seats : List Seat) (k : Kernel) (pid : Pid) (s : Seat) 
 
 -- Collects.
 module _ (host n : ℕ) (seats : List Seat) (k : Kernel) (pid : Pid) (s : Seat) (sound : IsSound k) (tables : AreSeats host n seats k) (here : pid.host ≡ host) (found : find (is_seat pid) seats ≡ Some s) (seated : IsSeated k pid s) where
-  collecting_by : (o : Option (Call × Answer)) → finished_call s.state ≡ o → collecting k pid ≡ (o >>= λ d. Some (record { process = seated.process; call = d.0; answer = d.1 }))
+  collecting_by : (o : Option (Call × Answer)) → finished_call (state_of s.doing) ≡ o → collecting k pid ≡ (o >>= λ d. Some (record { process = seated.process; call = d.0; answer = d.1 }))
   unfolding collecting
   collecting_by o e =
       ap (λ x. x >>= λ p. finished_call p.state >>= λ d. Some (record { process = p; call = d.0; answer = d.1 })) seated.is
       ∙ ap (λ x. x >>= λ d. Some (record { process = seated.process; call = d.0; answer = d.1 })) (ap finished_call seated.state ∙ e)
 
   -- whether there is something to collect
-  pub collect_allowed : is_some (finished_call s.state) ≡ is_some (effect k (steps.Collect pid))
-  collect_allowed = by (finished_call s.state) refl
+  pub collect_allowed : is_some (finished_call (state_of s.doing)) ≡ is_some (effect k (steps.Collect pid))
+  collect_allowed = by (finished_call (state_of s.doing)) refl
     where
-      by : (o : Option (Call × Answer)) → finished_call s.state ≡ o → is_some o ≡ is_some (effect k (steps.Collect pid))
+      by : (o : Option (Call × Answer)) → finished_call (state_of s.doing) ≡ o → is_some o ≡ is_some (effect k (steps.Collect pid))
       by None e = sym (ap (λ x. is_some (x >>= λ d. Some (answered (with_state k pid d.process states.Ready) pid d.call d.answer))) (collecting_by None e))
       by (Some d) e = sym (ap (λ x. is_some (x >>= λ d. Some (answered (with_state k pid d.process states.Ready) pid d.call d.answer))) (collecting_by (Some d) e))
 
-  collect_by : (o : Option (Call × Answer)) → finished_call s.state ≡ o →
+  collect_by : (o : Option (Call × Answer)) → finished_call (state_of s.doing) ≡ o →
       Right host n (collect_seats seats pid (option_map (λ d. d.1) o)) (collect_steps pid (option_map (λ d. d.1) o)) (collect_answer (option_map (λ d. d.1) o)) k (events.Collect pid)
   unfolding steps_of after_event
   collect_by None e =
@@ -224,13 +227,16 @@ module _ (host n : ℕ) (seats : List Seat) (k : Kernel) (pid : Pid) (s : Seat) 
             (seats_state host n (n + 1) seats k pid seated.process s states.Ready made_ready (omega arith) (λ x. refl) (λ x. refl) (λ x. refl) found seated seated.is refl refl tables);
       }
 
-  collected_is : collected seats pid ≡ option_map (λ d. d.1) (finished_call s.state)
-  collected_is = ap (λ o. o >>= λ s. finished_call s.state >>= λ d. Some d.1) found ∙ by (finished_call s.state)
+  collected_is : collected seats pid ≡ option_map (λ d. d.1) (finished_call (state_of s.doing))
+  collected_is = ap (λ o. answer_held (doing_in o)) found ∙ by s.doing
     where
-      by : (o : Option (Call × Answer)) → (o >>= λ d. Some d.1) ≡ option_map (λ d. d.1) o
-      by None = refl
-      by (Some d) = refl
+      by : (d : Doing) → answer_held d ≡ option_map (λ d. d.1) (finished_call (state_of d))
+      by doings.Ready = refl
+      by doings.Receiving = refl
+      by (doings.Sending target m) = refl
+      by (doings.Received from m) = refl
+      by (doings.Replied target m reply) = refl
 
   -- a collect of a process of the station
   pub collect_right : Right host n (collect_seats seats pid (collected seats pid)) (collect_steps pid (collected seats pid)) (collect_answer (collected seats pid)) k (events.Collect pid)
-  collect_right = subst (λ o. Right host n (collect_seats seats pid o) (collect_steps pid o) (collect_answer o) k (events.Collect pid)) (sym collected_is) (collect_by (finished_call s.state) refl)
+  collect_right = subst (λ o. Right host n (collect_seats seats pid o) (collect_steps pid o) (collect_answer o) k (events.Collect pid)) (sym collected_is) (collect_by (finished_call (state_of s.doing)) refl)

@@ -1,5 +1,5 @@
 -- The tables stand for the kernel after a Send to a process of the station.
-use Rattle.std.proofs.Common.{◌≡◌, ℕ, ◌+◌, ◌-◌, ◌^◌, min, ◌≤◌, ◌<◌, Bool, true, false, cond, ◌==◌, ◌&&◌, List, [], ◌∷◌, ◌++◌, length, drop, Option, Some, None, refl, sym, ap, ◌∙◌, subst, arith}
+use Rattle.std.proofs.Common.{◌≡◌, ℕ, suc, ◌+◌, ◌-◌, ◌^◌, min, ◌≤◌, ◌<◌, Bool, true, false, cond, ◌==◌, ◌&&◌, List, [], ◌∷◌, ◌++◌, length, drop, Option, Some, None, refl, sym, ap, ◌∙◌, subst, arith}
 use Rattle.std.specs.List.{find}
 use Rattle.std.specs.Option.{option_map}
 use Rattle.std.proofs.lemmas.Bool.{eqb-true, cond-true}
@@ -14,14 +14,14 @@ use Rattle.vk_base.specs.declared.kernel.Stage.TheVariants as stages
 use Rattle.vk_base.specs.declared.kernel.State.TheVariants as states
 use Rattle.vk_base.specs.declared.message.Message.{Message}
 use Rattle.vk_base.specs.declared.pid.Pid.{Pid}
-use Rattle.vk_base.specs.Kernel.{Kernel, name_of, sending, queue_of, sent, sent_exchange}
+use Rattle.vk_base.specs.Kernel.{Kernel, name_of, same_name, put_process, put_exchange, sending, queue_of, sent, sent_exchange}
 use Rattle.vk_base.specs.Pids.{same_pid, same_host}
 use Rattle.vk_base.specs.Sound.{IsSound, is_open}
 use Rattle.vk_base.proofs.Queues.{queue-sent_here, queue-sent_elsewhere}
 use Rattle.vk_base.proofs.Tables.{same_pid_is, put_process_at, put_process_other, put_exchange_here, put_exchange_other}
 use Rattle.vk_host.specs.declared.seat.Seat.{Seat}
-use Rattle.vk_host.specs.Stands.{IsSeated, Fits, AreSeats}
-use Rattle.vk_host.specs.Tables.{is_seat, change_first, send_begun, enqueued, next_name_in, sent_seats}
+use Rattle.vk_host.specs.Stands.{IsSent, IsSeated, Fits, AreSeats}
+use Rattle.vk_host.specs.Tables.{is_seat, state_of, change_first, send_begun, enqueued, next_name_in, sent_seats}
 use Rattle.vk_host.proofs.Keeping.{own_changed, home_put, sent_moved, reseated}
 use Rattle.vk_host.proofs.Room.{room_in_queue}
 use Rattle.vk_host.proofs.Seats.{find-changed, find-either, length-change_first, same_pid_sym}
@@ -30,7 +30,7 @@ use Rattle.vk_host.proofs.Seats.{find-changed, find-either, length-change_first,
 keep_fitting : (names : List Name) → length names ≤ 32 → names ≡ keep_last 32 names
 keep_fitting names few = let none : length names - 32 ≡ 0 = omega arith in sym (ap (λ n. drop n names) none)
 
-module _ (host n : ℕ) (seats : List Seat) (k : Kernel) (pid : Pid) (s : Seat) (target : Pid) (m : Message) (sound : IsSound k) (tables : AreSeats host n seats k) (here : pid.host ≡ host) (found : find (is_seat pid) seats ≡ Some s) (seated : IsSeated k pid s) (free : sending s.state ≡ None) (local : same_host pid target ≡ true) (few : n < 2 ^ 48) where
+module _ (host n : ℕ) (seats : List Seat) (k : Kernel) (pid : Pid) (s : Seat) (target : Pid) (m : Message) (sound : IsSound k) (tables : AreSeats host n seats k) (here : pid.host ≡ host) (found : find (is_seat pid) seats ≡ Some s) (seated : IsSeated k pid s) (free : sending (state_of s.doing) ≡ None) (local : same_host pid target ≡ true) (few : n < 2 ^ 48) where
   abbrev p : Process
   p = seated.process
 
@@ -94,7 +94,7 @@ module _ (host n : ℕ) (seats : List Seat) (k : Kernel) (pid : Pid) (s : Seat) 
   queue_there q u false apart at queue = queue_same q u apart queue
 
   -- the sender
-  sender_there : (q : Pid) (t : Seat) → same_pid q pid ≡ true → t.state ≡ states.Blocked (calls.Send target m) → t.sends ≡ min (s.sends + 1) (2 ^ 64 - 1) → t.taken ≡ false → queue_of after q ≡ t.queue → IsSeated after q t
+  sender_there : (q : Pid) (t : Seat) → same_pid q pid ≡ true → state_of t.doing ≡ states.Blocked (calls.Send target m) → t.sends ≡ min (s.sends + 1) (2 ^ 64 - 1) → t.taken ≡ false → queue_of after q ≡ t.queue → IsSeated after q t
   sender_there q t same state sends taken queue = record {
     process = record p { state = states.Blocked (calls.Send target m); sends = p.sends + 1 };
     is = procs_here q same;

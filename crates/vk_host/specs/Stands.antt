@@ -1,5 +1,5 @@
 -- When a station's tables stand for a kernel.
-use Rattle.std.specs.Prelude.{ℕ, ◌≡◌, ◌≤◌, Bool, true, false, List, [], filter, find, map, length, Option, Some, None, is_some, if◌then◌else◌}
+use Rattle.std.specs.Prelude.{ℕ, ◌≡◌, ◌+◌, ◌≤◌, Bool, true, false, ◌==◌, ◌&&◌, List, [], filter, find, map, length, Option, Some, None, is_some, IsSome, if◌then◌else◌}
 use Rattle.vk_base.specs.declared.call.Call.TheVariants as calls
 use Rattle.vk_base.specs.declared.config.ProcessSpec.{ProcessSpec}
 use Rattle.vk_base.specs.declared.kernel.Exchange.{Exchange}
@@ -10,13 +10,16 @@ use Rattle.vk_base.specs.declared.kernel.State.TheVariants as states
 use Rattle.vk_base.specs.declared.message.Message.{Message}
 use Rattle.vk_base.specs.declared.pid.Pid.{Pid}
 use Rattle.vk_base.specs.declared.step.Step.TheVariants as steps
-use Rattle.vk_base.specs.Kernel.{Kernel, name_of, queue_of, is_allowed}
+use Rattle.vk_base.specs.Kernel.{Kernel, name_of, queue_of, is_allowed, run}
 use Rattle.vk_base.specs.Settings.{is_on}
 use Rattle.vk_base.specs.Sound.{IsSound, is_open}
+use Rattle.vk_host.specs.declared.event.EventAnswer.{EventAnswer}
 use Rattle.vk_host.specs.declared.event.StationEvent.{StationEvent}
 use Rattle.vk_host.specs.declared.event.StationEvent.TheVariants as events
 use Rattle.vk_host.specs.declared.seat.Seat.{Seat}
-use Rattle.vk_host.specs.Tables.{Tables, is_seat}
+use Rattle.vk_host.specs.declared.seat.Doing.TheVariants as doings
+use Rattle.vk_host.specs.Entries.{answer_to, steps_of, after_event}
+use Rattle.vk_host.specs.Tables.{Tables, is_seat, state_of}
 
 -- the exchange of this name has this target and message, and was taken or is queued
 pub record IsSent (k : Kernel) (name : Name) (target : Pid) (m : Message) (taken : Bool) : Type 0 where
@@ -31,10 +34,10 @@ pub record IsSeated (k : Kernel) (pid : Pid) (s : Seat) : Type 0 where
   pub process : Process
   pub is : k.procs pid ≡ Some process
   pub alive : process.alive ≡ true
-  pub state : process.state ≡ s.state
+  pub state : process.state ≡ state_of s.doing
   pub sends : process.sends ≡ s.sends
   pub queue : queue_of k pid ≡ s.queue
-  pub sent : (target : Pid) (m : Message) → s.state ≡ states.Blocked (calls.Send target m) → IsSent k (name_of pid s.sends) target m s.taken
+  pub sent : (target : Pid) (m : Message) → state_of s.doing ≡ states.Blocked (calls.Send target m) → IsSent k (name_of pid s.sends) target m s.taken
 
 abbrev pub Fits : Kernel → Pid → Option Seat → Type 0
 Fits k pid None = k.procs pid ≡ None
@@ -63,12 +66,22 @@ is_own t (events.Call pid c) = is_at t pid
 is_own t (events.Collect pid) = is_at t pid
 is_own t e = true
 
+-- What an event does: in every kernel that the tables stand for, its answer and its steps are those that it has there, its
+-- steps are allowed, and the tables stand for the kernel after it then. One more event is counted; the processes stay.
+pub record IsEvent (old new : Tables) (e : StationEvent) (given : EventAnswer) : Type 0 where
+  pub answer : (k : Kernel) → Stands old k → given ≡ answer_to k e
+  pub steps : (k : Kernel) → Stands old k → new.steps ≡ steps_of k e
+  pub allowed : (k : Kernel) → Stands old k → IsSome (run k (steps_of k e))
+  pub stands : (k : Kernel) → Stands old k → Stands new (after_event k e)
+  pub events : new.events ≡ old.events + 1
+  pub processes : (pid : Pid) → is_at new pid ≡ is_at old pid
+
 abbrev pub is_done : Kernel → Pid → Bool
 is_done k pid = is_allowed k (steps.Collect pid)
 
 -- the seats of a station that has just started
 abbrev pub opening_seat : ProcessSpec → Seat
-opening_seat s = record { pid = s.pid; state = states.Ready; sends = 0; taken = false; queue = [] }
+opening_seat s = record { pid = s.pid; doing = doings.Ready; sends = 0; taken = false; queue = [] }
 
 abbrev pub opening_seats : ℕ → List ProcessSpec → List Seat
 opening_seats host specs = map opening_seat (filter (is_on host) specs)

@@ -1,5 +1,5 @@
 -- What a station's tables become: the words of its private functions. When tables stand for a kernel is `Stands.antt`.
-use Rattle.std.specs.Prelude.{ℕ, ◌+◌, ◌-◌, ◌^◌, min, Bool, true, false, ◌&&◌, List, [], ◌∷◌, ◌++◌, drop, find, Option, Some, None, is_some, if◌then◌else◌}
+use Rattle.std.specs.Prelude.{ℕ, ◌≡◌, ◌+◌, ◌-◌, ◌^◌, min, Bool, true, false, ◌==◌, ◌&&◌, not, List, [], ◌∷◌, ◌++◌, drop, find, Option, Some, None, is_some, option_map, if◌then◌else◌}
 use Rattle.circular_buffer.specs.Buffer.{keep_last}
 use Rattle.vk_base.specs.declared.answer.Answer.{Answer}
 use Rattle.vk_base.specs.declared.answer.Answer.TheVariants as answers
@@ -15,9 +15,15 @@ use Rattle.vk_base.specs.declared.pid.Pid.{Pid}
 use Rattle.vk_base.specs.declared.step.Step.{Step}
 use Rattle.vk_base.specs.declared.step.Step.TheVariants as steps
 use Rattle.vk_base.specs.Kernel.{◌>>=◌, name_of, is_ready, receiving, sending, finished_call, first_of}
-use Rattle.vk_base.specs.Pids.{same_pid}
+use Rattle.vk_base.specs.Pids.{same_pid, same_host}
+use Rattle.vk_host.specs.declared.calls.Verdict.{Verdict}
+use Rattle.vk_host.specs.declared.calls.Verdict.TheVariants as verdicts
 use Rattle.vk_host.specs.declared.event.EventAnswer.{EventAnswer}
 use Rattle.vk_host.specs.declared.event.EventAnswer.TheVariants as events_answered
+use Rattle.vk_host.specs.declared.event.StationEvent.{StationEvent}
+use Rattle.vk_host.specs.declared.event.StationEvent.TheVariants as events
+use Rattle.vk_host.specs.declared.seat.Doing.{Doing}
+use Rattle.vk_host.specs.declared.seat.Doing.TheVariants as doings
 use Rattle.vk_host.specs.declared.seat.Seat.{Seat}
 
 -- what contracts see of a `Host`
@@ -30,17 +36,25 @@ pub record Tables : Type 0 where
 abbrev pub is_seat : Pid → Seat → Bool
 is_seat pid s = same_pid s.pid pid
 
+-- what a process does, as the kernel has it
+abbrev pub state_of : Doing → State
+state_of doings.Ready = states.Ready
+state_of doings.Receiving = states.Blocked calls.Receive
+state_of (doings.Sending target m) = states.Blocked (calls.Send target m)
+state_of (doings.Received from m) = states.Done calls.Receive (answers.Received from m)
+state_of (doings.Replied target m reply) = states.Done (calls.Send target m) (answers.Replied reply)
+
 -- a list with the first element that passes changed
 abbrev pub change_first : {X : Type 0} → (X → Bool) → (X → X) → List X → List X
 change_first p f [] = []
 change_first p f (x ∷ xs) = if p x then f x ∷ xs else x ∷ change_first p f xs
 
 -- Changes of one process.
-abbrev pub blocked : Call → Seat → Seat
-blocked c s = record s { state = states.Blocked c }
+abbrev pub waiting : Seat → Seat
+waiting s = record s { doing = doings.Receiving }
 
 abbrev pub send_begun : Pid → Message → Seat → Seat
-send_begun target m s = record s { state = states.Blocked (calls.Send target m); sends = min (s.sends + 1) (2 ^ 64 - 1); taken = false }
+send_begun target m s = record s { doing = doings.Sending target m; sends = min (s.sends + 1) (2 ^ 64 - 1); taken = false }
 
 abbrev pub enqueued : Name → Seat → Seat
 enqueued name s = record s { queue = keep_last 32 (s.queue ++ name ∷ []) }
@@ -51,20 +65,37 @@ dequeued s = record s { queue = drop 1 s.queue }
 abbrev pub marked_taken : Seat → Seat
 marked_taken s = record s { taken = true }
 
-abbrev pub done_by : State → Answer → State
-done_by (states.Blocked c) a = states.Done c a
-done_by states.Ready a = states.Ready
-done_by (states.Done c b) a = states.Done c b
+abbrev pub received : Pid → Message → Seat → Seat
+received from m s = record s { doing = doings.Received from m }
 
-abbrev pub done_with : Answer → Seat → Seat
-done_with a s = record s { state = done_by s.state a }
+-- a Send has its reply
+abbrev pub replied_by : Doing → Message → Doing
+replied_by doings.Ready reply = doings.Ready
+replied_by doings.Receiving reply = doings.Receiving
+replied_by (doings.Sending target m) reply = doings.Replied target m reply
+replied_by (doings.Received from m) reply = doings.Received from m
+replied_by (doings.Replied target m old) reply = doings.Replied target m old
+
+abbrev pub replied : Message → Seat → Seat
+replied reply s = record s { doing = replied_by s.doing reply }
 
 abbrev pub made_ready : Seat → Seat
-made_ready s = record s { state = states.Ready }
+made_ready s = record s { doing = doings.Ready }
+
+abbrev pub answer_of : Doing → Option Answer
+answer_of doings.Ready = None
+answer_of doings.Receiving = None
+answer_of (doings.Sending target m) = None
+answer_of (doings.Received from m) = Some (answers.Received from m)
+answer_of (doings.Replied target m reply) = Some (answers.Replied reply)
+
+abbrev pub doing_in : Option Seat → Doing
+doing_in None = doings.Ready
+doing_in (Some s) = s.doing
 
 -- the answer that a process has to collect
 abbrev pub collected : List Seat → Pid → Option Answer
-collected seats pid = find (is_seat pid) seats >>= λ s. finished_call s.state >>= λ d. Some d.1
+collected seats pid = answer_of (doing_in (find (is_seat pid) seats))
 
 -- Refusals.
 
@@ -74,7 +105,7 @@ is_awaiting_seat holder s (Some m) = same_pid m.0 holder && s.taken
 
 abbrev pub is_awaiting_in : Pid → Option Seat → Bool
 is_awaiting_in holder None = false
-is_awaiting_in holder (Some s) = is_awaiting_seat holder s (sending s.state)
+is_awaiting_in holder (Some s) = is_awaiting_seat holder s (sending (state_of s.doing))
 
 -- the sender awaits a reply from the holder
 abbrev pub is_awaiting : List Seat → Pid → Pid → Bool
@@ -87,7 +118,7 @@ own_refusal seats pid c = None
 
 abbrev pub refusal_in : List Seat → Pid → Call → Option Seat → Option Refusal
 refusal_in seats pid c None = Some refusals.Dead
-refusal_in seats pid c (Some s) = if is_ready s.state then own_refusal seats pid c else Some refusals.Busy
+refusal_in seats pid c (Some s) = if is_ready (state_of s.doing) then own_refusal seats pid c else Some refusals.Busy
 
 unfoldable pub refusal_by : List Seat → Pid → Call → Option Refusal
 refusal_by seats pid c = refusal_in seats pid c (find (is_seat pid) seats)
@@ -96,17 +127,17 @@ refusal_by seats pid c = refusal_in seats pid c (find (is_seat pid) seats)
 
 -- the message of the Send in which the sender is blocked
 unfoldable pub message_from : List Seat → Name → Option Message
-message_from seats name = find (is_seat name.sender) seats >>= λ s. sending s.state >>= λ m. Some m.1
+message_from seats name = find (is_seat name.sender) seats >>= λ s. sending (state_of s.doing) >>= λ m. Some m.1
 
 unfoldable pub front_of : List Seat → Pid → Option Name
-front_of seats r = find (is_seat r) seats >>= λ s. if is_some (receiving s.state) then first_of s.queue else None
+front_of seats r = find (is_seat r) seats >>= λ s. if is_some (receiving (state_of s.doing)) then first_of s.queue else None
 
 -- what the process may take now
 unfoldable pub takes : List Seat → Pid → Option (Name × Message)
 takes seats r = front_of seats r >>= λ name. message_from seats name >>= λ m. Some (name, m)
 
 abbrev pub taken_seats : List Seat → Pid → Name × Message → List Seat
-taken_seats seats r t = change_first (is_seat r) (done_with (answers.Received t.0.sender t.1)) (change_first (is_seat t.0.sender) marked_taken (change_first (is_seat r) dequeued seats))
+taken_seats seats r t = change_first (is_seat r) (received t.0.sender t.1) (change_first (is_seat t.0.sender) marked_taken (change_first (is_seat r) dequeued seats))
 
 abbrev pub served : List Seat → Pid → Option (Name × Message) → List Seat
 served seats r None = seats
@@ -115,6 +146,11 @@ served seats r (Some t) = taken_seats seats r t
 abbrev pub served_steps : Pid → Option (Name × Message) → List Step
 served_steps r None = []
 served_steps r (Some t) = steps.Take r ∷ []
+
+abbrev pub verdict_answer : Verdict → EventAnswer
+verdict_answer verdicts.Begun = events_answered.Begun
+verdict_answer verdicts.Ok = events_answered.Answered answers.Ok
+verdict_answer (verdicts.Refused why) = events_answered.Answered (answers.Refused why)
 
 -- Calls: the tables, the steps behind the call's own and the answer.
 pub record Outcome : Type 0 where
@@ -137,8 +173,8 @@ sent_seats seats pid target m =
 
 abbrev pub accepted_by : List Seat → Pid → Call → Outcome
 accepted_by seats pid (calls.Send target m) = serving (sent_seats seats pid target m) target
-accepted_by seats pid calls.Receive = serving (change_first (is_seat pid) (blocked calls.Receive) seats) pid
-accepted_by seats pid (calls.Reply m to) = record { seats = change_first (is_seat to) (done_with (answers.Replied m)) seats; steps = steps.Finish to ∷ []; answer = events_answered.Answered answers.Ok }
+accepted_by seats pid calls.Receive = serving (change_first (is_seat pid) waiting seats) pid
+accepted_by seats pid (calls.Reply m to) = record { seats = change_first (is_seat to) (replied m) seats; steps = steps.Finish to ∷ []; answer = events_answered.Answered answers.Ok }
 accepted_by seats pid c = record { seats = seats; steps = []; answer = events_answered.Begun }
 
 abbrev pub called_by : List Seat → Pid → Call → Option Refusal → Outcome

@@ -3,10 +3,10 @@
 ghost use Rattle.std.specs.Prelude.{◌≡◌, ◌≤◌, ◌+◌, ◌++◌, ◌∷◌, [], find, is_some, true};
 ghost use Rattle.arrayvec.specs.ArrayVec.{array_vec_len};
 ghost use Rattle.vk_host.specs.Entries.{is_built_call};
-ghost use Rattle.vk_host.specs.Tables.{Outcome, is_seat, is_awaiting, own_refusal, refusal_by, message_from, front_of, takes, taken_seats, served, served_steps, sent_seats, next_name_in, serving, accepted_by, called_by, call_outcome, collected, collect_seats, collect_steps, collect_answer};
+ghost use Rattle.vk_host.specs.Tables.{Outcome, is_seat, is_awaiting, own_refusal, refusal_by, message_from, front_of, takes, taken_seats, served, served_steps, sent_seats, next_name_in, serving, verdict_answer, accepted_by, called_by, call_outcome, answer_of, collected, collect_seats, collect_steps, collect_answer};
 
 use crate::event::EventAnswer;
-use crate::seat::{self, Seat, is_ready, is_receiving, seat_of, sending};
+use crate::seat::{self, Doing, Seat, is_ready, is_receiving, seat_of, sending};
 use vk_base::{Answer, Call, Message, Name, Pid, Refusal, Step, StepList};
 
 /// Whether the sender awaits a reply from the holder, which has taken its message.
@@ -14,7 +14,7 @@ fn is_awaiting(seats: &[Seat], holder: Pid, sender: Pid) -> bool
     ensures { result ≡ is_awaiting seats.now holder sender }
 {
     match seat_of(seats, sender) {
-        Some(seat) => match sending(&seat.state) {
+        Some(seat) => match sending(&seat.doing) {
             Some((target, _)) => target == holder && seat.taken,
             None => false,
         },
@@ -41,7 +41,7 @@ fn refusal(seats: &[Seat], pid: Pid, call: &Call) -> Option<Refusal>
     let Some(seat) = seat_of(seats, pid) else {
         return Some(Refusal::Dead);
     };
-    if is_ready(&seat.state) {
+    if is_ready(&seat.doing) {
         own_refusal(seats, pid, call)
     } else {
         Some(Refusal::Busy)
@@ -54,7 +54,7 @@ fn front(seats: &[Seat], receiver: Pid) -> Option<Name>
     ensures { result ≡ front_of seats.now receiver }
 {
     let seat = seat_of(seats, receiver)?;
-    if is_receiving(&seat.state) {
+    if is_receiving(&seat.doing) {
         seat.queue.first()
     } else {
         None
@@ -66,7 +66,7 @@ fn front(seats: &[Seat], receiver: Pid) -> Option<Name>
 fn message_from(seats: &[Seat], name: Name) -> Option<Message>
     ensures { result ≡ message_from seats.now name }
 {
-    let (_, message) = sending(&seat_of(seats, name.sender)?.state)?;
+    let (_, message) = sending(&seat_of(seats, name.sender)?.doing)?;
     Some(message)
 }
 
@@ -89,11 +89,7 @@ fn serve(seats: &mut [Seat], steps: &mut StepList, receiver: Pid)
     if let Some((name, message)) = takes(seats, receiver) {
         seat::dequeue(seats, receiver);
         seat::mark_taken(seats, name.sender);
-        let answer = Answer::Received {
-            from: name.sender,
-            message,
-        };
-        seat::finish(seats, receiver, answer);
+        seat::receive(seats, receiver, name.sender, message);
         steps.push(Step::Take { pid: receiver });
     }
 }
@@ -119,73 +115,117 @@ fn send(seats: &mut [Seat], pid: Pid, target: Pid, message: Message)
     seat::enqueue(seats, target, name);
 }
 
+/// What a call within a station is answered.
+#[derive(Clone, Copy)]
+pub enum Verdict {
+    Begun,
+    Ok,
+    Refused { why: Refusal },
+}
+
+impl Verdict {
+    /// The verdict as the answer to an event.
+    pub fn answer(self) -> EventAnswer
+        ensures { result ≡ verdict_answer self }
+    {
+        let answer = match self {
+            Verdict::Begun => return EventAnswer::Begun,
+            Verdict::Ok => Answer::Ok,
+            Verdict::Refused { why } => Answer::Refused { why },
+        };
+        EventAnswer::Answered { answer }
+    }
+}
+
+/// Makes this step the only one.
+fn restart(steps: &mut StepList, step: Step)
+    ensures { steps.new.items ≡ step ∷ [] }
+{
+    steps.truncate(1);
+    if steps.is_empty() {
+        steps.push(step);
+    } else {
+        let slots = steps.as_mut_slice();
+        slots[0] = step;
+    }
+}
+
 /// A call that is not refused.
 #[tactic(auto, unfolding(crate::specs::Tables::serving))]
-fn accept(seats: &mut [Seat], steps: &mut StepList, pid: Pid, call: &Call) -> EventAnswer
+fn accept(seats: &mut [Seat], steps: &mut StepList, pid: Pid, call: &Call) -> Verdict
     requires room { array_vec_len steps.old + 1 ≤ 40 }
     requires built { is_built_call pid call.now ≡ true }
     ensures seats { seats.new ≡ (accepted_by seats.old pid call.now).seats }
     ensures steps { steps.new.items ≡ steps.old.items ++ (accepted_by seats.old pid call.now).steps }
-    ensures answer { result ≡ (accepted_by seats.old pid call.now).answer }
+    ensures answer { verdict_answer result ≡ (accepted_by seats.old pid call.now).answer }
 {
     match *call {
         Call::Send { target, message } => {
             send(seats, pid, target, message);
             serve(seats, steps, target);
-            EventAnswer::Begun
+            Verdict::Begun
         }
         Call::Receive => {
-            seat::block(seats, pid, Call::Receive);
+            seat::wait_for_message(seats, pid);
             serve(seats, steps, pid);
-            EventAnswer::Begun
+            Verdict::Begun
         }
         Call::Reply { message, to } => {
-            seat::finish(seats, to, Answer::Replied { message });
+            seat::take_reply(seats, to, message);
             steps.push(Step::Finish { pid: to });
-            EventAnswer::Answered { answer: Answer::Ok }
+            Verdict::Ok
         }
         _ => unreachable!(),
     }
 }
 
-/// A call: what it is answered, and behind its own step those that it brings about.
+/// A call: what it is answered, and its steps, its own first.
 #[tactic(auto, unfolding(crate::specs::Tables::call_outcome))]
-pub fn call(seats: &mut [Seat], steps: &mut StepList, pid: Pid, call: &Call) -> EventAnswer
-    requires room { array_vec_len steps.old + 2 ≤ 40 }
-    requires built { is_built_call pid call.now ≡ true }
+pub fn call(seats: &mut [Seat], steps: &mut StepList, pid: Pid, call: &Call) -> Verdict
+    requires { is_built_call pid call.now ≡ true }
     ensures seats { seats.new ≡ (call_outcome seats.old pid call.now).seats }
-    ensures steps { steps.new.items ≡ steps.old.items ++ Step.Call pid call.now ∷ (call_outcome seats.old pid call.now).steps }
-    ensures answer { result ≡ (call_outcome seats.old pid call.now).answer }
+    ensures steps { steps.new.items ≡ Step.Call pid call.now ∷ (call_outcome seats.old pid call.now).steps }
+    ensures answer { verdict_answer result ≡ (call_outcome seats.old pid call.now).answer }
 {
-    steps.push(Step::Call {
-        pid,
-        call: call.copy(),
-    });
-    match refusal(seats, pid, call) {
-        Some(why) => EventAnswer::Answered {
-            answer: Answer::Refused { why },
+    restart(
+        steps,
+        Step::Call {
+            pid,
+            call: call.copy(),
         },
+    );
+    match refusal(seats, pid, call) {
+        Some(why) => Verdict::Refused { why },
         None => accept(seats, steps, pid, call),
     }
 }
 
-/// A collect: a process that is done gets its answer and is ready again. Another is told that there is nothing yet.
-pub fn collect(seats: &mut [Seat], steps: &mut StepList, pid: Pid) -> EventAnswer
-    requires { array_vec_len steps.old + 1 ≤ 40 }
+/// A collect: a process that is done is ready again. Gives what the process did before.
+pub fn collect(seats: &mut [Seat], steps: &mut StepList, pid: Pid) -> Doing
     ensures seats { seats.new ≡ collect_seats seats.old pid (collected seats.old pid) }
-    ensures steps { steps.new.items ≡ steps.old.items ++ collect_steps pid (collected seats.old pid) }
-    ensures answer { result ≡ collect_answer (collected seats.old pid) }
+    ensures steps { steps.new.items ≡ collect_steps pid (collected seats.old pid) }
+    ensures doing { answer_of result ≡ collected seats.old pid }
 {
-    match seat::collected(seats, pid) {
-        Some(answer) => {
-            seat::make_ready(seats, pid);
-            steps.push(Step::Collect { pid });
-            EventAnswer::Answered { answer }
-        }
-        None => EventAnswer::Answered {
-            answer: Answer::Refused {
-                why: Refusal::NotYet,
-            },
-        },
+    let doing = seat::doing_of(seats, pid);
+    if seat::is_done(&doing) {
+        seat::make_ready(seats, pid);
+        restart(steps, Step::Collect { pid });
+    } else {
+        steps.clear();
     }
+    doing
+}
+
+/// What a collect is answered of a process that did this: its answer, or that there is nothing yet.
+pub fn collect_answer(doing: &Doing) -> EventAnswer
+    ensures { result ≡ collect_answer (answer_of doing.now) }
+{
+    let answer = match *doing {
+        Doing::Received { from, message } => Answer::Received { from, message },
+        Doing::Replied { reply, .. } => Answer::Replied { message: reply },
+        _ => Answer::Refused {
+            why: Refusal::NotYet,
+        },
+    };
+    EventAnswer::Answered { answer }
 }

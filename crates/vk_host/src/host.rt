@@ -1,19 +1,19 @@
 ghost use Rattle.std.specs.Prelude.{◌≡◌, ◌≤◌, ◌<◌, ◌+◌, ◌^◌, ◌==◌, ◌&&◌, ◌++◌, ◌∷◌, [], true, is_some, IfOk, IsSome, find};
 ghost use Rattle.vk_base.specs.declared.pid.Pid.{Pid as ThePid};
-ghost use Rattle.vk_base.specs.Kernel.{Kernel, opening, run};
+ghost use Rattle.vk_base.specs.Kernel.{Kernel, opening};
 ghost use Rattle.vk_base.specs.Settings.{has_station, has_process};
-ghost use Rattle.vk_host.specs.Entries.{is_built, answer_to, steps_of, after_event};
-ghost use Rattle.vk_host.specs.Stands.{Stands, is_at, is_own, is_done, opening_seats};
+ghost use Rattle.vk_host.specs.Entries.{is_built, is_built_call};
+ghost use Rattle.vk_host.specs.Stands.{Stands, IsEvent, is_at, is_own, is_done, opening_seats};
 ghost use Rattle.vk_host.specs.Tables.{Tables, is_seat, change_first, made_ready, collected};
 
 use crate::calls;
 use crate::event::{EventAnswer, StationEvent};
 use crate::queue::Queue;
-use crate::seat::{self, Seat, seat_of};
+use crate::seat::{self, Doing, Seat, seat_of};
 use arrayvec::ArrayVec;
 use std::alloc::Global;
 use std::marker::Model;
-use vk_base::{Config, NoMemory, Pid, ProcessSpec, State, StepList};
+use vk_base::{Call, Config, NoMemory, Pid, ProcessSpec, StepList};
 
 /// One station: its processes, their queues, and the steps of its last event.
 #[derive(Drop)]
@@ -48,28 +48,40 @@ impl Host {
         })
     }
 
-    /// One event. The answer and the steps are those that the event has in the kernel that the tables stand for; they
-    /// stand for the kernel after it then. Takes no memory.
+    /// One event. Takes no memory.
     pub fn event(&mut self, event: &StationEvent) -> EventAnswer
         requires few { self.old.events < 2 ^ 48 }
         requires own { is_own self.old event.now ≡ true }
         requires built { is_built event.now ≡ true }
-        ensures answer { (k : Kernel) → Stands self.old k → result ≡ answer_to k event.now }
-        ensures steps { (k : Kernel) → Stands self.old k → self.new.steps ≡ steps_of k event.now }
-        ensures allowed { (k : Kernel) → Stands self.old k → IsSome (run k (steps_of k event.now)) }
-        ensures stands { (k : Kernel) → Stands self.old k → Stands self.new (after_event k event.now) }
-        ensures events { self.new.events ≡ self.old.events + 1 }
-        ensures processes { (pid : ThePid) → is_at self.new pid ≡ is_at self.old pid }
+        ensures { IsEvent self.old self.new event.now result }
     {
-        self.events += 1;
-        self.steps.clear();
         match event {
-            StationEvent::Call { pid, call } => {
-                calls::call(&mut self.seats, &mut self.steps, *pid, call)
-            }
-            StationEvent::Collect { pid } => calls::collect(&mut self.seats, &mut self.steps, *pid),
+            StationEvent::Call { pid, call } => self.call(*pid, call),
+            StationEvent::Collect { pid } => self.collect(*pid),
             StationEvent::Tick | StationEvent::Deliver { .. } => unreachable!(),
         }
+    }
+
+    /// The event that the process makes the call. Takes no memory.
+    pub fn call(&mut self, pid: Pid, call: &Call) -> EventAnswer
+        requires few { self.old.events < 2 ^ 48 }
+        requires own { is_at self.old pid ≡ true }
+        requires built { is_built_call pid call.now ≡ true }
+        ensures { IsEvent self.old self.new (StationEvent.Call pid call.now) result }
+    {
+        self.events += 1;
+        calls::call(&mut self.seats, &mut self.steps, pid, call).answer()
+    }
+
+    /// The event that the process collects its answer. Takes no memory.
+    pub fn collect(&mut self, pid: Pid) -> EventAnswer
+        requires few { self.old.events < 2 ^ 48 }
+        requires own { is_at self.old pid ≡ true }
+        ensures { IsEvent self.old self.new (StationEvent.Collect pid) result }
+    {
+        self.events += 1;
+        let doing = calls::collect(&mut self.seats, &mut self.steps, pid);
+        calls::collect_answer(&doing)
     }
 
     /// The steps of the last event, in order.
@@ -92,7 +104,7 @@ impl Host {
         ensures { (k : Kernel) → Stands self.now k → result ≡ is_done k pid }
     {
         match seat_of(&self.seats, pid) {
-            Some(seat) => seat::is_done(&seat.state),
+            Some(seat) => seat::is_done(&seat.doing),
             None => false,
         }
     }
@@ -107,7 +119,7 @@ fn opening_seats(alloc: Global, specs: &[ProcessSpec], host: u16) -> Result<Vec<
         if spec.pid.host == host {
             seats.push(Seat {
                 pid: spec.pid,
-                state: State::Ready,
+                doing: Doing::Ready,
                 sends: 0,
                 taken: false,
                 queue: Queue::new(alloc)?,

@@ -3,18 +3,38 @@
 ghost use Rattle.std.specs.Prelude.{◌≡◌, ◌++◌, ◌∷◌, ◌+◌, [], Bool, true, false, is_some, find, option_copied, position, drop, if◌then◌else◌, min, ◌^◌, ◌-◌};
 ghost use Rattle.circular_buffer.specs.Buffer.{keep_last};
 ghost use Rattle.vk_base.specs.Kernel.{receiving, sending, is_ready, finished_call};
-ghost use Rattle.vk_host.specs.Tables.{is_seat, change_first, blocked, send_begun, enqueued, dequeued, marked_taken, done_with, made_ready, done_by, collected};
+ghost use Rattle.vk_host.specs.Tables.{is_seat, change_first, state_of, waiting, send_begun, enqueued, dequeued, marked_taken, received, replied, made_ready, replied_by, doing_in};
 
 use crate::queue::Queue;
-use std::mem;
-use vk_base::{Answer, Call, Message, Name, Pid, State};
+use vk_base::{Message, Name, Pid};
+
+/// What a process of the station does. It waits for a message, or for the reply to its Send; or it has received a message,
+/// or the reply to its Send, and has not collected it.
+#[derive(Clone, Copy)]
+pub enum Doing {
+    Ready,
+    Receiving,
+    Sending {
+        target: Pid,
+        message: Message,
+    },
+    Received {
+        from: Pid,
+        message: Message,
+    },
+    Replied {
+        target: Pid,
+        message: Message,
+        reply: Message,
+    },
+}
 
 /// A process of the station: what it does, how many Sends it has begun, whether its last Send's message was taken, and
 /// the messages that wait for it.
 #[derive(Drop)]
 pub struct Seat {
     pub pid: Pid,
-    pub state: State,
+    pub doing: Doing,
     pub sends: u64,
     pub taken: bool,
     pub queue: Queue,
@@ -32,42 +52,51 @@ fn place_of(seats: &[Seat], pid: Pid) -> Option<usize>
     seats.iter().position(|s| s.pid == pid)
 }
 
-pub fn is_ready(state: &State) -> bool
-    ensures { result ≡ is_ready state.now }
+pub fn is_ready(doing: &Doing) -> bool
+    ensures { result ≡ is_ready (state_of doing.now) }
 {
-    matches!(state, State::Ready)
+    matches!(doing, Doing::Ready)
 }
 
-pub fn is_receiving(state: &State) -> bool
-    ensures { result ≡ is_some (receiving state.now) }
+pub fn is_receiving(doing: &Doing) -> bool
+    ensures { result ≡ is_some (receiving (state_of doing.now)) }
 {
-    matches!(
-        state,
-        State::Blocked {
-            call: Call::Receive
-        }
-    )
+    matches!(doing, Doing::Receiving)
 }
 
 /// The target and the message of the Send in which a process is blocked.
-pub fn sending(state: &State) -> Option<(Pid, Message)>
-    ensures { result ≡ sending state.now }
+pub fn sending(doing: &Doing) -> Option<(Pid, Message)>
+    ensures { result ≡ sending (state_of doing.now) }
 {
-    match state {
-        State::Blocked {
-            call: Call::Send { target, message },
-        } => Some((*target, *message)),
+    match doing {
+        Doing::Sending { target, message } => Some((*target, *message)),
         _ => None,
     }
 }
 
-/// The process waits for the end of this call.
+pub fn is_done(doing: &Doing) -> bool
+    ensures { result ≡ is_some (finished_call (state_of doing.now)) }
+{
+    matches!(doing, Doing::Received { .. } | Doing::Replied { .. })
+}
+
+/// What a process of the station does; one that is not of the station does nothing.
+pub fn doing_of(seats: &[Seat], pid: Pid) -> Doing
+    ensures { result ≡ doing_in (find (is_seat pid) seats.now) }
+{
+    match seat_of(seats, pid) {
+        Some(seat) => seat.doing,
+        None => Doing::Ready,
+    }
+}
+
+/// The process waits for a message.
 #[tactic(auto, using(crate::proofs::Changes::changes))]
-pub fn block(seats: &mut [Seat], pid: Pid, call: Call)
-    ensures { seats.new ≡ change_first (is_seat pid) (blocked call) seats.old }
+pub fn wait_for_message(seats: &mut [Seat], pid: Pid)
+    ensures { seats.new ≡ change_first (is_seat pid) waiting seats.old }
 {
     if let Some(at) = place_of(seats, pid) {
-        seats[at].state = State::Blocked { call };
+        seats[at].doing = Doing::Receiving;
     }
 }
 
@@ -78,9 +107,7 @@ pub fn begin_send(seats: &mut [Seat], pid: Pid, target: Pid, message: Message)
 {
     if let Some(at) = place_of(seats, pid) {
         let seat = &mut seats[at];
-        seat.state = State::Blocked {
-            call: Call::Send { target, message },
-        };
+        seat.doing = Doing::Sending { target, message };
         seat.sends = seat.sends.saturating_add(1);
         seat.taken = false;
     }
@@ -116,34 +143,37 @@ pub fn mark_taken(seats: &mut [Seat], pid: Pid)
     }
 }
 
-/// The call in which the process is blocked ends with this answer.
+/// The process has received this message.
 #[tactic(auto, using(crate::proofs::Changes::changes))]
-pub fn finish(seats: &mut [Seat], pid: Pid, answer: Answer)
-    ensures { seats.new ≡ change_first (is_seat pid) (done_with answer) seats.old }
+pub fn receive(seats: &mut [Seat], pid: Pid, from: Pid, message: Message)
+    ensures { seats.new ≡ change_first (is_seat pid) (received from message) seats.old }
+{
+    if let Some(at) = place_of(seats, pid) {
+        seats[at].doing = Doing::Received { from, message };
+    }
+}
+
+/// The process has the reply to the Send in which it is blocked.
+#[tactic(auto, using(crate::proofs::Changes::changes))]
+pub fn take_reply(seats: &mut [Seat], pid: Pid, reply: Message)
+    ensures { seats.new ≡ change_first (is_seat pid) (replied reply) seats.old }
 {
     if let Some(at) = place_of(seats, pid) {
         let seat = &mut seats[at];
-        let state = mem::replace(&mut seat.state, State::Ready);
-        seat.state = done_by(state, answer);
+        seat.doing = replied_by(&seat.doing, reply);
     }
 }
 
-fn done_by(state: State, answer: Answer) -> State
-    ensures { result ≡ done_by state answer }
+fn replied_by(doing: &Doing, reply: Message) -> Doing
+    ensures { result ≡ replied_by doing.now reply }
 {
-    match state {
-        State::Blocked { call } => State::Done { call, answer },
-        state => state,
-    }
-}
-
-/// The answer that a process has to collect.
-pub fn collected(seats: &[Seat], pid: Pid) -> Option<Answer>
-    ensures { result ≡ collected seats.now pid }
-{
-    match &seat_of(seats, pid)?.state {
-        State::Done { answer, .. } => Some(answer.copy()),
-        _ => None,
+    match *doing {
+        Doing::Sending { target, message } => Doing::Replied {
+            target,
+            message,
+            reply,
+        },
+        other => other,
     }
 }
 
@@ -153,12 +183,6 @@ pub fn make_ready(seats: &mut [Seat], pid: Pid)
     ensures { seats.new ≡ change_first (is_seat pid) made_ready seats.old }
 {
     if let Some(at) = place_of(seats, pid) {
-        seats[at].state = State::Ready;
+        seats[at].doing = Doing::Ready;
     }
-}
-
-pub fn is_done(state: &State) -> bool
-    ensures { result ≡ is_some (finished_call state.now) }
-{
-    matches!(state, State::Done { .. })
 }

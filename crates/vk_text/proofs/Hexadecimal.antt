@@ -28,7 +28,7 @@ unhexed_is word out n r lower half h ok len =
     let zeros : drop {A = ℕ} (length word / 2) (replicate 32 0) ≡ replicate (32 - length out) 0 = drop-replicate (length word / 2) 32 0 ∙ ap (λ n. replicate (32 - n) 0) (sym len) in
     rw (lower, whole, zeros) refl
 
-ok_of : (d : Result (List ℕ) FromHexError) (bytes : List ℕ) → result_ok d ≡ Some bytes → d ≡ Ok bytes
+pub ok_of : (d : Result (List ℕ) FromHexError) (bytes : List ℕ) → result_ok d ≡ Some bytes → d ≡ Ok bytes
 ok_of (Ok bs) bytes h = ap Ok (ap (λ (o : Option (List ℕ)). elim o [ None ↦ bytes | Some x ↦ x ]) h)
 ok_of (Err e) bytes h = cc
 
@@ -41,10 +41,10 @@ pub two_a_byte : (word bytes : List ℕ) → lower_hex word ≡ Some bytes → l
 two_a_byte word bytes h = by_lower (list_all is_lower_hex word) word bytes h
 
 -- the message of these bytes, where a message has them
-shown : List ℕ → Option Message
+unfoldable pub shown : List ℕ → Option Message
 shown bytes = if nat_le (length bytes) 32 && ends_filled bytes then Some (padded bytes) else None
 
-no_dash : (word : List ℕ) → bytes_eq word (codes "-") ≡ false → message_of word ≡ (lower_hex word >>= shown)
+pub no_dash : (word : List ℕ) → bytes_eq word (codes "-") ≡ false → message_of word ≡ (lower_hex word >>= shown)
 unfolding message_of shown
 no_dash word h = cond-false _ _ _ h
 

@@ -1,4 +1,9 @@
 pub mod Firsts
+pub mod Fronts
+pub mod HexDigits
 pub mod Hexadecimal
+pub mod Messages
 pub mod Numerals
 pub mod Parts
+pub mod ReadBack
+pub mod Spelled

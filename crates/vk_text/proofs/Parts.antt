@@ -63,11 +63,11 @@ pub line_last : (text rest line : List ℕ) (at : ℕ) → rest ≡ drop at text
 line_last text rest line at whole front some past =
     line_at text rest line at whole front some ∙ ap (λ l. line ∷ l) (lines_behind text (at + length line + 1) (omega arith) ∙ sym (lines_behind text (at + length line) past))
 
-words_behind : (line : List ℕ) (at : ℕ) → length line < at → words_from line at ≡ []
+pub words_behind : (line : List ℕ) (at : ℕ) → length line < at → words_from line at ≡ []
 unfolding words_from
 words_behind line at h = cond-true _ _ _ (lt-ltb (length line) at h)
 
-words_within : (line : List ℕ) (at : ℕ) → at ≤ length line → words_from line at ≡ slice_split (λ b. b == 32) (drop at line)
+pub words_within : (line : List ℕ) (at : ℕ) → at ≤ length line → words_from line at ≡ slice_split (λ b. b == 32) (drop at line)
 unfolding words_from
 words_within line at h = cond-false _ _ _ (le-ltb (length line) at h)
 

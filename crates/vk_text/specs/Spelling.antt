@@ -1,5 +1,5 @@
 -- How values are spelled.
-use Rattle.std.specs.Prelude.{ℕ, ◌-◌, ◌==◌, List, [], ◌∷◌, ◌++◌, length, take, decimal, codes}
+use Rattle.std.specs.Prelude.{◌≡◌, ℕ, ◌-◌, ◌==◌, List, [], ◌∷◌, ◌++◌, length, take, decimal, codes}
 use Rattle.std.specs.List.{suffix_len}
 use Rattle.hex.specs.Hex.{encode_lower}
 use Rattle.vk_base.specs.declared.call.Call.{Call}
@@ -8,6 +8,10 @@ use Rattle.vk_base.specs.declared.call.Scope.{Scope}
 use Rattle.vk_base.specs.declared.call.Scope.TheVariants as scopes
 use Rattle.vk_base.specs.declared.message.Message.{Message}
 use Rattle.vk_base.specs.declared.pid.Pid.{Pid}
+
+-- the text begins with this front
+abbrev pub Begins : List ℕ → List ℕ → Type 0
+Begins front text = take (length front) text ≡ front
 
 -- a text and more words, each behind a space
 abbrev pub spaced : List ℕ → List (List ℕ) → List ℕ

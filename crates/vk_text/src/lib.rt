@@ -5,13 +5,19 @@
 #![tactic(auto)]
 
 mod call;
+mod law;
 mod line;
 mod spelling;
 #[cfg(test)]
 mod tests;
 mod word;
+mod writing;
 
 pub use call::{is_end, read_call};
+pub use law::{words_are_spelled_once, written_is_read};
 pub use line::{next_line, next_word};
-pub use spelling::{put_bytes, put_call, put_message, put_number, put_pid};
+pub use spelling::{put, put_bytes, put_message, put_number};
 pub use word::{message, number, pid};
+pub use writing::{
+    put_call, put_pid, write_bytes, write_call, write_message, write_number, write_pid, write_word,
+};

@@ -1,0 +1,246 @@
+use std::alloc::{AllocError, Global};
+use std::test::Fail;
+use vk_base::{Config, ConfigRefusal, Memory, Pid, ProcessSpec, Times};
+use vk_io::{MemorySink, MemorySource, Sink, Source};
+use vk_top::{Status, vkernel};
+
+/// An input of `replay`, what must be written, and the status.
+struct Row {
+    name: &'static str,
+    input: &'static str,
+    output: &'static str,
+    status: Status,
+}
+
+const PING: &str = "vkernel 1
+process 1.1 64
+process 1.2 64
+call 1.2 receive
+call 1.1 send 1.2 0a
+collect 1.2
+call 1.2 reply 0b 1.1
+collect 1.1
+";
+
+const PING_REPORT: &str = "vkernel report 1
+1 1:1 begun
+step call 1.2 receive
+2 1:2 begun
+step call 1.1 send 1.2 0a
+step take 1.2
+3 1:3 ok 1.1 0a
+step collect 1.2
+4 1:4 ok
+step call 1.2 reply 0b 1.1
+step finish 1.1
+5 1:5 ok 0b
+step collect 1.1
+end 5 7 0
+";
+
+const ROWS: [Row; 9] = [
+    Row {
+        name: "a message and its reply",
+        input: PING,
+        output: PING_REPORT,
+        status: Status::Done,
+    },
+    Row {
+        name: "no process",
+        input: "vkernel 1\n",
+        output: "vkernel report 1\nend 0 0 0\n",
+        status: Status::Done,
+    },
+    Row {
+        name: "no line feed at the end",
+        input: "vkernel 1",
+        output: "vkernel report 1\nend 0 0 0\n",
+        status: Status::Done,
+    },
+    Row {
+        name: "no input",
+        input: "",
+        output: "",
+        status: Status::BadInput { line: 1 },
+    },
+    Row {
+        name: "refusals",
+        input: "vkernel 1
+process 1.1 0
+call 1.1 reply 0b 1.1
+call 1.1 send 1.9 0a
+call 1.1 receive
+call 1.1 receive
+collect 1.1
+",
+        output: "vkernel report 1
+1 1:1 notawaiting
+step call 1.1 reply 0b 1.1
+2 1:2 noprocess
+step call 1.1 send 1.9 0a
+3 1:3 begun
+step call 1.1 receive
+4 1:4 busy
+step call 1.1 receive
+5 1:5 notyet
+end 5 4 0
+",
+        status: Status::Done,
+    },
+    Row {
+        name: "a reply to a process of another station",
+        input: "vkernel 1\nprocess 1.1 0\ncall 1.1 reply 0b 2.1\n",
+        output: "vkernel report 1
+1 1:1 notawaiting
+step call 1.1 reply 0b 2.1
+end 1 1 0
+",
+        status: Status::Done,
+    },
+    Row {
+        name: "a queue, served in order of arrival, and a sender that waits for itself",
+        input: "vkernel 1
+process 3.1 0
+process 3.2 0
+process 3.3 0
+call 3.3 send 3.1 03
+call 3.2 send 3.1 02
+call 3.1 receive
+collect 3.1
+call 3.1 reply - 3.2
+call 3.1 reply 3333 3.3
+call 3.1 receive
+collect 3.1
+call 3.1 send 3.1 01
+collect 3.1
+collect 3.3
+",
+        output: "vkernel report 1
+1 3:1 begun
+step call 3.3 send 3.1 03
+2 3:2 begun
+step call 3.2 send 3.1 02
+3 3:3 begun
+step call 3.1 receive
+step take 3.1
+4 3:4 ok 3.3 03
+step collect 3.1
+5 3:5 notawaiting
+step call 3.1 reply - 3.2
+6 3:6 ok
+step call 3.1 reply 3333 3.3
+step finish 3.3
+7 3:7 begun
+step call 3.1 receive
+step take 3.1
+8 3:8 ok 3.2 02
+step collect 3.1
+9 3:9 begun
+step call 3.1 send 3.1 01
+10 3:10 notyet
+11 3:11 ok 3333
+step collect 3.3
+end 11 13 0
+",
+        status: Status::Done,
+    },
+    Row {
+        name: "a process that is not there",
+        input: "vkernel 1\nprocess 1.1 64\nprocess 1.2 64\ncollect 1.3\ncollect 1.1\n",
+        output: "",
+        status: Status::BadInput { line: 4 },
+    },
+    Row {
+        name: "a form that is not built",
+        input: "vkernel 1\nprocess 1.1 64\ncollect 1.1\ntick 1\n",
+        output: "",
+        status: Status::BadInput { line: 4 },
+    },
+];
+
+/// Calls the top call over the input, of which the reads and writes of these numbers fail, with few bytes a call.
+fn replay(
+    alloc: Global,
+    input: &str,
+    failing_reads: &[u64],
+    failing_writes: &[u64],
+) -> Result<(Status, MemorySink), AllocError> {
+    let mut words = Vec::new(alloc);
+    words.push(String::from_str(alloc, "replay")?)?;
+    let bytes = Vec::from_slice(alloc, input.as_bytes())?;
+    let mut source = MemorySource::new(bytes, Vec::from_slice(alloc, failing_reads)?, 7);
+    let mut sink = MemorySink::new(alloc, Vec::from_slice(alloc, failing_writes)?, 5);
+    let status = vkernel(alloc, &words, &mut source, &mut sink);
+    Ok((status, sink))
+}
+
+#[test]
+fn schedules(rt: HostRuntime) -> Result<(), Fail> {
+    for row in &ROWS {
+        let (status, sink) = replay(rt.alloc(), row.input, &[], &[])?;
+        assert_eq!(rt; status, row.status, "{}", row.name);
+        assert_eq!(rt; sink.written(), row.output.as_bytes(), "{}", row.name);
+    }
+    Ok(())
+}
+
+#[test]
+fn faults(rt: HostRuntime) -> Result<(), Fail> {
+    let (status, sink) = replay(rt.alloc(), PING, &[1], &[])?;
+    assert_eq!(rt; status, Status::ReadFault);
+    assert_eq!(rt; sink.written().len(), 0);
+    let (status, sink) = replay(rt.alloc(), PING, &[9], &[])?;
+    assert_eq!(rt; status, Status::ReadFault);
+    assert_eq!(rt; sink.written().len(), 0);
+    let (status, sink) = replay(rt.alloc(), PING, &[], &[1])?;
+    assert_eq!(rt; status, Status::WriteFault);
+    assert_eq!(rt; sink.written().len(), 0);
+    let (status, sink) = replay(rt.alloc(), PING, &[], &[4])?;
+    assert_eq!(rt; status, Status::WriteFault);
+    assert_eq!(rt; sink.written(), &PING_REPORT.as_bytes()[..15]);
+    Ok(())
+}
+
+#[test]
+fn words_and_statuses(rt: HostRuntime) -> Result<(), Fail> {
+    let alloc = rt.alloc();
+    let mut source = MemorySource::new(Vec::from_slice(alloc, b"vkernel 1")?, Vec::new(alloc), 7);
+    let mut sink = MemorySink::new(alloc, Vec::new(alloc), 5);
+    let mut words = Vec::new(alloc);
+    assert_eq!(rt; vkernel(alloc, &words, &mut source, &mut sink), Status::Usage);
+    words.push(String::from_str(alloc, "replay")?)?;
+    words.push(String::from_str(alloc, "replay")?)?;
+    assert_eq!(rt; vkernel(alloc, &words, &mut source, &mut sink), Status::Usage);
+    assert_eq!(rt; Status::BadInput { line: 4 }.text().as_slice(), b"vkernel: line 4 is not valid".as_slice());
+    assert_eq!(rt; Status::BadInput { line: 4 }.number(), 3);
+    Ok(())
+}
+
+#[test]
+fn configurations(rt: HostRuntime) -> Result<(), Fail> {
+    let alloc = rt.alloc();
+    let times = Times {
+        tries: 5,
+        interval: 4,
+        life: 8,
+    };
+    let mut specs = Vec::new(alloc);
+    for host in 1..18u16 {
+        let pid = Pid::new(host, 1).ok_or("no pid")?;
+        specs.push(ProcessSpec { pid, size: 64 })?;
+    }
+    assert!(rt; matches!(
+        Config::new(alloc, times, 16, &specs),
+        Err(ConfigRefusal::TooMany { index: 16 })
+    ));
+    specs.truncate(16);
+    match Config::new(alloc, times, 16, &specs) {
+        Ok(config) => {
+            assert_eq!(rt; config.station_count(), 16);
+            assert!(rt; config.copy(alloc).is_ok());
+        }
+        Err(_) => assert!(rt; false, "a lawful configuration"),
+    }
+    assert!(rt; Memory::new(alloc, 131_072).is_ok());
+    Ok(())
+}

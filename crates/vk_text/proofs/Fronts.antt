@@ -1,0 +1,15 @@
+-- Texts that are written on.
+use Rattle.std.proofs.Common.{◌≡◌, ℕ, List, [], ◌∷◌, ◌++◌, length, take, drop, refl, ap, sym, ◌∙◌, append_assoc}
+use Rattle.std.proofs.lemmas.List.{take-append-drop, take_at}
+use Rattle.vk_text.specs.Spelling.{spaced}
+
+-- what begins with a longer front begins with the shorter one
+pub front_before : (a x b c : List ℕ) → b ≡ a ++ x → take (length b) c ≡ b → take (length a) c ≡ a
+front_before a x b c e h =
+    let whole : c ≡ a ++ (x ++ drop (length b) c) = sym (take-append-drop (length b) c) ∙ ap (λ l. l ++ drop (length b) c) (h ∙ e) ∙ append_assoc a x (drop (length b) c) in
+    ap (take (length a)) whole ∙ take_at a (x ++ drop (length b) c) (length a) refl
+
+-- words behind a text that stands behind another
+pub spaced_behind : (front text : List ℕ) (words : List (List ℕ)) → spaced (front ++ text) words ≡ front ++ spaced text words
+spaced_behind front text [] = refl
+spaced_behind front text (w ∷ ws) = ap (λ t. spaced t ws) (append_assoc front text (32 ∷ w)) ∙ spaced_behind front (text ++ 32 ∷ w) ws

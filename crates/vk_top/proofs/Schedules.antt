@@ -1,0 +1,150 @@
+-- What a lawful schedule gives the station that plays it.
+use Rattle.std.proofs.Common.{◌≡◌, ℕ, ◌==◌, ◌&&◌, ◌||◌, Bool, true, false, List, [], ◌∷◌, map, Some, None, refl, ap, sym, ◌∙◌, subst}
+use Rattle.std.proofs.lemmas.Bool.{and_from, and_parts, eq-eqb, eqb-true}
+use Rattle.std.proofs.lemmas.List.Folds.{list_all-map}
+use Rattle.std.specs.List.{list_all}
+use Rattle.std.specs.Prelude.{slice_get}
+use Rattle.vk_base.specs.declared.call.Call.{Call}
+use Rattle.vk_base.specs.declared.call.Call.TheVariants as calls
+use Rattle.vk_base.specs.declared.config.ProcessSpec.{ProcessSpec}
+use Rattle.vk_base.specs.declared.message.Message.{Message}
+use Rattle.vk_base.specs.declared.pid.Pid.{Pid}
+use Rattle.vk_base.specs.Messages.{segment_of}
+use Rattle.vk_base.specs.Settings.{has_process, has_station, is_process}
+use Rattle.vk_event.proofs.Short.{short_start, short_len}
+use Rattle.vk_event.specs.declared.event.Event.{Event}
+use Rattle.vk_event.specs.declared.event.Event.TheVariants as scheduled
+use Rattle.vk_event.specs.declared.schedule.Schedule.{Schedule}
+use Rattle.vk_event.specs.Forms as forms
+use Rattle.vk_event.specs.Lawful.{is_lawful_event, is_one_station, IsLawful}
+use Rattle.vk_host.proofs.Histories.{history_is_run}
+use Rattle.vk_host.specs.Entries.{grants_nothing, history_of, is_built, is_built_call, is_lawful, IsRunOf}
+use Rattle.vk_host.specs.Stands.{is_at, is_own}
+use Rattle.vk_host.specs.Tables.{Tables}
+use Rattle.vk_top.specs.Report.{end_line, history_of_schedule, report_from, station_event, station_of}
+
+-- what follows at each element
+pub list_all-weaker : {X : Type 0} (p q : X → Bool) → ((x : X) → p x ≡ true → q x ≡ true) → (xs : List X) → list_all p xs ≡ true → list_all q xs ≡ true
+list_all-weaker p q weaker [] h = refl
+list_all-weaker p q weaker (x ∷ xs) h = and_from _ _ (weaker x (and_parts _ _ h).0) (list_all-weaker p q weaker xs (and_parts _ _ h).1)
+
+grants_nothing-short : (m : Message) → forms.is_short m ≡ true → grants_nothing m ≡ true
+grants_nothing-short m short = rw (short_start m short, short_len m short) refl
+
+same_number : (n : ℕ) → (n == n) ≡ true
+same_number n = eq-eqb n n refl
+
+same_through : (a b c : ℕ) → (a == b) ≡ true → (a == c) ≡ true → (b == c) ≡ true
+same_through a b c h k = eq-eqb b c (sym (eqb-true a b h) ∙ eqb-true a c k)
+
+either_way : (a b c : Bool) → (a ≡ true → c ≡ true) → (b ≡ true → c ≡ true) → (a || b) ≡ true → c ≡ true
+either_way true b c left right h = left refl
+either_way false b c left right h = right h
+
+same_sym : (m n : ℕ) → (m == n) ≡ true → (n == m) ≡ true
+same_sym m n h = eq-eqb n m (sym (eqb-true m n h))
+
+built_call : (pid : Pid) (c : Call) → forms.is_built_call pid c ≡ true → is_built_call pid c ≡ true
+built_call pid (calls.Send target m) h = and_from _ _ (same_sym _ _ (and_parts _ _ h).0) (grants_nothing-short m (and_parts _ _ h).1)
+built_call pid calls.Receive h = refl
+built_call pid (calls.ReceiveSegment start count) h = h
+built_call pid (calls.Reply m to) h = refl
+built_call pid (calls.ReplySegment m to dest src count) h = h
+built_call pid (calls.MoveTo partner dest src count) h = h
+built_call pid (calls.MoveFrom partner dest src count) h = h
+built_call pid (calls.SetPid logical p scope) h = h
+built_call pid (calls.GetPid logical scope) h = h
+built_call pid (calls.Load start count) h = h
+built_call pid (calls.Store start bytes) h = h
+built_call pid calls.Exit h = h
+
+-- a lawful event of a schedule is one at its station
+pub lawful_event : (specs : List ProcessSpec) (e : Event) → is_lawful_event specs e ≡ true → is_lawful specs (station_event e) ≡ true
+lawful_event specs (scheduled.Call pid c) h = and_from _ _ (and_parts _ _ h).0 (built_call pid c (and_parts _ _ h).1)
+lawful_event specs (scheduled.Collect pid) h = (and_parts _ _ h).0
+lawful_event specs (scheduled.Tick host) h = (and_parts _ _ h).1
+lawful_event specs (scheduled.Deliver to from event output) h = (and_parts _ _ h).1
+
+pub built_event : (specs : List ProcessSpec) (e : Event) → is_lawful_event specs e ≡ true → is_built (station_event e) ≡ true
+built_event specs (scheduled.Call pid c) h = built_call pid c (and_parts _ _ h).1
+built_event specs (scheduled.Collect pid) h = refl
+built_event specs (scheduled.Tick host) h = (and_parts _ _ h).1
+built_event specs (scheduled.Deliver to from event output) h = (and_parts _ _ h).1
+
+-- the steps of a lawful schedule's history are a run
+pub schedule_is_run : (s : Schedule) → IsLawful s → IsRunOf s.config.specs (map station_event s.events)
+schedule_is_run s lawful =
+    history_is_run s.config.specs (map station_event s.events)
+    (list_all-map (is_lawful s.config.specs) station_event s.events ∙ list_all-weaker _ _ (lawful_event s.config.specs) s.events lawful.events)
+
+pub all_built : (s : Schedule) → IsLawful s → list_all (λ e. is_built (station_event e)) s.events ≡ true
+all_built s lawful = list_all-weaker _ _ (built_event s.config.specs) s.events lawful.events
+
+-- The station is that of the first process.
+
+first_host : (specs : List ProcessSpec) (s : ProcessSpec) → Some s ≡ slice_get specs 0 → station_of specs ≡ s.pid.host
+first_host [] s h = absurd (cc)
+first_host (t ∷ ts) s h = let same : s ≡ t = cc in ap (λ (x : ProcessSpec). x.pid.host) (sym same)
+
+pub station_of-first : (seen specs : List ProcessSpec) (s : ProcessSpec) → seen ≡ specs → Some s ≡ slice_get seen 0 → station_of specs ≡ s.pid.host
+station_of-first seen specs s same h = first_host specs s (h ∙ ap (λ xs. slice_get xs 0) same)
+
+first_station : (specs : List ProcessSpec) (s : ProcessSpec) → Some s ≡ slice_get specs 0 → has_station specs s.pid.host ≡ true
+first_station [] s h = absurd (cc)
+first_station (t ∷ ts) s h = let same : s ≡ t = cc in rw same (rw (same_number t.pid.host) refl)
+
+pub has_station-first : (seen specs : List ProcessSpec) (s : ProcessSpec) → seen ≡ specs → Some s ≡ slice_get seen 0 → has_station specs s.pid.host ≡ true
+has_station-first seen specs s same h = first_station specs s (h ∙ ap (λ xs. slice_get xs 0) same)
+
+-- where there is no process, there is no event
+no_event : (events : List Event) → list_all (is_lawful_event []) events ≡ true → events ≡ []
+no_event [] h = refl
+no_event (scheduled.Call pid c ∷ es) h = absurd (cc)
+no_event (scheduled.Collect pid ∷ es) h = absurd (cc)
+no_event (scheduled.Tick host ∷ es) h = absurd (cc)
+no_event (scheduled.Deliver to from event output ∷ es) h = absurd (cc)
+
+no_process : (specs : List ProcessSpec) → None ≡ slice_get specs 0 → specs ≡ []
+no_process [] h = refl
+no_process (s ∷ ss) h = absurd (cc)
+
+end_alone : (specs : List ProcessSpec) (events : List Event) → specs ≡ [] → list_all (is_lawful_event specs) events ≡ true
+    → end_line 0 0 ≡ report_from (station_of specs) 0 0 (history_of specs (map station_event events))
+end_alone specs events none h =
+    let P : List ProcessSpec → Type 0 = λ xs. list_all (is_lawful_event xs) events ≡ true in
+    let gone : events ≡ [] = no_event events (subst P none h) in
+    ap (λ es. report_from (station_of specs) 0 0 (history_of specs (map station_event es))) (sym gone)
+
+pub report-no_process : (seen : List ProcessSpec) (s : Schedule) → seen ≡ s.config.specs → None ≡ slice_get seen 0 → IsLawful s
+    → end_line 0 0 ≡ report_from (station_of s.config.specs) 0 0 (history_of_schedule s)
+report-no_process seen s same h lawful = end_alone s.config.specs s.events (no_process s.config.specs (h ∙ ap (λ xs. slice_get xs 0) same)) lawful.events
+
+-- a process is on the station of all processes
+on_station : (host : ℕ) (pid : Pid) (specs : List ProcessSpec) → list_all (λ (t : ProcessSpec). t.pid.host == host) specs ≡ true → has_process specs pid ≡ true → (pid.host == host) ≡ true
+on_station host pid [] all has = absurd (cc)
+on_station host pid (s ∷ ss) all has =
+    let rest = on_station host pid ss (and_parts _ _ all).1 in
+    either_way (is_process pid s) (has_process ss pid) (pid.host == host) (λ h. same_through s.pid.host pid.host host (and_parts _ _ h).0 (and_parts _ _ all).0) rest has
+
+is_at-first : (specs : List ProcessSpec) (t : Tables) (host : ℕ) (pid : Pid) → list_all (λ (s : ProcessSpec). s.pid.host == host) specs ≡ true
+    → is_at t pid ≡ (pid.host == host && has_process specs pid) → has_process specs pid ≡ true → is_at t pid ≡ true
+is_at-first specs t host pid one is has = is ∙ and_from _ _ (on_station host pid specs one has) has
+
+own_event : (specs : List ProcessSpec) (t : Tables) (host : ℕ) → list_all (λ (s : ProcessSpec). s.pid.host == host) specs ≡ true
+    → ((pid : Pid) → is_at t pid ≡ (pid.host == host && has_process specs pid)) → (e : Event) → is_lawful_event specs e ≡ true → is_own t (station_event e) ≡ true
+own_event specs t host one is (scheduled.Call pid c) h = is_at-first specs t host pid one (is pid) (and_parts _ _ h).0
+own_event specs t host one is (scheduled.Collect pid) h = is_at-first specs t host pid one (is pid) (and_parts _ _ h).0
+own_event specs t host one is (scheduled.Tick other) h = refl
+own_event specs t host one is (scheduled.Deliver to from event output) h = refl
+
+one_host : (specs : List ProcessSpec) → is_one_station specs ≡ true → list_all (λ (t : ProcessSpec). t.pid.host == station_of specs) specs ≡ true
+one_host [] one = refl
+one_host (s ∷ ss) one = and_from _ _ (same_number s.pid.host) one
+
+-- every event is one of this station
+pub all_own : (s : Schedule) (t : Tables) (host : ℕ) → IsLawful s → station_of s.config.specs ≡ host
+    → ((pid : Pid) → is_at t pid ≡ (pid.host == host && has_process s.config.specs pid))
+    → list_all (λ e. is_own t (station_event e)) s.events ≡ true
+all_own s t host lawful first is =
+    let P : ℕ → Type 0 = λ h. list_all (λ (p : ProcessSpec). p.pid.host == h) s.config.specs ≡ true in
+    list_all-weaker _ _ (own_event s.config.specs t host (subst P first (one_host s.config.specs lawful.station)) is) s.events lawful.events

@@ -1,0 +1,41 @@
+use Rattle.std.proofs.Common.{ℕ, ◌≡◌, ◌++◌, ◌≤◌, Bool, true, List, length, map, ap, sym, ◌∙◌, subst}
+use Rattle.std.proofs.lemmas.Result.{on_ok_weaker}
+use Rattle.std.specs.Option.{option_copied}
+use Rattle.vk_base.specs.Kernel.{opening}
+use Rattle.vk_event.specs.declared.event.Event.{Event}
+use Rattle.vk_host.specs.Entries.{history_of, is_built}
+use Rattle.vk_host.specs.Stands.{is_own}
+use Rattle.vk_top.proofs.Schedules.{report-no_process, station_of-first, has_station-first, all_built, all_own}
+use Rattle.vk_top.specs.Report.{report_from, station_event, station_of}
+use Rattle.vk_top.proofs.replay.put_history.Goals as goal
+
+pub returns-in_default : goal.returns-in_default
+returns-in_default c =
+    on_ok_weaker c.put_end.result
+    (λ written. written ∙ ap (λ r. c.args.text.now.items ++ r) (report-no_process c.specs.result.now c.args.schedule.now c.specs.ensures.specs (ap option_copied (sym c.in_default.is) ∙ c.first.ensures.value) c.requires))
+    c.put_end.ensures
+
+pub new-requires : goal.new-requires
+new-requires c = has_station-first c.specs.result.now c.args.schedule.now.config.specs c.in-Some.first.now c.specs.ensures.specs c.in-Some.ensures.value
+
+pub put_events-requires : goal.put_events-requires
+put_events-requires c =
+    let s = c.args.schedule.now in
+    let same : c.as_slice.result.now ≡ s.events = c.as_slice.ensures in
+    let first = station_of-first c.specs.result.now s.config.specs c.in-Some.first.now c.specs.ensures.specs c.in-Some.ensures.value in
+    record {
+      few = rw same c.requires.few;
+      first = c.in_ok-station.ensures.start.0;
+      own = rw same (all_own s c.in_ok-station.station _ c.requires first c.in_ok-station.ensures.processes);
+      built = rw same (all_built s c.requires);
+    }
+
+pub returns : goal.returns
+returns c =
+    let s = c.args.schedule.now in
+    let first = station_of-first c.specs.result.now s.config.specs c.in-Some.first.now c.specs.ensures.specs c.in-Some.ensures.value in
+    on_ok_weaker c.put_events.result
+    (λ written. written (opening s.config.specs) c.in_ok-station.ensures.stands
+      ∙ ap (λ es. c.args.text.now.items ++ report_from c.in-Some.first.now.pid.host 0 0 (history_of s.config.specs (map station_event es))) c.as_slice.ensures
+      ∙ ap (λ h. c.args.text.now.items ++ report_from h 0 0 (history_of s.config.specs (map station_event s.events))) (sym first))
+    c.put_events.ensures

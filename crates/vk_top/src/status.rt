@@ -1,0 +1,92 @@
+ghost use Rattle.std.specs.Prelude.{◌≡◌, ◌≤◌, ◌+◌, ◌++◌, length, codes, decimal};
+
+use arrayvec::ArrayVec;
+use itoa::Buffer;
+
+/// The greatest number of bytes of a status's text.
+const MOST: usize = 96;
+
+/// What a call of the program ended with.
+#[derive(Clone, Copy, Debug, PartialEq, Eq)]
+pub enum Status {
+    /// All was read and written.
+    Done,
+    /// The words ask for nothing that the program does.
+    Usage,
+    /// This line, counted from 1, is the first that is not valid.
+    BadInput { line: u64 },
+    /// A read failed.
+    ReadFault,
+    /// A write failed, or the flush did.
+    WriteFault,
+    /// There was no memory for the work.
+    NoMemory,
+    /// The input, or what it asks for, is too large.
+    Limit,
+}
+
+impl Status {
+    ghost use Rattle.vk_top.specs.Statuses.{number_of, text_of};
+
+    /// The status with which the program exits: 0 for `Done`, 2 to 8 for the others.
+    pub fn number(&self) -> u8
+        ensures { result ≡ number_of self.now }
+    {
+        match self {
+            Status::Done => 0,
+            Status::Usage => 2,
+            Status::BadInput { .. } => 3,
+            Status::ReadFault => 4,
+            Status::WriteFault => 5,
+            Status::NoMemory => 6,
+            Status::Limit => 8,
+        }
+    }
+
+    /// What the program tells of it, without a line feed. `Done` has no text. Takes no memory.
+    pub fn text(&self) -> ArrayVec<u8, 96>
+        ensures { result.items ≡ text_of self.now }
+    {
+        match *self {
+            Status::Done => ArrayVec::new(),
+            Status::Usage => {
+                words(b"vkernel: usage: vkernel replay [--trace] | check | run | storm N")
+            }
+            Status::BadInput { line } => line_text(line),
+            Status::ReadFault => words(b"vkernel: reading failed"),
+            Status::WriteFault => words(b"vkernel: writing failed"),
+            Status::NoMemory => words(b"vkernel: out of memory"),
+            Status::Limit => words(b"vkernel: limit reached"),
+        }
+    }
+}
+
+fn put(text: &mut ArrayVec<u8, MOST>, bytes: &[u8])
+    requires { length text.old.items + length bytes.now ≤ 96 }
+    ensures { text.new.items ≡ text.old.items ++ bytes.now }
+{
+    match text.try_extend_from_slice(bytes) {
+        Ok(()) => {}
+        Err(_) => unreachable!(),
+    }
+}
+
+/// A text of these bytes.
+fn words(bytes: &[u8]) -> ArrayVec<u8, MOST>
+    requires { length bytes.now ≤ 96 }
+    ensures { result.items ≡ bytes.now }
+{
+    let mut text = ArrayVec::new();
+    put(&mut text, bytes);
+    text
+}
+
+fn line_text(line: u64) -> ArrayVec<u8, MOST>
+    ensures { result.items ≡ codes "vkernel: line " ++ decimal line ++ codes " is not valid" }
+{
+    let mut text = words(b"vkernel: line ");
+    let mut buffer = Buffer::new();
+    put(&mut text, buffer.format(line).as_bytes());
+    put(&mut text, b" is not valid");
+    text
+}
