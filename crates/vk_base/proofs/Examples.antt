@@ -1,5 +1,5 @@
 -- The definitions, tried: these steps are runs with these observations, and these are not.
-use Rattle.std.proofs.Common.{◌≡◌, ℕ, List, [], ◌∷◌, Option, Some, None, replicate, refl, lit<, Bool, true, false}
+use Rattle.std.proofs.Common.{◌≡◌, ℕ, List, [], ◌∷◌, Option, Some, None, replicate, refl, lit<}
 use Rattle.std.specs.Prelude.{option_map}
 use Rattle.vk_base.specs.declared.answer.Answer.{Answer}
 use Rattle.vk_base.specs.declared.answer.Answer.TheVariants as answers
@@ -12,7 +12,7 @@ use Rattle.vk_base.specs.declared.message.Message.{Message}
 use Rattle.vk_base.specs.declared.pid.Pid.{Pid}
 use Rattle.vk_base.specs.declared.step.Step.{Step}
 use Rattle.vk_base.specs.declared.step.Step.TheVariants as steps
-use Rattle.vk_base.specs.Kernel.{Kernel, Run, opening, run, put_process, put_exchange, queue_of, held, held_up_to, call_refusal, sent, taking, finishing, collecting}
+use Rattle.vk_base.specs.Kernel.{Run, opening, run, put_process, put_exchange, queue_of, held, held_up_to, call_refusal, sent, taking, finishing, collecting}
 
 server : Pid
 server = record { host = 1; local = 2; some_host = lit< tt; one_host = lit< tt; some_local = lit< tt }

@@ -1,5 +1,6 @@
 pub mod Kernel
 pub mod Messages
+pub mod Options
 pub mod Pids
 pub mod Ranges
 pub mod Settings

@@ -1,10 +1,11 @@
 -- The text of a schedule.
 use Rattle.std.specs.Prelude.{ℕ, ◌+◌, ◌==◌, ◌&&◌, nat_lt, is_none, List, [], ◌∷◌, ◌++◌, length, codes, bytes_eq, Option, Some, None, Result, Ok, Err, if◌then◌else◌}
+use Rattle.vk_base.specs.Options.{◌>>=◌}
 use Rattle.vk_base.specs.Settings.{fault_of}
 use Rattle.vk_base.specs.declared.config.ProcessSpec.{ProcessSpec}
 use Rattle.vk_text.specs.Calls.{first_as, call_of}
 use Rattle.vk_text.specs.Lines.{lines_of, words_from, is_end}
-use Rattle.vk_text.specs.Words.{◌>>=◌, number_of, pid_of}
+use Rattle.vk_text.specs.Words.{number_of, pid_of}
 use Rattle.vk_event.specs.declared.event.Event.{Event}
 use Rattle.vk_event.specs.declared.event.Event.TheVariants as events
 use Rattle.vk_event.specs.declared.schedule.Schedule.{Schedule}

@@ -1,35 +1,30 @@
 -- The tables stand for the kernel after a step, where they stood for the one before it.
-use Rattle.std.proofs.Common.{◌≡◌, ℕ, suc, ◌+◌, ◌-◌, ◌^◌, min, ◌≤◌, ◌<◌, Bool, true, false, cond, ◌==◌, ◌&&◌, ◌||◌, List, [], ◌∷◌, ◌++◌, length, drop, Option, Some, None, refl, sym, ap, ◌∙◌, subst, arith, inl, inr, if◌then◌else◌}
+use Rattle.std.proofs.Common.{◌≡◌, ℕ, ◌≤◌, Bool, true, false, cond, ◌==◌, ◌&&◌, List, ◌∷◌, drop, Option, Some, None, refl, sym, ap, ◌∙◌, subst, arith, inl, inr}
 use Rattle.std.specs.List.{find}
 use Rattle.std.specs.Option.{option_map}
-use Rattle.std.proofs.lemmas.Bool.{cases_Bool, eqb-true, eq-eqb, and_from, cond-true}
-use Rattle.std.proofs.lemmas.Grind.{common_steps}
+use Rattle.std.proofs.lemmas.Bool.{cases_Bool}
 use Rattle.std.proofs.lemmas.Option.{same_Some, none-some}
-use Rattle.circular_buffer.specs.Buffer.{keep_last}
-use Rattle.vk_base.specs.declared.answer.Answer.{Answer}
 use Rattle.vk_base.specs.declared.answer.Answer.TheVariants as answers
 use Rattle.vk_base.specs.declared.call.Call.{Call}
 use Rattle.vk_base.specs.declared.call.Call.TheVariants as calls
 use Rattle.vk_base.specs.declared.kernel.Exchange.{Exchange}
 use Rattle.vk_base.specs.declared.kernel.Name.{Name}
 use Rattle.vk_base.specs.declared.kernel.Process.{Process}
-use Rattle.vk_base.specs.declared.kernel.Stage.{Stage}
 use Rattle.vk_base.specs.declared.kernel.Stage.TheVariants as stages
 use Rattle.vk_base.specs.declared.kernel.State.{State}
 use Rattle.vk_base.specs.declared.kernel.State.TheVariants as states
 use Rattle.vk_base.specs.declared.message.Message.{Message}
 use Rattle.vk_base.specs.declared.pid.Pid.{Pid}
-use Rattle.vk_base.specs.Kernel.{Kernel, Taking, name_of, same_name, put_process, put_exchange, sending, receiving, queue_of, is_queued, with_state, with_stage, sent, sent_exchange, taken, taking, first_of}
-use Rattle.vk_base.specs.Pids.{same_pid, same_host}
+use Rattle.vk_base.specs.Kernel.{Kernel, Taking, name_of, same_name, put_exchange, sending, receiving, queue_of, is_queued, with_state, with_stage, sent, taken, taking}
+use Rattle.vk_base.specs.Pids.{same_pid}
 use Rattle.vk_base.specs.Sound.{IsSound, is_open}
-use Rattle.vk_base.proofs.Queues.{queue-state, queue-stage, queue-sent_here, queue-sent_elsewhere, queue-taken_here, queue-taken_elsewhere, taken_was_queued}
+use Rattle.vk_base.proofs.Queues.{queue-state, queue-taken_here, queue-taken_elsewhere, taken_was_queued}
 use Rattle.vk_base.proofs.StepLemmas.{IsTaking, taking_is}
-use Rattle.vk_base.proofs.Tables.{same_pid_is, same_pid_self, same_name_is, put_process_here, put_process_other, put_exchange_here, put_exchange_at, put_exchange_other}
+use Rattle.vk_base.proofs.Tables.{same_pid_is, same_name_is, put_process_here, put_process_other, put_exchange_here, put_exchange_at, put_exchange_other}
 use Rattle.vk_host.specs.declared.seat.Seat.{Seat}
 use Rattle.vk_host.specs.Stands.{IsSent, IsSeated, Fits, AreSeats}
-use Rattle.vk_host.specs.Tables.{is_seat, change_first, send_begun, enqueued, dequeued, marked_taken, received, state_of, next_name_in, sent_seats, taken_seats}
-use Rattle.vk_host.proofs.Reading.{shown, IsSender, sender_of, has_seat, open_queued, IsHeld}
-use Rattle.vk_host.proofs.Room.{room_in_queue}
+use Rattle.vk_host.specs.Tables.{is_seat, change_first, dequeued, marked_taken, received, state_of, taken_seats}
+use Rattle.vk_host.proofs.Reading.{shown, IsSender, sender_of, has_seat, open_queued}
 use Rattle.vk_host.proofs.Seats.{find-changed, find-unchanged, find-either, length-change_first, same_pid_sym}
 
 -- What each part of `AreSeats` says, for other events and another kernel.

@@ -1,5 +1,5 @@
 -- What the tables say is what the kernel says that they stand for.
-use Rattle.std.proofs.Common.{◌≡◌, ℕ, ◌+◌, ◌≤◌, ◌<◌, Bool, true, false, cond, not, ◌==◌, ◌&&◌, ◌||◌, nat_le, List, [], ◌∷◌, length, Option, Some, None, refl, sym, ap, ap₂, ◌∙◌, subst, arith, inl, inr, if◌then◌else◌}
+use Rattle.std.proofs.Common.{◌≡◌, ℕ, ◌+◌, Bool, true, false, not, ◌==◌, ◌&&◌, ◌||◌, List, [], ◌∷◌, length, Option, Some, None, refl, sym, ap, ◌∙◌, subst, arith, inl, inr, if◌then◌else◌}
 use Rattle.std.specs.List.{find}
 use Rattle.std.specs.Option.{option_map, is_some}
 use Rattle.std.proofs.lemmas.Bool.{cases_Bool, eqb-true, eq-eqb, le-leb, and_parts, and_from}
@@ -17,7 +17,7 @@ use Rattle.vk_base.specs.declared.kernel.State.{State}
 use Rattle.vk_base.specs.declared.kernel.State.TheVariants as states
 use Rattle.vk_base.specs.declared.message.Message.{Message}
 use Rattle.vk_base.specs.declared.pid.Pid.{Pid}
-use Rattle.vk_base.specs.Kernel.{◌>>=◌, Kernel, Taking, name_of, holds_of, is_ready, receiving, sending, as_send, finished_call, first_of, is_queued, is_taken, is_queued_at, is_held_by, held_up_to, held, is_live, queue_of, taking, tests_of, call_refusal, first_that_holds}
+use Rattle.vk_base.specs.Kernel.{◌>>=◌, Kernel, Taking, name_of, holds_of, is_ready, receiving, sending, first_of, is_queued, is_taken, is_queued_at, is_held_by, held_up_to, held, is_live, queue_of, taking, tests_of, call_refusal, first_that_holds}
 use Rattle.vk_base.specs.Messages.{segment_of}
 use Rattle.vk_base.specs.Pids.{same_pid, same_host}
 use Rattle.vk_base.specs.Ranges.{lies_in}
@@ -29,7 +29,6 @@ use Rattle.vk_host.specs.declared.seat.Seat.{Seat}
 use Rattle.vk_host.specs.Entries.{is_built_call, grants_nothing}
 use Rattle.vk_host.specs.Stands.{IsSent, IsSeated, Fits, AreSeats}
 use Rattle.vk_host.specs.Tables.{is_seat, state_of, is_awaiting, is_awaiting_in, is_awaiting_seat, own_refusal, refusal_in, refusal_by, message_from, front_of, takes}
-use Rattle.vk_host.proofs.Seats.{found_pid}
 
 pub sending_is : (s : State) (target : Pid) (m : Message) → sending s ≡ Some (target, m) → s ≡ states.Blocked (calls.Send target m)
 sending_is states.Ready target m e = absurd (none-some _ e)

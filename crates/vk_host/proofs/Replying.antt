@@ -1,8 +1,7 @@
 -- The tables stand for the kernel after a local Reply and its Finish.
-use Rattle.std.proofs.Common.{◌≡◌, ℕ, ◌+◌, ◌≤◌, Bool, true, false, ◌==◌, ◌&&◌, List, [], ◌∷◌, Option, Some, None, refl, sym, ap, ◌∙◌, subst, arith}
+use Rattle.std.proofs.Common.{◌≡◌, ℕ, true, false, ◌==◌, ◌&&◌, List, [], Some, refl, sym, ap, ◌∙◌, arith}
 use Rattle.std.specs.List.{find}
 use Rattle.std.proofs.lemmas.Option.{same_Some, none-some}
-use Rattle.vk_base.specs.declared.answer.Answer.{Answer}
 use Rattle.vk_base.specs.declared.answer.Answer.TheVariants as answers
 use Rattle.vk_base.specs.declared.call.Call.TheVariants as calls
 use Rattle.vk_base.specs.declared.kernel.Exchange.{Exchange}
@@ -13,8 +12,7 @@ use Rattle.vk_base.specs.declared.kernel.Stage.TheVariants as stages
 use Rattle.vk_base.specs.declared.kernel.State.TheVariants as states
 use Rattle.vk_base.specs.declared.message.Message.{Message}
 use Rattle.vk_base.specs.declared.pid.Pid.{Pid}
-use Rattle.vk_base.specs.Kernel.{◌>>=◌, Kernel, Effect, Finishing, name_of, put_process, put_exchange, sending, is_queued, reply_of, queue_of, held, with_stage, answered, accepted, finishing, finished}
-use Rattle.vk_base.specs.Pids.{same_pid}
+use Rattle.vk_base.specs.Kernel.{◌>>=◌, Kernel, Finishing, name_of, sending, is_queued, reply_of, queue_of, with_stage, answered, accepted, finishing, finished}
 use Rattle.vk_base.specs.Sound.{IsSound, is_open}
 use Rattle.vk_base.proofs.Queues.{queue-stage}
 use Rattle.vk_base.proofs.Tables.{put_process_here, put_process_other, put_exchange_here, put_exchange_other}

@@ -1,22 +1,21 @@
 -- An event's answer and steps are those that it has in the kernel, and the tables stand for the kernel after it.
-use Rattle.std.proofs.Common.{◌≡◌, ℕ, ◌+◌, ◌^◌, ◌≤◌, ◌<◌, Bool, true, false, cond, ◌==◌, ◌&&◌, List, [], ◌∷◌, Option, Some, None, refl, sym, ap, ◌∙◌, subst, arith}
+use Rattle.std.proofs.Common.{◌≡◌, ℕ, ◌+◌, ◌^◌, ◌<◌, Bool, true, false, cond, List, [], ◌∷◌, Option, Some, None, refl, sym, ap, ◌∙◌, subst, arith}
 use Rattle.std.specs.List.{find, fold}
 use Rattle.std.specs.Option.{option_map, is_some, IsSome}
-use Rattle.std.proofs.lemmas.Bool.{eqb-true, eq-eqb, and_parts, cond-true, cond-false}
-use Rattle.std.proofs.lemmas.Option.{same_Some, none-some}
+use Rattle.std.proofs.lemmas.Bool.{eqb-true, eq-eqb, and_parts}
+use Rattle.std.proofs.lemmas.Option.{none-some}
 use Rattle.vk_base.specs.declared.answer.Answer.{Answer}
 use Rattle.vk_base.specs.declared.answer.Answer.TheVariants as answers
 use Rattle.vk_base.specs.declared.answer.Refusal.{Refusal}
 use Rattle.vk_base.specs.declared.answer.Refusal.TheVariants as refusals
 use Rattle.vk_base.specs.declared.call.Call.{Call}
 use Rattle.vk_base.specs.declared.call.Call.TheVariants as calls
-use Rattle.vk_base.specs.declared.kernel.Process.{Process}
 use Rattle.vk_base.specs.declared.kernel.State.TheVariants as states
 use Rattle.vk_base.specs.declared.message.Message.{Message}
 use Rattle.vk_base.specs.declared.pid.Pid.{Pid}
 use Rattle.vk_base.specs.declared.step.Step.{Step}
 use Rattle.vk_base.specs.declared.step.Step.TheVariants as steps
-use Rattle.vk_base.specs.Kernel.{◌>>=◌, Kernel, Effect, Run, Taking, Collecting, effect, next, after_effect, run, unseen, answered, called, call_refusal, with_state, sent, taking, taken, finished, finishing, collecting, finished_call, sending, is_ready}
+use Rattle.vk_base.specs.Kernel.{◌>>=◌, Kernel, Effect, Run, Taking, effect, next, after_effect, run, unseen, answered, called, call_refusal, with_state, sent, taking, taken, finished, collecting, finished_call, sending, is_ready}
 use Rattle.vk_base.specs.Pids.{same_host}
 use Rattle.vk_base.specs.Sound.{IsSound}
 use Rattle.vk_base.proofs.RunLemmas.{run_step, run_on, run_nothing}
@@ -31,7 +30,7 @@ use Rattle.vk_host.specs.declared.seat.Doing.TheVariants as doings
 use Rattle.vk_host.specs.declared.seat.Seat.{Seat}
 use Rattle.vk_host.specs.Entries.{grants_nothing, is_built_call, answer_by, answer_of, answer_to, take_where, follow_up, steps_of, after_event}
 use Rattle.vk_host.specs.Stands.{IsSeated, AreSeats}
-use Rattle.vk_host.specs.Tables.{Outcome, is_seat, change_first, state_of, waiting, made_ready, doing_in, answer_of as answer_held, is_awaiting, own_refusal, refusal_in, refusal_by, takes, served, served_steps, serving, sent_seats, accepted_by, called_by, call_outcome, collected, collect_seats, collect_steps, collect_answer}
+use Rattle.vk_host.specs.Tables.{is_seat, change_first, state_of, waiting, made_ready, doing_in, answer_of as answer_held, is_awaiting, own_refusal, refusal_in, refusal_by, served, served_steps, serving, sent_seats, accepted_by, called_by, call_outcome, collected, collect_seats, collect_steps, collect_answer}
 use Rattle.vk_host.proofs.Keeping.{seats_later, seats_state, seats_taken}
 use Rattle.vk_host.proofs.Reading.{shown, refusal_same, takes_same, awaiting_host}
 use Rattle.vk_host.proofs.Replying.{replied, reply_is, finish, finish_is, seats_replied}

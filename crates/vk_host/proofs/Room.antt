@@ -1,20 +1,17 @@
 -- A queue always has room: each name in it is of another process of the station, and the process that sends is none of them.
-use Rattle.std.proofs.Common.{◌≡◌, ℕ, suc, ◌+◌, ◌≤◌, ◌<◌, Bool, true, false, cond, ◌==◌, ◌&&◌, ◌||◌, List, [], ◌∷◌, length, map, filter, Option, Some, None, refl, sym, ap, ap₂, ◌∙◌, subst, arith, inl, inr, ◌⊎◌}
+use Rattle.std.proofs.Common.{◌≡◌, ℕ, suc, ◌+◌, ◌≤◌, Bool, true, false, cond, ◌==◌, ◌||◌, List, [], ◌∷◌, length, map, filter, Some, None, refl, sym, ap, ◌∙◌, arith, inl, inr, ◌⊎◌}
 use Rattle.std.specs.List.{find, list_any, IsDistinct, AllByRecursion}
 use Rattle.std.proofs.lemmas.Bool.{cases_Bool, eq-eqb, and_from, or_left, or_right}
 use Rattle.std.proofs.lemmas.Map.Made.{length-le_from_is_member}
 use Rattle.std.proofs.lemmas.Option.{same_Some, none-some}
-use Rattle.vk_base.specs.declared.kernel.Exchange.{Exchange}
 use Rattle.vk_base.specs.declared.kernel.Name.{Name}
-use Rattle.vk_base.specs.declared.kernel.Process.{Process}
-use Rattle.vk_base.specs.declared.kernel.State.{State}
 use Rattle.vk_base.specs.declared.pid.Pid.{Pid}
 use Rattle.vk_base.specs.Kernel.{Kernel, holds_of, is_queued_at, queue_of, same_name, sending}
 use Rattle.vk_base.specs.Pids.{same_pid}
 use Rattle.vk_base.specs.Sound.{IsSound}
-use Rattle.vk_base.proofs.Tables.{same_pid_is, same_pid_self, same_pid_laws}
+use Rattle.vk_base.proofs.Tables.{same_pid_is, same_pid_laws}
 use Rattle.vk_host.specs.declared.seat.Seat.{Seat}
-use Rattle.vk_host.specs.Stands.{IsSeated, AreSeats}
+use Rattle.vk_host.specs.Stands.{AreSeats}
 use Rattle.vk_host.specs.Tables.{is_seat, state_of}
 use Rattle.vk_host.proofs.Reading.{IsWaiting, waiting_by, IsSender, sender_of, open_queued}
 

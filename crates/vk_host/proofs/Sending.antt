@@ -1,5 +1,5 @@
 -- The tables stand for the kernel after a Send to a process of the station.
-use Rattle.std.proofs.Common.{◌≡◌, ℕ, suc, ◌+◌, ◌-◌, ◌^◌, min, ◌≤◌, ◌<◌, Bool, true, false, cond, ◌==◌, ◌&&◌, List, [], ◌∷◌, ◌++◌, length, drop, Option, Some, None, refl, sym, ap, ◌∙◌, subst, arith}
+use Rattle.std.proofs.Common.{◌≡◌, ℕ, ◌+◌, ◌-◌, ◌^◌, min, ◌≤◌, ◌<◌, Bool, true, false, cond, ◌==◌, ◌&&◌, List, [], ◌∷◌, ◌++◌, length, drop, Option, Some, None, refl, sym, ap, ◌∙◌, subst, arith}
 use Rattle.std.specs.List.{find}
 use Rattle.std.specs.Option.{option_map}
 use Rattle.std.proofs.lemmas.Bool.{eqb-true, cond-true}
@@ -14,13 +14,13 @@ use Rattle.vk_base.specs.declared.kernel.Stage.TheVariants as stages
 use Rattle.vk_base.specs.declared.kernel.State.TheVariants as states
 use Rattle.vk_base.specs.declared.message.Message.{Message}
 use Rattle.vk_base.specs.declared.pid.Pid.{Pid}
-use Rattle.vk_base.specs.Kernel.{Kernel, name_of, same_name, put_process, put_exchange, sending, queue_of, sent, sent_exchange}
+use Rattle.vk_base.specs.Kernel.{Kernel, name_of, sending, queue_of, sent, sent_exchange}
 use Rattle.vk_base.specs.Pids.{same_pid, same_host}
 use Rattle.vk_base.specs.Sound.{IsSound, is_open}
 use Rattle.vk_base.proofs.Queues.{queue-sent_here, queue-sent_elsewhere}
 use Rattle.vk_base.proofs.Tables.{same_pid_is, put_process_at, put_process_other, put_exchange_here, put_exchange_other}
 use Rattle.vk_host.specs.declared.seat.Seat.{Seat}
-use Rattle.vk_host.specs.Stands.{IsSent, IsSeated, Fits, AreSeats}
+use Rattle.vk_host.specs.Stands.{IsSeated, Fits, AreSeats}
 use Rattle.vk_host.specs.Tables.{is_seat, state_of, change_first, send_begun, enqueued, next_name_in, sent_seats}
 use Rattle.vk_host.proofs.Keeping.{own_changed, home_put, sent_moved, reseated}
 use Rattle.vk_host.proofs.Room.{room_in_queue}

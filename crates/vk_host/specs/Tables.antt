@@ -1,5 +1,5 @@
 -- What a station's tables become: the words of its private functions. When tables stand for a kernel is `Stands.antt`.
-use Rattle.std.specs.Prelude.{ℕ, ◌≡◌, ◌+◌, ◌-◌, ◌^◌, min, Bool, true, false, ◌==◌, ◌&&◌, not, List, [], ◌∷◌, ◌++◌, drop, find, Option, Some, None, is_some, option_map, if◌then◌else◌}
+use Rattle.std.specs.Prelude.{ℕ, ◌+◌, ◌-◌, ◌^◌, min, Bool, true, false, ◌&&◌, List, [], ◌∷◌, ◌++◌, drop, find, Option, Some, None, is_some, if◌then◌else◌}
 use Rattle.circular_buffer.specs.Buffer.{keep_last}
 use Rattle.vk_base.specs.declared.answer.Answer.{Answer}
 use Rattle.vk_base.specs.declared.answer.Answer.TheVariants as answers
@@ -14,14 +14,12 @@ use Rattle.vk_base.specs.declared.message.Message.{Message}
 use Rattle.vk_base.specs.declared.pid.Pid.{Pid}
 use Rattle.vk_base.specs.declared.step.Step.{Step}
 use Rattle.vk_base.specs.declared.step.Step.TheVariants as steps
-use Rattle.vk_base.specs.Kernel.{◌>>=◌, name_of, is_ready, receiving, sending, finished_call, first_of}
-use Rattle.vk_base.specs.Pids.{same_pid, same_host}
+use Rattle.vk_base.specs.Kernel.{◌>>=◌, name_of, is_ready, receiving, sending, first_of}
+use Rattle.vk_base.specs.Pids.{same_pid}
 use Rattle.vk_host.specs.declared.calls.Verdict.{Verdict}
 use Rattle.vk_host.specs.declared.calls.Verdict.TheVariants as verdicts
 use Rattle.vk_host.specs.declared.event.EventAnswer.{EventAnswer}
 use Rattle.vk_host.specs.declared.event.EventAnswer.TheVariants as events_answered
-use Rattle.vk_host.specs.declared.event.StationEvent.{StationEvent}
-use Rattle.vk_host.specs.declared.event.StationEvent.TheVariants as events
 use Rattle.vk_host.specs.declared.seat.Doing.{Doing}
 use Rattle.vk_host.specs.declared.seat.Doing.TheVariants as doings
 use Rattle.vk_host.specs.declared.seat.Seat.{Seat}

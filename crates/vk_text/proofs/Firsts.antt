@@ -1,9 +1,10 @@
 -- Nothing is read where no word stands.
 use Rattle.std.proofs.Common.{◌≡◌, ℕ, List, [], ◌∷◌, Option, Some, None, refl, ap}
 use Rattle.hex.specs.Hex.{decode_pairs}
+use Rattle.vk_base.specs.Options.{◌>>=◌}
 use Rattle.vk_text.specs.Calls.{first_as}
 use Rattle.vk_text.specs.Lines.{StartsNoWord}
-use Rattle.vk_text.specs.Words.{◌>>=◌, number_of, pid_of, message_of}
+use Rattle.vk_text.specs.Words.{number_of, pid_of, message_of}
 
 pub no_first : {A : Type 0} (spelled : List ℕ → Option A) → spelled [] ≡ None → (ws : List (List ℕ)) → StartsNoWord ws → first_as spelled ws ≡ None
 no_first spelled e [] h = refl

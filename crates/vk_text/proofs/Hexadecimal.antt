@@ -9,8 +9,9 @@ use Rattle.std.proofs.lemmas.List.{drop-replicate}
 use Rattle.hex.specs.Hex.{decode_of, decode_sized}
 use Rattle.hex.specs.declared.error.FromHexError.{FromHexError}
 use Rattle.hex.proofs.HexLemmas.{decode_of-ok, decode_sized-ok, decode_sized-twice}
+use Rattle.vk_base.specs.Options.{◌>>=◌}
 use Rattle.vk_base.specs.declared.message.Message.{Message}
-use Rattle.vk_text.specs.Words.{◌>>=◌, is_lower_hex, lower_hex, ends_filled, padded, message_of}
+use Rattle.vk_text.specs.Words.{is_lower_hex, lower_hex, ends_filled, padded, message_of}
 
 written : (d : Result (List ℕ) FromHexError) (r : Result (Unit {0}) FromHexError) (out : List ℕ) → MatchResult d (λ bytes. (r ≡ Ok tt) × (out ≡ bytes)) (λ e. r ≡ Err e) → r ≡ Ok tt → d ≡ Ok out
 written (Ok bytes) r out h ok = ap Ok (sym h.1)

@@ -11,10 +11,11 @@ use Rattle.std.proofs.lemmas.Option.{cond_some}
 use Rattle.std.proofs.lemmas.Slice.Eq.{bytes_eq-Decides}
 use Rattle.hex.specs.Hex.{decode_of, encode_with, encode_lower, IsBytes}
 use Rattle.hex.proofs.HexLemmas.{decode_of-even, decode_of-ok, decode_of-encode_lower}
+use Rattle.vk_base.specs.Options.{◌>>=◌}
 use Rattle.vk_base.specs.declared.message.Message.{Message}
 use Rattle.vk_text.specs.Laws.{MessagesAreSpelledOnce}
 use Rattle.vk_text.specs.Spelling.{bytes_text, filled, message_text}
-use Rattle.vk_text.specs.Words.{◌>>=◌, is_lower_hex, lower_hex, ends_filled, padded, message_of}
+use Rattle.vk_text.specs.Words.{is_lower_hex, lower_hex, ends_filled, padded, message_of}
 use Rattle.vk_text.proofs.HexDigits.{encoded_back, all_lower}
 use Rattle.vk_text.proofs.Hexadecimal.{shown, no_dash, ok_of}
 use Rattle.vk_text.proofs.Spelled.{bound}

@@ -9,12 +9,13 @@ use Rattle.std.proofs.lemmas.Grind.{common_steps}
 use Rattle.std.proofs.lemmas.List.Sums.{AllPass-from_list_all, position_or_len_is, passes_at_first, split_at_first}
 use Rattle.std.proofs.lemmas.Option.{cond_some}
 use Rattle.std.proofs.lemmas.Str.Parse.{IsNumeralModel, IsDigitsTest, numerals_by_value}
+use Rattle.vk_base.specs.Options.{◌>>=◌}
 use Rattle.vk_base.specs.declared.pid.Pid.{Pid}
 use Rattle.vk_base.specs.Pids.{pid_by, pid_of_numbers}
 use Rattle.vk_base.proofs.PidLemmas.{pid_of_numbers_is}
 use Rattle.vk_text.specs.Laws.{NumbersAreSpelledOnce, PidsAreSpelledOnce}
 use Rattle.vk_text.specs.Spelling.{pid_text}
-use Rattle.vk_text.specs.Words.{◌>>=◌, is_numeral, number_of, pid_of}
+use Rattle.vk_text.specs.Words.{is_numeral, number_of, pid_of}
 
 digits_test : IsDigitsTest (λ ds. list_all is_ascii_digit ds ≡ true)
 digits_test = search rules

@@ -1,9 +1,10 @@
 -- Calls as words.
 use Rattle.std.specs.Prelude.{ℕ, List, [], ◌∷◌, codes, bytes_eq, Option, Some, None, if◌then◌else◌}
+use Rattle.vk_base.specs.Options.{◌>>=◌}
 use Rattle.vk_base.specs.declared.call.Call.{Call}
 use Rattle.vk_base.specs.declared.call.Call.TheVariants as calls
 use Rattle.vk_text.specs.Lines.{is_end}
-use Rattle.vk_text.specs.Words.{◌>>=◌, pid_of, message_of}
+use Rattle.vk_text.specs.Words.{pid_of, message_of}
 
 -- what the first word spells, and the words behind it
 abbrev pub first_as : {A : Type 0} → (List ℕ → Option A) → List (List ℕ) → Option (A × List (List ℕ))

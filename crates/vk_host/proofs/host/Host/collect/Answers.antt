@@ -1,8 +1,6 @@
-use Rattle.std.proofs.Common.{◌≡◌, ◌∙◌, ap, sym, subst, refl, ◌++◌, ◌∷◌, ◌+◌, ◌^◌, ◌<◌, List, true, length}
+use Rattle.std.proofs.Common.{◌∙◌, ap, sym, subst, refl, ◌+◌, length}
 use Rattle.std.specs.List.{find}
 use Rattle.std.specs.Option.{is_some}
-use Rattle.vk_base.specs.declared.step.Step.{Step}
-use Rattle.vk_base.specs.declared.step.Step.TheVariants as steps
 use Rattle.vk_base.specs.Kernel.{Kernel}
 use Rattle.vk_host.specs.declared.event.StationEvent.TheVariants as events
 use Rattle.vk_host.specs.Stands.{Stands, is_at}
