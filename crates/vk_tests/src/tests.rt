@@ -207,11 +207,20 @@ fn words_and_statuses(rt: HostRuntime) -> Result<(), Fail> {
     let mut source = MemorySource::new(Vec::from_slice(alloc, b"vkernel 1")?, Vec::new(alloc), 7);
     let mut sink = MemorySink::new(alloc, Vec::new(alloc), 5);
     let mut words = Vec::new(alloc);
-    assert_eq!(rt; vkernel(alloc, &words, &mut source, &mut sink), Status::Usage);
+    assert_eq!(rt;
+        vkernel(alloc, &words, &mut source, &mut sink),
+        Status::Usage
+    );
     words.push(String::from_str(alloc, "replay")?)?;
     words.push(String::from_str(alloc, "replay")?)?;
-    assert_eq!(rt; vkernel(alloc, &words, &mut source, &mut sink), Status::Usage);
-    assert_eq!(rt; Status::BadInput { line: 4 }.text().as_slice(), b"vkernel: line 4 is not valid".as_slice());
+    assert_eq!(rt;
+        vkernel(alloc, &words, &mut source, &mut sink),
+        Status::Usage
+    );
+    assert_eq!(rt;
+        Status::BadInput { line: 4 }.text().as_slice(),
+        b"vkernel: line 4 is not valid".as_slice()
+    );
     assert_eq!(rt; Status::BadInput { line: 4 }.number(), 3);
     Ok(())
 }
@@ -229,10 +238,12 @@ fn configurations(rt: HostRuntime) -> Result<(), Fail> {
         let pid = Pid::new(host, 1).ok_or("no pid")?;
         specs.push(ProcessSpec { pid, size: 64 })?;
     }
-    assert!(rt; matches!(
-        Config::new(alloc, times, 16, &specs),
-        Err(ConfigRefusal::TooMany { index: 16 })
-    ));
+    assert!(rt;
+        matches!(
+            Config::new(alloc, times, 16, &specs),
+            Err(ConfigRefusal::TooMany { index: 16 })
+        )
+    );
     specs.truncate(16);
     match Config::new(alloc, times, 16, &specs) {
         Ok(config) => {
