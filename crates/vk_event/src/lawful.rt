@@ -7,6 +7,7 @@ ghost use Rattle.vk_event.specs.declared.event.Event.TheVariants as events;
 
 use vk_base::{Call, Config, Message, Pid, ProcessSpec};
 
+/// The process stands on the station of those before it.
 pub fn is_built_process(before: &[ProcessSpec], spec: ProcessSpec) -> bool
     ensures { result ≡ is_built_process before.now spec }
 {

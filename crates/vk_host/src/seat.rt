@@ -40,6 +40,7 @@ pub struct Seat {
     pub queue: Queue,
 }
 
+/// The process of this name.
 pub fn seat_of(seats: &[Seat], pid: Pid) -> Option<&Seat>
     ensures { option_copied result ≡ find (is_seat pid) seats.now }
 {
@@ -52,12 +53,14 @@ fn place_of(seats: &[Seat], pid: Pid) -> Option<usize>
     seats.iter().position(|s| s.pid == pid)
 }
 
+/// The process may call.
 pub fn is_ready(doing: &Doing) -> bool
     ensures { result ≡ is_ready (state_of doing.now) }
 {
     matches!(doing, Doing::Ready)
 }
 
+/// The process waits for a message.
 pub fn is_receiving(doing: &Doing) -> bool
     ensures { result ≡ is_some (receiving (state_of doing.now)) }
 {
@@ -74,6 +77,7 @@ pub fn sending(doing: &Doing) -> Option<(Pid, Message)>
     }
 }
 
+/// A blocked call has come to its answer, which is not yet collected.
 pub fn is_done(doing: &Doing) -> bool
     ensures { result ≡ is_some (finished_call (state_of doing.now)) }
 {

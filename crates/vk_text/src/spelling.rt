@@ -19,13 +19,39 @@ pub fn put(into: &mut Vec<u8>, bytes: &[u8]) -> Result<(), NoMemory>
     }
 }
 
-/// Appends the number in decimal.
-pub fn put_number(_alloc: Global, into: &mut Vec<u8>, n: u64) -> Result<(), NoMemory>
+/// Appends a number of one digit, as most are.
+fn put_digit(into: &mut Vec<u8>, n: u64) -> Result<(), NoMemory>
+    requires { n < 10 }
+    ensures ok { OnOk result (into.new.items ≡ into.old.items ++ decimal n) }
+    ensures err { OnErr result (into.new.items ≡ into.old.items) }
+{
+    match into.push(b'0' + n as u8) {
+        Ok(()) => Ok(()),
+        Err(_) => Err(NoMemory),
+    }
+}
+
+/// Appends a number of any length. It stays a function of its own, since each call of what it were part of would pay for
+/// the buffer.
+#[inline(never)]
+fn put_digits(into: &mut Vec<u8>, n: u64) -> Result<(), NoMemory>
     ensures ok { OnOk result (into.new.items ≡ into.old.items ++ decimal n) }
     ensures err { OnErr result (into.new.items ≡ into.old.items) }
 {
     let mut buffer = Buffer::new();
     put(into, buffer.format(n).as_bytes())
+}
+
+/// Appends the number in decimal.
+pub fn put_number(_alloc: Global, into: &mut Vec<u8>, n: u64) -> Result<(), NoMemory>
+    ensures ok { OnOk result (into.new.items ≡ into.old.items ++ decimal n) }
+    ensures err { OnErr result (into.new.items ≡ into.old.items) }
+{
+    if n < 10 {
+        put_digit(into, n)
+    } else {
+        put_digits(into, n)
+    }
 }
 
 /// How many bytes stand up to the last that is not 0.

@@ -1,3 +1,4 @@
 pub mod Answered
+pub mod Entries
 pub mod Replays
 pub mod Schedules

@@ -9,6 +9,7 @@ use Rattle.vk_host.specs.declared.event.StationEvent.TheVariants as events
 use Rattle.vk_host.specs.Entries.{after_event, entry_of, history, steps_of}
 use Rattle.vk_host.specs.Stands.{Stands, is_at, is_own}
 use Rattle.vk_host.specs.Tables.{Tables}
+use Rattle.vk_top.specs.Playing.{IsPlayed}
 use Rattle.vk_top.specs.Report.{end_line, entry_text, report_from, station_event}
 
 -- stations with the same processes own the same events
@@ -27,22 +28,20 @@ pub record IsReplayedTo (host number steps : ℕ) (station : Tables) (text : Lis
 -- one event more
 pub IsReplayedTo-more : (host number steps n : ℕ) (old new : Tables) (text longer whole : List ℕ) (events : List Event) (i : ℕ) (e : Event)
     → i < length events → e ≡ get_or events i e
-    → ((k : Kernel) → Stands old k → longer ≡ text ++ entry_text host (number + 1) (entry_of k (station_event e)))
-    → ((k : Kernel) → Stands old k → n ≡ length (steps_of k (station_event e)))
-    → ((k : Kernel) → Stands old k → Stands new (after_event k (station_event e)))
+    → IsPlayed host (number + 1) old new text longer (station_event e) n
     → IsReplayedTo host number steps old text (drop i events) whole
     → IsReplayedTo host (number + 1) (steps + n) new longer (drop (i + 1) events) whole
-IsReplayedTo-more host number steps n old new text longer whole events i e within is written count stands so_far =
+IsReplayedTo-more host number steps n old new text longer whole events i e within is played so_far =
     let k = so_far.kernel in
     let next : drop i events ≡ e ∷ drop (i + 1) events = drop_more events i e within ∙ ap (λ x. x ∷ drop (i + 1) events) (sym is) in
     let rest = report_from host (number + 1) (steps + n) (history (after_event k (station_event e)) (map station_event (drop (i + 1) events))) in
     let counted : report_from host (number + 1) (steps + n) (history (after_event k (station_event e)) (map station_event (drop (i + 1) events))) ≡ report_from host (number + 1) (steps + length (steps_of k (station_event e))) (history (after_event k (station_event e)) (map station_event (drop (i + 1) events))) =
-    ap (λ m. report_from host (number + 1) (steps + m) (history (after_event k (station_event e)) (map station_event (drop (i + 1) events)))) (count k so_far.stands) in
+    ap (λ m. report_from host (number + 1) (steps + m) (history (after_event k (station_event e)) (map station_event (drop (i + 1) events)))) (played.count k so_far.stands) in
     record {
       kernel = after_event k (station_event e);
-      stands = stands k so_far.stands;
+      stands = played.stands k so_far.stands;
       text_is =
-          ap (λ t. t ++ rest) (written k so_far.stands)
+          ap (λ t. t ++ rest) (played.entry k so_far.stands)
           ∙ append_assoc text (entry_text host (number + 1) (entry_of k (station_event e))) rest
           ∙ ap (λ r. text ++ (entry_text host (number + 1) (entry_of k (station_event e)) ++ r)) counted
           ∙ ap (λ l. text ++ report_from host number steps (history k (map station_event l))) (sym next)

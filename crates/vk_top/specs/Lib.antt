@@ -1,3 +1,4 @@
+pub mod Playing
 pub mod Report
 pub mod Statuses
 pub mod Top

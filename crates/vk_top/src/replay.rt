@@ -2,31 +2,68 @@
 
 ghost use Rattle.std.specs.Prelude.{◌≡◌, ◌≤◌, ◌<◌, ◌+◌, ◌^◌, ◌++◌, true, length, map, IfOk, OnOk};
 ghost use Rattle.std.specs.List.{list_all};
-ghost use Rattle.vk_base.specs.declared.pid.Pid.{Pid as ThePid};
 ghost use Rattle.vk_base.specs.Kernel.{Kernel};
 ghost use Rattle.vk_event.specs.Lawful.{IsLawful};
-ghost use Rattle.vk_host.specs.Entries.{is_built, entry_of, steps_of, after_event, history};
-ghost use Rattle.vk_host.specs.Stands.{Stands, IsEvent, is_at, is_own};
-ghost use Rattle.vk_top.specs.Report.{station_event, entry_text, report_from, report_of, station_of, history_of_schedule};
+ghost use Rattle.vk_host.specs.declared.event.StationEvent.TheVariants as events;
+ghost use Rattle.vk_host.specs.Entries.{is_built, is_built_call, history};
+ghost use Rattle.vk_host.specs.Stands.{Stands, is_at, is_own};
+ghost use Rattle.vk_top.specs.Playing.{IsPlayed};
+ghost use Rattle.vk_top.specs.Report.{station_event, step_lines, report_from, report_of, station_of, history_of_schedule};
 
-use crate::report::{put, put_end, put_head, put_steps};
+use crate::report::{put_end, put_head, put_steps};
 use std::alloc::Global;
-use vk_base::NoMemory;
+use vk_base::{Call, NoMemory, Pid};
 use vk_event::{Event, Schedule};
-use vk_host::{EventAnswer, Host};
+use vk_host::Host;
+use vk_text::put;
 
-/// The event happens at its station.
-fn play(station: &mut Host, event: &Event) -> EventAnswer
-    requires few { station.old.events < 2 ^ 48 }
-    requires own { is_own station.old (station_event event.now) ≡ true }
-    requires built { is_built (station_event event.now) ≡ true }
-    ensures { IsEvent station.old station.new (station_event event.now) result }
+/// The lines of the steps of the station's last event, and how many there are.
+fn put_last_steps(alloc: Global, station: &Host, text: &mut Vec<u8>) -> Result<u64, NoMemory>
+    ensures lines { OnOk result (text.new.items ≡ text.old.items ++ step_lines station.now.steps) }
+    ensures count { IfOk result (λ n. n ≡ length station.now.steps) }
+    ensures few { IfOk result (λ n. n ≤ 40) }
 {
-    match event {
-        Event::Call { pid, call } => station.call(*pid, call),
-        Event::Collect { pid } => station.collect(*pid),
-        Event::Tick { .. } | Event::Deliver { .. } => unreachable!(),
-    }
+    let steps = station.steps();
+    put_steps(alloc, text, steps.as_slice())?;
+    Ok(steps.len() as u64)
+}
+
+/// A call at the station and its lines, and how many steps it had.
+fn put_call(
+    alloc: Global,
+    station: &mut Host,
+    text: &mut Vec<u8>,
+    number: u64,
+    host: u16,
+    pid: Pid,
+    call: &Call,
+) -> Result<u64, NoMemory>
+    requires few { station.old.events < 2 ^ 48 }
+    requires own { is_at station.old pid ≡ true }
+    requires built { is_built_call pid call.now ≡ true }
+    ensures { IfOk result (IsPlayed host number station.old station.new text.old.items text.new.items (events.Call pid call.now)) }
+{
+    let answer = station.call(pid, call);
+    put_head(alloc, text, number, host, number, &answer)?;
+    put_last_steps(alloc, station, text)
+}
+
+/// A collect at the station and its lines, and how many steps it had.
+fn put_collect(
+    alloc: Global,
+    station: &mut Host,
+    text: &mut Vec<u8>,
+    number: u64,
+    host: u16,
+    pid: Pid,
+) -> Result<u64, NoMemory>
+    requires few { station.old.events < 2 ^ 48 }
+    requires own { is_at station.old pid ≡ true }
+    ensures { IfOk result (IsPlayed host number station.old station.new text.old.items text.new.items (events.Collect pid)) }
+{
+    let answer = station.collect(pid);
+    put_head(alloc, text, number, host, number, &answer)?;
+    put_last_steps(alloc, station, text)
 }
 
 /// One event of the station and its lines, and how many steps it had.
@@ -41,18 +78,13 @@ fn put_event(
     requires few { station.old.events < 2 ^ 48 }
     requires own { is_own station.old (station_event event.now) ≡ true }
     requires built { is_built (station_event event.now) ≡ true }
-    ensures text { OnOk result ((k : Kernel) → Stands station.old k → text.new.items ≡ text.old.items ++ entry_text host number (entry_of k (station_event event.now))) }
-    ensures count { IfOk result (λ n. (k : Kernel) → Stands station.old k → n ≡ length (steps_of k (station_event event.now))) }
-    ensures few_steps { IfOk result (λ n. n ≤ 40) }
-    ensures stands { (k : Kernel) → Stands station.old k → Stands station.new (after_event k (station_event event.now)) }
-    ensures events { OnOk result (station.new.events ≡ station.old.events + 1) }
-    ensures processes { OnOk result ((pid : ThePid) → is_at station.new pid ≡ is_at station.old pid) }
+    ensures { IfOk result (IsPlayed host number station.old station.new text.old.items text.new.items (station_event event.now)) }
 {
-    let answer = play(station, event);
-    put_head(alloc, text, number, host, number, &answer)?;
-    let steps = station.steps();
-    put_steps(alloc, text, steps.as_slice())?;
-    Ok(steps.len() as u64)
+    match event {
+        Event::Call { pid, call } => put_call(alloc, station, text, number, host, *pid, call),
+        Event::Collect { pid } => put_collect(alloc, station, text, number, host, *pid),
+        Event::Tick { .. } | Event::Deliver { .. } => unreachable!(),
+    }
 }
 
 /// The report of these events, which the station finds before it, without its first line.

@@ -8,17 +8,7 @@ use std::alloc::Global;
 use v_trace::{put_answer, put_step};
 use vk_base::{NoMemory, Step};
 use vk_host::EventAnswer;
-use vk_text::put_number;
-
-/// Appends the bytes.
-pub fn put(text: &mut Vec<u8>, bytes: &[u8]) -> Result<(), NoMemory>
-    ensures { OnOk result (text.new.items ≡ text.old.items ++ bytes.now) }
-{
-    match text.extend_from_slice(bytes) {
-        Ok(()) => Ok(()),
-        Err(_) => Err(NoMemory),
-    }
-}
+use vk_text::{put, put_number};
 
 fn put_event_answer(alloc: Global, text: &mut Vec<u8>, answer: &EventAnswer) -> Result<(), NoMemory>
     ensures { OnOk result (text.new.items ≡ text.old.items ++ event_answer_text answer.now) }

@@ -7,10 +7,10 @@ use Rattle.vk_top.proofs.replay.put_events.Goals as goal
 pub loop-event-preserved : goal.loop-event-preserved
 loop-event-preserved c = record {
   counted = omega arith;
-  few = omega (arith, c.in_ok-steps.ensures.few_steps);
+  few = omega (arith, c.in_ok-steps.ensures.few);
   events = omega (arith, c.in_ok-steps.ensures.events);
   processes = λ pid. c.in_ok-steps.ensures.processes pid ∙ c.loop-event.invariant.processes pid;
-  replayed = λ k stands. IsReplayedTo-more _ _ _ _ _ _ _ _ _ c.args.events.now c.loop-event.event-index c.event-item.result c.loop-event-test.true c.event-item.is c.in_ok-steps.ensures.text c.in_ok-steps.ensures.count c.in_ok-steps.ensures.stands (c.loop-event.invariant.replayed k stands);
+  replayed = λ k stands. IsReplayedTo-more _ _ _ _ _ _ _ _ _ c.args.events.now c.loop-event.event-index c.event-item.result c.loop-event-test.true c.event-item.is c.in_ok-steps.ensures (c.loop-event.invariant.replayed k stands);
 }
 
 pub returns : goal.returns
