@@ -201,6 +201,17 @@ fn faults(rt: HostRuntime) -> Result<(), Fail> {
     Ok(())
 }
 
+/// Behind the 46 writes of the report there is one flush, the last call.
+#[test]
+fn one_flush(rt: HostRuntime) -> Result<(), Fail> {
+    let (status, sink) = replay(rt.alloc(), PING, &[], &[47])?;
+    assert_eq!(rt; status, Status::WriteFault);
+    assert_eq!(rt; sink.written(), PING_REPORT.as_bytes());
+    let (status, _sink) = replay(rt.alloc(), PING, &[], &[48])?;
+    assert_eq!(rt; status, Status::Done);
+    Ok(())
+}
+
 #[test]
 fn words_and_statuses(rt: HostRuntime) -> Result<(), Fail> {
     let alloc = rt.alloc();
