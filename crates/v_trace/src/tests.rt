@@ -55,7 +55,13 @@ fn steps(rt: HostRuntime) -> Result<(), Fail> {
             why: Ending::TimedOut,
         },
         b"fail 1.2 timedout",
-    )?;
+    )
+}
+
+#[test]
+fn steps_of_moves(rt: HostRuntime) -> Result<(), Fail> {
+    let alloc = rt.alloc();
+    let one = Pid { host: 1, local: 2 };
     step(
         &rt,
         alloc,
@@ -86,7 +92,14 @@ fn steps(rt: HostRuntime) -> Result<(), Fail> {
             why: Ending::Ok,
         },
         b"end 1.2 ok",
-    )?;
+    )
+}
+
+#[test]
+fn steps_of_lookups(rt: HostRuntime) -> Result<(), Fail> {
+    let alloc = rt.alloc();
+    let one = Pid { host: 1, local: 2 };
+    let two = Pid { host: 3, local: 4 };
     step(
         &rt,
         alloc,
