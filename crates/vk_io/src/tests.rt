@@ -3,6 +3,7 @@ use crate::{
     Failed, MemorySink, MemorySource, ReadRefusal, Sink, Source, StdSink, StdSource, SureSink,
     SureSource, read_all, write_all,
 };
+use std::io::BufWriter;
 use std::test::Fail;
 
 #[test]
@@ -34,6 +35,17 @@ fn writes_to_a_writer_of_std(rt: HostRuntime) -> Result<(), Fail> {
     let mut full = StdSink::new(room.as_mut_slice());
     assert!(rt; write_all(&mut full, b"bytes").is_err());
     assert_eq!(rt; full.faults(), 1);
+    Ok(())
+}
+
+#[test]
+fn flushes_a_writer_of_std(rt: HostRuntime) -> Result<(), Fail> {
+    let mut buffered = BufWriter::new(rt.alloc(), Vec::new(rt.alloc()))?;
+    let mut sink = StdSink::new(&mut buffered);
+    write_all(&mut sink, b"some bytes")?;
+    sink.flush()?;
+    drop(sink);
+    assert_eq!(rt; buffered.buffer().len(), 0);
     Ok(())
 }
 
