@@ -3,23 +3,14 @@
 ghost use Rattle.std.specs.Prelude.{◌≡◌, Some, None, MatchOption};
 ghost use Rattle.vk_text.specs.Calls.{first_as};
 ghost use Rattle.vk_text.specs.Lines.{words_from};
-ghost use Rattle.vk_text.specs.Words.{number_of, pid_of};
+ghost use Rattle.vk_text.specs.Words.{number_of};
 ghost use Rattle.vk_event.specs.Schedule.{process_of};
 
-use vk_base::{Pid, ProcessSpec};
-use vk_text::{is_end, next_word, number, pid};
+use vk_base::ProcessSpec;
+use vk_text::{is_end, next_pid, next_word, number};
 
 /// The greatest number of bytes of a memory.
 const SIZE: u64 = 131_072;
-
-/// The pid that the word at `at` spells, and where the next word would start.
-pub fn next_pid(line: &[u8], at: usize) -> Option<(Pid, usize)>
-    ensures { MatchOption result (first_as pid_of (words_from line.now at) ≡ None)
-        (λ r. first_as pid_of (words_from line.now at) ≡ Some (r.0, words_from line.now r.1)) }
-{
-    let (word, next) = next_word(line, at)?;
-    Some((pid(word)?, next))
-}
 
 /// The size that the word at `at` spells, and where the next word would start.
 fn next_size(line: &[u8], at: usize) -> Option<(u32, usize)>

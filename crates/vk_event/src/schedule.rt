@@ -7,11 +7,11 @@ ghost use Rattle.vk_event.specs.Schedule.{process_of, call_event_of, collect_eve
 
 use crate::event::Event;
 use crate::lawful::{is_built_process, is_lawful_call, is_lawful_collect};
-use crate::parts::{next_pid, read_process};
+use crate::parts::read_process;
 use std::alloc::Global;
 use std::marker::Model;
 use vk_base::{Config, ConfigRefusal, List, Times};
-use vk_text::{is_end, next_line, next_word, read_call};
+use vk_text::{is_end, next_line, next_pid, next_word, read_call};
 
 /// The greatest number of events.
 const EVENTS: usize = 100_000;

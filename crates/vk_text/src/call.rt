@@ -17,7 +17,7 @@ pub fn is_end(line: &[u8], at: usize) -> bool
 }
 
 /// The pid that the word at `at` spells, and where the next word would start.
-fn next_pid(line: &[u8], at: usize) -> Option<(Pid, usize)>
+pub fn next_pid(line: &[u8], at: usize) -> Option<(Pid, usize)>
     ensures { MatchOption result (first_as pid_of (words_from line.now at) ≡ None)
         (λ r. first_as pid_of (words_from line.now at) ≡ Some (r.0, words_from line.now r.1)) }
 {

@@ -13,7 +13,7 @@ mod tests;
 mod word;
 mod writing;
 
-pub use call::{is_end, read_call};
+pub use call::{is_end, next_pid, read_call};
 pub use law::{words_are_spelled_once, written_is_read};
 pub use line::{next_line, next_word};
 pub use spelling::{put, put_bytes, put_message, put_number};
