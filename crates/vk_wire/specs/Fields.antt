@@ -1,8 +1,8 @@
 -- Fields: numbers, pids and messages as bytes. Of a number the highest byte comes first, and a pid is its host and its local.
-use Rattle.std.specs.Prelude.{◌≡◌, ℕ, ◌^◌, ◌<◌, ◌≤◌, nat_lt, List, ◌++◌, length, take, drop, slice_index, Option, Some, None, if◌then◌else◌}
+use Rattle.std.specs.Prelude.{◌≡◌, ℕ, ◌^◌, ◌<◌, nat_le, List, ◌++◌, length, take, drop, slice_index, Option, Some, None, if◌then◌else◌}
 use Rattle.byteorder.specs.Endian.{big_bytes, big_number}
 use Rattle.vk_base.specs.Messages.{IsMessage}
-use Rattle.vk_base.specs.Options.{◌>>=◌}
+pub use Rattle.vk_base.specs.Options.{◌>>=◌}
 use Rattle.vk_base.specs.Pids.{IsPid, pid_of_numbers}
 use Rattle.vk_base.specs.declared.message.Message.{Message}
 use Rattle.vk_base.specs.declared.pid.Pid.{Pid}
@@ -16,7 +16,7 @@ pid_bytes p = big_bytes 2 p.host ++ big_bytes 2 p.local
 
 -- What a field that stands first spells, and the bytes behind it, where it is whole.
 unfoldable pub number_at : ℕ → List ℕ → Option (ℕ × List ℕ)
-number_at n bytes = if nat_lt (length bytes) n then None else Some (big_number n bytes, drop n bytes)
+number_at n bytes = if nat_le n (length bytes) then Some (big_number n bytes, drop n bytes) else None
 
 unfoldable pub pid_at : List ℕ → Option (Pid × List ℕ)
 pid_at bytes = do
@@ -26,7 +26,7 @@ pid_at bytes = do
   Some (pid, local.1)
 
 unfoldable pub message_at : List ℕ → Option (Message × List ℕ)
-message_at bytes = if nat_lt (length bytes) 32 then None else Some (record { 0 = take 32 bytes }, drop 32 bytes)
+message_at bytes = if nat_le 32 (length bytes) then Some (record { 0 = take 32 bytes }, drop 32 bytes) else None
 
 -- A number, a pid or a message stands first exactly where its spelling does.
 pub record NumbersAreSpelledOnce (n : ℕ) : Type 0 where
