@@ -1,0 +1,59 @@
+ghost use Rattle.std.specs.Prelude.{◌≡◌, ◌≤◌, IsTrue, Some, None, IfSome, MatchOption, length};
+ghost use Rattle.vk_frame.specs.Reading.{frame_of};
+ghost use Rattle.vk_frame.specs.Rules.{is_lawful};
+ghost use Rattle.vk_frame.specs.Spelling.{frame_bytes};
+
+use crate::header::Header;
+use vk_base::FrameBytes;
+use vk_wire::{bytes_of_u16, bytes_of_u64, next_u16, next_u64};
+
+/// The number that stands first in each frame.
+const MARK: u16 = 0x564b;
+
+/// Makes `into` the frame of this header, which must be lawful, and this packet, which must have 1 to 1,120 bytes.
+#[tactic(auto, unfolding(crate::specs::Spelling::header_bytes))]
+pub fn seal(header: &Header, packet: &[u8], into: &mut FrameBytes)
+    requires lawful { IsTrue (is_lawful header.now) }
+    requires some { 1 ≤ length packet.now }
+    requires fits { length packet.now ≤ 1120 }
+    ensures { into.new ≡ frame_bytes header.now packet.now }
+{
+    into.clear();
+    into.append(&bytes_of_u16(MARK));
+    into.append(&bytes_of_u16(header.source));
+    into.append(&bytes_of_u16(header.destination));
+    into.append(&bytes_of_u64(header.stamp));
+    into.append(&bytes_of_u64(header.number));
+    into.append(&bytes_of_u64(header.event));
+    into.append(&bytes_of_u16(header.output));
+    into.append(packet);
+}
+
+/// The header of a frame, and the packet's bytes behind it. `None` exactly where no lawful header stands first, or nothing
+/// is behind it.
+#[tactic(auto, unfolding(crate::specs::Reading::frame_of))]
+pub fn unseal(bytes: &[u8]) -> Option<(Header, &[u8])>
+    ensures exact { MatchOption result (frame_of bytes.now ≡ None) (λ r. frame_of bytes.now ≡ Some (r.0, r.1.now)) }
+    ensures lawful { IfSome result (λ r. IsTrue (is_lawful r.0)) }
+{
+    let (mark, rest) = next_u16(bytes)?;
+    let (source, rest) = next_u16(rest)?;
+    let (destination, rest) = next_u16(rest)?;
+    let (stamp, rest) = next_u64(rest)?;
+    let (number, rest) = next_u64(rest)?;
+    let (event, rest) = next_u64(rest)?;
+    let (output, rest) = next_u16(rest)?;
+    let header = Header {
+        source,
+        destination,
+        stamp,
+        number,
+        event,
+        output,
+    };
+    if mark == MARK && header.is_lawful() && !rest.is_empty() {
+        Some((header, rest))
+    } else {
+        None
+    }
+}
