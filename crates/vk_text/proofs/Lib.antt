@@ -1,3 +1,4 @@
+pub mod ByteLists
 pub mod Firsts
 pub mod Fronts
 pub mod HexDigits

@@ -1,38 +1,12 @@
 //! Calls as words of a line.
 
-ghost use Rattle.std.specs.Prelude.{◌≡◌, Some, None, MatchOption};
-ghost use Rattle.vk_text.specs.Calls.{first_as, ended, send_of, reply_of, call_of};
-ghost use Rattle.vk_text.specs.Lines.{is_end, words_from};
-ghost use Rattle.vk_text.specs.Words.{pid_of, message_of};
+ghost use Rattle.std.specs.Prelude.{◌≡◌};
+ghost use Rattle.vk_text.specs.Calls.{ended, send_of, reply_of, call_of};
+ghost use Rattle.vk_text.specs.Lines.{words_from};
 
 use crate::line::next_word;
-use crate::word::{message, pid};
-use vk_base::{Call, Message, Pid};
-
-/// Whether no word is left from `at` on. A trailing space leaves an empty one.
-pub fn is_end(line: &[u8], at: usize) -> bool
-    ensures { result ≡ is_end (words_from line.now at) }
-{
-    at > line.len()
-}
-
-/// The pid that the word at `at` spells, and where the next word would start.
-pub fn next_pid(line: &[u8], at: usize) -> Option<(Pid, usize)>
-    ensures { MatchOption result (first_as pid_of (words_from line.now at) ≡ None)
-        (λ r. first_as pid_of (words_from line.now at) ≡ Some (r.0, words_from line.now r.1)) }
-{
-    let (word, next) = next_word(line, at)?;
-    Some((pid(word)?, next))
-}
-
-/// The message that the word at `at` spells, and where the next word would start.
-fn next_message(line: &[u8], at: usize) -> Option<(Message, usize)>
-    ensures { MatchOption result (first_as message_of (words_from line.now at) ≡ None)
-        (λ r. first_as message_of (words_from line.now at) ≡ Some (r.0, words_from line.now r.1)) }
-{
-    let (word, next) = next_word(line, at)?;
-    Some((message(word)?, next))
-}
+use crate::next::{is_end, next_message, next_pid};
+use vk_base::Call;
 
 /// The call, where no word is left.
 fn ended(line: &[u8], at: usize, call: Call) -> Option<Call>
