@@ -18,7 +18,7 @@ use Rattle.vk_base.specs.Pids.{pid_by, pid_of_numbers}
 use Rattle.vk_base.proofs.PidLemmas.{pid_of_numbers_is}
 use Rattle.vk_text.specs.Laws.{NumbersAreSpelledOnce, StationsAreSpelledOnce, PidsAreSpelledOnce, ScopesAreSpelledOnce}
 use Rattle.vk_text.specs.Spelling.{pid_text, scope_text}
-use Rattle.vk_text.specs.Words.{is_numeral, number_of, station_of, pid_of, scope_of}
+use Rattle.vk_text.specs.Words.{is_numeral, number_of, count_of, station_of, pid_of, scope_of}
 
 digits_test : IsDigitsTest (λ ds. list_all is_ascii_digit ds ≡ true)
 digits_test = search rules
@@ -41,7 +41,7 @@ spelled word h small =
     let front = and_parts (list_all is_ascii_digit word) (not (length word == 0)) parts.0 in
     sym (decimal-digits_value own word front.0 (some_len (length word) front.1) (no_zero_leads (length word) (slice_index word 0) parts.1) small)
 
-number_spelled : (most n : ℕ) (word : List ℕ) → most < 2 ^ 64 → number_of most word ≡ Some n → (word ≡ decimal n) × (n ≤ most)
+pub number_spelled : (most n : ℕ) (word : List ℕ) → most < 2 ^ 64 → number_of most word ≡ Some n → (word ≡ decimal n) × (n ≤ most)
 unfolding number_of
 number_spelled most n word m h =
     let got = cond_some (is_numeral word && nat_le (digits_value 10 word) most) (digits_value 10 word) n h in
@@ -75,6 +75,12 @@ numbers most n word m = (λ h. number_spelled most n word m h, λ h. ap (number_
 pub bound : {A B : Type 0} (o : Option A) (f : A → Option B) (b : B) → (o >>= f) ≡ Some b → (a : A) × (o ≡ Some a) × (f a ≡ Some b)
 bound None f b h = cc
 bound (Some a) f b h = (a, refl, h)
+
+pub count_spelled : (n : ℕ) (word : List ℕ) → count_of word ≡ Some n → word ≡ decimal n
+count_spelled n word h = (number_spelled 4294967295 n word (omega arith) h).0
+
+pub count_read : (n : ℕ) → n < 2 ^ 32 → count_of (decimal n) ≡ Some n
+count_read n h = number_read 4294967295 n (omega arith) (omega arith)
 
 pub station_spelled : (host : ℕ) (word : List ℕ) → station_of word ≡ Some host → (word ≡ decimal host) × (0 < host) × (host < 65535)
 unfolding station_of
@@ -123,7 +129,7 @@ parted word i h =
     let point : get_or word (position_or_len (λ c. c == 46) word) 0 ≡ 46 = eqb-true _ _ dot in
     subst (λ (n : ℕ). word ≡ take n word ++ 46 ∷ drop (n + 1) word) found.1 (parts ∙ ap (λ (b : ℕ). before_first (λ c. c == 46) word ++ b ∷ after_first (λ c. c == 46) word) point)
 
-pid_spelled : (p : Pid) (word : List ℕ) → pid_of word ≡ Some p → word ≡ pid_text p
+pub pid_spelled : (p : Pid) (word : List ℕ) → pid_of word ≡ Some p → word ≡ pid_text p
 unfolding pid_of
 pid_spelled p word h =
     let at = bound (position (λ c. c == 46) word) _ p h in

@@ -8,7 +8,7 @@ use Rattle.vk_base.specs.declared.message.Message.{Message}
 use Rattle.vk_base.specs.declared.pid.Pid.{Pid}
 use Rattle.vk_text.specs.Calls.{call_of}
 use Rattle.vk_text.specs.Lines.{words_from}
-use Rattle.vk_text.specs.Spelling.{spaced, pid_text, bytes_text, message_text, scope_text, call_text}
+use Rattle.vk_text.specs.Spelling.{spaced, pid_text, bytes_text, message_text, scope_text, call_words, call_text}
 use Rattle.vk_text.specs.Words.{number_of, station_of, pid_of, message_of, bytes_of, scope_of}
 
 -- a message of 32 bytes, and a pid of 16-bit numbers
@@ -53,13 +53,32 @@ ScopesAreSpelledOnce = (scope : Scope) (word : List ℕ) → (scope_of word ≡ 
 abbrev pub WordsReadBack : Type 0
 WordsReadBack = (word : List ℕ) (words : List (List ℕ)) → HasNoSpace word → AllByRecursion HasNoSpace words → words_from (spaced word words) 0 ≡ word ∷ words
 
--- the calls that are read
+abbrev pub IsCount : ℕ → Type 0
+IsCount n = n < 2 ^ 32
+
+-- each field of the call is in its range
 abbrev pub IsReadable : Call → Type 0
 IsReadable (calls.Send target message) = IsPid target × IsMessage message
 IsReadable calls.Receive = Unit {0}
+IsReadable (calls.ReceiveSegment start count) = IsCount start × IsCount count
 IsReadable (calls.Reply message to) = IsMessage message × IsPid to
-IsReadable _ = ⊥
+IsReadable (calls.ReplySegment message to dest src count) = IsMessage message × IsPid to × IsCount dest × IsCount src × IsCount count
+IsReadable (calls.MoveTo partner dest src count) = IsPid partner × IsCount dest × IsCount src × IsCount count
+IsReadable (calls.MoveFrom partner dest src count) = IsPid partner × IsCount dest × IsCount src × IsCount count
+IsReadable (calls.SetPid logical pid scope) = IsCount logical × IsPid pid
+IsReadable (calls.GetPid logical scope) = IsCount logical
+IsReadable (calls.Load start count) = IsCount start × IsCount count
+IsReadable (calls.Store start bytes) = IsCount start × IsData bytes
+IsReadable calls.Exit = Unit {0}
 
 -- what is written of a call is read as it
 abbrev pub CallsReadBack : Type 0
 CallsReadBack = (call : Call) → IsReadable call → call_of (words_from (call_text call) 0) ≡ Some call
+
+-- words read as a call exactly where they are that call's words
+abbrev pub CallWordsAreSpelledOnce : Type 0
+CallWordsAreSpelledOnce = (call : Call) (words : List (List ℕ)) → IsReadable call → (call_of words ≡ Some call) ↔ (words ≡ call_words call)
+
+-- a line reads as a call exactly where it is that call's text
+abbrev pub CallsAreSpelledOnce : Type 0
+CallsAreSpelledOnce = (call : Call) (line : List ℕ) → IsReadable call → (call_of (words_from line 0) ≡ Some call) ↔ (line ≡ call_text call)

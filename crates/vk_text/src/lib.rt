@@ -15,7 +15,7 @@ mod word;
 mod writing;
 
 pub use call::read_call;
-pub use law::{words_are_spelled_once, written_is_read};
+pub use law::{calls_are_spelled_once, words_are_spelled_once, written_is_read};
 pub use line::{next_line, next_word};
 pub use next::{
     is_end, next_bytes, next_count, next_message, next_number, next_pid, next_scope, next_station,

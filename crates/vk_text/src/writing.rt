@@ -236,7 +236,7 @@ fn write_store(alloc: Global, into: &mut Vec<u8>, start: u32, bytes: &Data) -> R
 }
 
 /// Appends the call.
-#[tactic(auto, unfolding(crate::specs::Spelling::call_text))]
+#[tactic(auto, unfolding(crate::specs::Spelling::call_text, crate::specs::Spelling::call_words))]
 fn write_words(alloc: Global, into: &mut Vec<u8>, call: &Call) -> Result<(), NoMemory>
     ensures ok { OnOk result (into.new.items ≡ into.old.items ++ call_text call.now) }
     ensures front { OnErr result (Begins into.old.items into.new.items) }
