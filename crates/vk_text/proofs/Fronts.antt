@@ -1,7 +1,7 @@
 -- Texts that are written on.
-use Rattle.std.proofs.Common.{◌≡◌, ℕ, List, [], ◌∷◌, ◌++◌, length, take, drop, refl, ap, sym, ◌∙◌, append_assoc}
+use Rattle.std.proofs.Common.{◌≡◌, ℕ, ◌<◌, List, [], ◌∷◌, ◌++◌, length, take, drop, refl, ap, sym, ◌∙◌, append_assoc, arith}
 use Rattle.std.proofs.lemmas.List.{take-append-drop, take_at}
-use Rattle.vk_text.specs.Spelling.{spaced}
+use Rattle.vk_text.specs.Spelling.{spaced, joined}
 
 -- what begins with a longer front begins with the shorter one
 pub front_before : (a x b c : List ℕ) → b ≡ a ++ x → take (length b) c ≡ b → take (length a) c ≡ a
@@ -13,3 +13,8 @@ front_before a x b c e h =
 pub spaced_behind : (front text : List ℕ) (words : List (List ℕ)) → spaced (front ++ text) words ≡ front ++ spaced text words
 spaced_behind front text [] = refl
 spaced_behind front text (w ∷ ws) = ap (λ t. spaced t ws) (append_assoc front text (32 ∷ w)) ∙ spaced_behind front (text ++ 32 ∷ w) ws
+
+-- words behind a text stand behind a space
+pub spaced_joined : (text : List ℕ) (words : List (List ℕ)) → 0 < length words → spaced text words ≡ text ++ 32 ∷ joined words
+spaced_joined text [] some = absurd (omega arith)
+spaced_joined text (w ∷ ws) some = spaced_behind text (32 ∷ w) ws ∙ ap (λ l. text ++ l) (spaced_behind (32 ∷ []) w ws)
