@@ -1,0 +1,13 @@
+//! The packets that stations tell each other: what they must keep to, their bytes written and read, and the packets of one event.
+//!
+//! Stands on the values of `vk_base`, on the fields of `vk_wire` and on `arrayvec`. Frames, and what a station does with a packet,
+//! are said above.
+#![tactic(auto)]
+
+mod packet;
+mod reading;
+mod writing;
+
+pub use packet::PacketView;
+pub use reading::decode;
+pub use writing::encode;
