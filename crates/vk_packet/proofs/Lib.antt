@@ -1,2 +1,4 @@
+mod Again
 mod Appended
 mod InParts
+mod Stands

@@ -4,10 +4,12 @@
 //! are said above.
 #![tactic(auto)]
 
+mod law;
 mod packet;
 mod reading;
 mod writing;
 
+pub use law::packets_are_spelled_once;
 pub use packet::PacketView;
 pub use reading::decode;
 pub use writing::encode;
