@@ -1,6 +1,8 @@
 pub mod Laws
 pub mod Parts
+pub mod Posts
 pub mod Reading
 pub mod Rules
+pub mod Slots
 pub mod Spelling
 pub mod Views

@@ -5,11 +5,13 @@
 #![tactic(auto)]
 
 mod law;
+mod outbox;
 mod packet;
 mod reading;
 mod writing;
 
 pub use law::packets_are_spelled_once;
+pub use outbox::Outbox;
 pub use packet::PacketView;
 pub use reading::decode;
 pub use writing::encode;
