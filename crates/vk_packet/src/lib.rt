@@ -8,6 +8,8 @@ mod law;
 mod outbox;
 mod packet;
 mod reading;
+#[cfg(test)]
+mod tests;
 mod writing;
 
 pub use law::packets_are_spelled_once;
