@@ -1,4 +1,3 @@
 mod Again
 mod Appended
-mod InParts
 mod Stands

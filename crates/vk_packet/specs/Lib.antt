@@ -1,5 +1,4 @@
 pub mod Laws
-pub mod Parts
 pub mod Posts
 pub mod Reading
 pub mod Rules
