@@ -1,0 +1,289 @@
+//! How a packet is spelled.
+
+ghost use Rattle.std.specs.Prelude.{◌≡◌, ◌+◌, ◌<◌, ◌≤◌, ◌++◌, ◌∷◌, true, length};
+ghost use Rattle.arrayvec.specs.ArrayVec.{array_vec_len};
+ghost use Rattle.byteorder.specs.Endian.{big_bytes};
+ghost use Rattle.vk_base.specs.Packets as packets;
+ghost use Rattle.vk_packet.specs.Rules.{is_lawful};
+ghost use Rattle.vk_packet.specs.Spelling.{exchange_bytes, move_bytes, packet_bytes};
+ghost use Rattle.vk_packet.specs.Views.{value_of};
+ghost use Rattle.vk_wire.specs.Fields.{pid_bytes};
+
+use crate::packet::PacketView;
+use arrayvec::ArrayVec;
+use vk_base::{Message, Pid};
+use vk_wire::{bytes_of_pid, bytes_of_u16, bytes_of_u32, bytes_of_u64};
+
+/// The greatest number of bytes of a frame.
+const MOST: usize = 1152;
+
+/// Appends the packet, which keeps to the rules. Before it there are at most 32 bytes, a frame's header.
+pub fn encode(packet: &PacketView, into: &mut ArrayVec<u8, MOST>)
+    requires lawful { is_lawful (value_of packet.now) ≡ true }
+    requires room { array_vec_len into.old ≤ 32 }
+    ensures bytes { into.new.items ≡ into.old.items ++ packet_bytes (value_of packet.now) }
+    ensures some { array_vec_len into.old < array_vec_len into.new }
+    ensures few { array_vec_len into.new ≤ array_vec_len into.old + 1120 }
+{
+    match *packet {
+        PacketView::Send {
+            from,
+            to,
+            number,
+            ref message,
+            part,
+        } => put_send(into, from, to, number, message, part),
+        PacketView::Reply {
+            from,
+            to,
+            number,
+            ref message,
+            dest,
+            bytes,
+        } => put_reply(into, from, to, number, message, dest, bytes),
+        PacketView::Pending { from, to, number } => put_exchange(into, 3, from, to, number),
+        PacketView::Negative { from, to, number } => put_exchange(into, 4, from, to, number),
+        PacketView::MoveData {
+            from,
+            to,
+            number,
+            moving,
+            dest,
+            total,
+            offset,
+            bytes,
+        } => put_move_data(into, from, to, number, moving, dest, total, offset, bytes),
+        PacketView::MoveAck {
+            from,
+            to,
+            number,
+            moving,
+            received,
+        } => put_move_ack(into, from, to, number, moving, received),
+        PacketView::MoveRequest {
+            from,
+            to,
+            number,
+            moving,
+            src,
+            total,
+            offset,
+        } => put_move_request(into, from, to, number, moving, src, total, offset),
+        PacketView::MoveBytes {
+            from,
+            to,
+            number,
+            moving,
+            total,
+            offset,
+            bytes,
+        } => put_move_bytes(into, from, to, number, moving, total, offset, bytes),
+        PacketView::MoveNegative {
+            from,
+            to,
+            number,
+            moving,
+        } => put_move(into, 9, from, to, number, moving),
+        PacketView::AskPid {
+            asker,
+            lookup,
+            logical,
+        } => put_ask_pid(into, asker, lookup, logical),
+        PacketView::TellPid {
+            found,
+            asker,
+            lookup,
+        } => put_tell_pid(into, found, asker, lookup),
+    }
+}
+
+/// Appends the bytes, for which there is room.
+fn put(into: &mut ArrayVec<u8, MOST>, bytes: &[u8])
+    requires { array_vec_len into.old + length bytes.now ≤ 1152 }
+    ensures { into.new.items ≡ into.old.items ++ bytes.now }
+{
+    match into.try_extend_from_slice(bytes) {
+        Ok(()) => {}
+        Err(_) => unreachable!(),
+    }
+}
+
+/// Appends the kind and the pid that stands first.
+fn put_kind(into: &mut ArrayVec<u8, MOST>, kind: u8, first: Pid)
+    requires { array_vec_len into.old ≤ 32 }
+    ensures bytes { into.new.items ≡ into.old.items ++ kind ∷ pid_bytes first }
+    ensures few { array_vec_len into.new ≡ array_vec_len into.old + 5 }
+{
+    into.push(kind);
+    put(into, &bytes_of_pid(first));
+}
+
+/// Appends the kind, and what every packet of an exchange begins with.
+#[tactic(auto, unfolding(crate::specs::Spelling::exchange_bytes))]
+fn put_exchange(into: &mut ArrayVec<u8, MOST>, kind: u8, from: Pid, to: Pid, number: u64)
+    requires { array_vec_len into.old ≤ 32 }
+    ensures bytes { into.new.items ≡ into.old.items ++ kind ∷ exchange_bytes from to number }
+    ensures few { array_vec_len into.new ≡ array_vec_len into.old + 17 }
+{
+    put_kind(into, kind, from);
+    put(into, &bytes_of_pid(to));
+    put(into, &bytes_of_u64(number));
+}
+
+/// Appends the kind, and what every packet of a move begins with.
+#[tactic(auto, unfolding(crate::specs::Spelling::move_bytes))]
+fn put_move(into: &mut ArrayVec<u8, MOST>, kind: u8, from: Pid, to: Pid, number: u64, moving: u64)
+    requires { array_vec_len into.old ≤ 32 }
+    ensures bytes { into.new.items ≡ into.old.items ++ kind ∷ move_bytes from to number moving }
+    ensures few { array_vec_len into.new ≡ array_vec_len into.old + 25 }
+{
+    put_exchange(into, kind, from, to, number);
+    put(into, &bytes_of_u64(moving));
+}
+
+/// Appends a message and the first part of its segment.
+fn put_send(
+    into: &mut ArrayVec<u8, MOST>,
+    from: Pid,
+    to: Pid,
+    number: u64,
+    message: &Message,
+    part: &[u8],
+)
+    requires part { length part.now ≤ 512 }
+    requires room { array_vec_len into.old ≤ 32 }
+    ensures bytes { into.new.items ≡ into.old.items ++ packet_bytes (packets.Send from to number message.now part.now) }
+    ensures few { array_vec_len into.new ≤ array_vec_len into.old + 1120 }
+{
+    put_exchange(into, 1, from, to, number);
+    put(into, &message.0);
+    put(into, part);
+}
+
+/// Appends a reply and its bytes.
+fn put_reply(
+    into: &mut ArrayVec<u8, MOST>,
+    from: Pid,
+    to: Pid,
+    number: u64,
+    message: &Message,
+    dest: u32,
+    bytes: &[u8],
+)
+    requires part { length bytes.now ≤ 512 }
+    requires room { array_vec_len into.old ≤ 32 }
+    ensures bytes { into.new.items ≡ into.old.items ++ packet_bytes (packets.Reply from to number message.now dest bytes.now) }
+    ensures few { array_vec_len into.new ≤ array_vec_len into.old + 1120 }
+{
+    put_exchange(into, 2, from, to, number);
+    put(into, &message.0);
+    put(into, &bytes_of_u32(dest));
+    put(into, &bytes_of_u16(bytes.len() as u16));
+    put(into, bytes);
+}
+
+/// Appends bytes of a move to the sender.
+fn put_move_data(
+    into: &mut ArrayVec<u8, MOST>,
+    from: Pid,
+    to: Pid,
+    number: u64,
+    moving: u64,
+    dest: u32,
+    total: u32,
+    offset: u32,
+    bytes: &[u8],
+)
+    requires part { length bytes.now ≤ 1024 }
+    requires room { array_vec_len into.old ≤ 32 }
+    ensures bytes { into.new.items ≡ into.old.items ++ packet_bytes (packets.MoveData from to number moving dest total offset bytes.now) }
+    ensures few { array_vec_len into.new ≤ array_vec_len into.old + 1120 }
+{
+    put_move(into, 5, from, to, number, moving);
+    put(into, &bytes_of_u32(dest));
+    put(into, &bytes_of_u32(total));
+    put(into, &bytes_of_u32(offset));
+    put(into, bytes);
+}
+
+/// Appends how many bytes of a move were received.
+fn put_move_ack(
+    into: &mut ArrayVec<u8, MOST>,
+    from: Pid,
+    to: Pid,
+    number: u64,
+    moving: u64,
+    received: u32,
+)
+    requires { array_vec_len into.old ≤ 32 }
+    ensures bytes { into.new.items ≡ into.old.items ++ packet_bytes (packets.MoveAck from to number moving received) }
+    ensures few { array_vec_len into.new ≤ array_vec_len into.old + 1120 }
+{
+    put_move(into, 6, from, to, number, moving);
+    put(into, &bytes_of_u32(received));
+}
+
+/// Appends the question for bytes of a move from the sender.
+fn put_move_request(
+    into: &mut ArrayVec<u8, MOST>,
+    from: Pid,
+    to: Pid,
+    number: u64,
+    moving: u64,
+    src: u32,
+    total: u32,
+    offset: u32,
+)
+    requires { array_vec_len into.old ≤ 32 }
+    ensures bytes { into.new.items ≡ into.old.items ++ packet_bytes (packets.MoveRequest from to number moving src total offset) }
+    ensures few { array_vec_len into.new ≤ array_vec_len into.old + 1120 }
+{
+    put_move(into, 7, from, to, number, moving);
+    put(into, &bytes_of_u32(src));
+    put(into, &bytes_of_u32(total));
+    put(into, &bytes_of_u32(offset));
+}
+
+/// Appends bytes that were asked for.
+fn put_move_bytes(
+    into: &mut ArrayVec<u8, MOST>,
+    from: Pid,
+    to: Pid,
+    number: u64,
+    moving: u64,
+    total: u32,
+    offset: u32,
+    bytes: &[u8],
+)
+    requires part { length bytes.now ≤ 1024 }
+    requires room { array_vec_len into.old ≤ 32 }
+    ensures bytes { into.new.items ≡ into.old.items ++ packet_bytes (packets.MoveBytes from to number moving total offset bytes.now) }
+    ensures few { array_vec_len into.new ≤ array_vec_len into.old + 1120 }
+{
+    put_move(into, 8, from, to, number, moving);
+    put(into, &bytes_of_u32(total));
+    put(into, &bytes_of_u32(offset));
+    put(into, bytes);
+}
+
+/// Appends the question who is registered under a logical id.
+fn put_ask_pid(into: &mut ArrayVec<u8, MOST>, asker: Pid, lookup: u64, logical: u32)
+    requires { array_vec_len into.old ≤ 32 }
+    ensures bytes { into.new.items ≡ into.old.items ++ packet_bytes (packets.AskPid asker lookup logical) }
+    ensures few { array_vec_len into.new ≤ array_vec_len into.old + 1120 }
+{
+    put_kind(into, 10, asker);
+    put(into, &bytes_of_u64(lookup));
+    put(into, &bytes_of_u32(logical));
+}
+
+/// Appends the answer who is.
+fn put_tell_pid(into: &mut ArrayVec<u8, MOST>, found: Pid, asker: Pid, lookup: u64)
+    requires { array_vec_len into.old ≤ 32 }
+    ensures bytes { into.new.items ≡ into.old.items ++ packet_bytes (packets.TellPid found asker lookup) }
+    ensures few { array_vec_len into.new ≤ array_vec_len into.old + 1120 }
+{
+    put_kind(into, 11, found);
+    put(into, &bytes_of_pid(asker));
+    put(into, &bytes_of_u64(lookup));
+}
