@@ -38,7 +38,7 @@ spelled word h small =
     let front = and_parts (list_all is_ascii_digit word) (not (length word == 0)) parts.0 in
     sym (decimal-digits_value own word front.0 (some_len (length word) front.1) (no_zero_leads (length word) (slice_index word 0) parts.1) small)
 
-number_spelled : (most n : ℕ) (word : List ℕ) → most < 2 ^ 64 → number_of most word ≡ Some n → (word ≡ decimal n) × (n ≤ most)
+pub number_spelled : (most n : ℕ) (word : List ℕ) → most < 2 ^ 64 → number_of most word ≡ Some n → (word ≡ decimal n) × (n ≤ most)
 unfolding number_of
 number_spelled most n word m h =
     let got = cond_some (is_numeral word && nat_le (digits_value 10 word) most) (digits_value 10 word) n h in
@@ -102,7 +102,7 @@ parted word i h =
     let point : get_or word (position_or_len (λ c. c == 46) word) 0 ≡ 46 = eqb-true _ _ dot in
     subst (λ (n : ℕ). word ≡ take n word ++ 46 ∷ drop (n + 1) word) found.1 (parts ∙ ap (λ (b : ℕ). before_first (λ c. c == 46) word ++ b ∷ after_first (λ c. c == 46) word) point)
 
-pid_spelled : (p : Pid) (word : List ℕ) → pid_of word ≡ Some p → word ≡ pid_text p
+pub pid_spelled : (p : Pid) (word : List ℕ) → pid_of word ≡ Some p → word ≡ pid_text p
 unfolding pid_of
 pid_spelled p word h =
     let at = bound (position (λ c. c == 46) word) _ p h in

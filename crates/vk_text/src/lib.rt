@@ -5,6 +5,7 @@
 #![tactic(auto)]
 
 mod call;
+mod heads;
 mod law;
 mod line;
 mod spelling;
@@ -14,6 +15,7 @@ mod word;
 mod writing;
 
 pub use call::{is_end, next_pid, read_call};
+pub use heads::{Head, HeadRefusal, heads_are_read_again, put_head, read_head};
 pub use law::{words_are_spelled_once, written_is_read};
 pub use line::{next_line, next_word};
 pub use spelling::{put, put_bytes, put_message, put_number};
