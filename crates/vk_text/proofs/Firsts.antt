@@ -1,24 +1,53 @@
--- Nothing is read where no word stands.
-use Rattle.std.proofs.Common.{◌≡◌, ℕ, List, [], ◌∷◌, Option, Some, None, refl, ap}
+-- The first of some words: nothing is read where no word stands, and what is read is spelled by it.
+use Rattle.std.proofs.Common.{◌≡◌, ℕ, true, List, [], ◌∷◌, Option, Some, None, refl, ap, ◌∙◌}
+use Rattle.std.proofs.lemmas.Option.{cond_some}
 use Rattle.hex.specs.Hex.{decode_pairs}
 use Rattle.vk_base.specs.Options.{◌>>=◌}
-use Rattle.vk_text.specs.Calls.{first_as}
+use Rattle.vk_text.specs.Calls.{first_as, ended}
 use Rattle.vk_text.specs.Lines.{StartsNoWord}
-use Rattle.vk_text.specs.Words.{number_of, pid_of, message_of}
+use Rattle.vk_text.specs.Words.{number_of, count_of, station_of, pid_of, message_of, bytes_of, scope_of}
+use Rattle.vk_text.proofs.Spelled.{bound}
 
 pub no_first : {A : Type 0} (spelled : List ℕ → Option A) → spelled [] ≡ None → (ws : List (List ℕ)) → StartsNoWord ws → first_as spelled ws ≡ None
 no_first spelled e [] h = refl
 no_first {A} spelled e ([] ∷ ws) h = ap (λ (o : Option A). o >>= λ a. Some (a, ws)) e
 no_first spelled e ((b ∷ bs) ∷ ws) h = absurd h
 
-pub number_of-empty : (most : ℕ) → number_of most [] ≡ None
+pub no_number : (most : ℕ) (ws : List (List ℕ)) → StartsNoWord ws → first_as (number_of most) ws ≡ None
 unfolding number_of
-number_of-empty most = refl
+no_number most ws h = no_first (number_of most) refl ws h
 
-pub pid_of-empty : pid_of [] ≡ None
+pub no_count : (ws : List (List ℕ)) → StartsNoWord ws → first_as count_of ws ≡ None
+no_count ws h = no_number 4294967295 ws h
+
+pub no_station : (ws : List (List ℕ)) → StartsNoWord ws → first_as station_of ws ≡ None
+unfolding station_of number_of
+no_station ws h = no_first station_of refl ws h
+
+pub no_pid : (ws : List (List ℕ)) → StartsNoWord ws → first_as pid_of ws ≡ None
 unfolding pid_of
-pid_of-empty = refl
+no_pid ws h = no_first pid_of refl ws h
 
-pub message_of-empty : message_of [] ≡ None
+pub no_message : (ws : List (List ℕ)) → StartsNoWord ws → first_as message_of ws ≡ None
 unfolding message_of decode_pairs
-message_of-empty = refl
+no_message ws h = no_first message_of refl ws h
+
+pub no_bytes : (ws : List (List ℕ)) → StartsNoWord ws → first_as bytes_of ws ≡ None
+unfolding bytes_of decode_pairs
+no_bytes ws h = no_first bytes_of refl ws h
+
+pub no_scope : (ws : List (List ℕ)) → StartsNoWord ws → first_as scope_of ws ≡ None
+no_scope ws h = no_first scope_of refl ws h
+
+-- the first word is the text of what is read, and the words behind it are read on
+pub first_spelled : {A B : Type 0} (spelled : List ℕ → Option A) (text : A → List ℕ) → ((a : A) (w : List ℕ) → spelled w ≡ Some a → w ≡ text a) → (next : A × List (List ℕ) → Option B) (b : B) (ws : List (List ℕ)) → (first_as spelled ws >>= next) ≡ Some b → (a : A) × (rest : List (List ℕ)) × (ws ≡ text a ∷ rest) × (next (a, rest) ≡ Some b)
+first_spelled spelled text is next b [] h = cc
+first_spelled spelled text is next b (w ∷ ws) h =
+    let here = bound (spelled w >>= λ a. Some (a, ws)) next b h in
+    let read = bound (spelled w) (λ a. Some (a, ws)) here.0 here.1 in
+    (read.0, ws, ap (λ l. l ∷ ws) (is read.0 w read.1), ap next (cond_some true (read.0, ws) here.0 read.2).1 ∙ here.2)
+
+-- no word is left behind what is read
+pub ended_is : {A : Type 0} (ws : List (List ℕ)) (a b : A) → ended ws a ≡ Some b → (ws ≡ []) × (a ≡ b)
+ended_is [] a b h = (refl, (cond_some true a b h).1)
+ended_is (w ∷ ws) a b h = cc

@@ -1,11 +1,13 @@
 -- Lower-case hexadecimal and its bytes, both ways.
-use Rattle.std.proofs.Common.{◌≡◌, ℕ, suc, ◌+◌, ◌*◌, ◌/◌, ◌%◌, ◌<◌, ◌&&◌, ◌==◌, not, Bool, true, false, List, [], ◌∷◌, slice_index, Option, Some, None, Result, Ok, Err, unwrap_or, refl, arith, ap, sym, ◌∙◌}
+use Rattle.std.proofs.Common.{◌≡◌, ℕ, suc, ◌+◌, ◌*◌, ◌/◌, ◌%◌, ◌<◌, ◌&&◌, ◌==◌, not, Bool, true, false, cond, List, [], ◌∷◌, length, slice_index, codes, bytes_eq, Option, Some, None, Result, Ok, Err, unwrap_or, refl, arith, ap, sym, ◌∙◌}
 use Rattle.std.specs.List.{list_all}
-use Rattle.std.specs.Result.{result_unwrap_or}
-use Rattle.std.proofs.lemmas.Bool.{agree_below_at, and_parts, and_from, eqb-true, not-false}
-use Rattle.hex.specs.Hex.{◌>>=◌, lower_digits, encode_with, encode_lower, hex_digit_value, digit_or_error, value_at, pair_value, decode_pairs, IsBytes}
+use Rattle.std.specs.Result.{result_ok, result_unwrap_or}
+use Rattle.std.proofs.lemmas.Bool.{agree_below_at, and_parts, and_from, and_right, cond-true, eqb-true, not-false}
+use Rattle.hex.specs.Hex.{◌>>=◌, lower_digits, encode_with, encode_lower, hex_digit_value, digit_or_error, value_at, pair_value, decode_pairs, decode_of, IsBytes}
 use Rattle.hex.specs.declared.error.FromHexError.{FromHexError}
-use Rattle.vk_text.specs.Words.{is_lower_hex}
+use Rattle.hex.proofs.HexLemmas.{decode_of-even, decode_of-ok, decode_of-encode_lower}
+use Rattle.vk_text.specs.Spelling.{bytes_text}
+use Rattle.vk_text.specs.Words.{is_lower_hex, lower_hex}
 
 below_g : (c : ℕ) → is_lower_hex c ≡ true → c < 103
 below_g c h = grind arith
@@ -69,3 +71,30 @@ all_lower [] h = refl
 all_lower (b ∷ bs) h =
     let byte : b < 256 = h 0 in
     and_from _ _ (lower_digit (b / 16) (omega arith)) (and_from _ _ (lower_digit (b % 16) (omega arith)) (all_lower bs (λ k. h (suc k))))
+
+pub ok_of : (d : Result (List ℕ) FromHexError) (bytes : List ℕ) → result_ok d ≡ Some bytes → d ≡ Ok bytes
+ok_of (Ok bs) bytes h = ap Ok (ap (λ (o : Option (List ℕ)). elim o [ None ↦ bytes | Some x ↦ x ]) h)
+ok_of (Err e) bytes h = cc
+
+by_lower_case : (b : Bool) (word bytes : List ℕ) → b ≡ list_all is_lower_hex word → cond b (result_ok (decode_of word)) None ≡ Some bytes → encode_lower bytes ≡ word
+by_lower_case true word bytes e h =
+    let read : decode_of word ≡ Ok bytes = ok_of (decode_of word) bytes h in
+    let even = (decode_of-ok word bytes read).0 in
+    encoded_back 0 word bytes (sym e) (sym (decode_of-even word even) ∙ read)
+by_lower_case false word bytes e h = cc
+
+-- what was read is written as it was
+pub written : (word bytes : List ℕ) → lower_hex word ≡ Some bytes → encode_lower bytes ≡ word
+written word bytes h = by_lower_case (list_all is_lower_hex word) word bytes refl h
+
+pub some_text : (bytes : List ℕ) → 0 < length bytes → bytes_text bytes ≡ encode_lower bytes
+some_text [] h = absurd (omega arith)
+some_text (b ∷ bs) h = refl
+
+pub no_dash_in : (b : ℕ) (bs : List ℕ) → bytes_eq (encode_lower (b ∷ bs)) (codes "-") ≡ false
+unfolding encode_with
+no_dash_in b bs = and_right _ false refl
+
+-- what is written is read as it was
+pub read_back : (bytes : List ℕ) → IsBytes bytes → lower_hex (encode_lower bytes) ≡ Some bytes
+read_back bytes fit = cond-true _ _ _ (all_lower bytes fit) ∙ ap result_ok (decode_of-encode_lower bytes fit)

@@ -1,9 +1,9 @@
 -- Hexadecimal and messages.
-use Rattle.std.proofs.Common.{◌≡◌, ℕ, ◌-◌, ◌*◌, ◌/◌, ◌<◌, ◌≤◌, ◌==◌, ◌&&◌, not, nat_le, Bool, true, false, cond, List, [], ◌∷◌, ◌++◌, length, slice_index, take, drop, replicate, codes, bytes_eq, Option, Some, None, Result, Ok, Err, MatchResult, if◌then◌else◌, unwrap_or, ◌⊎◌, refl, arith, ap, sym, ◌∙◌, inl, inr, subst}
+use Rattle.std.proofs.Common.{◌≡◌, ℕ, ◌-◌, ◌*◌, ◌/◌, ◌<◌, ◌≤◌, ◌==◌, ◌&&◌, not, nat_lt, nat_le, Bool, true, false, cond, List, [], ◌∷◌, ◌++◌, length, slice_index, take, drop, replicate, codes, bytes_eq, Option, Some, None, Result, Ok, Err, MatchResult, if◌then◌else◌, unwrap_or, ◌⊎◌, refl, arith, ap, sym, ◌∙◌, inl, inr, subst}
 use Rattle.std.specs.Prelude.{option_map}
 use Rattle.std.specs.List.{list_all}
 use Rattle.std.specs.Result.{result_ok}
-use Rattle.std.proofs.lemmas.Bool.{cond-false, lt-leb, le-leb}
+use Rattle.std.proofs.lemmas.Bool.{cond-false, lt-leb, le-leb, le-ltb, and_right}
 use Rattle.std.proofs.lemmas.Grind.{common_steps}
 use Rattle.std.proofs.lemmas.List.{drop-replicate}
 use Rattle.hex.specs.Hex.{decode_of, decode_sized}
@@ -11,7 +11,8 @@ use Rattle.hex.specs.declared.error.FromHexError.{FromHexError}
 use Rattle.hex.proofs.HexLemmas.{decode_of-ok, decode_sized-ok, decode_sized-twice}
 use Rattle.vk_base.specs.Options.{◌>>=◌}
 use Rattle.vk_base.specs.declared.message.Message.{Message}
-use Rattle.vk_text.specs.Words.{is_lower_hex, lower_hex, ends_filled, padded, message_of}
+use Rattle.vk_text.proofs.HexDigits.{ok_of}
+use Rattle.vk_text.specs.Words.{is_lower_hex, lower_hex, ends_filled, padded, message_of, bytes_of}
 
 written : (d : Result (List ℕ) FromHexError) (r : Result (Unit {0}) FromHexError) (out : List ℕ) → MatchResult d (λ bytes. (r ≡ Ok tt) × (out ≡ bytes)) (λ e. r ≡ Err e) → r ≡ Ok tt → d ≡ Ok out
 written (Ok bytes) r out h ok = ap Ok (sym h.1)
@@ -27,10 +28,6 @@ unhexed_is word out n r lower half h ok len =
     let whole : decode_of word ≡ Ok out = sym (decode_sized-twice word n (decode_sized-ok word n out sized)) ∙ sized in
     let zeros : drop {A = ℕ} (length word / 2) (replicate 32 0) ≡ replicate (32 - length out) 0 = drop-replicate (length word / 2) 32 0 ∙ ap (λ n. replicate (32 - n) 0) (sym len) in
     rw (lower, whole, zeros) refl
-
-pub ok_of : (d : Result (List ℕ) FromHexError) (bytes : List ℕ) → result_ok d ≡ Some bytes → d ≡ Ok bytes
-ok_of (Ok bs) bytes h = ap Ok (ap (λ (o : Option (List ℕ)). elim o [ None ↦ bytes | Some x ↦ x ]) h)
-ok_of (Err e) bytes h = cc
 
 by_lower : (b : Bool) (word bytes : List ℕ) → cond b (result_ok (decode_of word)) None ≡ Some bytes → length word ≡ 2 * length bytes
 by_lower true word bytes h = (decode_of-ok word bytes (ok_of (decode_of word) bytes h)).2
@@ -61,13 +58,35 @@ by_count : (word bytes : List ℕ) → length word ≡ 2 * length bytes → (len
 by_count word bytes twice (inl few) = too_few bytes (omega arith)
 by_count word bytes twice (inr many) = too_many bytes (omega arith)
 
-by_read : (word : List ℕ) (o : Option (List ℕ)) → lower_hex word ≡ o → (length word < 2) ⊎ (64 < length word) → (o >>= shown) ≡ None
-by_read word None h len = refl
-by_read word (Some bytes) h len = by_count word bytes (two_a_byte word bytes h) len
+-- nothing is read where no bytes of this count are taken
+by_read : {A : Type 0} (f : List ℕ → Option A) (word : List ℕ) (o : Option (List ℕ)) → lower_hex word ≡ o → ((bytes : List ℕ) → length word ≡ 2 * length bytes → f bytes ≡ None) → (o >>= f) ≡ None
+by_read f word None h none = refl
+by_read f word (Some bytes) h none = none bytes (two_a_byte word bytes h)
 
 -- no message has as few digits, nor as many
 pub no_message : (word : List ℕ) → bytes_eq word (codes "-") ≡ false → (length word < 2) ⊎ (64 < length word) → None ≡ message_of word
-no_message word h len = sym (no_dash word h ∙ by_read word (lower_hex word) refl len)
+no_message word h len = sym (no_dash word h ∙ by_read shown word (lower_hex word) refl (λ bytes twice. by_count word bytes twice len))
+
+-- these bytes, where they are neither none nor too many
+unfoldable pub counted : List ℕ → Option (List ℕ)
+counted bytes = if nat_lt 0 (length bytes) && nat_le (length bytes) 1024 then Some bytes else None
+
+pub no_dash_of_bytes : (word : List ℕ) → bytes_eq word (codes "-") ≡ false → bytes_of word ≡ (lower_hex word >>= counted)
+unfolding bytes_of counted
+no_dash_of_bytes word h = cond-false _ _ _ h
+
+none_counted : (word bytes : List ℕ) → length word ≡ 2 * length bytes → (length word < 2) ⊎ (2048 < length word) → counted bytes ≡ None
+unfolding counted
+none_counted word bytes twice (inl few) = cond-false _ _ _ (ap (λ b. b && nat_le (length bytes) 1024) (le-ltb 0 (length bytes) (omega arith)))
+none_counted word bytes twice (inr many) = cond-false _ _ _ (and_right _ _ (lt-leb (length bytes) 1024 (omega arith)))
+
+-- no list of bytes has as few digits, nor as many
+pub no_bytes : (word : List ℕ) → bytes_eq word (codes "-") ≡ false → (length word < 2) ⊎ (2048 < length word) → None ≡ bytes_of word
+no_bytes word h len = sym (no_dash_of_bytes word h ∙ by_read counted word (lower_hex word) refl (λ bytes twice. none_counted word bytes twice len))
+
+-- no list of bytes has other digits
+pub no_lower : (word : List ℕ) → bytes_eq word (codes "-") ≡ false → list_all is_lower_hex word ≡ false → None ≡ bytes_of word
+no_lower word h other = sym (no_dash_of_bytes word h ∙ ap (λ (o : Option (List ℕ)). o >>= counted) (cond-false _ _ _ other))
 
 last_byte : (bytes zeros : List ℕ) (n : ℕ) → 0 < length bytes → n ≡ length bytes - 1 → slice_index (bytes ++ zeros) n ≡ slice_index bytes (length bytes - 1)
 last_byte bytes zeros n some h = grind (arith, common_steps)

@@ -1,3 +1,5 @@
+pub mod ByteLists
+pub mod CallWords
 pub mod Firsts
 pub mod Fronts
 pub mod HeadReading

@@ -1,14 +1,10 @@
--- Lines and their text, words and their line.
-use Rattle.std.proofs.Common.{◌≡◌, ℕ, suc, ◌+◌, ◌<◌, ◌==◌, Bool, true, false, cond, List, [], ◌∷◌, ◌++◌, length, get_or, codes, refl, ap, sym, ◌∙◌, subst, arith, append_assoc, ◌⊎◌, inl, inr}
-use Rattle.std.specs.List.{All, AllByRecursion, flat_map, join_with_byte, onto_first}
+-- Lines and their text.
+use Rattle.std.proofs.Common.{◌≡◌, ℕ, ◌==◌, Bool, true, false, cond, List, [], ◌∷◌, ◌++◌, codes, refl, ap, ◌∙◌, append_assoc, ◌⊎◌, inl, inr}
+use Rattle.std.specs.List.{AllByRecursion, flat_map, onto_first}
 use Rattle.std.proofs.lemmas.Bool.{cond-false, eqb-true}
 use Rattle.std.proofs.lemmas.List.Elements.{All-nil, All-cons, All-head, All-tail}
-use Rattle.std.proofs.lemmas.List.Splits.{join_with_byte-slice_split}
 use Rattle.vk_text.specs.Heads.{HasNoFeed, line_text}
-use Rattle.vk_text.specs.Lines.{lines_of, words_from}
-use Rattle.vk_text.specs.Spelling.{spaced}
-use Rattle.vk_text.proofs.Fronts.{spaced_behind}
-use Rattle.vk_text.proofs.Parts.{words_within}
+use Rattle.vk_text.specs.Lines.{lines_of}
 
 abbrev IsNoFeed : ℕ → Type 0
 IsNoFeed b = (b == 10) ≡ false
@@ -58,11 +54,3 @@ pub text_of_lines : (text : List ℕ) → IsTextOf (lines_of text) text
 unfolding lines_of
 text_of_lines [] = inl refl
 text_of_lines (c ∷ cs) = by_line (c == 10) c cs (lines_of cs) refl (text_of_lines cs)
-
-joined : (w : List ℕ) (ws : List (List ℕ)) → join_with_byte 32 (w ∷ ws) ≡ spaced w ws
-joined w [] = refl
-joined w (v ∷ vs) = ap (λ l. w ++ 32 ∷ l) (joined v vs) ∙ sym (append_assoc w (32 ∷ []) (spaced v vs)) ∙ sym (spaced_behind (w ++ 32 ∷ []) v vs) ∙ ap (λ l. spaced l vs) (append_assoc w (32 ∷ []) v)
-
--- a line is its words, with a space between each two
-pub line_of_words : (line word : List ℕ) (words : List (List ℕ)) → words_from line 0 ≡ word ∷ words → line ≡ spaced word words
-line_of_words line word words h = sym (join_with_byte-slice_split 32 line) ∙ ap (join_with_byte 32) (sym (words_within line 0 (omega arith)) ∙ h) ∙ joined word words

@@ -1,23 +1,21 @@
 -- Messages have one spelling each.
-use Rattle.std.proofs.Common.{◌≡◌, ℕ, ◌+◌, ◌-◌, ◌<◌, ◌≤◌, ◌&&◌, ◌==◌, nat_le, Bool, true, false, cond, List, [], ◌∷◌, ◌++◌, length, get_or, take, reverse, replicate, codes, bytes_eq, Option, Some, None, Ok, refl, arith, ap, sym, ◌∙◌, inl, inr}
-use Rattle.std.specs.List.{list_all, suffix_len}
-use Rattle.std.specs.Result.{result_ok}
-use Rattle.std.proofs.lemmas.Bool.{cases_Bool, cases_lt, cond-true, and_parts, and_from, and_right, le-leb, eqb-true, not_from_false, not-true}
+use Rattle.std.proofs.Common.{◌≡◌, ℕ, ◌+◌, ◌-◌, ◌<◌, ◌≤◌, ◌&&◌, ◌==◌, nat_le, true, List, [], ◌∷◌, ◌++◌, length, get_or, take, reverse, replicate, codes, bytes_eq, Option, Some, refl, arith, ap, sym, ◌∙◌, inl, inr}
+use Rattle.std.specs.List.{suffix_len}
+use Rattle.std.proofs.lemmas.Bool.{cases_Bool, cases_lt, cond-true, and_parts, and_from, le-leb, eqb-true, not_from_false, not-true}
 use Rattle.std.proofs.lemmas.Grind.{common_steps}
 use Rattle.std.proofs.lemmas.List.{ext_get_or, get_or-replicate, get_or-reverse, get_or-take, get_or-append_right, length-take-le, take-append-le, take_all, length-reverse, length-take, get_or_past}
 use Rattle.std.proofs.Math.ListN.{get_or-append}
 use Rattle.std.proofs.lemmas.List.Sums.{suffix_len_is, prefix_len_passes, prefix_len_stops}
 use Rattle.std.proofs.lemmas.Option.{cond_some}
 use Rattle.std.proofs.lemmas.Slice.Eq.{bytes_eq-Decides}
-use Rattle.hex.specs.Hex.{decode_of, encode_with, encode_lower, IsBytes}
-use Rattle.hex.proofs.HexLemmas.{decode_of-even, decode_of-ok, decode_of-encode_lower}
+use Rattle.hex.specs.Hex.{encode_lower, IsBytes}
 use Rattle.vk_base.specs.Options.{◌>>=◌}
 use Rattle.vk_base.specs.declared.message.Message.{Message}
 use Rattle.vk_text.specs.Laws.{MessagesAreSpelledOnce}
 use Rattle.vk_text.specs.Spelling.{bytes_text, filled, message_text}
-use Rattle.vk_text.specs.Words.{is_lower_hex, lower_hex, ends_filled, padded, message_of}
-use Rattle.vk_text.proofs.HexDigits.{encoded_back, all_lower}
-use Rattle.vk_text.proofs.Hexadecimal.{shown, no_dash, ok_of}
+use Rattle.vk_text.specs.Words.{lower_hex, ends_filled, padded, message_of}
+use Rattle.vk_text.proofs.HexDigits.{written, some_text, no_dash_in, read_back}
+use Rattle.vk_text.proofs.Hexadecimal.{shown, no_dash}
 use Rattle.vk_text.proofs.Spelled.{bound}
 
 some_byte : (bytes : List ℕ) → ends_filled bytes ≡ true → 0 < length bytes
@@ -74,20 +72,6 @@ ends m some =
     let kept : get_or (filled m) (length (filled m) - 1) 0 ≡ get_or m (length (filled m) - 1) 0 = get_or-take n m (length (filled m) - 1) 0 (omega arith) in
     not_from_false _ (ap (λ k. k == 0) (kept ∙ sym here) ∙ stops)
 
-by_lower_case : (b : Bool) (word bytes : List ℕ) → b ≡ list_all is_lower_hex word → cond b (result_ok (decode_of word)) None ≡ Some bytes → encode_lower bytes ≡ word
-by_lower_case true word bytes e h =
-    let read : decode_of word ≡ Ok bytes = ok_of (decode_of word) bytes h in
-    let even = (decode_of-ok word bytes read).0 in
-    encoded_back 0 word bytes (sym e) (sym (decode_of-even word even) ∙ read)
-by_lower_case false word bytes e h = cc
-
-written : (word bytes : List ℕ) → lower_hex word ≡ Some bytes → encode_lower bytes ≡ word
-written word bytes h = by_lower_case (list_all is_lower_hex word) word bytes refl h
-
-some_text : (bytes : List ℕ) → 0 < length bytes → bytes_text bytes ≡ encode_lower bytes
-some_text [] h = absurd (omega arith)
-some_text (b ∷ bs) h = refl
-
 of_bytes : (word bytes : List ℕ) (m : Message) → lower_hex word ≡ Some bytes → shown bytes ≡ Some m → word ≡ message_text m
 unfolding shown message_text
 of_bytes word bytes m lower h =
@@ -112,13 +96,6 @@ message_spelled m word h = elim (cases_Bool (bytes_eq word (codes "-"))) [
       of_bytes word read.0 m read.1 read.2
 ]
 
-no_dash_in : (b : ℕ) (bs : List ℕ) → bytes_eq (encode_lower (b ∷ bs)) (codes "-") ≡ false
-unfolding encode_with
-no_dash_in b bs = and_right _ false refl
-
-lower_of : (word bytes : List ℕ) → list_all is_lower_hex word ≡ true → decode_of word ≡ Ok bytes → lower_hex word ≡ Some bytes
-lower_of word bytes lower h = cond-true _ _ _ lower ∙ ap result_ok h
-
 shown_is : (bytes : List ℕ) (m : Message) → length bytes ≤ 32 → ends_filled bytes ≡ true → bytes ++ replicate (32 - length bytes) 0 ≡ m.0 → shown bytes ≡ Some m
 unfolding shown
 shown_is bytes m le full h = cond-true _ _ _ (and_from _ _ (le-leb (length bytes) 32 le) full) ∙ ap (λ (l : List ℕ). let x : Message = record { 0 = l } in Some x) h
@@ -127,8 +104,7 @@ text_read : (f : List ℕ) (m : Message) → IsBytes f → length f ≤ 32 → (
 unfolding message_of
 text_read [] m fit le full h = ap (λ (l : List ℕ). let x : Message = record { 0 = l } in Some x) h
 text_read (b ∷ bs) m fit le full h =
-    let lower = lower_of (encode_lower (b ∷ bs)) (b ∷ bs) (all_lower (b ∷ bs) fit) (decode_of-encode_lower (b ∷ bs) fit) in
-    no_dash (encode_lower (b ∷ bs)) (no_dash_in b bs) ∙ ap (λ (o : Option (List ℕ)). o >>= shown) lower ∙ shown_is (b ∷ bs) m le (full (omega arith)) h
+    no_dash (encode_lower (b ∷ bs)) (no_dash_in b bs) ∙ ap (λ (o : Option (List ℕ)). o >>= shown) (read_back (b ∷ bs) fit) ∙ shown_is (b ∷ bs) m le (full (omega arith)) h
 
 taken : (m : List ℕ) (n i : ℕ) → IsBytes m → get_or (take n m) i 0 < 256
 taken m n i fit = elim (cases_lt i n) [

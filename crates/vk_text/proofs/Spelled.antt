@@ -1,21 +1,24 @@
--- Numbers and pids have one spelling each.
-use Rattle.std.proofs.Common.{◌≡◌, ℕ, ◌+◌, ◌<◌, ◌≤◌, ◌^◌, ◌&&◌, ◌||◌, ◌==◌, Bool, true, false, not, nat_lt, nat_le, List, [], ◌∷◌, ◌++◌, length, get_or, slice_index, take, drop, decimal, Option, Some, None, refl, arith, ap, sym, ◌∙◌, subst, rules, inl, inr, append_assoc}
+-- Numbers, stations, pids and scopes have one spelling each.
+use Rattle.std.proofs.Common.{◌≡◌, ℕ, ◌+◌, ◌<◌, ◌≤◌, ◌^◌, ◌&&◌, ◌||◌, ◌==◌, Bool, true, false, cond, if◌then◌else◌, not, nat_lt, nat_le, List, [], ◌∷◌, ◌++◌, length, get_or, slice_index, take, drop, decimal, codes, bytes_eq, Option, Some, None, refl, arith, ap, sym, ◌∙◌, subst, rules, inl, inr, append_assoc}
 use Rattle.std.specs.Char.{is_ascii_digit}
 use Rattle.std.specs.List.{list_all, position, position_or_len, before_first, after_first}
 use Rattle.std.specs.Str.Parse.{digits_value}
-use Rattle.std.proofs.lemmas.Bool.{and_parts, leb-true, le-leb, ltb-true, lt-ltb, ne_eqb, eqb-true, cases_eq}
+use Rattle.std.proofs.lemmas.Bool.{and_parts, cond-true, leb-true, le-leb, ltb-true, lt-ltb, ne_eqb, eqb-true, cases_eq}
 use Rattle.std.proofs.lemmas.Fmt.{decimal-digits_value, digits_value-decimal, digits_decimal, decimal_nonempty, first_decimal, decimal_digit}
 use Rattle.std.proofs.lemmas.Grind.{common_steps}
 use Rattle.std.proofs.lemmas.List.Sums.{AllPass-from_list_all, position_or_len_is, passes_at_first, split_at_first}
 use Rattle.std.proofs.lemmas.Option.{cond_some}
+use Rattle.std.proofs.lemmas.Slice.Eq.{bytes_eq-Decides}
 use Rattle.std.proofs.lemmas.Str.Parse.{IsNumeralModel, IsDigitsTest, numerals_by_value}
 use Rattle.vk_base.specs.Options.{◌>>=◌}
+use Rattle.vk_base.specs.declared.call.Scope.{Scope}
+use Rattle.vk_base.specs.declared.call.Scope.TheVariants as scopes
 use Rattle.vk_base.specs.declared.pid.Pid.{Pid}
 use Rattle.vk_base.specs.Pids.{pid_by, pid_of_numbers}
 use Rattle.vk_base.proofs.PidLemmas.{pid_of_numbers_is}
-use Rattle.vk_text.specs.Laws.{NumbersAreSpelledOnce, PidsAreSpelledOnce}
-use Rattle.vk_text.specs.Spelling.{pid_text}
-use Rattle.vk_text.specs.Words.{is_numeral, number_of, pid_of}
+use Rattle.vk_text.specs.Laws.{NumbersAreSpelledOnce, StationsAreSpelledOnce, PidsAreSpelledOnce, ScopesAreSpelledOnce}
+use Rattle.vk_text.specs.Spelling.{pid_text, scope_text}
+use Rattle.vk_text.specs.Words.{is_numeral, number_of, count_of, station_of, pid_of, scope_of}
 
 digits_test : IsDigitsTest (λ ds. list_all is_ascii_digit ds ≡ true)
 digits_test = search rules
@@ -72,6 +75,30 @@ numbers most n word m = (λ h. number_spelled most n word m h, λ h. ap (number_
 pub bound : {A B : Type 0} (o : Option A) (f : A → Option B) (b : B) → (o >>= f) ≡ Some b → (a : A) × (o ≡ Some a) × (f a ≡ Some b)
 bound None f b h = cc
 bound (Some a) f b h = (a, refl, h)
+
+pub count_spelled : (n : ℕ) (word : List ℕ) → count_of word ≡ Some n → word ≡ decimal n
+count_spelled n word h = (number_spelled 4294967295 n word (omega arith) h).0
+
+pub count_read : (n : ℕ) → n < 2 ^ 32 → count_of (decimal n) ≡ Some n
+count_read n h = number_read 4294967295 n (omega arith) (omega arith)
+
+pub station_spelled : (host : ℕ) (word : List ℕ) → station_of word ≡ Some host → (word ≡ decimal host) × (0 < host) × (host < 65535)
+unfolding station_of
+station_spelled host word h =
+    let read = bound (number_of 65534 word) _ host h in
+    let got = cond_some (nat_lt 0 read.0) read.0 host read.2 in
+    let number = number_spelled 65534 read.0 word (omega arith) read.1 in
+    let some = ltb-true 0 read.0 got.0 in
+    let most = number.1 in
+    let same = got.1 in
+    (number.0 ∙ ap decimal same, omega (arith, some, same), omega (arith, most, same))
+
+pub station_read : (host : ℕ) → 0 < host → host < 65535 → station_of (decimal host) ≡ Some host
+unfolding station_of
+station_read host some most = ap (λ (o : Option ℕ). o >>= λ n. if nat_lt 0 n then Some n else None) (number_read 65534 host (omega arith) (omega arith)) ∙ cond-true _ _ _ (lt-ltb 0 host some)
+
+pub stations : StationsAreSpelledOnce
+stations host word = (λ h. station_spelled host word h, λ h. ap station_of h.0 ∙ station_read host h.1 h.2)
 
 host_in : Pid → Option Pid → ℕ
 host_in p None = p.host
@@ -138,3 +165,29 @@ pid_read p small =
 
 pub pids : PidsAreSpelledOnce
 pids p word small = (λ h. pid_spelled p word h, λ h. ap pid_of h ∙ pid_read p small)
+
+either : {A : Type 0} (P : Type 0) (b : Bool) (x y z : A) → (b ≡ true → x ≡ z → P) → (y ≡ z → P) → cond b x y ≡ z → P
+either P true x y z f g h = f refl h
+either P false x y z f g h = g h
+
+-- the word is this one, or the others decide
+pub either_word : {A : Type 0} (P : Type 0) (w word : List ℕ) (x y z : A) → (w ≡ word → x ≡ z → P) → (y ≡ z → P) → cond (bytes_eq w word) x y ≡ z → P
+either_word P w word x y z f g h = either P (bytes_eq w word) x y z (λ e. f ((bytes_eq-Decides w word).0 e)) g h
+
+same_scope : (s t : Scope) → Some s ≡ Some t → s ≡ t
+same_scope s t h = (cond_some true s t h).1
+
+pub scope_spelled : (s : Scope) (word : List ℕ) → scope_of word ≡ Some s → word ≡ scope_text s
+scope_spelled s word h =
+    either_word (word ≡ scope_text s) word (codes "local") _ _ (Some s) (λ w e. w ∙ ap scope_text (same_scope scopes.Local s e))
+    (either_word (word ≡ scope_text s) word (codes "remote") _ _ (Some s) (λ w e. w ∙ ap scope_text (same_scope scopes.Remote s e))
+    (either_word (word ≡ scope_text s) word (codes "both") _ _ (Some s) (λ w e. w ∙ ap scope_text (same_scope scopes.Both s e)) (λ e. cc)))
+    h
+
+pub scope_read : (s : Scope) → scope_of (scope_text s) ≡ Some s
+scope_read scopes.Local = refl
+scope_read scopes.Remote = refl
+scope_read scopes.Both = refl
+
+pub scopes_once : ScopesAreSpelledOnce
+scopes_once s word = (λ h. scope_spelled s word h, λ h. ap scope_of h ∙ scope_read s)

@@ -5,10 +5,10 @@ use Rattle.std.specs.Option.{option_map_or}
 use Rattle.vk_base.specs.Options.{◌>>=◌}
 use Rattle.vk_base.specs.Settings.{Settings, fault_of, first_fault}
 use Rattle.vk_base.specs.declared.config.ProcessSpec.{ProcessSpec}
-use Rattle.vk_text.specs.Calls.{first_as}
+use Rattle.vk_text.specs.Calls.{first_as, ended}
 use Rattle.vk_text.specs.Laws.{IsPid}
-use Rattle.vk_text.specs.Lines.{lines_of, words_from, is_end}
-use Rattle.vk_text.specs.Spelling.{spaced, pid_text}
+use Rattle.vk_text.specs.Lines.{lines_of, words_from}
+use Rattle.vk_text.specs.Spelling.{joined, pid_text}
 use Rattle.vk_text.specs.Words.{number_of, pid_of}
 
 -- the configuration of these processes, with the times and the pool of a text that does not tell them
@@ -17,7 +17,7 @@ settings_of specs = record { times = record { tries = 5; interval = 4; life = 8 
 
 -- `PID SIZE`
 unfoldable pub spec_of : List (List ℕ) → Option ProcessSpec
-spec_of ws = first_as pid_of ws >>= λ (pid, ws). first_as (number_of 131072) ws >>= λ (size, ws). if is_end ws then Some (record { pid = pid; size = size }) else None
+spec_of ws = first_as pid_of ws >>= λ (pid, ws). first_as (number_of 131072) ws >>= λ (size, ws). ended ws (record { pid = pid; size = size })
 
 -- `process PID SIZE`
 unfoldable pub process_of : List (List ℕ) → Option ProcessSpec
@@ -42,8 +42,12 @@ unfoldable pub head_of : List ℕ → List (List ℕ) → Option (List ProcessSp
 head_of title [] = None
 head_of title (l ∷ ls) = if bytes_eq l title then Some (processes_from [] ls) else None
 
+-- the words of a process's line
+abbrev pub process_words : ProcessSpec → List (List ℕ)
+process_words s = codes "process" ∷ pid_text s.pid ∷ decimal s.size ∷ []
+
 abbrev pub process_text : ProcessSpec → List ℕ
-process_text s = spaced (codes "process") (pid_text s.pid ∷ decimal s.size ∷ [])
+process_text s = joined (process_words s)
 
 -- a line and its line feed
 abbrev pub line_text : List ℕ → List ℕ

@@ -18,6 +18,11 @@ abbrev pub spaced : List ℕ → List (List ℕ) → List ℕ
 spaced text [] = text
 spaced text (w ∷ ws) = spaced (text ++ 32 ∷ w) ws
 
+-- words with one space between
+abbrev pub joined : List (List ℕ) → List ℕ
+joined [] = []
+joined (w ∷ ws) = spaced w ws
+
 abbrev pub pid_text : Pid → List ℕ
 pid_text p = decimal p.host ++ codes "." ++ decimal p.local
 
@@ -37,16 +42,20 @@ scope_text scopes.Local = codes "local"
 scope_text scopes.Remote = codes "remote"
 scope_text scopes.Both = codes "both"
 
+-- the words of a call, of which the first tells which call it is
+unfoldable pub call_words : Call → List (List ℕ)
+call_words (calls.Send target message) = codes "send" ∷ pid_text target ∷ message_text message ∷ []
+call_words calls.Receive = codes "receive" ∷ []
+call_words (calls.ReceiveSegment start count) = codes "receivesegment" ∷ decimal start ∷ decimal count ∷ []
+call_words (calls.Reply message to) = codes "reply" ∷ message_text message ∷ pid_text to ∷ []
+call_words (calls.ReplySegment message to dest src count) = codes "replysegment" ∷ message_text message ∷ pid_text to ∷ decimal dest ∷ decimal src ∷ decimal count ∷ []
+call_words (calls.MoveTo partner dest src count) = codes "moveto" ∷ pid_text partner ∷ decimal dest ∷ decimal src ∷ decimal count ∷ []
+call_words (calls.MoveFrom partner dest src count) = codes "movefrom" ∷ pid_text partner ∷ decimal dest ∷ decimal src ∷ decimal count ∷ []
+call_words (calls.SetPid logical pid scope) = codes "setpid" ∷ decimal logical ∷ pid_text pid ∷ scope_text scope ∷ []
+call_words (calls.GetPid logical scope) = codes "getpid" ∷ decimal logical ∷ scope_text scope ∷ []
+call_words (calls.Load start count) = codes "load" ∷ decimal start ∷ decimal count ∷ []
+call_words (calls.Store start bytes) = codes "store" ∷ decimal start ∷ bytes_text bytes ∷ []
+call_words calls.Exit = codes "exit" ∷ []
+
 unfoldable pub call_text : Call → List ℕ
-call_text (calls.Send target message) = spaced (codes "send") (pid_text target ∷ message_text message ∷ [])
-call_text calls.Receive = codes "receive"
-call_text (calls.ReceiveSegment start count) = spaced (codes "receivesegment") (decimal start ∷ decimal count ∷ [])
-call_text (calls.Reply message to) = spaced (codes "reply") (message_text message ∷ pid_text to ∷ [])
-call_text (calls.ReplySegment message to dest src count) = spaced (codes "replysegment") (message_text message ∷ pid_text to ∷ decimal dest ∷ decimal src ∷ decimal count ∷ [])
-call_text (calls.MoveTo partner dest src count) = spaced (codes "moveto") (pid_text partner ∷ decimal dest ∷ decimal src ∷ decimal count ∷ [])
-call_text (calls.MoveFrom partner dest src count) = spaced (codes "movefrom") (pid_text partner ∷ decimal dest ∷ decimal src ∷ decimal count ∷ [])
-call_text (calls.SetPid logical pid scope) = spaced (codes "setpid") (decimal logical ∷ pid_text pid ∷ scope_text scope ∷ [])
-call_text (calls.GetPid logical scope) = spaced (codes "getpid") (decimal logical ∷ scope_text scope ∷ [])
-call_text (calls.Load start count) = spaced (codes "load") (decimal start ∷ decimal count ∷ [])
-call_text (calls.Store start bytes) = spaced (codes "store") (decimal start ∷ bytes_text bytes ∷ [])
-call_text calls.Exit = codes "exit"
+call_text call = joined (call_words call)

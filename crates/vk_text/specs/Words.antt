@@ -1,5 +1,5 @@
 -- Words and what they spell.
-use Rattle.std.specs.Prelude.{ℕ, ◌+◌, ◌-◌, ◌==◌, ◌&&◌, ◌||◌, not, nat_le, Bool, List, [], ◌++◌, length, take, drop, replicate, slice_index, position, codes, bytes_eq, Option, Some, None, if◌then◌else◌}
+use Rattle.std.specs.Prelude.{ℕ, ◌+◌, ◌-◌, ◌==◌, ◌&&◌, ◌||◌, not, nat_lt, nat_le, Bool, List, [], ◌++◌, length, take, drop, replicate, slice_index, position, codes, bytes_eq, Option, Some, None, if◌then◌else◌}
 use Rattle.std.specs.Char.{is_ascii_digit}
 use Rattle.std.specs.Int.{is_in_range}
 use Rattle.std.specs.List.{list_all}
@@ -8,6 +8,8 @@ use Rattle.std.specs.Str.Parse.{digits_value}
 use Rattle.hex.specs.Hex.{decode_of}
 use Rattle.vk_base.specs.Options.{◌>>=◌}
 use Rattle.vk_base.specs.Pids.{pid_of_numbers}
+use Rattle.vk_base.specs.declared.call.Scope.{Scope}
+use Rattle.vk_base.specs.declared.call.Scope.TheVariants as scopes
 use Rattle.vk_base.specs.declared.message.Message.{Message}
 use Rattle.vk_base.specs.declared.pid.Pid.{Pid}
 
@@ -18,6 +20,14 @@ is_numeral word = list_all is_ascii_digit word && not (length word == 0) && (len
 -- a number of at most `most`
 unfoldable pub number_of : ℕ → List ℕ → Option ℕ
 number_of most word = if is_numeral word && nat_le (digits_value 10 word) most then Some (digits_value 10 word) else None
+
+-- a number of a call: at most 2^32 - 1
+abbrev pub count_of : List ℕ → Option ℕ
+count_of word = number_of 4294967295 word
+
+-- a number from 1 to 65,534
+unfoldable pub station_of : List ℕ → Option ℕ
+station_of word = number_of 65534 word >>= λ n. if nat_lt 0 n then Some n else None
 
 -- `H.L`, two numbers with a point between
 unfoldable pub pid_of : List ℕ → Option Pid
@@ -48,3 +58,16 @@ unfoldable pub message_of : List ℕ → Option Message
 message_of word =
     if bytes_eq word (codes "-") then Some (padded [])
     else lower_hex word >>= λ bytes. if nat_le (length bytes) 32 && ends_filled bytes then Some (padded bytes) else None
+
+-- lower-case hexadecimal of all bytes, of which there are at most 1,024; `-` for none
+unfoldable pub bytes_of : List ℕ → Option (List ℕ)
+bytes_of word =
+    if bytes_eq word (codes "-") then Some []
+    else lower_hex word >>= λ bytes. if nat_lt 0 (length bytes) && nat_le (length bytes) 1024 then Some bytes else None
+
+abbrev pub scope_of : List ℕ → Option Scope
+scope_of word =
+    if bytes_eq word (codes "local") then Some scopes.Local
+    else if bytes_eq word (codes "remote") then Some scopes.Remote
+    else if bytes_eq word (codes "both") then Some scopes.Both
+    else None

@@ -1,16 +1,13 @@
 //! What the texts of schedules and of traces begin with: a title line, and a line for each process.
 
 ghost use Rattle.std.specs.Prelude.{◌≡◌, ◌+◌, ◌≤◌, ◌⊎◌, ◌++◌, [], true, false, if◌then◌else◌, None, Some, drop, length, IfSome, IfOk, IfErr, OnOk, OnErr, flat_map, MatchOption};
-ghost use Rattle.vk_text.specs.Calls.{first_as};
 ghost use Rattle.vk_text.specs.Heads.{settings_of, spec_of, process_of, with_line, processes_from, head_of, process_text, line_text, head_text, HeadsReadBack};
 ghost use Rattle.vk_text.specs.Lines.{lines_of, words_from};
 ghost use Rattle.vk_text.specs.Spelling.{Begins, spaced};
-ghost use Rattle.vk_text.specs.Words.{number_of};
 
-use crate::call::{is_end, next_pid};
 use crate::line::{next_line, next_word};
+use crate::next::{is_end, next_number, next_pid};
 use crate::spelling::put;
-use crate::word::number;
 use crate::writing::{write_number, write_pid};
 use std::alloc::Global;
 use vk_base::{Config, ConfigRefusal, NoMemory, ProcessSpec, Times};
@@ -67,25 +64,18 @@ fn empty_config(alloc: Global) -> Config
     }
 }
 
-/// The size that the word at `at` spells, and where the next word would start.
-fn next_size(line: &[u8], at: usize) -> Option<(u32, usize)>
-    ensures { MatchOption result (first_as (number_of 131072) (words_from line.now at) ≡ None)
-        (λ r. first_as (number_of 131072) (words_from line.now at) ≡ Some (r.0, words_from line.now r.1)) }
-{
-    let (word, next) = next_word(line, at)?;
-    let size = number(word, SIZE)?;
-    Some((size as u32, next))
-}
-
 /// `PID SIZE`
 #[tactic(auto, unfolding(crate::specs::Heads::spec_of))]
 fn read_spec(line: &[u8], at: usize) -> Option<ProcessSpec>
     ensures { result ≡ spec_of (words_from line.now at) }
 {
     let (pid, at) = next_pid(line, at)?;
-    let (size, at) = next_size(line, at)?;
+    let (size, at) = next_number(line, at, SIZE)?;
     if is_end(line, at) {
-        Some(ProcessSpec { pid, size })
+        Some(ProcessSpec {
+            pid,
+            size: size as u32,
+        })
     } else {
         None
     }

@@ -8,18 +8,23 @@ mod call;
 mod heads;
 mod law;
 mod line;
+mod next;
 mod spelling;
 #[cfg(test)]
 mod tests;
 mod word;
 mod writing;
 
-pub use call::{is_end, next_pid, read_call};
+pub use call::read_call;
 pub use heads::{Head, HeadRefusal, heads_are_read_again, put_head, read_head};
-pub use law::{words_are_spelled_once, written_is_read};
+pub use law::{calls_are_spelled_once, words_are_spelled_once, written_is_read};
 pub use line::{next_line, next_word};
-pub use spelling::{put, put_bytes, put_message, put_number};
-pub use word::{message, number, pid};
+pub use next::{
+    is_end, next_bytes, next_count, next_message, next_number, next_pid, next_scope, next_station,
+};
+pub use spelling::{put, put_bytes, put_message, put_number, put_scope};
+pub use word::{bytes, message, number, pid, scope, station};
 pub use writing::{
-    put_call, put_pid, write_bytes, write_call, write_message, write_number, write_pid, write_word,
+    put_call, put_pid, write_bytes, write_call, write_message, write_number, write_pid,
+    write_scope, write_word,
 };

@@ -2,11 +2,11 @@
 
 ghost use Rattle.std.specs.Prelude.{◌≡◌, ◌==◌, ◌+◌, ◌*◌, ◌<◌, ◌≤◌, ◌++◌, length, decimal, OnOk, OnErr};
 ghost use Rattle.std.specs.List.{suffix_len};
-ghost use Rattle.vk_text.specs.Spelling.{bytes_text, message_text};
+ghost use Rattle.vk_text.specs.Spelling.{bytes_text, message_text, scope_text};
 
 use itoa::Buffer;
 use std::alloc::Global;
-use vk_base::{Message, NoMemory};
+use vk_base::{Message, NoMemory, Scope};
 
 /// Appends the bytes.
 pub fn put(into: &mut Vec<u8>, bytes: &[u8]) -> Result<(), NoMemory>
@@ -118,4 +118,17 @@ pub fn put_bytes(_alloc: Global, into: &mut Vec<u8>, bytes: &[u8]) -> Result<(),
     } else {
         put_many(into, bytes)
     }
+}
+
+/// Appends the scope: `local`, `remote` or `both`.
+pub fn put_scope(_alloc: Global, into: &mut Vec<u8>, scope: Scope) -> Result<(), NoMemory>
+    ensures ok { OnOk result (into.new.items ≡ into.old.items ++ scope_text scope) }
+    ensures err { OnErr result (into.new.items ≡ into.old.items) }
+{
+    let word: &[u8] = match scope {
+        Scope::Local => b"local",
+        Scope::Remote => b"remote",
+        Scope::Both => b"both",
+    };
+    put(into, word)
 }

@@ -1,10 +1,11 @@
 //! Vectors of words, and calls that are read and written again.
 
 use super::{
-    message, next_line, next_word, number, pid, put_call, put_message, put_pid, read_call,
+    bytes, message, next_line, next_number, next_word, number, pid, put_call, put_message, put_pid,
+    read_call, scope, station,
 };
 use std::test::Fail;
-use vk_base::{Message, Pid};
+use vk_base::{Message, Pid, Scope};
 
 #[test]
 fn words_and_calls(rt: HostRuntime) -> Result<(), Fail> {
@@ -25,10 +26,10 @@ fn words_and_calls(rt: HostRuntime) -> Result<(), Fail> {
     assert!(rt; pid(b"1.0").is_none());
     assert!(rt; pid(b"1.1.1").is_none());
 
-    let mut bytes = [0u8; 32];
-    assert!(rt; message(b"-") == Some(Message(bytes)));
-    bytes[0] = 10;
-    assert!(rt; message(b"0a") == Some(Message(bytes)));
+    let mut ten = [0u8; 32];
+    assert!(rt; message(b"-") == Some(Message(ten)));
+    ten[0] = 10;
+    assert!(rt; message(b"0a") == Some(Message(ten)));
     assert!(rt; message(b"0A").is_none());
     assert!(rt; message(b"0a00").is_none());
     assert!(rt; message(b"0a0").is_none());
@@ -40,6 +41,18 @@ fn words_and_calls(rt: HostRuntime) -> Result<(), Fail> {
     assert!(rt;
         message(b"010203040506070809101112131415161718192021222324252627282930313233").is_none()
     );
+
+    assert!(rt; bytes(b"-").ok_or("none")?.as_slice().is_empty());
+    assert!(rt; bytes(b"0a00").ok_or("two")?.as_slice() == [10, 0].as_slice());
+    assert!(rt; bytes(b"").is_none());
+    assert!(rt; bytes(b"0a0").is_none());
+    assert!(rt; bytes(b"0A").is_none());
+    assert!(rt; scope(b"both") == Some(Scope::Both));
+    assert!(rt; scope(b"Both").is_none());
+    assert!(rt; station(b"65534") == Some(65534));
+    assert!(rt; station(b"0").is_none());
+    assert!(rt; next_number(b"1 20", 2, 20) == Some((20, 5)));
+    assert!(rt; next_number(b"1  20", 2, 20).is_none());
 
     let line = b"call 1.1 send 2.1 0a";
     let (at, _) = next_line(line, 0).ok_or("a line")?;

@@ -4,10 +4,10 @@ ghost use Rattle.std.specs.Prelude.{◌≡◌, ◌==◌, ◌+◌, ◌-◌, ◌*�
 ghost use Rattle.std.specs.Char.{is_ascii_digit};
 ghost use Rattle.std.specs.List.{list_all};
 ghost use Rattle.std.specs.Str.Parse.{digits_value};
-ghost use Rattle.vk_text.specs.Words.{number_of, pid_of, is_lower_hex, lower_hex, padded, message_of};
+ghost use Rattle.vk_text.specs.Words.{number_of, station_of, pid_of, is_lower_hex, lower_hex, padded, message_of, bytes_of, scope_of};
 
 use crate::line::place_of;
-use vk_base::{Message, Pid};
+use vk_base::{Data, Message, Pid, Scope};
 
 /// The number with one more digit, where the byte is a digit and the number is below 2^64.
 fn with_digit(value: u64, byte: u8) -> Option<u64>
@@ -41,6 +41,15 @@ pub fn number(word: &[u8], most: u64) -> Option<u64>
     }
     let value = value(word)?;
     if value <= most { Some(value) } else { None }
+}
+
+/// The station that the word spells: a number from 1 to 65,534.
+#[tactic(auto, unfolding(crate::specs::Words::station_of))]
+pub fn station(word: &[u8]) -> Option<u16>
+    ensures { result ≡ station_of word.now }
+{
+    let host = number(word, 65534)?;
+    if host > 0 { Some(host as u16) } else { None }
 }
 
 /// The pid that the word spells: `H.L`.
@@ -108,6 +117,40 @@ pub fn message(word: &[u8]) -> Option<Message>
     let message = unhexed(word)?;
     if ends_filled(&message, word.len() / 2) {
         Some(message)
+    } else {
+        None
+    }
+}
+
+/// The bytes that the word spells: lower-case hexadecimal of all of them, at most 1,024, or `-` for none.
+#[tactic(auto, unfolding(crate::specs::Words::bytes_of))]
+pub fn bytes(word: &[u8]) -> Option<Data>
+    ensures { result ≡ bytes_of word.now }
+{
+    if word == b"-".as_slice() {
+        return Some(Data::empty());
+    }
+    if word.len() < 2 || word.len() > 2048 || !all_lower_hex(word) {
+        return None;
+    }
+    let mut bytes = [0u8; 1024];
+    let half = word.len() / 2;
+    match hex::decode_to_slice(word, &mut bytes[..half]) {
+        Ok(()) => Data::new(&bytes[..half]),
+        Err(_) => None,
+    }
+}
+
+/// The scope that the word spells: `local`, `remote` or `both`.
+pub fn scope(word: &[u8]) -> Option<Scope>
+    ensures { result ≡ scope_of word.now }
+{
+    if word == b"local".as_slice() {
+        Some(Scope::Local)
+    } else if word == b"remote".as_slice() {
+        Some(Scope::Remote)
+    } else if word == b"both".as_slice() {
+        Some(Scope::Both)
     } else {
         None
     }

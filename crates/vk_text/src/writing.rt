@@ -4,7 +4,7 @@
 ghost use Rattle.std.specs.Prelude.{◌≡◌, ◌≤◌, [], ◌∷◌, ◌++◌, length, codes, decimal, OnOk, OnErr};
 ghost use Rattle.vk_text.specs.Spelling.{Begins, spaced, pid_text, bytes_text, message_text, scope_text, call_text};
 
-use crate::spelling::{put, put_bytes, put_message, put_number};
+use crate::spelling::{put, put_bytes, put_message, put_number, put_scope};
 use std::alloc::Global;
 use vk_base::{Call, Data, Message, NoMemory, Pid, Scope};
 
@@ -29,16 +29,6 @@ pub fn put_pid(alloc: Global, into: &mut Vec<u8>, pid: Pid) -> Result<(), NoMemo
         into.truncate(len);
     }
     written
-}
-
-fn scope_word(scope: Scope) -> &'static [u8]
-    ensures { result.now ≡ scope_text scope }
-{
-    match scope {
-        Scope::Local => b"local",
-        Scope::Remote => b"remote",
-        Scope::Both => b"both",
-    }
 }
 
 /// Appends a space and the word. At a refusal a part may stand, and the front is as it was.
@@ -85,6 +75,15 @@ pub fn write_bytes(alloc: Global, into: &mut Vec<u8>, bytes: &[u8]) -> Result<()
 {
     put(into, b" ")?;
     put_bytes(alloc, into, bytes)
+}
+
+/// Appends a space and the scope. At a refusal a part may stand, and the front is as it was.
+pub fn write_scope(alloc: Global, into: &mut Vec<u8>, scope: Scope) -> Result<(), NoMemory>
+    ensures ok { OnOk result (into.new.items ≡ into.old.items ++ 32 ∷ scope_text scope) }
+    ensures front { OnErr result (Begins into.old.items into.new.items) }
+{
+    put(into, b" ")?;
+    put_scope(alloc, into, scope)
 }
 
 /// Appends a space and the call. At a refusal a part may stand, and the front is as it was.
@@ -208,7 +207,7 @@ fn write_set_pid(
     put(into, b"setpid")?;
     write_number(alloc, into, u64::from(logical))?;
     write_pid(alloc, into, pid)?;
-    write_word(into, scope_word(scope))
+    write_scope(alloc, into, scope)
 }
 
 /// Appends `getpid LOGICAL SCOPE`.
@@ -223,7 +222,7 @@ fn write_get_pid(
 {
     put(into, b"getpid")?;
     write_number(alloc, into, u64::from(logical))?;
-    write_word(into, scope_word(scope))
+    write_scope(alloc, into, scope)
 }
 
 /// Appends `store START B`.
@@ -237,7 +236,7 @@ fn write_store(alloc: Global, into: &mut Vec<u8>, start: u32, bytes: &Data) -> R
 }
 
 /// Appends the call.
-#[tactic(auto, unfolding(crate::specs::Spelling::call_text))]
+#[tactic(auto, unfolding(crate::specs::Spelling::call_text, crate::specs::Spelling::call_words))]
 fn write_words(alloc: Global, into: &mut Vec<u8>, call: &Call) -> Result<(), NoMemory>
     ensures ok { OnOk result (into.new.items ≡ into.old.items ++ call_text call.now) }
     ensures front { OnErr result (Begins into.old.items into.new.items) }

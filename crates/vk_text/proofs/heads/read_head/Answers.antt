@@ -1,5 +1,4 @@
 use Rattle.std.proofs.Common.{◌∙◌, ap, arith, cond, Some, None}
-use Rattle.vk_text.specs.Heads.{settings_of}
 use Rattle.vk_base.specs.Settings.{Settings}
 use Rattle.vk_text.proofs.HeadReading.{more_processes, other_line, no_line_left, at_head}
 use Rattle.vk_text.proofs.heads.read_head.Goals as goal

@@ -1,0 +1,89 @@
+//! The next word of a line as a value. Each call also gives where the word after it would start, and is `None` exactly
+//! where no word of the spelling stands at `at`.
+
+ghost use Rattle.std.specs.Prelude.{◌≡◌, ◌≤◌, Some, None, MatchOption, IfSome};
+ghost use Rattle.vk_text.specs.Calls.{first_as};
+ghost use Rattle.vk_text.specs.Lines.{is_end, words_from};
+ghost use Rattle.vk_text.specs.Words.{number_of, count_of, station_of, pid_of, message_of, bytes_of, scope_of};
+
+use crate::line::next_word;
+use crate::word::{bytes, message, number, pid, scope, station};
+use vk_base::{Data, Message, Pid, Scope};
+
+/// Whether no word is left from `at` on. A trailing space leaves an empty one.
+pub fn is_end(line: &[u8], at: usize) -> bool
+    ensures { result ≡ is_end (words_from line.now at) }
+{
+    at > line.len()
+}
+
+/// The number, which is at most `most`.
+#[tactic(auto, using(crate::proofs::Firsts::no_number))]
+pub fn next_number(line: &[u8], at: usize, most: u64) -> Option<(u64, usize)>
+    ensures word { MatchOption result (first_as (number_of most) (words_from line.now at) ≡ None)
+        (λ r. first_as (number_of most) (words_from line.now at) ≡ Some (r.0, words_from line.now r.1)) }
+    ensures within { IfSome result (λ r. r.0 ≤ most) }
+{
+    let (word, next) = next_word(line, at)?;
+    Some((number(word, most)?, next))
+}
+
+/// The number of 32 bits.
+#[tactic(auto, using(crate::proofs::Firsts::no_count))]
+pub fn next_count(line: &[u8], at: usize) -> Option<(u32, usize)>
+    ensures { MatchOption result (first_as count_of (words_from line.now at) ≡ None)
+        (λ r. first_as count_of (words_from line.now at) ≡ Some (r.0, words_from line.now r.1)) }
+{
+    let (word, next) = next_word(line, at)?;
+    Some((number(word, u64::from(u32::MAX))? as u32, next))
+}
+
+/// The station.
+#[tactic(auto, using(crate::proofs::Firsts::no_station))]
+pub fn next_station(line: &[u8], at: usize) -> Option<(u16, usize)>
+    ensures { MatchOption result (first_as station_of (words_from line.now at) ≡ None)
+        (λ r. first_as station_of (words_from line.now at) ≡ Some (r.0, words_from line.now r.1)) }
+{
+    let (word, next) = next_word(line, at)?;
+    Some((station(word)?, next))
+}
+
+/// The pid.
+#[tactic(auto, using(crate::proofs::Firsts::no_pid))]
+pub fn next_pid(line: &[u8], at: usize) -> Option<(Pid, usize)>
+    ensures { MatchOption result (first_as pid_of (words_from line.now at) ≡ None)
+        (λ r. first_as pid_of (words_from line.now at) ≡ Some (r.0, words_from line.now r.1)) }
+{
+    let (word, next) = next_word(line, at)?;
+    Some((pid(word)?, next))
+}
+
+/// The message.
+#[tactic(auto, using(crate::proofs::Firsts::no_message))]
+pub fn next_message(line: &[u8], at: usize) -> Option<(Message, usize)>
+    ensures { MatchOption result (first_as message_of (words_from line.now at) ≡ None)
+        (λ r. first_as message_of (words_from line.now at) ≡ Some (r.0, words_from line.now r.1)) }
+{
+    let (word, next) = next_word(line, at)?;
+    Some((message(word)?, next))
+}
+
+/// The bytes.
+#[tactic(auto, using(crate::proofs::Firsts::no_bytes))]
+pub fn next_bytes(line: &[u8], at: usize) -> Option<(Data, usize)>
+    ensures { MatchOption result (first_as bytes_of (words_from line.now at) ≡ None)
+        (λ r. first_as bytes_of (words_from line.now at) ≡ Some (r.0, words_from line.now r.1)) }
+{
+    let (word, next) = next_word(line, at)?;
+    Some((bytes(word)?, next))
+}
+
+/// The scope.
+#[tactic(auto, using(crate::proofs::Firsts::no_scope))]
+pub fn next_scope(line: &[u8], at: usize) -> Option<(Scope, usize)>
+    ensures { MatchOption result (first_as scope_of (words_from line.now at) ≡ None)
+        (λ r. first_as scope_of (words_from line.now at) ≡ Some (r.0, words_from line.now r.1)) }
+{
+    let (word, next) = next_word(line, at)?;
+    Some((scope(word)?, next))
+}
