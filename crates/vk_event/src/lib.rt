@@ -8,6 +8,8 @@ mod law;
 mod line;
 mod reader;
 mod schedule;
+#[cfg(test)]
+mod tests;
 mod writing;
 
 pub use event::Event;
