@@ -8,9 +8,8 @@ use Rattle.vk_text.specs.Calls.{first_as, call_of}
 use Rattle.vk_text.specs.Lines.{StartsNoWord}
 use Rattle.vk_text.specs.Spelling.{spaced, joined, pid_text, call_words, call_text}
 use Rattle.vk_text.specs.Words.{number_of, station_of, pid_of}
-use Rattle.vk_text.proofs.CallWords.{call_spelled}
+use Rattle.vk_text.proofs.CallWords.{call_spelled, spaced_call}
 use Rattle.vk_text.proofs.Firsts.{no_first, first_spelled, ended_is}
-use Rattle.vk_text.proofs.Fronts.{spaced_behind}
 use Rattle.vk_text.proofs.Spelled.{bound, either_word, number_spelled, station_spelled, pid_spelled}
 use Rattle.vk_event.specs.Schedule.{positive_of, call_event_of, collect_event_of, tick_event_of, deliver_event_of, event_of}
 use Rattle.vk_event.specs.Spelling.{event_words, event_text}
@@ -76,28 +75,8 @@ event_spelled (w ∷ ws) e h =
     (named w (codes "tick") ws e _ _ (tick_spelled ws e)
     (named w (codes "deliver") ws e _ _ (deliver_spelled ws e) (λ none. cc)))) h
 
-word_behind : (text : List ℕ) (ws : List (List ℕ)) → 0 < length ws → spaced text ws ≡ text ++ 32 ∷ joined ws
-word_behind text [] some = absurd (omega arith)
-word_behind text (w ∷ ws) some = ap (λ t. spaced t ws) (sym (append_assoc text (32 ∷ []) w)) ∙ spaced_behind (text ++ 32 ∷ []) w ws ∙ append_assoc text (32 ∷ []) (spaced w ws)
-
-some_word : (call : Call) → 0 < length (call_words call)
-unfolding call_words
-some_word (calls.Send target message) = omega arith
-some_word calls.Receive = omega arith
-some_word (calls.ReceiveSegment start count) = omega arith
-some_word (calls.Reply message to) = omega arith
-some_word (calls.ReplySegment message to dest src count) = omega arith
-some_word (calls.MoveTo partner dest src count) = omega arith
-some_word (calls.MoveFrom partner dest src count) = omega arith
-some_word (calls.SetPid logical pid scope) = omega arith
-some_word (calls.GetPid logical scope) = omega arith
-some_word (calls.Load start count) = omega arith
-some_word (calls.Store start bytes) = omega arith
-some_word calls.Exit = omega arith
-
 -- the text of the event of a call
 pub call_event_text : (front : List ℕ) (pid : Pid) (call : Call) → ((front ++ codes "call") ++ 32 ∷ pid_text pid) ++ 32 ∷ call_text call ≡ front ++ event_text (events.Call pid call)
-unfolding call_text
 call_event_text front pid call =
     let text : List ℕ = codes "call" ++ 32 ∷ pid_text pid in
-    ap (λ l. l ++ 32 ∷ joined (call_words call)) (append_assoc front (codes "call") (32 ∷ pid_text pid)) ∙ append_assoc front text (32 ∷ joined (call_words call)) ∙ ap (λ l. front ++ l) (sym (word_behind text (call_words call) (some_word call)))
+    ap (λ l. l ++ 32 ∷ call_text call) (append_assoc front (codes "call") (32 ∷ pid_text pid)) ∙ append_assoc front text (32 ∷ call_text call) ∙ ap (λ l. front ++ l) (sym (spaced_call text call))

@@ -1,5 +1,5 @@
 -- Calls have one spelling each.
-use Rattle.std.proofs.Common.{◌≡◌, ℕ, ◌<◌, ◌^◌, ◌==◌, not, cond, List, [], ◌∷◌, length, decimal, codes, bytes_eq, true, Option, Some, refl, arith, ap, sym, ◌∙◌}
+use Rattle.std.proofs.Common.{◌≡◌, ℕ, ◌<◌, ◌^◌, ◌==◌, not, cond, List, [], ◌∷◌, ◌++◌, length, decimal, codes, bytes_eq, true, Option, Some, refl, arith, ap, sym, ◌∙◌}
 use Rattle.std.specs.List.{list_all, AllByRecursion}
 use Rattle.std.proofs.lemmas.Option.{cond_some}
 use Rattle.vk_base.specs.declared.call.Call.{Call}
@@ -8,10 +8,11 @@ use Rattle.vk_base.specs.declared.pid.Pid.{Pid}
 use Rattle.vk_text.specs.Calls.{ended, range_of, places_of, send_of, reply_of, range_call_of, reply_segment_of, move_of, set_pid_of, get_pid_of, store_of, call_of}
 use Rattle.vk_text.specs.Laws.{HasNoSpace, IsReadable, CallsReadBack, CallWordsAreSpelledOnce, CallsAreSpelledOnce}
 use Rattle.vk_text.specs.Lines.{words_from}
-use Rattle.vk_text.specs.Spelling.{joined, pid_text, message_text, bytes_text, scope_text, call_words, call_text}
+use Rattle.vk_text.specs.Spelling.{spaced, joined, pid_text, message_text, bytes_text, scope_text, call_words, call_text}
 use Rattle.vk_text.specs.Words.{count_of, pid_of, message_of, bytes_of, scope_of}
 use Rattle.vk_text.proofs.ByteLists.{bytes_spelled, bytes_read}
 use Rattle.vk_text.proofs.Firsts.{first_spelled, ended_is}
+use Rattle.vk_text.proofs.Fronts.{spaced_joined}
 use Rattle.vk_text.proofs.Messages.{message_spelled, message_read}
 use Rattle.vk_text.proofs.ReadBack.{joined_words, line_joined, no_space_by, plain, decimal_no_space, pid_no_space, message_no_space, bytes_no_space, scope_no_space}
 use Rattle.vk_text.proofs.Spelled.{bound, either_word, count_spelled, count_read, pid_spelled, pid_read, scope_spelled, scope_read}
@@ -145,9 +146,14 @@ call_read (calls.Load start count) h = rw (count_read start h.0, count_read coun
 call_read (calls.Store start bytes) h = rw (count_read start h.0, bytes_read bytes h.1) refl
 call_read calls.Exit h = refl
 
-some_words : (ws : List (List ℕ)) (call : Call) → call_of ws ≡ Some call → 0 < length ws
-some_words [] call h = cc
-some_words (w ∷ ws) call h = omega arith
+pub some_words : (call : Call) → 0 < length (call_words call)
+unfolding call_words
+some_words call = grind arith
+
+-- a call behind a text
+pub spaced_call : (text : List ℕ) (call : Call) → spaced text (call_words call) ≡ text ++ 32 ∷ call_text call
+unfolding call_text
+spaced_call text call = spaced_joined text (call_words call) (some_words call)
 
 count_no_space : (n : ℕ) → n < 2 ^ 32 → HasNoSpace (decimal n)
 count_no_space n h = decimal_no_space n (omega arith)
@@ -173,8 +179,7 @@ call_no_space calls.Exit h = (letters (codes "exit") refl, tt)
 pub calls_back : CallsReadBack
 unfolding call_text
 calls_back call h =
-    let read = call_read call h in
-    ap call_of (joined_words (call_words call) (some_words (call_words call) call read) (call_no_space call h)) ∙ read
+    ap call_of (joined_words (call_words call) (some_words call) (call_no_space call h)) ∙ call_read call h
 
 pub call_words_once : CallWordsAreSpelledOnce
 call_words_once call ws h = (λ e. call_spelled ws call e, λ e. ap call_of e ∙ call_read call h)

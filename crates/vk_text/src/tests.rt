@@ -1,14 +1,15 @@
 //! Vectors of words, and calls that are read and written again.
 
 use super::{
-    bytes, message, next_line, next_number, next_word, number, pid, put_call, put_message, put_pid,
+    bytes, message, next_line, next_number, next_word, number, pid, put_call, put_message,
     read_call, scope, station,
 };
+use std::alloc::Global;
 use std::test::Fail;
 use vk_base::{Message, Pid, Scope};
 
 #[test]
-fn words_and_calls(rt: HostRuntime) -> Result<(), Fail> {
+fn words(rt: HostRuntime) -> Result<(), Fail> {
     let alloc = rt.alloc();
     assert!(rt; number(b"0", 9) == Some(0));
     assert!(rt; number(b"10", 10) == Some(10));
@@ -54,17 +55,45 @@ fn words_and_calls(rt: HostRuntime) -> Result<(), Fail> {
     assert!(rt; next_number(b"1 20", 2, 20) == Some((20, 5)));
     assert!(rt; next_number(b"1  20", 2, 20).is_none());
 
-    let line = b"call 1.1 send 2.1 0a";
-    let (at, _) = next_line(line, 0).ok_or("a line")?;
+    let line = b"call 1.1 send 2.1 0a\nexit";
+    let (at, next) = next_line(line, 0).ok_or("a line")?;
+    assert!(rt; next == 21);
     let (word, next) = next_word(at, 5).ok_or("a word")?;
-    assert!(rt; word == b"1.1".as_slice());
-    let call = read_call(line, next).ok_or("a call")?;
+    assert!(rt; word == b"1.1".as_slice() && next == 9);
+    Ok(())
+}
+
+/// The text of the call that the line reads as.
+fn again(alloc: Global, line: &[u8]) -> Result<Vec<u8>, Fail> {
+    let call = read_call(line, 0).ok_or("a call")?;
     let mut text = Vec::new(alloc);
     put_call(alloc, &mut text, &call)?;
-    assert!(rt; text.as_slice() == b"send 2.1 0a".as_slice());
+    Ok(text)
+}
+
+#[test]
+fn calls(rt: HostRuntime) -> Result<(), Fail> {
+    let lines: [&[u8]; 12] = [
+        b"send 2.1 0a",
+        b"receive",
+        b"receivesegment 0 512",
+        b"reply - 1.1",
+        b"replysegment 0b 1.1 1 2 3",
+        b"moveto 1.1 1 2 3",
+        b"movefrom 1.1 1 2 4294967295",
+        b"setpid 7 1.1 both",
+        b"getpid 7 local",
+        b"load 0 512",
+        b"store 8 0a00",
+        b"exit",
+    ];
+    for line in lines.iter() {
+        assert!(rt; again(rt.alloc(), line)?.as_slice() == *line);
+    }
     assert!(rt; read_call(b"receive ", 0).is_none());
     assert!(rt; read_call(b"reply 0b  1.1", 0).is_none());
-    put_pid(alloc, &mut text, Pid { host: 1, local: 2 })?;
-    assert!(rt; text.as_slice() == b"send 2.1 0a1.2".as_slice());
+    assert!(rt; read_call(b"load 0 4294967296", 0).is_none());
+    assert!(rt; read_call(b"store 8", 0).is_none());
+    assert!(rt; read_call(b"Exit", 0).is_none());
     Ok(())
 }
