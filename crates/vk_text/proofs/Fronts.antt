@@ -1,5 +1,6 @@
 -- Texts that are written on.
-use Rattle.std.proofs.Common.{◌≡◌, ℕ, ◌<◌, List, [], ◌∷◌, ◌++◌, length, take, drop, refl, ap, sym, ◌∙◌, append_assoc, arith}
+use Rattle.std.proofs.Common.{◌≡◌, ℕ, ◌<◌, List, [], ◌∷◌, ◌++◌, length, take, drop, Result, Ok, Err, refl, ap, sym, ◌∙◌, append_assoc, arith}
+use Rattle.std.specs.Prelude.{OnErr}
 use Rattle.std.proofs.lemmas.List.{take-append-drop, take_at}
 use Rattle.vk_text.specs.Spelling.{spaced, joined}
 
@@ -13,6 +14,11 @@ front_before a x b c e h =
 pub spaced_behind : (front text : List ℕ) (words : List (List ℕ)) → spaced (front ++ text) words ≡ front ++ spaced text words
 spaced_behind front text [] = refl
 spaced_behind front text (w ∷ ws) = ap (λ t. spaced t ws) (append_assoc front text (32 ∷ w)) ∙ spaced_behind front (text ++ 32 ∷ w) ws
+
+-- what holds at a refusal
+pub at_refusal : {A E P : Type 0} (r : Result A E) → P → OnErr r P
+at_refusal (Ok a) p = tt
+at_refusal (Err e) p = p
 
 -- words behind a text stand behind a space
 pub spaced_joined : (text : List ℕ) (words : List (List ℕ)) → 0 < length words → spaced text words ≡ text ++ 32 ∷ joined words
