@@ -1,5 +1,6 @@
 -- Texts that are written on.
-use Rattle.std.proofs.Common.{◌≡◌, ℕ, ◌<◌, List, [], ◌∷◌, ◌++◌, length, take, drop, refl, ap, sym, ◌∙◌, append_assoc, arith}
+use Rattle.std.proofs.Common.{◌≡◌, ℕ, ◌<◌, List, [], ◌∷◌, ◌++◌, length, take, drop, Result, Ok, Err, refl, ap, sym, ◌∙◌, append_assoc, arith}
+use Rattle.std.specs.Prelude.{OnErr}
 use Rattle.std.proofs.lemmas.List.{take-append-drop, take_at}
 use Rattle.vk_text.specs.Spelling.{spaced, joined}
 
@@ -18,3 +19,8 @@ spaced_behind front text (w ∷ ws) = ap (λ t. spaced t ws) (append_assoc front
 pub spaced_joined : (text : List ℕ) (words : List (List ℕ)) → 0 < length words → spaced text words ≡ text ++ 32 ∷ joined words
 spaced_joined text [] some = absurd (omega arith)
 spaced_joined text (w ∷ ws) some = spaced_behind text (32 ∷ w) ws ∙ ap (λ l. text ++ l) (spaced_behind (32 ∷ []) w ws)
+
+-- what holds at a refusal
+pub at_refusal : {A E P : Type 0} (r : Result A E) → P → OnErr r P
+at_refusal (Ok a) p = tt
+at_refusal (Err e) p = p

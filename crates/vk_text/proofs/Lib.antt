@@ -2,8 +2,11 @@ pub mod ByteLists
 pub mod CallWords
 pub mod Firsts
 pub mod Fronts
+pub mod HeadReading
+pub mod HeadTexts
 pub mod HexDigits
 pub mod Hexadecimal
+pub mod LineTexts
 pub mod Messages
 pub mod Numerals
 pub mod Parts
