@@ -148,10 +148,14 @@ step_parts s h = joined_words (step_words s) (some_words s) (each IsPlain HasNoS
 pub step_back : (s : Step) → IsReadableStep s → step_of (words_from (step_text s) 0) ≡ Some s
 step_back s h = ap step_of (step_parts s h) ∙ step_read s h
 
-pub steps_once : StepsAreSpelledOnce
+-- a line that reads as a step is its text
+pub step_line : (line : List ℕ) (s : Step) → step_of (words_from line 0) ≡ Some s → line ≡ step_text s
 unfolding step_text
+step_line line s h = sym (line_joined line) ∙ ap joined (step_spelled (words_from line 0) s h)
+
+pub steps_once : StepsAreSpelledOnce
 steps_once s line h =
-    (λ e. sym (line_joined line) ∙ ap joined (step_spelled (words_from line 0) s e), λ e. ap (λ l. step_of (words_from l 0)) e ∙ step_back s h)
+    (λ e. step_line line s e, λ e. ap (λ l. step_of (words_from l 0)) e ∙ step_back s h)
 
 other_word : (s : Step) → process_of (step_words s) ≡ None
 unfolding process_of step_words

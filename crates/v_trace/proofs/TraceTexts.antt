@@ -1,22 +1,28 @@
 -- Traces as texts.
-use Rattle.std.proofs.Common.{◌≡◌, ℕ, ◌==◌, not, true, false, cond, List, [], ◌∷◌, ◌++◌, codes, Some, None, Ok, Err, refl, ap, sym, ◌∙◌, subst, append_assoc, append-nil}
+use Rattle.std.proofs.Common.{◌≡◌, ℕ, ◌==◌, not, true, false, cond, List, [], ◌∷◌, ◌++◌, map, codes, Option, Some, None, Result, Ok, Err, refl, ap, sym, ◌∙◌, ◌⊎◌, inl, inr, subst, append_assoc, append-nil}
 use Rattle.std.specs.List.{AllByRecursion, flat_map, list_all}
 use Rattle.std.specs.Option.{option_map_or}
 use Rattle.std.proofs.lemmas.Bool.{not-true}
+use Rattle.std.proofs.lemmas.List.{map-append}
+use Rattle.std.proofs.lemmas.List.Concat.{flat_map-append}
+use Rattle.std.proofs.lemmas.List.Folds.{flat_map-map}
 use Rattle.std.proofs.lemmas.List.Sums.{AllPass-from_list_all}
+use Rattle.std.proofs.lemmas.Option.{cond_some}
 use Rattle.vk_base.specs.declared.config.ProcessSpec.{ProcessSpec}
 use Rattle.vk_base.specs.declared.step.Step.{Step}
-use Rattle.vk_text.specs.Heads.{settings_of, line_text, HasNoFeed, BeginsWithNoProcess}
+use Rattle.vk_text.specs.Heads.{settings_of, head_of, process_text, line_text, HasNoFeed, BeginsWithNoProcess}
 use Rattle.vk_text.specs.Lines.{lines_of, words_from}
-use Rattle.vk_text.proofs.HeadTexts.{heads_back}
-use Rattle.vk_text.proofs.LineTexts.{line_and_rest}
-use Rattle.v_trace.specs.Laws.{IsLawfulStep, TracesReadBack}
+use Rattle.vk_text.proofs.HeadReading.{Parts}
+use Rattle.vk_text.proofs.HeadTexts.{head_spelled, heads_back}
+use Rattle.vk_text.proofs.LineTexts.{line_and_rest, text_of_lines}
+use Rattle.v_trace.specs.Laws.{IsLawfulStep, TracesReadBack, TracesAreSpelledOnce}
 use Rattle.v_trace.specs.Steps.{step_of}
 use Rattle.v_trace.specs.Texts.{step_text}
-use Rattle.v_trace.specs.Traces.{line_behind, with_step, with_lines, behind_head}
+use Rattle.v_trace.specs.Traces.{has_actor, line_behind, with_step, with_lines, behind_head, trace_of, trace_text}
 use Rattle.v_trace.specs.declared.trace.Trace.{Trace}
+use Rattle.v_trace.specs.declared.trace.TraceRefusal.{TraceRefusal}
 use Rattle.v_trace.specs.declared.trace.TraceRefusal.TheVariants as refusals
-use Rattle.v_trace.proofs.StepTexts.{step_no_feed, step_back, no_process}
+use Rattle.v_trace.proofs.StepTexts.{step_no_feed, step_line, step_back, no_process}
 
 abbrev steps_text : List Step → List ℕ
 steps_text steps = flat_map (λ s. line_text (step_text s)) steps
@@ -54,3 +60,60 @@ unfolding behind_head
 traces_back specs steps fits fine lawful =
     ap behind_head (heads_back (codes "vkernel trace 1") specs (steps_text steps) title_has_no_feed fits fine (begins specs steps lawful))
     ∙ steps_read (record { config = settings_of specs; steps = [] }) steps lawful
+
+-- the lines of a trace's text
+abbrev trace_lines : Trace → List (List ℕ)
+trace_lines t = codes "vkernel trace 1" ∷ (map process_text t.config.specs ++ map step_text t.steps)
+
+step_is : (t more : Trace) (o : Option Step) → with_step t o ≡ Some more → (s : Step) × (o ≡ Some s) × (record t { steps = t.steps ++ s ∷ [] } ≡ more)
+unfolding with_step
+step_is t more None h = cc
+step_is t more (Some s) h = (s, refl, (cond_some (has_actor t.config.specs s) (record t { steps = t.steps ++ s ∷ [] }) more h).1)
+
+one_more : (t : Trace) (s : Step) (l : List ℕ) (ls : List (List ℕ)) → l ≡ step_text s → trace_lines t ++ l ∷ ls ≡ trace_lines (record t { steps = t.steps ++ s ∷ [] }) ++ ls
+one_more t s l ls is =
+    let front : List (List ℕ) = codes "vkernel trace 1" ∷ map process_text t.config.specs in
+    let steps : map step_text (t.steps ++ s ∷ []) ≡ map step_text t.steps ++ l ∷ [] = map-append step_text t.steps (s ∷ []) ∙ ap (λ x. map step_text t.steps ++ x ∷ []) (sym is) in
+    let all : front ++ map step_text (t.steps ++ s ∷ []) ≡ (front ++ map step_text t.steps) ++ l ∷ [] = ap (λ x. front ++ x) steps ∙ sym (append_assoc front (map step_text t.steps) (l ∷ [])) in
+    sym (append_assoc (front ++ map step_text t.steps) (l ∷ []) ls) ∙ ap (λ x. x ++ ls) (sym all)
+
+same_trace : (t u : Trace) → ◌≡◌ {A = Result Trace TraceRefusal} (Ok t) (Ok u) → t ≡ u
+same_trace t u h = cc
+
+by_line : (t u : Trace) (l : List ℕ) (ls : List (List ℕ)) (o : Option Trace) → with_step t (step_of (words_from l 0)) ≡ o → ((more : Trace) → with_lines more ls ≡ Ok u → trace_lines more ++ ls ≡ trace_lines u) → option_map_or (λ more. with_lines more ls) o (Err (refusals.BadInput (line_behind t))) ≡ Ok u → trace_lines t ++ l ∷ ls ≡ trace_lines u
+by_line t u l ls None is rest h = cc
+by_line t u l ls (Some more) is rest h =
+    let step = step_is t more (step_of (words_from l 0)) is in
+    one_more t step.0 l ls (step_line l step.0 step.1) ∙ ap (λ (m : Trace). trace_lines m ++ ls) step.2 ∙ rest more h
+
+lines_spelled : (t u : Trace) (lines : List (List ℕ)) → with_lines t lines ≡ Ok u → trace_lines t ++ lines ≡ trace_lines u
+unfolding with_lines
+lines_spelled t u [] h = append-nil (trace_lines t) ∙ ap trace_lines (same_trace t u h)
+lines_spelled t u (l ∷ ls) h = by_line t u l ls (with_step t (step_of (words_from l 0))) refl (λ more e. lines_spelled more u ls e) h
+
+by_head : (t : Trace) (lines : List (List ℕ)) (o : Option Parts) → head_of (codes "vkernel trace 1") lines ≡ o → behind_head o ≡ Ok t → lines ≡ trace_lines t
+unfolding behind_head
+by_head t lines None is h = cc
+by_head t lines (Some head) is h =
+    head_spelled (codes "vkernel trace 1") lines head is
+    ∙ ap (λ l. codes "vkernel trace 1" ∷ (l ++ head.1)) (sym (append-nil (map process_text head.0)))
+    ∙ lines_spelled (record { config = settings_of head.0; steps = [] }) t head.1 h
+
+text_is : (t : Trace) → flat_map line_text (trace_lines t) ≡ trace_text t.config.specs t.steps
+text_is t =
+    let title : List ℕ = line_text (codes "vkernel trace 1") in
+    let processes : List ℕ = flat_map (λ s. line_text (process_text s)) t.config.specs in
+    ap (λ l. title ++ l)
+    (flat_map-append line_text (map process_text t.config.specs) (map step_text t.steps)
+    ∙ ap (λ l. l ++ flat_map line_text (map step_text t.steps)) (flat_map-map line_text process_text t.config.specs)
+    ∙ ap (λ l. processes ++ l) (flat_map-map line_text step_text t.steps))
+    ∙ sym (append_assoc title processes (steps_text t.steps))
+
+pub traces_once : TracesAreSpelledOnce
+traces_once text t h =
+    let lines = by_head t (lines_of text) (head_of (codes "vkernel trace 1") (lines_of text)) refl h in
+    let same = ap (flat_map line_text) lines ∙ text_is t in
+    elim (text_of_lines text) [
+      | inl all ↦ inl (all ∙ same)
+      | inr all ↦ inr (all ∙ same)
+    ]

@@ -1,5 +1,5 @@
 -- Reading is the inverse of writing.
-use Rattle.std.specs.Prelude.{◌≡◌, ℕ, ◌^◌, ◌<◌, ◌↔◌, true, List, [], Some, None, Ok}
+use Rattle.std.specs.Prelude.{◌≡◌, ℕ, ◌^◌, ◌<◌, ◌↔◌, ◌⊎◌, true, List, [], ◌++◌, codes, Some, None, Ok}
 use Rattle.std.specs.List.{AllByRecursion}
 use Rattle.vk_base.specs.Settings.{first_fault}
 use Rattle.vk_base.specs.declared.answer.Ending.{Ending}
@@ -12,6 +12,7 @@ use Rattle.vk_text.specs.Laws.{IsPid, IsCount, IsReadable}
 use Rattle.vk_text.specs.Lines.{words_from}
 use Rattle.v_trace.specs.Steps.{step_of}
 use Rattle.v_trace.specs.Texts.{step_words, step_text}
+use Rattle.v_trace.specs.declared.trace.Trace.{Trace}
 use Rattle.v_trace.specs.Traces.{has_actor, trace_of, trace_text}
 
 abbrev pub IsOrdinal : ℕ → Type 0
@@ -63,3 +64,7 @@ abbrev pub TracesReadBack : Type 0
 TracesReadBack = (specs : List ProcessSpec) (steps : List Step) →
     AllByRecursion (λ s. IsPid s.pid) specs → first_fault [] specs ≡ None → AllByRecursion (IsLawfulStep specs) steps →
     trace_of (trace_text specs steps) ≡ Ok (record { config = settings_of specs; steps = steps })
+
+-- a text that reads as a trace is its text, but that the last line feed may lack
+abbrev pub TracesAreSpelledOnce : Type 0
+TracesAreSpelledOnce = (text : List ℕ) (t : Trace) → trace_of text ≡ Ok t → (text ≡ trace_text t.config.specs t.steps) ⊎ (text ++ codes "\n" ≡ trace_text t.config.specs t.steps)

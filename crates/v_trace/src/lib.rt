@@ -13,6 +13,6 @@ mod trace;
 mod word;
 
 pub use answer::put_answer;
-pub use law::{steps_are_spelled_once, traces_are_read_again};
+pub use law::{steps_are_spelled_once, traces_are_spelled_once};
 pub use step::put_step;
 pub use trace::{Trace, TraceRefusal, read_trace};
