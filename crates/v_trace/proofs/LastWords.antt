@@ -1,5 +1,5 @@
 -- Nothing is read where no word stands.
-use Rattle.std.proofs.Common.{◌≡◌, ℕ, List, [], ◌∷◌, Option, None, refl, ap, ◌∙◌}
+use Rattle.std.proofs.Common.{◌≡◌, ℕ, List, [], ◌∷◌, Option, None, refl, ap}
 use Rattle.vk_base.specs.Options.{◌>>=◌}
 use Rattle.vk_text.specs.Calls.{first_as, ended}
 use Rattle.vk_text.specs.Lines.{StartsNoWord}

@@ -1,5 +1,5 @@
 -- Steps have one spelling each.
-use Rattle.std.proofs.Common.{◌≡◌, ℕ, ◌-◌, ◌<◌, ◌^◌, nat_lt, cond, if◌then◌else◌, List, [], ◌∷◌, ◌++◌, decimal, codes, bytes_eq, true, Option, Some, None, refl, arith, ap, sym, ◌∙◌}
+use Rattle.std.proofs.Common.{◌≡◌, ℕ, ◌-◌, ◌^◌, nat_lt, cond, if◌then◌else◌, List, [], ◌∷◌, decimal, codes, bytes_eq, true, Option, Some, None, refl, arith, ap, sym, ◌∙◌}
 use Rattle.std.proofs.lemmas.Bool.{cond-true, lt-ltb}
 use Rattle.std.proofs.lemmas.Option.{cond_some}
 use Rattle.vk_base.specs.Options.{◌>>=◌}
@@ -8,8 +8,8 @@ use Rattle.vk_base.specs.declared.answer.Ending.TheVariants as endings
 use Rattle.vk_base.specs.declared.pid.Pid.{Pid}
 use Rattle.vk_base.specs.declared.step.Step.{Step}
 use Rattle.vk_base.specs.declared.step.Step.TheVariants as steps
-use Rattle.vk_text.specs.Calls.{ended, call_of}
-use Rattle.vk_text.specs.Spelling.{pid_text, call_words}
+use Rattle.vk_text.specs.Calls.{call_of}
+use Rattle.vk_text.specs.Spelling.{pid_text}
 use Rattle.vk_text.specs.Words.{number_of, count_of, pid_of}
 use Rattle.vk_text.proofs.CallWords.{call_spelled, call_read}
 use Rattle.vk_text.proofs.Firsts.{first_spelled, ended_is}

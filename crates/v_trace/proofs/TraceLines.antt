@@ -3,7 +3,6 @@ use Rattle.std.proofs.Common.{◌≡◌, ℕ, List, [], ◌∷◌, Option, Some,
 use Rattle.std.specs.Option.{option_map_or}
 use Rattle.std.specs.Prelude.{OnOk}
 use Rattle.vk_base.specs.Settings.{Settings}
-use Rattle.vk_base.specs.declared.config.ProcessSpec.{ProcessSpec}
 use Rattle.vk_text.specs.Heads.{settings_of, head_of}
 use Rattle.vk_text.specs.Lines.{lines_of, words_from}
 use Rattle.vk_text.specs.declared.heads.HeadRefusal.{HeadRefusal}

@@ -1,6 +1,6 @@
 -- Traces as texts.
-use Rattle.std.proofs.Common.{◌≡◌, ℕ, ◌==◌, not, true, false, cond, List, [], ◌∷◌, ◌++◌, map, codes, Option, Some, None, Result, Ok, Err, refl, ap, sym, ◌∙◌, ◌⊎◌, inl, inr, subst, append_assoc, append-nil}
-use Rattle.std.specs.List.{AllByRecursion, flat_map, list_all}
+use Rattle.std.proofs.Common.{◌≡◌, ℕ, ◌==◌, not, cond, List, [], ◌∷◌, ◌++◌, map, codes, Option, Some, None, Result, Ok, Err, refl, ap, sym, ◌∙◌, inl, inr, subst, append_assoc, append-nil}
+use Rattle.std.specs.List.{AllByRecursion, flat_map}
 use Rattle.std.specs.Option.{option_map_or}
 use Rattle.std.proofs.lemmas.Bool.{not-true}
 use Rattle.std.proofs.lemmas.List.{map-append}
@@ -18,7 +18,7 @@ use Rattle.vk_text.proofs.LineTexts.{line_and_rest, text_of_lines}
 use Rattle.v_trace.specs.Laws.{IsLawfulStep, TracesReadBack, TracesAreSpelledOnce}
 use Rattle.v_trace.specs.Steps.{step_of}
 use Rattle.v_trace.specs.Texts.{step_text}
-use Rattle.v_trace.specs.Traces.{has_actor, line_behind, with_step, with_lines, behind_head, trace_of, trace_text}
+use Rattle.v_trace.specs.Traces.{has_actor, line_behind, with_step, with_lines, behind_head, trace_text}
 use Rattle.v_trace.specs.declared.trace.Trace.{Trace}
 use Rattle.v_trace.specs.declared.trace.TraceRefusal.{TraceRefusal}
 use Rattle.v_trace.specs.declared.trace.TraceRefusal.TheVariants as refusals

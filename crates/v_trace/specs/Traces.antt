@@ -1,7 +1,6 @@
 -- The text of a trace.
 use Rattle.std.specs.Prelude.{◌≡◌, ℕ, ◌+◌, Bool, true, List, [], ◌∷◌, ◌++◌, length, flat_map, codes, Option, Some, None, Result, Ok, Err, MatchOption, OnOk, if◌then◌else◌}
 use Rattle.std.specs.Option.{option_map_or}
-use Rattle.vk_base.specs.Options.{◌>>=◌}
 use Rattle.vk_base.specs.Settings.{has_process}
 use Rattle.vk_base.specs.declared.config.ProcessSpec.{ProcessSpec}
 use Rattle.vk_base.specs.declared.no_memory.NoMemory.{NoMemory}

@@ -41,14 +41,14 @@ fn each_kind_of_step(rt: HostRuntime) -> Result<(), Fail> {
     assert!(rt; text.as_slice() == TRACE);
     assert!(rt;
         matches!(
-            trace.steps.as_slice()[7],
-            Step::Copy {
+            trace.steps.as_slice().get(7),
+            Some(Step::Copy {
                 number: 5,
                 moving: 6,
                 offset: 4294967295,
                 count: 10,
                 ..
-            }
+            })
         )
     );
     Ok(())
