@@ -1,1 +1,4 @@
+pub mod Laws
+pub mod Steps
 pub mod Texts
+pub mod Traces

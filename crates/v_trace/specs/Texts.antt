@@ -8,7 +8,7 @@ use Rattle.vk_base.specs.declared.answer.Refusal.{Refusal}
 use Rattle.vk_base.specs.declared.answer.Refusal.TheVariants as refusals
 use Rattle.vk_base.specs.declared.step.Step.{Step}
 use Rattle.vk_base.specs.declared.step.Step.TheVariants as steps
-use Rattle.vk_text.specs.Spelling.{spaced, pid_text, bytes_text, message_text, call_text}
+use Rattle.vk_text.specs.Spelling.{spaced, joined, pid_text, bytes_text, message_text, call_words}
 
 abbrev pub refusal_text : Refusal → List ℕ
 refusal_text refusals.NoProcess = codes "noprocess"
@@ -40,16 +40,20 @@ answer_text (answers.Found pid) = spaced (codes "ok") (pid_text pid ∷ [])
 answer_text (answers.Loaded bytes) = spaced (codes "ok") (bytes_text bytes ∷ [])
 answer_text (answers.Refused why) = refusal_text why
 
+-- the words of a step, of which the first tells which step it is
+unfoldable pub step_words : Step → List (List ℕ)
+step_words (steps.Call pid call) = codes "call" ∷ pid_text pid ∷ call_words call
+step_words (steps.Arrive sender number) = codes "arrive" ∷ pid_text sender ∷ decimal number ∷ []
+step_words (steps.Take pid) = codes "take" ∷ pid_text pid ∷ []
+step_words (steps.Finish pid) = codes "finish" ∷ pid_text pid ∷ []
+step_words (steps.Fail pid why) = codes "fail" ∷ pid_text pid ∷ ending_text why ∷ []
+step_words (steps.OpenMove sender number moving) = codes "open" ∷ pid_text sender ∷ decimal number ∷ decimal moving ∷ []
+step_words (steps.Copy sender number moving offset count) = codes "copy" ∷ pid_text sender ∷ decimal number ∷ decimal moving ∷ decimal offset ∷ decimal count ∷ []
+step_words (steps.End pid why) = codes "end" ∷ pid_text pid ∷ ending_text why ∷ []
+step_words (steps.Hear asker number pid) = codes "hear" ∷ pid_text asker ∷ decimal number ∷ pid_text pid ∷ []
+step_words (steps.Found asker pid) = codes "found" ∷ pid_text asker ∷ pid_text pid ∷ []
+step_words (steps.Lost asker) = codes "lost" ∷ pid_text asker ∷ []
+step_words (steps.Collect pid) = codes "collect" ∷ pid_text pid ∷ []
+
 unfoldable pub step_text : Step → List ℕ
-step_text (steps.Call pid call) = spaced (codes "call") (pid_text pid ∷ call_text call ∷ [])
-step_text (steps.Arrive sender number) = spaced (codes "arrive") (pid_text sender ∷ decimal number ∷ [])
-step_text (steps.Take pid) = spaced (codes "take") (pid_text pid ∷ [])
-step_text (steps.Finish pid) = spaced (codes "finish") (pid_text pid ∷ [])
-step_text (steps.Fail pid why) = spaced (codes "fail") (pid_text pid ∷ ending_text why ∷ [])
-step_text (steps.OpenMove sender number moving) = spaced (codes "open") (pid_text sender ∷ decimal number ∷ decimal moving ∷ [])
-step_text (steps.Copy sender number moving offset count) = spaced (codes "copy") (pid_text sender ∷ decimal number ∷ decimal moving ∷ decimal offset ∷ decimal count ∷ [])
-step_text (steps.End pid why) = spaced (codes "end") (pid_text pid ∷ ending_text why ∷ [])
-step_text (steps.Hear asker number pid) = spaced (codes "hear") (pid_text asker ∷ decimal number ∷ pid_text pid ∷ [])
-step_text (steps.Found asker pid) = spaced (codes "found") (pid_text asker ∷ pid_text pid ∷ [])
-step_text (steps.Lost asker) = spaced (codes "lost") (pid_text asker ∷ [])
-step_text (steps.Collect pid) = spaced (codes "collect") (pid_text pid ∷ [])
+step_text step = joined (step_words step)

@@ -1,12 +1,18 @@
-//! Texts of steps and answers, as traces and reports have them.
+//! Texts of steps and answers, as traces and reports have them, and traces as texts.
 //!
 //! Stands on the values of `vk_base` and the words of `vk_text`.
 #![tactic(auto)]
 
 mod answer;
+mod law;
+mod reading;
 mod step;
 #[cfg(test)]
 mod tests;
+mod trace;
+mod word;
 
 pub use answer::put_answer;
+pub use law::{steps_are_spelled_once, traces_are_spelled_once};
 pub use step::put_step;
+pub use trace::{Trace, TraceRefusal, read_trace};

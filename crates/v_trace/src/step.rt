@@ -1,7 +1,7 @@
 //! The text of a step.
 
 ghost use Rattle.std.specs.Prelude.{◌≡◌, [], ◌∷◌, ◌++◌, codes, decimal, OnOk, OnErr};
-ghost use Rattle.vk_text.specs.Spelling.{Begins, spaced, pid_text, call_text};
+ghost use Rattle.vk_text.specs.Spelling.{Begins, spaced, pid_text, call_words};
 ghost use Rattle.v_trace.specs.Texts.{ending_text, step_text};
 
 use std::alloc::Global;
@@ -30,7 +30,7 @@ fn write_of(alloc: Global, into: &mut Vec<u8>, word: &[u8], pid: Pid) -> Result<
 
 /// Appends `call PID CALL`.
 fn write_made(alloc: Global, into: &mut Vec<u8>, pid: Pid, call: &Call) -> Result<(), NoMemory>
-    ensures ok { OnOk result (into.new.items ≡ into.old.items ++ spaced (codes "call") (pid_text pid ∷ call_text call.now ∷ [])) }
+    ensures ok { OnOk result (into.new.items ≡ into.old.items ++ spaced (codes "call") (pid_text pid ∷ call_words call.now)) }
     ensures front { OnErr result (Begins into.old.items into.new.items) }
 {
     write_of(alloc, into, b"call", pid)?;
@@ -135,7 +135,7 @@ fn write_found(alloc: Global, into: &mut Vec<u8>, asker: Pid, pid: Pid) -> Resul
 }
 
 /// Appends the step; a refusal may leave a part of it.
-#[tactic(auto, unfolding(crate::specs::Texts::step_text))]
+#[tactic(auto, unfolding(crate::specs::Texts::step_text, crate::specs::Texts::step_words))]
 fn write_step(alloc: Global, into: &mut Vec<u8>, step: &Step) -> Result<(), NoMemory>
     ensures ok { OnOk result (into.new.items ≡ into.old.items ++ step_text step.now) }
     ensures front { OnErr result (Begins into.old.items into.new.items) }

@@ -1,15 +1,108 @@
-//! One line for each kind of step and of answer.
+//! A trace with each kind of step, bad lines, and a line for each kind of answer.
 
-use super::{put_answer, put_step};
+use super::{TraceRefusal, put_answer, put_step, read_trace};
 use std::alloc::Global;
 use std::process::Abort;
 use std::test::Fail;
-use vk_base::{Answer, Call, Data, Ending, Message, Pid, Refusal, Scope, Step};
+use vk_base::{Answer, Data, Message, Pid, Refusal, Step};
 
-fn step(rt: &impl Abort, alloc: Global, step: Step, text: &[u8]) -> Result<(), Fail> {
-    let mut line = Vec::new(alloc);
-    put_step(alloc, &mut line, &step)?;
-    assert!(rt; line.as_slice() == text);
+/// A trace with each kind of step, and all limits of numbers.
+const TRACE: &[u8] = b"vkernel trace 1
+process 1.2 0
+process 3.4 131072
+call 1.2 setpid 7 3.4 both
+arrive 1.2 1
+take 1.2
+finish 65534.65535
+fail 1.2 noprocess
+fail 1.2 timedout
+open 1.2 5 9223372036854775807
+copy 1.2 5 6 4294967295 10
+end 1.2 ok
+end 1.2 timedout
+end 1.2 gone
+hear 1.2 5 3.4
+found 1.2 3.4
+lost 1.2
+collect 3.4
+";
+
+#[test]
+fn each_kind_of_step(rt: HostRuntime) -> Result<(), Fail> {
+    let alloc = rt.alloc();
+    let trace = read_trace(alloc, TRACE)?;
+    let mut text = Vec::new(alloc);
+    text.extend_from_slice(b"vkernel trace 1\nprocess 1.2 0\nprocess 3.4 131072\n")?;
+    for step in trace.steps.as_slice() {
+        put_step(alloc, &mut text, step)?;
+        text.push(b'\n')?;
+    }
+    assert_eq!(rt; trace.config.specs().len(), 2);
+    assert!(rt; text.as_slice() == TRACE);
+    assert!(rt;
+        matches!(
+            trace.steps.as_slice().get(7),
+            Some(Step::Copy {
+                number: 5,
+                moving: 6,
+                offset: 4294967295,
+                count: 10,
+                ..
+            })
+        )
+    );
+    Ok(())
+}
+
+/// The number of the bad line, 0 for a good text, and 1,000 where memory is wanting.
+fn bad_line(alloc: Global, text: &[u8]) -> u64 {
+    match read_trace(alloc, text) {
+        Ok(_) => 0,
+        Err(TraceRefusal::BadInput { line }) => line,
+        Err(TraceRefusal::NoMemory) => 1000,
+    }
+}
+
+/// Texts, and the number of the bad line, 0 for none.
+const TEXTS: [(&[u8], u64); 28] = [
+    (b"vkernel trace 1", 0),
+    (b"vkernel trace 1\ntake 1.1", 0),
+    (b"vkernel trace 1\nprocess 1.1 0\ntake 9.9\n", 0),
+    (b"", 1),
+    (b"\n", 1),
+    (b"vkernel 1\ntake 1.1\n", 1),
+    (b"vkernel trace 1 \n", 1),
+    (b"vkernel trace 1\nprocess 1.2 0\nprocess 1.1 0\n", 3),
+    (
+        b"vkernel trace 1\nprocess 1.1 0\ntake 1.1\nprocess 1.2 0\n",
+        4,
+    ),
+    (b"vkernel trace 1\ncollect 1.1\n", 2),
+    (b"vkernel trace 1\nprocess 1.1 0\ncall 1.2 receive\n", 3),
+    (b"vkernel trace 1\ntake 1.1\ncall 1.1\ntake\n", 3),
+    (b"vkernel trace 1\narrive 1.1 0\n", 2),
+    (b"vkernel trace 1\narrive 1.1 9223372036854775808\n", 2),
+    (b"vkernel trace 1\narrive 1.1 01\n", 2),
+    (b"vkernel trace 1\nopen 1.1 5 0\n", 2),
+    (b"vkernel trace 1\nopen 1.1 5\n", 2),
+    (b"vkernel trace 1\ncopy 1.1 5 6 4294967296 1\n", 2),
+    (b"vkernel trace 1\nfail 1.1 gone\n", 2),
+    (b"vkernel trace 1\nfail 1.1 ok\n", 2),
+    (b"vkernel trace 1\nend 1.1 noprocess\n", 2),
+    (b"vkernel trace 1\nhear 1.1 0 1.1\n", 2),
+    (b"vkernel trace 1\nlost 1.0\n", 2),
+    (b"vkernel trace 1\ntake 1.1 1.1\n", 2),
+    (b"vkernel trace 1\ntake 1.1 \n", 2),
+    (b"vkernel trace 1\ntake  1.1\n", 2),
+    (b"vkernel trace 1\ntake 1.1\n\n", 3),
+    (b"vkernel trace 1\nstep take 1.1\n", 2),
+];
+
+#[test]
+fn bad_lines(rt: HostRuntime) -> Result<(), Fail> {
+    for (text, line) in TEXTS {
+        assert_eq!(rt; bad_line(rt.alloc(), text), line);
+    }
     Ok(())
 }
 
@@ -18,109 +111,6 @@ fn answer(rt: &impl Abort, alloc: Global, answer: Answer, text: &[u8]) -> Result
     put_answer(alloc, &mut line, &answer)?;
     assert!(rt; line.as_slice() == text);
     Ok(())
-}
-
-#[test]
-fn steps(rt: HostRuntime) -> Result<(), Fail> {
-    let alloc = rt.alloc();
-    let one = Pid { host: 1, local: 2 };
-    let two = Pid { host: 3, local: 4 };
-    let call = Call::SetPid {
-        logical: 7,
-        pid: two,
-        scope: Scope::Both,
-    };
-    step(
-        &rt,
-        alloc,
-        Step::Call { pid: one, call },
-        b"call 1.2 setpid 7 3.4 both",
-    )?;
-    step(
-        &rt,
-        alloc,
-        Step::Arrive {
-            sender: one,
-            number: 5,
-        },
-        b"arrive 1.2 5",
-    )?;
-    step(&rt, alloc, Step::Take { pid: one }, b"take 1.2")?;
-    step(&rt, alloc, Step::Finish { pid: one }, b"finish 1.2")?;
-    step(
-        &rt,
-        alloc,
-        Step::Fail {
-            pid: one,
-            why: Ending::TimedOut,
-        },
-        b"fail 1.2 timedout",
-    )
-}
-
-#[test]
-fn steps_of_moves(rt: HostRuntime) -> Result<(), Fail> {
-    let alloc = rt.alloc();
-    let one = Pid { host: 1, local: 2 };
-    step(
-        &rt,
-        alloc,
-        Step::OpenMove {
-            sender: one,
-            number: 5,
-            moving: 6,
-        },
-        b"open 1.2 5 6",
-    )?;
-    step(
-        &rt,
-        alloc,
-        Step::Copy {
-            sender: one,
-            number: 5,
-            moving: 6,
-            offset: 1024,
-            count: 10,
-        },
-        b"copy 1.2 5 6 1024 10",
-    )?;
-    step(
-        &rt,
-        alloc,
-        Step::End {
-            pid: one,
-            why: Ending::Ok,
-        },
-        b"end 1.2 ok",
-    )
-}
-
-#[test]
-fn steps_of_lookups(rt: HostRuntime) -> Result<(), Fail> {
-    let alloc = rt.alloc();
-    let one = Pid { host: 1, local: 2 };
-    let two = Pid { host: 3, local: 4 };
-    step(
-        &rt,
-        alloc,
-        Step::Hear {
-            asker: one,
-            number: 5,
-            pid: two,
-        },
-        b"hear 1.2 5 3.4",
-    )?;
-    step(
-        &rt,
-        alloc,
-        Step::Found {
-            asker: one,
-            pid: two,
-        },
-        b"found 1.2 3.4",
-    )?;
-    step(&rt, alloc, Step::Lost { asker: one }, b"lost 1.2")?;
-    step(&rt, alloc, Step::Collect { pid: one }, b"collect 1.2")
 }
 
 #[test]

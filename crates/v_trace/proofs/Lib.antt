@@ -1,0 +1,5 @@
+mod LastWords
+pub mod StepTexts
+pub mod StepWords
+mod TraceLines
+mod TraceTexts
