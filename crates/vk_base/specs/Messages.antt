@@ -1,9 +1,13 @@
 -- What a message grants.
-use Rattle.std.specs.Prelude.{ℕ, ◌+◌, Bool, not, ◌==◌, ◌||◌, bit_and, [], ◌∷◌, slice_index, if◌then◌else◌}
+use Rattle.std.specs.Prelude.{ℕ, ◌≡◌, ◌<◌, ◌+◌, Bool, not, ◌==◌, ◌||◌, bit_and, [], ◌∷◌, slice_index, length, if◌then◌else◌}
 use Rattle.std.specs.Int.{w32, from_be_bytes}
 use Rattle.vk_base.specs.declared.message.Message.{Message}
 use Rattle.vk_base.specs.declared.message.Range.{Range}
 use Rattle.vk_base.specs.declared.message.Grants.{Grants}
+
+-- a message that code can hold: 32 bytes
+abbrev pub IsMessage : Message → Type 0
+IsMessage m = (length m.0 ≡ 32) × ((i : ℕ) → slice_index m.0 i < 256)
 
 -- the number in the four bytes from this place on
 abbrev pub word_at : Message → ℕ → ℕ

@@ -1,7 +1,11 @@
 -- Pids.
-use Rattle.std.specs.Prelude.{ℕ, ◌≡◌, Bool, true, false, ◌==◌, ◌&&◌, ◌||◌, nat_lt, Option, Some, None, refl}
+use Rattle.std.specs.Prelude.{ℕ, ◌≡◌, ◌<◌, ◌^◌, Bool, true, false, ◌==◌, ◌&&◌, ◌||◌, nat_lt, Option, Some, None, refl}
 use borrow.Author.Tests.{ltb-true}
 use Rattle.vk_base.specs.declared.pid.Pid.{Pid}
+
+-- a pid that code can hold: its two numbers have 16 bits
+abbrev pub IsPid : Pid → Type 0
+IsPid p = p.local < 2 ^ 16
 
 -- the same process
 abbrev pub same_pid : Pid → Pid → Bool

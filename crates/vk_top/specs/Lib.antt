@@ -2,3 +2,4 @@ pub mod Playing
 pub mod Report
 pub mod Statuses
 pub mod Top
+pub mod Words

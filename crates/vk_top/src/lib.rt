@@ -10,6 +10,7 @@ mod replay;
 mod report;
 mod status;
 mod top;
+mod words;
 
 pub use status::Status;
 pub use top::vkernel;
