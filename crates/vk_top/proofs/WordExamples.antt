@@ -3,6 +3,7 @@ use Rattle.std.proofs.Common.{◌≡◌, true, [], ◌∷◌, Some, None, codes,
 use Rattle.clap.proofs.OnLiterals.{clap_on_literals}
 use Rattle.clap.specs.Faults.{is_simple_and_free}
 use Rattle.vk_top.specs.declared.words.Asked.TheVariants as asked
+use Rattle.vk_top.specs.declared.report.Form.TheVariants as forms
 use Rattle.vk_top.specs.Words.{the_app, asked_of}
 
 -- the command is one of those of which clap's definitions speak
@@ -10,31 +11,31 @@ simple : is_simple_and_free the_app ≡ true
 unfolding clap_on_literals
 simple = refl
 
-replay : asked_of (codes "replay" ∷ []) ≡ Some asked.Replay
+replay : asked_of (codes "replay" ∷ []) ≡ Some (asked.Replay forms.Report)
 unfolding clap_on_literals
 replay = refl
 
-check : asked_of (codes "check" ∷ []) ≡ Some asked.Check
+check : asked_of (codes "check" ∷ []) ≡ None
 unfolding clap_on_literals
 check = refl
 
-trace-after : asked_of (codes "replay" ∷ codes "--trace" ∷ []) ≡ Some asked.Trace
+trace-after : asked_of (codes "replay" ∷ codes "--trace" ∷ []) ≡ Some (asked.Replay forms.Trace)
 unfolding clap_on_literals
 trace-after = refl
 
-trace-before : asked_of (codes "--trace" ∷ codes "replay" ∷ []) ≡ Some asked.Trace
+trace-before : asked_of (codes "--trace" ∷ codes "replay" ∷ []) ≡ Some (asked.Replay forms.Trace)
 unfolding clap_on_literals
 trace-before = refl
 
-trace-then_ended : asked_of (codes "--trace" ∷ codes "--" ∷ codes "replay" ∷ []) ≡ Some asked.Trace
+trace-then_ended : asked_of (codes "--trace" ∷ codes "--" ∷ codes "replay" ∷ []) ≡ Some (asked.Replay forms.Trace)
 unfolding clap_on_literals
 trace-then_ended = refl
 
-ended_before : asked_of (codes "--" ∷ codes "replay" ∷ []) ≡ Some asked.Replay
+ended_before : asked_of (codes "--" ∷ codes "replay" ∷ []) ≡ Some (asked.Replay forms.Report)
 unfolding clap_on_literals
 ended_before = refl
 
-ended_after : asked_of (codes "replay" ∷ codes "--" ∷ []) ≡ Some asked.Replay
+ended_after : asked_of (codes "replay" ∷ codes "--" ∷ []) ≡ Some (asked.Replay forms.Report)
 unfolding clap_on_literals
 ended_after = refl
 

@@ -1,3 +1,4 @@
+pub mod Forms
 pub mod Playing
 pub mod Report
 pub mod Statuses

@@ -4,6 +4,7 @@ ghost use Rattle.std.specs.Prelude.{◌≡◌, map, option_map, codes, string_by
 ghost use Rattle.clap.specs.Words.{app_of, first_of, found_of, rows_of};
 ghost use Rattle.vk_top.specs.Words.{the_app, asked_for, is_set, asked_by, asked_of};
 
+use crate::report::Form;
 use clap::error::ErrorKind;
 use clap::{Arg, ArgAction, ArgMatches, Command};
 use std::alloc::{AllocError, Global};
@@ -12,12 +13,8 @@ use vk_base::NoMemory;
 /// What the words ask for.
 #[derive(Clone, Copy, Debug, PartialEq, Eq)]
 pub(crate) enum Asked {
-    /// `replay`: a schedule is read, and its report is written.
-    Replay,
-    /// `replay --trace`: a schedule is read, and the trace of its steps is written.
-    Trace,
-    /// `check`: a trace is read, and whether it is a run is written.
-    Check,
+    /// `replay`, with `--trace` for the trace: a schedule is read, and this is written of it.
+    Replay { form: Form },
 }
 
 /// The one command that the words are read as.
@@ -43,9 +40,8 @@ fn asked_for(command: Option<&str>, has_trace: bool, number: Option<&str>) -> Op
     ensures { result ≡ asked_for (option_map (λ s. s.now) command.entry) has_trace (option_map (λ s. s.now) number.entry) }
 {
     match (command, number) {
-        (Some("replay"), None) if has_trace => Some(Asked::Trace),
-        (Some("replay"), None) => Some(Asked::Replay),
-        (Some("check"), None) if !has_trace => Some(Asked::Check),
+        (Some("replay"), None) if has_trace => Some(Asked::Replay { form: Form::Trace }),
+        (Some("replay"), None) => Some(Asked::Replay { form: Form::Report }),
         _ => None,
     }
 }
