@@ -1,4 +1,7 @@
 pub mod Answered
 pub mod Entries
+pub mod Playable
 pub mod Replays
 pub mod Schedules
+pub mod Short
+pub mod WordExamples

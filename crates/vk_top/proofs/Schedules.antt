@@ -10,17 +10,18 @@ use Rattle.vk_base.specs.declared.config.ProcessSpec.{ProcessSpec}
 use Rattle.vk_base.specs.declared.message.Message.{Message}
 use Rattle.vk_base.specs.declared.pid.Pid.{Pid}
 use Rattle.vk_base.specs.Settings.{has_process, has_station, is_process}
-use Rattle.vk_event.proofs.Short.{short_start, short_len}
+use Rattle.vk_top.proofs.Short.{short_start, short_len}
 use Rattle.vk_event.specs.declared.event.Event.{Event}
 use Rattle.vk_event.specs.declared.event.Event.TheVariants as scheduled
 use Rattle.vk_event.specs.declared.schedule.Schedule.{Schedule}
-use Rattle.vk_event.specs.Forms as forms
-use Rattle.vk_event.specs.Lawful.{is_lawful_event, is_one_station, IsLawful}
+use Rattle.vk_top.specs.Forms as forms
+use Rattle.vk_top.proofs.Playable.{is_playable_event, is_one_station, IsPlain}
 use Rattle.vk_host.proofs.Histories.{history_is_run}
 use Rattle.vk_host.specs.Entries.{grants_nothing, history_of, is_built, is_built_call, is_lawful, IsRunOf}
 use Rattle.vk_host.specs.Stands.{is_at, is_own}
 use Rattle.vk_host.specs.Tables.{Tables}
-use Rattle.vk_top.specs.Report.{end_line, history_of_schedule, report_from, station_event, station_of}
+use Rattle.vk_top.specs.declared.report.Form.{Form}
+use Rattle.vk_top.specs.Report.{end_line, history_of_schedule, lines_from, station_event, station_of}
 
 -- what follows at each element
 pub list_all-weaker : {X : Type 0} (p q : X → Bool) → ((x : X) → p x ≡ true → q x ≡ true) → (xs : List X) → list_all p xs ≡ true → list_all q xs ≡ true
@@ -58,25 +59,25 @@ built_call pid (calls.Store start bytes) h = h
 built_call pid calls.Exit h = h
 
 -- a lawful event of a schedule is one at its station
-pub lawful_event : (specs : List ProcessSpec) (e : Event) → is_lawful_event specs e ≡ true → is_lawful specs (station_event e) ≡ true
+pub lawful_event : (specs : List ProcessSpec) (e : Event) → is_playable_event specs e ≡ true → is_lawful specs (station_event e) ≡ true
 lawful_event specs (scheduled.Call pid c) h = and_from _ _ (and_parts _ _ h).0 (built_call pid c (and_parts _ _ h).1)
 lawful_event specs (scheduled.Collect pid) h = (and_parts _ _ h).0
 lawful_event specs (scheduled.Tick host) h = (and_parts _ _ h).1
 lawful_event specs (scheduled.Deliver to from event output) h = (and_parts _ _ h).1
 
-pub built_event : (specs : List ProcessSpec) (e : Event) → is_lawful_event specs e ≡ true → is_built (station_event e) ≡ true
+pub built_event : (specs : List ProcessSpec) (e : Event) → is_playable_event specs e ≡ true → is_built (station_event e) ≡ true
 built_event specs (scheduled.Call pid c) h = built_call pid c (and_parts _ _ h).1
 built_event specs (scheduled.Collect pid) h = refl
 built_event specs (scheduled.Tick host) h = (and_parts _ _ h).1
 built_event specs (scheduled.Deliver to from event output) h = (and_parts _ _ h).1
 
 -- the steps of a lawful schedule's history are a run
-pub schedule_is_run : (s : Schedule) → IsLawful s → IsRunOf s.config.specs (map station_event s.events)
+pub schedule_is_run : (s : Schedule) → IsPlain s → IsRunOf s.config.specs (map station_event s.events)
 schedule_is_run s lawful =
     history_is_run s.config.specs (map station_event s.events)
     (list_all-map (is_lawful s.config.specs) station_event s.events ∙ list_all-weaker _ _ (lawful_event s.config.specs) s.events lawful.events)
 
-pub all_built : (s : Schedule) → IsLawful s → list_all (λ e. is_built (station_event e)) s.events ≡ true
+pub all_built : (s : Schedule) → IsPlain s → list_all (λ e. is_built (station_event e)) s.events ≡ true
 all_built s lawful = list_all-weaker _ _ (built_event s.config.specs) s.events lawful.events
 
 -- The station is that of the first process.
@@ -96,7 +97,7 @@ pub has_station-first : (seen specs : List ProcessSpec) (s : ProcessSpec) → se
 has_station-first seen specs s same h = first_station specs s (h ∙ ap (λ xs. slice_get xs 0) same)
 
 -- where there is no process, there is no event
-no_event : (events : List Event) → list_all (is_lawful_event []) events ≡ true → events ≡ []
+no_event : (events : List Event) → list_all (is_playable_event []) events ≡ true → events ≡ []
 no_event [] h = refl
 no_event (scheduled.Call pid c ∷ es) h = absurd (cc)
 no_event (scheduled.Collect pid ∷ es) h = absurd (cc)
@@ -107,16 +108,16 @@ no_process : (specs : List ProcessSpec) → None ≡ slice_get specs 0 → specs
 no_process [] h = refl
 no_process (s ∷ ss) h = absurd (cc)
 
-end_alone : (specs : List ProcessSpec) (events : List Event) → specs ≡ [] → list_all (is_lawful_event specs) events ≡ true
-    → end_line 0 0 ≡ report_from (station_of specs) 0 0 (history_of specs (map station_event events))
-end_alone specs events none h =
-    let P : List ProcessSpec → Type 0 = λ xs. list_all (is_lawful_event xs) events ≡ true in
+end_alone : (form : Form) (specs : List ProcessSpec) (events : List Event) → specs ≡ [] → list_all (is_playable_event specs) events ≡ true
+    → end_line form 0 0 ≡ lines_from form (station_of specs) 0 0 (history_of specs (map station_event events))
+end_alone form specs events none h =
+    let P : List ProcessSpec → Type 0 = λ xs. list_all (is_playable_event xs) events ≡ true in
     let gone : events ≡ [] = no_event events (subst P none h) in
-    ap (λ es. report_from (station_of specs) 0 0 (history_of specs (map station_event es))) (sym gone)
+    ap (λ es. lines_from form (station_of specs) 0 0 (history_of specs (map station_event es))) (sym gone)
 
-pub report-no_process : (seen : List ProcessSpec) (s : Schedule) → seen ≡ s.config.specs → None ≡ slice_get seen 0 → IsLawful s
-    → end_line 0 0 ≡ report_from (station_of s.config.specs) 0 0 (history_of_schedule s)
-report-no_process seen s same h lawful = end_alone s.config.specs s.events (no_process s.config.specs (h ∙ ap (λ xs. slice_get xs 0) same)) lawful.events
+pub lines-no_process : (form : Form) (seen : List ProcessSpec) (s : Schedule) → seen ≡ s.config.specs → None ≡ slice_get seen 0 → IsPlain s
+    → end_line form 0 0 ≡ lines_from form (station_of s.config.specs) 0 0 (history_of_schedule s)
+lines-no_process form seen s same h lawful = end_alone form s.config.specs s.events (no_process s.config.specs (h ∙ ap (λ xs. slice_get xs 0) same)) lawful.events
 
 -- a process is on the station of all processes
 on_station : (host : ℕ) (pid : Pid) (specs : List ProcessSpec) → list_all (λ (t : ProcessSpec). t.pid.host == host) specs ≡ true → has_process specs pid ≡ true → (pid.host == host) ≡ true
@@ -130,7 +131,7 @@ is_at-first : (specs : List ProcessSpec) (t : Tables) (host : ℕ) (pid : Pid) �
 is_at-first specs t host pid one is has = is ∙ and_from _ _ (on_station host pid specs one has) has
 
 own_event : (specs : List ProcessSpec) (t : Tables) (host : ℕ) → list_all (λ (s : ProcessSpec). s.pid.host == host) specs ≡ true
-    → ((pid : Pid) → is_at t pid ≡ (pid.host == host && has_process specs pid)) → (e : Event) → is_lawful_event specs e ≡ true → is_own t (station_event e) ≡ true
+    → ((pid : Pid) → is_at t pid ≡ (pid.host == host && has_process specs pid)) → (e : Event) → is_playable_event specs e ≡ true → is_own t (station_event e) ≡ true
 own_event specs t host one is (scheduled.Call pid c) h = is_at-first specs t host pid one (is pid) (and_parts _ _ h).0
 own_event specs t host one is (scheduled.Collect pid) h = is_at-first specs t host pid one (is pid) (and_parts _ _ h).0
 own_event specs t host one is (scheduled.Tick other) h = refl
@@ -141,7 +142,7 @@ one_host [] one = refl
 one_host (s ∷ ss) one = and_from _ _ (same_number s.pid.host) one
 
 -- every event is one of this station
-pub all_own : (s : Schedule) (t : Tables) (host : ℕ) → IsLawful s → station_of s.config.specs ≡ host
+pub all_own : (s : Schedule) (t : Tables) (host : ℕ) → IsPlain s → station_of s.config.specs ≡ host
     → ((pid : Pid) → is_at t pid ≡ (pid.host == host && has_process s.config.specs pid))
     → list_all (λ e. is_own t (station_event e)) s.events ≡ true
 all_own s t host lawful first is =

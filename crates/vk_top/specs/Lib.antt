@@ -1,4 +1,6 @@
+pub mod Forms
 pub mod Playing
 pub mod Report
 pub mod Statuses
 pub mod Top
+pub mod Words

@@ -7,10 +7,11 @@ use Rattle.vk_host.specs.Entries.{after_event, entry_of, steps_of}
 use Rattle.vk_host.specs.Stands.{Stands, is_at}
 use Rattle.vk_host.specs.Tables.{Tables}
 use Rattle.vk_top.specs.Report.{entry_text}
+use Rattle.vk_top.specs.declared.report.Form.{Form}
 
 -- the station had this event, had this many steps in it, and the entry of it, of this number, was appended
-pub record IsPlayed (host number : ℕ) (old new : Tables) (front text : List ℕ) (e : StationEvent) (steps : ℕ) : Type 0 where
-  pub entry : (k : Kernel) → Stands old k → text ≡ front ++ entry_text host number (entry_of k e)
+pub record IsPlayed (form : Form) (host number : ℕ) (old new : Tables) (front text : List ℕ) (e : StationEvent) (steps : ℕ) : Type 0 where
+  pub entry : (k : Kernel) → Stands old k → text ≡ front ++ entry_text form host number (entry_of k e)
   pub count : (k : Kernel) → Stands old k → steps ≡ length (steps_of k e)
   pub few : steps ≤ 40
   pub stands : (k : Kernel) → Stands old k → Stands new (after_event k e)

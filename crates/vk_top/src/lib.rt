@@ -1,15 +1,18 @@
 //! The top call: words in, one input read to its end, one output written, and a status. `vkernel` does the whole work of
 //! the program; what a program adds are the real objects.
 //!
-//! Stands on the reader of schedules (`vk_event`), on a station (`vk_host`), on the texts of steps and answers
-//! (`v_trace`) and on sources and sinks (`vk_io`). What is written of a schedule is `specs/Report.antt`; what each
-//! status says is `specs/Top.antt`.
+//! Stands on the reader of schedules (`vk_event`), on a station (`vk_host`), on the texts of steps and answers (`v_trace`)
+//! and of words (`vk_text`), on sources and sinks (`vk_io`), and on `clap`, which reads the program's words. What they ask
+//! for is `specs/Words.antt`, what can be played `specs/Forms.antt`, what is written of a schedule `specs/Report.antt`; what
+//! each status says is `specs/Top.antt`.
 #![tactic(auto)]
 
+mod forms;
 mod replay;
 mod report;
 mod status;
 mod top;
+mod words;
 
 pub use status::Status;
 pub use top::vkernel;

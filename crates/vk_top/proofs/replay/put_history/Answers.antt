@@ -3,14 +3,15 @@ use Rattle.std.proofs.lemmas.Result.{on_ok_weaker}
 use Rattle.std.specs.Option.{option_copied}
 use Rattle.vk_base.specs.Kernel.{opening}
 use Rattle.vk_host.specs.Entries.{history_of}
-use Rattle.vk_top.proofs.Schedules.{report-no_process, station_of-first, has_station-first, all_built, all_own}
-use Rattle.vk_top.specs.Report.{report_from, station_event}
+use Rattle.vk_top.proofs.Schedules.{lines-no_process, station_of-first, has_station-first, all_built, all_own}
+use Rattle.vk_top.specs.Report.{lines_from, station_event}
+use Rattle.vk_top.proofs.Playable.{plain}
 use Rattle.vk_top.proofs.replay.put_history.Goals as goal
 
 pub returns-in_default : goal.returns-in_default
 returns-in_default c =
     on_ok_weaker c.put_end.result
-    (λ written. written ∙ ap (λ r. c.args.text.now.items ++ r) (report-no_process c.specs.result.now c.args.schedule.now c.specs.ensures.specs (ap option_copied (sym c.in_default.is) ∙ c.first.ensures.value) c.requires))
+    (λ written. written ∙ ap (λ r. c.args.text.now.items ++ r) (lines-no_process c.args.form c.specs.result.now c.args.schedule.now c.specs.ensures.specs (ap option_copied (sym c.in_default.is) ∙ c.first.ensures.value) (plain c.args.schedule.now c.requires)))
     c.put_end.ensures
 
 pub new-requires : goal.new-requires
@@ -22,10 +23,10 @@ put_events-requires c =
     let same : c.as_slice.result.now ≡ s.events = c.as_slice.ensures in
     let first = station_of-first c.specs.result.now s.config.specs c.in-Some.first.now c.specs.ensures.specs c.in-Some.ensures.value in
     record {
-      few = rw same c.requires.few;
+      few = rw same c.requires.lawful.few;
       first = c.in_ok-station.ensures.start.0;
-      own = rw same (all_own s c.in_ok-station.station _ c.requires first c.in_ok-station.ensures.processes);
-      built = rw same (all_built s c.requires);
+      own = rw same (all_own s c.in_ok-station.station _ (plain s c.requires) first c.in_ok-station.ensures.processes);
+      built = rw same (all_built s (plain s c.requires));
     }
 
 pub returns : goal.returns
@@ -34,6 +35,6 @@ returns c =
     let first = station_of-first c.specs.result.now s.config.specs c.in-Some.first.now c.specs.ensures.specs c.in-Some.ensures.value in
     on_ok_weaker c.put_events.result
     (λ written. written (opening s.config.specs) c.in_ok-station.ensures.stands
-    ∙ ap (λ es. c.args.text.now.items ++ report_from c.in-Some.first.now.pid.host 0 0 (history_of s.config.specs (map station_event es))) c.as_slice.ensures
-    ∙ ap (λ h. c.args.text.now.items ++ report_from h 0 0 (history_of s.config.specs (map station_event s.events))) (sym first))
+    ∙ ap (λ es. c.args.text.now.items ++ lines_from c.args.form c.in-Some.first.now.pid.host 0 0 (history_of s.config.specs (map station_event es))) c.as_slice.ensures
+    ∙ ap (λ h. c.args.text.now.items ++ lines_from c.args.form h 0 0 (history_of s.config.specs (map station_event s.events))) (sym first))
     c.put_events.ensures

@@ -1,0 +1,84 @@
+-- What holds of a schedule that can be played.
+use Rattle.std.proofs.Common.{◌≡◌, ℕ, suc, ◌+◌, ◌≤◌, ◌==◌, ◌&&◌, not, Bool, true, false, cond, List, [], ◌∷◌, length, nat_lt, Option, Some, None, option_map, Result, Ok, Err, refl, sym, ap, ◌∙◌, arith}
+use Rattle.std.proofs.lemmas.Bool.{and_from, and_parts, le-ltb}
+use borrow.Author.Tests.{ltb-false}
+use Rattle.std.proofs.lemmas.Option.{none-some}
+use Rattle.std.specs.List.{list_all, position_or_len, prefix_len}
+use Rattle.std.specs.Prelude.{position}
+use Rattle.vk_base.specs.Settings.{or_else}
+use Rattle.vk_base.specs.declared.config.ProcessSpec.{ProcessSpec}
+use Rattle.vk_event.specs.declared.event.Event.{Event}
+use Rattle.vk_event.specs.declared.schedule.Schedule.{Schedule}
+use Rattle.vk_event.specs.declared.schedule.TextRefusal.{TextRefusal}
+use Rattle.vk_event.specs.Lawful.{has_actors}
+use Rattle.vk_event.specs.Schedule.{front_of, schedule_of, whole}
+use Rattle.vk_top.specs.Forms.{is_built_event, is_built_process, unbuilt_process, unbuilt_event, unbuilt_line, playable_by, playable_of, IsPlayable}
+
+-- an event of a process of the schedule, of a form that is built
+abbrev pub is_playable_event : List ProcessSpec → Event → Bool
+is_playable_event specs e = has_actors specs e && is_built_event e
+
+-- all processes live on the first one's station
+abbrev pub is_one_station : List ProcessSpec → Bool
+is_one_station [] = true
+is_one_station (s ∷ ss) = list_all (λ (t : ProcessSpec). t.pid.host == s.pid.host) ss
+
+pub record IsPlain (s : Schedule) : Type 0 where
+  pub events : list_all (is_playable_event s.config.specs) s.events ≡ true
+  pub station : is_one_station s.config.specs ≡ true
+  pub few : length s.events ≤ 100000
+
+-- where no element fails the test, each passes it
+unless : {A : Type 0} (b : Bool) (x : A) → cond b (Some x) None ≡ None → b ≡ false
+unless true x h = absurd (none-some x (sym h))
+unless false x h = refl
+
+first_fails : (b : Bool) (a n : ℕ) → nat_lt (cond (not (not b)) (1 + a) 0) (suc n) ≡ false → (b ≡ true) × (nat_lt a n ≡ false)
+first_fails true a n h = (refl, le-ltb a n (omega (arith, ltb-false (1 + a) (suc n) h)))
+first_fails false a n h = absurd (omega (arith, ltb-false 0 (suc n) h))
+
+each_passes : {X : Type 0} (p : X → Bool) (xs : List X) → nat_lt (prefix_len (λ x. not (not (p x))) xs) (length xs) ≡ false → list_all p xs ≡ true
+each_passes p [] h = refl
+each_passes p (x ∷ xs) h =
+    let first = first_fails (p x) (prefix_len (λ y. not (not (p y))) xs) (length xs) h in
+    and_from (p x) (list_all p xs) first.0 (each_passes p xs first.1)
+
+none_fail : {X : Type 0} (p : X → Bool) (xs : List X) → position (λ x. not (p x)) xs ≡ None → list_all p xs ≡ true
+none_fail p xs h = each_passes p xs (unless _ _ h)
+
+neither : (a b : Option ℕ) → or_else a b ≡ None → (a ≡ None) × (b ≡ None)
+neither None b h = (refl, h)
+neither (Some n) b h = absurd (none-some n (sym h))
+
+unmapped : (f : ℕ → ℕ) (o : Option ℕ) → option_map f o ≡ None → o ≡ None
+unmapped f None h = refl
+unmapped f (Some n) h = absurd (none-some (f n) (sym h))
+
+both : {X : Type 0} (p q : X → Bool) (xs : List X) → list_all p xs ≡ true → list_all q xs ≡ true → list_all (λ x. p x && q x) xs ≡ true
+both p q [] h k = refl
+both p q (x ∷ xs) h k =
+    let first = and_parts (p x) (list_all p xs) h in
+    let second = and_parts (q x) (list_all q xs) k in
+    and_from (p x && q x) (list_all (λ y. p y && q y) xs) (and_from (p x) (q x) first.0 second.0) (both p q xs first.1 second.1)
+
+one_station : (specs : List ProcessSpec) → list_all (is_built_process specs) specs ≡ true → is_one_station specs ≡ true
+one_station [] h = refl
+one_station (s ∷ ss) h = (and_parts _ _ h).1
+
+pub plain : (s : Schedule) → IsPlayable s → IsPlain s
+plain s playable =
+    let unbuilt = neither _ _ playable.built in
+    record {
+      events = both _ _ s.events playable.lawful.events (none_fail is_built_event s.events (unmapped _ _ unbuilt.1));
+      station = one_station s.config.specs (none_fail (is_built_process s.config.specs) s.config.specs (unmapped _ _ unbuilt.0));
+      few = playable.lawful.few;
+    }
+
+-- a schedule that can be played is the whole of its text
+by_parts : (s t : Schedule) (line : Option ℕ) (refused : Option TextRefusal) → playable_by s line refused ≡ Ok t → whole s refused ≡ Ok t
+by_parts s t (Some n) refused h = cc
+by_parts s t None (Some why) h = cc
+by_parts s t None None h = h
+
+pub front_is_whole : (text : List ℕ) (s : Schedule) → playable_of text ≡ Ok s → schedule_of text ≡ Ok s
+front_is_whole text s h = by_parts (front_of text).schedule s (unbuilt_line (front_of text).schedule) (front_of text).refused h

@@ -1,0 +1,70 @@
+-- Which processes and events can be played so far. A line of any other is refused as if it were bad.
+use Rattle.std.specs.Prelude.{◌≡◌, ℕ, ◌+◌, ◌==◌, ◌&&◌, not, Bool, true, false, List, [], ◌∷◌, length, drop, position, Option, Some, None, option_map, Result, Ok, Err}
+use Rattle.std.specs.List.{list_all}
+use Rattle.vk_base.specs.Pids.{same_host}
+use Rattle.vk_base.specs.Settings.{or_else}
+use Rattle.vk_base.specs.declared.call.Call.{Call}
+use Rattle.vk_base.specs.declared.call.Call.TheVariants as calls
+use Rattle.vk_base.specs.declared.config.ProcessSpec.{ProcessSpec}
+use Rattle.vk_base.specs.declared.message.Message.{Message}
+use Rattle.vk_base.specs.declared.pid.Pid.{Pid}
+use Rattle.vk_event.specs.declared.event.Event.{Event}
+use Rattle.vk_event.specs.declared.event.Event.TheVariants as events
+use Rattle.vk_event.specs.declared.schedule.Front.{Front}
+use Rattle.vk_event.specs.declared.schedule.Schedule.{Schedule}
+use Rattle.vk_event.specs.declared.schedule.TextRefusal.{TextRefusal}
+use Rattle.vk_event.specs.declared.schedule.TextRefusal.TheVariants as refusals
+use Rattle.vk_event.specs.Lawful.{IsLawful}
+use Rattle.vk_event.specs.Schedule.{front_of}
+
+-- the last eight bytes, which name a segment, are 0
+abbrev pub is_short : Message → Bool
+is_short m = list_all (λ b. b == 0) (drop 24 m.0)
+
+-- a Send to the caller's own station, a Receive or a Reply, without a segment
+abbrev pub is_built_call : Pid → Call → Bool
+is_built_call pid (calls.Send target message) = same_host target pid && is_short message
+is_built_call pid calls.Receive = true
+is_built_call pid (calls.Reply message to) = is_short message
+is_built_call pid _ = false
+
+-- such a call, or a collect
+abbrev pub is_built_event : Event → Bool
+is_built_event (events.Call pid call) = is_built_call pid call
+is_built_event (events.Collect pid) = true
+is_built_event _ = false
+
+-- the process lives on the station of the first
+abbrev pub is_built_process : List ProcessSpec → ProcessSpec → Bool
+is_built_process [] s = true
+is_built_process (first ∷ rest) s = s.pid.host == first.pid.host
+
+-- the first process and the first event that are not built, counted from 0
+abbrev pub unbuilt_process : List ProcessSpec → Option ℕ
+unbuilt_process specs = position (λ s. not (is_built_process specs s)) specs
+
+abbrev pub unbuilt_event : List Event → Option ℕ
+unbuilt_event events = position (λ e. not (is_built_event e)) events
+
+-- the line of the first that is not built: behind the title each process has a line, and then each event
+abbrev pub unbuilt_line : Schedule → Option ℕ
+unbuilt_line s =
+    or_else (option_map (λ i. i + 2) (unbuilt_process s.config.specs))
+    (option_map (λ i. length s.config.specs + i + 2) (unbuilt_event s.events))
+
+abbrev pub playable_by : Schedule → Option ℕ → Option TextRefusal → Result Schedule TextRefusal
+playable_by s (Some line) refused = Err (refusals.BadInput line)
+playable_by s None (Some why) = Err why
+playable_by s None None = Ok s
+
+abbrev pub playable_front : Front → Result Schedule TextRefusal
+playable_front f = playable_by f.schedule (unbuilt_line f.schedule) f.refused
+
+-- the schedule of the text, where it can be played: the first line that is not built or that is refused decides
+abbrev pub playable_of : List ℕ → Result Schedule TextRefusal
+playable_of text = playable_front (front_of text)
+
+-- what holds of every schedule that can be played
+pub record IsPlayable (s : Schedule) : Type 0 where
+  pub lawful : IsLawful s
+  pub built : unbuilt_line s ≡ None

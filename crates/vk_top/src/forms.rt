@@ -1,0 +1,81 @@
+//! Which schedules can be played so far.
+
+ghost use Rattle.std.specs.Prelude.{◌≡◌, None, Some, MatchResult, length, IfSome, option_map};
+ghost use Rattle.vk_event.specs.Lawful.{IsLawful};
+ghost use Rattle.vk_top.specs.Forms.{is_short, is_built_call, is_built_event, unbuilt_process, unbuilt_event, unbuilt_line, playable_front, IsPlayable};
+
+use vk_base::{Call, Message, Pid, ProcessSpec};
+use vk_event::{Event, Front, Schedule, TextRefusal};
+
+fn is_short(message: &Message) -> bool
+    ensures { result ≡ is_short message.now }
+{
+    let bytes: &[u8] = &message.0;
+    let (_, last) = bytes.split_at(24);
+    last.iter().all(|b| *b == 0)
+}
+
+fn is_built_call(pid: Pid, call: &Call) -> bool
+    ensures { result ≡ is_built_call pid call.now }
+{
+    match call {
+        Call::Send { target, message } => target.host == pid.host && is_short(message),
+        Call::Receive => true,
+        Call::Reply { message, .. } => is_short(message),
+        _ => false,
+    }
+}
+
+fn is_built_event(event: &Event) -> bool
+    ensures { result ≡ is_built_event event.now }
+{
+    match event {
+        Event::Call { pid, call } => is_built_call(*pid, call),
+        Event::Collect { .. } => true,
+        Event::Tick { .. } | Event::Deliver { .. } => false,
+    }
+}
+
+/// The first process that does not live on the first one's station.
+fn unbuilt_process(specs: &[ProcessSpec]) -> Option<usize>
+    ensures { result ≡ unbuilt_process specs.now }
+{
+    let first = specs.first()?;
+    let host = first.pid.host;
+    specs.iter().position(|s| s.pid.host != host)
+}
+
+/// The first event that cannot be played.
+fn unbuilt_event(events: &[Event]) -> Option<usize>
+    ensures { result ≡ unbuilt_event events.now }
+{
+    events.iter().position(|e| !is_built_event(e))
+}
+
+/// The line of the first process or event that cannot be played.
+fn unbuilt_line(schedule: &Schedule) -> Option<u64>
+    ensures { result ≡ unbuilt_line schedule.now }
+{
+    let specs = schedule.config.specs();
+    if let Some(at) = unbuilt_process(specs) {
+        return Some(at as u64 + 2);
+    }
+    let at = unbuilt_event(schedule.events.as_slice())?;
+    Some((specs.len() + at) as u64 + 2)
+}
+
+/// The schedule of a text, where it can be played. The first line that cannot or that is refused decides.
+pub fn playable(front: Front) -> Result<Schedule, TextRefusal>
+    requires { IsLawful front.schedule }
+    ensures exact { result ≡ playable_front front }
+    ensures playable { MatchResult result IsPlayable (λ e. Unit {0}) }
+{
+    let Front { schedule, refused } = front;
+    if let Some(line) = unbuilt_line(&schedule) {
+        return Err(TextRefusal::BadInput { line });
+    }
+    match refused {
+        Some(refusal) => Err(refusal),
+        None => Ok(schedule),
+    }
+}
