@@ -17,14 +17,15 @@ use Rattle.vk_base.specs.declared.kernel.State.{State}
 use Rattle.vk_base.specs.declared.kernel.State.TheVariants as states
 use Rattle.vk_base.specs.declared.message.Message.{Message}
 use Rattle.vk_base.specs.declared.pid.Pid.{Pid}
-use Rattle.vk_base.specs.Kernel.{Kernel, Taking, Finishing, Collecting, opening, opened, put_process, put_exchange, with_state, with_stage, taking, taken, finishing, finished, collecting, receiving, sending, finished_call}
+use Rattle.vk_base.specs.Kernel.{Kernel, opening, opened, put_process, put_exchange, with_state, with_stage, receiving, sending, finished_call}
+use Rattle.vk_base.specs.Steps.{Taking, Finishing, Collecting, taking, taken, finishing, finished, collecting}
 use Rattle.vk_base.specs.Pids.{same_pid}
 use Rattle.vk_base.specs.Ranges.{with_bytes}
 use Rattle.vk_base.specs.Settings.{is_process, has_process}
-use Rattle.vk_base.specs.Sound.{IsSound}
-use Rattle.vk_base.proofs.SoundLemmas.{sound_opening, sound_taken, sound_finished, sound_collected}
-use Rattle.vk_base.proofs.StepLemmas.{taking_is, finishing_is, collecting_is}
-use Rattle.vk_base.proofs.Tables.{same_pid_is, put_process_at, put_process_other}
+use Rattle.v_laws.specs.Sound.{IsSound}
+use Rattle.v_laws.proofs.SoundLemmas.{sound_opening, sound_taken, sound_finished, sound_collected}
+use Rattle.v_laws.proofs.StepLemmas.{taking_is, finishing_is, collecting_is}
+use Rattle.v_laws.proofs.Tables.{same_pid_is, put_process_at, put_process_other}
 use Rattle.vk_host.specs.Entries.{is_not_yet, no_call}
 
 -- what a process in this state began last

@@ -19,15 +19,17 @@ use Rattle.vk_base.specs.declared.message.Message.{Message}
 use Rattle.vk_base.specs.declared.pid.Pid.{Pid}
 use Rattle.vk_base.specs.declared.step.Step.{Step}
 use Rattle.vk_base.specs.declared.step.Step.TheVariants as steps
-use Rattle.vk_base.specs.Kernel.{◌>>=◌, Kernel, Effect, Taking, Finishing, Collecting, opening, effect, run, next, after_effect, unseen, answered, called, accepted, call_refusal, first_that_holds, name_of, put_exchange, with_state, with_stage, sent, sent_exchange, taking, taken, finishing, finished, collecting, sending, reply_of, held, is_taken, is_queued}
+use Rattle.vk_base.specs.Calls.{Effect, unseen, answered, called, accepted, call_refusal, first_that_holds, sent, sent_exchange}
+use Rattle.vk_base.specs.Kernel.{◌>>=◌, Kernel, opening, name_of, put_exchange, with_state, with_stage, sending, reply_of, held, is_taken, is_queued}
+use Rattle.vk_base.specs.Steps.{Taking, Finishing, Collecting, effect, run, next, after_effect, taking, taken, finishing, finished, collecting}
 use Rattle.vk_base.specs.Pids.{same_pid, same_host}
 use Rattle.vk_base.specs.Settings.{has_process}
-use Rattle.vk_base.specs.Sound.{IsSound}
-use Rattle.vk_base.proofs.Held.{holding_is}
-use Rattle.vk_base.proofs.RunLemmas.{run_on, run_nothing}
-use Rattle.vk_base.proofs.SoundLemmas.{sound_sent, sound_stage, sound_state, ready_sends_none}
-use Rattle.vk_base.proofs.StepLemmas.{IsFit, fit_is}
-use Rattle.vk_base.proofs.Tables.{same_pid_is, same_pid_self, put_exchange_here}
+use Rattle.v_laws.specs.Sound.{IsSound}
+use Rattle.v_laws.proofs.Held.{holding_is}
+use Rattle.v_laws.proofs.RunLemmas.{run_on, run_nothing}
+use Rattle.v_laws.proofs.SoundLemmas.{sound_sent, sound_stage, sound_state, ready_sends_none}
+use Rattle.v_laws.proofs.StepLemmas.{IsFit, fit_is}
+use Rattle.v_laws.proofs.Tables.{same_pid_is, same_pid_self, put_exchange_here}
 use Rattle.vk_host.specs.declared.event.EventAnswer.TheVariants as events_answered
 use Rattle.vk_host.specs.declared.event.StationEvent.{StationEvent}
 use Rattle.vk_host.specs.declared.event.StationEvent.TheVariants as events

@@ -15,12 +15,14 @@ use Rattle.vk_base.specs.declared.kernel.State.{State}
 use Rattle.vk_base.specs.declared.kernel.State.TheVariants as states
 use Rattle.vk_base.specs.declared.message.Message.{Message}
 use Rattle.vk_base.specs.declared.pid.Pid.{Pid}
-use Rattle.vk_base.specs.Kernel.{Kernel, Taking, name_of, same_name, put_exchange, sending, receiving, queue_of, is_queued, with_state, with_stage, sent, taken, taking}
+use Rattle.vk_base.specs.Calls.{sent}
+use Rattle.vk_base.specs.Kernel.{Kernel, name_of, same_name, put_exchange, sending, receiving, queue_of, is_queued, with_state, with_stage, is_open}
+use Rattle.vk_base.specs.Steps.{Taking, taken, taking}
 use Rattle.vk_base.specs.Pids.{same_pid}
-use Rattle.vk_base.specs.Sound.{IsSound, is_open}
-use Rattle.vk_base.proofs.Queues.{queue-state, queue-taken_here, queue-taken_elsewhere, taken_was_queued}
-use Rattle.vk_base.proofs.StepLemmas.{IsTaking, taking_is}
-use Rattle.vk_base.proofs.Tables.{same_pid_is, same_name_is, put_process_here, put_process_other, put_exchange_here, put_exchange_at, put_exchange_other}
+use Rattle.v_laws.specs.Sound.{IsSound}
+use Rattle.v_laws.proofs.Queues.{queue-state, queue-taken_here, queue-taken_elsewhere, taken_was_queued}
+use Rattle.v_laws.proofs.StepLemmas.{IsTaking, taking_is}
+use Rattle.v_laws.proofs.Tables.{same_pid_is, same_name_is, put_process_here, put_process_other, put_exchange_here, put_exchange_at, put_exchange_other}
 use Rattle.vk_host.specs.declared.seat.Seat.{Seat}
 use Rattle.vk_host.specs.Stands.{IsSent, IsSeated, Fits, AreSeats}
 use Rattle.vk_host.specs.Tables.{is_seat, change_first, dequeued, marked_taken, received, state_of, taken_seats}

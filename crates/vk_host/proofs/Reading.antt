@@ -17,14 +17,16 @@ use Rattle.vk_base.specs.declared.kernel.State.{State}
 use Rattle.vk_base.specs.declared.kernel.State.TheVariants as states
 use Rattle.vk_base.specs.declared.message.Message.{Message}
 use Rattle.vk_base.specs.declared.pid.Pid.{Pid}
-use Rattle.vk_base.specs.Kernel.{◌>>=◌, Kernel, Taking, name_of, holds_of, is_ready, receiving, sending, first_of, is_queued, is_taken, is_queued_at, is_held_by, held_up_to, held, is_live, queue_of, taking, tests_of, call_refusal, first_that_holds}
+use Rattle.vk_base.specs.Calls.{tests_of, call_refusal, first_that_holds}
+use Rattle.vk_base.specs.Kernel.{◌>>=◌, Kernel, name_of, holds_of, is_ready, receiving, sending, is_queued, is_taken, is_queued_at, is_held_by, held_up_to, held, is_live, queue_of, is_open}
+use Rattle.vk_base.specs.Steps.{Taking, first_of, taking}
 use Rattle.vk_base.specs.Messages.{segment_of}
 use Rattle.vk_base.specs.Pids.{same_pid, same_host}
 use Rattle.vk_base.specs.Ranges.{lies_in}
-use Rattle.vk_base.specs.Sound.{IsSound, IsAwaited, IsBegun, is_open}
-use Rattle.vk_base.proofs.FilterLemmas.{first_passes}
-use Rattle.vk_base.proofs.Held.{holds_at, held_none, held_here}
-use Rattle.vk_base.proofs.Tables.{same_pid_is, same_pid_self}
+use Rattle.v_laws.specs.Sound.{IsSound, IsAwaited, IsBegun}
+use Rattle.v_laws.proofs.FilterLemmas.{first_passes}
+use Rattle.v_laws.proofs.Held.{holds_at, held_none, held_here}
+use Rattle.v_laws.proofs.Tables.{same_pid_is, same_pid_self}
 use Rattle.vk_host.specs.declared.seat.Seat.{Seat}
 use Rattle.vk_host.specs.Entries.{is_built_call, grants_nothing}
 use Rattle.vk_host.specs.Stands.{IsSent, IsSeated, Fits, AreSeats}

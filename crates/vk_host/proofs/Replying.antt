@@ -12,10 +12,12 @@ use Rattle.vk_base.specs.declared.kernel.Stage.TheVariants as stages
 use Rattle.vk_base.specs.declared.kernel.State.TheVariants as states
 use Rattle.vk_base.specs.declared.message.Message.{Message}
 use Rattle.vk_base.specs.declared.pid.Pid.{Pid}
-use Rattle.vk_base.specs.Kernel.{◌>>=◌, Kernel, Finishing, name_of, sending, is_queued, reply_of, queue_of, with_stage, answered, accepted, finishing, finished}
-use Rattle.vk_base.specs.Sound.{IsSound, is_open}
-use Rattle.vk_base.proofs.Queues.{queue-stage}
-use Rattle.vk_base.proofs.Tables.{put_process_here, put_process_other, put_exchange_here, put_exchange_other}
+use Rattle.vk_base.specs.Calls.{answered, accepted}
+use Rattle.vk_base.specs.Kernel.{◌>>=◌, Kernel, name_of, sending, is_queued, reply_of, queue_of, with_stage, is_open}
+use Rattle.vk_base.specs.Steps.{Finishing, finishing, finished}
+use Rattle.v_laws.specs.Sound.{IsSound}
+use Rattle.v_laws.proofs.Queues.{queue-stage}
+use Rattle.v_laws.proofs.Tables.{put_process_here, put_process_other, put_exchange_here, put_exchange_other}
 use Rattle.vk_host.specs.declared.seat.Seat.{Seat}
 use Rattle.vk_host.specs.Stands.{IsSeated, AreSeats}
 use Rattle.vk_host.specs.Tables.{is_seat, change_first, is_awaiting, state_of, replied_by, replied as replied_seat}

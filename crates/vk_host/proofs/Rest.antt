@@ -19,16 +19,18 @@ use Rattle.vk_base.specs.declared.message.Message.{Message}
 use Rattle.vk_base.specs.declared.pid.Pid.{Pid}
 use Rattle.vk_base.specs.declared.step.Step.{Step}
 use Rattle.vk_base.specs.declared.step.Step.TheVariants as steps
-use Rattle.vk_base.specs.Kernel.{◌>>=◌, Kernel, Effect, Taking, Finishing, Collecting, opening, next, is_allowed, after_effect, unseen, answered, called, accepted, call_refusal, holds_of, name_of, first_of, queue_of, is_queued, is_queued_at, is_taken, put_process, put_exchange, with_state, sent, sent_exchange, taking, taken, finishing, finished, collecting, receiving, held}
+use Rattle.vk_base.specs.Calls.{Effect, unseen, answered, called, accepted, call_refusal, sent, sent_exchange}
+use Rattle.vk_base.specs.Kernel.{◌>>=◌, Kernel, opening, holds_of, name_of, queue_of, is_queued, is_queued_at, is_taken, put_process, put_exchange, with_state, receiving, held}
+use Rattle.vk_base.specs.Steps.{Taking, Finishing, Collecting, next, is_allowed, after_effect, first_of, taking, taken, finishing, finished, collecting}
 use Rattle.vk_base.specs.Pids.{same_pid, same_host}
 use Rattle.vk_base.specs.Ranges.{with_bytes}
 use Rattle.vk_base.specs.Settings.{has_process}
-use Rattle.vk_base.specs.Sound.{IsSound}
-use Rattle.vk_base.proofs.FilterLemmas.{first_passes}
-use Rattle.vk_base.proofs.Held.{holding_is}
-use Rattle.vk_base.proofs.Queues.{queued_in, queue-state, queue-stage, queue-sent_elsewhere, queue-taken_elsewhere}
-use Rattle.vk_base.proofs.StepLemmas.{IsFit, fit_is, taking_is}
-use Rattle.vk_base.proofs.Tables.{same_pid_is, same_pid_laws, put_process_at, put_process_other}
+use Rattle.v_laws.specs.Sound.{IsSound}
+use Rattle.v_laws.proofs.FilterLemmas.{first_passes}
+use Rattle.v_laws.proofs.Held.{holding_is}
+use Rattle.v_laws.proofs.Queues.{queued_in, queue-state, queue-stage, queue-sent_elsewhere, queue-taken_elsewhere}
+use Rattle.v_laws.proofs.StepLemmas.{IsFit, fit_is, taking_is}
+use Rattle.v_laws.proofs.Tables.{same_pid_is, same_pid_laws, put_process_at, put_process_other}
 use Rattle.vk_host.specs.declared.event.StationEvent.{StationEvent}
 use Rattle.vk_host.specs.declared.event.StationEvent.TheVariants as events
 use Rattle.vk_host.specs.Entries.{grants_nothing, is_built_call, is_lawful, answer_of, answer_to, take_where, follow_up, steps_of, after_event, after_all, begun_after, no_call, IsAtRest}

@@ -15,12 +15,14 @@ use Rattle.vk_base.specs.declared.message.Message.{Message}
 use Rattle.vk_base.specs.declared.pid.Pid.{Pid}
 use Rattle.vk_base.specs.declared.step.Step.{Step}
 use Rattle.vk_base.specs.declared.step.Step.TheVariants as steps
-use Rattle.vk_base.specs.Kernel.{◌>>=◌, Kernel, Effect, Run, Taking, effect, next, after_effect, run, unseen, answered, called, call_refusal, with_state, sent, taking, taken, finished, collecting, finished_call, sending, is_ready}
+use Rattle.vk_base.specs.Calls.{Effect, unseen, answered, called, call_refusal, sent}
+use Rattle.vk_base.specs.Kernel.{◌>>=◌, Kernel, with_state, finished_call, sending, is_ready}
+use Rattle.vk_base.specs.Steps.{Run, Taking, effect, next, after_effect, run, taking, taken, finished, collecting}
 use Rattle.vk_base.specs.Pids.{same_host}
-use Rattle.vk_base.specs.Sound.{IsSound}
-use Rattle.vk_base.proofs.RunLemmas.{run_step, run_on, run_nothing}
-use Rattle.vk_base.proofs.SoundLemmas.{sound_step, ready_sends_none}
-use Rattle.vk_base.proofs.StepLemmas.{fit_is}
+use Rattle.v_laws.specs.Sound.{IsSound}
+use Rattle.v_laws.proofs.RunLemmas.{run_step, run_on, run_nothing}
+use Rattle.v_laws.proofs.SoundLemmas.{sound_step, ready_sends_none}
+use Rattle.v_laws.proofs.StepLemmas.{fit_is}
 use Rattle.vk_host.specs.declared.event.EventAnswer.{EventAnswer}
 use Rattle.vk_host.specs.declared.event.EventAnswer.TheVariants as given_answers
 use Rattle.vk_host.specs.declared.event.StationEvent.{StationEvent}

@@ -8,8 +8,8 @@ use Rattle.vk_base.specs.declared.kernel.Name.{Name}
 use Rattle.vk_base.specs.declared.pid.Pid.{Pid}
 use Rattle.vk_base.specs.Kernel.{Kernel, holds_of, is_queued_at, queue_of, same_name, sending}
 use Rattle.vk_base.specs.Pids.{same_pid}
-use Rattle.vk_base.specs.Sound.{IsSound}
-use Rattle.vk_base.proofs.Tables.{same_pid_is, same_pid_laws}
+use Rattle.v_laws.specs.Sound.{IsSound}
+use Rattle.v_laws.proofs.Tables.{same_pid_is, same_pid_laws}
 use Rattle.vk_host.specs.declared.seat.Seat.{Seat}
 use Rattle.vk_host.specs.Stands.{AreSeats}
 use Rattle.vk_host.specs.Tables.{is_seat, state_of}

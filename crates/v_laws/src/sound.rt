@@ -3,8 +3,10 @@
 ghost use Rattle.std.specs.Prelude.{◌≡◌, List, Some};
 ghost use Rattle.vk_base.specs.declared.config.ProcessSpec.{ProcessSpec};
 ghost use Rattle.vk_base.specs.declared.step.Step.{Step};
-ghost use Rattle.vk_base.specs.Kernel.{Kernel, Effect, Run, opening, effect, run};
-ghost use Rattle.vk_base.specs.Sound.{IsSound};
+ghost use Rattle.vk_base.specs.Calls.{Effect};
+ghost use Rattle.vk_base.specs.Kernel.{Kernel, opening};
+ghost use Rattle.vk_base.specs.Steps.{Run, effect, run};
+ghost use Rattle.v_laws.specs.Sound.{IsSound};
 
 /// In every kernel that a run reaches no exchange lies beyond its sender's number of Sends, a local exchange that is
 /// queued or taken has its sender waiting on it, and a message arrives once.

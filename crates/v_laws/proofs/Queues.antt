@@ -15,12 +15,14 @@ use Rattle.vk_base.specs.declared.kernel.State.{State}
 use Rattle.vk_base.specs.declared.kernel.State.TheVariants as states
 use Rattle.vk_base.specs.declared.message.Message.{Message}
 use Rattle.vk_base.specs.declared.pid.Pid.{Pid}
-use Rattle.vk_base.specs.Kernel.{Kernel, Taking, taking, taken, holds_of, is_queued, is_queued_at, queue_of, first_of, name_of, same_name, put_exchange, with_state, with_stage, sent, sent_exchange}
+use Rattle.vk_base.specs.Calls.{sent, sent_exchange}
+use Rattle.vk_base.specs.Kernel.{Kernel, holds_of, is_queued, is_queued_at, queue_of, name_of, same_name, put_exchange, with_state, with_stage}
+use Rattle.vk_base.specs.Steps.{Taking, taking, taken, first_of}
 use Rattle.vk_base.specs.Pids.{same_pid, same_host}
-use Rattle.vk_base.specs.Sound.{IsSound}
-use Rattle.vk_base.proofs.FilterLemmas.{filter_on, filter_rest, first_passes}
-use Rattle.vk_base.proofs.StepLemmas.{taking_is}
-use Rattle.vk_base.proofs.Tables.{same_pid_is, same_name_is, same_name_self, same_name_laws, put_exchange_at, put_exchange_other}
+use Rattle.v_laws.specs.Sound.{IsSound}
+use Rattle.v_laws.proofs.FilterLemmas.{filter_on, filter_rest, first_passes}
+use Rattle.v_laws.proofs.StepLemmas.{taking_is}
+use Rattle.v_laws.proofs.Tables.{same_pid_is, same_name_is, same_name_self, same_name_laws, put_exchange_at, put_exchange_other}
 
 -- whether this name stands in the process's queue, once it has arrived
 abbrev pub queued_in : (Name → Option Exchange) → Pid → Name → Bool

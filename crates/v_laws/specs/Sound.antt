@@ -7,7 +7,7 @@ use Rattle.vk_base.specs.declared.kernel.Name.{Name}
 use Rattle.vk_base.specs.declared.kernel.Process.{Process}
 use Rattle.vk_base.specs.declared.kernel.Stage.{Stage}
 use Rattle.vk_base.specs.declared.kernel.State.TheVariants as states
-use Rattle.vk_base.specs.Kernel.{Kernel, same_name, is_queued, is_taken}
+use Rattle.vk_base.specs.Kernel.{Kernel, same_name, is_open}
 use Rattle.vk_base.specs.Pids.{same_host}
 
 -- the sender has begun a Send of this number
@@ -24,9 +24,6 @@ pub record IsAwaited (k : Kernel) (n : Name) (e : Exchange) : Type 0 where
   pub alive : process.alive ≡ true
   pub blocked : process.state ≡ states.Blocked (calls.Send e.target e.message)
   pub last : process.sends ≡ n.number
-
-abbrev pub is_open : Stage → Bool
-is_open s = is_queued s || is_taken s
 
 pub record IsSound (k : Kernel) : Type 0 where
   -- no exchange lies beyond its sender's number of Sends

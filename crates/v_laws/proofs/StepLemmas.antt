@@ -7,12 +7,10 @@ use Rattle.vk_base.specs.declared.call.Call.{Call}
 use Rattle.vk_base.specs.declared.kernel.Exchange.{Exchange}
 use Rattle.vk_base.specs.declared.kernel.Process.{Process}
 use Rattle.vk_base.specs.declared.pid.Pid.{Pid}
-use Rattle.vk_base.specs.Kernel.{◌>>=◌, Kernel, Taking, taking, Finishing, finishing, Collecting, collecting, name_of, first_of, queue_of, receiving, sending, finished_call, reply_of, is_ready, call_refusal, tests_of, first_that_holds}
-
--- both parts of what came of two
-pub bind_is : {A B : Type 0} (o : Option A) (f : A → Option B) (b : B) → (o >>= f) ≡ Some b → (a : A) × (o ≡ Some a) × (f a ≡ Some b)
-bind_is None f b e = absurd (none-some b e)
-bind_is (Some a) f b e = (a, refl, e)
+use Rattle.vk_base.proofs.OptionLemmas.{bind_is}
+use Rattle.vk_base.specs.Calls.{call_refusal, tests_of, first_that_holds}
+use Rattle.vk_base.specs.Kernel.{◌>>=◌, Kernel, name_of, queue_of, receiving, sending, finished_call, reply_of, is_ready}
+use Rattle.vk_base.specs.Steps.{Taking, taking, Finishing, finishing, Collecting, collecting, first_of}
 
 pub record IsTaking (k : Kernel) (r : Pid) (t : Taking) : Type 0 where
   pub process : k.procs r ≡ Some t.process

@@ -21,14 +21,17 @@ use Rattle.vk_base.specs.declared.message.Message.{Message}
 use Rattle.vk_base.specs.declared.pid.Pid.{Pid}
 use Rattle.vk_base.specs.declared.step.Step.{Step}
 use Rattle.vk_base.specs.declared.step.Step.TheVariants as steps
-use Rattle.vk_base.specs.Kernel.{Kernel, Effect, Run, Taking, Finishing, Collecting, opening, effect, run, name_of, same_name, put_process, put_exchange, with_state, with_stage, sent, sent_exchange, taking, taken, finished, finishing, collecting, is_ready, is_queued, is_taken, reply_of, sending, receiving, finished_call, held, called, accepted, call_refusal}
+use Rattle.vk_base.specs.Calls.{Effect, sent, sent_exchange, called, accepted, call_refusal}
+use Rattle.vk_base.specs.Kernel.{Kernel, opening, name_of, same_name, put_process, put_exchange, with_state, with_stage, is_ready, is_queued, is_taken, reply_of, sending, receiving, finished_call, held, is_open}
+use Rattle.vk_base.specs.Steps.{Run, Taking, Finishing, Collecting, effect, run, taking, taken, finished, finishing, collecting}
 use Rattle.vk_base.specs.Pids.{same_pid, same_host}
 use Rattle.vk_base.specs.Ranges.{with_bytes}
-use Rattle.vk_base.specs.Sound.{IsSound, IsBegun, IsAwaited, is_open}
-use Rattle.vk_base.proofs.FilterLemmas.{distinct_push}
-use Rattle.vk_base.proofs.Queues.{fresh, not_arrived, taken_was_queued}
-use Rattle.vk_base.proofs.StepLemmas.{bind_is, taking_is, finishing_is, collecting_is, fit_is}
-use Rattle.vk_base.proofs.Tables.{same_pid_is, same_name_is, same_name_laws, put_process_at, put_process_other, put_exchange_at, put_exchange_other}
+use Rattle.v_laws.specs.Sound.{IsSound, IsBegun, IsAwaited}
+use Rattle.v_laws.proofs.FilterLemmas.{distinct_push}
+use Rattle.v_laws.proofs.Queues.{fresh, not_arrived, taken_was_queued}
+use Rattle.vk_base.proofs.OptionLemmas.{bind_is}
+use Rattle.v_laws.proofs.StepLemmas.{taking_is, finishing_is, collecting_is, fit_is}
+use Rattle.v_laws.proofs.Tables.{same_pid_is, same_name_is, same_name_laws, put_process_at, put_process_other, put_exchange_at, put_exchange_other}
 
 -- The opening kernel.
 pub sound_opening : (specs : List ProcessSpec) → IsSound (opening specs)
