@@ -23,7 +23,7 @@ use Rattle.vk_host.specs.Stands.{IsSeated, AreSeats}
 use Rattle.vk_host.specs.Tables.{is_seat, change_first, is_awaiting, state_of, replied_by, replied as replied_seat}
 use Rattle.vk_host.specs.declared.seat.Doing.{Doing}
 use Rattle.vk_host.specs.declared.seat.Doing.TheVariants as doings
-use Rattle.vk_host.proofs.Keeping.{home_put, seats_done}
+use Rattle.vk_host.proofs.Keeping.{home_put, queue-procs, seats_done}
 use Rattle.vk_host.proofs.Reading.{IsHeld, awaiting_is, held_awaiting}
 
 -- a Send that has its reply is done with it
@@ -33,11 +33,6 @@ replied_is doings.Receiving target m reply e = absurd (none-some _ (ap sending e
 replied_is (doings.Received from n) target m reply e = absurd (none-some _ (ap sending e))
 replied_is (doings.Replied other n old) target m reply e = absurd (none-some _ (ap sending e))
 replied_is (doings.Sending other n) target m reply e = let same = same_Some (other, n) (target, m) (ap sending e) in λ i. states.Done (calls.Send (same i).0 (same i).1) (answers.Replied reply)
-
--- queues do not depend on the processes
-queue-procs : (k l : Kernel) (q : Pid) → l.exchanges ≡ k.exchanges → l.arrived ≡ k.arrived → queue_of l q ≡ queue_of k q
-unfolding queue_of
-queue-procs k l q exchanges arrived = λ i. queue_of (record { procs = l.procs; exchanges = exchanges i; arrived = arrived i }) q
 
 module _ (host n : ℕ) (seats : List Seat) (k : Kernel) (pid to : Pid) (p : Process) (m : Message) (sound : IsSound k) (tables : AreSeats host n seats k) (awaits : is_awaiting seats pid to ≡ true) where
   pub has : (s : Seat) × (find (is_seat to) seats ≡ Some s) × IsSeated k to s × IsHeld k pid to s
