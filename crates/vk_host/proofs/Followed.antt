@@ -12,12 +12,10 @@ use Rattle.vk_base.specs.declared.kernel.Exchange.{Exchange}
 use Rattle.vk_base.specs.declared.kernel.Name.{Name}
 use Rattle.vk_base.specs.declared.kernel.Process.{Process}
 use Rattle.vk_base.specs.declared.kernel.Stage.{Stage}
-use Rattle.vk_base.specs.declared.kernel.Stage.TheVariants as stages
 use Rattle.vk_base.specs.declared.kernel.State.{State}
 use Rattle.vk_base.specs.declared.kernel.State.TheVariants as states
-use Rattle.vk_base.specs.declared.message.Message.{Message}
 use Rattle.vk_base.specs.declared.pid.Pid.{Pid}
-use Rattle.vk_base.specs.Kernel.{Kernel, opening, opened, put_process, put_exchange, with_state, with_stage, receiving, sending, finished_call}
+use Rattle.vk_base.specs.Kernel.{Kernel, opening, opened, put_process, with_state, with_stage, receiving, finished_call}
 use Rattle.vk_base.specs.Steps.{Taking, Finishing, Collecting, taking, taken, received, with_part, finishing, finished, collecting}
 use Rattle.vk_base.specs.Pids.{same_pid}
 use Rattle.vk_base.specs.Ranges.{with_bytes}
@@ -27,6 +25,7 @@ use Rattle.v_laws.proofs.SoundLemmas.{sound_opening, sound_taken, sound_finished
 use Rattle.v_laws.proofs.StepLemmas.{taking_is, finishing_is, collecting_is}
 use Rattle.v_laws.proofs.Tables.{same_pid_is, put_process_at, put_process_other}
 use Rattle.vk_host.specs.Entries.{is_not_yet, no_call}
+use Rattle.vk_host.proofs.Reading.{sending_is}
 
 -- what a process in this state began last
 abbrev pub Began : State → Option Call → Type 0
@@ -101,12 +100,6 @@ followed_taken specs k last r t f e =
     f (sound_taken k r t f.sound e) (λ q. refl) (begun, received_now t.call t.name.sender t.exchange) (λ q u. refl)
 
 -- Finish
-sending_is : (s : State) (target : Pid) (m : Message) → sending s ≡ Some (target, m) → s ≡ states.Blocked (calls.Send target m)
-sending_is states.Ready target m e = absurd (none-some (target, m) e)
-sending_is (states.Blocked (calls.Send t n)) target m e = ap (λ (x : Pid × Message). states.Blocked (calls.Send x.0 x.1)) (same_Some (t, n) (target, m) e)
-sending_is (states.Blocked c) target m e = absurd (none-some (target, m) e)
-sending_is (states.Done c a) target m e = absurd (none-some (target, m) e)
-
 pub followed_finished : (specs : List ProcessSpec) (k : Kernel) (last : Pid → Option Call) (s : Pid) (f : Finishing) → IsFollowed specs k last → finishing k s ≡ Some f → IsFollowed specs (finished k s f) last
 followed_finished specs k last s f follows e =
     let is = finishing_is k s f e in

@@ -1,5 +1,5 @@
 -- The steps of every history are a run with exactly its observations.
-use Rattle.std.proofs.Common.{◌≡◌, ℕ, ◌+◌, Bool, true, false, cond, not, List, [], ◌∷◌, ◌++◌, fold, Option, Some, None, is_none, is_some, IsSome, option_to_list, refl, sym, ap, subst, ◌∙◌, if◌then◌else◌}
+use Rattle.std.proofs.Common.{◌≡◌, ℕ, ◌+◌, Bool, true, false, cond, List, [], ◌∷◌, ◌++◌, fold, Option, Some, None, is_none, is_some, IsSome, option_to_list, refl, sym, ap, subst, ◌∙◌}
 use Rattle.std.proofs.lemmas.Bool.{and_parts, both_ways, or_right, cond-true, cond-false, eq-eqb, eqb-true}
 use Rattle.std.proofs.lemmas.Option.{none-some}
 use Rattle.std.specs.List.{list_all}
@@ -19,7 +19,7 @@ use Rattle.vk_base.specs.declared.message.Message.{Message}
 use Rattle.vk_base.specs.declared.pid.Pid.{Pid}
 use Rattle.vk_base.specs.declared.step.Step.{Step}
 use Rattle.vk_base.specs.declared.step.Step.TheVariants as steps
-use Rattle.vk_base.specs.Calls.{Effect, unseen, answered, called, accepted, call_refusal, first_that_holds, sent, sent_exchange}
+use Rattle.vk_base.specs.Calls.{Effect, unseen, answered, called, accepted, call_refusal, first_that_holds, sent}
 use Rattle.vk_base.specs.Kernel.{◌>>=◌, Kernel, opening, name_of, put_exchange, with_state, with_stage, sending, reply_of, held, is_taken, is_queued}
 use Rattle.vk_base.specs.Steps.{Taking, Finishing, Collecting, effect, run, next, after_effect, taking, taken, finishing, finished, collecting}
 use Rattle.vk_base.specs.Pids.{same_pid, same_host}

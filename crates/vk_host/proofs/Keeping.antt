@@ -19,6 +19,7 @@ use Rattle.vk_base.specs.Kernel.{Kernel, name_of, same_name, put_exchange, sendi
 use Rattle.vk_base.specs.Steps.{Taking, taken, taking, received as given, with_part}
 use Rattle.vk_base.specs.Pids.{same_pid}
 use Rattle.v_laws.specs.Sound.{IsSound}
+use Rattle.v_laws.proofs.Changes.{queued_is_open}
 use Rattle.v_laws.proofs.Queues.{queue-state, queue-taken_here, queue-taken_elsewhere, taken_was_queued}
 use Rattle.v_laws.proofs.StepLemmas.{IsTaking, taking_is}
 use Rattle.v_laws.proofs.Tables.{same_pid_is, same_name_is, put_process_here, put_process_other, put_exchange_here, put_exchange_at, put_exchange_other}
@@ -27,7 +28,7 @@ use Rattle.vk_host.specs.declared.seat.Doing.TheVariants as doings
 use Rattle.vk_host.specs.declared.seat.Seat.{Seat}
 use Rattle.vk_host.specs.Stands.{IsSent, IsSeated, Fits, AreSeats}
 use Rattle.vk_host.specs.Tables.{is_seat, change_first, dequeued, marked_taken, received, state_of, taken_seats}
-use Rattle.vk_host.proofs.Reading.{shown, IsSender, sender_of, has_seat, open_queued}
+use Rattle.vk_host.proofs.Reading.{shown, IsSender, sender_of, has_seat}
 use Rattle.vk_host.proofs.Seats.{find-changed, find-unchanged, find-either, length-change_first, same_pid_sym}
 
 -- What each part of `AreSeats` says, for other events and another kernel.
@@ -164,7 +165,7 @@ module _ (host n : ℕ) (seats : List Seat) (k : Kernel) (r : Pid) (t : Taking) 
   own_target = ap (λ (p : Pid). p.host) (same_pid_is t.exchange.target r queued.0) ∙ here
 
   sender : IsSender k seats t.name t.exchange
-  sender = sender_of host n seats k t.name t.exchange sound tables takes_is.exchange own_target (open_queued t.exchange.stage queued.1)
+  sender = sender_of host n seats k t.name t.exchange sound tables takes_is.exchange own_target (queued_is_open t.exchange.stage queued.1)
 
   abbrev staged : Kernel
   staged = with_stage k t.name t.exchange stages.Taken
@@ -223,7 +224,7 @@ module _ (host n : ℕ) (seats : List Seat) (k : Kernel) (r : Pid) (t : Taking) 
         (fits_there q (same_pid q r) (same_pid q t.name.sender) (find (is_seat q) seats) refl refl refl (tables.fits q at));
     own = own_changed host n n (change_first (is_seat r) dequeued seats) t.name.sender marked_taken (λ x. refl) (omega arith) (λ x le. le)
         (own_changed host n n seats r dequeued (λ x. refl) (omega arith) (λ x le. le) tables.own);
-    home = home_put host k.exchanges t.name (record t.exchange { stage = stages.Taken }) (λ at not_ended. tables.home t.name t.exchange takes_is.exchange at (open_queued t.exchange.stage queued.1)) tables.home;
+    home = home_put host k.exchanges t.name (record t.exchange { stage = stages.Taken }) (λ at not_ended. tables.home t.name t.exchange takes_is.exchange at (queued_is_open t.exchange.stage queued.1)) tables.home;
     few = let few = tables.few in omega (arith, length-change_first (is_seat t.name.sender) marked_taken (change_first (is_seat r) dequeued seats), length-change_first (is_seat r) dequeued seats);
   }
 

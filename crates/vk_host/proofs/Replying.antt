@@ -13,7 +13,7 @@ use Rattle.vk_base.specs.declared.kernel.State.TheVariants as states
 use Rattle.vk_base.specs.declared.message.Message.{Message}
 use Rattle.vk_base.specs.declared.pid.Pid.{Pid}
 use Rattle.vk_base.specs.Calls.{answered, accepted}
-use Rattle.vk_base.specs.Kernel.{◌>>=◌, Kernel, name_of, sending, is_queued, reply_of, queue_of, with_stage, is_open}
+use Rattle.vk_base.specs.Kernel.{◌>>=◌, Kernel, name_of, sending, is_queued, reply_of, with_stage, is_open}
 use Rattle.vk_base.specs.Steps.{Finishing, finishing, finished}
 use Rattle.v_laws.specs.Sound.{IsSound}
 use Rattle.v_laws.proofs.Queues.{queue-stage}

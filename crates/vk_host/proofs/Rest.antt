@@ -1,5 +1,5 @@
 -- At the end of every event no process could take a message.
-use Rattle.std.proofs.Common.{◌≡◌, ℕ, ◌+◌, Bool, true, false, cond, List, [], ◌∷◌, ◌++◌, fold, Option, Some, None, is_some, refl, sym, ap, subst, ◌∙◌, inl, inr, if◌then◌else◌}
+use Rattle.std.proofs.Common.{◌≡◌, ℕ, ◌+◌, Bool, true, false, cond, List, [], ◌∷◌, fold, Option, Some, None, is_some, refl, sym, ap, subst, ◌∙◌, inl, inr}
 use Rattle.std.proofs.lemmas.Bool.{cases_Bool, and_parts, and_right, both_ways, cond-true}
 use Rattle.std.proofs.lemmas.Option.{same_Some, none-some}
 use Rattle.std.specs.List.{list_all}
@@ -19,8 +19,8 @@ use Rattle.vk_base.specs.declared.message.Message.{Message}
 use Rattle.vk_base.specs.declared.pid.Pid.{Pid}
 use Rattle.vk_base.specs.declared.step.Step.{Step}
 use Rattle.vk_base.specs.declared.step.Step.TheVariants as steps
-use Rattle.vk_base.specs.Calls.{Effect, unseen, answered, called, accepted, call_refusal, sent, sent_exchange}
-use Rattle.vk_base.specs.Kernel.{◌>>=◌, Kernel, opening, holds_of, name_of, queue_of, is_queued, is_queued_at, is_taken, put_process, put_exchange, with_state, receiving, held}
+use Rattle.vk_base.specs.Calls.{Effect, unseen, answered, called, accepted, call_refusal, sent}
+use Rattle.vk_base.specs.Kernel.{◌>>=◌, Kernel, opening, holds_of, name_of, queue_of, is_queued, is_queued_at, is_taken, put_process, with_state, receiving, held}
 use Rattle.vk_base.specs.Steps.{Taking, Finishing, Collecting, next, is_allowed, after_effect, first_of, taking, taken, received, with_part, finishing, finished, collecting}
 use Rattle.vk_base.specs.Pids.{same_pid, same_host}
 use Rattle.vk_base.specs.Ranges.{with_bytes}
