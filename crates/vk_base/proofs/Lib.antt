@@ -1,10 +1,5 @@
-pub mod PidLemmas
-pub mod SettingsLemmas
-pub mod Tables
-pub mod Held
-pub mod FilterLemmas
-pub mod StepLemmas
-pub mod Queues
-pub mod RunLemmas
-pub mod SoundLemmas
 pub mod Examples
+pub mod OptionLemmas
+pub mod PidLemmas
+pub mod RemoteExamples
+pub mod SettingsLemmas

@@ -1,43 +1,43 @@
--- The one-machine kernel: what it keeps, its steps, its runs, and what processes see of them.
+-- The one-machine kernel: what it keeps, and the words for it. Its calls are in `Calls.antt`, its steps and runs in `Steps.antt`.
 --
--- It has no packets, timers or descriptors of remote senders. A call or step that has no clause below is not built yet,
--- and is not allowed.
-use Rattle.std.specs.Prelude.{ℕ, zero, suc, ◌+◌, Bool, true, false, ◌==◌, ◌&&◌, not, List, [], ◌∷◌, ◌++◌, length, take, drop, filter, find, min, replicate, Option, Some, None, is_some, option_map, option_to_list, if◌then◌else◌}
+-- It has no packets, timers or descriptors of remote senders. That a message, a reply or a byte of a move has yet to reach
+-- another station shows here only in steps of their own.
+use Rattle.std.specs.Prelude.{ℕ, zero, suc, Bool, true, false, ◌==◌, ◌&&◌, ◌||◌, not, List, [], filter, find, slice_get, replicate, Option, Some, None, option_map, if◌then◌else◌}
+use Rattle.std.specs.List.{list_any}
 use Rattle.vk_base.specs.declared.answer.Answer.{Answer}
-use Rattle.vk_base.specs.declared.answer.Answer.TheVariants as answers
-use Rattle.vk_base.specs.declared.answer.Refusal.{Refusal}
-use Rattle.vk_base.specs.declared.answer.Refusal.TheVariants as refusals
 use Rattle.vk_base.specs.declared.call.Call.{Call}
 use Rattle.vk_base.specs.declared.call.Call.TheVariants as calls
+use Rattle.vk_base.specs.declared.call.Scope.{Scope}
+use Rattle.vk_base.specs.declared.call.Scope.TheVariants as scopes
 use Rattle.vk_base.specs.declared.config.ProcessSpec.{ProcessSpec}
 use Rattle.vk_base.specs.declared.kernel.Exchange.{Exchange}
+use Rattle.vk_base.specs.declared.kernel.Lookup.{Lookup}
+use Rattle.vk_base.specs.declared.kernel.Move.{Move}
 use Rattle.vk_base.specs.declared.kernel.Name.{Name}
-use Rattle.vk_base.specs.declared.kernel.Observation.{Observation}
 use Rattle.vk_base.specs.declared.kernel.Process.{Process}
+use Rattle.vk_base.specs.declared.kernel.Registration.{Registration}
 use Rattle.vk_base.specs.declared.kernel.Stage.{Stage}
 use Rattle.vk_base.specs.declared.kernel.Stage.TheVariants as stages
 use Rattle.vk_base.specs.declared.kernel.State.{State}
 use Rattle.vk_base.specs.declared.kernel.State.TheVariants as states
 use Rattle.vk_base.specs.declared.message.Message.{Message}
 use Rattle.vk_base.specs.declared.pid.Pid.{Pid}
-use Rattle.vk_base.specs.declared.step.Step.{Step}
-use Rattle.vk_base.specs.declared.step.Step.TheVariants as steps
-use Rattle.vk_base.specs.Messages.{grants_read, segment_of}
 pub use Rattle.vk_base.specs.Options.{◌>>=◌}
-use Rattle.vk_base.specs.Pids.{same_pid, same_host}
-use Rattle.vk_base.specs.Ranges.{lies_in, with_bytes}
+use Rattle.vk_base.specs.Pids.{same_pid}
 use Rattle.vk_base.specs.Settings.{is_process}
 
-abbrev pub holds_of : {A : Type 0} → (A → Bool) → Option A → Bool
-holds_of test None = false
-holds_of test (Some x) = test x
-
--- What the kernel keeps: the processes of the configuration, the exchanges that were begun, and the names of those
--- whose messages came to a queue, in the order in which they came.
+-- What the kernel keeps.
 pub record Kernel : Type 0 where
+  -- the processes of the configuration
   pub procs : Pid → Option Process
+  -- the Sends that were begun, and what became of them
   pub exchanges : Name → Option Exchange
+  -- the names of those whose messages came to a queue, in the order in which they came
   pub arrived : List Name
+  -- what each station has registered
+  pub names : ℕ → List Registration
+  -- the lookups that were begun, by the asker and its number
+  pub lookups : Pid → ℕ → Option Lookup
 
 abbrev pub name_of : Pid → ℕ → Name
 name_of sender number = record { sender = sender; number = number }
@@ -45,52 +45,89 @@ name_of sender number = record { sender = sender; number = number }
 abbrev pub same_name : Name → Name → Bool
 same_name m n = same_pid m.sender n.sender && m.number == n.number
 
--- In the opening kernel each process is alive and ready, with zero memory, and has sent nothing.
+-- In the opening kernel each process is alive and ready, with zero memory, and has begun nothing.
 abbrev pub opened : ProcessSpec → Process
-opened s = record { alive = true; memory = replicate s.size 0; state = states.Ready; sends = 0 }
+opened s = record { alive = true; memory = replicate s.size 0; state = states.Ready; sends = 0; lookups = 0; moving = None }
 
 abbrev pub opening : List ProcessSpec → Kernel
-opening specs = record { procs = λ pid. option_map opened (find (is_process pid) specs); exchanges = λ n. None; arrived = [] }
+opening specs = record {
+  procs = λ pid. option_map opened (find (is_process pid) specs);
+  exchanges = λ n. None;
+  arrived = [];
+  names = λ host. [];
+  lookups = λ asker number. None;
+}
 
--- Changes of one process and of one exchange.
-unfoldable pub put_process : (Pid → Option Process) → Pid → Process → Pid → Option Process
-put_process procs pid p = λ q. if same_pid q pid then Some p else procs q
-
-unfoldable pub put_exchange : (Name → Option Exchange) → Name → Exchange → Name → Option Exchange
-put_exchange exchanges name e = λ n. if same_name n name then Some e else exchanges n
+abbrev pub holds_of : {A : Type 0} → (A → Bool) → Option A → Bool
+holds_of test None = false
+holds_of test (Some x) = test x
 
 -- What a process does.
+abbrev pub is_live : Option Process → Bool
+is_live p = holds_of (λ p. p.alive) p
+
 abbrev pub is_ready : State → Bool
 is_ready states.Ready = true
-is_ready (states.Blocked c) = false
-is_ready (states.Done c a) = false
+is_ready s = false
 
-abbrev pub as_receive : Call → Option Call
-as_receive calls.Receive = Some calls.Receive
-as_receive c = None
+-- the call in which it is blocked
+abbrev pub blocked_in : State → Option Call
+blocked_in (states.Blocked c) = Some c
+blocked_in s = None
 
 -- the receive in which it is blocked
-abbrev pub receiving : State → Option Call
-receiving states.Ready = None
-receiving (states.Blocked c) = as_receive c
-receiving (states.Done c a) = None
+abbrev pub as_receive : Call → Option Call
+as_receive calls.Receive = Some calls.Receive
+as_receive (calls.ReceiveSegment start count) = Some (calls.ReceiveSegment start count)
+as_receive c = None
 
+abbrev pub receiving : State → Option Call
+receiving s = blocked_in s >>= as_receive
+
+-- the target and the message of the Send in which it is blocked
 abbrev pub as_send : Call → Option (Pid × Message)
 as_send (calls.Send target m) = Some (target, m)
 as_send c = None
 
--- the target and the message of the Send in which it is blocked
 abbrev pub sending : State → Option (Pid × Message)
-sending states.Ready = None
-sending (states.Blocked c) = as_send c
-sending (states.Done c a) = None
+sending s = blocked_in s >>= as_send
 
+-- it is blocked in a move, which is remote, since every other move is answered at once
+abbrev pub is_move : Call → Bool
+is_move (calls.MoveTo partner dest src count) = true
+is_move (calls.MoveFrom partner dest src count) = true
+is_move c = false
+
+abbrev pub is_moving : State → Bool
+is_moving s = holds_of is_move (blocked_in s)
+
+-- it is blocked in a lookup
+abbrev pub is_lookup : Call → Bool
+is_lookup (calls.GetPid logical scope) = true
+is_lookup c = false
+
+abbrev pub is_asking : State → Bool
+is_asking s = holds_of is_lookup (blocked_in s)
+
+-- the call that is over, and its answer
 abbrev pub finished_call : State → Option (Call × Answer)
-finished_call states.Ready = None
-finished_call (states.Blocked c) = None
 finished_call (states.Done c a) = Some (c, a)
+finished_call s = None
+
+-- a process that is blocked in a call is done with this answer
+abbrev pub ended : State → Answer → State
+ended (states.Blocked c) a = states.Done c a
+ended s a = s
+
+-- A process waits on the exchange of its last Send, while it is blocked in that Send.
+unfoldable pub waiting_on : Kernel → Name → Option Process
+waiting_on k n = k.procs n.sender >>= λ p. sending p.state >>= λ s. if p.sends == n.number then Some p else None
 
 -- How far an exchange is.
+abbrev pub is_posted : Stage → Bool
+is_posted stages.Posted = true
+is_posted s = false
+
 abbrev pub is_queued : Stage → Bool
 is_queued stages.Queued = true
 is_queued s = false
@@ -98,6 +135,10 @@ is_queued s = false
 abbrev pub is_taken : Stage → Bool
 is_taken stages.Taken = true
 is_taken s = false
+
+-- its message waits at the target, or its target has yet to reply
+abbrev pub is_open : Stage → Bool
+is_open s = is_queued s || is_taken s
 
 -- the message, the place and the bytes of the reply
 abbrev pub reply_of : Stage → Option (Message × ℕ × List ℕ)
@@ -111,7 +152,8 @@ is_queued_at r e = same_pid e.target r && is_queued e.stage
 unfoldable pub queue_of : Kernel → Pid → List Name
 queue_of k r = filter (λ n. holds_of (is_queued_at r) (k.exchanges n)) k.arrived
 
--- A process holds a sender when it has taken an exchange of that sender; of several the one with the greatest number is meant.
+-- A process holds a sender when it has taken an exchange of that sender and has not replied; of several the one with the
+-- greatest number is meant.
 abbrev pub is_held_by : Pid → Exchange → Bool
 is_held_by r e = same_pid e.target r && is_taken e.stage
 
@@ -124,177 +166,59 @@ held_up_to exchanges r sender (suc n) =
 unfoldable pub held : Kernel → Pid → Pid → Option ℕ
 held k r sender = k.procs sender >>= λ p. held_up_to k.exchanges r sender p.sends
 
-abbrev pub is_live : Option Process → Bool
-is_live None = false
-is_live (Some p) = p.alive
+-- the exchange that it holds
+abbrev pub held_exchange : Kernel → Pid → Pid → Option Exchange
+held_exchange k r sender = held k r sender >>= λ number. k.exchanges (name_of sender number)
 
--- Refusals.
+-- a move of an exchange, by its number
+abbrev pub move_of : Exchange → ℕ → Option Move
+move_of e zero = None
+move_of e (suc number) = slice_get e.moves number
 
--- the first refusal whose test holds
-abbrev pub first_that_holds : List (Bool × Refusal) → Option Refusal
-first_that_holds [] = None
-first_that_holds (t ∷ ts) = if t.0 then Some t.1 else first_that_holds ts
+-- Names: a station itself finds those of scope local and both, other stations those of scope remote and both.
+abbrev pub is_found_here : Scope → Bool
+is_found_here scopes.Local = true
+is_found_here scopes.Remote = false
+is_found_here scopes.Both = true
 
--- the refusals of a call, in order, each with its test
-abbrev pub tests_of : Kernel → Pid → Process → Call → List (Bool × Refusal)
-tests_of k pid p (calls.Send target m) =
-    (not (lies_in (segment_of m) (length p.memory)), refusals.BadSegment)
-    ∷ (same_host pid target && not (is_live (k.procs target)), refusals.NoProcess)
-    ∷ []
-tests_of k pid p (calls.Reply m to) = (not (is_some (held k pid to)), refusals.NotAwaiting) ∷ []
-tests_of k pid p c = []
+abbrev pub is_found_there : Scope → Bool
+is_found_there scopes.Local = false
+is_found_there scopes.Remote = true
+is_found_there scopes.Both = true
 
--- why a call of this process is refused, where it is
-unfoldable pub call_refusal : Kernel → Pid → Process → Call → Option Refusal
-call_refusal k pid p c = first_that_holds ((not p.alive, refusals.Dead) ∷ (not (is_ready p.state), refusals.Busy) ∷ tests_of k pid p c)
+-- the process that the station finds under a logical id in its own names
+abbrev pub found_here : List Registration → ℕ → Option Pid
+found_here names logical = option_map (λ (r : Registration). r.pid) (find (λ (r : Registration). r.logical == logical && is_found_here r.scope) names)
 
--- Steps: the kernel after it, and what the process that it concerns sees of it.
-pub record Effect : Type 0 where
-  pub after : Kernel
-  pub seen : Option Observation
+-- whether it tells others that this process is registered under the logical id
+abbrev pub is_told : List Registration → ℕ → Pid → Bool
+is_told names logical pid = list_any (λ (r : Registration). r.logical == logical && is_found_there r.scope && same_pid r.pid pid) names
 
-abbrev pub unseen : Kernel → Effect
-unseen k = record { after = k; seen = None }
+-- what it has registered under other logical ids
+abbrev pub others : List Registration → ℕ → List Registration
+others names logical = filter (λ (r : Registration). not (r.logical == logical)) names
 
-abbrev pub answered : Kernel → Pid → Call → Answer → Effect
-answered k pid c a = record { after = k; seen = Some (record { pid = pid; call = c; answer = a }) }
+-- Changes of one process, of one exchange, and of one station's names.
+unfoldable pub put_process : (Pid → Option Process) → Pid → Process → Pid → Option Process
+put_process procs pid p = λ q. if same_pid q pid then Some p else procs q
+
+unfoldable pub put_exchange : (Name → Option Exchange) → Name → Exchange → Name → Option Exchange
+put_exchange exchanges name e = λ n. if same_name n name then Some e else exchanges n
+
+unfoldable pub put_names : (ℕ → List Registration) → ℕ → List Registration → ℕ → List Registration
+put_names names host here = λ h. if h == host then here else names h
+
+unfoldable pub put_lookup : (Pid → ℕ → Option Lookup) → Pid → ℕ → Lookup → Pid → ℕ → Option Lookup
+put_lookup lookups asker number l = λ q n. if same_pid q asker && n == number then Some l else lookups q n
 
 -- this process, which is p, does something else from now on
 abbrev pub with_state : Kernel → Pid → Process → State → Kernel
 with_state k pid p s = record k { procs = put_process k.procs pid (record p { state = s }) }
 
+-- its memory is another one
+abbrev pub with_memory : Kernel → Pid → Process → List ℕ → Kernel
+with_memory k pid p memory = record k { procs = put_process k.procs pid (record p { memory = memory }) }
+
+-- this exchange, which is e, is so far
 abbrev pub with_stage : Kernel → Name → Exchange → Stage → Kernel
 with_stage k name e s = record k { exchanges = put_exchange k.exchanges name (record e { stage = s }) }
-
--- the first part of the segment that a message lets its receiver read, at most 512 bytes
-abbrev pub first_part : Message → List ℕ → List ℕ
-first_part m memory = if grants_read m then take (min (segment_of m).len 512) (drop (segment_of m).start memory) else []
-
--- A Send gets the next number of its sender. For a local pair the message is in the target's queue at once.
-abbrev pub sent_exchange : Pid → Process → Pid → Message → Exchange
-sent_exchange pid p target m = record { target = target; message = m; part = first_part m p.memory; stage = if same_host pid target then stages.Queued else stages.Posted }
-
-unfoldable pub sent : Kernel → Pid → Process → Pid → Message → Kernel
-sent k pid p target m = record {
-  procs = put_process k.procs pid (record p { state = states.Blocked (calls.Send target m); sends = p.sends + 1 });
-  exchanges = put_exchange k.exchanges (name_of pid (p.sends + 1)) (sent_exchange pid p target m);
-  arrived = if same_host pid target then k.arrived ++ name_of pid (p.sends + 1) ∷ [] else k.arrived;
-}
-
--- what a call does that is not refused
-abbrev pub accepted : Kernel → Pid → Process → Call → Option Effect
-accepted k pid p (calls.Send target m) = Some (unseen (sent k pid p target m))
-accepted k pid p calls.Receive = Some (unseen (with_state k pid p (states.Blocked calls.Receive)))
-accepted k pid p (calls.Reply m to) = do
-  number ← held k pid to
-  e ← k.exchanges (name_of to number)
-  Some (answered (with_stage k (name_of to number) e (stages.Replied m 0 [])) pid (calls.Reply m to) answers.Ok)
-accepted k pid p c = None
-
--- a refused call changes nothing
-abbrev pub called : Kernel → Pid → Process → Call → Option Refusal → Option Effect
-called k pid p c None = accepted k pid p c
-called k pid p c (Some why) = Some (answered k pid c (answers.Refused why))
-
-abbrev pub call_step : Kernel → Pid → Call → Option Effect
-call_step k pid c = k.procs pid >>= λ p. called k pid p c (call_refusal k pid p c)
-
--- Take: a process that is blocked in a receive takes the first of its queue.
-pub record Taking : Type 0 where
-  pub process : Process
-  pub call : Call
-  pub name : Name
-  pub exchange : Exchange
-
-abbrev pub first_of : List Name → Option Name
-first_of [] = None
-first_of (n ∷ ns) = Some n
-
-unfoldable pub taking : Kernel → Pid → Option Taking
-taking k r = do
-  p ← k.procs r
-  c ← receiving p.state
-  name ← first_of (queue_of k r)
-  e ← k.exchanges name
-  Some (record { process = p; call = c; name = name; exchange = e })
-
-abbrev pub taken : Kernel → Pid → Taking → Kernel
-taken k r t = with_state (with_stage k t.name t.exchange stages.Taken) r t.process (states.Done t.call (answers.Received t.name.sender t.exchange.message))
-
-abbrev pub take_step : Kernel → Pid → Option Effect
-take_step k r = taking k r >>= λ t. Some (unseen (taken k r t))
-
--- Finish: the reply reaches a sender that waits for it.
-pub record Finishing : Type 0 where
-  pub process : Process
-  pub target : Pid
-  pub message : Message
-  pub reply : Message
-  pub dest : ℕ
-  pub bytes : List ℕ
-
-unfoldable pub finishing : Kernel → Pid → Option Finishing
-finishing k s = do
-  p ← k.procs s
-  send ← sending p.state
-  e ← k.exchanges (name_of s p.sends)
-  reply ← reply_of e.stage
-  Some (record { process = p; target = send.0; message = send.1; reply = reply.0; dest = reply.1; bytes = reply.2 })
-
-abbrev pub finished : Kernel → Pid → Finishing → Kernel
-finished k s f = record k {
-  procs = put_process k.procs s (record f.process {
-    memory = with_bytes f.process.memory f.dest f.bytes;
-    state = states.Done (calls.Send f.target f.message) (answers.Replied f.reply);
-  });
-}
-
-abbrev pub finish_step : Kernel → Pid → Option Effect
-finish_step k s = finishing k s >>= λ f. Some (unseen (finished k s f))
-
--- Collect: a process that is done gets its answer.
-pub record Collecting : Type 0 where
-  pub process : Process
-  pub call : Call
-  pub answer : Answer
-
-unfoldable pub collecting : Kernel → Pid → Option Collecting
-collecting k pid = do
-  p ← k.procs pid
-  done ← finished_call p.state
-  Some (record { process = p; call = done.0; answer = done.1 })
-
-abbrev pub collect_step : Kernel → Pid → Option Effect
-collect_step k pid = collecting k pid >>= λ d. Some (answered (with_state k pid d.process states.Ready) pid d.call d.answer)
-
--- what a step does, where it is allowed
-abbrev pub effect : Kernel → Step → Option Effect
-effect k (steps.Call pid c) = call_step k pid c
-effect k (steps.Take r) = take_step k r
-effect k (steps.Finish s) = finish_step k s
-effect k (steps.Collect pid) = collect_step k pid
-effect k s = None
-
-abbrev pub is_allowed : Kernel → Step → Bool
-is_allowed k s = is_some (effect k s)
-
--- the kernel after a step, which a step that is not allowed leaves as it was
-abbrev pub after_effect : Kernel → Option Effect → Kernel
-after_effect k None = k
-after_effect k (Some e) = e.after
-
-abbrev pub next : Kernel → Step → Kernel
-next k s = after_effect k (effect k s)
-
--- Runs. A list of steps is a run when each is allowed in the kernel that those before it give.
-pub record Run : Type 0 where
-  pub after : Kernel
-  pub seen : List Observation
-
--- where these steps lead and what is seen on the way, if they are a run
-unfoldable pub run : Kernel → List Step → Option Run
-run k [] = Some (record { after = k; seen = [] })
-run k (s ∷ ss) = do
-  e ← effect k s
-  r ← run e.after ss
-  Some (record { after = r.after; seen = option_to_list e.seen ++ r.seen })

@@ -1,3 +1,4 @@
+pub mod Calls
 pub mod Kernel
 pub mod Messages
 pub mod Options
@@ -5,4 +6,4 @@ pub mod Packets
 pub mod Pids
 pub mod Ranges
 pub mod Settings
-pub mod Sound
+pub mod Steps

@@ -11,7 +11,6 @@ mod config;
 mod data;
 mod frame_bytes;
 mod kernel;
-mod laws;
 mod list;
 mod memory;
 mod message;
@@ -24,8 +23,10 @@ pub use call::{Call, Scope};
 pub use config::{Config, ConfigRefusal, ProcessSpec, Times};
 pub use data::Data;
 pub use frame_bytes::FrameBytes;
-pub use kernel::{Exchange, Name, Observation, Process, Stage, State};
-pub use laws::kernels_are_sound;
+pub use kernel::{
+    Direction, Exchange, Lookup, Move, MoveName, Name, Observation, Process, Registration, Stage,
+    State,
+};
 pub use list::List;
 pub use memory::{BadRange, Memory};
 pub use message::{Grants, Message, Range};

@@ -19,8 +19,8 @@ use Rattle.vk_base.specs.declared.step.Step.TheVariants as steps
 use Rattle.vk_base.specs.Kernel.{Kernel, finished_call, queue_of, opening, opened}
 use Rattle.vk_base.specs.Settings.{is_on, is_process, has_process}
 use Rattle.vk_base.specs.Pids.{same_pid}
-use Rattle.vk_base.proofs.SoundLemmas.{sound_opening}
-use Rattle.vk_base.proofs.Tables.{same_pid_is}
+use Rattle.v_laws.proofs.SoundLemmas.{sound_opening}
+use Rattle.v_laws.proofs.Tables.{same_pid_is}
 use Rattle.vk_host.specs.declared.event.EventAnswer.{EventAnswer}
 use Rattle.vk_host.specs.declared.event.StationEvent.{StationEvent}
 use Rattle.vk_host.specs.declared.event.StationEvent.TheVariants as events

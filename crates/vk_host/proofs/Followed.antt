@@ -12,20 +12,20 @@ use Rattle.vk_base.specs.declared.kernel.Exchange.{Exchange}
 use Rattle.vk_base.specs.declared.kernel.Name.{Name}
 use Rattle.vk_base.specs.declared.kernel.Process.{Process}
 use Rattle.vk_base.specs.declared.kernel.Stage.{Stage}
-use Rattle.vk_base.specs.declared.kernel.Stage.TheVariants as stages
 use Rattle.vk_base.specs.declared.kernel.State.{State}
 use Rattle.vk_base.specs.declared.kernel.State.TheVariants as states
-use Rattle.vk_base.specs.declared.message.Message.{Message}
 use Rattle.vk_base.specs.declared.pid.Pid.{Pid}
-use Rattle.vk_base.specs.Kernel.{Kernel, Taking, Finishing, Collecting, opening, opened, put_process, put_exchange, with_state, with_stage, taking, taken, finishing, finished, collecting, receiving, sending, finished_call}
+use Rattle.vk_base.specs.Kernel.{Kernel, opening, opened, put_process, with_state, with_stage, receiving, finished_call}
+use Rattle.vk_base.specs.Steps.{Taking, Finishing, Collecting, taking, taken, received, with_part, finishing, finished, collecting}
 use Rattle.vk_base.specs.Pids.{same_pid}
 use Rattle.vk_base.specs.Ranges.{with_bytes}
 use Rattle.vk_base.specs.Settings.{is_process, has_process}
-use Rattle.vk_base.specs.Sound.{IsSound}
-use Rattle.vk_base.proofs.SoundLemmas.{sound_opening, sound_taken, sound_finished, sound_collected}
-use Rattle.vk_base.proofs.StepLemmas.{taking_is, finishing_is, collecting_is}
-use Rattle.vk_base.proofs.Tables.{same_pid_is, put_process_at, put_process_other}
+use Rattle.v_laws.specs.Sound.{IsSound}
+use Rattle.v_laws.proofs.SoundLemmas.{sound_opening, sound_taken, sound_finished, sound_collected}
+use Rattle.v_laws.proofs.StepLemmas.{taking_is, finishing_is, collecting_is}
+use Rattle.v_laws.proofs.Tables.{same_pid_is, put_process_at, put_process_other}
 use Rattle.vk_host.specs.Entries.{is_not_yet, no_call}
+use Rattle.vk_host.proofs.Reading.{sending_is}
 
 -- what a process in this state began last
 abbrev pub Began : State → Option Call → Type 0
@@ -61,18 +61,17 @@ followed_opening specs = record {
 }
 
 -- A process is put, and what it began last with it.
-pub followed_put : (specs : List ProcessSpec) (k : Kernel) (last after : Pid → Option Call) (pid : Pid) (p : Process) (exchanges : Name → Option Exchange) (arrived : List Name) →
-    IsFollowed specs k last → IsSound (record { procs = put_process k.procs pid p; exchanges = exchanges; arrived = arrived }) → Began p.state (after pid) → ((q : Pid) → same_pid q pid ≡ false → last q ≡ after q) →
-    IsFollowed specs (record { procs = put_process k.procs pid p; exchanges = exchanges; arrived = arrived }) after
-followed_put specs k last after pid p exchanges arrived f sound here others = record {
+pub followed_put : (specs : List ProcessSpec) (k l : Kernel) (last after : Pid → Option Call) (pid : Pid) (p : Process) →
+    IsFollowed specs k last → IsSound l → ((q : Pid) → l.procs q ≡ put_process k.procs pid p q) → Began p.state (after pid) → ((q : Pid) → same_pid q pid ≡ false → last q ≡ after q) → IsFollowed specs l after
+followed_put specs k l last after pid p f sound procs here others = record {
   sound = sound;
   there = λ q has. elim (cases_Bool (same_pid q pid)) [
-    | inl t ↦ ap is_some (put_process_at k.procs pid p q t)
-    | inr u ↦ ap is_some (put_process_other k.procs pid p q u) ∙ f.there q has
+    | inl t ↦ ap is_some (procs q ∙ put_process_at k.procs pid p q t)
+    | inr u ↦ ap is_some (procs q ∙ put_process_other k.procs pid p q u) ∙ f.there q has
   ];
   began = λ q x is. elim (cases_Bool (same_pid q pid)) [
-    | inl t ↦ subst (λ (y : Process). Began y.state (after q)) (same_Some p x (sym (put_process_at k.procs pid p q t) ∙ is)) (subst (λ a. Began p.state (after a)) (sym (same_pid_is q pid t)) here)
-    | inr u ↦ subst (Began x.state) (others q u) (f.began q x (sym (put_process_other k.procs pid p q u) ∙ is))
+    | inl t ↦ subst (λ (y : Process). Began y.state (after q)) (same_Some p x (sym (procs q ∙ put_process_at k.procs pid p q t) ∙ is)) (subst (λ a. Began p.state (after a)) (sym (same_pid_is q pid t)) here)
+    | inr u ↦ subst (Began x.state) (others q u) (f.began q x (sym (procs q ∙ put_process_other k.procs pid p q u) ∙ is))
   ];
 }
 
@@ -83,29 +82,30 @@ followed_stage specs k last name e s f sound = record { sound = sound; there = f
 receiving_is : (s : State) (c : Call) → receiving s ≡ Some c → s ≡ states.Blocked c
 receiving_is states.Ready c e = absurd (none-some c e)
 receiving_is (states.Blocked calls.Receive) c e = ap states.Blocked (same_Some calls.Receive c e)
+receiving_is (states.Blocked (calls.ReceiveSegment start count)) c e = ap states.Blocked (same_Some (calls.ReceiveSegment start count) c e)
 receiving_is (states.Blocked d) c e = absurd (none-some c e)
 receiving_is (states.Done d a) c e = absurd (none-some c e)
 
+-- what a receive gives is there
+received_now : (c : Call) (sender : Pid) (e : Exchange) → is_not_yet (received c sender e) ≡ false
+received_now (calls.ReceiveSegment start count) sender e = refl
+received_now c sender e = refl
+
 pub followed_taken : (specs : List ProcessSpec) (k : Kernel) (last : Pid → Option Call) (r : Pid) (t : Taking) → IsFollowed specs k last → taking k r ≡ Some t → IsFollowed specs (taken k r t) last
+unfolding taken
 followed_taken specs k last r t f e =
     let is = taking_is k r t e in
     let begun = subst (λ s. Began s (last r)) (receiving_is t.process.state t.call is.call) (f.began r t.process is.process) in
-    followed_put specs k last last r (record t.process { state = states.Done t.call (answers.Received t.name.sender t.exchange.message) }) (put_exchange k.exchanges t.name (record t.exchange { stage = stages.Taken })) k.arrived
-    f (sound_taken k r t f.sound e) (begun, refl) (λ q u. refl)
+    followed_put specs k (taken k r t) last last r (record t.process { memory = with_part t.call t.exchange t.process.memory; state = states.Done t.call (received t.call t.name.sender t.exchange) })
+    f (sound_taken k r t f.sound e) (λ q. refl) (begun, received_now t.call t.name.sender t.exchange) (λ q u. refl)
 
 -- Finish
-sending_is : (s : State) (target : Pid) (m : Message) → sending s ≡ Some (target, m) → s ≡ states.Blocked (calls.Send target m)
-sending_is states.Ready target m e = absurd (none-some (target, m) e)
-sending_is (states.Blocked (calls.Send t n)) target m e = ap (λ (x : Pid × Message). states.Blocked (calls.Send x.0 x.1)) (same_Some (t, n) (target, m) e)
-sending_is (states.Blocked c) target m e = absurd (none-some (target, m) e)
-sending_is (states.Done c a) target m e = absurd (none-some (target, m) e)
-
 pub followed_finished : (specs : List ProcessSpec) (k : Kernel) (last : Pid → Option Call) (s : Pid) (f : Finishing) → IsFollowed specs k last → finishing k s ≡ Some f → IsFollowed specs (finished k s f) last
 followed_finished specs k last s f follows e =
     let is = finishing_is k s f e in
     let begun = subst (λ x. Began x (last s)) (sending_is f.process.state f.target f.message is.send) (follows.began s f.process is.process) in
-    followed_put specs k last last s (record f.process { memory = with_bytes f.process.memory f.dest f.bytes; state = states.Done (calls.Send f.target f.message) (answers.Replied f.reply) }) k.exchanges k.arrived
-    follows (sound_finished k s f follows.sound e) (begun, refl) (λ q u. refl)
+    followed_put specs k (finished k s f) last last s (record f.process { memory = with_bytes f.process.memory f.dest f.bytes; state = states.Done (calls.Send f.target f.message) (answers.Replied f.reply) })
+    follows (sound_finished k s f follows.sound e) (λ q. refl) (begun, refl) (λ q u. refl)
 
 -- Collect
 done_is : (s : State) (c : Call) (a : Answer) → finished_call s ≡ Some (c, a) → s ≡ states.Done c a
@@ -121,4 +121,4 @@ collected_is specs k last pid d f e =
 
 pub followed_collected : (specs : List ProcessSpec) (k : Kernel) (last : Pid → Option Call) (pid : Pid) (d : Collecting) → IsFollowed specs k last → collecting k pid ≡ Some d → IsFollowed specs (with_state k pid d.process states.Ready) last
 followed_collected specs k last pid d f e =
-    followed_put specs k last last pid (record d.process { state = states.Ready }) k.exchanges k.arrived f (sound_collected k pid d f.sound e) tt (λ q u. refl)
+    followed_put specs k (with_state k pid d.process states.Ready) last last pid (record d.process { state = states.Ready }) f (sound_collected k pid d f.sound e) (λ q. refl) tt (λ q u. refl)

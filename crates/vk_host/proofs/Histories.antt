@@ -1,5 +1,5 @@
 -- The steps of every history are a run with exactly its observations.
-use Rattle.std.proofs.Common.{◌≡◌, ℕ, ◌+◌, Bool, true, false, cond, not, List, [], ◌∷◌, ◌++◌, fold, Option, Some, None, is_some, IsSome, option_to_list, refl, sym, ap, subst, ◌∙◌, if◌then◌else◌}
+use Rattle.std.proofs.Common.{◌≡◌, ℕ, ◌+◌, Bool, true, false, cond, List, [], ◌∷◌, ◌++◌, fold, Option, Some, None, is_none, is_some, IsSome, option_to_list, refl, sym, ap, subst, ◌∙◌}
 use Rattle.std.proofs.lemmas.Bool.{and_parts, both_ways, or_right, cond-true, cond-false, eq-eqb, eqb-true}
 use Rattle.std.proofs.lemmas.Option.{none-some}
 use Rattle.std.specs.List.{list_all}
@@ -19,15 +19,17 @@ use Rattle.vk_base.specs.declared.message.Message.{Message}
 use Rattle.vk_base.specs.declared.pid.Pid.{Pid}
 use Rattle.vk_base.specs.declared.step.Step.{Step}
 use Rattle.vk_base.specs.declared.step.Step.TheVariants as steps
-use Rattle.vk_base.specs.Kernel.{◌>>=◌, Kernel, Effect, Taking, Finishing, Collecting, opening, effect, run, next, after_effect, unseen, answered, called, accepted, call_refusal, first_that_holds, name_of, put_exchange, with_state, with_stage, sent, sent_exchange, taking, taken, finishing, finished, collecting, sending, reply_of, held, is_taken, is_queued}
+use Rattle.vk_base.specs.Calls.{Effect, unseen, answered, called, accepted, call_refusal, first_that_holds, sent}
+use Rattle.vk_base.specs.Kernel.{◌>>=◌, Kernel, opening, name_of, put_exchange, with_state, with_stage, sending, reply_of, held, is_taken, is_queued}
+use Rattle.vk_base.specs.Steps.{Taking, Finishing, Collecting, effect, run, next, after_effect, taking, taken, finishing, finished, collecting}
 use Rattle.vk_base.specs.Pids.{same_pid, same_host}
 use Rattle.vk_base.specs.Settings.{has_process}
-use Rattle.vk_base.specs.Sound.{IsSound}
-use Rattle.vk_base.proofs.Held.{holding_is}
-use Rattle.vk_base.proofs.RunLemmas.{run_on, run_nothing}
-use Rattle.vk_base.proofs.SoundLemmas.{sound_sent, sound_stage, sound_state, ready_sends_none}
-use Rattle.vk_base.proofs.StepLemmas.{IsFit, fit_is}
-use Rattle.vk_base.proofs.Tables.{same_pid_is, same_pid_self, put_exchange_here}
+use Rattle.v_laws.specs.Sound.{IsSound}
+use Rattle.v_laws.proofs.Held.{holding_is}
+use Rattle.v_laws.proofs.RunLemmas.{run_on, run_nothing}
+use Rattle.v_laws.proofs.SoundLemmas.{sound_sent, sound_replied, sound_state}
+use Rattle.v_laws.proofs.StepLemmas.{IsFit, fit_is}
+use Rattle.v_laws.proofs.Tables.{same_pid_is, same_pid_self, put_exchange_here}
 use Rattle.vk_host.specs.declared.event.EventAnswer.TheVariants as events_answered
 use Rattle.vk_host.specs.declared.event.StationEvent.{StationEvent}
 use Rattle.vk_host.specs.declared.event.StationEvent.TheVariants as events
@@ -121,9 +123,8 @@ send_goes specs k pid p target m last f at fit local does =
     let c : Call = calls.Send target m in
     let sound : IsSound (sent k pid p target m) = sound_sent k pid p target m f.sound at fit.alive fit.ready in
     let follows : IsFollowed specs (sent k pid p target m) (begun_now last pid c) =
-    followed_put specs k last (begun_now last pid c) pid (record p { state = states.Blocked c; sends = p.sends + 1 })
-    (put_exchange k.exchanges (name_of pid (p.sends + 1)) (sent_exchange pid p target m)) (if same_host pid target then k.arrived ++ name_of pid (p.sends + 1) ∷ [] else k.arrived)
-    f sound (begun_here last pid c) (begun_elsewhere last pid c) in
+    followed_put specs k (sent k pid p target m) last (begun_now last pid c) pid (record p { state = states.Blocked c; sends = p.sends + 1 })
+    f sound (λ q. refl) (begun_here last pid c) (begun_elsewhere last pid c) in
     let P : List Step → Type 0 = λ ss. Goes specs k (steps.Call pid c ∷ ss) (begun_now last pid c) [] in
     subst P (sym (cond-true (same_host pid target) (take_where (sent k pid p target m) target) [] local))
     (goes_first specs k (steps.Call pid c) (unseen (sent k pid p target m)) (take_where (sent k pid p target m) target) (begun_now last pid c) [] does
@@ -134,9 +135,9 @@ receive_goes : (specs : List ProcessSpec) (k : Kernel) (pid : Pid) (p : Process)
 unfolding follow_up
 receive_goes specs k pid p last f at fit does =
     let after : Kernel = with_state k pid p (states.Blocked calls.Receive) in
-    let sound : IsSound after = sound_state k pid p (states.Blocked calls.Receive) f.sound at (ready_sends_none p.state fit.ready) in
+    let sound : IsSound after = sound_state k pid p (states.Blocked calls.Receive) f.sound at fit.alive fit.ready refl in
     let follows : IsFollowed specs after (begun_now last pid calls.Receive) =
-    followed_put specs k last (begun_now last pid calls.Receive) pid (record p { state = states.Blocked calls.Receive }) k.exchanges k.arrived f sound (begun_here last pid calls.Receive) (begun_elsewhere last pid calls.Receive) in
+    followed_put specs k after last (begun_now last pid calls.Receive) pid (record p { state = states.Blocked calls.Receive }) f sound (λ q. refl) (begun_here last pid calls.Receive) (begun_elsewhere last pid calls.Receive) in
     goes_first specs k (steps.Call pid calls.Receive) (unseen after) (take_where after pid) (begun_now last pid calls.Receive) [] does (take_goes specs after pid (begun_now last pid calls.Receive) follows)
 
 -- Where all parts of a Finish are there, it is allowed.
@@ -168,7 +169,7 @@ finishing_after k pid to number e m sound local at target was_taken =
       finishes (replied k (name_of to number) e m) to w.process e.target e.message x m 0 [] w.is (ap sending w.blocked) there refl,
     )
 
-pub is_there : (o : Option ℕ) (why : Refusal) → first_that_holds ((not (is_some o), why) ∷ []) ≡ None → (n : ℕ) × (o ≡ Some n)
+pub is_there : (o : Option ℕ) (why : Refusal) → first_that_holds ((is_none o, why) ∷ []) ≡ None → (n : ℕ) × (o ≡ Some n)
 is_there None why e = absurd (none-some why (sym e))
 is_there (Some n) why e = (n, refl)
 
@@ -182,7 +183,7 @@ replied_goes specs k pid to m number e last f at target was_taken does = by_loca
     after = replied k (name_of to number) e m
 
     follows : IsFollowed specs (replied k (name_of to number) e m) last
-    follows = followed_stage specs k last (name_of to number) e (stages.Replied m 0 []) f (sound_stage k (name_of to number) e (stages.Replied m 0 []) f.sound at (λ t. absurd (both_ways false refl t)))
+    follows = followed_stage specs k last (name_of to number) e (stages.Replied m 0 []) f (sound_replied k (name_of to number) e m f.sound at was_taken)
 
     from : (ss : List Step) → Goes specs (replied k (name_of to number) e m) ss last [] → Goes specs k (steps.Call pid (calls.Reply m to) ∷ ss) last (record { pid = pid; call = calls.Reply m to; answer = answers.Ok } ∷ [])
     from ss rest = goes_first specs k (steps.Call pid (calls.Reply m to)) (answered after pid (calls.Reply m to) answers.Ok) ss last [] does rest

@@ -4,7 +4,6 @@ use Rattle.std.specs.List.{find}
 use Rattle.std.specs.Option.{option_map}
 use Rattle.std.proofs.lemmas.Bool.{cases_Bool}
 use Rattle.std.proofs.lemmas.Option.{same_Some, none-some}
-use Rattle.vk_base.specs.declared.answer.Answer.TheVariants as answers
 use Rattle.vk_base.specs.declared.call.Call.{Call}
 use Rattle.vk_base.specs.declared.call.Call.TheVariants as calls
 use Rattle.vk_base.specs.declared.kernel.Exchange.{Exchange}
@@ -15,16 +14,21 @@ use Rattle.vk_base.specs.declared.kernel.State.{State}
 use Rattle.vk_base.specs.declared.kernel.State.TheVariants as states
 use Rattle.vk_base.specs.declared.message.Message.{Message}
 use Rattle.vk_base.specs.declared.pid.Pid.{Pid}
-use Rattle.vk_base.specs.Kernel.{Kernel, Taking, name_of, same_name, put_exchange, sending, receiving, queue_of, is_queued, with_state, with_stage, sent, taken, taking}
+use Rattle.vk_base.specs.Calls.{sent}
+use Rattle.vk_base.specs.Kernel.{Kernel, name_of, same_name, put_exchange, sending, receiving, queue_of, is_queued, with_state, with_stage, is_open}
+use Rattle.vk_base.specs.Steps.{Taking, taken, taking, received as given, with_part}
 use Rattle.vk_base.specs.Pids.{same_pid}
-use Rattle.vk_base.specs.Sound.{IsSound, is_open}
-use Rattle.vk_base.proofs.Queues.{queue-state, queue-taken_here, queue-taken_elsewhere, taken_was_queued}
-use Rattle.vk_base.proofs.StepLemmas.{IsTaking, taking_is}
-use Rattle.vk_base.proofs.Tables.{same_pid_is, same_name_is, put_process_here, put_process_other, put_exchange_here, put_exchange_at, put_exchange_other}
+use Rattle.v_laws.specs.Sound.{IsSound}
+use Rattle.v_laws.proofs.Changes.{queued_is_open}
+use Rattle.v_laws.proofs.Queues.{queue-state, queue-taken_here, queue-taken_elsewhere, taken_was_queued}
+use Rattle.v_laws.proofs.StepLemmas.{IsTaking, taking_is}
+use Rattle.v_laws.proofs.Tables.{same_pid_is, same_name_is, put_process_here, put_process_other, put_exchange_here, put_exchange_at, put_exchange_other}
+use Rattle.vk_host.specs.declared.seat.Doing.{Doing}
+use Rattle.vk_host.specs.declared.seat.Doing.TheVariants as doings
 use Rattle.vk_host.specs.declared.seat.Seat.{Seat}
 use Rattle.vk_host.specs.Stands.{IsSent, IsSeated, Fits, AreSeats}
 use Rattle.vk_host.specs.Tables.{is_seat, change_first, dequeued, marked_taken, received, state_of, taken_seats}
-use Rattle.vk_host.proofs.Reading.{shown, IsSender, sender_of, has_seat, open_queued}
+use Rattle.vk_host.proofs.Reading.{shown, IsSender, sender_of, has_seat}
 use Rattle.vk_host.proofs.Seats.{find-changed, find-unchanged, find-either, length-change_first, same_pid_sym}
 
 -- What each part of `AreSeats` says, for other events and another kernel.
@@ -96,6 +100,11 @@ seats_later host n m seats k more h = record {
   few = h.few;
 }
 
+-- queues do not depend on the processes
+pub queue-procs : (k l : Kernel) (q : Pid) → l.exchanges ≡ k.exchanges → l.arrived ≡ k.arrived → queue_of l q ≡ queue_of k q
+unfolding queue_of
+queue-procs k l q exchanges arrived = λ i. queue_of (record l { exchanges = exchanges i; arrived = arrived i }) q
+
 -- One process does something else, and no Send; one exchange at most changes, of that process, and no queue.
 pub seats_done : (host n m : ℕ) (seats : List Seat) (k l : Kernel) (pid : Pid) (p : Process) (s : Seat) (f : Seat → Seat) → n ≤ m →
     ((x : Seat) → (f x).pid ≡ x.pid) → ((x : Seat) → (f x).sends ≡ x.sends) → ((x : Seat) → (f x).queue ≡ x.queue) →
@@ -136,11 +145,10 @@ seats_state host n m seats k pid p s state f more keeps keeps_sends keeps_queue 
 
 -- Take.
 
-receiving_call : (s : State) (c : Call) → receiving s ≡ Some c → c ≡ calls.Receive
-receiving_call states.Ready c e = absurd (none-some c e)
-receiving_call (states.Done d a) c e = absurd (none-some c e)
-receiving_call (states.Blocked calls.Receive) c e = sym (same_Some calls.Receive c e)
-receiving_call (states.Blocked d) c e = absurd (none-some c e)
+-- the one receive that a process of the station can be blocked in
+receiving_call : (d : Doing) (c : Call) → receiving (state_of d) ≡ Some c → c ≡ calls.Receive
+receiving_call doings.Receiving c e = sym (same_Some calls.Receive c e)
+receiving_call d c e = absurd (none-some c e)
 
 -- the queue without its first
 dropped : (names rest : List Name) (n : Name) → names ≡ n ∷ rest → rest ≡ drop 1 names
@@ -157,19 +165,25 @@ module _ (host n : ℕ) (seats : List Seat) (k : Kernel) (r : Pid) (t : Taking) 
   own_target = ap (λ (p : Pid). p.host) (same_pid_is t.exchange.target r queued.0) ∙ here
 
   sender : IsSender k seats t.name t.exchange
-  sender = sender_of host n seats k t.name t.exchange sound tables takes_is.exchange own_target (open_queued t.exchange.stage queued.1)
+  sender = sender_of host n seats k t.name t.exchange sound tables takes_is.exchange own_target (queued_is_open t.exchange.stage queued.1)
 
   abbrev staged : Kernel
   staged = with_stage k t.name t.exchange stages.Taken
 
+  -- the process that takes
+  abbrev after : Process
+  after = record t.process { memory = with_part t.call t.exchange t.process.memory; state = states.Done t.call (given t.call t.name.sender t.exchange) }
+
+  queue_taken : (q : Pid) → queue_of (taken k r t) q ≡ queue_of staged q
+  unfolding taken
+  queue_taken q = queue-procs staged (taken k r t) q refl refl
+
   queue_there : (q : Pid) (s : Seat) (a : Bool) → same_pid q r ≡ a → queue_of k q ≡ s.queue → queue_of staged q ≡ (cond a (dequeued s) s).queue
   queue_there q s true e queue =
       let at : q ≡ r = same_pid_is q r e in
-      let first : queue_of k r ≡ t.name ∷ queue_of staged r = queue-taken_here k r t sound is ∙ ap (λ ns. t.name ∷ ns) (queue-state staged r t.process (states.Done t.call (answers.Received t.name.sender t.exchange.message)) r) in
+      let first : queue_of k r ≡ t.name ∷ queue_of staged r = queue-taken_here k r t sound is ∙ ap (λ ns. t.name ∷ ns) (queue_taken r) in
       ap (queue_of staged) at ∙ dropped (queue_of k r) (queue_of staged r) t.name first ∙ ap (λ p. drop 1 (queue_of k p)) (sym at) ∙ ap (drop 1) queue
-  queue_there q s false e queue =
-      sym (queue-state staged r t.process (states.Done t.call (answers.Received t.name.sender t.exchange.message)) q)
-      ∙ queue-taken_elsewhere k r t q is (same_pid_sym r q ∙ e) ∙ queue
+  queue_there q s false e queue = sym (queue_taken q) ∙ queue-taken_elsewhere k r t q is (same_pid_sym r q ∙ e) ∙ queue
 
   sent_there : (q : Pid) (s : Seat) (b : Bool) (target : Pid) (m : Message) → same_pid q t.name.sender ≡ b → find (is_seat q) seats ≡ Some s → IsSent k (name_of q s.sends) target m s.taken → IsSent staged (name_of q s.sends) target m (cond b true s.taken)
   sent_there q s true target m e found sent =
@@ -210,14 +224,26 @@ module _ (host n : ℕ) (seats : List Seat) (k : Kernel) (r : Pid) (t : Taking) 
         (fits_there q (same_pid q r) (same_pid q t.name.sender) (find (is_seat q) seats) refl refl refl (tables.fits q at));
     own = own_changed host n n (change_first (is_seat r) dequeued seats) t.name.sender marked_taken (λ x. refl) (omega arith) (λ x le. le)
         (own_changed host n n seats r dequeued (λ x. refl) (omega arith) (λ x le. le) tables.own);
-    home = home_put host k.exchanges t.name (record t.exchange { stage = stages.Taken }) (λ at not_ended. tables.home t.name t.exchange takes_is.exchange at (open_queued t.exchange.stage queued.1)) tables.home;
+    home = home_put host k.exchanges t.name (record t.exchange { stage = stages.Taken }) (λ at not_ended. tables.home t.name t.exchange takes_is.exchange at (queued_is_open t.exchange.stage queued.1)) tables.home;
     few = let few = tables.few in omega (arith, length-change_first (is_seat t.name.sender) marked_taken (change_first (is_seat r) dequeued seats), length-change_first (is_seat r) dequeued seats);
   }
 
   -- the tables after a Take stand for the kernel after it
   pub seats_taken : AreSeats host n (taken_seats seats r (shown t)) (taken k r t)
+  unfolding taken
   seats_taken =
-      let answer = answers.Received t.name.sender t.exchange.message in
       let has = has_seat staged r t.process (find (is_seat r) marked_seats) takes_is.process (seats_staged.fits r here) in
-      seats_state host n n marked_seats staged r t.process has.0 (states.Done t.call answer) (received t.name.sender t.exchange.message) (omega arith) (λ x. refl) (λ x. refl) (λ x. refl) has.1 has.2 takes_is.process
-      (ap (λ c. states.Done c answer) (receiving_call t.process.state t.call takes_is.call)) refl seats_staged
+      let same : has.2.process ≡ t.process = same_Some has.2.process t.process (sym has.2.is ∙ takes_is.process) in
+      let state = sym has.2.state ∙ ap (λ (x : Process). x.state) same in
+      let call = receiving_call has.0.doing t.call (ap receiving state ∙ takes_is.call) in
+      seats_done host n n marked_seats staged (taken k r t) r after has.0 (received t.name.sender t.exchange.message) (omega arith) (λ x. refl) (λ x. refl) (λ x. refl) has.1 has.2
+      (put_process_here k.procs r after)
+      (sym (ap (λ (x : Process). x.alive) same) ∙ has.2.alive)
+      (ap (λ c. states.Done c (given c t.name.sender t.exchange)) call)
+      refl
+      (sym (ap (λ (x : Process). x.sends) same) ∙ has.2.sends)
+      (λ q u. put_process_other k.procs r after q u)
+      queue_taken
+      (λ q number u. refl)
+      seats_staged.home
+      seats_staged

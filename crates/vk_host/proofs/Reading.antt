@@ -1,5 +1,5 @@
 -- What the tables say is what the kernel says that they stand for.
-use Rattle.std.proofs.Common.{◌≡◌, ℕ, ◌+◌, Bool, true, false, not, ◌==◌, ◌&&◌, ◌||◌, List, [], ◌∷◌, length, Option, Some, None, refl, sym, ap, ◌∙◌, subst, arith, inl, inr, if◌then◌else◌}
+use Rattle.std.proofs.Common.{◌≡◌, ℕ, ◌+◌, Bool, true, false, not, ◌==◌, ◌&&◌, List, [], ◌∷◌, length, Option, Some, None, refl, sym, ap, ◌∙◌, subst, arith, inl, inr, if◌then◌else◌}
 use Rattle.std.specs.List.{find}
 use Rattle.std.specs.Option.{option_map, is_some}
 use Rattle.std.proofs.lemmas.Bool.{cases_Bool, eqb-true, eq-eqb, le-leb, and_parts, and_from}
@@ -11,20 +11,22 @@ use Rattle.vk_base.specs.declared.call.Call.TheVariants as calls
 use Rattle.vk_base.specs.declared.kernel.Exchange.{Exchange}
 use Rattle.vk_base.specs.declared.kernel.Name.{Name}
 use Rattle.vk_base.specs.declared.kernel.Process.{Process}
-use Rattle.vk_base.specs.declared.kernel.Stage.{Stage}
 use Rattle.vk_base.specs.declared.kernel.Stage.TheVariants as stages
 use Rattle.vk_base.specs.declared.kernel.State.{State}
 use Rattle.vk_base.specs.declared.kernel.State.TheVariants as states
 use Rattle.vk_base.specs.declared.message.Message.{Message}
 use Rattle.vk_base.specs.declared.pid.Pid.{Pid}
-use Rattle.vk_base.specs.Kernel.{◌>>=◌, Kernel, Taking, name_of, holds_of, is_ready, receiving, sending, first_of, is_queued, is_taken, is_queued_at, is_held_by, held_up_to, held, is_live, queue_of, taking, tests_of, call_refusal, first_that_holds}
+use Rattle.vk_base.specs.Calls.{tests_of, call_refusal, first_that_holds}
+use Rattle.vk_base.specs.Kernel.{◌>>=◌, Kernel, name_of, holds_of, is_ready, receiving, sending, is_queued, is_taken, is_queued_at, is_held_by, held_up_to, held, is_live, queue_of, is_open}
+use Rattle.vk_base.specs.Steps.{Taking, first_of, taking}
 use Rattle.vk_base.specs.Messages.{segment_of}
 use Rattle.vk_base.specs.Pids.{same_pid, same_host}
 use Rattle.vk_base.specs.Ranges.{lies_in}
-use Rattle.vk_base.specs.Sound.{IsSound, IsAwaited, IsBegun, is_open}
-use Rattle.vk_base.proofs.FilterLemmas.{first_passes}
-use Rattle.vk_base.proofs.Held.{holds_at, held_none, held_here}
-use Rattle.vk_base.proofs.Tables.{same_pid_is, same_pid_self}
+use Rattle.v_laws.specs.Sound.{IsSound, IsAwaited, IsBegun}
+use Rattle.v_laws.proofs.Changes.{queued_is_open, taken_is_open}
+use Rattle.v_laws.proofs.FilterLemmas.{first_passes}
+use Rattle.v_laws.proofs.Held.{holds_at, held_none, held_here}
+use Rattle.v_laws.proofs.Tables.{same_pid_is, same_pid_self}
 use Rattle.vk_host.specs.declared.seat.Seat.{Seat}
 use Rattle.vk_host.specs.Entries.{is_built_call, grants_nothing}
 use Rattle.vk_host.specs.Stands.{IsSent, IsSeated, Fits, AreSeats}
@@ -64,16 +66,6 @@ waiting_by k r name (Some e) is h =
 pub waiting_first : (k : Kernel) (r : Pid) (name : Name) (rest : List Name) → queue_of k r ≡ name ∷ rest → IsWaiting k r name
 unfolding queue_of
 waiting_first k r name rest h = waiting_by k r name (k.exchanges name) refl (first_passes (λ n. holds_of (is_queued_at r) (k.exchanges n)) k.arrived name rest h)
-
-pub open_queued : (s : Stage) → is_queued s ≡ true → is_open s ≡ true
-open_queued s h = ap (λ b. b || is_taken s) h
-
-pub open_taken : (s : Stage) → is_taken s ≡ true → is_open s ≡ true
-open_taken s h = or_true (is_queued s) (is_taken s) h
-  where
-    or_true : (a b : Bool) → b ≡ true → (a || b) ≡ true
-    or_true true b e = refl
-    or_true false b e = e
 
 -- The sender of an exchange that is queued or taken at a process of this host has a seat, at which it waits.
 pub record IsSender (k : Kernel) (seats : List Seat) (name : Name) (e : Exchange) : Type 0 where
@@ -152,7 +144,7 @@ awaiting_taken : (host n : ℕ) (seats : List Seat) (k : Kernel) (holder : Pid) 
 awaiting_taken host n seats k holder name e sound tables here is target taken =
     let at : e.target ≡ holder = same_pid_is e.target holder target in
     let own : e.target.host ≡ host = ap (λ (p : Pid). p.host) at ∙ here in
-    let sender = sender_of host n seats k name e sound tables is own (open_taken e.stage taken) in
+    let sender = sender_of host n seats k name e sound tables is own (taken_is_open e.stage taken) in
     let sent : IsSent k (name_of name.sender sender.seat.sends) e.target e.message sender.seat.taken = sender.seated.sent e.target e.message sender.state in
     let numbered : k.exchanges (name_of name.sender sender.seat.sends) ≡ Some e = ap (λ number. k.exchanges (name_of name.sender number)) sender.last ∙ is in
     let same : sent.exchange ≡ e = same_Some sent.exchange e (sym sent.is ∙ numbered) in
@@ -254,7 +246,7 @@ takes_queue host n seats k r p c [] sound tables here is = refl
 takes_queue host n seats k r p c (name ∷ rest) sound tables here is =
     let waits : IsWaiting k r name = waiting_first k r name rest is in
     let own : waits.exchange.target.host ≡ host = ap (λ (q : Pid). q.host) waits.target ∙ here in
-    let sender = sender_of host n seats k name waits.exchange sound tables waits.is own (open_queued waits.exchange.stage waits.queued) in
+    let sender = sender_of host n seats k name waits.exchange sound tables waits.is own (queued_is_open waits.exchange.stage waits.queued) in
     ap (λ o. o >>= λ m. Some (name, m)) (message_same k seats name waits.exchange sender)
     ∙ sym (ap (λ o. option_map shown (o >>= λ e. Some (record { process = p; call = c; name = name; exchange = e }))) waits.is)
 

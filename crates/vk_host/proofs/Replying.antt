@@ -12,16 +12,18 @@ use Rattle.vk_base.specs.declared.kernel.Stage.TheVariants as stages
 use Rattle.vk_base.specs.declared.kernel.State.TheVariants as states
 use Rattle.vk_base.specs.declared.message.Message.{Message}
 use Rattle.vk_base.specs.declared.pid.Pid.{Pid}
-use Rattle.vk_base.specs.Kernel.{◌>>=◌, Kernel, Finishing, name_of, sending, is_queued, reply_of, queue_of, with_stage, answered, accepted, finishing, finished}
-use Rattle.vk_base.specs.Sound.{IsSound, is_open}
-use Rattle.vk_base.proofs.Queues.{queue-stage}
-use Rattle.vk_base.proofs.Tables.{put_process_here, put_process_other, put_exchange_here, put_exchange_other}
+use Rattle.vk_base.specs.Calls.{answered, accepted}
+use Rattle.vk_base.specs.Kernel.{◌>>=◌, Kernel, name_of, sending, is_queued, reply_of, with_stage, is_open}
+use Rattle.vk_base.specs.Steps.{Finishing, finishing, finished}
+use Rattle.v_laws.specs.Sound.{IsSound}
+use Rattle.v_laws.proofs.Queues.{queue-stage}
+use Rattle.v_laws.proofs.Tables.{put_process_here, put_process_other, put_exchange_here, put_exchange_other}
 use Rattle.vk_host.specs.declared.seat.Seat.{Seat}
 use Rattle.vk_host.specs.Stands.{IsSeated, AreSeats}
 use Rattle.vk_host.specs.Tables.{is_seat, change_first, is_awaiting, state_of, replied_by, replied as replied_seat}
 use Rattle.vk_host.specs.declared.seat.Doing.{Doing}
 use Rattle.vk_host.specs.declared.seat.Doing.TheVariants as doings
-use Rattle.vk_host.proofs.Keeping.{home_put, seats_done}
+use Rattle.vk_host.proofs.Keeping.{home_put, queue-procs, seats_done}
 use Rattle.vk_host.proofs.Reading.{IsHeld, awaiting_is, held_awaiting}
 
 -- a Send that has its reply is done with it
@@ -31,11 +33,6 @@ replied_is doings.Receiving target m reply e = absurd (none-some _ (ap sending e
 replied_is (doings.Received from n) target m reply e = absurd (none-some _ (ap sending e))
 replied_is (doings.Replied other n old) target m reply e = absurd (none-some _ (ap sending e))
 replied_is (doings.Sending other n) target m reply e = let same = same_Some (other, n) (target, m) (ap sending e) in λ i. states.Done (calls.Send (same i).0 (same i).1) (answers.Replied reply)
-
--- queues do not depend on the processes
-queue-procs : (k l : Kernel) (q : Pid) → l.exchanges ≡ k.exchanges → l.arrived ≡ k.arrived → queue_of l q ≡ queue_of k q
-unfolding queue_of
-queue-procs k l q exchanges arrived = λ i. queue_of (record { procs = l.procs; exchanges = exchanges i; arrived = arrived i }) q
 
 module _ (host n : ℕ) (seats : List Seat) (k : Kernel) (pid to : Pid) (p : Process) (m : Message) (sound : IsSound k) (tables : AreSeats host n seats k) (awaits : is_awaiting seats pid to ≡ true) where
   pub has : (s : Seat) × (find (is_seat to) seats ≡ Some s) × IsSeated k to s × IsHeld k pid to s

@@ -1,5 +1,5 @@
 -- At the end of every event no process could take a message.
-use Rattle.std.proofs.Common.{◌≡◌, ℕ, ◌+◌, Bool, true, false, cond, List, [], ◌∷◌, ◌++◌, fold, Option, Some, None, is_some, refl, sym, ap, subst, ◌∙◌, inl, inr, if◌then◌else◌}
+use Rattle.std.proofs.Common.{◌≡◌, ℕ, ◌+◌, Bool, true, false, cond, List, [], ◌∷◌, fold, Option, Some, None, is_some, refl, sym, ap, subst, ◌∙◌, inl, inr}
 use Rattle.std.proofs.lemmas.Bool.{cases_Bool, and_parts, and_right, both_ways, cond-true}
 use Rattle.std.proofs.lemmas.Option.{same_Some, none-some}
 use Rattle.std.specs.List.{list_all}
@@ -19,16 +19,18 @@ use Rattle.vk_base.specs.declared.message.Message.{Message}
 use Rattle.vk_base.specs.declared.pid.Pid.{Pid}
 use Rattle.vk_base.specs.declared.step.Step.{Step}
 use Rattle.vk_base.specs.declared.step.Step.TheVariants as steps
-use Rattle.vk_base.specs.Kernel.{◌>>=◌, Kernel, Effect, Taking, Finishing, Collecting, opening, next, is_allowed, after_effect, unseen, answered, called, accepted, call_refusal, holds_of, name_of, first_of, queue_of, is_queued, is_queued_at, is_taken, put_process, put_exchange, with_state, sent, sent_exchange, taking, taken, finishing, finished, collecting, receiving, held}
+use Rattle.vk_base.specs.Calls.{Effect, unseen, answered, called, accepted, call_refusal, sent}
+use Rattle.vk_base.specs.Kernel.{◌>>=◌, Kernel, opening, holds_of, name_of, queue_of, is_queued, is_queued_at, is_taken, put_process, with_state, receiving, held}
+use Rattle.vk_base.specs.Steps.{Taking, Finishing, Collecting, next, is_allowed, after_effect, first_of, taking, taken, received, with_part, finishing, finished, collecting}
 use Rattle.vk_base.specs.Pids.{same_pid, same_host}
 use Rattle.vk_base.specs.Ranges.{with_bytes}
 use Rattle.vk_base.specs.Settings.{has_process}
-use Rattle.vk_base.specs.Sound.{IsSound}
-use Rattle.vk_base.proofs.FilterLemmas.{first_passes}
-use Rattle.vk_base.proofs.Held.{holding_is}
-use Rattle.vk_base.proofs.Queues.{queued_in, queue-state, queue-stage, queue-sent_elsewhere, queue-taken_elsewhere}
-use Rattle.vk_base.proofs.StepLemmas.{IsFit, fit_is, taking_is}
-use Rattle.vk_base.proofs.Tables.{same_pid_is, same_pid_laws, put_process_at, put_process_other}
+use Rattle.v_laws.specs.Sound.{IsSound}
+use Rattle.v_laws.proofs.FilterLemmas.{first_passes}
+use Rattle.v_laws.proofs.Held.{holding_is}
+use Rattle.v_laws.proofs.Queues.{queued_in, queue-state, queue-stage, queue-sent_elsewhere, queue-taken_elsewhere}
+use Rattle.v_laws.proofs.StepLemmas.{IsFit, fit_is, taking_is}
+use Rattle.v_laws.proofs.Tables.{same_pid_is, same_pid_laws, put_process_at, put_process_other}
 use Rattle.vk_host.specs.declared.event.StationEvent.{StationEvent}
 use Rattle.vk_host.specs.declared.event.StationEvent.TheVariants as events
 use Rattle.vk_host.specs.Entries.{grants_nothing, is_built_call, is_lawful, answer_of, answer_to, take_where, follow_up, steps_of, after_event, after_all, begun_after, no_call, IsAtRest}
@@ -53,12 +55,11 @@ busy : (k : Kernel) (q : Pid) (p : Process) → k.procs q ≡ Some p → receivi
 busy k q p is none x c n at call first = none-some c (sym none ∙ ap (λ (y : Process). receiving y.state) (same_Some p x (sym is ∙ at)) ∙ call)
 
 -- A process that is put is in no receive.
-put_rests : (k : Kernel) (pid : Pid) (p : Process) (exchanges : Name → Option Exchange) (arrived : List Name) (q : Pid) → receiving p.state ≡ None →
-    (same_pid q pid ≡ false → queue_of (record { procs = put_process k.procs pid p; exchanges = exchanges; arrived = arrived }) q ≡ queue_of k q) →
-    (same_pid q pid ≡ false → Rests k q) → Rests (record { procs = put_process k.procs pid p; exchanges = exchanges; arrived = arrived }) q
-put_rests k pid p exchanges arrived q none same_queue rests = elim (cases_Bool (same_pid q pid)) [
-  | inl t ↦ busy (record { procs = put_process k.procs pid p; exchanges = exchanges; arrived = arrived }) q p (put_process_at k.procs pid p q t) none
-  | inr f ↦ like_before k (record { procs = put_process k.procs pid p; exchanges = exchanges; arrived = arrived }) q (put_process_other k.procs pid p q f) (same_queue f) (rests f)
+put_rests : (k l : Kernel) (pid : Pid) (p : Process) (q : Pid) → l.procs q ≡ put_process k.procs pid p q → receiving p.state ≡ None →
+    (same_pid q pid ≡ false → queue_of l q ≡ queue_of k q) → (same_pid q pid ≡ false → Rests k q) → Rests l q
+put_rests k l pid p q procs none same_queue rests = elim (cases_Bool (same_pid q pid)) [
+  | inl t ↦ busy l q p (procs ∙ put_process_at k.procs pid p q t) none
+  | inr f ↦ like_before k l q (procs ∙ put_process_other k.procs pid p q f) (same_queue f) (rests f)
 ]
 
 other_way : (p q : Pid) → same_pid p q ≡ false → same_pid q p ≡ false
@@ -96,8 +97,9 @@ rests_where k r none p c n at call first =
 
 -- Where the others rest, all rest once this one took what it may take.
 taken_rests : (k : Kernel) (r : Pid) (t : Taking) → OthersRest k r → taking k r ≡ Some t → AllRest (taken k r t)
+unfolding taken
 taken_rests k r t others is q =
-    put_rests k r (record t.process { state = states.Done t.call (answers.Received t.name.sender t.exchange.message) }) (put_exchange k.exchanges t.name (record t.exchange { stage = stages.Taken })) k.arrived q refl
+    put_rests k (taken k r t) r (record t.process { memory = with_part t.call t.exchange t.process.memory; state = states.Done t.call (received t.call t.name.sender t.exchange) }) q refl refl
     (λ f. queue-taken_elsewhere k r t q is (other_way q r f)) (others q)
 
 served_rests : (k : Kernel) (r : Pid) → OthersRest k r → AllRest (fold next k (take_where k r))
@@ -124,7 +126,7 @@ finish_rests k s rest = by_finishing (finishing k s)
     by_finishing : (o : Option Finishing) → AllRest (after_effect k (o >>= λ f. Some (unseen (finished k s f))))
     by_finishing None = rest
     by_finishing (Some f) = λ q.
-        put_rests k s (record f.process { memory = with_bytes f.process.memory f.dest f.bytes; state = states.Done (calls.Send f.target f.message) (answers.Replied f.reply) }) k.exchanges k.arrived q refl
+        put_rests k (finished k s f) s (record f.process { memory = with_bytes f.process.memory f.dest f.bytes; state = states.Done (calls.Send f.target f.message) (answers.Replied f.reply) }) q refl refl
         (λ other. queue_finished k s f q) (λ other. rest q)
 
 -- A collect.
@@ -136,7 +138,7 @@ collect_rests k pid rest = by_collecting (collecting k pid) refl
     by_collecting None is = rest
     by_collecting (Some d) is =
         subst AllRest (sym (ap (λ o. after_effect k (o >>= λ x. Some (answered (with_state k pid x.process states.Ready) pid x.call x.answer))) is))
-        (λ q. put_rests k pid (record d.process { state = states.Ready }) k.exchanges k.arrived q refl (λ f. queue-state k pid d.process states.Ready q) (λ f. rest q))
+        (λ q. put_rests k (with_state k pid d.process states.Ready) pid (record d.process { state = states.Ready }) q refl refl (λ f. queue-state k pid d.process states.Ready q) (λ f. rest q))
 
 -- A call, which has this effect.
 abbrev CallRests : Kernel → Pid → Call → Option Effect → Type 0
@@ -148,8 +150,7 @@ refused_rests k pid c why rest = let P : List Step → Type 0 = λ ss. AllRest (
 others_rest_after_send : (k : Kernel) (pid : Pid) (p : Process) (target : Pid) (m : Message) → IsSound k → AllRest k → k.procs pid ≡ Some p → OthersRest (sent k pid p target m) target
 unfolding sent
 others_rest_after_send k pid p target m sound rest at q f =
-    put_rests k pid (record p { state = states.Blocked (calls.Send target m); sends = p.sends + 1 }) (put_exchange k.exchanges (name_of pid (p.sends + 1)) (sent_exchange pid p target m))
-    (if same_host pid target then k.arrived ++ name_of pid (p.sends + 1) ∷ [] else k.arrived) q refl
+    put_rests k (sent k pid p target m) pid (record p { state = states.Blocked (calls.Send target m); sends = p.sends + 1 }) q refl refl
     (λ other. queue-sent_elsewhere k pid p target m q sound at (and_right (same_host pid target) (same_pid target q) (other_way q target f))) (λ other. rest q)
 
 send_rests : (k : Kernel) (pid : Pid) (p : Process) (target : Pid) (m : Message) → IsSound k → AllRest k → k.procs pid ≡ Some p → same_host pid target ≡ true → CallRests k pid (calls.Send target m) (Some (unseen (sent k pid p target m)))

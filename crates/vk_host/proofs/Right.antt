@@ -2,7 +2,7 @@
 use Rattle.std.proofs.Common.{◌≡◌, ℕ, ◌+◌, ◌^◌, ◌<◌, Bool, true, false, cond, List, [], ◌∷◌, Option, Some, None, refl, sym, ap, ◌∙◌, subst, arith}
 use Rattle.std.specs.List.{find, fold}
 use Rattle.std.specs.Option.{option_map, is_some, IsSome}
-use Rattle.std.proofs.lemmas.Bool.{eqb-true, eq-eqb, and_parts}
+use Rattle.std.proofs.lemmas.Bool.{eqb-true, eq-eqb, and_parts, both_ways}
 use Rattle.std.proofs.lemmas.Option.{none-some}
 use Rattle.vk_base.specs.declared.answer.Answer.{Answer}
 use Rattle.vk_base.specs.declared.answer.Answer.TheVariants as answers
@@ -15,12 +15,14 @@ use Rattle.vk_base.specs.declared.message.Message.{Message}
 use Rattle.vk_base.specs.declared.pid.Pid.{Pid}
 use Rattle.vk_base.specs.declared.step.Step.{Step}
 use Rattle.vk_base.specs.declared.step.Step.TheVariants as steps
-use Rattle.vk_base.specs.Kernel.{◌>>=◌, Kernel, Effect, Run, Taking, effect, next, after_effect, run, unseen, answered, called, call_refusal, with_state, sent, taking, taken, finished, collecting, finished_call, sending, is_ready}
+use Rattle.vk_base.specs.Calls.{Effect, unseen, answered, called, call_refusal, sent}
+use Rattle.vk_base.specs.Kernel.{◌>>=◌, Kernel, with_state, finished_call, sending, is_ready}
+use Rattle.vk_base.specs.Steps.{Run, Taking, effect, next, after_effect, run, taking, taken, finished, collecting}
 use Rattle.vk_base.specs.Pids.{same_host}
-use Rattle.vk_base.specs.Sound.{IsSound}
-use Rattle.vk_base.proofs.RunLemmas.{run_step, run_on, run_nothing}
-use Rattle.vk_base.proofs.SoundLemmas.{sound_step, ready_sends_none}
-use Rattle.vk_base.proofs.StepLemmas.{fit_is}
+use Rattle.v_laws.specs.Sound.{IsSound}
+use Rattle.v_laws.proofs.RunLemmas.{run_step, run_on, run_nothing}
+use Rattle.v_laws.proofs.SoundLemmas.{sound_step, ready_sends_none}
+use Rattle.v_laws.proofs.StepLemmas.{fit_is}
 use Rattle.vk_host.specs.declared.event.EventAnswer.{EventAnswer}
 use Rattle.vk_host.specs.declared.event.EventAnswer.TheVariants as given_answers
 use Rattle.vk_host.specs.declared.event.StationEvent.{StationEvent}
@@ -139,17 +141,23 @@ module _ (host n : ℕ) (seats : List Seat) (k : Kernel) (pid : Pid) (s : Seat) 
   free_by : (c : Call) → call_refusal k pid seated.process c ≡ None → sending (state_of s.doing) ≡ None
   free_by c e = ready_sends_none (state_of s.doing) (ap is_ready (sym seated.state) ∙ (fit_is k pid seated.process c e).ready)
 
-  accepted_right : (c : Call) → is_built_call pid c ≡ true → call_refusal k pid seated.process c ≡ None → own_refusal seats pid c ≡ None →
-      Right host n (accepted_by seats pid c).seats (steps.Call pid c ∷ (accepted_by seats pid c).steps) (accepted_by seats pid c).answer k (events.Call pid c)
-  accepted_right (calls.Send target m) built free own =
-      let local = (and_parts (same_host pid target) (grants_nothing m) built).0 in
+  -- what the tables make of a call that is not refused
+  abbrev AcceptedRight : Call → Type 0
+  AcceptedRight c = Right host n (accepted_by seats pid c).seats (steps.Call pid c ∷ (accepted_by seats pid c).steps) (accepted_by seats pid c).answer k (events.Call pid c)
+
+  send_right : (target : Pid) (m : Message) → same_host pid target ≡ true → call_refusal k pid seated.process (calls.Send target m) ≡ None → AcceptedRight (calls.Send target m)
+  send_right target m local free =
       call_served host n (sent_seats seats pid target m) k (sent k pid seated.process target m) pid (calls.Send target m) target sound (effect_by (calls.Send target m) None free) (send_follows (sent k pid seated.process target m) pid target m local)
       (sym (eqb-true pid.host target.host local) ∙ here)
       (seats_sent host n seats k pid s target m sound tables here found seated (free_by (calls.Send target m) free) local few)
-  accepted_right calls.Receive built free own =
+
+  receive_right : call_refusal k pid seated.process calls.Receive ≡ None → AcceptedRight calls.Receive
+  receive_right free =
       call_served host n (change_first (is_seat pid) waiting seats) k (with_state k pid seated.process (states.Blocked calls.Receive)) pid calls.Receive pid sound (effect_by calls.Receive None free) (receive_follows (with_state k pid seated.process (states.Blocked calls.Receive)) pid) here
       (seats_state host n (n + 1) seats k pid seated.process s (states.Blocked calls.Receive) waiting (omega arith) (λ x. refl) (λ x. refl) (λ x. refl) found seated seated.is refl refl tables)
-  accepted_right (calls.Reply m to) built free own =
+
+  reply_right : (m : Message) (to : Pid) → call_refusal k pid seated.process (calls.Reply m to) ≡ None → own_refusal seats pid (calls.Reply m to) ≡ None → AcceptedRight (calls.Reply m to)
+  reply_right m to free own =
       let awaits = awaits_by seats pid to (is_awaiting seats pid to) own in
       let local = eq-eqb pid.host to.host (here ∙ sym (awaiting_host host n seats k pid to tables awaits)) in
       let after = replied host n seats k pid to seated.process m sound tables awaits in
@@ -159,7 +167,12 @@ module _ (host n : ℕ) (seats : List Seat) (k : Kernel) (pid : Pid) (s : Seat) 
       (steps.Finish to) (unseen (finished after to end)) (reply_follows after pid to m local)
       (ap (λ o. o >>= λ f. Some (unseen (finished after to f))) (finish_is host n seats k pid to seated.process m sound tables awaits))
       (seats_later host n (n + 1) _ _ (omega arith) (seats_replied host n seats k pid to seated.process m sound tables awaits))
-  accepted_right c built free own = cc
+
+  accepted_right : (c : Call) → is_built_call pid c ≡ true → call_refusal k pid seated.process c ≡ None → own_refusal seats pid c ≡ None → AcceptedRight c
+  accepted_right (calls.Send target m) built free own = send_right target m (and_parts (same_host pid target) (grants_nothing m) built).0 free
+  accepted_right calls.Receive built free own = receive_right free
+  accepted_right (calls.Reply m to) built free own = reply_right m to free own
+  accepted_right c built free own = absurd (both_ways false refl built)
 
   ready_by : (b : Bool) (o : Option Refusal) → (cond b o (Some refusals.Busy)) ≡ None → o ≡ None
   ready_by true o e = e

@@ -8,32 +8,16 @@ use Rattle.vk_base.specs.declared.kernel.Name.{Name}
 use Rattle.vk_base.specs.declared.pid.Pid.{Pid}
 use Rattle.vk_base.specs.Kernel.{Kernel, holds_of, is_queued_at, queue_of, same_name, sending}
 use Rattle.vk_base.specs.Pids.{same_pid}
-use Rattle.vk_base.specs.Sound.{IsSound}
-use Rattle.vk_base.proofs.Tables.{same_pid_is, same_pid_laws}
+use Rattle.v_laws.specs.Sound.{IsSound}
+use Rattle.v_laws.proofs.Changes.{queued_is_open}
+use Rattle.v_laws.proofs.FilterLemmas.{distinct_filter}
+use Rattle.v_laws.proofs.Tables.{same_pid_is, same_pid_laws}
 use Rattle.vk_host.specs.declared.seat.Seat.{Seat}
 use Rattle.vk_host.specs.Stands.{AreSeats}
 use Rattle.vk_host.specs.Tables.{is_seat, state_of}
-use Rattle.vk_host.proofs.Reading.{IsWaiting, waiting_by, IsSender, sender_of, open_queued}
+use Rattle.vk_host.proofs.Reading.{IsWaiting, waiting_by, IsSender, sender_of}
 
 -- Filters.
-keep_all : {X : Type 0} (P : X → Type 0) (x : X) (xs : List X) (b : Bool) → P x → AllByRecursion P xs → AllByRecursion P (cond b (x ∷ xs) xs)
-keep_all P x xs true here again = (here, again)
-keep_all P x xs false here again = again
-
-all_filter : {X : Type 0} (P : X → Type 0) (f : X → Bool) (xs : List X) → AllByRecursion P xs → AllByRecursion P (filter f xs)
-all_filter P f [] all = tt
-all_filter P f (x ∷ xs) all = keep_all P x (filter f xs) (f x) all.0 (all_filter P f xs all.1)
-
-keep_distinct : {X : Type 0} (e : X → X → Bool) (x : X) (xs : List X) (b : Bool) → AllByRecursion (λ y. e x y ≡ false) xs → IsDistinct e xs → IsDistinct e (cond b (x ∷ xs) xs)
-unfolding IsDistinct
-keep_distinct e x xs true apart again = (apart, again)
-keep_distinct e x xs false apart again = again
-
-distinct_filter : {X : Type 0} (e : X → X → Bool) (f : X → Bool) (xs : List X) → IsDistinct e xs → IsDistinct e (filter f xs)
-unfolding IsDistinct
-distinct_filter e f [] all = tt
-distinct_filter e f (x ∷ xs) all = keep_distinct e x (filter f xs) (f x) (all_filter (λ y. e x y ≡ false) f xs all.0) (distinct_filter e f xs all.1)
-
 keep_passing : {X : Type 0} (P : X → Type 0) (x : X) (xs : List X) (b : Bool) → (b ≡ true → P x) → AllByRecursion P xs → AllByRecursion P (cond b (x ∷ xs) xs)
 keep_passing P x xs true passes again = (passes refl, again)
 keep_passing P x xs false passes again = again
@@ -53,7 +37,7 @@ module _ (host n : ℕ) (seats : List Seat) (k : Kernel) (r : Pid) (sound : IsSo
   queue_waits = all_pass (IsWaiting k r) (λ name. holds_of (is_queued_at r) (k.exchanges name)) (λ name passes. waiting_by k r name (k.exchanges name) refl passes) k.arrived
 
   waiter : (name : Name) (w : IsWaiting k r name) → IsSender k seats name w.exchange
-  waiter name w = sender_of host n seats k name w.exchange sound tables w.is (ap (λ (p : Pid). p.host) w.target ∙ here) (open_queued w.exchange.stage w.queued)
+  waiter name w = sender_of host n seats k name w.exchange sound tables w.is (ap (λ (p : Pid). p.host) w.target ∙ here) (queued_is_open w.exchange.stage w.queued)
 
   -- a sender waits with one name
   one_name : (a b : Name) → IsWaiting k r a → IsWaiting k r b → a.sender ≡ b.sender → a.number ≡ b.number

@@ -5,7 +5,7 @@ use Rattle.std.specs.Option.{option_map}
 use Rattle.std.proofs.lemmas.Option.{same_Some, none-some}
 use Rattle.vk_base.specs.declared.pid.Pid.{Pid}
 use Rattle.vk_base.specs.Pids.{same_pid}
-use Rattle.vk_base.proofs.Tables.{same_pid_is, same_pid_laws}
+use Rattle.v_laws.proofs.Tables.{same_pid_is, same_pid_laws}
 use Rattle.vk_host.specs.declared.seat.Seat.{Seat}
 use Rattle.vk_host.specs.Tables.{is_seat, change_first}
 

@@ -14,11 +14,12 @@ use Rattle.vk_base.specs.declared.kernel.Stage.TheVariants as stages
 use Rattle.vk_base.specs.declared.kernel.State.TheVariants as states
 use Rattle.vk_base.specs.declared.message.Message.{Message}
 use Rattle.vk_base.specs.declared.pid.Pid.{Pid}
-use Rattle.vk_base.specs.Kernel.{Kernel, name_of, sending, queue_of, sent, sent_exchange}
+use Rattle.vk_base.specs.Calls.{sent, sent_exchange}
+use Rattle.vk_base.specs.Kernel.{Kernel, name_of, sending, queue_of, is_open}
 use Rattle.vk_base.specs.Pids.{same_pid, same_host}
-use Rattle.vk_base.specs.Sound.{IsSound, is_open}
-use Rattle.vk_base.proofs.Queues.{queue-sent_here, queue-sent_elsewhere}
-use Rattle.vk_base.proofs.Tables.{same_pid_is, put_process_at, put_process_other, put_exchange_here, put_exchange_other}
+use Rattle.v_laws.specs.Sound.{IsSound}
+use Rattle.v_laws.proofs.Queues.{queue-sent_here, queue-sent_elsewhere}
+use Rattle.v_laws.proofs.Tables.{same_pid_is, put_process_at, put_process_other, put_exchange_here, put_exchange_other}
 use Rattle.vk_host.specs.declared.seat.Seat.{Seat}
 use Rattle.vk_host.specs.Stands.{IsSeated, Fits, AreSeats}
 use Rattle.vk_host.specs.Tables.{is_seat, state_of, change_first, send_begun, enqueued, next_name_in, sent_seats}

@@ -14,7 +14,9 @@ use Rattle.vk_base.specs.declared.message.Message.{Message}
 use Rattle.vk_base.specs.declared.pid.Pid.{Pid}
 use Rattle.vk_base.specs.declared.step.Step.{Step}
 use Rattle.vk_base.specs.declared.step.Step.TheVariants as steps
-use Rattle.vk_base.specs.Kernel.{◌>>=◌, Kernel, Effect, effect, is_allowed, next, opening, run}
+use Rattle.vk_base.specs.Calls.{Effect}
+use Rattle.vk_base.specs.Kernel.{◌>>=◌, Kernel, opening}
+use Rattle.vk_base.specs.Steps.{effect, is_allowed, next, run}
 use Rattle.vk_base.specs.Messages.{segment_of}
 use Rattle.vk_base.specs.Pids.{same_pid, same_host}
 use Rattle.vk_base.specs.Settings.{has_process}

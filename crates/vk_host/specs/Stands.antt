@@ -10,9 +10,10 @@ use Rattle.vk_base.specs.declared.kernel.State.TheVariants as states
 use Rattle.vk_base.specs.declared.message.Message.{Message}
 use Rattle.vk_base.specs.declared.pid.Pid.{Pid}
 use Rattle.vk_base.specs.declared.step.Step.TheVariants as steps
-use Rattle.vk_base.specs.Kernel.{Kernel, name_of, queue_of, is_allowed, run}
+use Rattle.vk_base.specs.Kernel.{Kernel, name_of, queue_of, is_open}
+use Rattle.vk_base.specs.Steps.{is_allowed, run}
 use Rattle.vk_base.specs.Settings.{is_on}
-use Rattle.vk_base.specs.Sound.{IsSound, is_open}
+use Rattle.v_laws.specs.Sound.{IsSound}
 use Rattle.vk_host.specs.declared.event.EventAnswer.{EventAnswer}
 use Rattle.vk_host.specs.declared.event.StationEvent.{StationEvent}
 use Rattle.vk_host.specs.declared.event.StationEvent.TheVariants as events

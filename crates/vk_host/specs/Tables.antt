@@ -14,7 +14,8 @@ use Rattle.vk_base.specs.declared.message.Message.{Message}
 use Rattle.vk_base.specs.declared.pid.Pid.{Pid}
 use Rattle.vk_base.specs.declared.step.Step.{Step}
 use Rattle.vk_base.specs.declared.step.Step.TheVariants as steps
-use Rattle.vk_base.specs.Kernel.{◌>>=◌, name_of, is_ready, receiving, sending, first_of}
+use Rattle.vk_base.specs.Kernel.{◌>>=◌, name_of, is_ready, receiving, sending}
+use Rattle.vk_base.specs.Steps.{first_of}
 use Rattle.vk_base.specs.Pids.{same_pid}
 use Rattle.vk_host.specs.declared.calls.Verdict.{Verdict}
 use Rattle.vk_host.specs.declared.calls.Verdict.TheVariants as verdicts

@@ -1,6 +1,6 @@
 ghost use Rattle.std.specs.Prelude.{◌≡◌, ◌++◌, ◌∷◌, [], drop, IfOk};
 ghost use Rattle.circular_buffer.specs.Buffer.{keep_last};
-ghost use Rattle.vk_base.specs.Kernel.{first_of};
+ghost use Rattle.vk_base.specs.Steps.{first_of};
 
 use circular_buffer::HeapCircularBuffer;
 use std::alloc::Global;

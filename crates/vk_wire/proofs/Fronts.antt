@@ -6,7 +6,7 @@ use Rattle.std.proofs.lemmas.Option.{cond_some, same_Some}
 use Rattle.byteorder.specs.Endian.{big_bytes, big_number}
 use Rattle.byteorder.specs.Numbers.{big_from-lt, big_number-reads_back, length-bytes_high_first}
 use Rattle.vk_base.proofs.PidLemmas.{numbers_of, own_numbers}
-use Rattle.vk_base.proofs.StepLemmas.{bind_is}
+use Rattle.vk_base.proofs.OptionLemmas.{bind_is}
 use Rattle.vk_base.specs.Messages.{IsMessage}
 use Rattle.vk_base.specs.Pids.{IsPid, pid_of_numbers}
 use Rattle.vk_base.specs.declared.message.Message.{Message}

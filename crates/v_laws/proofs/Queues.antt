@@ -5,22 +5,22 @@ use Rattle.std.proofs.lemmas.List.{append-nil}
 use Rattle.std.proofs.lemmas.List.Elements.{filter-append, filter_agree}
 use Rattle.std.proofs.lemmas.Option.{same_Some, none-some}
 use Rattle.std.specs.List.{list_any}
-use Rattle.vk_base.specs.declared.answer.Answer.TheVariants as answers
 use Rattle.vk_base.specs.declared.kernel.Exchange.{Exchange}
 use Rattle.vk_base.specs.declared.kernel.Name.{Name}
 use Rattle.vk_base.specs.declared.kernel.Process.{Process}
 use Rattle.vk_base.specs.declared.kernel.Stage.{Stage}
 use Rattle.vk_base.specs.declared.kernel.Stage.TheVariants as stages
 use Rattle.vk_base.specs.declared.kernel.State.{State}
-use Rattle.vk_base.specs.declared.kernel.State.TheVariants as states
 use Rattle.vk_base.specs.declared.message.Message.{Message}
 use Rattle.vk_base.specs.declared.pid.Pid.{Pid}
-use Rattle.vk_base.specs.Kernel.{Kernel, Taking, taking, taken, holds_of, is_queued, is_queued_at, queue_of, first_of, name_of, same_name, put_exchange, with_state, with_stage, sent, sent_exchange}
+use Rattle.vk_base.specs.Calls.{sent, sent_exchange}
+use Rattle.vk_base.specs.Kernel.{Kernel, holds_of, is_queued, is_queued_at, queue_of, name_of, same_name, put_exchange, with_state, with_stage}
+use Rattle.vk_base.specs.Steps.{Taking, taking, taken, first_of}
 use Rattle.vk_base.specs.Pids.{same_pid, same_host}
-use Rattle.vk_base.specs.Sound.{IsSound}
-use Rattle.vk_base.proofs.FilterLemmas.{filter_on, filter_rest, first_passes}
-use Rattle.vk_base.proofs.StepLemmas.{taking_is}
-use Rattle.vk_base.proofs.Tables.{same_pid_is, same_name_is, same_name_self, same_name_laws, put_exchange_at, put_exchange_other}
+use Rattle.v_laws.specs.Sound.{IsSound}
+use Rattle.v_laws.proofs.FilterLemmas.{filter_on, filter_rest, first_passes}
+use Rattle.v_laws.proofs.StepLemmas.{taking_is}
+use Rattle.v_laws.proofs.Tables.{same_pid_is, same_name_is, same_name_self, same_name_laws, put_exchange_at, put_exchange_other}
 
 -- whether this name stands in the process's queue, once it has arrived
 abbrev pub queued_in : (Name → Option Exchange) → Pid → Name → Bool
@@ -140,7 +140,7 @@ taken_was_queued k r t e =
     and_parts (same_pid t.exchange.target r) (is_queued t.exchange.stage) (sym (ap (holds_of (is_queued_at r)) is.exchange) ∙ passes)
 
 pub queue-taken_here : (k : Kernel) (r : Pid) (t : Taking) → IsSound k → taking k r ≡ Some t → queue_of k r ≡ t.name ∷ queue_of (taken k r t) r
-unfolding queue_of
+unfolding queue_of taken
 queue-taken_here k r t sound e =
     let is = taking_is k r t e in
     let first = first_is (queue_of k r) t.name is.first in
@@ -152,8 +152,8 @@ queue-taken_here k r t sound e =
     first.1 ∙ ap (λ ns. t.name ∷ ns) (sym rest)
 
 pub queue-taken_elsewhere : (k : Kernel) (r : Pid) (t : Taking) (q : Pid) → taking k r ≡ Some t → same_pid r q ≡ false → queue_of (taken k r t) q ≡ queue_of k q
+unfolding queue_of taken
 queue-taken_elsewhere k r t q e other =
     let is = taking_is k r t e in
     let target = same_pid_is t.exchange.target r (taken_was_queued k r t e).0 in
-    queue-state (with_stage k t.name t.exchange stages.Taken) r t.process (states.Done t.call (answers.Received t.name.sender t.exchange.message)) q
-    ∙ queue-stage_elsewhere k t.name t.exchange stages.Taken q is.exchange (ap (λ a. same_pid a q) target ∙ other)
+    queue-stage_elsewhere k t.name t.exchange stages.Taken q is.exchange (ap (λ a. same_pid a q) target ∙ other)

@@ -3,7 +3,9 @@ use Rattle.std.proofs.Common.{◌≡◌, List, [], ◌∷◌, ◌++◌, Option, 
 use Rattle.std.proofs.lemmas.List.{append_assoc, append-nil}
 use Rattle.vk_base.specs.declared.kernel.Observation.{Observation}
 use Rattle.vk_base.specs.declared.step.Step.{Step}
-use Rattle.vk_base.specs.Kernel.{◌>>=◌, Kernel, Effect, Run, effect, run}
+use Rattle.vk_base.specs.Calls.{Effect}
+use Rattle.vk_base.specs.Kernel.{◌>>=◌, Kernel}
+use Rattle.vk_base.specs.Steps.{Run, effect, run}
 
 -- this run goes on with these steps
 abbrev pub goes_on : List Step → Run → Option Run

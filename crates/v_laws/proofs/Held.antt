@@ -8,7 +8,7 @@ use Rattle.vk_base.specs.declared.kernel.Process.{Process}
 use Rattle.vk_base.specs.declared.pid.Pid.{Pid}
 use Rattle.vk_base.specs.Kernel.{Kernel, holds_of, name_of, is_held_by, is_taken, held, held_up_to}
 use Rattle.vk_base.specs.Pids.{same_pid}
-use Rattle.vk_base.proofs.StepLemmas.{bind_is}
+use Rattle.vk_base.proofs.OptionLemmas.{bind_is}
 
 -- whether the process holds the sender at this number
 abbrev pub holds_at : (Name → Option Exchange) → Pid → Pid → ℕ → Bool

@@ -1,6 +1,7 @@
 -- Filters of lists whose elements are apart, and one more element.
-use Rattle.std.proofs.Common.{◌≡◌, Bool, true, false, cond, List, [], ◌∷◌, ◌++◌, filter, refl, sym, ap, subst, ◌∙◌, inl, inr}
-use Rattle.std.proofs.lemmas.Bool.{cases_Bool, or_left, or_right, or_parts, cond-true, cond-false}
+use Rattle.std.proofs.Common.{◌≡◌, Bool, true, false, cond, List, [], ◌∷◌, filter, All, refl, sym, ap, subst, ◌∙◌, inl, inr}
+use Rattle.std.proofs.lemmas.Bool.{cases_Bool, or_left, or_right, or_from, cond-true, cond-false, cond_both}
+use Rattle.std.proofs.lemmas.List.Elements.{All-nil, All-cons, All-head, All-tail}
 use Rattle.std.specs.Cmp.{IsEquivalence}
 use Rattle.std.specs.List.{list_any, IsDistinct, AllByRecursion}
 
@@ -49,14 +50,24 @@ filter_rest {E} laws f g y (x ∷ xs) ys out same apart e = elim (cases_Bool (f 
       ∙ filter_rest laws f g y xs ys out same apart.1 (sym (cond-false (f x) (x ∷ filter f xs) (filter f xs) f_x) ∙ e)
 ]
 
-all_push : {X : Type 0} (P : X → Type 0) (xs : List X) (x : X) → AllByRecursion P xs → P x → AllByRecursion P (xs ++ x ∷ [])
-all_push P [] x all here = (here, tt)
-all_push P (y ∷ ys) x all here = (all.0, all_push P ys x all.1 here)
+-- what is apart stays apart where some are let out
+all_filter : {X : Type 0} (P : X → Type 0) (f : X → Bool) (xs : List X) → AllByRecursion P xs → AllByRecursion P (filter f xs)
+all_filter P f [] all = tt
+all_filter P f (x ∷ xs) all = cond_both (f x) (x ∷ filter f xs) (filter f xs) (AllByRecursion P) (λ t. (all.0, all_filter P f xs all.1)) (λ g. all_filter P f xs all.1)
 
--- one more that was not there
-pub distinct_push : {X : Type 0} {E : X → X → Bool} (laws : IsEquivalence E) (xs : List X) (x : X) → IsDistinct E xs → list_any (E x) xs ≡ false → IsDistinct E (xs ++ x ∷ [])
+pub distinct_filter : {X : Type 0} (E : X → X → Bool) (f : X → Bool) (xs : List X) → IsDistinct E xs → IsDistinct E (filter f xs)
 unfolding IsDistinct
-distinct_push laws [] x apart new = (tt, tt)
-distinct_push {E} laws (y ∷ ys) x apart new =
-    let parts = or_parts (E x y) (list_any (E x) ys) new in
-    (all_push (λ z. E y z ≡ false) ys x apart.0 (laws.symm y x ∙ parts.0), distinct_push laws ys x apart.1 parts.1)
+distinct_filter E f [] apart = tt
+distinct_filter E f (x ∷ xs) apart = cond_both (f x) (x ∷ filter f xs) (filter f xs) (IsDistinct E) (λ t. (all_filter (λ y. E x y ≡ false) f xs apart.0, distinct_filter E f xs apart.1)) (λ g. distinct_filter E f xs apart.1)
+
+-- none is found among those that are kept where it fails of each of them
+pub none_kept : {X : Type 0} (test f : X → Bool) (xs : List X) → ((x : X) → f x ≡ true → test x ≡ false) → list_any test (filter f xs) ≡ false
+none_kept test f [] none = refl
+none_kept test f (x ∷ xs) none = cond_both (f x) (x ∷ filter f xs) (filter f xs) (λ ys. list_any test ys ≡ false) (λ t. or_from (test x) (list_any test (filter f xs)) (none x t) (none_kept test f xs none)) (λ g. none_kept test f xs none)
+
+-- what holds of those that are kept
+pub all_kept : {X : Type 0} (P Q : X → Type 0) (f : X → Bool) (xs : List X) → All P xs → ((x : X) → P x → f x ≡ true → Q x) → All Q (filter f xs)
+all_kept P Q f [] all then = All-nil Q
+all_kept P Q f (x ∷ xs) all then = cond_both (f x) (x ∷ filter f xs) (filter f xs) (All Q)
+    (λ t. All-cons Q x (filter f xs) (then x (All-head P x xs all) t) (all_kept P Q f xs (All-tail P x xs all) then))
+    (λ g. all_kept P Q f xs (All-tail P x xs all) then)

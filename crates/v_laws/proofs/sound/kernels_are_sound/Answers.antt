@@ -1,5 +1,5 @@
-use Rattle.vk_base.proofs.SoundLemmas.{sound_opening, sound_step, sound_run}
-use Rattle.vk_base.proofs.laws.kernels_are_sound.Goals as goal
+use Rattle.v_laws.proofs.SoundLemmas.{sound_opening, sound_step, sound_run}
+use Rattle.v_laws.proofs.sound.kernels_are_sound.Goals as goal
 
 pub returns-clause-opening : goal.returns-clause-opening
 returns-clause-opening c = sound_opening

@@ -1,0 +1,88 @@
+-- The moves: those that are made at once, and those that are begun, opened, copied and ended.
+use Rattle.std.proofs.Common.{◌≡◌, ℕ, ◌+◌, ◌-◌, Bool, true, false, cond, List, [], ◌∷◌, ◌++◌, length, slice_set, Option, Some, None, refl, subst, inl, inr, arith}
+use Rattle.std.proofs.lemmas.List.{length_push, length-set}
+use Rattle.std.proofs.lemmas.Option.{same_Some}
+use Rattle.vk_base.specs.declared.answer.Answer.{Answer}
+use Rattle.vk_base.specs.declared.answer.Ending.{Ending}
+use Rattle.vk_base.specs.declared.call.Call.{Call}
+use Rattle.vk_base.specs.declared.kernel.Exchange.{Exchange}
+use Rattle.vk_base.specs.declared.kernel.Move.{Move}
+use Rattle.vk_base.specs.declared.kernel.Name.{Name}
+use Rattle.vk_base.specs.declared.kernel.Process.{Process}
+use Rattle.vk_base.specs.declared.kernel.State.TheVariants as states
+use Rattle.vk_base.specs.declared.pid.Pid.{Pid}
+use Rattle.vk_base.specs.declared.step.Step.{Step}
+use Rattle.vk_base.specs.Calls.{Effect, copied_at_once, begin_move, move_begun}
+use Rattle.vk_base.specs.Kernel.{Kernel, name_of, is_ready, sending, ended, held, put_exchange, with_memory, with_state}
+use Rattle.vk_base.specs.Ranges.{range_of, bytes_in, with_bytes}
+use Rattle.vk_base.specs.Steps.{Opening, opening_move, move_opened, noted_bytes, Copying, copying, copied, ending}
+use Rattle.vk_base.proofs.OptionLemmas.{bind_is}
+use Rattle.v_laws.specs.Sound.{IsSound}
+use Rattle.v_laws.proofs.Changes.{StageOn, GoesOn, process_same}
+use Rattle.v_laws.proofs.SoundChanges.{process_begun, process_ended, none_waited_for, no_exchange_changes, one_exchange_changes, goes_process, goes_exchange}
+use Rattle.v_laws.proofs.States.{ready_sends_none, moving_sends_none, moving_not_ready}
+use Rattle.v_laws.proofs.StepLemmas.{opening_is, copying_is, ending_is}
+
+-- another memory
+pub goes_memory : (s : Step) (k : Kernel) (pid : Pid) (p : Process) (memory : List ℕ) → IsSound k → k.procs pid ≡ Some p → GoesOn s k (with_memory k pid p memory)
+goes_memory s k pid p memory sound at =
+    goes_process s k pid p (record p { memory = memory }) k.exchanges k.lookups sound at (process_same s pid p (record p { memory = memory }) refl refl (omega arith) refl) refl (inl refl) (no_exchange_changes s k)
+
+pub goes_at_once : (s : Step) (k : Kernel) (pid : Pid) (c : Call) (into : Pid) (dest : ℕ) (bytes : List ℕ) (e : Effect) → IsSound k → copied_at_once k pid c into dest bytes ≡ Some e → GoesOn s k e.after
+unfolding copied_at_once
+goes_at_once s k pid c into dest bytes e sound g =
+    let q = bind_is (k.procs into) _ e g in
+    subst (λ (x : Effect). GoesOn s k x.after) (same_Some _ e q.2) (goes_memory s k into q.0 (with_bytes q.0.memory dest bytes) sound q.1)
+
+-- A move that is begun.
+pub goes_begun : (s : Step) (k : Kernel) (pid : Pid) (p : Process) (c : Call) (name : Name) (e : Exchange) (m : Move) → IsSound k → k.procs pid ≡ Some p → p.alive ≡ true → is_ready p.state ≡ true → sending (states.Blocked c) ≡ None → k.exchanges name ≡ Some e → GoesOn s k (move_begun k pid p c name e m)
+unfolding move_begun
+goes_begun s k pid p c name e m sound at alive ready quiet is =
+    let after : Process = record p { state = states.Blocked c; moving = Some (record { exchange = name; number = length e.moves + 1 }) } in
+    let x : Exchange = record e { moves = e.moves ++ m ∷ [] } in
+    goes_process s k pid p after (put_exchange k.exchanges name x) k.lookups sound at
+    (process_begun s pid p after alive ready refl refl (omega arith) quiet) refl
+    (inr (none_waited_for k pid p sound at (ready_sends_none p.state ready)))
+    (one_exchange_changes s k name e x is (record { target = refl; message = refl; part = refl; moves = omega (arith, length_push e.moves m); stage = StageOn.same refl }))
+
+pub goes_begin : (s : Step) (k : Kernel) (pid : Pid) (p : Process) (c : Call) (partner : Pid) (m : Move) (e : Effect) → IsSound k → k.procs pid ≡ Some p → p.alive ≡ true → is_ready p.state ≡ true → sending (states.Blocked c) ≡ None → begin_move k pid p c partner m ≡ Some e → GoesOn s k e.after
+goes_begin s k pid p c partner m e sound at alive ready quiet g =
+    let number = bind_is (held k pid partner) _ e g in
+    let x = bind_is (k.exchanges (name_of partner number.0)) _ e number.2 in
+    subst (λ (y : Effect). GoesOn s k y.after) (same_Some _ e x.2) (goes_begun s k pid p c (name_of partner number.0) x.0 m sound at alive ready quiet x.1)
+
+-- either of both
+pub goes_either : (s : Step) (k : Kernel) (b : Bool) (o p : Option Effect) (e : Effect) → (o ≡ Some e → GoesOn s k e.after) → (p ≡ Some e → GoesOn s k e.after) → cond b o p ≡ Some e → GoesOn s k e.after
+goes_either s k true o p e f g is = f is
+goes_either s k false o p e f g is = g is
+
+-- OpenMove.
+pub goes_opened : (s : Step) (k : Kernel) (name : Name) (number : ℕ) (o : Opening) → IsSound k → opening_move k name number ≡ Some o → GoesOn s k (move_opened k name number o)
+unfolding move_opened
+goes_opened s k name number o sound g =
+    let is = opening_is k name number o g in
+    let moves : List Move = slice_set o.exchange.moves (number - 1) (record o.move { bytes = noted_bytes o.move.direction o.sender o.move }) in
+    let x : Exchange = record o.exchange { moves = moves; opened = number; done = 0 } in
+    goes_exchange s k (put_exchange k.exchanges name x) k.lookups sound
+    (one_exchange_changes s k name o.exchange x is.exchange
+    (record { target = refl; message = refl; part = refl; moves = omega (arith, length-set o.exchange.moves (number - 1) (record o.move { bytes = noted_bytes o.move.direction o.sender o.move })); stage = StageOn.same refl }))
+
+-- Copy.
+pub goes_copied : (s : Step) (k : Kernel) (name : Name) (number offset count : ℕ) (c : Copying) → IsSound k → copying k name number offset count ≡ Some c → GoesOn s k (copied k name offset count c)
+unfolding copied
+goes_copied s k name number offset count c sound g =
+    let is = copying_is k name number offset count c g in
+    let after : Process = record c.process { memory = with_bytes c.process.memory (c.move.dest + offset) (bytes_in (range_of offset count) c.move.bytes) } in
+    let x : Exchange = record c.exchange { done = c.exchange.done + count } in
+    goes_process s k c.pid c.process after (put_exchange k.exchanges name x) k.lookups sound is.process
+    (process_same s c.pid c.process after refl refl (omega arith) refl) refl (inl refl)
+    (one_exchange_changes s k name c.exchange x is.exchange (record { target = refl; message = refl; part = refl; moves = omega arith; stage = StageOn.same refl }))
+
+-- End.
+pub goes_ended : (s : Step) (k : Kernel) (r : Pid) (why : Ending) (e : Process × Answer) → IsSound k → ending k r why ≡ Some e → GoesOn s k (with_state k r e.0 (ended e.0.state e.1))
+goes_ended s k r why e sound g =
+    let is = ending_is k r why e g in
+    goes_process s k r e.0 (record e.0 { state = ended e.0.state e.1 }) k.exchanges k.lookups sound is.process
+    (process_ended s r e.0 e.1 (moving_not_ready e.0.state is.moves)) refl
+    (inr (none_waited_for k r e.0 sound is.process (moving_sends_none e.0.state is.moves)))
+    (no_exchange_changes s k)
