@@ -1,7 +1,10 @@
+pub mod CallLemmas
 pub mod Changes
 pub mod FilterLemmas
 pub mod Held
+pub mod Later
 pub mod Queues
+pub mod ReachedLemmas
 pub mod Related
 pub mod RunLemmas
 pub mod SoundArrive

@@ -4,6 +4,14 @@
 //! the checker and of stations.
 #![tactic(auto)]
 
+mod calls;
+mod exchanges;
+mod processes;
 mod sound;
 
+pub use calls::{refused_calls_change_nothing, the_dead_are_refused};
+pub use exchanges::{exchanges_stay, settled_exchanges_stay};
+pub use processes::{
+    a_collect_makes_ready, numbers_only_grow, the_dead_stay_dead, the_processes_stay,
+};
 pub use sound::kernels_are_sound;
