@@ -101,7 +101,7 @@ sent_here : (k : Kernel) (pid : Pid) (p : Process) (target : Pid) (m : Message) 
 unfolding sent
 sent_here k pid p target m n t = put_exchange_at k.exchanges (name_of pid (p.sends + 1)) (sent_exchange pid p target m) n t
 
-after_arrived : (k : Kernel) (name : Name) (e : Exchange) (n : Name) (x : Exchange) → k.exchanges n ≡ Some x → (with_arrival k name e).exchanges n ≡ Some (after_arrival name e n x)
+pub after_arrived : (k : Kernel) (name : Name) (e : Exchange) (n : Name) (x : Exchange) → k.exchanges n ≡ Some x → (with_arrival k name e).exchanges n ≡ Some (after_arrival name e n x)
 unfolding with_arrival
 after_arrived k name e n x at = ap (option_map (after_arrival name e n)) at
 
@@ -161,14 +161,14 @@ rank_most stages.Taken = omega arith
 rank_most (stages.Replied m d b) = omega arith
 rank_most stages.Dropped = omega arith
 
-posted_rank : (s : Stage) → is_posted s ≡ true → rank s ≡ 0
+pub posted_rank : (s : Stage) → is_posted s ≡ true → rank s ≡ 0
 posted_rank stages.Posted t = refl
 posted_rank stages.Queued t = absurd (both_ways false refl t)
 posted_rank stages.Taken t = absurd (both_ways false refl t)
 posted_rank (stages.Replied m d b) t = absurd (both_ways false refl t)
 posted_rank stages.Dropped t = absurd (both_ways false refl t)
 
-queued_rank : (s : Stage) → is_queued s ≡ true → rank s ≡ 1
+pub queued_rank : (s : Stage) → is_queued s ≡ true → rank s ≡ 1
 queued_rank stages.Posted t = absurd (both_ways false refl t)
 queued_rank stages.Queued t = refl
 queued_rank stages.Taken t = absurd (both_ways false refl t)
