@@ -29,19 +29,21 @@ pub record ProcessOn (s : Step) (q : Pid) (p after : Process) : Type 0 where
   pub resting : (p.alive ≡ false → is_ready p.state ≡ true) → after.alive ≡ false → is_ready after.state ≡ true
   pub sent : (x : Pid × Message) → sending after.state ≡ Some x → sending p.state ≡ Some x
   pub ready : is_ready after.state ≡ true → is_ready p.state ≡ false → s ≡ steps.Collect q
+  pub dead : (p.alive ≡ false → is_ready p.state ≡ true) → p.alive ≡ false → after ≡ p
 
-pub process_same : (s : Step) (q : Pid) (p after : Process) → after.alive ≡ p.alive → after.sends ≡ p.sends → p.lookups ≤ after.lookups → after.state ≡ p.state → ProcessOn s q p after
-process_same s q p after alive sends lookups state = record {
+pub process_same : (s : Step) (q : Pid) (p after : Process) → after.alive ≡ p.alive → after.sends ≡ p.sends → p.lookups ≤ after.lookups → after.state ≡ p.state → ((p.alive ≡ false → is_ready p.state ≡ true) → p.alive ≡ false → after ≡ p) → ProcessOn s q p after
+process_same s q p after alive sends lookups state dead = record {
   alive = λ t. sym alive ∙ t;
   sends = sends;
   lookups = lookups;
   resting = λ rest f. ap is_ready state ∙ rest (sym alive ∙ f);
   sent = λ x e. ap sending (sym state) ∙ e;
   ready = λ t f. absurd (both_ways (is_ready p.state) f (ap is_ready (sym state) ∙ t));
+  dead = dead;
 }
 
 pub process_self : (s : Step) (q : Pid) (p : Process) → ProcessOn s q p p
-process_self s q p = process_same s q p p refl refl (omega arith) refl
+process_self s q p = process_same s q p p refl refl (omega arith) refl (λ rest d. refl)
 
 -- What becomes of an exchange in a step that is not its arrival.
 pub data StageOn (k : Kernel) (s : Step) (n : Name) (x after : Exchange) : Type 0 where

@@ -12,7 +12,7 @@ filter_on E self f g (x ∷ xs) same =
     ap (λ b. cond b (x ∷ filter f xs) (filter f xs)) (same x (or_left (E x x) (list_any (E x) xs) (self x)))
     ∙ ap (λ ys. cond (g x) (x ∷ ys) ys) (filter_on E self f g xs (λ y m. same y (or_right (E y x) (list_any (E y) xs) m)))
 
-same_head : {X : Type 0} (x y : X) (xs ys : List X) → x ∷ xs ≡ y ∷ ys → x ≡ y
+pub same_head : {X : Type 0} (x y : X) (xs ys : List X) → x ∷ xs ≡ y ∷ ys → x ≡ y
 same_head x y xs ys e = cc
 
 same_tail : {X : Type 0} (x y : X) (xs ys : List X) → x ∷ xs ≡ y ∷ ys → xs ≡ ys

@@ -1,9 +1,16 @@
+pub mod CallLemmas
 pub mod Changes
 pub mod FilterLemmas
 pub mod Held
+pub mod Later
+pub mod OnceLemmas
+pub mod OrderLemmas
+pub mod PlaceLemmas
 pub mod Queues
+pub mod ReachedLemmas
 pub mod Related
 pub mod RunLemmas
+pub mod ReplyLemmas
 pub mod SoundArrive
 pub mod SoundCalls
 pub mod SoundChanges

@@ -126,7 +126,7 @@ queue-sent_elsewhere k pid p target m r sound at other =
     ∙ append-nil (queue_of k r)
 
 -- A Take.
-first_is : (ns : List Name) (n : Name) → first_of ns ≡ Some n → (rest : List Name) × (ns ≡ n ∷ rest)
+pub first_is : (ns : List Name) (n : Name) → first_of ns ≡ Some n → (rest : List Name) × (ns ≡ n ∷ rest)
 first_is [] n e = absurd (none-some n e)
 first_is (m ∷ ns) n e = (ns, ap (λ x. x ∷ ns) (same_Some m n e))
 

@@ -27,7 +27,7 @@ pub data ArrivalOn (name : Name) (e : Exchange) (n : Name) (x after : Exchange) 
   older : same_name n name ≡ false → is_older name e n x ≡ true → after ≡ record x { stage = stages.Dropped } → ArrivalOn name e n x after
   other : same_name n name ≡ false → is_older name e n x ≡ false → after ≡ x → ArrivalOn name e n x after
 
-arrival_is : (name : Name) (e : Exchange) (n : Name) (x : Exchange) → ArrivalOn name e n x (after_arrival name e n x)
+pub arrival_is : (name : Name) (e : Exchange) (n : Name) (x : Exchange) → ArrivalOn name e n x (after_arrival name e n x)
 arrival_is name e n x = elim (cases_Bool (same_name n name)) [
   | inl t ↦ ArrivalOn.here t (cond-true (same_name n name) (record x { stage = stages.Queued }) rest t)
   | inr f ↦ elim (cases_Bool (is_older name e n x)) [
@@ -59,7 +59,7 @@ arrival_message name e n x y (older f t is) = ap (λ (z : Exchange). z.message) 
 arrival_message name e n x y (other f g is) = ap (λ (z : Exchange). z.message) is
 
 -- what the exchange that arrives was
-is_there : (k : Kernel) (name : Name) (e : Exchange) (n : Name) (x : Exchange) → arriving k name ≡ Some e → k.exchanges n ≡ Some x → same_name n name ≡ true → x ≡ e
+pub is_there : (k : Kernel) (name : Name) (e : Exchange) (n : Name) (x : Exchange) → arriving k name ≡ Some e → k.exchanges n ≡ Some x → same_name n name ≡ true → x ≡ e
 is_there k name e n x g is t = same_Some x e (sym is ∙ ap k.exchanges (same_name_is n name t) ∙ (arriving_is k name e g).is)
 
 -- An exchange behind one of its sender to the same host is settled.

@@ -1,6 +1,6 @@
 -- The calls.
-use Rattle.std.proofs.Common.{◌≡◌, ℕ, true, ◌&&◌, not, nat_le, List, [], ◌∷◌, length, Option, Some, None, refl, sym, ap, subst, ◌∙◌, inr, arith}
-use Rattle.std.proofs.lemmas.Bool.{and_parts, not-false}
+use Rattle.std.proofs.Common.{◌≡◌, ℕ, true, false, ◌&&◌, not, nat_le, nat_lt, List, [], ◌∷◌, length, Option, Some, None, is_none, refl, sym, ap, subst, ◌∙◌, inr, arith}
+use Rattle.std.proofs.lemmas.Bool.{and_parts, both_ways, not-false}
 use Rattle.std.proofs.lemmas.Option.{same_Some}
 use Rattle.vk_base.specs.declared.answer.Refusal.{Refusal}
 use Rattle.vk_base.specs.declared.answer.Refusal.TheVariants as refusals
@@ -18,8 +18,8 @@ use Rattle.vk_base.specs.declared.message.Message.{Message}
 use Rattle.vk_base.specs.declared.pid.Pid.{Pid}
 use Rattle.vk_base.specs.declared.step.Step.{Step}
 use Rattle.vk_base.specs.declared.step.Step.TheVariants as steps
-use Rattle.vk_base.specs.Calls.{Effect, sent, replied, accepted, called, call_refusal, is_at_once, copied_at_once, begin_move, new_move, get_pid, found_at_once}
-use Rattle.vk_base.specs.Kernel.{◌>>=◌, Kernel, name_of, is_live, is_ready, is_taken, sending, held, others, put_exchange, with_state, with_stage}
+use Rattle.vk_base.specs.Calls.{Effect, sent, replied, accepted, called, call_refusal, is_at_once, copied_at_once, begin_move, new_move, get_pid, found_at_once, may_write, is_granted, is_own}
+use Rattle.vk_base.specs.Kernel.{◌>>=◌, Kernel, name_of, is_live, is_ready, is_taken, sending, held, held_exchange, others, put_exchange, with_state, with_stage}
 use Rattle.vk_base.specs.Pids.{same_host}
 use Rattle.vk_base.specs.Ranges.{range_of, bytes_in, with_bytes}
 use Rattle.vk_base.specs.Steps.{arriving, with_arrival}
@@ -30,7 +30,7 @@ use Rattle.v_laws.proofs.Held.{holding_is}
 use Rattle.v_laws.proofs.SoundChanges.{process_begun, none_waited_for, no_exchange_changes, one_exchange_changes, goes_process, goes_exchange}
 use Rattle.v_laws.proofs.SoundExit.{goes_exited}
 use Rattle.v_laws.proofs.SoundLookups.{goes_registered, goes_lookup, goes_heard}
-use Rattle.v_laws.proofs.SoundMoves.{goes_memory, goes_at_once, goes_begin, goes_either}
+use Rattle.v_laws.proofs.SoundMoves.{at_once_lives, goes_memory, goes_at_once, goes_begin, goes_either}
 use Rattle.v_laws.proofs.States.{ready_sends_none}
 use Rattle.v_laws.proofs.StepLemmas.{IsFit, fit_is, passes_first}
 use Rattle.v_laws.proofs.Tables.{same_pid_is}
@@ -82,6 +82,10 @@ goes_got : (s : Step) (k : Kernel) (pid : Pid) (p : Process) (c : Call) (logical
 goes_got s k pid p c logical None sound at alive ready quiet = goes_lookup s k pid p c logical sound at alive ready quiet
 goes_got s k pid p c logical (Some q) sound at alive ready quiet = goes_nowhere s k sound
 
+some_is : {A : Type 0} (o : Option A) → is_none o ≡ false → (x : A) × (o ≡ Some x)
+some_is None f = absurd (both_ways true f refl)
+some_is (Some x) f = (x, refl)
+
 -- a call that is not refused
 as_effect : (s : Step) (k : Kernel) (e f : Effect) → Some e ≡ Some f → GoesOn s k e.after → IsStep s k f.after
 as_effect s k e f g on = IsStep.goes (subst (λ (x : Effect). GoesOn s k x.after) (same_Some e f g) on)
@@ -102,13 +106,17 @@ accepted_is k pid p (calls.ReplySegment m to dest src count) e sound at fit g =
 accepted_is k pid p (calls.MoveTo partner dest src count) e sound at fit g =
     let c : Call = calls.MoveTo partner dest src count in
     let bytes = bytes_in (range_of src count) p.memory in
+    let last = (not (may_write (held_exchange k pid partner)), refusals.NoAccess) ∷ (not (is_granted (held_exchange k pid partner) dest count && is_own p src count), refusals.BadRange) ∷ [] in
+    let first = passes_first (nat_lt 65536 count) refusals.TooLong ((is_none (held k pid partner), refusals.NotAwaiting) ∷ last) fit.rest in
+    let second = passes_first (is_none (held k pid partner)) refusals.NotAwaiting last first.1 in
+    let number = some_is (held k pid partner) second.0 in
     IsStep.goes (goes_either (steps.Call pid c) k (is_at_once pid partner count) (copied_at_once k pid c partner dest bytes) (begin_move k pid p c partner (new_move pid directions.To dest src count bytes)) e
-    (goes_at_once (steps.Call pid c) k pid c partner dest bytes e sound)
+    (λ once. goes_at_once (steps.Call pid c) k pid c partner dest bytes e sound (at_once_lives k pid partner number.0 src count p.memory sound number.1 once))
     (goes_begin (steps.Call pid c) k pid p c partner (new_move pid directions.To dest src count bytes) e sound at fit.alive fit.ready refl) g)
 accepted_is k pid p (calls.MoveFrom partner dest src count) e sound at fit g =
     let c : Call = calls.MoveFrom partner dest src count in
     IsStep.goes (goes_either (steps.Call pid c) k (is_at_once pid partner count) (k.procs partner >>= λ q. copied_at_once k pid c pid dest (bytes_in (range_of src count) q.memory)) (begin_move k pid p c partner (new_move pid directions.From dest src count [])) e
-    (λ h. let q = bind_is (k.procs partner) _ e h in goes_at_once (steps.Call pid c) k pid c pid dest (bytes_in (range_of src count) q.0.memory) e sound q.2)
+    (λ once h. let q = bind_is (k.procs partner) _ e h in goes_at_once (steps.Call pid c) k pid c pid dest (bytes_in (range_of src count) q.0.memory) e sound (λ x is dead. absurd (both_ways x.alive dead (ap (λ (y : Process). y.alive) (same_Some x p (sym is ∙ at)) ∙ fit.alive))) q.2)
     (goes_begin (steps.Call pid c) k pid p c partner (new_move pid directions.From dest src count []) e sound at fit.alive fit.ready refl) g)
 accepted_is k pid p (calls.SetPid logical q scope) e sound at fit g =
     let c : Call = calls.SetPid logical q scope in
@@ -121,7 +129,7 @@ accepted_is k pid p (calls.GetPid logical scope) e sound at fit g =
 accepted_is k pid p (calls.Load start count) e sound at fit g = as_effect (steps.Call pid (calls.Load start count)) k _ e g (goes_nowhere (steps.Call pid (calls.Load start count)) k sound)
 accepted_is k pid p (calls.Store start bytes) e sound at fit g =
     let c : Call = calls.Store start bytes in
-    as_effect (steps.Call pid c) k _ e g (goes_memory (steps.Call pid c) k pid p (with_bytes p.memory start bytes) sound at)
+    as_effect (steps.Call pid c) k _ e g (goes_memory (steps.Call pid c) k pid p (with_bytes p.memory start bytes) sound at (λ dead. absurd (both_ways p.alive dead fit.alive)))
 accepted_is k pid p calls.Exit e sound at fit g = as_effect (steps.Call pid calls.Exit) k _ e g (goes_exited k pid p sound at fit.alive fit.ready)
 
 pub called_is : (k : Kernel) (pid : Pid) (p : Process) (c : Call) (why : Option Refusal) (e : Effect) → IsSound k → k.procs pid ≡ Some p → call_refusal k pid p c ≡ why → called k pid p c why ≡ Some e → IsStep (steps.Call pid c) k e.after

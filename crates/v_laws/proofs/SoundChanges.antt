@@ -28,6 +28,7 @@ process_begun s q p after alive ready same sends lookups quiet = record {
   resting = λ rest dead. absurd (both_ways after.alive dead (same ∙ alive));
   sent = λ x e. absurd (none-some x (sym quiet ∙ e));
   ready = λ t f. absurd (both_ways (is_ready p.state) f ready);
+  dead = λ rest d. absurd (both_ways p.alive d alive);
 }
 
 -- A process whose call is over.
@@ -39,6 +40,7 @@ process_done s q p after busy same sends lookups quiet still = record {
   resting = λ rest dead. absurd (both_ways (is_ready p.state) busy (rest (sym same ∙ dead)));
   sent = λ x e. absurd (none-some x (sym quiet ∙ e));
   ready = λ t f. absurd (both_ways (is_ready after.state) still t);
+  dead = λ rest d. absurd (both_ways (is_ready p.state) busy (rest d));
 }
 
 pub process_ended : (s : Step) (q : Pid) (p : Process) (a : Answer) → is_ready p.state ≡ false → ProcessOn s q p (record p { state = ended p.state a })

@@ -65,6 +65,7 @@ dies s pid p alive ready = record {
   resting = λ rest dead. ready;
   sent = λ x e. e;
   ready = λ t f. absurd (both_ways (is_ready p.state) f ready);
+  dead = λ rest d. absurd (both_ways p.alive d alive);
 }
 
 -- the processes after it

@@ -14,7 +14,7 @@ use Rattle.vk_base.specs.declared.kernel.Stage.TheVariants as stages
 use Rattle.vk_base.specs.declared.kernel.State.TheVariants as states
 use Rattle.vk_base.specs.declared.pid.Pid.{Pid}
 use Rattle.vk_base.specs.declared.step.Step.TheVariants as steps
-use Rattle.vk_base.specs.Kernel.{Kernel, name_of, is_open, reply_of, ended, put_exchange, with_state}
+use Rattle.vk_base.specs.Kernel.{is_ready, Kernel, name_of, is_open, reply_of, ended, put_exchange, with_state}
 use Rattle.vk_base.specs.Pids.{same_host}
 use Rattle.vk_base.specs.Ranges.{with_bytes}
 use Rattle.vk_base.specs.Steps.{Taking, Finishing, Collecting, taking, taken, received, with_part, finishing, finished, failing, collecting}
@@ -22,7 +22,7 @@ use Rattle.v_laws.specs.Sound.{IsSound}
 use Rattle.v_laws.proofs.Changes.{ExchangeOn, StageOn, GoesOn, WaitsForNone, sound_onward}
 use Rattle.v_laws.proofs.Queues.{taken_was_queued}
 use Rattle.v_laws.proofs.SoundChanges.{process_done, process_ended, at_sender, none_waited_for, no_exchange_changes, one_exchange_changes, goes_process}
-use Rattle.v_laws.proofs.States.{receiving_sends_none, receiving_not_ready, sending_not_ready, finished_sends_none}
+use Rattle.v_laws.proofs.States.{finished_not_ready, receiving_sends_none, receiving_not_ready, sending_not_ready, finished_sends_none}
 use Rattle.v_laws.proofs.StepLemmas.{taking_is, finishing_is, failing_is, collecting_is}
 use Rattle.v_laws.proofs.Tables.{same_pid_is}
 
@@ -97,7 +97,7 @@ pub goes_collected : (k : Kernel) (pid : Pid) (d : Collecting) → IsSound k →
 goes_collected k pid d sound e =
     let is = collecting_is k pid d e in
     goes_process (steps.Collect pid) k pid d.process (record d.process { state = states.Ready }) k.exchanges k.lookups sound is.process
-    (record { alive = λ t. t; sends = refl; lookups = omega arith; resting = λ rest dead. refl; sent = λ x none. absurd (none-some x none); ready = λ t f. refl }) refl
+    (record { alive = λ t. t; sends = refl; lookups = omega arith; resting = λ rest dead. refl; sent = λ x none. absurd (none-some x none); ready = λ t f. refl; dead = λ rest dead. absurd (both_ways (is_ready d.process.state) (finished_not_ready d.process.state (d.call, d.answer) is.done) (rest dead)) }) refl
     (inr (none_waited_for k pid d.process sound is.process (finished_sends_none d.process.state (d.call, d.answer) is.done)))
     (no_exchange_changes (steps.Collect pid) k)
 

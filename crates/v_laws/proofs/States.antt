@@ -65,6 +65,11 @@ asking_not_ready states.Ready t = absurd (both_ways false refl t)
 asking_not_ready (states.Blocked c) t = refl
 asking_not_ready (states.Done c a) t = refl
 
+pub finished_not_ready : (s : State) (c : Call × Answer) → finished_call s ≡ Some c → is_ready s ≡ false
+finished_not_ready states.Ready c e = absurd (none-some c e)
+finished_not_ready (states.Blocked d) c e = refl
+finished_not_ready (states.Done d a) c e = refl
+
 -- what has ended is as ready as before
 pub ended_ready : (s : State) (a : Answer) → is_ready (ended s a) ≡ is_ready s
 ended_ready states.Ready a = refl

@@ -19,9 +19,10 @@ use Rattle.vk_base.specs.declared.message.Message.{Message}
 use Rattle.vk_base.specs.declared.pid.Pid.{Pid}
 use Rattle.vk_base.proofs.OptionLemmas.{bind_is}
 use Rattle.vk_base.specs.Calls.{call_refusal, tests_of, first_that_holds}
-use Rattle.vk_base.specs.Kernel.{◌>>=◌, Kernel, name_of, queue_of, receiving, sending, finished_call, reply_of, is_live, is_ready, is_moving, is_asking, is_posted, is_told, move_of, waiting_on}
+use Rattle.vk_base.specs.Kernel.{◌>>=◌, Kernel, name_of, queue_of, receiving, sending, finished_call, reply_of, holds_of, is_live, is_ready, is_moving, is_asking, is_posted, is_told, move_of, waiting_on}
 use Rattle.vk_base.specs.Pids.{same_pid, same_host}
-use Rattle.vk_base.specs.Steps.{Taking, taking, Finishing, finishing, Collecting, collecting, Opening, opening_move, Copying, copying, only_if, arriving, failure, failing, ending, move_ending, hearing, asking, finding, first_of, is_in_move, is_next, written_process}
+use Rattle.vk_base.specs.Steps.{Taking, taking, Finishing, finishing, Collecting, collecting, Opening, opening_move, Copying, copying, only_if, arriving, failure, failing, ending, move_ending, hearing, asking, finding, first_of, is_in_move, same_move, is_next, written_process}
+use Rattle.v_laws.proofs.States.{sending_not_ready, moving_not_ready}
 
 pub record IsTaking (k : Kernel) (r : Pid) (t : Taking) : Type 0 where
   pub process : k.procs r ≡ Some t.process
@@ -154,15 +155,21 @@ pub record IsCopying (k : Kernel) (n : Name) (number offset count : ℕ) (c : Co
   pub next : is_next c.exchange number c.move offset count ≡ true
   pub written : written_process k n number c.move.mover c.move.direction ≡ Some (c.pid, c.process)
   pub process : k.procs c.pid ≡ Some c.process
+  pub busy : is_ready c.process.state ≡ false
 
-written_is : (k : Kernel) (n : Name) (number : ℕ) (mover : Pid) (d : Direction) (w : Pid × Process) → written_process k n number mover d ≡ Some w → k.procs w.0 ≡ Some w.1
+abbrev IsBusy : Kernel → Pid × Process → Type 0
+IsBusy k w = (k.procs w.0 ≡ Some w.1) × (is_ready w.1.state ≡ false)
+
+written_is : (k : Kernel) (n : Name) (number : ℕ) (mover : Pid) (d : Direction) (w : Pid × Process) → written_process k n number mover d ≡ Some w → IsBusy k w
 written_is k n number mover directions.To w g =
     let p = bind_is (waiting_on k n) _ w g in
-    subst (λ (z : Pid × Process). k.procs z.0 ≡ Some z.1) (same_Some _ w p.2) (waiting_is k n p.0 p.1).process
+    let waits = waiting_is k n p.0 p.1 in
+    subst (IsBusy k) (same_Some _ w p.2) (waits.process, sending_not_ready p.0.state (waits.target, waits.message) waits.send)
 written_is k n number mover directions.From w g =
     let p = bind_is (k.procs mover) _ w g in
     let test = only_if_is (is_in_move n number p.0) (Some (mover, p.0)) w p.2 in
-    subst (λ (z : Pid × Process). k.procs z.0 ≡ Some z.1) (same_Some _ w test.1) p.1
+    let moves = (and_parts (is_moving p.0.state) (holds_of (λ m. same_move m n number) p.0.moving) test.0).0 in
+    subst (IsBusy k) (same_Some _ w test.1) (p.1, moving_not_ready p.0.state moves)
 
 pub copying_is : (k : Kernel) (n : Name) (number offset count : ℕ) (c : Copying) → copying k n number offset count ≡ Some c → IsCopying k n number offset count c
 unfolding copying
@@ -172,7 +179,7 @@ copying_is k n number offset count c g =
     let w = bind_is (only_if (is_next e.0 number m.0 offset count) (written_process k n number m.0.mover m.0.direction)) _ c m.2 in
     let test = only_if_is (is_next e.0 number m.0 offset count) (written_process k n number m.0.mover m.0.direction) w.0 w.1 in
     subst (IsCopying k n number offset count) (same_Some _ c w.2)
-    (record { exchange = e.1; move = m.1; next = test.0; written = test.1; process = written_is k n number m.0.mover m.0.direction w.0 test.1 })
+    (record { exchange = e.1; move = m.1; next = test.0; written = test.1; process = (written_is k n number m.0.mover m.0.direction w.0 test.1).0; busy = (written_is k n number m.0.mover m.0.direction w.0 test.1).1 })
 
 pub record IsEnding (k : Kernel) (r : Pid) (e : Process × Answer) : Type 0 where
   pub process : k.procs r ≡ Some e.0

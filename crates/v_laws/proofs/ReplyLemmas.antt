@@ -1,0 +1,258 @@
+-- A sender gets the reply of its target to its own message.
+use Rattle.std.proofs.Common.{◌≡◌, ℕ, suc, Bool, true, false, cond, List, [], Option, Some, None, is_some, option_map, slice_get, refl, sym, ap, ◌∙◌, inl, inr, arith}
+use Rattle.std.proofs.lemmas.Bool.{both_ways}
+use Rattle.std.proofs.lemmas.Option.{same_Some, none-some}
+use Rattle.vk_base.specs.declared.answer.Answer.TheVariants as answers
+use Rattle.vk_base.specs.declared.answer.Refusal.{Refusal}
+use Rattle.vk_base.specs.declared.call.Call.{Call}
+use Rattle.vk_base.specs.declared.call.Call.TheVariants as calls
+use Rattle.vk_base.specs.declared.config.ProcessSpec.{ProcessSpec}
+use Rattle.vk_base.specs.declared.kernel.Exchange.{Exchange}
+use Rattle.vk_base.specs.declared.kernel.Name.{Name}
+use Rattle.vk_base.specs.declared.kernel.Process.{Process}
+use Rattle.vk_base.specs.declared.kernel.Stage.{Stage}
+use Rattle.vk_base.specs.declared.kernel.Stage.TheVariants as stages
+use Rattle.vk_base.specs.declared.kernel.State.{State}
+use Rattle.vk_base.specs.declared.kernel.State.TheVariants as states
+use Rattle.vk_base.specs.declared.message.Message.{Message}
+use Rattle.vk_base.specs.declared.pid.Pid.{Pid}
+use Rattle.vk_base.specs.declared.step.Step.{Step}
+use Rattle.vk_base.specs.declared.step.Step.TheVariants as steps
+use Rattle.vk_base.specs.Calls.{Effect, replied, called, accepted, call_refusal}
+use Rattle.vk_base.specs.Kernel.{◌>>=◌, Kernel, opening, name_of, holds_of, is_taken, reply_of, sending, held}
+use Rattle.vk_base.specs.Pids.{same_host}
+use Rattle.vk_base.specs.Ranges.{range_of, bytes_in}
+use Rattle.vk_base.specs.Steps.{Run, Taking, effect, run, finishing}
+use Rattle.vk_base.proofs.OptionLemmas.{bind_is}
+use Rattle.v_laws.specs.Places.{HasOwnReply, before, effect_at, taken_at, taken_by, given_by}
+use Rattle.v_laws.specs.Reached.{saw}
+use Rattle.v_laws.specs.Sound.{IsSound, is_settled}
+use Rattle.v_laws.proofs.Changes.{StageOn}
+use Rattle.v_laws.proofs.Later.{Becomes, exchange_before}
+use Rattle.v_laws.proofs.OnceLemmas.{go_on}
+use Rattle.v_laws.proofs.PlaceLemmas.{IsTurn, before_sound, before_after, step_at, turn}
+use Rattle.v_laws.proofs.SoundLemmas.{step_is}
+use Rattle.v_laws.proofs.StepLemmas.{finishing_is}
+use Rattle.v_laws.proofs.Tables.{put_process_here}
+
+some_holds : {A : Type 0} (test : A → Bool) (o : Option A) → holds_of test o ≡ true → (x : A) × (o ≡ Some x) × (test x ≡ true)
+some_holds test None t = absurd (both_ways false refl t)
+some_holds test (Some x) t = (x, refl, t)
+
+-- Exchanges that are taken, and such that are replied to.
+abbrev is_replied : Stage → Bool
+is_replied s = is_some (reply_of s)
+
+abbrev replied_in : Name → Kernel → Bool
+replied_in n k = holds_of (λ (e : Exchange). is_replied e.stage) (k.exchanges n)
+
+abbrev taken_in : Name → Kernel → Bool
+taken_in n k = holds_of (λ (e : Exchange). is_taken e.stage) (k.exchanges n)
+
+new_not_taken : (b : Bool) → is_taken (cond b stages.Queued stages.Posted) ≡ false
+new_not_taken true = refl
+new_not_taken false = refl
+
+new_not_replied : (b : Bool) → is_replied (cond b stages.Queued stages.Posted) ≡ false
+new_not_replied true = refl
+new_not_replied false = refl
+
+-- What makes an exchange taken is a Take of its target.
+pub record IsTakeOf (k : Kernel) (s : Step) (n : Name) (y : Exchange) : Type 0 where
+  pub step : s ≡ steps.Take y.target
+  pub takes : taken_by k s ≡ Some n
+
+take_of : (k : Kernel) (s : Step) (n : Name) (x y : Exchange) → is_taken x.stage ≡ false → is_taken y.stage ≡ true → y.target ≡ x.target → StageOn k s n x y → IsTakeOf k s n y
+take_of k s n x y was now target (StageOn.same e) = absurd (both_ways (is_taken x.stage) was (sym (ap is_taken e) ∙ now))
+take_of k s n x y was now target (StageOn.taken t is takes name queued e) = record {
+  step = is ∙ ap steps.Take (sym target);
+  takes = ap (taken_by k) is ∙ ap (option_map (λ (u : Taking). u.name)) takes ∙ ap (λ (z : Name). Some z) name;
+}
+take_of k s n x y was now target (StageOn.replied m is t e) = absurd (both_ways (is_taken x.stage) was t)
+take_of k s n x y was now target (StageOn.replied_segment m dest src count p is at t e) = absurd (both_ways (is_taken x.stage) was t)
+take_of k s n x y was now target (StageOn.dropped is t e) = absurd (both_ways (is_taken y.stage) (ap is_taken e) now)
+
+became_taken : (k l : Kernel) (s : Step) (n : Name) (x y : Exchange) → is_taken x.stage ≡ false → is_taken y.stage ≡ true → Becomes k s n x y → IsTakeOf k s n y
+became_taken k l s n x y was now (Becomes.goes on) = take_of k s n x y was now on.target on.stage
+became_taken k l s n x y was now (Becomes.arrives is away after) = absurd (both_ways (is_taken y.stage) (ap (λ (z : Exchange). is_taken z.stage) after) now)
+became_taken k l s n x y was now (Becomes.overtaken number is less live after) = absurd (both_ways (is_taken y.stage) (ap (λ (z : Exchange). is_taken z.stage) after) now)
+
+pub taken_when : (k : Kernel) (s : Step) (e : Effect) (n : Name) (y : Exchange) → IsSound k → effect k s ≡ Some e → taken_in n k ≡ false → e.after.exchanges n ≡ Some y → is_taken y.stage ≡ true → IsTakeOf k s n y
+taken_when k s e n y sound does was at now = elim (exchange_before s k e.after n y sound (step_is k s e sound does) at) [
+  | inl x ↦ became_taken k e.after s n x.0 y (sym (ap (holds_of (λ (z : Exchange). is_taken z.stage)) x.1) ∙ was) now x.2
+  | inr new ↦ absurd (both_ways (is_taken y.stage) (ap (λ (z : Exchange). is_taken z.stage) new.is ∙ new_not_taken (same_host n.sender new.target)) now)
+]
+
+-- What makes an exchange replied to is a reply by its target, while it was taken.
+pub record IsReplyTo (k : Kernel) (s : Step) (n : Name) (x y : Exchange) : Type 0 where
+  pub call : Call
+  pub step : s ≡ steps.Call x.target call
+  pub taken : is_taken x.stage ≡ true
+  pub message : Message
+  pub dest : ℕ
+  pub bytes : List ℕ
+  pub is : y.stage ≡ stages.Replied message dest bytes
+  pub gives : (p : Process) → k.procs x.target ≡ Some p → given_by p call ≡ Some (n.sender, message, dest, bytes)
+  pub answers : (e : Effect) → effect k s ≡ Some e → (e.after ≡ k → ⊥) → e.seen ≡ saw x.target call answers.Ok
+
+replied_ok : (k : Kernel) (pid : Pid) (c : Call) (to : Pid) (m : Message) (dest : ℕ) (bytes : List ℕ) (e : Effect) → replied k pid c to m dest bytes ≡ Some e → e.seen ≡ saw pid c answers.Ok
+replied_ok k pid c to m dest bytes e g =
+    let number = bind_is (held k pid to) _ e g in
+    let x = bind_is (k.exchanges (name_of to number.0)) _ e number.2 in
+    ap (λ (y : Effect). y.seen) (sym (same_Some _ e x.2))
+
+called_ok : (k : Kernel) (pid : Pid) (p : Process) (c : Call) (why : Option Refusal) (e : Effect) → ((f : Effect) → accepted k pid p c ≡ Some f → f.seen ≡ saw pid c answers.Ok) → called k pid p c why ≡ Some e → (e.after ≡ k → ⊥) → e.seen ≡ saw pid c answers.Ok
+called_ok k pid p c None e fine g changed = fine e g
+called_ok k pid p c (Some why) e fine g changed = absurd (changed (ap (λ (x : Effect). x.after) (sym (same_Some _ e g))))
+
+reply_ok : (k : Kernel) (pid : Pid) (c : Call) (s : Step) (e : Effect) → s ≡ steps.Call pid c → ((p : Process) (f : Effect) → accepted k pid p c ≡ Some f → f.seen ≡ saw pid c answers.Ok) → effect k s ≡ Some e → (e.after ≡ k → ⊥) → e.seen ≡ saw pid c answers.Ok
+reply_ok k pid c s e is fine g changed =
+    let p = bind_is (k.procs pid) _ e (ap (effect k) (sym is) ∙ g) in
+    called_ok k pid p.0 c (call_refusal k pid p.0 c) e (fine p.0) p.2 changed
+
+reply_to : (k : Kernel) (s : Step) (n : Name) (x y : Exchange) → is_replied x.stage ≡ false → is_replied y.stage ≡ true → StageOn k s n x y → IsReplyTo k s n x y
+reply_to k s n x y was now (StageOn.same e) = absurd (both_ways (is_replied x.stage) was (sym (ap is_replied e) ∙ now))
+reply_to k s n x y was now (StageOn.taken t is takes name queued e) = absurd (both_ways (is_replied y.stage) (ap is_replied e) now)
+reply_to k s n x y was now (StageOn.replied m is t e) = record {
+  call = calls.Reply m n.sender;
+  step = is;
+  taken = t;
+  message = m;
+  dest = 0;
+  bytes = [];
+  is = e;
+  gives = λ p at. refl;
+  answers = λ f. reply_ok k x.target (calls.Reply m n.sender) s f is (λ p. replied_ok k x.target (calls.Reply m n.sender) n.sender m 0 []);
+}
+reply_to k s n x y was now (StageOn.replied_segment m dest src count p is at t e) = record {
+  call = calls.ReplySegment m n.sender dest src count;
+  step = is;
+  taken = t;
+  message = m;
+  dest = dest;
+  bytes = bytes_in (range_of src count) p.memory;
+  is = e;
+  gives = λ q at_q. ap (λ (z : Process). Some (n.sender, m, dest, bytes_in (range_of src count) z.memory)) (same_Some q p (sym at_q ∙ at));
+  answers = λ f. reply_ok k x.target (calls.ReplySegment m n.sender dest src count) s f is (λ q. replied_ok k x.target (calls.ReplySegment m n.sender dest src count) n.sender m dest (bytes_in (range_of src count) q.memory));
+}
+reply_to k s n x y was now (StageOn.dropped is t e) = absurd (both_ways (is_replied y.stage) (ap is_replied e) now)
+
+became_replied : (k : Kernel) (s : Step) (n : Name) (x y : Exchange) → is_replied x.stage ≡ false → is_replied y.stage ≡ true → Becomes k s n x y → (IsReplyTo k s n x y) × (y.target ≡ x.target)
+became_replied k s n x y was now (Becomes.goes on) = (reply_to k s n x y was now on.stage, on.target)
+became_replied k s n x y was now (Becomes.arrives is away after) = absurd (both_ways (is_replied y.stage) (ap (λ (z : Exchange). is_replied z.stage) after) now)
+became_replied k s n x y was now (Becomes.overtaken number is less live after) = absurd (both_ways (is_replied y.stage) (ap (λ (z : Exchange). is_replied z.stage) after) now)
+
+pub replied_when : (k : Kernel) (s : Step) (e : Effect) (n : Name) (y : Exchange) → IsSound k → effect k s ≡ Some e → replied_in n k ≡ false → e.after.exchanges n ≡ Some y → is_replied y.stage ≡ true → (x : Exchange) × (k.exchanges n ≡ Some x) × (IsReplyTo k s n x y) × (y.target ≡ x.target)
+replied_when k s e n y sound does was at now = elim (exchange_before s k e.after n y sound (step_is k s e sound does) at) [
+  | inl x ↦
+      let r = became_replied k s n x.0 y (sym (ap (holds_of (λ (z : Exchange). is_replied z.stage)) x.1) ∙ was) now x.2 in
+      (x.0, x.1, r.0, r.1)
+  | inr new ↦ absurd (both_ways (is_replied y.stage) (ap (λ (z : Exchange). is_replied z.stage) new.is ∙ new_not_replied (same_host n.sender new.target)) now)
+]
+
+-- the state of a process that is in a Send
+sending_state : (s : State) (target : Pid) (m : Message) → sending s ≡ Some (target, m) → s ≡ states.Blocked (calls.Send target m)
+sending_state states.Ready target m e = absurd (none-some (target, m) e)
+sending_state (states.Blocked (calls.Send t n)) target m e =
+    let same = same_Some (t, n) (target, m) e in
+    ap (λ (z : Pid × Message). states.Blocked (calls.Send z.0 z.1)) same
+sending_state (states.Blocked c) target m e = absurd (none-some (target, m) e)
+sending_state (states.Done c a) target m e = absurd (none-some (target, m) e)
+
+-- At which place the reply was given, and at which the message was taken.
+record IsGiven (specs : List ProcessSpec) (ss : List Step) (n : Name) (i : ℕ) (z : Exchange) : Type 0 where
+  turn : IsTurn specs ss (replied_in n) i
+  before : Exchange
+  at : turn.kernel.exchanges n ≡ Some before
+  after : Exchange
+  reply : IsReplyTo turn.kernel turn.step n before after
+  target : before.target ≡ z.target
+  stage : z.stage ≡ after.stage
+
+given_at : (specs : List ProcessSpec) (ss : List Step) (i : ℕ) (n : Name) (k : Kernel) (z : Exchange) → before specs ss i ≡ Some k → k.exchanges n ≡ Some z → is_replied z.stage ≡ true → IsGiven specs ss n i z
+given_at specs ss i n k z at there replied =
+    let t = turn specs ss (replied_in n) refl i k at (ap (holds_of (λ (e : Exchange). is_replied e.stage)) there ∙ replied) in
+    let y = some_holds (λ (e : Exchange). is_replied e.stage) (t.did.after.exchanges n) t.now in
+    let w = replied_when t.kernel t.step t.did n y.0 (before_sound specs ss t.place t.kernel t.at) t.does t.was y.1 y.2 in
+    let earlier = t.earlier in
+    let on = go_on specs ss (suc t.place) i t.did.after k (omega arith) (before_after specs ss t.place t.kernel t.step t.did t.at t.is t.does) at n y.0 y.1 in
+    let same = same_Some on.0 z (sym on.1 ∙ there) in
+    record {
+      turn = t;
+      before = w.0;
+      at = w.1;
+      after = y.0;
+      reply = w.2;
+      target = sym w.3 ∙ sym on.2.target ∙ ap (λ (e : Exchange). e.target) same;
+      stage = sym (ap (λ (e : Exchange). e.stage) same) ∙ on.2.settled (ap is_settled w.2.is);
+    }
+
+record IsTakenBefore (specs : List ProcessSpec) (ss : List Step) (n : Name) (i : ℕ) (x : Exchange) : Type 0 where
+  turn : IsTurn specs ss (taken_in n) i
+  receiver : Pid
+  target : receiver ≡ x.target
+  is : slice_get ss turn.place ≡ Some (steps.Take receiver)
+  takes : taken_at specs ss turn.place ≡ Some n
+
+taken_before : (specs : List ProcessSpec) (ss : List Step) (i : ℕ) (n : Name) (k : Kernel) (x : Exchange) → before specs ss i ≡ Some k → k.exchanges n ≡ Some x → is_taken x.stage ≡ true → IsTakenBefore specs ss n i x
+taken_before specs ss i n k x at there taken =
+    let t = turn specs ss (taken_in n) refl i k at (ap (holds_of (λ (e : Exchange). is_taken e.stage)) there ∙ taken) in
+    let y = some_holds (λ (e : Exchange). is_taken e.stage) (t.did.after.exchanges n) t.now in
+    let w = taken_when t.kernel t.step t.did n y.0 (before_sound specs ss t.place t.kernel t.at) t.does t.was y.1 y.2 in
+    let earlier = t.earlier in
+    let on = go_on specs ss (suc t.place) i t.did.after k (omega arith) (before_after specs ss t.place t.kernel t.step t.did t.at t.is t.does) at n y.0 y.1 in
+    let same = same_Some on.0 x (sym on.1 ∙ there) in
+    record {
+      turn = t;
+      receiver = y.0.target;
+      target = sym on.2.target ∙ ap (λ (e : Exchange). e.target) same;
+      is = t.is ∙ ap (λ (z : Step). Some z) w.step;
+      takes = ap (λ o. o >>= λ k. slice_get ss t.place >>= λ s. taken_by k s) t.at ∙ ap (λ o. o >>= λ s. taken_by t.kernel s) t.is ∙ w.takes;
+    }
+
+pub own_reply : (specs : List ProcessSpec) (ss : List Step) (r : Run) (i : ℕ) (s : Pid) → run (opening specs) ss ≡ Some r → slice_get ss i ≡ Some (steps.Finish s) → HasOwnReply specs ss i s
+own_reply specs ss r i s g is =
+    let a = step_at specs ss r i (steps.Finish s) g is in
+    let f = bind_is (finishing a.kernel s) _ a.did a.does in
+    let fin = finishing_is a.kernel s f.0 f.1 in
+    let n = name_of s f.0.process.sends in
+    let w = given_at specs ss i n a.kernel fin.exchange a.at fin.at (ap is_some fin.reply) in
+    let u = taken_before specs ss w.turn.place n w.turn.kernel w.before w.turn.at w.at w.reply.taken in
+    let sent = (before_sound specs ss i a.kernel a.at).sent s f.0.process f.0.target f.0.message fin.process fin.send in
+    let target : w.before.target ≡ f.0.target = w.target ∙ ap (λ (e : Exchange). e.target) (same_Some fin.exchange sent.exchange (sym fin.at ∙ sent.is)) ∙ sent.target in
+    let gets = same_Some (w.reply.message, w.reply.dest, w.reply.bytes) (f.0.reply, f.0.dest, f.0.bytes) (sym (ap reply_of (w.stage ∙ w.reply.is)) ∙ fin.reply) in
+    let caller = bind_is (w.turn.kernel.procs w.before.target) _ w.turn.did (ap (effect w.turn.kernel) (sym w.reply.step) ∙ w.turn.does) in
+    record {
+      target = f.0.target;
+      number = f.0.process.sends;
+      reply = f.0.reply;
+      dest = f.0.dest;
+      bytes = f.0.bytes;
+      finish = record {
+        process = f.0.process;
+        before = ap (λ o. o >>= λ k. k.procs s) a.at ∙ fin.process;
+        message = f.0.message;
+        waits = sending_state f.0.process.state f.0.target f.0.message fin.send;
+        last = refl;
+        after = ap (λ o. o >>= λ e. e.after.procs s) (effect_there specs ss i a.kernel (steps.Finish s) a.did a.at is a.does) ∙ ap (λ (e : Effect). e.after.procs s) (sym (same_Some _ a.did f.2)) ∙ put_process_here a.kernel.procs s _;
+      };
+      reply_place = w.turn.place;
+      before_finish = w.turn.earlier;
+      replies = record {
+        call = w.reply.call;
+        is = w.turn.is ∙ ap (λ (z : Step). Some z) w.reply.step ∙ ap (λ q. Some (steps.Call q w.reply.call)) target;
+        answered = ap (λ o. o >>= λ e. e.seen) (effect_there specs ss w.turn.place w.turn.kernel w.turn.step w.turn.did w.turn.at w.turn.is w.turn.does)
+            ∙ w.reply.answers w.turn.did w.turn.does (λ same. both_ways (replied_in n w.turn.kernel) w.turn.was (ap (replied_in n) (sym same) ∙ w.turn.now))
+            ∙ ap (λ q. saw q w.reply.call answers.Ok) target;
+        caller = caller.0;
+        then = ap (λ o. o >>= λ k. k.procs f.0.target) w.turn.at ∙ ap w.turn.kernel.procs (sym target) ∙ caller.1;
+        gives = w.reply.gives caller.0 caller.1 ∙ ap (λ (z : Message × ℕ × List ℕ). Some (s, z.0, z.1, z.2)) gets;
+      };
+      take_place = u.turn.place;
+      before_reply = u.turn.earlier;
+      receives = u.is ∙ ap (λ q. Some (steps.Take q)) (u.target ∙ target);
+      takes = u.takes;
+    }
+  where
+    effect_there : (specs : List ProcessSpec) (ss : List Step) (j : ℕ) (k : Kernel) (t : Step) (e : Effect) → before specs ss j ≡ Some k → slice_get ss j ≡ Some t → effect k t ≡ Some e → effect_at specs ss j ≡ Some e
+    effect_there specs ss j k t e at here does = ap (λ o. o >>= λ k. slice_get ss j >>= λ s. effect k s) at ∙ ap (λ o. o >>= λ s. effect k s) here ∙ does
