@@ -262,7 +262,7 @@ fn a_send_is_read(rt: HostRuntime) -> Result<(), Fail> {
 }
 
 #[test]
-fn packets_are_written(rt: HostRuntime) -> Result<(), Fail> {
+fn exchanges_are_written(rt: HostRuntime) -> Result<(), Fail> {
     let alloc = rt.alloc();
     let client = Pid { host: 2, local: 1 };
     let server = Pid { host: 1, local: 1 };
@@ -292,6 +292,14 @@ fn packets_are_written(rt: HostRuntime) -> Result<(), Fail> {
         number: (1 << 63) - 1,
     };
     assert!(rt; is_spelled(alloc, &negative, 7)?);
+    Ok(())
+}
+
+#[test]
+fn moves_and_lookups_are_written(rt: HostRuntime) -> Result<(), Fail> {
+    let alloc = rt.alloc();
+    let client = Pid { host: 2, local: 1 };
+    let server = Pid { host: 1, local: 1 };
     let data = PacketView::MoveData {
         from: client,
         to: server,
