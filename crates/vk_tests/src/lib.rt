@@ -3,4 +3,6 @@
 #![tactic(auto)]
 
 #[cfg(test)]
+mod packets;
+#[cfg(test)]
 mod tests;
