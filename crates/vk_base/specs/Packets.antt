@@ -10,7 +10,7 @@ use Rattle.vk_base.specs.declared.pid.Pid.{Pid}
 pub data Packet : Type 0 where
   -- a message, and the first part of the segment that it lets its receiver read
   Send : (from to : Pid) (number : ℕ) (message : Message) (part : List ℕ) → Packet
-  -- the reply to a Send, and bytes for the place `dest` of the sender's segment
+  -- the reply to a Send, and bytes for the place `dest` of the sender's memory
   Reply : (from to : Pid) (number : ℕ) (message : Message) (dest : ℕ) (bytes : List ℕ) → Packet
   -- the Send is known, and has no reply yet
   Pending : (from to : Pid) (number : ℕ) → Packet

@@ -1,5 +1,5 @@
 -- What is read as a packet is spelled so.
-use Rattle.std.proofs.Common.{◌≡◌, ℕ, ◌==◌, Bool, true, false, List, [], ◌∷◌, ◌++◌, length, Option, Some, if◌then◌else◌, refl, sym, ap, subst, ◌∙◌, append_assoc, ◌%◌, arith}
+use Rattle.std.proofs.Common.{◌≡◌, ℕ, ◌==◌, Bool, true, false, List, [], ◌∷◌, ◌++◌, drop, length, Option, Some, if◌then◌else◌, refl, sym, ap, subst, ◌∙◌, append_assoc, ◌%◌, arith}
 use Rattle.std.proofs.Math.Nat.{mod-eq_of_lt}
 use Rattle.std.proofs.lemmas.Bool.{eqb-true}
 use Rattle.std.proofs.lemmas.List.{append-nil}
@@ -11,7 +11,9 @@ use Rattle.vk_base.specs.declared.pid.Pid.{Pid}
 use Rattle.vk_base.proofs.StepLemmas.{bind_is}
 use Rattle.vk_wire.specs.Fields.{IsBytes, pid_bytes, number_at, pid_at, message_at}
 use Rattle.vk_wire.proofs.Fronts.{number_stands, pid_stands, message_stands}
+use Rattle.vk_packet.proofs.InParts.{in_parts}
 use Rattle.vk_packet.specs.Laws.{NothingElseIsRead}
+use Rattle.vk_packet.specs.Parts.{kind_byte}
 use Rattle.vk_packet.specs.Reading.{exchange_at, move_at, ended, send_of, reply_of, pending_of, negative_of, move_data_of, move_ack_of, move_request_of, move_bytes_of, move_negative_of, ask_pid_of, tell_pid_of, kind_of, fields_of, packet_of}
 use Rattle.vk_packet.specs.Rules.{IsPacket, is_lawful}
 use Rattle.vk_packet.specs.Spelling.{exchange_bytes, move_bytes, packet_bytes}
@@ -67,15 +69,22 @@ record Stands (kind : ℕ) (bytes : List ℕ) (p : Packet) : Type 0 where
   bytes_are : kind ∷ bytes ≡ packet_bytes p
   is : IsPacket p
 
--- the packet that was found is this one, whose text this is
-whole : (kind : ℕ) (bytes text : List ℕ) (q p : Packet) → Some q ≡ Some p → bytes ≡ text → kind ∷ text ≡ packet_bytes q → IsPacket q → Stands kind bytes p
-whole kind bytes text q p e is text_is fits =
-    subst (Stands kind bytes) (same_Some q p e) (record { bytes_are = ap (λ (l : List ℕ). kind ∷ l) is ∙ text_is; is = fits })
+-- what stands behind the kind
+abbrev behind : Packet → List ℕ
+behind p = drop 1 (packet_bytes p)
+
+kind_first : (p : Packet) → kind_byte p ∷ behind p ≡ packet_bytes p
+kind_first p = ap (λ (l : List ℕ). kind_byte p ∷ drop 1 l) (in_parts p) ∙ sym (in_parts p)
+
+-- the packet that was found is this one
+whole : (bytes : List ℕ) (q p : Packet) → Some q ≡ Some p → bytes ≡ behind q → IsPacket q → Stands (kind_byte q) bytes p
+whole bytes q p e is fits =
+    subst (Stands (kind_byte q) bytes) (same_Some q p e) (record { bytes_are = ap (λ (l : List ℕ). kind_byte q ∷ l) is ∙ kind_first q; is = fits })
 
 -- the same where no byte is left
-closed : (kind : ℕ) (bytes text rest : List ℕ) (q p : Packet) → ended rest q ≡ Some p → bytes ≡ text ++ rest → kind ∷ text ≡ packet_bytes q → IsPacket q → Stands kind bytes p
-closed kind bytes text [] q p e is text_is fits = whole kind bytes text q p e (is ∙ append-nil text) text_is fits
-closed kind bytes text (b ∷ bs) q p e is text_is fits = absurd (none-some p e)
+closed : (bytes rest : List ℕ) (q p : Packet) → ended rest q ≡ Some p → bytes ≡ behind q ++ rest → IsPacket q → Stands (kind_byte q) bytes p
+closed bytes [] q p e is fits = whole bytes q p e (is ∙ append-nil (behind q)) fits
+closed bytes (b ∷ bs) q p e is fits = absurd (none-some p e)
 
 send_stands : (bytes : List ℕ) (p : Packet) → IsBytes bytes → send_of bytes ≡ Some p → Stands 1 bytes p
 unfolding send_of
@@ -84,7 +93,7 @@ send_stands bytes p b e =
     let message = bind_is (message_at front.0.3) _ p front.2 in
     let f = exchange_stands bytes front.0 b front.1 in
     let m = message_stands front.0.3 message.0 f.rest_bytes message.1 in
-    whole 1 bytes _ (Send front.0.0 front.0.1 front.0.2 message.0.0 message.0.1) p message.2 (joined bytes _ _ _ _ f.bytes_are m.bytes_are) refl (f.from, f.to, m.is, m.rest_bytes)
+    whole bytes (Send front.0.0 front.0.1 front.0.2 message.0.0 message.0.1) p message.2 (joined bytes _ _ _ _ f.bytes_are m.bytes_are) (f.from, f.to, m.is, m.rest_bytes)
 
 reply_stands : (bytes : List ℕ) (p : Packet) → IsBytes bytes → reply_of bytes ≡ Some p → Stands 2 bytes p
 unfolding reply_of
@@ -104,21 +113,21 @@ reply_stands bytes p b e =
     let one = joined bytes text front.0.3 message.0.0.0 message.0.1 f.bytes_are m.bytes_are in
     let two = joined bytes (text ++ message.0.0.0) message.0.1 (big_bytes 4 dest.0.0) dest.0.1 one d.bytes_are in
     let three = joined bytes (text ++ message.0.0.0 ++ big_bytes 4 dest.0.0) dest.0.1 (big_bytes 2 (length count.0.1)) count.0.1 two counted in
-    whole 2 bytes (text ++ message.0.0.0 ++ big_bytes 4 dest.0.0 ++ big_bytes 2 (length count.0.1) ++ count.0.1) (Reply front.0.0 front.0.1 front.0.2 message.0.0 dest.0.0 count.0.1) p (ap Some chosen.1) three refl (f.from, f.to, m.is, d.below, n.rest_bytes)
+    whole bytes (Reply front.0.0 front.0.1 front.0.2 message.0.0 dest.0.0 count.0.1) p (ap Some chosen.1) three (f.from, f.to, m.is, d.below, n.rest_bytes)
 
 pending_stands : (bytes : List ℕ) (p : Packet) → IsBytes bytes → pending_of bytes ≡ Some p → Stands 3 bytes p
 unfolding pending_of
 pending_stands bytes p b e =
     let front = bind_is (exchange_at bytes) _ p e in
     let f = exchange_stands bytes front.0 b front.1 in
-    closed 3 bytes _ front.0.3 (Pending front.0.0 front.0.1 front.0.2) p front.2 f.bytes_are refl (f.from, f.to)
+    closed bytes front.0.3 (Pending front.0.0 front.0.1 front.0.2) p front.2 f.bytes_are (f.from, f.to)
 
 negative_stands : (bytes : List ℕ) (p : Packet) → IsBytes bytes → negative_of bytes ≡ Some p → Stands 4 bytes p
 unfolding negative_of
 negative_stands bytes p b e =
     let front = bind_is (exchange_at bytes) _ p e in
     let f = exchange_stands bytes front.0 b front.1 in
-    closed 4 bytes _ front.0.3 (Negative front.0.0 front.0.1 front.0.2) p front.2 f.bytes_are refl (f.from, f.to)
+    closed bytes front.0.3 (Negative front.0.0 front.0.1 front.0.2) p front.2 f.bytes_are (f.from, f.to)
 
 move_data_stands : (bytes : List ℕ) (p : Packet) → IsBytes bytes → move_data_of bytes ≡ Some p → Stands 5 bytes p
 unfolding move_data_of
@@ -135,7 +144,7 @@ move_data_stands bytes p b e =
     let one = joined bytes text front.0.4 (big_bytes 4 dest.0.0) dest.0.1 f.bytes_are d.bytes_are in
     let two = joined bytes (text ++ big_bytes 4 dest.0.0) dest.0.1 (big_bytes 4 total.0.0) total.0.1 one t.bytes_are in
     let three = joined bytes (text ++ big_bytes 4 dest.0.0 ++ big_bytes 4 total.0.0) total.0.1 (big_bytes 4 offset.0.0) offset.0.1 two o.bytes_are in
-    whole 5 bytes (text ++ big_bytes 4 dest.0.0 ++ big_bytes 4 total.0.0 ++ big_bytes 4 offset.0.0 ++ offset.0.1) (MoveData front.0.0 front.0.1 front.0.2 front.0.3 dest.0.0 total.0.0 offset.0.0 offset.0.1) p offset.2 three refl (f.from, f.to, d.below, o.rest_bytes)
+    whole bytes (MoveData front.0.0 front.0.1 front.0.2 front.0.3 dest.0.0 total.0.0 offset.0.0 offset.0.1) p offset.2 three (f.from, f.to, d.below, o.rest_bytes)
 
 move_ack_stands : (bytes : List ℕ) (p : Packet) → IsBytes bytes → move_ack_of bytes ≡ Some p → Stands 6 bytes p
 unfolding move_ack_of
@@ -146,7 +155,7 @@ move_ack_stands bytes p b e =
     let r = number_stands 4 front.0.4 received.0 f.rest_bytes received.1 in
     let text = move_bytes front.0.0 front.0.1 front.0.2 front.0.3 in
     let one = joined bytes text front.0.4 (big_bytes 4 received.0.0) received.0.1 f.bytes_are r.bytes_are in
-    closed 6 bytes _ received.0.1 (MoveAck front.0.0 front.0.1 front.0.2 front.0.3 received.0.0) p received.2 one refl (f.from, f.to)
+    closed bytes received.0.1 (MoveAck front.0.0 front.0.1 front.0.2 front.0.3 received.0.0) p received.2 one (f.from, f.to)
 
 move_request_stands : (bytes : List ℕ) (p : Packet) → IsBytes bytes → move_request_of bytes ≡ Some p → Stands 7 bytes p
 unfolding move_request_of
@@ -163,7 +172,7 @@ move_request_stands bytes p b e =
     let one = joined bytes text front.0.4 (big_bytes 4 src.0.0) src.0.1 f.bytes_are s.bytes_are in
     let two = joined bytes (text ++ big_bytes 4 src.0.0) src.0.1 (big_bytes 4 total.0.0) total.0.1 one t.bytes_are in
     let three = joined bytes (text ++ big_bytes 4 src.0.0 ++ big_bytes 4 total.0.0) total.0.1 (big_bytes 4 offset.0.0) offset.0.1 two o.bytes_are in
-    closed 7 bytes _ offset.0.1 (MoveRequest front.0.0 front.0.1 front.0.2 front.0.3 src.0.0 total.0.0 offset.0.0) p offset.2 three refl (f.from, f.to, s.below)
+    closed bytes offset.0.1 (MoveRequest front.0.0 front.0.1 front.0.2 front.0.3 src.0.0 total.0.0 offset.0.0) p offset.2 three (f.from, f.to, s.below)
 
 move_bytes_stands : (bytes : List ℕ) (p : Packet) → IsBytes bytes → move_bytes_of bytes ≡ Some p → Stands 8 bytes p
 unfolding move_bytes_of
@@ -177,14 +186,14 @@ move_bytes_stands bytes p b e =
     let text = move_bytes front.0.0 front.0.1 front.0.2 front.0.3 in
     let one = joined bytes text front.0.4 (big_bytes 4 total.0.0) total.0.1 f.bytes_are t.bytes_are in
     let two = joined bytes (text ++ big_bytes 4 total.0.0) total.0.1 (big_bytes 4 offset.0.0) offset.0.1 one o.bytes_are in
-    whole 8 bytes _ (MoveBytes front.0.0 front.0.1 front.0.2 front.0.3 total.0.0 offset.0.0 offset.0.1) p offset.2 two refl (f.from, f.to, o.rest_bytes)
+    whole bytes (MoveBytes front.0.0 front.0.1 front.0.2 front.0.3 total.0.0 offset.0.0 offset.0.1) p offset.2 two (f.from, f.to, o.rest_bytes)
 
 move_negative_stands : (bytes : List ℕ) (p : Packet) → IsBytes bytes → move_negative_of bytes ≡ Some p → Stands 9 bytes p
 unfolding move_negative_of
 move_negative_stands bytes p b e =
     let front = bind_is (move_at bytes) _ p e in
     let f = move_stands bytes front.0 b front.1 in
-    closed 9 bytes _ front.0.4 (MoveNegative front.0.0 front.0.1 front.0.2 front.0.3) p front.2 f.bytes_are refl (f.from, f.to)
+    closed bytes front.0.4 (MoveNegative front.0.0 front.0.1 front.0.2 front.0.3) p front.2 f.bytes_are (f.from, f.to)
 
 ask_pid_stands : (bytes : List ℕ) (p : Packet) → IsBytes bytes → ask_pid_of bytes ≡ Some p → Stands 10 bytes p
 unfolding ask_pid_of
@@ -198,7 +207,7 @@ ask_pid_stands bytes p b e =
     let text = pid_bytes asker.0.0 in
     let one = joined bytes text asker.0.1 (big_bytes 8 lookup.0.0) lookup.0.1 a.bytes_are n.bytes_are in
     let two = joined bytes (text ++ big_bytes 8 lookup.0.0) lookup.0.1 (big_bytes 4 logical.0.0) logical.0.1 one l.bytes_are in
-    closed 10 bytes _ logical.0.1 (AskPid asker.0.0 lookup.0.0 logical.0.0) p logical.2 two refl (a.is, l.below)
+    closed bytes logical.0.1 (AskPid asker.0.0 lookup.0.0 logical.0.0) p logical.2 two (a.is, l.below)
 
 tell_pid_stands : (bytes : List ℕ) (p : Packet) → IsBytes bytes → tell_pid_of bytes ≡ Some p → Stands 11 bytes p
 unfolding tell_pid_of
@@ -212,7 +221,7 @@ tell_pid_stands bytes p b e =
     let text = pid_bytes name.0.0 in
     let one = joined bytes text name.0.1 (pid_bytes asker.0.0) asker.0.1 f.bytes_are a.bytes_are in
     let two = joined bytes (text ++ pid_bytes asker.0.0) asker.0.1 (big_bytes 8 lookup.0.0) lookup.0.1 one n.bytes_are in
-    closed 11 bytes _ lookup.0.1 (TellPid name.0.0 asker.0.0 lookup.0.0) p lookup.2 two refl (f.is, a.is)
+    closed bytes lookup.0.1 (TellPid name.0.0 asker.0.0 lookup.0.0) p lookup.2 two (f.is, a.is)
 
 -- a kind is this one, or one of the others
 this_or_other : (R : Type 0) (kind k : ℕ) (x y : Option Packet) (p : Packet) → (kind ≡ k → x ≡ Some p → R) → (y ≡ Some p → R) → (if kind == k then x else y) ≡ Some p → R

@@ -37,7 +37,7 @@ part_len m = if grants_read m then min (segment_of m).len 512 else 0
 abbrev pub piece_len : (total offset : ℕ) → ℕ
 piece_len total offset = min (total - offset) 1024
 
--- what a packet brings has its length and its place
+-- a part and bytes have their length, and what is said of a move can be
 abbrev pub fits : Packet → Bool
 fits (Send from to number message part) = length part == part_len message
 fits (Reply from to number message dest bytes) = nat_le (length bytes) 512

@@ -5,4 +5,6 @@
 #[cfg(test)]
 mod frames;
 #[cfg(test)]
+mod packets;
+#[cfg(test)]
 mod tests;
