@@ -16,7 +16,9 @@ use Rattle.vk_base.specs.declared.pid.Pid.{Pid}
 use Rattle.vk_base.specs.declared.step.Step.{Step}
 use Rattle.vk_base.specs.declared.step.Step.TheVariants as steps
 use Rattle.vk_text.specs.Heads.{process_of, HasNoFeed}
-use Rattle.vk_text.specs.Laws.{HasNoSpace, IsMessage, IsPid, IsReadable}
+use Rattle.vk_base.specs.Messages.{IsMessage}
+use Rattle.vk_base.specs.Pids.{IsPid}
+use Rattle.vk_text.specs.Laws.{HasNoSpace, IsReadable}
 use Rattle.vk_text.specs.Lines.{words_from}
 use Rattle.vk_text.specs.Spelling.{spaced, joined, pid_text, bytes_text, filled, message_text, scope_text, call_words}
 use Rattle.vk_text.specs.Words.{is_lower_hex}

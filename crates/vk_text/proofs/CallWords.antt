@@ -5,6 +5,7 @@ use Rattle.std.proofs.lemmas.Option.{cond_some}
 use Rattle.vk_base.specs.declared.call.Call.{Call}
 use Rattle.vk_base.specs.declared.call.Call.TheVariants as calls
 use Rattle.vk_base.specs.declared.pid.Pid.{Pid}
+use Rattle.vk_base.proofs.OptionLemmas.{bind_is}
 use Rattle.vk_text.specs.Calls.{ended, range_of, places_of, send_of, reply_of, range_call_of, reply_segment_of, move_of, set_pid_of, get_pid_of, store_of, call_of}
 use Rattle.vk_text.specs.Laws.{HasNoSpace, IsReadable, CallsReadBack, CallWordsAreSpelledOnce, CallsAreSpelledOnce}
 use Rattle.vk_text.specs.Lines.{words_from}
@@ -15,7 +16,7 @@ use Rattle.vk_text.proofs.Firsts.{first_spelled, ended_is}
 use Rattle.vk_text.proofs.Fronts.{spaced_joined}
 use Rattle.vk_text.proofs.Messages.{message_spelled, message_read}
 use Rattle.vk_text.proofs.ReadBack.{joined_words, line_joined, no_space_by, plain, decimal_no_space, pid_no_space, message_no_space, bytes_no_space, scope_no_space}
-use Rattle.vk_text.proofs.Spelled.{bound, either_word, count_spelled, count_read, pid_spelled, pid_read, scope_spelled, scope_read}
+use Rattle.vk_text.proofs.Spelled.{either_word, count_spelled, count_read, pid_spelled, pid_read, scope_spelled, scope_read}
 
 range_spelled : (ws : List (List ℕ)) (r : ℕ × ℕ) → range_of ws ≡ Some r → ws ≡ decimal r.0 ∷ decimal r.1 ∷ []
 unfolding range_of
@@ -83,7 +84,7 @@ unfolding reply_segment_of call_words
 reply_segment_spelled ws call h =
     let message = first_spelled message_of message_text message_spelled _ call ws h in
     let to = first_spelled pid_of pid_text pid_spelled _ call message.1 message.3 in
-    let places = bound (places_of to.1) _ call to.3 in
+    let places = bind_is (places_of to.1) _ call to.3 in
     let end = same_call _ call places.2 in
     ap (λ l. codes "replysegment" ∷ l) (message.2 ∙ ap (λ l. message_text message.0 ∷ l) (to.2 ∙ ap (λ l. pid_text to.0 ∷ l) (places_spelled to.1 places.0 places.1))) ∙ ap call_words end
 
@@ -91,7 +92,7 @@ reply_segment_spelled ws call h =
 range_call_spelled : (word : List ℕ) (make : ℕ → ℕ → Call) → ((start count : ℕ) → call_words (make start count) ≡ word ∷ decimal start ∷ decimal count ∷ []) → (ws : List (List ℕ)) (call : Call) → range_call_of make ws ≡ Some call → word ∷ ws ≡ call_words call
 unfolding range_call_of
 range_call_spelled word make is ws call h =
-    let range = bound (range_of ws) _ call h in
+    let range = bind_is (range_of ws) _ call h in
     let end = same_call _ call range.2 in
     ap (λ l. word ∷ l) (range_spelled ws range.0 range.1) ∙ sym (is range.0.0 range.0.1) ∙ ap call_words end
 
@@ -99,7 +100,7 @@ move_spelled : (word : List ℕ) (make : Pid → ℕ → ℕ → ℕ → Call) �
 unfolding move_of
 move_spelled word make is ws call h =
     let partner = first_spelled pid_of pid_text pid_spelled _ call ws h in
-    let places = bound (places_of partner.1) _ call partner.3 in
+    let places = bind_is (places_of partner.1) _ call partner.3 in
     let end = same_call _ call places.2 in
     ap (λ l. word ∷ l) (partner.2 ∙ ap (λ l. pid_text partner.0 ∷ l) (places_spelled partner.1 places.0 places.1)) ∙ sym (is partner.0 places.0.0 places.0.1 places.0.2) ∙ ap call_words end
 

@@ -15,8 +15,10 @@ use Rattle.vk_base.specs.Settings.{is_too_many, fault_of, first_fault, or_else, 
 use Rattle.vk_base.specs.declared.config.ConfigRefusal.{ConfigRefusal}
 use Rattle.vk_base.specs.declared.config.ProcessSpec.{ProcessSpec}
 use Rattle.vk_base.specs.declared.pid.Pid.{Pid}
+use Rattle.vk_base.proofs.OptionLemmas.{bind_is}
 use Rattle.vk_text.specs.Heads.{spec_of, process_of, with_process, with_line, processes_from, head_of, process_words, process_text, line_text, HasNoFeed, BeginsWithNoProcess, HeadsReadBack}
-use Rattle.vk_text.specs.Laws.{HasNoSpace, IsPid}
+use Rattle.vk_base.specs.Pids.{IsPid}
+use Rattle.vk_text.specs.Laws.{HasNoSpace}
 use Rattle.vk_text.specs.Lines.{lines_of, words_from}
 use Rattle.vk_text.specs.Spelling.{joined, pid_text}
 use Rattle.vk_text.specs.Words.{number_of, pid_of}
@@ -24,7 +26,7 @@ use Rattle.vk_text.proofs.Firsts.{first_spelled, ended_is}
 use Rattle.vk_text.proofs.HeadReading.{Parts}
 use Rattle.vk_text.proofs.LineTexts.{line_and_rest}
 use Rattle.vk_text.proofs.ReadBack.{words, line_joined, no_space_by, plain, decimal_no_space, pid_no_space}
-use Rattle.vk_text.proofs.Spelled.{bound, either_word, number_spelled, number_read, pid_spelled, pid_read, decimal_digits}
+use Rattle.vk_text.proofs.Spelled.{either_word, number_spelled, number_read, pid_spelled, pid_read, decimal_digits}
 
 spec_spelled : (ws : List (List ℕ)) (s : ProcessSpec) → spec_of ws ≡ Some s → codes "process" ∷ ws ≡ process_words s
 unfolding spec_of
@@ -49,7 +51,7 @@ none_is (Some a) h = cc
 pub line_is_process : (line : List ℕ) (specs more : List ProcessSpec) → with_line specs line ≡ Some more → (s : ProcessSpec) × (line ≡ process_text s) × (more ≡ specs ++ s ∷ []) × (fault_of specs s ≡ None)
 unfolding with_line
 line_is_process line specs more h =
-    let read = bound (process_of (words_from line 0)) (with_process specs) more h in
+    let read = bind_is (process_of (words_from line 0)) (with_process specs) more h in
     let got = cond_some (is_none (fault_of specs read.0)) _ more read.2 in
     (read.0, sym (line_joined line) ∙ ap joined (process_spelled (words_from line 0) read.0 read.1), sym got.1, none_is (fault_of specs read.0) got.0)
 

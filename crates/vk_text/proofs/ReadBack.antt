@@ -11,7 +11,9 @@ use Rattle.vk_base.specs.declared.call.Scope.{Scope}
 use Rattle.vk_base.specs.declared.call.Scope.TheVariants as scopes
 use Rattle.vk_base.specs.declared.message.Message.{Message}
 use Rattle.vk_base.specs.declared.pid.Pid.{Pid}
-use Rattle.vk_text.specs.Laws.{HasNoSpace, IsMessage, IsPid, WordsReadBack}
+use Rattle.vk_base.specs.Messages.{IsMessage}
+use Rattle.vk_base.specs.Pids.{IsPid}
+use Rattle.vk_text.specs.Laws.{HasNoSpace, WordsReadBack}
 use Rattle.vk_text.specs.Lines.{words_from}
 use Rattle.vk_text.specs.Spelling.{spaced, joined, pid_text, bytes_text, filled, message_text, scope_text}
 use Rattle.vk_text.specs.Words.{is_lower_hex}
