@@ -1,13 +1,12 @@
 -- Calls have one spelling each.
-use Rattle.std.proofs.Common.{◌≡◌, ℕ, ◌<◌, ◌^◌, ◌==◌, not, cond, List, [], ◌∷◌, ◌++◌, length, decimal, codes, bytes_eq, true, Option, Some, refl, arith, ap, sym, ◌∙◌}
-use Rattle.std.specs.List.{list_all, AllByRecursion}
+use Rattle.std.proofs.Common.{◌≡◌, ℕ, ◌<◌, cond, List, [], ◌∷◌, ◌++◌, length, decimal, codes, bytes_eq, true, Option, Some, refl, arith, ap, sym, ◌∙◌}
 use Rattle.std.proofs.lemmas.Option.{cond_some}
 use Rattle.vk_base.specs.declared.call.Call.{Call}
 use Rattle.vk_base.specs.declared.call.Call.TheVariants as calls
 use Rattle.vk_base.specs.declared.pid.Pid.{Pid}
 use Rattle.vk_base.proofs.OptionLemmas.{bind_is}
 use Rattle.vk_text.specs.Calls.{ended, range_of, places_of, send_of, reply_of, range_call_of, reply_segment_of, move_of, set_pid_of, get_pid_of, store_of, call_of}
-use Rattle.vk_text.specs.Laws.{HasNoSpace, IsReadable, CallsReadBack, CallWordsAreSpelledOnce, CallsAreSpelledOnce}
+use Rattle.vk_text.specs.Laws.{IsReadable, CallsReadBack, CallWordsAreSpelledOnce, CallsAreSpelledOnce}
 use Rattle.vk_text.specs.Lines.{words_from}
 use Rattle.vk_text.specs.Spelling.{spaced, joined, pid_text, message_text, bytes_text, scope_text, call_words, call_text}
 use Rattle.vk_text.specs.Words.{count_of, pid_of, message_of, bytes_of, scope_of}
@@ -15,7 +14,8 @@ use Rattle.vk_text.proofs.ByteLists.{bytes_spelled, bytes_read}
 use Rattle.vk_text.proofs.Firsts.{first_spelled, ended_is}
 use Rattle.vk_text.proofs.Fronts.{spaced_joined}
 use Rattle.vk_text.proofs.Messages.{message_spelled, message_read}
-use Rattle.vk_text.proofs.ReadBack.{joined_words, line_joined, no_space_by, plain, decimal_no_space, pid_no_space, message_no_space, bytes_no_space, scope_no_space}
+use Rattle.vk_text.proofs.PlainWords.{call_plain, no_spaces}
+use Rattle.vk_text.proofs.ReadBack.{joined_words, line_joined}
 use Rattle.vk_text.proofs.Spelled.{either_word, count_spelled, count_read, pid_spelled, pid_read, scope_spelled, scope_read}
 
 range_spelled : (ws : List (List ℕ)) (r : ℕ × ℕ) → range_of ws ≡ Some r → ws ≡ decimal r.0 ∷ decimal r.1 ∷ []
@@ -156,31 +156,10 @@ pub spaced_call : (text : List ℕ) (call : Call) → spaced text (call_words ca
 unfolding call_text
 spaced_call text call = spaced_joined text (call_words call) (some_words call)
 
-count_no_space : (n : ℕ) → n < 2 ^ 32 → HasNoSpace (decimal n)
-count_no_space n h = decimal_no_space n (omega arith)
-
-letters : (word : List ℕ) → list_all (λ c. not (c == 32)) word ≡ true → HasNoSpace word
-letters word h = no_space_by (λ c. not (c == 32)) plain word h
-
-pub call_no_space : (call : Call) → IsReadable call → AllByRecursion HasNoSpace (call_words call)
-unfolding call_words
-call_no_space (calls.Send target message) h = (letters (codes "send") refl, (pid_no_space target h.0, (message_no_space message h.1, tt)))
-call_no_space calls.Receive h = (letters (codes "receive") refl, tt)
-call_no_space (calls.ReceiveSegment start count) h = (letters (codes "receivesegment") refl, (count_no_space start h.0, (count_no_space count h.1, tt)))
-call_no_space (calls.Reply message to) h = (letters (codes "reply") refl, (message_no_space message h.0, (pid_no_space to h.1, tt)))
-call_no_space (calls.ReplySegment message to dest src count) h = (letters (codes "replysegment") refl, (message_no_space message h.0, (pid_no_space to h.1, (count_no_space dest h.2, (count_no_space src h.3, (count_no_space count h.4, tt))))))
-call_no_space (calls.MoveTo partner dest src count) h = (letters (codes "moveto") refl, (pid_no_space partner h.0, (count_no_space dest h.1, (count_no_space src h.2, (count_no_space count h.3, tt)))))
-call_no_space (calls.MoveFrom partner dest src count) h = (letters (codes "movefrom") refl, (pid_no_space partner h.0, (count_no_space dest h.1, (count_no_space src h.2, (count_no_space count h.3, tt)))))
-call_no_space (calls.SetPid logical pid scope) h = (letters (codes "setpid") refl, (count_no_space logical h.0, (pid_no_space pid h.1, (scope_no_space scope, tt))))
-call_no_space (calls.GetPid logical scope) h = (letters (codes "getpid") refl, (count_no_space logical h, (scope_no_space scope, tt)))
-call_no_space (calls.Load start count) h = (letters (codes "load") refl, (count_no_space start h.0, (count_no_space count h.1, tt)))
-call_no_space (calls.Store start bytes) h = (letters (codes "store") refl, (count_no_space start h.0, (bytes_no_space bytes h.1.1, tt)))
-call_no_space calls.Exit h = (letters (codes "exit") refl, tt)
-
 pub calls_back : CallsReadBack
 unfolding call_text
 calls_back call h =
-    ap call_of (joined_words (call_words call) (some_words call) (call_no_space call h)) ∙ call_read call h
+    ap call_of (joined_words (call_words call) (some_words call) (no_spaces (call_words call) (call_plain call h))) ∙ call_read call h
 
 pub call_words_once : CallWordsAreSpelledOnce
 call_words_once call ws h = (λ e. call_spelled ws call e, λ e. ap call_of e ∙ call_read call h)
