@@ -28,16 +28,14 @@ use Rattle.v_laws.specs.Places.{HasOwnReply, before, effect_at, taken_at, taken_
 use Rattle.v_laws.specs.Reached.{saw}
 use Rattle.v_laws.specs.Sound.{IsSound, is_settled}
 use Rattle.v_laws.proofs.Changes.{StageOn}
+use Rattle.v_laws.proofs.Held.{some_that_holds}
 use Rattle.v_laws.proofs.Later.{Becomes, exchange_before}
 use Rattle.v_laws.proofs.OnceLemmas.{go_on}
 use Rattle.v_laws.proofs.PlaceLemmas.{IsTurn, before_sound, before_after, step_at, turn}
 use Rattle.v_laws.proofs.SoundLemmas.{step_is}
+use Rattle.v_laws.proofs.States.{sending_is}
 use Rattle.v_laws.proofs.StepLemmas.{finishing_is}
 use Rattle.v_laws.proofs.Tables.{put_process_here}
-
-some_holds : {A : Type 0} (test : A → Bool) (o : Option A) → holds_of test o ≡ true → (x : A) × (o ≡ Some x) × (test x ≡ true)
-some_holds test None t = absurd (both_ways false refl t)
-some_holds test (Some x) t = (x, refl, t)
 
 -- Exchanges that are taken, and such that are replied to.
 abbrev is_replied : Stage → Bool
@@ -150,15 +148,6 @@ replied_when k s e n y sound does was at now = elim (exchange_before s k e.after
   | inr new ↦ absurd (both_ways (is_replied y.stage) (ap (λ (z : Exchange). is_replied z.stage) new.is ∙ new_not_replied (same_host n.sender new.target)) now)
 ]
 
--- the state of a process that is in a Send
-sending_state : (s : State) (target : Pid) (m : Message) → sending s ≡ Some (target, m) → s ≡ states.Blocked (calls.Send target m)
-sending_state states.Ready target m e = absurd (none-some (target, m) e)
-sending_state (states.Blocked (calls.Send t n)) target m e =
-    let same = same_Some (t, n) (target, m) e in
-    ap (λ (z : Pid × Message). states.Blocked (calls.Send z.0 z.1)) same
-sending_state (states.Blocked c) target m e = absurd (none-some (target, m) e)
-sending_state (states.Done c a) target m e = absurd (none-some (target, m) e)
-
 -- At which place the reply was given, and at which the message was taken.
 record IsGiven (specs : List ProcessSpec) (ss : List Step) (n : Name) (i : ℕ) (z : Exchange) : Type 0 where
   turn : IsTurn specs ss (replied_in n) i
@@ -172,7 +161,7 @@ record IsGiven (specs : List ProcessSpec) (ss : List Step) (n : Name) (i : ℕ) 
 given_at : (specs : List ProcessSpec) (ss : List Step) (i : ℕ) (n : Name) (k : Kernel) (z : Exchange) → before specs ss i ≡ Some k → k.exchanges n ≡ Some z → is_replied z.stage ≡ true → IsGiven specs ss n i z
 given_at specs ss i n k z at there replied =
     let t = turn specs ss (replied_in n) refl i k at (ap (holds_of (λ (e : Exchange). is_replied e.stage)) there ∙ replied) in
-    let y = some_holds (λ (e : Exchange). is_replied e.stage) (t.did.after.exchanges n) t.now in
+    let y = some_that_holds (λ (e : Exchange). is_replied e.stage) (t.did.after.exchanges n) t.now in
     let w = replied_when t.kernel t.step t.did n y.0 (before_sound specs ss t.place t.kernel t.at) t.does t.was y.1 y.2 in
     let earlier = t.earlier in
     let on = go_on specs ss (suc t.place) i t.did.after k (omega arith) (before_after specs ss t.place t.kernel t.step t.did t.at t.is t.does) at n y.0 y.1 in
@@ -197,7 +186,7 @@ record IsTakenBefore (specs : List ProcessSpec) (ss : List Step) (n : Name) (i :
 taken_before : (specs : List ProcessSpec) (ss : List Step) (i : ℕ) (n : Name) (k : Kernel) (x : Exchange) → before specs ss i ≡ Some k → k.exchanges n ≡ Some x → is_taken x.stage ≡ true → IsTakenBefore specs ss n i x
 taken_before specs ss i n k x at there taken =
     let t = turn specs ss (taken_in n) refl i k at (ap (holds_of (λ (e : Exchange). is_taken e.stage)) there ∙ taken) in
-    let y = some_holds (λ (e : Exchange). is_taken e.stage) (t.did.after.exchanges n) t.now in
+    let y = some_that_holds (λ (e : Exchange). is_taken e.stage) (t.did.after.exchanges n) t.now in
     let w = taken_when t.kernel t.step t.did n y.0 (before_sound specs ss t.place t.kernel t.at) t.does t.was y.1 y.2 in
     let earlier = t.earlier in
     let on = go_on specs ss (suc t.place) i t.did.after k (omega arith) (before_after specs ss t.place t.kernel t.step t.did t.at t.is t.does) at n y.0 y.1 in
@@ -232,7 +221,7 @@ own_reply specs ss r i s g is =
         process = f.0.process;
         before = ap (λ o. o >>= λ k. k.procs s) a.at ∙ fin.process;
         message = f.0.message;
-        waits = sending_state f.0.process.state f.0.target f.0.message fin.send;
+        waits = sending_is f.0.process.state f.0.target f.0.message fin.send;
         last = refl;
         after = ap (λ o. o >>= λ e. e.after.procs s) (effect_there specs ss i a.kernel (steps.Finish s) a.did a.at is a.does) ∙ ap (λ (e : Effect). e.after.procs s) (sym (same_Some _ a.did f.2)) ∙ put_process_here a.kernel.procs s _;
       };

@@ -89,7 +89,7 @@ settled_after name e n x y (here t is) away s = absurd (posted_not_settled x.sta
 settled_after name e n x y (older f t is) away s = ap (λ (z : Exchange). is_settled z.stage) is
 settled_after name e n x y (other f g is) away s = ap (λ (z : Exchange). is_settled z.stage) is ∙ s
 
-map_some : {A B : Type 0} (f : A → B) (o : Option A) → is_some (option_map f o) ≡ is_some o
+pub map_some : {A B : Type 0} (f : A → B) (o : Option A) → is_some (option_map f o) ≡ is_some o
 map_some f None = refl
 map_some f (Some x) = refl
 

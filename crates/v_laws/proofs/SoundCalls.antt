@@ -86,16 +86,16 @@ some_is : {A : Type 0} (o : Option A) → is_none o ≡ false → (x : A) × (o 
 some_is None f = absurd (both_ways true f refl)
 some_is (Some x) f = (x, refl)
 
--- a call that is not refused
-as_effect : (s : Step) (k : Kernel) (e f : Effect) → Some e ≡ Some f → GoesOn s k e.after → IsStep s k f.after
-as_effect s k e f g on = IsStep.goes (subst (λ (x : Effect). GoesOn s k x.after) (same_Some e f g) on)
+-- what goes on is a step
+pub as_step : (s : Step) (k : Kernel) (e f : Effect) → Some e ≡ Some f → GoesOn s k e.after → IsStep s k f.after
+as_step s k e f g on = IsStep.goes (subst (λ (x : Effect). GoesOn s k x.after) (same_Some e f g) on)
 
 pub accepted_is : (k : Kernel) (pid : Pid) (p : Process) (c : Call) (e : Effect) → IsSound k → k.procs pid ≡ Some p → IsFit k pid p c → accepted k pid p c ≡ Some e → IsStep (steps.Call pid c) k e.after
 accepted_is k pid p (calls.Send target m) e sound at fit g = IsStep.sends pid p target m refl at fit (ap (λ (x : Effect). x.after) (sym (same_Some _ e g)))
-accepted_is k pid p calls.Receive e sound at fit g = as_effect (steps.Call pid calls.Receive) k _ e g (goes_state (steps.Call pid calls.Receive) k pid p (states.Blocked calls.Receive) sound at fit.alive fit.ready refl)
+accepted_is k pid p calls.Receive e sound at fit g = as_step (steps.Call pid calls.Receive) k _ e g (goes_state (steps.Call pid calls.Receive) k pid p (states.Blocked calls.Receive) sound at fit.alive fit.ready refl)
 accepted_is k pid p (calls.ReceiveSegment start count) e sound at fit g =
     let c : Call = calls.ReceiveSegment start count in
-    as_effect (steps.Call pid c) k _ e g (goes_state (steps.Call pid c) k pid p (states.Blocked c) sound at fit.alive fit.ready refl)
+    as_step (steps.Call pid c) k _ e g (goes_state (steps.Call pid c) k pid p (states.Blocked c) sound at fit.alive fit.ready refl)
 accepted_is k pid p (calls.Reply m to) e sound at fit g =
     let c : Call = calls.Reply m to in
     IsStep.goes (goes_reply (steps.Call pid c) k pid c to m 0 [] e sound (λ number x target taken. StageOn.replied m (ap (λ r. steps.Call r c) (sym target)) taken refl) g)
@@ -122,16 +122,16 @@ accepted_is k pid p (calls.SetPid logical q scope) e sound at fit g =
     let c : Call = calls.SetPid logical q scope in
     let first = passes_first (not (same_host pid q && is_live (k.procs q))) refusals.NoProcess ((nat_le 64 (length (others (k.names pid.host) logical)), refusals.NamesFull) ∷ []) fit.rest in
     let parts = and_parts (same_host pid q) (is_live (k.procs q)) (not-false (same_host pid q && is_live (k.procs q)) first.0) in
-    as_effect (steps.Call pid c) k _ e g (goes_registered (steps.Call pid c) k pid logical q scope sound parts.0 parts.1)
+    as_step (steps.Call pid c) k _ e g (goes_registered (steps.Call pid c) k pid logical q scope sound parts.0 parts.1)
 accepted_is k pid p (calls.GetPid logical scope) e sound at fit g =
     let c : Call = calls.GetPid logical scope in
-    as_effect (steps.Call pid c) k _ e g (goes_got (steps.Call pid c) k pid p c logical (found_at_once k pid logical scope) sound at fit.alive fit.ready refl)
-accepted_is k pid p (calls.Load start count) e sound at fit g = as_effect (steps.Call pid (calls.Load start count)) k _ e g (goes_nowhere (steps.Call pid (calls.Load start count)) k sound)
+    as_step (steps.Call pid c) k _ e g (goes_got (steps.Call pid c) k pid p c logical (found_at_once k pid logical scope) sound at fit.alive fit.ready refl)
+accepted_is k pid p (calls.Load start count) e sound at fit g = as_step (steps.Call pid (calls.Load start count)) k _ e g (goes_nowhere (steps.Call pid (calls.Load start count)) k sound)
 accepted_is k pid p (calls.Store start bytes) e sound at fit g =
     let c : Call = calls.Store start bytes in
-    as_effect (steps.Call pid c) k _ e g (goes_memory (steps.Call pid c) k pid p (with_bytes p.memory start bytes) sound at (λ dead. absurd (both_ways p.alive dead fit.alive)))
-accepted_is k pid p calls.Exit e sound at fit g = as_effect (steps.Call pid calls.Exit) k _ e g (goes_exited k pid p sound at fit.alive fit.ready)
+    as_step (steps.Call pid c) k _ e g (goes_memory (steps.Call pid c) k pid p (with_bytes p.memory start bytes) sound at (λ dead. absurd (both_ways p.alive dead fit.alive)))
+accepted_is k pid p calls.Exit e sound at fit g = as_step (steps.Call pid calls.Exit) k _ e g (goes_exited k pid p sound at fit.alive fit.ready)
 
 pub called_is : (k : Kernel) (pid : Pid) (p : Process) (c : Call) (why : Option Refusal) (e : Effect) → IsSound k → k.procs pid ≡ Some p → call_refusal k pid p c ≡ why → called k pid p c why ≡ Some e → IsStep (steps.Call pid c) k e.after
 called_is k pid p c None e sound at fine g = accepted_is k pid p c e sound at (fit_is k pid p c fine) g
-called_is k pid p c (Some why) e sound at fine g = as_effect (steps.Call pid c) k _ e g (goes_nowhere (steps.Call pid c) k sound)
+called_is k pid p c (Some why) e sound at fine g = as_step (steps.Call pid c) k _ e g (goes_nowhere (steps.Call pid c) k sound)

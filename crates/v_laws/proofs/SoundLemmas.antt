@@ -17,7 +17,7 @@ use Rattle.vk_base.proofs.OptionLemmas.{bind_is}
 use Rattle.v_laws.specs.Sound.{IsSound, IsRegistered}
 use Rattle.v_laws.proofs.Changes.{GoesOn, sound_onward}
 use Rattle.v_laws.proofs.SoundArrive.{sound_arrived}
-use Rattle.v_laws.proofs.SoundCalls.{IsStep, called_is}
+use Rattle.v_laws.proofs.SoundCalls.{IsStep, as_step, called_is}
 pub use Rattle.v_laws.proofs.SoundCalls.{sound_state, sound_replied}
 use Rattle.v_laws.proofs.SoundLookups.{goes_heard, goes_told}
 use Rattle.v_laws.proofs.SoundMoves.{goes_opened, goes_copied, goes_ended}
@@ -28,7 +28,7 @@ pub use Rattle.v_laws.proofs.States.{ready_sends_none}
 use Rattle.v_laws.proofs.StepLemmas.{asking_is, finding_is}
 
 -- The opening kernel.
-opened_ready : (o : Option ProcessSpec) (p : Process) → option_map opened o ≡ Some p → p.state ≡ states.Ready
+pub opened_ready : (o : Option ProcessSpec) (p : Process) → option_map opened o ≡ Some p → p.state ≡ states.Ready
 opened_ready None p e = absurd (none-some p e)
 opened_ready (Some s) p e = ap (λ (x : Process). x.state) (sym (same_Some (opened s) p e))
 
@@ -49,9 +49,6 @@ sound_opening specs = record {
 }
 
 -- What each step is.
-as_step : (s : Step) (k : Kernel) (e f : Effect) → Some e ≡ Some f → GoesOn s k e.after → IsStep s k f.after
-as_step s k e f g on = IsStep.goes (subst (λ (x : Effect). GoesOn s k x.after) (same_Some e f g) on)
-
 pub step_is : (k : Kernel) (s : Step) (e : Effect) → IsSound k → effect k s ≡ Some e → IsStep s k e.after
 step_is k (steps.Call pid c) e sound g =
     let p = bind_is (k.procs pid) _ e g in

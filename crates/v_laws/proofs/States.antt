@@ -1,7 +1,7 @@
 -- What a process does, and does not do at the same time.
-use Rattle.std.proofs.Common.{◌≡◌, true, false, Some, None, refl}
+use Rattle.std.proofs.Common.{◌≡◌, true, false, Some, None, refl, ap}
 use Rattle.std.proofs.lemmas.Bool.{both_ways}
-use Rattle.std.proofs.lemmas.Option.{none-some}
+use Rattle.std.proofs.lemmas.Option.{none-some, same_Some}
 use Rattle.vk_base.specs.declared.answer.Answer.{Answer}
 use Rattle.vk_base.specs.declared.call.Call.{Call}
 use Rattle.vk_base.specs.declared.call.Call.TheVariants as calls
@@ -10,6 +10,15 @@ use Rattle.vk_base.specs.declared.kernel.State.TheVariants as states
 use Rattle.vk_base.specs.declared.message.Message.{Message}
 use Rattle.vk_base.specs.declared.pid.Pid.{Pid}
 use Rattle.vk_base.specs.Kernel.{is_ready, is_moving, is_asking, receiving, sending, finished_call, ended}
+
+-- the state of a process that is in a Send
+pub sending_is : (s : State) (target : Pid) (m : Message) → sending s ≡ Some (target, m) → s ≡ states.Blocked (calls.Send target m)
+sending_is states.Ready target m e = absurd (none-some (target, m) e)
+sending_is (states.Blocked (calls.Send t n)) target m e =
+    let same = same_Some (t, n) (target, m) e in
+    ap (λ (z : Pid × Message). states.Blocked (calls.Send z.0 z.1)) same
+sending_is (states.Blocked c) target m e = absurd (none-some (target, m) e)
+sending_is (states.Done c a) target m e = absurd (none-some (target, m) e)
 
 pub ready_sends_none : (s : State) → is_ready s ≡ true → sending s ≡ None
 ready_sends_none states.Ready t = refl

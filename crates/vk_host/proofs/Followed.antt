@@ -21,11 +21,11 @@ use Rattle.vk_base.specs.Pids.{same_pid}
 use Rattle.vk_base.specs.Ranges.{with_bytes}
 use Rattle.vk_base.specs.Settings.{is_process, has_process}
 use Rattle.v_laws.specs.Sound.{IsSound}
-use Rattle.v_laws.proofs.SoundLemmas.{sound_opening, sound_taken, sound_finished, sound_collected}
+use Rattle.v_laws.proofs.SoundLemmas.{opened_ready, sound_opening, sound_taken, sound_finished, sound_collected}
+use Rattle.v_laws.proofs.States.{sending_is}
 use Rattle.v_laws.proofs.StepLemmas.{taking_is, finishing_is, collecting_is}
 use Rattle.v_laws.proofs.Tables.{same_pid_is, put_process_at, put_process_other}
 use Rattle.vk_host.specs.Entries.{is_not_yet, no_call}
-use Rattle.vk_host.proofs.Reading.{sending_is}
 
 -- what a process in this state began last
 abbrev pub Began : State → Option Call → Type 0
@@ -49,15 +49,11 @@ find_there test (s ∷ ss) t = by_test (test s) (find_there test ss) t
     by_test true again t = refl
     by_test false again t = again t
 
-opened_is_ready : (o : Option ProcessSpec) (p : Process) → option_map opened o ≡ Some p → p.state ≡ states.Ready
-opened_is_ready None p e = absurd (none-some p e)
-opened_is_ready (Some s) p e = sym (ap (λ (x : Process). x.state) (same_Some (opened s) p e))
-
 pub followed_opening : (specs : List ProcessSpec) → IsFollowed specs (opening specs) no_call
 followed_opening specs = record {
   sound = sound_opening specs;
   there = λ pid t. find_there (is_process pid) specs t;
-  began = λ pid p e. subst (λ s. Began s (no_call pid)) (sym (opened_is_ready (find (is_process pid) specs) p e)) tt;
+  began = λ pid p e. subst (λ s. Began s (no_call pid)) (sym (opened_ready (find (is_process pid) specs) p e)) tt;
 }
 
 -- A process is put, and what it began last with it.

@@ -26,17 +26,12 @@ use Rattle.v_laws.specs.Sound.{IsSound, IsAwaited, IsBegun}
 use Rattle.v_laws.proofs.Changes.{queued_is_open, taken_is_open}
 use Rattle.v_laws.proofs.FilterLemmas.{first_passes}
 use Rattle.v_laws.proofs.Held.{holds_at, held_none, held_here}
+use Rattle.v_laws.proofs.States.{sending_is}
 use Rattle.v_laws.proofs.Tables.{same_pid_is, same_pid_self}
 use Rattle.vk_host.specs.declared.seat.Seat.{Seat}
 use Rattle.vk_host.specs.Entries.{is_built_call, grants_nothing}
 use Rattle.vk_host.specs.Stands.{IsSent, IsSeated, Fits, AreSeats}
 use Rattle.vk_host.specs.Tables.{is_seat, state_of, is_awaiting, is_awaiting_in, is_awaiting_seat, own_refusal, refusal_in, refusal_by, message_from, front_of, takes}
-
-pub sending_is : (s : State) (target : Pid) (m : Message) → sending s ≡ Some (target, m) → s ≡ states.Blocked (calls.Send target m)
-sending_is states.Ready target m e = absurd (none-some _ e)
-sending_is (states.Done c a) target m e = absurd (none-some _ e)
-sending_is (states.Blocked (calls.Send t n)) target m e = let same = same_Some (t, n) (target, m) e in λ i. states.Blocked (calls.Send (same i).0 (same i).1)
-sending_is (states.Blocked c) target m e = absurd (none-some _ e)
 
 -- a process of this host has a seat
 pub has_seat : (k : Kernel) (pid : Pid) (p : Process) (o : Option Seat) → k.procs pid ≡ Some p → Fits k pid o → (s : Seat) × (o ≡ Some s) × IsSeated k pid s

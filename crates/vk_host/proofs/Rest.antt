@@ -28,7 +28,7 @@ use Rattle.vk_base.specs.Settings.{has_process}
 use Rattle.v_laws.specs.Sound.{IsSound}
 use Rattle.v_laws.proofs.FilterLemmas.{first_passes}
 use Rattle.v_laws.proofs.Held.{holding_is}
-use Rattle.v_laws.proofs.Queues.{queued_in, queue-state, queue-stage, queue-sent_elsewhere, queue-taken_elsewhere}
+use Rattle.v_laws.proofs.Queues.{queued_in, first_is, queue-state, queue-stage, queue-sent_elsewhere, queue-taken_elsewhere}
 use Rattle.v_laws.proofs.StepLemmas.{IsFit, fit_is, taking_is}
 use Rattle.v_laws.proofs.Tables.{same_pid_is, same_pid_laws, put_process_at, put_process_other}
 use Rattle.vk_host.specs.declared.event.StationEvent.{StationEvent}
@@ -73,10 +73,6 @@ takes_nothing k r rests = by_taking (taking k r) refl
     by_taking None is = refl
     by_taking (Some t) is = let x = taking_is k r t is in absurd (rests t.process t.call t.name x.process x.call x.first)
 
-first_there : (ns : List Name) (n : Name) → first_of ns ≡ Some n → (rest : List Name) × (ns ≡ n ∷ rest)
-first_there [] n e = absurd (none-some n e)
-first_there (m ∷ ns) n e = (ns, ap (λ x. x ∷ ns) (same_Some m n e))
-
 some_there : (test : Exchange → Bool) (o : Option Exchange) → holds_of test o ≡ true → (x : Exchange) × (o ≡ Some x)
 some_there test None t = absurd (both_ways false refl t)
 some_there test (Some x) t = (x, refl)
@@ -84,7 +80,7 @@ some_there test (Some x) t = (x, refl)
 queued_there : (k : Kernel) (r : Pid) (n : Name) → first_of (queue_of k r) ≡ Some n → (x : Exchange) × (k.exchanges n ≡ Some x)
 unfolding queue_of
 queued_there k r n first =
-    let whole = first_there (queue_of k r) n first in
+    let whole = first_is (queue_of k r) n first in
     some_there (is_queued_at r) (k.exchanges n) (first_passes (queued_in k.exchanges r) k.arrived n whole.0 whole.1)
 
 rests_where : (k : Kernel) (r : Pid) → taking k r ≡ None → Rests k r
