@@ -28,16 +28,14 @@ use Rattle.v_laws.specs.Places.{HasOwnReply, before, effect_at, taken_at, taken_
 use Rattle.v_laws.specs.Reached.{saw}
 use Rattle.v_laws.specs.Sound.{IsSound, is_settled}
 use Rattle.v_laws.proofs.Changes.{StageOn}
+use Rattle.v_laws.proofs.Held.{some_that_holds}
+use Rattle.v_laws.proofs.OneHeld.{held_this}
 use Rattle.v_laws.proofs.Later.{Becomes, exchange_before}
 use Rattle.v_laws.proofs.OnceLemmas.{go_on}
 use Rattle.v_laws.proofs.PlaceLemmas.{IsTurn, before_sound, before_after, step_at, turn}
 use Rattle.v_laws.proofs.SoundLemmas.{step_is}
 use Rattle.v_laws.proofs.StepLemmas.{finishing_is}
 use Rattle.v_laws.proofs.Tables.{put_process_here}
-
-some_holds : {A : Type 0} (test : A → Bool) (o : Option A) → holds_of test o ≡ true → (x : A) × (o ≡ Some x) × (test x ≡ true)
-some_holds test None t = absurd (both_ways false refl t)
-some_holds test (Some x) t = (x, refl, t)
 
 -- Exchanges that are taken, and such that are replied to.
 abbrev is_replied : Stage → Bool
@@ -172,7 +170,7 @@ record IsGiven (specs : List ProcessSpec) (ss : List Step) (n : Name) (i : ℕ) 
 given_at : (specs : List ProcessSpec) (ss : List Step) (i : ℕ) (n : Name) (k : Kernel) (z : Exchange) → before specs ss i ≡ Some k → k.exchanges n ≡ Some z → is_replied z.stage ≡ true → IsGiven specs ss n i z
 given_at specs ss i n k z at there replied =
     let t = turn specs ss (replied_in n) refl i k at (ap (holds_of (λ (e : Exchange). is_replied e.stage)) there ∙ replied) in
-    let y = some_holds (λ (e : Exchange). is_replied e.stage) (t.did.after.exchanges n) t.now in
+    let y = some_that_holds (λ (e : Exchange). is_replied e.stage) (t.did.after.exchanges n) t.now in
     let w = replied_when t.kernel t.step t.did n y.0 (before_sound specs ss t.place t.kernel t.at) t.does t.was y.1 y.2 in
     let earlier = t.earlier in
     let on = go_on specs ss (suc t.place) i t.did.after k (omega arith) (before_after specs ss t.place t.kernel t.step t.did t.at t.is t.does) at n y.0 y.1 in
@@ -197,7 +195,7 @@ record IsTakenBefore (specs : List ProcessSpec) (ss : List Step) (n : Name) (i :
 taken_before : (specs : List ProcessSpec) (ss : List Step) (i : ℕ) (n : Name) (k : Kernel) (x : Exchange) → before specs ss i ≡ Some k → k.exchanges n ≡ Some x → is_taken x.stage ≡ true → IsTakenBefore specs ss n i x
 taken_before specs ss i n k x at there taken =
     let t = turn specs ss (taken_in n) refl i k at (ap (holds_of (λ (e : Exchange). is_taken e.stage)) there ∙ taken) in
-    let y = some_holds (λ (e : Exchange). is_taken e.stage) (t.did.after.exchanges n) t.now in
+    let y = some_that_holds (λ (e : Exchange). is_taken e.stage) (t.did.after.exchanges n) t.now in
     let w = taken_when t.kernel t.step t.did n y.0 (before_sound specs ss t.place t.kernel t.at) t.does t.was y.1 y.2 in
     let earlier = t.earlier in
     let on = go_on specs ss (suc t.place) i t.did.after k (omega arith) (before_after specs ss t.place t.kernel t.step t.did t.at t.is t.does) at n y.0 y.1 in
@@ -239,6 +237,8 @@ own_reply specs ss r i s g is =
       reply_place = w.turn.place;
       before_finish = w.turn.earlier;
       replies = record {
+        holds = ap (λ o. o >>= λ k. held k f.0.target s) w.turn.at ∙ ap (λ q. held w.turn.kernel q s) (sym target)
+            ∙ held_this w.turn.kernel n w.before (before_sound specs ss w.turn.place w.turn.kernel w.turn.at) w.at w.reply.taken;
         call = w.reply.call;
         is = w.turn.is ∙ ap (λ (z : Step). Some z) w.reply.step ∙ ap (λ q. Some (steps.Call q w.reply.call)) target;
         answered = ap (λ o. o >>= λ e. e.seen) (effect_there specs ss w.turn.place w.turn.kernel w.turn.step w.turn.did w.turn.at w.turn.is w.turn.does)
