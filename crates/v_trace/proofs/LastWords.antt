@@ -3,13 +3,8 @@ use Rattle.std.proofs.Common.{◌≡◌, ℕ, List, [], ◌∷◌, Option, None,
 use Rattle.vk_base.specs.Options.{◌>>=◌}
 use Rattle.vk_text.specs.Calls.{first_as, ended}
 use Rattle.vk_text.specs.Lines.{StartsNoWord}
-use Rattle.vk_text.specs.Words.{number_of}
 use Rattle.vk_text.proofs.Firsts.{no_first}
-use Rattle.v_trace.specs.Steps.{ordinal_of, failure_of, ending_of, last_as, step_of}
-
-pub no_ordinal : (ws : List (List ℕ)) → StartsNoWord ws → first_as ordinal_of ws ≡ None
-unfolding ordinal_of number_of
-no_ordinal ws h = no_first ordinal_of refl ws h
+use Rattle.v_trace.specs.Steps.{failure_of, ending_of, last_as, step_of}
 
 no_last : {A : Type 0} (spelled : List ℕ → Option A) (ws : List (List ℕ)) → first_as spelled ws ≡ None → last_as spelled ws ≡ None
 no_last spelled ws h = ap (λ o. o >>= λ (a, ws). ended ws a) h

@@ -8,26 +8,22 @@ use Rattle.vk_base.specs.declared.answer.Ending.TheVariants as endings
 use Rattle.vk_base.specs.declared.pid.Pid.{Pid}
 use Rattle.vk_base.specs.declared.step.Step.{Step}
 use Rattle.vk_base.specs.declared.step.Step.TheVariants as steps
+use Rattle.vk_base.proofs.OptionLemmas.{bind_is}
 use Rattle.vk_text.specs.Calls.{call_of}
 use Rattle.vk_text.specs.Spelling.{pid_text}
-use Rattle.vk_text.specs.Words.{number_of, count_of, pid_of}
+use Rattle.vk_text.specs.Words.{count_of, pid_of}
 use Rattle.vk_text.proofs.CallWords.{call_spelled, call_read}
 use Rattle.vk_text.proofs.Firsts.{first_spelled, ended_is}
-use Rattle.vk_text.proofs.Spelled.{bound, either_word, number_spelled, number_read, count_spelled, count_read, pid_spelled, pid_read}
+use Rattle.vk_text.proofs.Spelled.{either_word, positive_spelled, positive_read, count_spelled, count_read, pid_spelled, pid_read}
 use Rattle.v_trace.specs.Laws.{IsOrdinal, IsFailure, IsEnding, IsReadableStep, StepWordsAreSpelledOnce}
 use Rattle.v_trace.specs.Steps.{ordinal_of, failure_of, ending_of, last_as, call_step_of, pid_step_of, arrive_of, fail_of, open_of, copy_of, end_of, hear_of, found_of, step_of}
 use Rattle.v_trace.specs.Texts.{ending_text, step_words}
 
 ordinal_spelled : (n : ℕ) (word : List ℕ) → ordinal_of word ≡ Some n → word ≡ decimal n
-unfolding ordinal_of
-ordinal_spelled n word h =
-    let read = bound (number_of (2 ^ 63 - 1) word) _ n h in
-    let got = cond_some (nat_lt 0 read.0) read.0 n read.2 in
-    (number_spelled (2 ^ 63 - 1) read.0 word (omega arith) read.1).0 ∙ ap decimal got.1
+ordinal_spelled n word h = (positive_spelled (2 ^ 63 - 1) n word (omega arith) h).0
 
 ordinal_read : (n : ℕ) → IsOrdinal n → ordinal_of (decimal n) ≡ Some n
-unfolding ordinal_of
-ordinal_read n h = ap (λ (o : Option ℕ). o >>= λ n. if nat_lt 0 n then Some n else None) (number_read (2 ^ 63 - 1) n (omega arith) (omega arith)) ∙ cond-true _ _ _ (lt-ltb 0 n h.0)
+ordinal_read n h = positive_read (2 ^ 63 - 1) n (omega arith) h.0 (omega arith)
 
 same_ending : (a b : Ending) → Some a ≡ Some b → a ≡ b
 same_ending a b h = (cond_some true a b h).1
@@ -57,7 +53,7 @@ ending_read endings.NoProcess h = absurd h
 -- the only word is the text of what is read
 last_spelled : {A B : Type 0} (spelled : List ℕ → Option A) (text : A → List ℕ) → ((a : A) (w : List ℕ) → spelled w ≡ Some a → w ≡ text a) → (next : A → Option B) (b : B) (ws : List (List ℕ)) → (last_as spelled ws >>= next) ≡ Some b → (a : A) × (ws ≡ text a ∷ []) × (next a ≡ Some b)
 last_spelled spelled text is next b ws h =
-    let read = bound (last_as spelled ws) next b h in
+    let read = bind_is (last_as spelled ws) next b h in
     let first = first_spelled spelled text is _ read.0 ws read.1 in
     let end = ended_is first.1 first.0 read.0 first.3 in
     (read.0, first.2 ∙ ap (λ l. text first.0 ∷ l) end.0 ∙ ap (λ a. text a ∷ []) end.1, read.2)
@@ -69,7 +65,7 @@ call_step_spelled : (ws : List (List ℕ)) (s : Step) → call_step_of ws ≡ So
 unfolding call_step_of step_words
 call_step_spelled ws s h =
     let pid = first_spelled pid_of pid_text pid_spelled _ s ws h in
-    let call = bound (call_of pid.1) _ s pid.3 in
+    let call = bind_is (call_of pid.1) _ s pid.3 in
     let end = same_step _ s call.2 in
     ap (λ l. codes "call" ∷ l) (pid.2 ∙ ap (λ l. pid_text pid.0 ∷ l) (call_spelled pid.1 call.0 call.1)) ∙ ap step_words end
 

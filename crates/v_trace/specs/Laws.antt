@@ -8,7 +8,8 @@ use Rattle.vk_base.specs.declared.config.ProcessSpec.{ProcessSpec}
 use Rattle.vk_base.specs.declared.step.Step.{Step}
 use Rattle.vk_base.specs.declared.step.Step.TheVariants as steps
 use Rattle.vk_text.specs.Heads.{settings_of}
-use Rattle.vk_text.specs.Laws.{IsPid, IsCount, IsReadable}
+use Rattle.vk_base.specs.Pids.{IsPid}
+use Rattle.vk_text.specs.Laws.{IsCount, IsReadable}
 use Rattle.vk_text.specs.Lines.{words_from}
 use Rattle.v_trace.specs.Steps.{step_of}
 use Rattle.v_trace.specs.Texts.{step_words, step_text}

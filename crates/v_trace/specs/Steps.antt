@@ -7,11 +7,11 @@ use Rattle.vk_base.specs.declared.pid.Pid.{Pid}
 use Rattle.vk_base.specs.declared.step.Step.{Step}
 use Rattle.vk_base.specs.declared.step.Step.TheVariants as steps
 use Rattle.vk_text.specs.Calls.{first_as, ended, call_of}
-use Rattle.vk_text.specs.Words.{number_of, count_of, pid_of}
+use Rattle.vk_text.specs.Words.{positive_of, count_of, pid_of}
 
 -- the number of a Send, a move or a lookup: 1 to 2^63 - 1
-unfoldable pub ordinal_of : List ℕ → Option ℕ
-ordinal_of word = number_of (2 ^ 63 - 1) word >>= λ n. if nat_lt 0 n then Some n else None
+abbrev pub ordinal_of : List ℕ → Option ℕ
+ordinal_of word = positive_of (2 ^ 63 - 1) word
 
 -- how a Send fails
 abbrev pub failure_of : List ℕ → Option Ending

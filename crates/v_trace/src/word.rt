@@ -7,19 +7,10 @@ ghost use Rattle.vk_text.specs.Words.{count_of, pid_of};
 ghost use Rattle.v_trace.specs.Steps.{ordinal_of, failure_of, ending_of, last_as};
 
 use vk_base::{Ending, Pid};
-use vk_text::{is_end, next_count, next_pid, next_word, number};
+use vk_text::{is_end, next_count, next_pid, next_positive, next_word};
 
 /// The greatest number of a Send, a move or a lookup.
 const ORDINAL: u64 = 9_223_372_036_854_775_807;
-
-/// The number of a Send, a move or a lookup: from 1.
-#[tactic(auto, unfolding(crate::specs::Steps::ordinal_of))]
-fn ordinal(word: &[u8]) -> Option<u64>
-    ensures { result ≡ ordinal_of word.now }
-{
-    let n = number(word, ORDINAL)?;
-    if n > 0 { Some(n) } else { None }
-}
 
 /// How a Send fails.
 fn failure(word: &[u8]) -> Option<Ending>
@@ -49,14 +40,12 @@ fn ending(word: &[u8]) -> Option<Ending>
     }
 }
 
-/// The next word as such a number, and where the word after it would start.
-#[tactic(auto, using(crate::proofs::LastWords::no_ordinal))]
+/// The next word as the number of a Send, a move or a lookup, and where the word after it would start.
 pub fn next_ordinal(line: &[u8], at: usize) -> Option<(u64, usize)>
     ensures { MatchOption result (first_as ordinal_of (words_from line.now at) ≡ None)
         (λ r. first_as ordinal_of (words_from line.now at) ≡ Some (r.0, words_from line.now r.1)) }
 {
-    let (word, next) = next_word(line, at)?;
-    Some((ordinal(word)?, next))
+    next_positive(line, at, ORDINAL)
 }
 
 /// The number of 32 bits, which is the last word.

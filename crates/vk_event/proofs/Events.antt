@@ -3,36 +3,24 @@ use Rattle.std.proofs.Common.{◌≡◌, ℕ, ◌<◌, ◌^◌, nat_lt, true, Li
 use Rattle.std.proofs.lemmas.Option.{cond_some}
 use Rattle.vk_base.specs.declared.call.Call.{Call}
 use Rattle.vk_base.specs.declared.pid.Pid.{Pid}
+use Rattle.vk_base.proofs.OptionLemmas.{bind_is}
 use Rattle.vk_text.specs.Calls.{first_as, call_of}
 use Rattle.vk_text.specs.Lines.{StartsNoWord}
-use Rattle.vk_text.specs.Spelling.{pid_text, call_text}
-use Rattle.vk_text.specs.Words.{number_of, station_of, pid_of}
+use Rattle.vk_text.specs.Spelling.{spaced, joined, pid_text, call_words, call_text}
+use Rattle.vk_text.specs.Words.{positive_of, station_of, pid_of}
 use Rattle.vk_text.proofs.CallWords.{call_spelled, spaced_call}
-use Rattle.vk_text.proofs.Firsts.{no_first, first_spelled, ended_is}
-use Rattle.vk_text.proofs.Spelled.{bound, either_word, number_spelled, station_spelled, pid_spelled}
-use Rattle.vk_event.specs.Schedule.{positive_of, call_event_of, collect_event_of, tick_event_of, deliver_event_of, event_of}
+use Rattle.vk_text.proofs.Firsts.{first_spelled, ended_is}
+use Rattle.vk_text.proofs.Spelled.{either_word, positive_spelled, station_spelled, pid_spelled}
+use Rattle.vk_event.specs.Schedule.{call_event_of, collect_event_of, tick_event_of, deliver_event_of, event_of}
 use Rattle.vk_event.specs.Spelling.{event_words, event_text}
 use Rattle.vk_event.specs.declared.event.Event.{Event}
 use Rattle.vk_event.specs.declared.event.Event.TheVariants as events
-
-no_empty : (most : ℕ) → positive_of most [] ≡ None
-unfolding positive_of number_of
-no_empty most = refl
-
-pub no_positive : (most : ℕ) (ws : List (List ℕ)) → StartsNoWord ws → first_as (positive_of most) ws ≡ None
-no_positive most ws h = no_first (positive_of most) (no_empty most) ws h
-
-positive_spelled : (most n : ℕ) (word : List ℕ) → most < 2 ^ 64 → positive_of most word ≡ Some n → word ≡ decimal n
-unfolding positive_of
-positive_spelled most n word m h =
-    let read = bound (number_of most word) _ n h in
-    (number_spelled most read.0 word m read.1).0 ∙ ap decimal (cond_some (nat_lt 0 read.0) read.0 n read.2).1
 
 call_event_spelled : (ws : List (List ℕ)) (e : Event) → call_event_of ws ≡ Some e → codes "call" ∷ ws ≡ event_words e
 unfolding call_event_of
 call_event_spelled ws e h =
     let pid = first_spelled pid_of pid_text pid_spelled _ e ws h in
-    let call = bound (call_of pid.1) _ e pid.3 in
+    let call = bind_is (call_of pid.1) _ e pid.3 in
     let end = (cond_some true (events.Call pid.0 call.0) e call.2).1 in
     ap (λ l. codes "call" ∷ l) (pid.2 ∙ ap (λ l. pid_text pid.0 ∷ l) (call_spelled pid.1 call.0 call.1)) ∙ ap event_words end
 
@@ -55,8 +43,8 @@ unfolding deliver_event_of
 deliver_spelled ws e h =
     let to = first_spelled station_of decimal (λ n w f. (station_spelled n w f).0) _ e ws h in
     let from = first_spelled station_of decimal (λ n w f. (station_spelled n w f).0) _ e to.1 to.3 in
-    let event = first_spelled (positive_of 9223372036854775807) decimal (λ n w f. positive_spelled 9223372036854775807 n w (omega arith) f) _ e from.1 from.3 in
-    let output = first_spelled (positive_of 65535) decimal (λ n w f. positive_spelled 65535 n w (omega arith) f) _ e event.1 event.3 in
+    let event = first_spelled (positive_of 9223372036854775807) decimal (λ n w f. (positive_spelled 9223372036854775807 n w (omega arith) f).0) _ e from.1 from.3 in
+    let output = first_spelled (positive_of 65535) decimal (λ n w f. (positive_spelled 65535 n w (omega arith) f).0) _ e event.1 event.3 in
     let end = ended_is output.1 (events.Deliver to.0 from.0 event.0 output.0) e output.3 in
     ap (λ l. codes "deliver" ∷ l) (to.2 ∙ ap (λ l. decimal to.0 ∷ l) (from.2 ∙ ap (λ l. decimal from.0 ∷ l) (event.2 ∙ ap (λ l. decimal event.0 ∷ l) (output.2 ∙ ap (λ l. decimal output.0 ∷ l) end.0)))) ∙ ap event_words end.1
 

@@ -5,7 +5,7 @@ use Rattle.vk_base.specs.declared.config.ProcessSpec.{ProcessSpec}
 use Rattle.vk_text.specs.Calls.{first_as, ended, call_of}
 use Rattle.vk_text.specs.Heads.{settings_of, head_of}
 use Rattle.vk_text.specs.Lines.{lines_of, words_from}
-use Rattle.vk_text.specs.Words.{number_of, station_of, pid_of}
+use Rattle.vk_text.specs.Words.{positive_of, station_of, pid_of}
 use Rattle.vk_event.specs.declared.event.Event.{Event}
 use Rattle.vk_event.specs.declared.event.Event.TheVariants as events
 use Rattle.vk_event.specs.declared.schedule.Front.{Front}
@@ -13,10 +13,6 @@ use Rattle.vk_event.specs.declared.schedule.Schedule.{Schedule}
 use Rattle.vk_event.specs.declared.schedule.TextRefusal.{TextRefusal}
 use Rattle.vk_event.specs.declared.schedule.TextRefusal.TheVariants as refusals
 use Rattle.vk_event.specs.Lawful.{has_actors}
-
--- a number from 1 to `most`
-unfoldable pub positive_of : ℕ → List ℕ → Option ℕ
-positive_of most word = number_of most word >>= λ n. if nat_lt 0 n then Some n else None
 
 -- `PID CALLTEXT`
 unfoldable pub call_event_of : List (List ℕ) → Option Event

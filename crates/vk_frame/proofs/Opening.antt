@@ -4,7 +4,7 @@ use Rattle.std.proofs.lemmas.Bool.{eqb-true}
 use Rattle.std.proofs.lemmas.Grind.{common_steps}
 use Rattle.std.proofs.lemmas.Option.{cond_some}
 use Rattle.byteorder.specs.Endian.{big_bytes}
-use Rattle.vk_base.proofs.StepLemmas.{bind_is}
+use Rattle.vk_base.proofs.OptionLemmas.{bind_is}
 use Rattle.vk_frame.specs.Law.{FramesAreSpelledOnce}
 use Rattle.vk_frame.specs.Reading.{opens, frame_of}
 use Rattle.vk_frame.specs.Rules.{is_lawful}

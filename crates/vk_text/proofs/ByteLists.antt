@@ -5,12 +5,12 @@ use Rattle.std.proofs.lemmas.Option.{cond_some}
 use Rattle.std.proofs.lemmas.Slice.Eq.{bytes_eq-Decides}
 use Rattle.hex.specs.Hex.{encode_lower}
 use Rattle.vk_base.specs.Options.{◌>>=◌}
+use Rattle.vk_base.proofs.OptionLemmas.{bind_is}
 use Rattle.vk_text.specs.Laws.{IsData, BytesAreSpelledOnce}
 use Rattle.vk_text.specs.Spelling.{bytes_text}
 use Rattle.vk_text.specs.Words.{lower_hex, bytes_of}
 use Rattle.vk_text.proofs.HexDigits.{written, some_text, no_dash_in, read_back}
 use Rattle.vk_text.proofs.Hexadecimal.{counted, no_dash_of_bytes}
-use Rattle.vk_text.proofs.Spelled.{bound}
 
 dash_read : (word bytes : List ℕ) → bytes_eq word (codes "-") ≡ true → bytes_of word ≡ Some bytes → [] ≡ bytes
 unfolding bytes_of
@@ -27,7 +27,7 @@ pub bytes_spelled : (bytes word : List ℕ) → bytes_of word ≡ Some bytes →
 bytes_spelled bytes word h = elim (cases_Bool (bytes_eq word (codes "-"))) [
   | inl dash ↦ (bytes_eq-Decides word (codes "-")).0 dash ∙ ap bytes_text (dash_read word bytes dash h)
   | inr other ↦
-      let read = bound (lower_hex word) counted bytes (sym (no_dash_of_bytes word other) ∙ h) in
+      let read = bind_is (lower_hex word) counted bytes (sym (no_dash_of_bytes word other) ∙ h) in
       of_digits word read.0 bytes read.1 read.2
 ]
 

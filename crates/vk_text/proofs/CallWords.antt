@@ -1,12 +1,12 @@
 -- Calls have one spelling each.
-use Rattle.std.proofs.Common.{◌≡◌, ℕ, ◌<◌, ◌^◌, ◌==◌, not, cond, List, [], ◌∷◌, ◌++◌, length, decimal, codes, bytes_eq, true, Option, Some, refl, arith, ap, sym, ◌∙◌}
-use Rattle.std.specs.List.{list_all, AllByRecursion}
+use Rattle.std.proofs.Common.{◌≡◌, ℕ, ◌<◌, cond, List, [], ◌∷◌, ◌++◌, length, decimal, codes, bytes_eq, true, Option, Some, refl, arith, ap, sym, ◌∙◌}
 use Rattle.std.proofs.lemmas.Option.{cond_some}
 use Rattle.vk_base.specs.declared.call.Call.{Call}
 use Rattle.vk_base.specs.declared.call.Call.TheVariants as calls
 use Rattle.vk_base.specs.declared.pid.Pid.{Pid}
+use Rattle.vk_base.proofs.OptionLemmas.{bind_is}
 use Rattle.vk_text.specs.Calls.{ended, range_of, places_of, send_of, reply_of, range_call_of, reply_segment_of, move_of, set_pid_of, get_pid_of, store_of, call_of}
-use Rattle.vk_text.specs.Laws.{HasNoSpace, IsReadable, CallsReadBack, CallWordsAreSpelledOnce, CallsAreSpelledOnce}
+use Rattle.vk_text.specs.Laws.{IsReadable, CallsReadBack, CallWordsAreSpelledOnce, CallsAreSpelledOnce}
 use Rattle.vk_text.specs.Lines.{words_from}
 use Rattle.vk_text.specs.Spelling.{spaced, joined, pid_text, message_text, bytes_text, scope_text, call_words, call_text}
 use Rattle.vk_text.specs.Words.{count_of, pid_of, message_of, bytes_of, scope_of}
@@ -14,8 +14,9 @@ use Rattle.vk_text.proofs.ByteLists.{bytes_spelled, bytes_read}
 use Rattle.vk_text.proofs.Firsts.{first_spelled, ended_is}
 use Rattle.vk_text.proofs.Fronts.{spaced_joined}
 use Rattle.vk_text.proofs.Messages.{message_spelled, message_read}
-use Rattle.vk_text.proofs.ReadBack.{joined_words, line_joined, no_space_by, plain, decimal_no_space, pid_no_space, message_no_space, bytes_no_space, scope_no_space}
-use Rattle.vk_text.proofs.Spelled.{bound, either_word, count_spelled, count_read, pid_spelled, pid_read, scope_spelled, scope_read}
+use Rattle.vk_text.proofs.PlainWords.{call_plain, no_spaces}
+use Rattle.vk_text.proofs.ReadBack.{joined_words, line_joined}
+use Rattle.vk_text.proofs.Spelled.{either_word, count_spelled, count_read, pid_spelled, pid_read, scope_spelled, scope_read}
 
 range_spelled : (ws : List (List ℕ)) (r : ℕ × ℕ) → range_of ws ≡ Some r → ws ≡ decimal r.0 ∷ decimal r.1 ∷ []
 unfolding range_of
@@ -83,7 +84,7 @@ unfolding reply_segment_of call_words
 reply_segment_spelled ws call h =
     let message = first_spelled message_of message_text message_spelled _ call ws h in
     let to = first_spelled pid_of pid_text pid_spelled _ call message.1 message.3 in
-    let places = bound (places_of to.1) _ call to.3 in
+    let places = bind_is (places_of to.1) _ call to.3 in
     let end = same_call _ call places.2 in
     ap (λ l. codes "replysegment" ∷ l) (message.2 ∙ ap (λ l. message_text message.0 ∷ l) (to.2 ∙ ap (λ l. pid_text to.0 ∷ l) (places_spelled to.1 places.0 places.1))) ∙ ap call_words end
 
@@ -91,7 +92,7 @@ reply_segment_spelled ws call h =
 range_call_spelled : (word : List ℕ) (make : ℕ → ℕ → Call) → ((start count : ℕ) → call_words (make start count) ≡ word ∷ decimal start ∷ decimal count ∷ []) → (ws : List (List ℕ)) (call : Call) → range_call_of make ws ≡ Some call → word ∷ ws ≡ call_words call
 unfolding range_call_of
 range_call_spelled word make is ws call h =
-    let range = bound (range_of ws) _ call h in
+    let range = bind_is (range_of ws) _ call h in
     let end = same_call _ call range.2 in
     ap (λ l. word ∷ l) (range_spelled ws range.0 range.1) ∙ sym (is range.0.0 range.0.1) ∙ ap call_words end
 
@@ -99,7 +100,7 @@ move_spelled : (word : List ℕ) (make : Pid → ℕ → ℕ → ℕ → Call) �
 unfolding move_of
 move_spelled word make is ws call h =
     let partner = first_spelled pid_of pid_text pid_spelled _ call ws h in
-    let places = bound (places_of partner.1) _ call partner.3 in
+    let places = bind_is (places_of partner.1) _ call partner.3 in
     let end = same_call _ call places.2 in
     ap (λ l. word ∷ l) (partner.2 ∙ ap (λ l. pid_text partner.0 ∷ l) (places_spelled partner.1 places.0 places.1)) ∙ sym (is partner.0 places.0.0 places.0.1 places.0.2) ∙ ap call_words end
 
@@ -155,31 +156,10 @@ pub spaced_call : (text : List ℕ) (call : Call) → spaced text (call_words ca
 unfolding call_text
 spaced_call text call = spaced_joined text (call_words call) (some_words call)
 
-count_no_space : (n : ℕ) → n < 2 ^ 32 → HasNoSpace (decimal n)
-count_no_space n h = decimal_no_space n (omega arith)
-
-letters : (word : List ℕ) → list_all (λ c. not (c == 32)) word ≡ true → HasNoSpace word
-letters word h = no_space_by (λ c. not (c == 32)) plain word h
-
-pub call_no_space : (call : Call) → IsReadable call → AllByRecursion HasNoSpace (call_words call)
-unfolding call_words
-call_no_space (calls.Send target message) h = (letters (codes "send") refl, (pid_no_space target h.0, (message_no_space message h.1, tt)))
-call_no_space calls.Receive h = (letters (codes "receive") refl, tt)
-call_no_space (calls.ReceiveSegment start count) h = (letters (codes "receivesegment") refl, (count_no_space start h.0, (count_no_space count h.1, tt)))
-call_no_space (calls.Reply message to) h = (letters (codes "reply") refl, (message_no_space message h.0, (pid_no_space to h.1, tt)))
-call_no_space (calls.ReplySegment message to dest src count) h = (letters (codes "replysegment") refl, (message_no_space message h.0, (pid_no_space to h.1, (count_no_space dest h.2, (count_no_space src h.3, (count_no_space count h.4, tt))))))
-call_no_space (calls.MoveTo partner dest src count) h = (letters (codes "moveto") refl, (pid_no_space partner h.0, (count_no_space dest h.1, (count_no_space src h.2, (count_no_space count h.3, tt)))))
-call_no_space (calls.MoveFrom partner dest src count) h = (letters (codes "movefrom") refl, (pid_no_space partner h.0, (count_no_space dest h.1, (count_no_space src h.2, (count_no_space count h.3, tt)))))
-call_no_space (calls.SetPid logical pid scope) h = (letters (codes "setpid") refl, (count_no_space logical h.0, (pid_no_space pid h.1, (scope_no_space scope, tt))))
-call_no_space (calls.GetPid logical scope) h = (letters (codes "getpid") refl, (count_no_space logical h, (scope_no_space scope, tt)))
-call_no_space (calls.Load start count) h = (letters (codes "load") refl, (count_no_space start h.0, (count_no_space count h.1, tt)))
-call_no_space (calls.Store start bytes) h = (letters (codes "store") refl, (count_no_space start h.0, (bytes_no_space bytes h.1.1, tt)))
-call_no_space calls.Exit h = (letters (codes "exit") refl, tt)
-
 pub calls_back : CallsReadBack
 unfolding call_text
 calls_back call h =
-    ap call_of (joined_words (call_words call) (some_words call) (call_no_space call h)) ∙ call_read call h
+    ap call_of (joined_words (call_words call) (some_words call) (no_spaces (call_words call) (call_plain call h))) ∙ call_read call h
 
 pub call_words_once : CallWordsAreSpelledOnce
 call_words_once call ws h = (λ e. call_spelled ws call e, λ e. ap call_of e ∙ call_read call h)

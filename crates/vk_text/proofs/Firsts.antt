@@ -3,10 +3,10 @@ use Rattle.std.proofs.Common.{◌≡◌, ℕ, true, List, [], ◌∷◌, Option,
 use Rattle.std.proofs.lemmas.Option.{cond_some}
 use Rattle.hex.specs.Hex.{decode_pairs}
 use Rattle.vk_base.specs.Options.{◌>>=◌}
+use Rattle.vk_base.proofs.OptionLemmas.{bind_is}
 use Rattle.vk_text.specs.Calls.{first_as, ended}
 use Rattle.vk_text.specs.Lines.{StartsNoWord}
-use Rattle.vk_text.specs.Words.{number_of, count_of, station_of, pid_of, message_of, bytes_of, scope_of}
-use Rattle.vk_text.proofs.Spelled.{bound}
+use Rattle.vk_text.specs.Words.{number_of, positive_of, count_of, station_of, pid_of, message_of, bytes_of, scope_of}
 
 pub no_first : {A : Type 0} (spelled : List ℕ → Option A) → spelled [] ≡ None → (ws : List (List ℕ)) → StartsNoWord ws → first_as spelled ws ≡ None
 no_first spelled e [] h = refl
@@ -20,9 +20,12 @@ no_number most ws h = no_first (number_of most) refl ws h
 pub no_count : (ws : List (List ℕ)) → StartsNoWord ws → first_as count_of ws ≡ None
 no_count ws h = no_number 4294967295 ws h
 
+pub no_positive : (most : ℕ) (ws : List (List ℕ)) → StartsNoWord ws → first_as (positive_of most) ws ≡ None
+unfolding positive_of number_of
+no_positive most ws h = no_first (positive_of most) refl ws h
+
 pub no_station : (ws : List (List ℕ)) → StartsNoWord ws → first_as station_of ws ≡ None
-unfolding station_of number_of
-no_station ws h = no_first station_of refl ws h
+no_station ws h = no_positive 65534 ws h
 
 pub no_pid : (ws : List (List ℕ)) → StartsNoWord ws → first_as pid_of ws ≡ None
 unfolding pid_of
@@ -43,8 +46,8 @@ no_scope ws h = no_first scope_of refl ws h
 pub first_spelled : {A B : Type 0} (spelled : List ℕ → Option A) (text : A → List ℕ) → ((a : A) (w : List ℕ) → spelled w ≡ Some a → w ≡ text a) → (next : A × List (List ℕ) → Option B) (b : B) (ws : List (List ℕ)) → (first_as spelled ws >>= next) ≡ Some b → (a : A) × (rest : List (List ℕ)) × (ws ≡ text a ∷ rest) × (next (a, rest) ≡ Some b)
 first_spelled spelled text is next b [] h = cc
 first_spelled spelled text is next b (w ∷ ws) h =
-    let here = bound (spelled w >>= λ a. Some (a, ws)) next b h in
-    let read = bound (spelled w) (λ a. Some (a, ws)) here.0 here.1 in
+    let here = bind_is (spelled w >>= λ a. Some (a, ws)) next b h in
+    let read = bind_is (spelled w) (λ a. Some (a, ws)) here.0 here.1 in
     (read.0, ws, ap (λ l. l ∷ ws) (is read.0 w read.1), ap next (cond_some true (read.0, ws) here.0 read.2).1 ∙ here.2)
 
 -- no word is left behind what is read

@@ -1,30 +1,28 @@
 -- Heads as texts.
-use Rattle.std.proofs.Common.{◌≡◌, ℕ, ◌-◌, ◌<◌, ◌≤◌, ◌^◌, ◌==◌, not, nat_lt, Bool, true, false, cond, List, [], ◌∷◌, ◌++◌, length, decimal, codes, bytes_eq, Option, Some, None, refl, ap, sym, ◌∙◌, arith, append_assoc, append-nil}
-use Rattle.std.specs.Char.{is_ascii_digit}
-use Rattle.std.specs.List.{AllByRecursion, flat_map, list_all, slice_get}
+use Rattle.std.proofs.Common.{◌≡◌, ℕ, ◌-◌, ◌<◌, ◌≤◌, ◌^◌, not, nat_lt, Bool, true, false, cond, List, [], ◌∷◌, ◌++◌, length, decimal, codes, bytes_eq, Option, Some, None, refl, ap, sym, ◌∙◌, arith, append_assoc, append-nil}
+use Rattle.std.specs.List.{AllByRecursion, flat_map, slice_get}
 use Rattle.std.specs.Option.{option_map_or}
 use Rattle.std.specs.Prelude.{is_none, map}
-use Rattle.std.proofs.lemmas.Bool.{not-true, ltb-false}
+use Rattle.std.proofs.lemmas.Bool.{ltb-false}
 use Rattle.std.proofs.lemmas.List.{map-append}
-use Rattle.std.proofs.lemmas.List.Elements.{All-append, All-cons}
-use Rattle.std.proofs.lemmas.List.Sums.{AllPass-from_list_all}
 use Rattle.std.proofs.lemmas.Option.{cond_some}
 use Rattle.std.proofs.lemmas.Slice.Eq.{bytes_eq-Decides}
 use Rattle.vk_base.specs.Options.{◌>>=◌}
 use Rattle.vk_base.specs.Settings.{is_too_many, fault_of, first_fault, or_else, rises}
 use Rattle.vk_base.specs.declared.config.ConfigRefusal.{ConfigRefusal}
 use Rattle.vk_base.specs.declared.config.ProcessSpec.{ProcessSpec}
-use Rattle.vk_base.specs.declared.pid.Pid.{Pid}
+use Rattle.vk_base.proofs.OptionLemmas.{bind_is}
 use Rattle.vk_text.specs.Heads.{spec_of, process_of, with_process, with_line, processes_from, head_of, process_words, process_text, line_text, HasNoFeed, BeginsWithNoProcess, HeadsReadBack}
-use Rattle.vk_text.specs.Laws.{HasNoSpace, IsPid}
+use Rattle.vk_base.specs.Pids.{IsPid}
 use Rattle.vk_text.specs.Lines.{lines_of, words_from}
 use Rattle.vk_text.specs.Spelling.{joined, pid_text}
 use Rattle.vk_text.specs.Words.{number_of, pid_of}
 use Rattle.vk_text.proofs.Firsts.{first_spelled, ended_is}
 use Rattle.vk_text.proofs.HeadReading.{Parts}
 use Rattle.vk_text.proofs.LineTexts.{line_and_rest}
-use Rattle.vk_text.proofs.ReadBack.{words, line_joined, no_space_by, plain, decimal_no_space, pid_no_space}
-use Rattle.vk_text.proofs.Spelled.{bound, either_word, number_spelled, number_read, pid_spelled, pid_read, decimal_digits}
+use Rattle.vk_text.proofs.PlainWords.{process_plain, no_spaces, no_feeds, joined_no_feed}
+use Rattle.vk_text.proofs.ReadBack.{joined_words, line_joined}
+use Rattle.vk_text.proofs.Spelled.{either_word, number_spelled, number_read, pid_spelled, pid_read}
 
 spec_spelled : (ws : List (List ℕ)) (s : ProcessSpec) → spec_of ws ≡ Some s → codes "process" ∷ ws ≡ process_words s
 unfolding spec_of
@@ -49,7 +47,7 @@ none_is (Some a) h = cc
 pub line_is_process : (line : List ℕ) (specs more : List ProcessSpec) → with_line specs line ≡ Some more → (s : ProcessSpec) × (line ≡ process_text s) × (more ≡ specs ++ s ∷ []) × (fault_of specs s ≡ None)
 unfolding with_line
 line_is_process line specs more h =
-    let read = bound (process_of (words_from line 0)) (with_process specs) more h in
+    let read = bind_is (process_of (words_from line 0)) (with_process specs) more h in
     let got = cond_some (is_none (fault_of specs read.0)) _ more read.2 in
     (read.0, sym (line_joined line) ∙ ap joined (process_spelled (words_from line 0) read.0 read.1), sym got.1, none_is (fault_of specs read.0) got.0)
 
@@ -74,41 +72,15 @@ head_spelled title (l ∷ ls) found h =
     let got = cond_some (bytes_eq l title) (processes_from [] ls) found h in
     ap (λ t. t ∷ ls) ((bytes_eq-Decides l title).0 got.0) ∙ ap (λ x. title ∷ x) (processes_spelled [] ls found got.1)
 
-no_feed_by : (p : ℕ → Bool) → ((c : ℕ) → p c ≡ true → (c == 10) ≡ false) → (word : List ℕ) → list_all p word ≡ true → HasNoFeed word
-no_feed_by p other word h = λ k d l. other _ (AllPass-from_list_all p word h k d l)
-
-digit_is_none : (c : ℕ) → is_ascii_digit c ≡ true → (c == 10) ≡ false
-digit_is_none c h = grind arith
-
-no_feed : (c : ℕ) → not (c == 10) ≡ true → (c == 10) ≡ false
-no_feed c h = not-true (c == 10) h
-
-abbrev IsNoFeed : ℕ → Type 0
-IsNoFeed b = (b == 10) ≡ false
-
-decimal_no_feed : (n : ℕ) → n < 2 ^ 64 → HasNoFeed (decimal n)
-decimal_no_feed n h = no_feed_by is_ascii_digit digit_is_none (decimal n) (decimal_digits n h)
-
-pid_no_feed : (p : Pid) → IsPid p → HasNoFeed (pid_text p)
-pid_no_feed p fits =
-    let host = p.one_host in
-    let point : HasNoFeed (codes ".") = no_feed_by (λ c. not (c == 10)) no_feed (codes ".") refl in
-    All-append IsNoFeed (decimal p.host ++ codes ".") (decimal p.local) (All-append IsNoFeed (decimal p.host) (codes ".") (decimal_no_feed p.host (omega arith)) point) (decimal_no_feed p.local (omega arith))
-
-process_no_feed : (s : ProcessSpec) → IsPid s.pid → s.size < 2 ^ 64 → HasNoFeed (process_text s)
-process_no_feed s fits small =
-    let first : HasNoFeed (codes "process") = no_feed_by (λ c. not (c == 10)) no_feed (codes "process") refl in
-    let front = All-append IsNoFeed (codes "process") (32 ∷ pid_text s.pid) first (All-cons IsNoFeed 32 (pid_text s.pid) refl (pid_no_feed s.pid fits)) in
-    All-append IsNoFeed (codes "process" ++ 32 ∷ pid_text s.pid) (32 ∷ decimal s.size) front (All-cons IsNoFeed 32 (decimal s.size) refl (decimal_no_feed s.size small))
-
 spec_read : (s : ProcessSpec) → IsPid s.pid → s.size ≤ 131072 → process_of (codes "process" ∷ pid_text s.pid ∷ decimal s.size ∷ []) ≡ Some s
 unfolding process_of spec_of
 spec_read s fits small = rw (pid_read s.pid fits, number_read 131072 s.size (omega arith) small) refl
 
 process_read : (s : ProcessSpec) → IsPid s.pid → s.size ≤ 131072 → process_of (words_from (process_text s) 0) ≡ Some s
-process_read s fits small =
-    let name : HasNoSpace (codes "process") = no_space_by (λ c. not (c == 32)) plain (codes "process") refl in
-    ap process_of (words (codes "process") (pid_text s.pid ∷ decimal s.size ∷ []) name (pid_no_space s.pid fits, (decimal_no_space s.size (omega arith), tt))) ∙ spec_read s fits small
+process_read s fits small = ap process_of (joined_words (process_words s) (omega arith) (no_spaces (process_words s) (process_plain s fits (omega arith)))) ∙ spec_read s fits small
+
+process_no_feed : (s : ProcessSpec) → IsPid s.pid → s.size < 2 ^ 64 → HasNoFeed (process_text s)
+process_no_feed s fits small = joined_no_feed (process_words s) (no_feeds (process_words s) (process_plain s fits small))
 
 small_by : (a b c : Bool) (x y z : ConfigRefusal) → cond a (Some x) (cond b (Some y) (cond c (Some z) None)) ≡ None → b ≡ false
 small_by true b c x y z h = cc

@@ -10,5 +10,6 @@ pub mod LineTexts
 pub mod Messages
 pub mod Numerals
 pub mod Parts
+pub mod PlainWords
 pub mod ReadBack
 pub mod Spelled

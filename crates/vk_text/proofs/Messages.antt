@@ -11,12 +11,12 @@ use Rattle.std.proofs.lemmas.Slice.Eq.{bytes_eq-Decides}
 use Rattle.hex.specs.Hex.{encode_lower, IsBytes}
 use Rattle.vk_base.specs.Options.{◌>>=◌}
 use Rattle.vk_base.specs.declared.message.Message.{Message}
+use Rattle.vk_base.proofs.OptionLemmas.{bind_is}
 use Rattle.vk_text.specs.Laws.{MessagesAreSpelledOnce}
 use Rattle.vk_text.specs.Spelling.{bytes_text, filled, message_text}
 use Rattle.vk_text.specs.Words.{lower_hex, ends_filled, padded, message_of}
 use Rattle.vk_text.proofs.HexDigits.{written, some_text, no_dash_in, read_back}
 use Rattle.vk_text.proofs.Hexadecimal.{shown, no_dash}
-use Rattle.vk_text.proofs.Spelled.{bound}
 
 some_byte : (bytes : List ℕ) → ends_filled bytes ≡ true → 0 < length bytes
 some_byte [] h = cc
@@ -92,7 +92,7 @@ pub message_spelled : (m : Message) (word : List ℕ) → message_of word ≡ So
 message_spelled m word h = elim (cases_Bool (bytes_eq word (codes "-"))) [
   | inl dash ↦ (bytes_eq-Decides word (codes "-")).0 dash ∙ dash_text m (dash_read word m dash h)
   | inr other ↦
-      let read = bound (lower_hex word) shown m (sym (no_dash word other) ∙ h) in
+      let read = bind_is (lower_hex word) shown m (sym (no_dash word other) ∙ h) in
       of_bytes word read.0 m read.1 read.2
 ]
 

@@ -1,26 +1,14 @@
 -- What is written is read again.
-use Rattle.std.proofs.Common.{◌≡◌, ℕ, ◌<◌, ◌^◌, ◌==◌, not, Bool, true, false, cond, List, [], ◌∷◌, ◌++◌, length, get_or, decimal, codes, refl, arith, ap, sym, ◌∙◌, append_assoc}
-use Rattle.std.specs.Char.{is_ascii_digit}
-use Rattle.std.specs.List.{slice_split, onto_first, list_all, AllByRecursion}
-use Rattle.std.proofs.lemmas.Bool.{not-true, eqb-true}
+use Rattle.std.proofs.Common.{◌≡◌, ℕ, ◌<◌, ◌==◌, Bool, true, false, cond, List, [], ◌∷◌, ◌++◌, length, refl, arith, ap, sym, ◌∙◌, append_assoc}
+use Rattle.std.specs.List.{slice_split, onto_first, AllByRecursion}
+use Rattle.std.proofs.lemmas.Bool.{eqb-true}
 use Rattle.std.proofs.lemmas.Grind.{common_steps}
-use Rattle.std.proofs.lemmas.List.Elements.{All-append}
 use Rattle.std.proofs.lemmas.List.Splits.{slice_split_none, length-slice_split}
-use Rattle.std.proofs.lemmas.List.Sums.{AllPass-from_list_all}
-use Rattle.vk_base.specs.declared.call.Scope.{Scope}
-use Rattle.vk_base.specs.declared.call.Scope.TheVariants as scopes
-use Rattle.vk_base.specs.declared.message.Message.{Message}
-use Rattle.vk_base.specs.declared.pid.Pid.{Pid}
-use Rattle.vk_text.specs.Laws.{HasNoSpace, IsMessage, IsPid, WordsReadBack}
+use Rattle.vk_text.specs.Laws.{HasNoSpace, WordsReadBack}
 use Rattle.vk_text.specs.Lines.{words_from}
-use Rattle.vk_text.specs.Spelling.{spaced, joined, pid_text, bytes_text, filled, message_text, scope_text}
-use Rattle.vk_text.specs.Words.{is_lower_hex}
-use Rattle.hex.specs.Hex.{encode_lower, IsBytes}
+use Rattle.vk_text.specs.Spelling.{spaced, joined}
 use Rattle.vk_text.proofs.Fronts.{spaced_behind}
-use Rattle.vk_text.proofs.HexDigits.{all_lower}
-use Rattle.vk_text.proofs.Messages.{filled_fits}
 use Rattle.vk_text.proofs.Parts.{words_within}
-use Rattle.vk_text.proofs.Spelled.{decimal_digits}
 
 onto_more : (c : ℕ) (parts more : List (List ℕ)) → 0 < length parts → onto_first c (parts ++ more) ≡ onto_first c parts ++ more
 onto_more c [] more h = absurd (omega arith)
@@ -70,37 +58,3 @@ parts_joined (c ∷ cs) =
 -- a line is its words with one space between
 pub line_joined : (line : List ℕ) → joined (words_from line 0) ≡ line
 line_joined line = ap joined (words_within line 0 (omega arith)) ∙ parts_joined line
-
-pub no_space_by : (p : ℕ → Bool) → ((c : ℕ) → p c ≡ true → (c == 32) ≡ false) → (word : List ℕ) → list_all p word ≡ true → HasNoSpace word
-no_space_by p other word h = λ k d l. other (get_or word k d) (AllPass-from_list_all p word h k d l)
-
-pub plain : (c : ℕ) → not (c == 32) ≡ true → (c == 32) ≡ false
-plain c h = not-true (c == 32) h
-
-digit_is_none : (c : ℕ) → is_ascii_digit c ≡ true → (c == 32) ≡ false
-digit_is_none c h = grind arith
-
-hex_is_none : (c : ℕ) → is_lower_hex c ≡ true → (c == 32) ≡ false
-hex_is_none c h = grind arith
-
-pub decimal_no_space : (n : ℕ) → n < 2 ^ 64 → HasNoSpace (decimal n)
-decimal_no_space n h = no_space_by is_ascii_digit digit_is_none (decimal n) (decimal_digits n h)
-
-pub scope_no_space : (s : Scope) → HasNoSpace (scope_text s)
-scope_no_space scopes.Local = no_space_by (λ c. not (c == 32)) plain (codes "local") refl
-scope_no_space scopes.Remote = no_space_by (λ c. not (c == 32)) plain (codes "remote") refl
-scope_no_space scopes.Both = no_space_by (λ c. not (c == 32)) plain (codes "both") refl
-
-pub pid_no_space : (p : Pid) → IsPid p → HasNoSpace (pid_text p)
-pid_no_space p fits =
-    let host = p.one_host in
-    let point : HasNoSpace (codes ".") = no_space_by (λ c. not (c == 32)) plain (codes ".") refl in
-    All-append (λ b. (b == 32) ≡ false) (decimal p.host ++ codes ".") (decimal p.local) (All-append (λ b. (b == 32) ≡ false) (decimal p.host) (codes ".") (decimal_no_space p.host (omega arith)) point) (decimal_no_space p.local (omega arith))
-
-pub bytes_no_space : (bytes : List ℕ) → IsBytes bytes → HasNoSpace (bytes_text bytes)
-bytes_no_space [] h = no_space_by (λ c. not (c == 32)) plain (codes "-") refl
-bytes_no_space (b ∷ bs) h = no_space_by is_lower_hex hex_is_none (encode_lower (b ∷ bs)) (all_lower (b ∷ bs) h)
-
-pub message_no_space : (m : Message) → IsMessage m → HasNoSpace (message_text m)
-unfolding message_text
-message_no_space m fits = bytes_no_space (filled m.0) (filled_fits m.0 fits.1)

@@ -14,11 +14,11 @@ use Rattle.vk_base.specs.Options.{◌>>=◌}
 use Rattle.vk_base.specs.declared.call.Scope.{Scope}
 use Rattle.vk_base.specs.declared.call.Scope.TheVariants as scopes
 use Rattle.vk_base.specs.declared.pid.Pid.{Pid}
-use Rattle.vk_base.specs.Pids.{pid_by, pid_of_numbers}
-use Rattle.vk_base.proofs.PidLemmas.{pid_of_numbers_is}
+use Rattle.vk_base.proofs.OptionLemmas.{bind_is}
+use Rattle.vk_base.proofs.PidLemmas.{numbers_of, own_numbers}
 use Rattle.vk_text.specs.Laws.{NumbersAreSpelledOnce, StationsAreSpelledOnce, PidsAreSpelledOnce, ScopesAreSpelledOnce}
 use Rattle.vk_text.specs.Spelling.{pid_text, scope_text}
-use Rattle.vk_text.specs.Words.{is_numeral, number_of, count_of, station_of, pid_of, scope_of}
+use Rattle.vk_text.specs.Words.{is_numeral, number_of, positive_of, count_of, station_of, pid_of, scope_of}
 
 digits_test : IsDigitsTest (λ ds. list_all is_ascii_digit ds ≡ true)
 digits_test = search rules
@@ -71,53 +71,39 @@ number_read most n m h =
 pub numbers : NumbersAreSpelledOnce
 numbers most n word m = (λ h. number_spelled most n word m h, λ h. ap (number_of most) h.0 ∙ number_read most n m h.1)
 
--- what was read step by step
-pub bound : {A B : Type 0} (o : Option A) (f : A → Option B) (b : B) → (o >>= f) ≡ Some b → (a : A) × (o ≡ Some a) × (f a ≡ Some b)
-bound None f b h = cc
-bound (Some a) f b h = (a, refl, h)
-
 pub count_spelled : (n : ℕ) (word : List ℕ) → count_of word ≡ Some n → word ≡ decimal n
 count_spelled n word h = (number_spelled 4294967295 n word (omega arith) h).0
 
 pub count_read : (n : ℕ) → n < 2 ^ 32 → count_of (decimal n) ≡ Some n
 count_read n h = number_read 4294967295 n (omega arith) (omega arith)
 
-pub station_spelled : (host : ℕ) (word : List ℕ) → station_of word ≡ Some host → (word ≡ decimal host) × (0 < host) × (host < 65535)
-unfolding station_of
-station_spelled host word h =
-    let read = bound (number_of 65534 word) _ host h in
-    let got = cond_some (nat_lt 0 read.0) read.0 host read.2 in
-    let number = number_spelled 65534 read.0 word (omega arith) read.1 in
+-- a number from 1 on has one spelling
+pub positive_spelled : (most n : ℕ) (word : List ℕ) → most < 2 ^ 64 → positive_of most word ≡ Some n → (word ≡ decimal n) × (0 < n) × (n ≤ most)
+unfolding positive_of
+positive_spelled most n word m h =
+    let read = bind_is (number_of most word) _ n h in
+    let got = cond_some (nat_lt 0 read.0) read.0 n read.2 in
+    let number = number_spelled most read.0 word m read.1 in
     let some = ltb-true 0 read.0 got.0 in
-    let most = number.1 in
+    let least = number.1 in
     let same = got.1 in
-    (number.0 ∙ ap decimal same, omega (arith, some, same), omega (arith, most, same))
+    (number.0 ∙ ap decimal same, omega (arith, some, same), omega (arith, least, same))
+
+pub positive_read : (most n : ℕ) → most < 2 ^ 64 → 0 < n → n ≤ most → positive_of most (decimal n) ≡ Some n
+unfolding positive_of
+positive_read most n m some h = ap (λ (o : Option ℕ). o >>= λ n. if nat_lt 0 n then Some n else None) (number_read most n m h) ∙ cond-true _ _ _ (lt-ltb 0 n some)
+
+pub station_spelled : (host : ℕ) (word : List ℕ) → station_of word ≡ Some host → (word ≡ decimal host) × (0 < host) × (host < 65535)
+station_spelled host word h =
+    let number = positive_spelled 65534 host word (omega arith) h in
+    let most = number.2 in
+    (number.0, number.1, omega (arith, most))
 
 pub station_read : (host : ℕ) → 0 < host → host < 65535 → station_of (decimal host) ≡ Some host
-unfolding station_of
-station_read host some most = ap (λ (o : Option ℕ). o >>= λ n. if nat_lt 0 n then Some n else None) (number_read 65534 host (omega arith) (omega arith)) ∙ cond-true _ _ _ (lt-ltb 0 host some)
+station_read host some most = positive_read 65534 host (omega arith) some (omega arith)
 
 pub stations : StationsAreSpelledOnce
 stations host word = (λ h. station_spelled host word h, λ h. ap station_of h.0 ∙ station_read host h.1 h.2)
-
-host_in : Pid → Option Pid → ℕ
-host_in p None = p.host
-host_in p (Some q) = q.host
-
-local_in : Pid → Option Pid → ℕ
-local_in p None = p.local
-local_in p (Some q) = q.local
-
-by_tests : (host local : ℕ) (a b c : Bool) (ea : nat_lt 0 host ≡ a) (eb : nat_lt host 65535 ≡ b) (ec : nat_lt 0 local ≡ c) (p : Pid) → pid_by host local a b c ea eb ec ≡ Some p → (host ≡ p.host) × (local ≡ p.local)
-unfolding host_in local_in
-by_tests host local true true true ea eb ec p h = (ap (host_in p) h, ap (local_in p) h)
-by_tests host local true true false ea eb ec p h = cc
-by_tests host local true false c ea eb ec p h = cc
-by_tests host local false b c ea eb ec p h = cc
-
-numbers_of : (host local : ℕ) (p : Pid) → pid_of_numbers host local ≡ Some p → (host ≡ p.host) × (local ≡ p.local)
-unfolding pid_of_numbers
-numbers_of host local p h = by_tests host local (nat_lt 0 host) (nat_lt host 65535) (nat_lt 0 local) refl refl refl p h
 
 -- the parts on both sides of the first point
 parted : (word : List ℕ) (i : ℕ) → position (λ c. c == 46) word ≡ Some i → word ≡ take i word ++ 46 ∷ drop (i + 1) word
@@ -132,9 +118,9 @@ parted word i h =
 pub pid_spelled : (p : Pid) (word : List ℕ) → pid_of word ≡ Some p → word ≡ pid_text p
 unfolding pid_of
 pid_spelled p word h =
-    let at = bound (position (λ c. c == 46) word) _ p h in
-    let host = bound (number_of 65535 (take at.0 word)) _ p at.2 in
-    let local = bound (number_of 65535 (drop (at.0 + 1) word)) _ p host.2 in
+    let at = bind_is (position (λ c. c == 46) word) _ p h in
+    let host = bind_is (number_of 65535 (take at.0 word)) _ p at.2 in
+    let local = bind_is (number_of 65535 (drop (at.0 + 1) word)) _ p host.2 in
     let same = numbers_of host.0 local.0 p local.2 in
     let front : take at.0 word ≡ decimal p.host = (number_spelled 65535 host.0 (take at.0 word) (omega arith) host.1).0 ∙ ap decimal same.0 in
     let back : drop (at.0 + 1) word ≡ decimal p.local = (number_spelled 65535 local.0 (drop (at.0 + 1) word) (omega arith) local.1).0 ∙ ap decimal same.1 in
@@ -161,7 +147,7 @@ pid_read p small =
     let whole : pid_text p ≡ decimal p.host ++ 46 ∷ decimal p.local = append_assoc (decimal p.host) (46 ∷ []) (decimal p.local) in
     let front : take (length (decimal p.host)) (decimal p.host ++ 46 ∷ decimal p.local) ≡ decimal p.host = grind (arith, common_steps) in
     let back : drop (length (decimal p.host) + 1) (decimal p.host ++ 46 ∷ decimal p.local) ≡ decimal p.local = grind (arith, common_steps) in
-    rw (whole, point_after (decimal p.host) (decimal p.local) digits, front, back, number_read 65535 p.host (omega arith) (omega arith), number_read 65535 p.local (omega arith) (omega arith)) (sym (pid_of_numbers_is p.host p.local p.some_host p.one_host p.some_local))
+    rw (whole, point_after (decimal p.host) (decimal p.local) digits, front, back, number_read 65535 p.host (omega arith) (omega arith), number_read 65535 p.local (omega arith) (omega arith)) (own_numbers p)
 
 pub pids : PidsAreSpelledOnce
 pids p word small = (λ h. pid_spelled p word h, λ h. ap pid_of h ∙ pid_read p small)

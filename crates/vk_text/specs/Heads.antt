@@ -6,7 +6,7 @@ use Rattle.vk_base.specs.Options.{◌>>=◌}
 use Rattle.vk_base.specs.Settings.{Settings, fault_of, first_fault}
 use Rattle.vk_base.specs.declared.config.ProcessSpec.{ProcessSpec}
 use Rattle.vk_text.specs.Calls.{first_as, ended}
-use Rattle.vk_text.specs.Laws.{IsPid}
+use Rattle.vk_base.specs.Pids.{IsPid}
 use Rattle.vk_text.specs.Lines.{lines_of, words_from}
 use Rattle.vk_text.specs.Spelling.{joined, pid_text}
 use Rattle.vk_text.specs.Words.{number_of, pid_of}

@@ -1,6 +1,8 @@
 -- Reading is the inverse of spelling.
 use Rattle.std.specs.Prelude.{◌≡◌, ℕ, ◌^◌, ◌<◌, ◌≤◌, ◌↔◌, ◌==◌, false, List, ◌∷◌, All, Some, length, slice_index, decimal}
 use Rattle.std.specs.List.{AllByRecursion}
+use Rattle.vk_base.specs.Messages.{IsMessage}
+use Rattle.vk_base.specs.Pids.{IsPid}
 use Rattle.vk_base.specs.declared.call.Call.{Call}
 use Rattle.vk_base.specs.declared.call.Call.TheVariants as calls
 use Rattle.vk_base.specs.declared.call.Scope.{Scope}
@@ -10,13 +12,6 @@ use Rattle.vk_text.specs.Calls.{call_of}
 use Rattle.vk_text.specs.Lines.{words_from}
 use Rattle.vk_text.specs.Spelling.{spaced, pid_text, bytes_text, message_text, scope_text, call_words, call_text}
 use Rattle.vk_text.specs.Words.{number_of, station_of, pid_of, message_of, bytes_of, scope_of}
-
--- a message of 32 bytes, and a pid of 16-bit numbers
-abbrev pub IsMessage : Message → Type 0
-IsMessage m = (length m.0 ≡ 32) × ((i : ℕ) → slice_index m.0 i < 256)
-
-abbrev pub IsPid : Pid → Type 0
-IsPid p = p.local < 2 ^ 16
 
 -- at most 1,024 bytes
 abbrev pub IsData : List ℕ → Type 0

@@ -25,9 +25,13 @@ number_of most word = if is_numeral word && nat_le (digits_value 10 word) most t
 abbrev pub count_of : List ℕ → Option ℕ
 count_of word = number_of 4294967295 word
 
--- a number from 1 to 65,534
-unfoldable pub station_of : List ℕ → Option ℕ
-station_of word = number_of 65534 word >>= λ n. if nat_lt 0 n then Some n else None
+-- a number from 1 to `most`
+unfoldable pub positive_of : ℕ → List ℕ → Option ℕ
+positive_of most word = number_of most word >>= λ n. if nat_lt 0 n then Some n else None
+
+-- a station: 1 to 65,534
+abbrev pub station_of : List ℕ → Option ℕ
+station_of word = positive_of 65534 word
 
 -- `H.L`, two numbers with a point between
 unfoldable pub pid_of : List ℕ → Option Pid

@@ -20,10 +20,11 @@ pub use heads::{Head, HeadRefusal, empty_config, heads_are_read_again, put_head,
 pub use law::{calls_are_spelled_once, words_are_spelled_once, written_is_read};
 pub use line::{next_line, next_word};
 pub use next::{
-    is_end, next_bytes, next_count, next_message, next_number, next_pid, next_scope, next_station,
+    is_end, next_bytes, next_count, next_message, next_number, next_pid, next_positive, next_scope,
+    next_station,
 };
 pub use spelling::{put, put_bytes, put_message, put_number, put_scope};
-pub use word::{bytes, message, number, pid, scope, station};
+pub use word::{bytes, message, number, pid, positive, scope, station};
 pub use writing::{
     put_call, put_pid, write_bytes, write_call, write_message, write_number, write_pid,
     write_scope, write_word,

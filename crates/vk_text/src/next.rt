@@ -4,10 +4,10 @@
 ghost use Rattle.std.specs.Prelude.{◌≡◌, ◌≤◌, Some, None, MatchOption, IfSome};
 ghost use Rattle.vk_text.specs.Calls.{first_as};
 ghost use Rattle.vk_text.specs.Lines.{is_end, words_from};
-ghost use Rattle.vk_text.specs.Words.{number_of, count_of, station_of, pid_of, message_of, bytes_of, scope_of};
+ghost use Rattle.vk_text.specs.Words.{number_of, positive_of, count_of, station_of, pid_of, message_of, bytes_of, scope_of};
 
 use crate::line::next_word;
-use crate::word::{bytes, message, number, pid, scope, station};
+use crate::word::{bytes, message, number, pid, positive, scope, station};
 use vk_base::{Data, Message, Pid, Scope};
 
 /// Whether no word is left from `at` on. A trailing space leaves an empty one.
@@ -26,6 +26,17 @@ pub fn next_number(line: &[u8], at: usize, most: u64) -> Option<(u64, usize)>
 {
     let (word, next) = next_word(line, at)?;
     Some((number(word, most)?, next))
+}
+
+/// The number, which is from 1 to `most`.
+#[tactic(auto, using(crate::proofs::Firsts::no_positive))]
+pub fn next_positive(line: &[u8], at: usize, most: u64) -> Option<(u64, usize)>
+    ensures word { MatchOption result (first_as (positive_of most) (words_from line.now at) ≡ None)
+        (λ r. first_as (positive_of most) (words_from line.now at) ≡ Some (r.0, words_from line.now r.1)) }
+    ensures within { IfSome result (λ r. r.0 ≤ most) }
+{
+    let (word, next) = next_word(line, at)?;
+    Some((positive(word, most)?, next))
 }
 
 /// The number of 32 bits.

@@ -4,7 +4,7 @@ ghost use Rattle.std.specs.Prelude.{◌≡◌, ◌==◌, ◌+◌, ◌-◌, ◌*�
 ghost use Rattle.std.specs.Char.{is_ascii_digit};
 ghost use Rattle.std.specs.List.{list_all};
 ghost use Rattle.std.specs.Str.Parse.{digits_value};
-ghost use Rattle.vk_text.specs.Words.{number_of, station_of, pid_of, is_lower_hex, lower_hex, padded, message_of, bytes_of, scope_of};
+ghost use Rattle.vk_text.specs.Words.{number_of, positive_of, station_of, pid_of, is_lower_hex, lower_hex, padded, message_of, bytes_of, scope_of};
 
 use crate::line::place_of;
 use vk_base::{Data, Message, Pid, Scope};
@@ -43,13 +43,21 @@ pub fn number(word: &[u8], most: u64) -> Option<u64>
     if value <= most { Some(value) } else { None }
 }
 
+/// The number from 1 to `most` that the word spells.
+#[tactic(auto, unfolding(crate::specs::Words::positive_of))]
+pub fn positive(word: &[u8], most: u64) -> Option<u64>
+    ensures gives { result ≡ positive_of most word.now }
+    ensures within { IfSome result (λ n. n ≤ most) }
+{
+    let n = number(word, most)?;
+    if n > 0 { Some(n) } else { None }
+}
+
 /// The station that the word spells: a number from 1 to 65,534.
-#[tactic(auto, unfolding(crate::specs::Words::station_of))]
 pub fn station(word: &[u8]) -> Option<u16>
     ensures { result ≡ station_of word.now }
 {
-    let host = number(word, 65534)?;
-    if host > 0 { Some(host as u16) } else { None }
+    Some(positive(word, 65534)? as u16)
 }
 
 /// The pid that the word spells: `H.L`.
