@@ -1,3 +1,3 @@
-pub mod Short
-pub mod Reading
-pub mod LawfulTexts
+pub mod Events
+pub mod FrontLines
+pub mod Lawfulness

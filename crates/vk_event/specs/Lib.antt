@@ -1,3 +1,4 @@
-pub mod Forms
 pub mod Lawful
+pub mod Laws
 pub mod Schedule
+pub mod Spelling

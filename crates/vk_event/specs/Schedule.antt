@@ -1,22 +1,22 @@
--- The text of a schedule.
-use Rattle.std.specs.Prelude.{ℕ, ◌+◌, ◌==◌, ◌&&◌, nat_lt, is_none, List, [], ◌∷◌, ◌++◌, length, codes, bytes_eq, Option, Some, None, Result, Ok, Err, if◌then◌else◌}
+-- The schedule of a text.
+use Rattle.std.specs.Prelude.{ℕ, ◌+◌, nat_lt, List, [], ◌∷◌, ◌++◌, length, codes, bytes_eq, Option, Some, None, Result, Ok, Err, if◌then◌else◌}
 use Rattle.vk_base.specs.Options.{◌>>=◌}
-use Rattle.vk_base.specs.Settings.{fault_of}
 use Rattle.vk_base.specs.declared.config.ProcessSpec.{ProcessSpec}
-use Rattle.vk_text.specs.Calls.{first_as, call_of}
-use Rattle.vk_text.specs.Lines.{lines_of, words_from, is_end}
-use Rattle.vk_text.specs.Words.{number_of, pid_of}
+use Rattle.vk_text.specs.Calls.{first_as, ended, call_of}
+use Rattle.vk_text.specs.Heads.{settings_of, head_of}
+use Rattle.vk_text.specs.Lines.{lines_of, words_from}
+use Rattle.vk_text.specs.Words.{number_of, station_of, pid_of}
 use Rattle.vk_event.specs.declared.event.Event.{Event}
 use Rattle.vk_event.specs.declared.event.Event.TheVariants as events
+use Rattle.vk_event.specs.declared.schedule.Front.{Front}
 use Rattle.vk_event.specs.declared.schedule.Schedule.{Schedule}
 use Rattle.vk_event.specs.declared.schedule.TextRefusal.{TextRefusal}
 use Rattle.vk_event.specs.declared.schedule.TextRefusal.TheVariants as refusals
-use Rattle.vk_event.specs.Forms.{is_built_process}
-use Rattle.vk_event.specs.Lawful.{is_lawful_event}
+use Rattle.vk_event.specs.Lawful.{has_actors}
 
--- `PID SIZE`
-unfoldable pub process_of : List (List ℕ) → Option ProcessSpec
-process_of ws = first_as pid_of ws >>= λ (pid, ws). first_as (number_of 131072) ws >>= λ (size, ws). if is_end ws then Some (record { pid = pid; size = size }) else None
+-- a number from 1 to `most`
+unfoldable pub positive_of : ℕ → List ℕ → Option ℕ
+positive_of most word = number_of most word >>= λ n. if nat_lt 0 n then Some n else None
 
 -- `PID CALLTEXT`
 unfoldable pub call_event_of : List (List ℕ) → Option Event
@@ -24,52 +24,71 @@ call_event_of ws = first_as pid_of ws >>= λ (pid, ws). call_of ws >>= λ call. 
 
 -- `PID`
 unfoldable pub collect_event_of : List (List ℕ) → Option Event
-collect_event_of ws = first_as pid_of ws >>= λ (pid, ws). if is_end ws then Some (events.Collect pid) else None
+collect_event_of ws = first_as pid_of ws >>= λ (pid, ws). ended ws (events.Collect pid)
 
--- one process more, which stands before all events
-unfoldable pub with_process : Schedule → Option ProcessSpec → Option Schedule
-with_process d None = None
-with_process d (Some s) =
-    if length d.events == 0 && is_none (fault_of d.config.specs s) && is_built_process d.config.specs s
-    then Some (record d { config = record d.config { specs = d.config.specs ++ s ∷ [] } })
+-- `H`
+unfoldable pub tick_event_of : List (List ℕ) → Option Event
+tick_event_of ws = first_as station_of ws >>= λ (host, ws). ended ws (events.Tick host)
+
+-- `TO FROM EVENT OUTPUT`; EVENT is at most 2^63 - 1
+unfoldable pub deliver_event_of : List (List ℕ) → Option Event
+deliver_event_of ws =
+    first_as station_of ws >>= λ (to, ws). first_as station_of ws >>= λ (from, ws).
+    first_as (positive_of 9223372036854775807) ws >>= λ (event, ws). first_as (positive_of 65535) ws >>= λ (output, ws).
+    ended ws (events.Deliver to from event output)
+
+-- the event that these words spell
+unfoldable pub event_of : List (List ℕ) → Option Event
+event_of [] = None
+event_of (w ∷ ws) =
+    if bytes_eq w (codes "call") then call_event_of ws
+    else if bytes_eq w (codes "collect") then collect_event_of ws
+    else if bytes_eq w (codes "tick") then tick_event_of ws
+    else if bytes_eq w (codes "deliver") then deliver_event_of ws
     else None
 
--- one event more
-unfoldable pub with_event : Schedule → Option Event → Option Schedule
-with_event d None = None
-with_event d (Some e) = if is_lawful_event d.config.specs e then Some (record d { events = d.events ++ e ∷ [] }) else None
+-- the event, where its actors are in the configuration of these processes
+abbrev pub acting : List ProcessSpec → Option Event → Option Event
+acting specs None = None
+acting specs (Some e) = if has_actors specs e then Some e else None
 
--- the schedule with the line of these words, where it is a good one
-unfoldable pub line_step : Schedule → List (List ℕ) → Option Schedule
-line_step d [] = None
-line_step d (w ∷ ws) =
-    if bytes_eq w (codes "process") then with_process d (process_of ws)
-    else if bytes_eq w (codes "call") then with_event d (call_event_of ws)
-    else if bytes_eq w (codes "collect") then with_event d (collect_event_of ws)
-    else None
+abbrev pub more : Schedule → Event → Schedule
+more s e = record s { events = s.events ++ e ∷ [] }
 
--- a line of this number is taken, or it is bad, or there are too many events with it
-abbrev pub numbered : ℕ → Option Schedule → Result Schedule TextRefusal
-numbered n None = Err (refusals.BadInput n)
-numbered n (Some d) = if nat_lt 100000 (length d.events) then Err refusals.Limit else Ok d
+-- the number of the line behind the title, the processes and the events, which have a line each
+abbrev pub line_behind : Schedule → ℕ
+line_behind s = length s.config.specs + length s.events + 2
 
-abbrev pub or_refuse : Result Schedule TextRefusal → (Schedule → Result Schedule TextRefusal) → Result Schedule TextRefusal
-or_refuse (Ok d) rest = rest d
-or_refuse (Err e) rest = Err e
+-- the schedule with one event more, or why the line is refused that should have it
+abbrev pub with_event : Schedule → Option Event → Result Schedule TextRefusal
+with_event s None = Err (refusals.BadInput (line_behind s))
+with_event s (Some e) = if nat_lt (length s.events) 100000 then Ok (more s e) else Err refusals.Limit
 
--- the schedule with these lines, the first of which has this number; the first that is refused decides
-unfoldable pub read_lines : Schedule → ℕ → List (List ℕ) → Result Schedule TextRefusal
-read_lines d n [] = Ok d
-read_lines d n (l ∷ ls) = or_refuse (numbered n (line_step d (words_from l 0))) (λ e. read_lines e (n + 1) ls)
+abbrev pub or_end : Schedule → Result Schedule TextRefusal → (Schedule → Front) → Front
+or_end s (Ok t) rest = rest t
+or_end s (Err e) rest = record { schedule = s; refused = Some e }
 
--- the times and the pool of format 1, without processes or events
-abbrev pub empty_schedule : Schedule
-empty_schedule = record { config = record { times = record { tries = 5; interval = 4; life = 8 }; pool = 16; specs = [] }; events = [] }
+-- the schedule with the events of these lines behind its own, up to the first line that is refused
+unfoldable pub front_from : Schedule → List (List ℕ) → Front
+front_from s [] = record { schedule = s; refused = None }
+front_from s (l ∷ ls) = or_end s (with_event s (acting s.config.specs (event_of (words_from l 0)))) (λ t. front_from t ls)
 
-abbrev pub all_lines : List (List ℕ) → Result Schedule TextRefusal
-all_lines [] = Err (refusals.BadInput 1)
-all_lines (l ∷ ls) = if bytes_eq l (codes "vkernel 1") then read_lines empty_schedule 2 ls else Err (refusals.BadInput 1)
+abbrev pub opening : List ProcessSpec → Schedule
+opening specs = record { config = settings_of specs; events = [] }
+
+-- the title is bad, or the events stand behind the processes
+abbrev pub front_by : Option (List ProcessSpec × List (List ℕ)) → Front
+front_by None = record { schedule = opening []; refused = Some (refusals.BadInput 1) }
+front_by (Some (specs, body)) = front_from (opening specs) body
+
+-- the schedule of the text up to the first line that is refused
+abbrev pub front_of : List ℕ → Front
+front_of text = front_by (head_of (codes "vkernel 1") (lines_of text))
+
+abbrev pub whole : Schedule → Option TextRefusal → Result Schedule TextRefusal
+whole s None = Ok s
+whole s (Some e) = Err e
 
 -- the schedule that the text spells, or why it spells none
 abbrev pub schedule_of : List ℕ → Result Schedule TextRefusal
-schedule_of text = all_lines (lines_of text)
+schedule_of text = let f = front_of text in whole f.schedule f.refused

@@ -1,14 +1,18 @@
 //! Schedules: the events of a run, and the text that gives a configuration and its events.
 //!
-//! Stands on the values of `vk_base` and the words of `vk_text`. `specs/Forms.antt` says which forms are built so far.
+//! Stands on the values of `vk_base` and the words of `vk_text`.
 #![tactic(auto)]
 
 mod event;
-mod lawful;
-mod parts;
+mod law;
+mod line;
+mod reader;
 mod schedule;
 #[cfg(test)]
 mod tests;
+mod writing;
 
 pub use event::Event;
-pub use schedule::{Schedule, TextRefusal, read_schedule};
+pub use law::{front_lines, schedules_are_spelled_once};
+pub use schedule::{Front, Schedule, TextRefusal, read_front, read_schedule};
+pub use writing::write_schedule;

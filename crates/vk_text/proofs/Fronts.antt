@@ -15,12 +15,12 @@ pub spaced_behind : (front text : List ℕ) (words : List (List ℕ)) → spaced
 spaced_behind front text [] = refl
 spaced_behind front text (w ∷ ws) = ap (λ t. spaced t ws) (append_assoc front text (32 ∷ w)) ∙ spaced_behind front (text ++ 32 ∷ w) ws
 
--- words behind a text stand behind a space
-pub spaced_joined : (text : List ℕ) (words : List (List ℕ)) → 0 < length words → spaced text words ≡ text ++ 32 ∷ joined words
-spaced_joined text [] some = absurd (omega arith)
-spaced_joined text (w ∷ ws) some = spaced_behind text (32 ∷ w) ws ∙ ap (λ l. text ++ l) (spaced_behind (32 ∷ []) w ws)
-
 -- what holds at a refusal
 pub at_refusal : {A E P : Type 0} (r : Result A E) → P → OnErr r P
 at_refusal (Ok a) p = tt
 at_refusal (Err e) p = p
+
+-- words behind a text stand behind a space
+pub spaced_joined : (text : List ℕ) (words : List (List ℕ)) → 0 < length words → spaced text words ≡ text ++ 32 ∷ joined words
+spaced_joined text [] some = absurd (omega arith)
+spaced_joined text (w ∷ ws) some = spaced_behind text (32 ∷ w) ws ∙ ap (λ l. text ++ l) (spaced_behind (32 ∷ []) w ws)

@@ -54,8 +54,8 @@ impl Head {
     }
 }
 
-/// No process yet.
-fn empty_config(alloc: Global) -> Config
+/// A configuration without processes, with the times and the pool of a text that does not tell them.
+pub fn empty_config(alloc: Global) -> Config
     ensures { result ≡ settings_of [] }
 {
     match Config::with_no_process(alloc, TIMES, POOL) {
