@@ -1,12 +1,11 @@
 -- Events as words.
-use Rattle.std.proofs.Common.{◌≡◌, ℕ, ◌<◌, ◌^◌, nat_lt, true, List, [], ◌∷◌, ◌++◌, length, decimal, codes, bytes_eq, Option, Some, None, cond, refl, ap, sym, ◌∙◌, arith, append_assoc}
+use Rattle.std.proofs.Common.{◌≡◌, ℕ, ◌<◌, ◌^◌, nat_lt, true, List, [], ◌∷◌, ◌++◌, decimal, codes, bytes_eq, Option, Some, None, cond, refl, ap, sym, ◌∙◌, arith, append_assoc}
 use Rattle.std.proofs.lemmas.Option.{cond_some}
 use Rattle.vk_base.specs.declared.call.Call.{Call}
-use Rattle.vk_base.specs.declared.call.Call.TheVariants as calls
 use Rattle.vk_base.specs.declared.pid.Pid.{Pid}
 use Rattle.vk_text.specs.Calls.{first_as, call_of}
 use Rattle.vk_text.specs.Lines.{StartsNoWord}
-use Rattle.vk_text.specs.Spelling.{spaced, joined, pid_text, call_words, call_text}
+use Rattle.vk_text.specs.Spelling.{pid_text, call_text}
 use Rattle.vk_text.specs.Words.{number_of, station_of, pid_of}
 use Rattle.vk_text.proofs.CallWords.{call_spelled, spaced_call}
 use Rattle.vk_text.proofs.Firsts.{no_first, first_spelled, ended_is}

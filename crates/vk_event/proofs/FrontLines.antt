@@ -1,10 +1,9 @@
 -- The lines of a front, one after another, and as texts.
-use Rattle.std.proofs.Common.{◌≡◌, ℕ, nat_lt, Bool, true, false, cond, List, [], ◌∷◌, ◌++◌, length, map, codes, Option, Some, None, Result, Ok, Err, refl, sym, ap, subst, ◌∙◌, ◌⊎◌, inl, inr, append_assoc, append-nil}
+use Rattle.std.proofs.Common.{◌≡◌, ℕ, nat_lt, Bool, true, false, cond, List, [], ◌∷◌, ◌++◌, length, map, codes, Option, Some, None, Ok, Err, refl, sym, ap, subst, ◌∙◌, inl, inr, append_assoc, append-nil}
 use Rattle.std.specs.List.{AllByRecursion, flat_map}
 use Rattle.std.proofs.lemmas.List.{map-append}
 use Rattle.std.proofs.lemmas.List.Concat.{flat_map-append}
-use Rattle.vk_base.specs.declared.config.ProcessSpec.{ProcessSpec}
-use Rattle.vk_text.specs.Heads.{process_text, line_text, head_text, head_of, HasNoFeed}
+use Rattle.vk_text.specs.Heads.{process_text, line_text, head_of, HasNoFeed}
 use Rattle.vk_text.specs.Lines.{lines_of, words_from}
 use Rattle.vk_text.specs.Spelling.{joined}
 use Rattle.vk_text.proofs.HeadReading.{Parts}
@@ -19,7 +18,7 @@ use Rattle.vk_event.specs.declared.schedule.TextRefusal.TheVariants as refusals
 use Rattle.vk_event.specs.Lawful.{has_actors}
 use Rattle.vk_event.specs.Laws.{SchedulesAreSpelledOnce, FrontsHaveTheirLines}
 use Rattle.vk_event.specs.Schedule.{event_of, acting, more, with_event, or_end, front_from, opening, front_by, front_of, whole, schedule_of}
-use Rattle.vk_event.specs.Spelling.{event_words, event_text, schedule_text, schedule_lines}
+use Rattle.vk_event.specs.Spelling.{event_text, schedule_text, schedule_lines}
 use Rattle.vk_event.proofs.Events.{event_spelled}
 
 -- one line more

@@ -1,5 +1,5 @@
 -- What a text spells is lawful.
-use Rattle.std.proofs.Common.{◌≡◌, ◌≤◌, ◌<◌, ℕ, ◌&&◌, ◌++◌, nat_lt, Bool, true, false, List, [], ◌∷◌, length, cond, Option, Some, None, Result, Ok, Err, refl, sym, ap, subst, ◌∙◌, arith, lit≤}
+use Rattle.std.proofs.Common.{◌≡◌, ◌<◌, ℕ, ◌&&◌, ◌++◌, nat_lt, Bool, true, false, List, [], ◌∷◌, length, cond, Option, Some, None, Ok, Err, refl, sym, subst, ◌∙◌, arith, lit≤}
 use Rattle.std.specs.List.{list_all}
 use Rattle.std.proofs.lemmas.Bool.{and_from, ltb-true}
 use Rattle.std.proofs.lemmas.Grind.{common_steps}
@@ -9,7 +9,6 @@ use Rattle.vk_text.specs.Lines.{words_from}
 use Rattle.vk_event.specs.declared.event.Event.{Event}
 use Rattle.vk_event.specs.declared.schedule.Front.{Front}
 use Rattle.vk_event.specs.declared.schedule.Schedule.{Schedule}
-use Rattle.vk_event.specs.declared.schedule.TextRefusal.{TextRefusal}
 use Rattle.vk_event.specs.declared.schedule.TextRefusal.TheVariants as refusals
 use Rattle.vk_event.specs.Lawful.{has_actors, IsLawful}
 use Rattle.vk_event.specs.Schedule.{event_of, acting, more, with_event, or_end, front_from, opening, front_by, front_of}

@@ -1,7 +1,6 @@
 -- Reading is the inverse of spelling.
-use Rattle.std.specs.Prelude.{◌≡◌, ℕ, ◌⊎◌, List, ◌++◌, codes, Some, None, Ok}
+use Rattle.std.specs.Prelude.{◌≡◌, ℕ, ◌⊎◌, List, ◌++◌, codes, Some, Ok}
 use Rattle.vk_text.specs.Lines.{lines_of}
-use Rattle.vk_event.specs.declared.schedule.Front.{Front}
 use Rattle.vk_event.specs.declared.schedule.Schedule.{Schedule}
 use Rattle.vk_event.specs.declared.schedule.TextRefusal.TheVariants as refusals
 use Rattle.vk_event.specs.Schedule.{front_of, schedule_of}
