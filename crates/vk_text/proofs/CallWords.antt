@@ -1,7 +1,6 @@
 -- Calls have one spelling each.
-use Rattle.std.proofs.Common.{◌≡◌, ℕ, ◌<◌, ◌^◌, ◌==◌, not, cond, List, [], ◌∷◌, ◌++◌, length, decimal, codes, bytes_eq, true, Option, Some, refl, arith, ap, sym, ◌∙◌}
-use Rattle.std.specs.List.{list_all, AllByRecursion}
-use Rattle.std.proofs.lemmas.Option.{cond_some}
+use Rattle.std.proofs.Common.{◌≡◌, ℕ, ◌<◌, ◌^◌, cond, List, [], ◌∷◌, ◌++◌, length, decimal, codes, bytes_eq, Option, Some, refl, arith, ap, sym, ◌∙◌}
+use Rattle.std.specs.List.{AllByRecursion}
 use Rattle.vk_base.specs.declared.call.Call.{Call}
 use Rattle.vk_base.specs.declared.call.Call.TheVariants as calls
 use Rattle.vk_base.specs.declared.pid.Pid.{Pid}
@@ -14,8 +13,8 @@ use Rattle.vk_text.proofs.ByteLists.{bytes_spelled, bytes_read}
 use Rattle.vk_text.proofs.Firsts.{first_spelled, ended_is}
 use Rattle.vk_text.proofs.Fronts.{spaced_joined}
 use Rattle.vk_text.proofs.Messages.{message_spelled, message_read}
-use Rattle.vk_text.proofs.ReadBack.{joined_words, line_joined, no_space_by, plain, decimal_no_space, pid_no_space, message_no_space, bytes_no_space, scope_no_space}
-use Rattle.vk_text.proofs.Spelled.{bound, either_word, count_spelled, count_read, pid_spelled, pid_read, scope_spelled, scope_read}
+use Rattle.vk_text.proofs.ReadBack.{joined_words, line_joined, letters, decimal_no_space, pid_no_space, message_no_space, bytes_no_space, scope_no_space}
+use Rattle.vk_text.proofs.Spelled.{bound, same_some, either_word, count_spelled, count_read, pid_spelled, pid_read, scope_spelled, scope_read}
 
 range_spelled : (ws : List (List ℕ)) (r : ℕ × ℕ) → range_of ws ≡ Some r → ws ≡ decimal r.0 ∷ decimal r.1 ∷ []
 unfolding range_of
@@ -75,16 +74,13 @@ store_spelled ws call h =
     let end = ended_is bytes.1 (calls.Store start.0 bytes.0) call bytes.3 in
     ap (λ l. codes "store" ∷ l) (start.2 ∙ ap (λ l. decimal start.0 ∷ l) (bytes.2 ∙ ap (λ l. bytes_text bytes.0 ∷ l) end.0)) ∙ ap call_words end.1
 
-same_call : (a b : Call) → Some a ≡ Some b → a ≡ b
-same_call a b h = (cond_some true a b h).1
-
 reply_segment_spelled : (ws : List (List ℕ)) (call : Call) → reply_segment_of ws ≡ Some call → codes "replysegment" ∷ ws ≡ call_words call
 unfolding reply_segment_of call_words
 reply_segment_spelled ws call h =
     let message = first_spelled message_of message_text message_spelled _ call ws h in
     let to = first_spelled pid_of pid_text pid_spelled _ call message.1 message.3 in
     let places = bound (places_of to.1) _ call to.3 in
-    let end = same_call _ call places.2 in
+    let end = same_some _ call places.2 in
     ap (λ l. codes "replysegment" ∷ l) (message.2 ∙ ap (λ l. message_text message.0 ∷ l) (to.2 ∙ ap (λ l. pid_text to.0 ∷ l) (places_spelled to.1 places.0 places.1))) ∙ ap call_words end
 
 -- a call of a range, and a move, whose words are these
@@ -92,7 +88,7 @@ range_call_spelled : (word : List ℕ) (make : ℕ → ℕ → Call) → ((start
 unfolding range_call_of
 range_call_spelled word make is ws call h =
     let range = bound (range_of ws) _ call h in
-    let end = same_call _ call range.2 in
+    let end = same_some _ call range.2 in
     ap (λ l. word ∷ l) (range_spelled ws range.0 range.1) ∙ sym (is range.0.0 range.0.1) ∙ ap call_words end
 
 move_spelled : (word : List ℕ) (make : Pid → ℕ → ℕ → ℕ → Call) → ((partner : Pid) (dest src count : ℕ) → call_words (make partner dest src count) ≡ word ∷ pid_text partner ∷ decimal dest ∷ decimal src ∷ decimal count ∷ []) → (ws : List (List ℕ)) (call : Call) → move_of make ws ≡ Some call → word ∷ ws ≡ call_words call
@@ -100,7 +96,7 @@ unfolding move_of
 move_spelled word make is ws call h =
     let partner = first_spelled pid_of pid_text pid_spelled _ call ws h in
     let places = bound (places_of partner.1) _ call partner.3 in
-    let end = same_call _ call places.2 in
+    let end = same_some _ call places.2 in
     ap (λ l. word ∷ l) (partner.2 ∙ ap (λ l. pid_text partner.0 ∷ l) (places_spelled partner.1 places.0 places.1)) ∙ sym (is partner.0 places.0.0 places.0.1 places.0.2) ∙ ap call_words end
 
 alone_spelled : (word : List ℕ) (it : Call) → call_words it ≡ word ∷ [] → (ws : List (List ℕ)) (call : Call) → ended ws it ≡ Some call → word ∷ ws ≡ call_words call
@@ -120,13 +116,13 @@ call_spelled (w ∷ ws) call h =
     named w (codes "send") ws call _ _ (send_spelled ws call)
     (named w (codes "receive") ws call _ _ (alone_spelled (codes "receive") calls.Receive refl ws call)
     (named w (codes "reply") ws call _ _ (reply_spelled ws call)
-    (named w (codes "receivesegment") ws call _ _ (range_call_spelled (codes "receivesegment") (λ s c. calls.ReceiveSegment s c) (λ s c. refl) ws call)
+    (named w (codes "receivesegment") ws call _ _ (range_call_spelled (codes "receivesegment") calls.ReceiveSegment (λ s c. refl) ws call)
     (named w (codes "replysegment") ws call _ _ (reply_segment_spelled ws call)
-    (named w (codes "moveto") ws call _ _ (move_spelled (codes "moveto") (λ p d s c. calls.MoveTo p d s c) (λ p d s c. refl) ws call)
-    (named w (codes "movefrom") ws call _ _ (move_spelled (codes "movefrom") (λ p d s c. calls.MoveFrom p d s c) (λ p d s c. refl) ws call)
+    (named w (codes "moveto") ws call _ _ (move_spelled (codes "moveto") calls.MoveTo (λ p d s c. refl) ws call)
+    (named w (codes "movefrom") ws call _ _ (move_spelled (codes "movefrom") calls.MoveFrom (λ p d s c. refl) ws call)
     (named w (codes "setpid") ws call _ _ (set_pid_spelled ws call)
     (named w (codes "getpid") ws call _ _ (get_pid_spelled ws call)
-    (named w (codes "load") ws call _ _ (range_call_spelled (codes "load") (λ s c. calls.Load s c) (λ s c. refl) ws call)
+    (named w (codes "load") ws call _ _ (range_call_spelled (codes "load") calls.Load (λ s c. refl) ws call)
     (named w (codes "store") ws call _ _ (store_spelled ws call)
     (named w (codes "exit") ws call _ _ (alone_spelled (codes "exit") calls.Exit refl ws call) (λ none. cc)))))))))))) h
 
@@ -155,11 +151,8 @@ pub spaced_call : (text : List ℕ) (call : Call) → spaced text (call_words ca
 unfolding call_text
 spaced_call text call = spaced_joined text (call_words call) (some_words call)
 
-count_no_space : (n : ℕ) → n < 2 ^ 32 → HasNoSpace (decimal n)
+pub count_no_space : (n : ℕ) → n < 2 ^ 32 → HasNoSpace (decimal n)
 count_no_space n h = decimal_no_space n (omega arith)
-
-letters : (word : List ℕ) → list_all (λ c. not (c == 32)) word ≡ true → HasNoSpace word
-letters word h = no_space_by (λ c. not (c == 32)) plain word h
 
 pub call_no_space : (call : Call) → IsReadable call → AllByRecursion HasNoSpace (call_words call)
 unfolding call_words

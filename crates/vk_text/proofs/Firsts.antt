@@ -1,12 +1,11 @@
 -- The first of some words: nothing is read where no word stands, and what is read is spelled by it.
-use Rattle.std.proofs.Common.{◌≡◌, ℕ, true, List, [], ◌∷◌, Option, Some, None, refl, ap, ◌∙◌}
-use Rattle.std.proofs.lemmas.Option.{cond_some}
+use Rattle.std.proofs.Common.{◌≡◌, ℕ, List, [], ◌∷◌, Option, Some, None, refl, ap, ◌∙◌}
 use Rattle.hex.specs.Hex.{decode_pairs}
 use Rattle.vk_base.specs.Options.{◌>>=◌}
 use Rattle.vk_text.specs.Calls.{first_as, ended}
 use Rattle.vk_text.specs.Lines.{StartsNoWord}
 use Rattle.vk_text.specs.Words.{number_of, count_of, station_of, pid_of, message_of, bytes_of, scope_of}
-use Rattle.vk_text.proofs.Spelled.{bound}
+use Rattle.vk_text.proofs.Spelled.{bound, same_some}
 
 pub no_first : {A : Type 0} (spelled : List ℕ → Option A) → spelled [] ≡ None → (ws : List (List ℕ)) → StartsNoWord ws → first_as spelled ws ≡ None
 no_first spelled e [] h = refl
@@ -45,9 +44,9 @@ first_spelled spelled text is next b [] h = cc
 first_spelled spelled text is next b (w ∷ ws) h =
     let here = bound (spelled w >>= λ a. Some (a, ws)) next b h in
     let read = bound (spelled w) (λ a. Some (a, ws)) here.0 here.1 in
-    (read.0, ws, ap (λ l. l ∷ ws) (is read.0 w read.1), ap next (cond_some true (read.0, ws) here.0 read.2).1 ∙ here.2)
+    (read.0, ws, ap (λ l. l ∷ ws) (is read.0 w read.1), ap next (same_some (read.0, ws) here.0 read.2) ∙ here.2)
 
 -- no word is left behind what is read
 pub ended_is : {A : Type 0} (ws : List (List ℕ)) (a b : A) → ended ws a ≡ Some b → (ws ≡ []) × (a ≡ b)
-ended_is [] a b h = (refl, (cond_some true a b h).1)
+ended_is [] a b h = (refl, same_some a b h)
 ended_is (w ∷ ws) a b h = cc

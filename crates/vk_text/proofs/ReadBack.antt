@@ -71,11 +71,15 @@ parts_joined (c ∷ cs) =
 pub line_joined : (line : List ℕ) → joined (words_from line 0) ≡ line
 line_joined line = ap joined (words_within line 0 (omega arith)) ∙ parts_joined line
 
-pub no_space_by : (p : ℕ → Bool) → ((c : ℕ) → p c ≡ true → (c == 32) ≡ false) → (word : List ℕ) → list_all p word ≡ true → HasNoSpace word
+no_space_by : (p : ℕ → Bool) → ((c : ℕ) → p c ≡ true → (c == 32) ≡ false) → (word : List ℕ) → list_all p word ≡ true → HasNoSpace word
 no_space_by p other word h = λ k d l. other (get_or word k d) (AllPass-from_list_all p word h k d l)
 
-pub plain : (c : ℕ) → not (c == 32) ≡ true → (c == 32) ≡ false
+plain : (c : ℕ) → not (c == 32) ≡ true → (c == 32) ≡ false
 plain c h = not-true (c == 32) h
+
+-- a word that stands here, by its letters
+pub letters : (word : List ℕ) → list_all (λ c. not (c == 32)) word ≡ true → HasNoSpace word
+letters word h = no_space_by (λ c. not (c == 32)) plain word h
 
 digit_is_none : (c : ℕ) → is_ascii_digit c ≡ true → (c == 32) ≡ false
 digit_is_none c h = grind arith
@@ -87,18 +91,18 @@ pub decimal_no_space : (n : ℕ) → n < 2 ^ 64 → HasNoSpace (decimal n)
 decimal_no_space n h = no_space_by is_ascii_digit digit_is_none (decimal n) (decimal_digits n h)
 
 pub scope_no_space : (s : Scope) → HasNoSpace (scope_text s)
-scope_no_space scopes.Local = no_space_by (λ c. not (c == 32)) plain (codes "local") refl
-scope_no_space scopes.Remote = no_space_by (λ c. not (c == 32)) plain (codes "remote") refl
-scope_no_space scopes.Both = no_space_by (λ c. not (c == 32)) plain (codes "both") refl
+scope_no_space scopes.Local = letters (codes "local") refl
+scope_no_space scopes.Remote = letters (codes "remote") refl
+scope_no_space scopes.Both = letters (codes "both") refl
 
 pub pid_no_space : (p : Pid) → IsPid p → HasNoSpace (pid_text p)
 pid_no_space p fits =
     let host = p.one_host in
-    let point : HasNoSpace (codes ".") = no_space_by (λ c. not (c == 32)) plain (codes ".") refl in
+    let point : HasNoSpace (codes ".") = letters (codes ".") refl in
     All-append (λ b. (b == 32) ≡ false) (decimal p.host ++ codes ".") (decimal p.local) (All-append (λ b. (b == 32) ≡ false) (decimal p.host) (codes ".") (decimal_no_space p.host (omega arith)) point) (decimal_no_space p.local (omega arith))
 
 pub bytes_no_space : (bytes : List ℕ) → IsBytes bytes → HasNoSpace (bytes_text bytes)
-bytes_no_space [] h = no_space_by (λ c. not (c == 32)) plain (codes "-") refl
+bytes_no_space [] h = letters (codes "-") refl
 bytes_no_space (b ∷ bs) h = no_space_by is_lower_hex hex_is_none (encode_lower (b ∷ bs)) (all_lower (b ∷ bs) h)
 
 pub message_no_space : (m : Message) → IsMessage m → HasNoSpace (message_text m)

@@ -71,6 +71,9 @@ number_read most n m h =
 pub numbers : NumbersAreSpelledOnce
 numbers most n word m = (λ h. number_spelled most n word m h, λ h. ap (number_of most) h.0 ∙ number_read most n m h.1)
 
+pub same_some : {A : Type 0} (a b : A) → Some a ≡ Some b → a ≡ b
+same_some a b h = (cond_some true a b h).1
+
 -- what was read step by step
 pub bound : {A B : Type 0} (o : Option A) (f : A → Option B) (b : B) → (o >>= f) ≡ Some b → (a : A) × (o ≡ Some a) × (f a ≡ Some b)
 bound None f b h = cc
@@ -174,14 +177,11 @@ either P false x y z f g h = g h
 pub either_word : {A : Type 0} (P : Type 0) (w word : List ℕ) (x y z : A) → (w ≡ word → x ≡ z → P) → (y ≡ z → P) → cond (bytes_eq w word) x y ≡ z → P
 either_word P w word x y z f g h = either P (bytes_eq w word) x y z (λ e. f ((bytes_eq-Decides w word).0 e)) g h
 
-same_scope : (s t : Scope) → Some s ≡ Some t → s ≡ t
-same_scope s t h = (cond_some true s t h).1
-
 pub scope_spelled : (s : Scope) (word : List ℕ) → scope_of word ≡ Some s → word ≡ scope_text s
 scope_spelled s word h =
-    either_word (word ≡ scope_text s) word (codes "local") _ _ (Some s) (λ w e. w ∙ ap scope_text (same_scope scopes.Local s e))
-    (either_word (word ≡ scope_text s) word (codes "remote") _ _ (Some s) (λ w e. w ∙ ap scope_text (same_scope scopes.Remote s e))
-    (either_word (word ≡ scope_text s) word (codes "both") _ _ (Some s) (λ w e. w ∙ ap scope_text (same_scope scopes.Both s e)) (λ e. cc)))
+    either_word (word ≡ scope_text s) word (codes "local") _ _ (Some s) (λ w e. w ∙ ap scope_text (same_some scopes.Local s e))
+    (either_word (word ≡ scope_text s) word (codes "remote") _ _ (Some s) (λ w e. w ∙ ap scope_text (same_some scopes.Remote s e))
+    (either_word (word ≡ scope_text s) word (codes "both") _ _ (Some s) (λ w e. w ∙ ap scope_text (same_some scopes.Both s e)) (λ e. cc)))
     h
 
 pub scope_read : (s : Scope) → scope_of (scope_text s) ≡ Some s
