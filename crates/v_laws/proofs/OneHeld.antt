@@ -1,6 +1,6 @@
 -- A message that was taken is the one that its target holds of its sender.
-use Rattle.std.proofs.Common.{◌≡◌, ℕ, zero, suc, ◌<◌, ◌≤◌, Bool, true, false, Option, Some, None, refl, sym, ap, ◌∙◌, inl, inr, arith}
-use Rattle.std.proofs.lemmas.Bool.{and_from, and_parts, both_ways, cases_Bool, cases_lt, cond-false, false_from_ne_true, eq-eqb}
+use Rattle.std.proofs.Common.{◌≡◌, ℕ, zero, suc, ◌<◌, ◌≤◌, true, false, Option, Some, refl, sym, ap, ◌∙◌, inl, inr, arith}
+use Rattle.std.proofs.lemmas.Bool.{and_from, and_parts, both_ways, cases_lt, cond-false, false_from_ne_true, eq-eqb}
 use Rattle.vk_base.specs.declared.kernel.Exchange.{Exchange}
 use Rattle.vk_base.specs.declared.kernel.Name.{Name}
 use Rattle.vk_base.specs.declared.kernel.Process.{Process}
@@ -50,9 +50,9 @@ held_this k n x sound at taken =
     let b = sound.begun n x at in
     ap (λ o. o >>= λ (p : Process). held_up_to k.exchanges x.target n.sender p.sends) b.is
     ∙ greatest k.exchanges x.target n.sender n.number b.process.sends b.first b.last
-        (ap (holds_of (is_held_by x.target)) at ∙ and_from (same_pid x.target x.target) (is_taken x.stage) (same_pid_self x.target) taken)
-        (λ m more within. false_from_ne_true (holds_at k.exchanges x.target n.sender m) (λ t.
-            let y = some_that_holds (is_held_by x.target) (k.exchanges (name_of n.sender m)) t in
-            let parts = and_parts (same_pid y.0.target x.target) (is_taken y.0.stage) y.2 in
-            both_ways (is_settled x.stage) (taken_not_settled x.stage taken)
-                (sound.settled n.sender n.number m x y.0 at y.1 more (same_target y.0.target x.target x.target parts.0 refl) (taken_not_posted y.0.stage parts.1))))
+    (ap (holds_of (is_held_by x.target)) at ∙ and_from (same_pid x.target x.target) (is_taken x.stage) (same_pid_self x.target) taken)
+    (λ m more within. false_from_ne_true (holds_at k.exchanges x.target n.sender m) (λ t.
+    let y = some_that_holds (is_held_by x.target) (k.exchanges (name_of n.sender m)) t in
+    let parts = and_parts (same_pid y.0.target x.target) (is_taken y.0.stage) y.2 in
+    both_ways (is_settled x.stage) (taken_not_settled x.stage taken)
+    (sound.settled n.sender n.number m x y.0 at y.1 more (same_target y.0.target x.target x.target parts.0 refl) (taken_not_posted y.0.stage parts.1))))

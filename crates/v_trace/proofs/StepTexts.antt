@@ -1,27 +1,13 @@
 -- Steps as lines.
-use Rattle.std.proofs.Common.{◌≡◌, ℕ, ◌<◌, ◌^◌, ◌==◌, nat_lt, Bool, true, false, List, [], ◌∷◌, ◌++◌, length, slice_index, decimal, codes, Some, None, refl, arith, ap, sym, ◌∙◌}
-use Rattle.std.specs.Char.{is_ascii_digit}
-use Rattle.std.specs.List.{All, AllByRecursion, list_all}
-use Rattle.std.proofs.lemmas.Bool.{ltb-true, ne_eqb}
-use Rattle.std.proofs.lemmas.List.Elements.{All-nil, All-append, All-cons, All-weaker}
-use Rattle.std.proofs.lemmas.List.Sums.{AllPass-from_list_all}
+use Rattle.std.proofs.Common.{◌≡◌, ℕ, ◌<◌, ◌^◌, List, length, decimal, codes, Some, None, refl, arith, ap, sym, ◌∙◌}
+use Rattle.std.specs.List.{AllByRecursion}
 use Rattle.vk_base.specs.declared.answer.Ending.{Ending}
 use Rattle.vk_base.specs.declared.answer.Ending.TheVariants as endings
-use Rattle.vk_base.specs.declared.call.Call.{Call}
-use Rattle.vk_base.specs.declared.call.Call.TheVariants as calls
-use Rattle.vk_base.specs.declared.call.Scope.{Scope}
-use Rattle.vk_base.specs.declared.call.Scope.TheVariants as scopes
-use Rattle.vk_base.specs.declared.message.Message.{Message}
-use Rattle.vk_base.specs.declared.pid.Pid.{Pid}
 use Rattle.vk_base.specs.declared.step.Step.{Step}
 use Rattle.vk_base.specs.declared.step.Step.TheVariants as steps
 use Rattle.vk_text.specs.Heads.{process_of, HasNoFeed}
-use Rattle.vk_base.specs.Messages.{IsMessage}
-use Rattle.vk_base.specs.Pids.{IsPid}
-use Rattle.vk_text.specs.Laws.{HasNoSpace, IsReadable}
 use Rattle.vk_text.specs.Lines.{words_from}
-use Rattle.vk_text.specs.Spelling.{spaced, joined, pid_text, bytes_text, filled, message_text, scope_text, call_words}
-use Rattle.vk_text.specs.Words.{is_lower_hex}
+use Rattle.vk_text.specs.Spelling.{joined}
 use Rattle.vk_text.proofs.PlainWords.{IsPlain, letters, number_plain, count_plain, pid_plain, call_plain, no_spaces, no_feeds, joined_no_feed}
 use Rattle.vk_text.proofs.ReadBack.{joined_words, line_joined}
 use Rattle.v_trace.specs.Laws.{IsReadableStep, StepsAreSpelledOnce}

@@ -1,6 +1,5 @@
 -- Steps have one spelling each.
-use Rattle.std.proofs.Common.{◌≡◌, ℕ, ◌-◌, ◌^◌, nat_lt, cond, if◌then◌else◌, List, [], ◌∷◌, decimal, codes, bytes_eq, true, Option, Some, None, refl, arith, ap, sym, ◌∙◌}
-use Rattle.std.proofs.lemmas.Bool.{cond-true, lt-ltb}
+use Rattle.std.proofs.Common.{◌≡◌, ℕ, ◌-◌, ◌^◌, cond, List, [], ◌∷◌, decimal, codes, bytes_eq, true, Option, Some, refl, arith, ap, sym, ◌∙◌}
 use Rattle.std.proofs.lemmas.Option.{cond_some}
 use Rattle.vk_base.specs.Options.{◌>>=◌}
 use Rattle.vk_base.specs.declared.answer.Ending.{Ending}

@@ -1,12 +1,11 @@
 -- Events as words.
-use Rattle.std.proofs.Common.{◌≡◌, ℕ, ◌<◌, ◌^◌, nat_lt, true, List, [], ◌∷◌, ◌++◌, decimal, codes, bytes_eq, Option, Some, None, cond, refl, ap, sym, ◌∙◌, arith, append_assoc}
+use Rattle.std.proofs.Common.{◌≡◌, ℕ, true, List, [], ◌∷◌, ◌++◌, decimal, codes, bytes_eq, Option, Some, cond, ap, sym, ◌∙◌, arith, append_assoc}
 use Rattle.std.proofs.lemmas.Option.{cond_some}
 use Rattle.vk_base.specs.declared.call.Call.{Call}
 use Rattle.vk_base.specs.declared.pid.Pid.{Pid}
 use Rattle.vk_base.proofs.OptionLemmas.{bind_is}
-use Rattle.vk_text.specs.Calls.{first_as, call_of}
-use Rattle.vk_text.specs.Lines.{StartsNoWord}
-use Rattle.vk_text.specs.Spelling.{spaced, joined, pid_text, call_words, call_text}
+use Rattle.vk_text.specs.Calls.{call_of}
+use Rattle.vk_text.specs.Spelling.{pid_text, call_text}
 use Rattle.vk_text.specs.Words.{positive_of, station_of, pid_of}
 use Rattle.vk_text.proofs.CallWords.{call_spelled, spaced_call}
 use Rattle.vk_text.proofs.Firsts.{first_spelled, ended_is}
