@@ -29,6 +29,7 @@ use Rattle.v_laws.specs.Reached.{saw}
 use Rattle.v_laws.specs.Sound.{IsSound, is_settled}
 use Rattle.v_laws.proofs.Changes.{StageOn}
 use Rattle.v_laws.proofs.Held.{some_that_holds}
+use Rattle.v_laws.proofs.OneHeld.{held_this}
 use Rattle.v_laws.proofs.Later.{Becomes, exchange_before}
 use Rattle.v_laws.proofs.OnceLemmas.{go_on}
 use Rattle.v_laws.proofs.PlaceLemmas.{IsTurn, before_sound, before_after, step_at, turn}
@@ -228,6 +229,8 @@ own_reply specs ss r i s g is =
       reply_place = w.turn.place;
       before_finish = w.turn.earlier;
       replies = record {
+        holds = ap (λ o. o >>= λ k. held k f.0.target s) w.turn.at ∙ ap (λ q. held w.turn.kernel q s) (sym target)
+            ∙ held_this w.turn.kernel n w.before (before_sound specs ss w.turn.place w.turn.kernel w.turn.at) w.at w.reply.taken;
         call = w.reply.call;
         is = w.turn.is ∙ ap (λ (z : Step). Some z) w.reply.step ∙ ap (λ q. Some (steps.Call q w.reply.call)) target;
         answered = ap (λ o. o >>= λ e. e.seen) (effect_there specs ss w.turn.place w.turn.kernel w.turn.step w.turn.did w.turn.at w.turn.is w.turn.does)

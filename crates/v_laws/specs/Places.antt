@@ -13,7 +13,7 @@ use Rattle.vk_base.specs.declared.pid.Pid.{Pid}
 use Rattle.vk_base.specs.declared.step.Step.{Step}
 use Rattle.vk_base.specs.declared.step.Step.TheVariants as steps
 use Rattle.vk_base.specs.Calls.{Effect, call_refusal}
-use Rattle.vk_base.specs.Kernel.{◌>>=◌, Kernel, opening, name_of}
+use Rattle.vk_base.specs.Kernel.{◌>>=◌, Kernel, opening, name_of, held}
 use Rattle.vk_base.specs.Pids.{same_host}
 use Rattle.vk_base.specs.Ranges.{range_of, bytes_in, with_bytes}
 use Rattle.vk_base.specs.Steps.{Run, Taking, effect, only_if, run, taking}
@@ -74,8 +74,10 @@ given_by p (calls.Reply m to) = Some (to, m, 0, [])
 given_by p (calls.ReplySegment m to dest src count) = Some (to, m, dest, bytes_in (range_of src count) p.memory)
 given_by p c = None
 
--- At this place the target replies to s with this message and these bytes, and is answered ok.
-pub record IsReplyAt (specs : List ProcessSpec) (ss : List Step) (i : ℕ) (s target : Pid) (reply : Message) (dest : ℕ) (bytes : List ℕ) : Type 0 where
+-- At this place the target replies to the message of this number that it holds of s, with this message and these bytes,
+-- and is answered ok.
+pub record IsReplyAt (specs : List ProcessSpec) (ss : List Step) (i : ℕ) (s target : Pid) (number : ℕ) (reply : Message) (dest : ℕ) (bytes : List ℕ) : Type 0 where
+  pub holds : (before specs ss i >>= λ k. held k target s) ≡ Some number
   pub call : Call
   pub is : slice_get ss i ≡ Some (steps.Call target call)
   pub answered : seen_at specs ss i ≡ saw target call answers.Ok
@@ -92,7 +94,7 @@ pub record IsFinishAt (specs : List ProcessSpec) (ss : List Step) (i : ℕ) (s t
   pub last : process.sends ≡ number
   pub after : process_after specs ss i s ≡ Some (record process { memory = with_bytes process.memory dest bytes; state = states.Done (calls.Send target message) (answers.Replied reply) })
 
--- What s gets at this place is the reply to its own message: its target took that message before, replied to s between
+-- What s gets at this place is the reply to its own message: its target took that message before, replied to it between
 -- the two places, and gave just what s gets.
 pub record HasOwnReply (specs : List ProcessSpec) (ss : List Step) (i : ℕ) (s : Pid) : Type 0 where
   pub target : Pid
@@ -103,7 +105,7 @@ pub record HasOwnReply (specs : List ProcessSpec) (ss : List Step) (i : ℕ) (s 
   pub finish : IsFinishAt specs ss i s target number reply dest bytes
   pub reply_place : ℕ
   pub before_finish : reply_place < i
-  pub replies : IsReplyAt specs ss reply_place s target reply dest bytes
+  pub replies : IsReplyAt specs ss reply_place s target number reply dest bytes
   pub take_place : ℕ
   pub before_reply : take_place < reply_place
   pub receives : slice_get ss take_place ≡ Some (steps.Take target)

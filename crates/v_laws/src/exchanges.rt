@@ -9,7 +9,7 @@ ghost use Rattle.vk_base.specs.Steps.{Run, run};
 ghost use Rattle.v_laws.specs.Reached.{IsAsFar, IsKept, IsReached};
 ghost use Rattle.v_laws.specs.Sound.{is_settled};
 
-/// An exchange stays, with its target, its message and the part of its segment, and its moves only become more.
+/// An exchange stays, with its target, its message and the part of its segment, and it never has fewer moves.
 pub fn exchanges_stay()
     ensures run { (k : Kernel) (ss : List Step) (r : Run) (n : Name) (x : Exchange) → IsReached k → run k ss ≡ Some r → k.exchanges n ≡ Some x → IsKept r.after n x }
 {}

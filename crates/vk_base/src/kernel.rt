@@ -68,7 +68,8 @@ pub struct Move {
     pub bytes: List<u8>,
 }
 
-/// How far an exchange is: sent, in the target's queue, taken by the target, replied to, or given up.
+/// How far an exchange is: sent, in the target's queue, taken by the target, replied to, or dropped, so that it is never
+/// received or replied to any more.
 #[derive(Drop)]
 pub enum Stage {
     Posted,

@@ -1,5 +1,5 @@
 -- What is read as a packet is spelled so.
-use Rattle.std.proofs.Common.{◌≡◌, ℕ, ◌==◌, Bool, true, false, List, [], ◌∷◌, ◌++◌, drop, length, Option, Some, if◌then◌else◌, refl, sym, ap, subst, ◌∙◌, append_assoc, ◌%◌, arith}
+use Rattle.std.proofs.Common.{◌≡◌, ℕ, ◌==◌, Bool, true, false, List, [], ◌∷◌, ◌++◌, drop, length, slice_index, Option, Some, if◌then◌else◌, refl, sym, ap, subst, ◌∙◌, append_assoc, ◌%◌, arith}
 use Rattle.std.proofs.Math.Nat.{mod-eq_of_lt}
 use Rattle.std.proofs.lemmas.Bool.{eqb-true}
 use Rattle.std.proofs.lemmas.List.{append-nil}
@@ -11,9 +11,7 @@ use Rattle.vk_base.specs.declared.pid.Pid.{Pid}
 use Rattle.vk_base.proofs.OptionLemmas.{bind_is}
 use Rattle.vk_wire.specs.Fields.{IsBytes, pid_bytes, number_at, pid_at, message_at}
 use Rattle.vk_wire.proofs.Fronts.{number_stands, pid_stands, message_stands}
-use Rattle.vk_packet.proofs.InParts.{in_parts}
 use Rattle.vk_packet.specs.Laws.{NothingElseIsRead}
-use Rattle.vk_packet.specs.Parts.{kind_byte}
 use Rattle.vk_packet.specs.Reading.{exchange_at, move_at, ended, send_of, reply_of, pending_of, negative_of, move_data_of, move_ack_of, move_request_of, move_bytes_of, move_negative_of, ask_pid_of, tell_pid_of, kind_of, fields_of, packet_of}
 use Rattle.vk_packet.specs.Rules.{IsPacket, is_lawful}
 use Rattle.vk_packet.specs.Spelling.{exchange_bytes, move_bytes, packet_bytes}
@@ -69,12 +67,25 @@ record Stands (kind : ℕ) (bytes : List ℕ) (p : Packet) : Type 0 where
   bytes_are : kind ∷ bytes ≡ packet_bytes p
   is : IsPacket p
 
--- what stands behind the kind
+-- the kind, and what stands behind it
+abbrev kind_byte : Packet → ℕ
+kind_byte p = slice_index (packet_bytes p) 0
+
 abbrev behind : Packet → List ℕ
 behind p = drop 1 (packet_bytes p)
 
 kind_first : (p : Packet) → kind_byte p ∷ behind p ≡ packet_bytes p
-kind_first p = ap (λ (l : List ℕ). kind_byte p ∷ drop 1 l) (in_parts p) ∙ sym (in_parts p)
+kind_first (Send from to number message part) = refl
+kind_first (Reply from to number message dest bytes) = refl
+kind_first (Pending from to number) = refl
+kind_first (Negative from to number) = refl
+kind_first (MoveData from to number moving dest total offset bytes) = refl
+kind_first (MoveAck from to number moving received) = refl
+kind_first (MoveRequest from to number moving src total offset) = refl
+kind_first (MoveBytes from to number moving total offset bytes) = refl
+kind_first (MoveNegative from to number moving) = refl
+kind_first (AskPid asker lookup logical) = refl
+kind_first (TellPid found asker lookup) = refl
 
 -- the packet that was found is this one
 whole : (bytes : List ℕ) (q p : Packet) → Some q ≡ Some p → bytes ≡ behind q → IsPacket q → Stands (kind_byte q) bytes p

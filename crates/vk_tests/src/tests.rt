@@ -4,9 +4,10 @@ use vk_base::{Config, ConfigRefusal, Memory, Pid, ProcessSpec, Times};
 use vk_io::{MemorySink, MemorySource, Sink, Source};
 use vk_top::{Status, vkernel};
 
-/// An input of `replay`, what must be written, and the status.
+/// Words, an input, what must be written, and the status.
 struct Row {
     name: &'static str,
+    words: &'static [&'static str],
     input: &'static str,
     output: &'static str,
     status: Status,
@@ -38,33 +39,50 @@ step collect 1.1
 end 5 7 0
 ";
 
-const ROWS: [Row; 9] = [
+const PING_TRACE: &str = "vkernel trace 1
+process 1.1 64
+process 1.2 64
+call 1.2 receive
+call 1.1 send 1.2 0a
+take 1.2
+collect 1.2
+call 1.2 reply 0b 1.1
+finish 1.1
+collect 1.1
+";
+
+const ROWS: [Row; 14] = [
     Row {
         name: "a message and its reply",
+        words: &["replay"],
         input: PING,
         output: PING_REPORT,
         status: Status::Done,
     },
     Row {
         name: "no process",
+        words: &["replay"],
         input: "vkernel 1\n",
         output: "vkernel report 1\nend 0 0 0\n",
         status: Status::Done,
     },
     Row {
         name: "no line feed at the end",
+        words: &["replay"],
         input: "vkernel 1",
         output: "vkernel report 1\nend 0 0 0\n",
         status: Status::Done,
     },
     Row {
         name: "no input",
+        words: &["replay"],
         input: "",
         output: "",
         status: Status::BadInput { line: 1 },
     },
     Row {
         name: "refusals",
+        words: &["replay"],
         input: "vkernel 1
 process 1.1 0
 call 1.1 reply 0b 1.1
@@ -89,6 +107,7 @@ end 5 4 0
     },
     Row {
         name: "a reply to a process of another station",
+        words: &["replay"],
         input: "vkernel 1\nprocess 1.1 0\ncall 1.1 reply 0b 2.1\n",
         output: "vkernel report 1
 1 1:1 notawaiting
@@ -99,6 +118,7 @@ end 1 1 0
     },
     Row {
         name: "a queue, served in order of arrival, and a sender that waits for itself",
+        words: &["replay"],
         input: "vkernel 1
 process 3.1 0
 process 3.2 0
@@ -146,28 +166,68 @@ end 11 13 0
     },
     Row {
         name: "a process that is not there",
+        words: &["replay"],
         input: "vkernel 1\nprocess 1.1 64\nprocess 1.2 64\ncollect 1.3\ncollect 1.1\n",
         output: "",
         status: Status::BadInput { line: 4 },
     },
     Row {
         name: "a form that is not built",
+        words: &["replay"],
         input: "vkernel 1\nprocess 1.1 64\ncollect 1.1\ntick 1\n",
         output: "",
         status: Status::BadInput { line: 4 },
     },
+    Row {
+        name: "a process of a second station, which is not built",
+        words: &["replay"],
+        input: "vkernel 1\nprocess 1.1 64\nprocess 2.1 64\ncollect 3.1\n",
+        output: "",
+        status: Status::BadInput { line: 3 },
+    },
+    Row {
+        name: "a form that is not built, before a bad line",
+        words: &["replay", "--trace"],
+        input: "vkernel 1\nprocess 1.1 64\ncollect 1.1\ncollect 1.1\ncall 1.1 exit\ncollect 1.1\n\n\nbad\n",
+        output: "",
+        status: Status::BadInput { line: 5 },
+    },
+    Row {
+        name: "the trace of a message and its reply",
+        words: &["replay", "--trace"],
+        input: PING,
+        output: PING_TRACE,
+        status: Status::Done,
+    },
+    Row {
+        name: "the trace of no process",
+        words: &["--trace", "replay"],
+        input: "vkernel 1",
+        output: "vkernel trace 1\n",
+        status: Status::Done,
+    },
+    Row {
+        name: "a trace is not asked for with another command",
+        words: &["check", "--trace"],
+        input: PING,
+        output: "",
+        status: Status::Usage,
+    },
 ];
 
 /// Calls the top call over the input, of which the reads and writes of these numbers fail, with few bytes a call.
-fn replay(
+fn run(
     alloc: Global,
-    input: &str,
+    asked: &[&str],
+    input: &[u8],
     failing_reads: &[u64],
     failing_writes: &[u64],
 ) -> Result<(Status, MemorySink), AllocError> {
     let mut words = Vec::new(alloc);
-    words.push(String::from_str(alloc, "replay")?)?;
-    let bytes = Vec::from_slice(alloc, input.as_bytes())?;
+    for word in asked {
+        words.push(String::from_str(alloc, word)?)?;
+    }
+    let bytes = Vec::from_slice(alloc, input)?;
     let mut source = MemorySource::new(bytes, Vec::from_slice(alloc, failing_reads)?, 7);
     let mut sink = MemorySink::new(alloc, Vec::from_slice(alloc, failing_writes)?, 5);
     let status = vkernel(alloc, &words, &mut source, &mut sink);
@@ -177,7 +237,7 @@ fn replay(
 #[test]
 fn schedules(rt: HostRuntime) -> Result<(), Fail> {
     for row in &ROWS {
-        let (status, sink) = replay(rt.alloc(), row.input, &[], &[])?;
+        let (status, sink) = run(rt.alloc(), row.words, row.input.as_bytes(), &[], &[])?;
         assert_eq!(rt; status, row.status, "{}", row.name);
         assert_eq!(rt; sink.written(), row.output.as_bytes(), "{}", row.name);
     }
@@ -186,16 +246,16 @@ fn schedules(rt: HostRuntime) -> Result<(), Fail> {
 
 #[test]
 fn faults(rt: HostRuntime) -> Result<(), Fail> {
-    let (status, sink) = replay(rt.alloc(), PING, &[1], &[])?;
+    let (status, sink) = run(rt.alloc(), &["replay"], PING.as_bytes(), &[1], &[])?;
     assert_eq!(rt; status, Status::ReadFault);
     assert_eq!(rt; sink.written().len(), 0);
-    let (status, sink) = replay(rt.alloc(), PING, &[9], &[])?;
+    let (status, sink) = run(rt.alloc(), &["replay"], PING.as_bytes(), &[9], &[])?;
     assert_eq!(rt; status, Status::ReadFault);
     assert_eq!(rt; sink.written().len(), 0);
-    let (status, sink) = replay(rt.alloc(), PING, &[], &[1])?;
+    let (status, sink) = run(rt.alloc(), &["replay"], PING.as_bytes(), &[], &[1])?;
     assert_eq!(rt; status, Status::WriteFault);
     assert_eq!(rt; sink.written().len(), 0);
-    let (status, sink) = replay(rt.alloc(), PING, &[], &[4])?;
+    let (status, sink) = run(rt.alloc(), &["replay"], PING.as_bytes(), &[], &[4])?;
     assert_eq!(rt; status, Status::WriteFault);
     assert_eq!(rt; sink.written(), &PING_REPORT.as_bytes()[..15]);
     Ok(())
@@ -204,30 +264,52 @@ fn faults(rt: HostRuntime) -> Result<(), Fail> {
 /// Behind the 46 writes of the report there is one flush, the last call.
 #[test]
 fn one_flush(rt: HostRuntime) -> Result<(), Fail> {
-    let (status, sink) = replay(rt.alloc(), PING, &[], &[47])?;
+    let (status, sink) = run(rt.alloc(), &["replay"], PING.as_bytes(), &[], &[47])?;
     assert_eq!(rt; status, Status::WriteFault);
     assert_eq!(rt; sink.written(), PING_REPORT.as_bytes());
-    let (status, _sink) = replay(rt.alloc(), PING, &[], &[48])?;
+    let (status, _sink) = run(rt.alloc(), &["replay"], PING.as_bytes(), &[], &[48])?;
     assert_eq!(rt; status, Status::Done);
     Ok(())
 }
 
+/// An event that is not built stands in line 5, before more events than a schedule may have.
+#[test]
+fn unbuilt_before_limit(rt: HostRuntime) -> Result<(), Fail> {
+    let alloc = rt.alloc();
+    let mut text = Vec::from_slice(
+        alloc,
+        b"vkernel 1\nprocess 1.1 64\ncollect 1.1\ncollect 1.1\n",
+    )?;
+    text.extend_from_slice(b"tick 1\n")?;
+    for _ in 0..100_000u32 {
+        text.extend_from_slice(b"collect 1.1\n")?;
+    }
+    let (status, _sink) = run(alloc, &["replay"], &text, &[], &[])?;
+    assert_eq!(rt; status, Status::BadInput { line: 5 });
+    Ok(())
+}
+
+/// Words that ask for nothing.
+const USELESS: [&[&str]; 9] = [
+    &[],
+    &["replay", "replay"],
+    &["replay", "5"],
+    &["--trace"],
+    &["--help"],
+    &["replay", "--", "--trace"],
+    &["check"],
+    &["storm"],
+    &["run"],
+];
+
 #[test]
 fn words_and_statuses(rt: HostRuntime) -> Result<(), Fail> {
-    let alloc = rt.alloc();
-    let mut source = MemorySource::new(Vec::from_slice(alloc, b"vkernel 1")?, Vec::new(alloc), 7);
-    let mut sink = MemorySink::new(alloc, Vec::new(alloc), 5);
-    let mut words = Vec::new(alloc);
-    assert_eq!(rt;
-        vkernel(alloc, &words, &mut source, &mut sink),
-        Status::Usage
-    );
-    words.push(String::from_str(alloc, "replay")?)?;
-    words.push(String::from_str(alloc, "replay")?)?;
-    assert_eq!(rt;
-        vkernel(alloc, &words, &mut source, &mut sink),
-        Status::Usage
-    );
+    for words in USELESS {
+        let (status, _sink) = run(rt.alloc(), words, b"vkernel 1", &[], &[])?;
+        assert_eq!(rt; status, Status::Usage);
+    }
+    let (status, _sink) = run(rt.alloc(), &["--", "replay"], b"vkernel 1", &[], &[])?;
+    assert_eq!(rt; status, Status::Done);
     assert_eq!(rt;
         Status::BadInput { line: 4 }.text().as_slice(),
         b"vkernel: line 4 is not valid".as_slice()

@@ -1,9 +1,9 @@
 -- What holds of a schedule that can be played.
-use Rattle.std.proofs.Common.{◌≡◌, ℕ, suc, ◌+◌, ◌≤◌, ◌==◌, ◌&&◌, not, Bool, true, false, cond, List, [], ◌∷◌, length, nat_lt, Option, Some, None, option_map, Result, Ok, Err, refl, sym, ap, ◌∙◌, arith}
+use Rattle.std.proofs.Common.{◌≡◌, ℕ, suc, ◌+◌, ◌≤◌, ◌==◌, ◌&&◌, not, Bool, true, false, cond, List, [], ◌∷◌, length, nat_lt, Option, Some, None, option_map, Ok, refl, sym, arith}
 use Rattle.std.proofs.lemmas.Bool.{and_from, and_parts, le-ltb}
 use borrow.Author.Tests.{ltb-false}
 use Rattle.std.proofs.lemmas.Option.{none-some}
-use Rattle.std.specs.List.{list_all, position_or_len, prefix_len}
+use Rattle.std.specs.List.{list_all, prefix_len}
 use Rattle.std.specs.Prelude.{position}
 use Rattle.vk_base.specs.Settings.{or_else}
 use Rattle.vk_base.specs.declared.config.ProcessSpec.{ProcessSpec}
@@ -12,7 +12,7 @@ use Rattle.vk_event.specs.declared.schedule.Schedule.{Schedule}
 use Rattle.vk_event.specs.declared.schedule.TextRefusal.{TextRefusal}
 use Rattle.vk_event.specs.Lawful.{has_actors}
 use Rattle.vk_event.specs.Schedule.{front_of, schedule_of, whole}
-use Rattle.vk_top.specs.Forms.{is_built_event, is_built_process, unbuilt_process, unbuilt_event, unbuilt_line, playable_by, playable_of, IsPlayable}
+use Rattle.vk_top.specs.Forms.{is_built_event, is_built_process, unbuilt_line, playable_by, playable_of, IsPlayable}
 
 -- an event of a process of the schedule, of a form that is built
 abbrev pub is_playable_event : List ProcessSpec → Event → Bool

@@ -133,7 +133,14 @@ fn put_history(
     };
     let host = first.pid.host;
     let mut station = Host::new(alloc, &schedule.config, host)?;
-    put_events(alloc, &mut station, text, form, host, schedule.events.as_slice())
+    put_events(
+        alloc,
+        &mut station,
+        text,
+        form,
+        host,
+        schedule.events.as_slice(),
+    )
 }
 
 /// The report of the schedule, or its trace.

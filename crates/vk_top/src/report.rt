@@ -101,12 +101,7 @@ fn put_step_word(text: &mut Vec<u8>, form: Form) -> Result<(), NoMemory>
     }
 }
 
-fn put_step_line(
-    alloc: Global,
-    text: &mut Vec<u8>,
-    form: Form,
-    step: &Step,
-) -> Result<(), NoMemory>
+fn put_step_line(alloc: Global, text: &mut Vec<u8>, form: Form, step: &Step) -> Result<(), NoMemory>
     ensures { OnOk result (text.new.items ≡ text.old.items ++ step_line form step.now) }
 {
     put_step_word(text, form)?;

@@ -66,12 +66,7 @@ fn read_playable(alloc: Global, text: &[u8]) -> Result<Schedule, TextRefusal>
 }
 
 /// `replay`: reads a schedule and writes its report or its trace.
-fn replay<S: Source, K: Sink>(
-    alloc: Global,
-    form: Form,
-    input: &mut S,
-    output: &mut K,
-) -> Status
+fn replay<S: Source, K: Sink>(alloc: Global, form: Form, input: &mut S, output: &mut K) -> Status
     ensures used { result ≡ Status.Usage → ⊥ }
     ensures done { result ≡ Status.Done → IfSome (S.left input.old) (λ i. IsReplayed form i (K.written output.old) (K.written output.new)) }
     ensures whole { result ≡ Status.Done → IfSome (S.left input.old) (λ i. S.left input.new ≡ Some []) }
