@@ -15,7 +15,7 @@ use Rattle.vk_base.specs.Settings.{is_process}
 use Rattle.vk_base.specs.Steps.{Run, effect, run, arriving, taking, finishing, failing, opening_move, copying, ending, hearing, asking, finding, collecting}
 use Rattle.vk_base.proofs.OptionLemmas.{bind_is}
 use Rattle.v_laws.specs.Sound.{IsSound, IsRegistered}
-use Rattle.v_laws.proofs.Changes.{GoesOn, sound_onward}
+use Rattle.v_laws.proofs.Changes.{sound_onward}
 use Rattle.v_laws.proofs.SoundArrive.{sound_arrived}
 use Rattle.v_laws.proofs.SoundCalls.{IsStep, as_step, called_is}
 pub use Rattle.v_laws.proofs.SoundCalls.{sound_state, sound_replied}

@@ -12,7 +12,6 @@ use Rattle.vk_base.specs.declared.kernel.Exchange.{Exchange}
 use Rattle.vk_base.specs.declared.kernel.Name.{Name}
 use Rattle.vk_base.specs.declared.kernel.Process.{Process}
 use Rattle.vk_base.specs.declared.kernel.Stage.TheVariants as stages
-use Rattle.vk_base.specs.declared.kernel.State.{State}
 use Rattle.vk_base.specs.declared.kernel.State.TheVariants as states
 use Rattle.vk_base.specs.declared.message.Message.{Message}
 use Rattle.vk_base.specs.declared.pid.Pid.{Pid}
