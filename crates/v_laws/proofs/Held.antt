@@ -50,7 +50,8 @@ unfolding held_up_to
 held_is exchanges r sender zero n e = absurd (none-some n e)
 held_is exchanges r sender (suc bound) n e = by_test exchanges r sender bound n (holds_at exchanges r sender (suc bound)) refl (held_is exchanges r sender bound n) e
 
-some_that_holds : {A : Type 0} (test : A → Bool) (o : Option A) → holds_of test o ≡ true → (x : A) × (o ≡ Some x) × (test x ≡ true)
+-- what is there where a test holds of it
+pub some_that_holds : {A : Type 0} (test : A → Bool) (o : Option A) → holds_of test o ≡ true → (x : A) × (o ≡ Some x) × (test x ≡ true)
 some_that_holds test None t = absurd (both_ways false refl t)
 some_that_holds test (Some x) t = (x, refl, t)
 

@@ -19,7 +19,7 @@ use Rattle.v_laws.specs.Reached.{IsReached}
 use Rattle.v_laws.specs.Sound.{IsSound, is_settled}
 use Rattle.v_laws.proofs.Changes.{open_not_posted, open_not_settled}
 use Rattle.v_laws.proofs.Later.{ExchangesGoOn, rank, posted_rank, queued_rank, exchange_later, becomes_later, later_self, later_on, after_arrived}
-use Rattle.v_laws.proofs.PlaceLemmas.{mapped_is, before_after, step_at, onward}
+use Rattle.v_laws.proofs.PlaceLemmas.{at_place, mapped_is, before_after, step_at, onward}
 use Rattle.v_laws.proofs.Queues.{taken_was_queued}
 use Rattle.v_laws.proofs.ReachedLemmas.{reached_sound}
 use Rattle.v_laws.proofs.SoundLemmas.{step_is}
@@ -137,10 +137,7 @@ pub takes_one : (specs : List ProcessSpec) (ss : List Step) (r : Run) (i : ℕ) 
 takes_one specs ss r i pid g is =
     let a = step_at specs ss r i (steps.Take pid) g is in
     let t = bind_is (taking a.kernel pid) _ a.did a.does in
-    ap is_some (taken_here specs ss i a.kernel (steps.Take pid) a.at is) ∙ ap (λ o. is_some (option_map (λ (t : Taking). t.name) o)) t.1
-  where
-    taken_here : (specs : List ProcessSpec) (ss : List Step) (i : ℕ) (k : Kernel) (s : Step) → before specs ss i ≡ Some k → slice_get ss i ≡ Some s → taken_at specs ss i ≡ taken_by k s
-    taken_here specs ss i k s at is = ap (λ o. o >>= λ k. slice_get ss i >>= λ s. taken_by k s) at ∙ ap (λ o. o >>= λ s. taken_by k s) is
+    ap is_some (at_place taken_by specs ss i a.kernel (steps.Take pid) a.at is) ∙ ap (λ o. is_some (option_map (λ (t : Taking). t.name) o)) t.1
 
 -- One at a station.
 settled_apart : (k : Kernel) (sender : Pid) (m n : ℕ) (x y : Exchange) → IsSound k → k.exchanges (name_of sender m) ≡ Some x → k.exchanges (name_of sender n) ≡ Some y → is_open x.stage ≡ true → is_open y.stage ≡ true → same_host x.target y.target ≡ true → m < n → ⊥

@@ -28,7 +28,7 @@ use Rattle.v_laws.proofs.FilterLemmas.{same_head, none_kept}
 use Rattle.v_laws.proofs.Changes.{queued_is_open}
 use Rattle.v_laws.proofs.Later.{rank}
 use Rattle.v_laws.proofs.OnceLemmas.{IsTakenAt, go_on, taken_at_is, taken_over}
-use Rattle.v_laws.proofs.PlaceLemmas.{before_sound, before_after, step_at, turn, onward}
+use Rattle.v_laws.proofs.PlaceLemmas.{at_place, before_sound, before_after, step_at, turn, onward}
 use Rattle.v_laws.proofs.Queues.{queued_in, fresh, not_arrived, first_is, taken_was_queued}
 use Rattle.v_laws.proofs.SoundCalls.{IsStep}
 use Rattle.v_laws.proofs.SoundLemmas.{step_is}
@@ -169,7 +169,7 @@ arrived_brought specs ss j n k at there =
     record {
       place = t.place;
       earlier = t.earlier;
-      brought = ap (λ o. o >>= λ k. slice_get ss t.place >>= λ s. brought_by k s) t.at ∙ ap (λ o. o >>= λ s. brought_by t.kernel s) t.is ∙ brings;
+      brought = at_place brought_by specs ss t.place t.kernel t.step t.at t.is ∙ brings;
     }
 
 -- each Take takes a message that was brought before

@@ -6,7 +6,7 @@ use Rattle.std.proofs.lemmas.Option.{same_Some, none-some}
 use Rattle.vk_base.specs.declared.config.ProcessSpec.{ProcessSpec}
 use Rattle.vk_base.specs.declared.step.Step.{Step}
 use Rattle.vk_base.specs.Calls.{Effect}
-use Rattle.vk_base.specs.Kernel.{Kernel, opening}
+use Rattle.vk_base.specs.Kernel.{◌>>=◌, Kernel, opening}
 use Rattle.vk_base.specs.Steps.{Run, effect, run}
 use Rattle.vk_base.proofs.OptionLemmas.{bind_is}
 use Rattle.v_laws.specs.Places.{before}
@@ -33,6 +33,10 @@ one_more (s ∷ ss) (suc i) = one_more_of s ss i (one_more ss i)
 pub mapped_is : {A B : Type 0} (f : A → B) (o : Option A) (y : B) → option_map f o ≡ Some y → (x : A) × (o ≡ Some x) × (f x ≡ y)
 mapped_is f None y e = absurd (none-some y e)
 mapped_is f (Some x) y e = (x, refl, same_Some (f x) y e)
+
+-- what is found at a place by its kernel and its step
+pub at_place : {B : Type 0} (f : Kernel → Step → Option B) (specs : List ProcessSpec) (ss : List Step) (i : ℕ) (k : Kernel) (s : Step) → before specs ss i ≡ Some k → slice_get ss i ≡ Some s → (before specs ss i >>= λ k. slice_get ss i >>= λ s. f k s) ≡ f k s
+at_place f specs ss i k s at is = ap (λ o. o >>= λ k. slice_get ss i >>= λ s. f k s) at ∙ ap (λ o. o >>= λ s. f k s) is
 
 pub before_sound : (specs : List ProcessSpec) (ss : List Step) (i : ℕ) (k : Kernel) → before specs ss i ≡ Some k → IsSound k
 before_sound specs ss i k at =

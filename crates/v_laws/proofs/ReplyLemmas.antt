@@ -24,20 +24,17 @@ use Rattle.vk_base.specs.Pids.{same_host}
 use Rattle.vk_base.specs.Ranges.{range_of, bytes_in, with_bytes}
 use Rattle.vk_base.specs.Steps.{Finishing, finished, Run, Taking, effect, run, finishing}
 use Rattle.vk_base.proofs.OptionLemmas.{bind_is}
-use Rattle.v_laws.specs.Places.{HasOwnReply, IsFinishAt, IsReplyAt, before, effect_at, taken_at, taken_by, given_by}
+use Rattle.v_laws.specs.Places.{HasOwnReply, IsFinishAt, IsReplyAt, before, taken_at, taken_by, given_by}
 use Rattle.v_laws.specs.Reached.{saw}
 use Rattle.v_laws.specs.Sound.{IsSound, IsSent, is_settled}
 use Rattle.v_laws.proofs.Changes.{StageOn}
+use Rattle.v_laws.proofs.Held.{some_that_holds}
 use Rattle.v_laws.proofs.Later.{IsLater, Becomes, exchange_before}
 use Rattle.v_laws.proofs.OnceLemmas.{go_on}
-use Rattle.v_laws.proofs.PlaceLemmas.{IsTurn, before_sound, before_after, step_at, turn}
+use Rattle.v_laws.proofs.PlaceLemmas.{at_place, IsTurn, before_sound, before_after, step_at, turn}
 use Rattle.v_laws.proofs.SoundLemmas.{step_is}
 use Rattle.v_laws.proofs.StepLemmas.{IsFinishing, finishing_is}
 use Rattle.v_laws.proofs.Tables.{put_process_here}
-
-some_holds : {A : Type 0} (test : A → Bool) (o : Option A) → holds_of test o ≡ true → (x : A) × (o ≡ Some x) × (test x ≡ true)
-some_holds test None t = absurd (both_ways false refl t)
-some_holds test (Some x) t = (x, refl, t)
 
 -- Exchanges that are taken, and such that are replied to.
 abbrev is_replied : Stage → Bool
@@ -192,7 +189,7 @@ given_at specs ss i n k z at there replied = by_turn (turn specs ss (replied_in 
   where
     by_turn : IsTurn specs ss (replied_in n) i → IsGiven specs ss n i z
     by_turn t =
-        let y = some_holds (λ (e : Exchange). is_replied e.stage) (t.did.after.exchanges n) t.now in
+        let y = some_that_holds (λ (e : Exchange). is_replied e.stage) (t.did.after.exchanges n) t.now in
         let w = replied_when t.kernel t.step t.did n y.0 (before_sound specs ss t.place t.kernel t.at) t.does t.was y.1 y.2 in
         given_by_turn specs ss i n t w.0 y.0 z w.1 w.2 w.3 (later_at specs ss (replied_in n) i t k n y.0 z at y.1 there)
 
@@ -209,7 +206,7 @@ taken_by_turn specs ss i n t y x take later = record {
   receiver = y.target;
   target = sym later.target;
   is = t.is ∙ ap (λ (z : Step). Some z) take.step;
-  takes = ap (λ o. o >>= λ k. slice_get ss t.place >>= λ s. taken_by k s) t.at ∙ ap (λ o. o >>= λ s. taken_by t.kernel s) t.is ∙ take.takes;
+  takes = at_place taken_by specs ss t.place t.kernel t.step t.at t.is ∙ take.takes;
 }
 
 taken_before : (specs : List ProcessSpec) (ss : List Step) (i : ℕ) (n : Name) (k : Kernel) (x : Exchange) → before specs ss i ≡ Some k → k.exchanges n ≡ Some x → is_taken x.stage ≡ true → IsTakenBefore specs ss n i x
@@ -217,12 +214,9 @@ taken_before specs ss i n k x at there taken = by_turn (turn specs ss (taken_in 
   where
     by_turn : IsTurn specs ss (taken_in n) i → IsTakenBefore specs ss n i x
     by_turn t =
-        let y = some_holds (λ (e : Exchange). is_taken e.stage) (t.did.after.exchanges n) t.now in
+        let y = some_that_holds (λ (e : Exchange). is_taken e.stage) (t.did.after.exchanges n) t.now in
         let w = taken_when t.kernel t.step t.did n y.0 (before_sound specs ss t.place t.kernel t.at) t.does t.was y.1 y.2 in
         taken_by_turn specs ss i n t y.0 x w (later_at specs ss (taken_in n) i t k n y.0 x at y.1 there)
-
-effect_there : (specs : List ProcessSpec) (ss : List Step) (j : ℕ) (k : Kernel) (t : Step) (e : Effect) → before specs ss j ≡ Some k → slice_get ss j ≡ Some t → effect k t ≡ Some e → effect_at specs ss j ≡ Some e
-effect_there specs ss j k t e at here does = ap (λ o. o >>= λ k. slice_get ss j >>= λ s. effect k s) at ∙ ap (λ o. o >>= λ s. effect k s) here ∙ does
 
 -- What the sender gets.
 finish_at : (specs : List ProcessSpec) (ss : List Step) (i : ℕ) (s : Pid) (k : Kernel) (f : Finishing) → before specs ss i ≡ Some k → slice_get ss i ≡ Some (steps.Finish s) → finishing k s ≡ Some f → IsFinishing k s f → IsFinishAt specs ss i s f.target f.process.sends f.reply f.dest f.bytes
@@ -232,7 +226,7 @@ finish_at specs ss i s k f at is finishes fin = record {
   message = f.message;
   waits = sending_state f.process.state f.target f.message fin.send;
   last = refl;
-  after = ap (λ o. o >>= λ e. e.after.procs s) (effect_there specs ss i k (steps.Finish s) (unseen (finished k s f)) at is (ap (λ o. o >>= λ g. Some (unseen (finished k s g))) finishes))
+  after = ap (λ o. o >>= λ e. e.after.procs s) (at_place effect specs ss i k (steps.Finish s) at is ∙ ap (λ o. o >>= λ g. Some (unseen (finished k s g))) finishes)
       ∙ put_process_here k.procs s (record f.process { memory = with_bytes f.process.memory f.dest f.bytes; state = states.Done (calls.Send f.target f.message) (answers.Replied f.reply) });
 }
 
@@ -243,7 +237,7 @@ reply_at specs ss i s number z w target same =
     record {
       call = w.reply.call;
       is = w.turn.is ∙ ap (λ (z : Step). Some z) w.reply.step ∙ ap (λ q. Some (steps.Call q w.reply.call)) same;
-      answered = ap (λ o. o >>= λ e. e.seen) (effect_there specs ss w.turn.place w.turn.kernel w.turn.step w.turn.did w.turn.at w.turn.is w.turn.does)
+      answered = ap (λ o. o >>= λ e. e.seen) (at_place effect specs ss w.turn.place w.turn.kernel w.turn.step w.turn.at w.turn.is ∙ w.turn.does)
           ∙ w.reply.answers w.turn.did w.turn.does (λ back. both_ways (replied_in (name_of s number) w.turn.kernel) w.turn.was (ap (replied_in (name_of s number)) (sym back) ∙ w.turn.now))
           ∙ ap (λ q. saw q w.reply.call answers.Ok) same;
       caller = caller.0;

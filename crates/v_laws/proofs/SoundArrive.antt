@@ -7,7 +7,6 @@ use Rattle.vk_base.specs.declared.call.Call.TheVariants as calls
 use Rattle.vk_base.specs.declared.kernel.Exchange.{Exchange}
 use Rattle.vk_base.specs.declared.kernel.Name.{Name}
 use Rattle.vk_base.specs.declared.kernel.Process.{Process}
-use Rattle.vk_base.specs.declared.kernel.Stage.{Stage}
 use Rattle.vk_base.specs.declared.kernel.Stage.TheVariants as stages
 use Rattle.vk_base.specs.declared.kernel.State.TheVariants as states
 use Rattle.vk_base.specs.declared.message.Message.{Message}
@@ -16,6 +15,7 @@ use Rattle.vk_base.specs.Kernel.{Kernel, name_of, same_name, is_posted, is_open,
 use Rattle.vk_base.specs.Pids.{same_pid, same_host}
 use Rattle.vk_base.specs.Steps.{arriving, with_arrival, after_arrival, is_older}
 use Rattle.v_laws.specs.Sound.{IsSound, IsAwaited, IsUnderWay, IsSent, has_arrived, is_settled}
+use Rattle.v_laws.proofs.Changes.{posted_not_settled}
 use Rattle.v_laws.proofs.SoundChanges.{orderly_where}
 use Rattle.v_laws.proofs.SoundSends.{any_other, any_kept, any_here, neither_settled}
 use Rattle.v_laws.proofs.StepLemmas.{IsArriving, arriving_is}
@@ -78,14 +78,7 @@ behind name e n x y (other f g is) sender less near =
 
 -- one that is settled stays so
 settled_after : (name : Name) (e : Exchange) (n : Name) (x y : Exchange) → ArrivalOn name e n x y → (same_name n name ≡ true → is_posted x.stage ≡ true) → is_settled x.stage ≡ true → is_settled y.stage ≡ true
-settled_after name e n x y (here t is) away s = absurd (posted_not_settled x.stage (away t) s)
-  where
-    posted_not_settled : (s : Stage) → is_posted s ≡ true → is_settled s ≡ true → ⊥
-    posted_not_settled stages.Posted t u = both_ways false refl u
-    posted_not_settled stages.Queued t u = both_ways false refl u
-    posted_not_settled stages.Taken t u = both_ways false refl u
-    posted_not_settled (stages.Replied m d b) t u = both_ways false refl t
-    posted_not_settled stages.Dropped t u = both_ways false refl t
+settled_after name e n x y (here t is) away s = absurd (both_ways (is_settled x.stage) (posted_not_settled x.stage (away t)) s)
 settled_after name e n x y (older f t is) away s = ap (λ (z : Exchange). is_settled z.stage) is
 settled_after name e n x y (other f g is) away s = ap (λ (z : Exchange). is_settled z.stage) is ∙ s
 

@@ -86,10 +86,11 @@ some_is : {A : Type 0} (o : Option A) → is_none o ≡ false → (x : A) × (o 
 some_is None f = absurd (both_ways true f refl)
 some_is (Some x) f = (x, refl)
 
--- a call that is not refused
-as_effect : (s : Step) (k : Kernel) (e f : Effect) → Some e ≡ Some f → GoesOn s k e.after → IsStep s k f.after
+-- what a step is whose effect is known
+pub as_effect : (s : Step) (k : Kernel) (e f : Effect) → Some e ≡ Some f → GoesOn s k e.after → IsStep s k f.after
 as_effect s k e f g on = IsStep.goes (subst (λ (x : Effect). GoesOn s k x.after) (same_Some e f g) on)
 
+-- a call that is not refused
 pub accepted_is : (k : Kernel) (pid : Pid) (p : Process) (c : Call) (e : Effect) → IsSound k → k.procs pid ≡ Some p → IsFit k pid p c → accepted k pid p c ≡ Some e → IsStep (steps.Call pid c) k e.after
 accepted_is k pid p (calls.Send target m) e sound at fit g = IsStep.sends pid p target m refl at fit (ap (λ (x : Effect). x.after) (sym (same_Some _ e g)))
 accepted_is k pid p calls.Receive e sound at fit g = as_effect (steps.Call pid calls.Receive) k _ e g (goes_state (steps.Call pid calls.Receive) k pid p (states.Blocked calls.Receive) sound at fit.alive fit.ready refl)
