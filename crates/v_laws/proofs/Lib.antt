@@ -11,6 +11,8 @@ pub mod ReachedLemmas
 pub mod Related
 pub mod RunLemmas
 pub mod ReplyLemmas
+pub mod SizeLemmas
+pub mod Sizes
 pub mod SoundArrive
 pub mod SoundCalls
 pub mod SoundChanges
