@@ -4,6 +4,7 @@ pub mod FilterLemmas
 pub mod Held
 pub mod Later
 pub mod OnceLemmas
+pub mod Options
 pub mod OrderLemmas
 pub mod PlaceLemmas
 pub mod Queues

@@ -19,12 +19,13 @@ use Rattle.v_laws.specs.Reached.{IsReached}
 use Rattle.v_laws.specs.Sound.{IsSound, is_settled}
 use Rattle.v_laws.proofs.Changes.{open_not_posted, open_not_settled}
 use Rattle.v_laws.proofs.Later.{ExchangesGoOn, rank, posted_rank, queued_rank, exchange_later, becomes_later, later_self, later_on, after_arrived}
-use Rattle.v_laws.proofs.PlaceLemmas.{at_place, mapped_is, before_after, step_at, onward}
+use Rattle.v_laws.proofs.PlaceLemmas.{at_place, before_after, step_at, onward}
 use Rattle.v_laws.proofs.Queues.{taken_was_queued}
 use Rattle.v_laws.proofs.ReachedLemmas.{reached_sound}
 use Rattle.v_laws.proofs.SoundLemmas.{step_is}
 use Rattle.v_laws.proofs.StepLemmas.{arriving_is, taking_is}
 use Rattle.v_laws.proofs.Tables.{same_name_self, put_exchange_here}
+use Rattle.v_laws.proofs.Options.{mapped_is}
 
 -- Exchanges go on from place to place.
 pub go_on : (specs : List ProcessSpec) (ss : List Step) (i j : ℕ) (k l : Kernel) → i ≤ j → before specs ss i ≡ Some k → before specs ss j ≡ Some l → ExchangesGoOn k l

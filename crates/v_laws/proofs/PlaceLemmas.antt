@@ -13,6 +13,7 @@ use Rattle.v_laws.specs.Places.{before}
 use Rattle.v_laws.specs.Sound.{IsSound}
 use Rattle.v_laws.proofs.RunLemmas.{run-append, run_nothing, run_step, run_on}
 use Rattle.v_laws.proofs.SoundLemmas.{sound_opening, sound_run}
+use Rattle.v_laws.proofs.Options.{mapped_is}
 
 -- one more step of a list
 pub data OneMore (ss : List Step) (i : ℕ) : Type 0 where
@@ -28,11 +29,6 @@ one_more [] zero = OneMore.past refl refl
 one_more [] (suc i) = OneMore.past refl refl
 one_more (s ∷ ss) zero = OneMore.step s refl refl
 one_more (s ∷ ss) (suc i) = one_more_of s ss i (one_more ss i)
-
--- what came of a map
-pub mapped_is : {A B : Type 0} (f : A → B) (o : Option A) (y : B) → option_map f o ≡ Some y → (x : A) × (o ≡ Some x) × (f x ≡ y)
-mapped_is f None y e = absurd (none-some y e)
-mapped_is f (Some x) y e = (x, refl, same_Some (f x) y e)
 
 -- what is found at a place by its kernel and its step
 pub at_place : {B : Type 0} (f : Kernel → Step → Option B) (specs : List ProcessSpec) (ss : List Step) (i : ℕ) (k : Kernel) (s : Step) → before specs ss i ≡ Some k → slice_get ss i ≡ Some s → (before specs ss i >>= λ k. slice_get ss i >>= λ s. f k s) ≡ f k s

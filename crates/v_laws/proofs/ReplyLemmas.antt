@@ -28,7 +28,7 @@ use Rattle.v_laws.specs.Places.{HasOwnReply, IsFinishAt, IsReplyAt, before, take
 use Rattle.v_laws.specs.Reached.{saw}
 use Rattle.v_laws.specs.Sound.{IsSound, IsSent, is_settled}
 use Rattle.v_laws.proofs.Changes.{StageOn}
-use Rattle.v_laws.proofs.Held.{some_that_holds}
+use Rattle.v_laws.proofs.Options.{some_that_holds}
 use Rattle.v_laws.proofs.Later.{IsLater, Becomes, exchange_before}
 use Rattle.v_laws.proofs.OnceLemmas.{go_on}
 use Rattle.v_laws.proofs.PlaceLemmas.{at_place, IsTurn, before_sound, before_after, step_at, turn}

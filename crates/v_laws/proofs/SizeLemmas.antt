@@ -35,10 +35,10 @@ use Rattle.vk_base.specs.Settings.{is_process}
 use Rattle.vk_base.specs.Steps.{Run, Taking, Finishing, Opening, Copying, effect, run, arriving, with_arrival, after_arrival, is_older, taking, taken, received, with_part, finishing, finished, failing, opening_move, move_opened, noted_bytes, copying, copied, is_next, written_process, is_in_move, ending, hearing, asking, finding, collecting}
 use Rattle.vk_base.proofs.OptionLemmas.{bind_is}
 use Rattle.v_laws.specs.Sizes.{IsSized, IsExchangeFit, IsMoveFit, range_asked, reply_fits, size_in, size_found, start_here, start_there}
-use Rattle.v_laws.proofs.PlaceLemmas.{mapped_is}
-use Rattle.v_laws.proofs.Sizes.{AreFit, taken_most, length-with_bytes, four_tests, granted_lies, sized_put, sized_quiet, sized_memory, fit_put, fit_map}
-use Rattle.v_laws.proofs.StepLemmas.{IsFit, fit_is, passes_first, only_if_is, taking_is, finishing_is, failing_is, opening_is, copying_is, ending_is, asking_is, finding_is, collecting_is}
-use Rattle.v_laws.proofs.Held.{some_that_holds}
+use Rattle.v_laws.proofs.Options.{mapped_is}
+use Rattle.v_laws.proofs.Sizes.{AreFit, taken_most, length-with_bytes, granted_lies, sized_put, sized_quiet, sized_memory, fit_put, fit_map}
+use Rattle.v_laws.proofs.StepLemmas.{four_tests, IsFit, fit_is, passes_first, only_if_is, taking_is, finishing_is, failing_is, opening_is, copying_is, ending_is, asking_is, finding_is, collecting_is}
+use Rattle.v_laws.proofs.Options.{some_that_holds, of_either}
 use Rattle.v_laws.proofs.States.{ready_asks, ended_asks, receiving_asks}
 use Rattle.v_laws.proofs.Tables.{same_pid_is}
 
@@ -112,10 +112,6 @@ sized_begin size k pid p c partner m e sized at quiet fits g =
     let x = bind_is (k.exchanges (name_of partner number.0)) _ e number.2 in
     subst (λ (y : Effect). IsSized size y.after) (same_Some _ e x.2) (sized_begun size k pid p c (name_of partner number.0) x.0 m sized at quiet x.1 (fits number.0 x.0 number.1 x.1))
 
-either : {A : Type 0} (P : A → Type 0) (b : Bool) (o p : Option A) (e : A) → (o ≡ Some e → P e) → (p ≡ Some e → P e) → cond b o p ≡ Some e → P e
-either P true o p e f g is = f is
-either P false o p e f g is = g is
-
 -- where a process is held, there is its exchange
 pub some_held : (k : Kernel) (pid partner : Pid) (start count : ℕ) → is_granted (held_exchange k pid partner) start count ≡ true → (number : ℕ) × (x : Exchange) × (held k pid partner ≡ Some number) × (k.exchanges (name_of partner number) ≡ Some x)
 some_held k pid partner start count granted =
@@ -186,30 +182,30 @@ sized_accepted size k pid p (calls.ReceiveSegment start count) e sized at fit g 
 sized_accepted size k pid p (calls.Reply m to) e sized at fit g = sized_reply size k pid (calls.Reply m to) to m 0 [] e sized (λ number x is at_x. omega arith) g
 sized_accepted size k pid p (calls.ReplySegment m to dest src count) e sized at fit g =
     let tests = four_tests (nat_lt 512 count) (is_none (held k pid to)) (not (may_write (held_exchange k pid to))) (is_granted (held_exchange k pid to) dest count) (is_own p src count) refusals.TooLong refusals.NotAwaiting refusals.NoAccess refusals.BadRange fit.rest in
-    let there = granted_there size k pid to dest count sized tests.0 in
+    let there = granted_there size k pid to dest count sized tests.1 in
     let most = taken_most count (drop src p.memory) in
     sized_reply size k pid (calls.ReplySegment m to dest src count) to m dest (bytes_in (range_of src count) p.memory) e sized (λ number x is at_x. omega arith) g
 sized_accepted size k pid p (calls.MoveTo partner dest src count) e sized at fit g =
     let c : Call = calls.MoveTo partner dest src count in
     let bytes = bytes_in (range_of src count) p.memory in
     let tests = four_tests (nat_lt 65536 count) (is_none (held k pid partner)) (not (may_write (held_exchange k pid partner))) (is_granted (held_exchange k pid partner) dest count) (is_own p src count) refusals.TooLong refusals.NotAwaiting refusals.NoAccess refusals.BadRange fit.rest in
-    let there = granted_there size k pid partner dest count sized tests.0 in
-    let here = own_here size k pid p src count sized at tests.1 in
+    let there = granted_there size k pid partner dest count sized tests.1 in
+    let here = own_here size k pid p src count sized at tests.2 in
     let most = taken_most count (drop src p.memory) in
-    either (λ (x : Effect). IsSized size x.after) (is_at_once pid partner count) (copied_at_once k pid c partner dest bytes) (begin_move k pid p c partner (new_move pid directions.To dest src count bytes)) e
-    (sized_at_once size k pid c partner dest bytes e sized (omega arith))
-    (sized_begin size k pid p c partner (new_move pid directions.To dest src count bytes) e sized at refl
+    of_either (λ (x : Effect). IsSized size x.after) (is_at_once pid partner count) (copied_at_once k pid c partner dest bytes) (begin_move k pid p c partner (new_move pid directions.To dest src count bytes)) e
+    (λ once. sized_at_once size k pid c partner dest bytes e sized (omega arith))
+    (λ later. sized_begin size k pid p c partner (new_move pid directions.To dest src count bytes) e sized at refl
     (λ number x is at_x. record { there = le-leb (dest + count) (size partner) there; here = le-leb (src + count) (size pid) here })) g
 sized_accepted size k pid p (calls.MoveFrom partner dest src count) e sized at fit g =
     let c : Call = calls.MoveFrom partner dest src count in
     let tests = four_tests (nat_lt 65536 count) (is_none (held k pid partner)) (not (may_read (held_exchange k pid partner))) (is_granted (held_exchange k pid partner) src count) (is_own p dest count) refusals.TooLong refusals.NotAwaiting refusals.NoAccess refusals.BadRange fit.rest in
-    let there = granted_there size k pid partner src count sized tests.0 in
-    let here = own_here size k pid p dest count sized at tests.1 in
-    either (λ (x : Effect). IsSized size x.after) (is_at_once pid partner count) (k.procs partner >>= λ q. copied_at_once k pid c pid dest (bytes_in (range_of src count) q.memory)) (begin_move k pid p c partner (new_move pid directions.From dest src count [])) e
-    (λ h. let q = bind_is (k.procs partner) _ e h in
+    let there = granted_there size k pid partner src count sized tests.1 in
+    let here = own_here size k pid p dest count sized at tests.2 in
+    of_either (λ (x : Effect). IsSized size x.after) (is_at_once pid partner count) (k.procs partner >>= λ q. copied_at_once k pid c pid dest (bytes_in (range_of src count) q.memory)) (begin_move k pid p c partner (new_move pid directions.From dest src count [])) e
+    (λ once h. let q = bind_is (k.procs partner) _ e h in
     let most = taken_most count (drop src q.0.memory) in
     sized_at_once size k pid c pid dest (bytes_in (range_of src count) q.0.memory) e sized (omega arith) q.2)
-    (sized_begin size k pid p c partner (new_move pid directions.From dest src count []) e sized at refl
+    (λ later. sized_begin size k pid p c partner (new_move pid directions.From dest src count []) e sized at refl
     (λ number x is at_x. record { there = le-leb (src + count) (size partner) there; here = le-leb (dest + count) (size pid) here })) g
 sized_accepted size k pid p (calls.SetPid logical q scope) e sized at fit g = as_sized size _ e g (record { memory = sized.memory; room = sized.room; exchanges = sized.exchanges })
 sized_accepted size k pid p (calls.GetPid logical scope) e sized at fit g = as_sized size _ e g (sized_got size k pid p (calls.GetPid logical scope) logical (found_at_once k pid logical scope) sized at refl)

@@ -1,23 +1,21 @@
 -- Sizes of memories: changes that keep them.
-use Rattle.std.proofs.Common.{◌≡◌, ℕ, zero, suc, ◌+◌, ◌≤◌, Bool, true, ◌&&◌, not, List, [], ◌∷◌, ◌++◌, length, take, drop, option_map, Option, Some, None, sym, ap, subst, ◌∙◌, inl, inr, arith, leb}
-use Rattle.std.proofs.lemmas.Bool.{cases_Bool, and_parts, not-false, leb-true}
+use Rattle.std.proofs.Common.{◌≡◌, ℕ, zero, suc, ◌+◌, ◌≤◌, true, List, [], ◌∷◌, ◌++◌, length, take, drop, option_map, Option, Some, None, sym, ap, subst, ◌∙◌, inl, inr, arith, leb}
+use Rattle.std.proofs.lemmas.Bool.{cases_Bool, and_parts, leb-true}
 use Rattle.std.proofs.lemmas.List.{length-append, length-take-le, length-drop}
 use Rattle.std.proofs.lemmas.Option.{same_Some, none-some}
-use Rattle.vk_base.specs.declared.answer.Refusal.{Refusal}
 use Rattle.vk_base.specs.declared.kernel.Exchange.{Exchange}
 use Rattle.vk_base.specs.declared.kernel.Lookup.{Lookup}
 use Rattle.vk_base.specs.declared.kernel.Name.{Name}
 use Rattle.vk_base.specs.declared.kernel.Process.{Process}
 use Rattle.vk_base.specs.declared.message.Range.{Range}
 use Rattle.vk_base.specs.declared.pid.Pid.{Pid}
-use Rattle.vk_base.specs.Calls.{first_that_holds, is_granted}
+use Rattle.vk_base.specs.Calls.{is_granted}
 use Rattle.vk_base.specs.Kernel.{◌>>=◌, Kernel, name_of, same_name, holds_of, held, held_exchange, put_process, put_exchange}
 use Rattle.vk_base.specs.Messages.{segment_of}
 use Rattle.vk_base.specs.Pids.{same_pid}
 use Rattle.vk_base.specs.Ranges.{range_of, lies_in, lies_within, with_bytes}
 use Rattle.v_laws.specs.Sizes.{IsSized, IsExchangeFit, range_asked}
-use Rattle.v_laws.proofs.PlaceLemmas.{mapped_is}
-use Rattle.v_laws.proofs.StepLemmas.{passes_first}
+use Rattle.v_laws.proofs.Options.{mapped_is}
 use Rattle.v_laws.proofs.Tables.{same_pid_is, same_name_is, put_process_at, put_process_other, put_exchange_at, put_exchange_other}
 
 -- Bytes that are read and written.
@@ -33,15 +31,6 @@ length-with_bytes memory at bytes fits =
     let first = length-take-le at memory (omega arith) in
     let rest = length-drop (at + length bytes) memory in
     omega arith
-
--- what no refusal of a reply or a move says: the sender is held, and the ranges are granted and the caller's own
-pub four_tests : (a b c g o : Bool) (u v w x : Refusal) → first_that_holds ((a, u) ∷ (b, v) ∷ (c, w) ∷ (not (g && o), x) ∷ []) ≡ None → (g ≡ true) × (o ≡ true)
-four_tests a b c g o u v w x e =
-    let first = passes_first a u ((b, v) ∷ (c, w) ∷ (not (g && o), x) ∷ []) e in
-    let second = passes_first b v ((c, w) ∷ (not (g && o), x) ∷ []) first.1 in
-    let third = passes_first c w ((not (g && o), x) ∷ []) second.1 in
-    let last = passes_first (not (g && o)) x [] third.1 in
-    and_parts g o (not-false (g && o) last.0)
 
 -- A granted range lies in the sender's memory.
 pub granted_lies : (size : Pid → ℕ) (k : Kernel) (pid partner : Pid) (number start count : ℕ) (x : Exchange) → IsSized size k → held k pid partner ≡ Some number → k.exchanges (name_of partner number) ≡ Some x → is_granted (held_exchange k pid partner) start count ≡ true → start + count ≤ size partner

@@ -20,6 +20,7 @@ use Rattle.v_laws.proofs.SoundChanges.{orderly_where}
 use Rattle.v_laws.proofs.SoundSends.{any_other, any_kept, any_here, neither_settled}
 use Rattle.v_laws.proofs.StepLemmas.{IsArriving, arriving_is}
 use Rattle.v_laws.proofs.Tables.{same_name_is, same_name_laws}
+use Rattle.v_laws.proofs.Options.{mapped_some}
 
 -- What becomes of an exchange n when the exchange e under this name arrives.
 pub data ArrivalOn (name : Name) (e : Exchange) (n : Name) (x after : Exchange) : Type 0 where
@@ -82,16 +83,12 @@ settled_after name e n x y (here t is) away s = absurd (both_ways (is_settled x.
 settled_after name e n x y (older f t is) away s = ap (λ (z : Exchange). is_settled z.stage) is
 settled_after name e n x y (other f g is) away s = ap (λ (z : Exchange). is_settled z.stage) is ∙ s
 
-map_some : {A B : Type 0} (f : A → B) (o : Option A) → is_some (option_map f o) ≡ is_some o
-map_some f None = refl
-map_some f (Some x) = refl
-
 pub sound_arrived : (k : Kernel) (name : Name) (e : Exchange) → IsSound k → arriving k name ≡ Some e → IsSound (with_arrival k name e)
 unfolding with_arrival
 sound_arrived k name e sound g = record {
   begun = λ n y is. let b = sound.begun n (before n y is).0 (before n y is).1 in record { process = b.process; is = b.is; first = b.first; last = b.last };
   awaited = λ n y is local live. let x = before n y is in awaited n x.0 y x.1 x.2 local live;
-  known = λ n among. map_some (after_arrival name e n) (k.exchanges n) ∙ elim (cases_Bool (same_name n name)) [
+  known = λ n among. mapped_some (after_arrival name e n) (k.exchanges n) ∙ elim (cases_Bool (same_name n name)) [
     | inl t ↦ ap is_some (ap k.exchanges (same_name_is n name t) ∙ arrives.is)
     | inr f ↦ sound.known n (sym (any_other n name true k.arrived f) ∙ among)
   ];
