@@ -1,5 +1,5 @@
 -- What is seen of a call, and of one that is refused.
-use Rattle.std.proofs.Common.{◌≡◌, ℕ, Bool, true, false, cond, not, List, [], Option, Some, None, refl, sym, ap, ◌∙◌}
+use Rattle.std.proofs.Common.{◌≡◌, ℕ, Bool, true, false, not, List, [], Option, Some, None, refl, sym, ap, ◌∙◌}
 use Rattle.std.proofs.lemmas.Bool.{both_ways, cond-true}
 use Rattle.std.proofs.lemmas.Option.{same_Some}
 use Rattle.vk_base.specs.declared.answer.Answer.{Answer}
@@ -21,6 +21,7 @@ use Rattle.vk_base.specs.Ranges.{range_of, bytes_in}
 use Rattle.vk_base.specs.Steps.{effect}
 use Rattle.vk_base.proofs.OptionLemmas.{bind_is}
 use Rattle.v_laws.specs.Reached.{saw}
+use Rattle.v_laws.proofs.Options.{of_either}
 
 abbrev is_refusal : Answer → Bool
 is_refusal (answers.Refused why) = true
@@ -49,10 +50,6 @@ begin_sees k pid p c partner m e g =
     let x = bind_is (k.exchanges (name_of partner number.0)) _ e number.2 in
     by_effect _ e x.2
 
-either_sees : (b : Bool) (o p : Option Effect) (e : Effect) → (o ≡ Some e → sees_refusal e ≡ false) → (p ≡ Some e → sees_refusal e ≡ false) → cond b o p ≡ Some e → sees_refusal e ≡ false
-either_sees true o p e f g is = f is
-either_sees false o p e f g is = g is
-
 got_sees : (k : Kernel) (pid : Pid) (p : Process) (c : Call) (logical : ℕ) (o : Option Pid) → sees_refusal (get_pid k pid p c logical o) ≡ false
 got_sees k pid p c logical None = refl
 got_sees k pid p c logical (Some q) = refl
@@ -66,14 +63,14 @@ accepted_sees k pid p (calls.ReplySegment m to dest src count) e g = replied_see
 accepted_sees k pid p (calls.MoveTo partner dest src count) e g =
     let c : Call = calls.MoveTo partner dest src count in
     let bytes = bytes_in (range_of src count) p.memory in
-    either_sees (is_at_once pid partner count) (copied_at_once k pid c partner dest bytes) (begin_move k pid p c partner (new_move pid directions.To dest src count bytes)) e
-    (at_once_sees k pid c partner dest bytes e)
-    (begin_sees k pid p c partner (new_move pid directions.To dest src count bytes) e) g
+    of_either (λ (x : Effect). sees_refusal x ≡ false) (is_at_once pid partner count) (copied_at_once k pid c partner dest bytes) (begin_move k pid p c partner (new_move pid directions.To dest src count bytes)) e
+    (λ once. at_once_sees k pid c partner dest bytes e)
+    (λ later. begin_sees k pid p c partner (new_move pid directions.To dest src count bytes) e) g
 accepted_sees k pid p (calls.MoveFrom partner dest src count) e g =
     let c : Call = calls.MoveFrom partner dest src count in
-    either_sees (is_at_once pid partner count) (k.procs partner >>= λ q. copied_at_once k pid c pid dest (bytes_in (range_of src count) q.memory)) (begin_move k pid p c partner (new_move pid directions.From dest src count [])) e
-    (λ h. let q = bind_is (k.procs partner) _ e h in at_once_sees k pid c pid dest (bytes_in (range_of src count) q.0.memory) e q.2)
-    (begin_sees k pid p c partner (new_move pid directions.From dest src count []) e) g
+    of_either (λ (x : Effect). sees_refusal x ≡ false) (is_at_once pid partner count) (k.procs partner >>= λ q. copied_at_once k pid c pid dest (bytes_in (range_of src count) q.memory)) (begin_move k pid p c partner (new_move pid directions.From dest src count [])) e
+    (λ once h. let q = bind_is (k.procs partner) _ e h in at_once_sees k pid c pid dest (bytes_in (range_of src count) q.0.memory) e q.2)
+    (λ later. begin_sees k pid p c partner (new_move pid directions.From dest src count []) e) g
 accepted_sees k pid p (calls.SetPid logical q scope) e g = by_effect _ e g
 accepted_sees k pid p (calls.GetPid logical scope) e g = by_effect _ e g ∙ got_sees k pid p (calls.GetPid logical scope) logical (found_at_once k pid logical scope)
 accepted_sees k pid p (calls.Load start count) e g = by_effect _ e g

@@ -75,6 +75,13 @@ open_not_settled stages.Taken t = refl
 open_not_settled (stages.Replied m d b) t = absurd (both_ways false refl t)
 open_not_settled stages.Dropped t = absurd (both_ways false refl t)
 
+pub posted_not_settled : (s : Stage) → is_posted s ≡ true → is_settled s ≡ false
+posted_not_settled stages.Posted t = refl
+posted_not_settled stages.Queued t = refl
+posted_not_settled stages.Taken t = refl
+posted_not_settled (stages.Replied m d b) t = absurd (both_ways false refl t)
+posted_not_settled stages.Dropped t = absurd (both_ways false refl t)
+
 pub queued_is_open : (s : Stage) → is_queued s ≡ true → is_open s ≡ true
 queued_is_open s t = or_left (is_queued s) (is_taken s) t
 

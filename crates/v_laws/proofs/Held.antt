@@ -1,6 +1,6 @@
 -- The greatest number at which a process holds a sender.
 use Rattle.std.proofs.Common.{◌≡◌, ℕ, zero, suc, ◌<◌, ◌≤◌, Bool, true, false, Option, Some, None, refl, sym, ap, ◌∙◌, arith}
-use Rattle.std.proofs.lemmas.Bool.{and_parts, both_ways, cond-true, cond-false}
+use Rattle.std.proofs.lemmas.Bool.{and_parts, cond-true, cond-false}
 use Rattle.std.proofs.lemmas.Option.{same_Some, none-some}
 use Rattle.vk_base.specs.declared.kernel.Exchange.{Exchange}
 use Rattle.vk_base.specs.declared.kernel.Name.{Name}
@@ -9,6 +9,7 @@ use Rattle.vk_base.specs.declared.pid.Pid.{Pid}
 use Rattle.vk_base.specs.Kernel.{Kernel, holds_of, name_of, is_held_by, is_taken, held, held_up_to}
 use Rattle.vk_base.specs.Pids.{same_pid}
 use Rattle.vk_base.proofs.OptionLemmas.{bind_is}
+use Rattle.v_laws.proofs.Options.{some_that_holds}
 
 -- whether the process holds the sender at this number
 abbrev pub holds_at : (Name → Option Exchange) → Pid → Pid → ℕ → Bool
@@ -49,10 +50,6 @@ pub held_is : (exchanges : Name → Option Exchange) (r sender : Pid) (bound n :
 unfolding held_up_to
 held_is exchanges r sender zero n e = absurd (none-some n e)
 held_is exchanges r sender (suc bound) n e = by_test exchanges r sender bound n (holds_at exchanges r sender (suc bound)) refl (held_is exchanges r sender bound n) e
-
-pub some_that_holds : {A : Type 0} (test : A → Bool) (o : Option A) → holds_of test o ≡ true → (x : A) × (o ≡ Some x) × (test x ≡ true)
-some_that_holds test None t = absurd (both_ways false refl t)
-some_that_holds test (Some x) t = (x, refl, t)
 
 -- the exchange that is meant where a process holds a sender
 pub record IsHolding (k : Kernel) (r sender : Pid) (number : ℕ) : Type 0 where

@@ -19,7 +19,7 @@ use Rattle.vk_base.specs.Pids.{same_pid, same_host}
 use Rattle.vk_base.specs.Steps.{Run, effect, run, arriving, with_arrival, after_arrival}
 use Rattle.vk_base.proofs.OptionLemmas.{bind_is}
 use Rattle.v_laws.specs.Sound.{IsSound, is_settled}
-use Rattle.v_laws.proofs.Changes.{process_self, exchange_self, ProcessOn, ExchangeOn, StageOn, settled_stays, open_not_settled}
+use Rattle.v_laws.proofs.Changes.{posted_not_settled, process_self, exchange_self, ProcessOn, ExchangeOn, StageOn, settled_stays, open_not_settled}
 use Rattle.v_laws.proofs.Queues.{fresh}
 use Rattle.v_laws.proofs.Related.{Related, related_before, related_after, related_self, related_put_process}
 use Rattle.v_laws.proofs.SoundArrive.{ArrivalOn, before_arrival, arrival_is, is_there}
@@ -174,13 +174,6 @@ queued_rank stages.Queued t = refl
 queued_rank stages.Taken t = absurd (both_ways false refl t)
 queued_rank (stages.Replied m d b) t = absurd (both_ways false refl t)
 queued_rank stages.Dropped t = absurd (both_ways false refl t)
-
-pub posted_not_settled : (s : Stage) → is_posted s ≡ true → is_settled s ≡ false
-posted_not_settled stages.Posted t = refl
-posted_not_settled stages.Queued t = refl
-posted_not_settled stages.Taken t = refl
-posted_not_settled (stages.Replied m d b) t = absurd (both_ways false refl t)
-posted_not_settled stages.Dropped t = absurd (both_ways false refl t)
 
 stage_rank : (k : Kernel) (s : Step) (n : Name) (x y : Exchange) → StageOn k s n x y → rank x.stage ≤ rank y.stage
 stage_rank k s n x y (StageOn.same e) = le_of_eq (ap rank (sym e))

@@ -5,6 +5,7 @@ pub mod Held
 pub mod Later
 pub mod OnceLemmas
 pub mod OneHeld
+pub mod Options
 pub mod OrderLemmas
 pub mod PlaceLemmas
 pub mod Queues
@@ -12,6 +13,8 @@ pub mod ReachedLemmas
 pub mod Related
 pub mod RunLemmas
 pub mod ReplyLemmas
+pub mod SizeLemmas
+pub mod Sizes
 pub mod SoundArrive
 pub mod SoundCalls
 pub mod SoundChanges

@@ -19,12 +19,13 @@ use Rattle.v_laws.specs.Reached.{IsReached}
 use Rattle.v_laws.specs.Sound.{IsSound, is_settled}
 use Rattle.v_laws.proofs.Changes.{open_not_posted, open_not_settled}
 use Rattle.v_laws.proofs.Later.{ExchangesGoOn, rank, posted_rank, queued_rank, exchange_later, becomes_later, later_self, later_on, after_arrived}
-use Rattle.v_laws.proofs.PlaceLemmas.{mapped_is, before_after, step_at, onward}
+use Rattle.v_laws.proofs.PlaceLemmas.{at_place, before_after, step_at, onward}
 use Rattle.v_laws.proofs.Queues.{taken_was_queued}
 use Rattle.v_laws.proofs.ReachedLemmas.{reached_sound}
 use Rattle.v_laws.proofs.SoundLemmas.{step_is}
 use Rattle.v_laws.proofs.StepLemmas.{arriving_is, taking_is}
 use Rattle.v_laws.proofs.Tables.{same_name_self, put_exchange_here}
+use Rattle.v_laws.proofs.Options.{mapped_is}
 
 -- Exchanges go on from place to place.
 pub go_on : (specs : List ProcessSpec) (ss : List Step) (i j : ℕ) (k l : Kernel) → i ≤ j → before specs ss i ≡ Some k → before specs ss j ≡ Some l → ExchangesGoOn k l
@@ -137,10 +138,7 @@ pub takes_one : (specs : List ProcessSpec) (ss : List Step) (r : Run) (i : ℕ) 
 takes_one specs ss r i pid g is =
     let a = step_at specs ss r i (steps.Take pid) g is in
     let t = bind_is (taking a.kernel pid) _ a.did a.does in
-    ap is_some (taken_here specs ss i a.kernel (steps.Take pid) a.at is) ∙ ap (λ o. is_some (option_map (λ (t : Taking). t.name) o)) t.1
-  where
-    taken_here : (specs : List ProcessSpec) (ss : List Step) (i : ℕ) (k : Kernel) (s : Step) → before specs ss i ≡ Some k → slice_get ss i ≡ Some s → taken_at specs ss i ≡ taken_by k s
-    taken_here specs ss i k s at is = ap (λ o. o >>= λ k. slice_get ss i >>= λ s. taken_by k s) at ∙ ap (λ o. o >>= λ s. taken_by k s) is
+    ap is_some (at_place taken_by specs ss i a.kernel (steps.Take pid) a.at is) ∙ ap (λ o. is_some (option_map (λ (t : Taking). t.name) o)) t.1
 
 -- One at a station.
 settled_apart : (k : Kernel) (sender : Pid) (m n : ℕ) (x y : Exchange) → IsSound k → k.exchanges (name_of sender m) ≡ Some x → k.exchanges (name_of sender n) ≡ Some y → is_open x.stage ≡ true → is_open y.stage ≡ true → same_host x.target y.target ≡ true → m < n → ⊥

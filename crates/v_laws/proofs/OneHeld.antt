@@ -10,7 +10,8 @@ use Rattle.vk_base.specs.declared.pid.Pid.{Pid}
 use Rattle.vk_base.specs.Kernel.{◌>>=◌, Kernel, holds_of, name_of, is_held_by, is_posted, is_taken, held, held_up_to}
 use Rattle.vk_base.specs.Pids.{same_pid, same_host}
 use Rattle.v_laws.specs.Sound.{IsSound, is_settled}
-use Rattle.v_laws.proofs.Held.{holds_at, held_here, some_that_holds}
+use Rattle.v_laws.proofs.Held.{holds_at, held_here}
+use Rattle.v_laws.proofs.Options.{some_that_holds}
 use Rattle.v_laws.proofs.Tables.{same_pid_is, same_pid_self}
 
 -- the greatest number that is held

@@ -1,5 +1,5 @@
 -- Messages are taken in the order in which they came to their queue.
-use Rattle.std.proofs.Common.{◌≡◌, ℕ, suc, ◌+◌, ◌<◌, ◌≤◌, Bool, true, false, ◌&&◌, ◌||◌, List, [], ◌∷◌, ◌++◌, filter, Option, Some, None, is_some, is_none, option_to_list, slice_get, refl, sym, ap, subst, ◌∙◌, inl, inr, arith}
+use Rattle.std.proofs.Common.{◌≡◌, ℕ, suc, ◌+◌, ◌<◌, ◌≤◌, Bool, true, false, ◌&&◌, ◌||◌, List, [], ◌∷◌, ◌++◌, filter, Option, Some, None, is_none, option_to_list, slice_get, refl, sym, ap, subst, ◌∙◌, inl, inr, arith}
 use Rattle.std.proofs.lemmas.Bool.{cases_Bool, cases_lt, cases_order, both_ways, and_from, or_cases, or_left, or_right, or_parts, false_from_ne_true, cond-true, cond-false}
 use Rattle.std.proofs.lemmas.List.{append-nil, append_assoc}
 use Rattle.std.proofs.lemmas.List.Folds.{list_any-append}
@@ -28,12 +28,13 @@ use Rattle.v_laws.proofs.FilterLemmas.{same_head, none_kept}
 use Rattle.v_laws.proofs.Changes.{queued_is_open}
 use Rattle.v_laws.proofs.Later.{rank}
 use Rattle.v_laws.proofs.OnceLemmas.{IsTakenAt, go_on, taken_at_is, taken_over}
-use Rattle.v_laws.proofs.PlaceLemmas.{before_sound, before_after, step_at, turn, onward}
+use Rattle.v_laws.proofs.PlaceLemmas.{at_place, before_sound, before_after, step_at, turn, onward}
 use Rattle.v_laws.proofs.Queues.{queued_in, fresh, not_arrived, first_is, taken_was_queued}
 use Rattle.v_laws.proofs.SoundCalls.{IsStep}
 use Rattle.v_laws.proofs.SoundLemmas.{step_is}
 use Rattle.v_laws.proofs.StepLemmas.{only_if_is, arriving_is, taking_is}
 use Rattle.v_laws.proofs.Tables.{same_name_is, same_name_self}
+use Rattle.v_laws.proofs.Options.{some_there}
 
 -- What a step brings is what comes to the names that have arrived.
 abbrev may_bring : Step → Bool
@@ -169,7 +170,7 @@ arrived_brought specs ss j n k at there =
     record {
       place = t.place;
       earlier = t.earlier;
-      brought = ap (λ o. o >>= λ k. slice_get ss t.place >>= λ s. brought_by k s) t.at ∙ ap (λ o. o >>= λ s. brought_by t.kernel s) t.is ∙ brings;
+      brought = at_place brought_by specs ss t.place t.kernel t.step t.at t.is ∙ brings;
     }
 
 -- each Take takes a message that was brought before
@@ -260,10 +261,6 @@ waits_till specs ss i j m t l less at there =
     let away = false_from_ne_true (is_posted x.0.stage) (λ p. both_ways (has_arrived l m) (sound.posted m x.0 x.1 p).away there) in
     let target : same_pid x.0.target t.receiver ≡ true = ap (λ z. same_pid z t.receiver) (sym on.2.target ∙ ap (λ (z : Exchange). z.target) later) ∙ (taken_was_queued t.kernel t.receiver t.take t.takes).0 in
     ap (holds_of (is_queued_at t.receiver)) x.1 ∙ and_from (same_pid x.0.target t.receiver) (is_queued x.0.stage) target (low_queued x.0.stage (omega arith) away)
-  where
-    some_there : {A : Type 0} (o : Option A) → is_some o ≡ true → (x : A) × (o ≡ Some x)
-    some_there None t = absurd (both_ways false refl t)
-    some_there (Some x) t = (x, refl)
 
 -- the Takes of a process are in the order in which their messages came
 pub in_order : (specs : List ProcessSpec) (ss : List Step) (r : Run) (a b i j : ℕ) (m n : Name) (pid : Pid) → run (opening specs) ss ≡ Some r → slice_get ss i ≡ Some (steps.Take pid) → slice_get ss j ≡ Some (steps.Take pid) → taken_at specs ss i ≡ Some m → taken_at specs ss j ≡ Some n → brought_at specs ss a ≡ Some m → brought_at specs ss b ≡ Some n → a < b → i < j

@@ -6,13 +6,14 @@ use Rattle.std.proofs.lemmas.Option.{same_Some, none-some}
 use Rattle.vk_base.specs.declared.config.ProcessSpec.{ProcessSpec}
 use Rattle.vk_base.specs.declared.step.Step.{Step}
 use Rattle.vk_base.specs.Calls.{Effect}
-use Rattle.vk_base.specs.Kernel.{Kernel, opening}
+use Rattle.vk_base.specs.Kernel.{◌>>=◌, Kernel, opening}
 use Rattle.vk_base.specs.Steps.{Run, effect, run}
 use Rattle.vk_base.proofs.OptionLemmas.{bind_is}
 use Rattle.v_laws.specs.Places.{before}
 use Rattle.v_laws.specs.Sound.{IsSound}
 use Rattle.v_laws.proofs.RunLemmas.{run-append, run_nothing, run_step, run_on}
 use Rattle.v_laws.proofs.SoundLemmas.{sound_opening, sound_run}
+use Rattle.v_laws.proofs.Options.{mapped_is}
 
 -- one more step of a list
 pub data OneMore (ss : List Step) (i : ℕ) : Type 0 where
@@ -29,10 +30,9 @@ one_more [] (suc i) = OneMore.past refl refl
 one_more (s ∷ ss) zero = OneMore.step s refl refl
 one_more (s ∷ ss) (suc i) = one_more_of s ss i (one_more ss i)
 
--- what came of a map
-pub mapped_is : {A B : Type 0} (f : A → B) (o : Option A) (y : B) → option_map f o ≡ Some y → (x : A) × (o ≡ Some x) × (f x ≡ y)
-mapped_is f None y e = absurd (none-some y e)
-mapped_is f (Some x) y e = (x, refl, same_Some (f x) y e)
+-- what is found at a place by its kernel and its step
+pub at_place : {B : Type 0} (f : Kernel → Step → Option B) (specs : List ProcessSpec) (ss : List Step) (i : ℕ) (k : Kernel) (s : Step) → before specs ss i ≡ Some k → slice_get ss i ≡ Some s → (before specs ss i >>= λ k. slice_get ss i >>= λ s. f k s) ≡ f k s
+at_place f specs ss i k s at is = ap (λ o. o >>= λ k. slice_get ss i >>= λ s. f k s) at ∙ ap (λ o. o >>= λ s. f k s) is
 
 pub before_sound : (specs : List ProcessSpec) (ss : List Step) (i : ℕ) (k : Kernel) → before specs ss i ≡ Some k → IsSound k
 before_sound specs ss i k at =
@@ -54,22 +54,39 @@ run_one k s b g =
     let e = bind_is (effect k s) _ b g in
     (e.0, e.1, ap (λ (r : Run). r.after) (same_Some _ b e.2))
 
+-- the step that ends a run
+record IsLastStep (k : Kernel) (ts : List Step) (s : Step) (l : Kernel) : Type 0 where
+  kernel : Kernel
+  at : option_map (λ (r : Run). r.after) (run k ts) ≡ Some kernel
+  did : Effect
+  does : effect kernel s ≡ Some did
+  leads : did.after ≡ l
+
+last_of : (k : Kernel) (ts : List Step) (s : Step) (r a b : Run) (e : Effect) → run k ts ≡ Some a → effect a.after s ≡ Some e → e.after ≡ b.after → Some (record { after = b.after; seen = a.seen ++ b.seen }) ≡ Some r → IsLastStep k ts s r.after
+last_of k ts s r a b e first does ends whole = record {
+  kernel = a.after;
+  at = ap (option_map (λ (x : Run). x.after)) first;
+  did = e;
+  does = does;
+  leads = ends ∙ ap (λ (x : Run). x.after) (same_Some (record { after = b.after; seen = a.seen ++ b.seen }) r whole);
+}
+
+last_step : (k : Kernel) (ts : List Step) (s : Step) (r : Run) → run k (ts ++ s ∷ []) ≡ Some r → IsLastStep k ts s r.after
+last_step k ts s r g =
+    let a = bind_is (run k ts) _ r (sym (run-append k ts (s ∷ [])) ∙ g) in
+    let b = bind_is (run a.0.after (s ∷ [])) _ r a.2 in
+    let e = run_one a.0.after s b.0 b.1 in
+    last_of k ts s r a.0 b.0 e.0 a.1 e.1 e.2 b.2
+
+next_by : (specs : List ProcessSpec) (ss : List Step) (i : ℕ) (l : Kernel) → before specs ss (suc i) ≡ Some l → OneMore ss i → IsNext specs ss i l
+next_by specs ss i l at (past none same) = record { kernel = l; at = sym (ap (λ ts. option_map (λ (r : Run). r.after) (run (opening specs) ts)) same) ∙ at; how = inr (none, refl) }
+next_by specs ss i l at (step s is more) =
+    let r = mapped_is (λ (r : Run). r.after) (run (opening specs) (take (suc i) ss)) l at in
+    let e = last_step (opening specs) (take i ss) s r.0 (sym (ap (run (opening specs)) more) ∙ r.1) in
+    record { kernel = e.kernel; at = e.at; how = inl (s, e.did, is, e.does, e.leads ∙ r.2) }
+
 pub before_next : (specs : List ProcessSpec) (ss : List Step) (i : ℕ) (l : Kernel) → before specs ss (suc i) ≡ Some l → IsNext specs ss i l
-before_next specs ss i l at = by_more (one_more ss i)
-  where
-    by_more : OneMore ss i → IsNext specs ss i l
-    by_more (past none same) = record { kernel = l; at = sym (ap (λ ts. option_map (λ (r : Run). r.after) (run (opening specs) ts)) same) ∙ at; how = inr (none, refl) }
-    by_more (step s is more) =
-        let r = mapped_is (λ (r : Run). r.after) (run (opening specs) (take (suc i) ss)) l at in
-        let whole = sym (run-append (opening specs) (take i ss) (s ∷ [])) ∙ sym (ap (run (opening specs)) more) ∙ r.1 in
-        let a = bind_is (run (opening specs) (take i ss)) _ r.0 whole in
-        let b = bind_is (run a.0.after (s ∷ [])) _ r.0 a.2 in
-        let e = run_one a.0.after s b.0 b.1 in
-        record {
-          kernel = a.0.after;
-          at = ap (option_map (λ (r : Run). r.after)) a.1;
-          how = inl (s, e.0, is, e.1, e.2 ∙ ap (λ (r : Run). r.after) (same_Some _ r.0 b.2) ∙ r.2);
-        }
+before_next specs ss i l at = next_by specs ss i l at (one_more ss i)
 
 pub before_after : (specs : List ProcessSpec) (ss : List Step) (i : ℕ) (k : Kernel) (s : Step) (e : Effect) → before specs ss i ≡ Some k → slice_get ss i ≡ Some s → effect k s ≡ Some e → before specs ss (suc i) ≡ Some e.after
 before_after specs ss i k s e at is does = by_more (one_more ss i)

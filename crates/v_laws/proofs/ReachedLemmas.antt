@@ -33,6 +33,9 @@ some_found (s ∷ ss) pid = elim (cases_Bool (is_process pid s)) [
 pub configured : (specs : List ProcessSpec) (ss : List Step) (r : Run) (pid : Pid) → run (opening specs) ss ≡ Some r → is_some (r.after.procs pid) ≡ has_process specs pid
 configured specs ss r pid g = sym (related_some IsLaterProcess ((opening specs).procs pid) (r.after.procs pid) (processes_go_on (opening specs) ss r (sound_opening specs) g pid)) ∙ some_found specs pid
 
+pub none_added : (k : Kernel) (ss : List Step) (r : Run) (pid : Pid) → IsReached k → run k ss ≡ Some r → is_some (r.after.procs pid) ≡ is_some (k.procs pid)
+none_added k ss r pid reached g = sym (related_some IsLaterProcess (k.procs pid) (r.after.procs pid) (processes_go_on k ss r (reached_sound k reached) g pid))
+
 stays_dead : (k l : Kernel) (pid : Pid) (p : Process) → ProcessesGoOn k l → k.procs pid ≡ Some p → p.alive ≡ false → l.procs pid ≡ Some p
 stays_dead k l pid p on at dead =
     let q = related_after IsLaterProcess (k.procs pid) (l.procs pid) p (on pid) at in

@@ -1,7 +1,7 @@
 -- A sender gets the reply of its target to its own message.
-use Rattle.std.proofs.Common.{◌≡◌, ℕ, suc, Bool, true, false, cond, List, [], Option, Some, None, is_some, option_map, slice_get, refl, sym, ap, ◌∙◌, inl, inr, arith}
+use Rattle.std.proofs.Common.{◌≡◌, ℕ, suc, Bool, true, false, cond, List, [], Option, Some, None, is_some, option_map, slice_get, refl, sym, ap, subst, ◌∙◌, inl, inr, arith}
 use Rattle.std.proofs.lemmas.Bool.{both_ways}
-use Rattle.std.proofs.lemmas.Option.{same_Some}
+use Rattle.std.proofs.lemmas.Option.{same_Some, none-some}
 use Rattle.vk_base.specs.declared.answer.Answer.TheVariants as answers
 use Rattle.vk_base.specs.declared.answer.Refusal.{Refusal}
 use Rattle.vk_base.specs.declared.call.Call.{Call}
@@ -12,28 +12,30 @@ use Rattle.vk_base.specs.declared.kernel.Name.{Name}
 use Rattle.vk_base.specs.declared.kernel.Process.{Process}
 use Rattle.vk_base.specs.declared.kernel.Stage.{Stage}
 use Rattle.vk_base.specs.declared.kernel.Stage.TheVariants as stages
+use Rattle.vk_base.specs.declared.kernel.State.{State}
+use Rattle.vk_base.specs.declared.kernel.State.TheVariants as states
 use Rattle.vk_base.specs.declared.message.Message.{Message}
 use Rattle.vk_base.specs.declared.pid.Pid.{Pid}
 use Rattle.vk_base.specs.declared.step.Step.{Step}
 use Rattle.vk_base.specs.declared.step.Step.TheVariants as steps
-use Rattle.vk_base.specs.Calls.{Effect, replied, called, accepted, call_refusal}
-use Rattle.vk_base.specs.Kernel.{◌>>=◌, Kernel, opening, name_of, holds_of, is_taken, reply_of, held}
+use Rattle.vk_base.specs.Calls.{Effect, unseen, replied, called, accepted, call_refusal}
+use Rattle.vk_base.specs.Kernel.{◌>>=◌, Kernel, opening, name_of, holds_of, is_taken, reply_of, sending, held}
 use Rattle.vk_base.specs.Pids.{same_host}
-use Rattle.vk_base.specs.Ranges.{range_of, bytes_in}
-use Rattle.vk_base.specs.Steps.{Run, Taking, effect, run, finishing}
+use Rattle.vk_base.specs.Ranges.{range_of, bytes_in, with_bytes}
+use Rattle.vk_base.specs.Steps.{Finishing, finished, Run, Taking, effect, run, finishing}
 use Rattle.vk_base.proofs.OptionLemmas.{bind_is}
-use Rattle.v_laws.specs.Places.{HasOwnReply, before, effect_at, taken_at, taken_by, given_by}
+use Rattle.v_laws.specs.Places.{HasOwnReply, IsFinishAt, IsReplyAt, before, taken_at, taken_by, given_by}
 use Rattle.v_laws.specs.Reached.{saw}
-use Rattle.v_laws.specs.Sound.{IsSound, is_settled}
+use Rattle.v_laws.specs.Sound.{IsSound, IsSent, is_settled}
 use Rattle.v_laws.proofs.Changes.{StageOn}
-use Rattle.v_laws.proofs.Held.{some_that_holds}
-use Rattle.v_laws.proofs.OneHeld.{held_this}
-use Rattle.v_laws.proofs.Later.{Becomes, exchange_before}
+use Rattle.v_laws.proofs.Options.{some_that_holds}
+use Rattle.v_laws.proofs.Later.{IsLater, Becomes, exchange_before}
 use Rattle.v_laws.proofs.OnceLemmas.{go_on}
-use Rattle.v_laws.proofs.PlaceLemmas.{IsTurn, before_sound, before_after, step_at, turn}
+use Rattle.v_laws.proofs.OneHeld.{held_this}
+use Rattle.v_laws.proofs.PlaceLemmas.{at_place, IsTurn, before_sound, before_after, step_at, turn}
 use Rattle.v_laws.proofs.SoundLemmas.{step_is}
 use Rattle.v_laws.proofs.States.{sending_is}
-use Rattle.v_laws.proofs.StepLemmas.{finishing_is}
+use Rattle.v_laws.proofs.StepLemmas.{IsFinishing, finishing_is}
 use Rattle.v_laws.proofs.Tables.{put_process_here}
 
 -- Exchanges that are taken, and such that are replied to.
@@ -157,23 +159,32 @@ record IsGiven (specs : List ProcessSpec) (ss : List Step) (n : Name) (i : ℕ) 
   target : before.target ≡ z.target
   stage : z.stage ≡ after.stage
 
-given_at : (specs : List ProcessSpec) (ss : List Step) (i : ℕ) (n : Name) (k : Kernel) (z : Exchange) → before specs ss i ≡ Some k → k.exchanges n ≡ Some z → is_replied z.stage ≡ true → IsGiven specs ss n i z
-given_at specs ss i n k z at there replied =
-    let t = turn specs ss (replied_in n) refl i k at (ap (holds_of (λ (e : Exchange). is_replied e.stage)) there ∙ replied) in
-    let y = some_that_holds (λ (e : Exchange). is_replied e.stage) (t.did.after.exchanges n) t.now in
-    let w = replied_when t.kernel t.step t.did n y.0 (before_sound specs ss t.place t.kernel t.at) t.does t.was y.1 y.2 in
+-- what became of an exchange from the turn on
+later_at : (specs : List ProcessSpec) (ss : List Step) (test : Kernel → Bool) (i : ℕ) (t : IsTurn specs ss test i) (k : Kernel) (n : Name) (y z : Exchange) → before specs ss i ≡ Some k → t.did.after.exchanges n ≡ Some y → k.exchanges n ≡ Some z → IsLater y z
+later_at specs ss test i t k n y z at was there =
     let earlier = t.earlier in
-    let on = go_on specs ss (suc t.place) i t.did.after k (omega arith) (before_after specs ss t.place t.kernel t.step t.did t.at t.is t.does) at n y.0 y.1 in
-    let same = same_Some on.0 z (sym on.1 ∙ there) in
-    record {
-      turn = t;
-      before = w.0;
-      at = w.1;
-      after = y.0;
-      reply = w.2;
-      target = sym w.3 ∙ sym on.2.target ∙ ap (λ (e : Exchange). e.target) same;
-      stage = sym (ap (λ (e : Exchange). e.stage) same) ∙ on.2.settled (ap is_settled w.2.is);
-    }
+    let on = go_on specs ss (suc t.place) i t.did.after k (omega arith) (before_after specs ss t.place t.kernel t.step t.did t.at t.is t.does) at n y was in
+    subst (IsLater y) (same_Some on.0 z (sym on.1 ∙ there)) on.2
+
+given_by_turn : (specs : List ProcessSpec) (ss : List Step) (i : ℕ) (n : Name) (t : IsTurn specs ss (replied_in n) i) (x y z : Exchange) → t.kernel.exchanges n ≡ Some x → IsReplyTo t.kernel t.step n x y → y.target ≡ x.target → IsLater y z → IsGiven specs ss n i z
+given_by_turn specs ss i n t x y z at reply target later = record {
+  turn = t;
+  before = x;
+  at = at;
+  after = y;
+  reply = reply;
+  target = sym target ∙ sym later.target;
+  stage = later.settled (ap is_settled reply.is);
+}
+
+given_at : (specs : List ProcessSpec) (ss : List Step) (i : ℕ) (n : Name) (k : Kernel) (z : Exchange) → before specs ss i ≡ Some k → k.exchanges n ≡ Some z → is_replied z.stage ≡ true → IsGiven specs ss n i z
+given_at specs ss i n k z at there replied = by_turn (turn specs ss (replied_in n) refl i k at (ap (holds_of (λ (e : Exchange). is_replied e.stage)) there ∙ replied))
+  where
+    by_turn : IsTurn specs ss (replied_in n) i → IsGiven specs ss n i z
+    by_turn t =
+        let y = some_that_holds (λ (e : Exchange). is_replied e.stage) (t.did.after.exchanges n) t.now in
+        let w = replied_when t.kernel t.step t.did n y.0 (before_sound specs ss t.place t.kernel t.at) t.does t.was y.1 y.2 in
+        given_by_turn specs ss i n t w.0 y.0 z w.1 w.2 w.3 (later_at specs ss (replied_in n) i t k n y.0 z at y.1 there)
 
 record IsTakenBefore (specs : List ProcessSpec) (ss : List Step) (n : Name) (i : ℕ) (x : Exchange) : Type 0 where
   turn : IsTurn specs ss (taken_in n) i
@@ -182,20 +193,72 @@ record IsTakenBefore (specs : List ProcessSpec) (ss : List Step) (n : Name) (i :
   is : slice_get ss turn.place ≡ Some (steps.Take receiver)
   takes : taken_at specs ss turn.place ≡ Some n
 
+taken_by_turn : (specs : List ProcessSpec) (ss : List Step) (i : ℕ) (n : Name) (t : IsTurn specs ss (taken_in n) i) (y x : Exchange) → IsTakeOf t.kernel t.step n y → IsLater y x → IsTakenBefore specs ss n i x
+taken_by_turn specs ss i n t y x take later = record {
+  turn = t;
+  receiver = y.target;
+  target = sym later.target;
+  is = t.is ∙ ap (λ (z : Step). Some z) take.step;
+  takes = at_place taken_by specs ss t.place t.kernel t.step t.at t.is ∙ take.takes;
+}
+
 taken_before : (specs : List ProcessSpec) (ss : List Step) (i : ℕ) (n : Name) (k : Kernel) (x : Exchange) → before specs ss i ≡ Some k → k.exchanges n ≡ Some x → is_taken x.stage ≡ true → IsTakenBefore specs ss n i x
-taken_before specs ss i n k x at there taken =
-    let t = turn specs ss (taken_in n) refl i k at (ap (holds_of (λ (e : Exchange). is_taken e.stage)) there ∙ taken) in
-    let y = some_that_holds (λ (e : Exchange). is_taken e.stage) (t.did.after.exchanges n) t.now in
-    let w = taken_when t.kernel t.step t.did n y.0 (before_sound specs ss t.place t.kernel t.at) t.does t.was y.1 y.2 in
-    let earlier = t.earlier in
-    let on = go_on specs ss (suc t.place) i t.did.after k (omega arith) (before_after specs ss t.place t.kernel t.step t.did t.at t.is t.does) at n y.0 y.1 in
-    let same = same_Some on.0 x (sym on.1 ∙ there) in
+taken_before specs ss i n k x at there taken = by_turn (turn specs ss (taken_in n) refl i k at (ap (holds_of (λ (e : Exchange). is_taken e.stage)) there ∙ taken))
+  where
+    by_turn : IsTurn specs ss (taken_in n) i → IsTakenBefore specs ss n i x
+    by_turn t =
+        let y = some_that_holds (λ (e : Exchange). is_taken e.stage) (t.did.after.exchanges n) t.now in
+        let w = taken_when t.kernel t.step t.did n y.0 (before_sound specs ss t.place t.kernel t.at) t.does t.was y.1 y.2 in
+        taken_by_turn specs ss i n t y.0 x w (later_at specs ss (taken_in n) i t k n y.0 x at y.1 there)
+
+-- What the sender gets.
+finish_at : (specs : List ProcessSpec) (ss : List Step) (i : ℕ) (s : Pid) (k : Kernel) (f : Finishing) → before specs ss i ≡ Some k → slice_get ss i ≡ Some (steps.Finish s) → finishing k s ≡ Some f → IsFinishing k s f → IsFinishAt specs ss i s f.target f.process.sends f.reply f.dest f.bytes
+finish_at specs ss i s k f at is finishes fin = record {
+  process = f.process;
+  before = ap (λ o. o >>= λ k. k.procs s) at ∙ fin.process;
+  message = f.message;
+  waits = sending_is f.process.state f.target f.message fin.send;
+  last = refl;
+  after = ap (λ o. o >>= λ e. e.after.procs s) (at_place effect specs ss i k (steps.Finish s) at is ∙ ap (λ o. o >>= λ g. Some (unseen (finished k s g))) finishes)
+      ∙ put_process_here k.procs s (record f.process { memory = with_bytes f.process.memory f.dest f.bytes; state = states.Done (calls.Send f.target f.message) (answers.Replied f.reply) });
+}
+
+-- What its target replied.
+reply_at : (specs : List ProcessSpec) (ss : List Step) (i : ℕ) (s : Pid) (number : ℕ) (z : Exchange) (w : IsGiven specs ss (name_of s number) i z) (target : Pid) → w.before.target ≡ target → IsReplyAt specs ss w.turn.place s target number w.reply.message w.reply.dest w.reply.bytes
+reply_at specs ss i s number z w target same =
+    let caller = bind_is (w.turn.kernel.procs w.before.target) _ w.turn.did (ap (effect w.turn.kernel) (sym w.reply.step) ∙ w.turn.does) in
     record {
-      turn = t;
-      receiver = y.0.target;
-      target = sym on.2.target ∙ ap (λ (e : Exchange). e.target) same;
-      is = t.is ∙ ap (λ (z : Step). Some z) w.step;
-      takes = ap (λ o. o >>= λ k. slice_get ss t.place >>= λ s. taken_by k s) t.at ∙ ap (λ o. o >>= λ s. taken_by t.kernel s) t.is ∙ w.takes;
+      holds = ap (λ o. o >>= λ k. held k target s) w.turn.at ∙ ap (λ q. held w.turn.kernel q s) (sym same)
+          ∙ held_this w.turn.kernel (name_of s number) w.before (before_sound specs ss w.turn.place w.turn.kernel w.turn.at) w.at w.reply.taken;
+      call = w.reply.call;
+      is = w.turn.is ∙ ap (λ (z : Step). Some z) w.reply.step ∙ ap (λ q. Some (steps.Call q w.reply.call)) same;
+      answered = ap (λ o. o >>= λ e. e.seen) (at_place effect specs ss w.turn.place w.turn.kernel w.turn.step w.turn.at w.turn.is ∙ w.turn.does)
+          ∙ w.reply.answers w.turn.did w.turn.does (λ back. both_ways (replied_in (name_of s number) w.turn.kernel) w.turn.was (ap (replied_in (name_of s number)) (sym back) ∙ w.turn.now))
+          ∙ ap (λ q. saw q w.reply.call answers.Ok) same;
+      caller = caller.0;
+      then = ap (λ o. o >>= λ k. k.procs target) w.turn.at ∙ ap w.turn.kernel.procs (sym same) ∙ caller.1;
+      gives = w.reply.gives caller.0 caller.1;
+    }
+
+-- Both are one.
+own_by : (specs : List ProcessSpec) (ss : List Step) (i : ℕ) (s : Pid) (k : Kernel) (f : Finishing) (fin : IsFinishing k s f) → before specs ss i ≡ Some k → IsFinishAt specs ss i s f.target f.process.sends f.reply f.dest f.bytes → (w : IsGiven specs ss (name_of s f.process.sends) i fin.exchange) → IsTakenBefore specs ss (name_of s f.process.sends) w.turn.place w.before → IsSent k s f.process f.target f.message → HasOwnReply specs ss i s
+own_by specs ss i s k f fin at finish w u sent =
+    let target : w.before.target ≡ f.target = w.target ∙ ap (λ (e : Exchange). e.target) (same_Some fin.exchange sent.exchange (sym fin.at ∙ sent.is)) ∙ sent.target in
+    let gets = same_Some (w.reply.message, w.reply.dest, w.reply.bytes) (f.reply, f.dest, f.bytes) (sym (ap reply_of (w.stage ∙ w.reply.is)) ∙ fin.reply) in
+    record {
+      target = f.target;
+      number = f.process.sends;
+      reply = f.reply;
+      dest = f.dest;
+      bytes = f.bytes;
+      finish = finish;
+      reply_place = w.turn.place;
+      before_finish = w.turn.earlier;
+      replies = subst (λ (z : Message × ℕ × List ℕ). IsReplyAt specs ss w.turn.place s f.target f.process.sends z.0 z.1 z.2) gets (reply_at specs ss i s f.process.sends fin.exchange w f.target target);
+      take_place = u.turn.place;
+      before_reply = u.turn.earlier;
+      receives = u.is ∙ ap (λ q. Some (steps.Take q)) (u.target ∙ target);
+      takes = u.takes;
     }
 
 pub own_reply : (specs : List ProcessSpec) (ss : List Step) (r : Run) (i : ℕ) (s : Pid) → run (opening specs) ss ≡ Some r → slice_get ss i ≡ Some (steps.Finish s) → HasOwnReply specs ss i s
@@ -206,43 +269,5 @@ own_reply specs ss r i s g is =
     let n = name_of s f.0.process.sends in
     let w = given_at specs ss i n a.kernel fin.exchange a.at fin.at (ap is_some fin.reply) in
     let u = taken_before specs ss w.turn.place n w.turn.kernel w.before w.turn.at w.at w.reply.taken in
-    let sent = (before_sound specs ss i a.kernel a.at).sent s f.0.process f.0.target f.0.message fin.process fin.send in
-    let target : w.before.target ≡ f.0.target = w.target ∙ ap (λ (e : Exchange). e.target) (same_Some fin.exchange sent.exchange (sym fin.at ∙ sent.is)) ∙ sent.target in
-    let gets = same_Some (w.reply.message, w.reply.dest, w.reply.bytes) (f.0.reply, f.0.dest, f.0.bytes) (sym (ap reply_of (w.stage ∙ w.reply.is)) ∙ fin.reply) in
-    let caller = bind_is (w.turn.kernel.procs w.before.target) _ w.turn.did (ap (effect w.turn.kernel) (sym w.reply.step) ∙ w.turn.does) in
-    record {
-      target = f.0.target;
-      number = f.0.process.sends;
-      reply = f.0.reply;
-      dest = f.0.dest;
-      bytes = f.0.bytes;
-      finish = record {
-        process = f.0.process;
-        before = ap (λ o. o >>= λ k. k.procs s) a.at ∙ fin.process;
-        message = f.0.message;
-        waits = sending_is f.0.process.state f.0.target f.0.message fin.send;
-        last = refl;
-        after = ap (λ o. o >>= λ e. e.after.procs s) (effect_there specs ss i a.kernel (steps.Finish s) a.did a.at is a.does) ∙ ap (λ (e : Effect). e.after.procs s) (sym (same_Some _ a.did f.2)) ∙ put_process_here a.kernel.procs s _;
-      };
-      reply_place = w.turn.place;
-      before_finish = w.turn.earlier;
-      replies = record {
-        holds = ap (λ o. o >>= λ k. held k f.0.target s) w.turn.at ∙ ap (λ q. held w.turn.kernel q s) (sym target)
-            ∙ held_this w.turn.kernel n w.before (before_sound specs ss w.turn.place w.turn.kernel w.turn.at) w.at w.reply.taken;
-        call = w.reply.call;
-        is = w.turn.is ∙ ap (λ (z : Step). Some z) w.reply.step ∙ ap (λ q. Some (steps.Call q w.reply.call)) target;
-        answered = ap (λ o. o >>= λ e. e.seen) (effect_there specs ss w.turn.place w.turn.kernel w.turn.step w.turn.did w.turn.at w.turn.is w.turn.does)
-            ∙ w.reply.answers w.turn.did w.turn.does (λ same. both_ways (replied_in n w.turn.kernel) w.turn.was (ap (replied_in n) (sym same) ∙ w.turn.now))
-            ∙ ap (λ q. saw q w.reply.call answers.Ok) target;
-        caller = caller.0;
-        then = ap (λ o. o >>= λ k. k.procs f.0.target) w.turn.at ∙ ap w.turn.kernel.procs (sym target) ∙ caller.1;
-        gives = w.reply.gives caller.0 caller.1 ∙ ap (λ (z : Message × ℕ × List ℕ). Some (s, z.0, z.1, z.2)) gets;
-      };
-      take_place = u.turn.place;
-      before_reply = u.turn.earlier;
-      receives = u.is ∙ ap (λ q. Some (steps.Take q)) (u.target ∙ target);
-      takes = u.takes;
-    }
-  where
-    effect_there : (specs : List ProcessSpec) (ss : List Step) (j : ℕ) (k : Kernel) (t : Step) (e : Effect) → before specs ss j ≡ Some k → slice_get ss j ≡ Some t → effect k t ≡ Some e → effect_at specs ss j ≡ Some e
-    effect_there specs ss j k t e at here does = ap (λ o. o >>= λ k. slice_get ss j >>= λ s. effect k s) at ∙ ap (λ o. o >>= λ s. effect k s) here ∙ does
+    own_by specs ss i s a.kernel f.0 fin a.at (finish_at specs ss i s a.kernel f.0 a.at is f.1 fin) w u
+    ((before_sound specs ss i a.kernel a.at).sent s f.0.process f.0.target f.0.message fin.process fin.send)

@@ -7,7 +7,6 @@ use Rattle.vk_base.specs.declared.call.Call.TheVariants as calls
 use Rattle.vk_base.specs.declared.kernel.Exchange.{Exchange}
 use Rattle.vk_base.specs.declared.kernel.Name.{Name}
 use Rattle.vk_base.specs.declared.kernel.Process.{Process}
-use Rattle.vk_base.specs.declared.kernel.Stage.{Stage}
 use Rattle.vk_base.specs.declared.kernel.Stage.TheVariants as stages
 use Rattle.vk_base.specs.declared.kernel.State.TheVariants as states
 use Rattle.vk_base.specs.declared.message.Message.{Message}
@@ -16,10 +15,12 @@ use Rattle.vk_base.specs.Kernel.{Kernel, name_of, same_name, is_posted, is_open,
 use Rattle.vk_base.specs.Pids.{same_pid, same_host}
 use Rattle.vk_base.specs.Steps.{arriving, with_arrival, after_arrival, is_older}
 use Rattle.v_laws.specs.Sound.{IsSound, IsAwaited, IsUnderWay, IsSent, has_arrived, is_settled}
+use Rattle.v_laws.proofs.Changes.{posted_not_settled}
 use Rattle.v_laws.proofs.SoundChanges.{orderly_where}
 use Rattle.v_laws.proofs.SoundSends.{any_other, any_kept, any_here, neither_settled}
 use Rattle.v_laws.proofs.StepLemmas.{IsArriving, arriving_is}
 use Rattle.v_laws.proofs.Tables.{same_name_is, same_name_laws}
+use Rattle.v_laws.proofs.Options.{mapped_some}
 
 -- What becomes of an exchange n when the exchange e under this name arrives.
 pub data ArrivalOn (name : Name) (e : Exchange) (n : Name) (x after : Exchange) : Type 0 where
@@ -78,27 +79,16 @@ behind name e n x y (other f g is) sender less near =
 
 -- one that is settled stays so
 settled_after : (name : Name) (e : Exchange) (n : Name) (x y : Exchange) → ArrivalOn name e n x y → (same_name n name ≡ true → is_posted x.stage ≡ true) → is_settled x.stage ≡ true → is_settled y.stage ≡ true
-settled_after name e n x y (here t is) away s = absurd (posted_not_settled x.stage (away t) s)
-  where
-    posted_not_settled : (s : Stage) → is_posted s ≡ true → is_settled s ≡ true → ⊥
-    posted_not_settled stages.Posted t u = both_ways false refl u
-    posted_not_settled stages.Queued t u = both_ways false refl u
-    posted_not_settled stages.Taken t u = both_ways false refl u
-    posted_not_settled (stages.Replied m d b) t u = both_ways false refl t
-    posted_not_settled stages.Dropped t u = both_ways false refl t
+settled_after name e n x y (here t is) away s = absurd (both_ways (is_settled x.stage) (posted_not_settled x.stage (away t)) s)
 settled_after name e n x y (older f t is) away s = ap (λ (z : Exchange). is_settled z.stage) is
 settled_after name e n x y (other f g is) away s = ap (λ (z : Exchange). is_settled z.stage) is ∙ s
-
-pub map_some : {A B : Type 0} (f : A → B) (o : Option A) → is_some (option_map f o) ≡ is_some o
-map_some f None = refl
-map_some f (Some x) = refl
 
 pub sound_arrived : (k : Kernel) (name : Name) (e : Exchange) → IsSound k → arriving k name ≡ Some e → IsSound (with_arrival k name e)
 unfolding with_arrival
 sound_arrived k name e sound g = record {
   begun = λ n y is. let b = sound.begun n (before n y is).0 (before n y is).1 in record { process = b.process; is = b.is; first = b.first; last = b.last };
   awaited = λ n y is local live. let x = before n y is in awaited n x.0 y x.1 x.2 local live;
-  known = λ n among. map_some (after_arrival name e n) (k.exchanges n) ∙ elim (cases_Bool (same_name n name)) [
+  known = λ n among. mapped_some (after_arrival name e n) (k.exchanges n) ∙ elim (cases_Bool (same_name n name)) [
     | inl t ↦ ap is_some (ap k.exchanges (same_name_is n name t) ∙ arrives.is)
     | inr f ↦ sound.known n (sym (any_other n name true k.arrived f) ∙ among)
   ];

@@ -1,5 +1,5 @@
 -- The calls.
-use Rattle.std.proofs.Common.{◌≡◌, ℕ, true, false, ◌&&◌, not, nat_le, nat_lt, List, [], ◌∷◌, length, Option, Some, None, is_none, refl, sym, ap, subst, ◌∙◌, inr, arith}
+use Rattle.std.proofs.Common.{◌≡◌, ℕ, true, ◌&&◌, not, nat_le, nat_lt, List, [], ◌∷◌, length, Option, Some, None, is_none, refl, sym, ap, subst, ◌∙◌, inr, arith}
 use Rattle.std.proofs.lemmas.Bool.{and_parts, both_ways, not-false}
 use Rattle.std.proofs.lemmas.Option.{same_Some}
 use Rattle.vk_base.specs.declared.answer.Refusal.{Refusal}
@@ -30,10 +30,11 @@ use Rattle.v_laws.proofs.Held.{holding_is}
 use Rattle.v_laws.proofs.SoundChanges.{process_begun, none_waited_for, no_exchange_changes, one_exchange_changes, goes_process, goes_exchange}
 use Rattle.v_laws.proofs.SoundExit.{goes_exited}
 use Rattle.v_laws.proofs.SoundLookups.{goes_registered, goes_lookup, goes_heard}
-use Rattle.v_laws.proofs.SoundMoves.{at_once_lives, goes_memory, goes_at_once, goes_begin, goes_either}
+use Rattle.v_laws.proofs.SoundMoves.{at_once_lives, goes_memory, goes_at_once, goes_begin}
 use Rattle.v_laws.proofs.States.{ready_sends_none}
-use Rattle.v_laws.proofs.StepLemmas.{IsFit, fit_is, passes_first}
+use Rattle.v_laws.proofs.StepLemmas.{four_tests, IsFit, fit_is, passes_first}
 use Rattle.v_laws.proofs.Tables.{same_pid_is}
+use Rattle.v_laws.proofs.Options.{some_not_none, of_either}
 
 -- What a step is: a Send, an arrival, or one that changes only what may change.
 pub data IsStep (s : Step) (k l : Kernel) : Type 0 where
@@ -82,20 +83,17 @@ goes_got : (s : Step) (k : Kernel) (pid : Pid) (p : Process) (c : Call) (logical
 goes_got s k pid p c logical None sound at alive ready quiet = goes_lookup s k pid p c logical sound at alive ready quiet
 goes_got s k pid p c logical (Some q) sound at alive ready quiet = goes_nowhere s k sound
 
-some_is : {A : Type 0} (o : Option A) → is_none o ≡ false → (x : A) × (o ≡ Some x)
-some_is None f = absurd (both_ways true f refl)
-some_is (Some x) f = (x, refl)
+-- what a step is whose effect is known
+pub as_effect : (s : Step) (k : Kernel) (e f : Effect) → Some e ≡ Some f → GoesOn s k e.after → IsStep s k f.after
+as_effect s k e f g on = IsStep.goes (subst (λ (x : Effect). GoesOn s k x.after) (same_Some e f g) on)
 
--- what goes on is a step
-pub as_step : (s : Step) (k : Kernel) (e f : Effect) → Some e ≡ Some f → GoesOn s k e.after → IsStep s k f.after
-as_step s k e f g on = IsStep.goes (subst (λ (x : Effect). GoesOn s k x.after) (same_Some e f g) on)
-
+-- a call that is not refused
 pub accepted_is : (k : Kernel) (pid : Pid) (p : Process) (c : Call) (e : Effect) → IsSound k → k.procs pid ≡ Some p → IsFit k pid p c → accepted k pid p c ≡ Some e → IsStep (steps.Call pid c) k e.after
 accepted_is k pid p (calls.Send target m) e sound at fit g = IsStep.sends pid p target m refl at fit (ap (λ (x : Effect). x.after) (sym (same_Some _ e g)))
-accepted_is k pid p calls.Receive e sound at fit g = as_step (steps.Call pid calls.Receive) k _ e g (goes_state (steps.Call pid calls.Receive) k pid p (states.Blocked calls.Receive) sound at fit.alive fit.ready refl)
+accepted_is k pid p calls.Receive e sound at fit g = as_effect (steps.Call pid calls.Receive) k _ e g (goes_state (steps.Call pid calls.Receive) k pid p (states.Blocked calls.Receive) sound at fit.alive fit.ready refl)
 accepted_is k pid p (calls.ReceiveSegment start count) e sound at fit g =
     let c : Call = calls.ReceiveSegment start count in
-    as_step (steps.Call pid c) k _ e g (goes_state (steps.Call pid c) k pid p (states.Blocked c) sound at fit.alive fit.ready refl)
+    as_effect (steps.Call pid c) k _ e g (goes_state (steps.Call pid c) k pid p (states.Blocked c) sound at fit.alive fit.ready refl)
 accepted_is k pid p (calls.Reply m to) e sound at fit g =
     let c : Call = calls.Reply m to in
     IsStep.goes (goes_reply (steps.Call pid c) k pid c to m 0 [] e sound (λ number x target taken. StageOn.replied m (ap (λ r. steps.Call r c) (sym target)) taken refl) g)
@@ -106,32 +104,30 @@ accepted_is k pid p (calls.ReplySegment m to dest src count) e sound at fit g =
 accepted_is k pid p (calls.MoveTo partner dest src count) e sound at fit g =
     let c : Call = calls.MoveTo partner dest src count in
     let bytes = bytes_in (range_of src count) p.memory in
-    let last = (not (may_write (held_exchange k pid partner)), refusals.NoAccess) ∷ (not (is_granted (held_exchange k pid partner) dest count && is_own p src count), refusals.BadRange) ∷ [] in
-    let first = passes_first (nat_lt 65536 count) refusals.TooLong ((is_none (held k pid partner), refusals.NotAwaiting) ∷ last) fit.rest in
-    let second = passes_first (is_none (held k pid partner)) refusals.NotAwaiting last first.1 in
-    let number = some_is (held k pid partner) second.0 in
-    IsStep.goes (goes_either (steps.Call pid c) k (is_at_once pid partner count) (copied_at_once k pid c partner dest bytes) (begin_move k pid p c partner (new_move pid directions.To dest src count bytes)) e
+    let tests = four_tests (nat_lt 65536 count) (is_none (held k pid partner)) (not (may_write (held_exchange k pid partner))) (is_granted (held_exchange k pid partner) dest count) (is_own p src count) refusals.TooLong refusals.NotAwaiting refusals.NoAccess refusals.BadRange fit.rest in
+    let number = some_not_none (held k pid partner) tests.0 in
+    IsStep.goes (of_either (λ (x : Effect). GoesOn (steps.Call pid c) k x.after) (is_at_once pid partner count) (copied_at_once k pid c partner dest bytes) (begin_move k pid p c partner (new_move pid directions.To dest src count bytes)) e
     (λ once. goes_at_once (steps.Call pid c) k pid c partner dest bytes e sound (at_once_lives k pid partner number.0 src count p.memory sound number.1 once))
-    (goes_begin (steps.Call pid c) k pid p c partner (new_move pid directions.To dest src count bytes) e sound at fit.alive fit.ready refl) g)
+    (λ later. goes_begin (steps.Call pid c) k pid p c partner (new_move pid directions.To dest src count bytes) e sound at fit.alive fit.ready refl) g)
 accepted_is k pid p (calls.MoveFrom partner dest src count) e sound at fit g =
     let c : Call = calls.MoveFrom partner dest src count in
-    IsStep.goes (goes_either (steps.Call pid c) k (is_at_once pid partner count) (k.procs partner >>= λ q. copied_at_once k pid c pid dest (bytes_in (range_of src count) q.memory)) (begin_move k pid p c partner (new_move pid directions.From dest src count [])) e
+    IsStep.goes (of_either (λ (x : Effect). GoesOn (steps.Call pid c) k x.after) (is_at_once pid partner count) (k.procs partner >>= λ q. copied_at_once k pid c pid dest (bytes_in (range_of src count) q.memory)) (begin_move k pid p c partner (new_move pid directions.From dest src count [])) e
     (λ once h. let q = bind_is (k.procs partner) _ e h in goes_at_once (steps.Call pid c) k pid c pid dest (bytes_in (range_of src count) q.0.memory) e sound (λ x is dead. absurd (both_ways x.alive dead (ap (λ (y : Process). y.alive) (same_Some x p (sym is ∙ at)) ∙ fit.alive))) q.2)
-    (goes_begin (steps.Call pid c) k pid p c partner (new_move pid directions.From dest src count []) e sound at fit.alive fit.ready refl) g)
+    (λ later. goes_begin (steps.Call pid c) k pid p c partner (new_move pid directions.From dest src count []) e sound at fit.alive fit.ready refl) g)
 accepted_is k pid p (calls.SetPid logical q scope) e sound at fit g =
     let c : Call = calls.SetPid logical q scope in
     let first = passes_first (not (same_host pid q && is_live (k.procs q))) refusals.NoProcess ((nat_le 64 (length (others (k.names pid.host) logical)), refusals.NamesFull) ∷ []) fit.rest in
     let parts = and_parts (same_host pid q) (is_live (k.procs q)) (not-false (same_host pid q && is_live (k.procs q)) first.0) in
-    as_step (steps.Call pid c) k _ e g (goes_registered (steps.Call pid c) k pid logical q scope sound parts.0 parts.1)
+    as_effect (steps.Call pid c) k _ e g (goes_registered (steps.Call pid c) k pid logical q scope sound parts.0 parts.1)
 accepted_is k pid p (calls.GetPid logical scope) e sound at fit g =
     let c : Call = calls.GetPid logical scope in
-    as_step (steps.Call pid c) k _ e g (goes_got (steps.Call pid c) k pid p c logical (found_at_once k pid logical scope) sound at fit.alive fit.ready refl)
-accepted_is k pid p (calls.Load start count) e sound at fit g = as_step (steps.Call pid (calls.Load start count)) k _ e g (goes_nowhere (steps.Call pid (calls.Load start count)) k sound)
+    as_effect (steps.Call pid c) k _ e g (goes_got (steps.Call pid c) k pid p c logical (found_at_once k pid logical scope) sound at fit.alive fit.ready refl)
+accepted_is k pid p (calls.Load start count) e sound at fit g = as_effect (steps.Call pid (calls.Load start count)) k _ e g (goes_nowhere (steps.Call pid (calls.Load start count)) k sound)
 accepted_is k pid p (calls.Store start bytes) e sound at fit g =
     let c : Call = calls.Store start bytes in
-    as_step (steps.Call pid c) k _ e g (goes_memory (steps.Call pid c) k pid p (with_bytes p.memory start bytes) sound at (λ dead. absurd (both_ways p.alive dead fit.alive)))
-accepted_is k pid p calls.Exit e sound at fit g = as_step (steps.Call pid calls.Exit) k _ e g (goes_exited k pid p sound at fit.alive fit.ready)
+    as_effect (steps.Call pid c) k _ e g (goes_memory (steps.Call pid c) k pid p (with_bytes p.memory start bytes) sound at (λ dead. absurd (both_ways p.alive dead fit.alive)))
+accepted_is k pid p calls.Exit e sound at fit g = as_effect (steps.Call pid calls.Exit) k _ e g (goes_exited k pid p sound at fit.alive fit.ready)
 
 pub called_is : (k : Kernel) (pid : Pid) (p : Process) (c : Call) (why : Option Refusal) (e : Effect) → IsSound k → k.procs pid ≡ Some p → call_refusal k pid p c ≡ why → called k pid p c why ≡ Some e → IsStep (steps.Call pid c) k e.after
 called_is k pid p c None e sound at fine g = accepted_is k pid p c e sound at (fit_is k pid p c fine) g
-called_is k pid p c (Some why) e sound at fine g = as_step (steps.Call pid c) k _ e g (goes_nowhere (steps.Call pid c) k sound)
+called_is k pid p c (Some why) e sound at fine g = as_effect (steps.Call pid c) k _ e g (goes_nowhere (steps.Call pid c) k sound)

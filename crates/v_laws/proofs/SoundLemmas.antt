@@ -17,7 +17,7 @@ use Rattle.vk_base.proofs.OptionLemmas.{bind_is}
 use Rattle.v_laws.specs.Sound.{IsSound, IsRegistered}
 use Rattle.v_laws.proofs.Changes.{sound_onward}
 use Rattle.v_laws.proofs.SoundArrive.{sound_arrived}
-use Rattle.v_laws.proofs.SoundCalls.{IsStep, as_step, called_is}
+use Rattle.v_laws.proofs.SoundCalls.{IsStep, as_effect, called_is}
 pub use Rattle.v_laws.proofs.SoundCalls.{sound_state, sound_replied}
 use Rattle.v_laws.proofs.SoundLookups.{goes_heard, goes_told}
 use Rattle.v_laws.proofs.SoundMoves.{goes_opened, goes_copied, goes_ended}
@@ -56,20 +56,20 @@ step_is k (steps.Call pid c) e sound g =
 step_is k (steps.Arrive sender number) e sound g =
     let x = bind_is (arriving k (name_of sender number)) _ e g in
     IsStep.arrives (name_of sender number) x.0 refl x.1 (ap (λ (y : Effect). y.after) (sym (same_Some _ e x.2)))
-step_is k (steps.Take r) e sound g = let t = bind_is (taking k r) _ e g in as_step (steps.Take r) k _ e t.2 (goes_taken k r t.0 sound t.1)
-step_is k (steps.Finish s) e sound g = let f = bind_is (finishing k s) _ e g in as_step (steps.Finish s) k _ e f.2 (goes_finished k s f.0 sound f.1)
-step_is k (steps.Fail s why) e sound g = let f = bind_is (failing k s why) _ e g in as_step (steps.Fail s why) k _ e f.2 (goes_failed k s why f.0 sound f.1)
+step_is k (steps.Take r) e sound g = let t = bind_is (taking k r) _ e g in as_effect (steps.Take r) k _ e t.2 (goes_taken k r t.0 sound t.1)
+step_is k (steps.Finish s) e sound g = let f = bind_is (finishing k s) _ e g in as_effect (steps.Finish s) k _ e f.2 (goes_finished k s f.0 sound f.1)
+step_is k (steps.Fail s why) e sound g = let f = bind_is (failing k s why) _ e g in as_effect (steps.Fail s why) k _ e f.2 (goes_failed k s why f.0 sound f.1)
 step_is k (steps.OpenMove sender number moving) e sound g =
     let o = bind_is (opening_move k (name_of sender number) moving) _ e g in
-    as_step (steps.OpenMove sender number moving) k _ e o.2 (goes_opened (steps.OpenMove sender number moving) k (name_of sender number) moving o.0 sound o.1)
+    as_effect (steps.OpenMove sender number moving) k _ e o.2 (goes_opened (steps.OpenMove sender number moving) k (name_of sender number) moving o.0 sound o.1)
 step_is k (steps.Copy sender number moving offset count) e sound g =
     let c = bind_is (copying k (name_of sender number) moving offset count) _ e g in
-    as_step (steps.Copy sender number moving offset count) k _ e c.2 (goes_copied (steps.Copy sender number moving offset count) k (name_of sender number) moving offset count c.0 sound c.1)
-step_is k (steps.End r why) e sound g = let x = bind_is (ending k r why) _ e g in as_step (steps.End r why) k _ e x.2 (goes_ended (steps.End r why) k r why x.0 sound x.1)
-step_is k (steps.Hear asker number pid) e sound g = let l = bind_is (hearing k asker number pid) _ e g in as_step (steps.Hear asker number pid) k _ e l.2 (goes_heard (steps.Hear asker number pid) k _ sound)
-step_is k (steps.Found asker pid) e sound g = let p = bind_is (finding k asker pid) _ e g in as_step (steps.Found asker pid) k _ e p.2 (goes_told (steps.Found asker pid) k asker p.0 _ sound (finding_is k asker pid p.0 p.1).asks)
-step_is k (steps.Lost asker) e sound g = let p = bind_is (asking k asker) _ e g in as_step (steps.Lost asker) k _ e p.2 (goes_told (steps.Lost asker) k asker p.0 _ sound (asking_is k asker p.0 p.1))
-step_is k (steps.Collect pid) e sound g = let d = bind_is (collecting k pid) _ e g in as_step (steps.Collect pid) k _ e d.2 (goes_collected k pid d.0 sound d.1)
+    as_effect (steps.Copy sender number moving offset count) k _ e c.2 (goes_copied (steps.Copy sender number moving offset count) k (name_of sender number) moving offset count c.0 sound c.1)
+step_is k (steps.End r why) e sound g = let x = bind_is (ending k r why) _ e g in as_effect (steps.End r why) k _ e x.2 (goes_ended (steps.End r why) k r why x.0 sound x.1)
+step_is k (steps.Hear asker number pid) e sound g = let l = bind_is (hearing k asker number pid) _ e g in as_effect (steps.Hear asker number pid) k _ e l.2 (goes_heard (steps.Hear asker number pid) k _ sound)
+step_is k (steps.Found asker pid) e sound g = let p = bind_is (finding k asker pid) _ e g in as_effect (steps.Found asker pid) k _ e p.2 (goes_told (steps.Found asker pid) k asker p.0 _ sound (finding_is k asker pid p.0 p.1).asks)
+step_is k (steps.Lost asker) e sound g = let p = bind_is (asking k asker) _ e g in as_effect (steps.Lost asker) k _ e p.2 (goes_told (steps.Lost asker) k asker p.0 _ sound (asking_is k asker p.0 p.1))
+step_is k (steps.Collect pid) e sound g = let d = bind_is (collecting k pid) _ e g in as_effect (steps.Collect pid) k _ e d.2 (goes_collected k pid d.0 sound d.1)
 
 sound_after : (s : Step) (k l : Kernel) → IsSound k → IsStep s k l → IsSound l
 sound_after s k l sound (IsStep.goes on) = sound_onward s k l sound on

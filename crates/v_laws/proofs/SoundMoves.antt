@@ -1,5 +1,5 @@
 -- The moves: those that are made at once, and those that are begun, opened, copied and ended.
-use Rattle.std.proofs.Common.{◌≡◌, ℕ, ◌+◌, ◌-◌, Bool, true, false, cond, ◌==◌, List, [], ◌∷◌, ◌++◌, length, take, drop, slice_set, Option, Some, None, refl, sym, ap, subst, ◌∙◌, inl, inr, arith, add-zero, append-nil, take-append-drop}
+use Rattle.std.proofs.Common.{◌≡◌, ℕ, ◌+◌, ◌-◌, true, false, ◌==◌, List, [], ◌∷◌, ◌++◌, length, take, drop, slice_set, Some, None, refl, sym, ap, subst, ◌∙◌, inl, inr, arith, add-zero, append-nil, take-append-drop}
 use Rattle.std.proofs.lemmas.Bool.{both_ways, or_cases, eqb-true, eq-eqb}
 use Rattle.std.proofs.lemmas.List.{length_push, length-set}
 use Rattle.std.proofs.lemmas.Option.{same_Some}
@@ -77,11 +77,6 @@ goes_begin s k pid p c partner m e sound at alive ready quiet g =
     let number = bind_is (held k pid partner) _ e g in
     let x = bind_is (k.exchanges (name_of partner number.0)) _ e number.2 in
     subst (λ (y : Effect). GoesOn s k y.after) (same_Some _ e x.2) (goes_begun s k pid p c (name_of partner number.0) x.0 m sound at alive ready quiet x.1)
-
--- either of both
-pub goes_either : (s : Step) (k : Kernel) (b : Bool) (o p : Option Effect) (e : Effect) → (b ≡ true → o ≡ Some e → GoesOn s k e.after) → (p ≡ Some e → GoesOn s k e.after) → cond b o p ≡ Some e → GoesOn s k e.after
-goes_either s k true o p e f g is = f refl is
-goes_either s k false o p e f g is = g is
 
 -- OpenMove.
 pub goes_opened : (s : Step) (k : Kernel) (name : Name) (number : ℕ) (o : Opening) → IsSound k → opening_move k name number ≡ Some o → GoesOn s k (move_opened k name number o)

@@ -1,7 +1,7 @@
 -- What a process does, and does not do at the same time.
-use Rattle.std.proofs.Common.{◌≡◌, true, false, Some, None, refl, ap}
+use Rattle.std.proofs.Common.{◌≡◌, ℕ, true, false, Some, None, refl, ap}
 use Rattle.std.proofs.lemmas.Bool.{both_ways}
-use Rattle.std.proofs.lemmas.Option.{none-some, same_Some}
+use Rattle.std.proofs.lemmas.Option.{same_Some, none-some}
 use Rattle.vk_base.specs.declared.answer.Answer.{Answer}
 use Rattle.vk_base.specs.declared.call.Call.{Call}
 use Rattle.vk_base.specs.declared.call.Call.TheVariants as calls
@@ -10,15 +10,8 @@ use Rattle.vk_base.specs.declared.kernel.State.TheVariants as states
 use Rattle.vk_base.specs.declared.message.Message.{Message}
 use Rattle.vk_base.specs.declared.pid.Pid.{Pid}
 use Rattle.vk_base.specs.Kernel.{is_ready, is_moving, is_asking, receiving, sending, finished_call, ended}
-
--- the state of a process that is in a Send
-pub sending_is : (s : State) (target : Pid) (m : Message) → sending s ≡ Some (target, m) → s ≡ states.Blocked (calls.Send target m)
-sending_is states.Ready target m e = absurd (none-some (target, m) e)
-sending_is (states.Blocked (calls.Send t n)) target m e =
-    let same = same_Some (t, n) (target, m) e in
-    ap (λ (z : Pid × Message). states.Blocked (calls.Send z.0 z.1)) same
-sending_is (states.Blocked c) target m e = absurd (none-some (target, m) e)
-sending_is (states.Done c a) target m e = absurd (none-some (target, m) e)
+use Rattle.vk_base.specs.Ranges.{range_of}
+use Rattle.v_laws.specs.Sizes.{range_asked}
 
 pub ready_sends_none : (s : State) → is_ready s ≡ true → sending s ≡ None
 ready_sends_none states.Ready t = refl
@@ -84,3 +77,33 @@ pub ended_ready : (s : State) (a : Answer) → is_ready (ended s a) ≡ is_ready
 ended_ready states.Ready a = refl
 ended_ready (states.Blocked c) a = refl
 ended_ready (states.Done c b) a = refl
+
+-- what a process asks for, and what it does not
+pub ready_asks : (s : State) → is_ready s ≡ true → range_asked s ≡ None
+ready_asks states.Ready t = refl
+ready_asks (states.Blocked c) t = absurd (both_ways false refl t)
+ready_asks (states.Done c a) t = refl
+
+pub ended_asks : (s : State) (a : Answer) → range_asked (ended s a) ≡ None
+ended_asks states.Ready a = refl
+ended_asks (states.Blocked c) a = refl
+ended_asks (states.Done c b) a = refl
+
+pub receiving_asks : (s : State) (start count : ℕ) → receiving s ≡ Some (calls.ReceiveSegment start count) → range_asked s ≡ Some (range_of start count)
+receiving_asks states.Ready start count e = absurd (none-some (calls.ReceiveSegment start count) e)
+receiving_asks (states.Blocked (calls.ReceiveSegment start count)) a b e = ap range_asked (ap (λ c. states.Blocked c) (same_Some (calls.ReceiveSegment start count) (calls.ReceiveSegment a b) e))
+receiving_asks (states.Blocked calls.Receive) start count e = absurd (differ e)
+  where
+    differ : Some calls.Receive ≡ Some (calls.ReceiveSegment start count) → ⊥
+    differ e = cc
+receiving_asks (states.Blocked c) start count e = absurd (none-some (calls.ReceiveSegment start count) e)
+receiving_asks (states.Done c a) start count e = absurd (none-some (calls.ReceiveSegment start count) e)
+
+-- the state of a process that is in a Send
+pub sending_is : (s : State) (target : Pid) (m : Message) → sending s ≡ Some (target, m) → s ≡ states.Blocked (calls.Send target m)
+sending_is states.Ready target m e = absurd (none-some (target, m) e)
+sending_is (states.Blocked (calls.Send t n)) target m e =
+    let same = same_Some (t, n) (target, m) e in
+    ap (λ (z : Pid × Message). states.Blocked (calls.Send z.0 z.1)) same
+sending_is (states.Blocked c) target m e = absurd (none-some (target, m) e)
+sending_is (states.Done c a) target m e = absurd (none-some (target, m) e)

@@ -1,6 +1,6 @@
 -- What a step found where it is allowed.
-use Rattle.std.proofs.Common.{◌≡◌, ℕ, Bool, true, false, ◌==◌, ◌&&◌, not, nat_lt, List, ◌∷◌, Option, Some, None, refl, sym, subst}
-use Rattle.std.proofs.lemmas.Bool.{and_parts, not-true}
+use Rattle.std.proofs.Common.{◌≡◌, ℕ, Bool, true, false, ◌==◌, ◌&&◌, not, nat_lt, List, [], ◌∷◌, Option, Some, None, refl, sym, subst}
+use Rattle.std.proofs.lemmas.Bool.{and_parts, not-true, not-false}
 use Rattle.std.proofs.lemmas.Option.{same_Some, none-some}
 use Rattle.std.specs.List.{list_any}
 use Rattle.vk_base.specs.declared.answer.Answer.{Answer}
@@ -237,3 +237,13 @@ finding_is k asker pid p g =
 pub passes_first : (t : Bool) (why : Refusal) (ts : List (Bool × Refusal)) → first_that_holds ((t, why) ∷ ts) ≡ None → (t ≡ false) × (first_that_holds ts ≡ None)
 passes_first true why ts e = absurd (none-some why (sym e))
 passes_first false why ts e = (refl, e)
+
+-- what no refusal of a reply or a move says: the sender is held, and the ranges are granted and the caller's own
+pub four_tests : (a b c g o : Bool) (u v w x : Refusal) → first_that_holds ((a, u) ∷ (b, v) ∷ (c, w) ∷ (not (g && o), x) ∷ []) ≡ None → (b ≡ false) × (g ≡ true) × (o ≡ true)
+four_tests a b c g o u v w x e =
+    let first = passes_first a u ((b, v) ∷ (c, w) ∷ (not (g && o), x) ∷ []) e in
+    let second = passes_first b v ((c, w) ∷ (not (g && o), x) ∷ []) first.1 in
+    let third = passes_first c w ((not (g && o), x) ∷ []) second.1 in
+    let last = passes_first (not (g && o)) x [] third.1 in
+    let parts = and_parts g o (not-false (g && o) last.0) in
+    (second.0, parts.0, parts.1)

@@ -1,3 +1,4 @@
 pub mod Places
 pub mod Reached
+pub mod Sizes
 pub mod Sound

@@ -6,6 +6,7 @@
 
 mod calls;
 mod exchanges;
+mod memories;
 mod once;
 mod order;
 mod processes;
@@ -14,6 +15,7 @@ mod sound;
 
 pub use calls::{refused_calls_change_nothing, the_dead_are_refused};
 pub use exchanges::{exchanges_stay, settled_exchanges_stay};
+pub use memories::memories_keep_their_sizes;
 pub use once::{messages_are_taken_once, messages_arrive_once, one_message_at_a_station};
 pub use order::first_come_first_served;
 pub use processes::{

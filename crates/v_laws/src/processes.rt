@@ -12,9 +12,11 @@ ghost use Rattle.vk_base.specs.Settings.{has_process};
 ghost use Rattle.vk_base.specs.Steps.{Run, effect, run};
 ghost use Rattle.v_laws.specs.Reached.{HasGrown, IsReached};
 
-/// The processes of every kernel that a run reaches are those of the configuration.
+/// The processes of every kernel that a run reaches are those of the configuration; so a run from one kernel to another
+/// neither adds nor removes any.
 pub fn the_processes_stay()
     ensures configured { (specs : List ProcessSpec) (ss : List Step) (r : Run) (pid : Pid) → run (opening specs) ss ≡ Some r → is_some (r.after.procs pid) ≡ has_process specs pid }
+    ensures run { (k : Kernel) (ss : List Step) (r : Run) (pid : Pid) → IsReached k → run k ss ≡ Some r → is_some (r.after.procs pid) ≡ is_some (k.procs pid) }
 {}
 
 /// A process that is not alive stays exactly as it is, over a step and over a run.

@@ -19,7 +19,7 @@ use Rattle.vk_base.specs.declared.step.Step.TheVariants as steps
 use Rattle.vk_base.specs.Kernel.{Kernel, finished_call, queue_of, opening, opened}
 use Rattle.vk_base.specs.Settings.{is_on, is_process, has_process}
 use Rattle.vk_base.specs.Pids.{same_pid}
-use Rattle.v_laws.proofs.SoundArrive.{map_some}
+use Rattle.v_laws.proofs.Options.{mapped_some}
 use Rattle.v_laws.proofs.SoundLemmas.{sound_opening}
 use Rattle.v_laws.proofs.Tables.{same_pid_is}
 use Rattle.vk_host.specs.declared.event.EventAnswer.{EventAnswer}
@@ -77,7 +77,7 @@ done_here t k pid s at found stands =
 -- The processes of the station stay.
 
 either_some : (f : Seat → Seat) (o : Option Seat) (b : Bool) → is_some (cond b (option_map f o) o) ≡ is_some o
-either_some f o true = map_some f o
+either_some f o true = mapped_some f o
 either_some f o false = refl
 
 stays : (q pid : Pid) (f : Seat → Seat) (seats : List Seat) → ((s : Seat) → (f s).pid ≡ s.pid) → is_some (find (is_seat q) (change_first (is_seat pid) f seats)) ≡ is_some (find (is_seat q) seats)
@@ -195,7 +195,7 @@ at_by : (t : Tables) (specs : List ProcessSpec) (q : Pid) (b : Bool) → t.seats
 at_by t specs q true seats e =
     ap (λ xs. is_some (find (is_seat q) xs)) seats
     ∙ ap is_some (found_opening t.host specs q (eqb-true q.host t.host e))
-    ∙ map_some opening_seat (find (is_process q) specs)
+    ∙ mapped_some opening_seat (find (is_process q) specs)
     ∙ found_any q specs
 at_by t specs q false seats e = ap (λ xs. is_some (find (is_seat q) xs)) seats ∙ by (find (is_seat q) (opening_seats t.host specs)) refl
   where
