@@ -1,0 +1,14 @@
+pub mod Access
+pub mod Apply
+pub mod Doings
+pub mod Kept
+pub mod Latest
+pub mod Leaving
+pub mod Lists
+pub mod Moves
+pub mod Names
+pub mod Opening
+pub mod Places
+pub mod Rules
+pub mod Sends
+pub mod Tables

@@ -1,0 +1,75 @@
+//! The machine: its tables, and how many bytes were noted for remote moves.
+
+ghost use Rattle.std.specs.Prelude.{◌≡◌, ◌≤◌, IfOk};
+ghost use Rattle.vk_base.specs.Kernel.{opening};
+ghost use Rattle.v_machine.specs.Apply.{Applied};
+ghost use Rattle.v_machine.specs.Tables.{kernel_of};
+
+use crate::calling::call;
+use crate::messages::collect;
+use crate::opening::open_store;
+use crate::stepping::quiet_step;
+use crate::store::Store;
+use crate::verdict::ApplyRefusal;
+use std::alloc::Global;
+use std::marker::Model;
+use vk_base::{Config, NoMemory, Observation, Step};
+
+/// The most bytes that are noted for remote moves.
+pub const MOST_NOTED: u64 = 268_435_456;
+
+/// The one-machine kernel.
+#[derive(Drop)]
+pub struct Machine {
+    store: Store,
+    noted: u64,
+}
+
+impl Model for Machine {
+    ghost use Rattle.std.specs.Prelude.{◌≤◌};
+    ghost use Rattle.v_machine.specs.Tables.{Tables};
+
+    ghost Value = { Tables };
+
+    ghost use Rattle.v_machine.specs.Apply.{most};
+    ghost use Rattle.v_machine.specs.Kept.{tables_in, IsKept};
+
+    ghost view = { λ m. tables_in m.store m.noted };
+
+    ghost invariant = { λ m. IsKept m.store × (m.noted ≤ most) };
+}
+
+impl Machine {
+    /// The opening kernel of a configuration.
+    pub fn new(alloc: Global, config: &Config) -> Result<Machine, NoMemory>
+        ensures { IfOk result (λ m. (kernel_of m ≡ opening config.now.specs) × (m.noted ≡ 0)) }
+    {
+        Ok(Machine {
+            store: open_store(alloc, config.specs())?,
+            noted: 0,
+        })
+    }
+
+    /// Applies a step, and gives what a process sees of it. Where the step is refused nothing changes.
+    ///
+    /// # Errors
+    ///
+    /// `NotAllowed` exactly where the kernel does not allow the step. Else `Limit` exactly where it would note bytes for a
+    /// remote move and those noted so far with them would be more than 268,435,456: a `MoveTo` that is begun notes its
+    /// bytes, and so does an `OpenMove` of a move from the sender; nothing gives bytes back. `NoMemory` only where it is neither.
+    pub fn apply(&mut self, alloc: Global, step: &Step) -> Result<Option<Observation>, ApplyRefusal>
+        ensures { Applied step.now self.old self.new result }
+    {
+        match *step {
+            Step::Call {
+                pid,
+                call: ref made,
+            } => call(&mut self.store, &mut self.noted, alloc, pid, made),
+            Step::Collect { pid } => collect(&mut self.store, pid),
+            _ => match quiet_step(&mut self.store, &mut self.noted, alloc, step) {
+                Ok(()) => Ok(None),
+                Err(why) => Err(why),
+            },
+        }
+    }
+}

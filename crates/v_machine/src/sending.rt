@@ -1,0 +1,233 @@
+//! Sends, and messages that come to a queue.
+
+ghost use Rattle.std.specs.Prelude.{◌≡◌, ◌<◌, ◌∷◌, ◌++◌, [], true, false, length, vec_len, Some, OnOk, OnErr, IfOk};
+ghost use Rattle.std.specs.Vec.{vec_capacity};
+ghost use Rattle.vk_base.specs.declared.kernel.Process.{Process};
+ghost use Rattle.vk_base.specs.declared.pid.Pid.{Pid as ThePid};
+ghost use Rattle.vk_base.specs.Calls.{first_part};
+ghost use Rattle.vk_base.specs.Kernel.{is_live, is_queued};
+ghost use Rattle.vk_base.specs.Messages.{segment_of};
+ghost use Rattle.vk_base.specs.Pids.{same_host};
+ghost use Rattle.vk_base.specs.Ranges.{lies_in};
+ghost use Rattle.v_machine.specs.Kept.{IsKept, IsIndexed, IsAt, kernel_in};
+ghost use Rattle.v_machine.specs.Places.{place_in};
+ghost use Rattle.v_machine.specs.Rules.{Judges, Fits, HasRoomFor, Posts, Stays};
+ghost use Rattle.v_machine.specs.Sends.{exchange_of, stage_of};
+
+use crate::bytes::{no_bytes, own_bytes};
+use crate::calls::lies_in;
+use crate::doing::{Doing, Waiting};
+use crate::put::{find_live, put_doing, size_of};
+use crate::sent::{Phase, Sent};
+use crate::store::Store;
+use crate::verdict::{ApplyRefusal, Verdict};
+use std::alloc::Global;
+use vk_base::{Call, List, Message, Name, NoMemory, Pid, Range, Refusal};
+
+/// The greatest number of bytes of a first part.
+const PART: u32 = 512;
+
+/// Send.
+pub fn send(
+    store: &mut Store,
+    alloc: Global,
+    at: usize,
+    pid: Pid,
+    target: Pid,
+    message: Message,
+) -> Result<Verdict, ApplyRefusal>
+    requires kept { IsKept store.old }
+    requires here { IsAt store.old pid at }
+    ensures { Judges pid (Call.Send target message) store.old store.new result }
+{
+    let segment = message.grants().range;
+    if !lies_in(segment.start, segment.len, size_of(store, at)) {
+        return Ok(Verdict::Refused {
+            why: Refusal::BadSegment,
+        });
+    }
+    if pid.host == target.host {
+        send_here(store, alloc, at, pid, target, message)
+    } else {
+        send_away(store, alloc, at, pid, target, message)
+    }
+}
+
+/// A Send to a process of the caller's station, whose segment lies in the caller's memory.
+fn send_here(
+    store: &mut Store,
+    alloc: Global,
+    at: usize,
+    pid: Pid,
+    target: Pid,
+    message: Message,
+) -> Result<Verdict, ApplyRefusal>
+    requires kept { IsKept store.old }
+    requires here { IsAt store.old pid at }
+    requires local { same_host pid target ≡ true }
+    ensures { Fits store.old pid message → Judges pid (Call.Send target message) store.old store.new result }
+{
+    let Some(to) = find_live(store, target) else {
+        return Ok(Verdict::Refused {
+            why: Refusal::NoProcess,
+        });
+    };
+    if make_room(store, at, pid.host).is_err() {
+        return Err(ApplyRefusal::NoMemory);
+    }
+    send_with_room(store, alloc, at, to, pid, target, message)
+}
+
+/// A Send to a process of the caller's station that is alive, where there is room for its name.
+fn send_with_room(
+    store: &mut Store,
+    alloc: Global,
+    at: usize,
+    to: usize,
+    pid: Pid,
+    target: Pid,
+    message: Message,
+) -> Result<Verdict, ApplyRefusal>
+    requires kept { IsKept store.old }
+    requires here { IsAt store.old pid at }
+    requires there { IsAt store.old target to }
+    requires local { same_host pid target ≡ true }
+    requires live { is_live ((kernel_in store.old).procs target) ≡ true }
+    requires room { HasRoomFor store.old at pid.host }
+    ensures { Fits store.old pid message → Judges pid (Call.Send target message) store.old store.new result }
+{
+    let Ok(sent) = new_sent(store, alloc, at, target, message, Phase::Queued) else {
+        return Err(ApplyRefusal::NoMemory);
+    };
+    if post_here(store, at, to, pid, sent).is_err() {
+        return Err(ApplyRefusal::NoMemory);
+    }
+    let waiting = Waiting::Send { target, message };
+    put_doing(store, at, Doing::Blocked { waiting });
+    Ok(Verdict::Begun)
+}
+
+/// A Send to a process of another station, whose segment lies in the caller's memory.
+fn send_away(
+    store: &mut Store,
+    alloc: Global,
+    at: usize,
+    pid: Pid,
+    target: Pid,
+    message: Message,
+) -> Result<Verdict, ApplyRefusal>
+    requires kept { IsKept store.old }
+    requires here { IsAt store.old pid at }
+    requires away { same_host pid target ≡ false }
+    ensures { Fits store.old pid message → Judges pid (Call.Send target message) store.old store.new result }
+{
+    let Ok(sent) = new_sent(store, alloc, at, target, message, Phase::Posted) else {
+        return Err(ApplyRefusal::NoMemory);
+    };
+    if store.sends[at].push(sent).is_err() {
+        return Err(ApplyRefusal::NoMemory);
+    }
+    let waiting = Waiting::Send { target, message };
+    put_doing(store, at, Doing::Blocked { waiting });
+    Ok(Verdict::Begun)
+}
+
+/// Makes room for one more name of the Sends of this place to the host, which changes no table.
+pub fn make_room(store: &mut Store, at: usize, host: u16) -> Result<(), NoMemory>
+    requires indexed { IsIndexed store.old }
+    requires low { at < length store.old.latest.items }
+    ensures stays { Stays store.old store.new }
+    ensures room { OnOk result (HasRoomFor store.new at host) }
+{
+    store.arrived.reserve(1)?;
+    store.latest[at].make_room(host)
+}
+
+/// One more Send of the process of the first place, to the process of the second, which has the same host. Where memory is
+/// wanting the tables stay.
+fn post_here(store: &mut Store, at: usize, to: usize, pid: Pid, sent: Sent) -> Result<(), NoMemory>
+    requires kept { IsKept store.old }
+    requires here { IsAt store.old pid at }
+    requires there { IsAt store.old sent.target to }
+    requires local { same_host pid sent.target ≡ true }
+    requires queued { is_queued (exchange_of sent).stage ≡ true }
+    requires room { HasRoomFor store.old at pid.host }
+    ensures places { store.new.places ≡ store.old.places }
+    ensures procs { length store.new.procs.items ≡ length store.old.procs.items }
+    ensures ok { OnOk result (Posts pid (exchange_of sent) store.old store.new) }
+    ensures err { OnErr result (Stays store.old store.new) }
+{
+    let number = store.sends[at].count() + 1;
+    let name = Name {
+        sender: pid,
+        number,
+    };
+    let waiting = store.queues[to].len();
+    store.queues[to].push(name)?;
+    if store.sends[at].push(sent).is_err() {
+        store.queues[to].truncate(waiting);
+        return Err(NoMemory);
+    }
+    store.latest[at].put(pid.host, number);
+    push_name(&mut store.arrived, name);
+    Ok(())
+}
+
+/// One more name, for which there is room.
+pub fn push_name(names: &mut Vec<Name>, name: Name)
+    requires { vec_len names.old < vec_capacity names.old }
+    ensures { names.new.items ≡ names.old.items ++ name ∷ [] }
+{
+    if names.push(name).is_err() {
+        unreachable!();
+    }
+}
+
+/// A Send of the process of this place, whose segment lies in its memory.
+fn new_sent(
+    store: &Store,
+    alloc: Global,
+    at: usize,
+    target: Pid,
+    message: Message,
+    phase: Phase,
+) -> Result<Sent, NoMemory>
+    requires { at < length store.now.procs.items }
+    ensures target { IfOk result (λ s. s.target ≡ target) }
+    ensures phase { IfOk result (λ s. s.phase ≡ phase) }
+    ensures value { (pid : ThePid) (p : Process) → place_in store.now.places pid ≡ Some at → (kernel_in store.now).procs pid ≡ Some p → lies_in (segment_of message) (length p.memory) ≡ true →
+        IfOk result (λ s. exchange_of s ≡ record { target = target; message = message; part = first_part message p.memory; stage = stage_of phase; moves = []; opened = 0; done = 0 }) }
+{
+    let part = first_part(store, alloc, at, message)?;
+    Ok(Sent {
+        target,
+        message,
+        part,
+        phase,
+        moves: List::new(Vec::new(alloc)),
+        opened: 0,
+        done: 0,
+    })
+}
+
+/// The first part of the granted segment, if it may be read.
+fn first_part(
+    store: &Store,
+    alloc: Global,
+    at: usize,
+    message: Message,
+) -> Result<List<u8>, NoMemory>
+    requires { at < length store.now.procs.items }
+    ensures { (pid : ThePid) (p : Process) → place_in store.now.places pid ≡ Some at → (kernel_in store.now).procs pid ≡ Some p → lies_in (segment_of message) (length p.memory) ≡ true →
+        IfOk result (λ l. l ≡ first_part message p.memory) }
+{
+    let grants = message.grants();
+    if !grants.read {
+        return Ok(no_bytes(alloc));
+    }
+    let range = Range {
+        start: grants.range.start,
+        len: grants.range.len.min(PART),
+    };
+    own_bytes(store, alloc, at, range)
+}
