@@ -1,7 +1,10 @@
 //! The lines of the events of a schedule, one after another.
 
-ghost use Rattle.std.specs.Prelude.{◌≡◌, ◌⊎◌, [], Ok, Err, Some, None, IfOk, IfSome, OnErr, MatchOption, MatchResult, option_map};
+ghost use Rattle.std.specs.Prelude.{◌≡◌, ◌⊎◌, ◌∷◌, [], false, codes, bytes_eq, Ok, Err, Some, None, IfOk, IfErr, IfSome, OnOk, OnErr, MatchOption, MatchResult, option_map};
+ghost use Rattle.vk_base.specs.declared.call.Call.TheVariants as calls;
+ghost use Rattle.vk_text.specs.Calls.{ended, send_of, reply_of, call_of};
 ghost use Rattle.vk_text.specs.Lines.{words_from};
+ghost use Rattle.vk_event.specs.declared.event.Event.TheVariants as events;
 ghost use Rattle.vk_event.specs.Schedule.{call_event_of, collect_event_of, tick_event_of, deliver_event_of, event_of, acting, more, with_event};
 
 use crate::event::Event;
@@ -9,8 +12,10 @@ use crate::line::{Delivery, read_delivery};
 use crate::schedule::{Front, Schedule, TextRefusal};
 use std::alloc::Global;
 use std::marker::Model;
-use vk_base::{Config, List, NoMemory};
-use vk_text::{is_end, next_pid, next_station, next_word, read_call};
+use vk_base::{Call, Config, List, NoMemory, Pid};
+use vk_text::{
+    is_end, next_pid, next_station, next_word, read_other_call, reply_fields, send_fields,
+};
 
 /// The greatest number of events.
 const EVENTS: usize = 100_000;
@@ -48,6 +53,106 @@ impl Reader {
         }
     }
 
+    /// Puts the event behind the others.
+    fn add(&mut self, event: Event) -> Result<(), LineRefusal>
+        ensures added { OnOk result (self.new ≡ more self.old event) }
+        ensures refused { IfErr result (λ e. e ≡ LineRefusal.NoMemory) }
+        ensures same { OnErr result (self.new ≡ self.old) }
+    {
+        match self.events.push(event) {
+            Ok(()) => Ok(()),
+            Err(_) => Err(LineRefusal::NoMemory),
+        }
+    }
+
+    /// Takes the Send whose fields start at `at`.
+    fn take_send(&mut self, pid: Pid, line: &[u8], at: usize) -> Result<(), LineRefusal>
+        ensures taken { MatchResult result (λ _. option_map (λ call. more self.old (events.Call pid call)) (send_of (words_from line.now at)) ≡ Some self.new)
+            (λ e. (e ≡ LineRefusal.NoMemory) ⊎ (send_of (words_from line.now at) ≡ None)) }
+        ensures same { OnErr result (self.new ≡ self.old) }
+    {
+        let Some((target, message)) = send_fields(line, at) else {
+            return Err(LineRefusal::Bad);
+        };
+        self.add(Event::Call {
+            pid,
+            call: Call::Send { target, message },
+        })
+    }
+
+    /// Takes the Receive, which has no fields.
+    fn take_receive(&mut self, pid: Pid, line: &[u8], at: usize) -> Result<(), LineRefusal>
+        ensures taken { MatchResult result (λ _. option_map (λ call. more self.old (events.Call pid call)) (ended (words_from line.now at) calls.Receive) ≡ Some self.new)
+            (λ e. (e ≡ LineRefusal.NoMemory) ⊎ (ended (words_from line.now at) calls.Receive ≡ None)) }
+        ensures same { OnErr result (self.new ≡ self.old) }
+    {
+        if !is_end(line, at) {
+            return Err(LineRefusal::Bad);
+        }
+        self.add(Event::Call {
+            pid,
+            call: Call::Receive,
+        })
+    }
+
+    /// Takes the Reply whose fields start at `at`.
+    fn take_reply(&mut self, pid: Pid, line: &[u8], at: usize) -> Result<(), LineRefusal>
+        ensures taken { MatchResult result (λ _. option_map (λ call. more self.old (events.Call pid call)) (reply_of (words_from line.now at)) ≡ Some self.new)
+            (λ e. (e ≡ LineRefusal.NoMemory) ⊎ (reply_of (words_from line.now at) ≡ None)) }
+        ensures same { OnErr result (self.new ≡ self.old) }
+    {
+        let Some((message, to)) = reply_fields(line, at) else {
+            return Err(LineRefusal::Bad);
+        };
+        self.add(Event::Call {
+            pid,
+            call: Call::Reply { message, to },
+        })
+    }
+
+    /// Takes the call of this word, which is none of these three, and of the fields from `at` on. It stays a function of
+    /// its own, so that these three, which are built in place, do not pay for its room.
+    #[inline(never)]
+    fn take_other(
+        &mut self,
+        pid: Pid,
+        word: &[u8],
+        line: &[u8],
+        at: usize,
+    ) -> Result<(), LineRefusal>
+        requires send { bytes_eq word.now (codes "send") ≡ false }
+        requires receive { bytes_eq word.now (codes "receive") ≡ false }
+        requires reply { bytes_eq word.now (codes "reply") ≡ false }
+        ensures taken { MatchResult result (λ _. option_map (λ call. more self.old (events.Call pid call)) (call_of (word.now ∷ words_from line.now at)) ≡ Some self.new)
+            (λ e. (e ≡ LineRefusal.NoMemory) ⊎ (call_of (word.now ∷ words_from line.now at) ≡ None)) }
+        ensures same { OnErr result (self.new ≡ self.old) }
+    {
+        let Some(call) = read_other_call(word, line, at) else {
+            return Err(LineRefusal::Bad);
+        };
+        self.add(Event::Call { pid, call })
+    }
+
+    /// Takes the call that starts at `at`.
+    fn take_call_of(&mut self, pid: Pid, line: &[u8], at: usize) -> Result<(), LineRefusal>
+        ensures taken { MatchResult result (λ _. option_map (λ call. more self.old (events.Call pid call)) (call_of (words_from line.now at)) ≡ Some self.new)
+            (λ e. (e ≡ LineRefusal.NoMemory) ⊎ (call_of (words_from line.now at) ≡ None)) }
+        ensures same { OnErr result (self.new ≡ self.old) }
+    {
+        let Some((word, at)) = next_word(line, at) else {
+            return Err(LineRefusal::Bad);
+        };
+        if word == b"send".as_slice() {
+            self.take_send(pid, line, at)
+        } else if word == b"receive".as_slice() {
+            self.take_receive(pid, line, at)
+        } else if word == b"reply".as_slice() {
+            self.take_reply(pid, line, at)
+        } else {
+            self.take_other(pid, word, line, at)
+        }
+    }
+
     /// Takes the event `PID CALLTEXT`, which starts at `at`.
     #[tactic(auto, unfolding(crate::specs::Schedule::call_event_of))]
     fn take_call(&mut self, line: &[u8], at: usize) -> Result<(), LineRefusal>
@@ -58,16 +163,10 @@ impl Reader {
         let Some((pid, at)) = next_pid(line, at) else {
             return Err(LineRefusal::Bad);
         };
-        let Some(call) = read_call(line, at) else {
-            return Err(LineRefusal::Bad);
-        };
         if !self.config.has_process(pid) {
             return Err(LineRefusal::Bad);
         }
-        match self.events.push(Event::Call { pid, call }) {
-            Ok(()) => Ok(()),
-            Err(_) => Err(LineRefusal::NoMemory),
-        }
+        self.take_call_of(pid, line, at)
     }
 
     /// Takes the event `PID` of a collect, which starts at `at`.
@@ -83,10 +182,7 @@ impl Reader {
         if !is_end(line, at) || !self.config.has_process(pid) {
             return Err(LineRefusal::Bad);
         }
-        match self.events.push(Event::Collect { pid }) {
-            Ok(()) => Ok(()),
-            Err(_) => Err(LineRefusal::NoMemory),
-        }
+        self.add(Event::Collect { pid })
     }
 
     /// Takes the event `H` of a tick, which starts at `at`.
@@ -102,10 +198,7 @@ impl Reader {
         if !is_end(line, at) || !self.config.has_station(host) {
             return Err(LineRefusal::Bad);
         }
-        match self.events.push(Event::Tick { host }) {
-            Ok(()) => Ok(()),
-            Err(_) => Err(LineRefusal::NoMemory),
-        }
+        self.add(Event::Tick { host })
     }
 
     /// Takes the event `TO FROM EVENT OUTPUT` of a delivery, which starts at `at`.
@@ -126,15 +219,12 @@ impl Reader {
         if !self.config.has_station(to) || !self.config.has_station(from) {
             return Err(LineRefusal::Bad);
         }
-        match self.events.push(Event::Deliver {
+        self.add(Event::Deliver {
             to,
             from,
             event,
             output,
-        }) {
-            Ok(()) => Ok(()),
-            Err(_) => Err(LineRefusal::NoMemory),
-        }
+        })
     }
 
     /// Takes the event of the line.

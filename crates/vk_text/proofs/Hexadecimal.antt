@@ -1,33 +1,26 @@
 -- Hexadecimal and messages.
-use Rattle.std.proofs.Common.{◌≡◌, ℕ, ◌-◌, ◌*◌, ◌/◌, ◌<◌, ◌≤◌, ◌==◌, ◌&&◌, not, nat_lt, nat_le, Bool, true, false, cond, List, [], ◌∷◌, ◌++◌, length, slice_index, take, drop, replicate, codes, bytes_eq, Option, Some, None, Result, Ok, Err, MatchResult, if◌then◌else◌, unwrap_or, ◌⊎◌, refl, arith, ap, sym, ◌∙◌, inl, inr, subst}
+use Rattle.std.proofs.Common.{◌≡◌, ℕ, ◌-◌, ◌*◌, ◌/◌, ◌<◌, ◌≤◌, ◌==◌, ◌&&◌, not, nat_lt, nat_le, Bool, true, false, cond, List, [], ◌∷◌, ◌++◌, length, slice_index, take, drop, replicate, codes, bytes_eq, Option, Some, None, if◌then◌else◌, unwrap_or, ◌⊎◌, refl, arith, ap, sym, ◌∙◌, inl, inr, subst}
 use Rattle.std.specs.Prelude.{option_map}
 use Rattle.std.specs.List.{list_all}
 use Rattle.std.specs.Result.{result_ok}
 use Rattle.std.proofs.lemmas.Bool.{cond-false, lt-leb, le-leb, le-ltb, and_right}
 use Rattle.std.proofs.lemmas.Grind.{common_steps}
 use Rattle.std.proofs.lemmas.List.{drop-replicate}
-use Rattle.hex.specs.Hex.{decode_of, decode_sized}
-use Rattle.hex.specs.declared.error.FromHexError.{FromHexError}
-use Rattle.hex.proofs.HexLemmas.{decode_of-ok, decode_sized-ok, decode_sized-twice}
+use Rattle.hex.specs.Hex.{decode_of}
+use Rattle.hex.proofs.HexLemmas.{decode_of-ok}
 use Rattle.vk_base.specs.Options.{◌>>=◌}
 use Rattle.vk_base.specs.declared.message.Message.{Message}
 use Rattle.vk_text.proofs.HexDigits.{ok_of}
 use Rattle.vk_text.specs.Words.{is_lower_hex, lower_hex, ends_filled, padded, message_of, bytes_of}
 
-written : (d : Result (List ℕ) FromHexError) (r : Result (Unit {0}) FromHexError) (out : List ℕ) → MatchResult d (λ bytes. (r ≡ Ok tt) × (out ≡ bytes)) (λ e. r ≡ Err e) → r ≡ Ok tt → d ≡ Ok out
-written (Ok bytes) r out h ok = ap Ok (sym h.1)
-written (Err e) r out h ok = cc
-
 pub half_room : (word : List ℕ) → length word ≤ 64 → length (take {A = ℕ} (length word / 2) (replicate 32 0)) ≡ length word / 2
 half_room word h = grind (arith, common_steps)
 
 -- what was decoded into the front of zeros is a message
-pub unhexed_is : (word out : List ℕ) (n : ℕ) (r : Result (Unit {0}) FromHexError) → list_all is_lower_hex word ≡ true → n ≡ length word / 2 → MatchResult (decode_sized word n) (λ bytes. (r ≡ Ok tt) × (out ≡ bytes)) (λ e. r ≡ Err e) → r ≡ Ok tt → length out ≡ length word / 2 → (let m : Message = record { 0 = out ++ drop {A = ℕ} (length word / 2) (replicate 32 0) } in Some m ≡ option_map padded (lower_hex word))
-unhexed_is word out n r lower half h ok len =
-    let sized : decode_sized word n ≡ Ok out = written (decode_sized word n) r out h ok in
-    let whole : decode_of word ≡ Ok out = sym (decode_sized-twice word n (decode_sized-ok word n out sized)) ∙ sized in
+pub unhexed_is : (word out : List ℕ) → lower_hex word ≡ Some out → length out ≡ length word / 2 → (let m : Message = record { 0 = out ++ drop {A = ℕ} (length word / 2) (replicate 32 0) } in Some m ≡ option_map padded (lower_hex word))
+unhexed_is word out read len =
     let zeros : drop {A = ℕ} (length word / 2) (replicate 32 0) ≡ replicate (32 - length out) 0 = drop-replicate (length word / 2) 32 0 ∙ ap (λ n. replicate (32 - n) 0) (sym len) in
-    rw (lower, whole, zeros) refl
+    rw (read, zeros) refl
 
 by_lower : (b : Bool) (word bytes : List ℕ) → cond b (result_ok (decode_of word)) None ≡ Some bytes → length word ≡ 2 * length bytes
 by_lower true word bytes h = (decode_of-ok word bytes (ok_of (decode_of word) bytes h)).2
@@ -83,10 +76,6 @@ none_counted word bytes twice (inr many) = cond-false _ _ _ (and_right _ _ (lt-l
 -- no list of bytes has as few digits, nor as many
 pub no_bytes : (word : List ℕ) → bytes_eq word (codes "-") ≡ false → (length word < 2) ⊎ (2048 < length word) → None ≡ bytes_of word
 no_bytes word h len = sym (no_dash_of_bytes word h ∙ by_read counted word (lower_hex word) refl (λ bytes twice. none_counted word bytes twice len))
-
--- no list of bytes has other digits
-pub no_lower : (word : List ℕ) → bytes_eq word (codes "-") ≡ false → list_all is_lower_hex word ≡ false → None ≡ bytes_of word
-no_lower word h other = sym (no_dash_of_bytes word h ∙ ap (λ (o : Option (List ℕ)). o >>= counted) (cond-false _ _ _ other))
 
 last_byte : (bytes zeros : List ℕ) (n : ℕ) → 0 < length bytes → n ≡ length bytes - 1 → slice_index (bytes ++ zeros) n ≡ slice_index bytes (length bytes - 1)
 last_byte bytes zeros n some h = grind (arith, common_steps)

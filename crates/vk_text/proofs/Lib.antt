@@ -1,5 +1,6 @@
 pub mod ByteLists
 pub mod CallWords
+pub mod Decoding
 pub mod Firsts
 pub mod Fronts
 pub mod HeadReading
@@ -10,6 +11,7 @@ pub mod LineTexts
 pub mod Messages
 pub mod Numerals
 pub mod Parts
+pub mod PidWords
 pub mod PlainWords
 pub mod ReadBack
 pub mod Spelled

@@ -7,7 +7,7 @@ use Rattle.std.proofs.lemmas.Int.Digits.{digits_value_more}
 use Rattle.std.proofs.lemmas.Str.{digit_value_digit}
 use Rattle.std.proofs.lemmas.Str.Parse.{digits_value-take-le}
 
-in_range : (d : ℕ) → is_ascii_digit d ≡ true → IsInRange 48 57 d
+pub in_range : (d : ℕ) → is_ascii_digit d ≡ true → IsInRange 48 57 d
 in_range d h = grind arith
 
 pub one_more_digit : (ds : List ℕ) (i : ℕ) → i < length ds → is_ascii_digit (get_or ds i 0) ≡ true → digits_value 10 (take (i + 1) ds) ≡ digits_value 10 (take i ds) * 10 + (get_or ds i 0 - 48)

@@ -1,11 +1,12 @@
 -- The first line of a text and the first word of a line.
-use Rattle.std.proofs.Common.{◌≡◌, ℕ, suc, ◌+◌, ◌<◌, ◌≤◌, Bool, true, false, cond, not, nat_lt, ◌==◌, List, [], ◌∷◌, length, take, drop, Some, None, refl, arith, ap, sym, ◌∙◌, subst, inl, inr}
+use Rattle.std.proofs.Common.{◌≡◌, ℕ, suc, ◌+◌, ◌<◌, ◌≤◌, Bool, true, false, cond, not, nat_lt, ◌==◌, List, [], ◌∷◌, length, take, drop, slice_index, Some, None, refl, arith, ap, sym, ◌∙◌, subst, inl, inr}
 use Rattle.std.specs.List.{slice_split, onto_first, position, position_or_len, before_first, after_first}
-use Rattle.std.proofs.lemmas.Bool.{true≢false, cases_lt, cond-true, cond-false, lt-ltb, le-ltb}
+use Rattle.std.proofs.lemmas.Bool.{true≢false, cases_lt, cases_Bool, cond-true, cond-false, lt-ltb, le-ltb}
 use Rattle.std.proofs.lemmas.List.{take_all, drop_all, length-take-le, length-drop, drop-drop}
 use Rattle.std.proofs.lemmas.List.Splits.{slice_split_first, slice_split_none, length-slice_split}
-use Rattle.std.proofs.lemmas.List.Sums.{fails_before_first, prefix_len-le-length}
+use Rattle.std.proofs.lemmas.List.Sums.{fails_before_first, position_or_len_is, prefix_len-le-length}
 use Rattle.std.proofs.lemmas.Option.{cond_some}
+use Rattle.memchr.specs.Find.{IsFirstByte, Passes, is_byte}
 use Rattle.vk_text.specs.Lines.{lines_of, words_from, is_end, StartsNoWord}
 
 -- what stands before a place that was found, and all where none was
@@ -22,6 +23,21 @@ front_all p xs h =
       | inl less ↦ let no : nat_lt (position_or_len p xs) (length xs) ≡ false = nowhere _ _ h in absurd (true≢false (sym (lt-ltb _ _ less) ∙ no))
       | inr past ↦ sym (take_all (position_or_len p xs) xs past)
     ]
+
+other_byte : (a : ℕ) (xs : List ℕ) (k : ℕ) → (Passes (is_byte a) xs k → ⊥) → (slice_index xs k == a) ≡ false
+other_byte a xs k h = elim (cases_Bool (slice_index xs k == a)) [
+  | inl same ↦ absurd (h same)
+  | inr other ↦ other
+]
+
+-- what stands before the first such byte that a search gives, and all where it gives none
+pub front_searched : (a : ℕ) (xs : List ℕ) (i : ℕ) → IsFirstByte (is_byte a) xs (Some i) → take i xs ≡ before_first (λ b. b == a) xs
+front_searched a xs i h =
+    ap (λ n. take n xs) (sym (position_or_len_is (λ b. b == a) xs i 0 (omega (arith, h.0.high)) (λ k less. other_byte a xs k (h.0.before k (omega arith) less)) (λ less. h.1)))
+
+pub all_searched : (a : ℕ) (xs : List ℕ) → IsFirstByte (is_byte a) xs None → xs ≡ before_first (λ b. b == a) xs
+all_searched a xs h =
+    sym (take_all (position_or_len (λ b. b == a) xs) xs (omega (arith, position_or_len_is (λ b. b == a) xs (length xs) 0 (omega arith) (λ k less. other_byte a xs k (h k (omega arith) less)) (λ less. absurd (omega arith)))))
 
 within : (p : ℕ → Bool) (xs : List ℕ) → length (before_first p xs) ≡ position_or_len p xs
 within p xs = length-take-le (position_or_len p xs) xs (prefix_len-le-length (λ x. not (p x)) xs)

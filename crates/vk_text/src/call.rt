@@ -1,13 +1,13 @@
 //! Calls as words of a line.
 
-ghost use Rattle.std.specs.Prelude.{◌≡◌, ◌∷◌, false, codes, bytes_eq};
+ghost use Rattle.std.specs.Prelude.{◌≡◌, ◌∷◌, false, codes, bytes_eq, option_map};
 ghost use Rattle.vk_base.specs.declared.call.Call.TheVariants as calls;
 ghost use Rattle.vk_text.specs.Calls.{ended, range_of, places_of, send_of, reply_of, range_call_of, reply_segment_of, move_of, set_pid_of, get_pid_of, store_of, call_of};
 ghost use Rattle.vk_text.specs.Lines.{words_from};
 
 use crate::line::next_word;
 use crate::next::{is_end, next_bytes, next_count, next_message, next_pid, next_scope};
-use vk_base::Call;
+use vk_base::{Call, Message, Pid};
 
 /// `None` where a word is left.
 fn end(line: &[u8], at: usize) -> Option<()>
@@ -39,25 +39,39 @@ fn read_places(line: &[u8], at: usize) -> Option<(u32, u32, u32)>
     Some((dest, src, count))
 }
 
-/// `PID M`
+/// The target and the message of a Send: `PID M`, up to the end of the line.
 #[tactic(auto, unfolding(crate::specs::Calls::send_of))]
-fn read_send(line: &[u8], at: usize) -> Option<Call>
-    ensures { result ≡ send_of (words_from line.now at) }
+pub fn send_fields(line: &[u8], at: usize) -> Option<(Pid, Message)>
+    ensures { option_map (λ f. calls.Send f.0 f.1) result ≡ send_of (words_from line.now at) }
 {
     let (target, at) = next_pid(line, at)?;
     let (message, at) = next_message(line, at)?;
     end(line, at)?;
-    Some(Call::Send { target, message })
+    Some((target, message))
 }
 
-/// `M PID`
+/// The message and the receiver of a Reply: `M PID`, up to the end of the line.
 #[tactic(auto, unfolding(crate::specs::Calls::reply_of))]
-fn read_reply(line: &[u8], at: usize) -> Option<Call>
-    ensures { result ≡ reply_of (words_from line.now at) }
+pub fn reply_fields(line: &[u8], at: usize) -> Option<(Message, Pid)>
+    ensures { option_map (λ f. calls.Reply f.0 f.1) result ≡ reply_of (words_from line.now at) }
 {
     let (message, at) = next_message(line, at)?;
     let (to, at) = next_pid(line, at)?;
     end(line, at)?;
+    Some((message, to))
+}
+
+fn read_send(line: &[u8], at: usize) -> Option<Call>
+    ensures { result ≡ send_of (words_from line.now at) }
+{
+    let (target, message) = send_fields(line, at)?;
+    Some(Call::Send { target, message })
+}
+
+fn read_reply(line: &[u8], at: usize) -> Option<Call>
+    ensures { result ≡ reply_of (words_from line.now at) }
+{
+    let (message, to) = reply_fields(line, at)?;
     Some(Call::Reply { message, to })
 }
 
@@ -174,10 +188,11 @@ fn read_exit(line: &[u8], at: usize) -> Option<Call>
     Some(Call::Exit)
 }
 
-/// The call of a word that is none of the three most frequent ones. It stays a function of its own, and leaves by `return`,
-/// so that neither a frequent call nor one of these pays for the room of the others.
+/// The call of this word, which is none of the three most frequent ones, and of the fields from `at` on. It stays a
+/// function of its own, and leaves by `return`, so that neither a frequent call nor one of these pays for the room of the
+/// others.
 #[inline(never)]
-fn read_other(word: &[u8], line: &[u8], at: usize) -> Option<Call>
+pub fn read_other_call(word: &[u8], line: &[u8], at: usize) -> Option<Call>
     requires send { bytes_eq word.now (codes "send") ≡ false }
     requires receive { bytes_eq word.now (codes "receive") ≡ false }
     requires reply { bytes_eq word.now (codes "reply") ≡ false }
@@ -226,6 +241,6 @@ pub fn read_call(line: &[u8], at: usize) -> Option<Call>
     } else if word == b"reply".as_slice() {
         read_reply(line, at)
     } else {
-        read_other(word, line, at)
+        read_other_call(word, line, at)
     }
 }

@@ -15,7 +15,7 @@ mod tests;
 mod word;
 mod writing;
 
-pub use call::read_call;
+pub use call::{read_call, read_other_call, reply_fields, send_fields};
 pub use heads::{Head, HeadRefusal, empty_config, heads_are_read_again, put_head, read_head};
 pub use law::{calls_are_spelled_once, words_are_spelled_once, written_is_read};
 pub use line::{next_line, next_word};

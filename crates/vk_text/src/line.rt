@@ -4,8 +4,10 @@ ghost use Rattle.std.specs.Prelude.{◌≡◌, ◌==◌, ◌+◌, ◌<◌, ◌�
 ghost use Rattle.std.specs.List.{before_first};
 ghost use Rattle.vk_text.specs.Lines.{lines_of, words_from, StartsNoWord};
 
+use memchr::memchr;
+
 /// Where the first such byte stands.
-pub fn place_of(bytes: &[u8], byte: u8) -> Option<usize>
+fn place_of(bytes: &[u8], byte: u8) -> Option<usize>
     ensures place { result ≡ position (λ b. b == byte) bytes.now }
     ensures within { IfSome result (λ at. at < length bytes.now) }
 {
@@ -25,7 +27,21 @@ fn before(bytes: &[u8], byte: u8) -> &[u8]
     }
 }
 
+/// The text up to its first line feed.
+fn first_line(text: &[u8]) -> &[u8]
+    ensures { result.now ≡ before_first (λ b. b == 10) text.now }
+{
+    match memchr(b'\n', text) {
+        Some(at) => {
+            let (line, _) = text.split_at(at);
+            line
+        }
+        None => text,
+    }
+}
+
 /// The line that starts at `at`, without its line feed, and where the next one starts. `None` exactly at the end.
+#[inline(always)]
 pub fn next_line(text: &[u8], at: usize) -> Option<(&[u8], usize)>
     ensures line { MatchOption result (lines_of (drop at text.now) ≡ [])
         (λ r. lines_of (drop at text.now) ≡ r.0.now ∷ lines_of (drop r.1 text.now)) }
@@ -35,7 +51,7 @@ pub fn next_line(text: &[u8], at: usize) -> Option<(&[u8], usize)>
         return None;
     }
     let (_, rest) = text.split_at(at);
-    let line = before(rest, b'\n');
+    let line = first_line(rest);
     let behind = at + line.len();
     if behind < text.len() {
         Some((line, behind + 1))

@@ -1,12 +1,12 @@
 //! Words and what they spell.
 
-ghost use Rattle.std.specs.Prelude.{◌≡◌, ◌==◌, ◌+◌, ◌-◌, ◌*◌, ◌^◌, ◌<◌, ◌≤◌, true, not, IsTrue, slice_index, length, SomeIff, IfSome, option_map};
+ghost use Rattle.std.specs.Prelude.{◌≡◌, ◌==◌, ◌+◌, ◌-◌, ◌*◌, ◌/◌, ◌^◌, ◌<◌, ◌≤◌, ◌&&◌, ◌||◌, ◌∷◌, [], None, Some, false, not, IsTrue, slice_index, length, take, MatchOption, SomeIff, IfSome, option_map};
 ghost use Rattle.std.specs.Char.{is_ascii_digit};
-ghost use Rattle.std.specs.List.{list_all};
+ghost use Rattle.std.specs.List.{list_all, prefix_len};
 ghost use Rattle.std.specs.Str.Parse.{digits_value};
+ghost use Rattle.hex.specs.Hex.{lower_digits, encode_lower};
 ghost use Rattle.vk_text.specs.Words.{number_of, positive_of, station_of, pid_of, is_lower_hex, lower_hex, padded, message_of, bytes_of, scope_of};
 
-use crate::line::place_of;
 use vk_base::{Data, Message, Pid, Scope};
 
 /// The number with one more digit, where the byte is a digit and the number is below 2^64.
@@ -30,13 +30,20 @@ fn value(digits: &[u8]) -> Option<u64>
     Some(value)
 }
 
+/// Whether there is a byte, and no `0` before others.
+fn starts_numeral(word: &[u8]) -> bool
+    ensures { result ≡ not (length word.now == 0) && (length word.now == 1 || not (slice_index word.now 0 == 48)) }
+{
+    !word.is_empty() && (word.len() == 1 || word[0] != b'0')
+}
+
 /// The number that the word spells, where it is at most `most`: decimal, without a sign or a leading zero.
 #[tactic(auto, unfolding(crate::specs::Words::number_of))]
 pub fn number(word: &[u8], most: u64) -> Option<u64>
     ensures gives { result ≡ number_of most word.now }
     ensures within { IfSome result (λ n. n ≤ most) }
 {
-    if word.is_empty() || (word.len() > 1 && word[0] == b'0') {
+    if !starts_numeral(word) {
         return None;
     }
     let value = value(word)?;
@@ -53,6 +60,51 @@ pub fn positive(word: &[u8], most: u64) -> Option<u64>
     if n > 0 { Some(n) } else { None }
 }
 
+/// The number of the digits that stand first, and how many they are. Leading zeros count. `None` only where the number is
+/// not of 16 bits.
+fn first_digits(bytes: &[u8]) -> Option<(u32, usize)>
+    ensures value { MatchOption result (2 ^ 16 ≤ digits_value 10 (take (prefix_len is_ascii_digit bytes.now) bytes.now))
+        (λ r. (r.1 ≡ prefix_len is_ascii_digit bytes.now) × (r.0 ≡ digits_value 10 (take r.1 bytes.now))) }
+    ensures digits { IfSome result (λ r. IsTrue (list_all is_ascii_digit (take r.1 bytes.now))) }
+    ensures within { IfSome result (λ r. r.1 ≤ length bytes.now) }
+{
+    let mut value = 0u32;
+    for (len, byte) in bytes.iter().enumerate() {
+        if !byte.is_ascii_digit() {
+            return Some((value, len));
+        }
+        if value > 6553 {
+            return None;
+        }
+        value = value * 10 + u32::from(*byte - b'0');
+    }
+    Some((value, bytes.len()))
+}
+
+/// The number of 16 bits that all the digits spell that stand first, and how many they are.
+#[tactic(auto, unfolding(crate::specs::Words::number_of))]
+fn first_short(bytes: &[u8]) -> Option<(u16, usize)>
+    ensures number { MatchOption result (number_of 65535 (take (prefix_len is_ascii_digit bytes.now) bytes.now) ≡ None)
+        (λ r. (r.1 ≡ prefix_len is_ascii_digit bytes.now) × (number_of 65535 (take r.1 bytes.now) ≡ Some r.0)) }
+    ensures within { IfSome result (λ r. r.1 ≤ length bytes.now) }
+{
+    let (value, len) = first_digits(bytes)?;
+    let (digits, _) = bytes.split_at(len);
+    if !starts_numeral(digits) || value > 65535 {
+        return None;
+    }
+    Some((value as u16, len))
+}
+
+/// The number of 16 bits that the word spells.
+#[tactic(auto, using(crate::proofs::PidWords::more_than_digits, crate::proofs::PidWords::digits_alone, crate::proofs::PidWords::bad_digits))]
+fn short(word: &[u8]) -> Option<u16>
+    ensures { result ≡ number_of 65535 word.now }
+{
+    let (number, len) = first_short(word)?;
+    if len < word.len() { None } else { Some(number) }
+}
+
 /// The station that the word spells: a number from 1 to 65,534.
 pub fn station(word: &[u8]) -> Option<u16>
     ensures { result ≡ station_of word.now }
@@ -65,24 +117,48 @@ pub fn station(word: &[u8]) -> Option<u16>
 pub fn pid(word: &[u8]) -> Option<Pid>
     ensures { result ≡ pid_of word.now }
 {
-    let point = place_of(word, b'.')?;
-    let (host, _) = word.split_at(point);
+    let (host, point) = first_short(word)?;
+    if point >= word.len() || word[point] != b'.' {
+        return None;
+    }
     let (_, local) = word.split_at(point + 1);
-    let host = number(host, 65535)?;
-    let local = number(local, 65535)?;
-    Pid::new(host as u16, local as u16)
+    let local = short(local)?;
+    Pid::new(host, local)
 }
 
-fn is_lower_hex(c: u8) -> bool
-    ensures { result ≡ is_lower_hex c }
+/// The value of a lower-case hexadecimal digit.
+fn digit(c: u8) -> Option<u8>
+    ensures shown { MatchOption result (is_lower_hex c ≡ false) (λ d. slice_index lower_digits d ≡ c) }
+    ensures within { IfSome result (λ d. d < 16) }
 {
-    c.is_ascii_digit() || (b'a'..=b'f').contains(&c)
+    if c.is_ascii_digit() {
+        Some(c - b'0')
+    } else if (b'a'..=b'f').contains(&c) {
+        Some(c - b'a' + 10)
+    } else {
+        None
+    }
 }
 
-fn all_lower_hex(word: &[u8]) -> bool
-    ensures { result ≡ list_all is_lower_hex word.now }
+/// The byte of two digits.
+fn byte(high: u8, low: u8) -> Option<u8>
+    ensures { MatchOption result ((is_lower_hex high && is_lower_hex low) ≡ false) (λ b. encode_lower (b ∷ []) ≡ high ∷ low ∷ []) }
 {
-    word.iter().all(|c| is_lower_hex(*c))
+    Some(digit(high)? * 16 + digit(low)?)
+}
+
+/// Writes the bytes of this lower-case hexadecimal, or some of those before what is none.
+fn unhex(word: &[u8], into: &mut [u8]) -> Option<()>
+    requires { length into.old ≡ length word.now / 2 }
+    ensures { MatchOption result (lower_hex word.now ≡ None) (λ _. lower_hex word.now ≡ Some into.new) }
+{
+    if word.len() % 2 != 0 {
+        return None;
+    }
+    for place in 0..into.len() {
+        into[place] = byte(word[2 * place], word[2 * place + 1])?;
+    }
+    Some(())
 }
 
 /// The bytes of this lower-case hexadecimal, at most 32, and zeros behind.
@@ -90,15 +166,10 @@ fn unhexed(word: &[u8]) -> Option<Message>
     requires { length word.now ≤ 64 }
     ensures { result ≡ option_map padded (lower_hex word.now) }
 {
-    if !all_lower_hex(word) {
-        return None;
-    }
     let mut bytes = [0u8; 32];
     let half = word.len() / 2;
-    match hex::decode_to_slice(word, &mut bytes[..half]) {
-        Ok(()) => Some(Message(bytes)),
-        Err(_) => None,
-    }
+    unhex(word, &mut bytes[..half])?;
+    Some(Message(bytes))
 }
 
 /// Whether the last of the first `len` bytes is not 0.
@@ -138,15 +209,13 @@ pub fn bytes(word: &[u8]) -> Option<Data>
     if word == b"-".as_slice() {
         return Some(Data::empty());
     }
-    if word.len() < 2 || word.len() > 2048 || !all_lower_hex(word) {
+    if word.len() < 2 || word.len() > 2048 {
         return None;
     }
     let mut bytes = [0u8; 1024];
     let half = word.len() / 2;
-    match hex::decode_to_slice(word, &mut bytes[..half]) {
-        Ok(()) => Data::new(&bytes[..half]),
-        Err(_) => None,
-    }
+    unhex(word, &mut bytes[..half])?;
+    Data::new(&bytes[..half])
 }
 
 /// The scope that the word spells: `local`, `remote` or `both`.
