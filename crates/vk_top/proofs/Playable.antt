@@ -1,5 +1,5 @@
 -- What holds of a schedule that can be played.
-use Rattle.std.proofs.Common.{◌≡◌, ℕ, suc, ◌+◌, ◌≤◌, ◌==◌, ◌&&◌, not, Bool, true, false, cond, List, [], ◌∷◌, length, nat_lt, Option, Some, None, option_map, Ok, refl, sym, arith}
+use Rattle.std.proofs.Common.{◌≡◌, ℕ, suc, subst, ◌+◌, ◌≤◌, ◌==◌, ◌&&◌, not, Bool, true, false, cond, List, [], ◌∷◌, length, nat_lt, Option, Some, None, option_map, Ok, refl, sym, arith}
 use Rattle.std.proofs.lemmas.Bool.{and_from, and_parts, le-ltb}
 use borrow.Author.Tests.{ltb-false}
 use Rattle.std.proofs.lemmas.Option.{none-some}
@@ -10,6 +10,7 @@ use Rattle.vk_base.specs.declared.config.ProcessSpec.{ProcessSpec}
 use Rattle.vk_event.specs.declared.event.Event.{Event}
 use Rattle.vk_event.specs.declared.schedule.Schedule.{Schedule}
 use Rattle.vk_event.specs.declared.schedule.TextRefusal.{TextRefusal}
+use Rattle.vk_event.proofs.Lawfulness.{front_is_lawful}
 use Rattle.vk_event.specs.Lawful.{has_actors}
 use Rattle.vk_event.specs.Schedule.{front_of, schedule_of, whole}
 use Rattle.vk_top.specs.Forms.{is_built_event, is_built_process, unbuilt_line, playable_by, playable_of, IsPlayable}
@@ -82,3 +83,14 @@ by_parts s t None None h = h
 
 pub front_is_whole : (text : List ℕ) (s : Schedule) → playable_of text ≡ Ok s → schedule_of text ≡ Ok s
 front_is_whole text s h = by_parts (front_of text).schedule s (unbuilt_line (front_of text).schedule) (front_of text).refused h
+
+-- and it keeps to what is asked of one
+no_unbuilt : (s t : Schedule) (line : Option ℕ) (refused : Option TextRefusal) → playable_by s line refused ≡ Ok t → (s ≡ t) × (line ≡ None)
+no_unbuilt s t (Some n) refused h = cc
+no_unbuilt s t None (Some why) h = cc
+no_unbuilt s t None None h = (cc, refl)
+
+pub is_playable : (text : List ℕ) (s : Schedule) → playable_of text ≡ Ok s → IsPlayable s
+is_playable text s h =
+    let same = no_unbuilt (front_of text).schedule s (unbuilt_line (front_of text).schedule) (front_of text).refused h in
+    subst IsPlayable same.0 (record { lawful = front_is_lawful text; built = same.1 })

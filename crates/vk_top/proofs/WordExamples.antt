@@ -15,7 +15,7 @@ replay : asked_of (codes "replay" ∷ []) ≡ Some (asked.Replay forms.Report)
 unfolding clap_on_literals
 replay = refl
 
-check : asked_of (codes "check" ∷ []) ≡ None
+check : asked_of (codes "check" ∷ []) ≡ Some asked.Check
 unfolding clap_on_literals
 check = refl
 
@@ -82,6 +82,10 @@ replay-three = refl
 check-trace : asked_of (codes "check" ∷ codes "--trace" ∷ []) ≡ None
 unfolding clap_on_literals
 check-trace = refl
+
+check-trace_before : asked_of (codes "--trace" ∷ codes "check" ∷ []) ≡ None
+unfolding clap_on_literals
+check-trace_before = refl
 
 check-number : asked_of (codes "check" ∷ codes "1" ∷ []) ≡ None
 unfolding clap_on_literals

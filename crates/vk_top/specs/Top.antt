@@ -1,22 +1,30 @@
 -- What the top call answers and writes.
 use Rattle.std.specs.Prelude.{ℕ, ◌≡◌, ◌<◌, ◌≤◌, ◌⊎◌, nat_lt, List, [], length, map, Option, Some, None, Result, Ok, Err, if◌then◌else◌}
 use Rattle.std.specs.Io.KnownBytes.{Appends}
+use Rattle.v_trace.specs.Traces.{trace_of}
+use Rattle.v_trace.specs.declared.trace.Trace.{Trace}
+use Rattle.v_trace.specs.declared.trace.TraceRefusal.{TraceRefusal}
+use Rattle.v_trace.specs.declared.trace.TraceRefusal.TheVariants as traces
 use Rattle.vk_event.specs.declared.schedule.Schedule.{Schedule}
 use Rattle.vk_event.specs.declared.schedule.TextRefusal.{TextRefusal}
-use Rattle.vk_event.specs.declared.schedule.TextRefusal.TheVariants as refusals
+use Rattle.vk_event.specs.declared.schedule.TextRefusal.TheVariants as schedules
 use Rattle.vk_event.specs.Schedule.{schedule_of}
 use Rattle.vk_host.specs.Entries.{IsRunOf}
+use Rattle.vk_top.specs.declared.check.Verdict.{Verdict}
+use Rattle.vk_top.specs.declared.check.Verdict.TheVariants as verdicts
 use Rattle.vk_top.specs.declared.status.Status.{Status}
 use Rattle.vk_top.specs.declared.status.Status.TheVariants as status
 use Rattle.vk_top.specs.declared.words.Asked.{Asked}
 use Rattle.vk_top.specs.declared.words.Asked.TheVariants as asked
 use Rattle.vk_top.specs.declared.report.Form.{Form}
+use Rattle.vk_top.specs.Check.{IsNo, IsTooMuch, IsYes, verdict_of, verdict_text}
 use Rattle.vk_top.specs.Forms.{playable_of}
 use Rattle.vk_top.specs.Report.{station_event, output_text}
 
 -- the input is the text of a schedule, and its report or its trace is written; the steps in it are a run of the one-machine
 -- kernel, with exactly the observations of the processes
 pub record IsReplayed (form : Form) (input : List ℕ) (old new : Option (List ℕ)) : Type 0 where
+  pub small : length input ≤ 16777216
   pub schedule : Schedule
   pub text : schedule_of input ≡ Ok schedule
   pub output : Appends old new (output_text form schedule)
@@ -24,34 +32,79 @@ pub record IsReplayed (form : Form) (input : List ℕ) (old new : Option (List �
 
 abbrev pub IsDone : Asked → List ℕ → Option (List ℕ) → Option (List ℕ) → Type 0
 IsDone (asked.Replay form) input old new = IsReplayed form input old new
+IsDone asked.Check input old new = IsYes input old new
 
--- there are too many bytes, or too many events
-abbrev pub IsOverLimit : List ℕ → Type 0
-IsOverLimit input = (16777216 < length input) ⊎ (playable_of input ≡ Err refusals.Limit)
+abbrev pub IsNotARun : Asked → List ℕ → ℕ → Option (List ℕ) → Option (List ℕ) → Type 0
+IsNotARun (asked.Replay form) input step old new = ⊥
+IsNotARun asked.Check input step old new = IsNo input step old new
 
--- the line is the first that is bad or not built
-pub record IsBadAt (input : List ℕ) (line : ℕ) : Type 0 where
+-- the line is the first of the text that is bad, or, of a schedule, not built
+abbrev pub IsBadLine : Asked → List ℕ → ℕ → Type 0
+IsBadLine (asked.Replay form) input line = playable_of input ≡ Err (schedules.BadInput line)
+IsBadLine asked.Check input line = trace_of input ≡ Err (traces.BadInput line)
+
+pub record IsBadAt (a : Asked) (input : List ℕ) (line : ℕ) : Type 0 where
   pub small : length input ≤ 16777216
-  pub bad : playable_of input ≡ Err (refusals.BadInput line)
+  pub bad : IsBadLine a input line
 
-abbrev pub status_by : Result Schedule TextRefusal → Status
-status_by (Ok schedule) = status.Done
-status_by (Err (refusals.BadInput line)) = status.BadInput line
-status_by (Err refusals.Limit) = status.Limit
-status_by (Err refusals.NoMemory) = status.NoMemory
+-- there are too many bytes; or too many events in a schedule; or a trace that notes too much for remote moves
+abbrev pub IsOverLimit : Asked → List ℕ → Type 0
+IsOverLimit (asked.Replay form) input = (16777216 < length input) ⊎ (playable_of input ≡ Err schedules.Limit)
+IsOverLimit asked.Check input = (16777216 < length input) ⊎ IsTooMuch input
+
+-- what a schedule asks for; only code can want memory, so that no text has this refusal
+abbrev pub replay_status : Result Schedule TextRefusal → Status
+replay_status (Ok schedule) = status.Done
+replay_status (Err (schedules.BadInput line)) = status.BadInput line
+replay_status (Err schedules.Limit) = status.Limit
+replay_status (Err schedules.NoMemory) = status.NoMemory
+
+abbrev pub replay_output : Form → Result Schedule TextRefusal → List ℕ
+replay_output form (Ok schedule) = output_text form schedule
+replay_output form (Err why) = []
+
+-- what a trace asks for, likewise
+abbrev pub verdict_status : Verdict → Status
+verdict_status (verdicts.Run steps) = status.Done
+verdict_status (verdicts.Refused step) = status.NotARun step
+verdict_status verdicts.TooMuch = status.Limit
+
+abbrev pub check_status : Result Trace TraceRefusal → Status
+check_status (Ok trace) = verdict_status (verdict_of trace)
+check_status (Err (traces.BadInput line)) = status.BadInput line
+check_status (Err traces.NoMemory) = status.NoMemory
+
+abbrev pub check_output : Result Trace TraceRefusal → List ℕ
+check_output (Ok trace) = verdict_text (verdict_of trace)
+check_output (Err why) = []
+
+abbrev pub text_status : Asked → List ℕ → Status
+text_status (asked.Replay form) text = replay_status (playable_of text)
+text_status asked.Check text = check_status (trace_of text)
+
+abbrev pub text_output : Asked → List ℕ → List ℕ
+text_output (asked.Replay form) text = replay_output form (playable_of text)
+text_output asked.Check text = check_output (trace_of text)
 
 -- what the input asks for where nothing fails
-abbrev pub status_of : List ℕ → Status
-status_of input = if nat_lt 16777216 (length input) then status.Limit else status_by (playable_of input)
-
-abbrev pub output_by : Form → Result Schedule TextRefusal → List ℕ
-output_by form (Ok schedule) = output_text form schedule
-output_by form (Err why) = []
+abbrev pub status_of : Asked → List ℕ → Status
+status_of a input = if nat_lt 16777216 (length input) then status.Limit else text_status a input
 
 -- what is to be written
 abbrev pub output_of : Option Asked → List ℕ → List ℕ
 output_of None input = []
-output_of (Some (asked.Replay form)) input = output_by form (playable_of input)
+output_of (Some a) input = if nat_lt 16777216 (length input) then [] else text_output a input
+
+-- the answers at which all is written
+abbrev pub IsTold : Status → Type 0
+IsTold status.Done = Unit {0}
+IsTold (status.NotARun step) = Unit {0}
+IsTold status.Usage = ⊥
+IsTold (status.BadInput line) = ⊥
+IsTold status.ReadFault = ⊥
+IsTold status.WriteFault = ⊥
+IsTold status.NoMemory = ⊥
+IsTold status.Limit = ⊥
 
 -- the answers at which nothing is written
 abbrev pub IsEarly : Status → Type 0
@@ -60,5 +113,6 @@ IsEarly (status.BadInput line) = Unit {0}
 IsEarly status.ReadFault = Unit {0}
 IsEarly status.Limit = Unit {0}
 IsEarly status.Done = ⊥
+IsEarly (status.NotARun step) = ⊥
 IsEarly status.WriteFault = ⊥
 IsEarly status.NoMemory = ⊥

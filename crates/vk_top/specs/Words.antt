@@ -1,7 +1,7 @@
 -- What the program's words ask for. They are read by clap, whose own definitions say what one command makes of its words:
 -- `fault_of` lists the kinds of error with which it refuses them, of which memory is none, and is empty where it takes them;
 -- `matches_of` has what it found of each argument, and `first_of` is the first value of an argument there.
-use Rattle.std.specs.Prelude.{Bool, true, false, List, codes, bytes_eq, Option, Some, None, if◌then◌else◌}
+use Rattle.std.specs.Prelude.{Bool, true, false, ◌&&◌, not, List, codes, bytes_eq, Option, Some, None, if◌then◌else◌}
 use Rattle.std.specs.Option.{option_map_or}
 use Rattle.clap.specs.Faults.{fault_of}
 use Rattle.clap.specs.Simple.{App, Shape, matches_of, new_app, new_rule, on_top, with_rule}
@@ -32,7 +32,9 @@ the_app = with_rule (with_rule (with_rule (on_top with_settings (new_app (codes 
 -- the table: what a command asks for, with or without `--trace`; none of them goes with a number
 abbrev pub asked_for : Option Text → Bool → Option Text → Option Asked
 asked_for (Some word) has_trace None =
-    if bytes_eq word (codes "replay") then Some (asked.Replay (if has_trace then forms.Trace else forms.Report)) else None
+    if bytes_eq word (codes "replay") then Some (asked.Replay (if has_trace then forms.Trace else forms.Report))
+    else if bytes_eq word (codes "check") && not has_trace then Some asked.Check
+    else None
 asked_for word has_trace n = None
 
 -- the value of a flag is `true` where it was given, else `false`

@@ -11,6 +11,8 @@ const MOST: usize = 96;
 pub enum Status {
     /// All was read and written.
     Done,
+    /// This step of a trace, counted from 1, is the first that is not allowed. That was written.
+    NotARun { step: u64 },
     /// The words ask for nothing that the program does.
     Usage,
     /// This line, counted from 1, is the first that is not valid.
@@ -21,19 +23,20 @@ pub enum Status {
     WriteFault,
     /// There was no memory for the work.
     NoMemory,
-    /// The input has too many bytes or events.
+    /// The input has too many bytes or events, or notes too many bytes for remote moves.
     Limit,
 }
 
 impl Status {
     ghost use Rattle.vk_top.specs.Statuses.{number_of, text_of};
 
-    /// The status with which the program exits: 0 for `Done`, 2 to 8 for the others.
+    /// The status with which the program exits: 0 for `Done`, else 1 to 6 or 8.
     pub fn number(&self) -> u8
         ensures { result ≡ number_of self.now }
     {
         match self {
             Status::Done => 0,
+            Status::NotARun { .. } => 1,
             Status::Usage => 2,
             Status::BadInput { .. } => 3,
             Status::ReadFault => 4,
@@ -49,10 +52,11 @@ impl Status {
     {
         match *self {
             Status::Done => ArrayVec::new(),
+            Status::NotARun { step } => numbered(b"vkernel: step ", step, b" is not allowed"),
             Status::Usage => {
                 words(b"vkernel: usage: vkernel replay [--trace] | check | run | storm N")
             }
-            Status::BadInput { line } => line_text(line),
+            Status::BadInput { line } => numbered(b"vkernel: line ", line, b" is not valid"),
             Status::ReadFault => words(b"vkernel: reading failed"),
             Status::WriteFault => words(b"vkernel: writing failed"),
             Status::NoMemory => words(b"vkernel: out of memory"),
@@ -81,12 +85,14 @@ fn words(bytes: &[u8]) -> ArrayVec<u8, MOST>
     text
 }
 
-fn line_text(line: u64) -> ArrayVec<u8, MOST>
-    ensures { result.items ≡ codes "vkernel: line " ++ decimal line ++ codes " is not valid" }
+/// A text with a number in its midst.
+fn numbered(before: &[u8], number: u64, behind: &[u8]) -> ArrayVec<u8, MOST>
+    requires { length before.now + length behind.now ≤ 76 }
+    ensures { result.items ≡ before.now ++ decimal number ++ behind.now }
 {
-    let mut text = words(b"vkernel: line ");
+    let mut text = words(before);
     let mut buffer = Buffer::new();
-    put(&mut text, buffer.format(line).as_bytes());
-    put(&mut text, b" is not valid");
+    put(&mut text, buffer.format(number).as_bytes());
+    put(&mut text, behind);
     text
 }

@@ -15,6 +15,8 @@ use vk_base::NoMemory;
 pub(crate) enum Asked {
     /// `replay`, with `--trace` for the trace: a schedule is read, and this is written of it.
     Replay { form: Form },
+    /// `check`: a trace is read, and whether its steps are a run is written.
+    Check,
 }
 
 /// The one command that the words are read as.
@@ -42,6 +44,7 @@ fn asked_for(command: Option<&str>, has_trace: bool, number: Option<&str>) -> Op
     match (command, number) {
         (Some("replay"), None) if has_trace => Some(Asked::Replay { form: Form::Trace }),
         (Some("replay"), None) => Some(Asked::Replay { form: Form::Report }),
+        (Some("check"), None) if !has_trace => Some(Asked::Check),
         _ => None,
     }
 }
