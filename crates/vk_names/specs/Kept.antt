@@ -1,0 +1,7 @@
+-- What the names of a station keep to.
+use Rattle.std.specs.Prelude.{Bool, ◌==◌}
+use Rattle.vk_base.specs.declared.kernel.Registration.{Registration}
+
+-- both stand under one logical id
+abbrev pub same_id : Registration → Registration → Bool
+same_id a b = a.logical == b.logical
