@@ -1,0 +1,4 @@
+mod Homes
+mod Keeping
+mod Once
+mod Told
