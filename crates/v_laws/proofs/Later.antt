@@ -14,12 +14,12 @@ use Rattle.vk_base.specs.declared.pid.Pid.{Pid}
 use Rattle.vk_base.specs.declared.step.Step.{Step}
 use Rattle.vk_base.specs.declared.step.Step.TheVariants as steps
 use Rattle.vk_base.specs.Calls.{Effect, sent, sent_exchange}
-use Rattle.vk_base.specs.Kernel.{Kernel, name_of, same_name, is_ready, is_posted, is_queued, is_open}
+use Rattle.vk_base.specs.Kernel.{Kernel, name_of, same_name, is_ready, is_posted, is_queued, is_at_target}
 use Rattle.vk_base.specs.Pids.{same_pid, same_host}
 use Rattle.vk_base.specs.Steps.{Run, effect, run, arriving, with_arrival, after_arrival}
 use Rattle.vk_base.proofs.OptionLemmas.{bind_is}
 use Rattle.v_laws.specs.Sound.{IsSound, is_settled}
-use Rattle.v_laws.proofs.Changes.{posted_not_settled, process_self, exchange_self, ProcessOn, ExchangeOn, StageOn, settled_stays, open_not_settled}
+use Rattle.v_laws.proofs.Changes.{posted_not_settled, process_self, exchange_self, ProcessOn, ExchangeOn, StageOn, settled_stays, at_target_not_settled}
 use Rattle.v_laws.proofs.Queues.{fresh}
 use Rattle.v_laws.proofs.Related.{Related, related_before, related_after, related_self, related_put_process}
 use Rattle.v_laws.proofs.SoundArrive.{ArrivalOn, before_arrival, arrival_is, is_there}
@@ -69,7 +69,7 @@ processes_later s k l (IsStep.arrives name e is g after) q = subst (λ (z : Kern
 pub data Becomes (k : Kernel) (s : Step) (n : Name) (x after : Exchange) : Type 0 where
   goes : ExchangeOn k s n x after → Becomes k s n x after
   arrives : s ≡ steps.Arrive n.sender n.number → is_posted x.stage ≡ true → after ≡ record x { stage = stages.Queued } → Becomes k s n x after
-  overtaken : (number : ℕ) → s ≡ steps.Arrive n.sender number → n.number < number → (is_posted x.stage || is_open x.stage) ≡ true → after ≡ record x { stage = stages.Dropped } → Becomes k s n x after
+  overtaken : (number : ℕ) → s ≡ steps.Arrive n.sender number → n.number < number → (is_posted x.stage || is_at_target x.stage) ≡ true → after ≡ record x { stage = stages.Dropped } → Becomes k s n x after
 
 -- A Send that makes the exchange.
 pub record IsNew (k : Kernel) (s : Step) (n : Name) (y : Exchange) : Type 0 where
@@ -87,7 +87,7 @@ arrival_becomes k s name e n x y is g at (ArrivalOn.here t after) =
     let same = same_name_is n name t in
     Becomes.arrives (is ∙ ap (λ (z : Name). steps.Arrive z.sender z.number) (sym same)) (ap (λ (z : Exchange). is_posted z.stage) (is_there k name e n x g at t) ∙ (arriving_is k name e g).posted) after
 arrival_becomes k s name e n x y is g at (ArrivalOn.older f t after) =
-    let live = and_parts (same_pid n.sender name.sender && nat_lt n.number name.number && same_host x.target e.target) (is_posted x.stage || is_open x.stage) t in
+    let live = and_parts (same_pid n.sender name.sender && nat_lt n.number name.number && same_host x.target e.target) (is_posted x.stage || is_at_target x.stage) t in
     let near = and_parts (same_pid n.sender name.sender && nat_lt n.number name.number) (same_host x.target e.target) live.0 in
     let first = and_parts (same_pid n.sender name.sender) (nat_lt n.number name.number) near.0 in
     Becomes.overtaken name.number (is ∙ ap (λ r. steps.Arrive r name.number) (sym (same_pid_is n.sender name.sender first.0))) (ltb-true n.number name.number first.1) live.1 after
@@ -194,10 +194,10 @@ stage_rank k s n x y (StageOn.dropped a t e) =
     let later : rank y.stage ≡ 3 = ap rank e in
     omega arith
 
-live_not_settled : (s : Stage) → (is_posted s || is_open s) ≡ true → is_settled s ≡ false
-live_not_settled s t = elim (or_cases (is_posted s) (is_open s) t) [
+live_not_settled : (s : Stage) → (is_posted s || is_at_target s) ≡ true → is_settled s ≡ false
+live_not_settled s t = elim (or_cases (is_posted s) (is_at_target s) t) [
   | inl p ↦ posted_not_settled s p
-  | inr o ↦ open_not_settled s o
+  | inr o ↦ at_target_not_settled s o
 ]
 
 -- another stage that is no lower, of an exchange that is not settled

@@ -3,6 +3,14 @@ pub mod Changes
 pub mod FilterLemmas
 pub mod Held
 pub mod Later
+pub mod MoveLists
+pub mod MoveSteps
+pub mod MoveMemory
+mod MoveExamples
+pub mod MoveKept
+pub mod MoveWritten
+pub mod MovePlaces
+pub mod MoveLemmas
 pub mod OnceLemmas
 pub mod OneHeld
 pub mod Options

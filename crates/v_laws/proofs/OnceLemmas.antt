@@ -10,14 +10,14 @@ use Rattle.vk_base.specs.declared.pid.Pid.{Pid}
 use Rattle.vk_base.specs.declared.step.Step.{Step}
 use Rattle.vk_base.specs.declared.step.Step.TheVariants as steps
 use Rattle.vk_base.specs.Calls.{Effect, unseen}
-use Rattle.vk_base.specs.Kernel.{◌>>=◌, Kernel, opening, name_of, same_name, is_open}
+use Rattle.vk_base.specs.Kernel.{◌>>=◌, Kernel, initial_kernel, name_of, same_name, is_at_target}
 use Rattle.vk_base.specs.Pids.{same_host}
 use Rattle.vk_base.specs.Steps.{Run, Taking, run, arriving, with_arrival, taking, taken}
 use Rattle.vk_base.proofs.OptionLemmas.{bind_is}
 use Rattle.v_laws.specs.Places.{before, taken_by, taken_at}
 use Rattle.v_laws.specs.Reached.{IsReached}
 use Rattle.v_laws.specs.Sound.{IsSound, is_settled}
-use Rattle.v_laws.proofs.Changes.{open_not_posted, open_not_settled}
+use Rattle.v_laws.proofs.Changes.{at_target_not_posted, at_target_not_settled}
 use Rattle.v_laws.proofs.Later.{ExchangesGoOn, rank, posted_rank, queued_rank, exchange_later, becomes_later, later_self, later_on, after_arrived}
 use Rattle.v_laws.proofs.PlaceLemmas.{at_place, before_after, step_at, onward}
 use Rattle.v_laws.proofs.Queues.{taken_was_queued}
@@ -45,7 +45,7 @@ never_back specs ss i j k l n x y up at_i at_j is_x is_y =
 queued_there : (k : Kernel) (name : Name) (e : Exchange) → k.exchanges name ≡ Some e → (with_arrival k name e).exchanges name ≡ Some (record e { stage = stages.Queued })
 queued_there k name e at = after_arrived k name e name e at ∙ ap (λ (x : Exchange). Some x) (cond-true (same_name name name) (record e { stage = stages.Queued }) _ (same_name_self name))
 
-arrives_again : (specs : List ProcessSpec) (ss : List Step) (r : Run) (i j : ℕ) (sender : Pid) (number : ℕ) → run (opening specs) ss ≡ Some r → slice_get ss i ≡ Some (steps.Arrive sender number) → slice_get ss j ≡ Some (steps.Arrive sender number) → i < j → ⊥
+arrives_again : (specs : List ProcessSpec) (ss : List Step) (r : Run) (i j : ℕ) (sender : Pid) (number : ℕ) → run (initial_kernel specs) ss ≡ Some r → slice_get ss i ≡ Some (steps.Arrive sender number) → slice_get ss j ≡ Some (steps.Arrive sender number) → i < j → ⊥
 arrives_again specs ss r i j sender number g is_i is_j less =
     let name = name_of sender number in
     let a = step_at specs ss r i (steps.Arrive sender number) g is_i in
@@ -60,7 +60,7 @@ arrives_again specs ss r i j sender number g is_i is_j less =
     let low = posted_rank y.0.stage second.posted in
     absurd (omega arith)
 
-pub arrives_once : (specs : List ProcessSpec) (ss : List Step) (r : Run) (i j : ℕ) (sender : Pid) (number : ℕ) → run (opening specs) ss ≡ Some r → slice_get ss i ≡ Some (steps.Arrive sender number) → slice_get ss j ≡ Some (steps.Arrive sender number) → i ≡ j
+pub arrives_once : (specs : List ProcessSpec) (ss : List Step) (r : Run) (i j : ℕ) (sender : Pid) (number : ℕ) → run (initial_kernel specs) ss ≡ Some r → slice_get ss i ≡ Some (steps.Arrive sender number) → slice_get ss j ≡ Some (steps.Arrive sender number) → i ≡ j
 arrives_once specs ss r i j sender number g is_i is_j = elim (cases_order i j) [
   | inl same ↦ same
   | inr other ↦ elim other [
@@ -134,17 +134,17 @@ taken_once specs ss i j n e f = elim (cases_order i j) [
 ]
 
 -- each Take takes an exchange
-pub takes_one : (specs : List ProcessSpec) (ss : List Step) (r : Run) (i : ℕ) (pid : Pid) → run (opening specs) ss ≡ Some r → slice_get ss i ≡ Some (steps.Take pid) → IsSome (taken_at specs ss i)
+pub takes_one : (specs : List ProcessSpec) (ss : List Step) (r : Run) (i : ℕ) (pid : Pid) → run (initial_kernel specs) ss ≡ Some r → slice_get ss i ≡ Some (steps.Take pid) → IsSome (taken_at specs ss i)
 takes_one specs ss r i pid g is =
     let a = step_at specs ss r i (steps.Take pid) g is in
     let t = bind_is (taking a.kernel pid) _ a.did a.does in
     ap is_some (at_place taken_by specs ss i a.kernel (steps.Take pid) a.at is) ∙ ap (λ o. is_some (option_map (λ (t : Taking). t.name) o)) t.1
 
 -- One at a station.
-settled_apart : (k : Kernel) (sender : Pid) (m n : ℕ) (x y : Exchange) → IsSound k → k.exchanges (name_of sender m) ≡ Some x → k.exchanges (name_of sender n) ≡ Some y → is_open x.stage ≡ true → is_open y.stage ≡ true → same_host x.target y.target ≡ true → m < n → ⊥
-settled_apart k sender m n x y sound at_x at_y live_x live_y near less = both_ways (is_settled x.stage) (open_not_settled x.stage live_x) (sound.settled sender m n x y at_x at_y less near (open_not_posted y.stage live_y))
+settled_apart : (k : Kernel) (sender : Pid) (m n : ℕ) (x y : Exchange) → IsSound k → k.exchanges (name_of sender m) ≡ Some x → k.exchanges (name_of sender n) ≡ Some y → is_at_target x.stage ≡ true → is_at_target y.stage ≡ true → same_host x.target y.target ≡ true → m < n → ⊥
+settled_apart k sender m n x y sound at_x at_y live_x live_y near less = both_ways (is_settled x.stage) (at_target_not_settled x.stage live_x) (sound.settled sender m n x y at_x at_y less near refl (at_target_not_posted y.stage live_y))
 
-pub one_open : (k : Kernel) (sender : Pid) (m n : ℕ) (x y : Exchange) → IsReached k → k.exchanges (name_of sender m) ≡ Some x → k.exchanges (name_of sender n) ≡ Some y → is_open x.stage ≡ true → is_open y.stage ≡ true → same_host x.target y.target ≡ true → m ≡ n
+pub one_open : (k : Kernel) (sender : Pid) (m n : ℕ) (x y : Exchange) → IsReached k → k.exchanges (name_of sender m) ≡ Some x → k.exchanges (name_of sender n) ≡ Some y → is_at_target x.stage ≡ true → is_at_target y.stage ≡ true → same_host x.target y.target ≡ true → m ≡ n
 one_open k sender m n x y reached at_x at_y live_x live_y near = elim (cases_order m n) [
   | inl same ↦ same
   | inr other ↦ elim other [

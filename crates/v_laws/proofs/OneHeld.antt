@@ -56,4 +56,4 @@ held_this k n x sound at taken =
     let y = some_that_holds (is_held_by x.target) (k.exchanges (name_of n.sender m)) t in
     let parts = and_parts (same_pid y.0.target x.target) (is_taken y.0.stage) y.2 in
     both_ways (is_settled x.stage) (taken_not_settled x.stage taken)
-    (sound.settled n.sender n.number m x y.0 at y.1 more (same_target y.0.target x.target x.target parts.0 refl) (taken_not_posted y.0.stage parts.1))))
+    (sound.settled n.sender n.number m x y.0 at y.1 more (same_target y.0.target x.target x.target parts.0 refl) refl (taken_not_posted y.0.stage parts.1))))

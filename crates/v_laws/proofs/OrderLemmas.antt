@@ -18,14 +18,14 @@ use Rattle.vk_base.specs.declared.pid.Pid.{Pid}
 use Rattle.vk_base.specs.declared.step.Step.{Step}
 use Rattle.vk_base.specs.declared.step.Step.TheVariants as steps
 use Rattle.vk_base.specs.Calls.{Effect, sent, called, call_refusal}
-use Rattle.vk_base.specs.Kernel.{◌>>=◌, Kernel, opening, name_of, same_name, holds_of, is_posted, is_queued, is_queued_at, queue_of}
+use Rattle.vk_base.specs.Kernel.{◌>>=◌, Kernel, initial_kernel, name_of, same_name, holds_of, is_posted, is_queued, is_queued_at, queue_of}
 use Rattle.vk_base.specs.Pids.{same_pid, same_host}
 use Rattle.vk_base.specs.Steps.{Run, effect, only_if, run, arriving, with_arrival}
 use Rattle.vk_base.proofs.OptionLemmas.{bind_is}
 use Rattle.v_laws.specs.Places.{IsBroughtBefore, before, taken_at, brought_by, brought_at}
 use Rattle.v_laws.specs.Sound.{IsSound, has_arrived}
 use Rattle.v_laws.proofs.FilterLemmas.{same_head, none_kept}
-use Rattle.v_laws.proofs.Changes.{queued_is_open}
+use Rattle.v_laws.proofs.Changes.{queued_is_at_target}
 use Rattle.v_laws.proofs.Later.{rank}
 use Rattle.v_laws.proofs.OnceLemmas.{IsTakenAt, go_on, taken_at_is, taken_over}
 use Rattle.v_laws.proofs.PlaceLemmas.{at_place, before_sound, before_after, step_at, turn, onward}
@@ -105,7 +105,7 @@ pub record IsBroughtAt (specs : List ProcessSpec) (ss : List Step) (i : ℕ) (n 
   pub later : before specs ss (suc i) ≡ Some after
   pub arrived : after.arrived ≡ kernel.arrived ++ n ∷ []
 
-pub brought_at_is : (specs : List ProcessSpec) (ss : List Step) (r : Run) (i : ℕ) (n : Name) → run (opening specs) ss ≡ Some r → brought_at specs ss i ≡ Some n → IsBroughtAt specs ss i n
+pub brought_at_is : (specs : List ProcessSpec) (ss : List Step) (r : Run) (i : ℕ) (n : Name) → run (initial_kernel specs) ss ≡ Some r → brought_at specs ss i ≡ Some n → IsBroughtAt specs ss i n
 brought_at_is specs ss r i n g e =
     let k = bind_is (before specs ss i) _ n e in
     let s = bind_is (slice_get ss i) _ n k.2 in
@@ -137,13 +137,13 @@ among_arrived n early late a =
     ap (list_any (same_name n)) a.is ∙ list_any-append (same_name n) early (n ∷ a.rest)
     ∙ or_right (list_any (same_name n) early) (same_name n n || list_any (same_name n) a.rest) (or_left (same_name n n) (list_any (same_name n) a.rest) (same_name_self n))
 
-brought_again : (specs : List ProcessSpec) (ss : List Step) (r : Run) (a b : ℕ) (n : Name) → run (opening specs) ss ≡ Some r → brought_at specs ss a ≡ Some n → brought_at specs ss b ≡ Some n → a < b → ⊥
+brought_again : (specs : List ProcessSpec) (ss : List Step) (r : Run) (a b : ℕ) (n : Name) → run (initial_kernel specs) ss ≡ Some r → brought_at specs ss a ≡ Some n → brought_at specs ss b ≡ Some n → a < b → ⊥
 brought_again specs ss r a b n g e f less =
     let x = brought_at_is specs ss r a n g e in
     let y = brought_at_is specs ss r b n g f in
     both_ways (has_arrived y.kernel n) y.new (among_arrived n x.kernel.arrived y.kernel.arrived (stays_among specs ss a b n x y.kernel less y.at))
 
-pub brought_once : (specs : List ProcessSpec) (ss : List Step) (r : Run) (a b : ℕ) (n : Name) → run (opening specs) ss ≡ Some r → brought_at specs ss a ≡ Some n → brought_at specs ss b ≡ Some n → a ≡ b
+pub brought_once : (specs : List ProcessSpec) (ss : List Step) (r : Run) (a b : ℕ) (n : Name) → run (initial_kernel specs) ss ≡ Some r → brought_at specs ss a ≡ Some n → brought_at specs ss b ≡ Some n → a ≡ b
 brought_once specs ss r a b n g e f = elim (cases_order a b) [
   | inl same ↦ same
   | inr other ↦ elim other [
@@ -179,7 +179,7 @@ taken_brought specs ss j n e =
     let t = taken_at_is specs ss j n e in
     let x = taken_over specs ss j n t in
     let queued = (taken_was_queued t.kernel t.receiver t.take t.takes).1 in
-    arrived_brought specs ss j n t.kernel t.at ((before_sound specs ss j t.kernel t.at).came n t.take.exchange x.queued (queued_is_open t.take.exchange.stage queued))
+    arrived_brought specs ss j n t.kernel t.at ((before_sound specs ss j t.kernel t.at).came n t.take.exchange x.queued (queued_is_at_target t.take.exchange.stage queued))
 
 -- The first that is kept has none that is kept before it.
 cons_not_nil : {X : Type 0} (x : X) (xs : List X) → x ∷ xs ≡ [] → ⊥
@@ -207,7 +207,7 @@ not_kept f m (x ∷ xs) none among = elim (cases_Bool (f x)) [
 ]
 
 -- A message that came before the one that is taken does not wait there.
-pub passed : (specs : List ProcessSpec) (ss : List Step) (r : Run) (a b j : ℕ) (m n : Name) (t : IsTakenAt specs ss j n) → run (opening specs) ss ≡ Some r → taken_at specs ss j ≡ Some n → brought_at specs ss a ≡ Some m → brought_at specs ss b ≡ Some n → a < b → (b < j) × (queued_in t.kernel.exchanges t.receiver m ≡ false)
+pub passed : (specs : List ProcessSpec) (ss : List Step) (r : Run) (a b j : ℕ) (m n : Name) (t : IsTakenAt specs ss j n) → run (initial_kernel specs) ss ≡ Some r → taken_at specs ss j ≡ Some n → brought_at specs ss a ≡ Some m → brought_at specs ss b ≡ Some n → a < b → (b < j) × (queued_in t.kernel.exchanges t.receiver m ≡ false)
 unfolding queue_of
 passed specs ss r a b j m n t g e come_m come_n less =
     let y = brought_at_is specs ss r b n g come_n in
@@ -227,7 +227,7 @@ not_waiting k r m f = none_kept (same_name m) (queued_in k.exchanges r) k.arrive
     (λ n t. false_from_ne_true (same_name m n) (λ same. both_ways (queued_in k.exchanges r m) f (ap (queued_in k.exchanges r) (same_name_is m n same) ∙ t)))
 
 -- the message that is taken came first of those that wait
-pub came_first : (specs : List ProcessSpec) (ss : List Step) (r : Run) (a b j : ℕ) (m n : Name) (pid : Pid) (k : Kernel) → run (opening specs) ss ≡ Some r → slice_get ss j ≡ Some (steps.Take pid) → taken_at specs ss j ≡ Some n → before specs ss j ≡ Some k → list_any (same_name m) (queue_of k pid) ≡ true → brought_at specs ss a ≡ Some m → brought_at specs ss b ≡ Some n → b ≤ a
+pub came_first : (specs : List ProcessSpec) (ss : List Step) (r : Run) (a b j : ℕ) (m n : Name) (pid : Pid) (k : Kernel) → run (initial_kernel specs) ss ≡ Some r → slice_get ss j ≡ Some (steps.Take pid) → taken_at specs ss j ≡ Some n → before specs ss j ≡ Some k → list_any (same_name m) (queue_of k pid) ≡ true → brought_at specs ss a ≡ Some m → brought_at specs ss b ≡ Some n → b ≤ a
 came_first specs ss r a b j m n pid k g is e at waits come_m come_n = elim (cases_lt a b) [
   | inl less ↦
       let t = taken_at_is specs ss j n e in
@@ -263,7 +263,7 @@ waits_till specs ss i j m t l less at there =
     ap (holds_of (is_queued_at t.receiver)) x.1 ∙ and_from (same_pid x.0.target t.receiver) (is_queued x.0.stage) target (low_queued x.0.stage (omega arith) away)
 
 -- the Takes of a process are in the order in which their messages came
-pub in_order : (specs : List ProcessSpec) (ss : List Step) (r : Run) (a b i j : ℕ) (m n : Name) (pid : Pid) → run (opening specs) ss ≡ Some r → slice_get ss i ≡ Some (steps.Take pid) → slice_get ss j ≡ Some (steps.Take pid) → taken_at specs ss i ≡ Some m → taken_at specs ss j ≡ Some n → brought_at specs ss a ≡ Some m → brought_at specs ss b ≡ Some n → a < b → i < j
+pub in_order : (specs : List ProcessSpec) (ss : List Step) (r : Run) (a b i j : ℕ) (m n : Name) (pid : Pid) → run (initial_kernel specs) ss ≡ Some r → slice_get ss i ≡ Some (steps.Take pid) → slice_get ss j ≡ Some (steps.Take pid) → taken_at specs ss i ≡ Some m → taken_at specs ss j ≡ Some n → brought_at specs ss a ≡ Some m → brought_at specs ss b ≡ Some n → a < b → i < j
 in_order specs ss r a b i j m n pid g is_i is_j e f come_m come_n less = elim (cases_order i j) [
   | inl same ↦
       let one : m ≡ n = same_Some m n (sym e ∙ ap (taken_at specs ss) same ∙ f) in

@@ -6,13 +6,13 @@ use Rattle.std.proofs.lemmas.Option.{same_Some, none-some}
 use Rattle.vk_base.specs.declared.config.ProcessSpec.{ProcessSpec}
 use Rattle.vk_base.specs.declared.step.Step.{Step}
 use Rattle.vk_base.specs.Calls.{Effect}
-use Rattle.vk_base.specs.Kernel.{◌>>=◌, Kernel, opening}
+use Rattle.vk_base.specs.Kernel.{◌>>=◌, Kernel, initial_kernel}
 use Rattle.vk_base.specs.Steps.{Run, effect, run}
 use Rattle.vk_base.proofs.OptionLemmas.{bind_is}
 use Rattle.v_laws.specs.Places.{before}
 use Rattle.v_laws.specs.Sound.{IsSound}
 use Rattle.v_laws.proofs.RunLemmas.{run-append, run_nothing, run_step, run_on}
-use Rattle.v_laws.proofs.SoundLemmas.{sound_opening, sound_run}
+use Rattle.v_laws.proofs.SoundLemmas.{sound_initial, sound_run}
 use Rattle.v_laws.proofs.Options.{mapped_is}
 
 -- one more step of a list
@@ -36,11 +36,11 @@ at_place f specs ss i k s at is = ap (λ o. o >>= λ k. slice_get ss i >>= λ s.
 
 pub before_sound : (specs : List ProcessSpec) (ss : List Step) (i : ℕ) (k : Kernel) → before specs ss i ≡ Some k → IsSound k
 before_sound specs ss i k at =
-    let r = mapped_is (λ (r : Run). r.after) (run (opening specs) (take i ss)) k at in
-    subst IsSound r.2 (sound_run (opening specs) (take i ss) r.0 (sound_opening specs) r.1)
+    let r = mapped_is (λ (r : Run). r.after) (run (initial_kernel specs) (take i ss)) k at in
+    subst IsSound r.2 (sound_run (initial_kernel specs) (take i ss) r.0 (sound_initial specs) r.1)
 
-pub before_first : (specs : List ProcessSpec) (ss : List Step) (k : Kernel) → before specs ss 0 ≡ Some k → opening specs ≡ k
-before_first specs ss k at = same_Some (opening specs) k (ap (option_map (λ (r : Run). r.after)) (sym (run_nothing (opening specs))) ∙ at)
+pub before_first : (specs : List ProcessSpec) (ss : List Step) (k : Kernel) → before specs ss 0 ≡ Some k → initial_kernel specs ≡ k
+before_first specs ss k at = same_Some (initial_kernel specs) k (ap (option_map (λ (r : Run). r.after)) (sym (run_nothing (initial_kernel specs))) ∙ at)
 
 -- The kernel before a place came of the step at the place before it.
 pub record IsNext (specs : List ProcessSpec) (ss : List Step) (i : ℕ) (l : Kernel) : Type 0 where
@@ -79,10 +79,10 @@ last_step k ts s r g =
     last_of k ts s r a.0 b.0 e.0 a.1 e.1 e.2 b.2
 
 next_by : (specs : List ProcessSpec) (ss : List Step) (i : ℕ) (l : Kernel) → before specs ss (suc i) ≡ Some l → OneMore ss i → IsNext specs ss i l
-next_by specs ss i l at (past none same) = record { kernel = l; at = sym (ap (λ ts. option_map (λ (r : Run). r.after) (run (opening specs) ts)) same) ∙ at; how = inr (none, refl) }
+next_by specs ss i l at (past none same) = record { kernel = l; at = sym (ap (λ ts. option_map (λ (r : Run). r.after) (run (initial_kernel specs) ts)) same) ∙ at; how = inr (none, refl) }
 next_by specs ss i l at (step s is more) =
-    let r = mapped_is (λ (r : Run). r.after) (run (opening specs) (take (suc i) ss)) l at in
-    let e = last_step (opening specs) (take i ss) s r.0 (sym (ap (run (opening specs)) more) ∙ r.1) in
+    let r = mapped_is (λ (r : Run). r.after) (run (initial_kernel specs) (take (suc i) ss)) l at in
+    let e = last_step (initial_kernel specs) (take i ss) s r.0 (sym (ap (run (initial_kernel specs)) more) ∙ r.1) in
     record { kernel = e.kernel; at = e.at; how = inl (s, e.did, is, e.does, e.leads ∙ r.2) }
 
 pub before_next : (specs : List ProcessSpec) (ss : List Step) (i : ℕ) (l : Kernel) → before specs ss (suc i) ≡ Some l → IsNext specs ss i l
@@ -94,10 +94,10 @@ before_after specs ss i k s e at is does = by_more (one_more ss i)
     by_more : OneMore ss i → before specs ss (suc i) ≡ Some e.after
     by_more (past none same) = absurd (none-some s (sym none ∙ is))
     by_more (step t there more) =
-        let a = mapped_is (λ (r : Run). r.after) (run (opening specs) (take i ss)) k at in
+        let a = mapped_is (λ (r : Run). r.after) (run (initial_kernel specs) (take i ss)) k at in
         let which = same_Some t s (sym there ∙ is) in
         let does_there : effect a.0.after t ≡ Some e = (λ j. effect (a.2 j) (which j)) ∙ does in
-        ap (option_map (λ (r : Run). r.after)) (ap (run (opening specs)) more ∙ run_on (opening specs) (take i ss) (t ∷ []) a.0 _ a.1 (run_step a.0.after t e does_there))
+        ap (option_map (λ (r : Run). r.after)) (ap (run (initial_kernel specs)) more ∙ run_on (initial_kernel specs) (take i ss) (t ∷ []) a.0 _ a.1 (run_step a.0.after t e does_there))
 
 -- What stands at a place of a run is a step that is allowed there.
 pub record IsStepAt (specs : List ProcessSpec) (ss : List Step) (i : ℕ) (s : Step) : Type 0 where
@@ -106,10 +106,10 @@ pub record IsStepAt (specs : List ProcessSpec) (ss : List Step) (i : ℕ) (s : S
   pub did : Effect
   pub does : effect kernel s ≡ Some did
 
-pub step_at : (specs : List ProcessSpec) (ss : List Step) (r : Run) (i : ℕ) (s : Step) → run (opening specs) ss ≡ Some r → slice_get ss i ≡ Some s → IsStepAt specs ss i s
+pub step_at : (specs : List ProcessSpec) (ss : List Step) (r : Run) (i : ℕ) (s : Step) → run (initial_kernel specs) ss ≡ Some r → slice_get ss i ≡ Some s → IsStepAt specs ss i s
 step_at specs ss r i s g is =
-    let whole = sym (run-append (opening specs) (take (suc i) ss) (drop (suc i) ss)) ∙ ap (run (opening specs)) (take-append-drop (suc i) ss) ∙ g in
-    let a = bind_is (run (opening specs) (take (suc i) ss)) _ r whole in
+    let whole = sym (run-append (initial_kernel specs) (take (suc i) ss) (drop (suc i) ss)) ∙ ap (run (initial_kernel specs)) (take-append-drop (suc i) ss) ∙ g in
+    let a = bind_is (run (initial_kernel specs) (take (suc i) ss)) _ r whole in
     let n = before_next specs ss i a.0.after (ap (option_map (λ (x : Run). x.after)) a.1) in
     elim n.how [
       | inl h ↦ record { kernel = n.kernel; at = n.at; did = h.1; does = ap (effect n.kernel) (same_Some s h.0 (sym is ∙ h.2)) ∙ h.3 }
@@ -143,7 +143,7 @@ turn_by specs ss test i l holds n again = elim (cases_Bool (test n.kernel)) [
   ]
 ]
 
-pub turn : (specs : List ProcessSpec) (ss : List Step) (test : Kernel → Bool) → test (opening specs) ≡ false → (i : ℕ) (k : Kernel) → before specs ss i ≡ Some k → test k ≡ true → IsTurn specs ss test i
+pub turn : (specs : List ProcessSpec) (ss : List Step) (test : Kernel → Bool) → test (initial_kernel specs) ≡ false → (i : ℕ) (k : Kernel) → before specs ss i ≡ Some k → test k ≡ true → IsTurn specs ss test i
 turn specs ss test first zero k at holds = absurd (both_ways (test k) (ap test (sym (before_first specs ss k at)) ∙ first) holds)
 turn specs ss test first (suc i) k at holds = turn_by specs ss test i k holds (before_next specs ss i k at) (turn specs ss test first i)
 

@@ -17,7 +17,7 @@ use Rattle.vk_base.specs.Calls.{sent, sent_exchange}
 use Rattle.vk_base.specs.Kernel.{Kernel, holds_of, is_queued, is_queued_at, queue_of, name_of, same_name, put_exchange, with_state, with_stage}
 use Rattle.vk_base.specs.Steps.{Taking, taking, taken, first_of}
 use Rattle.vk_base.specs.Pids.{same_pid, same_host}
-use Rattle.v_laws.specs.Sound.{IsSound}
+use Rattle.v_laws.specs.Sound.{IsSoundAt}
 use Rattle.v_laws.proofs.FilterLemmas.{filter_on, filter_rest, first_passes}
 use Rattle.v_laws.proofs.StepLemmas.{taking_is}
 use Rattle.v_laws.proofs.Tables.{same_pid_is, same_name_is, same_name_self, same_name_laws, put_exchange_at, put_exchange_other}
@@ -27,7 +27,7 @@ abbrev pub queued_in : (Name → Option Exchange) → Pid → Name → Bool
 queued_in exchanges r n = holds_of (is_queued_at r) (exchanges n)
 
 -- a number that the sender has not reached has no exchange, and has not arrived
-pub fresh : (k : Kernel) (pid : Pid) (p : Process) (number : ℕ) → IsSound k → k.procs pid ≡ Some p → p.sends < number → k.exchanges (name_of pid number) ≡ None
+pub fresh : {sees : ℕ → Bool} (k : Kernel) (pid : Pid) (p : Process) (number : ℕ) → IsSoundAt sees k → k.procs pid ≡ Some p → p.sends < number → k.exchanges (name_of pid number) ≡ None
 fresh k pid p number sound at ahead = by_case (k.exchanges (name_of pid number)) refl
   where
     by_case : (o : Option Exchange) → k.exchanges (name_of pid number) ≡ o → o ≡ None
@@ -38,7 +38,7 @@ fresh k pid p number sound at ahead = by_case (k.exchanges (name_of pid number))
         let last : number ≤ b.process.sends = b.last in
         absurd (omega arith)
 
-pub not_arrived : (k : Kernel) (n : Name) → IsSound k → k.exchanges n ≡ None → list_any (same_name n) k.arrived ≡ false
+pub not_arrived : {sees : ℕ → Bool} (k : Kernel) (n : Name) → IsSoundAt sees k → k.exchanges n ≡ None → list_any (same_name n) k.arrived ≡ false
 not_arrived k n sound none = false_from_ne_true (list_any (same_name n) k.arrived) (λ t. both_ways (is_some (k.exchanges n)) (ap is_some none) (sound.known n t))
 
 -- a change of what a process does
@@ -88,7 +88,7 @@ and-true true = refl
 and-true false = refl
 
 -- the message of a local Send comes to its target's queue, and to no other
-pub queue-sent : (k : Kernel) (pid : Pid) (p : Process) (target : Pid) (m : Message) (r : Pid) → IsSound k → k.procs pid ≡ Some p →
+pub queue-sent : {sees : ℕ → Bool} (k : Kernel) (pid : Pid) (p : Process) (target : Pid) (m : Message) (r : Pid) → IsSoundAt sees k → k.procs pid ≡ Some p →
     queue_of (sent k pid p target m) r ≡ queue_of k r ++ (if same_host pid target && same_pid target r then name_of pid (p.sends + 1) ∷ [] else [])
 unfolding queue_of sent
 queue-sent k pid p target m r sound at = by_local (same_host pid target) refl
@@ -114,12 +114,12 @@ queue-sent k pid p target m r sound at = by_local (same_host pid target) refl
         ∙ sent_arrived k (name_of pid (p.sends + 1)) (sent_exchange pid p target m) r new
         ∙ sym (ap (λ b. queue_of k r ++ cond (b && same_pid target r) (name_of pid (p.sends + 1) ∷ []) []) f ∙ append-nil (queue_of k r))
 
-pub queue-sent_here : (k : Kernel) (pid : Pid) (p : Process) (target : Pid) (m : Message) (r : Pid) → IsSound k → k.procs pid ≡ Some p → same_host pid target ≡ true → same_pid target r ≡ true → queue_of (sent k pid p target m) r ≡ queue_of k r ++ name_of pid (p.sends + 1) ∷ []
+pub queue-sent_here : {sees : ℕ → Bool} (k : Kernel) (pid : Pid) (p : Process) (target : Pid) (m : Message) (r : Pid) → IsSoundAt sees k → k.procs pid ≡ Some p → same_host pid target ≡ true → same_pid target r ≡ true → queue_of (sent k pid p target m) r ≡ queue_of k r ++ name_of pid (p.sends + 1) ∷ []
 queue-sent_here k pid p target m r sound at local same =
     queue-sent k pid p target m r sound at
     ∙ ap (λ ns. queue_of k r ++ ns) (cond-true (same_host pid target && same_pid target r) (name_of pid (p.sends + 1) ∷ []) [] (and_from (same_host pid target) (same_pid target r) local same))
 
-pub queue-sent_elsewhere : (k : Kernel) (pid : Pid) (p : Process) (target : Pid) (m : Message) (r : Pid) → IsSound k → k.procs pid ≡ Some p → (same_host pid target && same_pid target r) ≡ false → queue_of (sent k pid p target m) r ≡ queue_of k r
+pub queue-sent_elsewhere : {sees : ℕ → Bool} (k : Kernel) (pid : Pid) (p : Process) (target : Pid) (m : Message) (r : Pid) → IsSoundAt sees k → k.procs pid ≡ Some p → (same_host pid target && same_pid target r) ≡ false → queue_of (sent k pid p target m) r ≡ queue_of k r
 queue-sent_elsewhere k pid p target m r sound at other =
     queue-sent k pid p target m r sound at
     ∙ ap (λ ns. queue_of k r ++ ns) (cond-false (same_host pid target && same_pid target r) (name_of pid (p.sends + 1) ∷ []) [] other)
@@ -139,7 +139,7 @@ taken_was_queued k r t e =
     let passes = first_passes (queued_in k.exchanges r) k.arrived t.name first.0 first.1 in
     and_parts (same_pid t.exchange.target r) (is_queued t.exchange.stage) (sym (ap (holds_of (is_queued_at r)) is.exchange) ∙ passes)
 
-pub queue-taken_here : (k : Kernel) (r : Pid) (t : Taking) → IsSound k → taking k r ≡ Some t → queue_of k r ≡ t.name ∷ queue_of (taken k r t) r
+pub queue-taken_here : {sees : ℕ → Bool} (k : Kernel) (r : Pid) (t : Taking) → IsSoundAt sees k → taking k r ≡ Some t → queue_of k r ≡ t.name ∷ queue_of (taken k r t) r
 unfolding queue_of taken
 queue-taken_here k r t sound e =
     let is = taking_is k r t e in

@@ -10,28 +10,28 @@ use Rattle.vk_base.specs.declared.pid.Pid.{Pid}
 use Rattle.vk_base.specs.declared.step.Step.{Step}
 use Rattle.vk_base.specs.declared.step.Step.TheVariants as steps
 use Rattle.vk_base.specs.Calls.{Effect}
-use Rattle.vk_base.specs.Kernel.{Kernel, opened, opening, is_ready}
+use Rattle.vk_base.specs.Kernel.{Kernel, initial_process, initial_kernel, is_ready}
 use Rattle.vk_base.specs.Settings.{is_process, has_process}
 use Rattle.vk_base.specs.Steps.{Run, effect, run}
 use Rattle.v_laws.specs.Reached.{IsReached, HasGrown, IsKept, IsAsFar}
 use Rattle.v_laws.specs.Sound.{IsSound, is_settled}
 use Rattle.v_laws.proofs.Later.{IsLaterProcess, ProcessLater, ProcessesGoOn, exchanges_go_on, processes_go_on, processes_later, process_step}
 use Rattle.v_laws.proofs.Related.{related_after, related_some}
-use Rattle.v_laws.proofs.SoundLemmas.{sound_opening, sound_run, step_is}
+use Rattle.v_laws.proofs.SoundLemmas.{sound_initial, sound_run, step_is}
 
 pub reached_sound : (k : Kernel) → IsReached k → IsSound k
-reached_sound k r = sound_run (opening r.specs) r.steps (record { after = k; seen = r.seen }) (sound_opening r.specs) r.is
+reached_sound k r = sound_run (initial_kernel r.specs) r.steps (record { after = k; seen = r.seen }) (sound_initial r.specs) r.is
 
 -- Processes.
-some_found : (specs : List ProcessSpec) (pid : Pid) → is_some (option_map opened (find (is_process pid) specs)) ≡ has_process specs pid
+some_found : (specs : List ProcessSpec) (pid : Pid) → is_some (option_map initial_process (find (is_process pid) specs)) ≡ has_process specs pid
 some_found [] pid = refl
 some_found (s ∷ ss) pid = elim (cases_Bool (is_process pid s)) [
-  | inl t ↦ ap (λ o. is_some (option_map opened o)) (cond-true (is_process pid s) (Some s) (find (is_process pid) ss) t) ∙ sym (ap (λ b. b || has_process ss pid) t)
-  | inr f ↦ ap (λ o. is_some (option_map opened o)) (cond-false (is_process pid s) (Some s) (find (is_process pid) ss) f) ∙ some_found ss pid ∙ sym (ap (λ b. b || has_process ss pid) f)
+  | inl t ↦ ap (λ o. is_some (option_map initial_process o)) (cond-true (is_process pid s) (Some s) (find (is_process pid) ss) t) ∙ sym (ap (λ b. b || has_process ss pid) t)
+  | inr f ↦ ap (λ o. is_some (option_map initial_process o)) (cond-false (is_process pid s) (Some s) (find (is_process pid) ss) f) ∙ some_found ss pid ∙ sym (ap (λ b. b || has_process ss pid) f)
 ]
 
-pub configured : (specs : List ProcessSpec) (ss : List Step) (r : Run) (pid : Pid) → run (opening specs) ss ≡ Some r → is_some (r.after.procs pid) ≡ has_process specs pid
-configured specs ss r pid g = sym (related_some IsLaterProcess ((opening specs).procs pid) (r.after.procs pid) (processes_go_on (opening specs) ss r (sound_opening specs) g pid)) ∙ some_found specs pid
+pub configured : (specs : List ProcessSpec) (ss : List Step) (r : Run) (pid : Pid) → run (initial_kernel specs) ss ≡ Some r → is_some (r.after.procs pid) ≡ has_process specs pid
+configured specs ss r pid g = sym (related_some IsLaterProcess ((initial_kernel specs).procs pid) (r.after.procs pid) (processes_go_on (initial_kernel specs) ss r (sound_initial specs) g pid)) ∙ some_found specs pid
 
 pub none_added : (k : Kernel) (ss : List Step) (r : Run) (pid : Pid) → IsReached k → run k ss ≡ Some r → is_some (r.after.procs pid) ≡ is_some (k.procs pid)
 none_added k ss r pid reached g = sym (related_some IsLaterProcess (k.procs pid) (r.after.procs pid) (processes_go_on k ss r (reached_sound k reached) g pid))

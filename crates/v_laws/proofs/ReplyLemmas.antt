@@ -18,7 +18,7 @@ use Rattle.vk_base.specs.declared.pid.Pid.{Pid}
 use Rattle.vk_base.specs.declared.step.Step.{Step}
 use Rattle.vk_base.specs.declared.step.Step.TheVariants as steps
 use Rattle.vk_base.specs.Calls.{Effect, unseen, replied, called, accepted, call_refusal}
-use Rattle.vk_base.specs.Kernel.{◌>>=◌, Kernel, opening, name_of, holds_of, is_taken, reply_of, held}
+use Rattle.vk_base.specs.Kernel.{◌>>=◌, Kernel, initial_kernel, name_of, holds_of, is_taken, reply_of, held}
 use Rattle.vk_base.specs.Pids.{same_host}
 use Rattle.vk_base.specs.Ranges.{range_of, bytes_in, with_bytes}
 use Rattle.vk_base.specs.Steps.{Finishing, finished, Run, Taking, effect, run, finishing}
@@ -260,7 +260,7 @@ own_by specs ss i s k f fin at finish w u sent =
       takes = u.takes;
     }
 
-pub own_reply : (specs : List ProcessSpec) (ss : List Step) (r : Run) (i : ℕ) (s : Pid) → run (opening specs) ss ≡ Some r → slice_get ss i ≡ Some (steps.Finish s) → HasOwnReply specs ss i s
+pub own_reply : (specs : List ProcessSpec) (ss : List Step) (r : Run) (i : ℕ) (s : Pid) → run (initial_kernel specs) ss ≡ Some r → slice_get ss i ≡ Some (steps.Finish s) → HasOwnReply specs ss i s
 own_reply specs ss r i s g is =
     let a = step_at specs ss r i (steps.Finish s) g is in
     let f = bind_is (finishing a.kernel s) _ a.did a.does in

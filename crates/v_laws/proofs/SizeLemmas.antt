@@ -26,8 +26,8 @@ use Rattle.vk_base.specs.declared.message.Range.{Range}
 use Rattle.vk_base.specs.declared.pid.Pid.{Pid}
 use Rattle.vk_base.specs.declared.step.Step.{Step}
 use Rattle.vk_base.specs.declared.step.Step.TheVariants as steps
-use Rattle.vk_base.specs.Calls.{Effect, sent, sent_exchange, replied, copied_at_once, new_move, move_begun, begin_move, is_at_once, lookup_begun, get_pid, found_at_once, exited, released, is_bereft, dropped_at, is_open_at, may_write, may_read, is_granted, is_own, accepted, called, call_refusal}
-use Rattle.vk_base.specs.Kernel.{◌>>=◌, Kernel, opening, opened, name_of, same_name, is_live, receiving, held, held_exchange, ended, move_of, reply_of, put_exchange, put_lookup, with_state, waiting_on}
+use Rattle.vk_base.specs.Calls.{Effect, sent, sent_exchange, replied, copied_at_once, new_move, move_begun, begin_move, is_at_once, lookup_begun, get_pid, found_at_once, exited, released, is_bereft, dropped_at, is_message_at, may_write, may_read, is_granted, is_own, accepted, called, call_refusal}
+use Rattle.vk_base.specs.Kernel.{◌>>=◌, Kernel, initial_kernel, initial_process, name_of, same_name, is_live, receiving, held, held_exchange, ended, move_of, reply_of, put_exchange, put_lookup, with_state, waiting_on}
 use Rattle.vk_base.specs.Messages.{segment_of}
 use Rattle.vk_base.specs.Pids.{same_pid, same_host}
 use Rattle.vk_base.specs.Ranges.{range_of, lies_in, lies_within, bytes_in, with_bytes}
@@ -42,19 +42,19 @@ use Rattle.v_laws.proofs.Options.{some_that_holds, of_either}
 use Rattle.v_laws.proofs.States.{ready_asks, ended_asks, receiving_asks}
 use Rattle.v_laws.proofs.Tables.{same_pid_is}
 
--- The opening kernel.
-opened_size : (o : Option ProcessSpec) (p : Process) → option_map opened o ≡ Some p → length p.memory ≡ size_found o
+-- The initial kernel.
+opened_size : (o : Option ProcessSpec) (p : Process) → option_map initial_process o ≡ Some p → length p.memory ≡ size_found o
 opened_size None p e = absurd (none-some p e)
-opened_size (Some s) p e = ap (λ (x : Process). length x.memory) (sym (same_Some (opened s) p e)) ∙ length-replicate s.size 0
+opened_size (Some s) p e = ap (λ (x : Process). length x.memory) (sym (same_Some (initial_process s) p e)) ∙ length-replicate s.size 0
 
-opened_asks : (o : Option ProcessSpec) (p : Process) → option_map opened o ≡ Some p → range_asked p.state ≡ None
-opened_asks None p e = absurd (none-some p e)
-opened_asks (Some s) p e = ap (λ (x : Process). range_asked x.state) (sym (same_Some (opened s) p e))
+initial_asks : (o : Option ProcessSpec) (p : Process) → option_map initial_process o ≡ Some p → range_asked p.state ≡ None
+initial_asks None p e = absurd (none-some p e)
+initial_asks (Some s) p e = ap (λ (x : Process). range_asked x.state) (sym (same_Some (initial_process s) p e))
 
-pub sized_opening : (specs : List ProcessSpec) → IsSized (size_in specs) (opening specs)
-sized_opening specs = record {
+pub sized_initial : (specs : List ProcessSpec) → IsSized (size_in specs) (initial_kernel specs)
+sized_initial specs = record {
   memory = λ pid p at. opened_size (find (is_process pid) specs) p at;
-  room = λ pid p r at asks. absurd (none-some r (sym (opened_asks (find (is_process pid) specs) p at) ∙ asks));
+  room = λ pid p r at asks. absurd (none-some r (sym (initial_asks (find (is_process pid) specs) p at) ∙ asks));
   exchanges = λ n e is. absurd (none-some e is);
 }
 
@@ -143,7 +143,7 @@ sized_exited size k pid p sized at quiet = record {
     | inr f ↦ let y = others_before q x f is in asked q y.0 r y.1 (ap (λ (z : Process). range_asked z.state) y.2 ∙ asks)
   ];
   exchanges = fit_map size k.exchanges (λ n. dropped_at pid) sized.exchanges
-      (λ n e fit. cond_both (is_open_at pid e) (record e { stage = stages.Dropped }) e (IsExchangeFit size n) (λ t. fit_stage size n e stages.Dropped refl fit) (λ f. fit));
+      (λ n e fit. cond_both (is_message_at pid e) (record e { stage = stages.Dropped }) e (IsExchangeFit size n) (λ t. fit_stage size n e stages.Dropped refl fit) (λ f. fit));
 }
   where
     mine : (q : Pid) (x : Process) → same_pid q pid ≡ true → cond (same_pid q pid) (Some (record p { alive = false })) (option_map (released k pid q) (k.procs q)) ≡ Some x → record p { alive = false } ≡ x
@@ -347,5 +347,5 @@ sized_over size k (s ∷ ss) r sized g =
     let rest = bind_is (run e.0.after ss) _ r e.2 in
     subst (λ (x : Run). IsSized size x.after) (same_Some _ r rest.2) (sized_over size e.0.after ss rest.0 (sized_step size k s e.0 sized e.1) rest.1)
 
-pub sized_run : (specs : List ProcessSpec) (ss : List Step) (r : Run) → run (opening specs) ss ≡ Some r → IsSized (size_in specs) r.after
-sized_run specs ss r g = sized_over (size_in specs) (opening specs) ss r (sized_opening specs) g
+pub sized_run : (specs : List ProcessSpec) (ss : List Step) (r : Run) → run (initial_kernel specs) ss ≡ Some r → IsSized (size_in specs) r.after
+sized_run specs ss r g = sized_over (size_in specs) (initial_kernel specs) ss r (sized_initial specs) g

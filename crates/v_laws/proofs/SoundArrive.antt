@@ -1,5 +1,5 @@
 -- Arrive.
-use Rattle.std.proofs.Common.{◌≡◌, ℕ, ◌<◌, true, false, cond, ◌==◌, ◌&&◌, ◌||◌, nat_lt, option_map, Option, Some, None, is_some, refl, sym, ap, subst, ◌∙◌, inl, inr, arith}
+use Rattle.std.proofs.Common.{◌≡◌, Bool, ℕ, ◌<◌, true, false, cond, ◌==◌, ◌&&◌, ◌||◌, nat_lt, option_map, Option, Some, None, is_some, refl, sym, ap, subst, ◌∙◌, inl, inr, arith}
 use Rattle.std.proofs.lemmas.Bool.{cases_Bool, and_parts, and_from, both_ways, or_left, or_right, eqb-true, eq-eqb, ltb-true, lt-ltb, cond-true, cond-false}
 use Rattle.std.proofs.lemmas.Map.Keys.{IsDistinct-push}
 use Rattle.std.proofs.lemmas.Option.{same_Some, none-some}
@@ -11,10 +11,10 @@ use Rattle.vk_base.specs.declared.kernel.Stage.TheVariants as stages
 use Rattle.vk_base.specs.declared.kernel.State.TheVariants as states
 use Rattle.vk_base.specs.declared.message.Message.{Message}
 use Rattle.vk_base.specs.declared.pid.Pid.{Pid}
-use Rattle.vk_base.specs.Kernel.{Kernel, name_of, same_name, is_posted, is_open, sending}
+use Rattle.vk_base.specs.Kernel.{Kernel, name_of, same_name, is_posted, is_at_target, sending}
 use Rattle.vk_base.specs.Pids.{same_pid, same_host}
 use Rattle.vk_base.specs.Steps.{arriving, with_arrival, after_arrival, is_older}
-use Rattle.v_laws.specs.Sound.{IsSound, IsAwaited, IsUnderWay, IsSent, has_arrived, is_settled}
+use Rattle.v_laws.specs.Sound.{IsSoundAt, IsAwaited, IsUnderWay, IsSent, has_arrived, is_settled}
 use Rattle.v_laws.proofs.Changes.{posted_not_settled}
 use Rattle.v_laws.proofs.SoundChanges.{orderly_where}
 use Rattle.v_laws.proofs.SoundSends.{any_other, any_kept, any_here, neither_settled}
@@ -71,10 +71,10 @@ behind name e n x y (here t is) sender less near =
 behind name e n x y (older f t is) sender less near = ap (λ (z : Exchange). is_settled z.stage) is
 behind name e n x y (other f g is) sender less near =
     ap (λ (z : Exchange). is_settled z.stage) is
-    ∙ neither_settled x.stage (λ t. both_ways (is_older name e n x) g (test (or_left (is_posted x.stage) (is_open x.stage) t))) (λ t. both_ways (is_older name e n x) g (test (or_right (is_posted x.stage) (is_open x.stage) t)))
+    ∙ neither_settled x.stage (λ t. both_ways (is_older name e n x) g (test (or_left (is_posted x.stage) (is_at_target x.stage) t))) (λ t. both_ways (is_older name e n x) g (test (or_right (is_posted x.stage) (is_at_target x.stage) t)))
   where
-    test : (is_posted x.stage || is_open x.stage) ≡ true → is_older name e n x ≡ true
-    test live = and_from (same_pid n.sender name.sender && nat_lt n.number name.number && same_host x.target e.target) (is_posted x.stage || is_open x.stage)
+    test : (is_posted x.stage || is_at_target x.stage) ≡ true → is_older name e n x ≡ true
+    test live = and_from (same_pid n.sender name.sender && nat_lt n.number name.number && same_host x.target e.target) (is_posted x.stage || is_at_target x.stage)
         (and_from (same_pid n.sender name.sender && nat_lt n.number name.number) (same_host x.target e.target) (and_from (same_pid n.sender name.sender) (nat_lt n.number name.number) sender (lt-ltb n.number name.number less)) near) live
 
 -- one that is settled stays so
@@ -83,9 +83,9 @@ settled_after name e n x y (here t is) away s = absurd (both_ways (is_settled x.
 settled_after name e n x y (older f t is) away s = ap (λ (z : Exchange). is_settled z.stage) is
 settled_after name e n x y (other f g is) away s = ap (λ (z : Exchange). is_settled z.stage) is ∙ s
 
-pub sound_arrived : (k : Kernel) (name : Name) (e : Exchange) → IsSound k → arriving k name ≡ Some e → IsSound (with_arrival k name e)
+pub sound_arrived : {sees : ℕ → Bool} (k : Kernel) (name : Name) (e : Exchange) → IsSoundAt sees k → arriving k name ≡ Some e → IsSoundAt sees (with_arrival k name e)
 unfolding with_arrival
-sound_arrived k name e sound g = record {
+sound_arrived {sees} k name e sound g = record {
   begun = λ n y is. let b = sound.begun n (before n y is).0 (before n y is).1 in record { process = b.process; is = b.is; first = b.first; last = b.last };
   awaited = λ n y is local live. let x = before n y is in awaited n x.0 y x.1 x.2 local live;
   known = λ n among. mapped_some (after_arrival name e n) (k.exchanges n) ∙ elim (cases_Bool (same_name n name)) [
@@ -95,10 +95,10 @@ sound_arrived k name e sound g = record {
   once = IsDistinct-push same_name_laws k.arrived name sound.once under_way.away;
   posted = λ n y is away. let x = before n y is in posted n x.0 y x.1 x.2 away;
   came = λ n y is live. let x = before n y is in came n x.0 y x.1 x.2 live;
-  settled = λ sender m n x y at_x at_y less near gone.
+  settled = λ sender m n x y at_x at_y less near seen gone.
       let a = before (name_of sender m) x at_x in
       let b = before (name_of sender n) y at_y in
-      settled sender m n a.0 b.0 x y a.1 b.1 a.2 b.2 less near gone;
+      settled sender m n a.0 b.0 x y a.1 b.1 a.2 b.2 less near seen gone;
   resting = sound.resting;
   sent = λ pid p target m at sends. sent pid p target m at sends;
   registered = λ host. (orderly_where k (with_arrival k name e) host sound refl (λ q. refl)).registered;
@@ -114,14 +114,14 @@ sound_arrived k name e sound g = record {
     before : (n : Name) (y : Exchange) → option_map (after_arrival name e n) (k.exchanges n) ≡ Some y → (x : Exchange) × (k.exchanges n ≡ Some x) × ArrivalOn name e n x y
     before n y is = arrived_from name e n (k.exchanges n) y is
 
-    awaited : (n : Name) (x y : Exchange) → k.exchanges n ≡ Some x → ArrivalOn name e n x y → same_host n.sender y.target ≡ true → is_open y.stage ≡ true → IsAwaited (with_arrival k name e) n y
+    awaited : (n : Name) (x y : Exchange) → k.exchanges n ≡ Some x → ArrivalOn name e n x y → same_host n.sender y.target ≡ true → is_at_target y.stage ≡ true → IsAwaited (with_arrival k name e) n y
     awaited n x y at on local live = elim on [
       | here t is ↦
           let u = sound.posted n x at (ap (λ (z : Exchange). is_posted z.stage) (is_there k name e n x g at t) ∙ arrives.posted) in
           absurd (both_ways (same_host n.sender x.target) u.remote (ap (λ (z : Exchange). same_host n.sender z.target) (sym is) ∙ local))
-      | older f t is ↦ absurd (both_ways (is_open y.stage) (ap (λ (z : Exchange). is_open z.stage) is) live)
+      | older f t is ↦ absurd (both_ways (is_at_target y.stage) (ap (λ (z : Exchange). is_at_target z.stage) is) live)
       | other f h is ↦
-          let w = sound.awaited n x at (ap (λ (z : Exchange). same_host n.sender z.target) (sym is) ∙ local) (ap (λ (z : Exchange). is_open z.stage) (sym is) ∙ live) in
+          let w = sound.awaited n x at (ap (λ (z : Exchange). same_host n.sender z.target) (sym is) ∙ local) (ap (λ (z : Exchange). is_at_target z.stage) (sym is) ∙ live) in
           record { process = w.process; is = w.is; alive = w.alive; blocked = w.blocked ∙ ap (λ (z : Exchange). states.Blocked (calls.Send z.target z.message)) (sym is); last = w.last }
     ]
 
@@ -134,30 +134,31 @@ sound_arrived k name e sound g = record {
           record { remote = ap (λ (z : Exchange). same_host n.sender z.target) is ∙ u.remote; away = any_other n name true k.arrived f ∙ u.away }
     ]
 
-    came : (n : Name) (x y : Exchange) → k.exchanges n ≡ Some x → ArrivalOn name e n x y → is_open y.stage ≡ true → has_arrived (with_arrival k name e) n ≡ true
+    came : (n : Name) (x y : Exchange) → k.exchanges n ≡ Some x → ArrivalOn name e n x y → is_at_target y.stage ≡ true → has_arrived (with_arrival k name e) n ≡ true
     came n x y at on live = elim on [
       | here t is ↦ any_here n name k.arrived t
-      | older f t is ↦ absurd (both_ways (is_open y.stage) (ap (λ (z : Exchange). is_open z.stage) is) live)
-      | other f h is ↦ any_kept n name true k.arrived (sound.came n x at (ap (λ (z : Exchange). is_open z.stage) (sym is) ∙ live))
+      | older f t is ↦ absurd (both_ways (is_at_target y.stage) (ap (λ (z : Exchange). is_at_target z.stage) is) live)
+      | other f h is ↦ any_kept n name true k.arrived (sound.came n x at (ap (λ (z : Exchange). is_at_target z.stage) (sym is) ∙ live))
     ]
 
-    settled : (sender : Pid) (m n : ℕ) (a b x y : Exchange) → k.exchanges (name_of sender m) ≡ Some a → k.exchanges (name_of sender n) ≡ Some b → ArrivalOn name e (name_of sender m) a x → ArrivalOn name e (name_of sender n) b y → m < n → same_host x.target y.target ≡ true → is_posted y.stage ≡ false → is_settled x.stage ≡ true
-    settled sender m n a b x y at_a at_b on_a on_b less near gone =
+    settled : (sender : Pid) (m n : ℕ) (a b x y : Exchange) → k.exchanges (name_of sender m) ≡ Some a → k.exchanges (name_of sender n) ≡ Some b → ArrivalOn name e (name_of sender m) a x → ArrivalOn name e (name_of sender n) b y → m < n → same_host x.target y.target ≡ true → sees y.target.host ≡ true → is_posted y.stage ≡ false → is_settled x.stage ≡ true
+    settled sender m n a b x y at_a at_b on_a on_b less near seen gone =
         let near_before : same_host a.target b.target ≡ true = (λ i. same_host (sym (arrival_target name e (name_of sender m) a x on_a) i) (sym (arrival_target name e (name_of sender n) b y on_b) i)) ∙ near in
+        let seen_before : sees b.target.host ≡ true = sym (ap (λ (r : Pid). sees r.host) (arrival_target name e (name_of sender n) b y on_b)) ∙ seen in
         elim on_b [
           | here t is ↦
               let parts = and_parts (same_pid sender name.sender) (n == name.number) t in
               let same = is_there k name e (name_of sender n) b g at_b t in
               behind name e (name_of sender m) a x on_a parts.0 (subst (λ c. m < c) (eqb-true n name.number parts.1) less) (ap (λ (z : Exchange). same_host a.target z.target) (sym same) ∙ near_before)
           | older f t is ↦
-              let most = (and_parts (same_pid sender name.sender && nat_lt n name.number && same_host b.target e.target) (is_posted b.stage || is_open b.stage) t).0 in
+              let most = (and_parts (same_pid sender name.sender && nat_lt n name.number && same_host b.target e.target) (is_posted b.stage || is_at_target b.stage) t).0 in
               let parts = and_parts (same_pid sender name.sender && nat_lt n name.number) (same_host b.target e.target) most in
               let first = and_parts (same_pid sender name.sender) (nat_lt n name.number) parts.0 in
               let later : n < name.number = ltb-true n name.number first.1 in
               behind name e (name_of sender m) a x on_a first.0 (omega arith)
               (eq-eqb a.target.host e.target.host (eqb-true a.target.host b.target.host near_before ∙ eqb-true b.target.host e.target.host parts.1))
           | other f h is ↦
-              let t = sound.settled sender m n a b at_a at_b less near_before (ap (λ (z : Exchange). is_posted z.stage) (sym is) ∙ gone) in
+              let t = sound.settled sender m n a b at_a at_b less near_before seen_before (ap (λ (z : Exchange). is_posted z.stage) (sym is) ∙ gone) in
               settled_after name e (name_of sender m) a x on_a (λ u. ap (λ (z : Exchange). is_posted z.stage) (is_there k name e (name_of sender m) a g at_a u) ∙ arrives.posted) t
         ]
 

@@ -1,5 +1,5 @@
 -- The calls.
-use Rattle.std.proofs.Common.{◌≡◌, ℕ, true, ◌&&◌, not, nat_le, nat_lt, List, [], ◌∷◌, length, Option, Some, None, is_none, refl, sym, ap, subst, ◌∙◌, inr, arith}
+use Rattle.std.proofs.Common.{◌≡◌, Bool, ℕ, true, ◌&&◌, not, nat_le, nat_lt, List, [], ◌∷◌, length, Option, Some, None, is_none, refl, sym, ap, subst, ◌∙◌, inr, arith}
 use Rattle.std.proofs.lemmas.Bool.{and_parts, both_ways, not-false}
 use Rattle.std.proofs.lemmas.Option.{same_Some}
 use Rattle.vk_base.specs.declared.answer.Refusal.{Refusal}
@@ -24,7 +24,7 @@ use Rattle.vk_base.specs.Pids.{same_host}
 use Rattle.vk_base.specs.Ranges.{range_of, bytes_in, with_bytes}
 use Rattle.vk_base.specs.Steps.{arriving, with_arrival}
 use Rattle.vk_base.proofs.OptionLemmas.{bind_is}
-use Rattle.v_laws.specs.Sound.{IsSound}
+use Rattle.v_laws.specs.Sound.{IsSoundAt}
 use Rattle.v_laws.proofs.Changes.{StageOn, GoesOn, sound_onward}
 use Rattle.v_laws.proofs.Held.{holding_is}
 use Rattle.v_laws.proofs.SoundChanges.{process_begun, none_waited_for, no_exchange_changes, one_exchange_changes, goes_process, goes_exchange}
@@ -43,32 +43,32 @@ pub data IsStep (s : Step) (k l : Kernel) : Type 0 where
   arrives : (name : Name) (e : Exchange) → s ≡ steps.Arrive name.sender name.number → arriving k name ≡ Some e → l ≡ with_arrival k name e → IsStep s k l
 
 -- nothing changes
-pub goes_nowhere : (s : Step) (k : Kernel) → IsSound k → GoesOn s k k
+pub goes_nowhere : {sees : ℕ → Bool} (s : Step) (k : Kernel) → IsSoundAt sees k → GoesOn s k k
 goes_nowhere s k sound = goes_heard s k k.lookups sound
 
 -- A process does something else that is no Send.
-pub goes_state : (s : Step) (k : Kernel) (pid : Pid) (p : Process) (t : State) → IsSound k → k.procs pid ≡ Some p → p.alive ≡ true → is_ready p.state ≡ true → sending t ≡ None → GoesOn s k (with_state k pid p t)
+pub goes_state : {sees : ℕ → Bool} (s : Step) (k : Kernel) (pid : Pid) (p : Process) (t : State) → IsSoundAt sees k → k.procs pid ≡ Some p → p.alive ≡ true → is_ready p.state ≡ true → sending t ≡ None → GoesOn s k (with_state k pid p t)
 goes_state s k pid p t sound at alive ready quiet =
     goes_process s k pid p (record p { state = t }) k.exchanges k.lookups sound at
     (process_begun s pid p (record p { state = t }) alive ready refl refl (omega arith) quiet) refl
     (inr (none_waited_for k pid p sound at (ready_sends_none p.state ready)))
     (no_exchange_changes s k)
 
-pub sound_state : (k : Kernel) (pid : Pid) (p : Process) (t : State) → IsSound k → k.procs pid ≡ Some p → p.alive ≡ true → is_ready p.state ≡ true → sending t ≡ None → IsSound (with_state k pid p t)
+pub sound_state : {sees : ℕ → Bool} (k : Kernel) (pid : Pid) (p : Process) (t : State) → IsSoundAt sees k → k.procs pid ≡ Some p → p.alive ≡ true → is_ready p.state ≡ true → sending t ≡ None → IsSoundAt sees (with_state k pid p t)
 sound_state k pid p t sound at alive ready quiet = sound_onward (steps.Take pid) k (with_state k pid p t) sound (goes_state (steps.Take pid) k pid p t sound at alive ready quiet)
 
 -- A reply.
-goes_stage : (s : Step) (k : Kernel) (name : Name) (e : Exchange) (t : Stage) → IsSound k → k.exchanges name ≡ Some e → StageOn k s name e (record e { stage = t }) → GoesOn s k (with_stage k name e t)
+goes_stage : {sees : ℕ → Bool} (s : Step) (k : Kernel) (name : Name) (e : Exchange) (t : Stage) → IsSoundAt sees k → k.exchanges name ≡ Some e → StageOn k s name e (record e { stage = t }) → GoesOn s k (with_stage k name e t)
 goes_stage s k name e t sound at on =
     goes_exchange s k (put_exchange k.exchanges name (record e { stage = t })) k.lookups sound
     (one_exchange_changes s k name e (record e { stage = t }) at (record { target = refl; message = refl; part = refl; moves = omega arith; stage = on }))
 
-pub sound_replied : (k : Kernel) (name : Name) (e : Exchange) (m : Message) → IsSound k → k.exchanges name ≡ Some e → is_taken e.stage ≡ true → IsSound (with_stage k name e (stages.Replied m 0 []))
+pub sound_replied : {sees : ℕ → Bool} (k : Kernel) (name : Name) (e : Exchange) (m : Message) → IsSoundAt sees k → k.exchanges name ≡ Some e → is_taken e.stage ≡ true → IsSoundAt sees (with_stage k name e (stages.Replied m 0 []))
 sound_replied k name e m sound at held =
     let s : Step = steps.Call e.target (calls.Reply m name.sender) in
     sound_onward s k (with_stage k name e (stages.Replied m 0 [])) sound (goes_stage s k name e (stages.Replied m 0 []) sound at (StageOn.replied m refl held refl))
 
-goes_reply : (s : Step) (k : Kernel) (pid : Pid) (c : Call) (to : Pid) (m : Message) (dest : ℕ) (bytes : List ℕ) (e : Effect) → IsSound k → ((number : ℕ) (x : Exchange) → x.target ≡ pid → is_taken x.stage ≡ true → StageOn k s (name_of to number) x (record x { stage = stages.Replied m dest bytes })) → replied k pid c to m dest bytes ≡ Some e → GoesOn s k e.after
+goes_reply : {sees : ℕ → Bool} (s : Step) (k : Kernel) (pid : Pid) (c : Call) (to : Pid) (m : Message) (dest : ℕ) (bytes : List ℕ) (e : Effect) → IsSoundAt sees k → ((number : ℕ) (x : Exchange) → x.target ≡ pid → is_taken x.stage ≡ true → StageOn k s (name_of to number) x (record x { stage = stages.Replied m dest bytes })) → replied k pid c to m dest bytes ≡ Some e → GoesOn s k e.after
 goes_reply s k pid c to m dest bytes e sound on g =
     let number = bind_is (held k pid to) _ e g in
     let x = bind_is (k.exchanges (name_of to number.0)) _ e number.2 in
@@ -79,7 +79,7 @@ goes_reply s k pid c to m dest bytes e sound on g =
     subst (λ (y : Effect). GoesOn s k y.after) (same_Some _ e x.2) (goes_stage s k (name_of to number.0) x.0 (stages.Replied m dest bytes) sound x.1 (on number.0 x.0 target taken))
 
 -- A lookup.
-goes_got : (s : Step) (k : Kernel) (pid : Pid) (p : Process) (c : Call) (logical : ℕ) (o : Option Pid) → IsSound k → k.procs pid ≡ Some p → p.alive ≡ true → is_ready p.state ≡ true → sending (states.Blocked c) ≡ None → GoesOn s k (get_pid k pid p c logical o).after
+goes_got : {sees : ℕ → Bool} (s : Step) (k : Kernel) (pid : Pid) (p : Process) (c : Call) (logical : ℕ) (o : Option Pid) → IsSoundAt sees k → k.procs pid ≡ Some p → p.alive ≡ true → is_ready p.state ≡ true → sending (states.Blocked c) ≡ None → GoesOn s k (get_pid k pid p c logical o).after
 goes_got s k pid p c logical None sound at alive ready quiet = goes_lookup s k pid p c logical sound at alive ready quiet
 goes_got s k pid p c logical (Some q) sound at alive ready quiet = goes_nowhere s k sound
 
@@ -88,7 +88,7 @@ pub as_effect : (s : Step) (k : Kernel) (e f : Effect) → Some e ≡ Some f →
 as_effect s k e f g on = IsStep.goes (subst (λ (x : Effect). GoesOn s k x.after) (same_Some e f g) on)
 
 -- a call that is not refused
-pub accepted_is : (k : Kernel) (pid : Pid) (p : Process) (c : Call) (e : Effect) → IsSound k → k.procs pid ≡ Some p → IsFit k pid p c → accepted k pid p c ≡ Some e → IsStep (steps.Call pid c) k e.after
+pub accepted_is : {sees : ℕ → Bool} (k : Kernel) (pid : Pid) (p : Process) (c : Call) (e : Effect) → IsSoundAt sees k → k.procs pid ≡ Some p → IsFit k pid p c → accepted k pid p c ≡ Some e → IsStep (steps.Call pid c) k e.after
 accepted_is k pid p (calls.Send target m) e sound at fit g = IsStep.sends pid p target m refl at fit (ap (λ (x : Effect). x.after) (sym (same_Some _ e g)))
 accepted_is k pid p calls.Receive e sound at fit g = as_effect (steps.Call pid calls.Receive) k _ e g (goes_state (steps.Call pid calls.Receive) k pid p (states.Blocked calls.Receive) sound at fit.alive fit.ready refl)
 accepted_is k pid p (calls.ReceiveSegment start count) e sound at fit g =
@@ -128,6 +128,6 @@ accepted_is k pid p (calls.Store start bytes) e sound at fit g =
     as_effect (steps.Call pid c) k _ e g (goes_memory (steps.Call pid c) k pid p (with_bytes p.memory start bytes) sound at (λ dead. absurd (both_ways p.alive dead fit.alive)))
 accepted_is k pid p calls.Exit e sound at fit g = as_effect (steps.Call pid calls.Exit) k _ e g (goes_exited k pid p sound at fit.alive fit.ready)
 
-pub called_is : (k : Kernel) (pid : Pid) (p : Process) (c : Call) (why : Option Refusal) (e : Effect) → IsSound k → k.procs pid ≡ Some p → call_refusal k pid p c ≡ why → called k pid p c why ≡ Some e → IsStep (steps.Call pid c) k e.after
+pub called_is : {sees : ℕ → Bool} (k : Kernel) (pid : Pid) (p : Process) (c : Call) (why : Option Refusal) (e : Effect) → IsSoundAt sees k → k.procs pid ≡ Some p → call_refusal k pid p c ≡ why → called k pid p c why ≡ Some e → IsStep (steps.Call pid c) k e.after
 called_is k pid p c None e sound at fine g = accepted_is k pid p c e sound at (fit_is k pid p c fine) g
 called_is k pid p c (Some why) e sound at fine g = as_effect (steps.Call pid c) k _ e g (goes_nowhere (steps.Call pid c) k sound)

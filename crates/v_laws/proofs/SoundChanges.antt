@@ -1,5 +1,5 @@
 -- Changes of one process, of one exchange, or of both, after which a kernel is sound.
-use Rattle.std.proofs.Common.{◌≡◌, ℕ, ◌≤◌, ◌⊎◌, true, false, Option, Some, None, All, refl, sym, ap, subst, subst₂, ◌∙◌, inl, inr, arith}
+use Rattle.std.proofs.Common.{◌≡◌, Bool, ℕ, ◌≤◌, ◌⊎◌, true, false, Option, Some, None, All, refl, sym, ap, subst, subst₂, ◌∙◌, inl, inr, arith}
 use Rattle.std.proofs.lemmas.Bool.{cases_Bool, both_ways}
 use Rattle.std.proofs.lemmas.List.Elements.{All-weaker}
 use Rattle.std.proofs.lemmas.Option.{same_Some, none-some}
@@ -13,7 +13,7 @@ use Rattle.vk_base.specs.declared.pid.Pid.{Pid}
 use Rattle.vk_base.specs.declared.step.Step.{Step}
 use Rattle.vk_base.specs.Kernel.{Kernel, is_live, is_ready, sending, ended, put_process, put_exchange}
 use Rattle.vk_base.specs.Pids.{same_pid, same_host}
-use Rattle.v_laws.specs.Sound.{IsSound, IsRegistered, same_logical}
+use Rattle.v_laws.specs.Sound.{IsSoundAt, IsRegistered, same_logical}
 use Rattle.v_laws.proofs.Changes.{ProcessOn, ExchangeOn, GoesOn, IsOrderly, WaitsForNone, process_self, exchange_self, was_open}
 use Rattle.v_laws.proofs.Related.{Related, related_before, related_self, related_put_process, related_put_exchange}
 use Rattle.v_laws.proofs.States.{ended_sends_none, ended_ready}
@@ -51,7 +51,7 @@ pub at_sender : (k : Kernel) (pid : Pid) (p b : Process) (n : Name) → k.procs 
 at_sender k pid p b n at is t = same_Some b p (sym is ∙ ap k.procs (same_pid_is n.sender pid t) ∙ at)
 
 -- a process that is in no Send
-pub none_waited_for : (k : Kernel) (pid : Pid) (p : Process) → IsSound k → k.procs pid ≡ Some p → sending p.state ≡ None → WaitsForNone k pid
+pub none_waited_for : {sees : ℕ → Bool} (k : Kernel) (pid : Pid) (p : Process) → IsSoundAt sees k → k.procs pid ≡ Some p → sending p.state ≡ None → WaitsForNone k pid
 none_waited_for k pid p sound at quiet n e is t local live =
     let w = sound.awaited n e is local live in
     let state = ap (λ (x : Process). x.state) (sym (at_sender k pid p w.process n at w.is t)) ∙ w.blocked in
@@ -63,7 +63,7 @@ none_after s k l pid on none n e is mine local live =
     none n x.0 x.1 mine (ap (same_host n.sender) (sym x.2.target) ∙ local) (was_open k s n x.0 e x.2.stage live)
 
 -- registrations where as many processes live
-pub orderly_where : (k l : Kernel) (host : ℕ) → IsSound k → l.names host ≡ k.names host → ((q : Pid) → is_live (l.procs q) ≡ is_live (k.procs q)) → IsOrderly l host
+pub orderly_where : {sees : ℕ → Bool} (k l : Kernel) (host : ℕ) → IsSoundAt sees k → l.names host ≡ k.names host → ((q : Pid) → is_live (l.procs q) ≡ is_live (k.procs q)) → IsOrderly l host
 orderly_where k l host sound names live = record {
   registered = subst (All (IsRegistered l host)) (sym names) (All-weaker (IsRegistered k host) (IsRegistered l host) (λ r x. record { here = x.here; live = live r.pid ∙ x.live }) (k.names host) (sound.registered host));
   distinct = subst (IsDistinct same_logical) (sym names) (sound.distinct host);
@@ -89,7 +89,7 @@ pub one_exchange_changes : (s : Step) (k : Kernel) (name : Name) (e after : Exch
 one_exchange_changes s k name e after at on = related_put_exchange (ExchangeOn k s) k.exchanges name e after at on (exchange_self k s)
 
 -- a change of one process, and of exchanges
-pub goes_process : (s : Step) (k : Kernel) (pid : Pid) (p after : Process) (exchanges : Name → Option Exchange) (lookups : Pid → ℕ → Option Lookup) → IsSound k → k.procs pid ≡ Some p →
+pub goes_process : {sees : ℕ → Bool} (s : Step) (k : Kernel) (pid : Pid) (p after : Process) (exchanges : Name → Option Exchange) (lookups : Pid → ℕ → Option Lookup) → IsSoundAt sees k → k.procs pid ≡ Some p →
     ProcessOn s pid p after → after.alive ≡ p.alive → (after.state ≡ p.state) ⊎ (WaitsForNone k pid) → ChangesExchanges s k exchanges →
     GoesOn s k (record { procs = put_process k.procs pid after; exchanges = exchanges; arrived = k.arrived; names = k.names; lookups = lookups })
 goes_process s k pid p after exchanges lookups sound at on alive waits changes = record {
@@ -115,7 +115,7 @@ goes_process s k pid p after exchanges lookups sound at on alive waits changes =
     l = record { procs = put_process k.procs pid after; exchanges = exchanges; arrived = k.arrived; names = k.names; lookups = lookups }
 
 -- a change of exchanges alone
-pub goes_exchange : (s : Step) (k : Kernel) (exchanges : Name → Option Exchange) (lookups : Pid → ℕ → Option Lookup) → IsSound k → ChangesExchanges s k exchanges → GoesOn s k (record { procs = k.procs; exchanges = exchanges; arrived = k.arrived; names = k.names; lookups = lookups })
+pub goes_exchange : {sees : ℕ → Bool} (s : Step) (k : Kernel) (exchanges : Name → Option Exchange) (lookups : Pid → ℕ → Option Lookup) → IsSoundAt sees k → ChangesExchanges s k exchanges → GoesOn s k (record { procs = k.procs; exchanges = exchanges; arrived = k.arrived; names = k.names; lookups = lookups })
 goes_exchange s k exchanges lookups sound changes = record {
   processes = λ q. related_self (ProcessOn s q) (k.procs q) (process_self s q);
   exchanges = changes;

@@ -1,5 +1,5 @@
 -- Exit.
-use Rattle.std.proofs.Common.{◌≡◌, true, false, cond, ◌&&◌, not, option_map, Option, Some, None, is_some, refl, sym, ap, subst, ◌∙◌, inl, inr, arith}
+use Rattle.std.proofs.Common.{◌≡◌, Bool, ℕ, true, false, cond, ◌&&◌, not, option_map, Option, Some, None, is_some, refl, sym, ap, subst, ◌∙◌, inl, inr, arith}
 use Rattle.std.proofs.lemmas.Bool.{cases_Bool, both_ways, and_parts, not-true, cond-true, cond-false, cond_both}
 use Rattle.std.proofs.lemmas.Option.{same_Some}
 use Rattle.vk_base.specs.declared.answer.Answer.TheVariants as answers
@@ -15,10 +15,10 @@ use Rattle.vk_base.specs.declared.message.Message.{Message}
 use Rattle.vk_base.specs.declared.pid.Pid.{Pid}
 use Rattle.vk_base.specs.declared.step.Step.{Step}
 use Rattle.vk_base.specs.declared.step.Step.TheVariants as steps
-use Rattle.vk_base.specs.Calls.{exited, is_open_at, dropped_at, is_bereft, released}
-use Rattle.vk_base.specs.Kernel.{Kernel, holds_of, name_of, is_live, is_ready, is_open, sending, ended}
+use Rattle.vk_base.specs.Calls.{exited, is_message_at, dropped_at, is_bereft, released}
+use Rattle.vk_base.specs.Kernel.{Kernel, holds_of, name_of, is_live, is_ready, is_at_target, sending, ended}
 use Rattle.vk_base.specs.Pids.{same_pid, same_host}
-use Rattle.v_laws.specs.Sound.{IsSound, IsRegistered, same_logical}
+use Rattle.v_laws.specs.Sound.{IsSoundAt, IsRegistered, same_logical}
 use Rattle.v_laws.proofs.Changes.{ProcessOn, ExchangeOn, StageOn, GoesOn, WaitsForNone, process_self, exchange_self, was_open}
 use Rattle.v_laws.proofs.FilterLemmas.{distinct_filter, all_kept}
 use Rattle.v_laws.proofs.Related.{Related, related_before, related_map}
@@ -32,8 +32,8 @@ exit_of pid = steps.Call pid calls.Exit
 -- An exchange.
 drops : (k : Kernel) (pid : Pid) (n : Name) (e : Exchange) → ExchangeOn k (exit_of pid) n e (dropped_at pid e)
 unfolding exit_of
-drops k pid n e = cond_both (is_open_at pid e) (record e { stage = stages.Dropped }) e (ExchangeOn k (exit_of pid) n e)
-    (λ t. let parts = and_parts (same_pid e.target pid) (is_open e.stage) t in
+drops k pid n e = cond_both (is_message_at pid e) (record e { stage = stages.Dropped }) e (ExchangeOn k (exit_of pid) n e)
+    (λ t. let parts = and_parts (same_pid e.target pid) (is_at_target e.stage) t in
     record {
       target = refl;
       message = refl;
@@ -53,7 +53,7 @@ some_sends s (Some x) e t = sending_not_ready s x e
 -- A process of the station.
 releases : (k : Kernel) (pid q : Pid) (x : Process) → ProcessOn (exit_of pid) q x (released k pid q x)
 releases k pid q x = cond_both (is_bereft k pid q x) (record x { state = ended x.state (answers.Refused refusals.NoProcess) }) x (ProcessOn (exit_of pid) q x)
-    (λ t. let parts = and_parts (same_host q pid && is_some (sending x.state)) (holds_of (is_open_at pid) (k.exchanges (name_of q x.sends))) t in
+    (λ t. let parts = and_parts (same_host q pid && is_some (sending x.state)) (holds_of (is_message_at pid) (k.exchanges (name_of q x.sends))) t in
     process_ended (exit_of pid) q x (answers.Refused refusals.NoProcess) (some_sends x.state (sending x.state) refl (and_parts (same_host q pid) (is_some (sending x.state)) parts.0).1))
     (λ f. process_self (exit_of pid) q x)
 
@@ -73,26 +73,26 @@ abbrev procs_after : Kernel → Pid → Process → Pid → Option Process
 procs_after k pid p q = cond (same_pid q pid) (Some (record p { alive = false })) (option_map (released k pid q) (k.procs q))
 
 -- A released process waits for none: its last exchange is dropped.
-dropped_not_open : (pid : Pid) (e : Exchange) → is_open_at pid e ≡ true → is_open (dropped_at pid e).stage ≡ false
-dropped_not_open pid e t = ap (λ (x : Exchange). is_open x.stage) (cond-true (is_open_at pid e) (record e { stage = stages.Dropped }) e t)
+dropped_not_at_target : (pid : Pid) (e : Exchange) → is_message_at pid e ≡ true → is_at_target (dropped_at pid e).stage ≡ false
+dropped_not_at_target pid e t = ap (λ (x : Exchange). is_at_target x.stage) (cond-true (is_message_at pid e) (record e { stage = stages.Dropped }) e t)
 
-bereft_none : (k : Kernel) (pid q : Pid) (x : Process) → IsSound k → k.procs q ≡ Some x → is_bereft k pid q x ≡ true → (n : Name) (e : Exchange) → option_map (dropped_at pid) (k.exchanges n) ≡ Some e → same_pid n.sender q ≡ true → same_host n.sender e.target ≡ true → is_open e.stage ≡ true → ⊥
+bereft_none : {sees : ℕ → Bool} (k : Kernel) (pid q : Pid) (x : Process) → IsSoundAt sees k → k.procs q ≡ Some x → is_bereft k pid q x ≡ true → (n : Name) (e : Exchange) → option_map (dropped_at pid) (k.exchanges n) ≡ Some e → same_pid n.sender q ≡ true → same_host n.sender e.target ≡ true → is_at_target e.stage ≡ true → ⊥
 bereft_none k pid q x sound at bereft n e is mine local live =
     let y = related_before (ExchangeOn k (exit_of pid) n) (k.exchanges n) (option_map (dropped_at pid) (k.exchanges n)) e (exit_changes k pid n) is in
     let w = sound.awaited n y.0 y.1 (ap (same_host n.sender) (sym y.2.target) ∙ local) (was_open k (exit_of pid) n y.0 e y.2.stage live) in
     let number = sym w.last ∙ ap (λ (p : Process). p.sends) (at_sender k q x w.process n at w.is mine) in
     let sender = same_pid_is n.sender q mine in
     let there : k.exchanges n ≡ k.exchanges (name_of q x.sends) = λ i. k.exchanges (name_of (sender i) (number i)) in
-    let open_there = (and_parts (same_host q pid && is_some (sending x.state)) (holds_of (is_open_at pid) (k.exchanges (name_of q x.sends))) bereft).1 in
-    let opened : is_open_at pid y.0 ≡ true = ap (holds_of (is_open_at pid)) (sym y.1 ∙ there) ∙ open_there in
+    let open_there = (and_parts (same_host q pid && is_some (sending x.state)) (holds_of (is_message_at pid) (k.exchanges (name_of q x.sends))) bereft).1 in
+    let opened : is_message_at pid y.0 ≡ true = ap (holds_of (is_message_at pid)) (sym y.1 ∙ there) ∙ open_there in
     let after = same_Some (dropped_at pid y.0) e (ap (option_map (dropped_at pid)) (sym y.1) ∙ is) in
-    both_ways (is_open e.stage) (sym (ap (λ (z : Exchange). is_open z.stage) after) ∙ dropped_not_open pid y.0 opened) live
+    both_ways (is_at_target e.stage) (sym (ap (λ (z : Exchange). is_at_target z.stage) after) ∙ dropped_not_at_target pid y.0 opened) live
 
 lives_released : (k : Kernel) (pid q : Pid) (o : Option Process) → is_live (option_map (released k pid q) o) ≡ is_live o
 lives_released k pid q None = refl
 lives_released k pid q (Some x) = cond_both (is_bereft k pid q x) (record x { state = ended x.state (answers.Refused refusals.NoProcess) }) x (λ (y : Process). y.alive ≡ x.alive) (λ t. refl) (λ f. refl)
 
-pub goes_exited : (k : Kernel) (pid : Pid) (p : Process) → IsSound k → k.procs pid ≡ Some p → p.alive ≡ true → is_ready p.state ≡ true → GoesOn (steps.Call pid calls.Exit) k (exited k pid p)
+pub goes_exited : {sees : ℕ → Bool} (k : Kernel) (pid : Pid) (p : Process) → IsSoundAt sees k → k.procs pid ≡ Some p → p.alive ≡ true → is_ready p.state ≡ true → GoesOn (steps.Call pid calls.Exit) k (exited k pid p)
 unfolding exited exit_of
 goes_exited k pid p sound at alive ready = record {
   processes = λ q. elim (cases_Bool (same_pid q pid)) [

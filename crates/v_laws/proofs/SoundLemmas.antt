@@ -1,5 +1,5 @@
 -- Each step keeps what holds of every kernel that a run reaches.
-use Rattle.std.proofs.Common.{◌≡◌, false, List, [], ◌∷◌, find, option_map, Option, Some, None, refl, sym, ap, subst, ◌∙◌}
+use Rattle.std.proofs.Common.{◌≡◌, Bool, ℕ, false, List, [], ◌∷◌, find, option_map, Option, Some, None, refl, sym, ap, subst, ◌∙◌}
 use Rattle.std.proofs.lemmas.Bool.{both_ways}
 use Rattle.std.proofs.lemmas.List.Elements.{All-nil}
 use Rattle.std.proofs.lemmas.Option.{same_Some, none-some}
@@ -10,11 +10,11 @@ use Rattle.vk_base.specs.declared.kernel.State.TheVariants as states
 use Rattle.vk_base.specs.declared.step.Step.{Step}
 use Rattle.vk_base.specs.declared.step.Step.TheVariants as steps
 use Rattle.vk_base.specs.Calls.{Effect, call_refusal}
-use Rattle.vk_base.specs.Kernel.{Kernel, opening, opened, name_of, is_ready, sending}
+use Rattle.vk_base.specs.Kernel.{Kernel, initial_kernel, initial_process, name_of, is_ready, sending}
 use Rattle.vk_base.specs.Settings.{is_process}
 use Rattle.vk_base.specs.Steps.{Run, effect, run, arriving, taking, finishing, failing, opening_move, copying, ending, hearing, asking, finding, collecting}
 use Rattle.vk_base.proofs.OptionLemmas.{bind_is}
-use Rattle.v_laws.specs.Sound.{IsSound, IsRegistered}
+use Rattle.v_laws.specs.Sound.{IsSoundAt, IsRegistered}
 use Rattle.v_laws.proofs.Changes.{sound_onward}
 use Rattle.v_laws.proofs.SoundArrive.{sound_arrived}
 use Rattle.v_laws.proofs.SoundCalls.{IsStep, as_effect, called_is}
@@ -27,29 +27,29 @@ use Rattle.v_laws.proofs.SoundTakes.{goes_taken, goes_finished, goes_failed, goe
 pub use Rattle.v_laws.proofs.States.{ready_sends_none}
 use Rattle.v_laws.proofs.StepLemmas.{asking_is, finding_is}
 
--- The opening kernel.
-pub opened_ready : (o : Option ProcessSpec) (p : Process) → option_map opened o ≡ Some p → p.state ≡ states.Ready
-opened_ready None p e = absurd (none-some p e)
-opened_ready (Some s) p e = ap (λ (x : Process). x.state) (sym (same_Some (opened s) p e))
+-- The initial kernel.
+pub initial_ready : (o : Option ProcessSpec) (p : Process) → option_map initial_process o ≡ Some p → p.state ≡ states.Ready
+initial_ready None p e = absurd (none-some p e)
+initial_ready (Some s) p e = ap (λ (x : Process). x.state) (sym (same_Some (initial_process s) p e))
 
-pub sound_opening : (specs : List ProcessSpec) → IsSound (opening specs)
+pub sound_initial : {sees : ℕ → Bool} (specs : List ProcessSpec) → IsSoundAt sees (initial_kernel specs)
 unfolding IsDistinct
-sound_opening specs = record {
+sound_initial specs = record {
   begun = λ n e is. absurd (none-some e is);
   awaited = λ n e is local live. absurd (none-some e is);
   known = λ n among. absurd (both_ways false refl among);
   once = tt;
   posted = λ n e is away. absurd (none-some e is);
   came = λ n e is live. absurd (none-some e is);
-  settled = λ sender m n x y at_x at_y less near gone. absurd (none-some x at_x);
-  resting = λ pid p at dead. ap is_ready (opened_ready (find (is_process pid) specs) p at);
-  sent = λ pid p target m at sends. absurd (none-some (target, m) (ap sending (sym (opened_ready (find (is_process pid) specs) p at)) ∙ sends));
-  registered = λ host. All-nil (IsRegistered (opening specs) host);
+  settled = λ sender m n x y at_x at_y less near seen gone. absurd (none-some x at_x);
+  resting = λ pid p at dead. ap is_ready (initial_ready (find (is_process pid) specs) p at);
+  sent = λ pid p target m at sends. absurd (none-some (target, m) (ap sending (sym (initial_ready (find (is_process pid) specs) p at)) ∙ sends));
+  registered = λ host. All-nil (IsRegistered (initial_kernel specs) host);
   distinct = λ host. tt;
 }
 
 -- What each step is.
-pub step_is : (k : Kernel) (s : Step) (e : Effect) → IsSound k → effect k s ≡ Some e → IsStep s k e.after
+pub step_is : {sees : ℕ → Bool} (k : Kernel) (s : Step) (e : Effect) → IsSoundAt sees k → effect k s ≡ Some e → IsStep s k e.after
 step_is k (steps.Call pid c) e sound g =
     let p = bind_is (k.procs pid) _ e g in
     called_is k pid p.0 c (call_refusal k pid p.0 c) e sound p.1 refl p.2
@@ -71,18 +71,18 @@ step_is k (steps.Found asker pid) e sound g = let p = bind_is (finding k asker p
 step_is k (steps.Lost asker) e sound g = let p = bind_is (asking k asker) _ e g in as_effect (steps.Lost asker) k _ e p.2 (goes_told (steps.Lost asker) k asker p.0 _ sound (asking_is k asker p.0 p.1))
 step_is k (steps.Collect pid) e sound g = let d = bind_is (collecting k pid) _ e g in as_effect (steps.Collect pid) k _ e d.2 (goes_collected k pid d.0 sound d.1)
 
-sound_after : (s : Step) (k l : Kernel) → IsSound k → IsStep s k l → IsSound l
-sound_after s k l sound (IsStep.goes on) = sound_onward s k l sound on
-sound_after s k l sound (IsStep.sends pid p target m is at fit after) = subst IsSound (sym after) (sound_sent k pid p target m sound at fit.alive fit.ready)
-sound_after s k l sound (IsStep.arrives name e is g after) = subst IsSound (sym after) (sound_arrived k name e sound g)
+sound_after : {sees : ℕ → Bool} (s : Step) (k l : Kernel) → IsSoundAt sees k → IsStep s k l → IsSoundAt sees l
+sound_after {sees} s k l sound (IsStep.goes on) = sound_onward s k l sound on
+sound_after {sees} s k l sound (IsStep.sends pid p target m is at fit after) = subst (IsSoundAt sees) (sym after) (sound_sent k pid p target m sound at fit.alive fit.ready)
+sound_after {sees} s k l sound (IsStep.arrives name e is g after) = subst (IsSoundAt sees) (sym after) (sound_arrived k name e sound g)
 
-pub sound_step : (k : Kernel) (s : Step) (e : Effect) → IsSound k → effect k s ≡ Some e → IsSound e.after
+pub sound_step : {sees : ℕ → Bool} (k : Kernel) (s : Step) (e : Effect) → IsSoundAt sees k → effect k s ≡ Some e → IsSoundAt sees e.after
 sound_step k s e sound g = sound_after s k e.after sound (step_is k s e sound g)
 
-pub sound_run : (k : Kernel) (ss : List Step) (r : Run) → IsSound k → run k ss ≡ Some r → IsSound r.after
+pub sound_run : {sees : ℕ → Bool} (k : Kernel) (ss : List Step) (r : Run) → IsSoundAt sees k → run k ss ≡ Some r → IsSoundAt sees r.after
 unfolding run
-sound_run k [] r sound g = subst (λ (x : Run). IsSound x.after) (same_Some _ r g) sound
-sound_run k (s ∷ ss) r sound g =
+sound_run {sees} k [] r sound g = subst (λ (x : Run). IsSoundAt sees x.after) (same_Some _ r g) sound
+sound_run {sees} k (s ∷ ss) r sound g =
     let e = bind_is (effect k s) _ r g in
     let rest = bind_is (run e.0.after ss) _ r e.2 in
-    subst (λ (x : Run). IsSound x.after) (same_Some _ r rest.2) (sound_run e.0.after ss rest.0 (sound_step k s e.0 sound e.1) rest.1)
+    subst (λ (x : Run). IsSoundAt sees x.after) (same_Some _ r rest.2) (sound_run e.0.after ss rest.0 (sound_step k s e.0 sound e.1) rest.1)

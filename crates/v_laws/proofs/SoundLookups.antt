@@ -18,7 +18,7 @@ use Rattle.vk_base.specs.declared.step.Step.{Step}
 use Rattle.vk_base.specs.Calls.{registered, lookup_begun, with_name}
 use Rattle.vk_base.specs.Kernel.{Kernel, is_live, is_ready, sending, ended, others, put_names, put_lookup, with_state}
 use Rattle.vk_base.specs.Pids.{same_host}
-use Rattle.v_laws.specs.Sound.{IsSound, IsRegistered, same_logical}
+use Rattle.v_laws.specs.Sound.{IsSoundAt, IsRegistered, same_logical}
 use Rattle.v_laws.proofs.Changes.{ProcessOn, GoesOn, IsOrderly, process_self}
 use Rattle.v_laws.proofs.Related.{related_self}
 use Rattle.v_laws.proofs.SoundChanges.{process_begun, process_ended, none_waited_for, no_exchange_changes, goes_process, goes_exchange, orderly_where}
@@ -40,7 +40,7 @@ same_logical_laws = record {
   congr = λ x y z e. ap (λ l. l == z.logical) (eqb-true x.logical y.logical e);
 }
 
-registered_here : (k : Kernel) (pid : Pid) (logical : ℕ) (q : Pid) (scope : Scope) → IsSound k → same_host pid q ≡ true → is_live (k.procs q) ≡ true → IsOrderly (registered k pid logical q scope) pid.host
+registered_here : {sees : ℕ → Bool} (k : Kernel) (pid : Pid) (logical : ℕ) (q : Pid) (scope : Scope) → IsSoundAt sees k → same_host pid q ≡ true → is_live (k.procs q) ≡ true → IsOrderly (registered k pid logical q scope) pid.host
 unfolding put_names
 registered_here k pid logical q scope sound near live =
     let r : Registration = record { logical = logical; pid = q; scope = scope } in
@@ -57,7 +57,7 @@ registered_here k pid logical q scope sound near live =
           (none_kept (same_logical r) keep (k.names pid.host) (λ x t. same_eqb r.logical x.logical ∙ not-true (x.logical == logical) t)));
     }
 
-pub goes_registered : (s : Step) (k : Kernel) (pid : Pid) (logical : ℕ) (q : Pid) (scope : Scope) → IsSound k → same_host pid q ≡ true → is_live (k.procs q) ≡ true → GoesOn s k (registered k pid logical q scope)
+pub goes_registered : {sees : ℕ → Bool} (s : Step) (k : Kernel) (pid : Pid) (logical : ℕ) (q : Pid) (scope : Scope) → IsSoundAt sees k → same_host pid q ≡ true → is_live (k.procs q) ≡ true → GoesOn s k (registered k pid logical q scope)
 unfolding put_names
 goes_registered s k pid logical q scope sound near live = record {
   processes = λ x. related_self (ProcessOn s x) (k.procs x) (process_self s x);
@@ -77,7 +77,7 @@ goes_registered s k pid logical q scope sound near live = record {
     r = record { logical = logical; pid = q; scope = scope }
 
 -- GetPid.
-pub goes_lookup : (s : Step) (k : Kernel) (pid : Pid) (p : Process) (c : Call) (logical : ℕ) → IsSound k → k.procs pid ≡ Some p → p.alive ≡ true → is_ready p.state ≡ true → sending (states.Blocked c) ≡ None → GoesOn s k (lookup_begun k pid p c logical)
+pub goes_lookup : {sees : ℕ → Bool} (s : Step) (k : Kernel) (pid : Pid) (p : Process) (c : Call) (logical : ℕ) → IsSoundAt sees k → k.procs pid ≡ Some p → p.alive ≡ true → is_ready p.state ≡ true → sending (states.Blocked c) ≡ None → GoesOn s k (lookup_begun k pid p c logical)
 unfolding lookup_begun
 goes_lookup s k pid p c logical sound at alive ready quiet =
     let after : Process = record p { state = states.Blocked c; lookups = p.lookups + 1 } in
@@ -87,11 +87,11 @@ goes_lookup s k pid p c logical sound at alive ready quiet =
     (no_exchange_changes s k)
 
 -- Hear.
-pub goes_heard : (s : Step) (k : Kernel) (lookups : Pid → ℕ → Option Lookup) → IsSound k → GoesOn s k (record k { lookups = lookups })
+pub goes_heard : {sees : ℕ → Bool} (s : Step) (k : Kernel) (lookups : Pid → ℕ → Option Lookup) → IsSoundAt sees k → GoesOn s k (record k { lookups = lookups })
 goes_heard s k lookups sound = goes_exchange s k k.exchanges lookups sound (no_exchange_changes s k)
 
 -- Found and Lost.
-pub goes_told : (s : Step) (k : Kernel) (asker : Pid) (p : Process) (a : Answer) → IsSound k → IsAsking k asker p → GoesOn s k (with_state k asker p (ended p.state a))
+pub goes_told : {sees : ℕ → Bool} (s : Step) (k : Kernel) (asker : Pid) (p : Process) (a : Answer) → IsSoundAt sees k → IsAsking k asker p → GoesOn s k (with_state k asker p (ended p.state a))
 goes_told s k asker p a sound is =
     goes_process s k asker p (record p { state = ended p.state a }) k.exchanges k.lookups sound is.process
     (process_ended s asker p a (asking_not_ready p.state is.asks)) refl

@@ -15,9 +15,9 @@ use Rattle.vk_base.specs.declared.kernel.State.TheVariants as states
 use Rattle.vk_base.specs.declared.message.Message.{Message}
 use Rattle.vk_base.specs.declared.pid.Pid.{Pid}
 use Rattle.vk_base.specs.Calls.{sent, sent_exchange}
-use Rattle.vk_base.specs.Kernel.{Kernel, name_of, same_name, is_ready, is_posted, is_open, sending, put_process, put_exchange}
+use Rattle.vk_base.specs.Kernel.{Kernel, name_of, same_name, is_ready, is_posted, is_at_target, sending, put_process, put_exchange}
 use Rattle.vk_base.specs.Pids.{same_pid, same_host}
-use Rattle.v_laws.specs.Sound.{IsSound, IsBegun, IsAwaited, IsUnderWay, IsSent, has_arrived, is_settled}
+use Rattle.v_laws.specs.Sound.{IsSoundAt, IsBegun, IsAwaited, IsUnderWay, IsSent, has_arrived, is_settled}
 use Rattle.v_laws.proofs.Changes.{WaitsForNone, IsOrderly}
 use Rattle.v_laws.proofs.Queues.{fresh, not_arrived}
 use Rattle.v_laws.proofs.SoundChanges.{at_sender, none_waited_for, orderly_where, lives_put}
@@ -53,12 +53,12 @@ new_away : (b : Bool) → is_posted (cond b stages.Queued stages.Posted) ≡ fal
 new_away true f = refl
 new_away false f = absurd (both_ways true f refl)
 
-new_open : (b : Bool) → is_open (cond b stages.Queued stages.Posted) ≡ true → b ≡ true
+new_open : (b : Bool) → is_at_target (cond b stages.Queued stages.Posted) ≡ true → b ≡ true
 new_open true t = refl
 new_open false t = absurd (both_ways false refl t)
 
 -- what is neither posted nor open is settled
-pub neither_settled : (s : Stage) → (is_posted s ≡ true → ⊥) → (is_open s ≡ true → ⊥) → is_settled s ≡ true
+pub neither_settled : (s : Stage) → (is_posted s ≡ true → ⊥) → (is_at_target s ≡ true → ⊥) → is_settled s ≡ true
 neither_settled stages.Posted f g = absurd (f refl)
 neither_settled stages.Queued f g = absurd (g refl)
 neither_settled stages.Taken f g = absurd (g refl)
@@ -66,14 +66,14 @@ neither_settled (stages.Replied m d b) f g = refl
 neither_settled stages.Dropped f g = refl
 
 -- an exchange of a process that waits for none to a target of its own station
-local_settled : (k : Kernel) (n : Name) (e : Exchange) → IsSound k → k.exchanges n ≡ Some e → WaitsForNone k n.sender → same_host n.sender e.target ≡ true → is_settled e.stage ≡ true
+local_settled : {sees : ℕ → Bool} (k : Kernel) (n : Name) (e : Exchange) → IsSoundAt sees k → k.exchanges n ≡ Some e → WaitsForNone k n.sender → same_host n.sender e.target ≡ true → is_settled e.stage ≡ true
 local_settled k n e sound is none local = neither_settled e.stage
     (λ t. both_ways (same_host n.sender e.target) (sound.posted n e is t).remote local)
     (λ t. none n e is (same_pid_self n.sender) local t)
 
-pub sound_sent : (k : Kernel) (pid : Pid) (p : Process) (target : Pid) (m : Message) → IsSound k → k.procs pid ≡ Some p → p.alive ≡ true → is_ready p.state ≡ true → IsSound (sent k pid p target m)
+pub sound_sent : {sees : ℕ → Bool} (k : Kernel) (pid : Pid) (p : Process) (target : Pid) (m : Message) → IsSoundAt sees k → k.procs pid ≡ Some p → p.alive ≡ true → is_ready p.state ≡ true → IsSoundAt sees (sent k pid p target m)
 unfolding sent
-sound_sent k pid p target m sound at alive ready = record {
+sound_sent {sees} k pid p target m sound at alive ready = record {
   begun = λ n e is. begun n e is;
   awaited = λ n e is local live. awaited n e is local live;
   known = λ n among. elim (cases_Bool (same_name n name)) [
@@ -83,7 +83,7 @@ sound_sent k pid p target m sound at alive ready = record {
   once = once_more k name local_pair sound.once new;
   posted = λ n e is away. posted n e is away;
   came = λ n e is live. came n e is live;
-  settled = λ sender a b e f at_e at_f less near gone. settled sender a b e f at_e at_f less near gone;
+  settled = λ sender a b e f at_e at_f less near seen gone. settled sender a b e f at_e at_f less near seen gone;
   resting = λ q x is dead. elim (cases_Bool (same_pid q pid)) [
     | inl t ↦ absurd (both_ways x.alive dead (sym (ap (λ (y : Process). y.alive) (same_Some after x (sym (put_process_at k.procs pid after q t) ∙ is))) ∙ alive))
     | inr f ↦ sound.resting q x (sym (put_process_other k.procs pid after q f) ∙ is) dead
@@ -130,7 +130,7 @@ sound_sent k pid p target m sound at alive ready = record {
           ]
     ]
 
-    awaited : (n : Name) (e : Exchange) → put_exchange k.exchanges (name_of pid (p.sends + 1)) (sent_exchange pid p target m) n ≡ Some e → same_host n.sender e.target ≡ true → is_open e.stage ≡ true → IsAwaited (sent k pid p target m) n e
+    awaited : (n : Name) (e : Exchange) → put_exchange k.exchanges (name_of pid (p.sends + 1)) (sent_exchange pid p target m) n ≡ Some e → same_host n.sender e.target ≡ true → is_at_target e.stage ≡ true → IsAwaited (sent k pid p target m) n e
     awaited n e is local live = elim (cases_Bool (same_name n name)) [
       | inl t ↦ let parts = and_parts (same_pid n.sender pid) (n.number == p.sends + 1) t in
           let mine = same_Some x e (sym (put_exchange_at k.exchanges name x n t) ∙ is) in
@@ -165,17 +165,17 @@ sound_sent k pid p target m sound at alive ready = record {
           record { remote = u.remote; away = any_other n name local_pair k.arrived f ∙ u.away }
     ]
 
-    came : (n : Name) (e : Exchange) → put_exchange k.exchanges (name_of pid (p.sends + 1)) (sent_exchange pid p target m) n ≡ Some e → is_open e.stage ≡ true → has_arrived (sent k pid p target m) n ≡ true
+    came : (n : Name) (e : Exchange) → put_exchange k.exchanges (name_of pid (p.sends + 1)) (sent_exchange pid p target m) n ≡ Some e → is_at_target e.stage ≡ true → has_arrived (sent k pid p target m) n ≡ true
     came n e is live = elim (cases_Bool (same_name n name)) [
       | inl t ↦
           let mine = same_Some x e (sym (put_exchange_at k.exchanges name x n t) ∙ is) in
-          let near = new_open local_pair (ap (λ (y : Exchange). is_open y.stage) mine ∙ live) in
+          let near = new_open local_pair (ap (λ (y : Exchange). is_at_target y.stage) mine ∙ live) in
           ap (list_any (same_name n)) (cond-true local_pair (k.arrived ++ name ∷ []) k.arrived near) ∙ any_here n name k.arrived t
       | inr f ↦ any_kept n name local_pair k.arrived (sound.came n e (sym (put_exchange_other k.exchanges name x n f) ∙ is) live)
     ]
 
-    settled : (sender : Pid) (a b : ℕ) (e f : Exchange) → put_exchange k.exchanges (name_of pid (p.sends + 1)) (sent_exchange pid p target m) (name_of sender a) ≡ Some e → put_exchange k.exchanges (name_of pid (p.sends + 1)) (sent_exchange pid p target m) (name_of sender b) ≡ Some f → a < b → same_host e.target f.target ≡ true → is_posted f.stage ≡ false → is_settled e.stage ≡ true
-    settled sender a b e f at_e at_f less near gone = elim (cases_Bool (same_name (name_of sender a) name)) [
+    settled : (sender : Pid) (a b : ℕ) (e f : Exchange) → put_exchange k.exchanges (name_of pid (p.sends + 1)) (sent_exchange pid p target m) (name_of sender a) ≡ Some e → put_exchange k.exchanges (name_of pid (p.sends + 1)) (sent_exchange pid p target m) (name_of sender b) ≡ Some f → a < b → same_host e.target f.target ≡ true → sees f.target.host ≡ true → is_posted f.stage ≡ false → is_settled e.stage ≡ true
+    settled sender a b e f at_e at_f less near seen gone = elim (cases_Bool (same_name (name_of sender a) name)) [
       | inl t ↦
           let sender_is = (and_parts (same_pid sender pid) (a == p.sends + 1) t).0 in
           let number : a ≡ p.sends + 1 = eqb-true a (p.sends + 1) (and_parts (same_pid sender pid) (a == p.sends + 1) t).1 in
@@ -197,7 +197,7 @@ sound_sent k pid p target m sound at alive ready = record {
             let host : e.target.host ≡ target.host = eqb-true e.target.host f.target.host near ∙ ap (λ (y : Exchange). y.target.host) (sym mine) in
             let home : sender.host ≡ e.target.host = ap (λ (z : Pid). z.host) is_sender ∙ eqb-true pid.host target.host pair ∙ sym host in
             local_settled k (name_of sender a) e sound (sym (put_exchange_other k.exchanges name x (name_of sender a) u) ∙ at_e) (subst (WaitsForNone k) (sym is_sender) none) (eq-eqb sender.host e.target.host home)
-        | inr w ↦ sound.settled sender a b e f (sym (put_exchange_other k.exchanges name x (name_of sender a) u) ∙ at_e) (sym (put_exchange_other k.exchanges name x (name_of sender b) w) ∙ at_f) less near gone
+        | inr w ↦ sound.settled sender a b e f (sym (put_exchange_other k.exchanges name x (name_of sender a) u) ∙ at_e) (sym (put_exchange_other k.exchanges name x (name_of sender b) w) ∙ at_f) less near seen gone
       ]
     ]
 

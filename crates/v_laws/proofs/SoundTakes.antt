@@ -1,5 +1,5 @@
 -- Take, Finish, Fail and Collect.
-use Rattle.std.proofs.Common.{◌≡◌, true, false, Some, None, refl, sym, ap, subst, ◌∙◌, inr, arith}
+use Rattle.std.proofs.Common.{◌≡◌, Bool, ℕ, true, false, Some, None, refl, sym, ap, subst, ◌∙◌, inr, arith}
 use Rattle.std.proofs.lemmas.Bool.{both_ways}
 use Rattle.std.proofs.lemmas.Option.{same_Some, none-some}
 use Rattle.vk_base.specs.declared.answer.Answer.{Answer}
@@ -14,11 +14,11 @@ use Rattle.vk_base.specs.declared.kernel.Stage.TheVariants as stages
 use Rattle.vk_base.specs.declared.kernel.State.TheVariants as states
 use Rattle.vk_base.specs.declared.pid.Pid.{Pid}
 use Rattle.vk_base.specs.declared.step.Step.TheVariants as steps
-use Rattle.vk_base.specs.Kernel.{is_ready, Kernel, name_of, is_open, reply_of, ended, put_exchange, with_state}
+use Rattle.vk_base.specs.Kernel.{is_ready, Kernel, name_of, is_at_target, reply_of, ended, put_exchange, with_state}
 use Rattle.vk_base.specs.Pids.{same_host}
 use Rattle.vk_base.specs.Ranges.{with_bytes}
 use Rattle.vk_base.specs.Steps.{Taking, Finishing, Collecting, taking, taken, received, with_part, finishing, finished, failing, collecting}
-use Rattle.v_laws.specs.Sound.{IsSound}
+use Rattle.v_laws.specs.Sound.{IsSoundAt}
 use Rattle.v_laws.proofs.Changes.{ExchangeOn, StageOn, GoesOn, WaitsForNone, sound_onward}
 use Rattle.v_laws.proofs.Queues.{taken_was_queued}
 use Rattle.v_laws.proofs.SoundChanges.{process_done, process_ended, at_sender, none_waited_for, no_exchange_changes, one_exchange_changes, goes_process}
@@ -39,7 +39,7 @@ takes k r t e =
       stage = StageOn.taken t (ap steps.Take same) (subst (λ z. taking k z ≡ Some t) same e) refl queued.1 refl;
     }
 
-pub goes_taken : (k : Kernel) (r : Pid) (t : Taking) → IsSound k → taking k r ≡ Some t → GoesOn (steps.Take r) k (taken k r t)
+pub goes_taken : {sees : ℕ → Bool} (k : Kernel) (r : Pid) (t : Taking) → IsSoundAt sees k → taking k r ≡ Some t → GoesOn (steps.Take r) k (taken k r t)
 unfolding taken
 goes_taken k r t sound e =
     let is = taking_is k r t e in
@@ -49,41 +49,41 @@ goes_taken k r t sound e =
     (inr (none_waited_for k r t.process sound is.process (receiving_sends_none t.process.state t.call is.call)))
     (one_exchange_changes (steps.Take r) k t.name t.exchange (record t.exchange { stage = stages.Taken }) is.exchange (takes k r t e))
 
-pub sound_taken : (k : Kernel) (r : Pid) (t : Taking) → IsSound k → taking k r ≡ Some t → IsSound (taken k r t)
+pub sound_taken : {sees : ℕ → Bool} (k : Kernel) (r : Pid) (t : Taking) → IsSoundAt sees k → taking k r ≡ Some t → IsSoundAt sees (taken k r t)
 sound_taken k r t sound e = sound_onward (steps.Take r) k (taken k r t) sound (goes_taken k r t sound e)
 
 -- Where the exchange of the last Send of a process is not both local and open, it waits for none.
-none_but_last : (k : Kernel) (s : Pid) (p : Process) (e : Exchange) → IsSound k → k.procs s ≡ Some p → k.exchanges (name_of s p.sends) ≡ Some e → (same_host s e.target ≡ true → is_open e.stage ≡ true → ⊥) → WaitsForNone k s
+none_but_last : {sees : ℕ → Bool} (k : Kernel) (s : Pid) (p : Process) (e : Exchange) → IsSoundAt sees k → k.procs s ≡ Some p → k.exchanges (name_of s p.sends) ≡ Some e → (same_host s e.target ≡ true → is_at_target e.stage ≡ true → ⊥) → WaitsForNone k s
 none_but_last k s p e sound at is shut n x at_x t local live =
     let w = sound.awaited n x at_x local live in
     let number = sym w.last ∙ ap (λ (q : Process). q.sends) (at_sender k s p w.process n at w.is t) in
     let sender = same_pid_is n.sender s t in
     let there : k.exchanges n ≡ k.exchanges (name_of s p.sends) = λ i. k.exchanges (name_of (sender i) (number i)) in
     let same = same_Some x e (sym at_x ∙ there ∙ is) in
-    shut (sym (λ i. same_host (sender i) ((same i).target)) ∙ local) (sym (ap (λ (y : Exchange). is_open y.stage) same) ∙ live)
+    shut (sym (λ i. same_host (sender i) ((same i).target)) ∙ local) (sym (ap (λ (y : Exchange). is_at_target y.stage) same) ∙ live)
 
 -- Finish.
-open_has_no_reply : (s : Stage) → is_open s ≡ true → reply_of s ≡ None
-open_has_no_reply stages.Posted t = refl
-open_has_no_reply stages.Queued t = refl
-open_has_no_reply stages.Taken t = refl
-open_has_no_reply (stages.Replied m d b) t = absurd (both_ways false refl t)
-open_has_no_reply stages.Dropped t = refl
+at_target_has_no_reply : (s : Stage) → is_at_target s ≡ true → reply_of s ≡ None
+at_target_has_no_reply stages.Posted t = refl
+at_target_has_no_reply stages.Queued t = refl
+at_target_has_no_reply stages.Taken t = refl
+at_target_has_no_reply (stages.Replied m d b) t = absurd (both_ways false refl t)
+at_target_has_no_reply stages.Dropped t = refl
 
-pub goes_finished : (k : Kernel) (s : Pid) (f : Finishing) → IsSound k → finishing k s ≡ Some f → GoesOn (steps.Finish s) k (finished k s f)
+pub goes_finished : {sees : ℕ → Bool} (k : Kernel) (s : Pid) (f : Finishing) → IsSoundAt sees k → finishing k s ≡ Some f → GoesOn (steps.Finish s) k (finished k s f)
 goes_finished k s f sound e =
     let is = finishing_is k s f e in
     let after : Process = record f.process { memory = with_bytes f.process.memory f.dest f.bytes; state = states.Done (calls.Send f.target f.message) (answers.Replied f.reply) } in
     goes_process (steps.Finish s) k s f.process after k.exchanges k.lookups sound is.process
     (process_done (steps.Finish s) s f.process after (sending_not_ready f.process.state (f.target, f.message) is.send) refl refl (omega arith) refl refl) refl
-    (inr (none_but_last k s f.process is.exchange sound is.process is.at (λ local live. none-some (f.reply, f.dest, f.bytes) (sym (open_has_no_reply is.exchange.stage live) ∙ is.reply))))
+    (inr (none_but_last k s f.process is.exchange sound is.process is.at (λ local live. none-some (f.reply, f.dest, f.bytes) (sym (at_target_has_no_reply is.exchange.stage live) ∙ is.reply))))
     (no_exchange_changes (steps.Finish s) k)
 
-pub sound_finished : (k : Kernel) (s : Pid) (f : Finishing) → IsSound k → finishing k s ≡ Some f → IsSound (finished k s f)
+pub sound_finished : {sees : ℕ → Bool} (k : Kernel) (s : Pid) (f : Finishing) → IsSoundAt sees k → finishing k s ≡ Some f → IsSoundAt sees (finished k s f)
 sound_finished k s f sound e = sound_onward (steps.Finish s) k (finished k s f) sound (goes_finished k s f sound e)
 
 -- Fail.
-pub goes_failed : (k : Kernel) (s : Pid) (why : Ending) (f : Process × Refusal) → IsSound k → failing k s why ≡ Some f → GoesOn (steps.Fail s why) k (with_state k s f.0 (ended f.0.state (answers.Refused f.1)))
+pub goes_failed : {sees : ℕ → Bool} (k : Kernel) (s : Pid) (why : Ending) (f : Process × Refusal) → IsSoundAt sees k → failing k s why ≡ Some f → GoesOn (steps.Fail s why) k (with_state k s f.0 (ended f.0.state (answers.Refused f.1)))
 goes_failed k s why f sound e =
     let is = failing_is k s why f e in
     let a : Answer = answers.Refused f.1 in
@@ -93,7 +93,7 @@ goes_failed k s why f sound e =
     (no_exchange_changes (steps.Fail s why) k)
 
 -- Collect.
-pub goes_collected : (k : Kernel) (pid : Pid) (d : Collecting) → IsSound k → collecting k pid ≡ Some d → GoesOn (steps.Collect pid) k (with_state k pid d.process states.Ready)
+pub goes_collected : {sees : ℕ → Bool} (k : Kernel) (pid : Pid) (d : Collecting) → IsSoundAt sees k → collecting k pid ≡ Some d → GoesOn (steps.Collect pid) k (with_state k pid d.process states.Ready)
 goes_collected k pid d sound e =
     let is = collecting_is k pid d e in
     goes_process (steps.Collect pid) k pid d.process (record d.process { state = states.Ready }) k.exchanges k.lookups sound is.process
@@ -101,5 +101,5 @@ goes_collected k pid d sound e =
     (inr (none_waited_for k pid d.process sound is.process (finished_sends_none d.process.state (d.call, d.answer) is.done)))
     (no_exchange_changes (steps.Collect pid) k)
 
-pub sound_collected : (k : Kernel) (pid : Pid) (d : Collecting) → IsSound k → collecting k pid ≡ Some d → IsSound (with_state k pid d.process states.Ready)
+pub sound_collected : {sees : ℕ → Bool} (k : Kernel) (pid : Pid) (d : Collecting) → IsSoundAt sees k → collecting k pid ≡ Some d → IsSoundAt sees (with_state k pid d.process states.Ready)
 sound_collected k pid d sound e = sound_onward (steps.Collect pid) k (with_state k pid d.process states.Ready) sound (goes_collected k pid d sound e)

@@ -1,4 +1,4 @@
--- Places of a list of steps, counted from 0, and what happens there in the run from the opening kernel.
+-- Places of a list of steps, counted from 0, and what happens there in the run from the initial kernel.
 use Rattle.std.specs.Prelude.{ℕ, ◌≡◌, ◌+◌, ◌<◌, ◌&&◌, List, [], take, slice_get, Option, Some, None, is_none, option_map}
 use Rattle.vk_base.specs.declared.answer.Answer.TheVariants as answers
 use Rattle.vk_base.specs.declared.call.Call.{Call}
@@ -13,7 +13,7 @@ use Rattle.vk_base.specs.declared.pid.Pid.{Pid}
 use Rattle.vk_base.specs.declared.step.Step.{Step}
 use Rattle.vk_base.specs.declared.step.Step.TheVariants as steps
 use Rattle.vk_base.specs.Calls.{Effect, call_refusal}
-use Rattle.vk_base.specs.Kernel.{◌>>=◌, Kernel, opening, name_of, held}
+use Rattle.vk_base.specs.Kernel.{◌>>=◌, Kernel, initial_kernel, name_of, held}
 use Rattle.vk_base.specs.Pids.{same_host}
 use Rattle.vk_base.specs.Ranges.{range_of, bytes_in, with_bytes}
 use Rattle.vk_base.specs.Steps.{Run, Taking, effect, only_if, run, taking}
@@ -21,7 +21,7 @@ use Rattle.v_laws.specs.Reached.{saw}
 
 -- the kernel before the step at this place
 abbrev pub before : List ProcessSpec → List Step → ℕ → Option Kernel
-before specs ss i = option_map (λ (r : Run). r.after) (run (opening specs) (take i ss))
+before specs ss i = option_map (λ (r : Run). r.after) (run (initial_kernel specs) (take i ss))
 
 -- what the step at this place does
 abbrev pub effect_at : List ProcessSpec → List Step → ℕ → Option Effect
@@ -57,7 +57,9 @@ taken_at specs ss i = do
 -- not refused
 abbrev pub brought_by : Kernel → Step → Option Name
 brought_by k (steps.Arrive sender number) = Some (name_of sender number)
-brought_by k (steps.Call pid (calls.Send target m)) = k.procs pid >>= λ p. only_if (same_host pid target && is_none (call_refusal k pid p (calls.Send target m))) (Some (name_of pid (p.sends + 1)))
+brought_by k (steps.Call pid (calls.Send target m)) =
+    k.procs pid >>= λ p. only_if (same_host pid target && is_none (call_refusal k pid p (calls.Send target m)))
+    (Some (name_of pid (p.sends + 1)))
 brought_by k s = None
 
 -- the exchange whose message comes to its target's queue at this place
@@ -76,7 +78,8 @@ given_by p c = None
 
 -- At this place the target replies to the message of this number that it holds of s, with this message and these bytes,
 -- and is answered ok.
-pub record IsReplyAt (specs : List ProcessSpec) (ss : List Step) (i : ℕ) (s target : Pid) (number : ℕ) (reply : Message) (dest : ℕ) (bytes : List ℕ) : Type 0 where
+pub record IsReplyAt (specs : List ProcessSpec) (ss : List Step) (i : ℕ) (s target : Pid) (number : ℕ) (reply : Message) (dest : ℕ)
+    (bytes : List ℕ) : Type 0 where
   pub holds : (before specs ss i >>= λ k. held k target s) ≡ Some number
   pub call : Call
   pub is : slice_get ss i ≡ Some (steps.Call target call)
@@ -86,13 +89,19 @@ pub record IsReplyAt (specs : List ProcessSpec) (ss : List Step) (i : ℕ) (s ta
   pub gives : given_by caller call ≡ Some (s, reply, dest, bytes)
 
 -- At this place the Send of this number is over for s, with this reply, and these bytes are in its memory.
-pub record IsFinishAt (specs : List ProcessSpec) (ss : List Step) (i : ℕ) (s target : Pid) (number : ℕ) (reply : Message) (dest : ℕ) (bytes : List ℕ) : Type 0 where
+pub record IsFinishAt (specs : List ProcessSpec) (ss : List Step) (i : ℕ) (s target : Pid) (number : ℕ) (reply : Message) (dest : ℕ)
+    (bytes : List ℕ) : Type 0 where
   pub process : Process
   pub before : process_at specs ss i s ≡ Some process
   pub message : Message
   pub waits : process.state ≡ states.Blocked (calls.Send target message)
   pub last : process.sends ≡ number
-  pub after : process_after specs ss i s ≡ Some (record process { memory = with_bytes process.memory dest bytes; state = states.Done (calls.Send target message) (answers.Replied reply) })
+  pub after : process_after specs ss i s ≡ Some
+      (record process {
+        memory = with_bytes process.memory dest bytes;
+        state = states.Done (calls.Send target message)
+            (answers.Replied reply);
+      })
 
 -- What s gets at this place is the reply to its own message: its target took that message before, replied to it between
 -- the two places, and gave just what s gets.

@@ -11,7 +11,7 @@ use Rattle.vk_base.specs.declared.kernel.Stage.TheVariants as stages
 use Rattle.vk_base.specs.declared.kernel.State.TheVariants as states
 use Rattle.vk_base.specs.declared.message.Message.{Message}
 use Rattle.vk_base.specs.declared.pid.Pid.{Pid}
-use Rattle.vk_base.specs.Kernel.{Kernel, name_of, same_name, is_live, is_ready, is_posted, is_open, sending}
+use Rattle.vk_base.specs.Kernel.{Kernel, name_of, same_name, is_live, is_ready, is_posted, is_at_target, sending}
 use Rattle.vk_base.specs.Pids.{same_host}
 
 -- the sender has begun a Send of this number
@@ -61,25 +61,33 @@ pub record IsRegistered (k : Kernel) (host : ℕ) (r : Registration) : Type 0 wh
 abbrev pub same_logical : Registration → Registration → Bool
 same_logical a b = a.logical == b.logical
 
-pub record IsSound (k : Kernel) : Type 0 where
+-- `sees` are the hosts to whose processes all earlier exchanges of a sender are known to be settled: all of them in a kernel
+-- that a run reaches, its own in the view of a station.
+pub record IsSoundAt (sees : ℕ → Bool) (k : Kernel) : Type 0 where
   -- no exchange lies beyond its sender's number of Sends
   pub begun : (n : Name) (e : Exchange) → k.exchanges n ≡ Some e → IsBegun k n
   -- a local exchange that is queued or taken has its sender waiting on it
-  pub awaited : (n : Name) (e : Exchange) → k.exchanges n ≡ Some e → same_host n.sender e.target ≡ true → is_open e.stage ≡ true → IsAwaited k n e
+  pub awaited : (n : Name) (e : Exchange) → k.exchanges n ≡ Some e → same_host n.sender e.target ≡ true → is_at_target e.stage ≡ true →
+      IsAwaited k n e
   -- what has arrived is an exchange, and arrives once
   pub known : (n : Name) → has_arrived k n ≡ true → IsSome (k.exchanges n)
   pub once : IsDistinct same_name k.arrived
   -- an exchange that is posted is of a remote pair, and has not arrived
   pub posted : (n : Name) (e : Exchange) → k.exchanges n ≡ Some e → is_posted e.stage ≡ true → IsUnderWay k n e
   -- one that is queued or taken has arrived
-  pub came : (n : Name) (e : Exchange) → k.exchanges n ≡ Some e → is_open e.stage ≡ true → has_arrived k n ≡ true
+  pub came : (n : Name) (e : Exchange) → k.exchanges n ≡ Some e → is_at_target e.stage ≡ true → has_arrived k n ≡ true
   -- where an exchange is no longer posted, every earlier one of its sender to a target of the same host is replied or dropped
-  pub settled : (sender : Pid) (m n : ℕ) (x y : Exchange) → k.exchanges (name_of sender m) ≡ Some x → k.exchanges (name_of sender n) ≡ Some y → m < n →
-      same_host x.target y.target ≡ true → is_posted y.stage ≡ false → is_settled x.stage ≡ true
+  pub settled : (sender : Pid) (m n : ℕ) (x y : Exchange) → k.exchanges (name_of sender m) ≡ Some x →
+      k.exchanges (name_of sender n) ≡ Some y → m < n →
+      same_host x.target y.target ≡ true → sees y.target.host ≡ true → is_posted y.stage ≡ false → is_settled x.stage ≡ true
   -- a process that is not alive is ready
   pub resting : (pid : Pid) (p : Process) → k.procs pid ≡ Some p → p.alive ≡ false → is_ready p.state ≡ true
   -- a process that is blocked in a Send has begun that Send last
-  pub sent : (pid : Pid) (p : Process) (target : Pid) (m : Message) → k.procs pid ≡ Some p → sending p.state ≡ Some (target, m) → IsSent k pid p target m
+  pub sent : (pid : Pid) (p : Process) (target : Pid) (m : Message) → k.procs pid ≡ Some p → sending p.state ≡ Some (target, m) →
+      IsSent k pid p target m
   -- what a station has registered are live processes of its own, each logical id once
   pub registered : (host : ℕ) → All (IsRegistered k host) (k.names host)
   pub distinct : (host : ℕ) → IsDistinct same_logical (k.names host)
+
+abbrev pub IsSound : Kernel → Type 0
+IsSound k = IsSoundAt (λ host. true) k

@@ -8,7 +8,7 @@ ghost use Rattle.vk_base.specs.declared.kernel.Name.{Name};
 ghost use Rattle.vk_base.specs.declared.pid.Pid.{Pid};
 ghost use Rattle.vk_base.specs.declared.step.Step.{Step};
 ghost use Rattle.vk_base.specs.declared.step.Step.TheVariants as steps;
-ghost use Rattle.vk_base.specs.Kernel.{Kernel, is_open, name_of, opening};
+ghost use Rattle.vk_base.specs.Kernel.{Kernel, is_at_target, name_of, initial_kernel};
 ghost use Rattle.vk_base.specs.Pids.{same_host};
 ghost use Rattle.vk_base.specs.Steps.{Run, run};
 ghost use Rattle.v_laws.specs.Places.{taken_at};
@@ -16,16 +16,22 @@ ghost use Rattle.v_laws.specs.Reached.{IsReached};
 
 /// The message of a Send arrives at most once: two places of a run with the same arrival are one.
 pub fn messages_arrive_once()
-    ensures once { (specs : List ProcessSpec) (ss : List Step) (r : Run) (i j : ℕ) (sender : Pid) (number : ℕ) → run (opening specs) ss ≡ Some r → slice_get ss i ≡ Some (steps.Arrive sender number) → slice_get ss j ≡ Some (steps.Arrive sender number) → i ≡ j }
+    ensures once { (specs : List ProcessSpec) (ss : List Step) (r : Run) (i j : ℕ) (sender : Pid) (number : ℕ) →
+        run (initial_kernel specs) ss ≡ Some r → slice_get ss i ≡ Some (steps.Arrive sender number) →
+        slice_get ss j ≡ Some (steps.Arrive sender number) → i ≡ j }
 {}
 
 /// A message is taken at most once: each Take of a run takes one, and two places that take the same are one.
 pub fn messages_are_taken_once()
-    ensures some { (specs : List ProcessSpec) (ss : List Step) (r : Run) (i : ℕ) (pid : Pid) → run (opening specs) ss ≡ Some r → slice_get ss i ≡ Some (steps.Take pid) → IsSome (taken_at specs ss i) }
-    ensures once { (specs : List ProcessSpec) (ss : List Step) (i j : ℕ) (n : Name) → taken_at specs ss i ≡ Some n → taken_at specs ss j ≡ Some n → i ≡ j }
+    ensures some { (specs : List ProcessSpec) (ss : List Step) (r : Run) (i : ℕ) (pid : Pid) → run (initial_kernel specs) ss ≡ Some r →
+        slice_get ss i ≡ Some (steps.Take pid) → IsSome (taken_at specs ss i) }
+    ensures once { (specs : List ProcessSpec) (ss : List Step) (i j : ℕ) (n : Name) → taken_at specs ss i ≡ Some n →
+        taken_at specs ss j ≡ Some n → i ≡ j }
 {}
 
 /// In every kernel that a run reaches at most one message of a sender is queued or taken at targets of one host.
 pub fn one_message_at_a_station()
-    ensures one { (k : Kernel) (sender : Pid) (m n : ℕ) (x y : Exchange) → IsReached k → k.exchanges (name_of sender m) ≡ Some x → k.exchanges (name_of sender n) ≡ Some y → is_open x.stage ≡ true → is_open y.stage ≡ true → same_host x.target y.target ≡ true → m ≡ n }
+    ensures one { (k : Kernel) (sender : Pid) (m n : ℕ) (x y : Exchange) → IsReached k → k.exchanges (name_of sender m) ≡ Some x →
+        k.exchanges (name_of sender n) ≡ Some y → is_at_target x.stage ≡ true → is_at_target y.stage ≡ true →
+        same_host x.target y.target ≡ true → m ≡ n }
 {}

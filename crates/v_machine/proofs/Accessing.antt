@@ -12,9 +12,9 @@ use Rattle.vk_base.specs.Calls.{first_that_holds, is_granted, is_own}
 use Rattle.vk_base.specs.Kernel.{Kernel, held, held_exchange, name_of}
 use Rattle.vk_base.specs.Messages.{grants_of, segment_of}
 use Rattle.vk_base.specs.Ranges.{range_of, lies_in, lies_within}
-use Rattle.v_machine.specs.declared.access.Access.{Access}
+use Rattle.v_machine.specs.declared.calls.access.Access.{Access}
 use Rattle.v_machine.specs.Access.{is_allowed_to, access_tests}
-use Rattle.v_machine.proofs.Steps.{found, tests_held}
+use Rattle.v_machine.proofs.StepLemmas.{found, tests_held}
 
 allowed_is : (write : Bool) (e : Exchange) (g : Grants) → g ≡ grants_of e.message → is_allowed_to write (Some e) ≡ (if write then g.write else g.read)
 allowed_is true e g is = ap (λ (x : Grants). x.write) (sym is)

@@ -5,9 +5,9 @@ use Rattle.vk_base.specs.declared.step.Step.{Step}
 use Rattle.vk_base.specs.Steps.{effect}
 use Rattle.v_laws.proofs.SizeLemmas.{sized_step}
 use Rattle.v_laws.proofs.SoundLemmas.{sound_step}
-use Rattle.v_machine.specs.declared.store.Store.{Store}
-use Rattle.v_machine.specs.declared.verdict.ApplyRefusal.{ApplyRefusal}
-use Rattle.v_machine.specs.declared.verdict.ApplyRefusal.TheVariants as refused
+use Rattle.v_machine.specs.declared.tables.Store.{Store}
+use Rattle.v_machine.specs.declared.refusal.ApplyRefusal.{ApplyRefusal}
+use Rattle.v_machine.specs.declared.refusal.ApplyRefusal.TheVariants as refused
 use Rattle.v_machine.specs.Apply.{Applied, most, notes}
 use Rattle.v_machine.specs.Kept.{IsKept, kernel_in, tables_in}
 use Rattle.v_machine.specs.Rules.{Answers, Counts, Goes, Stays, quiet}

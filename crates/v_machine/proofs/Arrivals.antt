@@ -11,13 +11,12 @@ use Rattle.vk_base.specs.declared.kernel.Name.{Name}
 use Rattle.vk_base.specs.declared.kernel.Stage.{Stage}
 use Rattle.vk_base.specs.declared.kernel.Stage.TheVariants as stages
 use Rattle.vk_base.specs.declared.pid.Pid.{Pid}
-use Rattle.vk_base.specs.Kernel.{name_of, same_name, holds_of, is_queued_at, is_queued, is_open, is_posted}
+use Rattle.vk_base.specs.Kernel.{name_of, same_name, holds_of, is_queued_at, is_queued, is_at_target, is_posted}
 use Rattle.vk_base.specs.Pids.{same_pid}
 use Rattle.v_laws.proofs.FilterLemmas.{filter_on}
 use Rattle.v_laws.proofs.Tables.{same_pid_is, same_pid_self, same_name_is, same_name_self}
-use Rattle.v_machine.specs.declared.latest.Latest.{Latest}
-use Rattle.v_machine.specs.declared.sent.Sent.{Sent}
-use Rattle.v_machine.specs.declared.store.Store.{Store}
+use Rattle.v_machine.specs.declared.tables.latest.Latest.{Latest}
+use Rattle.v_machine.specs.declared.tables.Store.{Store}
 use Rattle.v_machine.specs.Kept.{IsIndexed, IsAt, IsWaiting, IsLatest, IsNoNearer, queued_at, latest_by}
 use Rattle.v_machine.specs.Latest.{latest_in}
 use Rattle.v_machine.specs.Places.{place_in, list_at}
@@ -109,7 +108,7 @@ module _ (before after : Name → Option Exchange) (arrived : List Name) (name :
   -- the latest of the sender to the target's host is this one
   pub latest_arrived : (latest later : Pid → ℕ → ℕ) →
       ((q : Pid) (h : ℕ) → later q h ≡ (if same_pid q name.sender && (h == x.target.host) then name.number else latest q h)) →
-      ((n : Name) (y : Exchange) → same_name n name ≡ false → after n ≡ Some y → same_pid n.sender name.sender ≡ true → (y.target.host == x.target.host) ≡ true → (is_open y.stage ≡ true → ⊥) × (is_posted y.stage ≡ true → name.number ≤ n.number)) →
+      ((n : Name) (y : Exchange) → same_name n name ≡ false → after n ≡ Some y → same_pid n.sender name.sender ≡ true → (y.target.host == x.target.host) ≡ true → (is_at_target y.stage ≡ true → ⊥) × (is_posted y.stage ≡ true → name.number ≤ n.number)) →
       ((n : Name) (e : Exchange) → before n ≡ Some e → IsLatest (latest n.sender e.target.host) n e) →
       (n : Name) (y : Exchange) → after n ≡ Some y → IsLatest (later n.sender y.target.host) n y
   latest_arrived latest later put rest was n y is = by_name (cases_Bool (same_name n name))
@@ -156,8 +155,8 @@ cond_low false m n c low other = other
 
 -- the indexes after a message of a sender came to the queue of its target
 module _ (s t : Store) (sender : Pid) (at to number : ℕ) (x : Exchange) (after : Name → Option Exchange) (here : IsAt s sender at) (there : IsAt s x.target to) (old : IsIndexed s) (at_name : after (name_of sender number) ≡ Some x) (queued : is_queued x.stage ≡ true) (others : Others (exchanges_by s.places s.sends.items) after (name_of sender number)) (new : list_any (same_name (name_of sender number)) s.arrived.items ≡ false)
-    (rest : (n : Name) (y : Exchange) → same_name n (name_of sender number) ≡ false → after n ≡ Some y → same_pid n.sender sender ≡ true → (y.target.host == x.target.host) ≡ true → (is_open y.stage ≡ true → ⊥) × (is_posted y.stage ≡ true → number ≤ n.number)) where
-  pub indexed_arrived : (s' : List Sent) (names : List Name) (l0 l2 : List Latest) → t.places ≡ s.places → length t.procs.items ≡ length s.procs.items → length t.asked.items ≡ length s.asked.items →
+    (rest : (n : Name) (y : Exchange) → same_name n (name_of sender number) ≡ false → after n ≡ Some y → same_pid n.sender sender ≡ true → (y.target.host == x.target.host) ≡ true → (is_at_target y.stage ≡ true → ⊥) × (is_posted y.stage ≡ true → number ≤ n.number)) where
+  pub indexed_arrived : (s' : List Exchange) (names : List Name) (l0 l2 : List Latest) → t.places ≡ s.places → length t.procs.items ≡ length s.procs.items → length t.asked.items ≡ length s.asked.items →
       t.sends.items ≡ set s.sends.items at s' → number ≤ length s' → length (list_at s.places s.sends.items sender) ≤ length s' → exchanges_by s.places (set s.sends.items at s') ≡ after →
       t.arrived.items ≡ s.arrived.items ++ name_of sender number ∷ [] →
       names ≡ get_or s.queues.items to names → t.queues.items ≡ set s.queues.items to (names ++ name_of sender number ∷ []) →
@@ -172,7 +171,7 @@ module _ (s t : Store) (sender : Pid) (at to number : ℕ) (x : Exchange) (after
         latest = ap length latest ∙ length-set s.latest.items at l2 ∙ old.latest ∙ sym (ap length places);
         waiting = λ r in_config.
             waiting_same _ _ _ _ r _ _ all arrived (λ i. list_at (places i) (queues i) r) (waits_at r (subst (λ ps. IsSome (place_in ps r)) places in_config) (cases_Bool (same_pid r x.target)));
-        low = λ q host. subst (λ n. n ≤ length (list_at t.places t.sends.items q)) (sym (λ i. latest_by (places i) (latest i) q host)) (subst (λ (ss : List Sent). latest_by s.places (set s.latest.items at l2) q host ≤ length ss) (sym (λ i. list_at (places i) (sends i) q)) (low_at q host (cases_Bool (same_pid q sender))));
+        low = λ q host. subst (λ n. n ≤ length (list_at t.places t.sends.items q)) (sym (λ i. latest_by (places i) (latest i) q host)) (subst (λ (ss : List Exchange). latest_by s.places (set s.latest.items at l2) q host ≤ length ss) (sym (λ i. list_at (places i) (sends i) q)) (low_at q host (cases_Bool (same_pid q sender))));
         open_last = λ n y is.
             subst (λ m. IsLatest m n y) (sym (λ i. latest_by (places i) (latest i) n.sender y.target.host))
             (latest_arrived (exchanges_by s.places s.sends.items) after s.arrived.items (name_of sender number) x at_name queued others new (latest_by s.places s.latest.items) (latest_by s.places (set s.latest.items at l2)) number_by rest old.open_last n y (sym (ap (λ f. f n) all) ∙ is));
@@ -226,6 +225,6 @@ module _ (s t : Store) (sender : Pid) (at to number : ℕ) (x : Exchange) (after
           subst (λ n. n ≤ length (list_at s.places (set s.sends.items at s') sender)) (sym now) (subst (λ n. (if h == x.target.host then number else latest_by s.places s.latest.items sender h) ≤ n) (sym count) (cond_low (h == x.target.host) number (latest_by s.places s.latest.items sender h) (length s') grown short)))
       low_at q h (inr f) =
           let now = ap (λ ls. latest_in ls h) (list_at-set_other s.places s.latest.items sender q at l2 here.place f) in
-          let count = ap (λ (ss : List Sent). length ss) (list_at-set_other s.places s.sends.items sender q at s' here.place f) in
+          let count = ap (λ (ss : List Exchange). length ss) (list_at-set_other s.places s.sends.items sender q at s' here.place f) in
           let was = old.low q h in
           omega arith

@@ -9,43 +9,29 @@ use Rattle.vk_base.specs.declared.kernel.Stage.{Stage}
 use Rattle.vk_base.specs.declared.kernel.Stage.TheVariants as stages
 use Rattle.vk_base.specs.declared.pid.Pid.{Pid}
 use Rattle.vk_base.specs.Calls.{unseen}
-use Rattle.vk_base.specs.Kernel.{Kernel, name_of, same_name, is_open, is_posted, is_live}
+use Rattle.vk_base.specs.Kernel.{Kernel, name_of, same_name, is_at_target, is_posted, is_live}
 use Rattle.vk_base.specs.Pids.{same_pid, same_host}
 use Rattle.vk_base.specs.Steps.{after_arrival, is_older, arriving, with_arrival, arrive_step, only_if}
 use Rattle.v_laws.proofs.Tables.{same_pid_is, same_pid_self, same_name_self}
 use Rattle.v_laws.proofs.Options.{mapped_is}
-use Rattle.v_machine.specs.declared.sent.Phase.{Phase}
-use Rattle.v_machine.specs.declared.sent.Phase.TheVariants as phases
-use Rattle.v_machine.specs.declared.sent.Sent.{Sent}
-use Rattle.v_machine.specs.declared.store.Store.{Store}
+use Rattle.v_machine.specs.declared.tables.Store.{Store}
 use Rattle.v_machine.specs.Kept.{IsKept, IsAt, IsLatest, IsNoNearer, kernel_in, latest_by}
 use Rattle.v_machine.specs.Places.{place_in, numbered}
 use Rattle.v_machine.specs.Rules.{IsPostedTo, posted_to}
-use Rattle.v_machine.specs.Sends.{exchange_of, stage_of, is_over, dropped_to, dropped_between, come_at}
+use Rattle.v_machine.specs.Sends.{dropped_between, come_at}
 use Rattle.v_machine.specs.Tables.{exchanges_by}
 use Rattle.v_machine.proofs.Arrivals.{Others}
 use Rattle.v_machine.proofs.Indexes.{same_stage}
 use Rattle.v_machine.proofs.PlaceLemmas.{at_place_same, at_place_other, at_place_is, get_of_or}
-use Rattle.v_machine.proofs.Steps.{found}
+use Rattle.v_machine.proofs.StepLemmas.{found}
 use Rattle.v_machine.proofs.TableLemmas.{exchanges_is, exchanges_same}
 
-over_is : (p : Phase) → (is_posted (stage_of p) || is_open (stage_of p)) ≡ not (is_over p)
-over_is phases.Posted = refl
-over_is phases.Queued = refl
-over_is phases.Taken = refl
-over_is (phases.Replied m dest bytes) = refl
-over_is phases.Dropped = refl
-
-live_cases : (s : Stage) → (is_posted s || is_open s) ≡ true → (is_posted s ≡ true) ⊎ (is_open s ≡ true)
+live_cases : (s : Stage) → (is_posted s || is_at_target s) ≡ true → (is_posted s ≡ true) ⊎ (is_at_target s ≡ true)
 live_cases stages.Posted t = inl refl
 live_cases stages.Queued t = inr refl
 live_cases stages.Taken t = inr refl
 live_cases (stages.Replied m dest bytes) t = absurd (both_ways false refl t)
 live_cases stages.Dropped t = absurd (both_ways false refl t)
-
-exchange-cond : (b : Bool) (x y : Sent) → exchange_of (cond b x y) ≡ cond b (exchange_of x) (exchange_of y)
-exchange-cond true x y = refl
-exchange-cond false x y = refl
 
 -- the same is dropped, where what is not looked at is not dropped
 by_tests : (seen before host live : Bool) (x y : Exchange) → (seen ≡ false → before ≡ true → host ≡ true → live ≡ true → ⊥) → cond (seen && before) (cond (host && live) y x) x ≡ cond ((before && host) && live) y x
@@ -60,31 +46,25 @@ by_tests false false host live x y none = refl
 
 module _ (sender : Pid) (number latest : ℕ) (e : Exchange) where
   -- of the sender itself
-  pub come_is_arrival : (m : ℕ) (x : Sent) → (same_host x.target e.target ≡ true → IsLatest latest (name_of sender m) (exchange_of x)) →
-      exchange_of (come_at latest number e.target.host m x) ≡ after_arrival (name_of sender number) e (name_of sender m) (exchange_of x)
+  pub come_is_arrival : (m : ℕ) (x : Exchange) → (same_host x.target e.target ≡ true → IsLatest latest (name_of sender m) x) →
+      come_at latest number e.target.host m x ≡ after_arrival (name_of sender number) e (name_of sender m) x
   come_is_arrival m x is_latest = by_name (m == number) refl
     where
-      dropped : Exchange
-      dropped = record (exchange_of x) { stage = stages.Dropped }
-
-      by_name : (b : Bool) → (m == number) ≡ b → exchange_of (come_at latest number e.target.host m x) ≡ after_arrival (name_of sender number) e (name_of sender m) (exchange_of x)
+      by_name : (b : Bool) → (m == number) ≡ b → come_at latest number e.target.host m x ≡ after_arrival (name_of sender number) e (name_of sender m) x
       by_name true t =
-          ap exchange_of (cond-true (m == number) (record x { phase = phases.Queued }) (dropped_between latest number e.target.host m x) t)
-          ∙ sym (cond-true (same_name (name_of sender m) (name_of sender number)) (record (exchange_of x) { stage = stages.Queued }) _ (and_from (same_pid sender sender) (m == number) (same_pid_self sender) t))
+          cond-true (m == number) (record x { stage = stages.Queued }) (dropped_between latest number e.target.host m x) t
+          ∙ sym (cond-true (same_name (name_of sender m) (name_of sender number)) (record x { stage = stages.Queued }) _ (and_from (same_pid sender sender) (m == number) (same_pid_self sender) t))
       by_name false f =
-          ap exchange_of (cond-false (m == number) (record x { phase = phases.Queued }) (dropped_between latest number e.target.host m x) f)
-          ∙ exchange-cond (nat_le latest m && nat_lt m number) (dropped_to e.target.host x) x
-          ∙ ap (λ y. cond (nat_le latest m && nat_lt m number) y (exchange_of x)) (exchange-cond (x.target.host == e.target.host && not (is_over x.phase)) (record x { phase = phases.Dropped }) x)
-          ∙ ap (λ b. cond (nat_le latest m && nat_lt m number) (cond (x.target.host == e.target.host && b) (record (exchange_of x) { stage = stages.Dropped }) (exchange_of x)) (exchange_of x)) (sym (over_is x.phase))
-          ∙ by_tests (nat_le latest m) (nat_lt m number) (x.target.host == e.target.host) (is_posted (stage_of x.phase) || is_open (stage_of x.phase)) (exchange_of x) (record (exchange_of x) { stage = stages.Dropped }) none
-          ∙ ap (λ b. cond (((b && nat_lt m number) && (x.target.host == e.target.host)) && (is_posted (stage_of x.phase) || is_open (stage_of x.phase))) (record (exchange_of x) { stage = stages.Dropped }) (exchange_of x)) (sym (same_pid_self sender))
-          ∙ sym (cond-false (same_name (name_of sender m) (name_of sender number)) (record (exchange_of x) { stage = stages.Queued }) _ (and_right (same_pid sender sender) (m == number) f))
+          cond-false (m == number) (record x { stage = stages.Queued }) (dropped_between latest number e.target.host m x) f
+          ∙ by_tests (nat_le latest m) (nat_lt m number) (x.target.host == e.target.host) (is_posted x.stage || is_at_target x.stage) x (record x { stage = stages.Dropped }) none
+          ∙ ap (λ b. cond (((b && nat_lt m number) && (x.target.host == e.target.host)) && (is_posted x.stage || is_at_target x.stage)) (record x { stage = stages.Dropped }) x) (sym (same_pid_self sender))
+          ∙ sym (cond-false (same_name (name_of sender m) (name_of sender number)) (record x { stage = stages.Queued }) _ (and_right (same_pid sender sender) (m == number) f))
         where
-          none : nat_le latest m ≡ false → nat_lt m number ≡ true → (x.target.host == e.target.host) ≡ true → (is_posted (stage_of x.phase) || is_open (stage_of x.phase)) ≡ true → ⊥
+          none : nat_le latest m ≡ false → nat_lt m number ≡ true → (x.target.host == e.target.host) ≡ true → (is_posted x.stage || is_at_target x.stage) ≡ true → ⊥
           none unseen before host live =
               let low : m < latest = leb-false latest m unseen in
               let is = is_latest host in
-              elim (live_cases (stage_of x.phase) live) [
+              elim (live_cases x.stage live) [
                 | inl p ↦ let over = is.posted p in omega arith
                 | inr o ↦ let same = is.live o in omega arith
               ]
@@ -94,18 +74,18 @@ module _ (sender : Pid) (number latest : ℕ) (e : Exchange) where
   arrival_elsewhere n x f =
       cond-false (same_name n (name_of sender number)) (record x { stage = stages.Queued }) _ (and_left (same_pid n.sender sender) (n.number == number) f)
       ∙ cond-false (is_older (name_of sender number) e n x) (record x { stage = stages.Dropped }) x
-      (and_left ((same_pid n.sender sender && nat_lt n.number number) && same_host x.target e.target) (is_posted x.stage || is_open x.stage) (and_left (same_pid n.sender sender && nat_lt n.number number) (same_host x.target e.target) (and_left (same_pid n.sender sender) (nat_lt n.number number) f)))
+      (and_left ((same_pid n.sender sender && nat_lt n.number number) && same_host x.target e.target) (is_posted x.stage || is_at_target x.stage) (and_left (same_pid n.sender sender && nat_lt n.number number) (same_host x.target e.target) (and_left (same_pid n.sender sender) (nat_lt n.number number) f)))
 
   arrived_at : (n : Name) → same_pid n.sender sender ≡ false → (o : Option Exchange) → o ≡ option_map (after_arrival (name_of sender number) e n) o
   arrived_at n f None = refl
   arrived_at n f (Some x) = ap Some (sym (arrival_elsewhere n x f))
 
-  came_at : (m : ℕ) (o : Option Sent) → ((x : Sent) → o ≡ Some x → same_host x.target e.target ≡ true → IsLatest latest (name_of sender m) (exchange_of x)) →
-      option_map exchange_of (option_map (come_at latest number e.target.host m) o) ≡ option_map (after_arrival (name_of sender number) e (name_of sender m)) (option_map exchange_of o)
+  came_at : (m : ℕ) (o : Option Exchange) → ((x : Exchange) → o ≡ Some x → same_host x.target e.target ≡ true → IsLatest latest (name_of sender m) x) →
+      option_map (come_at latest number e.target.host m) o ≡ option_map (after_arrival (name_of sender number) e (name_of sender m)) o
   came_at m None is_latest = refl
   came_at m (Some x) is_latest = ap Some (come_is_arrival m x (is_latest x refl))
 
-  pub exchanges-come : (pids : List Pid) (sends : List (List Sent)) (at : ℕ) (s s' : List Sent) → place_in pids sender ≡ Some at → at < length sends → s ≡ get_or sends at s → ((m : ℕ) → numbered s' m ≡ option_map (come_at latest number e.target.host m) (numbered s m)) →
+  pub exchanges-come : (pids : List Pid) (sends : List (List Exchange)) (at : ℕ) (s s' : List Exchange) → place_in pids sender ≡ Some at → at < length sends → s ≡ get_or sends at s → ((m : ℕ) → numbered s' m ≡ option_map (come_at latest number e.target.host m) (numbered s m)) →
       ((n : Name) (x : Exchange) → exchanges_by pids sends n ≡ Some x → same_pid n.sender sender ≡ true → same_host x.target e.target ≡ true → IsLatest latest n x) →
       exchanges_by pids (set sends at s') ≡ (λ n. option_map (after_arrival (name_of sender number) e n) (exchanges_by pids sends n))
   exchanges-come pids sends at s s' place low there come is_latest = λ i n. (elim (cases_Bool (same_pid n.sender sender)) as (λ _. exchanges_by pids (set sends at s') n ≡ option_map (after_arrival (name_of sender number) e n) (exchanges_by pids sends n)) [
@@ -113,14 +93,14 @@ module _ (sender : Pid) (number latest : ℕ) (e : Exchange) where
     | inr f ↦ exchanges_same pids (set sends at s') sends n (at_place_other pids sends sender n.sender at s' place f) ∙ arrived_at n f (exchanges_by pids sends n)
   ]) i
     where
-      before : (m : ℕ) → exchanges_by pids sends (name_of sender m) ≡ option_map exchange_of (numbered s m)
+      before : (m : ℕ) → exchanges_by pids sends (name_of sender m) ≡ numbered s m
       before m = exchanges_is pids sends (name_of sender m) s (at_place_is pids sends sender at s place (get_of_or sends at s low ∙ ap Some (sym there)))
 
       of_sender : (m : ℕ) → exchanges_by pids (set sends at s') (name_of sender m) ≡ option_map (after_arrival (name_of sender number) e (name_of sender m)) (exchanges_by pids sends (name_of sender m))
       of_sender m =
           exchanges_is pids (set sends at s') (name_of sender m) s' (at_place_same pids sends sender at s' place low)
-          ∙ ap (option_map exchange_of) (come m)
-          ∙ came_at m (numbered s m) (λ x is near. is_latest (name_of sender m) (exchange_of x) (before m ∙ ap (option_map exchange_of) is) (same_pid_self sender) near)
+          ∙ come m
+          ∙ came_at m (numbered s m) (λ x is near. is_latest (name_of sender m) x (before m ∙ is) (same_pid_self sender) near)
           ∙ ap (option_map (after_arrival (name_of sender number) e (name_of sender m))) (sym (before m))
 
       mine : (n : Name) → same_pid n.sender sender ≡ true → exchanges_by pids (set sends at s') n ≡ option_map (after_arrival (name_of sender number) e n) (exchanges_by pids sends n)
@@ -168,33 +148,33 @@ module _ (s : Store) (name : Name) (at to : ℕ) (e : Exchange) (kept : IsKept s
 
   -- what is older was dropped, and what is later has not come
   pub arrive_rest : (n : Name) (y : Exchange) → same_name n name ≡ false → option_map (after_arrival name e n) (exchanges_by s.places s.sends.items n) ≡ Some y → same_pid n.sender name.sender ≡ true → (y.target.host == e.target.host) ≡ true →
-      (is_open y.stage ≡ true → ⊥) × (is_posted y.stage ≡ true → name.number ≤ n.number)
+      (is_at_target y.stage ≡ true → ⊥) × (is_posted y.stage ≡ true → name.number ≤ n.number)
   arrive_rest n y f is mine near =
       let x = mapped_is (after_arrival name e n) (exchanges_by s.places s.sends.items n) y is in
       let host : (x.0.target.host == e.target.host) ≡ true = ap (λ (p : Pid). p.host == e.target.host) (sym (target_after name e n x.0) ∙ ap (λ (z : Exchange). z.target) x.2) ∙ near in
       by_number x.0 x.1 x.2 host (cases_Bool (nat_lt n.number name.number))
     where
       by_number : (x : Exchange) → exchanges_by s.places s.sends.items n ≡ Some x → after_arrival name e n x ≡ y → (x.target.host == e.target.host) ≡ true → (nat_lt n.number name.number ≡ true) ⊎ (nat_lt n.number name.number ≡ false) →
-          (is_open y.stage ≡ true → ⊥) × (is_posted y.stage ≡ true → name.number ≤ n.number)
+          (is_at_target y.stage ≡ true → ⊥) × (is_posted y.stage ≡ true → name.number ≤ n.number)
       by_number x was changed host (inl before) =
-          by_live (is_posted x.stage || is_open x.stage) refl
+          by_live (is_posted x.stage || is_at_target x.stage) refl
         where
-          by_live : (b : Bool) → (is_posted x.stage || is_open x.stage) ≡ b → (is_open y.stage ≡ true → ⊥) × (is_posted y.stage ≡ true → name.number ≤ n.number)
+          by_live : (b : Bool) → (is_posted x.stage || is_at_target x.stage) ≡ b → (is_at_target y.stage ≡ true → ⊥) × (is_posted y.stage ≡ true → name.number ≤ n.number)
           by_live true live =
-              let older : is_older name e n x ≡ true = and_from ((same_pid n.sender name.sender && nat_lt n.number name.number) && same_host x.target e.target) (is_posted x.stage || is_open x.stage) (and_from (same_pid n.sender name.sender && nat_lt n.number name.number) (same_host x.target e.target) (and_from (same_pid n.sender name.sender) (nat_lt n.number name.number) mine before) host) live in
+              let older : is_older name e n x ≡ true = and_from ((same_pid n.sender name.sender && nat_lt n.number name.number) && same_host x.target e.target) (is_posted x.stage || is_at_target x.stage) (and_from (same_pid n.sender name.sender && nat_lt n.number name.number) (same_host x.target e.target) (and_from (same_pid n.sender name.sender) (nat_lt n.number name.number) mine before) host) live in
               let dropped : record x { stage = stages.Dropped } ≡ y = sym (cond-true (is_older name e n x) (record x { stage = stages.Dropped }) x older) ∙ sym (cond-false (same_name n name) (record x { stage = stages.Queued }) _ f) ∙ changed in
-              (λ u. both_ways (is_open y.stage) (ap (λ (z : Exchange). is_open z.stage) (sym dropped)) u, λ u. absurd (both_ways (is_posted y.stage) (ap (λ (z : Exchange). is_posted z.stage) (sym dropped)) u))
+              (λ u. both_ways (is_at_target y.stage) (ap (λ (z : Exchange). is_at_target z.stage) (sym dropped)) u, λ u. absurd (both_ways (is_posted y.stage) (ap (λ (z : Exchange). is_posted z.stage) (sym dropped)) u))
           by_live false over =
-              let older : is_older name e n x ≡ false = and_right ((same_pid n.sender name.sender && nat_lt n.number name.number) && same_host x.target e.target) (is_posted x.stage || is_open x.stage) over in
+              let older : is_older name e n x ≡ false = and_right ((same_pid n.sender name.sender && nat_lt n.number name.number) && same_host x.target e.target) (is_posted x.stage || is_at_target x.stage) over in
               let same : x ≡ y = sym (cond-false (is_older name e n x) (record x { stage = stages.Dropped }) x older) ∙ sym (cond-false (same_name n name) (record x { stage = stages.Queued }) _ f) ∙ changed in
-              let parts = or_parts (is_posted x.stage) (is_open x.stage) over in
-              (λ u. both_ways (is_open y.stage) (ap (λ (z : Exchange). is_open z.stage) (sym same) ∙ parts.1) u, λ u. absurd (both_ways (is_posted y.stage) (ap (λ (z : Exchange). is_posted z.stage) (sym same) ∙ parts.0) u))
+              let parts = or_parts (is_posted x.stage) (is_at_target x.stage) over in
+              (λ u. both_ways (is_at_target y.stage) (ap (λ (z : Exchange). is_at_target z.stage) (sym same) ∙ parts.1) u, λ u. absurd (both_ways (is_posted y.stage) (ap (λ (z : Exchange). is_posted z.stage) (sym same) ∙ parts.0) u))
       by_number x was changed host (inr later) =
-          let older : is_older name e n x ≡ false = and_left ((same_pid n.sender name.sender && nat_lt n.number name.number) && same_host x.target e.target) (is_posted x.stage || is_open x.stage) (and_left (same_pid n.sender name.sender && nat_lt n.number name.number) (same_host x.target e.target) (and_right (same_pid n.sender name.sender) (nat_lt n.number name.number) later)) in
+          let older : is_older name e n x ≡ false = and_left ((same_pid n.sender name.sender && nat_lt n.number name.number) && same_host x.target e.target) (is_posted x.stage || is_at_target x.stage) (and_left (same_pid n.sender name.sender && nat_lt n.number name.number) (same_host x.target e.target) (and_right (same_pid n.sender name.sender) (nat_lt n.number name.number) later)) in
           let same : x ≡ y = sym (cond-false (is_older name e n x) (record x { stage = stages.Dropped }) x older) ∙ sym (cond-false (same_name n name) (record x { stage = stages.Queued }) _ f) ∙ changed in
           let high : name.number ≤ n.number = ltb-false n.number name.number later in (
             λ u.
-                let number = (kept.indexed.open_last n x was).live (ap (λ (z : Exchange). is_open z.stage) same ∙ u) in
+                let number = (kept.indexed.open_last n x was).live (ap (λ (z : Exchange). is_at_target z.stage) same ∙ u) in
                 let before = latest_is_before in
                 let one : latest_by s.places s.latest.items n.sender x.target.host ≡ latest_by s.places s.latest.items name.sender e.target.host = λ i. latest_by s.places s.latest.items (same_pid_is n.sender name.sender mine i) (eqb-true x.target.host e.target.host host i) in
                 let equal : n.number ≡ name.number = omega arith in

@@ -17,9 +17,9 @@ use Rattle.vk_base.specs.Kernel.{◌>>=◌, Kernel, put_process, put_lookup, is_
 use Rattle.vk_base.specs.Pids.{same_pid, same_host}
 use Rattle.vk_base.specs.Steps.{only_if, hearing, hear_step, asking, finding, found_step, lost_step}
 use Rattle.v_laws.proofs.Tables.{same_pid_is}
-use Rattle.v_machine.specs.declared.proc.Proc.{Proc}
-use Rattle.v_machine.specs.declared.sent.Sent.{Sent}
-use Rattle.v_machine.specs.declared.store.Store.{Store}
+use Rattle.vk_base.specs.declared.kernel.Exchange.{Exchange}
+use Rattle.v_machine.specs.declared.tables.proc.Proc.{Proc}
+use Rattle.v_machine.specs.declared.tables.Store.{Store}
 use Rattle.v_machine.specs.Kept.{IsIndexed}
 use Rattle.v_machine.specs.Lists.{change_numbered}
 use Rattle.v_machine.specs.Names.{tells_of}
@@ -30,7 +30,7 @@ use Rattle.v_machine.proofs.Indexes.{indexed_same}
 use Rattle.v_machine.proofs.KernelLemmas.{proc_is}
 use Rattle.v_machine.proofs.Naming.{told_is}
 use Rattle.v_machine.proofs.PlaceLemmas.{get_of_or, at_place_same, at_place_other, at_place_is}
-use Rattle.v_machine.proofs.Steps.{found}
+use Rattle.v_machine.proofs.StepLemmas.{found}
 use Rattle.v_machine.proofs.TableLemmas.{procs-put, procs-even, count_is, count-set_same, count-set_other, count-set_even, length-change, numbered-push, numbered-push_other, numbered-change, numbered-change_other}
 
 module _ (pids : List Pid) (asked : List (List Lookup)) where
@@ -71,7 +71,7 @@ lookups-put pids asked a a' pid at number x is low there new others = λ i q n. 
     not_this q n f (inr g) = lookups_same pids (set asked at a') asked q n (at_place_other pids asked pid q at a' is g)
 
 -- one more lookup of a process, which does something else from now on
-pub kernel-asked : (pids : List Pid) (procs : List Proc) (sends : List (List Sent)) (asked : List (List Lookup)) (names : List Registration) (arrived : List Name) (pid : Pid) (at logical : ℕ) (c : Call) (p : Process) (x x' : Proc) (a a' : List Lookup) →
+pub kernel-asked : (pids : List Pid) (procs : List Proc) (sends : List (List Exchange)) (asked : List (List Lookup)) (names : List Registration) (arrived : List Name) (pid : Pid) (at logical : ℕ) (c : Call) (p : Process) (x x' : Proc) (a a' : List Lookup) →
     place_in pids pid ≡ Some at → at < length procs → at < length asked → x ≡ get_or procs at x → a ≡ get_or asked at a → procs_by pids procs sends asked pid ≡ Some p → a' ≡ a ++ record { logical = logical; candidates = [] } ∷ [] →
     ((sends lookups : ℕ) → process_of x' sends lookups ≡ record (process_of x sends lookups) { state = states.Blocked c }) →
     kernel_by pids (set procs at x') sends (set asked at a') names arrived ≡ lookup_begun (kernel_by pids procs sends asked names arrived) pid p c logical
@@ -93,7 +93,7 @@ kernel-asked pids procs sends asked names arrived pid at logical c p x x' a a' i
     λ i. record (kernel_by pids procs sends asked names arrived) { procs = processes i; lookups = lookups i }
 
 -- what stands at a number of the lookups of a place
-module _ (pids : List Pid) (procs : List Proc) (sends : List (List Sent)) (asked : List (List Lookup)) (pid : Pid) (at number : ℕ) (a : List Lookup) (is : place_in pids pid ≡ Some at) (low : at < length asked) (there : a ≡ get_or asked at a) where
+module _ (pids : List Pid) (procs : List Proc) (sends : List (List Exchange)) (asked : List (List Lookup)) (pid : Pid) (at number : ℕ) (a : List Lookup) (is : place_in pids pid ≡ Some at) (low : at < length asked) (there : a ≡ get_or asked at a) where
   at_asked : slice_get asked at ≡ Some a
   at_asked = get_of_or asked at a low ∙ ap Some (sym there)
 

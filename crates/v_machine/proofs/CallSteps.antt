@@ -11,15 +11,15 @@ use Rattle.vk_base.specs.declared.kernel.Process.{Process}
 use Rattle.vk_base.specs.declared.pid.Pid.{Pid}
 use Rattle.vk_base.specs.Calls.{Effect, answered, call_refusal, call_step, called, first_that_holds, tests_of}
 use Rattle.vk_base.specs.Kernel.{is_ready}
-use Rattle.v_machine.specs.declared.store.Store.{Store}
-use Rattle.v_machine.specs.declared.verdict.ApplyRefusal.{ApplyRefusal}
-use Rattle.v_machine.specs.declared.verdict.ApplyRefusal.TheVariants as refused
-use Rattle.v_machine.specs.declared.verdict.Verdict.{Verdict}
-use Rattle.v_machine.specs.declared.verdict.Verdict.TheVariants as verdicts
+use Rattle.v_machine.specs.declared.tables.Store.{Store}
+use Rattle.v_machine.specs.declared.refusal.ApplyRefusal.{ApplyRefusal}
+use Rattle.v_machine.specs.declared.refusal.ApplyRefusal.TheVariants as refused
+use Rattle.v_machine.specs.declared.calls.response.Response.{Response}
+use Rattle.v_machine.specs.declared.calls.response.Response.TheVariants as responses
 use Rattle.v_machine.specs.Apply.{noted_by_call}
 use Rattle.v_machine.specs.Kept.{IsIndexed, kernel_in}
 use Rattle.v_machine.specs.Rules.{Accepts, Answers, Goes, judged, seen_by, seen_result}
-use Rattle.v_machine.proofs.Steps.{found}
+use Rattle.v_machine.proofs.StepLemmas.{found}
 
 pub none_if : {A : Type 0} (o : Option A) → ((x : A) → o ≡ Some x → ⊥) → o ≡ None
 none_if None never = refl
@@ -72,13 +72,13 @@ module _ (s : Store) (pid : Pid) (p : Process) (c : Call) (there : (kernel_in s)
   pub refused_notes : (why : Refusal) → caller p ≡ Some why → noted_by_call c (call_step (kernel_in s) pid c) ≡ 0
   refused_notes why some = ap (noted_by_call c) (call_refused why some) ∙ nothing_seen c (answered (kernel_in s) pid c (answers.Refused why)) (record { pid = pid; call = c; answer = answers.Refused why }) refl
 
-  pub refused_goes : (why : Refusal) (seen : Option Observation) → IsIndexed s → caller p ≡ Some why → seen ≡ seen_by pid c (verdicts.Refused why) → Goes (call_step (kernel_in s) pid c) seen s
+  pub refused_goes : (why : Refusal) (seen : Option Observation) → IsIndexed s → caller p ≡ Some why → seen ≡ seen_by pid c (responses.Refused why) → Goes (call_step (kernel_in s) pid c) seen s
   refused_goes why seen indexed some is = record {
     effect = call_refused why some ∙ ap (λ o. Some (record { after = kernel_in s; seen = o })) (sym is);
     indexed = indexed;
   }
 
-  pub accepted_goes : (t : Store) (room : ℕ) (r : Result Verdict ApplyRefusal) (seen : Result (Option Observation) ApplyRefusal) → caller p ≡ None → Accepts pid c room s t r → seen ≡ seen_result pid c r → Answers (call_step (kernel_in s) pid c) (noted_by_call c (call_step (kernel_in s) pid c)) room s t seen
+  pub accepted_goes : (t : Store) (room : ℕ) (r : Result Response ApplyRefusal) (seen : Result (Option Observation) ApplyRefusal) → caller p ≡ None → Accepts pid c room s t r → seen ≡ seen_result pid c r → Answers (call_step (kernel_in s) pid c) (noted_by_call c (call_step (kernel_in s) pid c)) room s t seen
   accepted_goes t room r seen none accepts is =
       let ready = (passes p.alive (is_ready p.state) [] none).0 in
       subst (Answers (call_step (kernel_in s) pid c) (noted_by_call c (call_step (kernel_in s) pid c)) room s t) (sym is)
@@ -92,5 +92,5 @@ module _ (s : Store) (pid : Pid) (p : Process) (c : Call) (there : (kernel_in s)
       subst (λ n. Answers (call_step (kernel_in s) pid c) n room s s seen) (sym (load_notes start count is))
       (subst (λ o. Answers o 0 room s s seen) (sym (call_is none ∙ ap (judged (kernel_in s) pid p) is)) (notes_none (judged (kernel_in s) pid p (calls.Load start count)) room s seen answers))
 
-  pub accepted_notes : (t : Store) (room noted : ℕ) (v : Verdict) (seen : Option Observation) → seen ≡ seen_by pid c v → Answers (call_step (kernel_in s) pid c) (noted_by_call c (call_step (kernel_in s) pid c)) room s t (Ok seen) → ((q : Pid) (e : Effect) → e.seen ≡ seen_by q c v → noted ≡ noted_by_call c (Some e)) → noted ≡ noted_by_call c (call_step (kernel_in s) pid c)
+  pub accepted_notes : (t : Store) (room noted : ℕ) (v : Response) (seen : Option Observation) → seen ≡ seen_by pid c v → Answers (call_step (kernel_in s) pid c) (noted_by_call c (call_step (kernel_in s) pid c)) room s t (Ok seen) → ((q : Pid) (e : Effect) → e.seen ≡ seen_by q c v → noted ≡ noted_by_call c (Some e)) → noted ≡ noted_by_call c (call_step (kernel_in s) pid c)
   accepted_notes t room noted v seen is answers notes = notes pid (record { after = kernel_in t; seen = seen }) is ∙ ap (noted_by_call c) (sym answers.0.effect)

@@ -2,11 +2,11 @@
 use Rattle.std.proofs.Common.{◌≡◌, ℕ, ◌+◌, ◌<◌, ◌≤◌, true, false, cond, ◌==◌, ◌&&◌, nat_le, nat_lt, List, Option, Some, None, option_map, refl, sym, ap, ◌∙◌, inl, inr, ◌⊎◌, arith}
 use Rattle.std.proofs.lemmas.Bool.{cases_Bool, both_ways, eqb-true, eq-eqb, le-leb, lt-ltb, le-ltb, leb-true, and_left, and_right, cond-true, cond-false}
 use Rattle.std.proofs.lemmas.Bool.Decides.{nat_tests}
-use Rattle.v_machine.specs.declared.sent.Phase.TheVariants as phases
-use Rattle.v_machine.specs.declared.sent.Sent.{Sent}
+use Rattle.vk_base.specs.declared.kernel.Exchange.{Exchange}
+use Rattle.vk_base.specs.declared.kernel.Stage.TheVariants as stages
 use Rattle.v_machine.specs.Lists.{change_numbered}
 use Rattle.v_machine.specs.Places.{numbered}
-use Rattle.v_machine.specs.Sends.{with_phase, dropped_to, dropped_between, come_at}
+use Rattle.v_machine.specs.Sends.{at_stage, dropped_to, dropped_between, come_at}
 use Rattle.v_machine.proofs.TableLemmas.{numbered-change, numbered-change_other}
 
 map_map : {A B C : Type 0} (f : A → B) (g : B → C) (o : Option A) → option_map g (option_map f o) ≡ option_map (λ x. g (f x)) o
@@ -18,19 +18,19 @@ map_same f g None same = refl
 map_same f g (Some x) same = ap Some (same x)
 
 -- outside of the range nothing is dropped
-outside : (low high host n : ℕ) (s : Sent) → high ≤ n → dropped_between low high host n s ≡ s
+outside : (low high host n : ℕ) (s : Exchange) → high ≤ n → dropped_between low high host n s ≡ s
 outside low high host n s far = cond-false (nat_le low n && nat_lt n high) (dropped_to host s) s (and_right (nat_le low n) (nat_lt n high) (le-ltb n high far))
 
-inside : (low high host n : ℕ) (s : Sent) → low ≤ n → n < high → dropped_between low high host n s ≡ dropped_to host s
+inside : (low high host n : ℕ) (s : Exchange) → low ≤ n → n < high → dropped_between low high host n s ≡ dropped_to host s
 inside low high host n s over under = cond-true (nat_le low n && nat_lt n high) (dropped_to host s) s (λ i. le-leb low n over i && lt-ltb n high under i)
 
-further : (low high host n : ℕ) (s : Sent) → (n ≡ high → ⊥) → dropped_between low high host n s ≡ dropped_between low (high + 1) host n s
+further : (low high host n : ℕ) (s : Exchange) → (n ≡ high → ⊥) → dropped_between low high host n s ≡ dropped_between low (high + 1) host n s
 further low high host n s apart = ap (λ b. cond (nat_le low n && b) (dropped_to host s) s) (same_test (cases_Bool (nat_lt n high)))
   where
     same_test : (nat_lt n high ≡ true) ⊎ (nat_lt n high ≡ false) → nat_lt n high ≡ nat_lt n (high + 1)
     same_test t = grind (arith, nat_tests)
 
-pub dropped_more : (low at host : ℕ) (old before after : List Sent) → low ≤ at → after ≡ change_numbered at (dropped_to host) before → ((n : ℕ) → numbered before n ≡ option_map (dropped_between low at host n) (numbered old n)) → (n : ℕ) → numbered after n ≡ option_map (dropped_between low (at + 1) host n) (numbered old n)
+pub dropped_more : (low at host : ℕ) (old before after : List Exchange) → low ≤ at → after ≡ change_numbered at (dropped_to host) before → ((n : ℕ) → numbered before n ≡ option_map (dropped_between low at host n) (numbered old n)) → (n : ℕ) → numbered after n ≡ option_map (dropped_between low (at + 1) host n) (numbered old n)
 dropped_more low at host old before after over changed so_far n = elim (cases_Bool (n == at)) [
   | inl t ↦
       let one : n ≡ at = eqb-true n at t in
@@ -50,36 +50,36 @@ dropped_more low at host old before after over changed so_far n = elim (cases_Bo
       ∙ map_same (dropped_between low at host n) (dropped_between low (at + 1) host n) (numbered old n) (λ s. further low at host n s apart)
 ]
 
-pub come_is : (latest number host : ℕ) (old before after : List Sent) → after ≡ change_numbered number (with_phase phases.Queued) before → ((n : ℕ) → numbered before n ≡ option_map (dropped_between latest number host n) (numbered old n)) → (n : ℕ) → numbered after n ≡ option_map (come_at latest number host n) (numbered old n)
+pub come_is : (latest number host : ℕ) (old before after : List Exchange) → after ≡ change_numbered number (at_stage stages.Queued) before → ((n : ℕ) → numbered before n ≡ option_map (dropped_between latest number host n) (numbered old n)) → (n : ℕ) → numbered after n ≡ option_map (come_at latest number host n) (numbered old n)
 come_is latest number host old before after changed dropped n = elim (cases_Bool (n == number)) [
   | inl t ↦
       let one : n ≡ number = eqb-true n number t in
       ap (λ m. numbered after m) one
       ∙ ap (λ l. numbered l number) changed
-      ∙ numbered-change (with_phase phases.Queued) number before
-      ∙ ap (option_map (with_phase phases.Queued)) (dropped number)
-      ∙ map_map (dropped_between latest number host number) (with_phase phases.Queued) (numbered old number)
-      ∙ map_same (λ s. with_phase phases.Queued (dropped_between latest number host number s)) (come_at latest number host number) (numbered old number)
-      (λ s. ap (with_phase phases.Queued) (outside latest number host number s (omega arith)) ∙ sym (cond-true (number == number) (with_phase phases.Queued s) (dropped_between latest number host number s) (eq-eqb number number refl)))
+      ∙ numbered-change (at_stage stages.Queued) number before
+      ∙ ap (option_map (at_stage stages.Queued)) (dropped number)
+      ∙ map_map (dropped_between latest number host number) (at_stage stages.Queued) (numbered old number)
+      ∙ map_same (λ s. at_stage stages.Queued (dropped_between latest number host number s)) (come_at latest number host number) (numbered old number)
+      (λ s. ap (at_stage stages.Queued) (outside latest number host number s (omega arith)) ∙ sym (cond-true (number == number) (at_stage stages.Queued s) (dropped_between latest number host number s) (eq-eqb number number refl)))
       ∙ ap (λ m. option_map (come_at latest number host m) (numbered old m)) (sym one)
   | inr f ↦
       let apart : n ≡ number → ⊥ = λ e. both_ways (n == number) f (eq-eqb n number e) in
       ap (λ l. numbered l n) changed
-      ∙ numbered-change_other (with_phase phases.Queued) number n before apart
+      ∙ numbered-change_other (at_stage stages.Queued) number n before apart
       ∙ dropped n
-      ∙ map_same (dropped_between latest number host n) (come_at latest number host n) (numbered old n) (λ s. sym (cond-false (n == number) (with_phase phases.Queued s) (dropped_between latest number host n s) f))
+      ∙ map_same (dropped_between latest number host n) (come_at latest number host n) (numbered old n) (λ s. sym (cond-false (n == number) (at_stage stages.Queued s) (dropped_between latest number host n s) f))
 ]
 
-pub none_dropped : (low host : ℕ) (old : List Sent) (n : ℕ) → numbered old n ≡ option_map (dropped_between low low host n) (numbered old n)
+pub none_dropped : (low host : ℕ) (old : List Exchange) (n : ℕ) → numbered old n ≡ option_map (dropped_between low low host n) (numbered old n)
 none_dropped low host old n = by_option (numbered old n)
   where
-    same : (s : Sent) → s ≡ dropped_between low low host n s
+    same : (s : Exchange) → s ≡ dropped_between low low host n s
     same s = sym (by_test s (cases_Bool (nat_le low n)))
       where
-        by_test : (s : Sent) → (nat_le low n ≡ true) ⊎ (nat_le low n ≡ false) → dropped_between low low host n s ≡ s
+        by_test : (s : Exchange) → (nat_le low n ≡ true) ⊎ (nat_le low n ≡ false) → dropped_between low low host n s ≡ s
         by_test s (inl t) = outside low low host n s (leb-true low n t)
         by_test s (inr f) = cond-false (nat_le low n && nat_lt n low) (dropped_to host s) s (and_left (nat_le low n) (nat_lt n low) f)
 
-    by_option : (o : Option Sent) → o ≡ option_map (dropped_between low low host n) o
+    by_option : (o : Option Exchange) → o ≡ option_map (dropped_between low low host n) o
     by_option None = refl
     by_option (Some s) = ap Some (same s)

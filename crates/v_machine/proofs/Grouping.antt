@@ -9,7 +9,7 @@ use Rattle.std.specs.Option.{option_or}
 use Rattle.vk_base.specs.declared.pid.Pid.{Pid}
 use Rattle.vk_base.specs.Pids.{same_pid}
 use Rattle.v_laws.proofs.Tables.{same_pid_is}
-use Rattle.v_machine.specs.declared.groups.Placed.{Placed}
+use Rattle.v_machine.specs.declared.tables.groups.Placed.{Placed}
 use Rattle.v_machine.specs.Places.{place_in, found_in, group_of, AreGrouped}
 use Rattle.v_machine.proofs.PlaceLemmas.{get_of_or, get-set_same, get-set_other}
 

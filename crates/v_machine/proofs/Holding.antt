@@ -11,7 +11,7 @@ use Rattle.vk_base.specs.Pids.{same_pid}
 use Rattle.v_laws.proofs.Held.{holds_at, held_none}
 use Rattle.v_laws.proofs.Tables.{same_pid_is}
 use Rattle.v_laws.proofs.Options.{some_that_holds}
-use Rattle.v_machine.specs.declared.store.Store.{Store}
+use Rattle.v_machine.specs.declared.tables.Store.{Store}
 use Rattle.v_machine.specs.Kept.{IsKept, kernel_in, latest_by}
 
 -- where only one number can be held

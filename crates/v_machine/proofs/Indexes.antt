@@ -11,8 +11,7 @@ use Rattle.vk_base.specs.Kernel.{same_name, holds_of, queue_of, is_queued_at, is
 use Rattle.vk_base.specs.Pids.{same_pid}
 use Rattle.vk_base.specs.Steps.{first_of}
 use Rattle.v_laws.proofs.Tables.{same_pid_is, same_name_is, put_exchange_at, put_exchange_other}
-use Rattle.v_machine.specs.declared.sent.Sent.{Sent}
-use Rattle.v_machine.specs.declared.store.Store.{Store}
+use Rattle.v_machine.specs.declared.tables.Store.{Store}
 use Rattle.v_machine.specs.Kept.{IsIndexed, IsAt, IsWaiting, IsNoNearer, queued_at, latest_by, kernel_in}
 use Rattle.v_machine.specs.Places.{place_in, list_at}
 use Rattle.v_machine.specs.Tables.{exchanges_by}
@@ -126,7 +125,7 @@ indexed_cleaned s t pid at names left here is places procs sends asked arrived q
       low = λ sender host.
           let number : latest_by t.places t.latest.items sender host ≡ latest_by s.places s.latest.items sender host = λ i. latest_by (places i) (latest i) sender host in
           let was = old.low sender host in
-          let grown = ap (λ (ss : List Sent). length ss) (λ i. list_at (places i) (sends i) sender) in
+          let grown = ap (λ (ss : List Exchange). length ss) (λ i. list_at (places i) (sends i) sender) in
           omega arith;
       open_last = λ n y there.
           let was = old.open_last n y (sym (ap (λ f. f n) exchanges) ∙ there) in
@@ -173,4 +172,4 @@ queue_first s pid at names found indexed here is first =
 pub indexed_same : (s t : Store) → t.places ≡ s.places → length t.procs.items ≡ length s.procs.items → t.sends.items ≡ s.sends.items → length t.asked.items ≡ length s.asked.items →
     t.arrived.items ≡ s.arrived.items → t.queues.items ≡ s.queues.items → t.latest.items ≡ s.latest.items → IsIndexed s → IsIndexed t
 indexed_same s t places procs sends asked arrived queues latest old =
-    indexed_later s t places procs (ap length sends) asked arrived queues latest (λ pid. let same = ap (λ (ss : List Sent). length ss) (λ i. list_at (places i) (sends i) pid) in omega arith) (λ n y there. (y, (λ i. exchanges_by (sym places i) (sym sends i) n) ∙ there, refl, same_stage y.stage)) old
+    indexed_later s t places procs (ap length sends) asked arrived queues latest (λ pid. let same = ap (λ (ss : List Exchange). length ss) (λ i. list_at (places i) (sends i) pid) in omega arith) (λ n y there. (y, (λ i. exchanges_by (sym places i) (sym sends i) n) ∙ there, refl, same_stage y.stage)) old

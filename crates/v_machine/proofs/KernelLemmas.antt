@@ -8,17 +8,14 @@ use Rattle.vk_base.specs.declared.kernel.Process.{Process}
 use Rattle.vk_base.specs.declared.kernel.Registration.{Registration}
 use Rattle.vk_base.specs.declared.pid.Pid.{Pid}
 use Rattle.vk_base.specs.Kernel.{name_of, put_process, put_exchange}
-use Rattle.v_laws.proofs.Options.{mapped_is}
-use Rattle.v_machine.specs.declared.proc.Proc.{Proc}
-use Rattle.v_machine.specs.declared.sent.Sent.{Sent}
+use Rattle.v_machine.specs.declared.tables.proc.Proc.{Proc}
 use Rattle.v_machine.specs.Lists.{change_numbered}
 use Rattle.v_machine.specs.Places.{place_in, list_at, count_at, numbered}
-use Rattle.v_machine.specs.Sends.{exchange_of}
 use Rattle.v_machine.specs.Tables.{process_of, procs_by, exchanges_by, kernel_by}
 use Rattle.v_machine.proofs.PlaceLemmas.{get_of_or, at_place_is, some_at}
 use Rattle.v_machine.proofs.TableLemmas.{procs_is, procs-put, procs-even, exchanges_is, exchanges-put, count_is, count-set_same, count-set_other, count-set_even, length-even, length-change, numbered-push, numbered-push_other, numbered-change, numbered-change_other}
 
-module _ (pids : List Pid) (procs : List Proc) (sends : List (List Sent)) (asked : List (List Lookup)) where
+module _ (pids : List Pid) (procs : List Proc) (sends : List (List Exchange)) (asked : List (List Lookup)) where
   -- what stands at the place of a process is that process
   pub proc_there : (pid : Pid) (at : ℕ) (x : Proc) → place_in pids pid ≡ Some at → at < length procs → x ≡ get_or procs at x → procs_by pids procs sends asked pid ≡ Some (process_of x (count_at sends at) (count_at asked at))
   proc_there pid at x is low there = procs_is pids procs sends sends asked asked pid at x is (get_of_or procs at x low ∙ ap Some (sym there))
@@ -37,34 +34,31 @@ module _ (pids : List Pid) (procs : List Proc) (sends : List (List Sent)) (asked
       ap (λ ps. record (kernel_by pids procs sends asked names arrived) { procs = ps }) (procs-put pids procs sends sends asked asked x' pid at is low (λ to apart. refl) (λ to apart. refl))
       ∙ ap (λ q. record (kernel_by pids procs sends asked names arrived) { procs = put_process (procs_by pids procs sends asked) pid q }) (changed ∙ ap F (proc_is pid at x p is low there at_pid))
 
--- what is there after a map was there before
-
-module _ (pids : List Pid) (procs : List Proc) (sends : List (List Sent)) (asked : List (List Lookup)) where
-  pub sent_there : (pid : Pid) (at : ℕ) (s : List Sent) (number : ℕ) → place_in pids pid ≡ Some at → at < length sends → s ≡ get_or sends at s → exchanges_by pids sends (name_of pid number) ≡ option_map exchange_of (numbered s number)
+module _ (pids : List Pid) (procs : List Proc) (sends : List (List Exchange)) (asked : List (List Lookup)) where
+  pub sent_there : (pid : Pid) (at : ℕ) (s : List Exchange) (number : ℕ) → place_in pids pid ≡ Some at → at < length sends → s ≡ get_or sends at s → exchanges_by pids sends (name_of pid number) ≡ (numbered s number)
   sent_there pid at s number is low there = exchanges_is pids sends (name_of pid number) s (at_place_is pids sends pid at s is (get_of_or sends at s low ∙ ap Some (sym there)))
 
   -- the exchange of this name is changed as G says
-  pub exchanges-change : (f : Sent → Sent) (G : Exchange → Exchange) (pid : Pid) (at number : ℕ) (s s' : List Sent) (e : Exchange) → ((x : Sent) → exchange_of (f x) ≡ G (exchange_of x)) → place_in pids pid ≡ Some at → at < length sends → s ≡ get_or sends at s →
+  pub exchanges-change : (f : Exchange → Exchange) (pid : Pid) (at number : ℕ) (s s' : List Exchange) (e : Exchange) → place_in pids pid ≡ Some at → at < length sends → s ≡ get_or sends at s →
       exchanges_by pids sends (name_of pid number) ≡ Some e → s' ≡ change_numbered number f s →
-      exchanges_by pids (set sends at s') ≡ put_exchange (exchanges_by pids sends) (name_of pid number) (G e)
-  exchanges-change f G pid at number s s' e as_G is low there at_name changed =
-      let x = mapped_is exchange_of (numbered s number) e (sym (sent_there pid at s number is low there) ∙ at_name) in
-      let new : numbered s' number ≡ Some (f x.0) = ap (λ l. numbered l number) changed ∙ numbered-change f number s ∙ ap (option_map f) x.1 in
-      exchanges-put pids sends s s' pid at number (f x.0) is (get_of_or sends at s low ∙ ap Some (sym there)) new
+      exchanges_by pids (set sends at s') ≡ put_exchange (exchanges_by pids sends) (name_of pid number) (f e)
+  exchanges-change f pid at number s s' e is low there at_name changed =
+      let there_before : numbered s number ≡ Some e = sym (sent_there pid at s number is low there) ∙ at_name in
+      let new : numbered s' number ≡ Some (f e) = ap (λ l. numbered l number) changed ∙ numbered-change f number s ∙ ap (option_map f) there_before in
+      exchanges-put pids sends s s' pid at number (f e) is (get_of_or sends at s low ∙ ap Some (sym there)) new
       (λ m apart. ap (λ l. numbered l m) changed ∙ numbered-change_other f number m s apart)
-      ∙ ap (put_exchange (exchanges_by pids sends) (name_of pid number)) (as_G x.0 ∙ ap G x.2)
 
-  pub counts-change : (f : Sent → Sent) (at number : ℕ) (s s' : List Sent) → at < length sends → s ≡ get_or sends at s → s' ≡ change_numbered number f s → (to : ℕ) → count_at (set sends at s') to ≡ count_at sends to
+  pub counts-change : (f : Exchange → Exchange) (at number : ℕ) (s s' : List Exchange) → at < length sends → s ≡ get_or sends at s → s' ≡ change_numbered number f s → (to : ℕ) → count_at (set sends at s') to ≡ count_at sends to
   counts-change f at number s s' low there changed = count-set_even sends at s s' (get_of_or sends at s low ∙ ap Some (sym there)) (ap length changed ∙ length-change f number s)
 
-  pub sends_even : (f : Sent → Sent) (at number : ℕ) (s s' : List Sent) → at < length sends → s ≡ get_or sends at s → s' ≡ change_numbered number f s → (pid : Pid) → length (list_at pids sends pid) ≤ length (list_at pids (set sends at s') pid)
+  pub sends_even : (f : Exchange → Exchange) (at number : ℕ) (s s' : List Exchange) → at < length sends → s ≡ get_or sends at s → s' ≡ change_numbered number f s → (pid : Pid) → length (list_at pids sends pid) ≤ length (list_at pids (set sends at s') pid)
   sends_even f at number s s' low there changed pid = let same = length-even pids (set sends at s') sends pid (counts-change f at number s s' low there changed) in omega arith
 
-  pub kernel-exchange : (names : List Registration) (arrived : List Name) (f : Sent → Sent) (G : Exchange → Exchange) (pid : Pid) (at number : ℕ) (s s' : List Sent) (e : Exchange) → ((x : Sent) → exchange_of (f x) ≡ G (exchange_of x)) → place_in pids pid ≡ Some at → at < length sends → s ≡ get_or sends at s →
+  pub kernel-exchange : (names : List Registration) (arrived : List Name) (f : Exchange → Exchange) (pid : Pid) (at number : ℕ) (s s' : List Exchange) (e : Exchange) → place_in pids pid ≡ Some at → at < length sends → s ≡ get_or sends at s →
       exchanges_by pids sends (name_of pid number) ≡ Some e → s' ≡ change_numbered number f s →
-      kernel_by pids procs (set sends at s') asked names arrived ≡ record (kernel_by pids procs sends asked names arrived) { exchanges = put_exchange (exchanges_by pids sends) (name_of pid number) (G e) }
-  kernel-exchange names arrived f G pid at number s s' e as_G is low there at_name changed =
-      let exchanges = exchanges-change f G pid at number s s' e as_G is low there at_name changed in
+      kernel_by pids procs (set sends at s') asked names arrived ≡ record (kernel_by pids procs sends asked names arrived) { exchanges = put_exchange (exchanges_by pids sends) (name_of pid number) (f e) }
+  kernel-exchange names arrived f pid at number s s' e is low there at_name changed =
+      let exchanges = exchanges-change f pid at number s s' e is low there at_name changed in
       let processes = procs-even pids procs sends (set sends at s') asked asked (counts-change f at number s s' low there changed) (λ to. refl) in
       λ i. record (kernel_by pids procs sends asked names arrived) { procs = processes i; exchanges = exchanges i }
 
@@ -74,19 +68,19 @@ set_self (y ∷ xs) zero x is = ap (λ z. z ∷ xs) is
 set_self (y ∷ xs) (suc at) x is = ap (λ ys. y ∷ ys) (set_self xs at x is)
 
 -- one more Send of a process
-module _ (pids : List Pid) (procs : List Proc) (sends : List (List Sent)) (asked : List (List Lookup)) (pid : Pid) (at : ℕ) (p : Process) (x : Sent) (s s' : List Sent) (is : place_in pids pid ≡ Some at) (low_procs : at < length procs) (low : at < length sends) (there : s ≡ get_or sends at s) (pushed : s' ≡ s ++ x ∷ []) (at_pid : procs_by pids procs sends asked pid ≡ Some p) where
+module _ (pids : List Pid) (procs : List Proc) (sends : List (List Exchange)) (asked : List (List Lookup)) (pid : Pid) (at : ℕ) (p : Process) (x : Exchange) (s s' : List Exchange) (is : place_in pids pid ≡ Some at) (low_procs : at < length procs) (low : at < length sends) (there : s ≡ get_or sends at s) (pushed : s' ≡ s ++ x ∷ []) (at_pid : procs_by pids procs sends asked pid ≡ Some p) where
   pub count_pushed : p.sends + 1 ≡ length s + 1
   count_pushed =
       let y = some_at procs at low_procs in
       let same = same_Some (process_of y.0 (count_at sends at) (count_at asked at)) p (sym (procs_is pids procs sends sends asked asked pid at y.0 is y.1) ∙ at_pid) in
       ap (λ n. n + 1) (ap (λ (q : Process). q.sends) (sym same) ∙ count_is sends at s (get_of_or sends at s low ∙ ap Some (sym there)))
 
-  pub exchanges-pushed : exchanges_by pids (set sends at s') ≡ put_exchange (exchanges_by pids sends) (name_of pid (p.sends + 1)) (exchange_of x)
+  pub exchanges-pushed : exchanges_by pids (set sends at s') ≡ put_exchange (exchanges_by pids sends) (name_of pid (p.sends + 1)) x
   exchanges-pushed =
       let number : p.sends + 1 ≡ suc (length s) = count_pushed ∙ add-one (length s) in
       exchanges-put pids sends s s' pid at (suc (length s)) x is (get_of_or sends at s low ∙ ap Some (sym there)) (ap (λ l. numbered l (suc (length s))) pushed ∙ numbered-push s x)
       (λ m apart. ap (λ l. numbered l m) pushed ∙ numbered-push_other s x m apart)
-      ∙ ap (λ n. put_exchange (exchanges_by pids sends) (name_of pid n) (exchange_of x)) (sym number)
+      ∙ ap (λ n. put_exchange (exchanges_by pids sends) (name_of pid n) x) (sym number)
 
   procs-pushed : procs_by pids procs (set sends at s') asked ≡ put_process (procs_by pids procs sends asked) pid (record p { sends = p.sends + 1 })
   procs-pushed =
@@ -102,7 +96,7 @@ module _ (pids : List Pid) (procs : List Proc) (sends : List (List Sent)) (asked
   pub kernel-pushed : (names : List Registration) (arrived later : List Name) →
       kernel_by pids procs (set sends at s') asked names later ≡ record (kernel_by pids procs sends asked names arrived) {
         procs = put_process (procs_by pids procs sends asked) pid (record p { sends = p.sends + 1 });
-        exchanges = put_exchange (exchanges_by pids sends) (name_of pid (p.sends + 1)) (exchange_of x);
+        exchanges = put_exchange (exchanges_by pids sends) (name_of pid (p.sends + 1)) x;
         arrived = later;
       }
   kernel-pushed names arrived later = λ i. record (kernel_by pids procs sends asked names later) { procs = procs-pushed i; exchanges = exchanges-pushed i }

@@ -6,7 +6,7 @@ use Rattle.std.proofs.lemmas.List.Folds.{find-append}
 use Rattle.std.proofs.lemmas.Option.{none-some}
 use Rattle.std.specs.List.{find, position, position_or_len, list_any}
 use Rattle.std.specs.Option.{option_or}
-use Rattle.v_machine.specs.declared.latest.Latest.{Latest}
+use Rattle.v_machine.specs.declared.tables.latest.Latest.{Latest}
 use Rattle.v_machine.specs.Latest.{is_for, latest_in}
 
 abbrev entry : ℕ → ℕ → Latest

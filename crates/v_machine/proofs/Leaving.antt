@@ -16,22 +16,19 @@ use Rattle.vk_base.specs.declared.kernel.Stage.TheVariants as stages
 use Rattle.vk_base.specs.declared.kernel.State.{State}
 use Rattle.vk_base.specs.declared.kernel.State.TheVariants as states
 use Rattle.vk_base.specs.declared.pid.Pid.{Pid}
-use Rattle.vk_base.specs.Calls.{exited, released, dropped_at, is_open_at, answered}
-use Rattle.vk_base.specs.Kernel.{◌>>=◌, Kernel, name_of, holds_of, is_ready, is_open, sending, ended, put_process}
+use Rattle.vk_base.specs.Calls.{exited, released, dropped_at, is_message_at, answered}
+use Rattle.vk_base.specs.Kernel.{◌>>=◌, Kernel, name_of, holds_of, is_ready, is_at_target, sending, ended, put_process}
 use Rattle.vk_base.specs.Pids.{same_pid, same_host}
 use Rattle.v_laws.proofs.Tables.{same_pid_is, put_process_at, put_process_other}
-use Rattle.v_machine.specs.declared.latest.Latest.{Latest}
-use Rattle.v_machine.specs.declared.proc.Proc.{Proc}
-use Rattle.v_machine.specs.declared.sent.Phase.TheVariants as phases
-use Rattle.v_machine.specs.declared.sent.Sent.{Sent}
-use Rattle.v_machine.specs.declared.store.Store.{Store}
+use Rattle.v_machine.specs.declared.tables.latest.Latest.{Latest}
+use Rattle.v_machine.specs.declared.tables.proc.Proc.{Proc}
+use Rattle.v_machine.specs.declared.tables.Store.{Store}
 use Rattle.v_machine.specs.Kept.{IsIndexed, IsAt, IsLatest, IsNoNearer, kernel_in, latest_by}
 use Rattle.v_machine.specs.Latest.{latest_in}
-use Rattle.v_machine.specs.Leaving.{left, is_left, Leaves, dropped, Drops}
+use Rattle.v_machine.specs.Leaving.{left, is_left, Leaves, Drops}
 use Rattle.v_machine.specs.Lists.{Each, change_numbered}
 use Rattle.v_machine.specs.Places.{place_in, at_place, count_at, numbered}
 use Rattle.v_machine.specs.Rules.{Goes}
-use Rattle.v_machine.specs.Sends.{exchange_of}
 use Rattle.v_machine.specs.Tables.{is_of, process_of, procs_by, exchanges_by, lookups_by, names_by}
 use Rattle.v_machine.proofs.Indexes.{indexed_later, same_stage}
 use Rattle.v_machine.proofs.Naming.{filter_again}
@@ -50,50 +47,41 @@ beyond : {X Y : Type 0} (xs : List X) (ys : List Y) (at : ℕ) → length ys ≡
 beyond xs ys at even none = absent_too xs ys at even none (slice_get ys at) refl
 
 -- Exchanges.
-by_open : (b : Bool) (s : Sent) → exchange_of (cond b (record s { phase = phases.Dropped }) s) ≡ cond b (record (exchange_of s) { stage = stages.Dropped }) (exchange_of s)
-by_open true s = refl
-by_open false s = refl
-
-exchange_dropped : (gone : Pid) (o : Option Sent) → option_map exchange_of (option_map (dropped gone) o) ≡ option_map (dropped_at gone) (option_map exchange_of o)
-exchange_dropped gone None = refl
-exchange_dropped gone (Some s) = ap Some (by_open (is_open_at gone (exchange_of s)) s)
-
-module _ (pids : List Pid) (sends later : List (List Sent)) (latest : List (List Latest)) (gone : Pid) (each : Each (Drops gone latest) sends later) (even : length later ≡ length sends) where
+module _ (pids : List Pid) (sends later : List (List Exchange)) (latest : List (List Latest)) (gone : Pid) (each : Each (Drops gone latest) sends later) (even : length later ≡ length sends) where
   number_at : ℕ → ℕ
   number_at at = latest_in (unwrap_or (slice_get latest at) []) gone.host
 
-  other_stays : (number m : ℕ) (o : Option Sent) → (m ≡ number → ⊥) → ((s : Sent) → o ≡ Some s → is_open_at gone (exchange_of s) ≡ true → m ≡ number) → option_map exchange_of o ≡ option_map (dropped_at gone) (option_map exchange_of o)
+  other_stays : (number m : ℕ) (o : Option Exchange) → (m ≡ number → ⊥) → ((s : Exchange) → o ≡ Some s → is_message_at gone s ≡ true → m ≡ number) → o ≡ option_map (dropped_at gone) o
   other_stays number m None apart only = refl
   other_stays number m (Some s) apart only =
-      let shut = false_from_ne_true (is_open_at gone (exchange_of s)) (λ t. apart (only s refl t)) in
-      ap Some (sym (cond-false (is_open_at gone (exchange_of s)) (record (exchange_of s) { stage = stages.Dropped }) (exchange_of s) shut))
+      let shut = false_from_ne_true (is_message_at gone s) (λ t. apart (only s refl t)) in
+      ap Some (sym (cond-false (is_message_at gone s) (record s { stage = stages.Dropped }) s shut))
 
-  by_number : (ss ss' : List Sent) (number m : ℕ) → ss' ≡ change_numbered number (dropped gone) ss → ((s : Sent) → numbered ss m ≡ Some s → is_open_at gone (exchange_of s) ≡ true → m ≡ number) → option_map exchange_of (numbered ss' m) ≡ option_map (dropped_at gone) (option_map exchange_of (numbered ss m))
-  by_number ss ss' number m is only = ap (λ xs. option_map exchange_of (numbered xs m)) is ∙ elim (cases_Bool (m == number)) [
+  by_number : (ss ss' : List Exchange) (number m : ℕ) → ss' ≡ change_numbered number (dropped_at gone) ss → ((s : Exchange) → numbered ss m ≡ Some s → is_message_at gone s ≡ true → m ≡ number) → numbered ss' m ≡ option_map (dropped_at gone) (numbered ss m)
+  by_number ss ss' number m is only = ap (λ xs. numbered xs m) is ∙ elim (cases_Bool (m == number)) [
     | inl t ↦
         let same : m ≡ number = eqb-true m number t in
-        ap (λ n. option_map exchange_of (numbered (change_numbered number (dropped gone) ss) n)) same
-        ∙ ap (option_map exchange_of) (numbered-change (dropped gone) number ss)
-        ∙ exchange_dropped gone (numbered ss number)
-        ∙ ap (λ n. option_map (dropped_at gone) (option_map exchange_of (numbered ss n))) (sym same)
+        ap (λ n. numbered (change_numbered number (dropped_at gone) ss) n) same
+        ∙ numbered-change (dropped_at gone) number ss
+        ∙ ap (λ n. option_map (dropped_at gone) (numbered ss n)) (sym same)
     | inr f ↦
         let apart : m ≡ number → ⊥ = λ e. both_ways (m == number) f (eq-eqb m number e) in
-        ap (option_map exchange_of) (numbered-change_other (dropped gone) number m ss apart)
+        numbered-change_other (dropped_at gone) number m ss apart
         ∙ other_stays number m (numbered ss m) apart only
   ]
 
-  only_latest : ((n : Name) (e : Exchange) → exchanges_by pids sends n ≡ Some e → IsLatest (latest_by pids latest n.sender e.target.host) n e) → (n : Name) (at : ℕ) (ss : List Sent) → place_in pids n.sender ≡ Some at → slice_get sends at ≡ Some ss →
-      (s : Sent) → numbered ss n.number ≡ Some s → is_open_at gone (exchange_of s) ≡ true → n.number ≡ number_at at
+  only_latest : ((n : Name) (e : Exchange) → exchanges_by pids sends n ≡ Some e → IsLatest (latest_by pids latest n.sender e.target.host) n e) → (n : Name) (at : ℕ) (ss : List Exchange) → place_in pids n.sender ≡ Some at → slice_get sends at ≡ Some ss →
+      (s : Exchange) → numbered ss n.number ≡ Some s → is_message_at gone s ≡ true → n.number ≡ number_at at
   unfolding at_place number_at
   only_latest was n at ss place there s is t =
-      let parts = and_parts (same_pid s.target gone) (is_open (exchange_of s).stage) t in
+      let parts = and_parts (same_pid s.target gone) (is_at_target s.stage) t in
       let one = same_pid_is s.target gone parts.0 in
-      let is_there = exchanges_is pids sends n ss (at_place_is pids sends n.sender at ss place there) ∙ ap (option_map exchange_of) is in
-      (was n (exchange_of s) is_there).live parts.1
+      let is_there = exchanges_is pids sends n ss (at_place_is pids sends n.sender at ss place there) ∙ is in
+      (was n s is_there).live parts.1
       ∙ ap (λ (p : Pid). latest_by pids latest n.sender p.host) one
       ∙ ap (λ o. latest_in (unwrap_or (o >>= slice_get latest) []) gone.host) place
 
-  by_sends : ((n : Name) (e : Exchange) → exchanges_by pids sends n ≡ Some e → IsLatest (latest_by pids latest n.sender e.target.host) n e) → (n : Name) (at : ℕ) → place_in pids n.sender ≡ Some at → (o : Option (List Sent)) → slice_get sends at ≡ o → exchanges_by pids later n ≡ option_map (dropped_at gone) (exchanges_by pids sends n)
+  by_sends : ((n : Name) (e : Exchange) → exchanges_by pids sends n ≡ Some e → IsLatest (latest_by pids latest n.sender e.target.host) n e) → (n : Name) (at : ℕ) → place_in pids n.sender ≡ Some at → (o : Option (List Exchange)) → slice_get sends at ≡ o → exchanges_by pids later n ≡ option_map (dropped_at gone) (exchanges_by pids sends n)
   unfolding at_place number_at
   by_sends was n at place None there =
       exchanges_nowhere pids later n (ap (λ o. o >>= slice_get later) place ∙ beyond sends later at even there)
@@ -111,12 +99,12 @@ module _ (pids : List Pid) (sends later : List (List Sent)) (latest : List (List
   pub exchanges_left : ((n : Name) (e : Exchange) → exchanges_by pids sends n ≡ Some e → IsLatest (latest_by pids latest n.sender e.target.host) n e) → exchanges_by pids later ≡ (λ n. option_map (dropped_at gone) (exchanges_by pids sends n))
   exchanges_left was = λ i n. by_place was n (place_in pids n.sender) refl i
 
-  count_by : (at : ℕ) (o : Option (List Sent)) → slice_get sends at ≡ o → count_at later at ≡ count_at sends at
+  count_by : (at : ℕ) (o : Option (List Exchange)) → slice_get sends at ≡ o → count_at later at ≡ count_at sends at
   unfolding number_at
   count_by at None is = ap (λ o. length (unwrap_or o [])) (beyond sends later at even is ∙ sym is)
   count_by at (Some ss) is =
       let now = each at ss is in
-      count_is later at now.0 now.1 ∙ ap length now.2 ∙ length-change (dropped gone) (number_at at) ss ∙ sym (count_is sends at ss is)
+      count_is later at now.0 now.1 ∙ ap length now.2 ∙ length-change (dropped_at gone) (number_at at) ss ∙ sym (count_is sends at ss is)
 
   pub counts_left : (at : ℕ) → count_at later at ≡ count_at sends at
   counts_left at = count_by at (slice_get sends at) refl
@@ -133,25 +121,25 @@ left_no_nearer : (gone : Pid) (o : Option Exchange) (y : Exchange) → option_ma
 left_no_nearer gone None y is = absurd (none-some y is)
 left_no_nearer gone (Some x) y is =
     let same : dropped_at gone x ≡ y = same_Some (dropped_at gone x) y is in
-    (x, refl, ap (λ (z : Exchange). z.target) (sym same) ∙ same_target (is_open_at gone x) x, subst (λ (z : Exchange). IsNoNearer x.stage z.stage) same (dropped_no_nearer (is_open_at gone x) x))
+    (x, refl, ap (λ (z : Exchange). z.target) (sym same) ∙ same_target (is_message_at gone x) x, subst (λ (z : Exchange). IsNoNearer x.stage z.stage) same (dropped_no_nearer (is_message_at gone x) x))
 
 -- Processes.
-ready_stays : (gone pid : Pid) (ss : List Sent) (p : Process) → is_ready p.state ≡ true → left gone pid ss p ≡ p
+ready_stays : (gone pid : Pid) (ss : List Exchange) (p : Process) → is_ready p.state ≡ true → left gone pid ss p ≡ p
 ready_stays gone pid ss p ready = cond-false (is_left gone pid ss p.state) (record p { state = ended p.state (answers.Refused refusals.NoProcess) }) p (not_left p.state ready (same_host pid gone))
   where
-    not_left : (s : State) → is_ready s ≡ true → (b : Bool) → (b && is_some (sending s) && holds_of (is_open_at gone) (option_map exchange_of (numbered ss (length ss)))) ≡ false
+    not_left : (s : State) → is_ready s ≡ true → (b : Bool) → (b && is_some (sending s) && holds_of (is_message_at gone) ((numbered ss (length ss)))) ≡ false
     not_left states.Ready ready true = refl
     not_left states.Ready ready false = refl
     not_left (states.Blocked c) ready b = absurd (both_ways false refl ready)
     not_left (states.Done c a) ready b = absurd (both_ways false refl ready)
 
-module _ (k : Kernel) (pids : List Pid) (procs after : List Proc) (sends : List (List Sent)) (asked : List (List Lookup)) (gone : Pid) (each : Each (Leaves gone pids sends) procs after) (even : length after ≡ length procs) (all : length sends ≡ length pids) (same_procs : k.procs ≡ procs_by pids procs sends asked) (same_exchanges : k.exchanges ≡ exchanges_by pids sends) where
+module _ (k : Kernel) (pids : List Pid) (procs after : List Proc) (sends : List (List Exchange)) (asked : List (List Lookup)) (gone : Pid) (each : Each (Leaves gone pids sends) procs after) (even : length after ≡ length procs) (all : length sends ≡ length pids) (same_procs : k.procs ≡ procs_by pids procs sends asked) (same_exchanges : k.exchanges ≡ exchanges_by pids sends) where
   -- the test of a process that waits
-  left_is : (q : Pid) (at : ℕ) (ss : List Sent) (x : Process) → place_in pids q ≡ Some at → slice_get sends at ≡ Some ss → x.sends ≡ length ss → left gone q ss x ≡ released k gone q x
+  left_is : (q : Pid) (at : ℕ) (ss : List Exchange) (x : Process) → place_in pids q ≡ Some at → slice_get sends at ≡ Some ss → x.sends ≡ length ss → left gone q ss x ≡ released k gone q x
   left_is q at ss x place there count =
-      let last : k.exchanges (name_of q x.sends) ≡ option_map exchange_of (numbered ss (length ss)) =
+      let last : k.exchanges (name_of q x.sends) ≡ (numbered ss (length ss)) =
       ap (λ f. f (name_of q x.sends)) same_exchanges ∙ ap (λ n. exchanges_by pids sends (name_of q n)) count ∙ exchanges_is pids sends (name_of q (length ss)) ss (at_place_is pids sends q at ss place there) in
-      ap (λ o. cond (same_host q gone && is_some (sending x.state) && holds_of (is_open_at gone) o) (record x { state = ended x.state (answers.Refused refusals.NoProcess) }) x) (sym last)
+      ap (λ o. cond (same_host q gone && is_some (sending x.state) && holds_of (is_message_at gone) o) (record x { state = ended x.state (answers.Refused refusals.NoProcess) }) x) (sym last)
 
   by_proc : (q : Pid) (at : ℕ) → place_in pids q ≡ Some at → (o : Option Proc) → slice_get procs at ≡ o → procs_by pids after sends asked q ≡ option_map (released k gone q) (procs_by pids procs sends asked q)
   unfolding procs_by
@@ -178,7 +166,7 @@ module _ (k : Kernel) (pids : List Pid) (procs after : List Proc) (sends : List 
   released_at q None is = procs_nowhere pids after sends sends asked asked q is ∙ sym (ap (option_map (released k gone q)) (ap (λ f. f q) same_procs ∙ procs_nowhere pids procs sends sends asked asked q is))
   released_at q (Some at) is = by_proc q at is (slice_get procs at) refl ∙ ap (λ f. option_map (released k gone q) (f q)) (sym same_procs)
 
-  pub procs_left : (later : List (List Sent)) (at : ℕ) (p : Process) (x : Proc) → ((to : ℕ) → count_at later to ≡ count_at sends to) → place_in pids gone ≡ Some at → k.procs gone ≡ Some p → is_ready p.state ≡ true → x ≡ get_or after at x → at < length after →
+  pub procs_left : (later : List (List Exchange)) (at : ℕ) (p : Process) (x : Proc) → ((to : ℕ) → count_at later to ≡ count_at sends to) → place_in pids gone ≡ Some at → k.procs gone ≡ Some p → is_ready p.state ≡ true → x ≡ get_or after at x → at < length after →
       procs_by pids (set after at (record x { alive = false })) later asked ≡ (λ q. if same_pid q gone then Some (record p { alive = false }) else option_map (released k gone q) (k.procs q))
   procs_left later at p x counts place there ready is low =
       procs-put pids after later later asked asked (record x { alive = false }) gone at place low (λ to apart. refl) (λ to apart. refl)

@@ -18,11 +18,11 @@ pub mod MoveCalls
 pub mod MoveLemmas
 pub mod MoveSteps
 pub mod Naming
-pub mod Opened
+pub mod InitialLemmas
 pub mod Pieces
 pub mod PlaceLemmas
 pub mod SendLemmas
-pub mod Steps
+pub mod StepLemmas
 pub mod Stores
 pub mod TableLemmas
 pub mod Taking

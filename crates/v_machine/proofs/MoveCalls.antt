@@ -18,26 +18,17 @@ use Rattle.vk_base.specs.Kernel.{◌>>=◌, Kernel, held, name_of, with_memory}
 use Rattle.vk_base.specs.Messages.{segment_of}
 use Rattle.vk_base.specs.Ranges.{range_of, lies_in, lies_within, bytes_in, with_bytes}
 use Rattle.v_laws.specs.Sizes.{IsSized}
-use Rattle.v_machine.specs.declared.store.Store.{Store}
-use Rattle.v_machine.specs.declared.verdict.ApplyRefusal.{ApplyRefusal}
-use Rattle.v_machine.specs.declared.verdict.ApplyRefusal.TheVariants as refused
-use Rattle.v_machine.specs.declared.verdict.Verdict.{Verdict}
-use Rattle.v_machine.specs.declared.verdict.Verdict.TheVariants as verdicts
+use Rattle.v_machine.specs.declared.tables.Store.{Store}
+use Rattle.v_machine.specs.declared.refusal.ApplyRefusal.{ApplyRefusal}
+use Rattle.v_machine.specs.declared.refusal.ApplyRefusal.TheVariants as refused
+use Rattle.v_machine.specs.declared.calls.response.Response.{Response}
+use Rattle.v_machine.specs.declared.calls.response.Response.TheVariants as responses
 use Rattle.v_machine.specs.Apply.{is_begun}
 use Rattle.v_machine.specs.Kept.{IsIndexed, kernel_in}
 use Rattle.v_machine.specs.Moves.{BeginsOrNot}
 use Rattle.v_machine.specs.Rules.{Answers, Stays, judged, seen_result}
-use Rattle.v_machine.proofs.Steps.{found}
+use Rattle.v_machine.proofs.StepLemmas.{found}
 use Rattle.v_machine.proofs.Stores.{stays}
-
--- a result that is no error
-pub good : {T E : Type 0} (r : Result T E) (P : Type 0) → OnOk r P → is_err r ≡ false → P
-good (Ok x) P h none = h
-good (Err e) P h none = absurd (both_ways false refl (sym none))
-
-pub bad : {T E : Type 0} (r : Result T E) (P : Type 0) → OnErr r P → is_err r ≡ true → P
-bad (Ok x) P h some = absurd (both_ways false refl some)
-bad (Err e) P h some = h
 
 -- a range within a segment lies where the segment does
 pub within : (r outer : Range) (size : ℕ) → lies_within r outer ≡ true → lies_in outer size ≡ true → r.start + r.len ≤ size
@@ -87,7 +78,7 @@ sees o noted room x s t is none indexed = (record { effect = is; indexed = index
 pub wants : (o : Option Effect) (noted room : ℕ) (e : Effect) (s t : Store) → o ≡ Some e → noted ≡ 0 → Stays s t → Answers o noted room s t (Err refused.NoMemory)
 wants o noted room e s t is none stays = (ap is_some is, zero_low noted room none, stays)
 
-pub begins : (o : Option Effect) (noted count room : ℕ) (pid : Pid) (p : Process) (c : Call) (partner : Pid) (number : ℕ) (e : Exchange) (m : Move) (s t : Store) (r : Result Verdict ApplyRefusal) → (kernel_in s).procs pid ≡ Some p → (kernel_in s).exchanges (name_of partner number) ≡ Some e →
+pub begins : (o : Option Effect) (noted count room : ℕ) (pid : Pid) (p : Process) (c : Call) (partner : Pid) (number : ℕ) (e : Exchange) (m : Move) (s t : Store) (r : Result Response ApplyRefusal) → (kernel_in s).procs pid ≡ Some p → (kernel_in s).exchanges (name_of partner number) ≡ Some e →
     o ≡ Some (unseen (move_begun (kernel_in s) pid p c (name_of partner number) e m)) → noted ≡ count → BeginsOrNot pid c partner number count room m s t r → Answers o noted room s t (seen_result pid c r)
 begins o noted count room pid p c partner number e m s t (Ok v) there at is same b =
     let after = b.2 p e there at in
@@ -103,7 +94,7 @@ noted_to s pid p partner dest src count = if is_begun (judged (kernel_in s) pid 
 
 module _ (s : Store) (pid : Pid) (p : Process) (partner : Pid) (dest src count room : ℕ) where
   pub to_refused : (why : Refusal) → first_that_holds (tests_of (kernel_in s) pid p (calls.MoveTo partner dest src count)) ≡ Some why → IsIndexed s →
-      Answers (judged (kernel_in s) pid p (calls.MoveTo partner dest src count)) (noted_to s pid p partner dest src count) room s s (seen_result pid (calls.MoveTo partner dest src count) (Ok (verdicts.Refused why)))
+      Answers (judged (kernel_in s) pid p (calls.MoveTo partner dest src count)) (noted_to s pid p partner dest src count) room s s (seen_result pid (calls.MoveTo partner dest src count) (Ok (responses.Refused why)))
   to_refused why tests indexed =
       let call = calls.MoveTo partner dest src count in
       let o = judged (kernel_in s) pid p call in
@@ -126,7 +117,7 @@ module _ (s : Store) (pid : Pid) (p : Process) (partner : Pid) (dest src count r
 
   pub to_copied : (q : Process) (t : Store) → first_that_holds (tests_of (kernel_in s) pid p (calls.MoveTo partner dest src count)) ≡ None → is_at_once pid partner count ≡ true → (kernel_in s).procs partner ≡ Some q →
       kernel_in t ≡ with_memory (kernel_in s) partner q (with_bytes q.memory dest (bytes_in (range_of src count) p.memory)) → IsIndexed t →
-      Answers (judged (kernel_in s) pid p (calls.MoveTo partner dest src count)) (noted_to s pid p partner dest src count) room s t (seen_result pid (calls.MoveTo partner dest src count) (Ok verdicts.Ok))
+      Answers (judged (kernel_in s) pid p (calls.MoveTo partner dest src count)) (noted_to s pid p partner dest src count) room s t (seen_result pid (calls.MoveTo partner dest src count) (Ok responses.Ok))
   to_copied q t tests once there copied indexed =
       let call = calls.MoveTo partner dest src count in
       let o = judged (kernel_in s) pid p call in
@@ -134,7 +125,7 @@ module _ (s : Store) (pid : Pid) (p : Process) (partner : Pid) (dest src count r
       let is : o ≡ Some (record { after = kernel_in t; seen = Some x }) = to_is q tests once there ∙ ap (λ z. Some (answered z pid call answers.Ok)) (sym copied) in
       sees o (if is_begun o then count else 0) room x s t is (none_noted o (kernel_in t) x count is) indexed
 
-  pub to_begins : (number : ℕ) (e : Exchange) (t : Store) (r : Result Verdict ApplyRefusal) → (kernel_in s).procs pid ≡ Some p → first_that_holds (tests_of (kernel_in s) pid p (calls.MoveTo partner dest src count)) ≡ None → is_at_once pid partner count ≡ false → held (kernel_in s) pid partner ≡ Some number → (kernel_in s).exchanges (name_of partner number) ≡ Some e →
+  pub to_begins : (number : ℕ) (e : Exchange) (t : Store) (r : Result Response ApplyRefusal) → (kernel_in s).procs pid ≡ Some p → first_that_holds (tests_of (kernel_in s) pid p (calls.MoveTo partner dest src count)) ≡ None → is_at_once pid partner count ≡ false → held (kernel_in s) pid partner ≡ Some number → (kernel_in s).exchanges (name_of partner number) ≡ Some e →
       BeginsOrNot pid (calls.MoveTo partner dest src count) partner number count room (new_move pid directions.To dest src count (bytes_in (range_of src count) p.memory)) s t r →
       Answers (judged (kernel_in s) pid p (calls.MoveTo partner dest src count)) (noted_to s pid p partner dest src count) room s t (seen_result pid (calls.MoveTo partner dest src count) r)
   to_begins number e t r here tests away holds at begun =
@@ -155,12 +146,12 @@ module _ (s : Store) (pid : Pid) (p : Process) (partner : Pid) (dest src count :
 
   pub from_copied : (q : Process) (t : Store) → first_that_holds (tests_of (kernel_in s) pid p (calls.MoveFrom partner dest src count)) ≡ None → is_at_once pid partner count ≡ true → (kernel_in s).procs partner ≡ Some q →
       kernel_in t ≡ with_memory (kernel_in s) pid p (with_bytes p.memory dest (bytes_in (range_of src count) q.memory)) → IsIndexed t →
-      Answers (judged (kernel_in s) pid p (calls.MoveFrom partner dest src count)) 0 0 s t (seen_result pid (calls.MoveFrom partner dest src count) (Ok verdicts.Ok))
+      Answers (judged (kernel_in s) pid p (calls.MoveFrom partner dest src count)) 0 0 s t (seen_result pid (calls.MoveFrom partner dest src count) (Ok responses.Ok))
   from_copied q t tests once there copied indexed =
       let call = calls.MoveFrom partner dest src count in
       sees (judged (kernel_in s) pid p call) 0 0 (record { pid = pid; call = call; answer = answers.Ok }) s t (from_is q tests once there ∙ ap (λ z. Some (answered z pid call answers.Ok)) (sym copied)) refl indexed
 
-  pub from_begins : (number : ℕ) (e : Exchange) (t : Store) (r : Result Verdict ApplyRefusal) → first_that_holds (tests_of (kernel_in s) pid p (calls.MoveFrom partner dest src count)) ≡ None → is_at_once pid partner count ≡ false → held (kernel_in s) pid partner ≡ Some number → (kernel_in s).exchanges (name_of partner number) ≡ Some e →
+  pub from_begins : (number : ℕ) (e : Exchange) (t : Store) (r : Result Response ApplyRefusal) → first_that_holds (tests_of (kernel_in s) pid p (calls.MoveFrom partner dest src count)) ≡ None → is_at_once pid partner count ≡ false → held (kernel_in s) pid partner ≡ Some number → (kernel_in s).exchanges (name_of partner number) ≡ Some e →
       BeginsOrNot pid (calls.MoveFrom partner dest src count) partner number 0 0 (new_move pid directions.From dest src count []) s t r →
       Answers (judged (kernel_in s) pid p (calls.MoveFrom partner dest src count)) 0 0 s t (seen_result pid (calls.MoveFrom partner dest src count) r)
   from_begins number e t r tests away holds at begun =

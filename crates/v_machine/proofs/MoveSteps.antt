@@ -18,16 +18,17 @@ use Rattle.vk_base.specs.Calls.{unseen}
 use Rattle.vk_base.specs.Kernel.{Kernel, waiting_on, with_state, ended, is_moving, move_of}
 use Rattle.vk_base.specs.Steps.{only_if, ending, end_step, move_ending, opening_move, move_opened, open_step, noted_bytes, copying, copied, copy_step, is_next, is_in_move, written_process}
 use Rattle.v_laws.proofs.StepLemmas.{only_if_is}
-use Rattle.v_machine.specs.declared.store.Store.{Store}
-use Rattle.v_machine.specs.declared.verdict.ApplyRefusal.{ApplyRefusal}
-use Rattle.v_machine.specs.declared.verdict.ApplyRefusal.TheVariants as refused
+use Rattle.v_machine.specs.declared.tables.Store.{Store}
+use Rattle.v_machine.specs.declared.refusal.ApplyRefusal.{ApplyRefusal}
+use Rattle.v_machine.specs.declared.refusal.ApplyRefusal.TheVariants as refused
 use Rattle.v_machine.specs.Apply.{noted_at_opening}
 use Rattle.v_machine.specs.Kept.{IsIndexed, IsAt, kernel_in}
 use Rattle.v_machine.specs.Lists.{change_at}
-use Rattle.v_machine.specs.Moves.{IsWritten, Notes, noted_for, with_exchange, with_opened, into_of}
+use Rattle.v_machine.specs.Moves.{IsWritten, Notes, noted_for, with_exchange, into_of}
+use Rattle.v_machine.specs.Sends.{with_opened}
 use Rattle.v_machine.specs.Rules.{Answers, Goes}
 use Rattle.v_machine.specs.Sends.{with_noted, noted_in}
-use Rattle.v_machine.proofs.Steps.{found}
+use Rattle.v_machine.proofs.StepLemmas.{found}
 use Rattle.v_machine.proofs.Stores.{process_at, stays}
 
 -- End.

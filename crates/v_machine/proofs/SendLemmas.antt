@@ -17,18 +17,17 @@ use Rattle.vk_base.specs.declared.kernel.State.TheVariants as states
 use Rattle.vk_base.specs.declared.message.Message.{Message}
 use Rattle.vk_base.specs.declared.pid.Pid.{Pid}
 use Rattle.vk_base.specs.Calls.{Effect, first_that_holds, tests_of, sent, sent_exchange}
-use Rattle.vk_base.specs.Kernel.{◌>>=◌, Kernel, name_of, same_name, is_ready, is_live, is_queued, is_queued_at, is_open, is_posted, holds_of, put_process, put_exchange, with_state}
+use Rattle.vk_base.specs.Kernel.{◌>>=◌, Kernel, name_of, same_name, is_ready, is_live, is_queued, is_queued_at, is_at_target, is_posted, holds_of, put_process, put_exchange, with_state}
 use Rattle.vk_base.specs.Messages.{segment_of}
 use Rattle.vk_base.specs.Pids.{same_pid, same_host}
 use Rattle.vk_base.specs.Ranges.{lies_in}
 use Rattle.v_laws.specs.Sound.{IsSound}
 use Rattle.v_laws.proofs.Tables.{same_pid_is, same_name_is, put_exchange_at, put_exchange_other, put_process_here, same_name_self}
-use Rattle.v_machine.specs.declared.latest.Latest.{Latest}
-use Rattle.v_machine.specs.declared.sent.Sent.{Sent}
-use Rattle.v_machine.specs.declared.store.Store.{Store}
-use Rattle.v_machine.specs.declared.verdict.ApplyRefusal.{ApplyRefusal}
-use Rattle.v_machine.specs.declared.verdict.ApplyRefusal.TheVariants as refused
-use Rattle.v_machine.specs.declared.verdict.Verdict.{Verdict}
+use Rattle.v_machine.specs.declared.tables.latest.Latest.{Latest}
+use Rattle.v_machine.specs.declared.tables.Store.{Store}
+use Rattle.v_machine.specs.declared.refusal.ApplyRefusal.{ApplyRefusal}
+use Rattle.v_machine.specs.declared.refusal.ApplyRefusal.TheVariants as refused
+use Rattle.v_machine.specs.declared.calls.response.Response.{Response}
 use Rattle.v_laws.specs.Sizes.{IsSized}
 use Rattle.v_machine.specs.Kept.{IsKept, IsIndexed, IsAt, IsWaiting, IsLatest, kernel_in, latest_by, queued_at}
 use Rattle.v_machine.specs.Latest.{latest_in}
@@ -77,7 +76,7 @@ answers_on o noted room s t u (Err refused.NotAllowed) st a = (a.0, stays_on s t
 answers_on o noted room s t u (Err refused.Limit) st a = (a.0, a.1, stays_on s t u st a.2)
 answers_on o noted room s t u (Err refused.NoMemory) st a = (a.0, a.1, stays_on s t u st a.2)
 
-pub judges_on : (pid : Pid) (c : Call) (s t u : Store) (r : Result Verdict ApplyRefusal) → Stays s t → Judges pid c t u r → Judges pid c s u r
+pub judges_on : (pid : Pid) (c : Call) (s t u : Store) (r : Result Response ApplyRefusal) → Stays s t → Judges pid c t u r → Judges pid c s u r
 judges_on pid c s t u r st judges = λ p there ready.
     let same : kernel_in t ≡ kernel_in s = ap kernel_of (st.tables 0) in
     answers_on (judged (kernel_in s) pid p c) 0 0 s t u (seen_result pid c r) st
@@ -105,7 +104,7 @@ stays_alike s t places procs sends asked names arrived queues latest numbers old
         low = λ sender host.
             let was = old.low sender host in
             let number = numbers sender host in
-            let count = ap (λ (ss : List Sent). length ss) (λ i. list_at (places i) (sends i) sender) in
+            let count = ap (λ (ss : List Exchange). length ss) (λ i. list_at (places i) (sends i) sender) in
             omega arith;
         open_last = λ n y there.
             let was = old.open_last n y (ap (λ f. f n) (sym exchanges) ∙ there) in
@@ -140,7 +139,7 @@ module _ (s : Store) (pid : Pid) (at to : ℕ) (p : Process) (x : Exchange) (kep
 
   -- no other exchange with its host is open or posted
   rest : (n : Name) (y : Exchange) → same_name n (name_of pid (p.sends + 1)) ≡ false → put_exchange (exchanges_by s.places s.sends.items) (name_of pid (p.sends + 1)) x n ≡ Some y → same_pid n.sender pid ≡ true → (y.target.host == x.target.host) ≡ true →
-      (is_open y.stage ≡ true → ⊥) × (is_posted y.stage ≡ true → p.sends + 1 ≤ n.number)
+      (is_at_target y.stage ≡ true → ⊥) × (is_posted y.stage ≡ true → p.sends + 1 ≤ n.number)
   rest n y f is mine host =
       let was : exchanges_by s.places s.sends.items n ≡ Some y = sym (put_exchange_other (exchanges_by s.places s.sends.items) (name_of pid (p.sends + 1)) x n f) ∙ is in
       let sender = same_pid_is n.sender pid mine in
@@ -153,7 +152,7 @@ module _ (s : Store) (pid : Pid) (at to : ℕ) (p : Process) (x : Exchange) (kep
         λ u. absurd (both_ways (same_host n.sender y.target) (kept.sound.posted n y was u).remote near),
       )
 
-  pub indexed_posted : (t : Store) (s' : List Sent) (names : List Name) (l0 l2 : List Latest) → t.places ≡ s.places → length t.procs.items ≡ length s.procs.items → length t.asked.items ≡ length s.asked.items →
+  pub indexed_posted : (t : Store) (s' : List Exchange) (names : List Name) (l0 l2 : List Latest) → t.places ≡ s.places → length t.procs.items ≡ length s.procs.items → length t.asked.items ≡ length s.asked.items →
       t.sends.items ≡ set s.sends.items at s' → length s' ≡ p.sends + 1 → length (list_at s.places s.sends.items pid) ≤ length s' → exchanges_by s.places (set s.sends.items at s') ≡ put_exchange (exchanges_by s.places s.sends.items) (name_of pid (p.sends + 1)) x →
       t.arrived.items ≡ s.arrived.items ++ name_of pid (p.sends + 1) ∷ [] →
       names ≡ get_or s.queues.items to names → t.queues.items ≡ set s.queues.items to (names ++ name_of pid (p.sends + 1) ∷ []) →
@@ -209,7 +208,7 @@ module _ (s : Store) (pid : Pid) (at : ℕ) (p : Process) (x : Exchange) (kept :
       absurd (both_ways (queued_at (put_exchange (exchanges_by s.places s.sends.items) (name_of pid (p.sends + 1)) x) r n) none u)
   no_queue r n false f u = sym (ap (holds_of (is_queued_at r)) (put_exchange_other (exchanges_by s.places s.sends.items) (name_of pid (p.sends + 1)) x n f)) ∙ u
 
-  pub indexed_away : (t : Store) (s' : List Sent) → t.places ≡ s.places → length t.procs.items ≡ length s.procs.items → length t.asked.items ≡ length s.asked.items →
+  pub indexed_away : (t : Store) (s' : List Exchange) → t.places ≡ s.places → length t.procs.items ≡ length s.procs.items → length t.asked.items ≡ length s.asked.items →
       t.sends.items ≡ set s.sends.items at s' → length s' ≡ p.sends + 1 → length (list_at s.places s.sends.items pid) ≤ p.sends + 1 → exchanges_by s.places (set s.sends.items at s') ≡ put_exchange (exchanges_by s.places s.sends.items) (name_of pid (p.sends + 1)) x →
       t.arrived.items ≡ s.arrived.items → t.queues.items ≡ s.queues.items → t.latest.items ≡ s.latest.items → IsIndexed t
   indexed_away t s' places procs asked sends grown longer exchanges arrived queues latest =
@@ -229,7 +228,7 @@ module _ (s : Store) (pid : Pid) (at : ℕ) (p : Process) (x : Exchange) (kept :
             });
         low = λ sender host.
             let number : latest_by t.places t.latest.items sender host ≡ latest_by s.places s.latest.items sender host = λ i. latest_by (places i) (latest i) sender host in
-            let count = ap (λ (ss : List Sent). length ss) (λ i. list_at (places i) (sends i) sender) in
+            let count = ap (λ (ss : List Exchange). length ss) (λ i. list_at (places i) (sends i) sender) in
             let was = kept.indexed.low sender host in
             let more = longer_at s' sender grown longer (cases_Bool (same_pid sender pid)) in
             omega arith;
@@ -238,11 +237,11 @@ module _ (s : Store) (pid : Pid) (at : ℕ) (p : Process) (x : Exchange) (kept :
             subst (λ m. IsLatest m n y) (sym number) (latest_at n y longer (before_is n y (sym (ap (λ f. f n) all) ∙ is) (same_name n (name_of pid (p.sends + 1))) refl));
       }
     where
-      longer_at : (s' : List Sent) (q : Pid) → length s' ≡ p.sends + 1 → length (list_at s.places s.sends.items pid) ≤ p.sends + 1 → (same_pid q pid ≡ true) ⊎ (same_pid q pid ≡ false) → length (list_at s.places s.sends.items q) ≤ length (list_at s.places (set s.sends.items at s') q)
+      longer_at : (s' : List Exchange) (q : Pid) → length s' ≡ p.sends + 1 → length (list_at s.places s.sends.items pid) ≤ p.sends + 1 → (same_pid q pid ≡ true) ⊎ (same_pid q pid ≡ false) → length (list_at s.places s.sends.items q) ≤ length (list_at s.places (set s.sends.items at s') q)
       longer_at s' q grown longer (inl u) =
           subst (λ z. length (list_at s.places s.sends.items z) ≤ length (list_at s.places (set s.sends.items at s') z)) (sym (same_pid_is q pid u))
           (let count = ap length (list_at-set_same s.places s.sends.items pid at s' here.place here.sends) in omega arith)
-      longer_at s' q grown longer (inr f) = let count = ap (λ (ss : List Sent). length ss) (list_at-set_other s.places s.sends.items pid q at s' here.place f) in omega arith
+      longer_at s' q grown longer (inr f) = let count = ap (λ (ss : List Exchange). length ss) (list_at-set_other s.places s.sends.items pid q at s' here.place f) in omega arith
 
       latest_at : (n : Name) (y : Exchange) → length (list_at s.places s.sends.items pid) ≤ p.sends + 1 → ((x ≡ y) × (n ≡ name_of pid (p.sends + 1))) ⊎ (exchanges_by s.places s.sends.items n ≡ Some y) → IsLatest (latest_by s.places s.latest.items n.sender y.target.host) n y
       latest_at n y longer (inr is) = kept.indexed.open_last n y is
@@ -250,6 +249,6 @@ module _ (s : Store) (pid : Pid) (at : ℕ) (p : Process) (x : Exchange) (kept :
           let was = kept.indexed.low pid y.target.host in
           let low : latest_by s.places s.latest.items pid y.target.host ≤ p.sends + 1 = omega arith in
           subst (λ (m : Name). IsLatest (latest_by s.places s.latest.items m.sender y.target.host) m y) (sym same.1) (record {
-            live = λ u. absurd (both_ways (is_open y.stage) (ap (λ (z : Exchange). is_open z.stage) (sym same.0) ∙ ap is_open on_way) u);
+            live = λ u. absurd (both_ways (is_at_target y.stage) (ap (λ (z : Exchange). is_at_target z.stage) (sym same.0) ∙ ap is_at_target on_way) u);
             posted = λ u. low;
           })

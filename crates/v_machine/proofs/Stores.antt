@@ -1,11 +1,12 @@
 -- Where a process has its place, each list has an entry.
-use Rattle.std.proofs.Common.{◌≡◌, ℕ, Option, Some, None, Result, Ok, Err, OnOk, OnErr, true, false, refl, sym, arith}
+use Rattle.std.proofs.Common.{◌≡◌, ℕ, Option, Some, None, Result, Ok, Err, OnOk, OnErr, IsErrAnd, true, false, refl, sym, ap, ◌∙◌, arith}
 use Rattle.std.proofs.lemmas.Bool.{both_ways}
+use Rattle.std.proofs.lemmas.Result.{err_from_is_err_and}
 use Rattle.std.specs.Result.{is_err}
 use Rattle.std.specs.Option.{IfSome, IfNone}
 use Rattle.vk_base.specs.declared.kernel.Process.{Process}
 use Rattle.vk_base.specs.declared.pid.Pid.{Pid}
-use Rattle.v_machine.specs.declared.store.Store.{Store}
+use Rattle.v_machine.specs.declared.tables.Store.{Store}
 use Rattle.v_machine.specs.Kept.{IsIndexed, IsAt, kernel_in}
 use Rattle.v_machine.specs.Places.{place_in, count_at}
 use Rattle.v_machine.specs.Rules.{Stays}
@@ -44,6 +45,10 @@ stays s indexed = record { tables = λ noted. refl; indexed = indexed }
 pub no_error : {T E : Type 0} (r : Result T E) (P Q : Type 0) → OnOk r P → OnErr r Q → (Q → ⊥) → P
 no_error (Ok x) P Q good bad none = good
 no_error (Err e) P Q good bad none = absurd (none bad)
+
+-- the error with which a `?` leaves
+pub is_error : {T E : Type 0} (r : Result T E) (e : E) → IsErrAnd r (λ given. given ≡ e) → r ≡ Err e
+is_error r e left = let given = err_from_is_err_and r left in given.1 ∙ ap Err given.2
 
 pub on_ok : {T E : Type 0} (r : Result T E) (P : Type 0) → is_err r ≡ false → OnOk r P → P
 on_ok (Ok x) P t good = good

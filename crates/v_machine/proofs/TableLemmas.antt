@@ -9,11 +9,10 @@ use Rattle.vk_base.specs.declared.pid.Pid.{Pid}
 use Rattle.vk_base.specs.Kernel.{◌>>=◌, name_of, same_name, put_process, put_exchange}
 use Rattle.vk_base.specs.Pids.{same_pid}
 use Rattle.v_laws.proofs.Tables.{same_pid_is, same_name_is, put_process_at, put_process_other, put_exchange_at, put_exchange_other}
-use Rattle.v_machine.specs.declared.proc.Proc.{Proc}
-use Rattle.v_machine.specs.declared.sent.Sent.{Sent}
+use Rattle.vk_base.specs.declared.kernel.Exchange.{Exchange}
+use Rattle.v_machine.specs.declared.tables.proc.Proc.{Proc}
 use Rattle.v_machine.specs.Lists.{change_at, change_numbered}
 use Rattle.v_machine.specs.Places.{place_in, at_place, list_at, count_at, numbered}
-use Rattle.v_machine.specs.Sends.{exchange_of}
 use Rattle.v_machine.specs.Tables.{process_of, procs_by, exchanges_by}
 use Rattle.v_machine.proofs.PlaceLemmas.{places_apart, get-set_same, get-set_other, at_place_same, at_place_other, at_place_is}
 
@@ -51,7 +50,7 @@ unfolding at_place
 length-even pids later before pid even = by_counts later before (place_in pids pid) even
 
 -- Processes.
-module _ (pids : List Pid) (procs : List Proc) (sends later : List (List Sent)) (asked further : List (List Lookup)) where
+module _ (pids : List Pid) (procs : List Proc) (sends later : List (List Exchange)) (asked further : List (List Lookup)) where
   pub procs_is : (pid : Pid) (at : ℕ) (p : Proc) → place_in pids pid ≡ Some at → slice_get procs at ≡ Some p → procs_by pids procs sends asked pid ≡ Some (process_of p (count_at sends at) (count_at asked at))
   unfolding procs_by
   procs_is pid at p is there =
@@ -152,28 +151,28 @@ module _ {X : Type 0} (f : X → X) where
   numbered-change_other (suc n) (suc m) xs apart = get-change_other xs n m (λ e. apart (ap suc e))
 
 -- Exchanges.
-module _ (pids : List Pid) (sends : List (List Sent)) where
-  pub exchanges_is : (n : Name) (s : List Sent) → at_place pids sends n.sender ≡ Some s → exchanges_by pids sends n ≡ option_map exchange_of (numbered s n.number)
+module _ (pids : List Pid) (sends : List (List Exchange)) where
+  pub exchanges_is : (n : Name) (s : List Exchange) → at_place pids sends n.sender ≡ Some s → exchanges_by pids sends n ≡ (numbered s n.number)
   unfolding exchanges_by
-  exchanges_is n s is = ap (λ o. o >>= λ s. option_map exchange_of (numbered s n.number)) is
+  exchanges_is n s is = ap (λ o. o >>= λ s. (numbered s n.number)) is
 
   pub exchanges_nowhere : (n : Name) → at_place pids sends n.sender ≡ None → exchanges_by pids sends n ≡ None
   unfolding exchanges_by
-  exchanges_nowhere n is = ap (λ o. o >>= λ s. option_map exchange_of (numbered s n.number)) is
+  exchanges_nowhere n is = ap (λ o. o >>= λ s. (numbered s n.number)) is
 
-pub exchanges_same : (pids : List Pid) (later sends : List (List Sent)) (n : Name) → at_place pids later n.sender ≡ at_place pids sends n.sender → exchanges_by pids later n ≡ exchanges_by pids sends n
+pub exchanges_same : (pids : List Pid) (later sends : List (List Exchange)) (n : Name) → at_place pids later n.sender ≡ at_place pids sends n.sender → exchanges_by pids later n ≡ exchanges_by pids sends n
 unfolding exchanges_by
-exchanges_same pids later sends n e = ap (λ o. o >>= λ s. option_map exchange_of (numbered s n.number)) e
+exchanges_same pids later sends n e = ap (λ o. o >>= λ s. (numbered s n.number)) e
 
-pub exchanges-put : (pids : List Pid) (sends : List (List Sent)) (s s' : List Sent) (pid : Pid) (at number : ℕ) (x : Sent) → place_in pids pid ≡ Some at → slice_get sends at ≡ Some s → numbered s' number ≡ Some x → ((m : ℕ) → (m ≡ number → ⊥) → numbered s' m ≡ numbered s m) →
-    exchanges_by pids (set sends at s') ≡ put_exchange (exchanges_by pids sends) (name_of pid number) (exchange_of x)
-exchanges-put pids sends s s' pid at number x is there new others = λ i n. (elim (cases_Bool (same_name n name)) as (λ _. exchanges_by pids (set sends at s') n ≡ put_exchange (exchanges_by pids sends) name (exchange_of x) n) [
+pub exchanges-put : (pids : List Pid) (sends : List (List Exchange)) (s s' : List Exchange) (pid : Pid) (at number : ℕ) (x : Exchange) → place_in pids pid ≡ Some at → slice_get sends at ≡ Some s → numbered s' number ≡ Some x → ((m : ℕ) → (m ≡ number → ⊥) → numbered s' m ≡ numbered s m) →
+    exchanges_by pids (set sends at s') ≡ put_exchange (exchanges_by pids sends) (name_of pid number) x
+exchanges-put pids sends s s' pid at number x is there new others = λ i n. (elim (cases_Bool (same_name n name)) as (λ _. exchanges_by pids (set sends at s') n ≡ put_exchange (exchanges_by pids sends) name x n) [
   | inl t ↦
       ap (exchanges_by pids (set sends at s')) (same_name_is n name t)
       ∙ exchanges_is pids (set sends at s') name s' (at_place_same pids sends pid at s' is (get_low sends at s there))
-      ∙ ap (option_map exchange_of) new
-      ∙ sym (put_exchange_at (exchanges_by pids sends) name (exchange_of x) n t)
-  | inr f ↦ not_this n f (cases_Bool (same_pid n.sender pid)) ∙ sym (put_exchange_other (exchanges_by pids sends) name (exchange_of x) n f)
+      ∙ new
+      ∙ sym (put_exchange_at (exchanges_by pids sends) name x n t)
+  | inr f ↦ not_this n f (cases_Bool (same_pid n.sender pid)) ∙ sym (put_exchange_other (exchanges_by pids sends) name x n f)
 ]) i
   where
     name : Name
@@ -184,6 +183,6 @@ exchanges-put pids sends s s' pid at number x is there new others = λ i n. (eli
         let same = same_pid_is n.sender pid t in
         let apart : n.number ≡ number → ⊥ = λ e. both_ways (same_name n (name_of pid number)) f (and_from (same_pid n.sender pid) (n.number == number) t (eq-eqb n.number number e)) in
         exchanges_is pids (set sends at s') n s' (ap (at_place pids (set sends at s')) same ∙ at_place_same pids sends pid at s' is (get_low sends at s there))
-        ∙ ap (option_map exchange_of) (others n.number apart)
+        ∙ others n.number apart
         ∙ sym (exchanges_is pids sends n s (ap (at_place pids sends) same ∙ at_place_is pids sends pid at s is there))
     not_this n f (inr g) = exchanges_same pids (set sends at s') sends n (at_place_other pids sends pid n.sender at s' is g)

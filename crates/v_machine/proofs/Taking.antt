@@ -19,14 +19,14 @@ use Rattle.vk_base.specs.Steps.{Taking, taking, taken, take_step, first_of}
 use Rattle.v_laws.proofs.FilterLemmas.{first_passes}
 use Rattle.v_laws.proofs.Options.{some_that_holds}
 use Rattle.v_laws.proofs.Queues.{first_is}
-use Rattle.v_machine.specs.declared.store.Store.{Store}
+use Rattle.v_machine.specs.declared.tables.Store.{Store}
 use Rattle.v_machine.specs.Kept.{IsKept, IsIndexed, IsAt, IsNoNearer, kernel_in, tables_in}
 use Rattle.v_machine.specs.Places.{place_in, at_place}
-use Rattle.v_machine.specs.Rules.{Goes, Stays, Moves, Delivers, HasRoom}
+use Rattle.v_machine.specs.Rules.{Goes, Stays, GoesOrNot, Delivers, HasRoom}
 use Rattle.v_machine.specs.Tables.{Tables, kernel_of}
 use Rattle.v_machine.proofs.Fits.{asked_room}
 use Rattle.v_machine.proofs.PlaceLemmas.{nowhere}
-use Rattle.v_machine.proofs.Steps.{found}
+use Rattle.v_machine.proofs.StepLemmas.{found}
 use Rattle.v_machine.proofs.TableLemmas.{exchanges_nowhere}
 
 pub receiving_is : (s : State) (c : Call) → receiving s ≡ Some c → s ≡ states.Blocked c
@@ -64,9 +64,9 @@ module _ (s between : Store) (pid : Pid) (at : ℕ) (p : Process) (c : Call) (na
       let e = first_is_queued (kernel_in s) pid name (sym first) in
       absurd (none-some e.0 (sym none ∙ sym is ∙ e.1))
 
-  pub take_delivered : (after : Store) (from : ℕ) → IsIndexed between → IsAt between name.sender from → Delivers at from name c between after true → Goes (take_step (kernel_in s) pid) None after
+  pub take_delivered : (after : Store) (from : ℕ) → IsIndexed between → IsAt between name.sender from → (u : Unit {0}) → Delivers at from name c between after (Some u) → Goes (take_step (kernel_in s) pid) None after
   unfolding taking
-  take_delivered after from indexed sender delivers =
+  take_delivered after from indexed sender u delivers =
       let e = first_is_queued (kernel_in s) pid name (sym first) in
       let t : Taking = record { process = p; call = c; name = name; exchange = e.0 } in
       let o : taking (kernel_in s) pid ≡ Some t =
@@ -82,9 +82,9 @@ module _ (s between : Store) (pid : Pid) (at : ℕ) (p : Process) (c : Call) (na
         indexed = done.1;
       }
 
-  pub take_by : (after : Store) (from : ℕ) (b : Bool) → IsIndexed between → IsAt between name.sender from → Delivers at from name c between after b → Moves (take_step (kernel_in s) pid) s after b
-  take_by after from true indexed sender delivers = take_delivered after from indexed sender delivers
-  take_by after from false indexed sender delivers = (
+  pub take_by : (after : Store) (from : ℕ) (done : Option (Unit {0})) → IsIndexed between → IsAt between name.sender from → Delivers at from name c between after done → GoesOrNot (take_step (kernel_in s) pid) s after done
+  take_by after from (Some u) indexed sender delivers = take_delivered after from indexed sender u delivers
+  take_by after from None indexed sender delivers = (
     take_missing ((kernel_in s).exchanges name) refl (ap (λ (k : Kernel). k.exchanges name) (sym same_kernel) ∙ delivers.0 sender.place),
     subst (Stays s) (sym delivers.1) (record { tables = same; indexed = indexed }),
   )

@@ -1,4 +1,4 @@
--- Access to a segment of a sender that is held.
+-- Internal: no public contract rests on this file. Access to a segment of a sender that is held.
 use Rattle.std.specs.Prelude.{◌≡◌, Bool, true, false, ◌&&◌, not, is_none, nat_lt, List, [], ◌∷◌, Option, Some, None, Result, Ok, Err}
 use Rattle.vk_base.specs.declared.answer.Refusal.{Refusal}
 use Rattle.vk_base.specs.declared.answer.Refusal.TheVariants as refusals
@@ -7,9 +7,9 @@ use Rattle.vk_base.specs.declared.kernel.Process.{Process}
 use Rattle.vk_base.specs.declared.pid.Pid.{Pid}
 use Rattle.vk_base.specs.Calls.{first_that_holds, may_write, may_read, is_granted, is_own}
 use Rattle.vk_base.specs.Kernel.{Kernel, held, held_exchange}
-use Rattle.v_machine.specs.declared.access.Access.{Access}
-use Rattle.v_machine.specs.declared.held.Holding.{Holding}
-use Rattle.v_machine.specs.declared.store.Store.{Store}
+use Rattle.v_machine.specs.declared.calls.access.Access.{Access}
+use Rattle.v_machine.specs.declared.calls.held.Holding.{Holding}
+use Rattle.v_machine.specs.declared.tables.Store.{Store}
 use Rattle.v_machine.specs.Kept.{IsAt, kernel_in}
 
 abbrev pub is_allowed_to : Bool → Option Exchange → Bool
@@ -27,5 +27,8 @@ access_tests k pid p a =
 
 -- the Send that is held, or the first refusal
 abbrev pub Accesses : Store → Pid → Access → Result Holding Refusal → Type 0
-Accesses s pid a (Ok h) = (p : Process) → (kernel_in s).procs pid ≡ Some p → (first_that_holds (access_tests (kernel_in s) pid p a) ≡ None) × (held (kernel_in s) pid a.partner ≡ Some h.number) × IsAt s a.partner h.at
-Accesses s pid a (Err why) = (p : Process) → (kernel_in s).procs pid ≡ Some p → first_that_holds (access_tests (kernel_in s) pid p a) ≡ Some why
+Accesses s pid a (Ok h) = (p : Process) → (kernel_in s).procs pid ≡ Some p →
+    (first_that_holds (access_tests (kernel_in s) pid p a) ≡ None) × (held (kernel_in s) pid a.partner ≡ Some h.number) ×
+    IsAt s a.partner h.at
+Accesses s pid a (Err why) = (p : Process) → (kernel_in s).procs pid ≡ Some p →
+    first_that_holds (access_tests (kernel_in s) pid p a) ≡ Some why

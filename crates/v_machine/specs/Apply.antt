@@ -6,13 +6,14 @@ use Rattle.vk_base.specs.declared.kernel.Direction.{Direction}
 use Rattle.vk_base.specs.declared.kernel.Direction.TheVariants as directions
 use Rattle.vk_base.specs.declared.kernel.Move.{Move}
 use Rattle.vk_base.specs.declared.kernel.Observation.{Observation}
+use Rattle.vk_base.specs.declared.limits.TheConstants.{NOTED_BYTES}
 use Rattle.vk_base.specs.declared.step.Step.{Step}
 use Rattle.vk_base.specs.declared.step.Step.TheVariants as steps
 use Rattle.vk_base.specs.Calls.{Effect, call_step}
 use Rattle.vk_base.specs.Kernel.{◌>>=◌, Kernel, name_of, move_of}
 use Rattle.vk_base.specs.Steps.{effect}
-use Rattle.v_machine.specs.declared.verdict.ApplyRefusal.{ApplyRefusal}
-use Rattle.v_machine.specs.declared.verdict.ApplyRefusal.TheVariants.{NotAllowed, Limit, NoMemory}
+use Rattle.v_machine.specs.declared.refusal.ApplyRefusal.{ApplyRefusal}
+use Rattle.v_machine.specs.declared.refusal.ApplyRefusal.TheVariants.{NotAllowed, Limit, NoMemory}
 use Rattle.v_machine.specs.Tables.{Tables, kernel_of}
 
 -- Bytes that a step notes for a remote move: a MoveTo that is begun those of its caller, a MoveFrom that is opened those of
@@ -41,12 +42,13 @@ notes k s = 0
 
 -- the most bytes that a machine notes
 abbrev pub most : ℕ
-most = 268435456
+most = NOTED_BYTES
 
 -- What applying a step gives: what is seen of it; or that it is not allowed, that too many bytes would be noted, or that
 -- memory is wanting, and then all stays as it was.
 abbrev pub Applied : Step → Tables → Tables → Result (Option Observation) ApplyRefusal → Type 0
-Applied s old new (Ok seen) = (effect (kernel_of old) s ≡ Some (record { after = kernel_of new; seen = seen })) × (new.noted ≡ old.noted + notes (kernel_of old) s) × (new.noted ≤ most)
+Applied s old new (Ok seen) = (effect (kernel_of old) s ≡ Some (record { after = kernel_of new; seen = seen })) ×
+    (new.noted ≡ old.noted + notes (kernel_of old) s) × (new.noted ≤ most)
 Applied s old new (Err NotAllowed) = (effect (kernel_of old) s ≡ None) × (new ≡ old)
 Applied s old new (Err Limit) = IsSome (effect (kernel_of old) s) × (most < old.noted + notes (kernel_of old) s) × (new ≡ old)
 Applied s old new (Err NoMemory) = IsSome (effect (kernel_of old) s) × (old.noted + notes (kernel_of old) s ≤ most) × (new ≡ old)

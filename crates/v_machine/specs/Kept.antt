@@ -1,15 +1,15 @@
--- What holds of the tables of a machine, and of the indexes beside them.
+-- Internal: no public contract rests on this file. What holds of the tables of a machine, and of the indexes beside them.
 use Rattle.std.specs.Prelude.{ℕ, ◌≡◌, ◌≤◌, ◌<◌, Bool, true, List, length, filter, Option, Some, IsSome}
 use Rattle.std.specs.List.{list_any}
 use Rattle.vk_base.specs.declared.kernel.Exchange.{Exchange}
 use Rattle.vk_base.specs.declared.kernel.Name.{Name}
 use Rattle.vk_base.specs.declared.kernel.Stage.{Stage}
 use Rattle.vk_base.specs.declared.pid.Pid.{Pid}
-use Rattle.vk_base.specs.Kernel.{Kernel, same_name, holds_of, is_queued_at, is_queued, is_open, is_posted}
+use Rattle.vk_base.specs.Kernel.{Kernel, same_name, holds_of, is_queued_at, is_queued, is_at_target, is_posted}
 use Rattle.v_laws.specs.Sizes.{IsSized}
 use Rattle.v_laws.specs.Sound.{IsSound}
-use Rattle.v_machine.specs.declared.latest.Latest.{Latest}
-use Rattle.v_machine.specs.declared.store.Store.{Store}
+use Rattle.v_machine.specs.declared.tables.latest.Latest.{Latest}
+use Rattle.v_machine.specs.declared.tables.Store.{Store}
 use Rattle.v_machine.specs.Latest.{latest_in}
 use Rattle.v_machine.specs.Places.{place_in, list_at}
 use Rattle.v_machine.specs.Tables.{Tables, kernel_by, exchanges_by}
@@ -19,7 +19,15 @@ abbrev pub kernel_in : Store → Kernel
 kernel_in s = kernel_by s.places s.procs.items s.sends.items s.asked.items s.names.items s.arrived.items
 
 abbrev pub tables_in : Store → ℕ → Tables
-tables_in s noted = record { pids = s.places; procs = s.procs.items; sends = s.sends.items; asked = s.asked.items; names = s.names.items; arrived = s.arrived.items; noted = noted }
+tables_in s noted = record {
+  pids = s.places;
+  procs = s.procs.items;
+  sends = s.sends.items;
+  asked = s.asked.items;
+  names = s.names.items;
+  arrived = s.arrived.items;
+  noted = noted;
+}
 
 -- whether the exchange of this name is queued at the process
 abbrev pub queued_at : (Name → Option Exchange) → Pid → Name → Bool
@@ -32,7 +40,7 @@ pub record IsWaiting (exchanges : Name → Option Exchange) (arrived : List Name
 
 -- of all exchanges of the sender to the target's host only the latest that came to a queue can be open
 pub record IsLatest (latest : ℕ) (n : Name) (e : Exchange) : Type 0 where
-  pub live : is_open e.stage ≡ true → n.number ≡ latest
+  pub live : is_at_target e.stage ≡ true → n.number ≡ latest
   pub posted : is_posted e.stage ≡ true → latest ≤ n.number
 
 abbrev pub latest_by : List Pid → List (List Latest) → Pid → ℕ → ℕ
@@ -45,10 +53,12 @@ pub record IsIndexed (s : Store) : Type 0 where
   pub asked : length s.asked.items ≡ length s.places
   pub queues : length s.queues.items ≡ length s.places
   pub latest : length s.latest.items ≡ length s.places
-  pub waiting : (r : Pid) → IsSome (place_in s.places r) → IsWaiting (exchanges_by s.places s.sends.items) s.arrived.items r (list_at s.places s.queues.items r)
+  pub waiting : (r : Pid) → IsSome (place_in s.places r) →
+      IsWaiting (exchanges_by s.places s.sends.items) s.arrived.items r (list_at s.places s.queues.items r)
   -- a Send that came to a queue was begun
   pub low : (sender : Pid) (host : ℕ) → latest_by s.places s.latest.items sender host ≤ length (list_at s.places s.sends.items sender)
-  pub open_last : (n : Name) (e : Exchange) → exchanges_by s.places s.sends.items n ≡ Some e → IsLatest (latest_by s.places s.latest.items n.sender e.target.host) n e
+  pub open_last : (n : Name) (e : Exchange) → exchanges_by s.places s.sends.items n ≡ Some e →
+      IsLatest (latest_by s.places s.latest.items n.sender e.target.host) n e
 
 -- what holds of a store between steps
 pub record IsKept (s : Store) : Type 0 where
@@ -60,7 +70,7 @@ pub record IsKept (s : Store) : Type 0 where
 -- what was not queued, open or posted is not so later
 pub record IsNoNearer (before after : Stage) : Type 0 where
   pub queued : is_queued after ≡ true → is_queued before ≡ true
-  pub live : is_open after ≡ true → is_open before ≡ true
+  pub live : is_at_target after ≡ true → is_at_target before ≡ true
   pub posted : is_posted after ≡ true → is_posted before ≡ true
 
 -- the place of a process, where each list has an entry

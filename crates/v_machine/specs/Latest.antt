@@ -1,7 +1,7 @@
--- For each host a number, 0 where none is kept.
+-- Internal: no public contract rests on this file. For each host a number, 0 where none is kept.
 use Rattle.std.specs.Prelude.{ℕ, ◌==◌, Bool, List, find, option_map, unwrap_or}
 use Rattle.std.specs.List.{list_any}
-use Rattle.v_machine.specs.declared.latest.Latest.{Latest}
+use Rattle.v_machine.specs.declared.tables.latest.Latest.{Latest}
 
 abbrev pub is_for : ℕ → Latest → Bool
 is_for host l = l.host == host

@@ -1,13 +1,14 @@
 pub mod Access
+pub mod Activities
 pub mod Apply
-pub mod Doings
+pub mod Initial
 pub mod Kept
 pub mod Latest
 pub mod Leaving
+pub mod Lends
 pub mod Lists
 pub mod Moves
 pub mod Names
-pub mod Opening
 pub mod Places
 pub mod Rules
 pub mod Sends

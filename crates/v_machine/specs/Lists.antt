@@ -1,4 +1,4 @@
--- Changes of one element of a list.
+-- Internal: no public contract rests on this file. Changes of one element of a list.
 use Rattle.std.specs.Prelude.{ℕ, zero, suc, ◌≡◌, ◌<◌, ◌≤◌, List, [], ◌∷◌, slice_get, Some}
 
 -- the element at this place is changed

@@ -1,4 +1,4 @@
--- Moves: what their calls, their steps and the changes that these make answer.
+-- Internal: no public contract rests on this file. Moves: what their calls, their steps and the changes that these make answer.
 use Rattle.std.specs.Prelude.{ℕ, ◌≡◌, ◌≤◌, ◌<◌, ◌+◌, List, [], ◌∷◌, ◌++◌, length, true, Option, Some, None, Result, Ok, Err, if◌then◌else◌}
 use Rattle.vk_base.specs.declared.call.Call.{Call}
 use Rattle.vk_base.specs.declared.kernel.Direction.{Direction}
@@ -15,29 +15,19 @@ use Rattle.vk_base.specs.Calls.{move_begun}
 use Rattle.vk_base.specs.Kernel.{◌>>=◌, Kernel, name_of, is_ready, move_of, put_process, put_exchange, with_memory}
 use Rattle.vk_base.specs.Ranges.{range_of, lies_in, bytes_in, with_bytes}
 use Rattle.vk_base.specs.Steps.{open_step, written_process}
-use Rattle.v_machine.specs.declared.store.Store.{Store}
-use Rattle.v_machine.specs.declared.verdict.ApplyRefusal.{ApplyRefusal}
-use Rattle.v_machine.specs.declared.verdict.ApplyRefusal.TheVariants as refused
-use Rattle.v_machine.specs.declared.verdict.Verdict.{Verdict}
-use Rattle.v_machine.specs.declared.verdict.Verdict.TheVariants as verdicts
+use Rattle.v_machine.specs.declared.tables.Store.{Store}
+use Rattle.v_machine.specs.declared.refusal.ApplyRefusal.{ApplyRefusal}
+use Rattle.v_machine.specs.declared.refusal.ApplyRefusal.TheVariants as refused
+use Rattle.v_machine.specs.declared.calls.response.Response.{Response}
+use Rattle.v_machine.specs.declared.calls.response.Response.TheVariants as responses
 use Rattle.v_machine.specs.Apply.{is_begun, noted_at_opening}
 use Rattle.v_machine.specs.Kept.{IsIndexed, IsAt, kernel_in}
 use Rattle.v_machine.specs.Places.{place_in}
 use Rattle.v_machine.specs.Rules.{Answers, Stays, judged, seen_result, quiet}
-use Rattle.v_machine.specs.Sends.{noted_in}
 
 -- this exchange is another one
 abbrev pub with_exchange : Kernel → Name → Exchange → Kernel
 with_exchange k name e = record k { exchanges = put_exchange k.exchanges name e }
-
-abbrev pub with_begun : Move → Exchange → Exchange
-with_begun m e = record e { moves = e.moves ++ m ∷ [] }
-
-abbrev pub with_opened : ℕ → Option (List ℕ) → Exchange → Exchange
-with_opened number noted e = record e { moves = noted_in number noted e.moves; opened = number; done = 0 }
-
-abbrev pub with_written : ℕ → Exchange → Exchange
-with_written done e = record e { done = done }
 
 -- the process, which is p, waits in this call for the end of this move
 abbrev pub with_moving : Kernel → Pid → Process → Call → MoveName → Kernel
@@ -46,12 +36,15 @@ with_moving k pid p c m = record k { procs = put_process k.procs pid (record p {
 -- the exchange of this number, whose sender has this place, is changed so
 abbrev pub Puts : (Exchange → Exchange) → (at number : ℕ) → Store → Store → Type 0
 Puts f at number old new =
-    (pid : Pid) (e : Exchange) → place_in old.places pid ≡ Some at → (kernel_in old).exchanges (name_of pid number) ≡ Some e → (kernel_in new ≡ with_exchange (kernel_in old) (name_of pid number) (f e)) × (IsIndexed old → IsIndexed new)
+    (pid : Pid) (e : Exchange) → place_in old.places pid ≡ Some at → (kernel_in old).exchanges (name_of pid number) ≡ Some e →
+    (kernel_in new ≡ with_exchange (kernel_in old) (name_of pid number) (f e)) × (IsIndexed old → IsIndexed new)
 
 -- a call of a process that is alive and ready, which notes so many bytes where it is begun
-abbrev pub JudgesBegun : Pid → Call → (count room : ℕ) → Store → Store → Result Verdict ApplyRefusal → Type 0
+abbrev pub JudgesBegun : Pid → Call → (count room : ℕ) → Store → Store → Result Response ApplyRefusal → Type 0
 JudgesBegun pid c count room old new r =
-    (p : Process) → (kernel_in old).procs pid ≡ Some p → is_ready p.state ≡ true → Answers (judged (kernel_in old) pid p c) (if is_begun (judged (kernel_in old) pid p c) then count else 0) room old new (seen_result pid c r)
+    (p : Process) → (kernel_in old).procs pid ≡ Some p → is_ready p.state ≡ true →
+    Answers (judged (kernel_in old) pid p c) (if is_begun (judged (kernel_in old) pid p c) then count else 0)
+    room old new (seen_result pid c r)
 
 abbrev pub noted_for : Store → Name → ℕ → ℕ
 noted_for s name moving = noted_at_opening ((kernel_in s).exchanges name >>= λ e. move_of e moving)
@@ -83,17 +76,21 @@ pub record IsWritten (s : Store) (name : Name) (moving : ℕ) (m : Move) (at : �
 -- bytes of the memory of the first process are written into that of the second
 abbrev pub Copies : (from to : ℕ) → Range → (dest : ℕ) → Store → Store → Type 0
 Copies from to source dest old new =
-    (one two : Pid) (p q : Process) → place_in old.places one ≡ Some from → place_in old.places two ≡ Some to → (kernel_in old).procs one ≡ Some p → (kernel_in old).procs two ≡ Some q → lies_in source (length p.memory) ≡ true → dest + source.len ≤ length q.memory →
+    (one two : Pid) (p q : Process) → place_in old.places one ≡ Some from → place_in old.places two ≡ Some to →
+    (kernel_in old).procs one ≡ Some p → (kernel_in old).procs two ≡ Some q → lies_in source (length p.memory) ≡ true →
+    dest + source.len ≤ length q.memory →
     kernel_in new ≡ with_memory (kernel_in old) two q (with_bytes q.memory dest (bytes_in source p.memory))
 
 -- the move is begun, and its mover waits in this call
 abbrev pub Begins : Pid → Call → Pid → (number : ℕ) → Move → Store → Store → Type 0
 Begins pid c partner number m old new =
-    (p : Process) (e : Exchange) → (kernel_in old).procs pid ≡ Some p → (kernel_in old).exchanges (name_of partner number) ≡ Some e → (kernel_in new ≡ move_begun (kernel_in old) pid p c (name_of partner number) e m) × IsIndexed new
+    (p : Process) (e : Exchange) → (kernel_in old).procs pid ≡ Some p → (kernel_in old).exchanges (name_of partner number) ≡ Some e →
+    (kernel_in new ≡ move_begun (kernel_in old) pid p c (name_of partner number) e m) × IsIndexed new
 
 -- a move that notes so many bytes is begun, or why it is not
-abbrev pub BeginsOrNot : Pid → Call → Pid → (number noted room : ℕ) → Move → Store → Store → Result Verdict ApplyRefusal → Type 0
-BeginsOrNot pid c partner number noted room m old new (Ok v) = (v ≡ verdicts.Begun) × (noted ≤ room) × Begins pid c partner number m old new
+abbrev pub BeginsOrNot : Pid → Call → Pid → (number noted room : ℕ) → Move → Store → Store → Result Response ApplyRefusal → Type 0
+BeginsOrNot pid c partner number noted room m old new (Ok v) = (v ≡ responses.Begun) × (noted ≤ room) ×
+    Begins pid c partner number m old new
 BeginsOrNot pid c partner number noted room m old new (Err refused.NotAllowed) = ⊥
 BeginsOrNot pid c partner number noted room m old new (Err refused.Limit) = (room < noted) × Stays old new
 BeginsOrNot pid c partner number noted room m old new (Err refused.NoMemory) = (noted ≤ room) × Stays old new

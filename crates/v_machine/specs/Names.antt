@@ -1,4 +1,4 @@
--- What all stations have registered, in one list.
+-- Internal: no public contract rests on this file. What all stations have registered, in one list.
 use Rattle.std.specs.Prelude.{ℕ, ◌==◌, Bool, ◌&&◌, not, List, [], ◌∷◌, ◌++◌, filter}
 use Rattle.vk_base.specs.declared.kernel.Registration.{Registration}
 use Rattle.vk_base.specs.declared.pid.Pid.{Pid}

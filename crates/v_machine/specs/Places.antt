@@ -1,10 +1,10 @@
--- The places of processes in lists.
+-- The places of processes in lists. Tables.antt rests on `place_in`, `at_place`, `count_at` and `numbered`; the rest is internal.
 use Rattle.std.specs.Prelude.{ℕ, zero, suc, ◌≡◌, ◌+◌, ◌*◌, ◌%◌, List, [], length, position, find, slice_get, Option, None, option_map, unwrap_or}
 use Rattle.vk_base.specs.declared.config.ProcessSpec.{ProcessSpec}
 use Rattle.vk_base.specs.declared.pid.Pid.{Pid}
 use Rattle.vk_base.specs.Options.{◌>>=◌}
 use Rattle.vk_base.specs.Pids.{same_pid}
-use Rattle.v_machine.specs.declared.groups.Placed.{Placed}
+use Rattle.v_machine.specs.declared.tables.groups.Placed.{Placed}
 
 abbrev pub pid_of : ProcessSpec → Pid
 pid_of s = s.pid
@@ -41,3 +41,8 @@ count_at xss at = length (unwrap_or (slice_get xss at) [])
 abbrev pub numbered : {X : Type 0} → List X → ℕ → Option X
 numbered xs zero = None
 numbered xs (suc n) = slice_get xs n
+
+-- the place of an element of this number; no list has one for the number 0
+abbrev pub index_of : ℕ → ℕ
+index_of zero = 18446744073709551615
+index_of (suc n) = n

@@ -1,4 +1,4 @@
--- What the steps of a store answer.
+-- Internal: no public contract rests on this file. What the steps of a store answer.
 use Rattle.std.specs.Prelude.{ℕ, ◌≡◌, ◌≤◌, ◌<◌, ◌+◌, List, [], ◌∷◌, ◌++◌, length, vec_len, slice_index_or, if◌then◌else◌, Bool, true, false, Option, Some, None, IsSome, Result, Ok, Err}
 use Rattle.std.specs.Vec.{vec_capacity}
 use Rattle.vk_base.specs.declared.answer.Answer.TheVariants as answers
@@ -18,12 +18,12 @@ use Rattle.vk_base.specs.Ranges.{lies_in}
 use Rattle.vk_base.specs.declared.step.Step.{Step}
 use Rattle.vk_base.specs.declared.step.Step.TheVariants as steps
 use Rattle.vk_base.specs.Steps.{taken}
-use Rattle.v_machine.specs.declared.latest.Latest.{Latest}
-use Rattle.v_machine.specs.declared.store.Store.{Store}
-use Rattle.v_machine.specs.declared.verdict.ApplyRefusal.{ApplyRefusal}
-use Rattle.v_machine.specs.declared.verdict.ApplyRefusal.TheVariants as refused
-use Rattle.v_machine.specs.declared.verdict.Verdict.{Verdict}
-use Rattle.v_machine.specs.declared.verdict.Verdict.TheVariants as verdicts
+use Rattle.v_machine.specs.declared.tables.latest.Latest.{Latest}
+use Rattle.v_machine.specs.declared.tables.Store.{Store}
+use Rattle.v_machine.specs.declared.refusal.ApplyRefusal.{ApplyRefusal}
+use Rattle.v_machine.specs.declared.refusal.ApplyRefusal.TheVariants as refused
+use Rattle.v_machine.specs.declared.calls.response.Response.{Response}
+use Rattle.v_machine.specs.declared.calls.response.Response.TheVariants as responses
 use Rattle.v_machine.specs.Apply.{noted_by_call}
 use Rattle.v_machine.specs.Kept.{IsIndexed, kernel_in, tables_in}
 use Rattle.v_machine.specs.Latest.{has_host}
@@ -40,9 +40,9 @@ pub record Goes (o : Option Effect) (seen : Option Observation) (new : Store) : 
   pub indexed : IsIndexed new
 
 -- a step of which nothing is seen, and which takes no memory
-abbrev pub Moves : Option Effect → Store → Store → Bool → Type 0
-Moves o old new true = Goes o None new
-Moves o old new false = (o ≡ None) × Stays old new
+abbrev pub GoesOrNot : Option Effect → Store → Store → Option (Unit {0}) → Type 0
+GoesOrNot o old new (Some u) = Goes o None new
+GoesOrNot o old new None = (o ≡ None) × Stays old new
 
 -- a step that notes so many bytes, where there is room for so many
 abbrev pub Answers : Option Effect → ℕ → ℕ → Store → Store → Result (Option Observation) ApplyRefusal → Type 0
@@ -52,13 +52,13 @@ Answers o noted room old new (Err refused.Limit) = IsSome o × (room < noted) ×
 Answers o noted room old new (Err refused.NoMemory) = IsSome o × (noted ≤ room) × Stays old new
 
 -- what is seen of a call
-abbrev pub seen_by : Pid → Call → Verdict → Option Observation
-seen_by pid c verdicts.Begun = None
-seen_by pid c verdicts.Ok = Some (record { pid = pid; call = c; answer = answers.Ok })
-seen_by pid c (verdicts.Found q) = Some (record { pid = pid; call = c; answer = answers.Found q })
-seen_by pid c (verdicts.Refused why) = Some (record { pid = pid; call = c; answer = answers.Refused why })
+abbrev pub seen_by : Pid → Call → Response → Option Observation
+seen_by pid c responses.Begun = None
+seen_by pid c responses.Ok = Some (record { pid = pid; call = c; answer = answers.Ok })
+seen_by pid c (responses.Found q) = Some (record { pid = pid; call = c; answer = answers.Found q })
+seen_by pid c (responses.Refused why) = Some (record { pid = pid; call = c; answer = answers.Refused why })
 
-abbrev pub seen_result : Pid → Call → Result Verdict ApplyRefusal → Result (Option Observation) ApplyRefusal
+abbrev pub seen_result : Pid → Call → Result Response ApplyRefusal → Result (Option Observation) ApplyRefusal
 seen_result pid c (Ok v) = Ok (seen_by pid c v)
 seen_result pid c (Err why) = Err why
 
@@ -67,8 +67,9 @@ abbrev pub judged : Kernel → Pid → Process → Call → Option Effect
 judged k pid p c = called k pid p c (first_that_holds (tests_of k pid p c))
 
 -- such a call, which notes nothing
-abbrev pub Judges : Pid → Call → Store → Store → Result Verdict ApplyRefusal → Type 0
-Judges pid c old new r = (p : Process) → (kernel_in old).procs pid ≡ Some p → is_ready p.state ≡ true → Answers (judged (kernel_in old) pid p c) 0 0 old new (seen_result pid c r)
+abbrev pub Judges : Pid → Call → Store → Store → Result Response ApplyRefusal → Type 0
+Judges pid c old new r = (p : Process) → (kernel_in old).procs pid ≡ Some p → is_ready p.state ≡ true →
+    Answers (judged (kernel_in old) pid p c) 0 0 old new (seen_result pid c r)
 
 -- there is room for the bytes that a receive asks for
 abbrev pub HasRoom : Call → List ℕ → Type 0
@@ -76,11 +77,13 @@ HasRoom (calls.ReceiveSegment start count) memory = start + count ≤ length mem
 HasRoom c memory = Unit {0}
 
 -- the process of the first place takes the message of a name, in this receive, where the message is there
-abbrev pub Delivers : ℕ → ℕ → Name → Call → Store → Store → Bool → Type 0
-Delivers at from name c old new true =
-    (pid : Pid) (p : Process) (e : Exchange) → place_in old.places pid ≡ Some at → place_in old.places name.sender ≡ Some from → (kernel_in old).procs pid ≡ Some p → (kernel_in old).exchanges name ≡ Some e → HasRoom c p.memory →
-    is_queued e.stage ≡ true → IsIndexed old → (kernel_in new ≡ taken (kernel_in old) pid (record { process = p; call = c; name = name; exchange = e })) × IsIndexed new
-Delivers at from name c old new false = (place_in old.places name.sender ≡ Some from → (kernel_in old).exchanges name ≡ None) × (new ≡ old)
+abbrev pub Delivers : ℕ → ℕ → Name → Call → Store → Store → Option (Unit {0}) → Type 0
+Delivers at from name c old new (Some u) =
+    (pid : Pid) (p : Process) (e : Exchange) → place_in old.places pid ≡ Some at → place_in old.places name.sender ≡ Some from →
+    (kernel_in old).procs pid ≡ Some p → (kernel_in old).exchanges name ≡ Some e → HasRoom c p.memory →
+    is_queued e.stage ≡ true → IsIndexed old →
+    (kernel_in new ≡ taken (kernel_in old) pid (record { process = p; call = c; name = name; exchange = e })) × IsIndexed new
+Delivers at from name c old new None = (place_in old.places name.sender ≡ Some from → (kernel_in old).exchanges name ≡ None) × (new ≡ old)
 
 -- the granted segment lies in the memory of the process
 abbrev pub Fits : Store → Pid → Message → Type 0
@@ -101,7 +104,8 @@ pub record HasRoomFor (s : Store) (at host : ℕ) : Type 0 where
 
 -- the store has one more Send of a process that was ready
 abbrev pub Posts : Pid → Exchange → Store → Store → Type 0
-Posts pid x old new = (p : Process) → (kernel_in old).procs pid ≡ Some p → is_ready p.state ≡ true → (kernel_in new ≡ posted (kernel_in old) pid p x) × IsIndexed new
+Posts pid x old new = (p : Process) → (kernel_in old).procs pid ≡ Some p → is_ready p.state ≡ true →
+    (kernel_in new ≡ posted (kernel_in old) pid p x) × IsIndexed new
 
 -- the exchange of this name is posted to this target
 pub record IsPostedTo (k : Kernel) (name : Name) (target : Pid) : Type 0 where
@@ -121,9 +125,10 @@ quiet (Ok u) = Ok None
 quiet (Err why) = Err why
 
 -- such a call, where there is room for so many bytes
-abbrev pub Accepts : Pid → Call → (room : ℕ) → Store → Store → Result Verdict ApplyRefusal → Type 0
+abbrev pub Accepts : Pid → Call → (room : ℕ) → Store → Store → Result Response ApplyRefusal → Type 0
 Accepts pid c room old new r =
-    (p : Process) → (kernel_in old).procs pid ≡ Some p → is_ready p.state ≡ true → Answers (judged (kernel_in old) pid p c) (noted_by_call c (judged (kernel_in old) pid p c)) room old new (seen_result pid c r)
+    (p : Process) → (kernel_in old).procs pid ≡ Some p → is_ready p.state ≡ true →
+    Answers (judged (kernel_in old) pid p c) (noted_by_call c (judged (kernel_in old) pid p c)) room old new (seen_result pid c r)
 
 -- only the bytes of a step that is done are counted
 abbrev pub Counts : (noted before after : ℕ) → {T : Type 0} → Result T ApplyRefusal → Type 0
@@ -131,9 +136,9 @@ Counts noted before after (Ok x) = after ≡ before + noted
 Counts noted before after (Err why) = after ≡ before
 
 -- a step that takes no memory is done or not allowed
-abbrev pub done_or_not : Bool → Result (Unit {0}) ApplyRefusal
-done_or_not true = Ok tt
-done_or_not false = Err refused.NotAllowed
+abbrev pub done_or_not : Option (Unit {0}) → Result (Unit {0}) ApplyRefusal
+done_or_not (Some u) = Ok u
+done_or_not None = Err refused.NotAllowed
 
 abbrev pub is_load : Call → Bool
 is_load (calls.Load start count) = true

@@ -7,11 +7,9 @@ use Rattle.vk_base.specs.declared.kernel.Process.{Process}
 use Rattle.vk_base.specs.declared.kernel.Registration.{Registration}
 use Rattle.vk_base.specs.declared.pid.Pid.{Pid}
 use Rattle.vk_base.specs.Kernel.{◌>>=◌, Kernel}
-use Rattle.v_machine.specs.declared.proc.Proc.{Proc}
-use Rattle.v_machine.specs.declared.sent.Sent.{Sent}
-use Rattle.v_machine.specs.Doings.{state_of}
+use Rattle.v_machine.specs.declared.tables.proc.Proc.{Proc}
+use Rattle.v_machine.specs.Activities.{state_of}
 use Rattle.v_machine.specs.Places.{place_in, at_place, count_at, numbered}
-use Rattle.v_machine.specs.Sends.{exchange_of}
 
 -- The value of a `Machine`. The second, third and fourth list have an entry for each process, in the order of the first.
 pub record Tables : Type 0 where
@@ -19,7 +17,7 @@ pub record Tables : Type 0 where
   pub pids : List Pid
   pub procs : List Proc
   -- their Sends
-  pub sends : List (List Sent)
+  pub sends : List (List Exchange)
   -- their lookups
   pub asked : List (List Lookup)
   -- what was registered, at all stations
@@ -31,14 +29,22 @@ pub record Tables : Type 0 where
 
 -- a process that has begun so many Sends and lookups
 abbrev pub process_of : Proc → ℕ → ℕ → Process
-process_of p sends lookups = record { alive = p.alive; memory = p.memory; state = state_of p.doing; sends = sends; lookups = lookups; moving = p.moving }
+process_of p sends lookups = record {
+  alive = p.alive;
+  memory = p.memory;
+  state = state_of p.activity;
+  sends = sends;
+  lookups = lookups;
+  moving = p.moving;
+}
 
-unfoldable pub procs_by : List Pid → List Proc → List (List Sent) → List (List Lookup) → Pid → Option Process
-procs_by pids procs sends asked = λ pid. place_in pids pid >>= λ at. slice_get procs at >>= λ p. Some (process_of p (count_at sends at) (count_at asked at))
+unfoldable pub procs_by : List Pid → List Proc → List (List Exchange) → List (List Lookup) → Pid → Option Process
+procs_by pids procs sends asked = λ pid.
+    place_in pids pid >>= λ at. slice_get procs at >>= λ p. Some (process_of p (count_at sends at) (count_at asked at))
 
 -- exchange n of a sender is its Send n
-unfoldable pub exchanges_by : List Pid → List (List Sent) → Name → Option Exchange
-exchanges_by pids sends = λ n. at_place pids sends n.sender >>= λ s. option_map exchange_of (numbered s n.number)
+unfoldable pub exchanges_by : List Pid → List (List Exchange) → Name → Option Exchange
+exchanges_by pids sends = λ n. at_place pids sends n.sender >>= λ s. (numbered s n.number)
 
 unfoldable pub lookups_by : List Pid → List (List Lookup) → Pid → ℕ → Option Lookup
 lookups_by pids asked = λ asker number. at_place pids asked asker >>= λ a. numbered a number
@@ -50,7 +56,7 @@ is_of host r = r.pid.host == host
 unfoldable pub names_by : List Registration → ℕ → List Registration
 names_by names = λ host. filter (is_of host) names
 
-abbrev pub kernel_by : List Pid → List Proc → List (List Sent) → List (List Lookup) → List Registration → List Name → Kernel
+abbrev pub kernel_by : List Pid → List Proc → List (List Exchange) → List (List Lookup) → List Registration → List Name → Kernel
 kernel_by pids procs sends asked names arrived = record {
   procs = procs_by pids procs sends asked;
   exchanges = exchanges_by pids sends;

@@ -1,85 +1,182 @@
-//! Calls: who may make one, and those that concern the caller alone.
+//! The step that is a call.
 
-ghost use Rattle.std.specs.Prelude.{◌≡◌, ◌∷◌, [], not, Some, None, Ok, ℕ};
-ghost use Rattle.vk_base.specs.Calls.{first_that_holds};
-ghost use Rattle.vk_base.specs.Kernel.{is_ready};
-ghost use Rattle.vk_base.specs.Ranges.{range_of, lies_in};
-ghost use Rattle.v_machine.specs.Doings.{state_of};
+ghost use Rattle.std.specs.Prelude.{◌≡◌, ◌≤◌, ◌-◌, true, false, Some};
+ghost use Rattle.vk_base.specs.Calls.{Effect, call_step};
+ghost use Rattle.v_machine.specs.Apply.{noted_by_call, most};
 ghost use Rattle.v_machine.specs.Kept.{IsKept, IsAt, kernel_in};
-ghost use Rattle.v_machine.specs.Rules.{Judges};
+ghost use Rattle.v_machine.specs.Rules.{Accepts, Answers, Counts, is_access, is_load, seen_by};
 
-use crate::doing::{Doing, Waiting};
-use crate::proc::Proc;
-use crate::put::{put_bytes, put_doing, size_of};
-use crate::store::Store;
-use crate::verdict::Verdict;
-use vk_base::{Call, Data, Pid, Refusal};
+pub mod access;
+pub mod exiting;
+pub mod held;
+pub mod loads;
+pub mod lookups;
+pub mod moves;
+pub mod names;
+pub mod own;
+pub mod replies;
+pub mod response;
+pub mod sending;
 
-/// The process may make a call.
-pub fn is_ready(doing: &Doing) -> bool
-    ensures { result ≡ is_ready (state_of doing.now) }
+use crate::calls::exiting::exit;
+use crate::calls::loads::load;
+use crate::calls::lookups::get_pid;
+use crate::calls::moves::{MoveRequest, move_from, move_to};
+use crate::calls::names::set_pid;
+use crate::calls::own::{caller_refusal, receive, receive_segment, store_bytes};
+use crate::calls::replies::{SegmentReply, reply, reply_segment};
+use crate::calls::response::{Response, observation};
+use crate::calls::sending::send;
+use crate::refusal::ApplyRefusal;
+use crate::tables::Store;
+use crate::tables::put::{find, proc};
+use std::alloc::Global;
+use vk_base::limits::NOTED_BYTES;
+use vk_base::{Call, Observation, Pid, Registration};
+
+/// Call, and how many bytes are noted with those that it notes.
+pub fn call(
+    store: &mut Store,
+    noted: &mut u64,
+    alloc: Global,
+    pid: Pid,
+    call: &Call,
+) -> Result<Option<Observation>, ApplyRefusal>
+    requires kept { IsKept store.old }
+    requires low { noted.old ≤ most }
+    ensures answers { Answers (call_step (kernel_in store.old) pid call.now)
+        (noted_by_call call.now (call_step (kernel_in store.old) pid call.now)) (most - noted.old) store.old store.new result }
+    ensures counts { Counts (noted_by_call call.now (call_step (kernel_in store.old) pid call.now)) noted.old noted.new result }
 {
-    matches!(doing, Doing::Ready)
-}
-
-/// Why a process may make no call, where it may make none.
-pub fn caller_refusal(proc: &Proc) -> Option<Refusal>
-    ensures { result ≡ first_that_holds ((not proc.now.alive, Refusal.Dead) ∷ (not (is_ready (state_of proc.now.doing)), Refusal.Busy) ∷ []) }
-{
-    if !proc.alive {
-        return Some(Refusal::Dead);
+    let Some(at) = find(store, pid) else {
+        return Err(ApplyRefusal::NotAllowed);
+    };
+    if let Some(why) = caller_refusal(proc(store, at)) {
+        return observation(pid, call, Response::Refused { why });
     }
-    if !is_ready(&proc.doing) {
-        return Some(Refusal::Busy);
+    if let Call::Load { start, count } = *call {
+        return load(store, at, pid, start, count);
     }
-    None
+    let response = accept(store, NOTED_BYTES - *noted, alloc, at, pid, call)?;
+    *noted += noted_by_call(call, response);
+    // The large answer is made only where there is one.
+    if let Response::Begun = response {
+        return Ok(None);
+    }
+    observation(pid, call, response)
 }
 
-/// Whether a range lies in a memory of this size.
-pub fn lies_in(start: u32, count: u32, size: u32) -> bool
-    ensures { result ≡ lies_in (range_of start count) size }
-{
-    u64::from(start) + u64::from(count) <= u64::from(size)
-}
-
-/// Receive.
-pub fn receive(store: &mut Store, at: usize, pid: Pid) -> Verdict
+/// A call of a process that may make one, but for a Load. At most so many more bytes may be noted.
+fn accept(
+    store: &mut Store,
+    room: u64,
+    alloc: Global,
+    at: usize,
+    pid: Pid,
+    call: &Call,
+) -> Result<Response, ApplyRefusal>
     requires kept { IsKept store.old }
     requires here { IsAt store.old pid at }
-    ensures { Judges pid Call.Receive store.old store.new (Ok result) }
+    requires no_load { is_load call.now ≡ false }
+    ensures { Accepts pid call.now room store.old store.new result }
 {
-    let waiting = Waiting::Receive;
-    put_doing(store, at, Doing::Blocked { waiting });
-    Verdict::Begun
-}
-
-/// ReceiveSegment.
-pub fn receive_segment(store: &mut Store, at: usize, pid: Pid, start: u32, count: u32) -> Verdict
-    requires kept { IsKept store.old }
-    requires here { IsAt store.old pid at }
-    ensures { Judges pid (Call.ReceiveSegment start count) store.old store.new (Ok result) }
-{
-    if !lies_in(start, count, size_of(store, at)) {
-        return Verdict::Refused {
-            why: Refusal::BadRange,
-        };
-    }
-    let waiting = Waiting::ReceiveSegment { start, count };
-    put_doing(store, at, Doing::Blocked { waiting });
-    Verdict::Begun
-}
-
-/// Store.
-pub fn store_bytes(store: &mut Store, at: usize, pid: Pid, start: u32, bytes: &Data) -> Verdict
-    requires kept { IsKept store.old }
-    requires here { IsAt store.old pid at }
-    ensures { Judges pid (Call.Store start bytes.now) store.old store.new (Ok result) }
-{
-    if put_bytes(store, at, start, bytes.as_slice()) {
-        Verdict::Ok
-    } else {
-        Verdict::Refused {
-            why: Refusal::BadRange,
+    match *call {
+        Call::Send { target, message } => send(store, alloc, at, pid, target, message),
+        Call::Receive => Ok(receive(store, at, pid)),
+        Call::ReceiveSegment { start, count } => Ok(receive_segment(store, at, pid, start, count)),
+        Call::Reply { message, to } => Ok(reply(store, alloc, pid, message, to)),
+        Call::ReplySegment { .. } | Call::MoveTo { .. } | Call::MoveFrom { .. } => {
+            accept_access(store, room, alloc, at, pid, call)
         }
+        Call::SetPid {
+            logical,
+            pid: named,
+            scope,
+        } => {
+            let name = Registration {
+                logical,
+                pid: named,
+                scope,
+            };
+            set_pid(store, pid, name)
+        }
+        Call::GetPid { logical, scope } => get_pid(store, alloc, at, pid, logical, scope),
+        Call::Store { start, ref bytes } => Ok(store_bytes(store, at, pid, start, bytes)),
+        Call::Exit => Ok(exit(store, at, pid)),
+        Call::Load { .. } => unreachable!(),
+    }
+}
+
+/// Such a call that concerns the granted segment of another process.
+fn accept_access(
+    store: &mut Store,
+    room: u64,
+    alloc: Global,
+    at: usize,
+    pid: Pid,
+    call: &Call,
+) -> Result<Response, ApplyRefusal>
+    requires kept { IsKept store.old }
+    requires here { IsAt store.old pid at }
+    requires access { is_access call.now ≡ true }
+    ensures { Accepts pid call.now room store.old store.new result }
+{
+    match *call {
+        Call::ReplySegment {
+            message,
+            to,
+            dest,
+            src,
+            count,
+        } => {
+            let reply = SegmentReply {
+                message,
+                to,
+                dest,
+                src,
+                count,
+            };
+            reply_segment(store, alloc, at, pid, reply)
+        }
+        Call::MoveTo {
+            partner,
+            dest,
+            src,
+            count,
+        } => {
+            let asked = request(partner, dest, src, count);
+            move_to(store, alloc, at, pid, asked, room)
+        }
+        Call::MoveFrom {
+            partner,
+            dest,
+            src,
+            count,
+        } => {
+            let asked = request(partner, dest, src, count);
+            move_from(store, alloc, at, pid, asked)
+        }
+        _ => unreachable!(),
+    }
+}
+
+fn request(partner: Pid, dest: u32, src: u32, count: u32) -> MoveRequest
+    ensures { result ≡ record { partner = partner; dest = dest; src = src; count = count } }
+{
+    MoveRequest {
+        partner,
+        dest,
+        src,
+        count,
+    }
+}
+
+/// How many bytes a call notes that is answered so.
+fn noted_by_call(call: &Call, response: Response) -> u64
+    ensures { (pid : Pid) (e : Effect) → e.seen ≡ seen_by pid call.now response → result ≡ noted_by_call call.now (Some e) }
+{
+    match (call, response) {
+        (Call::MoveTo { count, .. }, Response::Begun) => u64::from(*count),
+        _ => 0,
     }
 }

@@ -1,41 +1,22 @@
 //! The one-machine kernel as fast code, proved equal to its definition: `Machine::apply` takes a step exactly where the
 //! kernel allows it (`specs/Apply.antt`).
 //!
-//! Stands on the definition in `vk_base`, and on what `v_laws` says of every kernel that a run reaches. What the tables say is
-//! `specs/Tables.antt`, what they keep to `specs/Kept.antt`. Each kind of step has a file of its own, and so has each table.
+//! Stands on the definition in `vk_base`, and on what `v_laws` says of every kernel that a run reaches.
+//!
+//! | Files of `src/` | What they do |
+//! |---|---|
+//! | `machine.rt` | the machine, which is all that callers see, with its errors in `refusal.rt` |
+//! | `tables.rt`, `tables/` | what is kept (`specs/Tables.antt`, `specs/Kept.antt`): a file for each table, and what reads and changes them |
+//! | `calls.rt`, `calls/` | the step that is a call: a file for each kind; `access.rt`, `held.rt` where a partner is concerned |
+//! | `steps.rt`, `steps/` | the other steps: of messages, of remote moves, of lookups |
 #![tactic(auto)]
 
-mod access;
-mod arriving;
-mod asked;
-mod bytes;
-mod calling;
 mod calls;
-mod doing;
-mod exit;
-mod groups;
-mod held;
-mod latest;
-mod loads;
-mod lookups;
 mod machine;
-mod messages;
-mod moves;
-mod moving;
-mod names;
-mod opening;
-mod places;
-mod proc;
-mod put;
-mod queue;
-mod queues;
-mod replies;
-mod sending;
-mod sent;
-mod stepping;
-mod store;
-mod transfers;
-mod verdict;
+mod refusal;
+mod steps;
+mod tables;
 
 pub use machine::Machine;
-pub use verdict::ApplyRefusal;
+pub use refusal::ApplyRefusal;
+pub use vk_base::Observation;

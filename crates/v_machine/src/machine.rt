@@ -1,22 +1,19 @@
 //! The machine: its tables, and how many bytes were noted for remote moves.
 
 ghost use Rattle.std.specs.Prelude.{◌≡◌, ◌≤◌, IfOk};
-ghost use Rattle.vk_base.specs.Kernel.{opening};
+ghost use Rattle.vk_base.specs.Kernel.{initial_kernel};
 ghost use Rattle.v_machine.specs.Apply.{Applied};
 ghost use Rattle.v_machine.specs.Tables.{kernel_of};
 
-use crate::calling::call;
-use crate::messages::collect;
-use crate::opening::open_store;
-use crate::stepping::quiet_step;
-use crate::store::Store;
-use crate::verdict::ApplyRefusal;
+use crate::calls::call;
+use crate::refusal::ApplyRefusal;
+use crate::steps::messages::collect;
+use crate::steps::quiet_step;
+use crate::tables::Store;
+use crate::tables::initial::initial_store;
 use std::alloc::Global;
 use std::marker::Model;
 use vk_base::{Config, NoMemory, Observation, Step};
-
-/// The most bytes that are noted for remote moves.
-pub const MOST_NOTED: u64 = 268_435_456;
 
 /// The one-machine kernel.
 #[derive(Drop)]
@@ -40,12 +37,12 @@ impl Model for Machine {
 }
 
 impl Machine {
-    /// The opening kernel of a configuration.
+    /// The initial kernel of a configuration.
     pub fn new(alloc: Global, config: &Config) -> Result<Machine, NoMemory>
-        ensures { IfOk result (λ m. (kernel_of m ≡ opening config.now.specs) × (m.noted ≡ 0)) }
+        ensures { IfOk result (λ m. (kernel_of m ≡ initial_kernel config.now.specs) × (m.noted ≡ 0)) }
     {
         Ok(Machine {
-            store: open_store(alloc, config.specs())?,
+            store: initial_store(alloc, config.specs())?,
             noted: 0,
         })
     }
@@ -66,10 +63,10 @@ impl Machine {
                 call: ref made,
             } => call(&mut self.store, &mut self.noted, alloc, pid, made),
             Step::Collect { pid } => collect(&mut self.store, pid),
-            _ => match quiet_step(&mut self.store, &mut self.noted, alloc, step) {
-                Ok(()) => Ok(None),
-                Err(why) => Err(why),
-            },
+            _ => {
+                quiet_step(&mut self.store, &mut self.noted, alloc, step)?;
+                Ok(None)
+            }
         }
     }
 }

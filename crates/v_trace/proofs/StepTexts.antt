@@ -1,5 +1,5 @@
 -- Steps as lines.
-use Rattle.std.proofs.Common.{◌≡◌, ℕ, ◌<◌, ◌^◌, List, length, decimal, codes, Some, None, refl, arith, ap, sym, ◌∙◌}
+use Rattle.std.proofs.Common.{◌≡◌, ℕ, ◌<◌, List, length, codes, Some, None, refl, arith, ap, sym, ◌∙◌}
 use Rattle.std.specs.List.{AllByRecursion}
 use Rattle.vk_base.specs.declared.answer.Ending.{Ending}
 use Rattle.vk_base.specs.declared.answer.Ending.TheVariants as endings
@@ -8,15 +8,12 @@ use Rattle.vk_base.specs.declared.step.Step.TheVariants as steps
 use Rattle.vk_text.specs.Heads.{process_of, HasNoFeed}
 use Rattle.vk_text.specs.Lines.{words_from}
 use Rattle.vk_text.specs.Spelling.{joined}
-use Rattle.vk_text.proofs.PlainWords.{IsPlain, letters, number_plain, count_plain, pid_plain, call_plain, no_spaces, no_feeds, joined_no_feed}
+use Rattle.vk_text.proofs.PlainWords.{IsPlain, letters, ordinal_plain, count_plain, pid_plain, call_plain, no_spaces, no_feeds, joined_no_feed}
 use Rattle.vk_text.proofs.ReadBack.{joined_words, line_joined}
 use Rattle.v_trace.specs.Laws.{IsReadableStep, StepsAreSpelledOnce}
 use Rattle.v_trace.specs.Steps.{step_of}
 use Rattle.v_trace.specs.Texts.{ending_text, step_words, step_text}
 use Rattle.v_trace.proofs.StepWords.{step_spelled, step_read}
-
-ordinal_plain : (n : ℕ) → n < 2 ^ 63 → IsPlain (decimal n)
-ordinal_plain n h = number_plain n (omega arith)
 
 ending_plain : (e : Ending) → IsPlain (ending_text e)
 ending_plain endings.Ok = letters (codes "ok") refl
@@ -31,10 +28,18 @@ step_plain (steps.Arrive sender number) h = (letters (codes "arrive") refl, (pid
 step_plain (steps.Take pid) h = (letters (codes "take") refl, (pid_plain pid h, tt))
 step_plain (steps.Finish pid) h = (letters (codes "finish") refl, (pid_plain pid h, tt))
 step_plain (steps.Fail pid why) h = (letters (codes "fail") refl, (pid_plain pid h.0, (ending_plain why, tt)))
-step_plain (steps.OpenMove sender number moving) h = (letters (codes "open") refl, (pid_plain sender h.0, (ordinal_plain number h.1.1, (ordinal_plain moving h.2.1, tt))))
-step_plain (steps.Copy sender number moving offset count) h = (letters (codes "copy") refl, (pid_plain sender h.0, (ordinal_plain number h.1.1, (ordinal_plain moving h.2.1, (count_plain offset h.3, (count_plain count h.4, tt))))))
+step_plain (steps.OpenMove sender number moving) h =
+    (letters (codes "open") refl, (pid_plain sender h.0, (ordinal_plain number h.1.1, (ordinal_plain moving h.2.1, tt))))
+step_plain (steps.Copy sender number moving offset count) h = (
+  letters (codes "copy") refl,
+  (
+    pid_plain sender h.0,
+    (ordinal_plain number h.1.1, (ordinal_plain moving h.2.1, (count_plain offset h.3, (count_plain count h.4, tt)))),
+  ),
+)
 step_plain (steps.End pid why) h = (letters (codes "end") refl, (pid_plain pid h.0, (ending_plain why, tt)))
-step_plain (steps.Hear asker number pid) h = (letters (codes "hear") refl, (pid_plain asker h.0, (ordinal_plain number h.1.1, (pid_plain pid h.2, tt))))
+step_plain (steps.Hear asker number pid) h =
+    (letters (codes "hear") refl, (pid_plain asker h.0, (ordinal_plain number h.1.1, (pid_plain pid h.2, tt))))
 step_plain (steps.Found asker pid) h = (letters (codes "found") refl, (pid_plain asker h.0, (pid_plain pid h.1, tt)))
 step_plain (steps.Lost asker) h = (letters (codes "lost") refl, (pid_plain asker h, tt))
 step_plain (steps.Collect pid) h = (letters (codes "collect") refl, (pid_plain pid h, tt))

@@ -1,5 +1,5 @@
 -- Reading is the inverse of writing.
-use Rattle.std.specs.Prelude.{◌≡◌, ℕ, ◌^◌, ◌<◌, ◌↔◌, ◌⊎◌, true, List, [], ◌++◌, codes, Some, None, Ok}
+use Rattle.std.specs.Prelude.{◌≡◌, ℕ, ◌↔◌, ◌⊎◌, true, List, [], ◌++◌, codes, Some, None, Ok}
 use Rattle.std.specs.List.{AllByRecursion}
 use Rattle.vk_base.specs.Settings.{first_fault}
 use Rattle.vk_base.specs.declared.answer.Ending.{Ending}
@@ -9,15 +9,12 @@ use Rattle.vk_base.specs.declared.step.Step.{Step}
 use Rattle.vk_base.specs.declared.step.Step.TheVariants as steps
 use Rattle.vk_text.specs.Heads.{settings_of}
 use Rattle.vk_base.specs.Pids.{IsPid}
-use Rattle.vk_text.specs.Laws.{IsCount, IsReadable}
+use Rattle.vk_text.specs.Laws.{IsCount, IsOrdinal, IsReadable}
 use Rattle.vk_text.specs.Lines.{words_from}
 use Rattle.v_trace.specs.Steps.{step_of}
 use Rattle.v_trace.specs.Texts.{step_words, step_text}
 use Rattle.v_trace.specs.declared.trace.Trace.{Trace}
 use Rattle.v_trace.specs.Traces.{has_actor, trace_of, trace_text}
-
-abbrev pub IsOrdinal : ℕ → Type 0
-IsOrdinal n = (0 < n) × (n < 2 ^ 63)
 
 -- how a Send may fail
 abbrev pub IsFailure : Ending → Type 0
@@ -41,7 +38,8 @@ IsReadableStep (steps.Take pid) = IsPid pid
 IsReadableStep (steps.Finish pid) = IsPid pid
 IsReadableStep (steps.Fail pid why) = IsPid pid × IsFailure why
 IsReadableStep (steps.OpenMove sender number moving) = IsPid sender × IsOrdinal number × IsOrdinal moving
-IsReadableStep (steps.Copy sender number moving offset count) = IsPid sender × IsOrdinal number × IsOrdinal moving × IsCount offset × IsCount count
+IsReadableStep (steps.Copy sender number moving offset count) =
+    IsPid sender × IsOrdinal number × IsOrdinal moving × IsCount offset × IsCount count
 IsReadableStep (steps.End pid why) = IsPid pid × IsEnding why
 IsReadableStep (steps.Hear asker number pid) = IsPid asker × IsOrdinal number × IsPid pid
 IsReadableStep (steps.Found asker pid) = IsPid asker × IsPid pid
@@ -50,11 +48,13 @@ IsReadableStep (steps.Collect pid) = IsPid pid
 
 -- words read as a step exactly where they are that step's words
 abbrev pub StepWordsAreSpelledOnce : Type 0
-StepWordsAreSpelledOnce = (step : Step) (words : List (List ℕ)) → IsReadableStep step → (step_of words ≡ Some step) ↔ (words ≡ step_words step)
+StepWordsAreSpelledOnce =
+    (step : Step) (words : List (List ℕ)) → IsReadableStep step → (step_of words ≡ Some step) ↔ (words ≡ step_words step)
 
 -- a line reads as a step exactly where it is that step's text
 abbrev pub StepsAreSpelledOnce : Type 0
-StepsAreSpelledOnce = (step : Step) (line : List ℕ) → IsReadableStep step → (step_of (words_from line 0) ≡ Some step) ↔ (line ≡ step_text step)
+StepsAreSpelledOnce =
+    (step : Step) (line : List ℕ) → IsReadableStep step → (step_of (words_from line 0) ≡ Some step) ↔ (line ≡ step_text step)
 
 -- a trace of these processes may have this step
 abbrev pub IsLawfulStep : List ProcessSpec → Step → Type 0
@@ -68,4 +68,6 @@ TracesReadBack = (specs : List ProcessSpec) (steps : List Step) →
 
 -- a text that reads as a trace is its text, but that the last line feed may lack
 abbrev pub TracesAreSpelledOnce : Type 0
-TracesAreSpelledOnce = (text : List ℕ) (t : Trace) → trace_of text ≡ Ok t → (text ≡ trace_text t.config.specs t.steps) ⊎ (text ++ codes "\n" ≡ trace_text t.config.specs t.steps)
+TracesAreSpelledOnce =
+    (text : List ℕ) (t : Trace) → trace_of text ≡ Ok t →
+    (text ≡ trace_text t.config.specs t.steps) ⊎ (text ++ codes "\n" ≡ trace_text t.config.specs t.steps)

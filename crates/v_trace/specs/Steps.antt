@@ -50,11 +50,16 @@ fail_of ws = first_as pid_of ws >>= λ (pid, ws). last_as failure_of ws >>= λ w
 
 -- `SENDER NUMBER MOVE`
 unfoldable pub open_of : List (List ℕ) → Option Step
-open_of ws = first_as pid_of ws >>= λ (sender, ws). first_as ordinal_of ws >>= λ (number, ws). last_as ordinal_of ws >>= λ moving. Some (steps.OpenMove sender number moving)
+open_of ws =
+    first_as pid_of ws >>= λ (sender, ws). first_as ordinal_of ws >>= λ (number, ws).
+    last_as ordinal_of ws >>= λ moving. Some (steps.OpenMove sender number moving)
 
 -- `SENDER NUMBER MOVE OFFSET COUNT`
 unfoldable pub copy_of : List (List ℕ) → Option Step
-copy_of ws = first_as pid_of ws >>= λ (sender, ws). first_as ordinal_of ws >>= λ (number, ws). first_as ordinal_of ws >>= λ (moving, ws). first_as count_of ws >>= λ (offset, ws). last_as count_of ws >>= λ count. Some (steps.Copy sender number moving offset count)
+copy_of ws =
+    first_as pid_of ws >>= λ (sender, ws). first_as ordinal_of ws >>= λ (number, ws).
+    first_as ordinal_of ws >>= λ (moving, ws). first_as count_of ws >>= λ (offset, ws).
+    last_as count_of ws >>= λ count. Some (steps.Copy sender number moving offset count)
 
 -- `PID ENDING`
 unfoldable pub end_of : List (List ℕ) → Option Step
@@ -62,7 +67,9 @@ end_of ws = first_as pid_of ws >>= λ (pid, ws). last_as ending_of ws >>= λ why
 
 -- `ASKER LOOKUP PID`
 unfoldable pub hear_of : List (List ℕ) → Option Step
-hear_of ws = first_as pid_of ws >>= λ (asker, ws). first_as ordinal_of ws >>= λ (number, ws). last_as pid_of ws >>= λ pid. Some (steps.Hear asker number pid)
+hear_of ws =
+    first_as pid_of ws >>= λ (asker, ws). first_as ordinal_of ws >>= λ (number, ws).
+    last_as pid_of ws >>= λ pid. Some (steps.Hear asker number pid)
 
 -- `ASKER PID`
 unfoldable pub found_of : List (List ℕ) → Option Step

@@ -1,9 +1,8 @@
 -- The text of a trace.
-use Rattle.std.specs.Prelude.{◌≡◌, ℕ, ◌+◌, Bool, true, List, [], ◌∷◌, ◌++◌, length, flat_map, codes, Option, Some, None, Result, Ok, Err, MatchOption, OnOk, if◌then◌else◌}
+use Rattle.std.specs.Prelude.{◌≡◌, ℕ, ◌+◌, ◌<◌, Bool, true, List, [], ◌∷◌, ◌++◌, length, flat_map, codes, Option, Some, None, Result, Ok, Err, if◌then◌else◌}
 use Rattle.std.specs.Option.{option_map_or}
 use Rattle.vk_base.specs.Settings.{has_process}
 use Rattle.vk_base.specs.declared.config.ProcessSpec.{ProcessSpec}
-use Rattle.vk_base.specs.declared.no_memory.NoMemory.{NoMemory}
 use Rattle.vk_base.specs.declared.step.Step.{Step}
 use Rattle.vk_base.specs.declared.step.Step.TheVariants as steps
 use Rattle.vk_text.specs.Heads.{settings_of, head_of, line_text, head_text}
@@ -32,7 +31,8 @@ line_behind t = length t.config.specs + length t.steps + 2
 -- the trace with the steps of these lines behind its own; the first line that gives no step is the bad one
 unfoldable pub with_lines : Trace → List (List ℕ) → Result Trace TraceRefusal
 with_lines t [] = Ok t
-with_lines t (l ∷ ls) = option_map_or (λ more. with_lines more ls) (with_step t (step_of (words_from l 0))) (Err (refusals.BadInput (line_behind t)))
+with_lines t (l ∷ ls) =
+    option_map_or (λ more. with_lines more ls) (with_step t (step_of (words_from l 0))) (Err (refusals.BadInput (line_behind t)))
 
 -- the steps behind this head, where there is one
 unfoldable pub behind_head : Option (List ProcessSpec × List (List ℕ)) → Result Trace TraceRefusal
@@ -47,6 +47,6 @@ trace_of text = behind_head (head_of (codes "vkernel trace 1") (lines_of text))
 abbrev pub trace_text : List ProcessSpec → List Step → List ℕ
 trace_text specs steps = head_text (codes "vkernel trace 1") specs ++ flat_map (λ s. line_text (step_text s)) steps
 
--- a step is added exactly where it may stand there, unless memory is wanting, and else nothing changes
-abbrev pub IsAdded : Trace → Option Step → Trace → Option (Result Unit NoMemory) → Type 0
-IsAdded old step new result = MatchOption result ((with_step old step ≡ None) × (new ≡ old)) (λ r. OnOk r (with_step old step ≡ Some new))
+-- the first bad line, where there is one, stands behind the second, so that something stands before it that is kept
+abbrev pub KeepsLines : List ℕ → Type 0
+KeepsLines text = (line : ℕ) → trace_of text ≡ Err (refusals.BadInput line) → 2 < line

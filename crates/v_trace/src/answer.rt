@@ -60,7 +60,8 @@ fn write_received_segment(
     message: &Message,
     count: u32,
 ) -> Result<(), NoMemory>
-    ensures ok { OnOk result (into.new.items ≡ into.old.items ++ spaced (codes "ok") (pid_text from ∷ message_text message.now ∷ decimal count ∷ [])) }
+    ensures ok { OnOk result (into.new.items ≡ into.old.items
+        ++ spaced (codes "ok") (pid_text from ∷ message_text message.now ∷ decimal count ∷ [])) }
     ensures front { OnErr result (Begins into.old.items into.new.items) }
 {
     write_received(alloc, into, from, message)?;

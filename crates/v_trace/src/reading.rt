@@ -4,7 +4,8 @@ ghost use Rattle.std.specs.Prelude.{◌≡◌, ◌++◌, ◌∷◌, [], OnOk};
 ghost use Rattle.vk_base.specs.declared.step.Step.TheVariants as steps;
 ghost use Rattle.vk_text.specs.Lines.{words_from};
 ghost use Rattle.v_trace.specs.Steps.{pid_step_of, call_step_of, arrive_of, fail_of, open_of, copy_of, end_of, hear_of, found_of, step_of};
-ghost use Rattle.v_trace.specs.Traces.{line_behind, IsAdded};
+ghost use Rattle.v_trace.specs.Adding.{IsAdded};
+ghost use Rattle.v_trace.specs.Traces.{line_behind};
 
 use crate::trace::Trace;
 use crate::word::{last_count, last_ending, last_failure, last_ordinal, last_pid, next_ordinal};

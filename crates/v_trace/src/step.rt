@@ -103,7 +103,8 @@ fn write_copy(
     offset: u32,
     count: u32,
 ) -> Result<(), NoMemory>
-    ensures ok { OnOk result (into.new.items ≡ into.old.items ++ spaced word.now (pid_text sender ∷ decimal number ∷ decimal moving ∷ decimal offset ∷ decimal count ∷ [])) }
+    ensures ok { OnOk result (into.new.items ≡ into.old.items
+        ++ spaced word.now (pid_text sender ∷ decimal number ∷ decimal moving ∷ decimal offset ∷ decimal count ∷ [])) }
     ensures front { OnErr result (Begins into.old.items into.new.items) }
 {
     write_move(alloc, into, word, sender, number, moving)?;
@@ -118,7 +119,8 @@ fn write_heard(
     number: u64,
     pid: Pid,
 ) -> Result<(), NoMemory>
-    ensures ok { OnOk result (into.new.items ≡ into.old.items ++ spaced (codes "hear") (pid_text asker ∷ decimal number ∷ pid_text pid ∷ [])) }
+    ensures ok { OnOk result (into.new.items ≡ into.old.items
+        ++ spaced (codes "hear") (pid_text asker ∷ decimal number ∷ pid_text pid ∷ [])) }
     ensures front { OnErr result (Begins into.old.items into.new.items) }
 {
     write_numbered(alloc, into, b"hear", asker, number)?;

@@ -1,7 +1,7 @@
 //! Traces as texts.
 
 ghost use Rattle.std.specs.Prelude.{◌≡◌, ◌⊎◌, Ok, Err, IfOk, IfErr};
-ghost use Rattle.v_trace.specs.Traces.{trace_of};
+ghost use Rattle.v_trace.specs.Traces.{KeepsLines, trace_of};
 
 use crate::reading::Reader;
 use std::alloc::Global;
@@ -25,10 +25,10 @@ pub enum TraceRefusal {
 
 /// The trace that the text spells: its first line is `vkernel trace 1`, then come `process PID SIZE` lines by rising
 /// pids, and then the steps, a line each. The process of a `call` or `collect` is in the configuration; other steps may
-/// name any. The first line that is none of these decides.
+/// name any. The first line that is none of these decides. Memory is wanted only for lines that are lawful.
 pub fn read_trace(alloc: Global, text: &[u8]) -> Result<Trace, TraceRefusal>
     ensures trace { IfOk result (λ t. trace_of text.now ≡ Ok t) }
-    ensures refused { IfErr result (λ e. (e ≡ TraceRefusal.NoMemory) ⊎ (trace_of text.now ≡ Err e)) }
+    ensures refused { IfErr result (λ e. ((e ≡ TraceRefusal.NoMemory) × KeepsLines text.now) ⊎ (trace_of text.now ≡ Err e)) }
 {
     let head = match read_head(alloc, text, b"vkernel trace 1") {
         Ok(head) => head,

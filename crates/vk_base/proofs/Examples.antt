@@ -14,7 +14,7 @@ use Rattle.vk_base.specs.declared.pid.Pid.{Pid}
 use Rattle.vk_base.specs.declared.step.Step.{Step}
 use Rattle.vk_base.specs.declared.step.Step.TheVariants as steps
 use Rattle.vk_base.specs.Calls.{call_refusal, sent, copied_at_once, exited}
-use Rattle.vk_base.specs.Kernel.{opening, put_process, put_exchange, put_names, queue_of, held, held_up_to}
+use Rattle.vk_base.specs.Kernel.{initial_kernel, put_process, put_exchange, put_names, queue_of, held, held_up_to}
 use Rattle.vk_base.specs.Steps.{Run, run, taking, taken, finishing, collecting}
 
 -- process 1 to 3 of station 1, and a stranger
@@ -42,7 +42,7 @@ unfoldable pub saw : Pid → Call → Answer → Observation
 saw pid call answer = record { pid = pid; call = call; answer = answer }
 
 unfoldable pub seen_in : List ProcessSpec → List Step → Option (List Observation)
-seen_in specs ss = option_map (λ (r : Run). r.seen) (run (opening specs) ss)
+seen_in specs ss = option_map (λ (r : Run). r.seen) (run (initial_kernel specs) ss)
 
 processes : List ProcessSpec
 processes = record { pid = one; size = 64 } ∷ record { pid = two; size = 64 } ∷ record { pid = three; size = 64 } ∷ []

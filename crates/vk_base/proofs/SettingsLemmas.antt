@@ -9,6 +9,7 @@ use Rattle.std.proofs.lemmas.List.Sums.{sum_by-append}
 use Rattle.vk_base.specs.declared.config.ConfigRefusal.{ConfigRefusal}
 use Rattle.vk_base.specs.declared.config.ConfigRefusal.TheVariants as refusals
 use Rattle.vk_base.specs.declared.config.ProcessSpec.{ProcessSpec}
+use Rattle.vk_base.proofs.Rising.{lawful_more}
 use Rattle.vk_base.specs.Settings.{is_on, has_station, stations_with, stations_of, is_too_many, fault_of, rises, AreKept}
 
 abbrev among : List ℕ → ℕ → Bool
@@ -102,6 +103,7 @@ few_more specs s q false e room few = omega (arith, count-more q specs s false e
 -- what is kept with one more process
 pub kept_more : (specs more : List ProcessSpec) (hosts grown : List ℕ) (s : ProcessSpec) (b : Bool) → AreKept specs hosts → fault_of specs s ≡ None → list_any (λ h. h == s.pid.host) hosts ≡ b → more ≡ specs ++ s ∷ [] → grown ≡ cond b hosts (hosts ++ s.pid.host ∷ []) → AreKept more grown
 kept_more specs more hosts grown s b kept fine among is hosts_are = rw (is, hosts_are) (record {
+  lawful = lawful_more specs s kept.lawful fine;
   stations = rw kept.stations (sym (stations_of-append specs s b (rw kept.stations at among)));
   few = λ q. few_more specs s q (is_on q s) refl (room_on specs s fine) (kept.few q);
   all = let room = room_of_all specs s fine in grind (arith, common_steps);

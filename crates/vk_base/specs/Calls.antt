@@ -18,9 +18,10 @@ use Rattle.vk_base.specs.declared.kernel.Process.{Process}
 use Rattle.vk_base.specs.declared.kernel.Registration.{Registration}
 use Rattle.vk_base.specs.declared.kernel.Stage.TheVariants as stages
 use Rattle.vk_base.specs.declared.kernel.State.TheVariants as states
+use Rattle.vk_base.specs.declared.limits.TheConstants.{DATA_BYTES, MOVE_BYTES, NAMES, SEGMENT_BYTES}
 use Rattle.vk_base.specs.declared.message.Message.{Message}
 use Rattle.vk_base.specs.declared.pid.Pid.{Pid}
-use Rattle.vk_base.specs.Kernel.{◌>>=◌, Kernel, name_of, holds_of, is_live, is_ready, sending, ended, is_open, held, held_exchange, found_here, others, put_process, put_exchange, put_names, put_lookup, with_state, with_memory, with_stage}
+use Rattle.vk_base.specs.Kernel.{◌>>=◌, Kernel, name_of, holds_of, is_live, is_ready, sending, ended, is_at_target, held, held_exchange, found_here, others, put_process, put_exchange, put_names, put_lookup, with_state, with_memory, with_stage}
 use Rattle.vk_base.specs.Messages.{grants_read, grants_write, segment_of}
 use Rattle.vk_base.specs.Pids.{same_pid, same_host}
 use Rattle.vk_base.specs.Ranges.{range_of, lies_in, lies_within, bytes_in, with_bytes}
@@ -77,30 +78,31 @@ tests_of k pid p calls.Receive = []
 tests_of k pid p (calls.ReceiveSegment start count) = (not (is_own p start count), refusals.BadRange) ∷ []
 tests_of k pid p (calls.Reply m to) = (is_none (held k pid to), refusals.NotAwaiting) ∷ []
 tests_of k pid p (calls.ReplySegment m to dest src count) =
-    (nat_lt 512 count, refusals.TooLong)
+    (nat_lt SEGMENT_BYTES count, refusals.TooLong)
     ∷ (is_none (held k pid to), refusals.NotAwaiting)
     ∷ (not (may_write (held_exchange k pid to)), refusals.NoAccess)
     ∷ (not (is_granted (held_exchange k pid to) dest count && is_own p src count), refusals.BadRange)
     ∷ []
 tests_of k pid p (calls.MoveTo partner dest src count) =
-    (nat_lt 65536 count, refusals.TooLong)
+    (nat_lt MOVE_BYTES count, refusals.TooLong)
     ∷ (is_none (held k pid partner), refusals.NotAwaiting)
     ∷ (not (may_write (held_exchange k pid partner)), refusals.NoAccess)
     ∷ (not (is_granted (held_exchange k pid partner) dest count && is_own p src count), refusals.BadRange)
     ∷ []
 tests_of k pid p (calls.MoveFrom partner dest src count) =
-    (nat_lt 65536 count, refusals.TooLong)
+    (nat_lt MOVE_BYTES count, refusals.TooLong)
     ∷ (is_none (held k pid partner), refusals.NotAwaiting)
     ∷ (not (may_read (held_exchange k pid partner)), refusals.NoAccess)
     ∷ (not (is_granted (held_exchange k pid partner) src count && is_own p dest count), refusals.BadRange)
     ∷ []
 tests_of k pid p (calls.SetPid logical q scope) =
     (not (same_host pid q && is_live (k.procs q)), refusals.NoProcess)
-    ∷ (nat_le 64 (length (others (k.names pid.host) logical)), refusals.NamesFull)
+    ∷ (nat_le NAMES (length (others (k.names pid.host) logical)), refusals.NamesFull)
     ∷ []
-tests_of k pid p (calls.GetPid logical scope) = (is_local_scope scope && is_none (found_at_once k pid logical scope), refusals.NotFound) ∷ []
+tests_of k pid p (calls.GetPid logical scope) = (is_local_scope scope && is_none (found_at_once k pid logical scope), refusals.NotFound)
+    ∷ []
 tests_of k pid p (calls.Load start count) =
-    (nat_lt 1024 count, refusals.TooLong)
+    (nat_lt DATA_BYTES count, refusals.TooLong)
     ∷ (not (is_own p start count), refusals.BadRange)
     ∷ []
 tests_of k pid p (calls.Store start bytes) = (not (is_own p start (length bytes)), refusals.BadRange) ∷ []
@@ -112,9 +114,9 @@ call_refusal k pid p c = first_that_holds ((not p.alive, refusals.Dead) ∷ (not
 
 -- Send and the replies.
 
--- the first part of the segment that a message lets its receiver read, at most 512 bytes
+-- the first part of the segment that a message lets its receiver read
 abbrev pub first_part : Message → List ℕ → List ℕ
-first_part m memory = if grants_read m then bytes_in (range_of (segment_of m).start (min (segment_of m).len 512)) memory else []
+first_part m memory = if grants_read m then bytes_in (range_of (segment_of m).start (min (segment_of m).len SEGMENT_BYTES)) memory else []
 
 abbrev pub sent_exchange : Pid → Process → Pid → Message → Exchange
 sent_exchange pid p target m = record {
@@ -150,15 +152,18 @@ is_at_once pid partner count = same_host pid partner || count == 0
 
 -- the bytes are written into the memory of a process, and its partner's call is answered ok
 unfoldable pub copied_at_once : Kernel → Pid → Call → Pid → ℕ → List ℕ → Option Effect
-copied_at_once k pid c into dest bytes = k.procs into >>= λ q. Some (answered (with_memory k into q (with_bytes q.memory dest bytes)) pid c answers.Ok)
+copied_at_once k pid c into dest bytes =
+    k.procs into >>= λ q. Some (answered (with_memory k into q (with_bytes q.memory dest bytes)) pid c answers.Ok)
 
 abbrev pub new_move : Pid → Direction → ℕ → ℕ → ℕ → List ℕ → Move
-new_move pid direction dest src count bytes = record { mover = pid; direction = direction; dest = dest; src = src; count = count; bytes = bytes }
+new_move pid direction dest src count bytes =
+    record { mover = pid; direction = direction; dest = dest; src = src; count = count; bytes = bytes }
 
 -- the next move of the exchange is begun, and its mover waits for it
 unfoldable pub move_begun : Kernel → Pid → Process → Call → Name → Exchange → Move → Kernel
 move_begun k pid p c name e m = record k {
-  procs = put_process k.procs pid (record p { state = states.Blocked c; moving = Some (record { exchange = name; number = length e.moves + 1 }) });
+  procs = put_process k.procs pid
+      (record p { state = states.Blocked c; moving = Some (record { exchange = name; number = length e.moves + 1 }) });
   exchanges = put_exchange k.exchanges name (record e { moves = e.moves ++ m ∷ [] });
 }
 
@@ -187,7 +192,8 @@ abbrev pub with_name : List Registration → Registration → List Registration
 with_name names r = others names r.logical ++ r ∷ []
 
 abbrev pub registered : Kernel → Pid → ℕ → Pid → Scope → Kernel
-registered k pid logical q scope = record k { names = put_names k.names pid.host (with_name (k.names pid.host) (record { logical = logical; pid = q; scope = scope })) }
+registered k pid logical q scope =
+    record k { names = put_names k.names pid.host (with_name (k.names pid.host) (record { logical = logical; pid = q; scope = scope })) }
 
 -- the next lookup of the process is begun
 unfoldable pub lookup_begun : Kernel → Pid → Process → Call → ℕ → Kernel
@@ -203,15 +209,15 @@ get_pid k pid p c logical (Some q) = answered k pid c (answers.Found q)
 -- Exit.
 
 -- a queued or taken exchange of the process that exits is dropped
-abbrev pub is_open_at : Pid → Exchange → Bool
-is_open_at r e = same_pid e.target r && is_open e.stage
+abbrev pub is_message_at : Pid → Exchange → Bool
+is_message_at r e = same_pid e.target r && is_at_target e.stage
 
 abbrev pub dropped_at : Pid → Exchange → Exchange
-dropped_at r e = if is_open_at r e then record e { stage = stages.Dropped } else e
+dropped_at r e = if is_message_at r e then record e { stage = stages.Dropped } else e
 
 -- a sender of its station that waits on one of these is done with a refusal
 abbrev pub is_bereft : Kernel → Pid → Pid → Process → Bool
-is_bereft k r q x = same_host q r && is_some (sending x.state) && holds_of (is_open_at r) (k.exchanges (name_of q x.sends))
+is_bereft k r q x = same_host q r && is_some (sending x.state) && holds_of (is_message_at r) (k.exchanges (name_of q x.sends))
 
 abbrev pub released : Kernel → Pid → Pid → Process → Process
 released k r q x = if is_bereft k r q x then record x { state = ended x.state (answers.Refused refusals.NoProcess) } else x
@@ -229,13 +235,18 @@ accepted k pid p (calls.Send target m) = Some (unseen (sent k pid p target m))
 accepted k pid p calls.Receive = Some (unseen (with_state k pid p (states.Blocked calls.Receive)))
 accepted k pid p (calls.ReceiveSegment start count) = Some (unseen (with_state k pid p (states.Blocked (calls.ReceiveSegment start count))))
 accepted k pid p (calls.Reply m to) = replied k pid (calls.Reply m to) to m 0 []
-accepted k pid p (calls.ReplySegment m to dest src count) = replied k pid (calls.ReplySegment m to dest src count) to m dest (bytes_in (range_of src count) p.memory)
+accepted k pid p (calls.ReplySegment m to dest src count) =
+    replied k pid (calls.ReplySegment m to dest src count) to m dest (bytes_in (range_of src count) p.memory)
 accepted k pid p (calls.MoveTo partner dest src count) = move_to k pid p (calls.MoveTo partner dest src count) partner dest src count
 accepted k pid p (calls.MoveFrom partner dest src count) = move_from k pid p (calls.MoveFrom partner dest src count) partner dest src count
-accepted k pid p (calls.SetPid logical q scope) = Some (answered (registered k pid logical q scope) pid (calls.SetPid logical q scope) answers.Ok)
-accepted k pid p (calls.GetPid logical scope) = Some (get_pid k pid p (calls.GetPid logical scope) logical (found_at_once k pid logical scope))
-accepted k pid p (calls.Load start count) = Some (answered k pid (calls.Load start count) (answers.Loaded (bytes_in (range_of start count) p.memory)))
-accepted k pid p (calls.Store start bytes) = Some (answered (with_memory k pid p (with_bytes p.memory start bytes)) pid (calls.Store start bytes) answers.Ok)
+accepted k pid p (calls.SetPid logical q scope) =
+    Some (answered (registered k pid logical q scope) pid (calls.SetPid logical q scope) answers.Ok)
+accepted k pid p (calls.GetPid logical scope) =
+    Some (get_pid k pid p (calls.GetPid logical scope) logical (found_at_once k pid logical scope))
+accepted k pid p (calls.Load start count) =
+    Some (answered k pid (calls.Load start count) (answers.Loaded (bytes_in (range_of start count) p.memory)))
+accepted k pid p (calls.Store start bytes) =
+    Some (answered (with_memory k pid p (with_bytes p.memory start bytes)) pid (calls.Store start bytes) answers.Ok)
 accepted k pid p calls.Exit = Some (answered (exited k pid p) pid calls.Exit answers.Ok)
 
 -- a refused call changes nothing

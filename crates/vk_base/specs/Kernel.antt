@@ -45,13 +45,13 @@ name_of sender number = record { sender = sender; number = number }
 abbrev pub same_name : Name → Name → Bool
 same_name m n = same_pid m.sender n.sender && m.number == n.number
 
--- In the opening kernel each process is alive and ready, with zero memory, and has begun nothing.
-abbrev pub opened : ProcessSpec → Process
-opened s = record { alive = true; memory = replicate s.size 0; state = states.Ready; sends = 0; lookups = 0; moving = None }
+-- In the initial kernel each process is alive and ready, with zero memory, and has begun nothing.
+abbrev pub initial_process : ProcessSpec → Process
+initial_process s = record { alive = true; memory = replicate s.size 0; state = states.Ready; sends = 0; lookups = 0; moving = None }
 
-abbrev pub opening : List ProcessSpec → Kernel
-opening specs = record {
-  procs = λ pid. option_map opened (find (is_process pid) specs);
+abbrev pub initial_kernel : List ProcessSpec → Kernel
+initial_kernel specs = record {
+  procs = λ pid. option_map initial_process (find (is_process pid) specs);
   exchanges = λ n. None;
   arrived = [];
   names = λ host. [];
@@ -137,8 +137,8 @@ is_taken stages.Taken = true
 is_taken s = false
 
 -- its message waits at the target, or its target has yet to reply
-abbrev pub is_open : Stage → Bool
-is_open s = is_queued s || is_taken s
+abbrev pub is_at_target : Stage → Bool
+is_at_target s = is_queued s || is_taken s
 
 -- the message, the place and the bytes of the reply
 abbrev pub reply_of : Stage → Option (Message × ℕ × List ℕ)
@@ -188,7 +188,8 @@ is_found_there scopes.Both = true
 
 -- the process that the station finds under a logical id in its own names
 abbrev pub found_here : List Registration → ℕ → Option Pid
-found_here names logical = option_map (λ (r : Registration). r.pid) (find (λ (r : Registration). r.logical == logical && is_found_here r.scope) names)
+found_here names logical =
+    option_map (λ (r : Registration). r.pid) (find (λ (r : Registration). r.logical == logical && is_found_here r.scope) names)
 
 -- whether it tells others that this process is registered under the logical id
 abbrev pub is_told : List Registration → ℕ → Pid → Bool

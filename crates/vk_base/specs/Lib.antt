@@ -1,4 +1,7 @@
+pub mod Brought
 pub mod Calls
+pub mod Changes
+pub mod Counts
 pub mod Kernel
 pub mod Messages
 pub mod Options

@@ -20,7 +20,8 @@ abbrev pub is_below : Pid → Pid → Bool
 is_below p q = nat_lt p.host q.host || (p.host == q.host && nat_lt p.local q.local)
 
 -- the pid of a host above 0 and below 65,535, and of a local above 0, where the three tests say so
-abbrev pub pid_by : (host local : ℕ) (some_host one_host some_local : Bool) → nat_lt 0 host ≡ some_host → nat_lt host 65535 ≡ one_host → nat_lt 0 local ≡ some_local → Option Pid
+abbrev pub pid_by : (host local : ℕ) (some_host one_host some_local : Bool) → nat_lt 0 host ≡ some_host → nat_lt host 65535 ≡ one_host →
+    nat_lt 0 local ≡ some_local → Option Pid
 pid_by host local true true true a b c = Some (record { host = host; local = local; some_host = ltb-true 0 host a; one_host = ltb-true host 65535 b; some_local = ltb-true 0 local c })
 pid_by host local true true false a b c = None
 pid_by host local true false some_local a b c = None

@@ -25,7 +25,7 @@ use Rattle.vk_base.specs.declared.pid.Pid.{Pid}
 use Rattle.vk_base.specs.declared.step.Step.{Step}
 use Rattle.vk_base.specs.declared.step.Step.TheVariants as steps
 use Rattle.vk_base.specs.Calls.{Effect, unseen, answered, call_step}
-use Rattle.vk_base.specs.Kernel.{◌>>=◌, Kernel, name_of, same_name, holds_of, is_live, is_moving, is_asking, receiving, sending, finished_call, ended, waiting_on, is_posted, is_open, reply_of, queue_of, move_of, is_told, put_process, put_exchange, put_lookup, with_state}
+use Rattle.vk_base.specs.Kernel.{◌>>=◌, Kernel, name_of, same_name, holds_of, is_live, is_moving, is_asking, receiving, sending, finished_call, ended, waiting_on, is_posted, is_at_target, reply_of, queue_of, move_of, is_told, put_process, put_exchange, put_lookup, with_state}
 use Rattle.vk_base.specs.Pids.{same_pid, same_host}
 use Rattle.vk_base.specs.Ranges.{range_of, bytes_in, with_bytes}
 
@@ -39,7 +39,9 @@ unfoldable pub arriving : Kernel → Name → Option Exchange
 arriving k name = k.exchanges name >>= λ e. only_if (is_posted e.stage && is_live (k.procs e.target)) (Some e)
 
 abbrev pub is_older : Name → Exchange → Name → Exchange → Bool
-is_older name e n x = same_pid n.sender name.sender && nat_lt n.number name.number && same_host x.target e.target && (is_posted x.stage || is_open x.stage)
+is_older name e n x =
+    same_pid n.sender name.sender && nat_lt n.number name.number && same_host x.target e.target
+    && (is_posted x.stage || is_at_target x.stage)
 
 abbrev pub after_arrival : Name → Exchange → Name → Exchange → Exchange
 after_arrival name e n x =
@@ -203,7 +205,8 @@ copying k name number offset count = do
 
 unfoldable pub copied : Kernel → Name → ℕ → ℕ → Copying → Kernel
 copied k name offset count c = record k {
-  procs = put_process k.procs c.pid (record c.process { memory = with_bytes c.process.memory (c.move.dest + offset) (bytes_in (range_of offset count) c.move.bytes) });
+  procs = put_process k.procs c.pid
+      (record c.process { memory = with_bytes c.process.memory (c.move.dest + offset) (bytes_in (range_of offset count) c.move.bytes) });
   exchanges = put_exchange k.exchanges name (record c.exchange { done = c.exchange.done + count });
 }
 
@@ -233,7 +236,8 @@ end_step k r why = ending k r why >>= λ e. Some (unseen (with_state k r e.0 (en
 
 -- Hear: a lookup is heard at a station of another host that tells a name of it.
 unfoldable pub hearing : Kernel → Pid → ℕ → Pid → Option Lookup
-hearing k asker number pid = k.lookups asker number >>= λ l. only_if (not (same_host asker pid) && is_told (k.names pid.host) l.logical pid) (Some l)
+hearing k asker number pid =
+    k.lookups asker number >>= λ l. only_if (not (same_host asker pid) && is_told (k.names pid.host) l.logical pid) (Some l)
 
 abbrev pub hear_step : Kernel → Pid → ℕ → Pid → Option Effect
 hear_step k asker number pid = hearing k asker number pid >>= λ l.

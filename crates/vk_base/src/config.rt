@@ -1,19 +1,17 @@
-ghost use Rattle.std.specs.Prelude.{◌≡◌, ◌≤◌, ◌<◌, ◌-◌, ◌++◌, ◌∷◌, ◌==◌, ◌⊎◌, [], ℕ, None, Some, length, count_by, slice_index, slice_get, IfOk, IfErr, OnOk, OnErr, MatchResult};
-ghost use Rattle.std.specs.List.{list_any};
-ghost use Rattle.vk_base.specs.Settings.{Settings, AreKept, is_on, rises, is_too_many, stations_of, has_station, has_process, settings_refusal, fault_of, refusal_of};
+ghost use Rattle.std.specs.Prelude.{◌≡◌, true, false, ◌≤◌, ◌<◌, ◌-◌, ◌++◌, ◌∷◌, ◌==◌, ◌⊎◌, [], ℕ, None, Some, length, count_by, slice_index, slice_get, IfOk, IfErr, OnOk, OnErr, MatchResult};
+ghost use Rattle.std.specs.List.{list_any, AllWithin};
+ghost use Rattle.vk_base.specs.Settings.{Settings, AreKept, is_on, rises, is_too_many, stations_of, has_station, has_process, settings_refusal, fault_of, first_fault, refusal_of};
+ghost use Rattle.vk_base.specs.Pids.{is_below};
+ghost use Rattle.vk_base.specs.declared.config.ProcessSpec.{ProcessSpec};
 
+use crate::limits::{
+    INTERVAL, LIFE, MEMORY_BYTES, POOL, PROCESSES, STATION_PROCESSES, STATIONS, TRIES,
+};
 use crate::no_memory::NoMemory;
 use crate::pid::Pid;
 use arrayvec::ArrayVec;
 use std::alloc::{AllocError, Global};
 use std::marker::Model;
-
-/// The greatest number of stations, and of processes of one station.
-const STATIONS: usize = 16;
-
-const PROCESSES: usize = 32;
-/// The greatest number of bytes of a process's memory.
-const SIZE: u32 = 131_072;
 
 /// How often and how long a station tries. `tries` transmissions of a work, 1 to 16; `interval` ticks between two, 1 to 64;
 /// `life` ticks after which a frame is old, 0 to 1,024.
@@ -74,7 +72,8 @@ impl Config {
         pool: u32,
         specs: &[ProcessSpec],
     ) -> Result<Self, ConfigRefusal>
-        ensures ok { IfOk result (λ c. (refusal_of times pool specs.now ≡ None) × (c ≡ record { times = times; pool = pool; specs = specs.now })) }
+        ensures ok { IfOk result (λ c. (refusal_of times pool specs.now ≡ None) ×
+            (c ≡ record { times = times; pool = pool; specs = specs.now })) }
         ensures err { IfErr result (λ e. (refusal_of times pool specs.now ≡ Some e) ⊎ (e ≡ ConfigRefusal.NoMemory)) }
     {
         let mut config = Config::with_no_process(alloc, times, pool)?;
@@ -90,14 +89,14 @@ impl Config {
         ensures err { IfErr result (λ e. settings_refusal times pool ≡ Some e) }
     {
         if times.tries < 1
-            || times.tries > 16
+            || times.tries > TRIES
             || times.interval < 1
-            || times.interval > 64
-            || times.life > 1024
+            || times.interval > INTERVAL
+            || times.life > LIFE
         {
             return Err(ConfigRefusal::BadTimes);
         }
-        if pool < 1 || pool > 64 {
+        if pool < 1 || pool > POOL {
             return Err(ConfigRefusal::BadPool);
         }
         Ok(Config {
@@ -110,8 +109,10 @@ impl Config {
 
     /// Adds a process behind the others. A refusal changes nothing.
     pub fn add(&mut self, spec: ProcessSpec) -> Result<(), ConfigRefusal>
-        ensures ok { OnOk result ((fault_of self.old.specs spec ≡ None) × (self.new ≡ record self.old { specs = self.old.specs ++ spec ∷ [] })) }
-        ensures err { IfErr result (λ e. (fault_of self.old.specs spec ≡ Some e) ⊎ ((e ≡ ConfigRefusal.NoMemory) × (fault_of self.old.specs spec ≡ None))) }
+        ensures ok { OnOk result ((fault_of self.old.specs spec ≡ None) ×
+            (self.new ≡ record self.old { specs = self.old.specs ++ spec ∷ [] })) }
+        ensures err { IfErr result (λ e. (fault_of self.old.specs spec ≡ Some e) ⊎
+            ((e ≡ ConfigRefusal.NoMemory) × (fault_of self.old.specs spec ≡ None))) }
         ensures same { OnErr result (self.new ≡ self.old) }
     {
         if let Some(fault) = fault_of(&self.specs, self.stations.as_slice(), spec) {
@@ -138,14 +139,15 @@ impl Config {
     pub fn has_process(&self, pid: Pid) -> bool
         ensures { result ≡ has_process self.now.specs pid }
     {
-        self.specs.iter().any(|s| s.pid == pid)
+        stands_among(&self.specs, pid)
     }
 
-    /// The processes, by rising pids. No station has more than 32.
+    /// The processes, by rising pids, none of which has a fault.
     pub fn specs(&self) -> &[ProcessSpec]
         ensures specs { result.now ≡ self.now.specs }
-        ensures few { (host : ℕ) → count_by (is_on host) result.now ≤ 32 }
-        ensures all { length result.now ≤ 512 }
+        ensures lawful { first_fault [] result.now ≡ None }
+        ensures few { (host : ℕ) → count_by (is_on host) result.now ≤ STATION_PROCESSES }
+        ensures all { length result.now ≤ PROCESSES }
     {
         self.specs.as_slice()
     }
@@ -165,7 +167,7 @@ impl Config {
 
     pub fn station_count(&self) -> u32
         ensures count { result ≡ length (stations_of self.now.specs) }
-        ensures few { result ≤ 16 }
+        ensures few { result ≤ STATIONS }
     {
         self.stations.len() as u32
     }
@@ -189,6 +191,32 @@ impl Config {
             stations: self.stations.clone()?,
         })
     }
+}
+
+/// Whether one of these, which have no fault, has this pid.
+fn stands_among(specs: &[ProcessSpec], pid: Pid) -> bool
+    requires { first_fault [] specs.now ≡ None }
+    ensures { result ≡ has_process specs.now pid }
+{
+    match spec_at(specs, first_not_below(specs, pid)) {
+        Some(spec) => spec.pid == pid,
+        None => false,
+    }
+}
+
+fn spec_at(specs: &[ProcessSpec], at: usize) -> Option<ProcessSpec>
+    ensures { result ≡ slice_get specs.now at }
+{
+    specs.get(at).copied()
+}
+
+/// The place of the first of these that is not below the pid, in halves.
+fn first_not_below(specs: &[ProcessSpec], pid: Pid) -> usize
+    requires { first_fault [] specs.now ≡ None }
+    ensures before { AllWithin (λ (s : ProcessSpec). is_below s.pid pid ≡ true) specs.now 0 result }
+    ensures behind { AllWithin (λ (s : ProcessSpec). is_below s.pid pid ≡ false) specs.now result (length specs.now) }
+{
+    specs.partition_point(|s| s.pid.is_below(pid))
 }
 
 /// How many processes a host has.
@@ -221,8 +249,8 @@ fn is_too_many(before: &[ProcessSpec], hosts: &[u16], host: u16) -> bool
     ensures { result ≡ is_too_many before.now host }
 {
     (!is_among(hosts, host) && hosts.len() >= STATIONS)
-        || processes_on(before, host) >= PROCESSES
-        || before.len() >= STATIONS * PROCESSES
+        || processes_on(before, host) >= STATION_PROCESSES
+        || before.len() >= PROCESSES
 }
 
 /// What is wrong with a process behind these, whose stations are `hosts`.
@@ -234,7 +262,7 @@ fn fault_of(before: &[ProcessSpec], hosts: &[u16], spec: ProcessSpec) -> Option<
     let index = before.len() as u32;
     if !rises(before, spec.pid) {
         Some(ConfigRefusal::NotRising { index })
-    } else if spec.size > SIZE {
+    } else if spec.size > MEMORY_BYTES {
         Some(ConfigRefusal::BadSize { index })
     } else if is_too_many(before, hosts, spec.pid.host) {
         Some(ConfigRefusal::TooMany { index })

@@ -3,7 +3,6 @@
 
 use crate::answer::Answer;
 use crate::call::{Call, Scope};
-use crate::data::Data;
 use crate::list::List;
 use crate::memory::Memory;
 use crate::message::Message;
@@ -78,7 +77,7 @@ pub enum Stage {
     Replied {
         message: Message,
         dest: u32,
-        bytes: Data,
+        bytes: List<u8>,
     },
     Dropped,
 }
@@ -89,7 +88,7 @@ pub struct Exchange {
     pub target: Pid,
     pub message: Message,
     /// The first part of the granted segment, as it was at the Send.
-    pub part: Data,
+    pub part: List<u8>,
     pub stage: Stage,
     /// Its remote moves, in the order in which they began.
     pub moves: List<Move>,

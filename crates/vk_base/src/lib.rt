@@ -9,8 +9,10 @@ mod answer;
 mod call;
 mod config;
 mod data;
+mod event;
 mod frame_bytes;
 mod kernel;
+pub mod limits;
 mod list;
 mod memory;
 mod message;
@@ -22,6 +24,7 @@ pub use answer::{Answer, CallOutcome, Ending, Refusal};
 pub use call::{Call, Scope};
 pub use config::{Config, ConfigRefusal, ProcessSpec, Times};
 pub use data::Data;
+pub use event::{EventAnswer, StationEvent};
 pub use frame_bytes::FrameBytes;
 pub use kernel::{
     Direction, Exchange, Lookup, Move, MoveName, Name, Observation, Process, Registration, Stage,

@@ -2,6 +2,7 @@ ghost use Rattle.std.specs.Prelude.{◌≡◌};
 
 use crate::answer::Ending;
 use crate::call::Call;
+use crate::limits::STEPS;
 use crate::pid::Pid;
 use arrayvec::ArrayVec;
 
@@ -72,7 +73,7 @@ pub enum Step {
 }
 
 /// The steps of one event.
-pub type StepList = ArrayVec<Step, 40>;
+pub type StepList = ArrayVec<Step, STEPS>;
 
 impl Step {
     /// An equal step.

@@ -42,13 +42,17 @@ unfolding deliver_event_of
 deliver_spelled ws e h =
     let to = first_spelled station_of decimal (λ n w f. (station_spelled n w f).0) _ e ws h in
     let from = first_spelled station_of decimal (λ n w f. (station_spelled n w f).0) _ e to.1 to.3 in
-    let event = first_spelled (positive_of 9223372036854775807) decimal (λ n w f. (positive_spelled 9223372036854775807 n w (omega arith) f).0) _ e from.1 from.3 in
+    let event = first_spelled (positive_of 9223372036854775807) decimal
+    (λ n w f. (positive_spelled 9223372036854775807 n w (omega arith) f).0) _ e from.1 from.3 in
     let output = first_spelled (positive_of 65535) decimal (λ n w f. (positive_spelled 65535 n w (omega arith) f).0) _ e event.1 event.3 in
     let end = ended_is output.1 (events.Deliver to.0 from.0 event.0 output.0) e output.3 in
-    ap (λ l. codes "deliver" ∷ l) (to.2 ∙ ap (λ l. decimal to.0 ∷ l) (from.2 ∙ ap (λ l. decimal from.0 ∷ l) (event.2 ∙ ap (λ l. decimal event.0 ∷ l) (output.2 ∙ ap (λ l. decimal output.0 ∷ l) end.0)))) ∙ ap event_words end.1
+    ap (λ l. codes "deliver" ∷ l) (to.2 ∙ ap (λ l. decimal to.0 ∷ l)
+    (from.2 ∙ ap (λ l. decimal from.0 ∷ l) (event.2 ∙ ap (λ l. decimal event.0 ∷ l)
+    (output.2 ∙ ap (λ l. decimal output.0 ∷ l) end.0)))) ∙ ap event_words end.1
 
 -- the first word is this one, or the event is another
-named : (w word : List ℕ) (ws : List (List ℕ)) (e : Event) (x y : Option Event) → (x ≡ Some e → word ∷ ws ≡ event_words e) → (y ≡ Some e → w ∷ ws ≡ event_words e) → cond (bytes_eq w word) x y ≡ Some e → w ∷ ws ≡ event_words e
+named : (w word : List ℕ) (ws : List (List ℕ)) (e : Event) (x y : Option Event) → (x ≡ Some e → word ∷ ws ≡ event_words e)
+    → (y ≡ Some e → w ∷ ws ≡ event_words e) → cond (bytes_eq w word) x y ≡ Some e → w ∷ ws ≡ event_words e
 named w word ws e x y is other h = either_word (w ∷ ws ≡ event_words e) w word x y (Some e) (λ f g. ap (λ l. l ∷ ws) f ∙ is g) other h
 
 -- words that read as an event are that event's words
@@ -62,7 +66,9 @@ event_spelled (w ∷ ws) e h =
     (named w (codes "deliver") ws e _ _ (deliver_spelled ws e) (λ none. cc)))) h
 
 -- the text of the event of a call
-pub call_event_text : (front : List ℕ) (pid : Pid) (call : Call) → ((front ++ codes "call") ++ 32 ∷ pid_text pid) ++ 32 ∷ call_text call ≡ front ++ event_text (events.Call pid call)
+pub call_event_text : (front : List ℕ) (pid : Pid) (call : Call)
+    → ((front ++ codes "call") ++ 32 ∷ pid_text pid) ++ 32 ∷ call_text call ≡ front ++ event_text (events.Call pid call)
 call_event_text front pid call =
     let text : List ℕ = codes "call" ++ 32 ∷ pid_text pid in
-    ap (λ l. l ++ 32 ∷ call_text call) (append_assoc front (codes "call") (32 ∷ pid_text pid)) ∙ append_assoc front text (32 ∷ call_text call) ∙ ap (λ l. front ++ l) (sym (spaced_call text call))
+    ap (λ l. l ++ 32 ∷ call_text call) (append_assoc front (codes "call") (32 ∷ pid_text pid))
+    ∙ append_assoc front text (32 ∷ call_text call) ∙ ap (λ l. front ++ l) (sym (spaced_call text call))

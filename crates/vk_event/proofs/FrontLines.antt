@@ -1,14 +1,12 @@
 -- The lines of a front, one after another, and as texts.
-use Rattle.std.proofs.Common.{◌≡◌, ℕ, nat_lt, Bool, true, false, cond, List, [], ◌∷◌, ◌++◌, length, map, codes, Option, Some, None, Ok, Err, refl, sym, ap, subst, ◌∙◌, inl, inr, append_assoc, append-nil}
-use Rattle.std.specs.List.{AllByRecursion, flat_map}
-use Rattle.std.proofs.lemmas.List.{map-append}
-use Rattle.std.proofs.lemmas.List.Concat.{flat_map-append}
-use Rattle.vk_text.specs.Heads.{process_text, line_text, head_of, HasNoFeed}
+use Rattle.std.proofs.Common.{◌≡◌, ℕ, nat_lt, Bool, true, false, cond, List, [], ◌∷◌, ◌++◌, length, map, codes, Option, Some, None, Ok, Err, refl, sym, ap, ◌∙◌, append-nil}
+use Rattle.std.specs.Prelude.{IsErr}
+use Rattle.vk_text.specs.Heads.{process_text, head_of}
 use Rattle.vk_text.specs.Lines.{lines_of, words_from}
 use Rattle.vk_text.specs.Spelling.{joined}
+use Rattle.vk_text.proofs.Bodies.{one_line_more, lines_text, text_spelled}
 use Rattle.vk_text.proofs.HeadReading.{Parts}
 use Rattle.vk_text.proofs.HeadTexts.{head_spelled}
-use Rattle.vk_text.proofs.LineTexts.{lines_read, lines_have_no_feed, text_of_lines}
 use Rattle.vk_text.proofs.ReadBack.{line_joined}
 use Rattle.vk_event.specs.declared.event.Event.{Event}
 use Rattle.vk_event.specs.declared.schedule.Front.{Front}
@@ -17,20 +15,37 @@ use Rattle.vk_event.specs.declared.schedule.TextRefusal.{TextRefusal}
 use Rattle.vk_event.specs.declared.schedule.TextRefusal.TheVariants as refusals
 use Rattle.vk_event.specs.Lawful.{has_actors}
 use Rattle.vk_event.specs.Laws.{SchedulesAreSpelledOnce, FrontsHaveTheirLines}
-use Rattle.vk_event.specs.Schedule.{event_of, acting, more, with_event, or_end, front_from, opening, front_by, front_of, whole, schedule_of}
+use Rattle.vk_event.specs.Schedule.{event_of, acting, more, with_event, or_end, next_event, front_from, without_events, front_by, front_of, schedule_of}
 use Rattle.vk_event.specs.Spelling.{event_text, schedule_text, schedule_lines}
+use Rattle.vk_event.specs.Taking.{refused_at}
 use Rattle.vk_event.proofs.Events.{event_spelled}
+use Rattle.vk_event.proofs.Lawfulness.{whole_is}
 
 -- one line more
-pub line_taken : (all : Front) (s t : Schedule) (l : List ℕ) (left ls : List (List ℕ)) → all ≡ front_from s left → left ≡ l ∷ ls → with_event s (acting s.config.specs (event_of (words_from l 0))) ≡ Ok t → all ≡ front_from t ls
+pub line_taken : (all : Front) (s t : Schedule) (l : List ℕ) (left ls : List (List ℕ)) → all ≡ front_from s left → left ≡ l ∷ ls
+    → with_event s (next_event s l) ≡ Ok t → all ≡ front_from t ls
 unfolding front_from
-line_taken all s t l left ls so here step = so ∙ ap (front_from s) here ∙ ap (λ r. or_end s r (λ u. front_from u ls)) step
+line_taken all s t l left ls so here step =
+    so ∙ ap (front_from s) here ∙ ap (λ r. or_end s (next_event s l) r (λ u. front_from u ls)) step
 
-pub line_refused : (all : Front) (s : Schedule) (e : TextRefusal) (l : List ℕ) (left ls : List (List ℕ)) → all ≡ front_from s left → left ≡ l ∷ ls → with_event s (acting s.config.specs (event_of (words_from l 0))) ≡ Err e → all ≡ record { schedule = s; refused = Some e }
+refused_by_room : (s : Schedule) (e : Event) (b : Bool) (rest : Schedule → Front) → IsErr (cond b (Ok (more s e)) (Err refusals.Limit))
+    → or_end s (Some e) (cond b (Ok (more s e)) (Err refusals.Limit)) rest ≡ refused_at s (Some e)
+refused_by_room s e true rest h = cc
+refused_by_room s e false rest h = refl
+
+refused_by : (s : Schedule) (o : Option Event) (rest : Schedule → Front) → IsErr (with_event s o)
+    → or_end s o (with_event s o) rest ≡ refused_at s o
+refused_by s None rest h = refl
+refused_by s (Some e) rest h = refused_by_room s e (nat_lt (length s.events) 100000) rest h
+
+pub line_refused : (all : Front) (s : Schedule) (l : List ℕ) (left ls : List (List ℕ)) → all ≡ front_from s left → left ≡ l ∷ ls
+    → IsErr (with_event s (next_event s l)) → all ≡ refused_at s (next_event s l)
 unfolding front_from
-line_refused all s e l left ls so here step = so ∙ ap (front_from s) here ∙ ap (λ r. or_end s r (λ u. front_from u ls)) step
+line_refused all s l left ls so here step =
+    so ∙ ap (front_from s) here ∙ refused_by s (next_event s l) (λ u. front_from u ls) step
 
-pub lines_end : (all : Front) (s : Schedule) (left : List (List ℕ)) → all ≡ front_from s left → left ≡ [] → all ≡ record { schedule = s; refused = None }
+pub lines_end : (all : Front) (s : Schedule) (left : List (List ℕ)) → all ≡ front_from s left → left ≡ []
+    → all ≡ record { schedule = s; refused = None; beyond = None }
 unfolding front_from
 lines_end all s left so here = so ∙ ap (front_from s) here
 
@@ -40,35 +55,48 @@ record Splits (lines : List (List ℕ)) (f : Front) : Type 0 where
   parts : lines ≡ schedule_lines f.schedule ++ rest
   all : f.refused ≡ None → rest ≡ []
 
-more_lines : (s : Schedule) (e : Event) (l : List ℕ) (ls : List (List ℕ)) → l ≡ event_text e → schedule_lines s ++ l ∷ ls ≡ schedule_lines (more s e) ++ ls
-more_lines s e l ls is =
-    let one : map event_text (s.events ++ e ∷ []) ≡ map event_text s.events ++ l ∷ [] = map-append event_text s.events (e ∷ []) ∙ ap (λ x. map event_text s.events ++ x ∷ []) (sym is) in
-    let all : map process_text s.config.specs ++ map event_text (s.events ++ e ∷ []) ≡ (map process_text s.config.specs ++ map event_text s.events) ++ l ∷ [] = ap (λ x. map process_text s.config.specs ++ x) one ∙ sym (append_assoc (map process_text s.config.specs) (map event_text s.events) (l ∷ [])) in
-    ap (λ x. codes "vkernel 1" ∷ x) (sym (append_assoc (map process_text s.config.specs ++ map event_text s.events) (l ∷ []) ls) ∙ ap (λ x. x ++ ls) (sym all))
+more_lines : (s : Schedule) (e : Event) (l : List ℕ) (ls : List (List ℕ)) → l ≡ event_text e
+    → schedule_lines s ++ l ∷ ls ≡ schedule_lines (more s e) ++ ls
+more_lines s e l ls is = one_line_more (codes "vkernel 1" ∷ map process_text s.config.specs) event_text s.events e l ls is
 
-by_room : (s : Schedule) (e : Event) (l : List ℕ) (ls : List (List ℕ)) (b : Bool) → l ≡ event_text e → ((t : Schedule) → Splits (schedule_lines t ++ ls) (front_from t ls)) → Splits (schedule_lines s ++ l ∷ ls) (or_end s (cond b (Ok (more s e)) (Err refusals.Limit)) (λ t. front_from t ls))
-by_room s e l ls true is after = let rest = after (more s e) in record { rest = rest.rest; parts = more_lines s e l ls is ∙ rest.parts; all = rest.all }
+by_room : (s : Schedule) (e : Event) (l : List ℕ) (ls : List (List ℕ)) (b : Bool) → l ≡ event_text e
+    → ((t : Schedule) → Splits (schedule_lines t ++ ls) (front_from t ls))
+    → Splits (schedule_lines s ++ l ∷ ls) (or_end s (Some e) (cond b (Ok (more s e)) (Err refusals.Limit)) (λ t. front_from t ls))
+by_room s e l ls true is after = let rest = after (more s e) in
+    record { rest = rest.rest; parts = more_lines s e l ls is ∙ rest.parts; all = rest.all }
 by_room s e l ls false is after = record { rest = l ∷ ls; parts = refl; all = λ h. cc }
 
-by_actors : (s : Schedule) (e : Event) (l : List ℕ) (ls : List (List ℕ)) (b : Bool) → l ≡ event_text e → ((t : Schedule) → Splits (schedule_lines t ++ ls) (front_from t ls)) → Splits (schedule_lines s ++ l ∷ ls) (or_end s (with_event s (cond b (Some e) None)) (λ t. front_from t ls))
+by_actors : (s : Schedule) (e : Event) (l : List ℕ) (ls : List (List ℕ)) (b : Bool) → l ≡ event_text e
+    → ((t : Schedule) → Splits (schedule_lines t ++ ls) (front_from t ls))
+    → Splits (schedule_lines s ++ l ∷ ls) (or_end s (cond b (Some e) None) (with_event s (cond b (Some e) None)) (λ t. front_from t ls))
 by_actors s e l ls true is after = by_room s e l ls (nat_lt (length s.events) 100000) is after
 by_actors s e l ls false is after = record { rest = l ∷ ls; parts = refl; all = λ h. cc }
 
-by_event : (s : Schedule) (o : Option Event) (l : List ℕ) (ls : List (List ℕ)) → event_of (words_from l 0) ≡ o → ((t : Schedule) → Splits (schedule_lines t ++ ls) (front_from t ls)) → Splits (schedule_lines s ++ l ∷ ls) (or_end s (with_event s (acting s.config.specs o)) (λ t. front_from t ls))
+by_event : (s : Schedule) (o : Option Event) (l : List ℕ) (ls : List (List ℕ)) → event_of (words_from l 0) ≡ o
+    → ((t : Schedule) → Splits (schedule_lines t ++ ls) (front_from t ls))
+    → Splits (schedule_lines s ++ l ∷ ls)
+    (or_end s (acting s.config.specs o) (with_event s (acting s.config.specs o)) (λ t. front_from t ls))
 by_event s None l ls is after = record { rest = l ∷ ls; parts = refl; all = λ h. cc }
-by_event s (Some e) l ls is after = by_actors s e l ls (has_actors s.config.specs e) (sym (line_joined l) ∙ ap joined (event_spelled (words_from l 0) e is)) after
+by_event s (Some e) l ls is after =
+    by_actors s e l ls (has_actors s.config.specs e) (sym (line_joined l) ∙ ap joined (event_spelled (words_from l 0) e is)) after
 
 from_splits : (s : Schedule) (lines : List (List ℕ)) → Splits (schedule_lines s ++ lines) (front_from s lines)
 unfolding front_from
 from_splits s [] = record { rest = []; parts = refl; all = λ h. refl }
 from_splits s (l ∷ ls) = by_event s (event_of (words_from l 0)) l ls refl (λ t. from_splits t ls)
 
-behind_head : (lines : List (List ℕ)) (head : Parts) → lines ≡ codes "vkernel 1" ∷ (map process_text head.0 ++ head.1) → Splits lines (front_from (opening head.0) head.1)
+behind_head : (lines : List (List ℕ)) (head : Parts) → lines ≡ codes "vkernel 1" ∷ (map process_text head.0 ++ head.1)
+    → Splits lines (front_from (without_events head.0) head.1)
 behind_head lines head is =
-    let got = from_splits (opening head.0) head.1 in
-    record { rest = got.rest; parts = is ∙ ap (λ l. codes "vkernel 1" ∷ (l ++ head.1)) (sym (append-nil (map process_text head.0))) ∙ got.parts; all = got.all }
+    let got = from_splits (without_events head.0) head.1 in
+    record {
+      rest = got.rest;
+      parts = is ∙ ap (λ l. codes "vkernel 1" ∷ (l ++ head.1)) (sym (append-nil (map process_text head.0))) ∙ got.parts;
+      all = got.all;
+    }
 
-by_head : (lines : List (List ℕ)) (o : Option Parts) → head_of (codes "vkernel 1") lines ≡ o → ((front_by o).refused ≡ Some (refusals.BadInput 1) → ⊥) → Splits lines (front_by o)
+by_head : (lines : List (List ℕ)) (o : Option Parts) → head_of (codes "vkernel 1") lines ≡ o
+    → ((front_by o).refused ≡ Some (refusals.BadInput 1) → ⊥) → Splits lines (front_by o)
 by_head lines None is other = absurd (other refl)
 by_head lines (Some head) is other = behind_head lines head (head_spelled (codes "vkernel 1") lines head is)
 
@@ -78,10 +106,6 @@ splits text other = by_head (lines_of text) (head_of (codes "vkernel 1") (lines_
 pub their_lines : FrontsHaveTheirLines
 their_lines text other = let got = splits text other in (got.rest, got.parts)
 
-whole_is : (s t : Schedule) (o : Option TextRefusal) → whole s o ≡ Ok t → (s ≡ t) × (o ≡ None)
-whole_is s t None h = (cc, refl)
-whole_is s t (Some e) h = cc
-
 not_none : (o : Option TextRefusal) (e : TextRefusal) → o ≡ None → o ≡ Some e → ⊥
 not_none o e h g = cc
 
@@ -90,36 +114,10 @@ lines_spelled : (text : List ℕ) (s : Schedule) → schedule_of text ≡ Ok s �
 lines_spelled text s h =
     let is = whole_is (front_of text).schedule s (front_of text).refused h in
     let got = splits text (λ g. not_none (front_of text).refused (refusals.BadInput 1) is.1 g) in
-    got.parts ∙ ap (λ l. schedule_lines (front_of text).schedule ++ l) (got.all is.1) ∙ append-nil (schedule_lines (front_of text).schedule) ∙ ap schedule_lines is.0
-
-flat_map-map : {A B C : Type 0} (f : B → List C) (g : A → B) (xs : List A) → flat_map f (map g xs) ≡ flat_map (λ x. f (g x)) xs
-flat_map-map f g [] = refl
-flat_map-map f g (x ∷ xs) = ap (λ l. f (g x) ++ l) (flat_map-map f g xs)
-
-text_is : (s : Schedule) → flat_map line_text (schedule_lines s) ≡ schedule_text s
-text_is s =
-    let specs : List ℕ = flat_map (λ p. line_text (process_text p)) s.config.specs in
-    let events : List ℕ = flat_map (λ e. line_text (event_text e)) s.events in
-    ap (λ l. line_text (codes "vkernel 1") ++ l)
-    (flat_map-append line_text (map process_text s.config.specs) (map event_text s.events) ∙ ap (λ l. l ++ flat_map line_text (map event_text s.events)) (flat_map-map line_text process_text s.config.specs) ∙ ap (λ l. specs ++ l) (flat_map-map line_text event_text s.events))
-    ∙ sym (append_assoc (line_text (codes "vkernel 1")) specs events)
+    got.parts ∙ ap (λ l. schedule_lines (front_of text).schedule ++ l) (got.all is.1)
+    ∙ append-nil (schedule_lines (front_of text).schedule) ∙ ap schedule_lines is.0
 
 pub spelled_once : SchedulesAreSpelledOnce
 spelled_once text s h =
-    let same = ap (flat_map line_text) (lines_spelled text s h) ∙ text_is s in
-    elim (text_of_lines text) [
-      | inl all ↦ inl (all ∙ same)
-      | inr all ↦ inr (all ∙ same)
-    ]
-
-nothing_more : (lines : List (List ℕ)) → lines ++ lines_of [] ≡ lines
-unfolding lines_of
-nothing_more lines = append-nil lines
-
--- its text is read as the schedule again
-pub text_read : (text : List ℕ) (s : Schedule) → schedule_of text ≡ Ok s → schedule_of (schedule_text s) ≡ Ok s
-text_read text s h =
-    let lines = lines_spelled text s h in
-    let plain : AllByRecursion HasNoFeed (schedule_lines s) = subst (AllByRecursion HasNoFeed) lines (lines_have_no_feed text) in
-    let again : lines_of (schedule_text s) ≡ lines_of text = ap lines_of (sym (text_is s) ∙ sym (append-nil (flat_map line_text (schedule_lines s)))) ∙ lines_read (schedule_lines s) [] plain ∙ nothing_more (schedule_lines s) ∙ sym lines in
-    ap (λ l. let f = front_by (head_of (codes "vkernel 1") l) in whole f.schedule f.refused) again ∙ h
+    text_spelled text (schedule_text s) (schedule_lines s) (lines_spelled text s h)
+    (lines_text (codes "vkernel 1") event_text s.config.specs s.events)

@@ -1,5 +1,6 @@
 -- The schedule of a text.
-use Rattle.std.specs.Prelude.{ℕ, ◌+◌, nat_lt, List, [], ◌∷◌, ◌++◌, length, codes, bytes_eq, Option, Some, None, Result, Ok, Err, if◌then◌else◌}
+use Rattle.std.specs.Prelude.{ℕ, ◌+◌, ◌<◌, nat_lt, List, [], ◌∷◌, ◌++◌, length, codes, bytes_eq, Option, Some, None, Result, Ok, Err, if◌then◌else◌}
+use Rattle.vk_base.specs.declared.limits.TheConstants.{EVENTS}
 use Rattle.vk_base.specs.Options.{◌>>=◌}
 use Rattle.vk_base.specs.declared.config.ProcessSpec.{ProcessSpec}
 use Rattle.vk_text.specs.Calls.{first_as, ended, call_of}
@@ -58,24 +59,29 @@ line_behind s = length s.config.specs + length s.events + 2
 -- the schedule with one event more, or why the line is refused that should have it
 abbrev pub with_event : Schedule → Option Event → Result Schedule TextRefusal
 with_event s None = Err (refusals.BadInput (line_behind s))
-with_event s (Some e) = if nat_lt (length s.events) 100000 then Ok (more s e) else Err refusals.Limit
+with_event s (Some e) = if nat_lt (length s.events) EVENTS then Ok (more s e) else Err refusals.Limit
 
-abbrev pub or_end : Schedule → Result Schedule TextRefusal → (Schedule → Front) → Front
-or_end s (Ok t) rest = rest t
-or_end s (Err e) rest = record { schedule = s; refused = Some e }
+-- the front ends where a line is refused; where the line has an event, that is one too many
+abbrev pub or_end : Schedule → Option Event → Result Schedule TextRefusal → (Schedule → Front) → Front
+or_end s event (Ok t) rest = rest t
+or_end s event (Err e) rest = record { schedule = s; refused = Some e; beyond = event }
+
+-- the event of the line, where it is one of processes and stations of the schedule
+abbrev pub next_event : Schedule → List ℕ → Option Event
+next_event s line = acting s.config.specs (event_of (words_from line 0))
 
 -- the schedule with the events of these lines behind its own, up to the first line that is refused
 unfoldable pub front_from : Schedule → List (List ℕ) → Front
-front_from s [] = record { schedule = s; refused = None }
-front_from s (l ∷ ls) = or_end s (with_event s (acting s.config.specs (event_of (words_from l 0)))) (λ t. front_from t ls)
+front_from s [] = record { schedule = s; refused = None; beyond = None }
+front_from s (l ∷ ls) = or_end s (next_event s l) (with_event s (next_event s l)) (λ t. front_from t ls)
 
-abbrev pub opening : List ProcessSpec → Schedule
-opening specs = record { config = settings_of specs; events = [] }
+abbrev pub without_events : List ProcessSpec → Schedule
+without_events specs = record { config = settings_of specs; events = [] }
 
 -- the title is bad, or the events stand behind the processes
 abbrev pub front_by : Option (List ProcessSpec × List (List ℕ)) → Front
-front_by None = record { schedule = opening []; refused = Some (refusals.BadInput 1) }
-front_by (Some (specs, body)) = front_from (opening specs) body
+front_by None = record { schedule = without_events []; refused = Some (refusals.BadInput 1); beyond = None }
+front_by (Some (specs, body)) = front_from (without_events specs) body
 
 -- the schedule of the text up to the first line that is refused
 abbrev pub front_of : List ℕ → Front
@@ -84,6 +90,10 @@ front_of text = front_by (head_of (codes "vkernel 1") (lines_of text))
 abbrev pub whole : Schedule → Option TextRefusal → Result Schedule TextRefusal
 whole s None = Ok s
 whole s (Some e) = Err e
+
+-- the text has the title, and the line behind it is that of a process
+abbrev pub HasProcess : List ℕ → Type 0
+HasProcess text = 0 < length (front_of text).schedule.config.specs
 
 -- the schedule that the text spells, or why it spells none
 abbrev pub schedule_of : List ℕ → Result Schedule TextRefusal

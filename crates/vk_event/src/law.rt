@@ -1,6 +1,12 @@
 //! Laws about the texts of schedules.
 
-ghost use Rattle.vk_event.specs.Laws.{SchedulesAreSpelledOnce, FrontsHaveTheirLines};
+ghost use Rattle.vk_event.specs.Laws.{SchedulesReadBack, OnlyLawfulAreRead, SchedulesAreSpelledOnce, FrontsHaveTheirLines};
+
+/// What is written of a lawful schedule is read as it again, and what is read is lawful.
+pub fn schedules_are_read_again()
+    ensures back { SchedulesReadBack }
+    ensures lawful { OnlyLawfulAreRead }
+{}
 
 /// A schedule has one text, which is the one that is written: no other reads as it, but the same without its last line
 /// feed.

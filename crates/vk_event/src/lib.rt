@@ -13,6 +13,6 @@ mod tests;
 mod writing;
 
 pub use event::Event;
-pub use law::{front_lines, schedules_are_spelled_once};
+pub use law::{front_lines, schedules_are_read_again, schedules_are_spelled_once};
 pub use schedule::{Front, Schedule, TextRefusal, read_front, read_schedule};
 pub use writing::write_schedule;

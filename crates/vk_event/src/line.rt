@@ -1,11 +1,14 @@
-//! Words behind the first of an event's line.
+//! The line of an event.
 
-ghost use Rattle.std.specs.Prelude.{◌≡◌, option_map};
+ghost use Rattle.std.specs.Prelude.{◌≡◌, ◌∷◌, option_map};
 ghost use Rattle.vk_text.specs.Lines.{words_from};
-ghost use Rattle.vk_event.specs.Schedule.{deliver_event_of};
+ghost use Rattle.vk_event.specs.Lawful.{has_actors};
+ghost use Rattle.vk_event.specs.Schedule.{acting, call_event_of, collect_event_of, tick_event_of, deliver_event_of, event_of};
 ghost use Rattle.vk_event.specs.declared.event.Event.TheVariants as events;
 
-use vk_text::{is_end, next_positive, next_station};
+use crate::event::Event;
+use vk_base::Config;
+use vk_text::{is_end, next_pid, next_positive, next_station, next_word, read_call};
 
 /// The greatest number of an event of a station.
 const EVENT: u64 = 9_223_372_036_854_775_807;
@@ -38,6 +41,102 @@ pub fn read_delivery(line: &[u8], at: usize) -> Option<Delivery>
             event,
             output: output as u16,
         })
+    } else {
+        None
+    }
+}
+
+/// `PID CALLTEXT`
+#[tactic(auto, unfolding(crate::specs::Schedule::call_event_of))]
+fn read_call_event(line: &[u8], at: usize) -> Option<Event>
+    ensures { result ≡ call_event_of (words_from line.now at) }
+{
+    let (pid, at) = next_pid(line, at)?;
+    let call = read_call(line, at)?;
+    Some(Event::Call { pid, call })
+}
+
+/// `PID`
+#[tactic(auto, unfolding(crate::specs::Schedule::collect_event_of))]
+fn read_collect(line: &[u8], at: usize) -> Option<Event>
+    ensures { result ≡ collect_event_of (words_from line.now at) }
+{
+    let (pid, at) = next_pid(line, at)?;
+    if is_end(line, at) {
+        Some(Event::Collect { pid })
+    } else {
+        None
+    }
+}
+
+/// `H`
+#[tactic(auto, unfolding(crate::specs::Schedule::tick_event_of))]
+fn read_tick(line: &[u8], at: usize) -> Option<Event>
+    ensures { result ≡ tick_event_of (words_from line.now at) }
+{
+    let (host, at) = next_station(line, at)?;
+    if is_end(line, at) {
+        Some(Event::Tick { host })
+    } else {
+        None
+    }
+}
+
+/// `TO FROM EVENT OUTPUT`
+fn read_deliver(line: &[u8], at: usize) -> Option<Event>
+    ensures { result ≡ deliver_event_of (words_from line.now at) }
+{
+    let Delivery {
+        to,
+        from,
+        event,
+        output,
+    } = read_delivery(line, at)?;
+    Some(Event::Deliver {
+        to,
+        from,
+        event,
+        output,
+    })
+}
+
+/// The event that the line spells.
+#[tactic(auto, unfolding(crate::specs::Schedule::event_of))]
+fn read_words(line: &[u8]) -> Option<Event>
+    ensures { result ≡ event_of (words_from line.now 0) }
+{
+    let (word, at) = next_word(line, 0)?;
+    if word == b"call".as_slice() {
+        read_call_event(line, at)
+    } else if word == b"collect".as_slice() {
+        read_collect(line, at)
+    } else if word == b"tick".as_slice() {
+        read_tick(line, at)
+    } else if word == b"deliver".as_slice() {
+        read_deliver(line, at)
+    } else {
+        None
+    }
+}
+
+/// Whether its processes and stations are in the configuration.
+fn has_actors(config: &Config, event: &Event) -> bool
+    ensures { result ≡ has_actors config.now.specs event.now }
+{
+    match event {
+        Event::Call { pid, .. } | Event::Collect { pid } => config.has_process(*pid),
+        Event::Tick { host } => config.has_station(*host),
+        Event::Deliver { to, from, .. } => config.has_station(*to) && config.has_station(*from),
+    }
+}
+
+/// The event of the line, where it is one of processes and stations of the configuration.
+pub fn read_event(config: &Config, line: &[u8]) -> Option<Event>
+    ensures { result ≡ acting config.now.specs (event_of (words_from line.now 0)) }
+{
+    let event = read_words(line)?;
+    if has_actors(config, &event) {
+        Some(event)
     } else {
         None
     }

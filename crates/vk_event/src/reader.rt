@@ -1,24 +1,23 @@
 //! The lines of the events of a schedule, one after another.
 
-ghost use Rattle.std.specs.Prelude.{◌≡◌, ◌⊎◌, ◌∷◌, [], false, codes, bytes_eq, Ok, Err, Some, None, IfOk, IfErr, IfSome, OnOk, OnErr, MatchOption, MatchResult, option_map};
+ghost use Rattle.std.specs.Prelude.{◌≡◌, ◌∷◌, [], true, false, codes, bytes_eq, Ok, None, IsErr, IsOk, IfOk, IfErr, OnOk, OnErr, option_map};
 ghost use Rattle.vk_base.specs.declared.call.Call.TheVariants as calls;
 ghost use Rattle.vk_text.specs.Calls.{ended, send_of, reply_of, call_of};
 ghost use Rattle.vk_text.specs.Lines.{words_from};
 ghost use Rattle.vk_event.specs.declared.event.Event.TheVariants as events;
-ghost use Rattle.vk_event.specs.Schedule.{call_event_of, collect_event_of, tick_event_of, deliver_event_of, event_of, acting, more, with_event};
+ghost use Rattle.vk_event.specs.Schedule.{call_event_of, collect_event_of, tick_event_of, deliver_event_of, event_of, acting, more, next_event, with_event};
+ghost use Rattle.vk_event.specs.Taking.{IsTaken, refused_at};
 
 use crate::event::Event;
-use crate::line::{Delivery, read_delivery};
+use crate::line::{Delivery, read_delivery, read_event};
 use crate::schedule::{Front, Schedule, TextRefusal};
 use std::alloc::Global;
 use std::marker::Model;
+use vk_base::limits::EVENTS;
 use vk_base::{Call, Config, List, NoMemory, Pid};
 use vk_text::{
     is_end, next_pid, next_station, next_word, read_other_call, reply_fields, send_fields,
 };
-
-/// The greatest number of events.
-const EVENTS: usize = 100_000;
 
 /// Why a line is not taken.
 #[derive(Clone, Copy)]
@@ -67,8 +66,7 @@ impl Reader {
 
     /// Takes the Send whose fields start at `at`.
     fn take_send(&mut self, pid: Pid, line: &[u8], at: usize) -> Result<(), LineRefusal>
-        ensures taken { MatchResult result (λ _. option_map (λ call. more self.old (events.Call pid call)) (send_of (words_from line.now at)) ≡ Some self.new)
-            (λ e. (e ≡ LineRefusal.NoMemory) ⊎ (send_of (words_from line.now at) ≡ None)) }
+        ensures taken { IsTaken self.old (option_map (events.Call pid) (send_of (words_from line.now at))) self.new result }
         ensures same { OnErr result (self.new ≡ self.old) }
     {
         let Some((target, message)) = send_fields(line, at) else {
@@ -82,8 +80,7 @@ impl Reader {
 
     /// Takes the Receive, which has no fields.
     fn take_receive(&mut self, pid: Pid, line: &[u8], at: usize) -> Result<(), LineRefusal>
-        ensures taken { MatchResult result (λ _. option_map (λ call. more self.old (events.Call pid call)) (ended (words_from line.now at) calls.Receive) ≡ Some self.new)
-            (λ e. (e ≡ LineRefusal.NoMemory) ⊎ (ended (words_from line.now at) calls.Receive ≡ None)) }
+        ensures taken { IsTaken self.old (option_map (events.Call pid) (ended (words_from line.now at) calls.Receive)) self.new result }
         ensures same { OnErr result (self.new ≡ self.old) }
     {
         if !is_end(line, at) {
@@ -97,8 +94,7 @@ impl Reader {
 
     /// Takes the Reply whose fields start at `at`.
     fn take_reply(&mut self, pid: Pid, line: &[u8], at: usize) -> Result<(), LineRefusal>
-        ensures taken { MatchResult result (λ _. option_map (λ call. more self.old (events.Call pid call)) (reply_of (words_from line.now at)) ≡ Some self.new)
-            (λ e. (e ≡ LineRefusal.NoMemory) ⊎ (reply_of (words_from line.now at) ≡ None)) }
+        ensures taken { IsTaken self.old (option_map (events.Call pid) (reply_of (words_from line.now at))) self.new result }
         ensures same { OnErr result (self.new ≡ self.old) }
     {
         let Some((message, to)) = reply_fields(line, at) else {
@@ -123,8 +119,7 @@ impl Reader {
         requires send { bytes_eq word.now (codes "send") ≡ false }
         requires receive { bytes_eq word.now (codes "receive") ≡ false }
         requires reply { bytes_eq word.now (codes "reply") ≡ false }
-        ensures taken { MatchResult result (λ _. option_map (λ call. more self.old (events.Call pid call)) (call_of (word.now ∷ words_from line.now at)) ≡ Some self.new)
-            (λ e. (e ≡ LineRefusal.NoMemory) ⊎ (call_of (word.now ∷ words_from line.now at) ≡ None)) }
+        ensures taken { IsTaken self.old (option_map (events.Call pid) (call_of (word.now ∷ words_from line.now at))) self.new result }
         ensures same { OnErr result (self.new ≡ self.old) }
     {
         let Some(call) = read_other_call(word, line, at) else {
@@ -135,8 +130,7 @@ impl Reader {
 
     /// Takes the call that starts at `at`.
     fn take_call_of(&mut self, pid: Pid, line: &[u8], at: usize) -> Result<(), LineRefusal>
-        ensures taken { MatchResult result (λ _. option_map (λ call. more self.old (events.Call pid call)) (call_of (words_from line.now at)) ≡ Some self.new)
-            (λ e. (e ≡ LineRefusal.NoMemory) ⊎ (call_of (words_from line.now at) ≡ None)) }
+        ensures taken { IsTaken self.old (option_map (events.Call pid) (call_of (words_from line.now at))) self.new result }
         ensures same { OnErr result (self.new ≡ self.old) }
     {
         let Some((word, at)) = next_word(line, at) else {
@@ -156,8 +150,7 @@ impl Reader {
     /// Takes the event `PID CALLTEXT`, which starts at `at`.
     #[tactic(auto, unfolding(crate::specs::Schedule::call_event_of))]
     fn take_call(&mut self, line: &[u8], at: usize) -> Result<(), LineRefusal>
-        ensures taken { MatchResult result (λ _. option_map (more self.old) (acting self.old.config.specs (call_event_of (words_from line.now at))) ≡ Some self.new)
-            (λ e. (e ≡ LineRefusal.NoMemory) ⊎ (acting self.old.config.specs (call_event_of (words_from line.now at)) ≡ None)) }
+        ensures taken { IsTaken self.old (acting self.old.config.specs (call_event_of (words_from line.now at))) self.new result }
         ensures same { OnErr result (self.new ≡ self.old) }
     {
         let Some((pid, at)) = next_pid(line, at) else {
@@ -172,8 +165,7 @@ impl Reader {
     /// Takes the event `PID` of a collect, which starts at `at`.
     #[tactic(auto, unfolding(crate::specs::Schedule::collect_event_of))]
     fn take_collect(&mut self, line: &[u8], at: usize) -> Result<(), LineRefusal>
-        ensures taken { MatchResult result (λ _. option_map (more self.old) (acting self.old.config.specs (collect_event_of (words_from line.now at))) ≡ Some self.new)
-            (λ e. (e ≡ LineRefusal.NoMemory) ⊎ (acting self.old.config.specs (collect_event_of (words_from line.now at)) ≡ None)) }
+        ensures taken { IsTaken self.old (acting self.old.config.specs (collect_event_of (words_from line.now at))) self.new result }
         ensures same { OnErr result (self.new ≡ self.old) }
     {
         let Some((pid, at)) = next_pid(line, at) else {
@@ -188,8 +180,7 @@ impl Reader {
     /// Takes the event `H` of a tick, which starts at `at`.
     #[tactic(auto, unfolding(crate::specs::Schedule::tick_event_of))]
     fn take_tick(&mut self, line: &[u8], at: usize) -> Result<(), LineRefusal>
-        ensures taken { MatchResult result (λ _. option_map (more self.old) (acting self.old.config.specs (tick_event_of (words_from line.now at))) ≡ Some self.new)
-            (λ e. (e ≡ LineRefusal.NoMemory) ⊎ (acting self.old.config.specs (tick_event_of (words_from line.now at)) ≡ None)) }
+        ensures taken { IsTaken self.old (acting self.old.config.specs (tick_event_of (words_from line.now at))) self.new result }
         ensures same { OnErr result (self.new ≡ self.old) }
     {
         let Some((host, at)) = next_station(line, at) else {
@@ -203,8 +194,7 @@ impl Reader {
 
     /// Takes the event `TO FROM EVENT OUTPUT` of a delivery, which starts at `at`.
     fn take_delivery(&mut self, line: &[u8], at: usize) -> Result<(), LineRefusal>
-        ensures taken { MatchResult result (λ _. option_map (more self.old) (acting self.old.config.specs (deliver_event_of (words_from line.now at))) ≡ Some self.new)
-            (λ e. (e ≡ LineRefusal.NoMemory) ⊎ (acting self.old.config.specs (deliver_event_of (words_from line.now at)) ≡ None)) }
+        ensures taken { IsTaken self.old (acting self.old.config.specs (deliver_event_of (words_from line.now at))) self.new result }
         ensures same { OnErr result (self.new ≡ self.old) }
     {
         let Some(delivery) = read_delivery(line, at) else {
@@ -230,8 +220,7 @@ impl Reader {
     /// Takes the event of the line.
     #[tactic(auto, unfolding(crate::specs::Schedule::event_of))]
     fn take_event(&mut self, line: &[u8]) -> Result<(), LineRefusal>
-        ensures taken { MatchResult result (λ _. option_map (more self.old) (acting self.old.config.specs (event_of (words_from line.now 0))) ≡ Some self.new)
-            (λ e. (e ≡ LineRefusal.NoMemory) ⊎ (acting self.old.config.specs (event_of (words_from line.now 0)) ≡ None)) }
+        ensures taken { IsTaken self.old (acting self.old.config.specs (event_of (words_from line.now 0))) self.new result }
         ensures same { OnErr result (self.new ≡ self.old) }
     {
         let Some((word, at)) = next_word(line, 0) else {
@@ -250,37 +239,56 @@ impl Reader {
         }
     }
 
-    /// Takes the line, or tells why it is refused and leaves all as it was.
-    pub fn take_line(&mut self, line: &[u8]) -> Result<Option<TextRefusal>, NoMemory>
-        ensures taken { IfOk result (λ refused. MatchOption refused (with_event self.old (acting self.old.config.specs (event_of (words_from line.now 0))) ≡ Ok self.new)
-            (λ e. with_event self.old (acting self.old.config.specs (event_of (words_from line.now 0))) ≡ Err e)) }
-        ensures same { IfOk result (λ refused. IfSome refused (λ e. self.new ≡ self.old)) }
+    /// Takes the line, and tells whether it could be taken. A line that could not leaves all as it was: it is bad, or has an
+    /// event too many.
+    pub fn take_line(&mut self, line: &[u8]) -> Result<bool, NoMemory>
+        ensures taken { IfOk result (λ taken. taken ≡ true → with_event self.old (next_event self.old line.now) ≡ Ok self.new) }
+        ensures refused { IfOk result (λ taken. taken ≡ false
+            → IsErr (with_event self.old (next_event self.old line.now)) × (self.new ≡ self.old)) }
+        ensures memory { OnErr result (IsOk (with_event self.old (next_event self.old line.now))) }
     {
+        if self.events.len() >= EVENTS {
+            return Ok(false);
+        }
         match self.take_event(line) {
-            Ok(()) => {}
-            Err(LineRefusal::Bad) => {
-                let line = self.config.specs().len() as u64 + self.events.len() as u64 + 2;
-                return Ok(Some(TextRefusal::BadInput { line }));
-            }
-            Err(LineRefusal::NoMemory) => return Err(NoMemory),
+            Ok(()) => Ok(true),
+            Err(LineRefusal::Bad) => Ok(false),
+            Err(LineRefusal::NoMemory) => Err(NoMemory),
         }
-        if self.events.len() > EVENTS {
-            self.events.pop();
-            return Ok(Some(TextRefusal::Limit));
-        }
-        Ok(None)
     }
 
-    /// The schedule of the lines that were taken, and why the next is refused, where it is.
-    pub fn into_front(self, refused: Option<TextRefusal>) -> Front
-        ensures { result ≡ record { schedule = self; refused = refused } }
+    /// The schedule of the lines that were taken, which are all.
+    pub fn into_front(self) -> Front
+        ensures { result ≡ record { schedule = self; refused = None; beyond = None } }
     {
         Front {
             schedule: Schedule {
                 config: self.config,
                 events: List::new(self.events),
             },
-            refused,
+            refused: None,
+            beyond: None,
+        }
+    }
+
+    /// The schedule of the lines that were taken, and why the next, which could not be, is refused.
+    pub fn into_refused(self, line: &[u8]) -> Front
+        ensures { result ≡ refused_at self (next_event self line.now) }
+    {
+        let beyond = read_event(&self.config, line);
+        let refusal = if beyond.is_some() {
+            TextRefusal::Limit
+        } else {
+            let line = self.config.specs().len() as u64 + self.events.len() as u64 + 2;
+            TextRefusal::BadInput { line }
+        };
+        Front {
+            schedule: Schedule {
+                config: self.config,
+                events: List::new(self.events),
+            },
+            refused: Some(refusal),
+            beyond,
         }
     }
 }

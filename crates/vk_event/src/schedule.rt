@@ -1,8 +1,8 @@
 //! Schedules as texts.
 
-ghost use Rattle.std.specs.Prelude.{◌≡◌, ◌⊎◌, None, Ok, Err, IfOk, IfErr};
+ghost use Rattle.std.specs.Prelude.{◌≡◌, ◌⊎◌, None, Ok, Err, IfOk, IfErr, OnErr};
 ghost use Rattle.vk_event.specs.Lawful.{IsLawful};
-ghost use Rattle.vk_event.specs.Schedule.{front_by, front_of, schedule_of};
+ghost use Rattle.vk_event.specs.Schedule.{HasProcess, front_by, front_of, schedule_of};
 
 use crate::event::Event;
 use crate::reader::Reader;
@@ -34,21 +34,32 @@ pub struct Front {
     pub schedule: Schedule,
     /// Why it is refused, where there is such a line: it is bad, or has an event too many.
     pub refused: Option<TextRefusal>,
+    /// The event that is too many.
+    pub beyond: Option<Event>,
 }
 
 /// What is read of a text without the title.
 fn untitled(alloc: Global) -> Front
     ensures { result ≡ front_by None }
 {
-    Reader::new(alloc, empty_config(alloc)).into_front(Some(TextRefusal::BadInput { line: 1 }))
+    Front {
+        schedule: Schedule {
+            config: empty_config(alloc),
+            events: List::new(Vec::new(alloc)),
+        },
+        refused: Some(TextRefusal::BadInput { line: 1 }),
+        beyond: None,
+    }
 }
 
 /// The schedule of the text up to the first line that is refused. The first line is `vkernel 1`, then come
 /// `process PID SIZE` lines by rising pids, and then the events: lines `call PID CALLTEXT`, `collect PID`, `tick H` and
-/// `deliver TO FROM EVENT OUTPUT`, of processes and stations that the text names.
+/// `deliver TO FROM EVENT OUTPUT`, of processes and stations that the text names. Memory is wanted only for lines that are
+/// taken, so only where a process stands behind the title.
 pub fn read_front(alloc: Global, text: &[u8]) -> Result<Front, NoMemory>
     ensures front { IfOk result (λ f. f ≡ front_of text.now) }
     ensures lawful { IfOk result (λ f. IsLawful f.schedule) }
+    ensures memory { OnErr result (HasProcess text.now) }
 {
     let head = match read_head(alloc, text, b"vkernel 1") {
         Ok(head) => head,
@@ -58,22 +69,26 @@ pub fn read_front(alloc: Global, text: &[u8]) -> Result<Front, NoMemory>
     let mut at = head.at;
     let mut reader = Reader::new(alloc, head.config);
     while let Some((line, next)) = next_line(text, at) {
-        match reader.take_line(line)? {
-            None => at = next,
-            Some(refusal) => return Ok(reader.into_front(Some(refusal))),
+        if !reader.take_line(line)? {
+            return Ok(reader.into_refused(line));
         }
+        at = next;
     }
-    Ok(reader.into_front(None))
+    Ok(reader.into_front())
 }
 
 /// The schedule that the whole text spells, as [`read_front`] reads it. The first line that is bad, or that has an event
 /// too many, decides.
 pub fn read_schedule(alloc: Global, text: &[u8]) -> Result<Schedule, TextRefusal>
     ensures schedule { IfOk result (λ s. schedule_of text.now ≡ Ok s) }
-    ensures refused { IfErr result (λ e. (e ≡ TextRefusal.NoMemory) ⊎ (schedule_of text.now ≡ Err e)) }
+    ensures refused { IfErr result (λ e. ((e ≡ TextRefusal.NoMemory) × HasProcess text.now) ⊎ (schedule_of text.now ≡ Err e)) }
     ensures lawful { IfOk result IsLawful }
 {
-    let Front { schedule, refused } = match read_front(alloc, text) {
+    let Front {
+        schedule,
+        refused,
+        ..
+    } = match read_front(alloc, text) {
         Ok(front) => front,
         Err(NoMemory) => return Err(TextRefusal::NoMemory),
     };

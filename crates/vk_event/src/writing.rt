@@ -2,7 +2,7 @@
 
 ghost use Rattle.std.specs.Prelude.{◌≡◌, ◌++◌, Ok, flat_map, codes, IfOk, OnOk};
 ghost use Rattle.vk_text.specs.Heads.{line_text};
-ghost use Rattle.vk_event.specs.Laws.{IsSpelled};
+ghost use Rattle.vk_event.specs.Lawful.{IsLawful};
 ghost use Rattle.vk_event.specs.Schedule.{schedule_of};
 ghost use Rattle.vk_event.specs.Spelling.{event_text, schedule_text};
 ghost use Rattle.vk_event.specs.declared.event.Event.TheVariants as events;
@@ -90,9 +90,9 @@ fn write_events(alloc: Global, into: &mut Vec<u8>, events: &[Event]) -> Result<(
     Ok(())
 }
 
-/// The text of the schedule, which is what some text spells: reading it gives the schedule again.
+/// The text of the schedule, which is lawful: reading it gives the schedule again.
 pub fn write_schedule(alloc: Global, schedule: &Schedule) -> Result<Vec<u8>, NoMemory>
-    requires { IsSpelled schedule.now }
+    requires { IsLawful schedule.now }
     ensures text { IfOk result (λ v. v.items ≡ schedule_text schedule.now) }
     ensures read { IfOk result (λ v. schedule_of v.items ≡ Ok schedule.now) }
 {

@@ -8,5 +8,6 @@ use Rattle.vk_wire.specs.Fields.{IsBytes}
 
 -- bytes open as a header and what is behind it exactly where they are the spelling of these
 pub record FramesAreSpelledOnce : Type 0 where
-  pub read : (bytes rest : List ℕ) (h : Header) → IsBytes bytes → frame_of bytes ≡ Some (h, rest) → (bytes ≡ frame_bytes h rest) × IsTrue (is_lawful h) × (1 ≤ length rest)
+  pub read : (bytes rest : List ℕ) (h : Header) → IsBytes bytes → frame_of bytes ≡ Some (h, rest) → (bytes ≡ frame_bytes h rest) ×
+      IsTrue (is_lawful h) × (1 ≤ length rest)
   pub written : (h : Header) (rest : List ℕ) → IsTrue (is_lawful h) → 1 ≤ length rest → frame_of (frame_bytes h rest) ≡ Some (h, rest)

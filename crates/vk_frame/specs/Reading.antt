@@ -19,5 +19,6 @@ frame_of bytes = do
   number ← number_at 8 stamp.1
   event ← number_at 8 number.1
   output ← number_at 2 event.1
-  let header : Header = record { source = source.0; destination = destination.0; stamp = stamp.0; number = number.0; event = event.0; output = output.0 }
+  let header : Header =
+      record { source = source.0; destination = destination.0; stamp = stamp.0; number = number.0; event = event.0; output = output.0 }
   if opens first.0 header output.1 then Some (header, output.1) else None

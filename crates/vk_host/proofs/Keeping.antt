@@ -15,11 +15,11 @@ use Rattle.vk_base.specs.declared.kernel.State.TheVariants as states
 use Rattle.vk_base.specs.declared.message.Message.{Message}
 use Rattle.vk_base.specs.declared.pid.Pid.{Pid}
 use Rattle.vk_base.specs.Calls.{sent}
-use Rattle.vk_base.specs.Kernel.{Kernel, name_of, same_name, put_exchange, sending, receiving, queue_of, is_queued, with_state, with_stage, is_open}
+use Rattle.vk_base.specs.Kernel.{Kernel, name_of, same_name, put_exchange, sending, receiving, queue_of, is_queued, with_state, with_stage, is_at_target}
 use Rattle.vk_base.specs.Steps.{Taking, taken, taking, received as given, with_part}
 use Rattle.vk_base.specs.Pids.{same_pid}
 use Rattle.v_laws.specs.Sound.{IsSound}
-use Rattle.v_laws.proofs.Changes.{queued_is_open}
+use Rattle.v_laws.proofs.Changes.{queued_is_at_target}
 use Rattle.v_laws.proofs.Queues.{queue-state, queue-taken_here, queue-taken_elsewhere, taken_was_queued}
 use Rattle.v_laws.proofs.StepLemmas.{IsTaking, taking_is}
 use Rattle.v_laws.proofs.Tables.{same_pid_is, same_name_is, put_process_here, put_process_other, put_exchange_here, put_exchange_at, put_exchange_other}
@@ -49,13 +49,13 @@ own_changed host n m seats pid f keeps more sends own q s is = elim (cases_Bool 
 ]
 
 abbrev pub Home : ℕ → (Name → Option Exchange) → Type 0
-Home host exchanges = (n : Name) (e : Exchange) → exchanges n ≡ Some e → e.target.host ≡ host → is_open e.stage ≡ true → n.sender.host ≡ host
+Home host exchanges = (n : Name) (e : Exchange) → exchanges n ≡ Some e → e.target.host ≡ host → is_at_target e.stage ≡ true → n.sender.host ≡ host
 
-pub home_put : (host : ℕ) (exchanges : Name → Option Exchange) (name : Name) (x : Exchange) → (x.target.host ≡ host → is_open x.stage ≡ true → name.sender.host ≡ host) → Home host exchanges → Home host (put_exchange exchanges name x)
+pub home_put : (host : ℕ) (exchanges : Name → Option Exchange) (name : Name) (x : Exchange) → (x.target.host ≡ host → is_at_target x.stage ≡ true → name.sender.host ≡ host) → Home host exchanges → Home host (put_exchange exchanges name x)
 home_put host exchanges name x at home n e is here not_ended = elim (cases_Bool (same_name n name)) [
   | inl t ↦
       let same : x ≡ e = same_Some x e (sym (put_exchange_at exchanges name x n t) ∙ is) in
-      ap (λ (m : Name). m.sender.host) (same_name_is n name t) ∙ at (ap (λ (y : Exchange). y.target.host) same ∙ here) (ap (λ (y : Exchange). is_open y.stage) same ∙ not_ended)
+      ap (λ (m : Name). m.sender.host) (same_name_is n name t) ∙ at (ap (λ (y : Exchange). y.target.host) same ∙ here) (ap (λ (y : Exchange). is_at_target y.stage) same ∙ not_ended)
   | inr u ↦ home n e (sym (put_exchange_other exchanges name x n u) ∙ is) here not_ended
 ]
 
@@ -165,7 +165,7 @@ module _ (host n : ℕ) (seats : List Seat) (k : Kernel) (r : Pid) (t : Taking) 
   own_target = ap (λ (p : Pid). p.host) (same_pid_is t.exchange.target r queued.0) ∙ here
 
   sender : IsSender k seats t.name t.exchange
-  sender = sender_of host n seats k t.name t.exchange sound tables takes_is.exchange own_target (queued_is_open t.exchange.stage queued.1)
+  sender = sender_of host n seats k t.name t.exchange sound tables takes_is.exchange own_target (queued_is_at_target t.exchange.stage queued.1)
 
   abbrev staged : Kernel
   staged = with_stage k t.name t.exchange stages.Taken
@@ -224,7 +224,7 @@ module _ (host n : ℕ) (seats : List Seat) (k : Kernel) (r : Pid) (t : Taking) 
         (fits_there q (same_pid q r) (same_pid q t.name.sender) (find (is_seat q) seats) refl refl refl (tables.fits q at));
     own = own_changed host n n (change_first (is_seat r) dequeued seats) t.name.sender marked_taken (λ x. refl) (omega arith) (λ x le. le)
         (own_changed host n n seats r dequeued (λ x. refl) (omega arith) (λ x le. le) tables.own);
-    home = home_put host k.exchanges t.name (record t.exchange { stage = stages.Taken }) (λ at not_ended. tables.home t.name t.exchange takes_is.exchange at (queued_is_open t.exchange.stage queued.1)) tables.home;
+    home = home_put host k.exchanges t.name (record t.exchange { stage = stages.Taken }) (λ at not_ended. tables.home t.name t.exchange takes_is.exchange at (queued_is_at_target t.exchange.stage queued.1)) tables.home;
     few = let few = tables.few in omega (arith, length-change_first (is_seat t.name.sender) marked_taken (change_first (is_seat r) dequeued seats), length-change_first (is_seat r) dequeued seats);
   }
 

@@ -1,7 +1,5 @@
 pub mod Changes
 pub mod Events
-pub mod Followed
-pub mod Histories
 pub mod Keeping
 pub mod Reading
 pub mod Replying
@@ -10,3 +8,6 @@ pub mod Right
 pub mod Room
 pub mod Seats
 pub mod Sending
+mod Alone
+mod Same
+mod Quiet

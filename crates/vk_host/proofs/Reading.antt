@@ -16,13 +16,13 @@ use Rattle.vk_base.specs.declared.kernel.State.TheVariants as states
 use Rattle.vk_base.specs.declared.message.Message.{Message}
 use Rattle.vk_base.specs.declared.pid.Pid.{Pid}
 use Rattle.vk_base.specs.Calls.{tests_of, call_refusal, first_that_holds}
-use Rattle.vk_base.specs.Kernel.{◌>>=◌, Kernel, name_of, holds_of, is_ready, receiving, sending, is_queued, is_taken, is_queued_at, is_held_by, held_up_to, held, is_live, queue_of, is_open}
+use Rattle.vk_base.specs.Kernel.{◌>>=◌, Kernel, name_of, holds_of, is_ready, receiving, sending, is_queued, is_taken, is_queued_at, is_held_by, held_up_to, held, is_live, queue_of, is_at_target}
 use Rattle.vk_base.specs.Steps.{Taking, first_of, taking}
 use Rattle.vk_base.specs.Messages.{segment_of}
 use Rattle.vk_base.specs.Pids.{same_pid, same_host}
 use Rattle.vk_base.specs.Ranges.{lies_in}
 use Rattle.v_laws.specs.Sound.{IsSound, IsAwaited, IsBegun}
-use Rattle.v_laws.proofs.Changes.{queued_is_open, taken_is_open}
+use Rattle.v_laws.proofs.Changes.{queued_is_at_target, taken_is_at_target}
 use Rattle.v_laws.proofs.FilterLemmas.{first_passes}
 use Rattle.v_laws.proofs.Held.{holds_at, held_none, held_here}
 use Rattle.v_laws.proofs.States.{sending_is}
@@ -70,7 +70,7 @@ pub record IsSender (k : Kernel) (seats : List Seat) (name : Name) (e : Exchange
   pub state : state_of seat.doing ≡ states.Blocked (calls.Send e.target e.message)
   pub last : seat.sends ≡ name.number
 
-pub sender_of : (host n : ℕ) (seats : List Seat) (k : Kernel) (name : Name) (e : Exchange) → IsSound k → AreSeats host n seats k → k.exchanges name ≡ Some e → e.target.host ≡ host → is_open e.stage ≡ true → IsSender k seats name e
+pub sender_of : (host n : ℕ) (seats : List Seat) (k : Kernel) (name : Name) (e : Exchange) → IsSound k → AreSeats host n seats k → k.exchanges name ≡ Some e → e.target.host ≡ host → is_at_target e.stage ≡ true → IsSender k seats name e
 sender_of host n seats k name e sound tables is here not_ended =
     let home : name.sender.host ≡ host = tables.home name e is here not_ended in
     let waits : IsAwaited k name e = sound.awaited name e is (eq-eqb name.sender.host e.target.host (home ∙ sym here)) not_ended in
@@ -138,7 +138,7 @@ awaiting_taken : (host n : ℕ) (seats : List Seat) (k : Kernel) (holder : Pid) 
 awaiting_taken host n seats k holder name e sound tables here is target taken =
     let at : e.target ≡ holder = same_pid_is e.target holder target in
     let own : e.target.host ≡ host = ap (λ (p : Pid). p.host) at ∙ here in
-    let sender = sender_of host n seats k name e sound tables is own (taken_is_open e.stage taken) in
+    let sender = sender_of host n seats k name e sound tables is own (taken_is_at_target e.stage taken) in
     let sent : IsSent k (name_of name.sender sender.seat.sends) e.target e.message sender.seat.taken = sender.seated.sent e.target e.message sender.state in
     let numbered : k.exchanges (name_of name.sender sender.seat.sends) ≡ Some e = ap (λ number. k.exchanges (name_of name.sender number)) sender.last ∙ is in
     let same : sent.exchange ≡ e = same_Some sent.exchange e (sym sent.is ∙ numbered) in
@@ -240,7 +240,7 @@ takes_queue host n seats k r p c [] sound tables here is = refl
 takes_queue host n seats k r p c (name ∷ rest) sound tables here is =
     let waits : IsWaiting k r name = waiting_first k r name rest is in
     let own : waits.exchange.target.host ≡ host = ap (λ (q : Pid). q.host) waits.target ∙ here in
-    let sender = sender_of host n seats k name waits.exchange sound tables waits.is own (queued_is_open waits.exchange.stage waits.queued) in
+    let sender = sender_of host n seats k name waits.exchange sound tables waits.is own (queued_is_at_target waits.exchange.stage waits.queued) in
     ap (λ o. o >>= λ m. Some (name, m)) (message_same k seats name waits.exchange sender)
     ∙ sym (ap (λ o. option_map shown (o >>= λ e. Some (record { process = p; call = c; name = name; exchange = e }))) waits.is)
 

@@ -13,7 +13,7 @@ use Rattle.vk_base.specs.declared.kernel.State.TheVariants as states
 use Rattle.vk_base.specs.declared.message.Message.{Message}
 use Rattle.vk_base.specs.declared.pid.Pid.{Pid}
 use Rattle.vk_base.specs.Calls.{answered, accepted}
-use Rattle.vk_base.specs.Kernel.{◌>>=◌, Kernel, name_of, sending, is_queued, reply_of, with_stage, is_open}
+use Rattle.vk_base.specs.Kernel.{◌>>=◌, Kernel, name_of, sending, is_queued, reply_of, with_stage, is_at_target}
 use Rattle.vk_base.specs.Steps.{Finishing, finishing, finished}
 use Rattle.v_laws.specs.Sound.{IsSound}
 use Rattle.v_laws.proofs.Queues.{queue-stage}
@@ -94,5 +94,5 @@ module _ (host n : ℕ) (seats : List Seat) (k : Kernel) (pid to : Pid) (p : Pro
       (home_put host k.exchanges name (record exchange { stage = reply }) (λ at not_ended. absurd (never not_ended)) tables.home)
       tables
     where
-      never : is_open reply ≡ true → ⊥
+      never : is_at_target reply ≡ true → ⊥
       never e = cc

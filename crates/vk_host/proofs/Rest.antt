@@ -1,5 +1,5 @@
 -- At the end of every event no process could take a message.
-use Rattle.std.proofs.Common.{◌≡◌, ℕ, ◌+◌, Bool, true, false, cond, List, [], ◌∷◌, fold, Option, Some, None, is_some, refl, sym, ap, subst, ◌∙◌, inl, inr}
+use Rattle.std.proofs.Common.{◌≡◌, ℕ, ◌+◌, Bool, true, false, cond, List, [], ◌∷◌, fold, Option, Some, None, is_some, is_none, refl, sym, ap, subst, ◌∙◌, inl, inr}
 use Rattle.std.proofs.lemmas.Bool.{cases_Bool, and_parts, and_right, both_ways, cond-true}
 use Rattle.std.proofs.lemmas.Option.{same_Some, none-some}
 use Rattle.std.specs.List.{list_all}
@@ -19,23 +19,46 @@ use Rattle.vk_base.specs.declared.message.Message.{Message}
 use Rattle.vk_base.specs.declared.pid.Pid.{Pid}
 use Rattle.vk_base.specs.declared.step.Step.{Step}
 use Rattle.vk_base.specs.declared.step.Step.TheVariants as steps
-use Rattle.vk_base.specs.Calls.{Effect, unseen, answered, called, accepted, call_refusal, sent}
-use Rattle.vk_base.specs.Kernel.{◌>>=◌, Kernel, opening, holds_of, name_of, queue_of, is_queued, is_queued_at, is_taken, put_process, with_state, receiving, held}
-use Rattle.vk_base.specs.Steps.{Taking, Finishing, Collecting, next, is_allowed, after_effect, first_of, taking, taken, received, with_part, finishing, finished, collecting}
+use Rattle.vk_base.specs.Calls.{Effect, unseen, answered, called, accepted, call_refusal, first_that_holds, sent}
+use Rattle.vk_base.specs.Kernel.{◌>>=◌, Kernel, initial_kernel, holds_of, name_of, queue_of, is_queued, is_queued_at, is_taken, put_process, with_state, with_stage, receiving, held}
+use Rattle.vk_base.specs.Steps.{Taking, Finishing, Collecting, next, effect, is_allowed, after_effect, first_of, taking, taken, received, with_part, finishing, finished, collecting}
 use Rattle.vk_base.specs.Pids.{same_pid, same_host}
 use Rattle.vk_base.specs.Ranges.{with_bytes}
-use Rattle.vk_base.specs.Settings.{has_process}
+use Rattle.vk_base.specs.Settings.{Settings, has_process}
 use Rattle.v_laws.specs.Sound.{IsSound}
 use Rattle.v_laws.proofs.FilterLemmas.{first_passes}
 use Rattle.v_laws.proofs.Held.{holding_is}
+use Rattle.v_laws.proofs.SoundLemmas.{sound_initial, sound_step}
 use Rattle.v_laws.proofs.Queues.{queued_in, first_is, queue-state, queue-stage, queue-sent_elsewhere, queue-taken_elsewhere}
 use Rattle.v_laws.proofs.StepLemmas.{IsFit, fit_is, taking_is}
 use Rattle.v_laws.proofs.Tables.{same_pid_is, same_pid_laws, put_process_at, put_process_other}
-use Rattle.vk_host.specs.declared.event.StationEvent.{StationEvent}
-use Rattle.vk_host.specs.declared.event.StationEvent.TheVariants as events
-use Rattle.vk_host.specs.Entries.{grants_nothing, is_built_call, is_lawful, answer_of, answer_to, take_where, follow_up, steps_of, after_event, after_all, begun_after, no_call, IsAtRest}
-use Rattle.vk_host.proofs.Followed.{IsFollowed, followed_opening}
-use Rattle.vk_host.proofs.Histories.{event_goes, no_follow_up, bind_some, is_there, replied}
+use Rattle.vk_base.specs.declared.event.EventAnswer.TheVariants as answered_as
+use Rattle.vk_base.specs.declared.event.StationEvent.{StationEvent}
+use Rattle.vk_base.specs.declared.event.StationEvent.TheVariants as events
+use Rattle.vk_rules.specs.CallOutcomes.{effect_answer, take_where}
+use Rattle.vk_rules.specs.Entries.{Entry}
+use Rattle.vk_rules.specs.Readings.{reading}
+use Rattle.vk_rules.specs.Right.{entry_of}
+use Rattle.vk_host.specs.Entries.{grants_nothing, is_built, is_built_call, is_lawful, input_of, entries_after, IsAtRest}
+use Rattle.vk_host.proofs.Alone.{follow_up, steps_of, after_event}
+use Rattle.vk_host.proofs.Same.{view_same}
+
+pub bind_some : {A B : Type 0} (o : Option A) (f : A → Option B) (a : A) (b : Option B) → o ≡ Some a → f a ≡ b → (o >>= f) ≡ b
+bind_some o f a b first second = ap (λ x. x >>= f) first ∙ second
+
+abbrev replied : Kernel → Name → Exchange → Message → Kernel
+replied k name e m = with_stage k name e (stages.Replied m 0 [])
+
+pub is_there : (o : Option ℕ) (why : Refusal) → first_that_holds ((is_none o, why) ∷ []) ≡ None → (n : ℕ) × (o ≡ Some n)
+is_there None why e = absurd (none-some why (sym e))
+is_there (Some n) why e = (n, refl)
+
+no_follow_up : (k : Kernel) (pid : Pid) (c : Call) (why : Refusal) → [] ≡ follow_up k pid c (answered_as.Answered (answers.Refused why))
+unfolding follow_up
+no_follow_up k pid (calls.Send target m) why = refl
+no_follow_up k pid calls.Receive why = refl
+no_follow_up k pid (calls.Reply m to) why = refl
+no_follow_up k pid c why = refl
 
 -- The process is in no receive, or its queue is empty.
 abbrev Rests : Kernel → Pid → Type 0
@@ -138,7 +161,7 @@ collect_rests k pid rest = by_collecting (collecting k pid) refl
 
 -- A call, which has this effect.
 abbrev CallRests : Kernel → Pid → Call → Option Effect → Type 0
-CallRests k pid c o = AllRest (fold next (after_effect k o) (follow_up (after_effect k o) pid c (answer_of o)))
+CallRests k pid c o = AllRest (fold next (after_effect k o) (follow_up (after_effect k o) pid c (effect_answer o)))
 
 refused_rests : (k : Kernel) (pid : Pid) (c : Call) (why : Refusal) → AllRest k → CallRests k pid c (Some (answered k pid c (answers.Refused why)))
 refused_rests k pid c why rest = let P : List Step → Type 0 = λ ss. AllRest (fold next k ss) in subst P (no_follow_up k pid c why) rest
@@ -215,20 +238,47 @@ event_rests specs k (events.Call pid c) lawful sound rest = call_rests k pid c (
 event_rests specs k (events.Collect pid) lawful sound rest = collect_rests k pid rest
 event_rests specs k e lawful sound rest = absurd (both_ways false refl lawful)
 
--- Histories.
-rest_from : (specs : List ProcessSpec) (k : Kernel) (es : List StationEvent) (last : Pid → Option Call) → list_all (is_lawful specs) es ≡ true → IsFollowed specs k last → AllRest k → AllRest (after_all k es)
+-- A kernel stays sound over steps, where one that is not allowed changes nothing.
+sound_next : (k : Kernel) (s : Step) → IsSound k → IsSound (next k s)
+sound_next k s sound = by_effect (effect k s) refl
+  where
+    by_effect : (o : Option Effect) → effect k s ≡ o → IsSound (after_effect k o)
+    by_effect None is = sound
+    by_effect (Some e) is = sound_step k s e sound is
+
+sound_fold : (k : Kernel) (ss : List Step) → IsSound k → IsSound (fold next k ss)
+sound_fold k [] sound = sound
+sound_fold k (s ∷ ss) sound = sound_fold (next k s) ss (sound_next k s sound)
+
+sound_event : (k : Kernel) (e : StationEvent) → IsSound k → IsSound (after_event k e)
 unfolding after_event
-rest_from specs k [] last lawful f rest = rest
-rest_from specs k (e ∷ es) last lawful f rest =
-    let parts = and_parts (is_lawful specs e) (list_all (is_lawful specs) es) lawful in
-    let first = event_goes specs k e last parts.0 f in
-    rest_from specs (after_event k e) es (begun_after last e (answer_to k e)) parts.1 first.follows (event_rests specs k e parts.0 f.sound rest)
+sound_event k e sound = sound_fold k (steps_of k e) sound
+
+-- Histories.
+built_of : (specs : List ProcessSpec) (e : StationEvent) → is_lawful specs e ≡ true → is_built e ≡ true
+built_of specs (events.Call pid c) lawful = (and_parts (has_process specs pid) (is_built_call pid c) lawful).1
+built_of specs (events.Collect pid) lawful = refl
+built_of specs e lawful = absurd (both_ways false refl lawful)
+
+rest_from : (c : Settings) (host : ℕ) (entries : List Entry) (es : List StationEvent) → list_all (is_lawful c.specs) es ≡ true →
+    IsSound (reading c host entries).view → AllRest (reading c host entries).view → AllRest (reading c host (entries_after c host entries es)).view
+unfolding reading
+rest_from c host entries [] lawful sound rest = rest
+rest_from c host entries (e ∷ es) lawful sound rest =
+    let parts = and_parts (is_lawful c.specs e) (list_all (is_lawful c.specs) es) lawful in
+    let r = reading c host entries in
+    let same = view_same c host r e (built_of c.specs e parts.0) in
+    rest_from c host (entry_of c host entries (input_of e) ∷ entries) es parts.1
+    (subst IsSound same (sound_event r.view e sound)) (subst AllRest same (event_rests c.specs r.view e parts.0 sound rest))
 
 -- nothing has arrived yet
-opening_rests : (specs : List ProcessSpec) → AllRest (opening specs)
+initial_rests : (specs : List ProcessSpec) → AllRest (initial_kernel specs)
 unfolding queue_of
-opening_rests specs r p c n at call first = none-some n first
+initial_rests specs r p c n at call first = none-some n first
 
-pub history_rests : (specs : List ProcessSpec) (es : List StationEvent) → list_all (is_lawful specs) es ≡ true → IsAtRest (after_all (opening specs) es)
-history_rests specs es lawful r =
-    takes_nothing (after_all (opening specs) es) r (rest_from specs (opening specs) es no_call lawful (followed_opening specs) (opening_rests specs) r)
+pub history_rests : (c : Settings) (host : ℕ) (es : List StationEvent) → list_all (is_lawful c.specs) es ≡ true →
+    IsAtRest (reading c host (entries_after c host [] es)).view
+unfolding reading
+history_rests c host es lawful r =
+    takes_nothing (reading c host (entries_after c host [] es)).view r
+    (rest_from c host [] es lawful (sound_initial c.specs) (initial_rests c.specs) r)

@@ -23,23 +23,25 @@ use Rattle.v_laws.specs.Sound.{IsSound}
 use Rattle.v_laws.proofs.RunLemmas.{run_step, run_on, run_nothing}
 use Rattle.v_laws.proofs.SoundLemmas.{sound_step, ready_sends_none}
 use Rattle.v_laws.proofs.StepLemmas.{fit_is}
-use Rattle.vk_host.specs.declared.event.EventAnswer.{EventAnswer}
-use Rattle.vk_host.specs.declared.event.EventAnswer.TheVariants as given_answers
-use Rattle.vk_host.specs.declared.event.StationEvent.{StationEvent}
-use Rattle.vk_host.specs.declared.event.StationEvent.TheVariants as events
+use Rattle.vk_base.specs.declared.event.EventAnswer.{EventAnswer}
+use Rattle.vk_base.specs.declared.event.EventAnswer.TheVariants as given_answers
+use Rattle.vk_base.specs.declared.event.StationEvent.{StationEvent}
+use Rattle.vk_base.specs.declared.event.StationEvent.TheVariants as events
 use Rattle.vk_host.specs.declared.seat.Doing.{Doing}
 use Rattle.vk_host.specs.declared.seat.Doing.TheVariants as doings
 use Rattle.vk_host.specs.declared.seat.Seat.{Seat}
-use Rattle.vk_host.specs.Entries.{grants_nothing, is_built_call, answer_by, answer_of, answer_to, take_where, follow_up, steps_of, after_event}
+use Rattle.vk_rules.specs.CallOutcomes.{seen_answer, effect_answer, take_where}
+use Rattle.vk_host.specs.Entries.{grants_nothing, is_built_call}
+use Rattle.vk_host.proofs.Alone.{answer_alone, follow_up, steps_of, after_event}
 use Rattle.vk_host.specs.Stands.{IsSeated, AreSeats}
-use Rattle.vk_host.specs.Tables.{is_seat, change_first, state_of, waiting, made_ready, doing_in, answer_of as answer_held, is_awaiting, own_refusal, refusal_in, refusal_by, served, served_steps, serving, sent_seats, accepted_by, called_by, call_outcome, collected, collect_seats, collect_steps, collect_answer}
+use Rattle.vk_host.specs.Tables.{is_seat, change_first, state_of, waiting, made_ready, doing_in, answer_held, is_awaiting, own_refusal, refusal_in, refusal_by, served, served_steps, serving, sent_seats, accepted_by, called_by, call_on_seats, collected, collect_seats, collect_steps, collect_answer}
 use Rattle.vk_host.proofs.Keeping.{seats_later, seats_state, seats_taken}
 use Rattle.vk_host.proofs.Reading.{shown, refusal_same, takes_same, awaiting_host}
 use Rattle.vk_host.proofs.Replying.{replied, reply_is, finish, finish_is, seats_replied}
 use Rattle.vk_host.proofs.Sending.{seats_sent}
 
 pub record Right (host n : ℕ) (seats : List Seat) (made : List Step) (answer : EventAnswer) (k : Kernel) (e : StationEvent) : Type 0 where
-  pub answer_is : answer ≡ answer_to k e
+  pub answer_is : answer ≡ answer_alone k e
   pub steps_are : made ≡ steps_of k e
   pub allowed : IsSome (run k (steps_of k e))
   pub sound : IsSound (after_event k e)
@@ -49,10 +51,10 @@ some_run : (o : Option Run) (r : Run) → o ≡ Some r → IsSome o
 some_run o r e = ap is_some e
 
 -- A call that brings nothing about behind its own step.
-module _ (host n : ℕ) (seats : List Seat) (k : Kernel) (pid : Pid) (c : Call) (f : Effect) (a : EventAnswer) (sound : IsSound k) (is : effect k (steps.Call pid c) ≡ Some f) (answer : answer_by f.seen ≡ a) where
+module _ (host n : ℕ) (seats : List Seat) (k : Kernel) (pid : Pid) (c : Call) (f : Effect) (a : EventAnswer) (sound : IsSound k) (is : effect k (steps.Call pid c) ≡ Some f) (answer : seen_answer f.seen ≡ a) where
   call_steps : steps_of k (events.Call pid c) ≡ steps.Call pid c ∷ follow_up f.after pid c a
   unfolding steps_of
-  call_steps = λ i. steps.Call pid c ∷ follow_up (ap (after_effect k) is i) pid c ((ap answer_of is ∙ answer) i)
+  call_steps = λ i. steps.Call pid c ∷ follow_up (ap (after_effect k) is i) pid c ((ap effect_answer is ∙ answer) i)
 
   call_alone : follow_up f.after pid c a ≡ [] → AreSeats host (n + 1) seats f.after → Right host n seats (steps.Call pid c ∷ []) a k (events.Call pid c)
   unfolding after_event
@@ -60,7 +62,7 @@ module _ (host n : ℕ) (seats : List Seat) (k : Kernel) (pid : Pid) (c : Call) 
       let all : steps_of k (events.Call pid c) ≡ steps.Call pid c ∷ [] = call_steps ∙ ap (λ ss. steps.Call pid c ∷ ss) nothing in
       let after : after_event k (events.Call pid c) ≡ f.after = ap (fold next k) all ∙ ap (after_effect k) is in
       record {
-        answer_is = sym (ap answer_of is ∙ answer);
+        answer_is = sym (ap effect_answer is ∙ answer);
         steps_are = sym all;
         allowed = some_run (run k (steps_of k (events.Call pid c))) _ (ap (run k) all ∙ run_step k (steps.Call pid c) f is);
         sound = subst IsSound (sym after) (sound_step k (steps.Call pid c) f sound is);
@@ -74,7 +76,7 @@ module _ (host n : ℕ) (seats : List Seat) (k : Kernel) (pid : Pid) (c : Call) 
       let all : steps_of k (events.Call pid c) ≡ steps.Call pid c ∷ s ∷ [] = call_steps ∙ ap (λ ss. steps.Call pid c ∷ ss) one in
       let after : after_event k (events.Call pid c) ≡ g.after = ap (fold next k) all ∙ ap (λ x. next (after_effect k x) s) is ∙ ap (after_effect f.after) then_ in
       record {
-        answer_is = sym (ap answer_of is ∙ answer);
+        answer_is = sym (ap effect_answer is ∙ answer);
         steps_are = sym all;
         allowed = some_run (run k (steps_of k (events.Call pid c))) _ (ap (run k) all ∙ run_on k (steps.Call pid c ∷ []) (s ∷ []) _ _ (run_step k (steps.Call pid c) f is) (run_step f.after s g then_));
         sound = subst IsSound (sym after) (sound_step f.after s g (sound_step k (steps.Call pid c) f sound is) then_);
@@ -191,8 +193,8 @@ module _ (host n : ℕ) (seats : List Seat) (k : Kernel) (pid : Pid) (s : Seat) 
   by_refusal c (Some why) built e = call_alone host n seats k pid c (answered k pid c (answers.Refused why)) (given_answers.Answered (answers.Refused why)) sound (effect_by c (Some why) (refusal_same host n seats k pid s c sound tables here found seated built ∙ e)) refl (refused_alone k pid c why) later
 
   -- a call of a process of the station
-  pub call_right : (c : Call) → is_built_call pid c ≡ true → Right host n (call_outcome seats pid c).seats (steps.Call pid c ∷ (call_outcome seats pid c).steps) (call_outcome seats pid c).answer k (events.Call pid c)
-  unfolding call_outcome
+  pub call_right : (c : Call) → is_built_call pid c ≡ true → Right host n (call_on_seats seats pid c).seats (steps.Call pid c ∷ (call_on_seats seats pid c).steps) (call_on_seats seats pid c).answer k (events.Call pid c)
+  unfolding call_on_seats
   call_right c built = by_refusal c (refusal_by seats pid c) built refl
 
 -- Collects.
@@ -219,7 +221,7 @@ module _ (host n : ℕ) (seats : List Seat) (k : Kernel) (pid : Pid) (s : Seat) 
       let all : steps_of k (events.Collect pid) ≡ [] = ap (λ o. cond (is_some o) (steps.Collect pid ∷ []) []) none in
       let after : after_event k (events.Collect pid) ≡ k = ap (fold next k) all in
       record {
-        answer_is = sym (ap answer_of none);
+        answer_is = sym (ap effect_answer none);
         steps_are = sym all;
         allowed = some_run (run k (steps_of k (events.Collect pid))) _ (ap (run k) all ∙ run_nothing k);
         sound = subst IsSound (sym after) sound;
@@ -231,7 +233,7 @@ module _ (host n : ℕ) (seats : List Seat) (k : Kernel) (pid : Pid) (s : Seat) 
       let all : steps_of k (events.Collect pid) ≡ steps.Collect pid ∷ [] = ap (λ o. cond (is_some o) (steps.Collect pid ∷ []) []) is in
       let after : after_event k (events.Collect pid) ≡ ready = ap (fold next k) all ∙ ap (after_effect k) is in
       record {
-        answer_is = sym (ap answer_of is);
+        answer_is = sym (ap effect_answer is);
         steps_are = sym all;
         allowed = some_run (run k (steps_of k (events.Collect pid))) _ (ap (run k) all ∙ run_step k (steps.Collect pid) _ is);
         sound = subst IsSound (sym after) (sound_step k (steps.Collect pid) _ sound is);

@@ -9,7 +9,7 @@ use Rattle.vk_base.specs.declared.pid.Pid.{Pid}
 use Rattle.vk_base.specs.Kernel.{Kernel, holds_of, is_queued_at, queue_of, same_name, sending}
 use Rattle.vk_base.specs.Pids.{same_pid}
 use Rattle.v_laws.specs.Sound.{IsSound}
-use Rattle.v_laws.proofs.Changes.{queued_is_open}
+use Rattle.v_laws.proofs.Changes.{queued_is_at_target}
 use Rattle.v_laws.proofs.FilterLemmas.{distinct_filter}
 use Rattle.v_laws.proofs.Tables.{same_pid_is, same_pid_laws}
 use Rattle.vk_host.specs.declared.seat.Seat.{Seat}
@@ -37,7 +37,7 @@ module _ (host n : ℕ) (seats : List Seat) (k : Kernel) (r : Pid) (sound : IsSo
   queue_waits = all_pass (IsWaiting k r) (λ name. holds_of (is_queued_at r) (k.exchanges name)) (λ name passes. waiting_by k r name (k.exchanges name) refl passes) k.arrived
 
   waiter : (name : Name) (w : IsWaiting k r name) → IsSender k seats name w.exchange
-  waiter name w = sender_of host n seats k name w.exchange sound tables w.is (ap (λ (p : Pid). p.host) w.target ∙ here) (queued_is_open w.exchange.stage w.queued)
+  waiter name w = sender_of host n seats k name w.exchange sound tables w.is (ap (λ (p : Pid). p.host) w.target ∙ here) (queued_is_at_target w.exchange.stage w.queued)
 
   -- a sender waits with one name
   one_name : (a b : Name) → IsWaiting k r a → IsWaiting k r b → a.sender ≡ b.sender → a.number ≡ b.number

@@ -15,7 +15,7 @@ use Rattle.vk_base.specs.declared.kernel.State.TheVariants as states
 use Rattle.vk_base.specs.declared.message.Message.{Message}
 use Rattle.vk_base.specs.declared.pid.Pid.{Pid}
 use Rattle.vk_base.specs.Calls.{sent, sent_exchange}
-use Rattle.vk_base.specs.Kernel.{Kernel, name_of, sending, queue_of, is_open}
+use Rattle.vk_base.specs.Kernel.{Kernel, name_of, sending, queue_of, is_at_target}
 use Rattle.vk_base.specs.Pids.{same_pid, same_host}
 use Rattle.v_laws.specs.Sound.{IsSound}
 use Rattle.v_laws.proofs.Queues.{queue-sent_here, queue-sent_elsewhere}
@@ -132,7 +132,7 @@ module _ (host n : ℕ) (seats : List Seat) (k : Kernel) (pid : Pid) (s : Seat) 
   more_sends : (x : Seat) → x.sends ≤ n → (send_begun target m x).sends ≤ n + 1
   more_sends x le = let small = few in omega arith
 
-  home_there : (name : Name) (e : Exchange) → after.exchanges name ≡ Some e → e.target.host ≡ host → is_open e.stage ≡ true → name.sender.host ≡ host
+  home_there : (name : Name) (e : Exchange) → after.exchanges name ≡ Some e → e.target.host ≡ host → is_at_target e.stage ≡ true → name.sender.host ≡ host
   unfolding sent
   home_there name e is at not_ended = home_put host k.exchanges new (sent_exchange pid p target m) (λ x y. here) tables.home name e is at not_ended
 

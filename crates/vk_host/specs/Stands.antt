@@ -10,16 +10,18 @@ use Rattle.vk_base.specs.declared.kernel.State.TheVariants as states
 use Rattle.vk_base.specs.declared.message.Message.{Message}
 use Rattle.vk_base.specs.declared.pid.Pid.{Pid}
 use Rattle.vk_base.specs.declared.step.Step.TheVariants as steps
-use Rattle.vk_base.specs.Kernel.{Kernel, name_of, queue_of, is_open}
+use Rattle.vk_base.specs.Kernel.{Kernel, name_of, queue_of, is_at_target}
 use Rattle.vk_base.specs.Steps.{is_allowed, run}
 use Rattle.vk_base.specs.Settings.{is_on}
 use Rattle.v_laws.specs.Sound.{IsSound}
-use Rattle.vk_host.specs.declared.event.EventAnswer.{EventAnswer}
-use Rattle.vk_host.specs.declared.event.StationEvent.{StationEvent}
-use Rattle.vk_host.specs.declared.event.StationEvent.TheVariants as events
+use Rattle.vk_base.specs.declared.event.EventAnswer.{EventAnswer}
+use Rattle.vk_base.specs.declared.event.StationEvent.{StationEvent}
+use Rattle.vk_base.specs.declared.event.StationEvent.TheVariants as events
 use Rattle.vk_host.specs.declared.seat.Seat.{Seat}
 use Rattle.vk_host.specs.declared.seat.Doing.TheVariants as doings
-use Rattle.vk_host.specs.Entries.{answer_to, steps_of, after_event}
+use Rattle.vk_base.specs.Settings.{Settings}
+use Rattle.vk_rules.specs.Readings.{Reading}
+use Rattle.vk_host.specs.Entries.{right, after_right}
 use Rattle.vk_host.specs.Tables.{Tables, is_seat, state_of}
 
 -- the exchange of this name has this target and message, and was taken or is queued
@@ -38,7 +40,8 @@ pub record IsSeated (k : Kernel) (pid : Pid) (s : Seat) : Type 0 where
   pub state : process.state ≡ state_of s.doing
   pub sends : process.sends ≡ s.sends
   pub queue : queue_of k pid ≡ s.queue
-  pub sent : (target : Pid) (m : Message) → state_of s.doing ≡ states.Blocked (calls.Send target m) → IsSent k (name_of pid s.sends) target m s.taken
+  pub sent : (target : Pid) (m : Message) → state_of s.doing ≡ states.Blocked (calls.Send target m) →
+      IsSent k (name_of pid s.sends) target m s.taken
 
 abbrev pub Fits : Kernel → Pid → Option Seat → Type 0
 Fits k pid None = k.procs pid ≡ None
@@ -49,7 +52,7 @@ pub record AreSeats (host events : ℕ) (seats : List Seat) (k : Kernel) : Type 
   pub fits : (pid : Pid) → pid.host ≡ host → Fits k pid (find (is_seat pid) seats)
   pub own : (pid : Pid) (s : Seat) → find (is_seat pid) seats ≡ Some s → (pid.host ≡ host) × (s.sends ≤ events)
   -- nothing has come from another station
-  pub home : (n : Name) (e : Exchange) → k.exchanges n ≡ Some e → e.target.host ≡ host → is_open e.stage ≡ true → n.sender.host ≡ host
+  pub home : (n : Name) (e : Exchange) → k.exchanges n ≡ Some e → e.target.host ≡ host → is_at_target e.stage ≡ true → n.sender.host ≡ host
   pub few : length seats ≤ 32
 
 -- the tables of a station stand for the kernel
@@ -67,13 +70,16 @@ is_own t (events.Call pid c) = is_at t pid
 is_own t (events.Collect pid) = is_at t pid
 is_own t e = true
 
--- What an event does: in every kernel that the tables stand for, its answer and its steps are those that it has there, its
--- steps are allowed, and the tables stand for the kernel after it then. One more event is counted; the processes stay.
+-- What an event does: for every reading of the station's entries whose view the tables stand for, its answer and its steps are
+-- those of the right entry, which has no frame, its steps are allowed, and the tables stand for the view after it. One more
+-- event is counted; the host and the processes stay.
 pub record IsEvent (old new : Tables) (e : StationEvent) (given : EventAnswer) : Type 0 where
-  pub answer : (k : Kernel) → Stands old k → given ≡ answer_to k e
-  pub steps : (k : Kernel) → Stands old k → new.steps ≡ steps_of k e
-  pub allowed : (k : Kernel) → Stands old k → IsSome (run k (steps_of k e))
-  pub stands : (k : Kernel) → Stands old k → Stands new (after_event k e)
+  pub answer : (c : Settings) (host : ℕ) (r : Reading) → Stands old r.view → given ≡ (right c host r e).answer
+  pub steps : (c : Settings) (host : ℕ) (r : Reading) → Stands old r.view → new.steps ≡ (right c host r e).steps
+  pub allowed : (c : Settings) (host : ℕ) (r : Reading) → Stands old r.view → IsSome (run r.view (right c host r e).steps)
+  pub stands : (c : Settings) (host : ℕ) (r : Reading) → Stands old r.view → Stands new (after_right c host r e).view
+  pub quiet : (c : Settings) (host : ℕ) (r : Reading) → Stands old r.view → (right c host r e).frames ≡ []
+  pub host : new.host ≡ old.host
   pub events : new.events ≡ old.events + 1
   pub processes : (pid : Pid) → is_at new pid ≡ is_at old pid
 
@@ -81,8 +87,8 @@ abbrev pub is_done : Kernel → Pid → Bool
 is_done k pid = is_allowed k (steps.Collect pid)
 
 -- the seats of a station that has just started
-abbrev pub opening_seat : ProcessSpec → Seat
-opening_seat s = record { pid = s.pid; doing = doings.Ready; sends = 0; taken = false; queue = [] }
+abbrev pub initial_seat : ProcessSpec → Seat
+initial_seat s = record { pid = s.pid; doing = doings.Ready; sends = 0; taken = false; queue = [] }
 
-abbrev pub opening_seats : ℕ → List ProcessSpec → List Seat
-opening_seats host specs = map opening_seat (filter (is_on host) specs)
+abbrev pub initial_seats : ℕ → List ProcessSpec → List Seat
+initial_seats host specs = map initial_seat (filter (is_on host) specs)

@@ -17,10 +17,10 @@ use Rattle.vk_base.specs.declared.step.Step.TheVariants as steps
 use Rattle.vk_base.specs.Kernel.{◌>>=◌, name_of, is_ready, receiving, sending}
 use Rattle.vk_base.specs.Steps.{first_of}
 use Rattle.vk_base.specs.Pids.{same_pid}
-use Rattle.vk_host.specs.declared.calls.Verdict.{Verdict}
-use Rattle.vk_host.specs.declared.calls.Verdict.TheVariants as verdicts
-use Rattle.vk_host.specs.declared.event.EventAnswer.{EventAnswer}
-use Rattle.vk_host.specs.declared.event.EventAnswer.TheVariants as events_answered
+use Rattle.vk_host.specs.declared.calls.Decision.{Decision}
+use Rattle.vk_host.specs.declared.calls.Decision.TheVariants as verdicts
+use Rattle.vk_base.specs.declared.event.EventAnswer.{EventAnswer}
+use Rattle.vk_base.specs.declared.event.EventAnswer.TheVariants as events_answered
 use Rattle.vk_host.specs.declared.seat.Doing.{Doing}
 use Rattle.vk_host.specs.declared.seat.Doing.TheVariants as doings
 use Rattle.vk_host.specs.declared.seat.Seat.{Seat}
@@ -81,12 +81,12 @@ replied reply s = record s { doing = replied_by s.doing reply }
 abbrev pub made_ready : Seat → Seat
 made_ready s = record s { doing = doings.Ready }
 
-abbrev pub answer_of : Doing → Option Answer
-answer_of doings.Ready = None
-answer_of doings.Receiving = None
-answer_of (doings.Sending target m) = None
-answer_of (doings.Received from m) = Some (answers.Received from m)
-answer_of (doings.Replied target m reply) = Some (answers.Replied reply)
+abbrev pub answer_held : Doing → Option Answer
+answer_held doings.Ready = None
+answer_held doings.Receiving = None
+answer_held (doings.Sending target m) = None
+answer_held (doings.Received from m) = Some (answers.Received from m)
+answer_held (doings.Replied target m reply) = Some (answers.Replied reply)
 
 abbrev pub doing_in : Option Seat → Doing
 doing_in None = doings.Ready
@@ -94,7 +94,7 @@ doing_in (Some s) = s.doing
 
 -- the answer that a process has to collect
 abbrev pub collected : List Seat → Pid → Option Answer
-collected seats pid = answer_of (doing_in (find (is_seat pid) seats))
+collected seats pid = answer_held (doing_in (find (is_seat pid) seats))
 
 -- Refusals.
 
@@ -136,7 +136,9 @@ unfoldable pub takes : List Seat → Pid → Option (Name × Message)
 takes seats r = front_of seats r >>= λ name. message_from seats name >>= λ m. Some (name, m)
 
 abbrev pub taken_seats : List Seat → Pid → Name × Message → List Seat
-taken_seats seats r t = change_first (is_seat r) (received t.0.sender t.1) (change_first (is_seat t.0.sender) marked_taken (change_first (is_seat r) dequeued seats))
+taken_seats seats r t =
+    change_first (is_seat r) (received t.0.sender t.1)
+    (change_first (is_seat t.0.sender) marked_taken (change_first (is_seat r) dequeued seats))
 
 abbrev pub served : List Seat → Pid → Option (Name × Message) → List Seat
 served seats r None = seats
@@ -146,7 +148,7 @@ abbrev pub served_steps : Pid → Option (Name × Message) → List Step
 served_steps r None = []
 served_steps r (Some t) = steps.Take r ∷ []
 
-abbrev pub verdict_answer : Verdict → EventAnswer
+abbrev pub verdict_answer : Decision → EventAnswer
 verdict_answer verdicts.Begun = events_answered.Begun
 verdict_answer verdicts.Ok = events_answered.Answered answers.Ok
 verdict_answer (verdicts.Refused why) = events_answered.Answered (answers.Refused why)
@@ -173,15 +175,21 @@ sent_seats seats pid target m =
 abbrev pub accepted_by : List Seat → Pid → Call → Outcome
 accepted_by seats pid (calls.Send target m) = serving (sent_seats seats pid target m) target
 accepted_by seats pid calls.Receive = serving (change_first (is_seat pid) waiting seats) pid
-accepted_by seats pid (calls.Reply m to) = record { seats = change_first (is_seat to) (replied m) seats; steps = steps.Finish to ∷ []; answer = events_answered.Answered answers.Ok }
+accepted_by seats pid (calls.Reply m to) =
+    record {
+      seats = change_first (is_seat to) (replied m) seats;
+      steps = steps.Finish to
+          ∷ [];
+      answer = events_answered.Answered answers.Ok;
+    }
 accepted_by seats pid c = record { seats = seats; steps = []; answer = events_answered.Begun }
 
 abbrev pub called_by : List Seat → Pid → Call → Option Refusal → Outcome
 called_by seats pid c None = accepted_by seats pid c
 called_by seats pid c (Some why) = record { seats = seats; steps = []; answer = events_answered.Answered (answers.Refused why) }
 
-unfoldable pub call_outcome : List Seat → Pid → Call → Outcome
-call_outcome seats pid c = called_by seats pid c (refusal_by seats pid c)
+unfoldable pub call_on_seats : List Seat → Pid → Call → Outcome
+call_on_seats seats pid c = called_by seats pid c (refusal_by seats pid c)
 
 -- Collects.
 abbrev pub collect_seats : List Seat → Pid → Option Answer → List Seat

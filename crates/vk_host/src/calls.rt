@@ -3,11 +3,10 @@
 ghost use Rattle.std.specs.Prelude.{◌≡◌, ◌≤◌, ◌+◌, ◌++◌, ◌∷◌, [], find, is_some, true};
 ghost use Rattle.arrayvec.specs.ArrayVec.{array_vec_len};
 ghost use Rattle.vk_host.specs.Entries.{is_built_call};
-ghost use Rattle.vk_host.specs.Tables.{Outcome, is_seat, is_awaiting, own_refusal, refusal_by, message_from, front_of, takes, taken_seats, served, served_steps, sent_seats, next_name_in, serving, verdict_answer, accepted_by, called_by, call_outcome, answer_of, collected, collect_seats, collect_steps, collect_answer};
+ghost use Rattle.vk_host.specs.Tables.{Outcome, is_seat, is_awaiting, own_refusal, refusal_by, message_from, front_of, takes, taken_seats, served, served_steps, sent_seats, next_name_in, serving, verdict_answer, accepted_by, called_by, call_on_seats, answer_held, collected, collect_seats, collect_steps, collect_answer};
 
-use crate::event::EventAnswer;
 use crate::seat::{self, Doing, Seat, is_ready, is_receiving, seat_of, sending};
-use vk_base::{Answer, Call, Message, Name, Pid, Refusal, Step, StepList};
+use vk_base::{Answer, Call, EventAnswer, Message, Name, Pid, Refusal, Step, StepList};
 
 /// Whether the sender awaits a reply from the holder, which has taken its message.
 fn is_awaiting(seats: &[Seat], holder: Pid, sender: Pid) -> bool
@@ -117,21 +116,21 @@ fn send(seats: &mut [Seat], pid: Pid, target: Pid, message: Message)
 
 /// What a call within a station is answered.
 #[derive(Clone, Copy)]
-pub enum Verdict {
+pub enum Decision {
     Begun,
     Ok,
     Refused { why: Refusal },
 }
 
-impl Verdict {
+impl Decision {
     /// The verdict as the answer to an event.
     pub fn answer(self) -> EventAnswer
         ensures { result ≡ verdict_answer self }
     {
         let answer = match self {
-            Verdict::Begun => return EventAnswer::Begun,
-            Verdict::Ok => Answer::Ok,
-            Verdict::Refused { why } => Answer::Refused { why },
+            Decision::Begun => return EventAnswer::Begun,
+            Decision::Ok => Answer::Ok,
+            Decision::Refused { why } => Answer::Refused { why },
         };
         EventAnswer::Answered { answer }
     }
@@ -152,7 +151,7 @@ fn restart(steps: &mut StepList, step: Step)
 
 /// A call that is not refused.
 #[tactic(auto, unfolding(crate::specs::Tables::serving))]
-fn accept(seats: &mut [Seat], steps: &mut StepList, pid: Pid, call: &Call) -> Verdict
+fn accept(seats: &mut [Seat], steps: &mut StepList, pid: Pid, call: &Call) -> Decision
     requires room { array_vec_len steps.old + 1 ≤ 40 }
     requires built { is_built_call pid call.now ≡ true }
     ensures seats { seats.new ≡ (accepted_by seats.old pid call.now).seats }
@@ -163,29 +162,29 @@ fn accept(seats: &mut [Seat], steps: &mut StepList, pid: Pid, call: &Call) -> Ve
         Call::Send { target, message } => {
             send(seats, pid, target, message);
             serve(seats, steps, target);
-            Verdict::Begun
+            Decision::Begun
         }
         Call::Receive => {
             seat::wait_for_message(seats, pid);
             serve(seats, steps, pid);
-            Verdict::Begun
+            Decision::Begun
         }
         Call::Reply { message, to } => {
             seat::take_reply(seats, to, message);
             steps.push(Step::Finish { pid: to });
-            Verdict::Ok
+            Decision::Ok
         }
         _ => unreachable!(),
     }
 }
 
 /// A call: what it is answered, and its steps, its own first.
-#[tactic(auto, unfolding(crate::specs::Tables::call_outcome))]
-pub fn call(seats: &mut [Seat], steps: &mut StepList, pid: Pid, call: &Call) -> Verdict
+#[tactic(auto, unfolding(crate::specs::Tables::call_on_seats))]
+pub fn call(seats: &mut [Seat], steps: &mut StepList, pid: Pid, call: &Call) -> Decision
     requires { is_built_call pid call.now ≡ true }
-    ensures seats { seats.new ≡ (call_outcome seats.old pid call.now).seats }
-    ensures steps { steps.new.items ≡ Step.Call pid call.now ∷ (call_outcome seats.old pid call.now).steps }
-    ensures answer { verdict_answer result ≡ (call_outcome seats.old pid call.now).answer }
+    ensures seats { seats.new ≡ (call_on_seats seats.old pid call.now).seats }
+    ensures steps { steps.new.items ≡ Step.Call pid call.now ∷ (call_on_seats seats.old pid call.now).steps }
+    ensures answer { verdict_answer result ≡ (call_on_seats seats.old pid call.now).answer }
 {
     restart(
         steps,
@@ -195,7 +194,7 @@ pub fn call(seats: &mut [Seat], steps: &mut StepList, pid: Pid, call: &Call) -> 
         },
     );
     match refusal(seats, pid, call) {
-        Some(why) => Verdict::Refused { why },
+        Some(why) => Decision::Refused { why },
         None => accept(seats, steps, pid, call),
     }
 }
@@ -204,7 +203,7 @@ pub fn call(seats: &mut [Seat], steps: &mut StepList, pid: Pid, call: &Call) -> 
 pub fn collect(seats: &mut [Seat], steps: &mut StepList, pid: Pid) -> Doing
     ensures seats { seats.new ≡ collect_seats seats.old pid (collected seats.old pid) }
     ensures steps { steps.new.items ≡ collect_steps pid (collected seats.old pid) }
-    ensures doing { answer_of result ≡ collected seats.old pid }
+    ensures doing { answer_held result ≡ collected seats.old pid }
 {
     let doing = seat::doing_of(seats, pid);
     if seat::is_done(&doing) {
@@ -218,7 +217,7 @@ pub fn collect(seats: &mut [Seat], steps: &mut StepList, pid: Pid) -> Doing
 
 /// What a collect is answered of a process that did this: its answer, or that there is nothing yet.
 pub fn collect_answer(doing: &Doing) -> EventAnswer
-    ensures { result ≡ collect_answer (answer_of doing.now) }
+    ensures { result ≡ collect_answer (answer_held doing.now) }
 {
     let answer = match *doing {
         Doing::Received { from, message } => Answer::Received { from, message },

@@ -1,19 +1,18 @@
 ghost use Rattle.std.specs.Prelude.{◌≡◌, ◌≤◌, ◌<◌, ◌+◌, ◌^◌, ◌==◌, ◌&&◌, ◌++◌, ◌∷◌, [], true, is_some, IfOk, IsSome, find};
 ghost use Rattle.vk_base.specs.declared.pid.Pid.{Pid as ThePid};
-ghost use Rattle.vk_base.specs.Kernel.{Kernel, opening};
+ghost use Rattle.vk_base.specs.Kernel.{Kernel, initial_kernel};
 ghost use Rattle.vk_base.specs.Settings.{has_station, has_process};
 ghost use Rattle.vk_host.specs.Entries.{is_built, is_built_call};
-ghost use Rattle.vk_host.specs.Stands.{Stands, IsEvent, is_at, is_own, is_done, opening_seats};
+ghost use Rattle.vk_host.specs.Stands.{Stands, IsEvent, is_at, is_own, is_done, initial_seats};
 ghost use Rattle.vk_host.specs.Tables.{Tables, is_seat, change_first, made_ready, collected};
 
 use crate::calls;
-use crate::event::{EventAnswer, StationEvent};
 use crate::queue::Queue;
 use crate::seat::{self, Doing, Seat, seat_of};
 use arrayvec::ArrayVec;
 use std::alloc::Global;
 use std::marker::Model;
-use vk_base::{Call, Config, NoMemory, Pid, ProcessSpec, StepList};
+use vk_base::{Call, Config, EventAnswer, NoMemory, Pid, ProcessSpec, StationEvent, StepList};
 
 /// One station: its processes, their queues, and the steps of its last event.
 #[derive(Drop)]
@@ -36,13 +35,13 @@ impl Host {
     /// The station of this host, before its first event. All memory of the station is taken here.
     pub fn new(alloc: Global, config: &Config, host: u16) -> Result<Self, NoMemory>
         requires { has_station config.now.specs host ≡ true }
-        ensures stands { IfOk result (λ h. Stands h (opening config.now.specs)) }
-        ensures start { IfOk result (λ h. (h.events ≡ 0) × (h.steps ≡ [])) }
+        ensures stands { IfOk result (λ h. Stands h (initial_kernel config.now.specs)) }
+        ensures start { IfOk result (λ h. (h.host ≡ host) × (h.events ≡ 0) × (h.steps ≡ [])) }
         ensures processes { IfOk result (λ h. (pid : ThePid) → is_at h pid ≡ (pid.host == host && has_process config.now.specs pid)) }
     {
         Ok(Host {
             host,
-            seats: opening_seats(alloc, config.specs(), host)?,
+            seats: initial_seats(alloc, config.specs(), host)?,
             steps: ArrayVec::new(),
             events: 0,
         })
@@ -111,8 +110,8 @@ impl Host {
 }
 
 /// The processes of the host, each of which is ready and has sent nothing.
-fn opening_seats(alloc: Global, specs: &[ProcessSpec], host: u16) -> Result<Vec<Seat>, NoMemory>
-    ensures { IfOk result (λ seats. seats.items ≡ opening_seats host specs.now) }
+fn initial_seats(alloc: Global, specs: &[ProcessSpec], host: u16) -> Result<Vec<Seat>, NoMemory>
+    ensures { IfOk result (λ seats. seats.items ≡ initial_seats host specs.now) }
 {
     let mut seats = Vec::new(alloc);
     for spec in specs {

@@ -1,10 +1,71 @@
-// Each source and sink once, where a call fails in the middle.
+// Each source and sink once, and where a call fails or is interrupted in the middle.
+ghost use Rattle.std.specs.Prelude.{None};
+ghost use Rattle.std.specs.Io.{ReadsAtMost, WritesAtMost};
+ghost use Rattle.std.specs.Io.KnownBytes.{ReadConsumes, WriteAppends, Keeps};
+
 use crate::{
     Failed, MemorySink, MemorySource, ReadRefusal, Sink, Source, StdSink, StdSource, SureSink,
     SureSource, read_all, write_all,
 };
-use std::io::BufWriter;
+use std::io::{BufWriter, Error, ErrorKind, Read, Write};
 use std::test::Fail;
+
+/// A reader and writer whose first calls are interrupted and whose next calls end otherwise: a read gives no byte, a write
+/// takes all, and a flush fails.
+#[derive(Drop)]
+struct Interrupted {
+    left: u32,
+    calls: u32,
+}
+
+impl Interrupted {
+    fn new(left: u32) -> Self {
+        Interrupted { left, calls: 0 }
+    }
+
+    /// Whether this call is one of those that are interrupted.
+    fn is_interrupted(&mut self) -> bool {
+        self.calls = self.calls.saturating_add(1);
+        if self.left == 0 {
+            return false;
+        }
+        self.left -= 1;
+        true
+    }
+}
+
+impl Read for Interrupted {
+    fn read(&mut self, buf: &mut [u8]) -> std::io::Result<usize>
+        ensures bound { ReadsAtMost result buf.new }
+        ensures bytes { ReadConsumes None None result buf.new }
+    {
+        if self.is_interrupted() {
+            return Err(Error::from(ErrorKind::Interrupted));
+        }
+        Ok(0)
+    }
+}
+
+impl Write for Interrupted {
+    fn write(&mut self, buf: &[u8]) -> std::io::Result<usize>
+        ensures bound { WritesAtMost result buf.now }
+        ensures bytes { WriteAppends None None result buf.now }
+    {
+        if self.is_interrupted() {
+            return Err(Error::from(ErrorKind::Interrupted));
+        }
+        Ok(buf.len())
+    }
+
+    fn flush(&mut self) -> std::io::Result<()>
+        ensures bytes { Keeps None None }
+    {
+        if self.is_interrupted() {
+            return Err(Error::from(ErrorKind::Interrupted));
+        }
+        Err(Error::from(ErrorKind::Other))
+    }
+}
 
 #[test]
 fn reads_a_reader_of_std(rt: HostRuntime) -> Result<(), Fail> {
@@ -82,5 +143,60 @@ fn writes_on_after_a_fault(rt: HostRuntime) -> Result<(), Fail> {
     let mut sure = SureSink::new();
     write_all(&mut sure, b"abcd")?;
     assert_eq!(rt; sure.faults(), 0);
+    Ok(())
+}
+
+#[test]
+fn makes_interrupted_calls_again(rt: HostRuntime) -> Result<(), Fail> {
+    let mut source = StdSource::new(Interrupted::new(63));
+    assert!(rt; matches!(source.read(&mut [0u8; 4]), Ok(0)));
+    assert_eq!(rt; source.faults(), 0);
+
+    let mut writer = Interrupted::new(63);
+    let mut sink = StdSink::new(&mut writer);
+    assert!(rt; matches!(sink.write(b"abc"), Ok(3)));
+    assert_eq!(rt; sink.faults(), 0);
+    drop(sink);
+    assert_eq!(rt; writer.calls, 64);
+    Ok(())
+}
+
+#[test]
+fn ends_after_64_interruptions(rt: HostRuntime) -> Result<(), Fail> {
+    let mut source = StdSource::new(Interrupted::new(65));
+    assert!(rt; matches!(source.read(&mut [0u8; 4]), Err(Failed)));
+    assert_eq!(rt; source.faults(), 1);
+
+    let mut writer = Interrupted::new(65);
+    let mut sink = StdSink::new(&mut writer);
+    assert!(rt; matches!(sink.write(b"abc"), Err(Failed)));
+    assert_eq!(rt; sink.faults(), 1);
+    assert!(rt; matches!(sink.write(b"abc"), Ok(3)));
+    assert_eq!(rt; sink.faults(), 1);
+    drop(sink);
+    assert_eq!(rt; writer.calls, 66);
+    Ok(())
+}
+
+#[test]
+fn tells_a_flush_that_fails(rt: HostRuntime) -> Result<(), Fail> {
+    let mut writer = Interrupted::new(2);
+    let mut sink = StdSink::new(&mut writer);
+    assert!(rt; matches!(sink.flush(), Err(Failed)));
+    assert_eq!(rt; sink.faults(), 1);
+    drop(sink);
+    assert_eq!(rt; writer.calls, 3);
+    Ok(())
+}
+
+#[test]
+fn tells_the_first_write_that_fails(rt: HostRuntime) -> Result<(), Fail> {
+    let failing = vec![in rt.alloc(); 1u64, 3]?;
+    let mut sink = MemorySink::new(rt.alloc(), failing, 4);
+    assert!(rt; matches!(write_all(&mut sink, b"abcdefgh"), Err(Failed)));
+    assert_eq!(rt; sink.written(), b"".as_slice());
+    assert!(rt; matches!(write_all(&mut sink, b"abcdefgh"), Err(Failed)));
+    assert_eq!(rt; sink.written(), b"abcd".as_slice());
+    assert_eq!(rt; sink.faults(), 2);
     Ok(())
 }

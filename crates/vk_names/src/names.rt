@@ -8,10 +8,8 @@ ghost use Rattle.vk_names.specs.Told.{found_there};
 
 use std::alloc::Global;
 use std::marker::Model;
+use vk_base::limits::NAMES;
 use vk_base::{NoMemory, Pid, Registration, Scope};
-
-/// How many names a station can register.
-const MOST: usize = 64;
 
 /// A station has registered as many names under other logical ids as it can.
 #[derive(Clone, Copy, Debug, PartialEq, Eq)]
@@ -27,13 +25,14 @@ impl Model for Names {
     ghost use Rattle.std.specs.Prelude.{List, ◌≤◌, vec_capacity};
     ghost use Rattle.std.specs.List.{IsDistinct};
     ghost use Rattle.vk_base.specs.declared.kernel.Registration.{Registration};
+    ghost use Rattle.vk_base.specs.declared.limits.TheConstants.{NAMES};
     ghost use Rattle.vk_names.specs.Kept.{same_id};
 
     ghost Value = { List Registration };
 
     ghost view = { λ n. n.entries.items };
 
-    ghost invariant = { λ n. (64 ≤ vec_capacity n.entries) × IsDistinct same_id n.entries.items };
+    ghost invariant = { λ n. (NAMES ≤ vec_capacity n.entries) × IsDistinct same_id n.entries.items };
 }
 
 impl Names {
@@ -42,7 +41,7 @@ impl Names {
         ensures { IfOk result (λ n. n ≡ []) }
     {
         Ok(Names {
-            entries: Vec::with_capacity(alloc, MOST)?,
+            entries: Vec::with_capacity(alloc, NAMES)?,
         })
     }
 
@@ -52,11 +51,11 @@ impl Names {
     ///
     /// [`NamesFull`] exactly where 64 other ids are registered. Nothing changes then.
     pub fn set(&mut self, logical: u32, pid: Pid, scope: Scope) -> Result<(), NamesFull>
-        ensures refused { is_err result ≡ nat_le 64 (length (others self.old logical)) }
+        ensures refused { is_err result ≡ nat_le NAMES (length (others self.old logical)) }
         ensures ok { OnOk result (self.new ≡ with_name self.old (record { logical = logical; pid = pid; scope = scope })) }
         ensures err { OnErr result (self.new ≡ self.old) }
     {
-        if count_others(&self.entries, logical) >= MOST {
+        if count_others(&self.entries, logical) >= NAMES {
             return Err(NamesFull);
         }
         keep_others(&mut self.entries, logical);

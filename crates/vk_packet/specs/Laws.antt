@@ -8,7 +8,8 @@ use Rattle.vk_wire.specs.Fields.{IsBytes}
 
 -- what is read is spelled so, by a packet that keeps to the rules
 abbrev pub NothingElseIsRead : Type 0
-NothingElseIsRead = (bytes : List ℕ) (p : Packet) → IsBytes bytes → packet_of bytes ≡ Some p → (bytes ≡ packet_bytes p) × (is_lawful p ≡ true) × IsPacket p
+NothingElseIsRead = (bytes : List ℕ) (p : Packet) → IsBytes bytes → packet_of bytes ≡ Some p → (bytes ≡ packet_bytes p) ×
+    (is_lawful p ≡ true) × IsPacket p
 
 -- what is spelled so is read again
 abbrev pub WrittenIsRead : Type 0

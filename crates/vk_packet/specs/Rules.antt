@@ -4,6 +4,7 @@ use Rattle.std.specs.List.{list_all}
 use Rattle.vk_base.specs.Messages.{IsMessage, grants_read, segment_of}
 use Rattle.vk_base.specs.Packets.{Packet, Send, Reply, Pending, Negative, MoveData, MoveAck, MoveRequest, MoveBytes, MoveNegative, AskPid, TellPid}
 use Rattle.vk_base.specs.Pids.{IsPid}
+use Rattle.vk_base.specs.declared.limits.TheConstants.{DATA_BYTES, MOVE_BYTES, SEGMENT_BYTES}
 use Rattle.vk_base.specs.declared.message.Message.{Message}
 use Rattle.vk_wire.specs.Fields.{IsBytes}
 
@@ -27,24 +28,24 @@ is_number n = nat_lt 0 n && nat_lt n (2 ^ 63)
 
 -- a move has 1 to 65,536 bytes, and a packet's offset in it is a multiple of 1,024 below that
 abbrev pub is_place : (total offset : ℕ) → Bool
-is_place total offset = nat_lt 0 total && nat_le total 65536 && (offset % 1024 == 0) && nat_lt offset total
+is_place total offset = nat_lt 0 total && nat_le total MOVE_BYTES && (offset % DATA_BYTES == 0) && nat_lt offset total
 
 -- how many bytes a Send with this message brings of the segment: at most 512, and none where it lets nothing be read
 abbrev pub part_len : Message → ℕ
-part_len m = if grants_read m then min (segment_of m).len 512 else 0
+part_len m = if grants_read m then min (segment_of m).len SEGMENT_BYTES else 0
 
 -- how many bytes of a move of `total` bytes a packet has from `offset` on: at most 1,024
 abbrev pub piece_len : (total offset : ℕ) → ℕ
-piece_len total offset = min (total - offset) 1024
+piece_len total offset = min (total - offset) DATA_BYTES
 
 -- a part and bytes have their length, and what is said of a move can be
 abbrev pub fits : Packet → Bool
 fits (Send from to number message part) = length part == part_len message
-fits (Reply from to number message dest bytes) = nat_le (length bytes) 512
+fits (Reply from to number message dest bytes) = nat_le (length bytes) SEGMENT_BYTES
 fits (Pending from to number) = true
 fits (Negative from to number) = true
 fits (MoveData from to number moving dest total offset bytes) = is_place total offset && (length bytes == piece_len total offset)
-fits (MoveAck from to number moving received) = nat_le received 65536
+fits (MoveAck from to number moving received) = nat_le received MOVE_BYTES
 fits (MoveRequest from to number moving src total offset) = is_place total offset
 fits (MoveBytes from to number moving total offset bytes) = is_place total offset && (length bytes == piece_len total offset)
 fits (MoveNegative from to number moving) = true

@@ -6,12 +6,13 @@ use arrayvec::ArrayVec;
 use std::alloc::Global;
 use std::marker::Model;
 use vk_base::NoMemory;
+use vk_base::limits::FRAME_BYTES;
 
 /// A packet's bytes, and the station that it is for.
 #[derive(Drop)]
 struct Slot {
     to: u16,
-    bytes: ArrayVec<u8, 1152>,
+    bytes: ArrayVec<u8, FRAME_BYTES>,
 }
 
 impl Slot {

@@ -3,6 +3,7 @@
 ghost use Rattle.std.specs.Prelude.{◌≡◌, ◌≤◌};
 ghost use Rattle.vk_packet.specs.Rules.{is_number, is_place, part_len, piece_len};
 
+use vk_base::limits::{DATA_BYTES, MOVE_BYTES, SEGMENT_BYTES};
 use vk_base::{Message, Pid};
 
 /// A packet, whose part or bytes are lent. `number` counts the Sends of the process whose exchange the packet is of, `moving`
@@ -140,7 +141,7 @@ impl PacketView<'_> {
     {
         match *self {
             PacketView::Send { message, part, .. } => part.len() == part_len(&message),
-            PacketView::Reply { bytes, .. } => bytes.len() <= 512,
+            PacketView::Reply { bytes, .. } => bytes.len() <= SEGMENT_BYTES as usize,
             PacketView::MoveData {
                 total,
                 offset,
@@ -153,7 +154,7 @@ impl PacketView<'_> {
                 bytes,
                 ..
             } => { is_place(total, offset) && bytes.len() == piece_len(total, offset) }
-            PacketView::MoveAck { received, .. } => received <= 65536,
+            PacketView::MoveAck { received, .. } => received <= MOVE_BYTES,
             PacketView::MoveRequest { total, offset, .. } => is_place(total, offset),
             PacketView::Pending { .. }
             | PacketView::Negative { .. }
@@ -175,7 +176,7 @@ fn is_number(number: u64) -> bool
 fn is_place(total: u32, offset: u32) -> bool
     ensures { result ≡ is_place total offset }
 {
-    0 < total && total <= 65536 && offset % 1024 == 0 && offset < total
+    0 < total && total <= MOVE_BYTES && offset % DATA_BYTES as u32 == 0 && offset < total
 }
 
 /// How many bytes a Send with this message brings of the segment.
@@ -184,7 +185,7 @@ fn part_len(message: &Message) -> usize
 {
     let grants = message.grants();
     if grants.read {
-        grants.range.len.min(512) as usize
+        grants.range.len.min(SEGMENT_BYTES) as usize
     } else {
         0
     }
@@ -195,5 +196,5 @@ fn piece_len(total: u32, offset: u32) -> usize
     requires { offset ≤ total }
     ensures { result ≡ piece_len total offset }
 {
-    (total - offset).min(1024) as usize
+    (total - offset).min(DATA_BYTES as u32) as usize
 }

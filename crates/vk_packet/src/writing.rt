@@ -11,16 +11,14 @@ ghost use Rattle.vk_wire.specs.Fields.{pid_bytes};
 
 use crate::packet::PacketView;
 use arrayvec::ArrayVec;
+use vk_base::limits::{DATA_BYTES, FRAME_BYTES, HEADER_BYTES, SEGMENT_BYTES};
 use vk_base::{Message, Pid};
 use vk_wire::{bytes_of_pid, bytes_of_u16, bytes_of_u32, bytes_of_u64};
 
-/// The greatest number of bytes of a frame.
-const MOST: usize = 1152;
-
 /// Appends the packet, which keeps to the rules. Before it there are at most 32 bytes, a frame's header.
-pub fn encode(packet: &PacketView, into: &mut ArrayVec<u8, MOST>)
+pub fn encode(packet: &PacketView, into: &mut ArrayVec<u8, FRAME_BYTES>)
     requires lawful { is_lawful (value_of packet.now) ≡ true }
-    requires room { array_vec_len into.old ≤ 32 }
+    requires room { array_vec_len into.old ≤ HEADER_BYTES }
     ensures bytes { into.new.items ≡ into.old.items ++ packet_bytes (value_of packet.now) }
     ensures some { array_vec_len into.old < array_vec_len into.new }
     ensures few { array_vec_len into.new ≤ array_vec_len into.old + 1120 }
@@ -98,8 +96,8 @@ pub fn encode(packet: &PacketView, into: &mut ArrayVec<u8, MOST>)
 }
 
 /// Appends the bytes, for which there is room.
-fn put(into: &mut ArrayVec<u8, MOST>, bytes: &[u8])
-    requires { array_vec_len into.old + length bytes.now ≤ 1152 }
+fn put(into: &mut ArrayVec<u8, FRAME_BYTES>, bytes: &[u8])
+    requires { array_vec_len into.old + length bytes.now ≤ FRAME_BYTES }
     ensures { into.new.items ≡ into.old.items ++ bytes.now }
 {
     match into.try_extend_from_slice(bytes) {
@@ -109,8 +107,8 @@ fn put(into: &mut ArrayVec<u8, MOST>, bytes: &[u8])
 }
 
 /// Appends the kind and the pid that stands first.
-fn put_kind(into: &mut ArrayVec<u8, MOST>, kind: u8, first: Pid)
-    requires { array_vec_len into.old ≤ 32 }
+fn put_kind(into: &mut ArrayVec<u8, FRAME_BYTES>, kind: u8, first: Pid)
+    requires { array_vec_len into.old ≤ HEADER_BYTES }
     ensures bytes { into.new.items ≡ into.old.items ++ kind ∷ pid_bytes first }
     ensures few { array_vec_len into.new ≡ array_vec_len into.old + 5 }
 {
@@ -120,8 +118,8 @@ fn put_kind(into: &mut ArrayVec<u8, MOST>, kind: u8, first: Pid)
 
 /// Appends the kind, and what every packet of an exchange begins with.
 #[tactic(auto, unfolding(crate::specs::Spelling::exchange_bytes))]
-fn put_exchange(into: &mut ArrayVec<u8, MOST>, kind: u8, from: Pid, to: Pid, number: u64)
-    requires { array_vec_len into.old ≤ 32 }
+fn put_exchange(into: &mut ArrayVec<u8, FRAME_BYTES>, kind: u8, from: Pid, to: Pid, number: u64)
+    requires { array_vec_len into.old ≤ HEADER_BYTES }
     ensures bytes { into.new.items ≡ into.old.items ++ kind ∷ exchange_bytes from to number }
     ensures few { array_vec_len into.new ≡ array_vec_len into.old + 17 }
 {
@@ -132,8 +130,15 @@ fn put_exchange(into: &mut ArrayVec<u8, MOST>, kind: u8, from: Pid, to: Pid, num
 
 /// Appends the kind, and what every packet of a move begins with.
 #[tactic(auto, unfolding(crate::specs::Spelling::move_bytes))]
-fn put_move(into: &mut ArrayVec<u8, MOST>, kind: u8, from: Pid, to: Pid, number: u64, moving: u64)
-    requires { array_vec_len into.old ≤ 32 }
+fn put_move(
+    into: &mut ArrayVec<u8, FRAME_BYTES>,
+    kind: u8,
+    from: Pid,
+    to: Pid,
+    number: u64,
+    moving: u64,
+)
+    requires { array_vec_len into.old ≤ HEADER_BYTES }
     ensures bytes { into.new.items ≡ into.old.items ++ kind ∷ move_bytes from to number moving }
     ensures few { array_vec_len into.new ≡ array_vec_len into.old + 25 }
 {
@@ -143,15 +148,15 @@ fn put_move(into: &mut ArrayVec<u8, MOST>, kind: u8, from: Pid, to: Pid, number:
 
 /// Appends a message and the first part of its segment.
 fn put_send(
-    into: &mut ArrayVec<u8, MOST>,
+    into: &mut ArrayVec<u8, FRAME_BYTES>,
     from: Pid,
     to: Pid,
     number: u64,
     message: &Message,
     part: &[u8],
 )
-    requires part { length part.now ≤ 512 }
-    requires room { array_vec_len into.old ≤ 32 }
+    requires part { length part.now ≤ SEGMENT_BYTES }
+    requires room { array_vec_len into.old ≤ HEADER_BYTES }
     ensures bytes { into.new.items ≡ into.old.items ++ packet_bytes (packets.Send from to number message.now part.now) }
     ensures few { array_vec_len into.new ≤ array_vec_len into.old + 1120 }
 {
@@ -162,7 +167,7 @@ fn put_send(
 
 /// Appends a reply and its bytes.
 fn put_reply(
-    into: &mut ArrayVec<u8, MOST>,
+    into: &mut ArrayVec<u8, FRAME_BYTES>,
     from: Pid,
     to: Pid,
     number: u64,
@@ -170,8 +175,8 @@ fn put_reply(
     dest: u32,
     bytes: &[u8],
 )
-    requires part { length bytes.now ≤ 512 }
-    requires room { array_vec_len into.old ≤ 32 }
+    requires part { length bytes.now ≤ SEGMENT_BYTES }
+    requires room { array_vec_len into.old ≤ HEADER_BYTES }
     ensures bytes { into.new.items ≡ into.old.items ++ packet_bytes (packets.Reply from to number message.now dest bytes.now) }
     ensures few { array_vec_len into.new ≤ array_vec_len into.old + 1120 }
 {
@@ -184,7 +189,7 @@ fn put_reply(
 
 /// Appends bytes of a move to the sender.
 fn put_move_data(
-    into: &mut ArrayVec<u8, MOST>,
+    into: &mut ArrayVec<u8, FRAME_BYTES>,
     from: Pid,
     to: Pid,
     number: u64,
@@ -194,8 +199,8 @@ fn put_move_data(
     offset: u32,
     bytes: &[u8],
 )
-    requires part { length bytes.now ≤ 1024 }
-    requires room { array_vec_len into.old ≤ 32 }
+    requires part { length bytes.now ≤ DATA_BYTES }
+    requires room { array_vec_len into.old ≤ HEADER_BYTES }
     ensures bytes { into.new.items ≡ into.old.items ++ packet_bytes (packets.MoveData from to number moving dest total offset bytes.now) }
     ensures few { array_vec_len into.new ≤ array_vec_len into.old + 1120 }
 {
@@ -208,14 +213,14 @@ fn put_move_data(
 
 /// Appends how many bytes of a move were received.
 fn put_move_ack(
-    into: &mut ArrayVec<u8, MOST>,
+    into: &mut ArrayVec<u8, FRAME_BYTES>,
     from: Pid,
     to: Pid,
     number: u64,
     moving: u64,
     received: u32,
 )
-    requires { array_vec_len into.old ≤ 32 }
+    requires { array_vec_len into.old ≤ HEADER_BYTES }
     ensures bytes { into.new.items ≡ into.old.items ++ packet_bytes (packets.MoveAck from to number moving received) }
     ensures few { array_vec_len into.new ≤ array_vec_len into.old + 1120 }
 {
@@ -225,7 +230,7 @@ fn put_move_ack(
 
 /// Appends the question for bytes of a move from the sender.
 fn put_move_request(
-    into: &mut ArrayVec<u8, MOST>,
+    into: &mut ArrayVec<u8, FRAME_BYTES>,
     from: Pid,
     to: Pid,
     number: u64,
@@ -234,7 +239,7 @@ fn put_move_request(
     total: u32,
     offset: u32,
 )
-    requires { array_vec_len into.old ≤ 32 }
+    requires { array_vec_len into.old ≤ HEADER_BYTES }
     ensures bytes { into.new.items ≡ into.old.items ++ packet_bytes (packets.MoveRequest from to number moving src total offset) }
     ensures few { array_vec_len into.new ≤ array_vec_len into.old + 1120 }
 {
@@ -246,7 +251,7 @@ fn put_move_request(
 
 /// Appends bytes that were asked for.
 fn put_move_bytes(
-    into: &mut ArrayVec<u8, MOST>,
+    into: &mut ArrayVec<u8, FRAME_BYTES>,
     from: Pid,
     to: Pid,
     number: u64,
@@ -255,8 +260,8 @@ fn put_move_bytes(
     offset: u32,
     bytes: &[u8],
 )
-    requires part { length bytes.now ≤ 1024 }
-    requires room { array_vec_len into.old ≤ 32 }
+    requires part { length bytes.now ≤ DATA_BYTES }
+    requires room { array_vec_len into.old ≤ HEADER_BYTES }
     ensures bytes { into.new.items ≡ into.old.items ++ packet_bytes (packets.MoveBytes from to number moving total offset bytes.now) }
     ensures few { array_vec_len into.new ≤ array_vec_len into.old + 1120 }
 {
@@ -267,8 +272,8 @@ fn put_move_bytes(
 }
 
 /// Appends the question who is registered under a logical id.
-fn put_ask_pid(into: &mut ArrayVec<u8, MOST>, asker: Pid, lookup: u64, logical: u32)
-    requires { array_vec_len into.old ≤ 32 }
+fn put_ask_pid(into: &mut ArrayVec<u8, FRAME_BYTES>, asker: Pid, lookup: u64, logical: u32)
+    requires { array_vec_len into.old ≤ HEADER_BYTES }
     ensures bytes { into.new.items ≡ into.old.items ++ packet_bytes (packets.AskPid asker lookup logical) }
     ensures few { array_vec_len into.new ≤ array_vec_len into.old + 1120 }
 {
@@ -278,8 +283,8 @@ fn put_ask_pid(into: &mut ArrayVec<u8, MOST>, asker: Pid, lookup: u64, logical: 
 }
 
 /// Appends the answer who is.
-fn put_tell_pid(into: &mut ArrayVec<u8, MOST>, found: Pid, asker: Pid, lookup: u64)
-    requires { array_vec_len into.old ≤ 32 }
+fn put_tell_pid(into: &mut ArrayVec<u8, FRAME_BYTES>, found: Pid, asker: Pid, lookup: u64)
+    requires { array_vec_len into.old ≤ HEADER_BYTES }
     ensures bytes { into.new.items ≡ into.old.items ++ packet_bytes (packets.TellPid found asker lookup) }
     ensures few { array_vec_len into.new ≤ array_vec_len into.old + 1120 }
 {

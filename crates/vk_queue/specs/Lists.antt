@@ -31,4 +31,5 @@ with_list l list queue = record { slots = l.slots; lists = slice_set l.lists lis
 pub record IsApart (l : Lists) : Type 0 where
   pub slots : (list slot : ℕ) → holds slot (queue_at l.lists list) ≡ true → slot < l.slots
   pub once : (list : ℕ) → IsDistinct (λ a b. a == b) (queue_at l.lists list)
-  pub one_list : (list other slot : ℕ) → holds slot (queue_at l.lists list) ≡ true → holds slot (queue_at l.lists other) ≡ true → list ≡ other
+  pub one_list : (list other slot : ℕ) → holds slot (queue_at l.lists list) ≡ true → holds slot (queue_at l.lists other) ≡ true →
+      list ≡ other

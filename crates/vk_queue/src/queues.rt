@@ -59,7 +59,8 @@ impl Queues {
         ensures low { IfSome result (λ slot. slot < self.old.slots) }
         ensures listed { IfSome result (λ slot. list_with slot self.old.lists ≡ Some list) }
         ensures rest { self.new ≡ with_list self.old list (drop 1 (queue_at self.old.lists list)) }
-        ensures homes { IfSome result (λ slot. (s : ℕ) → list_with s self.new.lists ≡ (if s == slot then None else list_with s self.old.lists)) }
+        ensures homes { IfSome result (λ slot. (s : ℕ) →
+            list_with s self.new.lists ≡ (if s == slot then None else list_with s self.old.lists)) }
         ensures none { IfNone result (self.new ≡ self.old) }
         ensures apart { IsApart self.new }
     {
@@ -71,7 +72,8 @@ impl Queues {
     /// Takes a slot out of the list that it is in. The order of the others stays.
     pub fn unlink(&mut self, slot: u32)
         requires { IsSome (list_with slot self.old.lists) }
-        ensures out { let list = unwrap_or (list_with slot self.old.lists) 0 in self.new ≡ with_list self.old list (without slot (queue_at self.old.lists list)) }
+        ensures out { let list = unwrap_or (list_with slot self.old.lists) 0 in
+            self.new ≡ with_list self.old list (without slot (queue_at self.old.lists list)) }
         ensures homes { (s : ℕ) → list_with s self.new.lists ≡ (if s == slot then None else list_with s self.old.lists) }
         ensures apart { IsApart self.new }
     {

@@ -1,22 +1,14 @@
-//! Tests that cross crates, of what no contract says: whole inputs with their whole outputs, faults of the outside, and that
-//! each call of a process succeeds where there is memory enough.
+//! Tests that cross crates, of what no contract says: faults of the outside, limits, and packets and frames as bytes. Worked
+//! rows are no tests in code: they are files, in `vk_rows`.
 #![tactic(auto)]
 
 #[cfg(test)]
-mod answers;
+mod faults;
 #[cfg(test)]
 mod frames;
 #[cfg(test)]
-mod lookup_traces;
-#[cfg(test)]
-mod message_traces;
-#[cfg(test)]
-mod move_traces;
+mod limits;
 #[cfg(test)]
 mod packets;
 #[cfg(test)]
-mod tests;
-#[cfg(test)]
-mod trace_rows;
-#[cfg(test)]
-mod traces;
+mod running;

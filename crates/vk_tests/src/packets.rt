@@ -1,4 +1,4 @@
-//! Packets as bytes, from tables that were written by hand.
+//! Packets as bytes, from texts that were written by hand.
 
 use arrayvec::ArrayVec;
 use std::alloc::Global;
@@ -6,239 +6,139 @@ use std::test::Fail;
 use vk_base::{Message, Pid};
 use vk_packet::{PacketView, decode, encode};
 
-/// Packets: what each shows, its bytes in hexadecimal, field by field, and how many bytes `07` follow.
-const PACKETS: [(&str, &str, usize); 16] = [
-    (
-        "P: the Send of the first vector",
-        "01 00020001 00010001 0000000000000001 0a00000000000000000000000000000000000000000000000000000000000000",
-        0,
-    ),
-    (
-        "a message that lets an empty segment be read",
-        "01 00020001 00010001 0000000000000001 0b00000000000000000000000000000000000000000000000000000000000000",
-        0,
-    ),
-    (
-        "a segment of one byte",
-        "01 00020001 00010001 0000000000000001 0b00000000000000000000000000000000000000000000000000000000000001",
-        1,
-    ),
-    (
-        "a segment of 600 bytes, of which the first 512 come",
-        "01 00020001 00010001 0000000000000001 0b00000000000000000000000000000000000000000000000000000000000258",
-        512,
-    ),
-    (
-        "the Reply of the third vector",
-        "02 00010001 00020001 0000000000000001 0b00000000000000000000000000000000000000000000000000000000000000 00000000 0000",
-        0,
-    ),
-    (
-        "a Reply of 512 bytes",
-        "02 00010001 00020001 0000000000000001 0b00000000000000000000000000000000000000000000000000000000000000 00000006 0200",
-        512,
-    ),
-    (
-        "the Pending of the second vector",
-        "03 00010001 00020001 0000000000000001",
-        0,
-    ),
-    (
-        "the last number",
-        "04 00010001 00020001 7fffffffffffffff",
-        0,
-    ),
-    (
-        "the last bytes of the longest move",
-        "05 00020001 00010001 0000000000000001 0000000000000001 00000000 00010000 0000fc00",
-        1024,
-    ),
-    (
-        "a move of one byte",
-        "05 00020001 00010001 0000000000000001 0000000000000001 00000010 00000001 00000000",
-        1,
-    ),
-    (
-        "all was received",
-        "06 00010001 00020001 0000000000000001 0000000000000001 00010000",
-        0,
-    ),
-    (
-        "a request from the middle",
-        "07 00020001 00010001 0000000000000001 0000000000000001 00000000 00000800 00000400",
-        0,
-    ),
-    (
-        "what is left of a move of 1,025 bytes",
-        "08 00010001 00020001 0000000000000001 0000000000000001 00000401 00000400",
-        1,
-    ),
-    (
-        "a refused move",
-        "09 00010001 00020001 0000000000000001 0000000000000001",
-        0,
-    ),
-    (
-        "a question to all",
-        "0a 00020001 0000000000000001 00000007",
-        0,
-    ),
-    ("its answer", "0b 00010001 00020001 0000000000000001", 0),
-];
+/// Packets, one a line: what it shows, its bytes in hexadecimal, field by field, and how many bytes `07` follow.
+const PACKETS: &str =
+    "the Send of the first vector: 01 00020001 00010001 0000000000000001 0a00000000000000000000000000000000000000000000000000000000000000
+a message that lets an empty segment be read: 01 00020001 00010001 0000000000000001 0b00000000000000000000000000000000000000000000000000000000000000
+a segment of one byte: 01 00020001 00010001 0000000000000001 0b00000000000000000000000000000000000000000000000000000000000001 + 1
+a segment of 600 bytes, of which the first 512 come: 01 00020001 00010001 0000000000000001 0b00000000000000000000000000000000000000000000000000000000000258 + 512
+the Reply of the third vector: 02 00010001 00020001 0000000000000001 0b00000000000000000000000000000000000000000000000000000000000000 00000000 0000
+a Reply of 512 bytes: 02 00010001 00020001 0000000000000001 0b00000000000000000000000000000000000000000000000000000000000000 00000006 0200 + 512
+the Pending of the second vector: 03 00010001 00020001 0000000000000001
+the last number: 04 00010001 00020001 7fffffffffffffff
+the last bytes of the longest move: 05 00020001 00010001 0000000000000001 0000000000000001 00000000 00010000 0000fc00 + 1024
+a move of one byte: 05 00020001 00010001 0000000000000001 0000000000000001 00000010 00000001 00000000 + 1
+all was received: 06 00010001 00020001 0000000000000001 0000000000000001 00010000
+a request from the middle: 07 00020001 00010001 0000000000000001 0000000000000001 00000000 00000800 00000400
+what is left of a move of 1,025 bytes: 08 00010001 00020001 0000000000000001 0000000000000001 00000401 00000400 + 1
+a refused move: 09 00010001 00020001 0000000000000001 0000000000000001
+a question to all: 0a 00020001 0000000000000001 00000007
+its answer: 0b 00010001 00020001 0000000000000001
+";
 
 /// The same for bytes that are no packet.
-const OTHERS: [(&str, &str, usize); 24] = [
-    ("no bytes", "", 0),
-    (
-        "P without its last byte",
-        "01 00020001 00010001 0000000000000001 0a000000000000000000000000000000000000000000000000000000000000",
-        0,
-    ),
-    (
-        "P with one byte more",
-        "01 00020001 00010001 0000000000000001 0a00000000000000000000000000000000000000000000000000000000000000 00",
-        0,
-    ),
-    (
-        "a segment of one byte that does not come",
-        "01 00020001 00010001 0000000000000001 0b00000000000000000000000000000000000000000000000000000000000001",
-        0,
-    ),
-    (
-        "a part of a segment that must not be read",
-        "01 00020001 00010001 0000000000000001 0a00000000000000000000000000000000000000000000000000000000000001",
-        1,
-    ),
-    (
-        "a part of 513 bytes",
-        "01 00020001 00010001 0000000000000001 0b00000000000000000000000000000000000000000000000000000000000258",
-        513,
-    ),
-    (
-        "a Reply of 513 bytes",
-        "02 00010001 00020001 0000000000000001 0b00000000000000000000000000000000000000000000000000000000000000 00000000 0201",
-        513,
-    ),
-    (
-        "a count above the bytes",
-        "02 00010001 00020001 0000000000000001 0b00000000000000000000000000000000000000000000000000000000000000 00000000 0002",
-        1,
-    ),
-    ("the number 0", "03 00010001 00020001 0000000000000000", 0),
-    (
-        "the number 2^63",
-        "04 00010001 00020001 8000000000000000",
-        0,
-    ),
-    (
-        "an offset that is no multiple of 1,024",
-        "05 00020001 00010001 0000000000000001 0000000000000001 00000000 00010000 00000200",
-        1024,
-    ),
-    (
-        "one byte too few",
-        "05 00020001 00010001 0000000000000001 0000000000000001 00000000 00010000 0000fc00",
-        1023,
-    ),
-    (
-        "one byte too much received",
-        "06 00010001 00020001 0000000000000001 0000000000000001 00010001",
-        0,
-    ),
-    (
-        "an offset at the end",
-        "07 00020001 00010001 0000000000000001 0000000000000001 00000000 00000400 00000400",
-        0,
-    ),
-    (
-        "a move of no bytes",
-        "07 00020001 00010001 0000000000000001 0000000000000001 00000000 00000000 00000000",
-        0,
-    ),
-    (
-        "a move of 65,537 bytes",
-        "07 00020001 00010001 0000000000000001 0000000000000001 00000000 00010001 00000000",
-        0,
-    ),
-    (
-        "the move 0",
-        "08 00010001 00020001 0000000000000001 0000000000000000 00000001 00000000",
-        1,
-    ),
-    (
-        "a byte behind a refused move",
-        "09 00010001 00020001 0000000000000001 0000000000000001",
-        1,
-    ),
-    ("the lookup 0", "0a 00020001 0000000000000000 00000007", 0),
-    (
-        "a pid of host 65,535",
-        "0a ffff0001 0000000000000001 00000007",
-        0,
-    ),
-    (
-        "a pid of host 0",
-        "0b 00010001 00000001 0000000000000001",
-        0,
-    ),
-    (
-        "a pid of local 0",
-        "0b 00010000 00020001 0000000000000001",
-        0,
-    ),
-    ("kind 0", "00 00010001 00020001 0000000000000001", 0),
-    ("kind 12", "0c 00010001 00020001 0000000000000001", 0),
-];
+const OTHERS: &str = "no bytes: 
+the first without its last byte: 01 00020001 00010001 0000000000000001 0a000000000000000000000000000000000000000000000000000000000000
+the first with one byte more: 01 00020001 00010001 0000000000000001 0a00000000000000000000000000000000000000000000000000000000000000 00
+a segment of one byte that does not come: 01 00020001 00010001 0000000000000001 0b00000000000000000000000000000000000000000000000000000000000001
+a part of a segment that must not be read: 01 00020001 00010001 0000000000000001 0a00000000000000000000000000000000000000000000000000000000000001 + 1
+a part of 513 bytes: 01 00020001 00010001 0000000000000001 0b00000000000000000000000000000000000000000000000000000000000258 + 513
+a Reply of 513 bytes: 02 00010001 00020001 0000000000000001 0b00000000000000000000000000000000000000000000000000000000000000 00000000 0201 + 513
+a count above the bytes: 02 00010001 00020001 0000000000000001 0b00000000000000000000000000000000000000000000000000000000000000 00000000 0002 + 1
+the number 0: 03 00010001 00020001 0000000000000000
+the number 2^63: 04 00010001 00020001 8000000000000000
+an offset that is no multiple of 1,024: 05 00020001 00010001 0000000000000001 0000000000000001 00000000 00010000 00000200 + 1024
+one byte too few: 05 00020001 00010001 0000000000000001 0000000000000001 00000000 00010000 0000fc00 + 1023
+one byte too much received: 06 00010001 00020001 0000000000000001 0000000000000001 00010001
+an offset at the end: 07 00020001 00010001 0000000000000001 0000000000000001 00000000 00000400 00000400
+a move of no bytes: 07 00020001 00010001 0000000000000001 0000000000000001 00000000 00000000 00000000
+a move of 65,537 bytes: 07 00020001 00010001 0000000000000001 0000000000000001 00000000 00010001 00000000
+the move 0: 08 00010001 00020001 0000000000000001 0000000000000000 00000001 00000000 + 1
+a byte behind a refused move: 09 00010001 00020001 0000000000000001 0000000000000001 + 1
+the lookup 0: 0a 00020001 0000000000000000 00000007
+a pid of host 65,535: 0a ffff0001 0000000000000001 00000007
+a pid of host 0: 0b 00010001 00000001 0000000000000001
+a pid of local 0: 0b 00010000 00020001 0000000000000001
+kind 0: 00 00010001 00020001 0000000000000001
+kind 12: 0c 00010001 00020001 0000000000000001
+";
 
-/// The bytes of a row.
-fn bytes_of(alloc: Global, text: &str, more: usize) -> Result<Vec<u8>, Fail> {
+/// The row of that name among the packets.
+fn row<'a>(rows: &'a str, name: &str) -> Result<&'a str, Fail> {
+    for line in rows.lines() {
+        if let Some((named, row)) = line.split_once(": ") {
+            if named == name {
+                return Ok(row);
+            }
+        }
+    }
+    Err("a row")?
+}
+
+/// The bytes of these digits.
+fn hexadecimal(alloc: Global, text: &str) -> Result<Vec<u8>, Fail> {
     let mut digits = Vec::new(alloc);
     for digit in text.as_bytes() {
         if *digit != b' ' {
             digits.push(*digit)?;
         }
     }
-    let mut bytes = hex::decode(alloc, digits.as_slice())
-        .ok()
-        .ok_or("hexadecimal")?;
-    for _ in 0..more {
+    Ok(
+        hex::decode(alloc, digits.as_slice())
+            .ok()
+            .ok_or("hexadecimal")?,
+    )
+}
+
+/// The bytes of a row.
+fn bytes_of(alloc: Global, row: &str) -> Result<Vec<u8>, Fail> {
+    let Some((text, more)) = row.split_once(" + ") else {
+        return hexadecimal(alloc, row);
+    };
+    let mut bytes = hexadecimal(alloc, text)?;
+    for _ in 0..more.parse::<u16>().ok().ok_or("a count")? {
         bytes.push(7)?;
     }
     Ok(bytes)
 }
 
-/// Whether the packet is lawful and has the bytes of that row.
-fn is_spelled(alloc: Global, packet: &PacketView, row: usize) -> Result<bool, Fail> {
-    let (_, text, more) = PACKETS.get(row).ok_or("a row")?;
-    let bytes = bytes_of(alloc, text, *more)?;
-    let mut written = ArrayVec::new();
+/// Whether the packet is lawful and has the bytes.
+fn is_packet_of(packet: &PacketView, bytes: &[u8]) -> bool {
     if !packet.is_lawful() {
-        return Ok(false);
+        return false;
     }
+    let mut written = ArrayVec::new();
     encode(packet, &mut written);
-    Ok(written.as_slice() == bytes.as_slice())
+    written.as_slice() == bytes
+}
+
+/// Whether the packet is lawful and has the bytes of the row of that name.
+fn is_spelled(alloc: Global, packet: &PacketView, name: &str) -> Result<bool, Fail> {
+    let bytes = bytes_of(alloc, row(PACKETS, name)?)?;
+    Ok(is_packet_of(packet, &bytes))
+}
+
+/// Whether the bytes are read as a packet and that is written as them again, or, where none is wanted, are read as none.
+fn is_read_as_wanted(bytes: &[u8], wanted: bool) -> bool {
+    match decode(bytes) {
+        Some(packet) => wanted && is_packet_of(&packet, bytes),
+        None => !wanted,
+    }
+}
+
+/// The first row of which it is not so that its bytes are a packet's, or that they are none.
+fn first_wrong<'a>(alloc: Global, rows: &'a str, wanted: bool) -> Result<Option<&'a str>, Fail> {
+    for line in rows.lines() {
+        let (_, row) = line.split_once(": ").ok_or("a line")?;
+        let bytes = bytes_of(alloc, row)?;
+        if !is_read_as_wanted(&bytes, wanted) {
+            return Ok(Some(line));
+        }
+    }
+    Ok(None)
 }
 
 #[test]
 fn packets_are_read(rt: HostRuntime) -> Result<(), Fail> {
-    for (name, text, more) in PACKETS.iter() {
-        let bytes = bytes_of(rt.alloc(), text, *more)?;
-        let packet = decode(&bytes).ok_or(*name)?;
-        let mut written = ArrayVec::new();
-        encode(&packet, &mut written);
-        assert!(rt; written.as_slice() == bytes.as_slice(), "{name}");
-    }
-    for (name, text, more) in OTHERS.iter() {
-        let bytes = bytes_of(rt.alloc(), text, *more)?;
-        assert!(rt; decode(&bytes).is_none(), "{name}");
-    }
+    assert_eq!(rt; first_wrong(rt.alloc(), PACKETS, true)?, None);
+    assert_eq!(rt; first_wrong(rt.alloc(), OTHERS, false)?, None);
     Ok(())
 }
 
 /// A Send, field by field.
 #[test]
 fn a_send_is_read(rt: HostRuntime) -> Result<(), Fail> {
-    let bytes = bytes_of(rt.alloc(), PACKETS[2].1, PACKETS[2].2)?;
+    let bytes = bytes_of(rt.alloc(), row(PACKETS, "a segment of one byte")?)?;
     match decode(&bytes) {
         Some(
             PacketView::Send {
@@ -275,7 +175,7 @@ fn exchanges_are_written(rt: HostRuntime) -> Result<(), Fail> {
         message,
         part: &[],
     };
-    assert!(rt; is_spelled(alloc, &send, 0)?);
+    assert!(rt; is_spelled(alloc, &send, "the Send of the first vector")?);
     message.0[0] = 0x0b;
     let reply = PacketView::Reply {
         from: server,
@@ -285,13 +185,13 @@ fn exchanges_are_written(rt: HostRuntime) -> Result<(), Fail> {
         dest: 0,
         bytes: &[],
     };
-    assert!(rt; is_spelled(alloc, &reply, 4)?);
+    assert!(rt; is_spelled(alloc, &reply, "the Reply of the third vector")?);
     let negative = PacketView::Negative {
         from: server,
         to: client,
         number: (1 << 63) - 1,
     };
-    assert!(rt; is_spelled(alloc, &negative, 7)?);
+    assert!(rt; is_spelled(alloc, &negative, "the last number")?);
     Ok(())
 }
 
@@ -310,7 +210,7 @@ fn moves_and_lookups_are_written(rt: HostRuntime) -> Result<(), Fail> {
         offset: 0,
         bytes: &[7],
     };
-    assert!(rt; is_spelled(alloc, &data, 9)?);
+    assert!(rt; is_spelled(alloc, &data, "a move of one byte")?);
     let request = PacketView::MoveRequest {
         from: client,
         to: server,
@@ -320,12 +220,12 @@ fn moves_and_lookups_are_written(rt: HostRuntime) -> Result<(), Fail> {
         total: 2048,
         offset: 1024,
     };
-    assert!(rt; is_spelled(alloc, &request, 11)?);
+    assert!(rt; is_spelled(alloc, &request, "a request from the middle")?);
     let ask = PacketView::AskPid {
         asker: client,
         lookup: 1,
         logical: 7,
     };
-    assert!(rt; is_spelled(alloc, &ask, 14)?);
+    assert!(rt; is_spelled(alloc, &ask, "a question to all")?);
     Ok(())
 }

@@ -8,7 +8,8 @@ use Rattle.vk_text.proofs.HexDigits.{read_back}
 use Rattle.vk_text.specs.Words.{lower_hex}
 
 -- two digits are those of their byte
-pub byte_shown : (high low h l : ℕ) → slice_index lower_digits h ≡ high → slice_index lower_digits l ≡ low → l < 16 → encode_lower ((h * 16 + l) ∷ []) ≡ high ∷ low ∷ []
+pub byte_shown : (high low h l : ℕ) → slice_index lower_digits h ≡ high → slice_index lower_digits l ≡ low → l < 16
+    → encode_lower ((h * 16 + l) ∷ []) ≡ high ∷ low ∷ []
 unfolding encode_with
 byte_shown high low h l first second less =
     let quotient : (h * 16 + l) / 16 ≡ h = omega arith in
@@ -27,7 +28,8 @@ unfolding encode_with
 encode_append [] ys = refl
 encode_append (x ∷ xs) ys = ap (λ l. slice_index lower_digits (x / 16) ∷ slice_index lower_digits (x % 16) ∷ l) (encode_append xs ys)
 
-two_more : (word : List ℕ) (k : ℕ) → 2 * k + 1 < length word → take (2 * (k + 1)) word ≡ take (2 * k) word ++ get_or word (2 * k) 0 ∷ get_or word (2 * k + 1) 0 ∷ []
+two_more : (word : List ℕ) (k : ℕ) → 2 * k + 1 < length word
+    → take (2 * (k + 1)) word ≡ take (2 * k) word ++ get_or word (2 * k) 0 ∷ get_or word (2 * k + 1) 0 ∷ []
 two_more word k h =
     let count : 2 * (k + 1) ≡ 2 * k + 1 + 1 = omega arith in
     ap (λ n. take n word) count
@@ -36,7 +38,9 @@ two_more word k h =
     ∙ append_assoc (take (2 * k) word) (get_or word (2 * k) 0 ∷ []) (get_or word (2 * k + 1) 0 ∷ [])
 
 -- one byte more is two digits more
-pub byte_more : (word into : List ℕ) (k b : ℕ) → encode_lower (take k into) ≡ take (2 * k) word → encode_lower (b ∷ []) ≡ get_or word (2 * k) 0 ∷ get_or word (2 * k + 1) 0 ∷ [] → k < length into → 2 * k + 1 < length word → encode_lower (take (k + 1) (slice_set into k b)) ≡ take (2 * (k + 1)) word
+pub byte_more : (word into : List ℕ) (k b : ℕ) → encode_lower (take k into) ≡ take (2 * k) word
+    → encode_lower (b ∷ []) ≡ get_or word (2 * k) 0 ∷ get_or word (2 * k + 1) 0 ∷ [] → k < length into → 2 * k + 1 < length word
+    → encode_lower (take (k + 1) (slice_set into k b)) ≡ take (2 * (k + 1)) word
 byte_more word into k b front here less within =
     ap encode_lower (take_more_set into k b less)
     ∙ encode_append (take k into) (b ∷ [])
@@ -47,11 +51,13 @@ byte_more word into k b front here less within =
 pub bytes_set : (into : List ℕ) (k b : ℕ) → IsBytes into → b < 256 → k < length into → IsBytes (slice_set into k b)
 bytes_set into k b fits byte within = λ i. elim (cases_eq i k) [
   | inl here ↦ let read : slice_index (slice_set into k b) i ≡ b = get_or-set_at into k i b 0 here within in omega arith
-  | inr other ↦ let read : slice_index (slice_set into k b) i ≡ slice_index into i = get_or-set_other into k i b 0 other in let fit = fits i in omega arith
+  | inr other ↦ let read : slice_index (slice_set into k b) i ≡ slice_index into i =
+      get_or-set_other into k i b 0 other in let fit = fits i in omega arith
 ]
 
 -- the bytes whose digits are all of the word
-pub all_read : (word into : List ℕ) (k : ℕ) → encode_lower (take k into) ≡ take (2 * k) word → length into ≤ k → length into ≡ length word / 2 → length word % 2 ≡ 0 → IsBytes into → lower_hex word ≡ Some into
+pub all_read : (word into : List ℕ) (k : ℕ) → encode_lower (take k into) ≡ take (2 * k) word → length into ≤ k
+    → length into ≡ length word / 2 → length word % 2 ≡ 0 → IsBytes into → lower_hex word ≡ Some into
 all_read word into k front past half even fits =
     let text : encode_lower into ≡ word = ap encode_lower (sym (take_all k into past)) ∙ front ∙ take_all (2 * k) word (omega arith) in
     ap lower_hex (sym text) ∙ read_back into fits

@@ -8,7 +8,8 @@ use Rattle.vk_text.specs.Calls.{first_as, ended}
 use Rattle.vk_text.specs.Lines.{StartsNoWord}
 use Rattle.vk_text.specs.Words.{number_of, positive_of, count_of, station_of, pid_of, message_of, bytes_of, scope_of}
 
-pub no_first : {A : Type 0} (spelled : List ℕ → Option A) → spelled [] ≡ None → (ws : List (List ℕ)) → StartsNoWord ws → first_as spelled ws ≡ None
+pub no_first : {A : Type 0} (spelled : List ℕ → Option A) → spelled [] ≡ None → (ws : List (List ℕ)) → StartsNoWord ws
+    → first_as spelled ws ≡ None
 no_first spelled e [] h = refl
 no_first {A} spelled e ([] ∷ ws) h = ap (λ (o : Option A). o >>= λ a. Some (a, ws)) e
 no_first spelled e ((b ∷ bs) ∷ ws) h = absurd h
@@ -42,13 +43,31 @@ no_bytes ws h = no_first bytes_of refl ws h
 pub no_scope : (ws : List (List ℕ)) → StartsNoWord ws → first_as scope_of ws ≡ None
 no_scope ws h = no_first scope_of refl ws h
 
--- the first word is the text of what is read, and the words behind it are read on
-pub first_spelled : {A B : Type 0} (spelled : List ℕ → Option A) (text : A → List ℕ) → ((a : A) (w : List ℕ) → spelled w ≡ Some a → w ≡ text a) → (next : A × List (List ℕ) → Option B) (b : B) (ws : List (List ℕ)) → (first_as spelled ws >>= next) ≡ Some b → (a : A) × (rest : List (List ℕ)) × (ws ≡ text a ∷ rest) × (next (a, rest) ≡ Some b)
-first_spelled spelled text is next b [] h = cc
-first_spelled spelled text is next b (w ∷ ws) h =
+-- the first word, what is read of it, and the words behind it, which are read on
+first_is : {A B : Type 0} (spelled : List ℕ → Option A) (next : A × List (List ℕ) → Option B) (b : B) (ws : List (List ℕ))
+    → (first_as spelled ws >>= next) ≡ Some b
+    → (a : A) × (w : List ℕ) × (rest : List (List ℕ)) × (ws ≡ w ∷ rest) × (spelled w ≡ Some a) × (next (a, rest) ≡ Some b)
+first_is spelled next b [] h = cc
+first_is spelled next b (w ∷ ws) h =
     let here = bind_is (spelled w >>= λ a. Some (a, ws)) next b h in
     let read = bind_is (spelled w) (λ a. Some (a, ws)) here.0 here.1 in
-    (read.0, ws, ap (λ l. l ∷ ws) (is read.0 w read.1), ap next (cond_some true (read.0, ws) here.0 read.2).1 ∙ here.2)
+    (read.0, w, ws, refl, read.1, ap next (cond_some true (read.0, ws) here.0 read.2).1 ∙ here.2)
+
+-- the first word is the text of what is read
+pub first_spelled : {A B : Type 0} (spelled : List ℕ → Option A) (text : A → List ℕ)
+    → ((a : A) (w : List ℕ) → spelled w ≡ Some a → w ≡ text a) → (next : A × List (List ℕ) → Option B) (b : B) (ws : List (List ℕ))
+    → (first_as spelled ws >>= next) ≡ Some b → (a : A) × (rest : List (List ℕ)) × (ws ≡ text a ∷ rest) × (next (a, rest) ≡ Some b)
+first_spelled spelled text is next b ws h =
+    let first = first_is spelled next b ws h in
+    (first.0, first.2, first.3 ∙ ap (λ l. l ∷ first.2) (is first.0 first.1 first.4), first.5)
+
+-- what is read of the first word has what all that is read has
+pub first_holds : {A B : Type 0} (spelled : List ℕ → Option A) (P : A → Type 0) → ((a : A) (w : List ℕ) → spelled w ≡ Some a → P a)
+    → (next : A × List (List ℕ) → Option B) (b : B) (ws : List (List ℕ)) → (first_as spelled ws >>= next) ≡ Some b
+    → (a : A) × (rest : List (List ℕ)) × P a × (next (a, rest) ≡ Some b)
+first_holds spelled P is next b ws h =
+    let first = first_is spelled next b ws h in
+    (first.0, first.2, is first.0 first.1 first.4, first.5)
 
 -- no word is left behind what is read
 pub ended_is : {A : Type 0} (ws : List (List ℕ)) (a b : A) → ended ws a ≡ Some b → (ws ≡ []) × (a ≡ b)

@@ -26,7 +26,8 @@ digit_back c v lower h =
     let none : not (slice_index lower_digits (unwrap_or (hex_digit_value c) 0) == c) ≡ false = rw lower at (never c (below_g c lower)) in
     ap (λ (o : Option ℕ). slice_index lower_digits (unwrap_or o 0)) (sym h) ∙ eqb-true _ c (not-false _ none)
 
-then_ok : {A B : Type 0} (r : Result A FromHexError) (f : A → Result B FromHexError) (y : B) → (r >>= f) ≡ Ok y → (x : A) × (r ≡ Ok x) × (f x ≡ Ok y)
+then_ok : {A B : Type 0} (r : Result A FromHexError) (f : A → Result B FromHexError) (y : B) → (r >>= f) ≡ Ok y
+    → (x : A) × (r ≡ Ok x) × (f x ≡ Ok y)
 then_ok (Ok x) f y h = (x, refl, h)
 then_ok (Err e) f y h = cc
 
@@ -38,7 +39,8 @@ small : (c v : ℕ) → hex_digit_value c ≡ Some v → v < 16
 small c v h = grind arith
 
 -- what lower-case digits decode to is written as they are
-pub encoded_back : (i : ℕ) (word bytes : List ℕ) → list_all is_lower_hex word ≡ true → decode_pairs i word ≡ Ok bytes → encode_lower bytes ≡ word
+pub encoded_back : (i : ℕ) (word bytes : List ℕ) → list_all is_lower_hex word ≡ true → decode_pairs i word ≡ Ok bytes
+    → encode_lower bytes ≡ word
 unfolding decode_pairs encode_with
 encoded_back i [] bytes lower h = ap (λ (r : Result (List ℕ) FromHexError). encode_lower (result_unwrap_or r [])) (sym h)
 encoded_back i (a ∷ []) bytes lower h = cc
@@ -59,7 +61,9 @@ encoded_back i (a ∷ b ∷ rest) bytes lower h =
     let rest_of : pair.0 % 16 ≡ second.0 = omega arith in
     let one : slice_index lower_digits (pair.0 / 16) ≡ a = ap (slice_index lower_digits) quotient ∙ digit_back a first.0 digits.0 high in
     let two : slice_index lower_digits (pair.0 % 16) ≡ b = ap (slice_index lower_digits) rest_of ∙ digit_back b second.0 others.0 low in
-    ap encode_lower (sym whole) ∙ ap (λ (c : ℕ). c ∷ slice_index lower_digits (pair.0 % 16) ∷ encode_lower more.0) one ∙ ap (λ (c : ℕ). a ∷ c ∷ encode_lower more.0) two ∙ ap (λ (l : List ℕ). a ∷ b ∷ l) (encoded_back (i + 2) rest more.0 others.1 more.1)
+    ap encode_lower (sym whole) ∙ ap (λ (c : ℕ). c ∷ slice_index lower_digits (pair.0 % 16) ∷ encode_lower more.0) one
+    ∙ ap (λ (c : ℕ). a ∷ c ∷ encode_lower more.0) two
+    ∙ ap (λ (l : List ℕ). a ∷ b ∷ l) (encoded_back (i + 2) rest more.0 others.1 more.1)
 
 lower_digit : (d : ℕ) → d < 16 → is_lower_hex (slice_index lower_digits d) ≡ true
 lower_digit d h = agree_below_at (λ d. is_lower_hex (slice_index lower_digits d)) (λ d. true) 16 d refl h
@@ -76,7 +80,8 @@ pub ok_of : (d : Result (List ℕ) FromHexError) (bytes : List ℕ) → result_o
 ok_of (Ok bs) bytes h = ap Ok (ap (λ (o : Option (List ℕ)). elim o [ None ↦ bytes | Some x ↦ x ]) h)
 ok_of (Err e) bytes h = cc
 
-by_lower_case : (b : Bool) (word bytes : List ℕ) → b ≡ list_all is_lower_hex word → cond b (result_ok (decode_of word)) None ≡ Some bytes → encode_lower bytes ≡ word
+by_lower_case : (b : Bool) (word bytes : List ℕ) → b ≡ list_all is_lower_hex word → cond b (result_ok (decode_of word)) None ≡ Some bytes
+    → encode_lower bytes ≡ word
 by_lower_case true word bytes e h =
     let read : decode_of word ≡ Ok bytes = ok_of (decode_of word) bytes h in
     let even = (decode_of-ok word bytes read).0 in

@@ -1,8 +1,10 @@
+pub mod Bodies
 pub mod ByteLists
 pub mod CallWords
 pub mod Decoding
 pub mod Firsts
 pub mod Fronts
+pub mod HeadRanges
 pub mod HeadReading
 pub mod HeadTexts
 pub mod HexDigits
@@ -13,5 +15,6 @@ pub mod Numerals
 pub mod Parts
 pub mod PidWords
 pub mod PlainWords
+pub mod Ranges
 pub mod ReadBack
 pub mod Spelled

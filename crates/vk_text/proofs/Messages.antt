@@ -23,7 +23,8 @@ some_byte [] h = cc
 some_byte (b ∷ bs) h = omega arith
 
 zeros_behind : (f : List ℕ) (k i : ℕ) → length f ≤ i → i < length f + k → get_or (f ++ replicate k 0) i 0 ≡ 0
-zeros_behind f k i low high = get_or-append_right f (replicate k 0) (length f) i 0 refl low ∙ get_or-replicate k (i - length f) 0 0 (omega arith)
+zeros_behind f k i low high =
+    get_or-append_right f (replicate k 0) (length f) i 0 refl low ∙ get_or-replicate k (i - length f) 0 0 (omega arith)
 
 -- zeros behind a last byte that is not 0 are left out
 pub filled-padded : (bytes : List ℕ) (k : ℕ) → ends_filled bytes ≡ true → filled (bytes ++ replicate k 0) ≡ bytes
@@ -33,9 +34,11 @@ filled-padded bytes k h =
     let zeros : suffix_len (λ b. b == 0) (bytes ++ replicate k 0) ≡ length (bytes ++ replicate k 0) - length bytes =
     suffix_len_is (λ b. b == 0) (bytes ++ replicate k 0) (length bytes) 0 (omega arith)
     (λ i low high. ap (λ n. n == 0) (zeros_behind bytes k i low (omega arith)))
-    (λ l. let here : get_or (bytes ++ replicate k 0) (length bytes - 1) 0 ≡ get_or bytes (length bytes - 1) 0 = grind (arith, common_steps) in ap (λ n. n == 0) here ∙ not-true _ h) in
+    (λ l. let here : get_or (bytes ++ replicate k 0) (length bytes - 1) 0 ≡ get_or bytes (length bytes - 1) 0 = grind
+    (arith, common_steps) in ap (λ n. n == 0) here ∙ not-true _ h) in
     let left : length (bytes ++ replicate k 0) - suffix_len (λ b. b == 0) (bytes ++ replicate k 0) ≡ length bytes = omega arith in
-    ap (λ n. take n (bytes ++ replicate k 0)) left ∙ take-append-le (length bytes) bytes (replicate k 0) (omega arith) ∙ take_all (length bytes) bytes (omega arith)
+    ap (λ n. take n (bytes ++ replicate k 0)) left ∙ take-append-le (length bytes) bytes (replicate k 0) (omega arith)
+    ∙ take_all (length bytes) bytes (omega arith)
 
 -- what is left out is zeros
 left_out : (m : List ℕ) (i : ℕ) → length m - suffix_len (λ b. b == 0) m ≤ i → i < length m → get_or m i 0 ≡ 0
@@ -56,7 +59,8 @@ padded-filled m len =
     ext_get_or 0 (filled m ++ replicate (32 - length (filled m)) 0) m total
     (λ i l. elim (cases_lt i n) [
       | inl front ↦
-          let read : get_or (filled m ++ replicate (32 - length (filled m)) 0) i 0 ≡ get_or (filled m) i 0 = get_or-append (filled m) (replicate (32 - length (filled m)) 0) 0 i (omega arith) in
+          let read : get_or (filled m ++ replicate (32 - length (filled m)) 0) i 0 ≡ get_or (filled m) i 0 =
+          get_or-append (filled m) (replicate (32 - length (filled m)) 0) 0 i (omega arith) in
           read ∙ get_or-take n m i 0 front
       | inr back ↦
           zeros_behind (filled m) (32 - length (filled m)) i (omega arith) (omega arith) ∙ sym (left_out m i back (omega arith))
@@ -68,8 +72,10 @@ ends m some =
     let short : length (filled m) ≡ n = length-filled m in
     let stops = prefix_len_stops (λ b. b == 0) (reverse m) 0 (omega (arith, length-reverse m)) in
     let place : length m - 1 - suffix_len (λ b. b == 0) m ≡ length (filled m) - 1 = omega arith in
-    let here : get_or (reverse m) (suffix_len (λ b. b == 0) m) 0 ≡ get_or m (length (filled m) - 1) 0 = get_or-reverse m (suffix_len (λ b. b == 0) m) 0 (omega arith) ∙ ap (λ k. get_or m k 0) place in
-    let kept : get_or (filled m) (length (filled m) - 1) 0 ≡ get_or m (length (filled m) - 1) 0 = get_or-take n m (length (filled m) - 1) 0 (omega arith) in
+    let here : get_or (reverse m) (suffix_len (λ b. b == 0) m) 0 ≡ get_or m (length (filled m) - 1) 0 =
+    get_or-reverse m (suffix_len (λ b. b == 0) m) 0 (omega arith) ∙ ap (λ k. get_or m k 0) place in
+    let kept : get_or (filled m) (length (filled m) - 1) 0 ≡ get_or m (length (filled m) - 1) 0 =
+    get_or-take n m (length (filled m) - 1) 0 (omega arith) in
     not_from_false _ (ap (λ k. k == 0) (kept ∙ sym here) ∙ stops)
 
 of_bytes : (word bytes : List ℕ) (m : Message) → lower_hex word ≡ Some bytes → shown bytes ≡ Some m → word ≡ message_text m
@@ -77,7 +83,9 @@ unfolding shown message_text
 of_bytes word bytes m lower h =
     let got = cond_some (nat_le (length bytes) 32 && ends_filled bytes) (padded bytes) m h in
     let tests = and_parts (nat_le (length bytes) 32) (ends_filled bytes) got.0 in
-    let text : message_text (padded bytes) ≡ word = ap bytes_text (filled-padded bytes (32 - length bytes) tests.1) ∙ some_text bytes (some_byte bytes tests.1) ∙ written word bytes lower in
+    let text : message_text (padded bytes) ≡ word =
+    ap bytes_text (filled-padded bytes (32 - length bytes) tests.1) ∙ some_text bytes (some_byte bytes tests.1)
+    ∙ written word bytes lower in
     sym text ∙ ap message_text got.1
 
 dash_text : (m : Message) → padded [] ≡ m → codes "-" ≡ message_text m
@@ -96,15 +104,19 @@ message_spelled m word h = elim (cases_Bool (bytes_eq word (codes "-"))) [
       of_bytes word read.0 m read.1 read.2
 ]
 
-shown_is : (bytes : List ℕ) (m : Message) → length bytes ≤ 32 → ends_filled bytes ≡ true → bytes ++ replicate (32 - length bytes) 0 ≡ m.0 → shown bytes ≡ Some m
+shown_is : (bytes : List ℕ) (m : Message) → length bytes ≤ 32 → ends_filled bytes ≡ true → bytes ++ replicate (32 - length bytes) 0 ≡ m.0
+    → shown bytes ≡ Some m
 unfolding shown
-shown_is bytes m le full h = cond-true _ _ _ (and_from _ _ (le-leb (length bytes) 32 le) full) ∙ ap (λ (l : List ℕ). let x : Message = record { 0 = l } in Some x) h
+shown_is bytes m le full h =
+    cond-true _ _ _ (and_from _ _ (le-leb (length bytes) 32 le) full) ∙ ap (λ (l : List ℕ). let x : Message = record { 0 = l } in Some x) h
 
-text_read : (f : List ℕ) (m : Message) → IsBytes f → length f ≤ 32 → (0 < length f → ends_filled f ≡ true) → f ++ replicate (32 - length f) 0 ≡ m.0 → message_of (bytes_text f) ≡ Some m
+text_read : (f : List ℕ) (m : Message) → IsBytes f → length f ≤ 32 → (0 < length f → ends_filled f ≡ true)
+    → f ++ replicate (32 - length f) 0 ≡ m.0 → message_of (bytes_text f) ≡ Some m
 unfolding message_of
 text_read [] m fit le full h = ap (λ (l : List ℕ). let x : Message = record { 0 = l } in Some x) h
 text_read (b ∷ bs) m fit le full h =
-    no_dash (encode_lower (b ∷ bs)) (no_dash_in b bs) ∙ ap (λ (o : Option (List ℕ)). o >>= shown) (read_back (b ∷ bs) fit) ∙ shown_is (b ∷ bs) m le (full (omega arith)) h
+    no_dash (encode_lower (b ∷ bs)) (no_dash_in b bs) ∙ ap (λ (o : Option (List ℕ)). o >>= shown) (read_back (b ∷ bs) fit)
+    ∙ shown_is (b ∷ bs) m le (full (omega arith)) h
 
 taken : (m : List ℕ) (n i : ℕ) → IsBytes m → get_or (take n m) i 0 < 256
 taken m n i fit = elim (cases_lt i n) [

@@ -20,7 +20,8 @@ nowhere false i h = refl
 pub front_all : (p : ℕ → Bool) (xs : List ℕ) → position p xs ≡ None → xs ≡ before_first p xs
 front_all p xs h =
     elim (cases_lt (position_or_len p xs) (length xs)) [
-      | inl less ↦ let no : nat_lt (position_or_len p xs) (length xs) ≡ false = nowhere _ _ h in absurd (true≢false (sym (lt-ltb _ _ less) ∙ no))
+      | inl less ↦ let no : nat_lt (position_or_len p xs) (length xs) ≡ false = nowhere _ _ h in absurd
+          (true≢false (sym (lt-ltb _ _ less) ∙ no))
       | inr past ↦ sym (take_all (position_or_len p xs) xs past)
     ]
 
@@ -33,28 +34,40 @@ other_byte a xs k h = elim (cases_Bool (slice_index xs k == a)) [
 -- what stands before the first such byte that a search gives, and all where it gives none
 pub front_searched : (a : ℕ) (xs : List ℕ) (i : ℕ) → IsFirstByte (is_byte a) xs (Some i) → take i xs ≡ before_first (λ b. b == a) xs
 front_searched a xs i h =
-    ap (λ n. take n xs) (sym (position_or_len_is (λ b. b == a) xs i 0 (omega (arith, h.0.high)) (λ k less. other_byte a xs k (h.0.before k (omega arith) less)) (λ less. h.1)))
+    ap (λ n. take n xs) (sym (position_or_len_is (λ b. b == a) xs i 0 (omega (arith, h.0.high))
+    (λ k less. other_byte a xs k (h.0.before k (omega arith) less)) (λ less. h.1)))
 
 pub all_searched : (a : ℕ) (xs : List ℕ) → IsFirstByte (is_byte a) xs None → xs ≡ before_first (λ b. b == a) xs
 all_searched a xs h =
-    sym (take_all (position_or_len (λ b. b == a) xs) xs (omega (arith, position_or_len_is (λ b. b == a) xs (length xs) 0 (omega arith) (λ k less. other_byte a xs k (h k (omega arith) less)) (λ less. absurd (omega arith)))))
+    sym (take_all (position_or_len (λ b. b == a) xs) xs
+    (omega (
+      arith,
+      position_or_len_is (λ b. b == a) xs (length xs) 0 (omega arith)
+          (λ k less. other_byte a xs k (h k (omega arith) less)) (λ less. absurd (omega arith)),
+    )))
 
 within : (p : ℕ → Bool) (xs : List ℕ) → length (before_first p xs) ≡ position_or_len p xs
 within p xs = length-take-le (position_or_len p xs) xs (prefix_len-le-length (λ x. not (p x)) xs)
 
-longer : (x : ℕ) (xs : List ℕ) (n : ℕ) → lines_of xs ≡ take n xs ∷ lines_of (drop (n + 1) xs) → onto_first x (lines_of xs) ≡ take (1 + n) (x ∷ xs) ∷ lines_of (drop (1 + n + 1) (x ∷ xs))
+longer : (x : ℕ) (xs : List ℕ) (n : ℕ) → lines_of xs ≡ take n xs ∷ lines_of (drop (n + 1) xs)
+    → onto_first x (lines_of xs) ≡ take (1 + n) (x ∷ xs) ∷ lines_of (drop (1 + n + 1) (x ∷ xs))
 longer x xs n h =
     let more : 1 + n + 1 ≡ suc (n + 1) = omega arith in
     let one : 1 + n ≡ suc n = omega arith in
     rw (h, more, one) refl
 
 -- the last line lacks its line feed, or there is another part
-after_one : (x : ℕ) (xs : List ℕ) → (0 < length xs → lines_of xs ≡ before_first (λ b. b == 10) xs ∷ lines_of (after_first (λ b. b == 10) xs)) → onto_first x (lines_of xs) ≡ take (1 + position_or_len (λ b. b == 10) xs) (x ∷ xs) ∷ lines_of (drop (1 + position_or_len (λ b. b == 10) xs + 1) (x ∷ xs))
+after_one : (x : ℕ) (xs : List ℕ) → (0 < length xs → lines_of xs ≡ before_first (λ b. b == 10) xs ∷ lines_of
+    (after_first (λ b. b == 10) xs)) → onto_first x (lines_of xs) ≡ take (1 + position_or_len (λ b. b == 10) xs) (x ∷ xs) ∷ lines_of
+    (drop (1 + position_or_len (λ b. b == 10) xs + 1) (x ∷ xs))
 unfolding lines_of
 after_one x [] h = refl
 after_one x (y ∷ ys) h = longer x (y ∷ ys) (position_or_len (λ b. b == 10) (y ∷ ys)) (h (omega arith))
 
-by_feed : (b : Bool) (x : ℕ) (xs : List ℕ) → (0 < length xs → lines_of xs ≡ before_first (λ b. b == 10) xs ∷ lines_of (after_first (λ b. b == 10) xs)) → (let n = cond (not b) (1 + position_or_len (λ b. b == 10) xs) 0 in cond b ([] ∷ lines_of xs) (onto_first x (lines_of xs)) ≡ take n (x ∷ xs) ∷ lines_of (drop (n + 1) (x ∷ xs)))
+by_feed : (b : Bool) (x : ℕ) (xs : List ℕ) →
+    (0 < length xs → lines_of xs ≡ before_first (λ b. b == 10) xs ∷ lines_of (after_first (λ b. b == 10) xs)) →
+    (let n = cond (not b) (1 + position_or_len (λ b. b == 10) xs) 0 in cond b ([] ∷ lines_of xs) (onto_first x (lines_of xs)) ≡ take n
+    (x ∷ xs) ∷ lines_of (drop (n + 1) (x ∷ xs)))
 by_feed true x xs h = refl
 by_feed false x xs h = after_one x xs h
 
@@ -68,16 +81,22 @@ unfolding lines_of
 lines_behind text at h = ap lines_of (drop_all at text h)
 
 -- the line that starts at a place, and where the next starts
-pub line_at : (text rest line : List ℕ) (at : ℕ) → rest ≡ drop at text → line ≡ before_first (λ b. b == 10) rest → 0 < length rest → lines_of (drop at text) ≡ line ∷ lines_of (drop (at + length line + 1) text)
+pub line_at : (text rest line : List ℕ) (at : ℕ) → rest ≡ drop at text → line ≡ before_first (λ b. b == 10) rest → 0 < length rest
+    → lines_of (drop at text) ≡ line ∷ lines_of (drop (at + length line + 1) text)
 line_at text rest line at whole front some =
     let len : length line ≡ position_or_len (λ b. b == 10) rest = ap length front ∙ within (λ b. b == 10) rest in
     let place : at + (position_or_len (λ b. b == 10) rest + 1) ≡ at + length line + 1 = omega arith in
-    let here : after_first (λ b. b == 10) rest ≡ drop (at + length line + 1) text = ap (drop (position_or_len (λ b. b == 10) rest + 1)) whole ∙ drop-drop (position_or_len (λ b. b == 10) rest + 1) at text ∙ ap (λ n. drop n text) place in
-    ap lines_of (sym whole) ∙ line_first rest some ∙ ap (λ l. l ∷ lines_of (after_first (λ b. b == 10) rest)) (sym front) ∙ ap (λ l. line ∷ lines_of l) here
+    let here : after_first (λ b. b == 10) rest ≡ drop (at + length line + 1) text =
+    ap (drop (position_or_len (λ b. b == 10) rest + 1)) whole ∙ drop-drop (position_or_len (λ b. b == 10) rest + 1) at text
+    ∙ ap (λ n. drop n text) place in
+    ap lines_of (sym whole) ∙ line_first rest some ∙ ap (λ l. l ∷ lines_of (after_first (λ b. b == 10) rest)) (sym front)
+    ∙ ap (λ l. line ∷ lines_of l) here
 
-pub line_last : (text rest line : List ℕ) (at : ℕ) → rest ≡ drop at text → line ≡ before_first (λ b. b == 10) rest → 0 < length rest → length text ≤ at + length line → lines_of (drop at text) ≡ line ∷ lines_of (drop (at + length line) text)
+pub line_last : (text rest line : List ℕ) (at : ℕ) → rest ≡ drop at text → line ≡ before_first (λ b. b == 10) rest → 0 < length rest
+    → length text ≤ at + length line → lines_of (drop at text) ≡ line ∷ lines_of (drop (at + length line) text)
 line_last text rest line at whole front some past =
-    line_at text rest line at whole front some ∙ ap (λ l. line ∷ l) (lines_behind text (at + length line + 1) (omega arith) ∙ sym (lines_behind text (at + length line) past))
+    line_at text rest line at whole front some
+    ∙ ap (λ l. line ∷ l) (lines_behind text (at + length line + 1) (omega arith) ∙ sym (lines_behind text (at + length line) past))
 
 pub words_behind : (line : List ℕ) (at : ℕ) → length line < at → words_from line at ≡ []
 unfolding words_from
@@ -87,24 +106,34 @@ pub words_within : (line : List ℕ) (at : ℕ) → at ≤ length line → words
 unfolding words_from
 words_within line at h = cond-false _ _ _ (le-ltb (length line) at h)
 
-split_word : (line rest : List ℕ) (at : ℕ) → rest ≡ drop at line → at < length line → slice_split (λ b. b == 32) rest ≡ before_first (λ b. b == 32) rest ∷ words_from line (at + position_or_len (λ b. b == 32) rest + 1)
+split_word : (line rest : List ℕ) (at : ℕ) → rest ≡ drop at line → at < length line
+    → slice_split (λ b. b == 32) rest ≡ before_first (λ b. b == 32) rest ∷ words_from line (at + position_or_len (λ b. b == 32) rest + 1)
 split_word line rest at whole some =
     let len : length rest + at ≡ length line = ap (λ (l : List ℕ). length l + at) whole ∙ omega (arith, length-drop at line) in
     elim (cases_lt (position_or_len (λ b. b == 32) rest) (length rest)) [
       | inl less ↦
           let place : at + (position_or_len (λ b. b == 32) rest + 1) ≡ at + position_or_len (λ b. b == 32) rest + 1 = omega arith in
-          let here : after_first (λ b. b == 32) rest ≡ drop (at + position_or_len (λ b. b == 32) rest + 1) line = ap (drop (position_or_len (λ b. b == 32) rest + 1)) whole ∙ drop-drop (position_or_len (λ b. b == 32) rest + 1) at line ∙ ap (λ n. drop n line) place in
-          slice_split_first (λ b. b == 32) rest 0 less ∙ ap (λ l. before_first (λ b. b == 32) rest ∷ slice_split (λ b. b == 32) l) here ∙ ap (λ l. before_first (λ b. b == 32) rest ∷ l) (sym (words_within line (at + position_or_len (λ b. b == 32) rest + 1) (omega arith)))
+          let here : after_first (λ b. b == 32) rest ≡ drop (at + position_or_len (λ b. b == 32) rest + 1) line =
+          ap (drop (position_or_len (λ b. b == 32) rest + 1)) whole ∙ drop-drop (position_or_len (λ b. b == 32) rest + 1) at line
+          ∙ ap (λ n. drop n line) place in
+          slice_split_first (λ b. b == 32) rest 0 less ∙ ap (λ l. before_first (λ b. b == 32) rest ∷ slice_split (λ b. b == 32) l) here
+          ∙ ap (λ l. before_first (λ b. b == 32) rest ∷ l)
+          (sym (words_within line (at + position_or_len (λ b. b == 32) rest + 1) (omega arith)))
       | inr past ↦
           let all : before_first (λ b. b == 32) rest ≡ rest = take_all (position_or_len (λ b. b == 32) rest) rest past in
-          slice_split_none (λ b. b == 32) rest (λ k d l. fails_before_first (λ b. b == 32) rest k d (omega arith)) ∙ ap (λ l. l ∷ []) (sym all) ∙ ap (λ l. before_first (λ b. b == 32) rest ∷ l) (sym (words_behind line (at + position_or_len (λ b. b == 32) rest + 1) (omega arith)))
+          slice_split_none (λ b. b == 32) rest (λ k d l. fails_before_first (λ b. b == 32) rest k d (omega arith)) ∙ ap (λ l. l ∷ [])
+          (sym all) ∙ ap (λ l. before_first (λ b. b == 32) rest ∷ l)
+          (sym (words_behind line (at + position_or_len (λ b. b == 32) rest + 1) (omega arith)))
     ]
 
 -- the part that starts at a place, and where the next would start
-pub word_at : (line rest word : List ℕ) (at : ℕ) → rest ≡ drop at line → word ≡ before_first (λ b. b == 32) rest → at < length line → words_from line at ≡ word ∷ words_from line (at + length word + 1)
+pub word_at : (line rest word : List ℕ) (at : ℕ) → rest ≡ drop at line → word ≡ before_first (λ b. b == 32) rest → at < length line
+    → words_from line at ≡ word ∷ words_from line (at + length word + 1)
 word_at line rest word at whole front some =
     let len : length word ≡ position_or_len (λ b. b == 32) rest = ap length front ∙ within (λ b. b == 32) rest in
-    words_within line at (omega arith) ∙ ap (slice_split (λ b. b == 32)) (sym whole) ∙ split_word line rest at whole some ∙ ap (λ l. l ∷ words_from line (at + position_or_len (λ b. b == 32) rest + 1)) (sym front) ∙ ap (λ n. word ∷ words_from line (at + n + 1)) (sym len)
+    words_within line at (omega arith) ∙ ap (slice_split (λ b. b == 32)) (sym whole) ∙ split_word line rest at whole some
+    ∙ ap (λ l. l ∷ words_from line (at + position_or_len (λ b. b == 32) rest + 1)) (sym front)
+    ∙ ap (λ n. word ∷ words_from line (at + n + 1)) (sym len)
 
 -- no word stands where the first part is empty, nor at the line's end and behind it
 pub empty_first : (ws rest : List (List ℕ)) (word : List ℕ) → ws ≡ word ∷ rest → length word ≡ 0 → StartsNoWord ws
@@ -126,5 +155,6 @@ pub is_end-words_from : (line : List ℕ) (at : ℕ) → nat_lt (length line) at
 is_end-words_from line at =
     elim (cases_lt (length line) at) [
       | inl past ↦ lt-ltb (length line) at past ∙ sym (ap is_end (words_behind line at past))
-      | inr within ↦ le-ltb (length line) at within ∙ sym (ap is_end (words_within line at within) ∙ is_end-some _ (omega (arith, length-slice_split (λ b. b == 32) (drop at line))))
+      | inr within ↦ le-ltb (length line) at within
+          ∙ sym (ap is_end (words_within line at within) ∙ is_end-some _ (omega (arith, length-slice_split (λ b. b == 32) (drop at line))))
     ]

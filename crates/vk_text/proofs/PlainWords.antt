@@ -47,10 +47,15 @@ number_plain n h = plain_by is_ascii_digit digit_visible (decimal n) (decimal_di
 pub count_plain : (n : ℕ) → n < 2 ^ 32 → IsPlain (decimal n)
 count_plain n h = number_plain n (omega arith)
 
+pub ordinal_plain : (n : ℕ) → n < 2 ^ 63 → IsPlain (decimal n)
+ordinal_plain n h = number_plain n (omega arith)
+
 pub pid_plain : (p : Pid) → IsPid p → IsPlain (pid_text p)
 pid_plain p fits =
     let host = p.one_host in
-    All-append IsVisible (decimal p.host ++ codes ".") (decimal p.local) (All-append IsVisible (decimal p.host) (codes ".") (number_plain p.host (omega arith)) (letters (codes ".") refl)) (number_plain p.local (omega arith))
+    All-append IsVisible (decimal p.host ++ codes ".") (decimal p.local)
+    (All-append IsVisible (decimal p.host) (codes ".") (number_plain p.host (omega arith)) (letters (codes ".") refl))
+    (number_plain p.local (omega arith))
 
 bytes_plain : (bytes : List ℕ) → ((i : ℕ) → slice_index bytes i < 256) → IsPlain (bytes_text bytes)
 bytes_plain [] h = letters (codes "-") refl
@@ -69,12 +74,22 @@ pub call_plain : (call : Call) → IsReadable call → AllByRecursion IsPlain (c
 unfolding call_words
 call_plain (calls.Send target message) h = (letters (codes "send") refl, (pid_plain target h.0, (message_plain message h.1, tt)))
 call_plain calls.Receive h = (letters (codes "receive") refl, tt)
-call_plain (calls.ReceiveSegment start count) h = (letters (codes "receivesegment") refl, (count_plain start h.0, (count_plain count h.1, tt)))
+call_plain (calls.ReceiveSegment start count) h =
+    (letters (codes "receivesegment") refl, (count_plain start h.0, (count_plain count h.1, tt)))
 call_plain (calls.Reply message to) h = (letters (codes "reply") refl, (message_plain message h.0, (pid_plain to h.1, tt)))
-call_plain (calls.ReplySegment message to dest src count) h = (letters (codes "replysegment") refl, (message_plain message h.0, (pid_plain to h.1, (count_plain dest h.2, (count_plain src h.3, (count_plain count h.4, tt))))))
-call_plain (calls.MoveTo partner dest src count) h = (letters (codes "moveto") refl, (pid_plain partner h.0, (count_plain dest h.1, (count_plain src h.2, (count_plain count h.3, tt)))))
-call_plain (calls.MoveFrom partner dest src count) h = (letters (codes "movefrom") refl, (pid_plain partner h.0, (count_plain dest h.1, (count_plain src h.2, (count_plain count h.3, tt)))))
-call_plain (calls.SetPid logical pid scope) h = (letters (codes "setpid") refl, (count_plain logical h.0, (pid_plain pid h.1, (scope_plain scope, tt))))
+call_plain (calls.ReplySegment message to dest src count) h = (
+  letters (codes "replysegment") refl,
+  (
+    message_plain message h.0,
+    (pid_plain to h.1, (count_plain dest h.2, (count_plain src h.3, (count_plain count h.4, tt)))),
+  ),
+)
+call_plain (calls.MoveTo partner dest src count) h =
+    (letters (codes "moveto") refl, (pid_plain partner h.0, (count_plain dest h.1, (count_plain src h.2, (count_plain count h.3, tt)))))
+call_plain (calls.MoveFrom partner dest src count) h =
+    (letters (codes "movefrom") refl, (pid_plain partner h.0, (count_plain dest h.1, (count_plain src h.2, (count_plain count h.3, tt)))))
+call_plain (calls.SetPid logical pid scope) h =
+    (letters (codes "setpid") refl, (count_plain logical h.0, (pid_plain pid h.1, (scope_plain scope, tt))))
 call_plain (calls.GetPid logical scope) h = (letters (codes "getpid") refl, (count_plain logical h, (scope_plain scope, tt)))
 call_plain (calls.Load start count) h = (letters (codes "load") refl, (count_plain start h.0, (count_plain count h.1, tt)))
 call_plain (calls.Store start bytes) h = (letters (codes "store") refl, (count_plain start h.0, (bytes_plain bytes h.1.1, tt)))
@@ -102,7 +117,8 @@ no_feeds (w ∷ ws) h = (plain_no_feed w h.0, no_feeds ws h.1)
 
 spaced_no_feed : (text : List ℕ) (ws : List (List ℕ)) → HasNoFeed text → AllByRecursion HasNoFeed ws → HasNoFeed (spaced text ws)
 spaced_no_feed text [] here h = here
-spaced_no_feed text (w ∷ ws) here h = spaced_no_feed (text ++ 32 ∷ w) ws (All-append IsNoFeed text (32 ∷ w) here (All-cons IsNoFeed 32 w refl h.0)) h.1
+spaced_no_feed text (w ∷ ws) here h =
+    spaced_no_feed (text ++ 32 ∷ w) ws (All-append IsNoFeed text (32 ∷ w) here (All-cons IsNoFeed 32 w refl h.0)) h.1
 
 pub joined_no_feed : (ws : List (List ℕ)) → AllByRecursion HasNoFeed ws → HasNoFeed (joined ws)
 joined_no_feed [] h = All-nil IsNoFeed

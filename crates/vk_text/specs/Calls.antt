@@ -22,7 +22,9 @@ range_of ws = first_as count_of ws >>= λ (start, ws). first_as count_of ws >>= 
 
 -- `DEST SRC COUNT`
 unfoldable pub places_of : List (List ℕ) → Option (ℕ × ℕ × ℕ)
-places_of ws = first_as count_of ws >>= λ (dest, ws). first_as count_of ws >>= λ (src, ws). first_as count_of ws >>= λ (count, ws). ended ws (dest, src, count)
+places_of ws =
+    first_as count_of ws >>= λ (dest, ws). first_as count_of ws >>= λ (src, ws).
+    first_as count_of ws >>= λ (count, ws). ended ws (dest, src, count)
 
 -- `PID M`
 unfoldable pub send_of : List (List ℕ) → Option Call
@@ -38,7 +40,9 @@ range_call_of make ws = range_of ws >>= λ (start, count). Some (make start coun
 
 -- `M PID DEST SRC COUNT`
 unfoldable pub reply_segment_of : List (List ℕ) → Option Call
-reply_segment_of ws = first_as message_of ws >>= λ (message, ws). first_as pid_of ws >>= λ (to, ws). places_of ws >>= λ (dest, src, count). Some (calls.ReplySegment message to dest src count)
+reply_segment_of ws =
+    first_as message_of ws >>= λ (message, ws). first_as pid_of ws >>= λ (to, ws).
+    places_of ws >>= λ (dest, src, count). Some (calls.ReplySegment message to dest src count)
 
 -- a call of `PID DEST SRC COUNT`
 unfoldable pub move_of : (Pid → ℕ → ℕ → ℕ → Call) → List (List ℕ) → Option Call
@@ -46,7 +50,9 @@ move_of make ws = first_as pid_of ws >>= λ (partner, ws). places_of ws >>= λ (
 
 -- `LOGICAL PID SCOPE`
 unfoldable pub set_pid_of : List (List ℕ) → Option Call
-set_pid_of ws = first_as count_of ws >>= λ (logical, ws). first_as pid_of ws >>= λ (pid, ws). first_as scope_of ws >>= λ (scope, ws). ended ws (calls.SetPid logical pid scope)
+set_pid_of ws =
+    first_as count_of ws >>= λ (logical, ws). first_as pid_of ws >>= λ (pid, ws).
+    first_as scope_of ws >>= λ (scope, ws). ended ws (calls.SetPid logical pid scope)
 
 -- `LOGICAL SCOPE`
 unfoldable pub get_pid_of : List (List ℕ) → Option Call

@@ -1,6 +1,7 @@
 -- Reading is the inverse of spelling.
 use Rattle.std.specs.Prelude.{◌≡◌, ℕ, ◌^◌, ◌<◌, ◌≤◌, ◌↔◌, ◌==◌, false, List, ◌∷◌, All, Some, length, slice_index, decimal}
 use Rattle.std.specs.List.{AllByRecursion}
+use Rattle.vk_base.specs.declared.limits.TheConstants.{DATA_BYTES}
 use Rattle.vk_base.specs.Messages.{IsMessage}
 use Rattle.vk_base.specs.Pids.{IsPid}
 use Rattle.vk_base.specs.declared.call.Call.{Call}
@@ -15,7 +16,7 @@ use Rattle.vk_text.specs.Words.{number_of, station_of, pid_of, message_of, bytes
 
 -- at most 1,024 bytes
 abbrev pub IsData : List ℕ → Type 0
-IsData bytes = (length bytes ≤ 1024) × ((i : ℕ) → slice_index bytes i < 256)
+IsData bytes = (length bytes ≤ DATA_BYTES) × ((i : ℕ) → slice_index bytes i < 256)
 
 abbrev pub HasNoSpace : List ℕ → Type 0
 HasNoSpace word = All (λ b. (b == 32) ≡ false) word
@@ -46,10 +47,16 @@ ScopesAreSpelledOnce = (scope : Scope) (word : List ℕ) → (scope_of word ≡ 
 
 -- a text of words without spaces has these words
 abbrev pub WordsReadBack : Type 0
-WordsReadBack = (word : List ℕ) (words : List (List ℕ)) → HasNoSpace word → AllByRecursion HasNoSpace words → words_from (spaced word words) 0 ≡ word ∷ words
+WordsReadBack =
+    (word : List ℕ) (words : List (List ℕ)) → HasNoSpace word → AllByRecursion HasNoSpace words →
+    words_from (spaced word words) 0 ≡ word ∷ words
 
 abbrev pub IsCount : ℕ → Type 0
 IsCount n = n < 2 ^ 32
+
+-- the number of a Send, a move, a lookup or an event
+abbrev pub IsOrdinal : ℕ → Type 0
+IsOrdinal n = (0 < n) × (n < 2 ^ 63)
 
 -- each field of the call is in its range
 abbrev pub IsReadable : Call → Type 0
@@ -65,6 +72,10 @@ IsReadable (calls.GetPid logical scope) = IsCount logical
 IsReadable (calls.Load start count) = IsCount start × IsCount count
 IsReadable (calls.Store start bytes) = IsCount start × IsData bytes
 IsReadable calls.Exit = Unit {0}
+
+-- each field of a call that words read as is in its range
+abbrev pub CallsAreInRange : Type 0
+CallsAreInRange = (call : Call) (words : List (List ℕ)) → call_of words ≡ Some call → IsReadable call
 
 -- what is written of a call is read as it
 abbrev pub CallsReadBack : Type 0

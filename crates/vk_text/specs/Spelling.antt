@@ -48,7 +48,8 @@ call_words (calls.Send target message) = codes "send" ∷ pid_text target ∷ me
 call_words calls.Receive = codes "receive" ∷ []
 call_words (calls.ReceiveSegment start count) = codes "receivesegment" ∷ decimal start ∷ decimal count ∷ []
 call_words (calls.Reply message to) = codes "reply" ∷ message_text message ∷ pid_text to ∷ []
-call_words (calls.ReplySegment message to dest src count) = codes "replysegment" ∷ message_text message ∷ pid_text to ∷ decimal dest ∷ decimal src ∷ decimal count ∷ []
+call_words (calls.ReplySegment message to dest src count) =
+    codes "replysegment" ∷ message_text message ∷ pid_text to ∷ decimal dest ∷ decimal src ∷ decimal count ∷ []
 call_words (calls.MoveTo partner dest src count) = codes "moveto" ∷ pid_text partner ∷ decimal dest ∷ decimal src ∷ decimal count ∷ []
 call_words (calls.MoveFrom partner dest src count) = codes "movefrom" ∷ pid_text partner ∷ decimal dest ∷ decimal src ∷ decimal count ∷ []
 call_words (calls.SetPid logical pid scope) = codes "setpid" ∷ decimal logical ∷ pid_text pid ∷ scope_text scope ∷ []

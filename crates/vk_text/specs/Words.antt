@@ -6,6 +6,7 @@ use Rattle.std.specs.List.{list_all}
 use Rattle.std.specs.Result.{result_ok}
 use Rattle.std.specs.Str.Parse.{digits_value}
 use Rattle.hex.specs.Hex.{decode_of}
+use Rattle.vk_base.specs.declared.limits.TheConstants.{DATA_BYTES, MESSAGE_BYTES}
 use Rattle.vk_base.specs.Options.{◌>>=◌}
 use Rattle.vk_base.specs.Pids.{pid_of_numbers}
 use Rattle.vk_base.specs.declared.call.Scope.{Scope}
@@ -55,19 +56,19 @@ ends_filled bytes = not (slice_index bytes (length bytes - 1) == 0)
 
 -- the message of these bytes and zeros behind
 abbrev pub padded : List ℕ → Message
-padded bytes = record { 0 = bytes ++ replicate (32 - length bytes) 0 }
+padded bytes = record { 0 = bytes ++ replicate (MESSAGE_BYTES - length bytes) 0 }
 
 -- lower-case hexadecimal of the bytes up to the last that is not 0; `-` where all are 0
 unfoldable pub message_of : List ℕ → Option Message
 message_of word =
     if bytes_eq word (codes "-") then Some (padded [])
-    else lower_hex word >>= λ bytes. if nat_le (length bytes) 32 && ends_filled bytes then Some (padded bytes) else None
+    else lower_hex word >>= λ bytes. if nat_le (length bytes) MESSAGE_BYTES && ends_filled bytes then Some (padded bytes) else None
 
 -- lower-case hexadecimal of all bytes, of which there are at most 1,024; `-` for none
 unfoldable pub bytes_of : List ℕ → Option (List ℕ)
 bytes_of word =
     if bytes_eq word (codes "-") then Some []
-    else lower_hex word >>= λ bytes. if nat_lt 0 (length bytes) && nat_le (length bytes) 1024 then Some bytes else None
+    else lower_hex word >>= λ bytes. if nat_lt 0 (length bytes) && nat_le (length bytes) DATA_BYTES then Some bytes else None
 
 abbrev pub scope_of : List ℕ → Option Scope
 scope_of word =

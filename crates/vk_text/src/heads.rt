@@ -1,7 +1,7 @@
 //! What the texts of schedules and of traces begin with: a title line, and a line for each process.
 
-ghost use Rattle.std.specs.Prelude.{◌≡◌, ◌+◌, ◌≤◌, ◌⊎◌, ◌++◌, [], true, false, if◌then◌else◌, None, Some, drop, length, IfSome, IfOk, IfErr, OnOk, OnErr, flat_map, MatchOption};
-ghost use Rattle.vk_text.specs.Heads.{settings_of, spec_of, process_of, with_line, processes_from, head_of, process_text, line_text, head_text, HeadsReadBack};
+ghost use Rattle.std.specs.Prelude.{◌≡◌, ◌+◌, ◌≤◌, ◌⊎◌, ◌++◌, [], true, false, if◌then◌else◌, None, Some, drop, length, IsSome, IfSome, IfOk, IfErr, OnOk, OnErr, flat_map, MatchOption};
+ghost use Rattle.vk_text.specs.Heads.{settings_of, spec_of, process_of, with_line, processes_from, head_of, process_text, line_text, head_text, HasProcess, HeadsReadBack};
 ghost use Rattle.vk_text.specs.Lines.{lines_of, words_from};
 ghost use Rattle.vk_text.specs.Spelling.{Begins, spaced};
 
@@ -10,10 +10,8 @@ use crate::next::{is_end, next_number, next_pid};
 use crate::spelling::put;
 use crate::writing::{write_number, write_pid};
 use std::alloc::Global;
+use vk_base::limits::MEMORY_BYTES;
 use vk_base::{Config, ConfigRefusal, NoMemory, ProcessSpec, Times};
-
-/// The greatest number of bytes of a memory.
-const SIZE: u64 = 131_072;
 
 /// How many aliens a station has, where the text does not say it.
 const POOL: u32 = 16;
@@ -70,7 +68,7 @@ fn read_spec(line: &[u8], at: usize) -> Option<ProcessSpec>
     ensures { result ≡ spec_of (words_from line.now at) }
 {
     let (pid, at) = next_pid(line, at)?;
-    let (size, at) = next_number(line, at, SIZE)?;
+    let (size, at) = next_number(line, at, u64::from(MEMORY_BYTES))?;
     if is_end(line, at) {
         Some(ProcessSpec {
             pid,
@@ -100,6 +98,8 @@ fn add_process(config: &mut Config, line: &[u8]) -> Result<bool, NoMemory>
     ensures added { IfOk result (λ added. with_line config.old.specs line.now ≡ (if added then Some config.new.specs else None)) }
     ensures others { config.new ≡ record config.old { specs = config.new.specs } }
     ensures same { IfOk result (λ added. added ≡ false → config.new ≡ config.old) }
+    // Memory is wanted only for a line that names one.
+    ensures memory { OnErr result (IsSome (with_line config.old.specs line.now)) }
 {
     let Some(spec) = read_process(line) else {
         return Ok(false);
@@ -124,13 +124,14 @@ fn behind_title(text: &[u8], title: &[u8]) -> Option<usize>
 
 /// What the text begins with: its first line is the title, and then come lines `process PID SIZE`, by rising pids and
 /// within the limits of a configuration. The first line that is none of these, or one at fault, is the first behind the
-/// head: no body begins with the word `process`.
+/// head: no body begins with the word `process`. Memory is wanted only where the line behind the title is that of a process.
 pub fn read_head(alloc: Global, text: &[u8], title: &[u8]) -> Result<Head, HeadRefusal>
     ensures head { IfOk result (λ h. head_of title.now (lines_of text.now) ≡ Some (h.config.specs, lines_of (drop h.at text.now))) }
     ensures config { IfOk result (λ h. h.config ≡ settings_of h.config.specs) }
     ensures line { IfOk result (λ h. h.line ≡ length h.config.specs + 2) }
     ensures within { IfOk result (λ h. h.at ≤ length text.now) }
-    ensures refused { IfErr result (λ e. (e ≡ HeadRefusal.NoMemory) ⊎ ((e ≡ HeadRefusal.NoTitle) × (head_of title.now (lines_of text.now) ≡ None))) }
+    ensures refused { IfErr result (λ e. ((e ≡ HeadRefusal.NoMemory) × HasProcess title.now text.now)
+        ⊎ ((e ≡ HeadRefusal.NoTitle) × (head_of title.now (lines_of text.now) ≡ None))) }
 {
     let Some(mut at) = behind_title(text, title) else {
         return Err(HeadRefusal::NoTitle);

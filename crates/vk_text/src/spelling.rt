@@ -6,6 +6,7 @@ ghost use Rattle.vk_text.specs.Spelling.{bytes_text, message_text, scope_text};
 
 use itoa::Buffer;
 use std::alloc::Global;
+use vk_base::limits::DATA_BYTES;
 use vk_base::{Message, NoMemory, Scope};
 
 /// Appends the bytes.
@@ -95,7 +96,7 @@ pub fn put_message(_alloc: Global, into: &mut Vec<u8>, message: &Message) -> Res
 /// Appends the hexadecimal of many bytes. Their text has a function of its own, since each call pays for room that large.
 fn put_many(into: &mut Vec<u8>, bytes: &[u8]) -> Result<(), NoMemory>
     requires some { 0 < length bytes.now }
-    requires most { length bytes.now ≤ 1024 }
+    requires most { length bytes.now ≤ DATA_BYTES }
     ensures ok { OnOk result (into.new.items ≡ into.old.items ++ bytes_text bytes.now) }
     ensures err { OnErr result (into.new.items ≡ into.old.items) }
 {
@@ -109,7 +110,7 @@ fn put_many(into: &mut Vec<u8>, bytes: &[u8]) -> Result<(), NoMemory>
 
 /// Appends the hexadecimal of all bytes, or `-` for none.
 pub fn put_bytes(_alloc: Global, into: &mut Vec<u8>, bytes: &[u8]) -> Result<(), NoMemory>
-    requires { length bytes.now ≤ 1024 }
+    requires { length bytes.now ≤ DATA_BYTES }
     ensures ok { OnOk result (into.new.items ≡ into.old.items ++ bytes_text bytes.now) }
     ensures err { OnErr result (into.new.items ≡ into.old.items) }
 {

@@ -13,27 +13,18 @@ fn words(rt: HostRuntime) -> Result<(), Fail> {
     let alloc = rt.alloc();
     assert!(rt; number(b"0", 9) == Some(0));
     assert!(rt; number(b"10", 10) == Some(10));
-    assert!(rt; number(b"11", 10).is_none());
-    assert!(rt; number(b"00", 10).is_none());
-    assert!(rt; number(b"+1", 10).is_none());
-    assert!(rt; number(b"", 10).is_none());
     assert!(rt; number(b"18446744073709551615", u64::MAX) == Some(u64::MAX));
     assert!(rt; number(b"18446744073709551616", u64::MAX).is_none());
 
     assert!(rt; pid(b"1.65535") == Pid::new(1, 65535));
     assert!(rt; pid(b"1.65535").is_some());
-    assert!(rt; pid(b"0.1").is_none());
-    assert!(rt; pid(b"65535.1").is_none());
-    assert!(rt; pid(b"1.0").is_none());
     assert!(rt; pid(b"1.1.1").is_none());
 
     let mut ten = [0u8; 32];
     assert!(rt; message(b"-") == Some(Message(ten)));
     ten[0] = 10;
     assert!(rt; message(b"0a") == Some(Message(ten)));
-    assert!(rt; message(b"0A").is_none());
     assert!(rt; message(b"0a00").is_none());
-    assert!(rt; message(b"0a0").is_none());
     let long = b"0102030405060708091011121314151617181920212223242526272829303132";
     let mut text = Vec::new(alloc);
     let all = message(long).ok_or("64 digits")?;
@@ -45,11 +36,7 @@ fn words(rt: HostRuntime) -> Result<(), Fail> {
 
     assert!(rt; bytes(b"-").ok_or("none")?.as_slice().is_empty());
     assert!(rt; bytes(b"0a00").ok_or("two")?.as_slice() == [10, 0].as_slice());
-    assert!(rt; bytes(b"").is_none());
-    assert!(rt; bytes(b"0a0").is_none());
-    assert!(rt; bytes(b"0A").is_none());
     assert!(rt; scope(b"both") == Some(Scope::Both));
-    assert!(rt; scope(b"Both").is_none());
     assert!(rt; station(b"65534") == Some(65534));
     assert!(rt; station(b"0").is_none());
     assert!(rt; next_number(b"1 20", 2, 20) == Some((20, 5)));

@@ -7,6 +7,7 @@ ghost use Rattle.std.specs.Str.Parse.{digits_value};
 ghost use Rattle.hex.specs.Hex.{lower_digits, encode_lower};
 ghost use Rattle.vk_text.specs.Words.{number_of, positive_of, station_of, pid_of, is_lower_hex, lower_hex, padded, message_of, bytes_of, scope_of};
 
+use vk_base::limits::DATA_BYTES;
 use vk_base::{Data, Message, Pid, Scope};
 
 /// The number with one more digit, where the byte is a digit and the number is below 2^64.
@@ -21,7 +22,8 @@ fn with_digit(value: u64, byte: u8) -> Option<u64>
 
 /// The number that decimal digits spell, where it is below 2^64. Leading zeros count.
 fn value(digits: &[u8]) -> Option<u64>
-    ensures { SomeIff result (IsTrue (list_all is_ascii_digit digits.now) × (digits_value 10 digits.now < 2 ^ 64)) (digits_value 10 digits.now) }
+    ensures { SomeIff result (IsTrue (list_all is_ascii_digit digits.now) × (digits_value 10 digits.now < 2 ^ 64))
+        (digits_value 10 digits.now) }
 {
     let mut value = 0u64;
     for byte in digits {
@@ -212,7 +214,7 @@ pub fn bytes(word: &[u8]) -> Option<Data>
     if word.len() < 2 || word.len() > 2048 {
         return None;
     }
-    let mut bytes = [0u8; 1024];
+    let mut bytes = [0u8; DATA_BYTES];
     let half = word.len() / 2;
     unhex(word, &mut bytes[..half])?;
     Data::new(&bytes[..half])

@@ -6,6 +6,7 @@ ghost use Rattle.vk_text.specs.Spelling.{Begins, spaced, pid_text, bytes_text, m
 
 use crate::spelling::{put, put_bytes, put_message, put_number, put_scope};
 use std::alloc::Global;
+use vk_base::limits::DATA_BYTES;
 use vk_base::{Call, Data, Message, NoMemory, Pid, Scope};
 
 /// Appends `H.L`.
@@ -69,7 +70,7 @@ pub fn write_message(alloc: Global, into: &mut Vec<u8>, message: &Message) -> Re
 
 /// Appends a space and the bytes. At a refusal a part may stand, and the front is as it was.
 pub fn write_bytes(alloc: Global, into: &mut Vec<u8>, bytes: &[u8]) -> Result<(), NoMemory>
-    requires { length bytes.now ≤ 1024 }
+    requires { length bytes.now ≤ DATA_BYTES }
     ensures ok { OnOk result (into.new.items ≡ into.old.items ++ 32 ∷ bytes_text bytes.now) }
     ensures front { OnErr result (Begins into.old.items into.new.items) }
 {
@@ -168,7 +169,8 @@ fn write_reply_segment(
     src: u32,
     count: u32,
 ) -> Result<(), NoMemory>
-    ensures ok { OnOk result (into.new.items ≡ into.old.items ++ spaced (codes "replysegment") (message_text message.now ∷ pid_text to ∷ decimal dest ∷ decimal src ∷ decimal count ∷ [])) }
+    ensures ok { OnOk result (into.new.items ≡ into.old.items
+        ++ spaced (codes "replysegment") (message_text message.now ∷ pid_text to ∷ decimal dest ∷ decimal src ∷ decimal count ∷ [])) }
     ensures front { OnErr result (Begins into.old.items into.new.items) }
 {
     write_reply(alloc, into, b"replysegment", message, to)?;
@@ -185,7 +187,8 @@ fn write_move(
     src: u32,
     count: u32,
 ) -> Result<(), NoMemory>
-    ensures ok { OnOk result (into.new.items ≡ into.old.items ++ spaced word.now (pid_text partner ∷ decimal dest ∷ decimal src ∷ decimal count ∷ [])) }
+    ensures ok { OnOk result (into.new.items ≡ into.old.items
+        ++ spaced word.now (pid_text partner ∷ decimal dest ∷ decimal src ∷ decimal count ∷ [])) }
     ensures front { OnErr result (Begins into.old.items into.new.items) }
 {
     put(into, word)?;
@@ -201,7 +204,8 @@ fn write_set_pid(
     pid: Pid,
     scope: Scope,
 ) -> Result<(), NoMemory>
-    ensures ok { OnOk result (into.new.items ≡ into.old.items ++ spaced (codes "setpid") (decimal logical ∷ pid_text pid ∷ scope_text scope ∷ [])) }
+    ensures ok { OnOk result (into.new.items ≡ into.old.items
+        ++ spaced (codes "setpid") (decimal logical ∷ pid_text pid ∷ scope_text scope ∷ [])) }
     ensures front { OnErr result (Begins into.old.items into.new.items) }
 {
     put(into, b"setpid")?;

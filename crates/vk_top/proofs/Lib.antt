@@ -1,4 +1,5 @@
 pub mod Entries
+pub mod Outcomes
 pub mod Playable
 pub mod Replays
 pub mod Schedules

@@ -9,19 +9,27 @@ use Rattle.vk_base.specs.declared.call.Call.TheVariants as calls
 use Rattle.vk_base.specs.declared.config.ProcessSpec.{ProcessSpec}
 use Rattle.vk_base.specs.declared.message.Message.{Message}
 use Rattle.vk_base.specs.declared.pid.Pid.{Pid}
-use Rattle.vk_base.specs.Settings.{has_process, has_station, is_process}
+use Rattle.vk_base.specs.Settings.{Settings, has_process, has_station, is_process}
 use Rattle.vk_top.proofs.Short.{short_start, short_len}
 use Rattle.vk_event.specs.declared.event.Event.{Event}
 use Rattle.vk_event.specs.declared.event.Event.TheVariants as scheduled
 use Rattle.vk_event.specs.declared.schedule.Schedule.{Schedule}
 use Rattle.vk_top.specs.Forms as forms
 use Rattle.vk_top.proofs.Playable.{is_playable_event, is_one_station, IsPlain}
-use Rattle.vk_host.proofs.Histories.{history_is_run}
-use Rattle.vk_host.specs.Entries.{grants_nothing, history_of, is_built, is_built_call, is_lawful, IsRunOf}
-use Rattle.vk_host.specs.Stands.{is_at, is_own}
+use Rattle.v_whole.proofs.Distinct.{lawful_distinct}
+use Rattle.v_whole.proofs.Histories.{schedules_run}
+use Rattle.v_whole.specs.Schedules.{AreOfProcesses, IsOfProcess}
+use Rattle.vk_event.specs.Lawful.{IsLawful, has_actors}
+use Rattle.vk_host.specs.Entries.{grants_nothing, is_built, is_built_call}
+use Rattle.vk_rules.specs.Histories.{history, history_of, no_entries}
+use Rattle.vk_rules.specs.Observed.{IsRunOf}
+use Rattle.vk_base.specs.Kernel.{initial_kernel}
+use Rattle.vk_host.specs.Stands.{Stands, is_at, is_own}
+use Rattle.vk_rules.specs.Readings.{reading}
 use Rattle.vk_host.specs.Tables.{Tables}
-use Rattle.vk_top.specs.declared.report.Form.{Form}
-use Rattle.vk_top.specs.Report.{end_line, history_of_schedule, lines_from, station_event, station_of}
+use Rattle.vk_report.specs.declared.entry.Form.{Form}
+use Rattle.vk_top.specs.Playing.{HasHad, end_line, lines_behind, station_event, station_of}
+use Rattle.vk_top.specs.Report.{history_of_schedule}
 
 -- what follows at each element
 pub list_all-weaker : {X : Type 0} (p q : X → Bool) → ((x : X) → p x ≡ true → q x ≡ true) → (xs : List X) → list_all p xs ≡ true → list_all q xs ≡ true
@@ -58,24 +66,28 @@ built_call pid (calls.Load start count) h = h
 built_call pid (calls.Store start bytes) h = h
 built_call pid calls.Exit h = h
 
--- a lawful event of a schedule is one at its station
-pub lawful_event : (specs : List ProcessSpec) (e : Event) → is_playable_event specs e ≡ true → is_lawful specs (station_event e) ≡ true
-lawful_event specs (scheduled.Call pid c) h = and_from _ _ (and_parts _ _ h).0 (built_call pid c (and_parts _ _ h).1)
-lawful_event specs (scheduled.Collect pid) h = (and_parts _ _ h).0
-lawful_event specs (scheduled.Tick host) h = (and_parts _ _ h).1
-lawful_event specs (scheduled.Deliver to from event output) h = (and_parts _ _ h).1
-
 pub built_event : (specs : List ProcessSpec) (e : Event) → is_playable_event specs e ≡ true → is_built (station_event e) ≡ true
 built_event specs (scheduled.Call pid c) h = built_call pid c (and_parts _ _ h).1
 built_event specs (scheduled.Collect pid) h = refl
 built_event specs (scheduled.Tick host) h = (and_parts _ _ h).1
 built_event specs (scheduled.Deliver to from event output) h = (and_parts _ _ h).1
 
+-- who calls is a process of the configuration
+of_process : (specs : List ProcessSpec) (e : Event) → has_actors specs e ≡ true → IsOfProcess specs e
+of_process specs (scheduled.Call pid c) h = h
+of_process specs (scheduled.Collect pid) h = tt
+of_process specs (scheduled.Tick host) h = tt
+of_process specs (scheduled.Deliver to from event output) h = tt
+
+of_processes : (specs : List ProcessSpec) (es : List Event) → list_all (has_actors specs) es ≡ true → AreOfProcesses specs es
+of_processes specs [] h = tt
+of_processes specs (e ∷ es) h = let parts = and_parts (has_actors specs e) (list_all (has_actors specs) es) h in
+    (of_process specs e parts.0, of_processes specs es parts.1)
+
 -- the steps of a lawful schedule's history are a run
-pub schedule_is_run : (s : Schedule) → IsPlain s → IsRunOf s.config.specs (map station_event s.events)
+pub schedule_is_run : (s : Schedule) → IsLawful s → IsRunOf s.config s.events
 schedule_is_run s lawful =
-    history_is_run s.config.specs (map station_event s.events)
-    (list_all-map (is_lawful s.config.specs) station_event s.events ∙ list_all-weaker _ _ (lawful_event s.config.specs) s.events lawful.events)
+    schedules_run s.config s.events (lawful_distinct s.config.specs lawful.faultless) (of_processes s.config.specs s.events lawful.events)
 
 pub all_built : (s : Schedule) → IsPlain s → list_all (λ e. is_built (station_event e)) s.events ≡ true
 all_built s lawful = list_all-weaker _ _ (built_event s.config.specs) s.events lawful.events
@@ -109,15 +121,17 @@ no_process [] h = refl
 no_process (s ∷ ss) h = absurd (cc)
 
 end_alone : (form : Form) (specs : List ProcessSpec) (events : List Event) → specs ≡ [] → list_all (is_playable_event specs) events ≡ true
-    → end_line form 0 0 ≡ lines_from form (station_of specs) 0 0 (history_of specs (map station_event events))
-end_alone form specs events none h =
+    → (c : Settings) → end_line form 0 0 ≡ lines_behind form 0 0 (history_of c events)
+unfolding history
+end_alone form specs events none h c =
     let P : List ProcessSpec → Type 0 = λ xs. list_all (is_playable_event xs) events ≡ true in
     let gone : events ≡ [] = no_event events (subst P none h) in
-    ap (λ es. lines_from form (station_of specs) 0 0 (history_of specs (map station_event es))) (sym gone)
+    ap (λ es. lines_behind form 0 0 (history c no_entries es)) (sym gone)
 
 pub lines-no_process : (form : Form) (seen : List ProcessSpec) (s : Schedule) → seen ≡ s.config.specs → None ≡ slice_get seen 0 → IsPlain s
-    → end_line form 0 0 ≡ lines_from form (station_of s.config.specs) 0 0 (history_of_schedule s)
-lines-no_process form seen s same h lawful = end_alone form s.config.specs s.events (no_process s.config.specs (h ∙ ap (λ xs. slice_get xs 0) same)) lawful.events
+    → end_line form 0 0 ≡ lines_behind form 0 0 (history_of_schedule s)
+lines-no_process form seen s same h lawful =
+    end_alone form s.config.specs s.events (no_process s.config.specs (h ∙ ap (λ xs. slice_get xs 0) same)) lawful.events s.config
 
 -- a process is on the station of all processes
 on_station : (host : ℕ) (pid : Pid) (specs : List ProcessSpec) → list_all (λ (t : ProcessSpec). t.pid.host == host) specs ≡ true → has_process specs pid ≡ true → (pid.host == host) ≡ true
@@ -148,3 +162,8 @@ pub all_own : (s : Schedule) (t : Tables) (host : ℕ) → IsPlain s → station
 all_own s t host lawful first is =
     let P : ℕ → Type 0 = λ h. list_all (λ (p : ProcessSpec). p.pid.host == h) s.config.specs ≡ true in
     list_all-weaker _ _ (own_event s.config.specs t host (subst P first (one_host s.config.specs lawful.station)) is) s.events lawful.events
+
+-- a station that has just started has had none of the events of a schedule
+pub had_none : (t : Tables) (c : Settings) (host : ℕ) → Stands t (initial_kernel c.specs) → HasHad t c no_entries host 0
+unfolding reading
+had_none t c host stands = record { stands = stands; count = refl }

@@ -6,17 +6,17 @@ use Rattle.std.proofs.lemmas.Bool.{cond-true, cond-false, le-ltb, lt-ltb, ltb-tr
 use borrow.Author.Tests.{ltb-false}
 use Rattle.vk_base.specs.declared.step.Step.{Step}
 use Rattle.vk_base.specs.Calls.{Effect}
-use Rattle.vk_base.specs.Kernel.{◌>>=◌, Kernel, opening}
+use Rattle.vk_base.specs.Kernel.{◌>>=◌, Kernel, initial_kernel}
 use Rattle.vk_base.specs.Steps.{Run, effect, run}
 use Rattle.v_machine.specs.Apply.{most, notes}
 use Rattle.v_trace.specs.declared.trace.Trace.{Trace}
 use Rattle.vk_top.specs.Check.{IsRun, IsVerdict, VerdictsAreExact, noted_by, noted_from, verdict_from, verdict_of}
-use Rattle.vk_top.specs.declared.check.Verdict.{Verdict}
-use Rattle.vk_top.specs.declared.check.Verdict.TheVariants as verdicts
+use Rattle.vk_top.specs.declared.check.TraceVerdict.{TraceVerdict}
+use Rattle.vk_top.specs.declared.check.TraceVerdict.TheVariants as verdicts
 
 -- one step more
 
-abbrev judged : Kernel → ℕ → ℕ → Step → List Step → Effect → Verdict
+abbrev judged : Kernel → ℕ → ℕ → Step → List Step → Effect → TraceVerdict
 judged k n noted s ss e = cond (nat_lt most (noted + notes k s)) verdicts.TooMuch (verdict_from e.after (n + 1) (noted + notes k s) ss)
 
 verdict_by : (k : Kernel) (n noted : ℕ) (s : Step) (ss : List Step) → verdict_from k n noted (s ∷ ss) ≡ option_map_or (judged k n noted s ss) (effect k s) (verdicts.Refused (n + 1))
@@ -89,13 +89,13 @@ noted-more : (k : Kernel) (s : Step) (ss : List Step) (e : Effect) → effect k 
 noted-more k s ss e is = ap (λ o. option_map_or (λ (f : Effect). notes k s + noted_from f.after ss) o 0) is
 
 -- what a verdict on steps says, behind n others that noted so many bytes
-abbrev pub Says : Kernel → ℕ → ℕ → List Step → Verdict → Type 0
+abbrev pub Says : Kernel → ℕ → ℕ → List Step → TraceVerdict → Type 0
 Says k n noted ss (verdicts.Run m) = IsSome (run k ss) × (m ≡ n + length ss) × (noted + noted_from k ss ≤ most)
 Says k n noted ss (verdicts.Refused m) =
     (i : ℕ) × (m ≡ n + i + 1) × IsSome (run k (take i ss)) × (noted + noted_from k (take i ss) ≤ most) × (run k (take (suc i) ss) ≡ None)
 Says k n noted ss verdicts.TooMuch = (i : ℕ) × IsSome (run k (take i ss)) × (most < noted + noted_from k (take i ss))
 
-more : (k : Kernel) (n noted : ℕ) (s : Step) (ss : List Step) (e : Effect) (v : Verdict) → effect k s ≡ Some e → Says e.after (n + 1) (noted + notes k s) ss v → Says k n noted (s ∷ ss) v
+more : (k : Kernel) (n noted : ℕ) (s : Step) (ss : List Step) (e : Effect) (v : TraceVerdict) → effect k s ≡ Some e → Says e.after (n + 1) (noted + notes k s) ss v → Says k n noted (s ∷ ss) v
 more k n noted s ss e (verdicts.Run m) is (some, counted, few) = (run-is_some k s ss e is some, omega (arith, counted), omega (arith, few, noted-more k s ss e is))
 more k n noted s ss e (verdicts.Refused m) is (i, counted, some, few, none) =
     (suc i, omega (arith, counted), run-is_some k s (take i ss) e is some, omega (arith, few, noted-more k s (take i ss) e is), run-is_none k s (take (suc i) ss) e is none)
@@ -120,19 +120,19 @@ says k n noted [] few = (run-nothing k, omega arith, omega (arith, few))
 says k n noted (s ∷ ss) few = by_effect k n noted s ss (effect k s) refl few (λ e room. says e.after (n + 1) (noted + notes k s) ss room)
 
 -- the verdict on a trace holds of it
-by_says : (t : Trace) (v : Verdict) → Says (opening t.config.specs) 0 0 t.steps v → IsVerdict t v
+by_says : (t : Trace) (v : TraceVerdict) → Says (initial_kernel t.config.specs) 0 0 t.steps v → IsVerdict t v
 by_says t (verdicts.Run m) (some, counted, few) = (omega (arith, counted), some, omega (arith, few))
 by_says t (verdicts.Refused m) (i, counted, some, few, none) =
     let place : suc i ≡ m = omega (arith, counted) in
     let earlier : i ≡ m - 1 = omega (arith, place) in (
       subst (λ j. IsRun t.config.specs (take j t.steps)) earlier some,
       subst (λ j. noted_by t.config.specs (take j t.steps) ≤ most) earlier (omega (arith, few)),
-      subst (λ j. run (opening t.config.specs) (take j t.steps) ≡ None) place none,
+      subst (λ j. run (initial_kernel t.config.specs) (take j t.steps) ≡ None) place none,
     )
 by_says t verdicts.TooMuch (i, some, many) = (i, some, omega (arith, many))
 
 pub verdict_holds : (t : Trace) → IsVerdict t (verdict_of t)
-verdict_holds t = by_says t (verdict_of t) (says (opening t.config.specs) 0 0 t.steps (omega arith))
+verdict_holds t = by_says t (verdict_of t) (says (initial_kernel t.config.specs) 0 0 t.steps (omega arith))
 
 -- no other verdict holds of it
 
@@ -145,7 +145,7 @@ both_ways : (o : Option Run) → IsSome o → o ≡ None → ⊥
 both_ways None some none = absurd (grind (arith, some))
 both_ways (Some r) some none = absurd (grind (arith, none))
 
-less : (k : Kernel) (n noted : ℕ) (s : Step) (ss : List Step) (e : Effect) (v : Verdict) → effect k s ≡ Some e → noted + notes k s ≤ most → Says k n noted (s ∷ ss) v → Says e.after (n + 1) (noted + notes k s) ss v
+less : (k : Kernel) (n noted : ℕ) (s : Step) (ss : List Step) (e : Effect) (v : TraceVerdict) → effect k s ≡ Some e → noted + notes k s ≤ most → Says k n noted (s ∷ ss) v → Says e.after (n + 1) (noted + notes k s) ss v
 less k n noted s ss e (verdicts.Run m) is room (some, counted, few) = (run-later k s ss e is some, omega (arith, counted), omega (arith, few, noted-more k s ss e is))
 less k n noted s ss e (verdicts.Refused m) is room (zero, counted, some, few, none) = absurd (both_ways _ (run-is_some k s [] e is (run-nothing e.after)) none)
 less k n noted s ss e (verdicts.Refused m) is room (suc i, counted, some, few, none) =
@@ -154,26 +154,26 @@ less k n noted s ss e verdicts.TooMuch is room (zero, some, many) = absurd (omeg
 less k n noted s ss e verdicts.TooMuch is room (suc i, some, many) = (i, run-later k s (take i ss) e is some, omega (arith, many, noted-more k s (take i ss) e is))
 
 -- once too much is noted, no other verdict holds
-over : (k : Kernel) (n noted : ℕ) (s : Step) (ss : List Step) (e : Effect) (v : Verdict) → effect k s ≡ Some e → noted ≤ most → most < noted + notes k s → Says k n noted (s ∷ ss) v → verdicts.TooMuch ≡ v
+over : (k : Kernel) (n noted : ℕ) (s : Step) (ss : List Step) (e : Effect) (v : TraceVerdict) → effect k s ≡ Some e → noted ≤ most → most < noted + notes k s → Says k n noted (s ∷ ss) v → verdicts.TooMuch ≡ v
 over k n noted s ss e (verdicts.Run m) is small room (some, counted, few) = absurd (omega (arith, few, room, noted-more k s ss e is))
 over k n noted s ss e (verdicts.Refused m) is small room (zero, counted, some, few, none) = absurd (both_ways _ (run-is_some k s [] e is (run-nothing e.after)) none)
 over k n noted s ss e (verdicts.Refused m) is small room (suc i, counted, some, few, none) = absurd (omega (arith, few, room, noted-more k s (take i ss) e is))
 over k n noted s ss e verdicts.TooMuch is small room said = refl
 
 -- a step that is not allowed is the first
-stops : (k : Kernel) (n noted : ℕ) (s : Step) (ss : List Step) (v : Verdict) → effect k s ≡ None → noted ≤ most → Says k n noted (s ∷ ss) v → verdicts.Refused (n + 1) ≡ v
+stops : (k : Kernel) (n noted : ℕ) (s : Step) (ss : List Step) (v : TraceVerdict) → effect k s ≡ None → noted ≤ most → Says k n noted (s ∷ ss) v → verdicts.Refused (n + 1) ≡ v
 stops k n noted s ss (verdicts.Run m) none small (some, counted, few) = absurd (both_ways _ some (run-none k s ss none))
 stops k n noted s ss (verdicts.Refused m) none small (zero, counted, some, few, refused) = ap verdicts.Refused (omega (arith, counted))
 stops k n noted s ss (verdicts.Refused m) none small (suc i, counted, some, few, refused) = absurd (both_ways _ some (run-none k s (take i ss) none))
 stops k n noted s ss verdicts.TooMuch none small (zero, some, many) = absurd (omega (arith, many, small))
 stops k n noted s ss verdicts.TooMuch none small (suc i, some, many) = absurd (both_ways _ some (run-none k s (take i ss) none))
 
-ends : (k : Kernel) (n noted : ℕ) (v : Verdict) → noted ≤ most → Says k n noted [] v → verdicts.Run n ≡ v
+ends : (k : Kernel) (n noted : ℕ) (v : TraceVerdict) → noted ≤ most → Says k n noted [] v → verdicts.Run n ≡ v
 ends k n noted (verdicts.Run m) small (some, counted, few) = ap verdicts.Run (omega (arith, counted))
 ends k n noted (verdicts.Refused m) small (i, counted, some, few, none) = absurd (both_ways _ (run-nothing k) none)
 ends k n noted verdicts.TooMuch small (i, some, many) = absurd (omega (arith, small, subst (λ ss. most < noted + noted_from k ss) (nothing_left i) many))
 
-only_by_room : (k : Kernel) (n noted : ℕ) (s : Step) (ss : List Step) (e : Effect) (v : Verdict) (b : Bool) → effect k s ≡ Some e → nat_lt most (noted + notes k s) ≡ b → noted ≤ most
+only_by_room : (k : Kernel) (n noted : ℕ) (s : Step) (ss : List Step) (e : Effect) (v : TraceVerdict) (b : Bool) → effect k s ≡ Some e → nat_lt most (noted + notes k s) ≡ b → noted ≤ most
     → (noted + notes k s ≤ most → Says e.after (n + 1) (noted + notes k s) ss v → verdict_from e.after (n + 1) (noted + notes k s) ss ≡ v)
     → Says k n noted (s ∷ ss) v → cond b verdicts.TooMuch (verdict_from e.after (n + 1) (noted + notes k s) ss) ≡ v
 only_by_room k n noted s ss e v true is room small rest said = over k n noted s ss e v is small (ltb-true most (noted + notes k s) room) said
@@ -181,13 +181,13 @@ only_by_room k n noted s ss e v false is room small rest said =
     let few : noted + notes k s ≤ most = omega (arith, ltb-false most (noted + notes k s) room) in
     rest few (less k n noted s ss e v is few said)
 
-only_by_effect : (k : Kernel) (n noted : ℕ) (s : Step) (ss : List Step) (v : Verdict) (o : Option Effect) → effect k s ≡ o → noted ≤ most
+only_by_effect : (k : Kernel) (n noted : ℕ) (s : Step) (ss : List Step) (v : TraceVerdict) (o : Option Effect) → effect k s ≡ o → noted ≤ most
     → ((e : Effect) → noted + notes k s ≤ most → Says e.after (n + 1) (noted + notes k s) ss v → verdict_from e.after (n + 1) (noted + notes k s) ss ≡ v)
     → Says k n noted (s ∷ ss) v → option_map_or (judged k n noted s ss) o (verdicts.Refused (n + 1)) ≡ v
 only_by_effect k n noted s ss v None is small rest said = stops k n noted s ss v is small said
 only_by_effect k n noted s ss v (Some e) is small rest said = only_by_room k n noted s ss e v _ is refl small (rest e) said
 
-only : (k : Kernel) (n noted : ℕ) (ss : List Step) (v : Verdict) → noted ≤ most → Says k n noted ss v → verdict_from k n noted ss ≡ v
+only : (k : Kernel) (n noted : ℕ) (ss : List Step) (v : TraceVerdict) → noted ≤ most → Says k n noted ss v → verdict_from k n noted ss ≡ v
 unfolding verdict_from
 only k n noted [] v small said = ends k n noted v small said
 only k n noted (s ∷ ss) v small said = only_by_effect k n noted s ss v (effect k s) refl small (λ e few. only e.after (n + 1) (noted + notes k s) ss v few) said
@@ -197,15 +197,15 @@ place_of : (t : Trace) (m : ℕ) → IsVerdict t (verdicts.Refused m) → m ≡ 
 place_of t zero (some, few, none) = absurd (both_ways _ some none)
 place_of t (suc i) said = omega arith
 
-to_says : (t : Trace) (v : Verdict) → IsVerdict t v → Says (opening t.config.specs) 0 0 t.steps v
+to_says : (t : Trace) (v : TraceVerdict) → IsVerdict t v → Says (initial_kernel t.config.specs) 0 0 t.steps v
 to_says t (verdicts.Run m) (counted, some, few) = (some, omega (arith, counted), omega (arith, few))
 to_says t (verdicts.Refused m) (some, few, none) =
     let place = place_of t m (some, few, none) in
-    (m - 1, omega (arith, place), some, omega (arith, few), subst (λ j. run (opening t.config.specs) (take j t.steps) ≡ None) place none)
+    (m - 1, omega (arith, place), some, omega (arith, few), subst (λ j. run (initial_kernel t.config.specs) (take j t.steps) ≡ None) place none)
 to_says t verdicts.TooMuch (i, some, many) = (i, some, omega (arith, many))
 
 pub exact : VerdictsAreExact
 exact t v = (
   λ is. subst (IsVerdict t) is (verdict_holds t),
-  λ holds. only (opening t.config.specs) 0 0 t.steps v (omega arith) (to_says t v holds),
+  λ holds. only (initial_kernel t.config.specs) 0 0 t.steps v (omega arith) (to_says t v holds),
 )

@@ -3,7 +3,7 @@ use Rattle.std.proofs.Common.{◌≡◌, true, [], ◌∷◌, Some, None, codes,
 use Rattle.clap.proofs.OnLiterals.{clap_on_literals}
 use Rattle.clap.specs.Faults.{is_simple_and_free}
 use Rattle.vk_top.specs.declared.words.Asked.TheVariants as asked
-use Rattle.vk_top.specs.declared.report.Form.TheVariants as forms
+use Rattle.vk_report.specs.declared.entry.Form.TheVariants as forms
 use Rattle.vk_top.specs.Words.{the_app, asked_of}
 
 -- the command is one of those of which clap's definitions speak

@@ -1,5 +1,5 @@
 -- Which processes and events can be played so far. A line of any other is refused as if it were bad.
-use Rattle.std.specs.Prelude.{◌≡◌, ℕ, ◌+◌, ◌==◌, ◌&&◌, not, Bool, true, false, List, [], ◌∷◌, length, drop, position, Option, Some, None, option_map, Result, Ok, Err}
+use Rattle.std.specs.Prelude.{◌≡◌, ℕ, ◌+◌, ◌==◌, ◌&&◌, not, Bool, true, false, List, [], ◌∷◌, length, drop, position, Option, Some, None, option_map, Result, Ok, Err, if◌then◌else◌}
 use Rattle.std.specs.List.{list_all}
 use Rattle.vk_base.specs.Pids.{same_host}
 use Rattle.vk_base.specs.Settings.{or_else}
@@ -15,7 +15,7 @@ use Rattle.vk_event.specs.declared.schedule.Schedule.{Schedule}
 use Rattle.vk_event.specs.declared.schedule.TextRefusal.{TextRefusal}
 use Rattle.vk_event.specs.declared.schedule.TextRefusal.TheVariants as refusals
 use Rattle.vk_event.specs.Lawful.{IsLawful}
-use Rattle.vk_event.specs.Schedule.{front_of}
+use Rattle.vk_event.specs.Schedule.{front_of, line_behind}
 
 -- the last eight bytes, which name a segment, are 0
 abbrev pub is_short : Message → Bool
@@ -52,13 +52,18 @@ unbuilt_line s =
     or_else (option_map (λ i. i + 2) (unbuilt_process s.config.specs))
     (option_map (λ i. length s.config.specs + i + 2) (unbuilt_event s.events))
 
+-- the line of an event that is one too many, where it is not built: it stands behind all that were taken
+abbrev pub unbuilt_beyond : Schedule → Option Event → Option ℕ
+unbuilt_beyond s None = None
+unbuilt_beyond s (Some e) = if is_built_event e then None else Some (line_behind s)
+
 abbrev pub playable_by : Schedule → Option ℕ → Option TextRefusal → Result Schedule TextRefusal
 playable_by s (Some line) refused = Err (refusals.BadInput line)
 playable_by s None (Some why) = Err why
 playable_by s None None = Ok s
 
 abbrev pub playable_front : Front → Result Schedule TextRefusal
-playable_front f = playable_by f.schedule (unbuilt_line f.schedule) f.refused
+playable_front f = playable_by f.schedule (or_else (unbuilt_line f.schedule) (unbuilt_beyond f.schedule f.beyond)) f.refused
 
 -- the schedule of the text, where it can be played: the first line that is not built or that is refused decides
 abbrev pub playable_of : List ℕ → Result Schedule TextRefusal

@@ -1,6 +1,9 @@
 -- What the top call answers and writes.
-use Rattle.std.specs.Prelude.{ℕ, ◌≡◌, ◌<◌, ◌≤◌, ◌⊎◌, nat_lt, List, [], length, map, Option, Some, None, Result, Ok, Err, if◌then◌else◌}
+use Rattle.std.specs.Prelude.{ℕ, ◌≡◌, ◌<◌, ◌≤◌, ◌⊎◌, nat_lt, List, [], length, map, take, Option, Some, None, IfSome, IsSomeAnd, Result, Ok, Err, if◌then◌else◌}
+use Rattle.clap.specs.Walk.{Text}
 use Rattle.std.specs.Io.KnownBytes.{Appends}
+use Rattle.vk_base.specs.declared.limits.TheConstants.{INPUT_BYTES}
+use Rattle.vk_io.specs.Causes.{LosesFront}
 use Rattle.v_trace.specs.Traces.{trace_of}
 use Rattle.v_trace.specs.declared.trace.Trace.{Trace}
 use Rattle.v_trace.specs.declared.trace.TraceRefusal.{TraceRefusal}
@@ -9,26 +12,38 @@ use Rattle.vk_event.specs.declared.schedule.Schedule.{Schedule}
 use Rattle.vk_event.specs.declared.schedule.TextRefusal.{TextRefusal}
 use Rattle.vk_event.specs.declared.schedule.TextRefusal.TheVariants as schedules
 use Rattle.vk_event.specs.Schedule.{schedule_of}
-use Rattle.vk_host.specs.Entries.{IsRunOf}
-use Rattle.vk_top.specs.declared.check.Verdict.{Verdict}
-use Rattle.vk_top.specs.declared.check.Verdict.TheVariants as verdicts
+use Rattle.vk_rules.specs.Observed.{IsRunOf}
+use Rattle.vk_top.specs.declared.check.TraceVerdict.{TraceVerdict}
+use Rattle.vk_top.specs.declared.check.TraceVerdict.TheVariants as verdicts
 use Rattle.vk_top.specs.declared.status.Status.{Status}
 use Rattle.vk_top.specs.declared.status.Status.TheVariants as status
 use Rattle.vk_top.specs.declared.words.Asked.{Asked}
 use Rattle.vk_top.specs.declared.words.Asked.TheVariants as asked
-use Rattle.vk_top.specs.declared.report.Form.{Form}
+use Rattle.vk_report.specs.declared.entry.Form.{Form}
 use Rattle.vk_top.specs.Check.{IsNo, IsTooMuch, IsYes, verdict_of, verdict_text}
 use Rattle.vk_top.specs.Forms.{playable_of}
-use Rattle.vk_top.specs.Report.{station_event, output_text}
+use Rattle.vk_top.specs.Report.{output_text}
+use Rattle.vk_top.specs.Words.{asked_of}
 
--- the input is the text of a schedule, and its report or its trace is written; the steps in it are a run of the one-machine
--- kernel, with exactly the observations of the processes
+-- the bytes of the input: those that the source tells as left, or some where it tells none, and this holds of them
+pub record OfInput (told : Option (List ℕ)) (Holds : List ℕ → Type 0) : Type 0 where
+  pub input : List ℕ
+  pub all : IfSome told (λ bytes. bytes ≡ input)
+  pub holds : Holds input
+
+-- the words ask for something, and this holds of it and of the input
+abbrev pub Asks : List Text → Option (List ℕ) → (Asked → List ℕ → Type 0) → Type 0
+Asks words told Holds = IsSomeAnd (asked_of words) (λ a. OfInput told (Holds a))
+
+-- the input is the text of a schedule that can be played, and its report or its trace is written; the steps in it are a run of the
+-- one-machine kernel, with exactly the observations of the processes
 pub record IsReplayed (form : Form) (input : List ℕ) (old new : Option (List ℕ)) : Type 0 where
-  pub small : length input ≤ 16777216
+  pub small : length input ≤ INPUT_BYTES
   pub schedule : Schedule
   pub text : schedule_of input ≡ Ok schedule
+  pub playable : playable_of input ≡ Ok schedule
   pub output : Appends old new (output_text form schedule)
-  pub run : IsRunOf schedule.config.specs (map station_event schedule.events)
+  pub run : IsRunOf schedule.config schedule.events
 
 abbrev pub IsDone : Asked → List ℕ → Option (List ℕ) → Option (List ℕ) → Type 0
 IsDone (asked.Replay form) input old new = IsReplayed form input old new
@@ -44,13 +59,13 @@ IsBadLine (asked.Replay form) input line = playable_of input ≡ Err (schedules.
 IsBadLine asked.Check input line = trace_of input ≡ Err (traces.BadInput line)
 
 pub record IsBadAt (a : Asked) (input : List ℕ) (line : ℕ) : Type 0 where
-  pub small : length input ≤ 16777216
+  pub small : length input ≤ INPUT_BYTES
   pub bad : IsBadLine a input line
 
 -- there are too many bytes; or too many events in a schedule; or a trace that notes too much for remote moves
 abbrev pub IsOverLimit : Asked → List ℕ → Type 0
-IsOverLimit (asked.Replay form) input = (16777216 < length input) ⊎ (playable_of input ≡ Err schedules.Limit)
-IsOverLimit asked.Check input = (16777216 < length input) ⊎ IsTooMuch input
+IsOverLimit (asked.Replay form) input = (INPUT_BYTES < length input) ⊎ (playable_of input ≡ Err schedules.Limit)
+IsOverLimit asked.Check input = (INPUT_BYTES < length input) ⊎ IsTooMuch input
 
 -- what a schedule asks for; only code can want memory, so that no text has this refusal
 abbrev pub replay_status : Result Schedule TextRefusal → Status
@@ -64,7 +79,7 @@ replay_output form (Ok schedule) = output_text form schedule
 replay_output form (Err why) = []
 
 -- what a trace asks for, likewise
-abbrev pub verdict_status : Verdict → Status
+abbrev pub verdict_status : TraceVerdict → Status
 verdict_status (verdicts.Run steps) = status.Done
 verdict_status (verdicts.Refused step) = status.NotARun step
 verdict_status verdicts.TooMuch = status.Limit
@@ -88,12 +103,12 @@ text_output asked.Check text = check_output (trace_of text)
 
 -- what the input asks for where nothing fails
 abbrev pub status_of : Asked → List ℕ → Status
-status_of a input = if nat_lt 16777216 (length input) then status.Limit else text_status a input
+status_of a input = if nat_lt INPUT_BYTES (length input) then status.Limit else text_status a input
 
 -- what is to be written
 abbrev pub output_of : Option Asked → List ℕ → List ℕ
 output_of None input = []
-output_of (Some a) input = if nat_lt 16777216 (length input) then [] else text_output a input
+output_of (Some a) input = if nat_lt INPUT_BYTES (length input) then [] else text_output a input
 
 -- the answers at which all is written
 abbrev pub IsTold : Status → Type 0
@@ -106,13 +121,29 @@ IsTold status.WriteFault = ⊥
 IsTold status.NoMemory = ⊥
 IsTold status.Limit = ⊥
 
+-- so many bytes of the output that is asked for are written behind what stood written
+pub record IsFront (words : List Text) (input : List ℕ) (old new : Option (List ℕ)) : Type 0 where
+  pub count : ℕ
+  pub written : Appends old new (take count (output_of (asked_of words) input))
+
+-- memory was wanted for the words, and then nothing was read; or some of the input was read, but no byte too many
+abbrev pub IsWanting : {S : Type 0} → S → S → Option (List ℕ) → Option (List ℕ) → Type 0
+IsWanting old new left rest = (new ≡ old) ⊎ LosesFront left rest (λ n. (0 < n) × (n ≤ INPUT_BYTES))
+
+-- the input and memory decide the answer, unless a fault is told
+abbrev pub IsDecided : Asked → Option (List ℕ) → Status → Type 0
+IsDecided a told status.ReadFault = Unit {0}
+IsDecided a told status.WriteFault = Unit {0}
+IsDecided a told status.NoMemory = Unit {0}
+IsDecided a told s = OfInput told (λ i. s ≡ status_of a i)
+
 -- the answers at which nothing is written
 abbrev pub IsEarly : Status → Type 0
 IsEarly status.Usage = Unit {0}
 IsEarly (status.BadInput line) = Unit {0}
 IsEarly status.ReadFault = Unit {0}
+IsEarly status.NoMemory = Unit {0}
 IsEarly status.Limit = Unit {0}
 IsEarly status.Done = ⊥
 IsEarly (status.NotARun step) = ⊥
 IsEarly status.WriteFault = ⊥
-IsEarly status.NoMemory = ⊥

@@ -9,7 +9,7 @@ use Rattle.clap.specs.Walk.{Row, Rule, Text, first_of, is_empty}
 use Rattle.clap.specs.declared.builder.action.ArgAction.TheVariants.{SetTrue}
 use Rattle.vk_top.specs.declared.words.Asked.{Asked}
 use Rattle.vk_top.specs.declared.words.Asked.TheVariants as asked
-use Rattle.vk_top.specs.declared.report.Form.TheVariants as forms
+use Rattle.vk_report.specs.declared.entry.Form.TheVariants as forms
 
 -- the flag `--trace`, and the words that are no flag: a command, which has to be there, and a number
 abbrev pub trace : Rule

@@ -1,25 +1,40 @@
 -- What the parts of the top call promise one another.
-use Rattle.std.specs.Prelude.{ℕ, ◌≡◌, ◌<◌, ◌⊎◌, List, length, take, Option, Some, IfSome}
+use Rattle.std.specs.Prelude.{ℕ, ◌≡◌, ◌<◌, ◌≤◌, ◌⊎◌, List, [], take, Option, Some, IfSome}
 use Rattle.std.specs.Io.KnownBytes.{Appends}
-use Rattle.vk_io.specs.Causes.{Rose}
+use Rattle.vk_base.specs.declared.limits.TheConstants.{INPUT_BYTES}
+use Rattle.vk_io.specs.Causes.{LosesFront, Rose}
 use Rattle.vk_top.specs.declared.status.Status.{Status}
 use Rattle.vk_top.specs.declared.status.Status.TheVariants as status
 use Rattle.vk_top.specs.declared.top.Work.{Work}
 use Rattle.vk_top.specs.declared.words.Asked.{Asked}
-use Rattle.vk_top.specs.Top.{IsBadAt, IsDone, IsNotARun, IsOverLimit, IsTold, output_of, status_of, text_output, text_status}
+use Rattle.vk_top.specs.Top.{IsBadAt, IsDecided, IsDone, IsNotARun, IsOverLimit, IsTold, OfInput, output_of, status_of, text_output, text_status}
+
+-- the count of a source's faults: it rose where the answer is that a read failed, and else is as it was
+abbrev pub IsReadCount : Status → ℕ → ℕ → Type 0
+IsReadCount status.ReadFault before now = Rose before now
+IsReadCount s before now = now ≡ before
+
+-- the count of a sink's faults: it rose where the answer is that a write failed, and else is as it was
+abbrev pub IsWriteCount : Status → ℕ → ℕ → Type 0
+IsWriteCount status.WriteFault before now = Rose before now
+IsWriteCount s before now = now ≡ before
 
 -- why the input was not read whole
-abbrev pub IsUnread : Option (List ℕ) → ℕ → ℕ → Status → Type 0
-IsUnread left before now status.ReadFault = Rose before now
-IsUnread left before now status.Limit = IfSome left (λ i. 16777216 < length i)
-IsUnread left before now status.NoMemory = Unit {0}
-IsUnread left before now s = ⊥
+abbrev pub IsUnread : Option (List ℕ) → Option (List ℕ) → Status → Type 0
+IsUnread left rest status.ReadFault = Unit {0}
+IsUnread left rest status.Limit = LosesFront left rest (λ n. INPUT_BYTES < n)
+IsUnread left rest status.NoMemory = LosesFront left rest (λ n. (0 < n) × (n ≤ INPUT_BYTES))
+IsUnread left rest s = ⊥
+
+-- no line before the third is the first that is refused, so that one stands before it that is kept, or that memory is wanted for
+abbrev pub KeepsLines : Asked → List ℕ → Type 0
+KeepsLines a text = (line : ℕ) → text_status a text ≡ status.BadInput line → 2 < line
 
 -- why nothing is written of a text
 abbrev pub IsRefusal : Asked → List ℕ → Status → Type 0
 IsRefusal a text (status.BadInput line) = text_status a text ≡ status.BadInput line
 IsRefusal a text status.Limit = text_status a text ≡ status.Limit
-IsRefusal a text status.NoMemory = Unit {0}
+IsRefusal a text status.NoMemory = KeepsLines a text
 IsRefusal a text s = ⊥
 
 -- what is written of a text, and the answer then
@@ -39,6 +54,20 @@ pub record IsAnswered (a : Asked) (text : List ℕ) (old new : Option (List ℕ)
   pub no : (step : ℕ) → s ≡ status.NotARun step → IsNotARun a text step old new
   pub bad : (line : ℕ) → s ≡ status.BadInput line → IsBadAt a text line
   pub limit : s ≡ status.Limit → IsOverLimit a text
+  pub memory : s ≡ status.NoMemory → KeepsLines a text
   pub writing : s ≡ status.WriteFault → IsTold (status_of a text)
   pub complete : (s ≡ status.NoMemory) ⊎ (s ≡ status.WriteFault) ⊎ (s ≡ status_of a text)
   pub front : (n : ℕ) × Appends old new (take n (output_of (Some a) text))
+
+-- what the answer to an input says, which has these bytes left and then those
+pub record IsOutcome (a : Asked) (left rest old new : Option (List ℕ)) (s : Status) : Type 0 where
+  pub kinds : ¬ (s ≡ status.Usage)
+  pub done : s ≡ status.Done → OfInput left (λ i. IsDone a i old new)
+  pub no : (step : ℕ) → s ≡ status.NotARun step → OfInput left (λ i. IsNotARun a i step old new)
+  pub whole : IsTold s → IfSome left (λ i. rest ≡ Some [])
+  pub bad : (line : ℕ) → s ≡ status.BadInput line → OfInput left (λ i. IsBadAt a i line)
+  pub limit : s ≡ status.Limit → OfInput left (IsOverLimit a)
+  pub memory : s ≡ status.NoMemory → LosesFront left rest (λ n. (0 < n) × (n ≤ INPUT_BYTES))
+  pub writing : s ≡ status.WriteFault → OfInput left (λ i. IsTold (status_of a i))
+  pub complete : IsDecided a left s
+  pub front : OfInput left (λ i. (n : ℕ) × Appends old new (take n (output_of (Some a) i)))

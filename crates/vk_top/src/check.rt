@@ -12,7 +12,7 @@ use vk_text::{put, put_number};
 
 /// What becomes of the steps of a trace.
 #[derive(Clone, Copy, Debug, PartialEq, Eq)]
-pub(crate) enum Verdict {
+pub(crate) enum TraceVerdict {
     /// They are a run, of so many.
     Run { steps: u64 },
     /// This one, counted from 1, is the first that is not allowed.
@@ -22,7 +22,11 @@ pub(crate) enum Verdict {
 }
 
 /// Applies the steps in turn, up to the first that decides.
-fn verdict_from(alloc: Global, machine: &mut Machine, steps: &[Step]) -> Result<Verdict, NoMemory>
+fn verdict_from(
+    alloc: Global,
+    machine: &mut Machine,
+    steps: &[Step],
+) -> Result<TraceVerdict, NoMemory>
     ensures { IfOk result (λ v. v ≡ verdict_from (kernel_of machine.old) 0 machine.old.noted steps.now) }
 {
     let mut number = 0u64;
@@ -30,16 +34,16 @@ fn verdict_from(alloc: Global, machine: &mut Machine, steps: &[Step]) -> Result<
         number += 1;
         match machine.apply(alloc, step) {
             Ok(_) => {}
-            Err(ApplyRefusal::NotAllowed) => return Ok(Verdict::Refused { step: number }),
-            Err(ApplyRefusal::Limit) => return Ok(Verdict::TooMuch),
+            Err(ApplyRefusal::NotAllowed) => return Ok(TraceVerdict::Refused { step: number }),
+            Err(ApplyRefusal::Limit) => return Ok(TraceVerdict::TooMuch),
             Err(ApplyRefusal::NoMemory) => return Err(NoMemory),
         }
     }
-    Ok(Verdict::Run { steps: number })
+    Ok(TraceVerdict::Run { steps: number })
 }
 
 /// The verdict on a trace.
-pub(crate) fn verdict_of(alloc: Global, trace: &Trace) -> Result<Verdict, NoMemory>
+pub(crate) fn verdict_of(alloc: Global, trace: &Trace) -> Result<TraceVerdict, NoMemory>
     ensures { IfOk result (λ v. v ≡ verdict_of trace.now) }
 {
     let mut machine = Machine::new(alloc, &trace.config)?;

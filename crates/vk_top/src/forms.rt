@@ -1,9 +1,10 @@
 //! Which schedules can be played so far.
 
-ghost use Rattle.std.specs.Prelude.{◌≡◌, None, Some, MatchResult, length, IfSome, option_map};
+ghost use Rattle.std.specs.Prelude.{◌≡◌, ◌≤◌, None, Some, MatchResult, length, IfSome, option_map};
 ghost use Rattle.vk_event.specs.Lawful.{IsLawful};
-ghost use Rattle.vk_top.specs.Forms.{is_short, is_built_call, is_built_event, unbuilt_process, unbuilt_event, unbuilt_line, playable_front, IsPlayable};
+ghost use Rattle.vk_top.specs.Forms.{is_short, is_built_call, is_built_event, unbuilt_process, unbuilt_event, unbuilt_line, unbuilt_beyond, playable_front, IsPlayable};
 
+use vk_base::limits::EVENTS;
 use vk_base::{Call, Message, Pid, ProcessSpec};
 use vk_event::{Event, Front, Schedule, TextRefusal};
 
@@ -64,14 +65,36 @@ fn unbuilt_line(schedule: &Schedule) -> Option<u64>
     Some((specs.len() + at) as u64 + 2)
 }
 
-/// The schedule of a text, where it can be played. The first line that cannot or that is refused decides.
+/// The line of an event that is one too many, where it cannot be played.
+fn unbuilt_beyond(schedule: &Schedule, beyond: &Option<Event>) -> Option<u64>
+    requires { length schedule.now.events ≤ EVENTS }
+    ensures { result ≡ unbuilt_beyond schedule.now beyond.now }
+{
+    match beyond {
+        Some(event) if !is_built_event(event) => {
+            let before = schedule.config.specs().len() + schedule.events.as_slice().len();
+            Some(before as u64 + 2)
+        }
+        _ => None,
+    }
+}
+
+/// The schedule of a text, where it can be played. The first line that cannot or that is refused decides: also an event
+/// that is one too many is refused first for being of a form that cannot be played.
 pub fn playable(front: Front) -> Result<Schedule, TextRefusal>
     requires { IsLawful front.schedule }
     ensures exact { result ≡ playable_front front }
     ensures playable { MatchResult result IsPlayable (λ e. Unit {0}) }
 {
-    let Front { schedule, refused } = front;
+    let Front {
+        schedule,
+        refused,
+        beyond,
+    } = front;
     if let Some(line) = unbuilt_line(&schedule) {
+        return Err(TextRefusal::BadInput { line });
+    }
+    if let Some(line) = unbuilt_beyond(&schedule, &beyond) {
         return Err(TextRefusal::BadInput { line });
     }
     match refused {

@@ -2,8 +2,8 @@
 //! the program; what a program adds are the real objects.
 //!
 //! Stands on the reader of schedules (`vk_event`), on a station (`vk_host`), on the machine that applies steps (`v_machine`),
-//! on traces and the texts of steps and answers (`v_trace`) and of words (`vk_text`), on sources and sinks (`vk_io`), and on
-//! `clap`, which reads the program's words. What they ask for is `specs/Words.antt`, what can be played `specs/Forms.antt`,
+//! on traces (`v_trace`), on what is written of a history (`vk_report`) and of words (`vk_text`), on sources and sinks (`vk_io`), and
+//! on `clap`, which reads the program's words. What they ask for is `specs/Words.antt`, what can be played `specs/Forms.antt`,
 //! what is written of a schedule `specs/Report.antt`, what is said of a trace `specs/Check.antt`; what each status says is
 //! `specs/Top.antt`.
 #![tactic(auto)]

@@ -1,95 +1,105 @@
 //! A schedule, played on its station, and the report or the trace of it.
 
-ghost use Rattle.std.specs.Prelude.{◌≡◌, ◌≤◌, ◌<◌, ◌+◌, ◌^◌, ◌++◌, true, length, map, IfOk, OnOk};
+ghost use Rattle.std.specs.Prelude.{◌≡◌, ◌≤◌, ◌<◌, ◌+◌, ◌^◌, ◌++◌, [], true, length, IfOk, OnOk};
 ghost use Rattle.std.specs.List.{list_all};
-ghost use Rattle.vk_base.specs.Kernel.{Kernel};
-ghost use Rattle.vk_host.specs.declared.event.StationEvent.TheVariants as events;
-ghost use Rattle.vk_host.specs.Entries.{is_built, is_built_call, history};
-ghost use Rattle.vk_host.specs.Stands.{Stands, is_at, is_own};
+ghost use Rattle.vk_base.specs.Settings.{Settings};
+ghost use Rattle.vk_event.specs.declared.event.Event.TheVariants as scheduled;
+ghost use Rattle.vk_host.specs.Entries.{is_built, is_built_call};
+ghost use Rattle.vk_host.specs.Stands.{is_at, is_own};
+ghost use Rattle.vk_rules.specs.Histories.{Logs, history};
 ghost use Rattle.vk_top.specs.Forms.{IsPlayable};
-ghost use Rattle.vk_top.specs.Playing.{IsPlayed};
-ghost use Rattle.vk_top.specs.Report.{station_event, step_lines, lines_from, output_text, station_of, history_of_schedule};
+ghost use Rattle.vk_top.specs.Playing.{HasHad, IsPlayed, end_line, event_lines, lines_behind, station_event};
+ghost use Rattle.vk_top.specs.Report.{history_of_schedule, output_text};
 
-use crate::report::{Form, put_answer_line, put_end, put_opening, put_steps};
+use crate::report::{put_end, put_entry};
 use std::alloc::Global;
-use vk_base::{Call, NoMemory, Pid};
+use vk_base::limits::{EVENTS, STEPS};
+use vk_base::{Call, EventAnswer, NoMemory, Pid};
 use vk_event::{Event, Schedule};
 use vk_host::Host;
+use vk_report::{Form, put_opening};
 
-/// The lines of the steps of the station's last event, and how many there are.
-fn put_last_steps(
+/// The entry of the station's last event, which was answered so, and how many steps it had.
+fn put_last_entry(
     alloc: Global,
     station: &Host,
     text: &mut Vec<u8>,
     form: Form,
+    number: u64,
+    host: u16,
+    answer: &EventAnswer,
 ) -> Result<u64, NoMemory>
-    ensures lines { OnOk result (text.new.items ≡ text.old.items ++ step_lines form station.now.steps) }
+    ensures lines { OnOk result (text.new.items ≡ text.old.items ++ event_lines form host number answer.now station.now.steps) }
     ensures count { IfOk result (λ n. n ≡ length station.now.steps) }
-    ensures few { IfOk result (λ n. n ≤ 40) }
+    ensures few { IfOk result (λ n. n ≤ STEPS) }
 {
     let steps = station.steps();
-    put_steps(alloc, text, form, steps.as_slice())?;
+    put_entry(alloc, text, form, number, host, answer, steps.as_slice())?;
     Ok(steps.len() as u64)
 }
 
-/// A call at the station and its lines, and how many steps it had.
+/// A call at the station, which is the event behind `before`, and its lines; and how many steps it had.
 fn put_call(
     alloc: Global,
     station: &mut Host,
     text: &mut Vec<u8>,
     form: Form,
-    number: u64,
+    before: u64,
     host: u16,
     pid: Pid,
     call: &Call,
 ) -> Result<u64, NoMemory>
     requires few { station.old.events < 2 ^ 48 }
+    requires before { before < 2 ^ 48 }
+    requires host { station.old.host ≡ host }
     requires own { is_at station.old pid ≡ true }
     requires built { is_built_call pid call.now ≡ true }
-    ensures { IfOk result (IsPlayed form host number station.old station.new text.old.items text.new.items (events.Call pid call.now)) }
+    ensures { IfOk result (IsPlayed form host before station.old station.new text.old.items text.new.items (scheduled.Call pid call.now)) }
 {
     let answer = station.call(pid, call);
-    put_answer_line(alloc, text, form, number, host, number, &answer)?;
-    put_last_steps(alloc, station, text, form)
+    put_last_entry(alloc, station, text, form, before + 1, host, &answer)
 }
 
-/// A collect at the station and its lines, and how many steps it had.
+/// A collect at the station, which is the event behind `before`, and its lines; and how many steps it had.
 fn put_collect(
     alloc: Global,
     station: &mut Host,
     text: &mut Vec<u8>,
     form: Form,
-    number: u64,
+    before: u64,
     host: u16,
     pid: Pid,
 ) -> Result<u64, NoMemory>
     requires few { station.old.events < 2 ^ 48 }
+    requires before { before < 2 ^ 48 }
+    requires host { station.old.host ≡ host }
     requires own { is_at station.old pid ≡ true }
-    ensures { IfOk result (IsPlayed form host number station.old station.new text.old.items text.new.items (events.Collect pid)) }
+    ensures { IfOk result (IsPlayed form host before station.old station.new text.old.items text.new.items (scheduled.Collect pid)) }
 {
     let answer = station.collect(pid);
-    put_answer_line(alloc, text, form, number, host, number, &answer)?;
-    put_last_steps(alloc, station, text, form)
+    put_last_entry(alloc, station, text, form, before + 1, host, &answer)
 }
 
-/// One event of the station and its lines, and how many steps it had.
+/// One event of the station, behind `before`, and its lines; and how many steps it had.
 fn put_event(
     alloc: Global,
     station: &mut Host,
     text: &mut Vec<u8>,
     form: Form,
-    number: u64,
+    before: u64,
     host: u16,
     event: &Event,
 ) -> Result<u64, NoMemory>
     requires few { station.old.events < 2 ^ 48 }
+    requires before { before < 2 ^ 48 }
+    requires host { station.old.host ≡ host }
     requires own { is_own station.old (station_event event.now) ≡ true }
     requires built { is_built (station_event event.now) ≡ true }
-    ensures { IfOk result (IsPlayed form host number station.old station.new text.old.items text.new.items (station_event event.now)) }
+    ensures { IfOk result (IsPlayed form host before station.old station.new text.old.items text.new.items event.now) }
 {
     match event {
-        Event::Call { pid, call } => put_call(alloc, station, text, form, number, host, *pid, call),
-        Event::Collect { pid } => put_collect(alloc, station, text, form, number, host, *pid),
+        Event::Call { pid, call } => put_call(alloc, station, text, form, before, host, *pid, call),
+        Event::Collect { pid } => put_collect(alloc, station, text, form, before, host, *pid),
         Event::Tick { .. } | Event::Deliver { .. } => unreachable!(),
     }
 }
@@ -103,17 +113,19 @@ fn put_events(
     host: u16,
     events: &[Event],
 ) -> Result<(), NoMemory>
-    requires few { length events.now ≤ 100000 }
+    requires few { length events.now ≤ EVENTS }
     requires first { station.old.events ≡ 0 }
+    requires host { station.old.host ≡ host }
     requires own { list_all (λ e. is_own station.old (station_event e)) events.now ≡ true }
     requires built { list_all (λ e. is_built (station_event e)) events.now ≡ true }
-    ensures { OnOk result ((k : Kernel) → Stands station.old k → text.new.items ≡ text.old.items ++ lines_from form host 0 0 (history k (map station_event events.now))) }
+    ensures { OnOk result ((c : Settings) (logs : Logs) → HasHad station.old c logs host 0 →
+        text.new.items ≡ text.old.items ++ lines_behind form 0 0 (history c logs events.now)) }
 {
     let mut number = 0u64;
     let mut steps = 0u64;
     for event in events {
-        number += 1;
         steps += put_event(alloc, station, text, form, number, host, event)?;
+        number += 1;
     }
     put_end(alloc, text, form, number, steps)
 }
@@ -126,7 +138,7 @@ fn put_history(
     schedule: &Schedule,
 ) -> Result<(), NoMemory>
     requires { IsPlayable schedule.now }
-    ensures { OnOk result (text.new.items ≡ text.old.items ++ lines_from form (station_of schedule.now.config.specs) 0 0 (history_of_schedule schedule.now)) }
+    ensures { OnOk result (text.new.items ≡ text.old.items ++ lines_behind form 0 0 (history_of_schedule schedule.now)) }
 {
     let Some(first) = schedule.config.specs().first() else {
         return put_end(alloc, text, form, 0, 0);

@@ -4,6 +4,7 @@ use Rattle.byteorder.specs.Endian.{big_bytes, big_number}
 use Rattle.vk_base.specs.Messages.{IsMessage}
 pub use Rattle.vk_base.specs.Options.{◌>>=◌}
 use Rattle.vk_base.specs.Pids.{IsPid, pid_of_numbers}
+use Rattle.vk_base.specs.declared.limits.TheConstants.{MESSAGE_BYTES}
 use Rattle.vk_base.specs.declared.message.Message.{Message}
 use Rattle.vk_base.specs.declared.pid.Pid.{Pid}
 
@@ -26,11 +27,13 @@ pid_at bytes = do
   Some (pid, local.1)
 
 unfoldable pub message_at : List ℕ → Option (Message × List ℕ)
-message_at bytes = if nat_le 32 (length bytes) then Some (record { 0 = take 32 bytes }, drop 32 bytes) else None
+message_at bytes = if nat_le MESSAGE_BYTES (length bytes) then Some (record { 0 = take MESSAGE_BYTES bytes }, drop MESSAGE_BYTES bytes)
+    else None
 
 -- A number, a pid or a message stands first exactly where its spelling does.
 pub record NumbersAreSpelledOnce (n : ℕ) : Type 0 where
-  pub read : (bytes rest : List ℕ) (x : ℕ) → IsBytes bytes → number_at n bytes ≡ Some (x, rest) → (bytes ≡ big_bytes n x ++ rest) × (x < 256 ^ n)
+  pub read : (bytes rest : List ℕ) (x : ℕ) → IsBytes bytes → number_at n bytes ≡ Some (x, rest) → (bytes ≡ big_bytes n x ++ rest) ×
+      (x < 256 ^ n)
   pub written : (x : ℕ) (rest : List ℕ) → x < 256 ^ n → number_at n (big_bytes n x ++ rest) ≡ Some (x, rest)
 
 pub record PidsAreSpelledOnce : Type 0 where

@@ -4,6 +4,7 @@ ghost use Rattle.std.specs.Prelude.{◌≡◌, Some, None, MatchOption};
 ghost use Rattle.vk_wire.specs.Fields.{number_at, pid_at, message_at};
 
 use byteorder::{BigEndian, ByteOrder};
+use vk_base::limits::MESSAGE_BYTES;
 use vk_base::{Message, Pid};
 
 /// A number of one byte.
@@ -69,11 +70,11 @@ pub fn next_pid(bytes: &[u8]) -> Option<(Pid, &[u8])>
 pub fn next_message(bytes: &[u8]) -> Option<(Message, &[u8])>
     ensures { MatchOption result (message_at bytes.now ≡ None) (λ r. message_at bytes.now ≡ Some (r.0, r.1.now)) }
 {
-    if bytes.len() < 32 {
+    if bytes.len() < MESSAGE_BYTES {
         return None;
     }
-    let (front, rest) = bytes.split_at(32);
-    let mut message = [0u8; 32];
+    let (front, rest) = bytes.split_at(MESSAGE_BYTES);
+    let mut message = [0u8; MESSAGE_BYTES];
     message.copy_from_slice(front);
     Some((Message(message), rest))
 }

@@ -9,5 +9,6 @@ returns-clause-ok c =
     let made : List ℕ = codes "call" ++ 32 ∷ pid_text c.args.pid in
     let call : List ℕ = 32 ∷ call_text c.args.call.now in
     on_ok_weaker c.write_call.result
-    (λ h. h ∙ ap (λ (l : List ℕ). l ++ call) c.in_ok-write_of.ensures.ok ∙ append_assoc c.args.into.now.items made call ∙ ap (λ l. c.args.into.now.items ++ l) (sym (spaced_call made c.args.call.now)))
+    (λ h. h ∙ ap (λ (l : List ℕ). l ++ call) c.in_ok-write_of.ensures.ok ∙ append_assoc c.args.into.now.items made call ∙ ap
+    (λ l. c.args.into.now.items ++ l) (sym (spaced_call made c.args.call.now)))
     c.write_call.ensures.ok

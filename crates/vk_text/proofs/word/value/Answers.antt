@@ -20,7 +20,8 @@ loop-byte-preserved c =
 pub returns-in_err-value : goal.returns-in_err-value
 returns-in_err-value c =
     rw c.from_residual.ensures (λ h.
-    let digit : is_ascii_digit (get_or c.args.digits.now c.loop-byte.byte-index 0) ≡ true = AllPass-from_list_all is_ascii_digit c.args.digits.now h.0 c.loop-byte.byte-index 0 c.loop-byte-test.true in
+    let digit : is_ascii_digit (get_or c.args.digits.now c.loop-byte.byte-index 0) ≡ true =
+    AllPass-from_list_all is_ascii_digit c.args.digits.now h.0 c.loop-byte.byte-index 0 c.loop-byte-test.true in
     let step = one_more_digit c.args.digits.now c.loop-byte.byte-index c.loop-byte-test.true digit in
     let least = front_least c.args.digits.now (c.loop-byte.byte-index + 1) in
     let value = c.loop-byte.invariant.value in

@@ -1,10 +1,9 @@
 use Rattle.std.proofs.Common.{◌≡◌, ◌++◌, map, ap, sym, ◌∙◌}
 use Rattle.std.proofs.lemmas.Result.{on_ok_weaker}
 use Rattle.std.specs.Option.{option_copied}
-use Rattle.vk_base.specs.Kernel.{opening}
-use Rattle.vk_host.specs.Entries.{history_of}
-use Rattle.vk_top.proofs.Schedules.{lines-no_process, station_of-first, has_station-first, all_built, all_own}
-use Rattle.vk_top.specs.Report.{lines_from, station_event}
+use Rattle.vk_top.proofs.Schedules.{lines-no_process, station_of-first, has_station-first, all_built, all_own, had_none}
+use Rattle.vk_rules.specs.Histories.{history_of, no_entries}
+use Rattle.vk_top.specs.Playing.{lines_behind}
 use Rattle.vk_top.proofs.Playable.{plain}
 use Rattle.vk_top.proofs.replay.put_history.Goals as goal
 
@@ -24,7 +23,8 @@ put_events-requires c =
     let first = station_of-first c.specs.result.now s.config.specs c.in-Some.first.now c.specs.ensures.specs c.in-Some.ensures.value in
     record {
       few = rw same c.requires.lawful.few;
-      first = c.in_ok-station.ensures.start.0;
+      first = c.in_ok-station.ensures.start.1;
+      host = c.in_ok-station.ensures.start.0;
       own = rw same (all_own s c.in_ok-station.station _ (plain s c.requires) first c.in_ok-station.ensures.processes);
       built = rw same (all_built s (plain s c.requires));
     }
@@ -32,9 +32,7 @@ put_events-requires c =
 pub returns : goal.returns
 returns c =
     let s = c.args.schedule.now in
-    let first = station_of-first c.specs.result.now s.config.specs c.in-Some.first.now c.specs.ensures.specs c.in-Some.ensures.value in
     on_ok_weaker c.put_events.result
-    (λ written. written (opening s.config.specs) c.in_ok-station.ensures.stands
-    ∙ ap (λ es. c.args.text.now.items ++ lines_from c.args.form c.in-Some.first.now.pid.host 0 0 (history_of s.config.specs (map station_event es))) c.as_slice.ensures
-    ∙ ap (λ h. c.args.text.now.items ++ lines_from c.args.form h 0 0 (history_of s.config.specs (map station_event s.events))) (sym first))
+    (λ written. written s.config no_entries (had_none _ s.config _ c.in_ok-station.ensures.stands)
+    ∙ ap (λ es. c.args.text.now.items ++ lines_behind c.args.form 0 0 (history_of s.config es)) c.as_slice.ensures)
     c.put_events.ensures

@@ -1,0 +1,10 @@
+pub mod Closing
+pub mod Gathering
+pub mod Giving
+pub mod Histories
+pub mod Joining
+pub mod Numbers
+pub mod Splitting
+pub mod Taking
+pub mod Turning
+pub mod Views

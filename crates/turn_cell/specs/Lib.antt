@@ -1,0 +1,7 @@
+pub mod History
+pub mod Rooms
+pub mod Accounts
+pub mod Standings
+pub mod Turns
+pub mod Seats
+pub mod Held

@@ -1,8 +1,0 @@
-use Rattle.std.proofs.Common.{refl}
-use Rattle.v_machine.specs.Moves.{with_opened}
-use Rattle.v_machine.specs.Sends.{with_open}
-use Rattle.v_machine.proofs.MoveLemmas.{puts}
-use Rattle.v_machine.proofs.moving.put_open.Goals as goal
-
-pub returns : goal.returns
-returns c = puts c.args.store.now (with_open c.args.moving c.args.noted) (with_opened c.args.moving c.args.noted) c.args.at c.args.number c.index_mut.result.now c.open_move.new.self (λ x. refl) (λ e. refl) (λ e. refl) c.requires c.index_mut.ensures.value c.open_move.ensures

@@ -1,0 +1,215 @@
+//! Sends, and messages that come to a queue.
+
+ghost use Rattle.std.specs.Prelude.{◌≡◌, ◌<◌, [], true, false, length, Some, OnOk, OnErr, IfOk};
+ghost use Rattle.vk_base.specs.declared.kernel.Process.{Process};
+ghost use Rattle.vk_base.specs.declared.pid.Pid.{Pid as ThePid};
+ghost use Rattle.vk_base.specs.Calls.{first_part};
+ghost use Rattle.vk_base.specs.Kernel.{is_live, is_queued};
+ghost use Rattle.vk_base.specs.Messages.{segment_of};
+ghost use Rattle.vk_base.specs.Pids.{same_host};
+ghost use Rattle.vk_base.specs.Ranges.{lies_in};
+ghost use Rattle.v_machine.specs.Kept.{IsKept, IsAt, kernel_in};
+ghost use Rattle.v_machine.specs.Places.{place_in};
+ghost use Rattle.v_machine.specs.Rules.{Judges, Fits, HasRoomFor, Posts, Stays};
+
+use crate::calls::response::Response;
+use crate::refusal::ApplyRefusal;
+use crate::tables::Store;
+use crate::tables::activity::{Activity, Waiting};
+use crate::tables::arrivals::{make_room, push_name};
+use crate::tables::bytes::{lies_in, own_bytes};
+use crate::tables::put::{find_live, put_activity, size_of};
+use crate::tables::sends::next_number;
+use std::alloc::Global;
+use vk_base::limits::SEGMENT_BYTES;
+use vk_base::{Call, Exchange, List, Message, Name, NoMemory, Pid, Range, Refusal, Stage};
+
+/// Send.
+pub fn send(
+    store: &mut Store,
+    alloc: Global,
+    at: usize,
+    pid: Pid,
+    target: Pid,
+    message: Message,
+) -> Result<Response, ApplyRefusal>
+    requires kept { IsKept store.old }
+    requires here { IsAt store.old pid at }
+    ensures { Judges pid (Call.Send target message) store.old store.new result }
+{
+    let segment = message.grants().range;
+    if !lies_in(segment.start, segment.len, size_of(store, at)) {
+        return Ok(Response::Refused {
+            why: Refusal::BadSegment,
+        });
+    }
+    if pid.host == target.host {
+        send_here(store, alloc, at, pid, target, message)
+    } else {
+        send_away(store, alloc, at, pid, target, message)
+    }
+}
+
+/// A Send to a process of the caller's station, whose segment lies in the caller's memory.
+fn send_here(
+    store: &mut Store,
+    alloc: Global,
+    at: usize,
+    pid: Pid,
+    target: Pid,
+    message: Message,
+) -> Result<Response, ApplyRefusal>
+    requires kept { IsKept store.old }
+    requires here { IsAt store.old pid at }
+    requires local { same_host pid target ≡ true }
+    ensures { Fits store.old pid message → Judges pid (Call.Send target message) store.old store.new result }
+{
+    let Some(to) = find_live(store, target) else {
+        return Ok(Response::Refused {
+            why: Refusal::NoProcess,
+        });
+    };
+    make_room(store, at, pid.host)?;
+    send_with_room(store, alloc, at, to, pid, target, message)
+}
+
+/// A Send to a process of the caller's station that is alive, where there is room for its name.
+fn send_with_room(
+    store: &mut Store,
+    alloc: Global,
+    at: usize,
+    to: usize,
+    pid: Pid,
+    target: Pid,
+    message: Message,
+) -> Result<Response, ApplyRefusal>
+    requires kept { IsKept store.old }
+    requires here { IsAt store.old pid at }
+    requires there { IsAt store.old target to }
+    requires local { same_host pid target ≡ true }
+    requires live { is_live ((kernel_in store.old).procs target) ≡ true }
+    requires room { HasRoomFor store.old at pid.host }
+    ensures { Fits store.old pid message → Judges pid (Call.Send target message) store.old store.new result }
+{
+    let sent = new_sent(store, alloc, at, target, message, Stage::Queued)?;
+    post_here(store, at, to, pid, sent)?;
+    let waiting = Waiting::Send { target, message };
+    put_activity(store, at, Activity::Blocked { waiting });
+    Ok(Response::Begun)
+}
+
+/// A Send to a process of another station, whose segment lies in the caller's memory.
+fn send_away(
+    store: &mut Store,
+    alloc: Global,
+    at: usize,
+    pid: Pid,
+    target: Pid,
+    message: Message,
+) -> Result<Response, ApplyRefusal>
+    requires kept { IsKept store.old }
+    requires here { IsAt store.old pid at }
+    requires away { same_host pid target ≡ false }
+    ensures { Fits store.old pid message → Judges pid (Call.Send target message) store.old store.new result }
+{
+    let sent = new_sent(store, alloc, at, target, message, Stage::Posted)?;
+    store.sends[at].push(sent)?;
+    let waiting = Waiting::Send { target, message };
+    put_activity(store, at, Activity::Blocked { waiting });
+    Ok(Response::Begun)
+}
+
+/// One more Send of the process of the first place, to the process of the second, which has the same host. Where memory is
+/// wanting the tables stay.
+fn post_here(
+    store: &mut Store,
+    at: usize,
+    to: usize,
+    pid: Pid,
+    sent: Exchange,
+) -> Result<(), NoMemory>
+    requires kept { IsKept store.old }
+    requires here { IsAt store.old pid at }
+    requires there { IsAt store.old sent.target to }
+    requires local { same_host pid sent.target ≡ true }
+    requires queued { is_queued sent.stage ≡ true }
+    requires room { HasRoomFor store.old at pid.host }
+    ensures places { store.new.places ≡ store.old.places }
+    ensures procs { length store.new.procs.items ≡ length store.old.procs.items }
+    ensures ok { OnOk result (Posts pid sent store.old store.new) }
+    ensures err { OnErr result (Stays store.old store.new) }
+{
+    let number = next_number(&store.sends[at]);
+    let name = Name {
+        sender: pid,
+        number,
+    };
+    let waiting = store.queues[to].len();
+    store.queues[to].push(name)?;
+    if store.sends[at].push(sent).is_err() {
+        store.queues[to].truncate(waiting);
+        return Err(NoMemory);
+    }
+    store.latest[at].put(pid.host, number);
+    push_name(&mut store.arrived, name);
+    Ok(())
+}
+
+/// A Send of the process of this place, whose segment lies in its memory.
+fn new_sent(
+    store: &Store,
+    alloc: Global,
+    at: usize,
+    target: Pid,
+    message: Message,
+    stage: Stage,
+) -> Result<Exchange, NoMemory>
+    requires { at < length store.now.procs.items }
+    ensures target { IfOk result (λ s. s.target ≡ target) }
+    ensures stage { IfOk result (λ s. s.stage ≡ stage) }
+    ensures value { (pid : ThePid) (p : Process) → place_in store.now.places pid ≡ Some at → (kernel_in store.now).procs pid ≡ Some p →
+        lies_in (segment_of message) (length p.memory) ≡ true →
+        IfOk result (λ s. s ≡ record {
+          target = target;
+          message = message;
+          part = first_part message p.memory;
+          stage = stage;
+          moves = [];
+          opened = 0;
+          done = 0;
+        }) }
+{
+    let part = first_part(store, alloc, at, message)?;
+    Ok(Exchange {
+        target,
+        message,
+        part,
+        stage,
+        moves: List::empty(alloc),
+        opened: 0,
+        done: 0,
+    })
+}
+
+/// The first part of the granted segment, if it may be read.
+fn first_part(
+    store: &Store,
+    alloc: Global,
+    at: usize,
+    message: Message,
+) -> Result<List<u8>, NoMemory>
+    requires { at < length store.now.procs.items }
+    ensures { (pid : ThePid) (p : Process) → place_in store.now.places pid ≡ Some at → (kernel_in store.now).procs pid ≡ Some p →
+        lies_in (segment_of message) (length p.memory) ≡ true →
+        IfOk result (λ l. l ≡ first_part message p.memory) }
+{
+    let grants = message.grants();
+    if !grants.read {
+        return Ok(List::empty(alloc));
+    }
+    let range = Range {
+        start: grants.range.start,
+        len: grants.range.len.min(SEGMENT_BYTES),
+    };
+    own_bytes(store, alloc, at, range)
+}

@@ -1,0 +1,38 @@
+//! The tables of a machine. What the lists of processes have at a place is of the process that has this place.
+
+pub mod activity;
+pub mod arrivals;
+pub mod bytes;
+pub mod groups;
+pub mod initial;
+pub mod latest;
+pub mod lookups;
+pub mod moving;
+pub mod numbered;
+pub mod places;
+pub mod proc;
+pub mod put;
+pub mod queue;
+pub mod queues;
+pub mod sends;
+
+use crate::tables::latest::Latests;
+use crate::tables::numbered::Numbered;
+use crate::tables::places::Places;
+use crate::tables::proc::Proc;
+use crate::tables::queue::Queue;
+use vk_base::{Exchange, Lookup, Name, Registration};
+
+#[derive(Drop)]
+pub struct Store {
+    pub places: Places,
+    pub procs: Vec<Proc>,
+    pub sends: Vec<Numbered<Exchange>>,
+    pub asked: Vec<Numbered<Lookup>>,
+    pub names: Vec<Registration>,
+    pub arrived: Vec<Name>,
+    /// For each process what came to its queue, and may still be queued.
+    pub queues: Vec<Queue>,
+    /// For each process and each host the last Send to the host that came to a queue.
+    pub latest: Vec<Latests>,
+}

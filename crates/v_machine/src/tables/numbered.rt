@@ -1,0 +1,97 @@
+//! Lists whose items are numbered from 1.
+
+ghost use Rattle.std.specs.Prelude.{◌≡◌, ◌++◌, ◌∷◌, [], length, option_copied, OnOk, OnErr};
+ghost use Rattle.std.specs.Borrow.{sem};
+ghost use Rattle.std.specs.Option.{option_copied_mut};
+ghost use Rattle.v_machine.specs.Places.{index_of, numbered};
+
+use std::alloc::Global;
+use std::marker::Model;
+use vk_base::NoMemory;
+
+/// A list of items, the first of which has the number 1.
+#[derive(Drop)]
+pub struct Numbered<T> {
+    items: Vec<T>,
+}
+
+impl<T> Model for Numbered<T> {
+    ghost use Rattle.std.specs.Prelude.{List};
+
+    ghost Value = { List T };
+
+    ghost view = { λ n. n.items.items };
+}
+
+impl<T> Numbered<T> {
+    ghost use Rattle.v_machine.specs.Lends.{lends_numbered};
+
+    pub fn new(alloc: Global) -> Self
+        ensures { result ≡ [] }
+    {
+        Numbered {
+            items: Vec::new(alloc),
+        }
+    }
+
+    /// These items, of which the first has the number 1.
+    pub fn of(items: Vec<T>) -> Self
+        ensures { result ≡ items.items }
+    {
+        Numbered { items }
+    }
+
+    /// The items as a vector, which takes no memory.
+    pub fn into_vec(self) -> Vec<T>
+        ensures { result.items ≡ self }
+    {
+        self.items
+    }
+
+    /// The items, in order.
+    pub fn as_slice(&self) -> &[T]
+        ensures { result.now ≡ self.now }
+    {
+        self.items.as_slice()
+    }
+
+    /// How many there are, which is the number of the last.
+    pub fn count(&self) -> u64
+        ensures { result ≡ length self.now }
+    {
+        self.items.len() as u64
+    }
+
+    /// The item of a number.
+    pub fn get(&self, number: u64) -> Option<&T>
+        ensures { option_copied result ≡ numbered self.now number }
+    {
+        self.items.get(index_of(number))
+    }
+
+    /// The item of a number, to be changed.
+    pub fn get_mut(&mut self, number: u64) -> Option<&mut T>
+        ensures* writes_back { sem 𝓛 (lends_numbered T.row self.entry number result) }
+        ensures value { option_copied_mut result ≡ numbered self.old number }
+    {
+        self.items.get_mut(index_of(number))
+    }
+
+    /// One more item. Where memory is wanting nothing changes.
+    pub fn push(&mut self, item: T) -> Result<(), NoMemory>
+    where
+        T: Drop,
+        ensures ok { OnOk result (self.new ≡ self.old ++ item ∷ []) }
+        ensures err { OnErr result (self.new ≡ self.old) }
+    {
+        self.items.push(item)?;
+        Ok(())
+    }
+}
+
+/// The place of a number in a slice, where no item stands for the number 0.
+pub fn index_of(number: u64) -> usize
+    ensures { result ≡ index_of number }
+{
+    (number as usize).wrapping_sub(1)
+}

@@ -1,0 +1,7 @@
+pub mod Counts
+pub mod Entries
+pub mod Fetching
+pub mod Posted
+pub mod Posting
+pub mod Stopping
+pub mod Waits

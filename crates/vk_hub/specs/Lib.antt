@@ -1,0 +1,5 @@
+pub mod Links
+pub mod Hubs
+pub mod Kept
+pub mod Counting
+pub mod Posts

@@ -1,0 +1,55 @@
+ghost use Rattle.std.specs.Prelude.{◌≡◌};
+ghost use Rattle.vk_hub.specs.Hubs.{is_halt};
+
+use vk_base::FrameBytes;
+
+/// What is entered into a hub's history.
+#[derive(Drop)]
+pub enum HubEvent {
+    /// The frame goes to the stations that it is addressed to.
+    Post { frame: FrameBytes },
+    /// The station takes what has waited longest for it.
+    Fetch { host: u16 },
+    /// One program more has finished.
+    Finished,
+    /// The hub ends.
+    Halt,
+}
+
+/// What a fetch gives.
+#[derive(Drop)]
+pub enum Fetched {
+    Frame { frame: FrameBytes },
+    /// The hub is halted, or all programs have finished. It comes before a frame that waits.
+    Stopped,
+    /// No frame waits for the station.
+    Nothing,
+}
+
+/// Where a hub puts what an event gives: `None` for all but a fetch.
+#[derive(Drop)]
+pub struct HubOut {
+    pub fetched: Option<Fetched>,
+}
+
+impl HubEvent {
+    /// An equal event.
+    pub fn copy(&self) -> HubEvent
+        ensures { result ≡ self.now }
+    {
+        match self {
+            HubEvent::Post { frame } => HubEvent::Post {
+                frame: frame.copy(),
+            },
+            HubEvent::Fetch { host } => HubEvent::Fetch { host: *host },
+            HubEvent::Finished => HubEvent::Finished,
+            HubEvent::Halt => HubEvent::Halt,
+        }
+    }
+
+    pub fn is_halt(&self) -> bool
+        ensures { result ≡ is_halt self.now }
+    {
+        matches!(self, HubEvent::Halt)
+    }
+}

@@ -1,0 +1,173 @@
+ghost use Rattle.std.specs.Prelude.{◌≡◌, ◌≢◌, ℕ, ◌+◌, ◌≤◌, ◌<◌, ◌⊎◌, ◌++◌, ◌∷◌, [], true, false, Some, slice_get, vec_len, IfOk, IfErr, OnOk, OnErr, All};
+ghost use mathlib.Core.List.{IsPrefix};
+ghost use Rattle.turn_cell.specs.History.{events_of};
+ghost use Rattle.turn_cell.specs.Rooms.{is_full};
+ghost use Rattle.turn_cell.specs.Seats.{HasEntered, HasLooked, IsComplete, IsSameSeat, IsSeatOf, fresh};
+ghost use Rattle.vk_base.specs.Settings.{stations_of};
+ghost use Rattle.vk_hub.specs.Hubs.{fetched_from, has_halt, is_at_limit, is_ready, traffic_of};
+ghost use Rattle.vk_hub.specs.Posts.{IsFromPost};
+
+use crate::event::{Fetched, HubEvent, HubOut};
+use crate::plan::LinkPlan;
+use crate::state::HubState;
+use std::alloc::Global;
+use std::marker::Model;
+use std::sync::Wait;
+use turn_cell::{Ready, Room, TurnCell, TurnSeat};
+use vk_base::{Config, FrameBytes, NoMemory};
+
+/// The links between the stations of a configuration. Threads share it, each with a seat of its own.
+#[derive(Drop)]
+pub struct Hub {
+    cell: TurnCell<HubState>,
+    alloc: Global,
+}
+
+impl Model for Hub {
+    ghost use Rattle.turn_cell.specs.Seats.{Cell};
+    ghost use Rattle.vk_hub.specs.Hubs.{HubLog};
+
+    ghost Value = { Cell HubLog };
+
+    ghost view = { λ h. h.cell };
+}
+
+impl Hub {
+    /// A hub of these stations, at which so many programs are to finish, and its seats, whose numbers run from 0.
+    pub fn new(
+        alloc: Global,
+        config: &Config,
+        plan: LinkPlan,
+        programs: u32,
+        seats: u32,
+    ) -> Result<(Hub, Vec<TurnSeat<HubState>>), NoMemory>
+        requires { 1 ≤ seats }
+        ensures plan { IfOk result (λ made. made.0.origin.plan ≡ plan) }
+        ensures stations { IfOk result (λ made. made.0.origin.stations ≡ stations_of config.now.specs) }
+        ensures programs { IfOk result (λ made. made.0.origin.programs ≡ programs) }
+        ensures seats { IfOk result (λ made. made.0.seats ≡ seats) }
+        ensures count { IfOk result (λ made. vec_len made.1 ≡ seats) }
+        ensures each { IfOk result (λ made. (k : ℕ) → k < seats → slice_get made.1.items k ≡ Some (fresh made.0 k)) }
+    {
+        let state = HubState::new(alloc, config, plan, programs)?;
+        match TurnCell::new(alloc, state, seats) {
+            Ok((cell, seats)) => Ok((Hub { cell, alloc }, seats)),
+            Err(_) => Err(NoMemory),
+        }
+    }
+
+    /// Posts the frame to the stations that it is addressed to. A frame without a lawful header goes nowhere.
+    pub fn post<R: Wait>(
+        &self,
+        rt: &R,
+        alloc: Global,
+        seat: &mut TurnSeat<HubState>,
+        frame: &FrameBytes,
+    ) -> Result<(), Room>
+        requires { IsSeatOf self.now seat.old }
+        ensures same { IsSameSeat seat.old seat.new }
+        ensures complete { IsComplete seat.new }
+        ensures turns { seat.new.turns ≡ seat.old.turns + 1 }
+        ensures ok { OnOk result (HasEntered (λ before. is_at_limit before (HubEvent.Post frame.now) ≡ false)
+            seat.old seat.new (HubEvent.Post frame.now)) }
+        ensures err { OnErr result (HasLooked seat.old seat.new) }
+        ensures refused { IfErr result (λ why. is_at_limit seat.new.seen (HubEvent.Post frame.now) ≡ is_full why) }
+    {
+        let mut out = HubOut { fetched: None };
+        let event = HubEvent::Post {
+            frame: frame.copy(),
+        };
+        self.cell.step(rt, alloc, seat, &event, &mut out)
+    }
+
+    /// The oldest frame that waits for the station, or that the hub has ended. Both are entries. Where neither is due it is `Nothing`,
+    /// and nothing is entered. A frame that it gives was posted for the station.
+    pub fn fetch<R: Wait>(
+        &self,
+        rt: &R,
+        alloc: Global,
+        seat: &mut TurnSeat<HubState>,
+        host: u16,
+    ) -> Result<Fetched, Room>
+        requires { IsSeatOf self.now seat.old }
+        ensures same { IsSameSeat seat.old seat.new }
+        ensures complete { IsComplete seat.new }
+        ensures turns { seat.new.turns ≡ seat.old.turns + 1 }
+        ensures nothing { IfOk result (λ f. f ≡ Fetched.Nothing → HasLooked seat.old seat.new
+            × (fetched_from self.now.origin.programs (traffic_of self.now.origin seat.new.seen) host ≡ Fetched.Nothing)) }
+        ensures fetched { IfOk result (λ f. f ≢ Fetched.Nothing → HasEntered (λ before.
+            f ≡ fetched_from self.now.origin.programs (traffic_of self.now.origin before) host)
+            seat.old seat.new (HubEvent.Fetch host)) }
+        ensures posted { IfOk result (λ f. IsFromPost f host seat.new.seen) }
+        ensures err { OnErr result (HasLooked seat.old seat.new
+            × (is_ready self.now.origin.programs (traffic_of self.now.origin seat.new.seen) (HubEvent.Fetch host) ≡ true)) }
+        ensures refused { IfErr result (λ why. is_at_limit seat.new.seen (HubEvent.Fetch host) ≡ is_full why) }
+    {
+        let mut out = HubOut { fetched: None };
+        let event = HubEvent::Fetch { host };
+        match self.cell.step_when_ready(rt, alloc, seat, &event, &mut out) {
+            Ok(Ready::Done) => match out.fetched {
+                Some(fetched) => Ok(fetched),
+                None => unreachable!(),
+            },
+            Ok(Ready::NotYet) => Ok(Fetched::Nothing),
+            Err(why) => Err(why),
+        }
+    }
+
+    /// Counts one program more that has finished.
+    pub fn finished<R: Wait>(
+        &self,
+        rt: &R,
+        alloc: Global,
+        seat: &mut TurnSeat<HubState>,
+    ) -> Result<(), Room>
+        requires { IsSeatOf self.now seat.old }
+        ensures same { IsSameSeat seat.old seat.new }
+        ensures complete { IsComplete seat.new }
+        ensures turns { seat.new.turns ≡ seat.old.turns + 1 }
+        ensures ok { OnOk result (HasEntered (λ before. is_at_limit before HubEvent.Finished ≡ false) seat.old seat.new HubEvent.Finished) }
+        ensures err { OnErr result (HasLooked seat.old seat.new) }
+        ensures refused { IfErr result (λ why. is_at_limit seat.new.seen HubEvent.Finished ≡ is_full why) }
+    {
+        let mut out = HubOut { fetched: None };
+        self.cell
+            .step(rt, alloc, seat, &HubEvent::Finished, &mut out)
+    }
+
+    /// Halts the hub, unless it is halted already. It takes no memory, and is never refused.
+    pub fn stop<R: Wait>(&self, rt: &R, seat: &mut TurnSeat<HubState>)
+        requires { IsSeatOf self.now seat.old }
+        ensures same { IsSameSeat seat.old seat.new }
+        ensures complete { IsComplete seat.new }
+        ensures turns { seat.new.turns ≡ seat.old.turns + 1 }
+        ensures later { IsPrefix seat.old.seen seat.new.seen }
+        ensures halted { has_halt seat.new.seen ≡ true }
+        ensures mine { (seat.new.mine ≡ seat.old.mine) ⊎ (seat.new.mine ≡ seat.old.mine ++ HubEvent.Halt ∷ []) }
+    {
+        let mut out = HubOut { fetched: None };
+        match self
+            .cell
+            .step_when_ready(rt, self.alloc, seat, &HubEvent::Halt, &mut out)
+        {
+            Ok(_) => {}
+            Err(_) => unreachable!(),
+        }
+    }
+
+    /// The state, once all seats have come back. Its history begins with what each seat has seen, and has just the events of these
+    /// seats, those of each once and in order. It takes no memory.
+    pub fn close(self, seats: Vec<TurnSeat<HubState>>) -> HubState
+        requires seats { All (λ s. IsSeatOf self s) seats.items }
+        requires all { vec_len seats ≡ self.seats }
+        ensures plan { result.plan ≡ self.origin.plan }
+        ensures stations { result.stations ≡ self.origin.stations }
+        ensures programs { result.programs ≡ self.origin.programs }
+        ensures seen { All (λ s. IsPrefix s.seen result.history) seats.items }
+        ensures mine { All (λ s. events_of s.number result.history ≡ s.mine) seats.items }
+        ensures others { (k : ℕ) → self.seats ≤ k → events_of k result.history ≡ [] }
+    {
+        let Hub { cell, alloc: _ } = self;
+        cell.close(seats)
+    }
+}

@@ -1,0 +1,103 @@
+// What waits for one station.
+ghost use Rattle.std.specs.Prelude.{◌≡◌, [], None, is_some, IfOk};
+ghost use Rattle.vk_hub.specs.Links.{drawn, first_of, next, posted, rest_of};
+
+use crate::plan::LinkPlan;
+use circular_buffer::HeapCircularBuffer;
+use std::alloc::{AllocError, Global};
+use std::marker::Model;
+use vk_base::FrameBytes;
+
+const MOST: usize = 128;
+
+/// The frames that wait for one station: a ring of at most 128, and one that is held back.
+#[derive(Drop)]
+pub struct Inbox {
+    station: u16,
+    ring: HeapCircularBuffer<FrameBytes>,
+    held: Option<FrameBytes>,
+}
+
+impl Model for Inbox {
+    ghost use Rattle.std.specs.Prelude.{◌≡◌};
+    ghost use Rattle.vk_hub.specs.Links.{Waiting};
+
+    ghost Value = { Waiting };
+
+    ghost view = { λ i. record { station = i.station; ring = i.ring.items; held = i.held } };
+
+    ghost invariant = { λ i. i.ring.capacity ≡ 128 };
+}
+
+/// The generator's next state.
+pub fn next(x: u64) -> u64
+    ensures { result ≡ next x }
+{
+    x.wrapping_mul(6_364_136_223_846_793_005)
+        .wrapping_add(1_442_695_040_888_963_407)
+}
+
+// What a draw gives in this state.
+fn drawn(x: u64) -> u8
+    ensures { result ≡ drawn x }
+{
+    ((x >> 33) % 256) as u8
+}
+
+impl Inbox {
+    pub fn new(alloc: Global, station: u16) -> Result<Inbox, AllocError>
+        ensures { IfOk result (λ i. i ≡ record { station = station; ring = []; held = None }) }
+    {
+        Ok(Inbox {
+            station,
+            ring: HeapCircularBuffer::with_capacity(alloc, MOST)?,
+            held: None,
+        })
+    }
+
+    pub fn station(&self) -> u16
+        ensures { result ≡ self.now.station }
+    {
+        self.station
+    }
+
+    pub fn has_frame(&self) -> bool
+        ensures { result ≡ is_some (first_of self.now.ring self.now.held) }
+    {
+        !self.ring.is_empty() || self.held.is_some()
+    }
+
+    /// A post of the frame, in the generator's state `x`.
+    pub fn post(&mut self, plan: &LinkPlan, x: u64, frame: &FrameBytes)
+        ensures { self.new ≡ posted plan.now x self.old frame.now }
+    {
+        let first = next(x);
+        let second = next(first);
+        let third = next(second);
+        if drawn(first) < plan.lose {
+            return;
+        }
+        if drawn(third) < plan.hold {
+            if let Some(earlier) = self.held.take() {
+                self.ring.push_back(earlier);
+            }
+            self.held = Some(frame.copy());
+            return;
+        }
+        self.ring.push_back(frame.copy());
+        if drawn(second) < plan.double {
+            self.ring.push_back(frame.copy());
+        }
+    }
+
+    /// Takes the oldest frame of the ring, else the held one.
+    pub fn take(&mut self) -> Option<FrameBytes>
+        ensures value { result ≡ first_of self.old.ring self.old.held }
+        ensures rest { self.new ≡ rest_of self.old.station self.old.ring self.old.held }
+    {
+        match self.ring.pop_front() {
+            Some(frame) => Some(frame),
+            None => self.held.take(),
+        }
+    }
+}

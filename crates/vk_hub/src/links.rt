@@ -1,0 +1,165 @@
+// The links between all stations.
+ghost use Rattle.std.specs.Prelude.{false, ◌≡◌, ◌<◌, ◌^◌, is_some};
+ghost use Rattle.vk_hub.specs.Hubs.{answered, changed, first_for, found, is_ready, is_stopped, without_first};
+ghost use Rattle.vk_hub.specs.Links.{header_of, is_addressed, posted_all};
+
+use crate::event::{Fetched, HubEvent};
+use crate::inbox::{Inbox, next};
+use crate::plan::LinkPlan;
+use std::marker::Model;
+use vk_base::FrameBytes;
+use vk_frame::{Header, unseal};
+
+/// The generator's state, what waits for each station, how many programs have finished, and whether the hub is halted.
+#[derive(Drop)]
+pub struct Links {
+    x: u64,
+    inboxes: Vec<Inbox>,
+    finished: u64,
+    halted: bool,
+}
+
+impl Model for Links {
+    ghost use Rattle.vk_hub.specs.Hubs.{Traffic};
+
+    ghost Value = { Traffic };
+
+    ghost view = { λ l. record { x = l.x; waiting = l.inboxes.items; finished = l.finished; halted = l.halted } };
+}
+
+// The header that opens the frame, if one does.
+fn header_of(frame: &FrameBytes) -> Option<Header>
+    ensures { result ≡ header_of frame.now }
+{
+    match unseal(frame.as_slice()) {
+        Some((header, _)) => Some(header),
+        None => None,
+    }
+}
+
+fn is_addressed(header: Option<Header>, station: u16) -> bool
+    ensures { result ≡ is_addressed header station }
+{
+    match header {
+        Some(header) => {
+            header.destination == station
+                || (header.destination == u16::MAX && header.source != station)
+        }
+        None => false,
+    }
+}
+
+// Posts the frame to each station that it is addressed to, and answers the generator's state after that.
+fn post_all(inboxes: &mut Vec<Inbox>, plan: &LinkPlan, seed: u64, frame: &FrameBytes) -> u64
+    ensures { posted_all plan.now seed inboxes.old.items (header_of frame.now) frame.now ≡ (result, inboxes.new.items) }
+{
+    let header = header_of(frame);
+    let mut x = seed;
+    for i in 0..inboxes.len() {
+        let inbox = &mut inboxes[i];
+        if is_addressed(header, inbox.station()) {
+            inbox.post(plan, x, frame);
+            x = next(next(next(x)));
+        }
+    }
+    x
+}
+
+// Whether a frame waits for the station.
+fn has_frame_for(inboxes: &Vec<Inbox>, host: u16) -> bool
+    ensures { result ≡ is_some (first_for host inboxes.now.items) }
+{
+    for inbox in inboxes {
+        if inbox.station() == host {
+            return inbox.has_frame();
+        }
+    }
+    false
+}
+
+fn take_for(inboxes: &mut Vec<Inbox>, host: u16) -> Option<FrameBytes>
+    ensures value { result ≡ first_for host inboxes.old.items }
+    ensures rest { inboxes.new.items ≡ without_first host inboxes.old.items }
+{
+    for i in 0..inboxes.len() {
+        let inbox = &mut inboxes[i];
+        if inbox.station() == host {
+            return inbox.take();
+        }
+    }
+    None
+}
+
+fn found(frame: Option<FrameBytes>) -> Fetched
+    ensures { result ≡ found frame }
+{
+    match frame {
+        Some(frame) => Fetched::Frame { frame },
+        None => Fetched::Nothing,
+    }
+}
+
+impl Links {
+    pub fn new(seed: u64, inboxes: Vec<Inbox>) -> Links
+        ensures { result ≡ record { x = seed; waiting = inboxes.items; finished = 0; halted = false } }
+    {
+        Links {
+            x: seed,
+            inboxes,
+            finished: 0,
+            halted: false,
+        }
+    }
+
+    pub fn is_halted(&self) -> bool
+        ensures { result ≡ self.now.halted }
+    {
+        self.halted
+    }
+
+    pub fn is_stopped(&self, programs: u32) -> bool
+        ensures { result ≡ is_stopped programs self.now }
+    {
+        self.halted || self.finished == u64::from(programs)
+    }
+
+    pub fn is_ready(&self, programs: u32, event: &HubEvent) -> bool
+        ensures { result ≡ is_ready programs self.now event.now }
+    {
+        match event {
+            HubEvent::Fetch { host } => {
+                self.is_stopped(programs) || has_frame_for(&self.inboxes, *host)
+            }
+            HubEvent::Halt => !self.halted,
+            _ => true,
+        }
+    }
+
+    /// What the event makes of it, and what it gives.
+    pub fn change(&mut self, plan: &LinkPlan, programs: u32, event: &HubEvent) -> Option<Fetched>
+        requires { self.old.finished < 2 ^ 63 }
+        ensures traffic { self.new ≡ changed plan.now programs self.old event.now }
+        ensures answer { result ≡ answered programs self.old event.now }
+    {
+        match event {
+            HubEvent::Post { frame } => {
+                self.x = post_all(&mut self.inboxes, plan, self.x, frame);
+                None
+            }
+            HubEvent::Fetch { host } => {
+                if self.is_stopped(programs) {
+                    return Some(Fetched::Stopped);
+                }
+                Some(found(take_for(&mut self.inboxes, *host)))
+            }
+            HubEvent::Finished => {
+                self.finished += 1;
+                None
+            }
+            HubEvent::Halt => {
+                self.halted = true;
+                None
+            }
+        }
+    }
+}

@@ -1,0 +1,142 @@
+ghost use Rattle.std.specs.Prelude.{◌≡◌, ◌+◌, ◌≤◌, false, [], length, map, slice_index, IfOk, vec_len};
+ghost use Rattle.vk_base.specs.Settings.{stations_of};
+ghost use Rattle.vk_hub.specs.Hubs.{answered, has_halt, is_at_limit, is_halt, is_ready, nothing_for, origin_of, traffic_of};
+ghost use Rattle.vk_hub.specs.Kept.{room_for};
+
+use crate::event::{HubEvent, HubOut};
+use crate::inbox::Inbox;
+use crate::links::Links;
+use crate::plan::LinkPlan;
+use std::alloc::{AllocError, Global};
+use std::marker::Model;
+use turn_cell::{Replay, Room};
+use vk_base::Config;
+
+/// The greatest number of entries that are no halt.
+const MOST: usize = 200_000;
+
+/// The state of a hub, which is the replay of its history. Contracts see its link plan, its stations, how many programs there are, the
+/// history, and the room that is left for entries.
+#[derive(Drop)]
+pub struct HubState {
+    plan: LinkPlan,
+    stations: Vec<u16>,
+    programs: u32,
+    history: Vec<(u32, HubEvent)>,
+    links: Links,
+}
+
+impl Model for HubState {
+    ghost use Rattle.std.specs.Prelude.{◌-◌, vec_len, vec_capacity};
+    ghost use Rattle.vk_hub.specs.Hubs.{HubLog};
+    ghost use Rattle.vk_hub.specs.Kept.{IsKept};
+
+    ghost Value = { HubLog };
+
+    ghost view = { λ h. record {
+      plan = h.plan;
+      stations = h.stations.items;
+      programs = h.programs;
+      history = h.history.items;
+      spare = vec_capacity h.history - vec_len h.history;
+    } };
+
+    ghost invariant = { λ h. IsKept h.plan h.stations.items h.programs h.links h.history.items
+        (vec_capacity h.history - vec_len h.history) };
+}
+
+// The stations, by rising hosts.
+fn stations_of(alloc: Global, config: &Config) -> Result<Vec<u16>, AllocError>
+    ensures { IfOk result (λ v. v.items ≡ stations_of config.now.specs) }
+{
+    let count = config.station_count();
+    let mut stations = Vec::with_capacity(alloc, count as usize)?;
+    for at in 0..count {
+        stations.push(config.station(at))?;
+    }
+    Ok(stations)
+}
+
+// An empty inbox for each station.
+fn inboxes_of(alloc: Global, stations: &[u16]) -> Result<Vec<Inbox>, AllocError>
+    ensures { IfOk result (λ v. v.items ≡ map nothing_for stations.now) }
+{
+    let mut inboxes = Vec::with_capacity(alloc, stations.len())?;
+    for station in stations {
+        inboxes.push(Inbox::new(alloc, *station)?)?;
+    }
+    Ok(inboxes)
+}
+
+impl HubState {
+    /// With no entry, and room for a halt.
+    pub fn new(
+        alloc: Global,
+        config: &Config,
+        plan: LinkPlan,
+        programs: u32,
+    ) -> Result<HubState, AllocError>
+        ensures plan { IfOk result (λ h. h.plan ≡ plan) }
+        ensures stations { IfOk result (λ h. h.stations ≡ stations_of config.now.specs) }
+        ensures programs { IfOk result (λ h. h.programs ≡ programs) }
+        ensures empty { IfOk result (λ h. h.history ≡ []) }
+    {
+        let stations = stations_of(alloc, config)?;
+        let inboxes = inboxes_of(alloc, &stations)?;
+        let history = Vec::with_capacity(alloc, 1)?;
+        Ok(HubState {
+            plan,
+            stations,
+            programs,
+            history,
+            links: Links::new(plan.seed, inboxes),
+        })
+    }
+}
+
+impl Replay for HubState {
+    type Event = HubEvent;
+
+    type Out = HubOut;
+
+    ghost history = { λ h. h.history };
+
+    ghost origin = { origin_of };
+
+    ghost event_fits = { λ o e. Unit {0} };
+
+    ghost out_fits = { λ e out. Unit {0} };
+
+    ghost full_at = { λ o h e. is_at_limit h e };
+
+    ghost ready_at = { λ o h e. is_ready o.programs (traffic_of o h) e };
+
+    ghost has_own_room = { is_halt };
+
+    ghost has_room = { λ s e. (is_at_limit s.history e ≡ false) × (room_for (has_halt s.history) (is_halt e) ≤ s.spare) };
+
+    ghost gives = { λ o h caller e out new. new.fetched ≡ answered o.programs (traffic_of o h) e };
+
+    fn room(&mut self, _alloc: Global, event: &HubEvent) -> Result<(), Room> {
+        let halted = self.links.is_halted();
+        if event.is_halt() {
+            return if halted { Err(Room::Full) } else { Ok(()) };
+        }
+        if self.history.len() - halted as usize >= MOST {
+            return Err(Room::Full);
+        }
+        match self.history.reserve(if halted { 1 } else { 2 }) {
+            Ok(()) => Ok(()),
+            Err(_) => Err(Room::NoMemory),
+        }
+    }
+
+    fn is_ready(&self, event: &HubEvent) -> bool {
+        self.links.is_ready(self.programs, event)
+    }
+
+    fn act(&mut self, caller: u32, event: &HubEvent, out: &mut HubOut) {
+        out.fetched = self.links.change(&self.plan, self.programs, event);
+        self.history.push_reserved((caller, event.copy()));
+    }
+}

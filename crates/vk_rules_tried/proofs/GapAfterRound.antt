@@ -1,0 +1,105 @@
+-- A gap in a move from the sender is told after a round, when no byte has come since it: the bytes answer the request, and
+-- once some have come it starts anew.
+use Rattle.std.proofs.Common.{◌≡◌, List, [], ◌∷◌, ◌++◌, Some, replicate, refl, lit<}
+use Rattle.vk_base.specs.declared.call.Call.TheVariants as calls
+use Rattle.vk_base.specs.declared.answer.Answer.TheVariants as answers
+use Rattle.vk_base.specs.declared.answer.Ending.TheVariants as endings
+use Rattle.vk_base.specs.declared.message.Message.{Message}
+use Rattle.vk_base.specs.declared.pid.Pid.{Pid}
+use Rattle.vk_base.specs.declared.step.Step.TheVariants as steps
+unfoldable use Rattle.vk_base.specs.Calls.{call_refusal, sent, copied_at_once, move_begun, lookup_begun, exited}
+unfoldable use Rattle.vk_base.specs.Changes.{change_process, change_exchange, change_lookup}
+unfoldable use Rattle.vk_base.specs.Kernel.{put_process, put_exchange, put_names, put_lookup, queue_of, held, held_up_to, waiting_on}
+use Rattle.vk_base.specs.Packets as packets
+use Rattle.vk_base.specs.Settings.{Settings}
+unfoldable use Rattle.vk_base.specs.Steps.{arriving, with_arrival, taking, taken, finishing, failing, opening_move, move_opened, copying, copied, ending, hearing, finding, collecting, run}
+use Rattle.vk_base.specs.declared.event.EventAnswer.TheVariants as given
+use Rattle.vk_rules.specs.Frames.{Frame}
+use Rattle.vk_rules.specs.Histories.{history_of}
+use Rattle.vk_rules.specs.Observed.{no_call}
+unfoldable use Rattle.vk_rules.specs.Aliens.{place_for, alien_of, slots_after}
+unfoldable use Rattle.vk_rules.specs.CallOutcomes.{call_outcome, collect_outcome, tick_outcome}
+unfoldable use Rattle.vk_rules.specs.Histories.{with_entry, happened, history}
+unfoldable use Rattle.vk_rules.specs.Observed.{observed}
+unfoldable use Rattle.vk_rules.specs.PacketOutcomes.{far_sender, packet_outcome}
+unfoldable use Rattle.vk_rules.specs.Readings.{reading, reading_after}
+unfoldable use Rattle.vk_rules.specs.Right.{right_entry}
+unfoldable use Rattle.vk_rules.specs.Rounds.{round, told_sender}
+unfoldable use Rattle.vk_rules.specs.Works.{work_after}
+use Rattle.vk_rules_tried.proofs.Words.{Told, framed, call, collect, tick, deliver, events_of, happenings, seen_in}
+
+abbrev p1_1 : Pid
+p1_1 = record { host = 1; local = 1; some_host = lit< tt; one_host = lit< tt; some_local = lit< tt }
+
+abbrev p2_1 : Pid
+p2_1 = record { host = 2; local = 1; some_host = lit< tt; one_host = lit< tt; some_local = lit< tt }
+
+abbrev message_1 : Message
+message_1 = record { 0 = (1 ∷ []) ++ replicate 29 0 ++ (12 ∷ 0 ∷ []) }
+
+abbrev settings : Settings
+settings = record {
+  times = record { tries = 5; interval = 4; life = 8 };
+  pool = 16;
+  specs = record { pid = p1_1; size = 3072 } ∷ record { pid = p2_1; size = 3072 } ∷ [];
+}
+
+abbrev frame_2_1_1 : Frame
+frame_2_1_1 = framed 2 1 0 1 1 1 (packets.Send p2_1 p1_1 1 message_1 (replicate 512 0))
+
+abbrev frame_1_4_1 : Frame
+frame_1_4_1 = framed 1 2 0 5 4 1 (packets.MoveRequest p1_1 p2_1 1 1 0 3072 0)
+
+abbrev frame_2_2_1 : Frame
+frame_2_2_1 = framed 2 1 0 6 2 1 (packets.MoveBytes p2_1 p1_1 1 1 3072 0 (replicate 1024 0))
+
+abbrev frame_2_2_2 : Frame
+frame_2_2_2 = framed 2 1 0 6 2 2 (packets.MoveBytes p2_1 p1_1 1 1 3072 1024 (replicate 1024 0))
+
+abbrev frame_2_2_3 : Frame
+frame_2_2_3 = framed 2 1 0 6 2 3 (packets.MoveBytes p2_1 p1_1 1 1 3072 2048 (replicate 1024 0))
+
+abbrev frame_1_9_1 : Frame
+frame_1_9_1 = framed 1 2 4 11 9 1 (packets.MoveRequest p1_1 p2_1 1 1 0 3072 1024)
+
+abbrev frame_1_14_1 : Frame
+frame_1_14_1 = framed 1 2 8 16 14 1 (packets.MoveRequest p1_1 p2_1 1 1 0 3072 1024)
+
+abbrev told : List Told
+told =
+    call 1 p2_1 (calls.Send p1_1 message_1) given.Begun 0 1 (frame_2_1_1 ∷ []) []
+    ∷ deliver 1 1 frame_2_1_1 given.Taken 0 2 [] (steps.Arrive p2_1 1 ∷ [])
+    ∷ call 2 p1_1 calls.Receive given.Begun 0 3 [] (steps.Take p1_1 ∷ [])
+    ∷ collect 3 p1_1 (given.Answered (answers.Received p2_1 message_1)) 0 4 [] (steps.Collect p1_1 ∷ [])
+    ∷ call 4 p1_1 (calls.MoveFrom p2_1 0 0 3072) given.Begun 0 5 (frame_1_4_1 ∷ []) []
+    ∷ deliver 2 2 frame_1_4_1 given.Taken 0 6 (frame_2_2_1 ∷ frame_2_2_2 ∷ frame_2_2_3 ∷ []) (steps.OpenMove p2_1 1 1 ∷ [])
+    ∷ deliver 1 5 frame_2_2_1 given.Taken 0 7 [] (steps.Copy p2_1 1 1 0 1024 ∷ [])
+    ∷ tick 1 6 1 8 [] []
+    ∷ tick 1 7 2 9 [] []
+    ∷ tick 1 8 3 10 [] []
+    ∷ tick 1 9 4 11 (frame_1_9_1 ∷ []) []
+    ∷ deliver 1 10 frame_2_2_3 given.Taken 4 12 [] []
+    ∷ tick 1 11 5 13 [] []
+    ∷ tick 1 12 6 14 [] []
+    ∷ tick 1 13 7 15 [] []
+    ∷ tick 1 14 8 16 (frame_1_14_1 ∷ []) []
+    ∷ deliver 1 15 frame_2_2_2 given.Taken 8 17 [] (steps.Copy p2_1 1 1 1024 1024 ∷ [])
+    ∷ deliver 1 16 frame_2_2_3 given.Taken 8 18 [] (steps.Copy p2_1 1 1 2048 1024 ∷ steps.End p1_1 endings.Ok ∷ [])
+    ∷ collect 17 p1_1 (given.Answered answers.Ok) 8 19 [] (steps.Collect p1_1 ∷ [])
+    ∷ []
+
+entries : history_of settings (events_of told) ≡ happenings told
+unfolding put_process put_exchange put_names put_lookup queue_of held held_up_to waiting_on call_refusal sent copied_at_once
+    move_begun lookup_begun exited arriving with_arrival taking taken finishing failing opening_move move_opened copying copied
+    ending hearing finding collecting run place_for alien_of with_entry happened history observed round told_sender far_sender
+    call_outcome collect_outcome tick_outcome packet_outcome reading change_process change_exchange change_lookup slots_after
+    work_after reading_after right_entry
+entries = refl
+
+observations : seen_in settings told ≡ Some (observed no_call (happenings told))
+unfolding put_process put_exchange put_names put_lookup queue_of held held_up_to waiting_on call_refusal sent copied_at_once
+    move_begun lookup_begun exited arriving with_arrival taking taken finishing failing opening_move move_opened copying copied
+    ending hearing finding collecting run place_for alien_of with_entry happened history observed round told_sender far_sender
+    call_outcome collect_outcome tick_outcome packet_outcome reading change_process change_exchange change_lookup slots_after
+    work_after reading_after right_entry
+observations = refl

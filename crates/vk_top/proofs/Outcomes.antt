@@ -1,0 +1,262 @@
+-- From the answer to a text to that to an input, and to the words.
+use Rattle.std.proofs.Common.{◌≡◌, ℕ, ◌<◌, ◌≤◌, nat_lt, List, [], ◌∷◌, ◌++◌, length, take, Option, Some, None, inl, inr, refl, ap, subst, sym, ◌∙◌, ◌⊎◌, arith, length-append}
+use Rattle.std.specs.Prelude.{IfSome, IsSomeAnd}
+use Rattle.std.specs.Io.KnownBytes.{Appends, Consumes}
+use Rattle.std.proofs.lemmas.Bool.{cond-true, lt-ltb}
+use Rattle.std.proofs.lemmas.List.{append-nil}
+use Rattle.clap.specs.Walk.{Text}
+use Rattle.vk_io.specs.Causes.{LosesFront, Rose}
+use Rattle.vk_text.specs.Heads.{head_of}
+use Rattle.vk_text.specs.Lines.{lines_of}
+use Rattle.v_trace.specs.Traces.{behind_head}
+use Rattle.vk_top.proofs.Told.{nothing_more}
+use Rattle.vk_top.specs.Top.{Asks, IsDecided, IsEarly, IsFront, IsOverLimit, IsTold, OfInput, output_of, status_of, text_status}
+use Rattle.vk_top.specs.Words.{asked_of}
+use Rattle.vk_top.specs.Work.{IsAnswered, IsOutcome, IsReadCount, IsRefusal, IsUnread, IsWriteCount, IsWritten, KeepsLines}
+use Rattle.vk_top.specs.declared.status.Status.{Status}
+use Rattle.vk_top.specs.declared.status.Status.TheVariants as status
+use Rattle.vk_top.specs.declared.words.Asked.{Asked}
+use Rattle.vk_top.specs.declared.words.Asked.TheVariants as asked
+
+-- counts of faults
+
+pub read_told : (s : Status) (before now : ℕ) → IsReadCount s before now → before < now → s ≡ status.ReadFault
+read_told status.ReadFault before now count more = refl
+read_told status.Done before now count more = absurd (omega (arith, count, more))
+read_told (status.NotARun step) before now count more = absurd (omega (arith, count, more))
+read_told status.Usage before now count more = absurd (omega (arith, count, more))
+read_told (status.BadInput line) before now count more = absurd (omega (arith, count, more))
+read_told status.WriteFault before now count more = absurd (omega (arith, count, more))
+read_told status.NoMemory before now count more = absurd (omega (arith, count, more))
+read_told status.Limit before now count more = absurd (omega (arith, count, more))
+
+pub write_told : (s : Status) (before now : ℕ) → IsWriteCount s before now → before < now → s ≡ status.WriteFault
+write_told status.WriteFault before now count more = refl
+write_told status.Done before now count more = absurd (omega (arith, count, more))
+write_told (status.NotARun step) before now count more = absurd (omega (arith, count, more))
+write_told status.Usage before now count more = absurd (omega (arith, count, more))
+write_told (status.BadInput line) before now count more = absurd (omega (arith, count, more))
+write_told status.ReadFault before now count more = absurd (omega (arith, count, more))
+write_told status.NoMemory before now count more = absurd (omega (arith, count, more))
+write_told status.Limit before now count more = absurd (omega (arith, count, more))
+
+pub read_fault : (s : Status) (before now : ℕ) → IsReadCount s before now → s ≡ status.ReadFault → Rose before now
+read_fault s before now count is = let P : Status → Type 0 = λ t. IsReadCount t before now in subst P is count
+
+pub write_fault : (s : Status) (before now : ℕ) → IsWriteCount s before now → s ≡ status.WriteFault → Rose before now
+write_fault s before now count is = let P : Status → Type 0 = λ t. IsWriteCount t before now in subst P is count
+
+pub read_kept : (s : Status) (before now : ℕ) → ¬ (s ≡ status.ReadFault) → now ≡ before → IsReadCount s before now
+read_kept status.ReadFault before now other same = absurd (other refl)
+read_kept status.Done before now other same = same
+read_kept (status.NotARun step) before now other same = same
+read_kept status.Usage before now other same = same
+read_kept (status.BadInput line) before now other same = same
+read_kept status.WriteFault before now other same = same
+read_kept status.NoMemory before now other same = same
+read_kept status.Limit before now other same = same
+
+pub told_count : (s : Status) (before now : ℕ) → IsTold s → now ≡ before → IsWriteCount s before now
+told_count status.Done before now told same = same
+told_count (status.NotARun step) before now told same = same
+told_count status.Usage before now told same = absurd told
+told_count (status.BadInput line) before now told same = absurd told
+told_count status.ReadFault before now told same = absurd told
+told_count status.WriteFault before now told same = absurd told
+told_count status.NoMemory before now told same = absurd told
+told_count status.Limit before now told same = absurd told
+
+pub refusal_count : (a : Asked) (text : List ℕ) (s : Status) (before : ℕ) → IsRefusal a text s → IsWriteCount s before before
+refusal_count a text (status.BadInput line) before why = refl
+refusal_count a text status.Limit before why = refl
+refusal_count a text status.NoMemory before why = refl
+refusal_count a text status.Done before why = absurd why
+refusal_count a text (status.NotARun step) before why = absurd why
+refusal_count a text status.Usage before why = absurd why
+refusal_count a text status.ReadFault before why = absurd why
+refusal_count a text status.WriteFault before why = absurd why
+
+pub unread_count : (left rest : Option (List ℕ)) (s : Status) (before : ℕ) → IsUnread left rest s → IsWriteCount s before before
+unread_count left rest status.ReadFault before why = refl
+unread_count left rest status.Limit before why = refl
+unread_count left rest status.NoMemory before why = refl
+unread_count left rest status.Done before why = absurd why
+unread_count left rest (status.NotARun step) before why = absurd why
+unread_count left rest status.Usage before why = absurd why
+unread_count left rest (status.BadInput line) before why = absurd why
+unread_count left rest status.WriteFault before why = absurd why
+
+-- an answer behind a write is none at which nothing is written
+
+told_late : (s : Status) → IsTold s → IsEarly s → ⊥
+told_late status.Done told early = early
+told_late (status.NotARun step) told early = early
+told_late status.Usage told early = told
+told_late (status.BadInput line) told early = told
+told_late status.ReadFault told early = told
+told_late status.WriteFault told early = told
+told_late status.NoMemory told early = told
+told_late status.Limit told early = told
+
+pub written_late : (text : List ℕ) (told : Status) (old new : Option (List ℕ)) (s : Status) → IsTold told → IsWritten text told old new s
+    → IsEarly s → ⊥
+written_late text told old new s is (inl (same, written)) early = told_late told is (subst IsEarly same early)
+written_late text told old new s is (inr failed) early = subst IsEarly failed early
+
+-- the input
+
+told_input : (left rest : Option (List ℕ)) (text : List ℕ) → IfSome left (λ i. (text ≡ i) × (rest ≡ Some []))
+    → IfSome left (λ bytes. bytes ≡ text)
+told_input None rest text h = tt
+told_input (Some i) rest text h = sym h.0
+
+told_whole : (left rest : Option (List ℕ)) (text : List ℕ) → IfSome left (λ i. (text ≡ i) × (rest ≡ Some []))
+    → IfSome left (λ i. rest ≡ Some [])
+told_whole None rest text h = tt
+told_whole (Some i) rest text h = h.1
+
+all_taken : (left rest : Option (List ℕ)) (text : List ℕ) → IfSome left (λ i. (text ≡ i) × (rest ≡ Some [])) → Consumes left rest text
+all_taken None rest text h = tt
+all_taken (Some i) rest text h = subst (λ r. Consumes (Some i) r text) (sym h.1) (sym h.0 ∙ sym (append-nil text))
+
+too_many : (left rest : Option (List ℕ)) → LosesFront left rest (λ n. 16777216 < n) → OfInput left (λ i. 16777216 < length i)
+too_many None rest lost = record { input = lost.bytes; all = tt; holds = lost.count }
+too_many (Some i) None lost = absurd lost.front
+too_many (Some i) (Some ys) lost =
+    record { input = i; all = refl; holds = omega (arith, lost.count, ap length lost.front, length-append lost.bytes ys) }
+
+some_input : (told : Option (List ℕ)) (Holds : List ℕ → Type 0) → ((i : List ℕ) → Holds i) → OfInput told Holds
+some_input None Holds holds = record { input = []; all = tt; holds = holds [] }
+some_input (Some i) Holds holds = record { input = i; all = refl; holds = holds i }
+
+weaker : (told : Option (List ℕ)) (P Q : List ℕ → Type 0) → ((i : List ℕ) → P i → Q i) → OfInput told P → OfInput told Q
+weaker told P Q follows given = record { input = given.input; all = given.all; holds = follows given.input given.holds }
+
+-- the empty text is bad in its first line
+
+empty_bad : (a : Asked) → text_status a [] ≡ status.BadInput 1
+unfolding lines_of head_of behind_head
+empty_bad (asked.Replay form) = refl
+empty_bad asked.Check = refl
+
+kept_some : (a : Asked) (text : List ℕ) → KeepsLines a text → 0 < length text
+kept_some a [] kept = absurd (omega (arith, kept 1 (empty_bad a)))
+kept_some a (b ∷ bs) kept = omega arith
+
+-- the answers to an input
+
+decided : (a : Asked) (told : Option (List ℕ)) (s : Status) → OfInput told (λ i. s ≡ status_of a i) → IsDecided a told s
+decided a told status.Done given = given
+decided a told (status.NotARun step) given = given
+decided a told status.Usage given = given
+decided a told (status.BadInput line) given = given
+decided a told status.ReadFault given = tt
+decided a told status.WriteFault given = tt
+decided a told status.NoMemory given = tt
+decided a told status.Limit given = given
+
+by_text : (a : Asked) (left : Option (List ℕ)) (text : List ℕ) (s : Status) → IfSome left (λ bytes. bytes ≡ text)
+    → (s ≡ status.NoMemory) ⊎ (s ≡ status.WriteFault) ⊎ (s ≡ status_of a text) → IsDecided a left s
+by_text a left text s all (inl is) = subst (IsDecided a left) (sym is) tt
+by_text a left text s all (inr (inl is)) = subst (IsDecided a left) (sym is) tt
+by_text a left text s all (inr (inr is)) = decided a left s (record { input = text; all = all; holds = is })
+
+answered_is : (a : Asked) (left rest old new : Option (List ℕ)) (text : List ℕ) (s : Status) → length text ≤ 16777216
+    → IfSome left (λ i. (text ≡ i) × (rest ≡ Some [])) → IsAnswered a text old new s → IsOutcome a left rest old new s
+answered_is a left rest old new text s small read answered =
+    let all = told_input left rest text read in
+    record {
+      kinds = answered.kinds.0;
+      done = λ is. record { input = text; all = all; holds = answered.done is };
+      no = λ step is. record { input = text; all = all; holds = answered.no step is };
+      whole = λ is. told_whole left rest text read;
+      bad = λ line is. record { input = text; all = all; holds = answered.bad line is };
+      limit = λ is. record { input = text; all = all; holds = answered.limit is };
+      memory = λ is. record { bytes = text; front = all_taken left rest text read; count = (kept_some a text (answered.memory is), small) };
+      writing = λ is. record { input = text; all = all; holds = answered.writing is };
+      complete = by_text a left text s all answered.complete;
+      front = record { input = text; all = all; holds = answered.front };
+    }
+
+-- the text that was read is the one that was answered to
+pub served_is : (a : Asked) (left rest old new : Option (List ℕ)) (text seen : List ℕ) (s : Status) → length text ≤ 16777216
+    → IfSome left (λ i. (text ≡ i) × (rest ≡ Some [])) → seen ≡ text → IsAnswered a seen old new s → IsOutcome a left rest old new s
+served_is a left rest old new text seen s small read same answered =
+    answered_is a left rest old new text s small read (subst (λ t. IsAnswered a t old new s) same answered)
+
+over_limit : (a : Asked) (i : List ℕ) → 16777216 < length i → IsOverLimit a i
+over_limit (asked.Replay form) i many = inl many
+over_limit asked.Check i many = inl many
+
+limit_status : (a : Asked) (i : List ℕ) → 16777216 < length i → status.Limit ≡ status_of a i
+limit_status a i many = sym (cond-true _ _ _ (lt-ltb 16777216 (length i) many))
+
+pub unread_is : (a : Asked) (left rest old : Option (List ℕ)) (s : Status) → IsUnread left rest s → IsOutcome a left rest old old s
+unread_is a left rest old status.ReadFault why = record {
+  kinds = λ is. grind (arith, is);
+  done = λ is. absurd (grind (arith, is));
+  no = λ step is. absurd (grind (arith, is));
+  whole = λ told. absurd told;
+  bad = λ line is. absurd (grind (arith, is));
+  limit = λ is. absurd (grind (arith, is));
+  memory = λ is. absurd (grind (arith, is));
+  writing = λ is. absurd (grind (arith, is));
+  complete = tt;
+  front = some_input left _ (λ i. (0, nothing_more old));
+}
+unread_is a left rest old status.Limit why = record {
+  kinds = λ is. grind (arith, is);
+  done = λ is. absurd (grind (arith, is));
+  no = λ step is. absurd (grind (arith, is));
+  whole = λ told. absurd told;
+  bad = λ line is. absurd (grind (arith, is));
+  limit = λ is. weaker left _ _ (over_limit a) (too_many left rest why);
+  memory = λ is. absurd (grind (arith, is));
+  writing = λ is. absurd (grind (arith, is));
+  complete = weaker left _ _ (limit_status a) (too_many left rest why);
+  front = some_input left _ (λ i. (0, nothing_more old));
+}
+unread_is a left rest old status.NoMemory why = record {
+  kinds = λ is. grind (arith, is);
+  done = λ is. absurd (grind (arith, is));
+  no = λ step is. absurd (grind (arith, is));
+  whole = λ told. absurd told;
+  bad = λ line is. absurd (grind (arith, is));
+  limit = λ is. absurd (grind (arith, is));
+  memory = λ is. why;
+  writing = λ is. absurd (grind (arith, is));
+  complete = tt;
+  front = some_input left _ (λ i. (0, nothing_more old));
+}
+unread_is a left rest old status.Done why = absurd why
+unread_is a left rest old (status.NotARun step) why = absurd why
+unread_is a left rest old status.Usage why = absurd why
+unread_is a left rest old (status.BadInput line) why = absurd why
+unread_is a left rest old status.WriteFault why = absurd why
+
+-- the words
+
+pub asks : (words : List Text) (a : Asked) (told : Option (List ℕ)) (Holds : Asked → List ℕ → Type 0) → Some a ≡ asked_of words
+    → OfInput told (Holds a) → Asks words told Holds
+asks words a told Holds is given = subst (λ (o : Option Asked). IsSomeAnd o (λ b. OfInput told (Holds b))) is given
+
+pub front_is : (words : List Text) (a : Asked) (told old new : Option (List ℕ)) → Some a ≡ asked_of words
+    → OfInput told (λ i. (n : ℕ) × Appends old new (take n (output_of (Some a) i))) → OfInput told (λ i. IsFront words i old new)
+front_is words a told old new is given = record {
+  input = given.input;
+  all = given.all;
+  holds = record { count = given.holds.0; written = subst (λ (o : Option Asked). Appends old new (take given.holds.0 (output_of o given.input))) is given.holds.1 };
+}
+
+pub nothing_written : (words : List Text) (told old : Option (List ℕ)) → OfInput told (λ i. IsFront words i old old)
+nothing_written words told old = some_input told _ (λ i. record { count = 0; written = nothing_more old })
+
+pub clash : {A B : Type 0} (a : A) (o : Option A) → Some a ≡ o → o ≡ None → B
+clash a o is none = cc
+
+pub decided_for : (a b : Asked) (o : Option Asked) (told : Option (List ℕ)) (s : Status) → Some b ≡ o → o ≡ Some a → IsDecided b told s
+    → IsDecided a told s
+decided_for a b o told s is same given =
+    let P : Asked → Type 0 = λ x. IsDecided x told s in
+    let e : b ≡ a = cc in
+    subst P e given
