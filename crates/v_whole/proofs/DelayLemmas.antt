@@ -1,5 +1,5 @@
 -- A full pool only delays, and Sends fail where they should.
-use Rattle.std.proofs.Common.{◌≡◌, ℕ, suc, ◌+◌, ◌<◌, max, Bool, true, false, cond, ◌==◌, ◌&&◌, not, nat_lt, List, [], ◌∷◌, length, get_or, map, find, Option, Some, None, is_none, All, refl, sym, ap, subst, ◌∙◌, inl, inr, arith}
+use Rattle.std.proofs.Common.{is_some, ◌≡◌, ℕ, suc, ◌+◌, ◌<◌, max, Bool, true, false, cond, ◌==◌, ◌&&◌, not, nat_lt, List, [], ◌∷◌, length, get_or, map, find, Option, Some, None, is_none, All, refl, sym, ap, subst, ◌∙◌, inl, inr, arith}
 use Rattle.std.proofs.lemmas.Bool.{cases_lt, and_parts, cond-true, cond-false, lt-ltb}
 use Rattle.std.proofs.lemmas.List.Elements.{All-nil, All-cons, All-append}
 use Rattle.std.proofs.lemmas.List.Sums.{fails_before_first}
@@ -183,6 +183,11 @@ if_all : (t : Times) (r : Reading) (i : Input) (b : Bool) (xs : List Step) → A
 if_all t r i true xs all = all
 if_all t r i false xs all = All-nil (FailsRightly t r i)
 
+where_all : (t : Times) (r : Reading) (i : Input) (b : Bool) (s : Step) → (b ≡ true → FailsRightly t r i s) →
+    All (FailsRightly t r i) (list_if b (s ∷ []))
+where_all t r i true s fine = one t r i s (fine refl)
+where_all t r i false s fine = All-nil (FailsRightly t r i)
+
 either_all : (t : Times) (r : Reading) (i : Input) (b : Bool) (x y : Outcome) → All (FailsRightly t r i) x.steps →
     All (FailsRightly t r i) y.steps → All (FailsRightly t r i) (cond b x y).steps
 either_all t r i true x y first second = first
@@ -299,7 +304,7 @@ packet_all t host r h (Pending from to number) =
     no_steps t r i
 packet_all t host r h (Negative from to number) =
     let i : Input = Delivered (Framed h (Negative from to number)) in
-    if_all t r i _ (steps.Fail to endings.NoProcess ∷ []) (one t r i (steps.Fail to endings.NoProcess) refl)
+    where_all t r i (is_some (far_sender r.view (name_of to number) from)) (steps.Fail to endings.NoProcess) (λ waits. (refl, waits))
 packet_all t host r h (MoveData from to number moving dest total offset bytes) =
     let i : Input = Delivered (Framed h (MoveData from to number moving dest total offset bytes)) in
     map_all t r i (λ (w : FarSender). cond (may_be_written dest total w)

@@ -24,7 +24,7 @@ pub fn targets_are_dead_where_told()
 {}
 
 /// In every history a Send fails as timed out only in the entry of a tick that is due for it and finds it unanswered, and as without
-/// a process only in that of a Negative for its process.
+/// a process only in that of a Negative for it.
 pub fn sends_fail_in_turn()
     ensures { SendsFailInTurn }
 {}

@@ -1,4 +1,5 @@
--- What a station's tables become: the words of its private functions. When tables stand for a kernel is `Stands.antt`.
+-- Of the code alone, no law rests on it: what a station's tables become, the words of its private functions. When tables stand for a
+-- kernel is `Stands.antt`.
 use Rattle.std.specs.Prelude.{ℕ, ◌+◌, ◌-◌, ◌^◌, min, Bool, true, false, ◌&&◌, List, [], ◌∷◌, ◌++◌, drop, find, Option, Some, None, is_some, if◌then◌else◌}
 use Rattle.circular_buffer.specs.Buffer.{keep_last}
 use Rattle.vk_base.specs.declared.answer.Answer.{Answer}

@@ -1,4 +1,4 @@
--- What the names of a station keep to.
+-- Of the code alone, no law rests on it: what the names of a station keep to.
 use Rattle.std.specs.Prelude.{Bool, ◌==◌}
 use Rattle.vk_base.specs.declared.kernel.Registration.{Registration}
 

@@ -1,4 +1,4 @@
--- What is kept of lists of slots.
+-- Of the code alone, no law rests on it: what is kept of lists of slots.
 use Rattle.std.specs.Prelude.{ℕ, ◌≡◌, ◌≤◌, ◌==◌, Bool, false, List, length, map, All, slice_index_or, Option, Some, None}
 use Rattle.std.specs.List.{IsDistinct}
 use Rattle.vk_queue.specs.Lists.{queue_at, holds}
