@@ -26,12 +26,13 @@ use Rattle.vk_rules.specs.PacketOutcomes.{packet_outcome, send_outcome}
 use Rattle.vk_rules.specs.Readings.{Reading}
 use Rattle.vk_rules.specs.Right.{right_entry, own_pids, number_after}
 use Rattle.vk_rules.specs.Rounds.{Outcome, told_sender}
+use Rattle.vk_rules.specs.Each.{Each}
+use Rattle.vk_rules.proofs.Lists.{each_weaker, each_if}
+use Rattle.vk_rules.proofs.Taken.{outcome_by}
 use Rattle.v_ages.proofs.Ages.{Ages, CopyOk}
-use Rattle.v_ages.proofs.Aged.{Each, pending_number, CopyFrame, Arrives, Pends, Told, NoRoom, PendsFrame, FarStep}
-use Rattle.v_ages.proofs.FarSlots.{Each-map}
-use Rattle.v_ages.proofs.HomeEntry.{outcome_by}
+use Rattle.v_ages.proofs.Aged.{pending_number, CopyFrame, Arrives, Pends, Told, NoRoom, PendsFrame, FarStep}
 use Rattle.v_ages.proofs.Keen.{IsKeen}
-use Rattle.v_ages.proofs.Lists.{each_if, each_frame}
+use Rattle.v_ages.proofs.Lists.{each_frame}
 use Rattle.v_ages.proofs.Shut.{Shut, IsTold, told_is}
 use Rattle.v_ages.proofs.Slots.{at, at_past, alien_there, position_none}
 use Rattle.v_ages.proofs.Taken.{In, each_in, or_first, Takes, Nothing, TakesFrame, takes, from_is, young_is}
@@ -56,7 +57,7 @@ called c s q far out pid call =
           (refl, behind_not_arrive after pid call a));
       pendings = each_frame (λ p st. (n : ℕ) → pending_number s p ≡ Some n → (st ≡ far.now) × Pends c.times s q far e out n) q far.now
           (number_after far (Called pid call)) (far.events + 1) 1 (packets_of k after far.slots pid call a)
-          (Each-map (OfCallEnd after s) _ (packets_of k after far.slots pid call a) (call_ends k far.slots pid call s)
+          (each_weaker (OfCallEnd after s) _ (packets_of k after far.slots pid call a) (call_ends k far.slots pid call s)
           (λ p x n h. absurd (x.no_wait n h)));
     }
 
@@ -83,7 +84,7 @@ ticked c s q far out =
       arrival = none_comes c.times s q far e out (no_arrivals e.steps (failed_not_arrive c.times (far.now + 1) far (own_pids c q)));
       pendings = each_frame (λ p st. (n : ℕ) → pending_number s p ≡ Some n → (st ≡ far.now + 1) × Pends c.times s q far e out n) q
           (far.now + 1) (number_after far Ticked) (far.events + 1) 1 ps
-          (Each-map (IsTame s) _ ps (ticks_tame c.times (far.now + 1) far (own_pids c q) s) (λ p x n h. absurd (x.no_wait n h)));
+          (each_weaker (IsTame s) _ ps (ticks_tame c.times (far.now + 1) far (own_pids c q) s) (λ p x n h. absurd (x.no_wait n h)));
     }
 
 -- A Send that is taken is for a process here.
@@ -137,7 +138,7 @@ pends_as t s q far e out hd p o ps k h each =
     subst (Each (PendsFrame t s q far e out)) (sym fs)
     (each_frame (λ p st. (n : ℕ) → pending_number s p ≡ Some n → (st ≡ e.tick) × Pends t s q far e out n) q far.now k.number
     (far.events + 1) 1 ps
-    (Each-map (λ p. (n : ℕ) → pending_number s p ≡ Some n → Pends t s q far e out n) _ ps each (λ p x n h. (sym k.tick, x n h))))
+    (each_weaker (λ p. (n : ℕ) → pending_number s p ≡ Some n → Pends t s q far e out n) _ ps each (λ p x n h. (sym k.tick, x n h))))
 
 comes_as : (e : Entry) (o : Outcome) (ss : List Step) → e.steps ≡ o.steps → o.steps ≡ ss →
     arrival_in e ≡ first_of (filter_map as_arrival ss)
@@ -178,7 +179,7 @@ far_send t s q far e out hd from to number message part keen for between young s
       go copies (Known a found num h) = far_nothing t s q far e out hd (Send from to number message part)
           (send_outcome far (Send from to number message part) (name_of from number) to) (told_sender far.view (name_of from number)) k
           (ap (λ (o : Outcome). o.steps) h) (ap (λ (o : Outcome). o.packets) h)
-          (Each-map (IsTold far.view s (name_of from number)) _ (told_sender far.view (name_of from number))
+          (each_weaker (IsTold far.view s (name_of from number)) _ (told_sender far.view (name_of from number))
           (told_is far.view s (name_of from number)) (λ x y n g.
           let z = y.waits n g in
           let own = same_pid_is from s z.0 in
@@ -228,7 +229,7 @@ far_tame t s q far e out hd p o tame k = record {
   later = (let x = k.tick in omega arith);
   arrival = none_comes t s q far e out (comes_as e o o.steps k.steps refl ∙ no_arrivals o.steps tame.steps);
   pendings =
-      pends_as t s q far e out hd p o o.packets k refl (Each-map (IsTame s) _ o.packets tame.packets (λ p x n h. absurd (x.no_wait n h)));
+      pends_as t s q far e out hd p o o.packets k refl (each_weaker (IsTame s) _ o.packets tame.packets (λ p x n h. absurd (x.no_wait n h)));
 }
 
 far_packet : (t : Times) (s : Pid) (q : ℕ) (far : Reading) (e : Entry) (out : List Frame) (hd : Header) (p : Packet) → IsKeen q far →

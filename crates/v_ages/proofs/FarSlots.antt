@@ -1,5 +1,5 @@
 -- What an entry of the far station makes of its slots.
-use Rattle.std.proofs.Common.{◌≡◌, ℕ, ◌+◌, ◌<◌, max, Bool, true, false, cond, List, [], ◌∷◌, ◌++◌, length, map, Option, Some, None, is_none, refl, sym, ap, ◌∙◌, subst, inl, inr, ◌⊎◌, slice_set}
+use Rattle.std.proofs.Common.{◌≡◌, ℕ, ◌<◌, max, Bool, true, false, cond, List, ◌∷◌, ◌++◌, length, map, Option, Some, None, is_none, refl, sym, ap, ◌∙◌, subst, inl, inr, ◌⊎◌, slice_set}
 use Rattle.std.proofs.lemmas.Bool.{cases_eq, cases_lt, both_ways}
 use Rattle.std.proofs.lemmas.List.Quantifiers.{position-Some}
 use Rattle.std.proofs.lemmas.Option.{none-some}
@@ -15,15 +15,6 @@ use Rattle.v_laws.proofs.Tables.{same_pid_is}
 use Rattle.vk_rules.specs.Aliens.{Alien, is_alien_of, place_for, stamp_in, closes, frees, alien_after, new_alien, with_new_alien}
 use Rattle.vk_rules.specs.Entries.{Entry}
 use Rattle.v_ages.proofs.Slots.{at, at_map, at_set_same, at_set_other, at_past, position_none}
-use Rattle.v_ages.proofs.Aged.{Each}
-
-pub Each-map : {A : Type 0} (P Q : A → Type 0) (xs : List A) → Each P xs → ((x : A) → P x → Q x) → Each Q xs
-Each-map P Q [] e h = tt
-Each-map P Q (x ∷ xs) e h = (h x e.0, Each-map P Q xs e.1 h)
-
-pub Each-append : {A : Type 0} (P : A → Type 0) (xs ys : List A) → Each P xs → Each P ys → Each P (xs ++ ys)
-Each-append P [] ys a b = b
-Each-append P (x ∷ xs) ys a b = (a.0, Each-append P xs ys a.1 b)
 
 -- the slots with what the entry changes of each alien
 abbrev pub kept : Times → Entry → Option Alien → Option Alien

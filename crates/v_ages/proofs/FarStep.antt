@@ -16,10 +16,13 @@ use Rattle.vk_rules.specs.Aliens.{Alien, is_alien_of, alien_of, place_for, arriv
 use Rattle.vk_rules.specs.Entries.{Entry, Input, Called, Collected, Ticked, Delivered, is_tick, is_frame_taken, taken_in}
 use Rattle.vk_rules.specs.Frames.{Frame}
 use Rattle.vk_rules.specs.Readings.{Reading, reading_after}
+use Rattle.vk_rules.specs.Each.{Each}
+use Rattle.vk_rules.proofs.Lists.{each_weaker, each_append}
 use Rattle.v_ages.proofs.Ages.{Ages, WaitOk, IsFreed, Further, until, arrived, copy_further, work_further, wait_further, above, copy_arrived, work_arrived, wait_arrived}
 use Rattle.v_ages.proofs.Slots.{at, at_map, at_set_same, at_set_other, position_map, alien_there, no_alien}
-use Rattle.v_ages.proofs.Aged.{Each, CopyFrame, WaitFrame, closed_of, SlotOk, SlotsOk, CameBelow, AgedAt, Arrives, Pends, Told, NoRoom, PendsFrame, FarStep}
-use Rattle.v_ages.proofs.FarSlots.{Each-map, Each-append, mapped, mapped_is, of_mapped, place_is, place_only, not_of, AsMapped, as_mapped}
+use Rattle.v_ages.proofs.Aged.{CopyFrame, WaitFrame, closed_of, SlotOk, SlotsOk, CameBelow, AgedAt, Arrives, Pends, Told, NoRoom, PendsFrame, FarStep}
+use Rattle.v_ages.proofs.FarSlots.{mapped, mapped_is, of_mapped, place_is, place_only, not_of, AsMapped, as_mapped}
+use Rattle.v_ages.proofs.Taken.{cond_same}
 
 -- What is remembered after such an entry, while an alien is kept.
 abbrev pub grown : Ages → Pid → Entry → Ages
@@ -70,10 +73,6 @@ slot_grown t w s e a b k h = record {
 }
 
 -- a tick takes nothing
-cond_same : {A : Type 0} (b : Bool) (x : A) → cond b x x ≡ x
-cond_same true x = refl
-cond_same false x = refl
-
 tick_takes : (i : Input) (a : EventAnswer) → is_tick i ≡ true → taken_in i a ≡ None
 tick_takes (Called p c) a h = cc
 tick_takes (Collected p) a h = cc
@@ -187,7 +186,7 @@ same_after t e h (Some a) p k =
       closed = option_or a.closed (only_if (closes e a.name) (Some e.tick));
     })))) h ∙ k a
 
-place_mapped : (t : Times) (e : Entry) (r : Pid) (slots : List (Option Alien)) → is_tick e.input ≡ false →
+pub place_mapped : (t : Times) (e : Entry) (r : Pid) (slots : List (Option Alien)) → is_tick e.input ≡ false →
     place_for (mapped t e slots) r ≡ place_for slots r
 unfolding place_for
 place_mapped t e r slots h =
@@ -251,7 +250,7 @@ NothingComes s e = (name : Name) → arrival_in e ≡ Some name → same_pid nam
 
 came_further : (w v : Ages) (s : Pid) (entries : List Entry) → v.heard ≡ w.heard → Each (CameBelow w s) entries →
     Each (CameBelow v s) entries
-came_further w v s entries h c = Each-map (CameBelow w s) (CameBelow v s) entries c (λ e k name a b. let x = k name a b in omega arith)
+came_further w v s entries h c = each_weaker (CameBelow w s) (CameBelow v s) entries c (λ e k name a b. let x = k name a b in omega arith)
 
 far_quiet : (t : Times) (s : Pid) (q : ℕ) (home far : Reading) (out told : List Frame) (entries : List Entry) (e : Entry)
     (o : Option Alien) → alien_of far.slots s ≡ o → NothingComes s e → AgedAt t s q home far out told entries → FarStep t s q far e out →
@@ -267,12 +266,12 @@ far_quiet t s q home far out told entries e (Some a) found nothing k f =
       w = grown w s e;
       tick = k.tick;
       now = refl;
-      copies = Each-map (CopyFrame t w s q) (CopyFrame t (grown w s e) s q) out k.copies
+      copies = each_weaker (CopyFrame t w s q) (CopyFrame t (grown w s e) s q) out k.copies
           (λ x c n h. copy_further t w (grown w s e) n x.header.stamp g (c n h));
-      pendings = Each-append (WaitFrame (grown w s e) s) e.frames told
-          (Each-map (PendsFrame t s q far e out) (WaitFrame (grown w s e) s) e.frames f.pendings (λ x p n h. let y = p n h in
+      pendings = each_append (WaitFrame (grown w s e) s) e.frames told
+          (each_weaker (PendsFrame t s q far e out) (WaitFrame (grown w s e) s) e.frames f.pendings (λ x p n h. let y = p n h in
           waits_grown t w s q far e out a found ok n x.header.stamp y.0 y.1))
-          (Each-map (WaitFrame w s) (WaitFrame (grown w s e) s) told k.pendings
+          (each_weaker (WaitFrame w s) (WaitFrame (grown w s e) s) told k.pendings
           (λ x p n h. wait_further w (grown w s e) n x.header.stamp g (p n h)));
       sends = k.sends;
       work = λ target h at_q. work_further t w (grown w s e) (home.work s) g (k.work target h at_q);
@@ -289,12 +288,12 @@ far_quiet t s q home far out told entries e None none nothing k f =
       w = waited w e;
       tick = k.tick;
       now = refl;
-      copies = Each-map (CopyFrame t w s q) (CopyFrame t (waited w e) s q) out k.copies
+      copies = each_weaker (CopyFrame t w s q) (CopyFrame t (waited w e) s q) out k.copies
           (λ x c n h. copy_further t w (waited w e) n x.header.stamp g (c n h));
-      pendings = Each-append (WaitFrame (waited w e) s) e.frames told
-          (Each-map (PendsFrame t s q far e out) (WaitFrame (waited w e) s) e.frames f.pendings (λ x p n h. let y = p n h in
+      pendings = each_append (WaitFrame (waited w e) s) e.frames told
+          (each_weaker (PendsFrame t s q far e out) (WaitFrame (waited w e) s) e.frames f.pendings (λ x p n h. let y = p n h in
           waits_waited t w s q far e out k.now none k.slots k.copies n x.header.stamp y.0 y.1))
-          (Each-map (WaitFrame w s) (WaitFrame (waited w e) s) told k.pendings
+          (each_weaker (WaitFrame w s) (WaitFrame (waited w e) s) told k.pendings
           (λ x p n h. wait_further w (waited w e) n x.header.stamp g (p n h)));
       sends = k.sends;
       work = λ target h at_q. work_further t w (waited w e) (home.work s) g (k.work target h at_q);
@@ -319,7 +318,7 @@ arrives_above t s q home far out told entries e name k r None none =
 
 came_arrived : (w v : Ages) (s : Pid) (entries : List Entry) → w.heard ≤ v.heard → Each (CameBelow w s) entries →
     Each (CameBelow v s) entries
-came_arrived w v s entries h c = Each-map (CameBelow w s) (CameBelow v s) entries c (λ e k name a b. let x = k name a b in omega arith)
+came_arrived w v s entries h c = each_weaker (CameBelow w s) (CameBelow v s) entries c (λ e k name a b. let x = k name a b in omega arith)
 
 waits_none : (w : Ages) (s : Pid) (fs told : List Frame) → fs ≡ [] → Each (WaitFrame w s) told → Each (WaitFrame w s) (fs ++ told)
 waits_none w s fs told h k = subst (λ (x : List Frame). Each (WaitFrame w s) (x ++ told)) (sym h) k
@@ -353,10 +352,10 @@ far_arrives t s q home far out told entries e name h of k r =
       w = v;
       tick = k.tick;
       now = k.now ∙ sym r.takes.tick;
-      copies = Each-map (CopyFrame t w s q) (CopyFrame t v s q) out k.copies
+      copies = each_weaker (CopyFrame t w s q) (CopyFrame t v s q) out k.copies
           (λ x y n g. copy_arrived t w name.number r.takes.stamp n x.header.stamp c new (y n g));
       pendings =
-          waits_none v s e.frames told r.quiet (Each-map (WaitFrame w s) (WaitFrame v s) told k.pendings
+          waits_none v s e.frames told r.quiet (each_weaker (WaitFrame w s) (WaitFrame v s) told k.pendings
           (λ x p n g. wait_arrived w name.number r.takes.stamp n x.header.stamp (p n g)));
       sends = k.sends;
       work = λ target g at_q. work_arrived t w name.number r.takes.stamp (home.work s) c new (k.work target g at_q);

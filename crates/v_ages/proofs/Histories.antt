@@ -1,6 +1,6 @@
 -- The invariant holds in every history.
 use Rattle.std.proofs.Common.{◌≡◌, ℕ, zero, suc, ◌+◌, ◌<◌, Bool, true, false, cond, ◌==◌, List, [], ◌∷◌, find, length, replicate, Option, Some, None, option_map, refl, sym, ap, ◌∙◌, subst, inl, inr, ◌⊎◌, arith, le_refl}
-use Rattle.std.proofs.lemmas.Bool.{cases_Bool, eqb-true, both_ways, eq-eqb, cond-true, cond-false}
+use Rattle.std.proofs.lemmas.Bool.{cases_Bool, eqb-true, both_ways, eq-eqb, cond-false}
 use Rattle.std.proofs.lemmas.Option.{none-some, same_Some}
 use Rattle.std.specs.List.{filter_map, cons_option}
 use Rattle.std.specs.Option.{option_map_or}
@@ -24,19 +24,21 @@ use Rattle.vk_rules.specs.Frames.{Frame, Framed}
 use Rattle.vk_rules.specs.Histories.{Logs, no_entries, with_entry, is_output, emitted, handed_over, Happened, At, Missing, delivered, happened, logs_after, history, logs_from}
 use Rattle.vk_rules.specs.Readings.{reading, reading_after, first_reading}
 use Rattle.vk_rules.specs.Right.{right_entry, entry_of, tick_after, number_after, answer_to, outcome_of}
+use Rattle.vk_rules.specs.Each.{Each}
+use Rattle.vk_rules.proofs.Lists.{each_weaker, each_append, each_find}
+use Rattle.vk_rules.proofs.OwnEvents.{own_log}
 use Rattle.v_ages.specs.Apart.{AliensAreApart}
 use Rattle.v_ages.specs.Arrivals as arrivals
 use Rattle.v_ages.specs.Arrivals.{Rising}
 use Rattle.v_ages.proofs.Numbers.{number_in, arrival_at, numbers, arrivals_are, IsOne, one_entry, One, NoneComes, OneComes}
-use Rattle.v_ages.proofs.Aged.{Each, AgedAt, CameBelow, calling, remote_target}
+use Rattle.v_ages.proofs.Aged.{AgedAt, CameBelow, calling, remote_target}
 use Rattle.v_ages.proofs.Ages.{Ages}
 use Rattle.v_ages.proofs.FarEntry.{far_entry}
 use Rattle.v_ages.proofs.FarStep.{far_step, arrives_above}
-use Rattle.v_ages.proofs.FarSlots.{Each-map, Each-append}
 use Rattle.v_ages.proofs.HomeEntry.{home_entry}
 use Rattle.v_ages.proofs.HomeStep.{home_step}
 use Rattle.v_ages.proofs.Keen.{IsKeen, IsOwn, keen_step, keeps_entry, Came, New, Old, came_from}
-use Rattle.v_ages.proofs.Lists.{each_source, each_find}
+use Rattle.v_ages.proofs.Lists.{each_source}
 use Rattle.v_ages.proofs.Slots.{at, alien_there}
 use Rattle.v_ages.proofs.Taken.{In, each_in}
 use Rattle.v_ages.proofs.Tame.{NotArrive}
@@ -68,10 +70,6 @@ abbrev pub IsSent : Logs → Input → Type 0
 IsSent logs i = (h : Header) (p : Rattle.vk_base.specs.Packets.Packet) → i ≡ Delivered (Framed h p) →
     In (record { header = h; packet = p }) (emitted (logs h.source))
 
-here_log : (logs : Logs) (host : ℕ) (e : Entry) → with_entry logs host e host ≡ e ∷ logs host
-unfolding with_entry
-here_log logs host e = cond-true (host == host) _ _ (eq-eqb host host refl)
-
 other_log : (logs : Logs) (host h : ℕ) (e : Entry) → (h == host) ≡ false → with_entry logs host e h ≡ logs h
 unfolding with_entry
 other_log logs host h e n = cond-false (h == host) _ _ n
@@ -86,7 +84,7 @@ keen_more c host es i own k = keen_step c.times host (reading c host es) (entry_
 sources_more : (c : Settings) (host : ℕ) (es : List Entry) (i : Input) → Each (λ (f : Frame). f.header.source ≡ host) (emitted es) →
     Each (λ (f : Frame). f.header.source ≡ host) (emitted (entry_of c host es i ∷ es))
 unfolding right_entry
-sources_more c host es i k = Each-append (λ (f : Frame). f.header.source ≡ host) (entry_of c host es i).frames (emitted es)
+sources_more c host es i k = each_append (λ (f : Frame). f.header.source ≡ host) (entry_of c host es i).frames (emitted es)
     (each_source host (tick_after (reading c host es) i) (number_after (reading c host es) i) ((reading c host es).events + 1) 1
     (outcome_of c host (reading c host es) i (answer_to c host (reading c host es) i)).packets) k
 
@@ -126,7 +124,7 @@ each_host : (P : ℕ → List Entry → Type 0) (c : Settings) (logs : Logs) (ho
     (P host (logs host) → P host (entry_of c host (logs host) i ∷ logs host)) → (h : ℕ) → P h (logs h) → P h (after c logs host i h)
 each_host P c logs host i step h k = elim (cases_Bool (h == host)) [
   | inl e ↦ let same = eqb-true h host e in
-      subst (λ n. P n (after c logs host i n)) (sym same) (subst (P host) (sym (here_log logs host (entry_of c host (logs host) i)))
+      subst (λ n. P n (after c logs host i n)) (sym same) (subst (P host) (sym (own_log logs host (entry_of c host (logs host) i)))
       (step (subst (λ n. P n (logs n)) same k)))
   | inr n ↦ subst (P h) (sym (other_log logs host h (entry_of c host (logs host) i) n)) k
 ]
@@ -144,7 +142,7 @@ aged_more c logs host i sent keen s q apart k = elim (cases_Bool (s.host == host
             f
       ] in
       subst (λ h. AgedIn c s q (after c logs h i s.host) (after c logs h i q)) same
-      (subst (λ l. AgedIn c s q l (after c logs s.host i q)) (sym (here_log logs s.host (entry_of c s.host (logs s.host) i)))
+      (subst (λ l. AgedIn c s q l (after c logs s.host i q)) (sym (own_log logs s.host (entry_of c s.host (logs s.host) i)))
       (subst (AgedIn c s q (entry_of c s.host (logs s.host) i ∷ logs s.host))
       (sym (other_log logs s.host q (entry_of c s.host (logs s.host) i) away))
       (home_more c s q logs i sent k)))
@@ -153,7 +151,7 @@ aged_more c logs host i sent keen s q apart k = elim (cases_Bool (s.host == host
         let same = eqb-true q host e in
         subst (λ h. AgedIn c s q (after c logs h i s.host) (after c logs h i q)) same
         (subst (λ l. AgedIn c s q l (after c logs q i q)) (sym (other_log logs q s.host (entry_of c q (logs q) i) apart))
-        (subst (AgedIn c s q (logs s.host)) (sym (here_log logs q (entry_of c q (logs q) i)))
+        (subst (AgedIn c s q (logs s.host)) (sym (own_log logs q (entry_of c q (logs q) i)))
         (far_more c s q logs i sent (keen q) k)))
     | inr m ↦
         subst (λ l. AgedIn c s q l (after c logs host i q)) (sym (other_log logs host s.host (entry_of c host (logs host) i) n))
@@ -178,7 +176,7 @@ aged_entry c logs host i own sent k = record {
 start : Ages
 start = record { tick = 0; sends = 0; begun = λ n. 0; now = 0; heard = 0; is_closed = true; closed = 0; newest = 0 }
 
-at_replicate : (n i : ℕ) → at (replicate n None) i ≡ None
+pub at_replicate : (n i : ℕ) → at (replicate n None) i ≡ None
 at_replicate zero i = refl
 at_replicate (suc n) zero = refl
 at_replicate (suc n) (suc i) = at_replicate n i
@@ -299,7 +297,7 @@ above_all c logs q i name own sent k h =
     let x = f.arrival name h (same_pid_self s) in
     let lt = arrives_above c.times s q (reading c s.host (logs s.host)) r (emitted (logs s.host)) (emitted (logs q)) (logs q)
     (entry_of c q (logs q) i) name a x (alien_of r.slots s) refl in
-    Each-map (CameBelow a.w s) (BelowIn s name.number) (logs q) a.came (λ d below m g of. let y = below m g of in omega arith)
+    each_weaker (CameBelow a.w s) (BelowIn s name.number) (logs q) a.came (λ d below m g of. let y = below m g of in omega arith)
 
 abbrev AllBelow : Pid → ℕ → List Entry → Type 0
 AllBelow s n es = Each (BelowIn s n) es
@@ -354,7 +352,7 @@ has_new c logs h q s n (Entered host event i e own sent) g =
     let x = arrival_is s q host event (entry_of c host (logs host) i) n (ap (arrival_at q s) (sym e) ∙ g) in
     subst (λ h. HasNumber s n (logs_after logs h q)) (sym e)
     (subst (λ z. HasNumber s n (with_entry logs host (entry_of c host (logs host) i) z)) x.0
-    (subst (HasNumber s n) (sym (here_log logs host (entry_of c host (logs host) i))) (inl x.1)))
+    (subst (HasNumber s n) (sym (own_log logs host (entry_of c host (logs host) i))) (inl x.1)))
 
 cons_above : (P : ℕ → Type 0) (o : Option ℕ) (ns : List ℕ) → ((n : ℕ) → o ≡ Some n → P n) → Each P ns → Each P (cons_option o ns)
 cons_above P None ns h k = k

@@ -14,7 +14,7 @@ use Rattle.vk_base.specs.declared.kernel.Stage.TheVariants as stages
 use Rattle.vk_base.specs.declared.pid.Pid.{Pid}
 use Rattle.vk_base.specs.declared.step.Step.{Step}
 use Rattle.vk_base.specs.declared.step.Step.TheVariants as steps
-use Rattle.vk_base.specs.Kernel.{◌>>=◌, Kernel, name_of, blocked_in, holds_of, held, is_live}
+use Rattle.vk_base.specs.Kernel.{◌>>=◌, Kernel, name_of, holds_of, held, is_live}
 use Rattle.vk_base.specs.Packets.{Packet, Send, Reply, Pending, Negative, MoveData, MoveAck, MoveRequest, MoveBytes, MoveNegative, AskPid, TellPid}
 use Rattle.vk_base.specs.Pids.{same_host}
 use Rattle.vk_base.specs.Steps.{is_allowed, is_in_move}
@@ -27,15 +27,17 @@ use Rattle.vk_rules.specs.Entries.{is_begun}
 use Rattle.vk_rules.specs.PacketOutcomes.{packet_outcome, send_outcome, arrival, is_later, is_same, FarSender, far_sender, takes_reply, may_be_written, may_be_read, data_outcome, opens_move, is_opened, is_next_piece, request_outcome, no_sender, has_made, ack_outcome, restarts_at, bytes_outcome, running_to, running_from, told_asker, found_there, asks}
 use Rattle.vk_rules.specs.Readings.{Reading}
 use Rattle.vk_rules.specs.Rounds.{Outcome, nothing, only_steps, only_packets, list_if, round, told_sender, told_of, told_by_stage, offsets}
-use Rattle.vk_rules.specs.Works.{Work, no_work, is_of_round, is_last, shows_gap, is_due, is_unanswered, move_count, received_of}
-use Rattle.v_ages.proofs.Aged.{Each, copy_number, pending_number, calling}
-use Rattle.v_ages.proofs.FarSlots.{Each-map, Each-append}
-use Rattle.v_ages.proofs.Lists.{each_if, each_map, each_or, each_flat_map, each_filter_map}
+use Rattle.vk_rules.specs.Works.{Work, no_work, is_of_round, is_last, shows_gap, is_due, is_unanswered, move_count}
+use Rattle.vk_rules.specs.Each.{Each}
+use Rattle.vk_rules.proofs.Lists.{each_weaker, each_append, each_if, each_map, each_or}
+use Rattle.vk_rules.proofs.Failures.{each_failed}
+use Rattle.v_ages.proofs.Aged.{copy_number, pending_number, calling}
+use Rattle.v_ages.proofs.Lists.{each_flat_map}
 use Rattle.v_ages.proofs.Quiet.{NoCall, is_call}
 use Rattle.v_ages.proofs.Sent.{IsRound, IsOther, Copies, round_is, running_to_calls, running_from_calls}
 
 -- no step is a call
-take_no_call : (k : Kernel) (r : Pid) → Each NoCall (take_where k r)
+pub take_no_call : (k : Kernel) (r : Pid) → Each NoCall (take_where k r)
 take_no_call k r = each_if NoCall (is_allowed k (steps.Take r)) _ (λ h. (refl, tt))
 
 pub behind_no_call : (k : Kernel) (pid : Pid) (c : Call) (a : EventAnswer) → Each NoCall (steps_behind k pid c a)
@@ -55,19 +57,9 @@ failure_no_call pid (calls.MoveFrom partner dest src count) s h = ap is_call (sy
 failure_no_call pid (calls.GetPid logical scope) s h = ap is_call (sym (same_Some _ s h))
 failure_no_call pid c s h = absurd (none-some _ h)
 
-failed_by : (k : Kernel) (pid : Pid) (o : Option Process) (s : Step) → (o >>= λ p. blocked_in p.state >>= work_failure pid) ≡ Some s →
-    NoCall s
-failed_by k pid None s h = absurd (none-some _ h)
-failed_by k pid (Some p) s h = go (blocked_in p.state) h where
-  go : (o : Option Call) → (o >>= work_failure pid) ≡ Some s → NoCall s
-  go None h = absurd (none-some _ h)
-  go (Some c) h = failure_no_call pid c s h
-
 pub failed_no_call : (t : Times) (now : ℕ) (r : Reading) (pids : List Pid) →
     Each NoCall (Rattle.std.specs.List.filter_map (failed t now r) pids)
-failed_no_call t now r pids =
-    each_filter_map NoCall (failed t now r) pids (λ pid s h. let o = only_if_is (is_due t now (r.work pid) && is_unanswered t (r.work pid))
-    _ s h in failed_by r.view pid (r.view.procs pid) s o.1)
+failed_no_call t now r pids = each_failed NoCall failure_no_call t now r pids
 
 -- what the sender of a Send is told is of no work
 told_other : (s : Pid) (q : ℕ) (name : Name) (target : Pid) (live : Bool) (x : Stage) →
@@ -95,11 +87,11 @@ pub data OfCall (k : Kernel) (pid s : Pid) (q : ℕ) (begun : Bool) (p : Packet)
 
 others_of_call : (k : Kernel) (pid s : Pid) (q : ℕ) (begun : Bool) (ps : List Packet) → Each (IsOther s q) ps →
     Each (OfCall k pid s q begun) ps
-others_of_call k pid s q begun ps h = Each-map (IsOther s q) (OfCall k pid s q begun) ps h (λ p x. Other x)
+others_of_call k pid s q begun ps h = each_weaker (IsOther s q) (OfCall k pid s q begun) ps h (λ p x. Other x)
 
 round_of_begun : (k : Kernel) (pid s : Pid) (q : ℕ) (begun : Bool) → Each (OfCall k pid s q begun) (list_if begun (round k no_work pid))
 round_of_begun k pid s q begun =
-    each_if (OfCall k pid s q begun) begun _ (λ h. Each-map (IsRound k pid s q) (OfCall k pid s q begun) (round k no_work pid)
+    each_if (OfCall k pid s q begun) begun _ (λ h. each_weaker (IsRound k pid s q) (OfCall k pid s q begun) (round k no_work pid)
     (round_is k no_work pid s q) (λ p x. First h x))
 
 replies_other : (before after : Kernel) (pid to s : Pid) (q : ℕ) → Each (IsOther s q) (reply_packets before after pid to)
@@ -131,7 +123,7 @@ pub tick_packets : (t : Times) (now : ℕ) (r : Reading) (pids : List Pid) (s : 
     Each (OfTick t now r s q) (Rattle.std.specs.List.flat_map (sent_again t now r) pids)
 tick_packets t now r pids s q = each_flat_map (OfTick t now r s q) (sent_again t now r) pids
     (λ pid. each_if (OfTick t now r s q) (is_due t now (r.work pid) && not (is_unanswered t (r.work pid))) _
-    (λ h. Each-map (IsRound r.view pid s q) (OfTick t now r s q) (round r.view (r.work pid) pid) (round_is r.view (r.work pid) pid s q)
+    (λ h. each_weaker (IsRound r.view pid s q) (OfTick t now r s q) (round r.view (r.work pid) pid) (round_is r.view (r.work pid) pid s q)
     (λ p x. record {
       copy = λ n g. let y =
           x.copy n g in (
@@ -156,11 +148,11 @@ other_at : (k : Kernel) (s : Pid) (q : ℕ) (p : Packet) → IsOther s q p → A
 other_at k s q p x = record { copy = x.copy; of = λ h. absurd (x.of h) }
 
 others_at : (k : Kernel) (s : Pid) (q : ℕ) (ps : List Packet) → Each (IsOther s q) ps → Each (AtDelivery k s q) ps
-others_at k s q ps h = Each-map (IsOther s q) (AtDelivery k s q) ps h (λ p x. other_at k s q p x)
+others_at k s q ps h = each_weaker (IsOther s q) (AtDelivery k s q) ps h (λ p x. other_at k s q p x)
 
 -- a round of a process that is in no Send
 round_at : (k : Kernel) (w : Work) (to s : Pid) (q : ℕ) → calling k to ≡ None → Each (AtDelivery k s q) (round k w to)
-round_at k w to s q h = Each-map (IsRound k to s q) (AtDelivery k s q) (round k w to) (round_is k w to s q) (λ p x. record {
+round_at k w to s q h = each_weaker (IsRound k to s q) (AtDelivery k s q) (round k w to) (round_is k w to s q) (λ p x. record {
   copy = λ n g. let y = x.copy n g in none-some _ (sym h ∙ ap (calling k) y.own ∙ y.calls);
   of = λ g. ap (calling k) (sym (same_pid_is to s (x.of g))) ∙ h;
 })
@@ -206,7 +198,7 @@ mild_no_sender k s q name mover moving =
 mild_data : (k : Kernel) (s : Pid) (q : ℕ) (name : Name) (mover : Pid) (moving total offset : ℕ) (bytes : List ℕ) (e : Exchange) →
     IsMild k s q (data_outcome name mover moving total offset bytes e)
 mild_data k s q name mover moving total offset bytes e = record {
-  steps = Each-append NoCall (opens_move e name moving) _ (each_if NoCall (nat_lt e.opened moving) _ (λ h. (refl, tt)))
+  steps = each_append NoCall (opens_move e name moving) _ (each_if NoCall (nat_lt e.opened moving) _ (λ h. (refl, tt)))
       (each_if NoCall (is_next_piece e moving offset) _ (λ h. (refl, tt)));
   packets = each_if _ (is_opened e moving && is_last total offset bytes) _
       (λ h. (record { copy = λ n h. none-some _ h; of = λ h. cc }, tt));
@@ -229,9 +221,9 @@ mild_ack k s q w to got m h = outcome_if (IsMild k s q) (got == move_count m) _ 
 mild_bytes : (k : Kernel) (s : Pid) (q : ℕ) (w : Work) (to : Pid) (name : Name) (moving total offset : ℕ) (bytes : List ℕ) →
     calling k to ≡ None → IsMild k s q (bytes_outcome k w to name moving total offset bytes)
 mild_bytes k s q w to name moving total offset bytes h =
-    outcome_if (IsMild k s q) (offset == received_of k name moving) _ _
+    outcome_if (IsMild k s q) (offset == w.received) _ _
     (λ g. mild_steps k s q _ (refl, each_if NoCall (is_last total offset bytes) _ (λ x. (refl, tt))))
-    (λ g. mild_packets k s q _ (each_if _ (shows_gap (received_of k name moving) total offset bytes && w.fresh) _
+    (λ g. mild_packets k s q _ (each_if _ (shows_gap w.received total offset bytes && w.fresh) _
     (λ x. round_at k w to s q h)))
 
 pub mild_packet : (host : ℕ) (r : Reading) (p : Packet) (s : Pid) (q : ℕ) → IsMild r.view s q (packet_outcome host r p)

@@ -27,7 +27,8 @@ use Rattle.vk_base.proofs.OptionLemmas.{bind_is}
 use Rattle.v_laws.proofs.Options.{of_either}
 use Rattle.v_laws.proofs.StepLemmas.{taking_is, finishing_is, collecting_is, failing_is, copying_is, ending_is, asking_is, finding_is}
 use Rattle.v_laws.proofs.Tables.{same_pid_is, same_pid_self, put_process_at, put_process_other}
-use Rattle.v_ages.proofs.Aged.{Each, sends_in, calling, remote_target}
+use Rattle.vk_rules.specs.Each.{Each}
+use Rattle.v_ages.proofs.Aged.{sends_in, calling, remote_target}
 
 pub record Quiet (k l : Kernel) (s : Pid) : Type 0 where
   pub sends : sends_in l s ≡ sends_in k s

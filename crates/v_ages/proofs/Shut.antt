@@ -17,7 +17,7 @@ use Rattle.vk_base.specs.declared.message.Message.{Message}
 use Rattle.vk_base.specs.declared.pid.Pid.{Pid}
 use Rattle.vk_base.specs.declared.step.Step.{Step}
 use Rattle.vk_base.specs.declared.step.Step.TheVariants as steps
-use Rattle.vk_base.specs.Brought.{brought, posted}
+use Rattle.vk_base.specs.Brought.{as_many_moves, brought, posted, settled, without_running}
 use Rattle.vk_base.specs.Calls.{Effect, unseen, answered, accepted, called, call_refusal, replied, copied_at_once, begin_move, new_move, move_begun, lookup_begun, is_at_once, get_pid, found_at_once, sent, exited, is_message_at, dropped_at}
 unfoldable use Rattle.vk_base.specs.Changes.{change_exchange}
 use Rattle.vk_base.specs.Kernel.{◌>>=◌, Kernel, name_of, same_name, holds_of, held, is_at_target, put_exchange, with_stage, is_live}
@@ -35,8 +35,9 @@ use Rattle.vk_rules.specs.Aliens.{is_closing}
 use Rattle.vk_rules.specs.CallOutcomes.{effect_answer, seen_answer, is_ok}
 use Rattle.vk_rules.specs.Rounds.{told_sender, told_by_stage}
 use Rattle.vk_rules.specs.View.{after_steps}
-use Rattle.v_ages.proofs.Lists.{each_if}
-use Rattle.v_ages.proofs.Aged.{Each, pending_number}
+use Rattle.vk_rules.specs.Each.{Each}
+use Rattle.vk_rules.proofs.Lists.{each_if}
+use Rattle.v_ages.proofs.Aged.{pending_number}
 use Rattle.v_ages.proofs.Outcomes.{each_told}
 
 abbrev pub Shut : Kernel → Name → Type 0
@@ -282,10 +283,33 @@ shut_brought k (MoveNegative from to number moving) name s = s
 shut_brought k (AskPid asker lookup logical) name s = s
 shut_brought k (TellPid found asker lookup) name s = s
 
+as_many_stage : (o : Option Exchange) (x : Exchange) → (as_many_moves o x).stage ≡ x.stage
+as_many_stage None x = refl
+as_many_stage (Some y) x = refl
+
+shut_without : (before k : Kernel) (n name : Name) → Shut k name → Shut (without_running before n k) name
+shut_without before k n name s =
+    shut_changed (as_many_moves (before.exchanges n)) k (without_running before n k) n name refl
+    (λ x h. ap is_at_target (as_many_stage (before.exchanges n) x) ∙ h) s
+
+shut_settled : (before k : Kernel) (p : Packet) (name : Name) → Shut k name → Shut (settled before p k) name
+shut_settled before k (Send from to number message part) name s = s
+shut_settled before k (Reply from to number message dest bytes) name s = s
+shut_settled before k (Pending from to number) name s = s
+shut_settled before k (Negative from to number) name s = s
+shut_settled before k (MoveData from to number moving dest total offset bytes) name s = s
+shut_settled before k (MoveAck from to number moving received) name s = shut_without before k (name_of from number) name s
+shut_settled before k (MoveRequest from to number moving src total offset) name s = s
+shut_settled before k (MoveBytes from to number moving total offset bytes) name s = shut_without before k (name_of from number) name s
+shut_settled before k (MoveNegative from to number moving) name s = s
+shut_settled before k (AskPid asker lookup logical) name s = s
+shut_settled before k (TellPid found asker lookup) name s = s
+
 pub shut_after : (k : Kernel) (p : Packet) (ss : List Step) (name : Name) → Each (IsFar name) ss → Shut k name →
     Shut (after_steps k (Some p) ss) name
 shut_after k p [] name far s = s
-shut_after k p (x ∷ xs) name far s = shut_fold (brought k p) (x ∷ xs) name far (shut_brought k p name s)
+shut_after k p (x ∷ xs) name far s =
+    shut_settled k (fold next (brought k p) (x ∷ xs)) p name (shut_fold (brought k p) (x ∷ xs) name far (shut_brought k p name s))
 
 -- A Reply and an Exit that are answered ok shut what is replied to, and what was open at the process.
 pub replied_shut : (k : Kernel) (pid : Pid) (c : Call) (to : Pid) (m : Message) (dest : ℕ) (bytes : List ℕ) (e : Effect) (number : ℕ) →

@@ -8,9 +8,7 @@ use Rattle.std.specs.List.{position, position_or_len}
 use Rattle.vk_base.specs.declared.pid.Pid.{Pid}
 use Rattle.vk_base.specs.Pids.{same_pid}
 use Rattle.vk_rules.specs.Aliens.{Alien, is_alien_of, alien_of}
-
-abbrev pub at : List (Option Alien) → ℕ → Option Alien
-at slots i = get_or slots i None
+pub use Rattle.v_ages.specs.Apart.{in_slot as at}
 
 pub at_map : (f : Option Alien → Option Alien) (slots : List (Option Alien)) (i : ℕ) → f None ≡ None → at (map f slots) i ≡ f (at slots i)
 at_map f [] i e = sym e

@@ -29,10 +29,12 @@ use Rattle.vk_rules.specs.Entries.{is_begun}
 use Rattle.vk_rules.specs.PacketOutcomes.{packet_outcome, send_outcome, arrival, is_later, is_same, FarSender, far_sender, takes_reply, may_be_written, may_be_read, data_outcome, opens_move, is_opened, is_next_piece, request_outcome, no_sender, has_made, ack_outcome, restarts_at, bytes_outcome, running_to, running_from, told_asker, found_there, asks}
 use Rattle.vk_rules.specs.Readings.{Reading}
 use Rattle.vk_rules.specs.Rounds.{Outcome, nothing, only_steps, only_packets, list_if, round, round_of, round_of_call, told_sender, offsets, piece}
-use Rattle.vk_rules.specs.Works.{Work, no_work, is_last, shows_gap, is_due, is_unanswered, move_count, received_of}
-use Rattle.v_ages.proofs.Aged.{Each, pending_number}
-use Rattle.v_ages.proofs.FarSlots.{Each-map, Each-append}
-use Rattle.v_ages.proofs.Lists.{each_if, each_map, each_option, each_or, each_flat_map, each_filter_map}
+use Rattle.vk_rules.specs.Works.{Work, no_work, is_last, shows_gap, is_due, is_unanswered, move_count}
+use Rattle.vk_rules.specs.Each.{Each}
+use Rattle.vk_rules.proofs.Lists.{each_weaker, each_append, each_if, each_map, each_or}
+use Rattle.vk_rules.proofs.Failures.{each_failed}
+use Rattle.v_ages.proofs.Aged.{pending_number}
+use Rattle.v_ages.proofs.Lists.{each_option, each_flat_map}
 use Rattle.v_ages.proofs.Outcomes.{outcome_if, outcome_or}
 use Rattle.v_ages.proofs.Quiet.{is_call, NoCall}
 use Rattle.v_ages.proofs.Shut.{Shut, IsTold, told_is, IsFar, ok_is, replied_shut, exited_shut}
@@ -84,19 +86,8 @@ failure_not_arrive pid (calls.MoveFrom partner dest src count) s h = ap as_arriv
 failure_not_arrive pid (calls.GetPid logical scope) s h = ap as_arrival (sym (same_Some _ s h))
 failure_not_arrive pid c s h = absurd (none-some _ h)
 
-failed_by : (k : Kernel) (pid : Pid) (o : Option Process) (s : Step) → (o >>= λ p. blocked_in p.state >>= work_failure pid) ≡ Some s →
-    NotArrive s
-failed_by k pid None s h = absurd (none-some _ h)
-failed_by k pid (Some p) s h = go (blocked_in p.state) h where
-  go : (o : Option Call) → (o >>= work_failure pid) ≡ Some s → NotArrive s
-  go None h = absurd (none-some _ h)
-  go (Some c) h = failure_not_arrive pid c s h
-
 pub failed_not_arrive : (t : Times) (now : ℕ) (r : Reading) (pids : List Pid) → Each NotArrive (filter_map (failed t now r) pids)
-failed_not_arrive t now r pids =
-    each_filter_map NotArrive (failed t now r) pids
-    (λ pid s h. let o = only_if_is (is_due t now (r.work pid) && is_unanswered t (r.work pid)) _ s h in
-    failed_by r.view pid (r.view.procs pid) s o.1)
+failed_not_arrive t now r pids = each_failed NotArrive failure_not_arrive t now r pids
 
 -- Packets that are no Pending for s, and end no Send.
 pub record IsTame (s : Pid) (p : Packet) : Type 0 where
@@ -136,12 +127,12 @@ pub record OfCallEnd (after : Kernel) (s : Pid) (p : Packet) : Type 0 where
   pub ends : (n : Name) → is_closing n p ≡ true → Shut after n
 
 told_ends : (after : Kernel) (s : Pid) (name : Name) → Shut after name → Each (OfCallEnd after s) (told_sender after name)
-told_ends after s name shut = Each-map (IsTold after s name) (OfCallEnd after s) (told_sender after name) (told_is after s name)
+told_ends after s name shut = each_weaker (IsTold after s name) (OfCallEnd after s) (told_sender after name) (told_is after s name)
     (λ p x. record { no_wait = λ n h. let y = x.waits n h in y.2 shut; ends = x.ends })
 
 round_ends : (after : Kernel) (pid s : Pid) (begun : Bool) → Each (OfCallEnd after s) (list_if begun (round after no_work pid))
 round_ends after pid s begun =
-    each_if (OfCallEnd after s) begun _ (λ h. Each-map (IsTame s) (OfCallEnd after s) (round after no_work pid)
+    each_if (OfCallEnd after s) begun _ (λ h. each_weaker (IsTame s) (OfCallEnd after s) (round after no_work pid)
     (round_tame after no_work pid s) (λ p x. record { no_wait = x.no_wait; ends = λ n h. absurd (x.no_end n h) }))
 
 replies_end : (k after : Kernel) (pid to s : Pid) (eff : Effect) → after ≡ eff.after →
@@ -195,7 +186,7 @@ tame_no_sender k s name mover moving =
 tame_data : (s : Pid) (name : Name) (mover : Pid) (moving total offset : ℕ) (bytes : List ℕ) (e : Exchange) →
     IsTameOutcome s (data_outcome name mover moving total offset bytes e)
 tame_data s name mover moving total offset bytes e = record {
-  steps = Each-append NotArrive (opens_move e name moving) _ (each_if NotArrive (nat_lt e.opened moving) _ (λ h. (refl, tt)))
+  steps = each_append NotArrive (opens_move e name moving) _ (each_if NotArrive (nat_lt e.opened moving) _ (λ h. (refl, tt)))
       (each_if NotArrive (is_next_piece e moving offset) _ (λ h. (refl, tt)));
   packets = each_if _ (is_opened e moving && is_last total offset bytes) _
       (λ h. (record { no_wait = λ n h. none-some _ h; no_end = λ n h. cc }, tt));
@@ -217,9 +208,9 @@ tame_ack k s w to got m = outcome_if (IsTameOutcome s) (got == move_count m) _ _
 tame_bytes : (k : Kernel) (s : Pid) (w : Work) (to : Pid) (name : Name) (moving total offset : ℕ) (bytes : List ℕ) →
     IsTameOutcome s (bytes_outcome k w to name moving total offset bytes)
 tame_bytes k s w to name moving total offset bytes =
-    outcome_if (IsTameOutcome s) (offset == received_of k name moving) _ _
+    outcome_if (IsTameOutcome s) (offset == w.received) _ _
     (λ g. tame_steps s _ (refl, each_if NotArrive (is_last total offset bytes) _ (λ x. (refl, tt))))
-    (λ g. tame_packets s _ (each_if _ (shows_gap (received_of k name moving) total offset bytes && w.fresh) _ (λ x. round_tame k w to s)))
+    (λ g. tame_packets s _ (each_if _ (shows_gap w.received total offset bytes && w.fresh) _ (λ x. round_tame k w to s)))
 
 abbrev pub is_send_packet : Packet → Bool
 is_send_packet (Send from to number message part) = true
@@ -274,7 +265,7 @@ pub data SendsTo (r : Reading) (p : Packet) (name : Name) (to : Pid) : Type 0 wh
   Lets : IsNew r name → is_none (place_for r.slots name.sender) ≡ false → send_outcome r p name to ≡ arrival r.view p name to →
       SendsTo r p name to
 
-new_by : (number : ℕ) (o : Option Alien) → holds_of (is_later number) o ≡ false → holds_of (is_same number) o ≡ false → (a : Alien) →
+pub new_by : (number : ℕ) (o : Option Alien) → holds_of (is_later number) o ≡ false → holds_of (is_same number) o ≡ false → (a : Alien) →
     o ≡ Some a → a.name.number < number
 new_by number None h g a e = absurd (none-some _ e)
 new_by number (Some b) h g a e =

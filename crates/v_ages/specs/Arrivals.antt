@@ -12,10 +12,7 @@ use Rattle.vk_rules.specs.Aliens.{Alien, alien_of}
 use Rattle.vk_rules.specs.Entries.{Entry}
 use Rattle.vk_rules.specs.Histories.{Happened, At, Missing, no_entries, happened, history, history_of, logs_from}
 use Rattle.vk_rules.specs.Readings.{reading}
-
-abbrev pub Each : {A : Type 0} → (A → Type 0) → List A → Type 0
-Each P [] = Unit {0}
-Each P (x ∷ xs) = P x × Each P xs
+use Rattle.vk_rules.specs.Each.{Each}
 
 abbrev pub In : {A : Type 0} → A → List A → Type 0
 In y [] = ⊥

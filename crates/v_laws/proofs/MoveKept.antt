@@ -12,7 +12,7 @@ use Rattle.vk_base.specs.declared.kernel.Name.{Name}
 use Rattle.vk_base.specs.declared.kernel.Process.{Process}
 use Rattle.vk_base.specs.declared.pid.Pid.{Pid}
 use Rattle.vk_base.specs.declared.step.Step.{Step}
-use Rattle.vk_base.specs.Kernel.{Kernel, initial_process, is_move, is_ready, holds_of, move_of, waiting_on}
+use Rattle.vk_base.specs.Kernel.{Kernel, is_move, is_ready, holds_of, move_of, waiting_on}
 use Rattle.vk_base.specs.Pids.{same_host}
 use Rattle.vk_base.specs.Ranges.{range_of, lies_in, bytes_in}
 use Rattle.vk_base.specs.Steps.{Opening, opening_move, noted_bytes, Copying}

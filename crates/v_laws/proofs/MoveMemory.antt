@@ -1,7 +1,6 @@
 -- What each step does to a process, as far as moves are concerned: to its memory, and to the call that it is in.
-use Rattle.std.proofs.Common.{◌≡◌, ℕ, ◌+◌, Bool, true, false, ◌==◌, length, List, [], ◌++◌, take, drop, not, nat_lt, is_none, option_map, Option, Some, None, refl, sym, ap, subst, subst₂, ◌∙◌, inl, inr, add-zero}
+use Rattle.std.proofs.Common.{◌≡◌, ℕ, ◌+◌, Bool, true, false, ◌==◌, length, List, [], take, drop, not, nat_lt, is_none, option_map, Option, Some, None, refl, sym, ap, subst, subst₂, ◌∙◌, inl, inr}
 use Rattle.std.proofs.lemmas.Bool.{cases_Bool, both_ways, or_cases, eqb-true, eq-eqb, cond-true, cond-false, cond_both}
-use Rattle.std.proofs.lemmas.List.{append-nil, take-append-drop}
 use Rattle.std.proofs.lemmas.Option.{same_Some, none-some}
 use Rattle.vk_base.specs.declared.answer.Answer.{Answer}
 use Rattle.vk_base.specs.declared.answer.Answer.TheVariants as answers
@@ -37,6 +36,7 @@ use Rattle.v_laws.proofs.Options.{of_either, mapped_is, some_not_none}
 use Rattle.v_laws.proofs.States.{ready_sends_none, ended_sends_none}
 use Rattle.v_laws.proofs.StepLemmas.{IsFit, fit_is, four_tests, taking_is, finishing_is, failing_is, copying_is, ending_is, asking_is, finding_is, collecting_is}
 use Rattle.v_laws.proofs.Tables.{same_pid_is, put_process_at, put_process_other, put_exchange_here}
+use Rattle.v_laws.proofs.SoundMoves.{with_no_bytes}
 
 -- the call that a process is in, or that is over and was not collected
 abbrev pub call_in : State → Option Call
@@ -188,13 +188,9 @@ near_on k s l pid partner number q after sound holds near at state sends =
     MemoryOn.nearby h.exchange (ap (λ c. k.exchanges (name_of partner c)) last ∙ h.is) local sends (ap is_of_move blocked)
     (ap is_of_move (state ∙ blocked))
 
-nothing_written : (memory : List ℕ) (dest : ℕ) → with_bytes memory dest [] ≡ memory
-nothing_written memory dest = ap (λ bytes. bytes ++ drop (dest + 0) memory) (append-nil (take dest memory))
-    ∙ ap (λ d. take dest memory ++ drop d memory) (add-zero dest) ∙ take-append-drop dest memory
-
 nothing_on : (k : Kernel) (s : Step) (l : Kernel) (into : Pid) (q : Process) (dest : ℕ) (bytes : List ℕ) → bytes ≡ [] →
     MemoryOn k s l into q (record q { memory = with_bytes q.memory dest bytes })
-nothing_on k s l into q dest bytes none = MemoryOn.rests (ap (with_bytes q.memory dest) none ∙ nothing_written q.memory dest) refl refl
+nothing_on k s l into q dest bytes none = MemoryOn.rests (ap (with_bytes q.memory dest) none ∙ with_no_bytes q.memory dest) refl refl
     (λ x e. (e, refl))
 
 at_once_memory : (k : Kernel) (s : Step) (pid : Pid) (c : Call) (into : Pid) (dest : ℕ) (bytes : List ℕ) (e : Effect) →

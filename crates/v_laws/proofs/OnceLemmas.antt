@@ -28,7 +28,8 @@ use Rattle.v_laws.proofs.Tables.{same_name_self, put_exchange_here}
 use Rattle.v_laws.proofs.Options.{mapped_is}
 
 -- Exchanges go on from place to place.
-pub go_on : (specs : List ProcessSpec) (ss : List Step) (i j : ℕ) (k l : Kernel) → i ≤ j → before specs ss i ≡ Some k → before specs ss j ≡ Some l → ExchangesGoOn k l
+pub go_on : (specs : List ProcessSpec) (ss : List Step) (i j : ℕ) (k l : Kernel) → i ≤ j → before specs ss i ≡ Some k →
+    before specs ss j ≡ Some l → ExchangesGoOn k l
 go_on specs ss = onward specs ss ExchangesGoOn (λ k n x at. (x, at, later_self x))
     (λ k l s e so_far sound does n x at.
     let y = so_far n x at in
@@ -36,16 +37,21 @@ go_on specs ss = onward specs ss ExchangesGoOn (λ k n x at. (x, at, later_self 
     (z.0, z.1, later_on x y.0 z.0 y.2 (becomes_later l s n y.0 z.0 z.2)))
 
 -- so an exchange is never less far at a later place
-pub never_back : (specs : List ProcessSpec) (ss : List Step) (i j : ℕ) (k l : Kernel) (n : Name) (x y : Exchange) → i ≤ j → before specs ss i ≡ Some k → before specs ss j ≡ Some l → k.exchanges n ≡ Some x → l.exchanges n ≡ Some y → rank x.stage ≤ rank y.stage
+pub never_back : (specs : List ProcessSpec) (ss : List Step) (i j : ℕ) (k l : Kernel) (n : Name) (x y : Exchange) → i ≤ j →
+    before specs ss i ≡ Some k → before specs ss j ≡ Some l → k.exchanges n ≡ Some x → l.exchanges n ≡ Some y → rank x.stage ≤ rank y.stage
 never_back specs ss i j k l n x y up at_i at_j is_x is_y =
     let z = go_on specs ss i j k l up at_i at_j n x is_x in
     subst (λ (w : Exchange). rank x.stage ≤ rank w.stage) (same_Some z.0 y (sym z.1 ∙ is_y)) z.2.rank
 
 -- Arrivals.
-queued_there : (k : Kernel) (name : Name) (e : Exchange) → k.exchanges name ≡ Some e → (with_arrival k name e).exchanges name ≡ Some (record e { stage = stages.Queued })
-queued_there k name e at = after_arrived k name e name e at ∙ ap (λ (x : Exchange). Some x) (cond-true (same_name name name) (record e { stage = stages.Queued }) _ (same_name_self name))
+queued_there : (k : Kernel) (name : Name) (e : Exchange) → k.exchanges name ≡ Some e →
+    (with_arrival k name e).exchanges name ≡ Some (record e { stage = stages.Queued })
+queued_there k name e at = after_arrived k name e name e at
+    ∙ ap (λ (x : Exchange). Some x) (cond-true (same_name name name) (record e { stage = stages.Queued }) _ (same_name_self name))
 
-arrives_again : (specs : List ProcessSpec) (ss : List Step) (r : Run) (i j : ℕ) (sender : Pid) (number : ℕ) → run (initial_kernel specs) ss ≡ Some r → slice_get ss i ≡ Some (steps.Arrive sender number) → slice_get ss j ≡ Some (steps.Arrive sender number) → i < j → ⊥
+arrives_again : (specs : List ProcessSpec) (ss : List Step) (r : Run) (i j : ℕ) (sender : Pid) (number : ℕ) →
+    run (initial_kernel specs) ss ≡ Some r → slice_get ss i ≡ Some (steps.Arrive sender number) →
+    slice_get ss j ≡ Some (steps.Arrive sender number) → i < j → ⊥
 arrives_again specs ss r i j sender number g is_i is_j less =
     let name = name_of sender number in
     let a = step_at specs ss r i (steps.Arrive sender number) g is_i in
@@ -56,11 +62,14 @@ arrives_again specs ss r i j sender number g is_i is_j less =
     let second = arriving_is b.kernel name y.0 y.1 in
     let after = before_after specs ss i a.kernel (steps.Arrive sender number) a.did a.at is_i a.does in
     let there = ap (λ (e : Effect). e.after.exchanges name) (sym (same_Some _ a.did x.2)) ∙ queued_there a.kernel name x.0 first.is in
-    let up = never_back specs ss (suc i) j a.did.after b.kernel name (record x.0 { stage = stages.Queued }) y.0 (omega arith) after b.at there second.is in
+    let up = never_back specs ss (suc i) j a.did.after b.kernel name (record x.0 { stage = stages.Queued }) y.0 (omega arith) after b.at
+    there second.is in
     let low = posted_rank y.0.stage second.posted in
     absurd (omega arith)
 
-pub arrives_once : (specs : List ProcessSpec) (ss : List Step) (r : Run) (i j : ℕ) (sender : Pid) (number : ℕ) → run (initial_kernel specs) ss ≡ Some r → slice_get ss i ≡ Some (steps.Arrive sender number) → slice_get ss j ≡ Some (steps.Arrive sender number) → i ≡ j
+pub arrives_once : (specs : List ProcessSpec) (ss : List Step) (r : Run) (i j : ℕ) (sender : Pid) (number : ℕ) →
+    run (initial_kernel specs) ss ≡ Some r → slice_get ss i ≡ Some (steps.Arrive sender number) →
+    slice_get ss j ≡ Some (steps.Arrive sender number) → i ≡ j
 arrives_once specs ss r i j sender number g is_i is_j = elim (cases_order i j) [
   | inl same ↦ same
   | inr other ↦ elim other [
@@ -79,7 +88,8 @@ pub record IsTakenAt (specs : List ProcessSpec) (ss : List Step) (i : ℕ) (n : 
   pub takes : taking kernel receiver ≡ Some take
   pub name : take.name ≡ n
 
-taken_by_is : (k : Kernel) (s : Step) (n : Name) → taken_by k s ≡ Some n → (r : Pid) × (t : Taking) × (s ≡ steps.Take r) × (taking k r ≡ Some t) × (t.name ≡ n)
+taken_by_is : (k : Kernel) (s : Step) (n : Name) → taken_by k s ≡ Some n →
+    (r : Pid) × (t : Taking) × (s ≡ steps.Take r) × (taking k r ≡ Some t) × (t.name ≡ n)
 taken_by_is k (steps.Take r) n e = let t = mapped_is (λ (t : Taking). t.name) (taking k r) n e in (r, t.0, refl, t.1, t.2)
 taken_by_is k s n e = absurd (none-some n e)
 
@@ -110,21 +120,25 @@ taken_over specs ss i n t =
       queued = ap t.kernel.exchanges (sym t.name) ∙ is.exchange;
       low = queued_rank t.take.exchange.stage (taken_was_queued t.kernel t.receiver t.take t.takes).1;
       after = after;
-      at = before_after specs ss i t.kernel (steps.Take t.receiver) (unseen after) t.at t.is (ap (λ o. o >>= λ x. Some (unseen (taken t.kernel t.receiver x))) t.takes);
+      at = before_after specs ss i t.kernel (steps.Take t.receiver) (unseen after) t.at t.is
+          (ap (λ o. o >>= λ x. Some (unseen (taken t.kernel t.receiver x))) t.takes);
       there = ap after.exchanges (sym t.name) ∙ taken_there t.kernel t.receiver t.take;
     }
 
-taken_again : (specs : List ProcessSpec) (ss : List Step) (i j : ℕ) (n : Name) → taken_at specs ss i ≡ Some n → taken_at specs ss j ≡ Some n → i < j → ⊥
+taken_again : (specs : List ProcessSpec) (ss : List Step) (i j : ℕ) (n : Name) → taken_at specs ss i ≡ Some n →
+    taken_at specs ss j ≡ Some n → i < j → ⊥
 taken_again specs ss i j n e f less =
     let a = taken_at_is specs ss i n e in
     let b = taken_at_is specs ss j n f in
     let x = taken_over specs ss i n a in
     let y = taken_over specs ss j n b in
-    let up = never_back specs ss (suc i) j x.after b.kernel n (record a.take.exchange { stage = stages.Taken }) b.take.exchange (omega arith) x.at b.at x.there y.queued in
+    let up = never_back specs ss (suc i) j x.after b.kernel n (record a.take.exchange { stage = stages.Taken }) b.take.exchange
+    (omega arith) x.at b.at x.there y.queued in
     let low = y.low in
     absurd (omega arith)
 
-pub taken_once : (specs : List ProcessSpec) (ss : List Step) (i j : ℕ) (n : Name) → taken_at specs ss i ≡ Some n → taken_at specs ss j ≡ Some n → i ≡ j
+pub taken_once : (specs : List ProcessSpec) (ss : List Step) (i j : ℕ) (n : Name) → taken_at specs ss i ≡ Some n →
+    taken_at specs ss j ≡ Some n → i ≡ j
 taken_once specs ss i j n e f = elim (cases_order i j) [
   | inl same ↦ same
   | inr other ↦ elim other [
@@ -134,21 +148,29 @@ taken_once specs ss i j n e f = elim (cases_order i j) [
 ]
 
 -- each Take takes an exchange
-pub takes_one : (specs : List ProcessSpec) (ss : List Step) (r : Run) (i : ℕ) (pid : Pid) → run (initial_kernel specs) ss ≡ Some r → slice_get ss i ≡ Some (steps.Take pid) → IsSome (taken_at specs ss i)
+pub takes_one : (specs : List ProcessSpec) (ss : List Step) (r : Run) (i : ℕ) (pid : Pid) → run (initial_kernel specs) ss ≡ Some r →
+    slice_get ss i ≡ Some (steps.Take pid) → IsSome (taken_at specs ss i)
 takes_one specs ss r i pid g is =
     let a = step_at specs ss r i (steps.Take pid) g is in
     let t = bind_is (taking a.kernel pid) _ a.did a.does in
-    ap is_some (at_place taken_by specs ss i a.kernel (steps.Take pid) a.at is) ∙ ap (λ o. is_some (option_map (λ (t : Taking). t.name) o)) t.1
+    ap is_some (at_place taken_by specs ss i a.kernel (steps.Take pid) a.at is)
+    ∙ ap (λ o. is_some (option_map (λ (t : Taking). t.name) o)) t.1
 
 -- One at a station.
-settled_apart : (k : Kernel) (sender : Pid) (m n : ℕ) (x y : Exchange) → IsSound k → k.exchanges (name_of sender m) ≡ Some x → k.exchanges (name_of sender n) ≡ Some y → is_at_target x.stage ≡ true → is_at_target y.stage ≡ true → same_host x.target y.target ≡ true → m < n → ⊥
-settled_apart k sender m n x y sound at_x at_y live_x live_y near less = both_ways (is_settled x.stage) (at_target_not_settled x.stage live_x) (sound.settled sender m n x y at_x at_y less near refl (at_target_not_posted y.stage live_y))
+settled_apart : (k : Kernel) (sender : Pid) (m n : ℕ) (x y : Exchange) → IsSound k → k.exchanges (name_of sender m) ≡ Some x →
+    k.exchanges (name_of sender n) ≡ Some y → is_at_target x.stage ≡ true → is_at_target y.stage ≡ true →
+    same_host x.target y.target ≡ true → m < n → ⊥
+settled_apart k sender m n x y sound at_x at_y live_x live_y near less = both_ways (is_settled x.stage)
+    (at_target_not_settled x.stage live_x) (sound.settled sender m n x y at_x at_y less near refl (at_target_not_posted y.stage live_y))
 
-pub one_open : (k : Kernel) (sender : Pid) (m n : ℕ) (x y : Exchange) → IsReached k → k.exchanges (name_of sender m) ≡ Some x → k.exchanges (name_of sender n) ≡ Some y → is_at_target x.stage ≡ true → is_at_target y.stage ≡ true → same_host x.target y.target ≡ true → m ≡ n
+pub one_open : (k : Kernel) (sender : Pid) (m n : ℕ) (x y : Exchange) → IsReached k → k.exchanges (name_of sender m) ≡ Some x →
+    k.exchanges (name_of sender n) ≡ Some y → is_at_target x.stage ≡ true → is_at_target y.stage ≡ true →
+    same_host x.target y.target ≡ true → m ≡ n
 one_open k sender m n x y reached at_x at_y live_x live_y near = elim (cases_order m n) [
   | inl same ↦ same
   | inr other ↦ elim other [
     | inl less ↦ absurd (settled_apart k sender m n x y (reached_sound k reached) at_x at_y live_x live_y near less)
-    | inr more ↦ absurd (settled_apart k sender n m y x (reached_sound k reached) at_y at_x live_y live_x (eq-eqb y.target.host x.target.host (sym (eqb-true x.target.host y.target.host near))) more)
+    | inr more ↦ absurd (settled_apart k sender n m y x (reached_sound k reached) at_y at_x live_y live_x
+        (eq-eqb y.target.host x.target.host (sym (eqb-true x.target.host y.target.host near))) more)
   ]
 ]

@@ -15,12 +15,14 @@ use Rattle.v_laws.proofs.Options.{some_that_holds}
 use Rattle.v_laws.proofs.Tables.{same_pid_is, same_pid_self}
 
 -- the greatest number that is held
-greatest : (exchanges : Name → Option Exchange) (r sender : Pid) (n bound : ℕ) → 0 < n → n ≤ bound → holds_at exchanges r sender n ≡ true → ((m : ℕ) → n < m → m ≤ bound → holds_at exchanges r sender m ≡ false) → held_up_to exchanges r sender bound ≡ Some n
+greatest : (exchanges : Name → Option Exchange) (r sender : Pid) (n bound : ℕ) → 0 < n → n ≤ bound → holds_at exchanges r sender n ≡ true →
+    ((m : ℕ) → n < m → m ≤ bound → holds_at exchanges r sender m ≡ false) → held_up_to exchanges r sender bound ≡ Some n
 unfolding held_up_to
 greatest exchanges r sender n zero low high held above = absurd (omega arith)
 greatest exchanges r sender n (suc bound) low high held above = elim (cases_lt n (suc bound)) [
   | inl less ↦
-      cond-false (holds_at exchanges r sender (suc bound)) (Some (suc bound)) (held_up_to exchanges r sender bound) (above (suc bound) less (omega arith))
+      cond-false (holds_at exchanges r sender (suc bound)) (Some (suc bound)) (held_up_to exchanges r sender bound)
+      (above (suc bound) less (omega arith))
       ∙ greatest exchanges r sender n bound low (omega arith) held (λ m more within. above m more (omega arith))
   | inr same ↦ let e : n ≡ suc bound = omega arith in
       ap (held_up_to exchanges r sender) (sym e) ∙ held_here exchanges r sender n low held
@@ -45,7 +47,8 @@ same_target a b r t e =
     let same = same_pid_is a r t in
     eq-eqb b.host a.host (ap (λ (p : Pid). p.host) (e ∙ sym same))
 
-pub held_this : (k : Kernel) (n : Name) (x : Exchange) → IsSound k → k.exchanges n ≡ Some x → is_taken x.stage ≡ true → held k x.target n.sender ≡ Some n.number
+pub held_this : (k : Kernel) (n : Name) (x : Exchange) → IsSound k → k.exchanges n ≡ Some x → is_taken x.stage ≡ true →
+    held k x.target n.sender ≡ Some n.number
 unfolding held
 held_this k n x sound at taken =
     let b = sound.begun n x at in
@@ -56,4 +59,5 @@ held_this k n x sound at taken =
     let y = some_that_holds (is_held_by x.target) (k.exchanges (name_of n.sender m)) t in
     let parts = and_parts (same_pid y.0.target x.target) (is_taken y.0.stage) y.2 in
     both_ways (is_settled x.stage) (taken_not_settled x.stage taken)
-    (sound.settled n.sender n.number m x y.0 at y.1 more (same_target y.0.target x.target x.target parts.0 refl) refl (taken_not_posted y.0.stage parts.1))))
+    (sound.settled n.sender n.number m x y.0 at y.1 more (same_target y.0.target x.target x.target parts.0 refl) refl
+    (taken_not_posted y.0.stage parts.1))))

@@ -43,7 +43,8 @@ sound_initial specs = record {
   came = λ n e is live. absurd (none-some e is);
   settled = λ sender m n x y at_x at_y less near seen gone. absurd (none-some x at_x);
   resting = λ pid p at dead. ap is_ready (initial_ready (find (is_process pid) specs) p at);
-  sent = λ pid p target m at sends. absurd (none-some (target, m) (ap sending (sym (initial_ready (find (is_process pid) specs) p at)) ∙ sends));
+  sent = λ pid p target m at sends.
+      absurd (none-some (target, m) (ap sending (sym (initial_ready (find (is_process pid) specs) p at)) ∙ sends));
   registered = λ host. All-nil (IsRegistered (initial_kernel specs) host);
   distinct = λ host. tt;
 }
@@ -57,23 +58,34 @@ step_is k (steps.Arrive sender number) e sound g =
     let x = bind_is (arriving k (name_of sender number)) _ e g in
     IsStep.arrives (name_of sender number) x.0 refl x.1 (ap (λ (y : Effect). y.after) (sym (same_Some _ e x.2)))
 step_is k (steps.Take r) e sound g = let t = bind_is (taking k r) _ e g in as_effect (steps.Take r) k _ e t.2 (goes_taken k r t.0 sound t.1)
-step_is k (steps.Finish s) e sound g = let f = bind_is (finishing k s) _ e g in as_effect (steps.Finish s) k _ e f.2 (goes_finished k s f.0 sound f.1)
-step_is k (steps.Fail s why) e sound g = let f = bind_is (failing k s why) _ e g in as_effect (steps.Fail s why) k _ e f.2 (goes_failed k s why f.0 sound f.1)
+step_is k (steps.Finish s) e sound g = let f = bind_is (finishing k s) _ e g in
+    as_effect (steps.Finish s) k _ e f.2 (goes_finished k s f.0 sound f.1)
+step_is k (steps.Fail s why) e sound g = let f = bind_is (failing k s why) _ e g in
+    as_effect (steps.Fail s why) k _ e f.2 (goes_failed k s why f.0 sound f.1)
 step_is k (steps.OpenMove sender number moving) e sound g =
     let o = bind_is (opening_move k (name_of sender number) moving) _ e g in
-    as_effect (steps.OpenMove sender number moving) k _ e o.2 (goes_opened (steps.OpenMove sender number moving) k (name_of sender number) moving o.0 sound o.1)
+    as_effect (steps.OpenMove sender number moving) k _ e o.2
+    (goes_opened (steps.OpenMove sender number moving) k (name_of sender number) moving o.0 sound o.1)
 step_is k (steps.Copy sender number moving offset count) e sound g =
     let c = bind_is (copying k (name_of sender number) moving offset count) _ e g in
-    as_effect (steps.Copy sender number moving offset count) k _ e c.2 (goes_copied (steps.Copy sender number moving offset count) k (name_of sender number) moving offset count c.0 sound c.1)
-step_is k (steps.End r why) e sound g = let x = bind_is (ending k r why) _ e g in as_effect (steps.End r why) k _ e x.2 (goes_ended (steps.End r why) k r why x.0 sound x.1)
-step_is k (steps.Hear asker number pid) e sound g = let l = bind_is (hearing k asker number pid) _ e g in as_effect (steps.Hear asker number pid) k _ e l.2 (goes_heard (steps.Hear asker number pid) k _ sound)
-step_is k (steps.Found asker pid) e sound g = let p = bind_is (finding k asker pid) _ e g in as_effect (steps.Found asker pid) k _ e p.2 (goes_told (steps.Found asker pid) k asker p.0 _ sound (finding_is k asker pid p.0 p.1).asks)
-step_is k (steps.Lost asker) e sound g = let p = bind_is (asking k asker) _ e g in as_effect (steps.Lost asker) k _ e p.2 (goes_told (steps.Lost asker) k asker p.0 _ sound (asking_is k asker p.0 p.1))
-step_is k (steps.Collect pid) e sound g = let d = bind_is (collecting k pid) _ e g in as_effect (steps.Collect pid) k _ e d.2 (goes_collected k pid d.0 sound d.1)
+    as_effect (steps.Copy sender number moving offset count) k _ e c.2
+    (goes_copied (steps.Copy sender number moving offset count) k (name_of sender number) moving offset count c.0 sound c.1)
+step_is k (steps.End r why) e sound g = let x = bind_is (ending k r why) _ e g in
+    as_effect (steps.End r why) k _ e x.2 (goes_ended (steps.End r why) k r why x.0 sound x.1)
+step_is k (steps.Hear asker number pid) e sound g = let l = bind_is (hearing k asker number pid) _ e g in
+    as_effect (steps.Hear asker number pid) k _ e l.2 (goes_heard (steps.Hear asker number pid) k _ sound)
+step_is k (steps.Found asker pid) e sound g = let p = bind_is (finding k asker pid) _ e g in
+    as_effect (steps.Found asker pid) k _ e p.2
+    (goes_told (steps.Found asker pid) k asker p.0 _ sound (finding_is k asker pid p.0 p.1).asks)
+step_is k (steps.Lost asker) e sound g = let p = bind_is (asking k asker) _ e g in
+    as_effect (steps.Lost asker) k _ e p.2 (goes_told (steps.Lost asker) k asker p.0 _ sound (asking_is k asker p.0 p.1))
+step_is k (steps.Collect pid) e sound g = let d = bind_is (collecting k pid) _ e g in
+    as_effect (steps.Collect pid) k _ e d.2 (goes_collected k pid d.0 sound d.1)
 
 sound_after : {sees : ℕ → Bool} (s : Step) (k l : Kernel) → IsSoundAt sees k → IsStep s k l → IsSoundAt sees l
 sound_after {sees} s k l sound (IsStep.goes on) = sound_onward s k l sound on
-sound_after {sees} s k l sound (IsStep.sends pid p target m is at fit after) = subst (IsSoundAt sees) (sym after) (sound_sent k pid p target m sound at fit.alive fit.ready)
+sound_after {sees} s k l sound (IsStep.sends pid p target m is at fit after) =
+    subst (IsSoundAt sees) (sym after) (sound_sent k pid p target m sound at fit.alive fit.ready)
 sound_after {sees} s k l sound (IsStep.arrives name e is g after) = subst (IsSoundAt sees) (sym after) (sound_arrived k name e sound g)
 
 pub sound_step : {sees : ℕ → Bool} (k : Kernel) (s : Step) (e : Effect) → IsSoundAt sees k → effect k s ≡ Some e → IsSoundAt sees e.after

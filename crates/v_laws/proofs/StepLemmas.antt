@@ -18,6 +18,8 @@ use Rattle.vk_base.specs.declared.kernel.Process.{Process}
 use Rattle.vk_base.specs.declared.message.Message.{Message}
 use Rattle.vk_base.specs.declared.pid.Pid.{Pid}
 use Rattle.vk_base.proofs.OptionLemmas.{bind_is}
+use Rattle.vk_base.specs.declared.step.Step.{Step}
+use Rattle.vk_base.specs.declared.step.Step.TheVariants as steps
 use Rattle.vk_base.specs.Calls.{call_refusal, tests_of, first_that_holds}
 use Rattle.vk_base.specs.Kernel.{◌>>=◌, Kernel, name_of, queue_of, receiving, sending, finished_call, reply_of, holds_of, is_live, is_ready, is_moving, is_asking, is_posted, is_told, move_of, waiting_on}
 use Rattle.vk_base.specs.Pids.{same_pid, same_host}
@@ -67,7 +69,8 @@ collecting_is k pid d e =
     subst (IsCollecting k pid) (same_Some _ d c.2) (record { process = p.1; done = c.1 })
 
 -- where no refusal holds
-none_hold : (a b : Bool) (x y : Refusal) (ts : List (Bool × Refusal)) → first_that_holds ((not a, x) ∷ (not b, y) ∷ ts) ≡ None → (a ≡ true) × (b ≡ true) × (first_that_holds ts ≡ None)
+none_hold : (a b : Bool) (x y : Refusal) (ts : List (Bool × Refusal)) → first_that_holds ((not a, x) ∷ (not b, y) ∷ ts) ≡ None →
+    (a ≡ true) × (b ≡ true) × (first_that_holds ts ≡ None)
 none_hold false b x y ts e = absurd (none-some x (sym e))
 none_hold true false x y ts e = absurd (none-some y (sym e))
 none_hold true true x y ts e = (refl, refl, e)
@@ -132,7 +135,8 @@ failing_is k s why f g =
     let m = bind_is (sending p.0.state) _ e.0 e.1 in
     let r = bind_is (only_if (not (same_host s e.0.target)) (failure k e.0 why)) _ f e.2 in
     let test = only_if_is (not (same_host s e.0.target)) (failure k e.0 why) r.0 r.1 in
-    subst (IsFailing k s) (same_Some _ f r.2) (record { process = p.1; send = m.0; sends = m.1; exchange = e.0; at = m.2; remote = not-true (same_host s e.0.target) test.0 })
+    subst (IsFailing k s) (same_Some _ f r.2)
+    (record { process = p.1; send = m.0; sends = m.1; exchange = e.0; at = m.2; remote = not-true (same_host s e.0.target) test.0 })
 
 pub record IsOpening (k : Kernel) (n : Name) (number : ℕ) (o : Opening) : Type 0 where
   pub waits : waiting_on k n ≡ Some o.sender
@@ -160,7 +164,8 @@ pub record IsCopying (k : Kernel) (n : Name) (number offset count : ℕ) (c : Co
 abbrev IsBusy : Kernel → Pid × Process → Type 0
 IsBusy k w = (k.procs w.0 ≡ Some w.1) × (is_ready w.1.state ≡ false)
 
-written_is : (k : Kernel) (n : Name) (number : ℕ) (mover : Pid) (d : Direction) (w : Pid × Process) → written_process k n number mover d ≡ Some w → IsBusy k w
+written_is : (k : Kernel) (n : Name) (number : ℕ) (mover : Pid) (d : Direction) (w : Pid × Process) →
+    written_process k n number mover d ≡ Some w → IsBusy k w
 written_is k n number mover directions.To w g =
     let p = bind_is (waiting_on k n) _ w g in
     let waits = waiting_is k n p.0 p.1 in
@@ -171,7 +176,8 @@ written_is k n number mover directions.From w g =
     let moves = (and_parts (is_moving p.0.state) (holds_of (λ m. same_move m n number) p.0.moving) test.0).0 in
     subst (IsBusy k) (same_Some _ w test.1) (p.1, moving_not_ready p.0.state moves)
 
-pub copying_is : (k : Kernel) (n : Name) (number offset count : ℕ) (c : Copying) → copying k n number offset count ≡ Some c → IsCopying k n number offset count c
+pub copying_is : (k : Kernel) (n : Name) (number offset count : ℕ) (c : Copying) → copying k n number offset count ≡ Some c →
+    IsCopying k n number offset count c
 unfolding copying
 copying_is k n number offset count c g =
     let e = bind_is (k.exchanges n) _ c g in
@@ -179,7 +185,14 @@ copying_is k n number offset count c g =
     let w = bind_is (only_if (is_next e.0 number m.0 offset count) (written_process k n number m.0.mover m.0.direction)) _ c m.2 in
     let test = only_if_is (is_next e.0 number m.0 offset count) (written_process k n number m.0.mover m.0.direction) w.0 w.1 in
     subst (IsCopying k n number offset count) (same_Some _ c w.2)
-    (record { exchange = e.1; move = m.1; next = test.0; written = test.1; process = (written_is k n number m.0.mover m.0.direction w.0 test.1).0; busy = (written_is k n number m.0.mover m.0.direction w.0 test.1).1 })
+    (record {
+      exchange = e.1;
+      move = m.1;
+      next = test.0;
+      written = test.1;
+      process = (written_is k n number m.0.mover m.0.direction w.0 test.1).0;
+      busy = (written_is k n number m.0.mover m.0.direction w.0 test.1).1;
+    })
 
 pub record IsEnding (k : Kernel) (r : Pid) (e : Process × Answer) : Type 0 where
   pub process : k.procs r ≡ Some e.0
@@ -201,13 +214,15 @@ pub record IsHearing (k : Kernel) (asker : Pid) (number : ℕ) (pid : Pid) (l : 
   pub remote : same_host asker pid ≡ false
   pub told : is_told (k.names pid.host) l.logical pid ≡ true
 
-pub hearing_is : (k : Kernel) (asker : Pid) (number : ℕ) (pid : Pid) (l : Lookup) → hearing k asker number pid ≡ Some l → IsHearing k asker number pid l
+pub hearing_is : (k : Kernel) (asker : Pid) (number : ℕ) (pid : Pid) (l : Lookup) → hearing k asker number pid ≡ Some l →
+    IsHearing k asker number pid l
 unfolding hearing
 hearing_is k asker number pid l g =
     let x = bind_is (k.lookups asker number) _ l g in
     let test = only_if_is (not (same_host asker pid) && is_told (k.names pid.host) x.0.logical pid) (Some x.0) l x.2 in
     let parts = and_parts (not (same_host asker pid)) (is_told (k.names pid.host) x.0.logical pid) test.0 in
-    subst (IsHearing k asker number pid) (same_Some x.0 l test.1) (record { lookup = x.1; remote = not-true (same_host asker pid) parts.0; told = parts.1 })
+    subst (IsHearing k asker number pid) (same_Some x.0 l test.1)
+    (record { lookup = x.1; remote = not-true (same_host asker pid) parts.0; told = parts.1 })
 
 pub record IsAsking (k : Kernel) (asker : Pid) (p : Process) : Type 0 where
   pub process : k.procs asker ≡ Some p
@@ -231,15 +246,18 @@ finding_is k asker pid p g =
     let q = bind_is (asking k asker) _ p g in
     let l = bind_is (k.lookups asker q.0.lookups) _ p q.2 in
     let test = only_if_is (list_any (same_pid pid) l.0.candidates) (Some q.0) p l.2 in
-    subst (IsFinding k asker pid) (same_Some q.0 p test.1) (record { asks = asking_is k asker q.0 q.1; lookup = l.0; at = l.1; told = test.0 })
+    subst (IsFinding k asker pid) (same_Some q.0 p test.1)
+    (record { asks = asking_is k asker q.0 q.1; lookup = l.0; at = l.1; told = test.0 })
 
 -- the first test of a call that is not refused does not hold
-pub passes_first : (t : Bool) (why : Refusal) (ts : List (Bool × Refusal)) → first_that_holds ((t, why) ∷ ts) ≡ None → (t ≡ false) × (first_that_holds ts ≡ None)
+pub passes_first : (t : Bool) (why : Refusal) (ts : List (Bool × Refusal)) → first_that_holds ((t, why) ∷ ts) ≡ None →
+    (t ≡ false) × (first_that_holds ts ≡ None)
 passes_first true why ts e = absurd (none-some why (sym e))
 passes_first false why ts e = (refl, e)
 
 -- what no refusal of a reply or a move says: the sender is held, and the ranges are granted and the caller's own
-pub four_tests : (a b c g o : Bool) (u v w x : Refusal) → first_that_holds ((a, u) ∷ (b, v) ∷ (c, w) ∷ (not (g && o), x) ∷ []) ≡ None → (b ≡ false) × (g ≡ true) × (o ≡ true)
+pub four_tests : (a b c g o : Bool) (u v w x : Refusal) → first_that_holds ((a, u) ∷ (b, v) ∷ (c, w) ∷ (not (g && o), x) ∷ []) ≡ None →
+    (b ≡ false) × (g ≡ true) × (o ≡ true)
 four_tests a b c g o u v w x e =
     let first = passes_first a u ((b, v) ∷ (c, w) ∷ (not (g && o), x) ∷ []) e in
     let second = passes_first b v ((c, w) ∷ (not (g && o), x) ∷ []) first.1 in
@@ -247,3 +265,8 @@ four_tests a b c g o u v w x e =
     let last = passes_first (not (g && o)) x [] third.1 in
     let parts = and_parts g o (not-false (g && o) last.0) in
     (second.0, parts.0, parts.1)
+
+-- a step that is no call
+abbrev pub IsNoCall : Step → Type 0
+IsNoCall (steps.Call pid c) = ⊥
+IsNoCall s = Unit {0}

@@ -25,19 +25,24 @@ module _ (s t : Store) (before after : ℕ) (step : Step) (kept : IsKept s) (low
   same : Stays s t → after ≡ before → tables_in t after ≡ tables_in s before
   same stays count = stays.tables after ∙ ap (tables_in s) count
 
-  pub applied : (r : Result (Option Observation) ApplyRefusal) → Answers (effect (kernel_in s) step) (notes (kernel_in s) step) (most - before) s t r → Counts (notes (kernel_in s) step) before after r → Applied step (tables_in s before) (tables_in t after) r
+  pub applied : (r : Result (Option Observation) ApplyRefusal) →
+      Answers (effect (kernel_in s) step) (notes (kernel_in s) step) (most - before) s t r →
+      Counts (notes (kernel_in s) step) before after r → Applied step (tables_in s before) (tables_in t after) r
   applied (Ok seen) answers counts = (answers.0.effect, counts, (let room = answers.1 in omega arith))
   applied (Err refused.NotAllowed) answers counts = (answers.0, same answers.1 counts)
   applied (Err refused.Limit) answers counts = (answers.0, (let room = answers.1 in omega arith), same answers.2 counts)
   applied (Err refused.NoMemory) answers counts = (answers.0, (let room = answers.1 in omega arith), same answers.2 counts)
 
-  pub kept_after : (r : Result (Option Observation) ApplyRefusal) → Answers (effect (kernel_in s) step) (notes (kernel_in s) step) (most - before) s t r → Counts (notes (kernel_in s) step) before after r → IsKept t × (after ≤ most)
+  pub kept_after : (r : Result (Option Observation) ApplyRefusal) →
+      Answers (effect (kernel_in s) step) (notes (kernel_in s) step) (most - before) s t r →
+      Counts (notes (kernel_in s) step) before after r → IsKept t × (after ≤ most)
   kept_after (Ok seen) answers counts = (kept_goes seen answers.0, (let room = answers.1 in omega arith))
   kept_after (Err refused.NotAllowed) answers counts = (kept_stays s t answers.1 kept, omega arith)
   kept_after (Err refused.Limit) answers counts = (kept_stays s t answers.2 kept, omega arith)
   kept_after (Err refused.NoMemory) answers counts = (kept_stays s t answers.2 kept, omega arith)
 
-pub counts_quiet : (noted before after : ℕ) (r : Result (Unit {0}) ApplyRefusal) → Counts noted before after r → Counts noted before after (quiet r)
+pub counts_quiet : (noted before after : ℕ) (r : Result (Unit {0}) ApplyRefusal) → Counts noted before after r →
+    Counts noted before after (quiet r)
 counts_quiet noted before after (Ok u) counts = counts
 counts_quiet noted before after (Err why) counts = counts
 

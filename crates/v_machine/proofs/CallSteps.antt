@@ -29,12 +29,15 @@ none_if (Some x) never = absurd (never x refl)
 abbrev pub caller : Process → Option Refusal
 caller p = first_that_holds ((not p.alive, refusals.Dead) ∷ (not (is_ready p.state), refusals.Busy) ∷ [])
 
-passes : (a b : Bool) (ts : List (Bool × Refusal)) → first_that_holds ((not a, refusals.Dead) ∷ (not b, refusals.Busy) ∷ []) ≡ None → (b ≡ true) × (first_that_holds ((not a, refusals.Dead) ∷ (not b, refusals.Busy) ∷ ts) ≡ first_that_holds ts)
+passes : (a b : Bool) (ts : List (Bool × Refusal)) → first_that_holds ((not a, refusals.Dead) ∷ (not b, refusals.Busy) ∷ []) ≡ None →
+    (b ≡ true) × (first_that_holds ((not a, refusals.Dead) ∷ (not b, refusals.Busy) ∷ ts) ≡ first_that_holds ts)
 passes true true ts none = (refl, refl)
 passes true false ts none = absurd (none-some refusals.Busy (sym none))
 passes false b ts none = absurd (none-some refusals.Dead (sym none))
 
-refuses : (a b : Bool) (ts : List (Bool × Refusal)) (why : Refusal) → first_that_holds ((not a, refusals.Dead) ∷ (not b, refusals.Busy) ∷ []) ≡ Some why → first_that_holds ((not a, refusals.Dead) ∷ (not b, refusals.Busy) ∷ ts) ≡ Some why
+refuses : (a b : Bool) (ts : List (Bool × Refusal)) (why : Refusal) →
+    first_that_holds ((not a, refusals.Dead) ∷ (not b, refusals.Busy) ∷ []) ≡ Some why →
+    first_that_holds ((not a, refusals.Dead) ∷ (not b, refusals.Busy) ∷ ts) ≡ Some why
 refuses true true ts why some = absurd (none-some why some)
 refuses true false ts why some = some
 refuses false b ts why some = some
@@ -54,7 +57,8 @@ nothing_seen (calls.Store start bytes) e seen is = refl
 nothing_seen calls.Exit e seen is = refl
 
 -- what notes nothing has room
-notes_none : (o : Option Effect) (room : ℕ) (s : Store) (seen : Result (Option Observation) ApplyRefusal) → Answers o 0 0 s s seen → Answers o 0 room s s seen
+notes_none : (o : Option Effect) (room : ℕ) (s : Store) (seen : Result (Option Observation) ApplyRefusal) → Answers o 0 0 s s seen →
+    Answers o 0 room s s seen
 notes_none o room s (Ok seen) answers = (answers.0, omega arith)
 notes_none o room s (Err refused.NotAllowed) answers = answers
 notes_none o room s (Err refused.Limit) answers = let none = answers.1 in absurd (omega arith)
@@ -63,22 +67,30 @@ notes_none o room s (Err refused.NoMemory) answers = (answers.0, omega arith, an
 module _ (s : Store) (pid : Pid) (p : Process) (c : Call) (there : (kernel_in s).procs pid ≡ Some p) where
   pub call_is : caller p ≡ None → call_step (kernel_in s) pid c ≡ judged (kernel_in s) pid p c
   unfolding call_refusal
-  call_is none = found ((kernel_in s).procs pid) p _ _ there (ap (called (kernel_in s) pid p c) (passes p.alive (is_ready p.state) (tests_of (kernel_in s) pid p c) none).1)
+  call_is none = found ((kernel_in s).procs pid) p _ _ there
+      (ap (called (kernel_in s) pid p c) (passes p.alive (is_ready p.state) (tests_of (kernel_in s) pid p c) none).1)
 
-  pub call_refused : (why : Refusal) → caller p ≡ Some why → call_step (kernel_in s) pid c ≡ Some (answered (kernel_in s) pid c (answers.Refused why))
+  pub call_refused : (why : Refusal) → caller p ≡ Some why →
+      call_step (kernel_in s) pid c ≡ Some (answered (kernel_in s) pid c (answers.Refused why))
   unfolding call_refusal
-  call_refused why some = found ((kernel_in s).procs pid) p _ _ there (ap (called (kernel_in s) pid p c) (refuses p.alive (is_ready p.state) (tests_of (kernel_in s) pid p c) why some))
+  call_refused why some = found ((kernel_in s).procs pid) p _ _ there
+      (ap (called (kernel_in s) pid p c) (refuses p.alive (is_ready p.state) (tests_of (kernel_in s) pid p c) why some))
 
   pub refused_notes : (why : Refusal) → caller p ≡ Some why → noted_by_call c (call_step (kernel_in s) pid c) ≡ 0
-  refused_notes why some = ap (noted_by_call c) (call_refused why some) ∙ nothing_seen c (answered (kernel_in s) pid c (answers.Refused why)) (record { pid = pid; call = c; answer = answers.Refused why }) refl
+  refused_notes why some = ap (noted_by_call c) (call_refused why some)
+      ∙ nothing_seen c (answered (kernel_in s) pid c (answers.Refused why)) (record { pid = pid; call = c; answer = answers.Refused why })
+      refl
 
-  pub refused_goes : (why : Refusal) (seen : Option Observation) → IsIndexed s → caller p ≡ Some why → seen ≡ seen_by pid c (responses.Refused why) → Goes (call_step (kernel_in s) pid c) seen s
+  pub refused_goes : (why : Refusal) (seen : Option Observation) → IsIndexed s → caller p ≡ Some why →
+      seen ≡ seen_by pid c (responses.Refused why) → Goes (call_step (kernel_in s) pid c) seen s
   refused_goes why seen indexed some is = record {
     effect = call_refused why some ∙ ap (λ o. Some (record { after = kernel_in s; seen = o })) (sym is);
     indexed = indexed;
   }
 
-  pub accepted_goes : (t : Store) (room : ℕ) (r : Result Response ApplyRefusal) (seen : Result (Option Observation) ApplyRefusal) → caller p ≡ None → Accepts pid c room s t r → seen ≡ seen_result pid c r → Answers (call_step (kernel_in s) pid c) (noted_by_call c (call_step (kernel_in s) pid c)) room s t seen
+  pub accepted_goes : (t : Store) (room : ℕ) (r : Result Response ApplyRefusal) (seen : Result (Option Observation) ApplyRefusal) →
+      caller p ≡ None → Accepts pid c room s t r → seen ≡ seen_result pid c r →
+      Answers (call_step (kernel_in s) pid c) (noted_by_call c (call_step (kernel_in s) pid c)) room s t seen
   accepted_goes t room r seen none accepts is =
       let ready = (passes p.alive (is_ready p.state) [] none).0 in
       subst (Answers (call_step (kernel_in s) pid c) (noted_by_call c (call_step (kernel_in s) pid c)) room s t) (sym is)
@@ -87,10 +99,17 @@ module _ (s : Store) (pid : Pid) (p : Process) (c : Call) (there : (kernel_in s)
   pub load_notes : (start count : ℕ) → c ≡ calls.Load start count → noted_by_call c (call_step (kernel_in s) pid c) ≡ 0
   load_notes start count is = ap (λ z. noted_by_call z (call_step (kernel_in s) pid c)) is
 
-  pub load_answers : (start count room : ℕ) (seen : Result (Option Observation) ApplyRefusal) → c ≡ calls.Load start count → caller p ≡ None → Answers (judged (kernel_in s) pid p (calls.Load start count)) 0 0 s s seen → Answers (call_step (kernel_in s) pid c) (noted_by_call c (call_step (kernel_in s) pid c)) room s s seen
+  pub load_answers : (start count room : ℕ) (seen : Result (Option Observation) ApplyRefusal) → c ≡ calls.Load start count →
+      caller p ≡ None → Answers (judged (kernel_in s) pid p (calls.Load start count)) 0 0 s s seen →
+      Answers (call_step (kernel_in s) pid c) (noted_by_call c (call_step (kernel_in s) pid c)) room s s seen
   load_answers start count room seen is none answers =
       subst (λ n. Answers (call_step (kernel_in s) pid c) n room s s seen) (sym (load_notes start count is))
-      (subst (λ o. Answers o 0 room s s seen) (sym (call_is none ∙ ap (judged (kernel_in s) pid p) is)) (notes_none (judged (kernel_in s) pid p (calls.Load start count)) room s seen answers))
+      (subst (λ o. Answers o 0 room s s seen) (sym (call_is none ∙ ap (judged (kernel_in s) pid p) is))
+      (notes_none (judged (kernel_in s) pid p (calls.Load start count)) room s seen answers))
 
-  pub accepted_notes : (t : Store) (room noted : ℕ) (v : Response) (seen : Option Observation) → seen ≡ seen_by pid c v → Answers (call_step (kernel_in s) pid c) (noted_by_call c (call_step (kernel_in s) pid c)) room s t (Ok seen) → ((q : Pid) (e : Effect) → e.seen ≡ seen_by q c v → noted ≡ noted_by_call c (Some e)) → noted ≡ noted_by_call c (call_step (kernel_in s) pid c)
-  accepted_notes t room noted v seen is answers notes = notes pid (record { after = kernel_in t; seen = seen }) is ∙ ap (noted_by_call c) (sym answers.0.effect)
+  pub accepted_notes : (t : Store) (room noted : ℕ) (v : Response) (seen : Option Observation) → seen ≡ seen_by pid c v →
+      Answers (call_step (kernel_in s) pid c) (noted_by_call c (call_step (kernel_in s) pid c)) room s t (Ok seen) →
+      ((q : Pid) (e : Effect) → e.seen ≡ seen_by q c v → noted ≡ noted_by_call c (Some e)) →
+      noted ≡ noted_by_call c (call_step (kernel_in s) pid c)
+  accepted_notes t room noted v seen is answers notes = notes pid (record { after = kernel_in t; seen = seen }) is
+      ∙ ap (noted_by_call c) (sym answers.0.effect)

@@ -1,5 +1,5 @@
 -- Lists with one element changed, by its number.
-use Rattle.std.proofs.Common.{◌≡◌, ℕ, zero, suc, List, [], ◌∷◌, slice_set, slice_get, Option, Some, None, refl, sym, ap, ◌∙◌}
+use Rattle.std.proofs.Common.{◌≡◌, ℕ, zero, suc, List, [], ◌∷◌, slice_set, slice_get, Some, None, refl, sym, ap, ◌∙◌}
 use Rattle.std.proofs.lemmas.Option.{same_Some, none-some}
 use Rattle.v_machine.specs.Lists.{change_at, change_numbered}
 use Rattle.v_machine.specs.Places.{numbered, index_of}
@@ -15,7 +15,8 @@ module _ {X : Type 0} (f : X → X) where
   change_at-none (y ∷ xs) zero is = absurd (none-some y is)
   change_at-none (y ∷ xs) (suc at) is = ap (λ ys. y ∷ ys) (change_at-none xs at is)
 
-  pub change_numbered-set : (number : ℕ) (xs : List X) (x v : X) → Some x ≡ numbered xs number → v ≡ f x → slice_set xs (index_of number) v ≡ change_numbered number f xs
+  pub change_numbered-set : (number : ℕ) (xs : List X) (x v : X) → Some x ≡ numbered xs number → v ≡ f x →
+      slice_set xs (index_of number) v ≡ change_numbered number f xs
   change_numbered-set zero xs x v is e = absurd (none-some x (sym is))
   change_numbered-set (suc n) xs x v is e = change_at-set xs n x v is e
 
@@ -28,7 +29,8 @@ set_at-same [] at x v is same = refl
 set_at-same (y ∷ xs) zero x v is same = ap (λ z. z ∷ xs) (same ∙ same_Some x y is)
 set_at-same (y ∷ xs) (suc at) x v is same = ap (λ ys. y ∷ ys) (set_at-same xs at x v is same)
 
-pub set_numbered-same : {X : Type 0} (number : ℕ) (xs : List X) (x v : X) → Some x ≡ numbered xs number → v ≡ x → slice_set xs (index_of number) v ≡ xs
+pub set_numbered-same : {X : Type 0} (number : ℕ) (xs : List X) (x v : X) → Some x ≡ numbered xs number → v ≡ x →
+    slice_set xs (index_of number) v ≡ xs
 set_numbered-same zero xs x v is same = absurd (none-some x (sym is))
 set_numbered-same (suc n) xs x v is same = set_at-same xs n x v is same
 

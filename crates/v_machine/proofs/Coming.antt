@@ -19,18 +19,23 @@ map_same f g (Some x) same = ap Some (same x)
 
 -- outside of the range nothing is dropped
 outside : (low high host n : ℕ) (s : Exchange) → high ≤ n → dropped_between low high host n s ≡ s
-outside low high host n s far = cond-false (nat_le low n && nat_lt n high) (dropped_to host s) s (and_right (nat_le low n) (nat_lt n high) (le-ltb n high far))
+outside low high host n s far =
+    cond-false (nat_le low n && nat_lt n high) (dropped_to host s) s (and_right (nat_le low n) (nat_lt n high) (le-ltb n high far))
 
 inside : (low high host n : ℕ) (s : Exchange) → low ≤ n → n < high → dropped_between low high host n s ≡ dropped_to host s
-inside low high host n s over under = cond-true (nat_le low n && nat_lt n high) (dropped_to host s) s (λ i. le-leb low n over i && lt-ltb n high under i)
+inside low high host n s over under =
+    cond-true (nat_le low n && nat_lt n high) (dropped_to host s) s (λ i. le-leb low n over i && lt-ltb n high under i)
 
-further : (low high host n : ℕ) (s : Exchange) → (n ≡ high → ⊥) → dropped_between low high host n s ≡ dropped_between low (high + 1) host n s
+further : (low high host n : ℕ) (s : Exchange) → (n ≡ high → ⊥) →
+    dropped_between low high host n s ≡ dropped_between low (high + 1) host n s
 further low high host n s apart = ap (λ b. cond (nat_le low n && b) (dropped_to host s) s) (same_test (cases_Bool (nat_lt n high)))
   where
     same_test : (nat_lt n high ≡ true) ⊎ (nat_lt n high ≡ false) → nat_lt n high ≡ nat_lt n (high + 1)
     same_test t = grind (arith, nat_tests)
 
-pub dropped_more : (low at host : ℕ) (old before after : List Exchange) → low ≤ at → after ≡ change_numbered at (dropped_to host) before → ((n : ℕ) → numbered before n ≡ option_map (dropped_between low at host n) (numbered old n)) → (n : ℕ) → numbered after n ≡ option_map (dropped_between low (at + 1) host n) (numbered old n)
+pub dropped_more : (low at host : ℕ) (old before after : List Exchange) → low ≤ at → after ≡ change_numbered at (dropped_to host) before →
+    ((n : ℕ) → numbered before n ≡ option_map (dropped_between low at host n) (numbered old n)) → (n : ℕ) →
+    numbered after n ≡ option_map (dropped_between low (at + 1) host n) (numbered old n)
 dropped_more low at host old before after over changed so_far n = elim (cases_Bool (n == at)) [
   | inl t ↦
       let one : n ≡ at = eqb-true n at t in
@@ -50,7 +55,9 @@ dropped_more low at host old before after over changed so_far n = elim (cases_Bo
       ∙ map_same (dropped_between low at host n) (dropped_between low (at + 1) host n) (numbered old n) (λ s. further low at host n s apart)
 ]
 
-pub come_is : (latest number host : ℕ) (old before after : List Exchange) → after ≡ change_numbered number (at_stage stages.Queued) before → ((n : ℕ) → numbered before n ≡ option_map (dropped_between latest number host n) (numbered old n)) → (n : ℕ) → numbered after n ≡ option_map (come_at latest number host n) (numbered old n)
+pub come_is : (latest number host : ℕ) (old before after : List Exchange) → after ≡ change_numbered number (at_stage stages.Queued) before →
+    ((n : ℕ) → numbered before n ≡ option_map (dropped_between latest number host n) (numbered old n)) → (n : ℕ) →
+    numbered after n ≡ option_map (come_at latest number host n) (numbered old n)
 come_is latest number host old before after changed dropped n = elim (cases_Bool (n == number)) [
   | inl t ↦
       let one : n ≡ number = eqb-true n number t in
@@ -59,18 +66,23 @@ come_is latest number host old before after changed dropped n = elim (cases_Bool
       ∙ numbered-change (at_stage stages.Queued) number before
       ∙ ap (option_map (at_stage stages.Queued)) (dropped number)
       ∙ map_map (dropped_between latest number host number) (at_stage stages.Queued) (numbered old number)
-      ∙ map_same (λ s. at_stage stages.Queued (dropped_between latest number host number s)) (come_at latest number host number) (numbered old number)
-      (λ s. ap (at_stage stages.Queued) (outside latest number host number s (omega arith)) ∙ sym (cond-true (number == number) (at_stage stages.Queued s) (dropped_between latest number host number s) (eq-eqb number number refl)))
+      ∙ map_same (λ s. at_stage stages.Queued (dropped_between latest number host number s)) (come_at latest number host number)
+      (numbered old number)
+      (λ s. ap (at_stage stages.Queued) (outside latest number host number s (omega arith))
+      ∙ sym (cond-true (number == number) (at_stage stages.Queued s) (dropped_between latest number host number s)
+      (eq-eqb number number refl)))
       ∙ ap (λ m. option_map (come_at latest number host m) (numbered old m)) (sym one)
   | inr f ↦
       let apart : n ≡ number → ⊥ = λ e. both_ways (n == number) f (eq-eqb n number e) in
       ap (λ l. numbered l n) changed
       ∙ numbered-change_other (at_stage stages.Queued) number n before apart
       ∙ dropped n
-      ∙ map_same (dropped_between latest number host n) (come_at latest number host n) (numbered old n) (λ s. sym (cond-false (n == number) (at_stage stages.Queued s) (dropped_between latest number host n s) f))
+      ∙ map_same (dropped_between latest number host n) (come_at latest number host n) (numbered old n)
+      (λ s. sym (cond-false (n == number) (at_stage stages.Queued s) (dropped_between latest number host n s) f))
 ]
 
-pub none_dropped : (low host : ℕ) (old : List Exchange) (n : ℕ) → numbered old n ≡ option_map (dropped_between low low host n) (numbered old n)
+pub none_dropped : (low host : ℕ) (old : List Exchange) (n : ℕ) →
+    numbered old n ≡ option_map (dropped_between low low host n) (numbered old n)
 none_dropped low host old n = by_option (numbered old n)
   where
     same : (s : Exchange) → s ≡ dropped_between low low host n s

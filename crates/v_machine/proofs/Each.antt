@@ -11,14 +11,19 @@ module _ {X : Type 0} (Becomes : ℕ → X → X → Type 0) (xs : List X) where
   pub each_none : (high : ℕ) → high ≡ 0 → Each (Until high Becomes) xs xs
   each_none high none at x is = (x, is, (λ low. absurd (omega arith), λ far. refl))
 
-  pub each_next : (ys : List X) (at : ℕ) (d new : X) → Each (Until at Becomes) xs ys → at < length ys → Becomes at (get_or ys at d) new → Each (Until (at + 1) Becomes) xs (set ys at new)
+  pub each_next : (ys : List X) (at : ℕ) (d new : X) → Each (Until at Becomes) xs ys → at < length ys → Becomes at (get_or ys at d) new →
+      Each (Until (at + 1) Becomes) xs (set ys at new)
   each_next ys at d new each low becomes to x is = elim (cases_Bool (to == at)) [
     | inl t ↦
         let same : to ≡ at = eqb-true to at t in
         let was = each to x is in
         let kept : was.0 ≡ x = was.2.1 (omega arith) in
-        let one : get_or ys at d ≡ x = same_Some (get_or ys at d) x (sym (get_of_or ys at d low) ∙ ap (slice_get ys) (sym same) ∙ was.1 ∙ ap Some kept) in
-        (new, ap (slice_get (set ys at new)) same ∙ get-set_same ys at new low, (λ below. subst (λ i. Becomes i x new) (sym same) (subst (λ z. Becomes at z new) one becomes), λ far. absurd (omega arith)))
+        let one : get_or ys at d ≡ x =
+        same_Some (get_or ys at d) x (sym (get_of_or ys at d low) ∙ ap (slice_get ys) (sym same) ∙ was.1 ∙ ap Some kept) in (
+          new,
+          ap (slice_get (set ys at new)) same ∙ get-set_same ys at new low,
+          (λ below. subst (λ i. Becomes i x new) (sym same) (subst (λ z. Becomes at z new) one becomes), λ far. absurd (omega arith)),
+        )
     | inr f ↦
         let apart : to ≡ at → ⊥ = λ e. both_ways (to == at) f (eq-eqb to at e) in
         let was = each to x is in
@@ -37,5 +42,6 @@ module _ {X : Type 0} (Becomes : ℕ → X → X → Type 0) (xs : List X) where
       let was = each at x is in
       (was.0, was.1, was.2.0 (omega arith))
 
-pub each_between : {X : Type 0} (Becomes : ℕ → X → X → Type 0) (xs xs' ys ys' : List X) → xs ≡ xs' → ys ≡ ys' → Each Becomes xs ys → Each Becomes xs' ys'
+pub each_between : {X : Type 0} (Becomes : ℕ → X → X → Type 0) (xs xs' ys ys' : List X) → xs ≡ xs' → ys ≡ ys' → Each Becomes xs ys →
+    Each Becomes xs' ys'
 each_between Becomes xs xs' ys ys' before after each = subst (λ zs. Each Becomes zs ys') before (subst (Each Becomes xs) after each)

@@ -15,9 +15,12 @@ use Rattle.v_machine.specs.declared.tables.Store.{Store}
 use Rattle.v_machine.specs.Kept.{IsKept, kernel_in, latest_by}
 
 -- where only one number can be held
-by_top : (exchanges : Name → Option Exchange) (r sender : Pid) (b n : ℕ) (t : Bool) → holds_at exchanges r sender (suc b) ≡ t → 0 < n → n ≤ suc b → holds_at exchanges r sender n ≡ true → ((m : ℕ) → holds_at exchanges r sender m ≡ true → m ≡ n) → (n ≤ b → held_up_to exchanges r sender b ≡ Some n) →
+by_top : (exchanges : Name → Option Exchange) (r sender : Pid) (b n : ℕ) (t : Bool) → holds_at exchanges r sender (suc b) ≡ t → 0 < n →
+    n ≤ suc b → holds_at exchanges r sender n ≡ true → ((m : ℕ) → holds_at exchanges r sender m ≡ true → m ≡ n) →
+    (n ≤ b → held_up_to exchanges r sender b ≡ Some n) →
     cond (holds_at exchanges r sender (suc b)) (Some (suc b)) (held_up_to exchanges r sender b) ≡ Some n
-by_top exchanges r sender b n true is low high there one again = cond-true (holds_at exchanges r sender (suc b)) (Some (suc b)) (held_up_to exchanges r sender b) is ∙ ap Some (one (suc b) is)
+by_top exchanges r sender b n true is low high there one again =
+    cond-true (holds_at exchanges r sender (suc b)) (Some (suc b)) (held_up_to exchanges r sender b) is ∙ ap Some (one (suc b) is)
 by_top exchanges r sender b n false is low high there one again =
     let below : n ≤ b = elim (cases_Bool (holds_at exchanges r sender (suc b))) [
       | inl t ↦ absurd (both_ways (holds_at exchanges r sender (suc b)) is t)
@@ -28,12 +31,16 @@ by_top exchanges r sender b n false is low high there one again =
     smaller : {n b : ℕ} → (n ≡ suc b → ⊥) → n ≤ suc b → n ≤ b
     smaller {n} {b} apart high = omega arith
 
-pub held_one : (exchanges : Name → Option Exchange) (r sender : Pid) (bound n : ℕ) → 0 < n → n ≤ bound → holds_at exchanges r sender n ≡ true → ((m : ℕ) → holds_at exchanges r sender m ≡ true → m ≡ n) → held_up_to exchanges r sender bound ≡ Some n
+pub held_one : (exchanges : Name → Option Exchange) (r sender : Pid) (bound n : ℕ) → 0 < n → n ≤ bound →
+    holds_at exchanges r sender n ≡ true → ((m : ℕ) → holds_at exchanges r sender m ≡ true → m ≡ n) →
+    held_up_to exchanges r sender bound ≡ Some n
 unfolding held_up_to
 held_one exchanges r sender zero n low high there one = absurd (omega arith)
-held_one exchanges r sender (suc b) n low high there one = by_top exchanges r sender b n (holds_at exchanges r sender (suc b)) refl low high there one (λ below. held_one exchanges r sender b n low below there one)
+held_one exchanges r sender (suc b) n low high there one = by_top exchanges r sender b n (holds_at exchanges r sender (suc b)) refl low high
+    there one (λ below. held_one exchanges r sender b n low below there one)
 
-module _ (s : Store) (pid sender : Pid) (latest : ℕ) (kept : IsKept s) (is : latest ≡ latest_by s.places s.latest.items sender pid.host) where
+module _ (s : Store) (pid sender : Pid) (latest : ℕ) (kept : IsKept s)
+    (is : latest ≡ latest_by s.places s.latest.items sender pid.host) where
   -- what is held is the latest
   only : (m : ℕ) → holds_at (kernel_in s).exchanges pid sender m ≡ true → m ≡ latest
   only m t =
@@ -47,18 +54,24 @@ module _ (s : Store) (pid sender : Pid) (latest : ℕ) (kept : IsKept s) (is : l
   unfolding held
   held_nowhere none = ap (λ (o : Option Process). o >>= λ p. held_up_to (kernel_in s).exchanges pid sender p.sends) none
 
-  pub held_not : (p : Process) → (kernel_in s).procs sender ≡ Some p → holds_at (kernel_in s).exchanges pid sender latest ≡ false → held (kernel_in s) pid sender ≡ None
+  pub held_not : (p : Process) → (kernel_in s).procs sender ≡ Some p → holds_at (kernel_in s).exchanges pid sender latest ≡ false →
+      held (kernel_in s) pid sender ≡ None
   unfolding held
   held_not p there f =
       ap (λ (o : Option Process). o >>= λ p. held_up_to (kernel_in s).exchanges pid sender p.sends) there
-      ∙ held_none (kernel_in s).exchanges pid sender p.sends (λ m low high. false_from_ne_true (holds_at (kernel_in s).exchanges pid sender m) (λ t. both_ways (holds_at (kernel_in s).exchanges pid sender latest) f (ap (holds_at (kernel_in s).exchanges pid sender) (sym (only m t)) ∙ t)))
+      ∙ held_none (kernel_in s).exchanges pid sender p.sends
+      (λ m low high. false_from_ne_true (holds_at (kernel_in s).exchanges pid sender m)
+      (λ t. both_ways (holds_at (kernel_in s).exchanges pid sender latest) f
+      (ap (holds_at (kernel_in s).exchanges pid sender) (sym (only m t)) ∙ t)))
 
-  pub held_latest : (p : Process) → (kernel_in s).procs sender ≡ Some p → holds_at (kernel_in s).exchanges pid sender latest ≡ true → held (kernel_in s) pid sender ≡ Some latest
+  pub held_latest : (p : Process) → (kernel_in s).procs sender ≡ Some p → holds_at (kernel_in s).exchanges pid sender latest ≡ true →
+      held (kernel_in s) pid sender ≡ Some latest
   unfolding held
   held_latest p there t =
       let e = some_that_holds (is_held_by pid) ((kernel_in s).exchanges (name_of sender latest)) t in
       let begun = kept.sound.begun (name_of sender latest) e.0 e.1 in
       let first : 0 < latest = begun.first in
-      let last : latest ≤ p.sends = subst (λ (b : Process). latest ≤ b.sends) (same_Some begun.process p (sym begun.is ∙ there)) begun.last in
+      let last : latest ≤ p.sends =
+      subst (λ (b : Process). latest ≤ b.sends) (same_Some begun.process p (sym begun.is ∙ there)) begun.last in
       ap (λ (o : Option Process). o >>= λ p. held_up_to (kernel_in s).exchanges pid sender p.sends) there
       ∙ held_one (kernel_in s).exchanges pid sender p.sends latest first last t only

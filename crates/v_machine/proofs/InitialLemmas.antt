@@ -23,7 +23,8 @@ use Rattle.v_machine.specs.Tables.{kernel_by, process_of, procs_by, exchanges_by
 use Rattle.v_machine.proofs.PlaceLemmas.{some_at}
 use Rattle.v_machine.proofs.TableLemmas.{get_low}
 
-place-map : (specs : List ProcessSpec) (pid : Pid) → position_or_len (λ q. same_pid q pid) (map pid_of specs) ≡ position_or_len (is_process pid) specs
+place-map : (specs : List ProcessSpec) (pid : Pid) →
+    position_or_len (λ q. same_pid q pid) (map pid_of specs) ≡ position_or_len (is_process pid) specs
 place-map [] pid = refl
 place-map (s ∷ ss) pid = ap (λ n. cond (not (same_pid s.pid pid)) (1 + n) 0) (place-map ss pid)
 
@@ -32,7 +33,8 @@ none_at None = refl
 none_at (Some s) = refl
 
 none_begun : (X : Type 0) (specs : List ProcessSpec) (at : ℕ) → count_at (map (nothing {X = X}) specs) at ≡ 0
-none_begun X specs at = ap (λ o. length (unwrap_or o [])) (slice_get-map (nothing {X = X}) specs at) ∙ ap length (none_at {X = X} (slice_get specs at))
+none_begun X specs at = ap (λ o. length (unwrap_or o [])) (slice_get-map (nothing {X = X}) specs at)
+    ∙ ap length (none_at {X = X} (slice_get specs at))
 
 beyond_none : {X : Type 0} (xs : List X) (at : ℕ) (o : Option X) → slice_get xs at ≡ o → length xs ≤ at → slice_get xs at ≡ None
 beyond_none xs at None is far = is
@@ -46,27 +48,37 @@ module _ (specs : List ProcessSpec) where
   unfolding place_in place_of
   place_is pid = λ i. cond (nat_lt (place-map specs pid i) (length-map specs pid_of i)) (Some (place-map specs pid i)) None
 
-  proc_at : (pid : Pid) (s : ProcessSpec) → nat_lt (place_of pid) (length specs) ≡ true → slice_get specs (place_of pid) ≡ Some s → procs_by (map pid_of specs) (map initial_proc specs) (map nothing specs) (map nothing specs) pid ≡ Some (initial_process s)
+  proc_at : (pid : Pid) (s : ProcessSpec) → nat_lt (place_of pid) (length specs) ≡ true → slice_get specs (place_of pid) ≡ Some s →
+      procs_by (map pid_of specs) (map initial_proc specs) (map nothing specs) (map nothing specs) pid ≡ Some (initial_process s)
   unfolding procs_by
   proc_at pid s low there =
-      ap (λ o. o >>= λ at. slice_get (map initial_proc specs) at >>= λ p. Some (process_of p (count_at (map (nothing {X = Exchange}) specs) at) (count_at (map (nothing {X = Lookup}) specs) at))) (place_is pid ∙ cond-true (nat_lt (place_of pid) (length specs)) (Some (place_of pid)) None low)
-      ∙ ap (λ o. o >>= λ p. Some (process_of p (count_at (map (nothing {X = Exchange}) specs) (place_of pid)) (count_at (map (nothing {X = Lookup}) specs) (place_of pid)))) (slice_get-map initial_proc specs (place_of pid) ∙ ap (option_map initial_proc) there)
+      ap (λ o. o >>= λ at. slice_get (map initial_proc specs) at >>= λ p.
+      Some (process_of p (count_at (map (nothing {X = Exchange}) specs) at) (count_at (map (nothing {X = Lookup}) specs) at)))
+      (place_is pid ∙ cond-true (nat_lt (place_of pid) (length specs)) (Some (place_of pid)) None low)
+      ∙ ap (λ o. o >>= λ p. Some (process_of p (count_at (map (nothing {X = Exchange}) specs) (place_of pid))
+      (count_at (map (nothing {X = Lookup}) specs) (place_of pid))))
+      (slice_get-map initial_proc specs (place_of pid) ∙ ap (option_map initial_proc) there)
       ∙ (λ i. Some (process_of (initial_proc s) (none_begun Exchange specs (place_of pid) i) (none_begun Lookup specs (place_of pid) i)))
 
-  procs_open : (pid : Pid) → procs_by (map pid_of specs) (map initial_proc specs) (map nothing specs) (map nothing specs) pid ≡ option_map initial_process (find (is_process pid) specs)
+  procs_open : (pid : Pid) → procs_by (map pid_of specs) (map initial_proc specs) (map nothing specs) (map nothing specs) pid ≡ option_map
+      initial_process (find (is_process pid) specs)
   unfolding procs_by place_of
   procs_open pid = elim (cases_Bool (nat_lt (place_of pid) (length specs))) [
     | inl t ↦
         let s = some_at specs (place_of pid) (ltb-true (place_of pid) (length specs) t) in
         proc_at pid s.0 t s.1 ∙ sym (ap (option_map initial_process) (find_at (is_process pid) specs ∙ s.1))
     | inr f ↦
-        ap (λ o. o >>= λ at. slice_get (map initial_proc specs) at >>= λ p. Some (process_of p (count_at (map (nothing {X = Exchange}) specs) at) (count_at (map (nothing {X = Lookup}) specs) at))) (place_is pid ∙ cond-false (nat_lt (place_of pid) (length specs)) (Some (place_of pid)) None f)
-        ∙ sym (ap (option_map initial_process) (find_at (is_process pid) specs ∙ beyond_none specs (place_of pid) (slice_get specs (place_of pid)) refl (ltb-false (place_of pid) (length specs) f)))
+        ap (λ o. o >>= λ at. slice_get (map initial_proc specs) at >>= λ p.
+        Some (process_of p (count_at (map (nothing {X = Exchange}) specs) at) (count_at (map (nothing {X = Lookup}) specs) at)))
+        (place_is pid ∙ cond-false (nat_lt (place_of pid) (length specs)) (Some (place_of pid)) None f)
+        ∙ sym (ap (option_map initial_process) (find_at (is_process pid) specs
+        ∙ beyond_none specs (place_of pid) (slice_get specs (place_of pid)) refl (ltb-false (place_of pid) (length specs) f)))
   ]
 
   none_here : {X : Type 0} (o : Option ℕ) (number : ℕ) → (o >>= slice_get (map (nothing {X = X}) specs) >>= λ xs. numbered xs number) ≡ None
   none_here None number = refl
-  none_here {X} (Some at) number = ap (λ o. o >>= λ xs. numbered xs number) (slice_get-map (nothing {X = X}) specs at) ∙ no_such (slice_get specs at) number
+  none_here {X} (Some at) number = ap (λ o. o >>= λ xs. numbered xs number) (slice_get-map (nothing {X = X}) specs at)
+      ∙ no_such (slice_get specs at) number
     where
       no_such : (o : Option ProcessSpec) (number : ℕ) → (option_map (nothing {X = X}) o >>= λ xs. numbered xs number) ≡ None
       no_such None number = refl
@@ -81,7 +93,8 @@ module _ (specs : List ProcessSpec) where
   unfolding exchanges_by at_place
   exchanges_open n = none_here {X = Exchange} (place_in (map pid_of specs) n.sender) n.number
 
-  pub kernel_open : kernel_by (map pid_of specs) (map initial_proc specs) (map nothing specs) (map nothing specs) [] [] ≡ initial_kernel specs
+  pub kernel_open : kernel_by (map pid_of specs) (map initial_proc specs) (map nothing specs) (map nothing specs) [] [] ≡ initial_kernel
+      specs
   unfolding names_by
   kernel_open = λ i. record {
     procs = λ pid. procs_open pid i;
@@ -96,7 +109,8 @@ module _ (specs : List ProcessSpec) where
   list_open {X} (Some at) = ap (λ o. unwrap_or o []) (slice_get-map (nothing {X = X}) specs at) ∙ none_at {X = X} (slice_get specs at)
 
 -- the store stands for it
-pub kernel_at_first : (s : Store) (specs : List ProcessSpec) → s.places ≡ map pid_of specs → IsInitial specs s → kernel_in s ≡ initial_kernel specs
+pub kernel_at_first : (s : Store) (specs : List ProcessSpec) → s.places ≡ map pid_of specs → IsInitial specs s →
+    kernel_in s ≡ initial_kernel specs
 kernel_at_first s specs places filled =
     (λ i. kernel_by (places i) (filled.procs i) (filled.sends i) (filled.asked i) (filled.names i) (filled.arrived i)) ∙ kernel_open specs
 
@@ -115,11 +129,14 @@ indexed_at_first s specs places filled =
       queues = ap length filled.queues ∙ length-map specs nothing ∙ count;
       latest = ap length filled.latest ∙ length-map specs nothing ∙ count;
       waiting = λ r there.
-          let names : list_at s.places s.queues.items r ≡ [] = ap (λ xss. unwrap_or (place_in s.places r >>= slice_get xss) []) filled.queues ∙ list_open specs (place_in s.places r) in
+          let names : list_at s.places s.queues.items r ≡ [] =
+          ap (λ xss. unwrap_or (place_in s.places r >>= slice_get xss) []) filled.queues ∙ list_open specs (place_in s.places r) in
           record {
             queue = ap (filter _) (names ∙ sym filled.arrived);
             came = λ n t. absurd (both_ways false refl (subst (λ ns. list_any (same_name n) ns ≡ true) names t));
           };
-      low = λ sender host. empty_low (list_at s.places s.latest.items sender) host _ (ap (λ xss. unwrap_or (place_in s.places sender >>= slice_get xss) []) filled.latest ∙ list_open specs (place_in s.places sender));
+      low = λ sender host. empty_low (list_at s.places s.latest.items sender) host _
+          (ap (λ xss. unwrap_or (place_in s.places sender >>= slice_get xss) []) filled.latest
+          ∙ list_open specs (place_in s.places sender));
       open_last = λ n e is. absurd (none-some e (sym ((λ i. exchanges_by (places i) (filled.sends i) n) ∙ exchanges_open specs n) ∙ is));
     }

@@ -47,7 +47,8 @@ later : (x v : Latest) (found : Option Latest) (host h : ℕ) (b : Bool) → (x.
 later x v found host h true is e = cond-false (x.host == h) (Some x) (Some v) (ap (λ z. x.host == z) (eqb-true h host e) ∙ is)
 later x v found host h false is e = refl
 
-find-put : (ls : List Latest) (at : ℕ) (d v : Latest) (host h : ℕ) → at < length ls → ((get_or ls at d).host == host) ≡ true → ((k : ℕ) → k < at → ((get_or ls k d).host == host) ≡ false) → v.host ≡ (get_or ls at d).host →
+find-put : (ls : List Latest) (at : ℕ) (d v : Latest) (host h : ℕ) → at < length ls → ((get_or ls at d).host == host) ≡ true →
+    ((k : ℕ) → k < at → ((get_or ls k d).host == host) ≡ false) → v.host ≡ (get_or ls at d).host →
     find (is_for h) (set ls at v) ≡ cond (h == host) (Some v) (find (is_for h) ls)
 find-put [] at d v host h low is before same = absurd (omega arith)
 find-put (x ∷ xs) zero d v host h low is before same = here x v xs host h (h == host) is same refl
@@ -59,7 +60,8 @@ number-cond : (v : Latest) (found : Option Latest) (b : Bool) → number_in (con
 number-cond v found true = refl
 number-cond v found false = refl
 
-pub latest-put : (ls : List Latest) (at : ℕ) (d v : Latest) (host h : ℕ) → position (is_for host) ls ≡ Some at → v.host ≡ (get_or ls at d).host →
+pub latest-put : (ls : List Latest) (at : ℕ) (d v : Latest) (host h : ℕ) → position (is_for host) ls ≡ Some at →
+    v.host ≡ (get_or ls at d).host →
     latest_in (set ls at v) h ≡ cond (h == host) v.number (latest_in ls h)
 unfolding latest_in
 latest-put ls at d v host h place same =
@@ -67,7 +69,8 @@ latest-put ls at d v host h place same =
     ap number_in (find-put ls at d v host h facts.0 facts.1 facts.2 same) ∙ number-cond v (find (is_for h) ls) (h == host)
 
 -- where some element passes there is a first
-passes_below : {X : Type 0} (p : X → Bool) (x : X) (xs : List X) (b : Bool) → p x ≡ b → (p x || list_any p xs) ≡ true → (list_any p xs ≡ true → position_or_len p xs < length xs) → position_or_len p (x ∷ xs) < length (x ∷ xs)
+passes_below : {X : Type 0} (p : X → Bool) (x : X) (xs : List X) (b : Bool) → p x ≡ b → (p x || list_any p xs) ≡ true →
+    (list_any p xs ≡ true → position_or_len p xs < length xs) → position_or_len p (x ∷ xs) < length (x ∷ xs)
 passes_below p x xs true e t again = rw e (omega arith)
 passes_below p x xs false e t again =
     let rest : list_any p xs ≡ true = subst (λ c. (c || list_any p xs) ≡ true) e t in
@@ -81,4 +84,5 @@ first_below p (x ∷ xs) t = passes_below p x xs (p x) refl t (first_below p xs)
 pub none_passes : {X : Type 0} (p : X → Bool) (xs : List X) → list_any p xs ≡ true → position p xs ≡ None → ⊥
 none_passes p xs t none =
     let low = first_below p xs t in
-    none-some (position_or_len p xs) (sym none ∙ cond-true (nat_lt (position_or_len p xs) (length xs)) (Some (position_or_len p xs)) None (lt-ltb (position_or_len p xs) (length xs) low))
+    none-some (position_or_len p xs) (sym none ∙ cond-true (nat_lt (position_or_len p xs) (length xs)) (Some (position_or_len p xs)) None
+    (lt-ltb (position_or_len p xs) (length xs) low))

@@ -12,17 +12,25 @@ use Rattle.v_machine.proofs.Indexes.{indexed_later, indexed_same, put_no_nearer,
 use Rattle.v_machine.proofs.KernelLemmas.{kernel-exchange, exchanges-change, sends_even}
 
 -- a Send that is changed, but for its target and its stage
-pub puts : (s : Store) (f : Exchange → Exchange) (at number : ℕ) (x x' : List Exchange) → ((e : Exchange) → (f e).target ≡ e.target) → ((e : Exchange) → (f e).stage ≡ e.stage) →
-    at < length s.sends.items → x ≡ get_or s.sends.items at x → x' ≡ change_numbered number f x → Puts f at number s (record s { sends = with_item s.sends at x' })
+pub puts : (s : Store) (f : Exchange → Exchange) (at number : ℕ) (x x' : List Exchange) → ((e : Exchange) → (f e).target ≡ e.target) →
+    ((e : Exchange) → (f e).stage ≡ e.stage) →
+    at < length s.sends.items → x ≡ get_or s.sends.items at x → x' ≡ change_numbered number f x →
+    Puts f at number s (record s { sends = with_item s.sends at x' })
 puts s f at number x x' target stage low there changed = λ pid e place at_name. (
-  kernel-exchange s.places s.procs.items s.sends.items s.asked.items s.names.items s.arrived.items f pid at number x x' e place low there at_name changed,
+  kernel-exchange s.places s.procs.items s.sends.items s.asked.items s.names.items s.arrived.items f pid at number x x' e place low there
+      at_name changed,
   λ old. indexed_later s _ refl refl (length-set s.sends.items at x') refl refl refl refl
       (sends_even s.places s.procs.items s.sends.items s.asked.items f at number x x' low there changed)
-      (put_no_nearer _ _ _ e (f e) at_name (exchanges-change s.places s.procs.items s.sends.items s.asked.items f pid at number x x' e place low there at_name changed) (target e) (subst (IsNoNearer e.stage) (sym (stage e)) (same_stage e.stage))) old,
+      (put_no_nearer _ _ _ e (f e) at_name (exchanges-change s.places s.procs.items s.sends.items s.asked.items f pid at number x x' e place
+      low there at_name changed) (target e) (subst (IsNoNearer e.stage) (sym (stage e)) (same_stage e.stage))) old,
 )
 
 -- the Sends of a place that stay as they were
-pub stays_itself : (s : Store) (at : ℕ) (x x' : List Exchange) → x ≡ get_or s.sends.items at x → x' ≡ x → IsIndexed s → Stays s (record s { sends = with_item s.sends at x' })
+pub stays_itself : (s : Store) (at : ℕ) (x x' : List Exchange) → x ≡ get_or s.sends.items at x → x' ≡ x → IsIndexed s →
+    Stays s (record s { sends = with_item s.sends at x' })
 stays_itself s at x x' there same indexed =
     let items : set s.sends.items at x' ≡ s.sends.items = ap (set s.sends.items at) (same ∙ there) ∙ set-get_or s.sends.items at x in
-    record { tables = λ noted. ap (λ xs. record (tables_in s noted) { sends = xs }) items; indexed = indexed_same s _ refl refl items refl refl refl refl indexed }
+    record {
+      tables = λ noted. ap (λ xs. record (tables_in s noted) { sends = xs }) items;
+      indexed = indexed_same s _ refl refl items refl refl refl refl indexed;
+    }

@@ -15,7 +15,9 @@ piece_len memory start len lies =
     omega (arith, taken, dropped)
 
 -- a front of a range with the next piece is a longer front
-pub front_more : (memory old new piece : List ℕ) (start len : ℕ) → old ≡ bytes_in (range_of start (length old)) memory → piece ≡ bytes_in (range_of (start + length old) len) memory → new ≡ old ++ piece → start + length old + len ≤ length memory → new ≡ bytes_in (range_of start (length new)) memory
+pub front_more : (memory old new piece : List ℕ) (start len : ℕ) → old ≡ bytes_in (range_of start (length old)) memory →
+    piece ≡ bytes_in (range_of (start + length old) len) memory → new ≡ old ++ piece → start + length old + len ≤ length memory →
+    new ≡ bytes_in (range_of start (length new)) memory
 front_more memory old new piece start len front is more lies =
     let count : length piece ≡ len = ap length is ∙ piece_len memory (start + length old) len lies in
     let size : length new ≡ length old + len = ap length more ∙ length-append old piece ∙ ap (λ m. length old + m) count in

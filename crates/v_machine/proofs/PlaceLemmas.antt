@@ -29,7 +29,8 @@ pub place_get : (pids : List Pid) (pid : Pid) (at : ℕ) → place_in pids pid �
 place_get pids pid at is = get_of_or pids at pid (place_low pids pid at is) ∙ ap Some (place_pid pids pid at is)
 
 -- two processes have one place only if they are one
-pub places_apart : (pids : List Pid) (p q : Pid) (at to : ℕ) → place_in pids p ≡ Some at → place_in pids q ≡ Some to → same_pid q p ≡ false → to ≡ at → ⊥
+pub places_apart : (pids : List Pid) (p q : Pid) (at to : ℕ) → place_in pids p ≡ Some at → place_in pids q ≡ Some to →
+    same_pid q p ≡ false → to ≡ at → ⊥
 places_apart pids p q at to is there apart e =
     let one : Some q ≡ Some p = sym (place_get pids q to there) ∙ ap (slice_get pids) e ∙ place_get pids p at is in
     both_ways (same_pid q p) apart (subst (λ z. same_pid z p ≡ true) (sym (same_Some q p one)) (same_pid_self p))
@@ -51,25 +52,31 @@ get-set_other (y ∷ xs) (suc at) (suc to) x apart = get-set_other xs at to x (�
 abbrev pub put_at : {X : Type 0} → (Pid → Option X) → Pid → X → Pid → Option X
 put_at t pid x q = if same_pid q pid then Some x else t q
 
-by_place : {X : Type 0} (pids : List Pid) (xs : List X) (p q : Pid) (at : ℕ) (x : X) (o : Option ℕ) → place_in pids p ≡ Some at → place_in pids q ≡ o → same_pid q p ≡ false → (o >>= slice_get (set xs at x)) ≡ (o >>= slice_get xs)
+by_place : {X : Type 0} (pids : List Pid) (xs : List X) (p q : Pid) (at : ℕ) (x : X) (o : Option ℕ) → place_in pids p ≡ Some at →
+    place_in pids q ≡ o → same_pid q p ≡ false → (o >>= slice_get (set xs at x)) ≡ (o >>= slice_get xs)
 by_place pids xs p q at x None is there apart = refl
 by_place pids xs p q at x (Some to) is there apart = get-set_other xs at to x (places_apart pids p q at to is there apart)
 
-pub at_place_same : {X : Type 0} (pids : List Pid) (xs : List X) (pid : Pid) (at : ℕ) (x : X) → place_in pids pid ≡ Some at → at < length xs → at_place pids (set xs at x) pid ≡ Some x
+pub at_place_same : {X : Type 0} (pids : List Pid) (xs : List X) (pid : Pid) (at : ℕ) (x : X) → place_in pids pid ≡ Some at →
+    at < length xs → at_place pids (set xs at x) pid ≡ Some x
 unfolding at_place
 at_place_same pids xs pid at x is low = ap (λ o. o >>= slice_get (set xs at x)) is ∙ get-set_same xs at x low
 
-pub at_place_other : {X : Type 0} (pids : List Pid) (xs : List X) (pid q : Pid) (at : ℕ) (x : X) → place_in pids pid ≡ Some at → same_pid q pid ≡ false → at_place pids (set xs at x) q ≡ at_place pids xs q
+pub at_place_other : {X : Type 0} (pids : List Pid) (xs : List X) (pid q : Pid) (at : ℕ) (x : X) → place_in pids pid ≡ Some at →
+    same_pid q pid ≡ false → at_place pids (set xs at x) q ≡ at_place pids xs q
 unfolding at_place
 at_place_other pids xs pid q at x is apart = by_place pids xs pid q at x (place_in pids q) is refl apart
 
-pub at_place-set : {X : Type 0} (pids : List Pid) (xs : List X) (pid : Pid) (at : ℕ) (x : X) → place_in pids pid ≡ Some at → at < length xs → (q : Pid) → at_place pids (set xs at x) q ≡ put_at (at_place pids xs) pid x q
+pub at_place-set : {X : Type 0} (pids : List Pid) (xs : List X) (pid : Pid) (at : ℕ) (x : X) → place_in pids pid ≡ Some at →
+    at < length xs → (q : Pid) → at_place pids (set xs at x) q ≡ put_at (at_place pids xs) pid x q
 at_place-set pids xs pid at x is low q = elim (cases_Bool (same_pid q pid)) [
-  | inl t ↦ ap (at_place pids (set xs at x)) (same_pid_is q pid t) ∙ at_place_same pids xs pid at x is low ∙ sym (cond-true (same_pid q pid) (Some x) (at_place pids xs q) t)
+  | inl t ↦ ap (at_place pids (set xs at x)) (same_pid_is q pid t) ∙ at_place_same pids xs pid at x is low
+      ∙ sym (cond-true (same_pid q pid) (Some x) (at_place pids xs q) t)
   | inr f ↦ at_place_other pids xs pid q at x is f ∙ sym (cond-false (same_pid q pid) (Some x) (at_place pids xs q) f)
 ]
 
-pub at_place_is : {X : Type 0} (pids : List Pid) (xs : List X) (pid : Pid) (at : ℕ) (x : X) → place_in pids pid ≡ Some at → slice_get xs at ≡ Some x → at_place pids xs pid ≡ Some x
+pub at_place_is : {X : Type 0} (pids : List Pid) (xs : List X) (pid : Pid) (at : ℕ) (x : X) → place_in pids pid ≡ Some at →
+    slice_get xs at ≡ Some x → at_place pids xs pid ≡ Some x
 unfolding at_place
 at_place_is pids xs pid at x is there = ap (λ o. o >>= slice_get xs) is ∙ there
 

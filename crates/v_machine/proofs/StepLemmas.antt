@@ -26,38 +26,55 @@ use Rattle.vk_base.specs.Steps.{collecting, collect_step, failing, failure, fail
 pub found : {A B : Type 0} (o : Option A) (a : A) (f : A → Option B) (r : Option B) → o ≡ Some a → f a ≡ r → (o >>= f) ≡ r
 found o a f r is e = ap (λ o. o >>= f) is ∙ e
 
-pub collect_allowed : (k after : Kernel) (pid : Pid) (p : Process) (c : Call) (a : Answer) → k.procs pid ≡ Some p → finished_call p.state ≡ Some (c, a) → after ≡ with_state k pid p states.Ready → collect_step k pid ≡ Some (answered after pid c a)
+pub collect_allowed : (k after : Kernel) (pid : Pid) (p : Process) (c : Call) (a : Answer) → k.procs pid ≡ Some p →
+    finished_call p.state ≡ Some (c, a) → after ≡ with_state k pid p states.Ready → collect_step k pid ≡ Some (answered after pid c a)
 unfolding collecting
 collect_allowed k after pid p c a there done is =
-    let o : collecting k pid ≡ Some (record { process = p; call = c; answer = a }) = found (k.procs pid) p _ _ there (found (finished_call p.state) (c, a) _ _ done refl) in
+    let o : collecting k pid ≡ Some (record { process = p; call = c; answer = a }) =
+    found (k.procs pid) p _ _ there (found (finished_call p.state) (c, a) _ _ done refl) in
     found (collecting k pid) _ _ _ o (ap (λ z. Some (answered z pid c a)) (sym is))
 
-pub fail_allowed : (k after : Kernel) (pid : Pid) (p : Process) (send : Pid × Message) (e : Exchange) (why : Ending) (refusal : Refusal) → k.procs pid ≡ Some p → sending p.state ≡ Some send → k.exchanges (name_of pid p.sends) ≡ Some e →
-    same_host pid e.target ≡ false → failure k e why ≡ Some refusal → after ≡ with_state k pid p (ended p.state (answers.Refused refusal)) → fail_step k pid why ≡ Some (unseen after)
+pub fail_allowed : (k after : Kernel) (pid : Pid) (p : Process) (send : Pid × Message) (e : Exchange) (why : Ending) (refusal : Refusal) →
+    k.procs pid ≡ Some p → sending p.state ≡ Some send → k.exchanges (name_of pid p.sends) ≡ Some e →
+    same_host pid e.target ≡ false → failure k e why ≡ Some refusal → after ≡ with_state k pid p (ended p.state (answers.Refused refusal)) →
+    fail_step k pid why ≡ Some (unseen after)
 unfolding failing
 fail_allowed k after pid p send e why refusal there blocked at far fails is =
     let o : failing k pid why ≡ Some (p, refusal) =
     found (k.procs pid) p _ _ there
     (found (sending p.state >>= λ s. k.exchanges (name_of pid p.sends)) e _ _ (found (sending p.state) send _ _ blocked at)
-    (found (only_if (not (same_host pid e.target)) (failure k e why)) refusal _ _ (ap (λ b. only_if (not b) (failure k e why)) far ∙ fails) refl)) in
+    (found (only_if (not (same_host pid e.target)) (failure k e why)) refusal _ _ (ap (λ b. only_if (not b) (failure k e why)) far ∙ fails)
+    refl)) in
     found (failing k pid why) _ _ _ o (ap (λ z. Some (unseen z)) (sym is))
 
-pub finish_allowed : (k after : Kernel) (pid : Pid) (p : Process) (send : Pid × Message) (e : Exchange) (m : Message) (dest : ℕ) (bytes : List ℕ) → k.procs pid ≡ Some p → sending p.state ≡ Some send → k.exchanges (name_of pid p.sends) ≡ Some e → reply_of e.stage ≡ Some (m, dest, bytes) →
-    after ≡ record k { procs = put_process k.procs pid (record p { memory = with_bytes p.memory dest bytes; state = states.Done (calls.Send send.0 send.1) (answers.Replied m) }) } → finish_step k pid ≡ Some (unseen after)
+pub finish_allowed : (k after : Kernel) (pid : Pid) (p : Process) (send : Pid × Message) (e : Exchange) (m : Message) (dest : ℕ)
+    (bytes : List ℕ) → k.procs pid ≡ Some p → sending p.state ≡ Some send → k.exchanges (name_of pid p.sends) ≡ Some e →
+    reply_of e.stage ≡ Some (m, dest, bytes) →
+    after ≡ record k {
+      procs = put_process k.procs pid
+          (record p { memory = with_bytes p.memory dest bytes; state = states.Done (calls.Send send.0 send.1) (answers.Replied m) });
+    } →
+    finish_step k pid ≡ Some (unseen after)
 unfolding finishing
 finish_allowed k after pid p send e m dest bytes there blocked at replied is =
     let o : finishing k pid ≡ Some (record { process = p; target = send.0; message = send.1; reply = m; dest = dest; bytes = bytes }) =
-    found (k.procs pid) p _ _ there (found (sending p.state) send _ _ blocked (found (k.exchanges (name_of pid p.sends)) e _ _ at (found (reply_of e.stage) (m, dest, bytes) _ _ replied refl))) in
+    found (k.procs pid) p _ _ there (found (sending p.state) send _ _ blocked
+    (found (k.exchanges (name_of pid p.sends)) e _ _ at (found (reply_of e.stage) (m, dest, bytes) _ _ replied refl))) in
     found (finishing k pid) _ _ _ o (ap (λ z. Some (unseen z)) (sym is))
 
-pub finish_not : (k : Kernel) (pid : Pid) (p : Process) (send : Pid × Message) (e : Exchange) → k.procs pid ≡ Some p → sending p.state ≡ Some send → k.exchanges (name_of pid p.sends) ≡ Some e → reply_of e.stage ≡ None → finish_step k pid ≡ None
+pub finish_not : (k : Kernel) (pid : Pid) (p : Process) (send : Pid × Message) (e : Exchange) → k.procs pid ≡ Some p →
+    sending p.state ≡ Some send → k.exchanges (name_of pid p.sends) ≡ Some e → reply_of e.stage ≡ None → finish_step k pid ≡ None
 unfolding finishing
 finish_not k pid p send e there blocked at none =
     let o : finishing k pid ≡ None =
-    found (k.procs pid) p _ _ there (found (sending p.state) send _ _ blocked (found (k.exchanges (name_of pid p.sends)) e _ _ at (ap (λ r. r >>= λ reply. Some (record { process = p; target = send.0; message = send.1; reply = reply.0; dest = reply.1; bytes = reply.2 })) none))) in
+    found (k.procs pid) p _ _ there (found (sending p.state) send _ _ blocked
+    (found (k.exchanges (name_of pid p.sends)) e _ _ at
+    (ap (λ r. r >>= λ reply.
+    Some (record { process = p; target = send.0; message = send.1; reply = reply.0; dest = reply.1; bytes = reply.2 })) none))) in
     ap (λ f. f >>= λ f. Some (unseen (finished k pid f))) o
 
-pub not_replied : (phase : Stage) → ((m : Message) (dest : ℕ) (bytes : List ℕ) → phase ≡ stages.Replied m dest bytes → ⊥) → reply_of phase ≡ None
+pub not_replied : (phase : Stage) → ((m : Message) (dest : ℕ) (bytes : List ℕ) → phase ≡ stages.Replied m dest bytes → ⊥) →
+    reply_of phase ≡ None
 not_replied stages.Posted none = refl
 not_replied stages.Queued none = refl
 not_replied stages.Taken none = refl
@@ -65,10 +82,13 @@ not_replied (stages.Replied m dest bytes) none = absurd (none m dest bytes refl)
 not_replied stages.Dropped none = refl
 
 -- Replies.
-pub reply_allowed : (k after : Kernel) (pid to : Pid) (c : Call) (m : Message) (dest number : ℕ) (bytes : List ℕ) (e : Exchange) → held k pid to ≡ Some number → k.exchanges (name_of to number) ≡ Some e → after ≡ with_stage k (name_of to number) e (stages.Replied m dest bytes) →
+pub reply_allowed : (k after : Kernel) (pid to : Pid) (c : Call) (m : Message) (dest number : ℕ) (bytes : List ℕ) (e : Exchange) →
+    held k pid to ≡ Some number → k.exchanges (name_of to number) ≡ Some e →
+    after ≡ with_stage k (name_of to number) e (stages.Replied m dest bytes) →
     replied k pid c to m dest bytes ≡ Some (answered after pid c answers.Ok)
 reply_allowed k after pid to c m dest number bytes e holds at is =
-    found (held k pid to) number _ _ holds (found (k.exchanges (name_of to number)) e _ _ at (ap (λ z. Some (answered z pid c answers.Ok)) (sym is)))
+    found (held k pid to) number _ _ holds
+    (found (k.exchanges (name_of to number)) e _ _ at (ap (λ z. Some (answered z pid c answers.Ok)) (sym is)))
 
 -- where the first test does not hold the others decide
 pub not_first : (t : Bool) (why : Refusal) (ts : List (Bool × Refusal)) → t ≡ false → first_that_holds ((t, why) ∷ ts) ≡ first_that_holds ts
@@ -79,12 +99,19 @@ first_holds t why ts f = ap (λ b. first_that_holds ((b, why) ∷ ts)) f
 
 -- what replaces a stage with a reply is no nearer
 pub replied_is_nearer : (s : Stage) (m : Message) (dest : ℕ) (bytes : List ℕ) → IsNoNearer s (stages.Replied m dest bytes)
-replied_is_nearer s m dest bytes = record { queued = λ t. absurd (both_ways false refl t); live = λ t. absurd (both_ways false refl t); posted = λ t. absurd (both_ways false refl t) }
+replied_is_nearer s m dest bytes = record {
+  queued = λ t. absurd (both_ways false refl t);
+  live = λ t. absurd (both_ways false refl t);
+  posted = λ t. absurd (both_ways false refl t);
+}
 
 -- The tests of an access to a sender that is held.
-pub tests_held : (k : Kernel) (pid to : Pid) (limit count number : ℕ) (e : Exchange) (may within : Option Exchange → Bool) → nat_lt limit count ≡ false → held k pid to ≡ Some number → k.exchanges (name_of to number) ≡ Some e →
-    first_that_holds ((nat_lt limit count, refusals.TooLong) ∷ (is_none (held k pid to), refusals.NotAwaiting) ∷ (not (may (held_exchange k pid to)), refusals.NoAccess) ∷ (not (within (held_exchange k pid to)), refusals.BadRange) ∷ [])
+pub tests_held : (k : Kernel) (pid to : Pid) (limit count number : ℕ) (e : Exchange) (may within : Option Exchange → Bool) →
+    nat_lt limit count ≡ false → held k pid to ≡ Some number → k.exchanges (name_of to number) ≡ Some e →
+    first_that_holds ((nat_lt limit count, refusals.TooLong) ∷ (is_none (held k pid to), refusals.NotAwaiting)
+    ∷ (not (may (held_exchange k pid to)), refusals.NoAccess) ∷ (not (within (held_exchange k pid to)), refusals.BadRange) ∷ [])
     ≡ first_that_holds ((not (may (Some e)), refusals.NoAccess) ∷ (not (within (Some e)), refusals.BadRange) ∷ [])
 tests_held k pid to limit count number e may within short holds at =
     let exchange : held_exchange k pid to ≡ Some e = found (held k pid to) number _ _ holds at in
-    λ i. first_that_holds ((short i, refusals.TooLong) ∷ (is_none (holds i), refusals.NotAwaiting) ∷ (not (may (exchange i)), refusals.NoAccess) ∷ (not (within (exchange i)), refusals.BadRange) ∷ [])
+    λ i. first_that_holds ((short i, refusals.TooLong) ∷ (is_none (holds i), refusals.NotAwaiting)
+    ∷ (not (may (exchange i)), refusals.NoAccess) ∷ (not (within (exchange i)), refusals.BadRange) ∷ [])

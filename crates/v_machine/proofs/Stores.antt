@@ -35,8 +35,10 @@ absent s pid (Some at) is = tt
 -- the process of a place
 pub process_at : (s : Store) (pid : Pid) (at : ℕ) → IsAt s pid at → (p : Process) × ((kernel_in s).procs pid ≡ Some p)
 process_at s pid at here =
-    let x = some_at s.procs.items at here.procs in
-    (process_of x.0 (count_at s.sends.items at) (count_at s.asked.items at), procs_is s.places s.procs.items s.sends.items s.sends.items s.asked.items s.asked.items pid at x.0 here.place x.1)
+    let x = some_at s.procs.items at here.procs in (
+      process_of x.0 (count_at s.sends.items at) (count_at s.asked.items at),
+      procs_is s.places s.procs.items s.sends.items s.sends.items s.asked.items s.asked.items pid at x.0 here.place x.1,
+    )
 
 pub stays : (s : Store) → IsIndexed s → Stays s s
 stays s indexed = record { tables = λ noted. refl; indexed = indexed }

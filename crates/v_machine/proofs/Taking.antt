@@ -1,5 +1,5 @@
 -- Take.
-use Rattle.std.proofs.Common.{◌≡◌, ℕ, ◌+◌, ◌<◌, ◌≤◌, Bool, true, false, length, Option, Some, None, refl, sym, ap, subst, ◌∙◌}
+use Rattle.std.proofs.Common.{◌≡◌, ℕ, ◌+◌, ◌<◌, ◌≤◌, true, false, length, Option, Some, None, refl, sym, ap, subst, ◌∙◌}
 use Rattle.std.proofs.lemmas.Bool.{both_ways, and_parts}
 use Rattle.std.proofs.lemmas.Option.{same_Some, none-some}
 use Rattle.vk_base.specs.declared.call.Call.{Call}
@@ -37,7 +37,8 @@ receiving_is (states.Blocked d) c e = absurd (none-some c e)
 receiving_is (states.Done d a) c e = absurd (none-some c e)
 
 -- the first of a queue is queued there
-pub first_is_queued : (k : Kernel) (pid : Pid) (name : Name) → first_of (queue_of k pid) ≡ Some name → (e : Exchange) × (k.exchanges name ≡ Some e) × (is_queued e.stage ≡ true)
+pub first_is_queued : (k : Kernel) (pid : Pid) (name : Name) → first_of (queue_of k pid) ≡ Some name →
+    (e : Exchange) × (k.exchanges name ≡ Some e) × (is_queued e.stage ≡ true)
 unfolding queue_of
 first_is_queued k pid name is =
     let first = first_is (queue_of k pid) name is in
@@ -47,14 +48,18 @@ first_is_queued k pid name is =
 
 -- what is queued may be taken
 pub taken_is_nearer : (s : Stage) → is_queued s ≡ true → IsNoNearer s stages.Taken
-taken_is_nearer stages.Queued t = record { queued = λ u. absurd (both_ways false refl u); live = λ u. refl; posted = λ u. absurd (both_ways false refl u) }
+taken_is_nearer stages.Queued t =
+    record { queued = λ u. absurd (both_ways false refl u); live = λ u. refl; posted = λ u. absurd (both_ways false refl u) }
 taken_is_nearer s t = absurd (both_ways false refl t)
 
-room_is : (p : Process) (c : Call) → ((start count : ℕ) → p.state ≡ states.Blocked (calls.ReceiveSegment start count) → start + count ≤ length p.memory) → p.state ≡ states.Blocked c → HasRoom c p.memory
+room_is : (p : Process) (c : Call) → ((start count : ℕ) → p.state ≡ states.Blocked (calls.ReceiveSegment start count) →
+    start + count ≤ length p.memory) → p.state ≡ states.Blocked c → HasRoom c p.memory
 room_is p (calls.ReceiveSegment start count) fits is = fits start count is
 room_is p c fits is = tt
 
-module _ (s between : Store) (pid : Pid) (at : ℕ) (p : Process) (c : Call) (name : Name) (kept : IsKept s) (here : IsAt s pid at) (there : (kernel_in s).procs pid ≡ Some p) (waits : receiving p.state ≡ Some c) (first : Some name ≡ first_of (queue_of (kernel_in s) pid)) (same : (noted : ℕ) → tables_in between noted ≡ tables_in s noted) where
+module _ (s between : Store) (pid : Pid) (at : ℕ) (p : Process) (c : Call) (name : Name) (kept : IsKept s) (here : IsAt s pid at)
+    (there : (kernel_in s).procs pid ≡ Some p) (waits : receiving p.state ≡ Some c)
+    (first : Some name ≡ first_of (queue_of (kernel_in s) pid)) (same : (noted : ℕ) → tables_in between noted ≡ tables_in s noted) where
   same_kernel : kernel_in between ≡ kernel_in s
   same_kernel = ap kernel_of (same 0)
 
@@ -64,7 +69,8 @@ module _ (s between : Store) (pid : Pid) (at : ℕ) (p : Process) (c : Call) (na
       let e = first_is_queued (kernel_in s) pid name (sym first) in
       absurd (none-some e.0 (sym none ∙ sym is ∙ e.1))
 
-  pub take_delivered : (after : Store) (from : ℕ) → IsIndexed between → IsAt between name.sender from → (u : Unit {0}) → Delivers at from name c between after (Some u) → Goes (take_step (kernel_in s) pid) None after
+  pub take_delivered : (after : Store) (from : ℕ) → IsIndexed between → IsAt between name.sender from → (u : Unit {0}) →
+      Delivers at from name c between after (Some u) → Goes (take_step (kernel_in s) pid) None after
   unfolding taking
   take_delivered after from indexed sender u delivers =
       let e = first_is_queued (kernel_in s) pid name (sym first) in
@@ -75,14 +81,17 @@ module _ (s between : Store) (pid : Pid) (at : ℕ) (p : Process) (c : Call) (na
       (found (first_of (queue_of (kernel_in s) pid)) name _ _ (sym first)
       (found ((kernel_in s).exchanges name) e.0 _ _ e.1 refl))) in
       let place = ap (λ (x : Tables). x.pids) (same 0) in
-      let done = delivers pid p e.0 (ap (λ ps. place_in ps pid) place ∙ here.place) sender.place (ap (λ (k : Kernel). k.procs pid) same_kernel ∙ there) (ap (λ (k : Kernel). k.exchanges name) same_kernel ∙ e.1)
-      (room_is p c (λ start count is. asked_room kept.size (kernel_in s) pid p start count kept.sized there is) (receiving_is p.state c waits)) e.2 indexed in
+      let done = delivers pid p e.0 (ap (λ ps. place_in ps pid) place ∙ here.place) sender.place
+      (ap (λ (k : Kernel). k.procs pid) same_kernel ∙ there) (ap (λ (k : Kernel). k.exchanges name) same_kernel ∙ e.1)
+      (room_is p c (λ start count is. asked_room kept.size (kernel_in s) pid p start count kept.sized there is)
+      (receiving_is p.state c waits)) e.2 indexed in
       record {
         effect = found (taking (kernel_in s) pid) t _ _ o (ap (λ k. Some (unseen k)) (sym (done.0 ∙ ap (λ k. taken k pid t) same_kernel)));
         indexed = done.1;
       }
 
-  pub take_by : (after : Store) (from : ℕ) (done : Option (Unit {0})) → IsIndexed between → IsAt between name.sender from → Delivers at from name c between after done → GoesOrNot (take_step (kernel_in s) pid) s after done
+  pub take_by : (after : Store) (from : ℕ) (done : Option (Unit {0})) → IsIndexed between → IsAt between name.sender from →
+      Delivers at from name c between after done → GoesOrNot (take_step (kernel_in s) pid) s after done
   take_by after from (Some u) indexed sender delivers = take_delivered after from indexed sender u delivers
   take_by after from None indexed sender delivers = (
     take_missing ((kernel_in s).exchanges name) refl (ap (λ (k : Kernel). k.exchanges name) (sym same_kernel) ∙ delivers.0 sender.place),
@@ -92,7 +101,9 @@ module _ (s between : Store) (pid : Pid) (at : ℕ) (p : Process) (c : Call) (na
   pub take_lost : IsIndexed between → None ≡ place_in between.places name.sender → (take_step (kernel_in s) pid ≡ None) × Stays s between
   unfolding at_place
   take_lost indexed none = (
-    take_missing ((kernel_in s).exchanges name) refl (ap (λ (k : Kernel). k.exchanges name) (sym same_kernel) ∙ exchanges_nowhere between.places between.sends.items name (nowhere between.places between.sends.items name.sender (sym none))),
+    take_missing ((kernel_in s).exchanges name) refl
+        (ap (λ (k : Kernel). k.exchanges name) (sym same_kernel)
+        ∙ exchanges_nowhere between.places between.sends.items name (nowhere between.places between.sends.items name.sender (sym none))),
     record { tables = same; indexed = indexed },
   )
 

@@ -1,7 +1,7 @@
 -- Internal: no public contract rests on this file. The lists of the initial kernel.
 use Rattle.std.specs.Prelude.{◌≡◌, true, List, [], ◌∷◌, ◌++◌, map, replicate, None}
 use Rattle.vk_base.specs.declared.config.ProcessSpec.{ProcessSpec}
-use Rattle.v_machine.specs.declared.tables.activity.Activity.TheVariants as activities
+use Rattle.vk_base.specs.declared.activity.Activity.TheVariants as activities
 use Rattle.v_machine.specs.declared.tables.proc.Proc.{Proc}
 use Rattle.v_machine.specs.declared.tables.Store.{Store}
 

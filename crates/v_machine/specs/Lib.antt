@@ -1,5 +1,4 @@
 pub mod Access
-pub mod Activities
 pub mod Apply
 pub mod Initial
 pub mod Kept

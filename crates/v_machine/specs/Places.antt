@@ -5,6 +5,7 @@ use Rattle.vk_base.specs.declared.pid.Pid.{Pid}
 use Rattle.vk_base.specs.Options.{◌>>=◌}
 use Rattle.vk_base.specs.Pids.{same_pid}
 use Rattle.v_machine.specs.declared.tables.groups.Placed.{Placed}
+use Rattle.v_machine.specs.declared.tables.places.TheConstants.{GROUPS}
 
 abbrev pub pid_of : ProcessSpec → Pid
 pid_of s = s.pid
@@ -19,7 +20,7 @@ found_in group pid = option_map (λ (p : Placed). p.at) (find (λ (p : Placed). 
 
 -- the group of a process
 abbrev pub group_of : Pid → ℕ
-group_of pid = (pid.host * 32 + pid.local) % 1024
+group_of pid = (pid.host * 32 + pid.local) % GROUPS
 
 -- each process has its place in its group
 abbrev pub AreGrouped : List Pid → List (List Placed) → Type 0

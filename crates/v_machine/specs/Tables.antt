@@ -1,5 +1,5 @@
 -- What a machine keeps, as contracts see it, and the kernel that it stands for.
-use Rattle.std.specs.Prelude.{ℕ, ◌==◌, Bool, List, [], ◌∷◌, ◌++◌, filter, slice_get, Option, Some, option_map}
+use Rattle.std.specs.Prelude.{ℕ, ◌==◌, Bool, List, [], ◌∷◌, ◌++◌, filter, slice_get, Option, Some}
 use Rattle.vk_base.specs.declared.kernel.Exchange.{Exchange}
 use Rattle.vk_base.specs.declared.kernel.Lookup.{Lookup}
 use Rattle.vk_base.specs.declared.kernel.Name.{Name}
@@ -8,7 +8,7 @@ use Rattle.vk_base.specs.declared.kernel.Registration.{Registration}
 use Rattle.vk_base.specs.declared.pid.Pid.{Pid}
 use Rattle.vk_base.specs.Kernel.{◌>>=◌, Kernel}
 use Rattle.v_machine.specs.declared.tables.proc.Proc.{Proc}
-use Rattle.v_machine.specs.Activities.{state_of}
+use Rattle.vk_base.specs.Activities.{state_of}
 use Rattle.v_machine.specs.Places.{place_in, at_place, count_at, numbered}
 
 -- The value of a `Machine`. The second, third and fourth list have an entry for each process, in the order of the first.

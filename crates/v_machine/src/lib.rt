@@ -6,7 +6,7 @@
 //! | Files of `src/` | What they do |
 //! |---|---|
 //! | `machine.rt` | the machine, which is all that callers see, with its errors in `refusal.rt` |
-//! | `tables.rt`, `tables/` | what is kept (`specs/Tables.antt`, `specs/Kept.antt`): a file for each table, and what reads and changes them |
+//! | `tables.rt`, `tables/` | what is kept (`specs/Tables.antt`, `specs/Kept.antt`): a file for each table with what reads and changes it |
 //! | `calls.rt`, `calls/` | the step that is a call: a file for each kind; `access.rt`, `held.rt` where a partner is concerned |
 //! | `steps.rt`, `steps/` | the other steps: of messages, of remote moves, of lookups |
 #![tactic(auto)]

@@ -1,6 +1,5 @@
 //! The tables of a machine. What the lists of processes have at a place is of the process that has this place.
 
-pub mod activity;
 pub mod arrivals;
 pub mod bytes;
 pub mod groups;

@@ -16,6 +16,7 @@ use Rattle.vk_base.specs.Kernel.{◌>>=◌, holds_of, same_name, is_moving, is_p
 use Rattle.vk_base.specs.Pids.{same_pid, same_host}
 use Rattle.vk_base.specs.Steps.{is_older, after_arrival}
 use Rattle.v_laws.proofs.Tables.{same_pid_is, put_process_at, put_process_other}
+use Rattle.v_laws.proofs.MoveSteps.{unstaged}
 use Rattle.v_sim.specs.Agreement.{is_to, is_shown, Shown, shown_of, shown, Sent, sent_of, posted_at, reply_at, moves_of, moves_at, is_from_at, noted_of, IsAlike, IsAlikeMove, IsAlikeProcess, IsInMove}
 use Rattle.v_sim.proofs.Shown.{show, shown_some, shown_none, to_host, open_shown, shown_not_posted}
 
@@ -101,13 +102,9 @@ pub data IsDropping (x y : Exchange) : Type 0 where
   remains : y ≡ x → IsDropping x y
   falls : (is_posted x.stage || is_at_target x.stage) ≡ true → y ≡ record x { stage = stages.Dropped } → IsDropping x y
 
--- all but the stage
-abbrev pub kept : Exchange → Exchange
-kept e = record e { stage = stages.Dropped }
-
-pub dropping_kept : (x y : Exchange) → IsDropping x y → kept y ≡ kept x
-dropping_kept x y (IsDropping.remains e) = ap kept e
-dropping_kept x y (IsDropping.falls t e) = ap kept e
+pub dropping_kept : (x y : Exchange) → IsDropping x y → unstaged y ≡ unstaged x
+dropping_kept x y (IsDropping.remains e) = ap unstaged e
+dropping_kept x y (IsDropping.falls t e) = ap unstaged e
 
 pub replied_not_dropped : (s : Stage) (r : Message × ℕ × List ℕ) → reply_of s ≡ Some r → (is_posted s || is_at_target s) ≡ false
 replied_not_dropped stages.Posted r e = absurd (none-some r e)
@@ -126,36 +123,36 @@ dropping_before x y r (IsDropping.remains e) g = sym (ap (λ (z : Exchange). rep
 dropping_before x y r (IsDropping.falls t e) g = absurd (none-some r (sym (ap (λ (z : Exchange). reply_of z.stage) e) ∙ g))
 
 -- a function of all but the stage
-pub by_kept : {A : Type 0} (F : Option Exchange → A) → ((o : Option Exchange) → F (option_map kept o) ≡ F o) → (f : Exchange → Exchange) →
-    ((x : Exchange) → kept (f x) ≡ kept x) → (o : Option Exchange) → F (option_map f o) ≡ F o
+pub by_kept : {A : Type 0} (F : Option Exchange → A) → ((o : Option Exchange) → F (option_map unstaged o) ≡ F o) → (f : Exchange → Exchange) →
+    ((x : Exchange) → unstaged (f x) ≡ unstaged x) → (o : Option Exchange) → F (option_map f o) ≡ F o
 by_kept F only f same None = refl
 by_kept F only f same (Some x) = sym (only (Some (f x))) ∙ ap (λ y. F (Some y)) (same x) ∙ only (Some x)
 
-pub moves_kept : (h : ℕ) (o : Option Exchange) → moves_at h (option_map kept o) ≡ moves_at h o
+pub moves_kept : (h : ℕ) (o : Option Exchange) → moves_at h (option_map unstaged o) ≡ moves_at h o
 moves_kept h None = refl
 moves_kept h (Some x) = refl
 
-pub sent_kept : (o : Option Exchange) → sent_of (option_map kept o) ≡ sent_of o
+pub sent_kept : (o : Option Exchange) → sent_of (option_map unstaged o) ≡ sent_of o
 sent_kept None = refl
 sent_kept (Some x) = refl
 
-pub opened_kept : (o : Option Exchange) → opened_of (option_map kept o) ≡ opened_of o
+pub opened_kept : (o : Option Exchange) → opened_of (option_map unstaged o) ≡ opened_of o
 opened_kept None = refl
 opened_kept (Some x) = refl
 
-pub done_kept : (o : Option Exchange) → done_of (option_map kept o) ≡ done_of o
+pub done_kept : (o : Option Exchange) → done_of (option_map unstaged o) ≡ done_of o
 done_kept None = refl
 done_kept (Some x) = refl
 
-pub from_kept : (number : ℕ) (o : Option Exchange) → is_from_at number (option_map kept o) ≡ is_from_at number o
+pub from_kept : (number : ℕ) (o : Option Exchange) → is_from_at number (option_map unstaged o) ≡ is_from_at number o
 from_kept number None = refl
 from_kept number (Some x) = refl
 
-pub noted_kept : (o : Option Exchange) → noted_of (option_map kept o) ≡ noted_of o
+pub noted_kept : (o : Option Exchange) → noted_of (option_map unstaged o) ≡ noted_of o
 noted_kept None = refl
 noted_kept (Some x) = refl
 
-pub to_kept : (h : ℕ) (o : Option Exchange) → holds_of (is_to h) (option_map kept o) ≡ holds_of (is_to h) o
+pub to_kept : (h : ℕ) (o : Option Exchange) → holds_of (is_to h) (option_map unstaged o) ≡ holds_of (is_to h) o
 to_kept h None = refl
 to_kept h (Some x) = refl
 
@@ -202,21 +199,21 @@ mapped h n heard f g l m old drop_f drop_g shows posts fresh = record {
   fresh = λ here above. ap (posted_at h) (fresh above) ∙ old.fresh (sym (by_kept (holds_of (is_to h)) (to_kept h) g keep_g m) ∙ here) above;
 }
   where
-    keep_f : (x : Exchange) → kept (f x) ≡ kept x
+    keep_f : (x : Exchange) → unstaged (f x) ≡ unstaged x
     keep_f x = dropping_kept x (f x) (drop_f x)
 
-    keep_g : (x : Exchange) → kept (g x) ≡ kept x
+    keep_g : (x : Exchange) → unstaged (g x) ≡ unstaged x
     keep_g x = dropping_kept x (g x) (drop_g x)
 
 pub mapped_move : (number : ℕ) (f g : Exchange → Exchange) (l m : Option Exchange) → IsAlikeMove number l m →
-    ((x : Exchange) → kept (f x) ≡ kept x) → ((x : Exchange) → kept (g x) ≡ kept x) → IsAlikeMove number (option_map f l) (option_map g m)
+    ((x : Exchange) → unstaged (f x) ≡ unstaged x) → ((x : Exchange) → unstaged (g x) ≡ unstaged x) → IsAlikeMove number (option_map f l) (option_map g m)
 mapped_move number f g l m old keep_f keep_g = record {
   opened = λ e. by_kept opened_of opened_kept g keep_g m ∙ old.opened (sym (by_kept opened_of opened_kept f keep_f l) ∙ e);
   done = subst₂ (λ a b. a ≤ b) (sym got_f) (sym got_g) old.done;
   from = λ t. got_f ∙ old.from (sym (by_kept (is_from_at number) (from_kept number) g keep_g m) ∙ t) ∙ sym got_g;
 }
   where
-    got_kept : (o : Option Exchange) → bytes_copied number (option_map kept o) ≡ bytes_copied number o
+    got_kept : (o : Option Exchange) → bytes_copied number (option_map unstaged o) ≡ bytes_copied number o
     got_kept None = refl
     got_kept (Some x) = refl
 

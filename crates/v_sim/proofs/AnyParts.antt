@@ -1,8 +1,9 @@
 -- What holds of a view stays where a packet other than a Send comes.
-use Rattle.std.proofs.Common.{◌≡◌, ℕ, zero, suc, ◌<◌, ◌≤◌, ◌⊎◌, true, false, ◌==◌, List, [], ◌∷◌, length, Option, Some, is_some, All, option_map, refl, sym, ap, subst, ◌∙◌, inl, inr, arith}
-use Rattle.std.proofs.lemmas.Bool.{cases_Bool, cases_eq, both_ways, eqb-true, cond-true, cond-false, cond_both, false_from_ne_true}
+use Rattle.std.proofs.Common.{◌≡◌, ℕ, zero, suc, ◌≤◌, ◌⊎◌, true, false, List, [], ◌∷◌, length, Option, Some, None, is_some, All, option_map, refl, sym, ap, subst, ◌∙◌, inl, inr, arith}
+use Rattle.std.proofs.lemmas.Bool.{cases_Bool, cases_eq, both_ways, cond-true, cond-false, cond_both, false_from_ne_true}
 use Rattle.std.proofs.lemmas.List.Elements.{All-nil, All-weaker}
-use Rattle.std.proofs.lemmas.Option.{same_Some, none-some}
+use Rattle.std.proofs.lemmas.Option.{none-some}
+use Rattle.std.specs.Option.{option_map_or}
 use Rattle.vk_base.specs.declared.kernel.Exchange.{Exchange}
 use Rattle.vk_base.specs.declared.kernel.Lookup.{Lookup}
 use Rattle.vk_base.specs.declared.kernel.Move.{Move}
@@ -15,11 +16,11 @@ use Rattle.vk_base.specs.declared.message.Message.{Message}
 use Rattle.vk_base.specs.declared.pid.Pid.{Pid}
 use Rattle.vk_base.specs.declared.step.Step.{Step}
 use Rattle.vk_base.specs.declared.step.Step.TheVariants as steps
-use Rattle.vk_base.specs.Brought.{found_dead, posted, put_at, put_move, set_bytes, put_bytes}
+use Rattle.vk_base.specs.Brought.{found_dead, put_at, put_move, set_bytes, put_bytes, is_moved_by, with_running}
 unfoldable use Rattle.vk_base.specs.Changes.{change_process, change_exchange}
-use Rattle.vk_base.specs.Kernel.{Kernel, name_of, same_name, is_live, is_ready, is_posted, is_at_target, sending}
+use Rattle.vk_base.specs.Kernel.{Kernel, holds_of, name_of, same_name, is_live, is_ready, is_posted, is_at_target, sending, move_of}
 use Rattle.vk_base.specs.Pids.{same_pid, same_host}
-use Rattle.v_laws.specs.Sound.{IsBegun, IsAwaited, IsSent, IsRegistered, is_settled}
+use Rattle.v_laws.specs.Sound.{IsBegun, IsAwaited, IsSent, IsRegistered}
 use Rattle.v_laws.proofs.Changes.{ExchangeOn, sound_onward, exchange_self}
 use Rattle.v_laws.proofs.Options.{some_there, mapped_is}
 use Rattle.v_laws.proofs.Related.{Related, related_self, related_map}
@@ -46,6 +47,17 @@ set_bytes_length (y ∷ ys) (suc i) bytes = let rest = set_bytes_length ys i byt
 pub put_bytes_length : (xs : List Move) (number : ℕ) (bytes : List ℕ) → length xs ≤ length (put_bytes xs number bytes)
 put_bytes_length xs zero bytes = omega arith
 put_bytes_length xs (suc i) bytes = set_bytes_length xs i bytes
+
+-- an exchange keeps its moves where it does not have one that runs
+pub running_length : (moving : ℕ) (mover : Pid) (own : Option Move) (e : Exchange) →
+    length e.moves ≤ length (with_running moving mover own e).moves
+running_length moving mover own e =
+    cond_both (holds_of (is_moved_by mover) (move_of e moving)) e.moves (option_map_or (put_move e.moves moving) own e.moves)
+    (λ ms. length e.moves ≤ length ms) (λ t. omega arith) (λ f. by_option own)
+  where
+    by_option : (o : Option Move) → length e.moves ≤ length (option_map_or (put_move e.moves moving) o e.moves)
+    by_option None = omega arith
+    by_option (Some x) = put_move_length e.moves moving x
 
 pub some_step : Pid → Step
 some_step pid = steps.Lost pid
@@ -78,7 +90,7 @@ lookups_any h l pid lookups view = record {
 }
 
 -- what was there before a change
-changed_from : (exchanges : Name → Option Exchange) (name : Name) (f : Exchange → Exchange) (n : Name) (y : Exchange) →
+pub changed_from : (exchanges : Name → Option Exchange) (name : Name) (f : Exchange → Exchange) (n : Name) (y : Exchange) →
     change_exchange exchanges name f n ≡ Some y → (x : Exchange) × (exchanges n ≡ Some x) × ((y ≡ x) ⊎ ((n ≡ name) × (y ≡ f x)))
 unfolding change_exchange
 changed_from exchanges name f n y at = elim (cases_Bool (same_name n name)) [
@@ -87,7 +99,7 @@ changed_from exchanges name f n y at = elim (cases_Bool (same_name n name)) [
   | inr g ↦ (y, sym (cond-false (same_name n name) (option_map f (exchanges n)) (exchanges n) g) ∙ at, inl refl)
 ]
 
-changed_to : (exchanges : Name → Option Exchange) (name : Name) (f : Exchange → Exchange) (n : Name) (x : Exchange) → exchanges n ≡ Some x →
+pub changed_to : (exchanges : Name → Option Exchange) (name : Name) (f : Exchange → Exchange) (n : Name) (x : Exchange) → exchanges n ≡ Some x →
     (y : Exchange) × (change_exchange exchanges name f n ≡ Some y) × ((y ≡ x) ⊎ (y ≡ f x))
 unfolding change_exchange
 changed_to exchanges name f n x at = elim (cases_Bool (same_name n name)) [
@@ -117,7 +129,7 @@ reply_any h l name from message dest bytes view far target = record {
     posted = λ n e at away. let x = posted_before n e at away in let u =
         view.sound.posted n e x away in record { remote = u.remote; away = u.away };
     came = λ n e at live. view.sound.came n e (open_before n e at live) live;
-    settled = λ sender i j x y at_x at_y less near seen gone. settled sender i j x y at_x at_y less near seen gone;
+    settled = λ sender i j x y at_x at_y less near seen gone. absurd (both_ways false refl seen);
     resting = view.sound.resting;
     sent = λ pid p to m at sends. sent pid p to m at sends;
     registered = λ host. All-weaker (IsRegistered l host) (IsRegistered after host) (λ r is. record { here = is.here; live = is.live })
@@ -146,24 +158,6 @@ reply_any h l name from message dest bytes view far target = record {
         at in elim x.2 [
           | inl same ↦ x.1 ∙ ap (λ z. Some z) (sym same)
           | inr new ↦ absurd (both_ways (is_posted e.stage) (ap (λ (z : Exchange). is_posted z.stage) new.1) away)
-        ]
-
-    settled : (sender : Pid) (i j : ℕ) (x y : Exchange) → after.exchanges (name_of sender i) ≡ Some x →
-        after.exchanges (name_of sender j) ≡ Some y → i < j → same_host x.target y.target ≡ true → (y.target.host == h) ≡ true →
-        is_posted y.stage ≡ false → is_settled x.stage ≡ true
-    settled sender i j x y at_x at_y less near seen gone =
-        let a = changed_from l.exchanges name (λ e. record e { stage = stages.Replied message dest bytes }) (name_of sender i) x at_x in
-        let b = changed_from l.exchanges name (λ e. record e { stage = stages.Replied message dest bytes }) (name_of sender j) y at_y in
-        elim a.2 [
-          | inr new ↦ ap (λ (z : Exchange). is_settled z.stage) new.1
-          | inl same_x ↦ elim b.2 [
-            | inl same_y ↦ view.sound.settled sender i j x y (a.1 ∙ ap (λ z. Some z) (sym same_x)) (b.1 ∙ ap (λ z. Some z) (sym same_y))
-                less near seen gone
-            | inr new ↦
-                let to : b.0.target ≡ from =
-                same_Some b.0.target from (sym (ap target_of b.1) ∙ ap (λ z. target_of (l.exchanges z)) new.0 ∙ target) in
-                absurd (far (sym (ap (λ (r : Pid). r.host) (ap (λ (z : Exchange). z.target) new.1 ∙ to)) ∙ eqb-true y.target.host h seen))
-          ]
         ]
 
     sent : (pid : Pid) (p : Process) (to : Pid) (m : Message) → l.procs pid ≡ Some p → sending p.state ≡ Some (to, m) →
@@ -226,7 +220,7 @@ negative_any h l from view far = record {
     once = view.sound.once;
     posted = λ n e at away. let u = view.sound.posted n e at away in record { remote = u.remote; away = u.away };
     came = view.sound.came;
-    settled = view.sound.settled;
+    settled = λ sender i j x y at_x at_y less near seen gone. absurd (both_ways false refl seen);
     resting = λ pid p at dead. let x = process_from l.procs from f pid p at in elim x.2 [
       | inl same ↦ ap (λ (z : Process). is_ready z.state) same ∙ view.sound.resting pid x.0 x.1
           (ap (λ (z : Process). z.alive) (sym same) ∙ dead)

@@ -197,7 +197,32 @@ copied_stays h l n number offset count c view g = let is =
     copying_is l n number offset count c g in stays_put h l (copied l n offset count c) c.pid c.process _ view is.process (inr is.busy)
     (λ q. refl) (λ z. refl)
 
-step_stays : (h : ℕ) (l : Kernel) (s : Step) (e : Effect) → IsView h l → host_of l s ≡ h → effect l s ≡ Some e → ForeignStays h l e.after
+-- a step of a process that is the station's own, or of any message, move or lookup
+abbrev pub IsOwnStep : ℕ → Step → Type 0
+IsOwnStep h (steps.Call pid c) = pid.host ≡ h
+IsOwnStep h (steps.Finish s) = s.host ≡ h
+IsOwnStep h (steps.Fail s why) = s.host ≡ h
+IsOwnStep h (steps.End r why) = r.host ≡ h
+IsOwnStep h (steps.Found asker pid) = asker.host ≡ h
+IsOwnStep h (steps.Lost asker) = asker.host ≡ h
+IsOwnStep h (steps.Collect pid) = pid.host ≡ h
+IsOwnStep h s = Unit {0}
+
+own_of : (h : ℕ) (l : Kernel) (s : Step) → host_of l s ≡ h → IsOwnStep h s
+own_of h l (steps.Call pid c) here = here
+own_of h l (steps.Arrive sender number) here = tt
+own_of h l (steps.Take r) here = tt
+own_of h l (steps.Finish s) here = here
+own_of h l (steps.Fail s why) here = here
+own_of h l (steps.OpenMove sender number moving) here = tt
+own_of h l (steps.Copy sender number moving offset count) here = tt
+own_of h l (steps.End r why) here = here
+own_of h l (steps.Hear asker number pid) here = tt
+own_of h l (steps.Found asker pid) here = here
+own_of h l (steps.Lost asker) here = here
+own_of h l (steps.Collect pid) here = here
+
+step_stays : (h : ℕ) (l : Kernel) (s : Step) (e : Effect) → IsView h l → IsOwnStep h s → effect l s ≡ Some e → ForeignStays h l e.after
 step_stays h l (steps.Call pid c) e view here g = let p =
     bind_is (l.procs pid) _ e g in called_stays h l pid p.0 c (call_refusal l pid p.0 c) e view here p.1 p.2
 step_stays h l (steps.Arrive sender number) e view here g = let x = bind_is (arriving l (name_of sender number)) _ e g in
@@ -228,14 +253,17 @@ step_stays h l (steps.Collect pid) e view here g = let d =
     bind_is (collecting l pid) _ e g in by_effect h l _ e d.2 (stays_put h l _ pid d.0.process _ view (collecting_is l pid d.0 d.1).process
     (inl here) (λ q. refl) (λ z. refl))
 
-pub view_step : (h : ℕ) (l : Kernel) (s : Step) (e : Effect) → IsView h l → host_of l s ≡ h → effect l s ≡ Some e → IsView h e.after
-view_step h l s e view here g =
+pub view_own : (h : ℕ) (l : Kernel) (s : Step) (e : Effect) → IsView h l → IsOwnStep h s → effect l s ≡ Some e → IsView h e.after
+view_own h l s e view here g =
     let stays = step_stays h l s e view here g in
     record {
       sound = sound_step l s e view.sound g;
       ready = λ q p far at. view.ready q p far (sym (stays.procs q far) ∙ at);
       names = stays.names;
     }
+
+pub view_step : (h : ℕ) (l : Kernel) (s : Step) (e : Effect) → IsView h l → host_of l s ≡ h → effect l s ≡ Some e → IsView h e.after
+view_step h l s e view here g = view_own h l s e view (own_of h l s here) g
 
 pub view_initial : (h : ℕ) (specs : List ProcessSpec) → IsView h (initial_kernel specs)
 view_initial h specs = record {

@@ -1,9 +1,10 @@
 -- Every frame keeps what holds of a view.
 -- Moves and lookups: nothing of it is said.
-use Rattle.std.proofs.Common.{◌≡◌, ℕ, ◌<◌, ◌≤◌, ◌⊎◌, true, false, ◌==◌, nat_lt, List, length, Option, Some, None, is_some, All, refl, sym, ap, subst, ◌∙◌, inl, inr, arith}
+use Rattle.std.proofs.Common.{◌≡◌, ℕ, ◌≤◌, ◌⊎◌, true, false, nat_lt, not, List, length, Option, Some, None, is_some, All, refl, sym, ap, subst, ◌∙◌, inl, inr, arith}
 use Rattle.std.proofs.lemmas.Bool.{cases_Bool, cases_eq, both_ways, ne_eqb, cond_both, false_from_ne_true}
 use Rattle.std.proofs.lemmas.List.Elements.{All-nil, All-weaker}
-use Rattle.std.proofs.lemmas.Option.{same_Some}
+use Rattle.std.proofs.lemmas.Option.{same_Some, none-some}
+use Rattle.std.specs.List.{list_any}
 use Rattle.vk_base.specs.declared.kernel.Exchange.{Exchange}
 use Rattle.vk_base.specs.declared.kernel.Name.{Name}
 use Rattle.vk_base.specs.declared.kernel.Process.{Process}
@@ -11,24 +12,24 @@ use Rattle.vk_base.specs.declared.kernel.Registration.{Registration}
 use Rattle.vk_base.specs.declared.kernel.State.TheVariants as states
 use Rattle.vk_base.specs.declared.message.Message.{Message}
 use Rattle.vk_base.specs.declared.pid.Pid.{Pid}
-use Rattle.vk_base.specs.Brought.{sender_heard, posted, put_move, brought}
-use Rattle.vk_base.specs.Counts.{sends_of}
+use Rattle.vk_base.specs.Brought.{sender_heard, posted, without, put_move, bytes_from, running_move, with_running, brought}
 use Rattle.vk_base.specs.Kernel.{Kernel, name_of, same_name, is_live, is_ready, is_posted, is_at_target, sending, put_process, put_exchange}
 use Rattle.vk_base.specs.Packets.{Packet, Send, Reply, Pending, Negative, MoveData, MoveAck, MoveRequest, MoveBytes, MoveNegative, AskPid, TellPid}
 use Rattle.vk_base.specs.Pids.{same_pid, same_host}
-use Rattle.v_laws.specs.Sound.{IsBegun, IsAwaited, IsUnderWay, IsSent, IsRegistered, has_arrived, is_settled}
+use Rattle.v_laws.specs.Sound.{IsBegun, IsAwaited, IsUnderWay, IsSent, IsRegistered, has_arrived}
 use Rattle.v_laws.proofs.Changes.{ExchangeOn, StageOn}
-use Rattle.v_laws.proofs.Options.{some_there}
+use Rattle.v_laws.proofs.FilterLemmas.{distinct_filter}
 use Rattle.v_laws.proofs.Tables.{same_pid_is, same_name_is, put_process_at, put_process_here, put_process_other, put_exchange_at, put_exchange_other}
 use Rattle.v_sim.specs.AnyView.{IsView, SendComes, Comes}
-use Rattle.v_sim.proofs.AnyParts.{put_move_length, put_bytes_length, some_step, moves_any, lookups_any, reply_any, ready_waits, negative_any}
+use Rattle.v_sim.proofs.Alone.{none_filtered, without_from, without_gone, without_keeps}
+use Rattle.v_sim.proofs.AnyParts.{put_move_length, put_bytes_length, running_length, some_step, moves_any, lookups_any, reply_any, ready_waits, negative_any}
 
 -- Send.
 put_from : (exchanges : Name → Option Exchange) (name : Name) (x : Exchange) (n : Name) (e : Exchange) →
-    put_exchange exchanges name x n ≡ Some e → ((n ≡ name) × (e ≡ x)) ⊎ (exchanges n ≡ Some e)
+    put_exchange exchanges name x n ≡ Some e → ((n ≡ name) × (e ≡ x)) ⊎ ((same_name n name ≡ false) × (exchanges n ≡ Some e))
 put_from exchanges name x n e at = elim (cases_Bool (same_name n name)) [
   | inl t ↦ inl (same_name_is n name t, same_Some e x (sym at ∙ put_exchange_at exchanges name x n t))
-  | inr g ↦ inr (sym (put_exchange_other exchanges name x n g) ∙ at)
+  | inr g ↦ inr (g, sym (put_exchange_other exchanges name x n g) ∙ at)
 ]
 
 -- a process is put, of which nothing but its number of Sends is said
@@ -50,13 +51,17 @@ heard_sends : (number : ℕ) (o : Option Process) → number ≤ (sender_heard n
 heard_sends number None = omega arith
 heard_sends number (Some p) = omega arith
 
+heard_more : (number : ℕ) (o : Option Process) (p : Process) → o ≡ Some p → p.sends ≤ (sender_heard number o).sends
+heard_more number None p at = absurd (none-some p at)
+heard_more number (Some q) p at = let same = ap (λ (z : Process). z.sends) (same_Some q p at) in omega arith
+
 heard_ready : (number : ℕ) (o : Option Process) → ((p : Process) → o ≡ Some p → p.state ≡ states.Ready) →
     (sender_heard number o).state ≡ states.Ready
 heard_ready number None ready = refl
 heard_ready number (Some p) ready = ready p refl
 
 module _ (h : ℕ) (l : Kernel) (from to : Pid) (number : ℕ) (message : Message) (part : List ℕ) (view : IsView h l)
-    (comes : SendComes h l from to number) where
+    (comes : SendComes h from to number) where
   abbrev heard : Process
   heard = sender_heard number (l.procs from)
 
@@ -64,6 +69,7 @@ module _ (h : ℕ) (l : Kernel) (from to : Pid) (number : ℕ) (message : Messag
   sent_after = record l {
     procs = put_process l.procs from heard;
     exchanges = put_exchange l.exchanges (name_of from number) (posted to message part);
+    arrived = without (name_of from number) l.arrived;
   }
 
   is_ready_then : heard.state ≡ states.Ready
@@ -74,26 +80,18 @@ module _ (h : ℕ) (l : Kernel) (from to : Pid) (number : ℕ) (message : Messag
   waits_not q p x same at e =
       ready_waits p.state x (view.ready q p (λ here. comes.far (ap (λ (r : Pid). r.host) (sym same) ∙ here)) at) e
 
-  -- no exchange of the sender is of this number or a later one
-  none_above : (n : Name) (e : Exchange) → l.exchanges n ≡ Some e → n.sender ≡ from → n.number < number
-  none_above n e at same =
-      let b = view.sound.begun n e at in
-      let last : n.number ≤ sends_of (l.procs from) =
-      subst (λ o. n.number ≤ sends_of o) (sym b.is ∙ ap l.procs same) b.last in
-      let above = comes.above in
-      omega arith
-
-  first_number : 0 < number
-  first_number = let above = comes.above in omega arith
-
   begun_as : (n : Name) (e : Exchange) → l.exchanges n ≡ Some e →
       (y : Process) × (sent_after.procs n.sender ≡ Some y) × (n.number ≤ y.sends)
   begun_as n e at =
       let b = view.sound.begun n e at in
-      let all = heard_sends number (l.procs from) in
       elim (heard_to l.procs from heard n.sender b.process b.is) [
         | inl same ↦ (b.process, same, b.last)
-        | inr new ↦ (heard, new.1, (let less = none_above n e at new.0 in omega arith))
+        | inr new ↦ (
+          heard,
+          new.1,
+          (let more = heard_more number (l.procs from) b.process (ap l.procs (sym new.0) ∙ b.is) in
+              let last = b.last in omega arith),
+        )
       ]
 
   sent_begun : (n : Name) (e : Exchange) → sent_after.exchanges n ≡ Some e → IsBegun sent_after n
@@ -101,12 +99,12 @@ module _ (h : ℕ) (l : Kernel) (from to : Pid) (number : ℕ) (message : Messag
     | inl new ↦ subst (IsBegun sent_after) (sym new.0) (record {
       process = heard;
       is = put_process_here l.procs from heard;
-      first = first_number;
+      first = comes.first;
       last = heard_sends number (l.procs from);
     })
     | inr old ↦
-        let y = begun_as n e old in
-        record { process = y.0; is = y.1; first = (view.sound.begun n e old).first; last = y.2 }
+        let y = begun_as n e old.1 in
+        record { process = y.0; is = y.1; first = (view.sound.begun n e old.1).first; last = y.2 }
   ]
 
   sent_awaited : (n : Name) (e : Exchange) → sent_after.exchanges n ≡ Some e → same_host n.sender e.target ≡ true →
@@ -114,17 +112,18 @@ module _ (h : ℕ) (l : Kernel) (from to : Pid) (number : ℕ) (message : Messag
   sent_awaited n e at near live = elim (put_from l.exchanges (name_of from number) (posted to message part) n e at) [
     | inl new ↦ absurd (both_ways (is_at_target e.stage) (ap (λ (z : Exchange). is_at_target z.stage) new.1) live)
     | inr old ↦
-        let w = view.sound.awaited n e old near live in
+        let w = view.sound.awaited n e old.1 near live in
         elim (heard_to l.procs from heard n.sender w.process w.is) [
           | inl same ↦ record { process = w.process; is = same; alive = w.alive; blocked = w.blocked; last = w.last }
           | inr put ↦ absurd (waits_not n.sender w.process (e.target, e.message) put.0 w.is (ap sending w.blocked))
         ]
   ]
 
-  sent_known : (n : Name) → has_arrived l n ≡ true → is_some (sent_after.exchanges n) ≡ true
+  sent_known : (n : Name) → has_arrived sent_after n ≡ true → is_some (sent_after.exchanges n) ≡ true
   sent_known n among = elim (cases_Bool (same_name n (name_of from number))) [
     | inl t ↦ ap is_some (put_exchange_at l.exchanges (name_of from number) (posted to message part) n t)
-    | inr g ↦ ap is_some (put_exchange_other l.exchanges (name_of from number) (posted to message part) n g) ∙ view.sound.known n among
+    | inr g ↦ ap is_some (put_exchange_other l.exchanges (name_of from number) (posted to message part) n g)
+        ∙ view.sound.known n (without_from n (name_of from number) l.arrived among)
   ]
 
   sent_posted : (n : Name) (e : Exchange) → sent_after.exchanges n ≡ Some e → is_posted e.stage ≡ true → IsUnderWay sent_after n e
@@ -134,35 +133,22 @@ module _ (h : ℕ) (l : Kernel) (from to : Pid) (number : ℕ) (message : Messag
           ne_eqb n.sender.host e.target.host
           (λ same. comes.far (ap (λ (z : Name). z.sender.host) (sym new.0) ∙ same ∙ ap (λ (z : Exchange). z.target.host) new.1
           ∙ comes.here));
-      away = false_from_ne_true (has_arrived l n) (λ t.
-          let x = some_there (l.exchanges n) (view.sound.known n t) in
-          let less = none_above n x.0 x.1 (ap (λ (z : Name). z.sender) new.0) in
-          let same : n.number ≡ number = ap (λ (z : Name). z.number) new.0 in
-          omega arith);
+      away = ap (λ z. list_any (same_name z) (without (name_of from number) l.arrived)) new.0
+          ∙ without_gone (name_of from number) l.arrived;
     }
-    | inr old ↦ let u = view.sound.posted n e old away in record { remote = u.remote; away = u.away }
+    | inr old ↦
+        let u = view.sound.posted n e old.1 away in
+        record {
+          remote = u.remote;
+          away = none_filtered (same_name n) (λ x. not (same_name x (name_of from number))) l.arrived u.away;
+        }
   ]
 
-  sent_came : (n : Name) (e : Exchange) → sent_after.exchanges n ≡ Some e → is_at_target e.stage ≡ true → has_arrived l n ≡ true
+  sent_came : (n : Name) (e : Exchange) → sent_after.exchanges n ≡ Some e → is_at_target e.stage ≡ true → has_arrived sent_after n ≡ true
   sent_came n e at live = elim (put_from l.exchanges (name_of from number) (posted to message part) n e at) [
     | inl new ↦ absurd (both_ways (is_at_target e.stage) (ap (λ (z : Exchange). is_at_target z.stage) new.1) live)
-    | inr old ↦ view.sound.came n e old live
+    | inr old ↦ without_keeps n (name_of from number) l.arrived old.0 (view.sound.came n e old.1 live)
   ]
-
-  sent_settled : (sender : Pid) (i j : ℕ) (x y : Exchange) → sent_after.exchanges (name_of sender i) ≡ Some x →
-      sent_after.exchanges (name_of sender j) ≡ Some y → i < j → same_host x.target y.target ≡ true → (y.target.host == h) ≡ true →
-      is_posted y.stage ≡ false → is_settled x.stage ≡ true
-  sent_settled sender i j x y at_x at_y less near seen gone =
-      elim (put_from l.exchanges (name_of from number) (posted to message part) (name_of sender j) y at_y) [
-        | inl new ↦ absurd (both_ways (is_posted y.stage) gone (ap (λ (z : Exchange). is_posted z.stage) new.1))
-        | inr old_y ↦ elim (put_from l.exchanges (name_of from number) (posted to message part) (name_of sender i) x at_x) [
-          | inl new ↦
-              let below = none_above (name_of sender j) y old_y (ap (λ (z : Name). z.sender) new.0) in
-              let same : i ≡ number = ap (λ (z : Name). z.number) new.0 in
-              absurd (omega arith)
-          | inr old_x ↦ view.sound.settled sender i j x y old_x old_y less near seen gone
-        ]
-      ]
 
   sent_resting : (pid : Pid) (p : Process) → sent_after.procs pid ≡ Some p → p.alive ≡ false → is_ready p.state ≡ true
   sent_resting pid p at dead = elim (heard_from l.procs from heard pid p at) [
@@ -178,10 +164,7 @@ module _ (h : ℕ) (l : Kernel) (from to : Pid) (number : ℕ) (message : Messag
         let own = name_of pid p.sends in
         let new = name_of from number in
         let apart : same_name own new ≡ false = false_from_ne_true (same_name own new) (λ t.
-        let one = same_name_is own new t in
-        let less = none_above own w.exchange w.is (ap (λ (z : Name). z.sender) one) in
-        let equal : p.sends ≡ number = ap (λ (z : Name). z.number) one in
-        omega arith) in
+        waits_not pid p (target, m) (ap (λ (z : Name). z.sender) (same_name_is own new t)) same sends) in
         record {
           exchange = w.exchange;
           is = put_exchange_other l.exchanges new (posted to message part) own apart ∙ w.is;
@@ -211,10 +194,10 @@ module _ (h : ℕ) (l : Kernel) (from to : Pid) (number : ℕ) (message : Messag
       begun = sent_begun;
       awaited = sent_awaited;
       known = sent_known;
-      once = view.sound.once;
+      once = distinct_filter same_name (λ n. not (same_name n (name_of from number))) l.arrived view.sound.once;
       posted = sent_posted;
       came = sent_came;
-      settled = sent_settled;
+      settled = λ sender i j x y at_x at_y less near seen gone. absurd (both_ways false refl seen);
       resting = sent_resting;
       sent = sent_sent;
       registered = sent_registered;
@@ -242,13 +225,16 @@ view_brought h l (Negative from to number) view comes = negative_any h l from vi
 view_brought h l (MoveData from to number moving dest total offset bytes) view comes =
     moves_any h l to (name_of to number) _ view (λ n x. moves_change l to n x _ refl refl refl (put_move_length x.moves moving _) refl)
 view_brought h l (MoveAck from to number moving received) view comes =
-    moves_any h l to (name_of from number) _ view (λ n x. moves_change l to n x _ refl refl refl (omega arith) refl)
+    moves_any h l to (name_of from number) _ view
+    (λ n x. moves_change l to n x _ refl refl refl (running_length moving to (running_move l to) x) refl)
 view_brought h l (MoveRequest from to number moving src total offset) view comes =
     moves_any h l to (name_of to number) _ view (λ n x. moves_change l to n x _ refl refl refl
     (cond_both (nat_lt x.opened moving) (put_move x.moves moving _) x.moves (λ ms. length x.moves ≤ length ms)
     (λ t. put_move_length x.moves moving _) (λ f. omega arith)) refl)
 view_brought h l (MoveBytes from to number moving total offset bytes) view comes =
-    moves_any h l to (name_of from number) _ view (λ n x. moves_change l to n x _ refl refl refl (put_bytes_length x.moves moving _) refl)
+    moves_any h l to (name_of from number) _ view (λ n x. moves_change l to n x _ refl refl refl
+    (let more = running_length moving to (running_move l to) x in
+    let kept = put_bytes_length (with_running moving to (running_move l to) x).moves moving (bytes_from offset bytes) in omega arith) refl)
 view_brought h l (MoveNegative from to number moving) view comes = view
 view_brought h l (AskPid asker lookup logical) view comes = lookups_any h l asker _ view
 view_brought h l (TellPid found asker lookup) view comes = lookups_any h l asker _ view

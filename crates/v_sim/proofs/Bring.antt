@@ -1,7 +1,7 @@
 -- What a frame brings into a view keeps it in agreement with the kernel.
 -- what holds of a table after a change at one key
 use Rattle.std.proofs.Common.{◌≡◌, ℕ, zero, suc, ◌<◌, ◌≤◌, true, false, cond, ◌==◌, nat_lt, List, [], ◌∷◌, ◌++◌, map, length, slice_get, Option, Some, None, is_some, option_map, refl, sym, ap, subst, subst₂, ◌∙◌, inl, inr, arith}
-use Rattle.std.proofs.lemmas.Bool.{both_ways, and_right, or_cases, eq-eqb, ltb-true, cond-true, cond_both}
+use Rattle.std.proofs.lemmas.Bool.{both_ways, and_parts, and_right, or_cases, eq-eqb, ltb-true, cond-true, cond_both}
 use Rattle.std.proofs.lemmas.List.Folds.{list_any-append}
 use Rattle.std.proofs.lemmas.Option.{same_Some, none-some}
 use Rattle.std.specs.List.{list_any}
@@ -14,21 +14,22 @@ use Rattle.vk_base.specs.declared.kernel.Process.{Process}
 use Rattle.vk_base.specs.declared.kernel.Stage.TheVariants as stages
 use Rattle.vk_base.specs.declared.message.Message.{Message}
 use Rattle.vk_base.specs.declared.pid.Pid.{Pid}
-use Rattle.vk_base.specs.Brought.{sender_heard, found_dead, posted, put_at, put_move, put_bytes, bytes_from, brought}
+use Rattle.vk_base.specs.Brought.{sender_heard, found_dead, posted, put_at, put_move, put_bytes, bytes_from, is_moved_by, running_move, with_running, with_progress, with_bytes_of, brought}
 unfoldable use Rattle.vk_base.specs.Changes.{change_process, change_exchange}
 use Rattle.vk_base.specs.Counts.{sends_of, opened_of, done_of, bytes_copied}
-use Rattle.vk_base.specs.Kernel.{Kernel, holds_of, name_of, is_live, move_of, put_process}
+use Rattle.vk_base.specs.Kernel.{Kernel, holds_of, name_of, same_name, is_live, is_posted, move_of, put_process}
 use Rattle.vk_base.specs.Packets.{Packet, Send, Reply, Pending, Negative, MoveData, MoveAck, MoveRequest, MoveBytes, MoveNegative, AskPid, TellPid}
 use Rattle.vk_base.specs.Pids.{same_pid, same_host}
 use Rattle.v_laws.specs.Sound.{IsSound}
-use Rattle.v_laws.proofs.Options.{some_that_holds, mapped_is}
+use Rattle.v_laws.proofs.Options.{some_there, some_that_holds, mapped_is}
 use Rattle.v_laws.proofs.Tables.{same_pid_is, put_process_here}
+use Rattle.v_laws.proofs.MoveKept.{move_named}
 use Rattle.v_sim.specs.Agreement.{is_to, Sent, sent_of, posted_at, reply_at, bare, is_from, is_from_at, noted_of, is_candidate, logical_of, IsAlike, IsAlikeMove, IsAlikeProcess, IsAlikeLookup, IsInMove, Agrees}
-use Rattle.v_sim.specs.Brings.{IsNewSend, IsOfMove, Brings}
+use Rattle.v_sim.specs.Brings.{IsNewSend, IsOfMove, IsNextBytes, Brings}
 use Rattle.v_sim.specs.Frames.{move_at, IsFarTo, SaysSend, SaysNegative, SaysAck, SaysBytes, Says}
 use Rattle.v_sim.specs.Steady.{IsSteady}
 use Rattle.v_sim.proofs.Alike.{alike_more}
-use Rattle.v_sim.proofs.HiddenSteps.{move_name}
+use Rattle.v_sim.proofs.Alone.{without_none, none_filtered, moved_by, running_stays}
 use Rattle.v_sim.proofs.OwnMoves.{same_moves}
 use Rattle.v_sim.proofs.OwnTransfers.{bare_move}
 use Rattle.v_sim.proofs.Puts.{put_process_all, put_one_process, put_view_exchange, lookup_put}
@@ -104,18 +105,26 @@ bring_send h m l from to number message part sound agrees says new =
           (subst (λ c. IsAlike h n c (Some x) (m.exchanges n)) (sym heard_now) (posted_alike h n heard to message part (m.exchanges n)
           (subst (λ o. IsAlike h n heard o (m.exchanges n)) none old) new.here far says.is away))
           (λ z. alike_more h z (sends_of (l.procs z.sender)) (now z) (l.exchanges z) (m.exchanges z) (grown z.sender) (agrees.exchanges z));
-      moving = λ j is. put_view_exchange (λ z o p. IsInMove h m.procs (move_name z j.number) → IsAlikeMove j.number o p)
+      moving = λ j is. put_view_exchange (λ z o p. IsInMove h m.procs (move_named z j.number) → IsAlikeMove j.number o p)
           l.exchanges m.exchanges n x
           (λ mine. none_move j.number x (m.exchanges n) refl refl
-          (subst (λ o. IsAlikeMove j.number o (m.exchanges n)) none (agrees.moving (move_name n j.number) mine)))
-          (λ z mine. agrees.moving (move_name z j.number) mine) j.exchange is;
-      arrived = agrees.arrived;
+          (subst (λ o. IsAlikeMove j.number o (m.exchanges n)) none (agrees.moving (move_named n j.number) mine)))
+          (λ z mine. agrees.moving (move_named z j.number) mine) j.exchange is;
+      arrived = without_none n l.arrived (not_come e.0 e.1 away) ∙ agrees.arrived;
       names = agrees.names;
       lookups = agrees.lookups;
     }
   where
     far : from.host ≡ h → ⊥
     far here = both_ways (same_host from to) says.far (eq-eqb from.host to.host (here ∙ sym new.here))
+
+    not_come : (b : Exchange) → m.exchanges (name_of from number) ≡ Some b → posted_at h (m.exchanges (name_of from number)) ≡ true →
+        list_any (same_name (name_of from number)) l.arrived ≡ false
+    not_come b at away =
+        let n = name_of from number in
+        let stage = (and_parts (is_to h b) (is_posted b.stage) (sym (ap (posted_at h) at) ∙ away)).1 in
+        ap (list_any (same_name n)) agrees.arrived
+        ∙ none_filtered (same_name n) (λ z. holds_of (is_to h) (m.exchanges z)) m.arrived (sound.posted n b at stage).away
 
     now : Name → ℕ
     now z = sends_of (put_process l.procs from (sender_heard number (l.procs from)) z.sender)
@@ -156,7 +165,7 @@ bring_negative h m l from to number agrees says here = record {
     as_many = change_process_all (λ q o. sends_of o ≡ sends_of (l.procs q)) l.procs from found_dead (same_sends (l.procs from)) (λ q. refl)
 
 -- the process of the station is in the move in the kernel too
-in_kernel : (h : ℕ) (m l : Kernel) (n : MoveName) → Agrees h m l → IsInMove h l.procs n → IsInMove h m.procs n
+abbrev in_kernel : (h : ℕ) (m l : Kernel) (n : MoveName) → Agrees h m l → IsInMove h l.procs n → IsInMove h m.procs n
 in_kernel h m l n agrees is =
     record {
       mover = is.mover;
@@ -178,19 +187,41 @@ length_is h m j b steady mine at =
     let runs = steady.running mine.mover mine.process j mine.is mine.moves mine.name in
     ap (λ (z : Exchange). length z.moves) (same_Some b runs.exchange (sym at ∙ runs.is)) ∙ runs.last
 
+-- The move in which the addressee of a packet is stands in its view.
+moved_here : (h : ℕ) (m l : Kernel) (j : MoveName) (heard : ℕ) (to : Pid) (a b : Exchange) → IsSteady m → Agrees h m l →
+    (is : IsOfMove h l to j) → m.exchanges j.exchange ≡ Some b → IsAlike h j.exchange heard (Some a) (Some b) →
+    is_some (move_of b j.number) ≡ true → holds_of (is_moved_by to) (move_of a j.number) ≡ true
+moved_here h m l j heard to a b steady agrees is at old there =
+    let mine = in_kernel h m l j agrees is.is in
+    let here = mine_is h m l j heard a b steady agrees mine at old there in
+    let runs = steady.running mine.mover mine.process j mine.is mine.moves mine.name in
+    let x = some_there (move_of b j.number) there in
+    let y = bare_move b a j.number x.0 (sym (same_moves h a b here.to_a here.to_b old.moves)) x.1 in
+    let of = (steady.exchanges j.exchange b at).moves j.number x.0 x.1 in
+    let target : b.target ≡ to = ap (λ (z : Exchange). z.target) (same_Some b runs.exchange (sym at ∙ runs.is)) ∙ runs.target ∙ is.mover in
+    moved_by to (move_of a j.number) y.0 y.1 (ap (λ (z : Move). z.mover) y.2 ∙ of.mover ∙ target)
+
 bring_ack : (h : ℕ) (m l : Kernel) (from to : Pid) (number moving received : ℕ) → IsSteady m → Agrees h m l →
-    SaysAck m (name_of from number) moving received → IsOfMove h l to (move_name (name_of from number) moving) →
+    SaysAck m (name_of from number) moving received → IsOfMove h l to (move_named (name_of from number) moving) →
     Agrees h m (brought l (MoveAck from to number moving received))
 bring_ack h m l from to number moving received steady agrees says of =
     let n = name_of from number in
-    let j = move_name n moving in
+    let j = move_named n moving in
+    let own = running_move l to in
+    let heard = sends_of (l.procs from) in
     let mine = in_kernel h m l j agrees of.is in
-    bring_exchange h m l n (λ e. record e { opened = moving; done = received }) agrees
-    (λ a b at old seen. progress_view h m l j (sends_of (l.procs from)) a b a.moves received
-    (mine_is h m l j (sends_of (l.procs from)) a b steady agrees mine at old (there_in m n moving b says.move at says.is)) refl old)
+    bring_exchange h m l n (λ e. with_progress moving received (with_running moving to own e)) agrees
+    (λ a b at old seen.
+    let there = there_in m n moving b says.move at says.is in
+    let here = mine_is h m l j heard a b steady agrees mine at old there in
+    let stays = running_stays moving to own a (moved_here h m l j heard to a b steady agrees of at old there) in
+    subst (λ z. IsAlike h n heard (Some (with_progress moving received z)) (Some b)) (sym stays)
+    (progress_view h m l j heard a b a.moves received here refl old))
     (λ a b k at seen old other before.
-    let here = mine_is h m l j (sends_of (l.procs from)) a b steady agrees mine at old (there_in m n moving b says.move at says.is) in
-    let last = length_is h m (move_name n k) b steady other at in
+    let there = there_in m n moving b says.move at says.is in
+    let here = mine_is h m l j heard a b steady agrees mine at old there in
+    let stays = running_stays moving to own a (moved_here h m l j heard to a b steady agrees of at old there) in
+    let last = length_is h m (move_named n k) b steady other at in
     let one : moving ≡ k = sym here.last ∙ last in
     let low : moving ≤ b.opened = subst (λ o. moving ≤ opened_of o) at says.opened in
     let high = (steady.exchanges n b at).opened in
@@ -199,60 +230,53 @@ bring_ack h m l from to number moving received steady agrees says of =
     let less : received ≤ b.done = subst (λ o. received ≤ done_of o) at (says.done (ap opened_of at ∙ opened)) in
     let way : is_from_at moving (Some b) ≡ false =
     ap (holds_of (λ (z : Move). is_from z.direction)) (sym (ap (move_at moving) at) ∙ says.is) ∙ says.direction in
-    subst (λ i. IsAlikeMove i (Some (record a { opened = moving; done = received })) (Some b)) one (record {
+    subst (λ z. IsAlikeMove k (Some (with_progress moving received z)) (Some b)) (sym stays)
+    (subst (λ i. IsAlikeMove i (Some (with_progress moving received a)) (Some b)) one (record {
       opened = λ e. opened;
       done = subst₂ (λ u v. u ≤ v) (sym (cond-true (moving == moving) received 0 (eq-eqb moving moving refl)))
           (sym (cond-true (b.opened == moving) b.done 0 (eq-eqb b.opened moving opened))) less;
       from = λ t. absurd (both_ways (is_from_at moving (Some b)) way t);
-    }))
+    })))
 
 bring_bytes : (h : ℕ) (m l : Kernel) (from to : Pid) (number moving total offset : ℕ) (bytes : List ℕ) → IsSteady m → Agrees h m l →
-    SaysBytes m (name_of from number) moving offset bytes → IsOfMove h l to (move_name (name_of from number) moving) →
+    SaysBytes m (name_of from number) moving offset bytes → IsNextBytes h l to (move_named (name_of from number) moving) offset →
     Agrees h m (brought l (MoveBytes from to number moving total offset bytes))
-bring_bytes h m l from to number moving total offset bytes steady agrees says of =
+bring_bytes h m l from to number moving total offset bytes steady agrees says next =
     let n = name_of from number in
-    let j = move_name n moving in
-    let mine = in_kernel h m l j agrees of.is in
-    bring_exchange h m l n (λ e. record e {
-      moves = put_bytes e.moves moving (bytes_from offset bytes);
-      opened = moving;
-      done = cond (e.opened == moving) e.done 0;
-    }) agrees
-    (λ a b at old seen. progress_view h m l j (sends_of (l.procs from)) a b (put_bytes a.moves moving (bytes_from offset bytes))
-    (cond (a.opened == moving) a.done 0)
-    (mine_is h m l j (sends_of (l.procs from)) a b steady agrees mine at old (there_in m n moving b says.move at says.is))
-    (bytes_bare a b at old (mine_is h m l j (sends_of (l.procs from)) a b steady agrees mine at old
-    (there_in m n moving b says.move at says.is))) old)
+    let j = move_named n moving in
+    let own = running_move l to in
+    let heard = sends_of (l.procs from) in
+    let mine = in_kernel h m l j agrees next.of.is in
+    bring_exchange h m l n (λ e. with_bytes_of moving offset bytes (with_running moving to own e)) agrees
+    (λ a b at old seen.
+    let there = there_in m n moving b says.move at says.is in
+    let here = mine_is h m l j heard a b steady agrees mine at old there in
+    let stays = running_stays moving to own a (moved_here h m l j heard to a b steady agrees next.of at old there) in
+    subst (λ z. IsAlike h n heard (Some (with_bytes_of moving offset bytes z)) (Some b)) (sym stays)
+    (progress_view h m l j heard a b (put_bytes a.moves moving (bytes_from offset bytes)) offset here (bytes_bare a b at old here) old))
     (λ a b k at seen old other before.
-    let here = mine_is h m l j (sends_of (l.procs from)) a b steady agrees mine at old (there_in m n moving b says.move at says.is) in
-    let last = length_is h m (move_name n k) b steady other at in
+    let there = there_in m n moving b says.move at says.is in
+    let here = mine_is h m l j heard a b steady agrees mine at old there in
+    let stays = running_stays moving to own a (moved_here h m l j heard to a b steady agrees next.of at old there) in
+    let last = length_is h m (move_named n k) b steady other at in
     let one : moving ≡ k = sym here.last ∙ last in
     let low : moving ≤ b.opened = subst (λ o. moving ≤ opened_of o) at says.opened in
     let high = (steady.exchanges n b at).opened in
     let count : length b.moves ≡ moving = here.last in
     let opened : b.opened ≡ moving = omega arith in
     let was = subst (λ i. IsAlikeMove i (Some a) (Some b)) (sym one) before in
-    let same : bytes_copied moving
-    (Some (record a {
-      moves = put_bytes a.moves moving (bytes_from offset bytes);
-      opened = moving;
-      done = cond (a.opened == moving) a.done 0;
-    })) ≡ bytes_copied moving (Some a) = cond-true (moving == moving)
-    (cond (a.opened == moving) a.done 0) 0 (eq-eqb moving moving refl) in
-    subst (λ i. IsAlikeMove i
-    (Some (record a {
-      moves = put_bytes a.moves moving (bytes_from offset bytes);
-      opened = moving;
-      done = cond (a.opened == moving) a.done 0;
-    })) (Some b)) one (record {
+    let same : bytes_copied moving (Some (with_bytes_of moving offset bytes a)) ≡ bytes_copied moving (Some a) =
+    cond-true (moving == moving) offset 0 (eq-eqb moving moving refl) ∙ sym next.next ∙ ap (bytes_copied moving) seen in
+    subst (λ z. IsAlikeMove k (Some (with_bytes_of moving offset bytes z)) (Some b)) (sym stays)
+    (subst (λ i. IsAlikeMove i (Some (with_bytes_of moving offset bytes a)) (Some b)) one (record {
       opened = λ e. opened;
       done = subst (λ c. c ≤ bytes_copied moving (Some b)) (sym same) was.done;
       from = λ t. same ∙ was.from t;
-    }))
+    })))
   where
     bytes_bare : (a b : Exchange) → m.exchanges (name_of from number) ≡ Some b →
         IsAlike h (name_of from number) (sends_of (l.procs from)) (Some a) (Some b) →
-        IsMine h m l (move_name (name_of from number) moving) a b →
+        IsMine h m l (move_named (name_of from number) moving) a b →
         map bare (put_bytes a.moves moving (bytes_from offset bytes)) ≡ map bare a.moves
     bytes_bare a b at old here =
         let x = bare_move b a moving says.move (sym (same_moves h a b here.to_a here.to_b old.moves))

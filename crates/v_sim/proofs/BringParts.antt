@@ -12,19 +12,19 @@ use Rattle.vk_base.specs.declared.kernel.Process.{Process}
 use Rattle.vk_base.specs.declared.kernel.Stage.TheVariants as stages
 use Rattle.vk_base.specs.declared.message.Message.{Message}
 use Rattle.vk_base.specs.declared.pid.Pid.{Pid}
-use Rattle.vk_base.specs.Brought.{posted, set_bytes, put_bytes}
+use Rattle.vk_base.specs.Brought.{set_bytes, put_bytes}
 unfoldable use Rattle.vk_base.specs.Changes.{change_process, change_exchange, change_lookup}
 use Rattle.vk_base.specs.Counts.{sends_of, bytes_copied}
 use Rattle.vk_base.specs.Kernel.{Kernel, same_name, move_of}
 use Rattle.vk_base.specs.Pids.{same_pid, same_host}
 use Rattle.v_laws.proofs.Options.{some_there}
 use Rattle.v_laws.proofs.Tables.{same_pid_is, same_name_is}
+use Rattle.v_laws.proofs.MoveKept.{move_named}
 use Rattle.v_sim.specs.Agreement.{is_to, reply_at, bare, is_from, is_from_at, noted_of, IsAlike, IsAlikeMove, IsInMove, Agrees}
 use Rattle.v_sim.specs.Frames.{target_of, IsFarTo}
 use Rattle.v_sim.specs.Steady.{IsSteady}
 use Rattle.v_sim.proofs.Alike.{there_too, same_sent}
 use Rattle.v_sim.proofs.HiddenParts.{shown_away, moves_away}
-use Rattle.v_sim.proofs.HiddenSteps.{move_name}
 use Rattle.v_sim.proofs.MoveSets.{bare_bytes}
 use Rattle.v_sim.proofs.OwnMoves.{same_moves, moves_here}
 
@@ -57,15 +57,15 @@ pub bring_exchange : (h : ℕ) (m l : Kernel) (name : Name) (f : Exchange → Ex
     ((a b : Exchange) → m.exchanges name ≡ Some b → IsAlike h name (sends_of (l.procs name.sender)) (Some a) (Some b) →
     l.exchanges name ≡ Some a → IsAlike h name (sends_of (l.procs name.sender)) (Some (f a)) (Some b)) →
     ((a b : Exchange) (number : ℕ) → m.exchanges name ≡ Some b → l.exchanges name ≡ Some a → IsAlike h name (sends_of (l.procs name.sender))
-    (Some a) (Some b) → IsInMove h m.procs (move_name name number) → IsAlikeMove number (Some a) (Some b) →
+    (Some a) (Some b) → IsInMove h m.procs (move_named name number) → IsAlikeMove number (Some a) (Some b) →
     IsAlikeMove number (Some (f a)) (Some b)) →
     Agrees h m (record l { exchanges = change_exchange l.exchanges name f })
 bring_exchange h m l name f agrees alike moves = record {
   processes = agrees.processes;
   exchanges = change_exchange_all (λ n o. IsAlike h n (sends_of (l.procs n.sender)) o (m.exchanges n)) l.exchanges name f
       (here (l.exchanges name) refl) agrees.exchanges;
-  moving = λ n is. change_exchange_all (λ z o. IsInMove h m.procs (move_name z n.number) → IsAlikeMove n.number o (m.exchanges z))
-      l.exchanges name f (λ mine. here_move n.number mine (l.exchanges name) refl) (λ z mine. agrees.moving (move_name z n.number) mine)
+  moving = λ n is. change_exchange_all (λ z o. IsInMove h m.procs (move_named z n.number) → IsAlikeMove n.number o (m.exchanges z))
+      l.exchanges name f (λ mine. here_move n.number mine (l.exchanges name) refl) (λ z mine. agrees.moving (move_named z n.number) mine)
       n.exchange is;
   arrived = agrees.arrived;
   names = agrees.names;
@@ -79,13 +79,13 @@ bring_exchange h m l name f agrees alike moves = record {
         let b = there_too h name (sends_of (l.procs name.sender)) (l.exchanges name) (m.exchanges name) a (agrees.exchanges name) e in
         subst (IsAlike h name (sends_of (l.procs name.sender)) (Some (f a))) (sym b.1) (alike a b.0 b.1 b.3 e)
 
-    here_move : (number : ℕ) → IsInMove h m.procs (move_name name number) → (o : Option Exchange) → l.exchanges name ≡ o →
+    here_move : (number : ℕ) → IsInMove h m.procs (move_named name number) → (o : Option Exchange) → l.exchanges name ≡ o →
         IsAlikeMove number (option_map f o) (m.exchanges name)
-    here_move number mine None e = subst (λ o. IsAlikeMove number o (m.exchanges name)) e (agrees.moving (move_name name number) mine)
+    here_move number mine None e = subst (λ o. IsAlikeMove number o (m.exchanges name)) e (agrees.moving (move_named name number) mine)
     here_move number mine (Some a) e =
         let b = there_too h name (sends_of (l.procs name.sender)) (l.exchanges name) (m.exchanges name) a (agrees.exchanges name) e in
         subst (IsAlikeMove number (Some (f a))) (sym b.1)
-        (moves a b.0 number b.1 e b.3 mine (subst₂ (IsAlikeMove number) e b.1 (agrees.moving (move_name name number) mine)))
+        (moves a b.0 number b.1 e b.3 mine (subst₂ (IsAlikeMove number) e b.1 (agrees.moving (move_named name number) mine)))
 
 -- the exchange of a process of the station to another one
 pub far_exchange : (h : ℕ) (m : Kernel) (n : Name) (r : Pid) (b : Exchange) → IsFarTo m n r → n.sender.host ≡ h → m.exchanges n ≡ Some b →

@@ -54,7 +54,7 @@ to_bytes x f = by_direction x.direction x.bytes f
     by_direction directions.To bytes f = refl
     by_direction directions.From bytes f = absurd (both_ways true f refl)
 
-same_bytes : (x y : Move) → bare y ≡ bare x → is_from x.direction ≡ false → y.bytes ≡ x.bytes
+pub same_bytes : (x y : Move) → bare y ≡ bare x → is_from x.direction ≡ false → y.bytes ≡ x.bytes
 same_bytes x y same f = sym (to_bytes y (ap (λ (z : Move). is_from z.direction) same ∙ f)) ∙ ap (λ (z : Move). z.bytes) same ∙ to_bytes x f
 
 data_says : (m : Kernel) (taken : Option Packet) (n : Name) (moving : ℕ) → SaysTaken m taken → IsData taken n moving →

@@ -34,11 +34,12 @@ use Rattle.v_laws.proofs.Options.{of_either, mapped_is, some_not_none}
 use Rattle.v_laws.proofs.States.{ready_sends_none, moving_sends_none, ended_sends_none}
 use Rattle.v_laws.proofs.StepLemmas.{IsFit, fit_is, four_tests, IsWaiting, taking_is, finishing_is, failing_is, copying_is, ending_is, asking_is, finding_is, collecting_is, waiting_is}
 use Rattle.v_laws.proofs.Tables.{same_pid_is, put_process_at, put_process_other, put_exchange_here}
+use Rattle.v_laws.proofs.MoveLists.{no_move}
+use Rattle.v_laws.proofs.MoveKept.{move_named}
 use Rattle.v_sim.specs.Agreement.{is_from}
 use Rattle.v_sim.specs.Frames.{move_at}
 use Rattle.v_sim.specs.Steady.{IsSteady, IsFrozen}
 use Rattle.v_sim.proofs.Frozen.{MemoryOn, AllMemory, frozen_after}
-use Rattle.v_sim.proofs.HiddenSteps.{no_move, move_name}
 use Rattle.v_sim.proofs.MovesOn.{moves_on}
 use Rattle.v_sim.proofs.OwnExit.{released_both}
 use Rattle.v_sim.proofs.OwnMoves.{nothing_written}
@@ -302,7 +303,7 @@ copied_to_memory k n number offset count c w into to g =
     ∙ move) in
     both_ways (is_from c.move.direction) to (ap (λ (z : Move). is_from z.direction) is_move ∙ way)))
 
-copied_from_memory : (k : Kernel) (n : Name) (number offset count : ℕ) (c : Copying) → c.process.moving ≡ Some (move_name n number) →
+copied_from_memory : (k : Kernel) (n : Name) (number offset count : ℕ) (c : Copying) → c.process.moving ≡ Some (move_named n number) →
     is_moving c.process.state ≡ true → is_from c.move.direction ≡ true → copying k n number offset count ≡ Some c →
     AllMemory k (copied k n offset count c)
 unfolding copied
@@ -312,7 +313,7 @@ copied_from_memory k n number offset count c name moves from g =
     let after : Process =
     record c.process { memory = with_bytes c.process.memory (c.move.dest + offset) (bytes_in (range_of offset count) c.move.bytes) } in
     memory_put k (copied k n offset count c) c.pid c.process after is.process (λ q. refl)
-    (MemoryOn.holds (moving_sends_none c.process.state moves) (move_name n number) name (λ x at_x to.
+    (MemoryOn.holds (moving_sends_none c.process.state moves) (move_named n number) name (λ x at_x to.
     let same : c.move ≡ x = same_Some c.move x (sym (ap (move_at number) (put_exchange_here k.exchanges n y) ∙ is.move) ∙ at_x) in
     absurd (both_ways (is_from x.direction) to (sym (ap (λ (z : Move). is_from z.direction) same) ∙ from))))
 

@@ -31,19 +31,17 @@ use Rattle.v_laws.proofs.SoundCalls.{IsStep}
 use Rattle.v_laws.proofs.SoundLemmas.{step_is}
 use Rattle.v_laws.proofs.StepLemmas.{waiting_is}
 use Rattle.v_laws.proofs.Tables.{same_pid_is, put_process_other, put_process_at}
+use Rattle.v_laws.proofs.MoveLists.{move_within, pushed_before, opened_here, opened_other}
+use Rattle.v_laws.proofs.MoveSteps.{pushed, opened_with, unstaged}
 use Rattle.v_sim.specs.Agreement.{Sent, sent_of, reply_at, is_from, bare, is_candidate, logical_of, IsAlikeLookup}
 use Rattle.v_sim.specs.Frames.{target_of, move_at, IsFarTo, Says}
 use Rattle.v_sim.specs.Simulation.{host_of}
 use Rattle.v_sim.specs.Steady.{IsSteady}
-use Rattle.v_sim.proofs.Alike.{kept, opened_kept, done_kept}
+use Rattle.v_sim.proofs.Alike.{opened_kept, done_kept}
 use Rattle.v_sim.proofs.HiddenAll.{hidden_step}
-use Rattle.v_sim.proofs.HiddenSteps.{move_within}
 use Rattle.v_sim.proofs.Made.{waiting_from}
-use Rattle.v_sim.proofs.MoveSets.{bare_bytes, to_is, opened_here, opened_other}
-unfoldable use Rattle.v_sim.proofs.MoveSets.{opened_exchange}
+use Rattle.v_sim.proofs.MoveSets.{bare_bytes, to_is}
 use Rattle.v_sim.proofs.MovesOn.{MovesOn, moves_on}
-use Rattle.v_sim.proofs.OwnMoves.{move_pushed}
-unfoldable use Rattle.v_sim.proofs.OwnMoves.{pushed}
 
 -- A move stays, with its bytes where it is to the sender or was opened.
 pub record HasMove (p : Option Exchange) (number opened : ℕ) (x : Move) : Type 0 where
@@ -61,28 +59,27 @@ pub record MovesGrow (o p : Option Exchange) : Type 0 where
 same_move : (p : Option Exchange) (number opened : ℕ) (x : Move) → move_at number p ≡ Some x → HasMove p number opened x
 same_move p number opened x at = record { move = x; is = at; same = refl; to = λ f. refl; from = λ f. refl }
 
-kept_move : (number : ℕ) (o : Option Exchange) → move_at number (option_map kept o) ≡ move_at number o
+kept_move : (number : ℕ) (o : Option Exchange) → move_at number (option_map unstaged o) ≡ move_at number o
 kept_move number None = refl
 kept_move number (Some x) = refl
 
 open_grows : (x : Exchange) (number : ℕ) (move : Move) (bytes : List ℕ) → nat_lt x.opened number ≡ true → move_of x number ≡ Some move →
     (move.direction ≡ directions.To → bytes ≡ move.bytes) →
-    MovesGrow (Some x) (Some (opened_exchange x number (record move { bytes = bytes })))
-unfolding opened_exchange
+    MovesGrow (Some x) (Some (opened_with x number (record move { bytes = bytes })))
 open_grows x number move bytes later at to =
     let less = ltb-true x.opened number later in
     record {
       moves = λ j z at_z. elim (cases_eq j number) [
         | inl e ↦
             let same = same_Some move z (sym at ∙ ap (move_of x) (sym e) ∙ at_z) in
-            subst (λ i. HasMove (Some (opened_exchange x number (record move { bytes = bytes }))) i x.opened z) (sym e) (record {
+            subst (λ i. HasMove (Some (opened_with x number (record move { bytes = bytes }))) i x.opened z) (sym e) (record {
               move = record move { bytes = bytes };
               is = opened_here x number move (record move { bytes = bytes }) at;
               same = bare_bytes move bytes to ∙ ap bare same;
               to = λ f. to (to_is move.direction (ap (λ (y : Move). is_from y.direction) same ∙ f)) ∙ ap (λ (y : Move). y.bytes) same;
               from = λ within. absurd (omega arith);
             })
-        | inr apart ↦ same_move (Some (opened_exchange x number (record move { bytes = bytes }))) j x.opened z
+        | inr apart ↦ same_move (Some (opened_with x number (record move { bytes = bytes }))) j x.opened z
             (opened_other x number j move (record move { bytes = bytes }) at apart ∙ at_z)
       ];
       opened = omega arith;
@@ -91,7 +88,6 @@ open_grows x number move bytes later at to =
 
 pub moves_grow : (k : Kernel) (n : Name) (o p : Option Exchange) → ((x : Exchange) → o ≡ Some x → x.opened ≤ length x.moves) →
     MovesOn k n o p → MovesGrow o p
-unfolding pushed opened_exchange
 moves_grow k n o p steady (MovesOn.remains e) =
     let opened : opened_of p ≡ opened_of o = sym (opened_kept p) ∙ ap opened_of e ∙ opened_kept o in
     let done : done_of p ≡ done_of o = sym (done_kept p) ∙ ap done_of e ∙ done_kept o in
@@ -107,7 +103,7 @@ moves_grow k n o p steady (MovesOn.begins e) = record {
   done = λ f. subst (λ z. done_of z ≤ done_of p) (sym e) (omega arith);
 }
 moves_grow k n o p steady (MovesOn.pushes x move e f) = subst₂ MovesGrow (sym e) (sym f) (record {
-  moves = λ number z at. same_move (Some (pushed x move)) number x.opened z (move_pushed x move number (move_within x number z at) ∙ at);
+  moves = λ number z at. same_move (Some (pushed x move)) number x.opened z (pushed_before x move number (move_within x number z at) ∙ at);
   opened = omega arith;
   done = λ g. omega arith;
 })

@@ -4,7 +4,7 @@ use Rattle.std.proofs.lemmas.Bool.{cases_Bool, both_ways, and_parts, or_left, or
 use Rattle.std.proofs.lemmas.List.{append-nil}
 use Rattle.std.proofs.lemmas.List.Elements.{All-head, All-tail, filter-append}
 use Rattle.std.proofs.lemmas.List.Folds.{list_any-append}
-use Rattle.std.proofs.lemmas.Option.{same_Some, none-some, slice_get_within}
+use Rattle.std.proofs.lemmas.Option.{same_Some, none-some}
 use Rattle.std.specs.List.{list_any}
 use Rattle.vk_base.specs.declared.call.Call.{Call}
 use Rattle.vk_base.specs.declared.call.Call.TheVariants as calls
@@ -36,19 +36,17 @@ use Rattle.v_laws.proofs.Queues.{fresh, taken_was_queued}
 use Rattle.v_laws.proofs.SoundArrive.{ArrivalOn, arrival_is}
 use Rattle.v_laws.proofs.StepLemmas.{taking_is, arriving_is, opening_is, copying_is, only_if_is}
 use Rattle.v_laws.proofs.Tables.{same_pid_is, same_name_is, put_exchange_here}
+use Rattle.v_laws.proofs.MoveLists.{no_move, move_within, pushed_before}
+use Rattle.v_laws.proofs.MoveSteps.{pushed, unstaged}
+use Rattle.v_laws.proofs.MoveKept.{move_named}
 use Rattle.v_sim.specs.Agreement.{is_to, is_from, is_from_at, bare, IsInMove}
 use Rattle.v_sim.specs.Steady.{IsSteady}
-use Rattle.v_sim.proofs.Alike.{kept, by_kept, to_kept, opened_kept, done_kept, from_kept, older_near, replied_not_dropped}
+use Rattle.v_sim.proofs.Alike.{by_kept, to_kept, opened_kept, done_kept, from_kept, older_near, replied_not_dropped}
 use Rattle.v_sim.proofs.HiddenParts.{Hides, HidesMove, HidesLookup, Hidden, StaysAway, hides_away, hides_shown, hides_new, hides_move, far_process, came_same, hidden_process, hidden_trans, hidden_exchange}
-use Rattle.v_sim.proofs.MoveSets.{noted_bare}
+use Rattle.v_sim.proofs.MoveSets.{noted_bare, from_is}
 use Rattle.v_sim.proofs.OwnExit.{released_far, dropped_kept}
-use Rattle.v_sim.proofs.OwnMoves.{move_pushed}
-unfoldable use Rattle.v_sim.proofs.OwnMoves.{pushed}
 use Rattle.v_sim.proofs.OwnSends.{arrived_but, new_name}
 use Rattle.v_sim.proofs.Puts.{put_one_exchange, lookup_put}
-
-abbrev pub move_name : Name → ℕ → MoveName
-move_name n number = record { exchange = n; number = number }
 
 -- what is to a process of another station is not to this one
 pub away_from : (h : ℕ) (e : Exchange) (r : Pid) → e.target ≡ r → (r.host ≡ h → ⊥) → is_to h e ≡ false
@@ -101,7 +99,7 @@ dropped_hides h n pid (Some x) far = cond_both (is_message_at pid x) (record x {
     (λ f heard l old. old)
 
 -- maps that keep all but the stage
-kept_hides : (number : ℕ) (f : Exchange → Exchange) → ((x : Exchange) → kept (f x) ≡ kept x) → (o : Option Exchange) →
+kept_hides : (number : ℕ) (f : Exchange → Exchange) → ((x : Exchange) → unstaged (f x) ≡ unstaged x) → (o : Option Exchange) →
     HidesMove number o (option_map f o)
 kept_hides number f keep o = hides_move number o (option_map f o) (by_kept opened_of opened_kept f keep o)
     (by_kept done_of done_kept f keep o) (λ t. sym (by_kept (is_from_at number) (from_kept number) f keep o) ∙ t)
@@ -144,13 +142,13 @@ arrival_on h name e n x y away posted is (ArrivalOn.older f t after) =
 arrival_on h name e n x y away posted is (ArrivalOn.other f g after) =
     subst (λ z. Hides h n (Some x) (Some z)) (sym after) (λ heard l old. old)
 
-pub arrival_kept : (name : Name) (e : Exchange) (n : Name) (x : Exchange) → kept (after_arrival name e n x) ≡ kept x
+pub arrival_kept : (name : Name) (e : Exchange) (n : Name) (x : Exchange) → unstaged (after_arrival name e n x) ≡ unstaged x
 arrival_kept name e n x = by_arrival (after_arrival name e n x) (arrival_is name e n x)
   where
-    by_arrival : (y : Exchange) → ArrivalOn name e n x y → kept y ≡ kept x
-    by_arrival y (ArrivalOn.here t after) = ap kept after
-    by_arrival y (ArrivalOn.older f t after) = ap kept after
-    by_arrival y (ArrivalOn.other f g after) = ap kept after
+    by_arrival : (y : Exchange) → ArrivalOn name e n x y → unstaged y ≡ unstaged x
+    by_arrival y (ArrivalOn.here t after) = ap unstaged after
+    by_arrival y (ArrivalOn.older f t after) = ap unstaged after
+    by_arrival y (ArrivalOn.other f g after) = ap unstaged after
 
 arrival_hides : (h : ℕ) (name : Name) (e : Exchange) (n : Name) (o : Option Exchange) → is_to h e ≡ false → is_posted e.stage ≡ true →
     (same_name n name ≡ true → o ≡ Some e) → Hides h n o (option_map (after_arrival name e n) o)
@@ -181,10 +179,6 @@ hidden_arrived h m name e g away =
     targets n = by_kept (holds_of (is_to h)) (to_kept h) (after_arrival name e n) (arrival_kept name e n) (m.exchanges n)
 
 -- Send.
-pub no_move : (e : Exchange) (number : ℕ) → e.moves ≡ [] → move_of e number ≡ None
-no_move e zero none = refl
-no_move e (suc number) none = ap (λ ms. slice_get ms number) none
-
 pub hidden_sent : (h : ℕ) (m : Kernel) (pid : Pid) (p : Process) (target : Pid) (x : Message) → IsSound m → (pid.host ≡ h → ⊥) →
     m.procs pid ≡ Some p → Hidden h m (sent m pid p target x)
 unfolding sent
@@ -301,11 +295,11 @@ hidden_memory h m into q memory far = hidden_process h m into (record q { memory
 
 pushed_from : (number : ℕ) (e : Exchange) (x : Move) → number ≤ length e.moves →
     is_from_at number (Some (pushed e x)) ≡ is_from_at number (Some e)
-pushed_from number e x within = ap (holds_of (λ (y : Move). is_from y.direction)) (move_pushed e x number within)
+pushed_from number e x within = ap (holds_of (λ (y : Move). is_from y.direction)) (pushed_before e x number within)
 
 -- no process of the station is in a move of an exchange to another one
 pub not_in : (h : ℕ) (m : Kernel) (name : Name) (e : Exchange) (number : ℕ) → IsSteady m → m.exchanges name ≡ Some e → is_to h e ≡ false →
-    IsInMove h m.procs (move_name name number) → ⊥
+    IsInMove h m.procs (move_named name number) → ⊥
 not_in h m name e number steady at away mine =
     let runs = steady.running mine.mover mine.process (record { exchange = name; number = number }) mine.is mine.moves mine.name in
     let same = same_Some runs.exchange e (sym runs.is ∙ at) in
@@ -326,7 +320,7 @@ in_before h procs pid after n far is =
 
 pub hidden_begun : (h : ℕ) (m : Kernel) (pid : Pid) (p : Process) (c : Call) (name : Name) (e : Exchange) (x : Move) → IsSteady m →
     (pid.host ≡ h → ⊥) → m.exchanges name ≡ Some e → is_to h e ≡ false → Hidden h m (move_begun m pid p c name e x)
-unfolding move_begun pushed
+unfolding move_begun
 hidden_begun h m pid p c name e x steady far at away =
     let after : Process = record p { state = states.Blocked c; moving = Some (record { exchange = name; number = length e.moves + 1 }) } in
     let k : Kernel = record m { procs = put_process m.procs pid after } in
@@ -343,7 +337,7 @@ hidden_begun h m pid p c name e x steady far at away =
           λ mine t. (
             sym (pushed_from e.opened e x (steady.exchanges name e at).opened) ∙ t,
             ap (option_map (λ (z : Move). z.bytes))
-                (move_pushed e x e.opened (steady.exchanges name e at).opened),
+                (pushed_before e x e.opened (steady.exchanges name e at).opened),
           );
     }))
     (λ number mine. absurd (not_in h m name e number steady at away
@@ -360,10 +354,6 @@ pub move_set : (e : Exchange) (number : ℕ) (x y : Move) → move_of e number �
 move_set e zero x y at same = absurd (none-some x at)
 move_set e (suc i) x y at same = let one : suc i - 1 ≡ i =
     omega arith in ap (λ j. map bare (slice_set e.moves j y)) one ∙ set_bare e.moves i x y at same
-
-pub move_within : (e : Exchange) (number : ℕ) (x : Move) → move_of e number ≡ Some x → number ≤ length e.moves
-move_within e zero x at = omega arith
-move_within e (suc i) x at = let less = slice_get_within e.moves i x at in omega arith
 
 pub hidden_opened : (h : ℕ) (m : Kernel) (name : Name) (number : ℕ) (o : Opening) → IsSteady m → (name.sender.host ≡ h → ⊥) →
     opening_move m name number ≡ Some o → Hidden h m (move_opened m name number o)

@@ -115,7 +115,7 @@ stands_initial specs = record {
   says = All-nil (Says (initial_kernel specs));
 }
 
-among_says : (m : Kernel) (p : Packet) (xs ys : List Packet) → All (Says m) (xs ++ p ∷ ys) → Says m p
+pub among_says : (m : Kernel) (p : Packet) (xs ys : List Packet) → All (Says m) (xs ++ p ∷ ys) → Says m p
 among_says m p [] ys all = All-head (Says m) p ys all
 among_says m p (x ∷ xs) ys all = among_says m p xs ys (All-tail (Says m) x (xs ++ p ∷ ys) all)
 
@@ -124,7 +124,7 @@ emitted_taken : (m : Kernel) (taken : Option Packet) (frames : List Packet) → 
 emitted_taken m None frames is all = tt
 emitted_taken m (Some p) frames is all = among_says m p is.before is.behind (subst (All (Says m)) is.is all)
 
-enters_agrees : (h : ℕ) (m l k : Kernel) (taken : Option Packet) → IsSound m → IsSteady m → Agrees h m l → SaysTaken m taken →
+pub enters_agrees : (h : ℕ) (m l k : Kernel) (taken : Option Packet) → IsSound m → IsSteady m → Agrees h m l → SaysTaken m taken →
     Enters h l taken k → Agrees h m k
 enters_agrees h m l k None sound steady agrees says enters = subst (Agrees h m) (sym enters) agrees
 enters_agrees h m l k (Some p) sound steady agrees says enters = elim enters [

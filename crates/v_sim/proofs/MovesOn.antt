@@ -25,16 +25,15 @@ use Rattle.v_laws.specs.Sound.{IsSound}
 use Rattle.v_laws.proofs.Options.{of_either}
 use Rattle.v_laws.proofs.Queues.{fresh}
 use Rattle.v_laws.proofs.StepLemmas.{taking_is, opening_is, copying_is}
+use Rattle.v_laws.proofs.MoveSteps.{pushed, unstaged}
 use Rattle.v_sim.specs.Agreement.{is_from}
-use Rattle.v_sim.proofs.Alike.{kept}
 use Rattle.v_sim.proofs.HiddenSteps.{arrival_kept}
 use Rattle.v_sim.proofs.MoveSets.{noted_to}
 use Rattle.v_sim.proofs.OwnExit.{dropped_kept}
-unfoldable use Rattle.v_sim.proofs.OwnMoves.{pushed}
 use Rattle.v_sim.proofs.Puts.{put_one_exchange}
 
 pub data MovesOn (k : Kernel) (n : Name) (o p : Option Exchange) : Type 0 where
-  remains : option_map kept p ≡ option_map kept o → MovesOn k n o p
+  remains : option_map unstaged p ≡ option_map unstaged o → MovesOn k n o p
   begins : o ≡ None → MovesOn k n o p
   pushes : (x : Exchange) (move : Move) → o ≡ Some x → p ≡ Some (pushed x move) → MovesOn k n o p
   opens : (x : Exchange) (number : ℕ) (move : Move) (bytes : List ℕ) → o ≡ Some x → nat_lt x.opened number ≡ true →
@@ -55,7 +54,7 @@ put_on : (k : Kernel) (name : Name) (x y : Exchange) → k.exchanges name ≡ So
 put_on k name x y at on = put_one_exchange (λ n o p. MovesOn k n o p) k.exchanges k.exchanges name y
     (subst (λ o. MovesOn k name o (Some y)) (sym at) on) (λ n. self_on k n (k.exchanges n))
 
-map_on : (k : Kernel) (n : Name) (f : Exchange → Exchange) → ((x : Exchange) → kept (f x) ≡ kept x) → (o : Option Exchange) →
+map_on : (k : Kernel) (n : Name) (f : Exchange → Exchange) → ((x : Exchange) → unstaged (f x) ≡ unstaged x) → (o : Option Exchange) →
     MovesOn k n o (option_map f o)
 map_on k n f keep None = MovesOn.remains refl
 map_on k n f keep (Some x) = MovesOn.remains (ap (λ y. Some y) (keep x))
@@ -83,7 +82,7 @@ at_once_on k pid c into dest bytes e g = let q = bind_is (k.procs into) _ e g in
 
 begin_on : (k : Kernel) (pid : Pid) (p : Process) (c : Call) (partner : Pid) (x : Move) (e : Effect) →
     begin_move k pid p c partner x ≡ Some e → AllOn k e.after
-unfolding move_begun pushed
+unfolding move_begun
 begin_on k pid p c partner x e g =
     let number = bind_is (held k pid partner) _ e g in
     let a = bind_is (k.exchanges (name_of partner number.0)) _ e number.2 in

@@ -12,12 +12,14 @@ use Rattle.vk_base.specs.declared.kernel.Registration.{Registration}
 use Rattle.vk_base.specs.declared.pid.Pid.{Pid}
 use Rattle.vk_base.specs.Calls.{exited, is_message_at, dropped_at, is_bereft, released}
 use Rattle.vk_base.specs.Counts.{sends_of}
-use Rattle.vk_base.specs.Kernel.{Kernel, holds_of, name_of, is_live, is_moving, is_at_target, sending, ended}
+use Rattle.vk_base.specs.Kernel.{Kernel, holds_of, name_of, is_moving, is_at_target, sending, ended}
 use Rattle.vk_base.specs.Pids.{same_pid, same_host}
 use Rattle.v_laws.proofs.Options.{mapped_is}
 use Rattle.v_laws.proofs.Tables.{same_pid_is}
+use Rattle.v_laws.proofs.SoundExit.{procs_after, lives_released}
+use Rattle.v_laws.proofs.MoveSteps.{unstaged}
 use Rattle.v_sim.specs.Agreement.{is_sending, is_to, IsAlike, IsAlikeProcess, IsInMove, Agrees}
-use Rattle.v_sim.proofs.Alike.{alike_process, exited_alike, mapped_move, dropped_is, dropping_kept, by_kept, to_kept, kept}
+use Rattle.v_sim.proofs.Alike.{alike_process, exited_alike, mapped_move, dropped_is, dropping_kept, by_kept, to_kept}
 use Rattle.v_sim.proofs.OwnParts.{ended_still}
 use Rattle.v_sim.proofs.Shown.{test_same, open_shown}
 
@@ -31,10 +33,6 @@ released_both k pid q x P gone stays =
 pub released_sends : (k : Kernel) (pid q : Pid) (o : Option Process) → sends_of (option_map (released k pid q) o) ≡ sends_of o
 released_sends k pid q None = refl
 released_sends k pid q (Some x) = released_both k pid q x (λ y. y.sends ≡ x.sends) (λ t. refl) refl
-
-pub released_lives : (k : Kernel) (pid q : Pid) (o : Option Process) → is_live (option_map (released k pid q) o) ≡ is_live o
-released_lives k pid q None = refl
-released_lives k pid q (Some x) = released_both k pid q x (λ y. y.alive ≡ x.alive) (λ t. refl) refl
 
 pub released_known : (k : Kernel) (pid q : Pid) (o : Option Process) → is_some (option_map (released k pid q) o) ≡ is_some o
 released_known k pid q None = refl
@@ -63,10 +61,6 @@ released_moving k pid q x = released_both k pid q x (λ y. is_moving y.state ≡
 
 pub released_name : (k : Kernel) (pid q : Pid) (x : Process) → (released k pid q x).moving ≡ x.moving
 released_name k pid q x = released_both k pid q x (λ y. y.moving ≡ x.moving) (λ t. refl) refl
-
--- the processes after an exit
-abbrev pub procs_after : Kernel → Pid → Process → Pid → Option Process
-procs_after k pid p q = cond (same_pid q pid) (Some (record p { alive = false })) (option_map (released k pid q) (k.procs q))
 
 pub exit_sends : (k : Kernel) (pid : Pid) (p : Process) (q : Pid) → k.procs pid ≡ Some p →
     sends_of (procs_after k pid p q) ≡ sends_of (k.procs q)
@@ -106,7 +100,7 @@ exit_in_move h k pid p n at is = elim (cases_Bool (same_pid is.mover pid)) [
       }
 ]
 
-pub dropped_kept : (pid : Pid) (x : Exchange) → kept (dropped_at pid x) ≡ kept x
+pub dropped_kept : (pid : Pid) (x : Exchange) → unstaged (dropped_at pid x) ≡ unstaged x
 dropped_kept pid x = dropping_kept x (dropped_at pid x) (dropped_is pid x)
 
 exit_alike : (h : ℕ) (m l : Kernel) (pid : Pid) (p : Process) (q : Pid) → Agrees h m l → pid.host ≡ h →
@@ -126,7 +120,7 @@ exit_alike h m l pid p q agrees here = elim (cases_Bool (same_pid q pid)) [
         known = released_known l pid q (l.procs q) ∙ old.known ∙ sym (released_known m pid q (m.procs q));
         heard = subst₂ (λ a b. a ≤ b) (sym (released_sends l pid q (l.procs q))) (sym (released_sends m pid q (m.procs q))) old.heard;
         idle = λ far. ap is_sending (released_far l pid q (l.procs q) (ne_eqb q.host pid.host (λ e. far (e ∙ here)))) ∙ old.idle far;
-        dead = λ d. released_lives m pid q (m.procs q) ∙ old.dead (sym (released_lives l pid q (l.procs q)) ∙ d);
+        dead = λ d. lives_released m pid q (m.procs q) ∙ old.dead (sym (lives_released l pid q (l.procs q)) ∙ d);
       })
 ]
 

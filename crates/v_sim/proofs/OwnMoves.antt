@@ -1,5 +1,5 @@
 -- Moves that a process of the station calls for: those that are made at once, and those that are begun.
-use Rattle.std.proofs.Common.{◌≡◌, ℕ, zero, suc, ◌+◌, ◌<◌, ◌≤◌, ◌⊎◌, true, false, ◌==◌, List, [], ◌∷◌, ◌++◌, map, take, drop, length, slice_get, Option, Some, refl, sym, ap, subst, subst₂, ◌∙◌, inl, inr, arith, add-zero, append-nil, take-append-drop}
+use Rattle.std.proofs.Common.{◌≡◌, ℕ, ◌+◌, ◌<◌, ◌≤◌, ◌⊎◌, true, false, ◌==◌, List, [], ◌∷◌, ◌++◌, map, length, Option, Some, refl, sym, ap, subst, subst₂, ◌∙◌, inl, inr, arith}
 use Rattle.std.proofs.lemmas.Bool.{cases_Bool, cases_lt, both_ways, ne_eqb, cond-true, cond-false}
 use Rattle.std.proofs.lemmas.List.{length_push, length-map, map_push}
 use Rattle.std.proofs.lemmas.List.Elements.{filter_agree}
@@ -14,19 +14,18 @@ use Rattle.vk_base.specs.declared.kernel.State.TheVariants as states
 use Rattle.vk_base.specs.declared.pid.Pid.{Pid}
 use Rattle.vk_base.specs.Calls.{move_begun}
 use Rattle.vk_base.specs.Counts.{sends_of, opened_of, done_of, bytes_copied}
-use Rattle.vk_base.specs.Kernel.{Kernel, holds_of, same_name, move_of, put_process, put_exchange, with_memory}
+use Rattle.vk_base.specs.Kernel.{Kernel, holds_of, same_name, put_process, put_exchange, with_memory}
 use Rattle.vk_base.specs.Pids.{same_pid}
 use Rattle.vk_base.specs.Ranges.{with_bytes}
 use Rattle.v_laws.proofs.Tables.{same_pid_is, same_name_self, put_process_at, put_process_other}
+use Rattle.v_laws.proofs.MoveLists.{pushed_before}
+use Rattle.v_laws.proofs.MoveSteps.{pushed}
+use Rattle.v_laws.proofs.SoundMoves.{with_no_bytes}
+use Rattle.v_laws.proofs.MoveKept.{move_named}
 use Rattle.v_sim.specs.Agreement.{is_to, bare, moves_of, is_from, IsAlike, IsAlikeMove, IsAlikeProcess, IsInMove, Agrees}
 use Rattle.v_sim.proofs.Alike.{alike_process}
 use Rattle.v_sim.proofs.OwnParts.{own_process}
 use Rattle.v_sim.proofs.Puts.{put_both_process, put_both_exchange, put_one_exchange, put_apart_exchange, sends_put}
-
--- no bytes leave a kernel as it is
-pub with_no_bytes : (memory : List ℕ) (dest : ℕ) → with_bytes memory dest [] ≡ memory
-with_no_bytes memory dest = ap (λ bytes. bytes ++ drop (dest + 0) memory) (append-nil (take dest memory))
-    ∙ ap (λ d. take dest memory ++ drop d memory) (add-zero dest) ∙ take-append-drop dest memory
 
 pub nothing_written : (k : Kernel) (into : Pid) (q : Process) (dest : ℕ) → k.procs into ≡ Some q →
     with_memory k into q (with_bytes q.memory dest []) ≡ k
@@ -56,23 +55,17 @@ same_moves h a b ta tb same = sym (cond-true (is_to h a) (map bare a.moves) [] t
 pub moves_here : (h : ℕ) (e : Exchange) → is_to h e ≡ true → moves_of h e ≡ map bare e.moves
 moves_here h e t = cond-true (is_to h e) (map bare e.moves) [] t
 
-unfoldable pub pushed : Exchange → Move → Exchange
-pushed e x = record e { moves = e.moves ++ x ∷ [] }
-
 pushed_to : (h : ℕ) (e : Exchange) (x : Move) → is_to h (pushed e x) ≡ is_to h e
-unfolding pushed
 pushed_to h e x = refl
 
 pushed_moves : (h : ℕ) (a b : Exchange) (x : Move) → is_to h a ≡ true → is_to h b ≡ true → moves_of h a ≡ moves_of h b →
     moves_of h (pushed a x) ≡ moves_of h (pushed b x)
-unfolding pushed
 pushed_moves h a b x ta tb same =
     moves_here h (record a { moves = a.moves ++ x ∷ [] }) ta ∙ map_push bare a.moves x ∙ ap (λ ms. ms ++ bare x ∷ [])
     (same_moves h a b ta tb same) ∙ sym (moves_here h (record b { moves = b.moves ++ x ∷ [] }) tb ∙ map_push bare b.moves x)
 
 pushed_alike : (h : ℕ) (n : Name) (heard : ℕ) (a b : Exchange) (x : Move) → IsAlike h n heard (Some a) (Some b) → is_to h a ≡ true →
     is_to h b ≡ true → (n.sender.host ≡ h → ⊥) → IsAlike h n heard (Some (pushed a x)) (Some (pushed b x))
-unfolding pushed
 pushed_alike h n heard a b x old ta tb far = record {
   shown = old.shown;
   moves = pushed_moves h a b x ta tb old.moves;
@@ -91,30 +84,18 @@ pushed_alike h n heard a b x old ta tb far = record {
   fresh = old.fresh;
 }
 
--- a move of a number up to those there are is the same one with a later one
-slice_pushed : (xs : List Move) (x : Move) (i : ℕ) → i < length xs → slice_get (xs ++ x ∷ []) i ≡ slice_get xs i
-slice_pushed [] x i less = absurd (omega arith)
-slice_pushed (y ∷ ys) x zero less = refl
-slice_pushed (y ∷ ys) x (suc i) less = slice_pushed ys x i (omega arith)
-
-pub move_pushed : (e : Exchange) (x : Move) (number : ℕ) → number ≤ length e.moves → move_of (pushed e x) number ≡ move_of e number
-unfolding pushed
-move_pushed e x zero within = refl
-move_pushed e x (suc number) within = slice_pushed e.moves x number (omega arith)
-
 got_beyond : (number : ℕ) (o : Option Exchange) → opened_of o < number → bytes_copied number o ≡ 0
 got_beyond number o less = cond-false (opened_of o == number) (done_of o) 0 (ne_eqb (opened_of o) number (λ e. omega arith))
 
 pushed_move : (number : ℕ) (a b : Exchange) (x : Move) → a.opened ≤ length b.moves → b.opened ≤ length b.moves →
     (number ≤ length b.moves → IsAlikeMove number (Some a) (Some b)) → IsAlikeMove number (Some (pushed a x)) (Some (pushed b x))
-unfolding pushed
 pushed_move number a b x low high old = elim (cases_le number (length b.moves)) [
   | inl within ↦
       let before = old within in
       record {
         opened = before.opened;
         done = before.done;
-        from = λ t. before.from (sym (ap (λ o. holds_of (λ m. is_from m.direction) o) (move_pushed b x number within)) ∙ t);
+        from = λ t. before.from (sym (ap (λ o. holds_of (λ m. is_from m.direction) o) (pushed_before b x number within)) ∙ t);
       }
   | inr beyond ↦
       let none_a = got_beyond number (Some a) (omega arith) in
@@ -161,12 +142,12 @@ own_begun_by h m l pid p after name number a b x agrees here at seen sends movin
       (pushed_alike h name (sends_of (l.procs name.sender)) a b x (subst₂ (IsAlike h name (sends_of (l.procs name.sender))) known there
       (agrees.exchanges name)) ta tb far)
       agrees.exchanges n);
-  moving = λ n is. put_apart_exchange (λ z o y. IsInMove h (put_process m.procs pid after) (move_name z n.number) →
+  moving = λ n is. put_apart_exchange (λ z o y. IsInMove h (put_process m.procs pid after) (move_named z n.number) →
       IsAlikeMove n.number o y) l.exchanges m.exchanges name (pushed a x) (pushed b x)
       (λ mine. pushed_move n.number a b x low high (λ within. subst₂ (IsAlikeMove n.number) known there
-      (agrees.moving (move_name name n.number) (in_move_apart h m.procs pid after (move_name name n.number) mine
+      (agrees.moving (move_named name n.number) (in_move_apart h m.procs pid after (move_named name n.number) mine
       (λ e. later n.number within (sym moving ∙ e))))))
-      (λ z f mine. agrees.moving (move_name z n.number) (in_move_apart h m.procs pid after (move_name z n.number) mine
+      (λ z f mine. agrees.moving (move_named z n.number) (in_move_apart h m.procs pid after (move_named z n.number) mine
       (λ e. other z n.number f (sym moving ∙ e))))
       n.exchange is;
   arrived =
@@ -178,13 +159,10 @@ own_begun_by h m l pid p after name number a b x agrees here at seen sends movin
   lookups = agrees.lookups;
 }
   where
-    move_name : Name → ℕ → MoveName
-    move_name z number = record { exchange = z; number = number }
-
-    later : (k : ℕ) → k ≤ length b.moves → Some (move_name name number) ≡ Some (move_name name k) → ⊥
+    later : (k : ℕ) → k ≤ length b.moves → Some (move_named name number) ≡ Some (move_named name k) → ⊥
     later k within e = let same : number ≡ k = ap (λ (z : MoveName). z.number) (same_Some _ _ e) in omega arith
 
-    other : (z : Name) (k : ℕ) → same_name z name ≡ false → Some (move_name name number) ≡ Some (move_name z k) → ⊥
+    other : (z : Name) (k : ℕ) → same_name z name ≡ false → Some (move_named name number) ≡ Some (move_named z k) → ⊥
     other z k f e = let same : name ≡ z = ap (λ (y : MoveName). y.exchange) (same_Some _ _ e) in
         both_ways (same_name z name) f (subst (λ y. same_name y name ≡ true) same (same_name_self name))
 
@@ -195,7 +173,7 @@ pub own_begun : (h : ℕ) (m l : Kernel) (pid : Pid) (p : Process) (c : Call) (n
     pid.host ≡ h → m.procs pid ≡ Some p → l.procs pid ≡ Some p →
     l.exchanges name ≡ Some a → m.exchanges name ≡ Some b → is_to h a ≡ true → is_to h b ≡ true → (name.sender.host ≡ h → ⊥) →
     b.opened ≤ length b.moves → Agrees h (move_begun m pid p c name b x) (move_begun l pid p c name a x)
-unfolding move_begun pushed
+unfolding move_begun
 own_begun h m l pid p c name a b x agrees here at seen known there ta tb far high =
     let after : ℕ →
     Process = λ number. record p { state = states.Blocked c; moving = Some (record { exchange = name; number = number + 1 }) } in

@@ -15,6 +15,7 @@ use Rattle.vk_base.specs.declared.kernel.State.TheVariants as states
 use Rattle.vk_base.specs.declared.pid.Pid.{Pid}
 use Rattle.vk_base.specs.Counts.{sends_of}
 use Rattle.vk_base.specs.Kernel.{Kernel, holds_of, is_moving, is_posted, ended, put_process, put_exchange, with_state, with_stage}
+use Rattle.v_laws.proofs.MoveKept.{move_named}
 use Rattle.v_sim.specs.Agreement.{is_to, IsAlike, IsAlikeMove, IsAlikeProcess, IsAlikeLookup, IsInMove, Agrees}
 use Rattle.v_sim.proofs.Alike.{alike_process, staged, StaysOut, in_move_before}
 use Rattle.v_sim.proofs.Puts.{put_both_process, put_both_exchange, put_one_exchange, sends_put}
@@ -60,16 +61,13 @@ own_stage h m l name a b t agrees seen at away =
     (staged h name (sends_of (l.procs name.sender)) a b t (subst₂ (IsAlike h name (sends_of (l.procs name.sender))) seen at
     (agrees.exchanges name)) away)
     agrees.exchanges)
-    (λ n is. put_both_exchange (λ x o p. IsInMove h m.procs (move_name x n.number) → IsAlikeMove n.number o p) l.exchanges m.exchanges name
+    (λ n is. put_both_exchange (λ x o p. IsInMove h m.procs (move_named x n.number) → IsAlikeMove n.number o p) l.exchanges m.exchanges name
     (record a { stage = t }) (record b { stage = t })
-    (λ mine. let old = subst₂ (IsAlikeMove n.number) seen at (agrees.moving (move_name name n.number) mine) in
+    (λ mine. let old = subst₂ (IsAlikeMove n.number) seen at (agrees.moving (move_named name n.number) mine) in
     record { opened = old.opened; done = old.done; from = old.from })
-    (λ x mine. agrees.moving (move_name x n.number) mine) n.exchange is)
+    (λ x mine. agrees.moving (move_named x n.number) mine) n.exchange is)
     (put_one_exchange (λ n o p. holds_of (is_to h) p ≡ holds_of (is_to h) o) m.exchanges m.exchanges name (record b { stage = t })
     (sym (ap (holds_of (is_to h)) at)) (λ n. refl))
-  where
-    move_name : Name → ℕ → MoveName
-    move_name x number = record { exchange = x; number = number }
 
 pub own_lookups : (h : ℕ) (m l : Kernel) (ml ll : Pid → ℕ → Option Lookup) → Agrees h m l →
     ((asker : Pid) (number : ℕ) → IsAlikeLookup h asker (ll asker number) (ml asker number)) →

@@ -5,7 +5,6 @@ use Rattle.std.proofs.lemmas.List.Elements.{filter-append}
 use Rattle.std.specs.List.{list_any}
 use Rattle.vk_base.specs.declared.call.Call.TheVariants as calls
 use Rattle.vk_base.specs.declared.kernel.Exchange.{Exchange}
-use Rattle.vk_base.specs.declared.kernel.MoveName.{MoveName}
 use Rattle.vk_base.specs.declared.kernel.Name.{Name}
 use Rattle.vk_base.specs.declared.kernel.Process.{Process}
 use Rattle.vk_base.specs.declared.kernel.State.TheVariants as states
@@ -19,6 +18,7 @@ use Rattle.v_laws.specs.Sound.{IsSound}
 use Rattle.v_laws.proofs.FilterLemmas.{filter_on}
 use Rattle.v_laws.proofs.Queues.{fresh, not_arrived}
 use Rattle.v_laws.proofs.Tables.{same_name_is, same_name_self, put_process_here, put_exchange_here, put_exchange_other}
+use Rattle.v_laws.proofs.MoveKept.{move_named}
 use Rattle.v_sim.specs.Agreement.{is_to, IsAlike, IsAlikeMove, IsAlikeProcess, IsInMove, Agrees}
 use Rattle.v_sim.proofs.Alike.{alike_process, alike_self, alike_more, in_move_before}
 use Rattle.v_sim.proofs.Puts.{put_both_process, put_one_process, put_both_exchange}
@@ -51,10 +51,10 @@ own_sent h m l pid p target x sound agrees here at seen = record {
       (alike_self h name (heard name) made (subst (λ c. p.sends + 1 ≤ c) (sym (ap sends_of (put_process_here l.procs pid after)))
       (omega arith)) refl)
       (λ n. alike_more h n (sends_of (l.procs n.sender)) (heard n) (l.exchanges n) (m.exchanges n) (grown n.sender) (agrees.exchanges n));
-  moving = λ n is. put_both_exchange (λ z o y. IsInMove h m.procs (move_name z n.number) → IsAlikeMove n.number o y) l.exchanges m.exchanges
+  moving = λ n is. put_both_exchange (λ z o y. IsInMove h m.procs (move_named z n.number) → IsAlikeMove n.number o y) l.exchanges m.exchanges
       name made made
       (λ mine. alike_move_self n.number (Some made))
-      (λ z mine. agrees.moving (move_name z n.number) mine)
+      (λ z mine. agrees.moving (move_named z n.number) mine)
       n.exchange (in_move_before h m.procs pid p after n at (λ k moves is_k. absurd (both_ways false refl moves)) is);
   arrived = by_local (same_host pid target) refl;
   names = agrees.names;
@@ -72,9 +72,6 @@ own_sent h m l pid p target x sound agrees here at seen = record {
 
     heard : Name → ℕ
     heard n = sends_of (put_process l.procs pid (record p { state = states.Blocked (calls.Send target x); sends = p.sends + 1 }) n.sender)
-
-    move_name : Name → ℕ → MoveName
-    move_name z number = record { exchange = z; number = number }
 
     grown : (q : Pid) →
         sends_of (l.procs q) ≤ sends_of

@@ -30,9 +30,10 @@ use Rattle.vk_base.specs.Steps.{taking, taken, received, with_part, finishing, f
 use Rattle.vk_base.proofs.OptionLemmas.{bind_is}
 use Rattle.v_laws.proofs.StepLemmas.{taking_is, finishing_is, collecting_is, hearing_is, asking_is, finding_is, arriving_is, only_if_is}
 use Rattle.v_laws.proofs.Tables.{same_name_is, same_name_self, same_pid_is}
+use Rattle.v_laws.proofs.MoveSteps.{unstaged}
 use Rattle.v_sim.specs.Agreement.{is_to, reply_at, is_candidate, logical_of, IsAlike, IsAlikeLookup, Agrees}
 use Rattle.v_sim.specs.Simulation.{IsFollowed}
-use Rattle.v_sim.proofs.Alike.{there_too, sent_part, staged, overtaken_alike, mapped_move, older_is, is_earlier, by_kept, to_kept, dropping_kept, kept}
+use Rattle.v_sim.proofs.Alike.{there_too, sent_part, staged, overtaken_alike, mapped_move, older_is, is_earlier, by_kept, to_kept, dropping_kept}
 use Rattle.v_sim.proofs.Made.{taking_from, finishing_from, failing_from, collecting_from, hearing_from, asking_from, finding_from, arriving_from}
 use Rattle.v_sim.proofs.OwnParts.{own_process, own_stage, own_state, own_ended, own_lookups, own_at}
 use Rattle.v_sim.proofs.Puts.{bind_to}
@@ -288,9 +289,9 @@ own_arrived h m l name a b agrees seen at ta tb = record {
         (staged h name (sends_of (l.procs name.sender)) a b stages.Queued (subst₂ (IsAlike h name (sends_of (l.procs name.sender))) seen at
         (agrees.exchanges name)) refl))
 
-    kept_after : (x : Exchange) (n : Name) (y : Exchange) → kept (after_arrival name x n y) ≡ kept y
+    kept_after : (x : Exchange) (n : Name) (y : Exchange) → unstaged (after_arrival name x n y) ≡ unstaged y
     kept_after x n y = elim (cases_Bool (same_name n name)) [
-      | inl t ↦ ap kept (cond-true (same_name n name) (record y { stage = stages.Queued }) _ t)
+      | inl t ↦ ap unstaged (cond-true (same_name n name) (record y { stage = stages.Queued }) _ t)
       | inr f ↦ dropping_kept y (after_arrival name x n y) (older_is name x n y f)
     ]
 

@@ -25,15 +25,16 @@ use Rattle.vk_base.proofs.OptionLemmas.{bind_is}
 use Rattle.v_laws.proofs.Options.{some_that_holds, mapped_is}
 use Rattle.v_laws.proofs.StepLemmas.{only_if_is, opening_is, copying_is}
 use Rattle.v_laws.proofs.Tables.{same_name_is}
+use Rattle.v_laws.proofs.MoveLists.{opened_here}
+use Rattle.v_laws.proofs.MoveKept.{move_named}
 use Rattle.v_sim.specs.Agreement.{is_to, bare, is_from, is_from_at, noted_of, IsAlike, IsAlikeMove, IsInMove, Agrees}
 use Rattle.v_sim.specs.Simulation.{IsSameMove, IsOpenTold, IsGoneTold, IsFollowed}
 use Rattle.v_sim.specs.Steady.{IsSteady, IsSteadyExchange}
 use Rattle.v_sim.proofs.Alike.{there_too, sent_part, in_move_before}
 use Rattle.v_sim.proofs.HiddenParts.{shown_away, moves_away}
-use Rattle.v_sim.proofs.HiddenSteps.{move_name, not_in, copied_into}
+use Rattle.v_sim.proofs.HiddenSteps.{not_in, copied_into}
 use Rattle.v_sim.proofs.Made.{opening_from, copying_from, ending_from}
-use Rattle.v_sim.proofs.MoveSets.{opened_here, noted_from}
-unfoldable use Rattle.v_sim.proofs.MoveSets.{opened_exchange}
+use Rattle.v_sim.proofs.MoveSets.{noted_from}
 use Rattle.v_sim.proofs.OwnMoves.{same_moves}
 use Rattle.v_sim.proofs.OwnParts.{own_process, own_exchanges, own_ended, own_at}
 use Rattle.v_sim.proofs.OwnSteps.{followed}
@@ -42,13 +43,13 @@ use Rattle.v_sim.proofs.Puts.{bind_to, put_both_exchange, put_one_exchange, send
 -- an exchange is changed in both
 own_put : (h : ℕ) (m l : Kernel) (name : Name) (b x y : Exchange) → Agrees h m l → m.exchanges name ≡ Some b →
     IsAlike h name (sends_of (l.procs name.sender)) (Some x) (Some y) →
-    ((number : ℕ) → IsInMove h m.procs (move_name name number) → IsAlikeMove number (Some x) (Some y)) → is_to h y ≡ is_to h b →
+    ((number : ℕ) → IsInMove h m.procs (move_named name number) → IsAlikeMove number (Some x) (Some y)) → is_to h y ≡ is_to h b →
     Agrees h (record m { exchanges = put_exchange m.exchanges name y }) (record l { exchanges = put_exchange l.exchanges name x })
 own_put h m l name b x y agrees at alike moves target =
     own_exchanges h m l (put_exchange m.exchanges name y) (put_exchange l.exchanges name x) agrees
     (put_both_exchange (λ n o p. IsAlike h n (sends_of (l.procs n.sender)) o p) l.exchanges m.exchanges name x y alike agrees.exchanges)
-    (λ n is. put_both_exchange (λ z o p. IsInMove h m.procs (move_name z n.number) → IsAlikeMove n.number o p) l.exchanges m.exchanges name
-    x y (λ mine. moves n.number mine) (λ z mine. agrees.moving (move_name z n.number) mine) n.exchange is)
+    (λ n is. put_both_exchange (λ z o p. IsInMove h m.procs (move_named z n.number) → IsAlikeMove n.number o p) l.exchanges m.exchanges name
+    x y (λ mine. moves n.number mine) (λ z mine. agrees.moving (move_named z n.number) mine) n.exchange is)
     (put_one_exchange (λ n o p. holds_of (is_to h) p ≡ holds_of (is_to h) o) m.exchanges m.exchanges name y
     (target ∙ sym (ap (holds_of (is_to h)) at)) (λ n. refl))
 
@@ -99,7 +100,7 @@ waiting_same h m l n agrees here = ap (waits_for n) ((agrees.processes n.sender)
 pub own_open : (h : ℕ) (m l : Kernel) (n : Name) (number : ℕ) (e : Effect) → IsSteady m → Agrees h m l → n.sender.host ≡ h →
     ((a : Exchange) (y : Move) → l.exchanges n ≡ Some a → move_of a number ≡ Some y → IsOpenTold m n number y) →
     open_step l n number ≡ Some e → IsFollowed h m (open_step m n number) e
-unfolding move_opened opened_exchange
+unfolding move_opened
 own_open h m l n number e steady agrees here told g =
     let o = bind_is (opening_move l n number) _ e g in
     let is = opening_is l n number o.0 o.1 in
@@ -159,7 +160,7 @@ copied_process p dest offset bytes = record p { memory = with_bytes p.memory (de
 copied_both : (h : ℕ) (m l : Kernel) (n : Name) (offset count : ℕ) (a b : Exchange) (x y : Move) (pid : Pid) (p : Process) → Agrees h m l →
     pid.host ≡ h → m.procs pid ≡ Some p → l.procs pid ≡ Some p → m.exchanges n ≡ Some b →
     IsAlike h n (sends_of (l.procs n.sender)) (Some (record a { done = a.done + count })) (Some (record b { done = b.done + count })) →
-    ((number : ℕ) → IsInMove h m.procs (move_name n number) → IsAlikeMove number (Some (record a { done = a.done + count }))
+    ((number : ℕ) → IsInMove h m.procs (move_named n number) → IsAlikeMove number (Some (record a { done = a.done + count }))
     (Some (record b { done = b.done + count }))) →
     y.dest ≡ x.dest → bytes_in (range_of offset count) y.bytes ≡ bytes_in (range_of offset count) x.bytes →
     Agrees h (copied m n offset count (record { exchange = b; move = y; pid = pid; process = p }))
@@ -179,7 +180,7 @@ copied_both h m l n offset count a b x y pid p agrees here at seen there alike m
     (sym dest) (sym bytes)
     (own_put h km kl n b (record a { done = a.done + count }) (record b { done = b.done + count }) wrote there
     (subst (λ c. IsAlike h n c (Some (record a { done = a.done + count })) (Some (record b { done = b.done + count }))) sends alike)
-    (λ k mine. moves k (in_move_before h m.procs pid p after (move_name n k) at (λ j moving name. (moving, name)) mine))
+    (λ k mine. moves k (in_move_before h m.procs pid p after (move_named n k) at (λ j moving name. (moving, name)) mine))
     refl)
 
 pub own_copy_to : (h : ℕ) (m l : Kernel) (n : Name) (number offset count : ℕ) (c : Copying) (e : Effect) → IsSteady m → Agrees h m l →
@@ -238,15 +239,15 @@ bare_move a b (suc i) x same at =
 pub record IsIn (k : Kernel) (n : Name) (number : ℕ) (pid : Pid) (p : Process) : Type 0 where
   pub is : k.procs pid ≡ Some p
   pub moves : is_moving p.state ≡ true
-  pub name : p.moving ≡ Some (move_name n number)
+  pub name : p.moving ≡ Some (move_named n number)
 
-in_move_is : (n : Name) (number : ℕ) (o : Option MoveName) → holds_of (λ x. same_move x n number) o ≡ true → o ≡ Some (move_name n number)
+in_move_is : (n : Name) (number : ℕ) (o : Option MoveName) → holds_of (λ x. same_move x n number) o ≡ true → o ≡ Some (move_named n number)
 in_move_is n number o t =
     let x = some_that_holds (λ x. same_move x n number) o t in
     let parts = and_parts (same_name x.0.exchange n) (x.0.number == number) x.2 in
     let name = same_name_is x.0.exchange n parts.0 in
     let count = eqb-true x.0.number number parts.1 in
-    x.1 ∙ (λ i. Some (move_name (name i) (count i)))
+    x.1 ∙ (λ i. Some (move_named (name i) (count i)))
 
 pub written_in : (k : Kernel) (n : Name) (number : ℕ) (mover : Pid) (d : Direction) (w : Pid × Process) → is_from d ≡ true →
     written_process k n number mover d ≡ Some w → (w.0 ≡ mover) × IsIn k n number mover w.1
@@ -290,14 +291,14 @@ own_copy_from h m l n number offset count c e steady agrees ta from g told is_e 
     let way : is_from y.0.direction ≡ true = ap (λ (z : Move). is_from z.direction) y.2 ∙ from in
     let into = written_in l n number x.mover x.direction (c.pid, c.process) from is.written in
     let at = own_at h m l x.mover c.process agrees here into.1.is in
-    let mine : IsInMove h m.procs (move_name n number) =
+    let mine : IsInMove h m.procs (move_named n number) =
     record { mover = x.mover; here = here; process = c.process; is = at; moves = into.1.moves; name = into.1.name } in
-    let alike = subst₂ (IsAlikeMove number) is.exchange b.1 (agrees.moving (move_name n number) mine) in
+    let alike = subst₂ (IsAlikeMove number) is.exchange b.1 (agrees.moving (move_named n number) mine) in
     let opened = alike.opened next.opened in
     let from_b : is_from_at number (Some b.0) ≡ true = ap (holds_of (λ (z : Move). is_from z.direction)) y.1 ∙ way in
     let done : a.done ≡ b.0.done = sym (cond-true (a.opened == number) a.done 0 (eq-eqb a.opened number next.opened)) ∙ alike.from from_b
     ∙ cond-true (b.0.opened == number) b.0.done 0 (eq-eqb b.0.opened number opened) in
-    let last = length_of (move_name n number) b.0 mine b.1 in
+    let last = length_of (move_named n number) b.0 mine b.1 in
     let now = copying_from m n number offset count b.0 y.0 (c.pid, c.process) b.1 y.1
     (next_from b.0 number y.0 offset count (record {
       opened = opened;
@@ -314,7 +315,7 @@ own_copy_from h m l n number offset count c e steady agrees ta from g told is_e 
     (copied_alike (sends_of (l.procs n.sender)) a b.0 (λ near. both_ways (same_host n.sender b.0.target) of_b.remote
     (eq-eqb n.sender.host b.0.target.host (near ∙ sym (eqb-true b.0.target.host h tb)))) b.3)
     (λ k other. subst (λ j. IsAlikeMove j (Some (record a { done = a.done + count })) (Some (record b.0 { done = b.0.done + count })))
-    (sym last ∙ length_of (move_name n k) b.0 other b.1)
+    (sym last ∙ length_of (move_named n k) b.0 other b.1)
     (copied_move a b.0 next.opened opened done))
     (ap (λ (z : Move). z.dest) y.2) (told b.0 y.0 b.1 y.1))
   where

@@ -16,12 +16,10 @@ use Rattle.v_laws.proofs.Later.{IsLaterProcess, ProcessesGoOn}
 use Rattle.v_laws.proofs.Options.{mapped_is}
 use Rattle.v_laws.proofs.Related.{related_after}
 use Rattle.v_laws.proofs.Tables.{same_pid_is, same_name_is, put_process_at, put_process_other, put_exchange_at, put_exchange_other}
+use Rattle.v_laws.proofs.MoveLists.{no_move, move_within, pushed_before}
+use Rattle.v_laws.proofs.MoveSteps.{pushed, unstaged}
 use Rattle.v_sim.specs.Agreement.{bare}
 use Rattle.v_sim.specs.Steady.{IsAsked, IsMoveOf, IsSteadyExchange, IsRunning, IsSteady}
-use Rattle.v_sim.proofs.Alike.{kept}
-use Rattle.v_sim.proofs.HiddenSteps.{no_move, move_within}
-use Rattle.v_sim.proofs.OwnMoves.{move_pushed}
-unfoldable use Rattle.v_sim.proofs.OwnMoves.{pushed}
 use Rattle.v_sim.proofs.OwnTransfers.{bare_move}
 use Rattle.v_sim.proofs.Puts.{put_exchange_all}
 
@@ -103,10 +101,10 @@ asking_on k procs steady before q p at asks = let x =
     before q p at asks in ap (λ c. is_some (k.lookups q c)) x.3 ∙ steady.asking q x.0 x.1 x.2
 
 -- an exchange but for its stage
-pub steady_kept : (n : Name) (x y : Exchange) → kept y ≡ kept x → IsSteadyExchange n x → IsSteadyExchange n y
+pub steady_kept : (n : Name) (x y : Exchange) → unstaged y ≡ unstaged x → IsSteadyExchange n x → IsSteadyExchange n y
 steady_kept n x y same steady = out y (subst (IsSteadyExchange n) (sym same) (into x steady))
   where
-    into : (z : Exchange) → IsSteadyExchange n z → IsSteadyExchange n (kept z)
+    into : (z : Exchange) → IsSteadyExchange n z → IsSteadyExchange n (unstaged z)
     into z s = record {
       opened = s.opened;
       done = s.done;
@@ -114,7 +112,7 @@ steady_kept n x y same steady = out y (subst (IsSteadyExchange n) (sym same) (in
           record { mover = o.mover; remote = o.remote };
     }
 
-    out : (z : Exchange) → IsSteadyExchange n (kept z) → IsSteadyExchange n z
+    out : (z : Exchange) → IsSteadyExchange n (unstaged z) → IsSteadyExchange n z
     out z s = record {
       opened = s.opened;
       done = s.done;
@@ -144,14 +142,14 @@ steady_put k name y steady here = put_exchange_all (λ n o. (z : Exchange) → o
     (λ z e. subst (IsSteadyExchange name) (same_Some y z e) here) steady.exchanges
 
 -- exchanges change in their stages alone
-pub map_keeps : (k l : Kernel) (f : Name → Exchange → Exchange) → IsSteady k → ((n : Name) (x : Exchange) → kept (f n x) ≡ kept x) →
+pub map_keeps : (k l : Kernel) (f : Name → Exchange → Exchange) → IsSteady k → ((n : Name) (x : Exchange) → unstaged (f n x) ≡ unstaged x) →
     ((n : Name) → l.exchanges n ≡ option_map (f n) (k.exchanges n)) →
     ((n : Name) (y : Exchange) → l.exchanges n ≡ Some y → IsSteadyExchange n y)
 map_keeps k l f steady keep is n y at =
     let x = mapped_is (f n) (k.exchanges n) y (sym (is n) ∙ at) in
-    steady_kept n x.0 y (sym (ap kept x.2) ∙ keep n x.0) (steady.exchanges n x.0 x.1)
+    steady_kept n x.0 y (sym (ap unstaged x.2) ∙ keep n x.0) (steady.exchanges n x.0 x.1)
 
-pub map_same : (k l : Kernel) (f : Name → Exchange → Exchange) → ((n : Name) (x : Exchange) → kept (f n x) ≡ kept x) →
+pub map_same : (k l : Kernel) (f : Name → Exchange → Exchange) → ((n : Name) (x : Exchange) → unstaged (f n x) ≡ unstaged x) →
     ((n : Name) → l.exchanges n ≡ option_map (f n) (k.exchanges n)) → (n : Name) (x : Exchange) → k.exchanges n ≡ Some x → HasSame l n x
 map_same k l f keep is n x at =
     record {
@@ -177,15 +175,13 @@ slice_push (y ∷ ys) x zero m at = inl at
 slice_push (y ∷ ys) x (suc i) m at = slice_push ys x i m at
 
 move_push : (e : Exchange) (x : Move) (number : ℕ) (m : Move) → move_of (pushed e x) number ≡ Some m → (move_of e number ≡ Some m) ⊎ (m ≡ x)
-unfolding pushed
 move_push e x zero m at = absurd (none-some m at)
 move_push e x (suc i) m at = slice_push e.moves x i m at
 
 pub steady_pushed : (n : Name) (e : Exchange) (x : Move) → IsSteadyExchange n e → IsMoveOf n e x → IsSteadyExchange n (pushed e x)
-unfolding pushed
 steady_pushed n e x steady is = record {
   opened = let a = steady.opened in let b = length_push e.moves x in omega arith;
-  done = λ m at. steady.done m (sym (move_pushed e x e.opened steady.opened) ∙ at);
+  done = λ m at. steady.done m (sym (pushed_before e x e.opened steady.opened) ∙ at);
   moves = λ number m at. elim (move_push e x number m at) [
     | inl old ↦ let o = steady.moves number m old in record { mover = o.mover; remote = o.remote }
     | inr new ↦ record { mover = ap (λ (z : Move). z.mover) new ∙ is.mover; remote = is.remote }

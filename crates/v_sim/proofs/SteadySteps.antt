@@ -1,6 +1,6 @@
 -- Each step keeps what holds of lookups and of moves.
 use Rattle.std.proofs.Common.{◌≡◌, ℕ, ◌+◌, ◌-◌, true, false, cond, ◌==◌, List, [], ◌∷◌, ◌++◌, filter, find, length, not, slice_set, Option, Some, None, option_map, refl, sym, ap, subst, ◌∙◌, inl, inr, arith, is_some, ◌&&◌}
-use Rattle.std.proofs.lemmas.Bool.{cases_Bool, both_ways, eq-eqb, and_from, or_parts, eqb-false, ne_eqb, leb-true, false_from_ne_true, cond-true, cond-false}
+use Rattle.std.proofs.lemmas.Bool.{cases_Bool, both_ways, or_parts, eqb-false, ne_eqb, leb-true, false_from_ne_true, cond-true, cond-false}
 use Rattle.std.proofs.lemmas.List.{length_push, length-set}
 use Rattle.std.proofs.lemmas.Option.{same_Some, none-some}
 use Rattle.vk_base.specs.declared.answer.Answer.{Answer}
@@ -40,38 +40,30 @@ use Rattle.v_laws.proofs.Options.{of_either, mapped_is}
 use Rattle.v_laws.proofs.Queues.{fresh}
 use Rattle.v_laws.proofs.SoundLemmas.{initial_ready}
 use Rattle.v_laws.proofs.StepLemmas.{taking_is, finishing_is, failing_is, opening_is, copying_is, ending_is, hearing_is, asking_is, finding_is, collecting_is}
-use Rattle.v_laws.proofs.Tables.{same_pid_is, same_pid_self, same_name_is, put_process_at, put_process_here, put_process_other, put_exchange_here, put_exchange_other}
+use Rattle.v_laws.proofs.Tables.{same_pid_is, same_pid_self, same_name_is, put_process_at, put_process_here, put_process_other, put_exchange_here, put_exchange_other, lookup_here}
+use Rattle.v_laws.proofs.SoundExit.{procs_after}
 use Rattle.v_sim.specs.Steady.{IsAsked, IsMoveOf, IsSteadyExchange, IsRunning, IsSteady}
 use Rattle.v_sim.proofs.HiddenAll.{held_is_to}
 use Rattle.v_sim.proofs.HiddenSteps.{arrival_kept, move_set}
 use Rattle.v_sim.proofs.MoveSets.{noted_bare}
-use Rattle.v_sim.proofs.OwnExit.{dropped_kept, procs_after, released_both, released_moving, released_name}
+use Rattle.v_sim.proofs.OwnExit.{dropped_kept, released_both, released_moving, released_name}
 use Rattle.v_sim.proofs.OwnParts.{ended_still}
 use Rattle.v_sim.proofs.OwnTransfers.{next_is}
-unfoldable use Rattle.v_sim.proofs.OwnMoves.{pushed}
 use Rattle.v_sim.proofs.Puts.{lookup_put}
 use Rattle.v_sim.proofs.SteadyParts.{AskedBefore, asked_put, asking_on, IsMovingIn, asked_on, steady_by, moving_put, steady_kept, same_put, steady_put, map_keeps, map_same, steady_new, steady_pushed, steady_opened, steady_copied}
+use Rattle.v_sim.proofs.Alike.{StaysOut}
 
 ended_asks_still : (s : State) (a : Answer) → is_asking (ended s a) ≡ true → is_asking s ≡ true
 ended_asks_still states.Ready a t = t
 ended_asks_still (states.Blocked c) a t = absurd (both_ways false refl t)
 ended_asks_still (states.Done c b) a t = t
 
-lookup_here : (lookups : Pid → ℕ → Option Lookup) (asker : Pid) (number : ℕ) (x : Lookup) →
-    put_lookup lookups asker number x asker number ≡ Some x
-unfolding put_lookup
-lookup_here lookups asker number x = cond-true (same_pid asker asker && number == number) (Some x) (lookups asker number)
-    (and_from (same_pid asker asker) (number == number) (same_pid_self asker) (eq-eqb number number refl))
-
 -- A process changes, and comes to no move.
 abbrev NoNewAsk : Process → Process → Type 0
 NoNewAsk p after = is_asking after.state ≡ true → (is_asking p.state ≡ true) × (after.lookups ≡ p.lookups)
 
-abbrev NoNewMove : Process → Process → Type 0
-NoNewMove p after = (n : MoveName) → is_moving after.state ≡ true → after.moving ≡ Some n → (is_moving p.state ≡ true) × (p.moving ≡ Some n)
-
 steady_process : (k : Kernel) (pid : Pid) (p after : Process) → IsSteady k →
-    ProcessesGoOn k (record k { procs = put_process k.procs pid after }) → k.procs pid ≡ Some p → NoNewMove p after → NoNewAsk p after →
+    ProcessesGoOn k (record k { procs = put_process k.procs pid after }) → k.procs pid ≡ Some p → StaysOut p after → NoNewAsk p after →
     IsSteady (record k { procs = put_process k.procs pid after })
 steady_process k pid p after steady on at out asks = steady_by k (record k { procs = put_process k.procs pid after }) steady (record {
   exchanges = steady.exchanges;
@@ -307,7 +299,7 @@ steady_copies k name number offset count c steady on g =
 steady_begun : (k : Kernel) (pid : Pid) (p : Process) (c : Call) (name : Name) (e : Exchange) (x : Move) → IsSteady k →
     ProcessesGoOn k (move_begun k pid p c name e x) → k.exchanges name ≡ Some e → e.target ≡ pid → IsMoveOf name e x →
     k.procs pid ≡ Some p → is_asking (states.Blocked c) ≡ false → IsSteady (move_begun k pid p c name e x)
-unfolding move_begun pushed
+unfolding move_begun
 steady_begun k pid p c name e x steady on at target of p_at no_ask = record {
   exchanges = steady_put k name (record e { moves = e.moves ++ x ∷ [] }) steady (steady_pushed name e x (steady.exchanges name e at) of);
   running = λ q z n is moves is_n. elim (cases_Bool (same_pid q pid)) [
@@ -440,7 +432,7 @@ called_steady : (k : Kernel) (pid : Pid) (p : Process) (c : Call) (why : Option 
 called_steady k pid p c None e sound steady on at g = accepted_steady k pid p c e sound steady on at g
 called_steady k pid p c (Some why) e sound steady on at g = by_effect _ e g steady
 
-ended_out : (p : Process) (a : Answer) → NoNewMove p (record p { state = ended p.state a })
+ended_out : (p : Process) (a : Answer) → StaysOut p (record p { state = ended p.state a })
 ended_out p a n moves name = (ended_still p.state a moves, name)
 
 effect_steady : (k : Kernel) (s : Step) (e : Effect) → IsSound k → IsSteady k → ProcessesGoOn k e.after → effect k s ≡ Some e →

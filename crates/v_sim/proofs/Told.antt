@@ -1,10 +1,9 @@
 -- What the frame that was taken tells of the steps that are made by it.
-use Rattle.std.proofs.Common.{◌≡◌, ℕ, true, false, List, length, Option, Some, None, is_none, refl, sym, ap, ◌∙◌}
+use Rattle.std.proofs.Common.{◌≡◌, ℕ, List, length, Option, Some, None, is_none, sym, ap, ◌∙◌}
 use Rattle.std.proofs.lemmas.Bool.{both_ways}
 use Rattle.std.proofs.lemmas.Option.{same_Some}
 use Rattle.vk_base.specs.declared.answer.Ending.{Ending}
 use Rattle.vk_base.specs.declared.answer.Ending.TheVariants as endings
-use Rattle.vk_base.specs.declared.kernel.Direction.{Direction}
 use Rattle.vk_base.specs.declared.kernel.Direction.TheVariants as directions
 use Rattle.vk_base.specs.declared.kernel.Exchange.{Exchange}
 use Rattle.vk_base.specs.declared.kernel.Move.{Move}
@@ -19,11 +18,7 @@ use Rattle.v_sim.specs.Acts.{SaysTaken, OpensBy, CopiesBy, GoneBy, Knows}
 use Rattle.v_sim.specs.Agreement.{is_from, Agrees}
 use Rattle.v_sim.specs.Frames.{move_at}
 use Rattle.v_sim.specs.Simulation.{host_of, IsCopyTold, IsOpenTold, IsGoneTold, IsTold}
-use Rattle.v_sim.proofs.MoveSets.{to_is}
-
-from_is : (d : Direction) → is_from d ≡ true → d ≡ directions.From
-from_is directions.To t = absurd (both_ways false refl t)
-from_is directions.From t = refl
+use Rattle.v_sim.proofs.MoveSets.{to_is, from_is}
 
 -- the move that the frame speaks of
 at_name : (m : Kernel) (n z : Name) (moving k : ℕ) (x : Move) → z ≡ n → k ≡ moving → move_at k (m.exchanges z) ≡ Some x →

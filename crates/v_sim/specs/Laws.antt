@@ -2,7 +2,7 @@
 use Rattle.std.specs.Prelude.{◌≡◌, ℕ, List, Option, Some}
 use Rattle.vk_base.specs.declared.config.ProcessSpec.{ProcessSpec}
 use Rattle.vk_base.specs.declared.step.Step.{Step}
-use Rattle.vk_base.specs.Brought.{brought}
+use Rattle.vk_base.specs.Brought.{brought, settled}
 use Rattle.vk_base.specs.Calls.{Effect}
 use Rattle.vk_base.specs.Kernel.{Kernel}
 use Rattle.vk_base.specs.Packets.{Packet}
@@ -27,6 +27,9 @@ StepsKeepFrozen = (k : Kernel) (s : Step) (e : Effect) → IsSound k → IsStead
 -- Of views, whatever frames came.
 abbrev pub FramesKeepViews : Type 0
 FramesKeepViews = (h : ℕ) (l : Kernel) (p : Packet) → IsView h l → Comes h l p → IsView h (brought l p)
+
+abbrev pub SettlingKeepsViews : Type 0
+SettlingKeepsViews = (h : ℕ) (before l : Kernel) (p : Packet) → IsView h l → IsView h (settled before p l)
 
 abbrev pub StepsKeepViews : Type 0
 StepsKeepViews = (h : ℕ) (l : Kernel) (s : Step) (e : Effect) → IsView h l → host_of l s ≡ h → effect l s ≡ Some e → IsView h e.after

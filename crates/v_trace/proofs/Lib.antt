@@ -1,5 +1,5 @@
 mod LastWords
 pub mod StepTexts
 pub mod StepWords
-mod TraceLines
+pub mod TraceLines
 mod TraceTexts

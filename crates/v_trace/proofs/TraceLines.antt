@@ -1,9 +1,8 @@
 -- The lines of a trace, one after another.
-use Rattle.std.proofs.Common.{◌≡◌, ℕ, ◌+◌, ◌<◌, ◌≤◌, Bool, true, false, cond, List, [], ◌∷◌, ◌++◌, length, Option, Some, None, IsSome, Result, Ok, Err, drop, codes, refl, ap, sym, ◌∙◌, ◌⊎◌, inl, inr, arith, length-append}
+use Rattle.std.proofs.Common.{◌≡◌, ℕ, ◌+◌, ◌-◌, ◌<◌, ◌≤◌, Bool, true, false, cond, List, [], ◌∷◌, ◌++◌, length, Option, Some, None, IsSome, Result, Ok, Err, drop, codes, refl, ap, sym, ◌∙◌, ◌⊎◌, inl, inr, arith, length-append}
 use Rattle.std.specs.Option.{option_map_or}
 use Rattle.std.specs.Prelude.{IsSomeAnd, MatchResult}
 use Rattle.vk_base.specs.Settings.{Settings}
-use Rattle.vk_base.specs.declared.config.ProcessSpec.{ProcessSpec}
 use Rattle.vk_base.specs.declared.step.Step.{Step}
 use Rattle.vk_text.specs.Heads.{HasProcess, settings_of, head_of}
 use Rattle.vk_text.proofs.HeadReading.{Parts}
@@ -11,7 +10,7 @@ use Rattle.vk_text.specs.Lines.{lines_of, words_from}
 use Rattle.vk_text.specs.declared.heads.HeadRefusal.{HeadRefusal}
 use Rattle.vk_text.specs.declared.heads.HeadRefusal.TheVariants as heads
 use Rattle.v_trace.specs.Steps.{step_of}
-use Rattle.v_trace.specs.Traces.{KeepsLines, has_actor, line_behind, with_step, with_lines, behind_head, trace_of}
+use Rattle.v_trace.specs.Traces.{KeepsLines, kept_lines, has_actor, line_behind, with_step, with_lines, behind_head, trace_of}
 use Rattle.v_trace.specs.declared.trace.Trace.{Trace}
 use Rattle.v_trace.specs.declared.trace.TraceRefusal.{TraceRefusal}
 use Rattle.v_trace.specs.declared.trace.TraceRefusal.TheVariants as refusals
@@ -59,7 +58,7 @@ pub at_err : {A E : Type 0} (r : Result A E) (e : E) (o : Option Trace) (more : 
 at_err (Ok b) e o more is h = cc
 at_err (Err d) e o more is h = h
 
--- a bad line stands behind the lines that were kept
+-- the lines that were kept are those before a bad one
 
 one_step : (t more : Trace) (s : Step) (b : Bool) → cond b (Some (record t { steps = t.steps ++ s ∷ [] })) None ≡ Some more
     → line_behind more ≡ line_behind t + 1
@@ -73,17 +72,17 @@ unfolding with_step
 line_more t more None h = cc
 line_more t more (Some s) h = one_step t more s (has_actor t.config.specs s) h
 
-behind_by : (t : Trace) (l : List ℕ) (ls : List (List ℕ)) (n : ℕ) (o : Option Trace) → with_step t (step_of (words_from l 0)) ≡ o
-    → ((more : Trace) → with_lines more ls ≡ Err (refusals.BadInput n) → line_behind more ≤ n)
-    → option_map_or (λ more. with_lines more ls) o (Err (refusals.BadInput (line_behind t))) ≡ Err (refusals.BadInput n)
-    → line_behind t ≤ n
-behind_by t l ls n None is rest h = let same : line_behind t ≡ n = cc in omega (arith, same)
-behind_by t l ls n (Some more) is rest h = omega (arith, rest more h, line_more t more (step_of (words_from l 0)) is)
+kept_by : (t : Trace) (ls : List (List ℕ)) (o : Option Trace)
+    → ((more : Trace) → o ≡ Some more → line_behind t ≤ kept_lines (with_lines more ls) + 2)
+    → line_behind t ≤ kept_lines (option_map_or (λ more. with_lines more ls) o (Err (refusals.BadInput (line_behind t)))) + 2
+kept_by t ls None rest = omega arith
+kept_by t ls (Some more) rest = rest more refl
 
-bad_behind : (t : Trace) (lines : List (List ℕ)) (n : ℕ) → with_lines t lines ≡ Err (refusals.BadInput n) → line_behind t ≤ n
+all_kept : (t : Trace) (lines : List (List ℕ)) → line_behind t ≤ kept_lines (with_lines t lines) + 2
 unfolding with_lines
-bad_behind t [] n h = cc
-bad_behind t (l ∷ ls) n h = behind_by t l ls n (with_step t (step_of (words_from l 0))) refl (λ more e. bad_behind more ls n e) h
+all_kept t [] = omega arith
+all_kept t (l ∷ ls) = kept_by t ls (with_step t (step_of (words_from l 0)))
+    (λ more is. omega (arith, all_kept more ls, line_more t more (step_of (words_from l 0)) is))
 
 some_step : (o : Option Trace) → IsSome o → (more : Trace) × (o ≡ Some more)
 some_step (Some more) h = (more, refl)
@@ -92,15 +91,16 @@ some_step None h = cc
 -- where memory is wanted for a step
 pub step_wanted : (text : List ℕ) (t : Trace) (l : List ℕ) (left ls : List (List ℕ)) → trace_of text ≡ with_lines t left
     → left ≡ l ∷ ls → IsSome (with_step t (step_of (words_from l 0))) → KeepsLines text
-step_wanted text t l left ls so here good n bad =
+step_wanted text t l left ls so here good =
     let found = some_step (with_step t (step_of (words_from l 0))) good in
     let after : trace_of text ≡ with_lines found.0 ls = step_added (trace_of text) t found.0 l left ls so here found.1 in
-    omega (arith, bad_behind found.0 ls n (sym after ∙ bad), line_more t found.0 (step_of (words_from l 0)) found.1)
+    let kept : kept_lines (trace_of text) ≡ kept_lines (with_lines found.0 ls) = ap kept_lines after in
+    omega (arith, kept, all_kept found.0 ls, line_more t found.0 (step_of (words_from l 0)) found.1)
 
-wanted_by : (o : Option Parts) (n : ℕ) → IsSomeAnd o (λ h. 0 < length h.0) → behind_head o ≡ Err (refusals.BadInput n) → 2 < n
+wanted_by : (o : Option Parts) → IsSomeAnd o (λ h. 0 < length h.0) → 0 < kept_lines (behind_head o)
 unfolding behind_head
-wanted_by None n some h = absurd some
-wanted_by (Some head) n some h = omega (arith, some, bad_behind (record { config = settings_of head.0; steps = [] }) head.1 n h)
+wanted_by None some = absurd some
+wanted_by (Some head) some = omega (arith, some, all_kept (record { config = settings_of head.0; steps = [] }) head.1)
 
 pub wanted_head : (text : List ℕ) (e : HeadRefusal) → e ≡ heads.NoMemory
     → ((e ≡ heads.NoMemory) × HasProcess (codes "vkernel trace 1") text)
@@ -111,4 +111,10 @@ wanted_head text e is (inr h) = absurd (let clash : heads.NoTitle ≡ heads.NoMe
 
 -- where it is wanted for a process
 pub head_wanted : (text : List ℕ) → HasProcess (codes "vkernel trace 1") text → KeepsLines text
-head_wanted text some n bad = wanted_by (head_of (codes "vkernel trace 1") (lines_of text)) n some bad
+head_wanted text some = wanted_by (head_of (codes "vkernel trace 1") (lines_of text)) some
+
+-- where a line is kept, a bad one stands behind the second
+pub bad_behind : (text : List ℕ) (line : ℕ) → KeepsLines text → trace_of text ≡ Err (refusals.BadInput line) → 2 < line
+bad_behind text line keeps bad =
+    let kept : kept_lines (trace_of text) ≡ line - 2 = ap kept_lines bad in
+    omega (arith, kept, keeps)

@@ -1,5 +1,5 @@
 -- The text of a trace.
-use Rattle.std.specs.Prelude.{◌≡◌, ℕ, ◌+◌, ◌<◌, Bool, true, List, [], ◌∷◌, ◌++◌, length, flat_map, codes, Option, Some, None, Result, Ok, Err, if◌then◌else◌}
+use Rattle.std.specs.Prelude.{ℕ, ◌+◌, ◌-◌, ◌<◌, Bool, true, List, [], ◌∷◌, ◌++◌, length, flat_map, codes, Option, Some, None, Result, Ok, Err, if◌then◌else◌}
 use Rattle.std.specs.Option.{option_map_or}
 use Rattle.vk_base.specs.Settings.{has_process}
 use Rattle.vk_base.specs.declared.config.ProcessSpec.{ProcessSpec}
@@ -47,6 +47,12 @@ trace_of text = behind_head (head_of (codes "vkernel trace 1") (lines_of text))
 abbrev pub trace_text : List ProcessSpec → List Step → List ℕ
 trace_text specs steps = head_text (codes "vkernel trace 1") specs ++ flat_map (λ s. line_text (step_text s)) steps
 
--- the first bad line, where there is one, stands behind the second, so that something stands before it that is kept
+-- how many lines are kept: those behind the title, up to the first bad one
+abbrev pub kept_lines : Result Trace TraceRefusal → ℕ
+kept_lines (Ok t) = length t.config.specs + length t.steps
+kept_lines (Err (refusals.BadInput line)) = line - 2
+kept_lines (Err refusals.NoMemory) = 0
+
+-- the title stands, and the line behind it is that of a process or a step
 abbrev pub KeepsLines : List ℕ → Type 0
-KeepsLines text = (line : ℕ) → trace_of text ≡ Err (refusals.BadInput line) → 2 < line
+KeepsLines text = 0 < kept_lines (trace_of text)

@@ -25,7 +25,8 @@ pub enum TraceRefusal {
 
 /// The trace that the text spells: its first line is `vkernel trace 1`, then come `process PID SIZE` lines by rising
 /// pids, and then the steps, a line each. The process of a `call` or `collect` is in the configuration; other steps may
-/// name any. The first line that is none of these decides. Memory is wanted only for lines that are lawful.
+/// name any. The first line that is none of these decides. Memory is wanted only for lines before it, so only where the line
+/// behind the title is lawful.
 pub fn read_trace(alloc: Global, text: &[u8]) -> Result<Trace, TraceRefusal>
     ensures trace { IfOk result (λ t. trace_of text.now ≡ Ok t) }
     ensures refused { IfErr result (λ e. ((e ≡ TraceRefusal.NoMemory) × KeepsLines text.now) ⊎ (trace_of text.now ≡ Err e)) }

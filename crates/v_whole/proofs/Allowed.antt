@@ -16,6 +16,7 @@ use Rattle.v_laws.proofs.Held.{holding_is}
 use Rattle.v_laws.proofs.Options.{some_not_none}
 use Rattle.v_laws.proofs.StepLemmas.{fit_is, passes_first, four_tests}
 use Rattle.v_sim.proofs.Puts.{bind_to}
+use Rattle.vk_rules.specs.Each.{Each}
 
 abbrev pub HasEffect : Option Effect → Type 0
 HasEffect o = (e : Effect) × (o ≡ Some e)

@@ -1,7 +1,7 @@
 -- A call of a process is lawful by the view of its station.
 -- What a call amounts to behind its own step e.
 use Rattle.std.proofs.Common.{◌≡◌, ℕ, zero, suc, slice_get, ◌+◌, ◌-◌, ◌*◌, ◌/◌, ◌≤◌, ◌<◌, min, true, false, ◌==◌, ◌&&◌, not, List, [], ◌∷◌, ◌++◌, length, map, take, drop, flat_map, Option, Some, None, option_map, All, refl, sym, ap, subst, ◌∙◌, inl, inr, arith}
-use Rattle.std.proofs.lemmas.Bool.{cases_Bool, both_ways, and_parts, and_from, or_parts, cond-true, cond-false, cond_both, eqb-true, eq-eqb, false_from_ne_true, not_from_false}
+use Rattle.std.proofs.lemmas.Bool.{cases_Bool, both_ways, and_parts, or_parts, cond-true, cond-false, cond_both, eqb-true, eq-eqb, false_from_ne_true, not_from_false}
 use Rattle.std.proofs.Math.Numerals.{add-one}
 use Rattle.std.proofs.lemmas.List.{take-take, drop-drop, drop-take, length-take, take_min}
 use Rattle.std.proofs.lemmas.List.Elements.{All-nil, All-cons, All-append, All-head, All-tail, All-map, All-weaker}
@@ -15,7 +15,6 @@ use Rattle.vk_base.specs.declared.call.Call.TheVariants as calls
 use Rattle.vk_base.specs.declared.call.Scope.{Scope}
 use Rattle.vk_base.specs.declared.kernel.Direction.TheVariants as directions
 use Rattle.vk_base.specs.declared.kernel.Exchange.{Exchange}
-use Rattle.vk_base.specs.declared.kernel.Lookup.{Lookup}
 use Rattle.vk_base.specs.declared.kernel.Move.{Move}
 use Rattle.vk_base.specs.declared.kernel.MoveName.{MoveName}
 use Rattle.vk_base.specs.declared.kernel.Name.{Name}
@@ -25,7 +24,7 @@ use Rattle.vk_base.specs.declared.kernel.Stage.TheVariants as stages
 use Rattle.vk_base.specs.declared.kernel.State.TheVariants as states
 use Rattle.vk_base.specs.declared.pid.Pid.{Pid}
 use Rattle.vk_base.specs.Calls.{Effect, unseen, answered, accepted, called, call_refusal, call_step, copied_at_once, begin_move, new_move, move_begun, is_at_once, get_pid, lookup_begun, found_at_once, exited, is_message_at, dropped_at}
-use Rattle.vk_base.specs.Kernel.{◌>>=◌, Kernel, name_of, holds_of, is_live, held, is_at_target, put_lookup, move_of}
+use Rattle.vk_base.specs.Kernel.{◌>>=◌, Kernel, name_of, holds_of, is_live, held, is_at_target, move_of}
 use Rattle.vk_base.specs.Packets.{Packet, Negative, MoveData}
 use Rattle.vk_base.specs.Pids.{same_pid, same_host}
 use Rattle.vk_base.specs.Ranges.{range_of, bytes_in}
@@ -33,7 +32,7 @@ use Rattle.vk_base.specs.Steps.{taken}
 use Rattle.vk_base.proofs.OptionLemmas.{bind_is}
 use Rattle.v_laws.proofs.Held.{holding_is}
 use Rattle.v_laws.proofs.Options.{some_that_holds, of_either}
-use Rattle.v_laws.proofs.Tables.{same_pid_is, same_pid_self, put_process_here, put_exchange_here}
+use Rattle.v_laws.proofs.Tables.{same_pid_is, put_process_here, put_exchange_here, lookup_here}
 use Rattle.vk_packet.specs.Rules.{piece_len}
 use Rattle.v_sim.specs.Acts.{Backs, BacksMove}
 use Rattle.v_sim.specs.Agreement.{is_from, logical_of}
@@ -260,12 +259,6 @@ move_from_behind h l slots pid p partner dest src count e here g =
     begun_behind h l slots pid c e refl refl b.0 b.1) g
 
 -- Lookups.
-pub lookup_here : (lookups : Pid → ℕ → Option Lookup) (asker : Pid) (number : ℕ) (x : Lookup) →
-    put_lookup lookups asker number x asker number ≡ Some x
-unfolding put_lookup
-lookup_here lookups asker number x = cond-true (same_pid asker asker && number == number) (Some x) (lookups asker number)
-    (and_from (same_pid asker asker) (number == number) (same_pid_self asker) (eq-eqb number number refl))
-
 get_pid_behind : (h : ℕ) (l : Kernel) (slots : List (Option Alien)) (pid : Pid) (p : Process) (logical : ℕ) (scope : Scope)
     (o : Option Pid) → IsBehind h l slots pid (calls.GetPid logical scope) (get_pid l pid p (calls.GetPid logical scope) logical o)
 unfolding lookup_begun

@@ -36,7 +36,7 @@ use Rattle.vk_rules.specs.PacketOutcomes.{is_later, is_same, arrival, send_outco
 use Rattle.vk_rules.specs.Readings.{Reading, reading_after}
 use Rattle.vk_rules.specs.Right.{tick_after, number_after, answer_to, own_pids, outcome_of, right_entry}
 use Rattle.vk_rules.specs.Rounds.{Outcome, nothing, only_steps, only_packets, list_if, round, told_sender}
-use Rattle.vk_rules.specs.Works.{is_due, is_unanswered, move_count, received_of, is_last, shows_gap}
+use Rattle.vk_rules.specs.Works.{is_due, is_unanswered, move_count, is_last, shows_gap}
 
 -- A full pool.
 
@@ -334,7 +334,7 @@ packet_all t host r h (MoveRequest from to number moving src total offset) =
 packet_all t host r h (MoveBytes from to number moving total offset bytes) =
     let i : Input = Delivered (Framed h (MoveBytes from to number moving total offset bytes)) in
     let n : Name = name_of from number in
-    let received : ℕ = received_of r.view n moving in
+    let received : ℕ = (r.work to).received in
     let next : List Step = list_if (is_last total offset bytes) (steps.End to endings.Ok ∷ []) in
     let copy : Step = steps.Copy from number moving offset (length bytes) in
     map_all t r i (λ (p : Process). bytes_outcome r.view (r.work to) to n moving total offset bytes)

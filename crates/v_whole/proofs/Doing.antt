@@ -33,14 +33,14 @@ use Rattle.v_laws.specs.Sound.{IsSound}
 use Rattle.v_laws.proofs.Options.{of_either, mapped_is}
 use Rattle.v_laws.proofs.SoundLemmas.{sound_initial, sound_step}
 use Rattle.v_laws.proofs.StepLemmas.{taking_is, finishing_is, failing_is, copying_is, ending_is, asking_is, finding_is, collecting_is}
-use Rattle.v_laws.proofs.Tables.{same_pid_is, put_process_at, put_process_other, put_exchange_here}
+use Rattle.v_laws.proofs.Tables.{same_pid_is, put_process_at, put_process_other, put_exchange_here, lookup_here}
 use Rattle.v_sim.specs.Agreement.{is_from, logical_of}
 use Rattle.v_sim.specs.Frames.{move_at}
 use Rattle.v_sim.specs.Steady.{IsSteady}
 use Rattle.v_sim.proofs.Growth.{Grows, grows_step}
 use Rattle.v_sim.proofs.OwnExit.{released_both}
 use Rattle.v_sim.proofs.SteadySteps.{steady_initial, steady_step}
-use Rattle.v_whole.proofs.Calls.{lookup_here, move_pushed_last}
+use Rattle.v_whole.proofs.Calls.{move_pushed_last}
 
 -- the last move of a process is this one
 pub record IsInMoveOf (k : Kernel) (p : Process) (partner : Pid) (from : Bool) (dest src count : ℕ) : Type 0 where

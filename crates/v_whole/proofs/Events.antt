@@ -113,6 +113,7 @@ call_is h l slots last pid c e sound far traced here g =
         is = subst (IsMade h None l (steps.Call pid c ∷ ss) b.after) (sym t.1 ∙ seen_own last pid c e.seen)
             (made_first h None l (steps.Call pid c) ss e b.after here tt g b.is);
         backed = b.backed;
+        leaves = refl;
       };
       traced = subst (λ now. IsTraced h now b.after) (begun_as last pid c e.seen)
           (traced_steps h (with_call last pid c (is_none e.seen)) e.after ss (record { after = b.after; seen = [] }) quiet.calls b.is.makes
@@ -144,7 +145,7 @@ collected_is last pid c a begun not =
 collect_is : (h : ℕ) (l : Kernel) (last : Pid → Option Call) (pid : Pid) (o : Option Effect) → IsTraced h last l → pid.host ≡ h →
     effect l (steps.Collect pid) ≡ o → CollectIs h l last pid o
 collect_is h l last pid None traced here g = record {
-  local = record { after = l; enters = refl; is = made_nothing h None l; backed = All-nil (Backs h l None) };
+  local = record { after = l; enters = refl; is = made_nothing h None l; backed = All-nil (Backs h l None); leaves = refl };
   traced = traced;
   arrivals = none_arrive h [] refl;
 }
@@ -164,6 +165,7 @@ collect_is h l last pid (Some e) traced here g =
         enters = refl;
         is = subst (IsMade h None l (steps.Collect pid ∷ []) e.after) seen (made_one h None l (steps.Collect pid) e here tt g);
         backed = All-nil (Backs h e.after None);
+        leaves = refl;
       };
       traced = traced_step h last l (steps.Collect pid) e tt g traced;
       arrivals = none_arrive h (steps.Collect pid ∷ []) refl;

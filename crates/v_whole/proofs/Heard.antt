@@ -1,5 +1,5 @@
 -- The number of Sends that a view has of a process of another station is that of a Send that arrived there.
-use Rattle.std.proofs.Common.{◌≡◌, if◌then◌else◌, ℕ, ◌+◌, ◌<◌, ◌⊎◌, Bool, true, false, ◌==◌, max, nat_lt, not, List, [], ◌∷◌, fold, find, Option, Some, None, is_none, is_some, option_map, refl, sym, ap, subst, ◌∙◌, inl, inr, arith}
+use Rattle.std.proofs.Common.{◌≡◌, if◌then◌else◌, ℕ, ◌+◌, ◌<◌, ◌⊎◌, false, ◌==◌, max, nat_lt, not, List, [], ◌∷◌, fold, find, Option, Some, None, is_none, is_some, option_map, refl, sym, ap, subst, ◌∙◌, inl, inr, arith}
 use Rattle.std.proofs.lemmas.Bool.{cases_Bool, and_left, cond_both, ltb-true, ltb-false}
 use Rattle.std.proofs.lemmas.Option.{none-some}
 use Rattle.std.specs.List.{filter_map}
@@ -35,16 +35,17 @@ use Rattle.vk_rules.specs.Readings.{Reading, reading}
 use Rattle.vk_rules.specs.Right.{answer_to, own_pids, right_entry}
 use Rattle.vk_rules.specs.Rounds.{Outcome, list_if, nothing}
 use Rattle.vk_rules.specs.View.{after_steps}
-use Rattle.v_ages.specs.Arrivals.{Each, In}
+use Rattle.vk_rules.specs.Each.{Each}
+use Rattle.vk_rules.proofs.Lists.{each_if}
+use Rattle.v_ages.specs.Arrivals.{In}
 use Rattle.v_ages.proofs.Aged.{sends_in}
-use Rattle.v_ages.proofs.Lists.{each_if}
-use Rattle.v_ages.proofs.Outcomes.{behind_no_call, failed_no_call, mild_packet, outcome_if}
+use Rattle.v_ages.proofs.Outcomes.{behind_no_call, failed_no_call, mild_packet, outcome_if, take_no_call}
 use Rattle.v_ages.proofs.Quiet.{NoCall, Quiet, quiet_self, quiet_then, quiet_fold, quiet_call}
 use Rattle.v_ages.proofs.Tame.{NotArrive, tame_packet}
-use Rattle.v_ages.proofs.Taken.{quiet_after}
+use Rattle.v_ages.proofs.Taken.{quiet_after, settled_procs}
 use Rattle.v_whole.proofs.Above.{IsAbove}
 use Rattle.v_whole.proofs.Packets.{Ground}
-use Rattle.v_whole.proofs.Taken.{taken_frame_is}
+use Rattle.v_whole.proofs.Taken.{taken_frame_is, none_taken}
 use Rattle.v_whole.proofs.Whole.{each_log, reading_view}
 
 -- what an entry's steps do to the number that a view has of s
@@ -78,7 +79,10 @@ changed_sends f same procs pid s = cond_both (same_pid s pid) (option_map f (pro
 brought_quiet : (k : Kernel) (p : Packet) (s : Pid) (ss : List Step) → sends_in (brought k p) s ≡ sends_in k s → Each NoCall ss →
     HeardOn k (after_steps k (Some p) ss) s ss
 brought_quiet k p s [] same calls = HeardOn.stays refl
-brought_quiet k p s (x ∷ xs) same calls = HeardOn.stays ((quiet_fold (brought k p) (x ∷ xs) s calls).sends ∙ same)
+brought_quiet k p s (x ∷ xs) same calls =
+    HeardOn.stays (ap (λ (procs : Pid → Option Process). option_map_or (λ (p : Process). p.sends) (procs s) 0)
+    (settled_procs k (fold next (brought k p) (x ∷ xs)) p)
+    ∙ (quiet_fold (brought k p) (x ∷ xs) s calls).sends ∙ same)
 
 -- a Send that arrives
 either_number : (a b : ℕ) → (max a b ≡ b) ⊎ (max a b ≡ a)
@@ -102,9 +106,6 @@ sends_brought k from to number m part =
       | inl new ↦ inl (is ∙ new)
       | inr same ↦ inr (is ∙ same)
     ]
-
-take_no_call : (k : Kernel) (r : Pid) → Each NoCall (take_where k r)
-take_no_call k r = each_if NoCall _ (steps.Take r ∷ []) (λ t. (refl, tt))
 
 arrival_heard : (k : Kernel) (from to : Pid) (number : ℕ) (m : Message) (part : List ℕ) (ss : List Step) → Each NoCall ss →
     HeardOn k (after_steps k (Some (Send from to number m part)) (steps.Arrive from number ∷ ss)) from (steps.Arrive from number ∷ ss)
@@ -169,10 +170,6 @@ packet_heard h r p s = elim (cases_Bool (same_pid s (sender_of p))) [
 ]
 
 -- every entry
-none_taken : (b : Bool) → option_map (λ (f : Frame). f.packet) (if b then None else None) ≡ None
-none_taken true = refl
-none_taken false = refl
-
 abbrev pub IsOwnInput : ℕ → Input → Type 0
 IsOwnInput h (Called pid c) = pid.host ≡ h
 IsOwnInput h i = Unit {0}

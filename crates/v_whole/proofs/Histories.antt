@@ -1,9 +1,8 @@
 -- The steps of the history of a schedule are a run of the one-machine kernel with exactly its observations.
-use Rattle.std.proofs.Common.{◌≡◌, if◌then◌else◌, ℕ, Bool, true, false, ◌==◌, ◌&&◌, List, [], ◌∷◌, ◌++◌, find, Option, Some, None, option_map, option_to_list, All, refl, sym, ap, subst, ◌∙◌}
-use Rattle.std.proofs.lemmas.Bool.{cond_both, cond-false, and_left, and_right}
+use Rattle.std.proofs.Common.{◌≡◌, if◌then◌else◌, ℕ, Bool, true, false, ◌==◌, ◌&&◌, List, [], ◌∷◌, ◌++◌, Option, Some, None, option_map, option_to_list, All, refl, sym, ap, subst, ◌∙◌}
+use Rattle.std.proofs.lemmas.Bool.{cond-false, and_left, and_right}
 use Rattle.std.proofs.lemmas.List.{append_assoc, append-nil}
-use Rattle.std.proofs.lemmas.List.Elements.{All-head, All-tail}
-use Rattle.std.proofs.lemmas.Option.{same_Some, none-some}
+use Rattle.std.proofs.lemmas.Option.{same_Some}
 use Rattle.vk_base.specs.declared.call.Call.{Call}
 use Rattle.vk_base.specs.declared.config.ProcessSpec.{ProcessSpec}
 use Rattle.vk_base.specs.declared.kernel.Observation.{Observation}
@@ -29,6 +28,7 @@ use Rattle.v_sim.specs.Views.{IsSoundView}
 use Rattle.v_sim.proofs.FrozenSteps.{frozen_initial, frozen_step}
 use Rattle.v_sim.proofs.SteadySteps.{steady_initial, steady_step}
 use Rattle.v_sim.proofs.Views.{view_is_sound}
+use Rattle.v_sim.proofs.Histories.{among_says}
 use Rattle.vk_base.specs.declared.event.EventAnswer.{EventAnswer}
 use Rattle.vk_rules.specs.Entries.{Entry, Input, Called, Collected, Ticked, Delivered, is_begun, is_frame_taken, taken_packet}
 use Rattle.vk_rules.specs.Frames.{Frame, Framed}
@@ -39,10 +39,11 @@ use Rattle.vk_rules.specs.Right.{right_entry, entry_of}
 use Rattle.v_ages.proofs.Histories.{arrivals_are_new}
 use Rattle.v_whole.specs.Schedules.{AreDistinct, IsOfProcess, AreOfProcesses}
 use Rattle.v_whole.proofs.Above.{ArrivesAbove}
+use Rattle.v_whole.proofs.Countings.{EntryCounts, call_counts, collect_counts, delivered_counts, tick_counts}
 use Rattle.v_whole.proofs.Doing.{doing_reached}
 use Rattle.v_whole.proofs.Entries.{IsRightEntry, call_entry, collect_entry, delivered_entry, tick_entry}
 use Rattle.v_whole.proofs.Heard.{Heard, IsNewest, delivered_above, heard_event, heard_first}
-use Rattle.v_whole.proofs.Packets.{Ground}
+use Rattle.v_whole.proofs.Packets.{Ground, find_all}
 use Rattle.v_whole.proofs.Resent.{Base}
 use Rattle.v_whole.proofs.Whole.{Holds, IsElsewhere, holds_first, holds_on, packets_in}
 
@@ -81,10 +82,6 @@ missing_next c logs last frames ss seen host holds =
       holds = subst (λ xs. Holds c logs last frames xs (seen ++ [])) (sym (append-nil ss))
           (subst (Holds c logs last frames ss) (sym (append-nil seen)) holds);
     }
-
-among_says : (m : Kernel) (p : Packet) (xs ys : List Packet) → All (Says m) (xs ++ p ∷ ys) → Says m p
-among_says m p [] ys all = All-head (Says m) p ys all
-among_says m p (x ∷ xs) ys all = among_says m p xs ys (All-tail (Says m) x (xs ++ p ∷ ys) all)
 
 sound_of : (c : Settings) (logs : Logs) (last : Pid → Option Call) (frames : List Packet) (ss : List Step) (seen : List Observation)
     (h : ℕ) → Holds c logs last frames ss seen → IsSoundView h (reading c h (logs h)).view
@@ -125,13 +122,13 @@ process_of c logs last frames ss seen pid holds has =
 -- an entry that is right is one event more
 entry_next : (c : Settings) (logs : Logs) (last : Pid → Option Call) (frames : List Packet) (ss : List Step) (seen : List Observation)
     (h event : ℕ) (e : Entry) → Holds c logs last frames ss seen → IsEmitted (taken_packet e) frames →
-    IsElsewhere h last (begun_after last e.input e.answer) → IsRightEntry h (reading c h (logs h)).view last e →
-    Next c logs last ss seen (At h event e)
-entry_next c logs last frames ss seen h event e holds emitted elsewhere right =
+    IsElsewhere h last (begun_after last e.input e.answer) → (right : IsRightEntry h (reading c h (logs h)).view last e) →
+    EntryCounts h (reading c h (logs h)).view right.local.after e → Next c logs last ss seen (At h event e)
+entry_next c logs last frames ss seen h event e holds emitted elsewhere right counts =
     record {
       frames = frames ++ packets_in e.frames;
       holds = holds_on c logs last (begun_after last e.input e.answer) frames ss seen h e
-          (seen_of last e.input e.answer) holds emitted elsewhere right;
+          (seen_of last e.input e.answer) holds emitted elsewhere right counts;
     }
 
 elsewhere_same : (h : ℕ) (last : Pid → Option Call) → IsElsewhere h last last
@@ -151,11 +148,6 @@ some_emitted : (frames : List Packet) (f : Frame) (b : Bool) → IsAmong f.packe
 some_emitted frames f true is = is
 some_emitted frames f false is = tt
 
-find_all : {A : Type 0} (P : A → Type 0) (test : A → Bool) (xs : List A) (x : A) → All P xs → find test xs ≡ Some x → P x
-find_all P test [] x all e = absurd (none-some x e)
-find_all P test (y ∷ ys) x all e = cond_both (test y) (Some y) (find test ys) (λ o. o ≡ Some x → P x)
-    (λ t is. subst P (same_Some y x is) (All-head P y ys all)) (λ f is. find_all P test ys x (All-tail P y ys all) is) e
-
 delivered_next : (c : Settings) (logs : Logs) (last : Pid → Option Call) (frames : List Packet) (ss : List Step) (seen : List Observation)
     (to : ℕ) (o : Option Frame) → Holds c logs last frames ss seen → ((f : Frame) → o ≡ Some f → IsAmong f.packet frames) →
     ArrivesAbove c logs (delivered c logs to o) → Next c logs last ss seen (delivered c logs to o)
@@ -166,8 +158,10 @@ delivered_next c logs last frames ss seen to (Some f) holds among above =
     let i : Input = Delivered (Framed f.header f.packet) in
     let e = right_entry c to r i in
     let is = among f refl in
-    entry_next c logs last frames ss seen to _ e holds (some_emitted frames f (is_frame_taken e.answer) is) (elsewhere_same to last)
-    (delivered_entry c to r last f.header f.packet (ground_of c logs last frames ss seen to f.packet holds is) (holds.traced to) above)
+    let g = ground_of c logs last frames ss seen to f.packet holds is in
+    let right = delivered_entry c to r last f.header f.packet g (holds.traced to) (holds.counted to) above in
+    entry_next c logs last frames ss seen to _ e holds (some_emitted frames f (is_frame_taken e.answer) is) (elsewhere_same to last) right
+    (delivered_counts c to r f.header f.packet right.local.after _ g right.local.enters right.local.is.makes)
 
 -- a frame that is handed over was emitted
 handed_among : (c : Settings) (logs : Logs) (last : Pid → Option Call) (frames : List Packet) (ss : List Step) (seen : List Observation)
@@ -223,20 +217,24 @@ next_event c logs last frames ss seen (events.Call pid call) holds distinct of a
     let r = reading c h (logs h) in
     let e = right_entry c h r (Called pid call) in
     let p = process_of c logs last frames ss seen pid holds of in
+    let right =
+    call_entry c h r last pid p.0 call (sound_of c logs last frames ss seen h holds) (holds.far h) (holds.traced h) refl p.1 in
     entry_next c logs last frames ss seen h _ e holds (none_emitted frames (is_frame_taken e.answer))
-    (elsewhere_called last pid call e.answer)
-    (call_entry c h r last pid p.0 call (sound_of c logs last frames ss seen h holds) (holds.far h) (holds.traced h) refl p.1)
+    (elsewhere_called last pid call e.answer) right
+    (call_counts c h r pid call right.local.after _ (base_at c logs last frames ss seen h holds) refl right.local.is.makes)
 next_event c logs last frames ss seen (events.Collect pid) holds distinct of above =
     let h = pid.host in
     let r = reading c h (logs h) in
     let e = right_entry c h r (Collected pid) in
-    entry_next c logs last frames ss seen h _ e holds (none_emitted frames (is_frame_taken e.answer)) (elsewhere_same h last)
-    (collect_entry c h r last pid (holds.traced h) refl)
+    let right = collect_entry c h r last pid (holds.traced h) refl in
+    entry_next c logs last frames ss seen h _ e holds (none_emitted frames (is_frame_taken e.answer)) (elsewhere_same h last) right
+    (collect_counts c h r pid right.local.after _ right.local.is.makes)
 next_event c logs last frames ss seen (events.Tick host) holds distinct of above =
     let r = reading c host (logs host) in
     let e = right_entry c host r Ticked in
-    entry_next c logs last frames ss seen host _ e holds (none_emitted frames (is_frame_taken e.answer)) (elsewhere_same host last)
-    (tick_entry c host r last (base_at c logs last frames ss seen host holds) distinct (holds.traced host))
+    let right = tick_entry c host r last (base_at c logs last frames ss seen host holds) distinct (holds.traced host) in
+    entry_next c logs last frames ss seen host _ e holds (none_emitted frames (is_frame_taken e.answer)) (elsewhere_same host last) right
+    (tick_counts c host r right.local.after _ right.local.is.makes)
 next_event c logs last frames ss seen (events.Deliver to from event output) holds distinct of above =
     delivered_next c logs last frames ss seen to (handed_over logs to from event output) holds
     (handed_among c logs last frames ss seen to from event output holds) (above to from event output refl)

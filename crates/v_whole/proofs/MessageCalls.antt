@@ -1,5 +1,5 @@
 -- What Send, the receives and the replies amount to behind their own step.
-use Rattle.std.proofs.Common.{◌≡◌, ℕ, ◌+◌, ◌-◌, true, false, ◌==◌, ◌&&◌, not, List, [], ◌∷◌, Option, Some, None, is_some, option_map, option_to_list, All, refl, sym, ap, subst, ◌∙◌, inl, inr}
+use Rattle.std.proofs.Common.{◌≡◌, ℕ, ◌+◌, true, false, ◌==◌, ◌&&◌, not, List, [], ◌∷◌, Option, Some, None, is_some, option_map, option_to_list, All, refl, sym, ap, subst, ◌∙◌, inl, inr}
 use Rattle.std.proofs.lemmas.Bool.{cases_Bool, both_ways, and_from, and_right, cond-true, cond-false, eqb-true, eq-eqb, false_from_ne_true, not_from_true, not_from_false}
 use Rattle.std.proofs.lemmas.List.Elements.{All-nil, All-cons}
 use Rattle.std.proofs.lemmas.Option.{same_Some}

@@ -1,7 +1,6 @@
 -- Packets of moves at the mover's station.
-use Rattle.std.proofs.Common.{◌≡◌, if◌then◌else◌, ℕ, zero, suc, ◌+◌, ◌%◌, ◌≤◌, ◌<◌, Bool, true, false, ◌==◌, ◌&&◌, nat_le, nat_lt, replicate, List, [], ◌∷◌, take, length, slice_get, Option, Some, None, All, refl, sym, ap, subst, ◌∙◌, inr, arith}
+use Rattle.std.proofs.Common.{◌≡◌, ℕ, zero, suc, ◌+◌, ◌%◌, ◌≤◌, ◌<◌, Bool, true, false, ◌==◌, ◌&&◌, nat_le, nat_lt, List, [], ◌∷◌, length, Option, Some, None, All, refl, sym, ap, subst, ◌∙◌, inr, arith}
 use Rattle.std.proofs.lemmas.Bool.{both_ways, and_parts, and_from, cond_both, cond-true, eqb-true, eq-eqb, ltb-true, le-leb}
-use Rattle.std.proofs.lemmas.List.{take_all, drop_at, length-replicate}
 use Rattle.std.proofs.lemmas.List.Elements.{All-nil}
 use Rattle.std.proofs.lemmas.Option.{same_Some, none-some}
 use Rattle.std.specs.Option.{option_map_or}
@@ -9,19 +8,17 @@ use Rattle.vk_base.specs.declared.answer.Answer.TheVariants as answers
 use Rattle.vk_base.specs.declared.answer.Ending.TheVariants as endings
 use Rattle.vk_base.specs.declared.call.Call.{Call}
 use Rattle.vk_base.specs.declared.call.Call.TheVariants as calls
-use Rattle.vk_base.specs.declared.kernel.Direction.{Direction}
 use Rattle.vk_base.specs.declared.kernel.Direction.TheVariants as directions
 use Rattle.vk_base.specs.declared.kernel.Exchange.{Exchange}
 use Rattle.vk_base.specs.declared.kernel.Move.{Move}
 use Rattle.vk_base.specs.declared.kernel.MoveName.{MoveName}
 use Rattle.vk_base.specs.declared.kernel.Name.{Name}
 use Rattle.vk_base.specs.declared.kernel.Process.{Process}
-use Rattle.vk_base.specs.declared.kernel.State.{State}
 use Rattle.vk_base.specs.declared.kernel.State.TheVariants as states
 use Rattle.vk_base.specs.declared.pid.Pid.{Pid}
 use Rattle.vk_base.specs.declared.step.Step.{Step}
 use Rattle.vk_base.specs.declared.step.Step.TheVariants as steps
-use Rattle.vk_base.specs.Brought.{brought, bytes_from, put_bytes, set_bytes}
+use Rattle.vk_base.specs.Brought.{brought, bytes_from, put_bytes, running_move, settled, with_bytes_of, with_progress, with_running}
 use Rattle.vk_base.specs.Calls.{unseen}
 use Rattle.vk_base.specs.Counts.{bytes_copied}
 use Rattle.vk_base.specs.Kernel.{◌>>=◌, Kernel, name_of, same_name, holds_of, blocked_in, is_moving, move_of}
@@ -31,41 +28,44 @@ use Rattle.vk_base.specs.Steps.{effect, ending, move_ending, is_complete, is_nex
 use Rattle.vk_base.proofs.OptionLemmas.{bind_is}
 use Rattle.v_laws.proofs.Options.{some_that_holds}
 use Rattle.v_laws.proofs.StepLemmas.{only_if_is}
-use Rattle.v_laws.proofs.Tables.{same_name_is, same_name_self, put_process_here, put_exchange_here}
+use Rattle.v_laws.proofs.Tables.{same_name_is, same_name_self, put_process_here, put_exchange_here, exchange_here}
+use Rattle.v_laws.proofs.MoveLists.{set_bytes_here}
+use Rattle.v_laws.proofs.States.{blocked_is}
 use Rattle.vk_packet.specs.Rules.{is_place, piece_len}
 use Rattle.v_sim.specs.Acts.{Backs, IsOfBytes, Knows}
 use Rattle.v_sim.specs.Agreement.{is_from, is_from_at}
-use Rattle.v_sim.specs.Brings.{IsOfMove}
+use Rattle.v_sim.specs.Brings.{IsOfMove, Brings}
 use Rattle.v_sim.specs.Frames.{move_at}
 use Rattle.v_sim.specs.Simulation.{host_of, target_host}
+use Rattle.v_sim.proofs.Alone.{moved_by, running_stays}
 use Rattle.v_sim.proofs.Made.{ending_from, copying_from}
 use Rattle.v_sim.proofs.Puts.{bind_to}
+use Rattle.v_sim.proofs.OwnParts.{own_at}
+use Rattle.v_sim.proofs.Rows.{front_bytes}
+use Rattle.v_sim.proofs.MoveSets.{from_is}
 use Rattle.vk_rules.specs.PacketOutcomes.{ack_outcome, bytes_outcome, restarts_at, running_from, running_to}
 use Rattle.vk_rules.specs.Rounds.{list_if, nothing, only_packets, only_steps, round}
-use Rattle.vk_rules.specs.Works.{Work, count_of_move, is_last, is_move_from, is_move_to, move_count, received_of, shows_gap}
+use Rattle.vk_rules.specs.Works.{Work, count_of_move, is_last, is_move_from, is_move_to, move_count, shows_gap}
 use Rattle.v_whole.proofs.Brought.{brought_traced}
+use Rattle.v_whole.proofs.Counted.{IsCountedIn, is_fetch, is_fetching}
 use Rattle.v_whole.proofs.Doing.{Doing, DoingState, IsInMoveOf}
 use Rattle.v_whole.proofs.Events.{none_arrive}
 use Rattle.v_whole.proofs.Made.{made_first, made_one}
-use Rattle.v_whole.proofs.Packets.{Ground, IsFine, base_of, exchange_here, nothing_fine, one_fine, only_fine}
-use Rattle.v_whole.proofs.Resent.{IsInView, in_view, own_here, round_backed}
+use Rattle.v_whole.proofs.Packets.{Ground, IsFine, base_of, nothing_fine, one_fine, only_fine}
+use Rattle.v_whole.proofs.Resent.{IsInView, in_view, round_backed}
+use Rattle.v_whole.proofs.Settled.{same_put_bytes, settled_same}
 use Rattle.v_whole.proofs.Traced.{IsTraced, traced_steps}
 
 -- The process that is in the move.
-record IsRunning (l : Kernel) (to : Pid) (name : Name) (moving : ℕ) (test : Call → Bool) (p : Process) : Type 0 where
-  process : l.procs to ≡ Some p
-  call : Call
-  state : p.state ≡ states.Blocked call
-  fine : test call ≡ true
-  moves : is_moving p.state ≡ true
-  is : p.moving ≡ Some (record { exchange = name; number = moving })
+pub record IsRunning (l : Kernel) (to : Pid) (name : Name) (moving : ℕ) (test : Call → Bool) (p : Process) : Type 0 where
+  pub process : l.procs to ≡ Some p
+  pub call : Call
+  pub state : p.state ≡ states.Blocked call
+  pub fine : test call ≡ true
+  pub moves : is_moving p.state ≡ true
+  pub is : p.moving ≡ Some (record { exchange = name; number = moving })
 
-blocked_is : (s : State) (c : Call) → blocked_in s ≡ Some c → s ≡ states.Blocked c
-blocked_is states.Ready c e = absurd (none-some c e)
-blocked_is (states.Blocked d) c e = ap states.Blocked (same_Some d c e)
-blocked_is (states.Done d a) c e = absurd (none-some c e)
-
-running_is : (l : Kernel) (to : Pid) (name : Name) (moving : ℕ) (test : Call → Bool) (p : Process) →
+pub running_is : (l : Kernel) (to : Pid) (name : Name) (moving : ℕ) (test : Call → Bool) (p : Process) →
     (l.procs to >>= λ q. only_if (is_in_move name moving q && holds_of test (blocked_in q.state)) (Some q)) ≡ Some p →
     IsRunning l to name moving test p
 running_is l to name moving test p e =
@@ -88,14 +88,18 @@ running_is l to name moving test p e =
 in_move : (h : ℕ) (l : Kernel) (to : Pid) (name : Name) (moving : ℕ) (test : Call → Bool) (p : Process) → to.host ≡ h →
     IsRunning l to name moving test p → IsOfMove h l to (record { exchange = name; number = moving })
 in_move h l to name moving test p here r =
-    record { here = here; is = record { mover = to; here = here; process = p; is = r.process; moves = r.moves; name = r.is } }
+    record {
+      here = here;
+      is = record { mover = to; here = here; process = p; is = r.process; moves = r.moves; name = r.is };
+      mover = refl;
+    }
 
 -- the move of the view, of a process in a MoveTo, and of one in a MoveFrom
-record HasMove (h : ℕ) (l : Kernel) (to : Pid) (n : MoveName) (from : Bool) (count : ℕ) : Type 0 where
-  x : Move
-  view : IsInView h l to n x
-  way : is_from view.move.direction ≡ from
-  count_is : view.move.count ≡ count
+pub record HasMove (h : ℕ) (l : Kernel) (to : Pid) (n : MoveName) (from : Bool) (count : ℕ) : Type 0 where
+  pub x : Move
+  pub view : IsInView h l to n x
+  pub way : is_from view.move.direction ≡ from
+  pub count_is : view.move.count ≡ count
 
 has_move : (h : ℕ) (l : Kernel) (pk : Packet) (g : Ground h l pk) (to : Pid) (p : Process) (n : MoveName) (partner : Pid) (from : Bool)
     (dest src count : ℕ) → to.host ≡ h → l.procs to ≡ Some p → is_moving p.state ≡ true → p.moving ≡ Some n →
@@ -128,7 +132,7 @@ to_move h l pk g to p n (calls.Load start count) here at moves moving t does = a
 to_move h l pk g to p n (calls.Store start bytes) here at moves moving t does = absurd (both_ways false refl t)
 to_move h l pk g to p n calls.Exit here at moves moving t does = absurd (both_ways false refl t)
 
-from_move : (h : ℕ) (l : Kernel) (pk : Packet) (g : Ground h l pk) (to : Pid) (p : Process) (n : MoveName) (total : ℕ) (c : Call) →
+pub from_move : (h : ℕ) (l : Kernel) (pk : Packet) (g : Ground h l pk) (to : Pid) (p : Process) (n : MoveName) (total : ℕ) (c : Call) →
     to.host ≡ h → l.procs to ≡ Some p → is_moving p.state ≡ true → p.moving ≡ Some n → is_move_from total c ≡ true →
     Doing g.machine to p c → HasMove h l to n true total
 from_move h l pk g to p n total (calls.MoveFrom partner dest src count) here at moves moving t does =
@@ -145,10 +149,10 @@ from_move h l pk g to p n total (calls.Load start count) here at moves moving t 
 from_move h l pk g to p n total (calls.Store start bytes) here at moves moving t does = absurd (both_ways false refl t)
 from_move h l pk g to p n total calls.Exit here at moves moving t does = absurd (both_ways false refl t)
 
-doing_at : (h : ℕ) (l : Kernel) (pk : Packet) (g : Ground h l pk) (to : Pid) (p : Process) (c : Call) → to.host ≡ h → l.procs to ≡ Some p →
-    p.state ≡ states.Blocked c → Doing g.machine to p c
+pub doing_at : (h : ℕ) (l : Kernel) (pk : Packet) (g : Ground h l pk) (to : Pid) (p : Process) (c : Call) → to.host ≡ h →
+    l.procs to ≡ Some p → p.state ≡ states.Blocked c → Doing g.machine to p c
 doing_at h l pk g to p c here at state =
-    subst (DoingState g.machine to p) state (g.doing.each to p (own_here h g.machine l to p g.agrees here at))
+    subst (DoingState g.machine to p) state (g.doing.each to p (own_at h g.machine l to p g.agrees here at))
 
 -- the end of a move of which all bytes are there
 complete : (e : Exchange) (number : ℕ) (m : Move) → e.opened ≡ number → move_of e number ≡ Some m → e.done ≡ m.count →
@@ -160,6 +164,13 @@ ok_ending : (k : Kernel) (n : MoveName) (e : Exchange) → k.exchanges n.exchang
     move_ending k n endings.Ok ≡ Some answers.Ok
 ok_ending k n e at all = cond-true (holds_of (λ e. is_complete e n.number) (k.exchanges n.exchange)) (Some answers.Ok) None
     (ap (holds_of (λ (z : Exchange). is_complete z n.number)) at ∙ all)
+
+-- the exchange has the move, so nothing of the process's own is put into it
+has_own : {h : ℕ} {l : Kernel} {to : Pid} {n : MoveName} {from : Bool} {count : ℕ} (m : HasMove h l to n from count) →
+    with_running n.number to (running_move l to) m.view.exchange ≡ m.view.exchange
+has_own {h} {l} {to} {n} m =
+    running_stays n.number to (running_move l to) m.view.exchange
+    (moved_by to (move_of m.view.exchange n.number) m.view.move m.view.is m.view.mover)
 
 -- MoveAck.
 ack_by : (h : ℕ) (l : Kernel) (last : Pid → Option Call) (w : Work) (from to : Pid) (number moving got : ℕ) (o : Option Process) →
@@ -176,14 +187,17 @@ ack_by h l last w from to number moving got (Some p) g traced here e =
     (only_packets (list_if (restarts_at w got (move_count p)) (round l (record w { acknowledged = got }) to))) (IsFine h l last pk)
     (λ t.
     let k = brought l pk in
-    let x : Exchange = record m.view.exchange { opened = moving; done = got } in
+    let own = running_move l to in
+    let x : Exchange = with_progress moving got m.view.exchange in
     let there : k.exchanges (name_of from number) ≡ Some x =
-    exchange_here l.exchanges (name_of from number) (λ z. record z { opened = moving; done = got }) m.view.exchange m.view.there in
+    exchange_here l.exchanges (name_of from number) (λ z. with_progress moving got (with_running moving to own z)) m.view.exchange
+    m.view.there
+    ∙ ap (λ z. Some (with_progress moving got z)) (has_own m) in
     let all = complete x moving m.view.move refl m.view.is (eqb-true got (move_count p) t ∙ count ∙ sym m.count_is) in
     let f = ending_from k to endings.Ok p n answers.Ok r.process r.moves r.is (ok_ending k n x there all) in
     let ef : effect k (steps.End to endings.Ok) ≡ Some _ = bind_to _ (ending k to endings.Ok) _ _ f refl in
     one_fine h l last pk (steps.End to endings.Ok) [] _ traced (in_move h l to (name_of from number) moving is_move_to p here r) here tt tt
-    refl ef refl (All-nil (Backs h _ (Some pk))))
+    refl ef refl (settled_same l _ (name_of from number) m.view.exchange x m.view.there there refl) (All-nil (Backs h _ (Some pk))))
     (λ not_all. only_fine h l last pk _ traced (cond_both (restarts_at w got (move_count p)) (round l (record w { acknowledged = got }) to)
     [] (All (Backs h l (Some pk))) (λ t. round_backed h l l.procs (Some pk) (base_of g) (record w { acknowledged = got }) to
     here) (λ f. All-nil (Backs h l (Some pk)))))
@@ -196,20 +210,10 @@ ack_fine h l last w from to number moving got g traced here =
     ack_by h l last w from to number moving got (running_to l to (name_of from number) moving) g traced here refl
 
 -- MoveBytes.
-set_at : (xs : List Move) (i : ℕ) (bytes : List ℕ) (x : Move) → slice_get xs i ≡ Some x →
-    slice_get (set_bytes xs i bytes) i ≡ Some (record x { bytes = bytes })
-set_at [] i bytes x e = absurd (none-some x e)
-set_at (y ∷ ys) zero bytes x e = ap (λ (o : Move). Some (record o { bytes = bytes })) (same_Some y x e)
-set_at (y ∷ ys) (suc i) bytes x e = set_at ys i bytes x e
-
 put_at_number : (a : Exchange) (number : ℕ) (bytes : List ℕ) (x : Move) (opened done : ℕ) → move_of a number ≡ Some x →
     move_of (record a { moves = put_bytes a.moves number bytes; opened = opened; done = done }) number ≡ Some (record x { bytes = bytes })
 put_at_number a zero bytes x opened done e = absurd (none-some x e)
-put_at_number a (suc i) bytes x opened done e = set_at a.moves i bytes x e
-
-pub part_of : (offset : ℕ) (bytes : List ℕ) → bytes_in (range_of offset (length bytes)) (bytes_from offset bytes) ≡ bytes
-part_of offset bytes = ap (take (length bytes)) (drop_at (replicate offset 0) bytes offset (length-replicate offset 0))
-    ∙ take_all (length bytes) bytes (omega arith)
+put_at_number a (suc i) bytes x opened done e = set_bytes_here a.moves i bytes x e
 
 -- how many bytes a packet has
 pub record Sized (total offset : ℕ) (bytes : List ℕ) : Type 0 where
@@ -226,9 +230,23 @@ sized total offset bytes t =
     let size : length bytes ≡ piece_len total offset = eqb-true (length bytes) (piece_len total offset) parts.1 in
     record { some = omega arith; within = omega arith; place = less }
 
-from_is : (d : Direction) → is_from d ≡ true → d ≡ directions.From
-from_is directions.To t = absurd (both_ways false refl t)
-from_is directions.From t = refl
+-- a move from a partner
+fetching_from : (total : ℕ) (c : Call) (p : Process) → p.state ≡ states.Blocked c → is_move_from total c ≡ true → is_fetching p.state ≡ true
+fetching_from total c p state t = ap is_fetching state ∙ by_call c t
+  where
+    by_call : (c : Call) → is_move_from total c ≡ true → is_fetch c ≡ true
+    by_call (calls.MoveFrom partner dest src count) t = refl
+    by_call (calls.MoveTo partner dest src count) t = absurd (both_ways false refl t)
+    by_call (calls.Send target m) t = absurd (both_ways false refl t)
+    by_call calls.Receive t = absurd (both_ways false refl t)
+    by_call (calls.ReceiveSegment start count) t = absurd (both_ways false refl t)
+    by_call (calls.Reply m q) t = absurd (both_ways false refl t)
+    by_call (calls.ReplySegment m q dest src count) t = absurd (both_ways false refl t)
+    by_call (calls.SetPid logical q scope) t = absurd (both_ways false refl t)
+    by_call (calls.GetPid logical scope) t = absurd (both_ways false refl t)
+    by_call (calls.Load start count) t = absurd (both_ways false refl t)
+    by_call (calls.Store start bytes) t = absurd (both_ways false refl t)
+    by_call calls.Exit t = absurd (both_ways false refl t)
 
 pub is_next_from : (e : Exchange) (number : ℕ) (m : Move) (offset count : ℕ) → e.opened ≡ number → e.done ≡ offset → 1 ≤ count →
     offset + count ≤ m.count → is_next e number m offset count ≡ true
@@ -239,9 +257,11 @@ is_next_from e number m offset count opened done some within =
     (le-leb 1 count some))
     (le-leb (offset + count) m.count within)
 
-module _ (h : ℕ) (l : Kernel) (last : Pid → Option Call) (from to : Pid) (number moving total offset : ℕ) (bytes : List ℕ) (p : Process)
+module _ (h : ℕ) (l : Kernel) (last : Pid → Option Call) (w : Work) (from to : Pid) (number moving total offset : ℕ) (bytes : List ℕ)
+    (p : Process)
     (g : Ground h l (MoveBytes from to number moving total offset bytes)) (traced : IsTraced h last l) (here : to.host ≡ h)
     (size : Sized total offset bytes)
+    (got : w.received ≡ bytes_copied moving (l.exchanges (name_of from number)))
     (r : IsRunning l to (name_of from number) moving (is_move_from total) p)
     (m : HasMove h l to (record { exchange = name_of from number; number = moving }) true total) where
   abbrev pk : Packet
@@ -253,24 +273,20 @@ module _ (h : ℕ) (l : Kernel) (last : Pid → Option Call) (from to : Pid) (nu
   abbrev k : Kernel
   k = brought l pk
 
-  abbrev now_done : ℕ
-  now_done = if m.view.exchange.opened == moving then m.view.exchange.done else 0
-
   abbrev e : Exchange
-  e = record m.view.exchange { moves = put_bytes m.view.exchange.moves moving (bytes_from offset bytes); opened = moving; done = now_done }
+  e = with_bytes_of moving offset bytes m.view.exchange
 
   abbrev y : Move
   y = record m.view.move { bytes = bytes_from offset bytes }
 
   there : k.exchanges n ≡ Some e
-  there = exchange_here l.exchanges n (λ z. record z {
-    moves = put_bytes z.moves moving (bytes_from offset bytes);
-    opened = moving;
-    done = if z.opened == moving then z.done else 0;
-  }) m.view.exchange m.view.there
+  there =
+      exchange_here l.exchanges n (λ z. with_bytes_of moving offset bytes (with_running moving to (running_move l to) z)) m.view.exchange
+      m.view.there
+      ∙ ap (λ z. Some (with_bytes_of moving offset bytes z)) (has_own m)
 
   move_there : move_of e moving ≡ Some y
-  move_there = put_at_number m.view.exchange moving (bytes_from offset bytes) m.view.move moving now_done m.view.is
+  move_there = put_at_number m.view.exchange moving (bytes_from offset bytes) m.view.move moving offset m.view.is
 
   abbrev c : Copying
   c = record { exchange = e; move = y; pid = to; process = p }
@@ -283,16 +299,18 @@ module _ (h : ℕ) (l : Kernel) (last : Pid → Option Call) (from to : Pid) (nu
       (ap (holds_of (λ j. same_move j n moving)) r.is ∙ and_from (same_name n n) (moving == moving) (same_name_self n)
       (eq-eqb moving moving refl))))
 
-  copies : (offset == received_of l n moving) ≡ true → copying k n moving offset (length bytes) ≡ Some c
-  copies t =
-      let got_is : received_of l n moving ≡ now_done = ap (bytes_copied moving) m.view.there in
-      let done : now_done ≡ offset = sym got_is ∙ sym (eqb-true offset (received_of l n moving) t) in
+  copies : copying k n moving offset (length bytes) ≡ Some c
+  copies =
       let within : offset + length bytes ≤ y.count = subst (λ z. offset + length bytes ≤ z) (sym m.count_is) size.within in
       copying_from k n moving offset (length bytes) e y (to, p) there move_there
-      (is_next_from e moving y offset (length bytes) refl done size.some within) written
+      (is_next_from e moving y offset (length bytes) refl refl size.some within) written
 
   abbrev after : Kernel
   after = copied k n offset (length bytes) c
+
+  after_there : after.exchanges n ≡ Some (record e { done = offset + length bytes })
+  unfolding copied
+  after_there = put_exchange_here k.exchanges n (record e { done = offset + length bytes })
 
   copy_host : host_of k (steps.Copy from number moving offset (length bytes)) ≡ h
   copy_host =
@@ -309,47 +327,58 @@ module _ (h : ℕ) (l : Kernel) (last : Pid → Option Call) (from to : Pid) (nu
         let same_a = same_Some a e (sym at_a ∙ there) in
         let same_z = same_Some z y (sym at_z ∙ ap (λ (q : Exchange). move_of q moving) same_a ∙ move_there) in
         subst (λ (q : Move). IsOfBytes q offset (length bytes) bytes) (sym same_z)
-        (record { direction = m.way; size = refl; part = part_of offset bytes }),
+        (record { direction = m.way; size = refl; part = front_bytes offset bytes }),
   )
 
-  copy_fine : (offset == received_of l n moving) ≡ true →
+  -- they are the next ones
+  brings : (offset == w.received) ≡ true → Brings h l pk
+  brings t =
+      record { of = in_move h l to n moving (is_move_from total) p here r; next = sym got ∙ sym (eqb-true offset w.received t) }
+
+  -- the exchange has as many moves as before
+  settled_after : (a : Kernel) (x : Exchange) → a.exchanges n ≡ Some x → x.moves ≡ e.moves → settled l pk a ≡ a
+  settled_after a x at same =
+      settled_same l a n m.view.exchange x m.view.there at
+      (ap length same ∙ same_put_bytes m.view.exchange.moves moving (bytes_from offset bytes))
+
+  copy_fine : (offset == w.received) ≡ true →
       IsFine h l last pk (only_steps (steps.Copy from number moving offset (length bytes) ∷ []))
   copy_fine t =
       let ef : effect k (steps.Copy from number moving offset (length bytes)) ≡ Some (unseen after) =
-      bind_to _ (copying k n moving offset (length bytes)) c _ (copies t) refl in
+      bind_to _ (copying k n moving offset (length bytes)) c _ copies refl in
       one_fine h l last pk (steps.Copy from number moving offset (length bytes)) [] (unseen after) traced
-      (in_move h l to n moving (is_move_from total) p here r) copy_host copy_known tt refl ef refl (All-nil (Backs h after (Some pk)))
+      (brings t) copy_host copy_known tt refl ef refl
+      (settled_after after (record e { done = offset + length bytes }) after_there refl) (All-nil (Backs h after (Some pk)))
 
-  ends_there : is_last total offset bytes ≡ true → (offset == received_of l n moving) ≡ true →
-      (a : Kernel) × (effect after (steps.End to endings.Ok) ≡ Some (unseen a))
+  ends_there : is_last total offset bytes ≡ true →
+      (a : Kernel) × (effect after (steps.End to endings.Ok) ≡ Some (unseen a)) × (a.exchanges ≡ after.exchanges)
   unfolding copied
-  ends_there over t =
+  ends_there over =
       let q : Process = record p { memory = with_bytes p.memory (y.dest + offset) (bytes_in (range_of offset (length bytes)) y.bytes) } in
-      let e3 : Exchange = record e { done = now_done + length bytes } in
+      let e3 : Exchange = record e { done = offset + length bytes } in
       let j : MoveName = record { exchange = n; number = moving } in
-      let got_is : received_of l n moving ≡ now_done = ap (bytes_copied moving) m.view.there in
-      let done : now_done ≡ offset = sym got_is ∙ sym (eqb-true offset (received_of l n moving) t) in
-      let all = complete e3 moving y refl move_there (ap (λ z. z + length bytes) done ∙ eqb-true (offset + length bytes) total over
-      ∙ sym m.count_is) in
+      let all = complete e3 moving y refl move_there (eqb-true (offset + length bytes) total over ∙ sym m.count_is) in
       let f = ending_from after to endings.Ok q j answers.Ok (put_process_here k.procs to q) r.moves r.is
       (ok_ending after j e3 (put_exchange_here k.exchanges n e3) all) in
-      (_, bind_to _ (ending after to endings.Ok) _ _ f refl)
+      (_, bind_to _ (ending after to endings.Ok) _ _ f refl, refl)
 
-  both_fine : (offset == received_of l n moving) ≡ true → is_last total offset bytes ≡ true →
+  both_fine : (offset == w.received) ≡ true → is_last total offset bytes ≡ true →
       IsFine h l last pk (only_steps (steps.Copy from number moving offset (length bytes) ∷ steps.End to endings.Ok ∷ []))
   both_fine t over =
       let ef : effect k (steps.Copy from number moving offset (length bytes)) ≡ Some (unseen after) =
-      bind_to _ (copying k n moving offset (length bytes)) c _ (copies t) refl in
-      let ending = ends_there over t in
+      bind_to _ (copying k n moving offset (length bytes)) c _ copies refl in
+      let ending = ends_there over in
       let two = made_one h (Some pk) after (steps.End to endings.Ok) (unseen ending.0) here tt ending.1 in
       let made = made_first h (Some pk) k (steps.Copy from number moving offset (length bytes)) (steps.End to endings.Ok ∷ [])
       (unseen after) ending.0 copy_host copy_known ef two in
       record {
         local = record {
           after = ending.0;
-          enters = inr (refl, in_move h l to n moving (is_move_from total) p here r);
+          enters = inr (refl, brings t);
           is = made;
           backed = All-nil (Backs h ending.0 (Some pk));
+          leaves = settled_after ending.0 (record e { done = offset + length bytes }) (ap (λ (xs : Name → Option Exchange). xs n) ending.2
+              ∙ after_there) refl;
         };
         traced = traced_steps h last k (steps.Copy from number moving offset (length bytes) ∷ steps.End to endings.Ok ∷ [])
             (record { after = ending.0; seen = [] }) (tt, (tt, tt)) made.makes (brought_traced h last l pk traced);
@@ -358,33 +387,34 @@ module _ (h : ℕ) (l : Kernel) (last : Pid → Option Call) (from to : Pid) (nu
 
 bytes_by : (h : ℕ) (l : Kernel) (last : Pid → Option Call) (w : Work) (from to : Pid) (number moving total offset : ℕ) (bytes : List ℕ)
     (o : Option Process) → Ground h l (MoveBytes from to number moving total offset bytes) → IsTraced h last l → to.host ≡ h →
-    Sized total offset bytes → running_from l to (name_of from number) moving total ≡ o →
+    Sized total offset bytes → IsCountedIn l w to → running_from l to (name_of from number) moving total ≡ o →
     IsFine h l last (MoveBytes from to number moving total offset bytes)
     (option_map_or (λ (p : Process). bytes_outcome l w to (name_of from number) moving total offset bytes) o nothing)
-bytes_by h l last w from to number moving total offset bytes None g traced here size e =
+bytes_by h l last w from to number moving total offset bytes None g traced here size counted e =
     nothing_fine h l last (MoveBytes from to number moving total offset bytes) traced
-bytes_by h l last w from to number moving total offset bytes (Some p) g traced here size e =
+bytes_by h l last w from to number moving total offset bytes (Some p) g traced here size counted e =
     let pk : Packet = MoveBytes from to number moving total offset bytes in
     let n = name_of from number in
     let r = running_is l to n moving (is_move_from total) p e in
     let m = from_move h l pk g to p (record { exchange = n; number = moving }) total r.call here r.process r.moves r.is r.fine
     (doing_at h l pk g to p r.call here r.process r.state) in
+    let got = counted p (record { exchange = n; number = moving }) r.process (fetching_from total r.call p r.state r.fine) r.is in
     let copy : Step = steps.Copy from number moving offset (length bytes) in
-    cond_both (offset == received_of l n moving) (only_steps (copy ∷ list_if (is_last total offset bytes) (steps.End to endings.Ok ∷ [])))
-    (only_packets (list_if (shows_gap (received_of l n moving) total offset bytes && w.fresh) (round l w to))) (IsFine h l last pk)
+    cond_both (offset == w.received) (only_steps (copy ∷ list_if (is_last total offset bytes) (steps.End to endings.Ok ∷ [])))
+    (only_packets (list_if (shows_gap w.received total offset bytes && w.fresh) (round l w to))) (IsFine h l last pk)
     (λ t. cond_both (is_last total offset bytes) (steps.End to endings.Ok ∷ []) [] (λ ss. IsFine h l last pk (only_steps (copy ∷ ss)))
-    (λ over. both_fine h l last from to number moving total offset bytes p g traced here size r m t over)
-    (λ more. copy_fine h l last from to number moving total offset bytes p g traced here size r m t))
-    (λ gap. only_fine h l last pk _ traced (cond_both (shows_gap (received_of l n moving) total offset bytes && w.fresh) (round l w to) []
+    (λ over. both_fine h l last w from to number moving total offset bytes p g traced here size got r m t over)
+    (λ more. copy_fine h l last w from to number moving total offset bytes p g traced here size got r m t))
+    (λ gap. only_fine h l last pk _ traced (cond_both (shows_gap w.received total offset bytes && w.fresh) (round l w to) []
     (All (Backs h l (Some pk))) (λ t. round_backed h l l.procs (Some pk) (base_of g) w to here)
     (λ f. All-nil (Backs h l (Some pk)))))
 
 pub bytes_fine : (h : ℕ) (l : Kernel) (last : Pid → Option Call) (w : Work) (from to : Pid) (number moving total offset : ℕ)
     (bytes : List ℕ) → Ground h l (MoveBytes from to number moving total offset bytes) → IsTraced h last l → to.host ≡ h →
-    Sized total offset bytes →
+    Sized total offset bytes → IsCountedIn l w to →
     IsFine h l last (MoveBytes from to number moving total offset bytes)
     (option_map_or (λ (p : Process). bytes_outcome l w to (name_of from number) moving total offset bytes)
     (running_from l to (name_of from number) moving total) nothing)
-bytes_fine h l last w from to number moving total offset bytes g traced here size =
+bytes_fine h l last w from to number moving total offset bytes g traced here size counted =
     bytes_by h l last w from to number moving total offset bytes (running_from l to (name_of from number) moving total) g traced here size
-    refl
+    counted refl

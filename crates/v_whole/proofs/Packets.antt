@@ -22,7 +22,7 @@ use Rattle.vk_base.specs.declared.message.Message.{Message}
 use Rattle.vk_base.specs.declared.pid.Pid.{Pid}
 use Rattle.vk_base.specs.declared.step.Step.{Step}
 use Rattle.vk_base.specs.declared.step.Step.TheVariants as steps
-use Rattle.vk_base.specs.Brought.{sender_heard, found_dead, brought, posted}
+use Rattle.vk_base.specs.Brought.{sender_heard, found_dead, brought, posted, settled}
 use Rattle.vk_base.specs.Calls.{Effect, unseen}
 unfoldable use Rattle.vk_base.specs.Changes.{change_exchange, change_lookup}
 use Rattle.vk_base.specs.Counts.{sends_of}
@@ -33,8 +33,8 @@ use Rattle.vk_base.specs.Steps.{effect, after_effect, arriving, finishing, faili
 use Rattle.vk_base.proofs.OptionLemmas.{bind_is}
 use Rattle.v_laws.specs.Sound.{IsSound, IsRegistered}
 use Rattle.v_laws.proofs.Options.{some_that_holds, some_there, mapped_is}
-use Rattle.v_laws.proofs.StepLemmas.{only_if_is, waiting_is}
-use Rattle.v_laws.proofs.Tables.{same_pid_is, same_pid_self, same_name_is, same_name_self, put_process_other, put_exchange_here}
+use Rattle.v_laws.proofs.StepLemmas.{only_if_is, waiting_is, IsNoCall}
+use Rattle.v_laws.proofs.Tables.{same_pid_is, same_pid_self, same_name_is, put_process_other, put_exchange_here, lookup_here, exchange_here, changed_apart}
 use Rattle.v_sim.specs.Acts.{Backs, Knows}
 use Rattle.v_sim.specs.Agreement.{Agrees, Sent, sent_of, reply_at, is_sending, is_candidate}
 use Rattle.v_sim.specs.Brings.{Brings}
@@ -52,14 +52,13 @@ use Rattle.vk_rules.specs.Rounds.{Outcome, nothing, only_steps, only_packets, li
 use Rattle.vk_rules.specs.View.{after_steps}
 use Rattle.vk_rules.specs.Works.{awaits, is_send_to}
 use Rattle.v_whole.proofs.Above.{IsAbove}
-use Rattle.v_whole.proofs.Brought.{brought_traced, changed_here, changed_apart, dead_now}
-use Rattle.v_whole.proofs.Calls.{lookup_here}
+use Rattle.v_whole.proofs.Brought.{brought_traced, changed_here, dead_now}
 use Rattle.v_whole.proofs.MessageCalls.{take_made}
 use Rattle.v_whole.proofs.Doing.{IsDoing}
 use Rattle.v_whole.proofs.Events.{IsRight, none_arrive}
 use Rattle.v_whole.proofs.Made.{IsMade, made_nothing, made_first, made_one}
 use Rattle.v_whole.proofs.Resent.{Base}
-use Rattle.v_whole.proofs.Traced.{IsTraced, NoCalls, IsNoCall, traced_step, traced_steps}
+use Rattle.v_whole.proofs.Traced.{IsTraced, NoCalls, traced_step, traced_steps}
 
 -- What a station with this view rests on, where it takes this packet: the one-machine kernel, of which the packet is true.
 pub record Ground (h : ℕ) (l : Kernel) (p : Packet) : Type 0 where
@@ -82,7 +81,7 @@ IsFine h l last p o = IsRight h l last last (Some p) o.steps o.packets None
 pub only_fine : (h : ℕ) (l : Kernel) (last : Pid → Option Call) (p : Packet) (ps : List Packet) → IsTraced h last l →
     All (Backs h l (Some p)) ps → IsFine h l last p (only_packets ps)
 only_fine h l last p ps traced backed = record {
-  local = record { after = l; enters = inl refl; is = made_nothing h (Some p) l; backed = backed };
+  local = record { after = l; enters = inl refl; is = made_nothing h (Some p) l; backed = backed; leaves = refl };
   traced = traced;
   arrivals = none_arrive h [] refl;
 }
@@ -94,14 +93,15 @@ nothing_fine h l last p traced = only_fine h l last p [] traced (All-nil (Backs 
 pub one_fine : (h : ℕ) (l : Kernel) (last : Pid → Option Call) (p : Packet) (s : Step) (ps : List Packet) (e : Effect) → IsTraced h last l →
     Brings h l p → host_of (brought l p) s ≡ h → Knows (Some p) (brought l p) s → IsNoCall s →
     first_of (filter_map as_arrival (s ∷ [])) ≡ None →
-    effect (brought l p) s ≡ Some e → e.seen ≡ None → All (Backs h e.after (Some p)) ps →
+    effect (brought l p) s ≡ Some e → e.seen ≡ None → settled l p e.after ≡ e.after → All (Backs h e.after (Some p)) ps →
     IsFine h l last p (record { steps = s ∷ []; packets = ps })
-one_fine h l last p s ps e traced brings here knows call none g seen backed = record {
+one_fine h l last p s ps e traced brings here knows call none g seen leaves backed = record {
   local = record {
     after = e.after;
     enters = inr (refl, brings);
     is = subst (IsMade h (Some p) (brought l p) (s ∷ []) e.after) seen (made_one h (Some p) (brought l p) s e here knows g);
     backed = backed;
+    leaves = leaves;
   };
   traced = traced_step h last (brought l p) s e call g (brought_traced h last l p traced);
   arrivals = none_arrive h (s ∷ []) none;
@@ -112,13 +112,6 @@ pub step_if : (h : ℕ) (l : Kernel) (last : Pid → Option Call) (p : Packet) (
     (b ≡ true → IsFine h l last p (only_steps (s ∷ []))) → IsFine h l last p (only_steps (list_if b (s ∷ [])))
 step_if h l last p b s traced made = cond_both b (s ∷ []) [] (λ ss. IsFine h l last p (only_steps ss)) made
     (λ f. nothing_fine h l last p traced)
-
--- an exchange that is changed
-pub exchange_here : (exchanges : Name → Option Exchange) (n : Name) (f : Exchange → Exchange) (x : Exchange) → exchanges n ≡ Some x →
-    change_exchange exchanges n f n ≡ Some (f x)
-unfolding change_exchange
-exchange_here exchanges n f x at = cond-true (same_name n n) (option_map f (exchanges n)) (exchanges n) (same_name_self n)
-    ∙ ap (option_map f) at
 
 -- Reply.
 pub record IsAwaiting (l : Kernel) (to : Pid) (number : ℕ) (from : Pid) (w : FarSender) : Type 0 where
@@ -185,7 +178,7 @@ reply_fine h l last from to number m dest bytes traced here =
     (λ e. record e { stage = stages.Replied m dest bytes }) w.0.exchange is.exchange in
     let f = finishing_from k to w.0.process (is.target, w.0.message) x (m, dest, bytes) is.process is.sends there refl in
     let g : effect k (steps.Finish to) ≡ Some _ = bind_to _ (finishing k to) _ _ f refl in
-    one_fine h l last p (steps.Finish to) [] _ traced here here tt tt refl g refl (All-nil (Backs h _ (Some p))))
+    one_fine h l last p (steps.Finish to) [] _ traced here here tt tt refl g refl refl (All-nil (Backs h _ (Some p))))
 
 -- Negative.
 pub negative_fine : (h : ℕ) (l : Kernel) (last : Pid → Option Call) (from to : Pid) (number : ℕ) → IsSoundView h l → IsTraced h last l →
@@ -211,7 +204,7 @@ negative_fine h l last from to number sound traced here =
     let f = failing_from k to endings.NoProcess w.0.process (is.target, w.0.message) sent.exchange refusals.NoProcess process is.sends
     sent.is (ap (same_host to) target ∙ is.far) why in
     let g : effect k (steps.Fail to endings.NoProcess) ≡ Some _ = bind_to _ (failing k to endings.NoProcess) _ _ f refl in
-    one_fine h l last p (steps.Fail to endings.NoProcess) [] _ traced here here tt tt refl g refl (All-nil (Backs h _ (Some p))))
+    one_fine h l last p (steps.Fail to endings.NoProcess) [] _ traced here here tt tt refl g refl refl (All-nil (Backs h _ (Some p))))
 
 -- Send.
 send_step : (h : ℕ) (l : Kernel) (from to : Pid) (number : ℕ) (m : Message) (part : List ℕ) → to.host ≡ h → (from.host == h) ≡ false →
@@ -251,6 +244,7 @@ arrival_fine h l last from to number m part traced here far live above =
         is = subst (IsMade h (Some p) k (s ∷ take_where e.0.after to) made.after) e.2
             (made_first h (Some p) k s (take_where e.0.after to) e.0 made.after there tt e.1 made.is);
         backed = All-nil (Backs h made.after (Some p));
+        leaves = refl;
       };
       traced = traced_steps h last e.0.after (take_where e.0.after to) (record { after = made.after; seen = [] }) (quiet_take e.0.after to)
           made.is.makes arrived;
@@ -359,7 +353,7 @@ gone_fine h l last from to number moving g traced here far =
     refl in
     one_fine h l last p (steps.End to endings.Gone) [] _ traced tt here
     (λ x i at moves. ap (λ (z : MoveName). z.exchange)
-    (same_Some i j.0 (sym moves ∙ ap (λ (z : Process). z.moving) (same_Some x q.0 (sym at ∙ q.1)) ∙ j.1)) ∙ same) tt refl e refl
+    (same_Some i j.0 (sym moves ∙ ap (λ (z : Process). z.moving) (same_Some x q.0 (sym at ∙ q.1)) ∙ j.1)) ∙ same) tt refl e refl refl
     (All-nil (Backs h _ (Some p))))
 
 -- AskPid.
@@ -368,7 +362,7 @@ find_is test [] x e = absurd (none-some x e)
 find_is test (y ∷ ys) x e = cond_both (test y) (Some y) (find test ys) (λ o. o ≡ Some x → test x ≡ true)
     (λ t is. ap test (sym (same_Some y x is)) ∙ t) (λ f is. find_is test ys x is) e
 
-find_all : {A : Type 0} (P : A → Type 0) (test : A → Bool) (xs : List A) (x : A) → All P xs → find test xs ≡ Some x → P x
+pub find_all : {A : Type 0} (P : A → Type 0) (test : A → Bool) (xs : List A) (x : A) → All P xs → find test xs ≡ Some x → P x
 find_all P test [] x all e = absurd (none-some x e)
 find_all P test (y ∷ ys) x all e = cond_both (test y) (Some y) (find test ys) (λ o. o ≡ Some x → P x)
     (λ t is. subst P (same_Some y x is) (All-head P y ys all)) (λ f is. find_all P test ys x (All-tail P y ys all) is) e
@@ -406,7 +400,7 @@ ask_fine h l last asker lookup logical sound traced far = by_found (found_there 
         let y : Lookup = record { logical = logical; candidates = pid ∷ [] } in
         let g : effect k (steps.Hear asker lookup pid) ≡ Some (unseen (record k { lookups = put_lookup k.lookups asker lookup y })) =
         bind_to _ (hearing k asker lookup pid) x _ f refl in
-        one_fine h l last p (steps.Hear asker lookup pid) (TellPid pid asker lookup ∷ []) _ traced tt here tt tt refl g refl
+        one_fine h l last p (steps.Hear asker lookup pid) (TellPid pid asker lookup ∷ []) _ traced tt here tt tt refl g refl refl
         (All-cons (Backs h _ (Some p)) _ [] (ap (is_candidate pid) (lookup_here k.lookups asker lookup y) ∙ or_left (same_pid pid pid) false
         (same_pid_self pid)) (All-nil (Backs h _ (Some p))))
 
@@ -443,4 +437,4 @@ tell_fine h l last found asker lookup g traced here =
     let f = finding_from k asker found q.0 y (asking_from k asker q.0 q.1 parts.0) there
     (any_last (same_pid found) x.0.candidates found (same_pid_self found)) in
     let e : effect k (steps.Found asker found) ≡ Some _ = bind_to _ (finding k asker found) q.0 _ f refl in
-    one_fine h l last p (steps.Found asker found) [] _ traced tt here tt tt refl e refl (All-nil (Backs h _ (Some p))))
+    one_fine h l last p (steps.Found asker found) [] _ traced tt here tt tt refl e refl refl (All-nil (Backs h _ (Some p))))

@@ -1,13 +1,12 @@
 -- A round of a work that goes out again says what is so.
-use Rattle.std.proofs.Common.{◌≡◌, ℕ, zero, suc, true, false, not, option_map, option_to_list, List, [], ◌∷◌, length, map, Option, Some, None, is_some, All, refl, sym, ap, subst, ◌∙◌, arith}
-use Rattle.std.proofs.lemmas.Bool.{both_ways, cond_both, eq-eqb, not-true}
+use Rattle.std.proofs.Common.{◌≡◌, ℕ, zero, suc, true, false, not, option_map, option_to_list, [], ◌∷◌, length, map, Option, Some, None, is_some, All, refl, sym, ap, subst, ◌∙◌, arith}
+use Rattle.std.proofs.lemmas.Bool.{cond_both, eq-eqb, not-true}
 use Rattle.std.proofs.lemmas.List.{length-map}
 use Rattle.std.proofs.lemmas.List.Elements.{All-nil, All-cons}
 use Rattle.std.proofs.lemmas.Option.{same_Some, none-some}
 use Rattle.std.specs.Option.{option_map_or}
 use Rattle.vk_base.specs.declared.call.Call.{Call}
 use Rattle.vk_base.specs.declared.call.Call.TheVariants as calls
-use Rattle.vk_base.specs.declared.kernel.Direction.{Direction}
 use Rattle.vk_base.specs.declared.kernel.Direction.TheVariants as directions
 use Rattle.vk_base.specs.declared.kernel.Exchange.{Exchange}
 use Rattle.vk_base.specs.declared.kernel.Lookup.{Lookup}
@@ -26,15 +25,17 @@ use Rattle.vk_base.specs.Ranges.{range_of, bytes_in}
 use Rattle.v_laws.specs.Sound.{IsSound}
 use Rattle.v_laws.proofs.Options.{some_there, mapped_is}
 use Rattle.v_sim.specs.Acts.{Backs, BacksMove}
-use Rattle.v_sim.specs.Agreement.{Agrees, sent_of, is_to, moves_at, is_from, kept_bytes, bare, logical_of}
+use Rattle.v_sim.specs.Agreement.{Agrees, sent_of, is_to, moves_at, is_from, bare, logical_of}
 use Rattle.v_sim.specs.Frames.{target_of, move_at}
 use Rattle.v_sim.specs.Steady.{IsSteady, IsFrozen}
 use Rattle.v_sim.proofs.Alike.{there_too}
 use Rattle.v_sim.proofs.OwnMoves.{same_moves, moves_here}
 use Rattle.v_sim.proofs.OwnTransfers.{bare_move}
 use Rattle.v_sim.proofs.Views.{view_is_sound}
+use Rattle.v_sim.proofs.Emitted.{same_bytes}
+use Rattle.v_sim.proofs.OwnParts.{own_at}
 use Rattle.vk_rules.specs.Rounds.{round, round_of, round_of_call, data_packets, offsets}
-use Rattle.vk_rules.specs.Works.{Work, received_of}
+use Rattle.vk_rules.specs.Works.{Work}
 use Rattle.v_whole.proofs.Calls.{data_backed, offsets_within}
 use Rattle.v_whole.proofs.Doing.{Doing, DoingState, IsDoing, IsInMoveOf}
 
@@ -46,9 +47,6 @@ pub record Base (h : ℕ) (l : Kernel) : Type 0 where
   pub frozen : IsFrozen machine
   pub doing : IsDoing machine
   pub agrees : Agrees h machine l
-
-pub own_here : (h : ℕ) (m l : Kernel) (pid : Pid) (p : Process) → Agrees h m l → pid.host ≡ h → l.procs pid ≡ Some p → m.procs pid ≡ Some p
-own_here h m l pid p agrees here at = sym ((agrees.processes pid).own here) ∙ at
 
 -- The move that a process is in, in the view.
 pub record IsInView (h : ℕ) (l : Kernel) (pid : Pid) (name : MoveName) (x : Move) : Type 0 where
@@ -71,7 +69,7 @@ in_view_by : (h : ℕ) (l : Kernel) (b : Base h l) (pid : Pid) (p : Process) (na
 in_view_by h l b pid p name x None here at moves moving is e =
     let m = b.machine in
     let n = name.exchange in
-    let runs = b.steady.running pid p name (own_here h m l pid p b.agrees here at) moves moving in
+    let runs = b.steady.running pid p name (own_at h m l pid p b.agrees here at) moves moving in
     let tb : is_to h runs.exchange ≡ true = eq-eqb runs.exchange.target.host h (ap (λ (z : Pid). z.host) runs.target ∙ here) in
     let same : [] ≡ map bare runs.exchange.moves = ap (moves_at h) (sym e) ∙ (b.agrees.exchanges n).moves ∙ ap (moves_at h) runs.is
     ∙ moves_here h runs.exchange tb in
@@ -80,7 +78,7 @@ in_view_by h l b pid p name x None here at moves moving is e =
 in_view_by h l b pid p name x (Some a) here at moves moving is e =
     let m = b.machine in
     let n = name.exchange in
-    let runs = b.steady.running pid p name (own_here h m l pid p b.agrees here at) moves moving in
+    let runs = b.steady.running pid p name (own_at h m l pid p b.agrees here at) moves moving in
     let tb : is_to h runs.exchange ≡ true = eq-eqb runs.exchange.target.host h (ap (λ (z : Pid). z.host) runs.target ∙ here) in
     let too = there_too h n (sends_of (l.procs n.sender)) (l.exchanges n) (m.exchanges n) a (b.agrees.exchanges n) e in
     let one : too.0 ≡ runs.exchange = same_Some too.0 runs.exchange (sym too.1 ∙ runs.is) in
@@ -106,14 +104,6 @@ pub in_view : (h : ℕ) (l : Kernel) (b : Base h l) (pid : Pid) (p : Process) (n
     move_at name.number (b.machine.exchanges name.exchange) ≡ Some x → IsInView h l pid name x
 in_view h l b pid p name x here at moves moving is = in_view_by h l b pid p name x (l.exchanges name.exchange) here at moves moving is refl
 
-pub to_bytes : (d : Direction) (bytes : List ℕ) → is_from d ≡ false → kept_bytes d bytes ≡ bytes
-to_bytes directions.To bytes f = refl
-to_bytes directions.From bytes f = absurd (both_ways true f refl)
-
-pub same_bytes : (x y : Move) → bare y ≡ bare x → is_from x.direction ≡ false → y.bytes ≡ x.bytes
-same_bytes x y same f = sym (to_bytes y.direction y.bytes (ap (λ (z : Move). is_from z.direction) same ∙ f)) ∙ ap (λ (z : Move). z.bytes)
-    same ∙ to_bytes x.direction x.bytes f
-
 module _ (h : ℕ) (l : Kernel) (procs : Pid → Option Process) (taken : Option Packet) (b : Base h l) (w : Work) (pid : Pid) (p : Process)
     (here : pid.host ≡ h) (at : l.procs pid ≡ Some p) where
   view_backs : (name : MoveName) (x : Move) (v : IsInView h l pid name x) →
@@ -130,7 +120,7 @@ module _ (h : ℕ) (l : Kernel) (procs : Pid → Option Process) (taken : Option
       All (Backs h (record l { procs = procs }) taken) (round_of_call l w pid p (calls.MoveTo partner dest src count))
   data_again partner dest src count state of =
       let v = in_view h l b pid p of.name of.move here at (ap is_moving state) of.moving of.is in
-      let frozen = b.frozen.to pid p of.name of.move (own_here h b.machine l pid p b.agrees here at) (ap is_moving state) of.moving of.is
+      let frozen = b.frozen.to pid p of.name of.move (own_at h b.machine l pid p b.agrees here at) (ap is_moving state) of.moving of.is
       of.way in
       let bytes : v.move.bytes ≡ bytes_in (range_of src count) p.memory =
       same_bytes of.move v.move v.same of.way ∙ sym frozen ∙ (λ i. bytes_in (range_of (of.src_is i) (of.count_is i)) p.memory) in
@@ -151,7 +141,7 @@ module _ (h : ℕ) (l : Kernel) (procs : Pid → Option Process) (taken : Option
       (view_backs of.name of.move v) in
       subst (λ o. All (Backs h (record l { procs = procs }) taken)
       (option_map_or (λ (n : MoveName). MoveRequest pid partner n.exchange.number n.number src count
-      (received_of l n.exchange n.number) ∷ []) o [])) (sym of.moving)
+      w.received ∷ []) o [])) (sym of.moving)
       (All-cons (Backs h (record l { procs = procs }) taken) _ []
       (record {
         move = v.move;
@@ -214,7 +204,7 @@ round_by : (h : ℕ) (l : Kernel) (procs : Pid → Option Process) (taken : Opti
     All (Backs h (record l { procs = procs }) taken) (option_map_or (round_of l w pid) o [])
 round_by h l procs taken b w pid None here at = All-nil (Backs h (record l { procs = procs }) taken)
 round_by h l procs taken b w pid (Some p) here at =
-    state_again h l procs taken b w pid p here at p.state refl (b.doing.each pid p (own_here h b.machine l pid p b.agrees here at))
+    state_again h l procs taken b w pid p here at p.state refl (b.doing.each pid p (own_at h b.machine l pid p b.agrees here at))
 
 -- of a process of the station, whatever the processes have become
 pub round_backed : (h : ℕ) (l : Kernel) (procs : Pid → Option Process) (taken : Option Packet) (b : Base h l) (w : Work) (pid : Pid) →

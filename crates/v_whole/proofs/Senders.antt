@@ -1,5 +1,5 @@
 -- Packets of moves at the sender's station.
-use Rattle.std.proofs.Common.{◌≡◌, if◌then◌else◌, ℕ, zero, suc, ◌+◌, ◌≤◌, ◌<◌, Bool, true, false, ◌==◌, ◌&&◌, not, nat_le, nat_lt, List, [], ◌∷◌, ◌++◌, map, length, slice_get, Option, Some, None, is_none, option_map, All, refl, sym, ap, subst, ◌∙◌, inr, arith}
+use Rattle.std.proofs.Common.{◌≡◌, if◌then◌else◌, ℕ, ◌+◌, ◌≤◌, ◌<◌, Bool, true, false, ◌==◌, ◌&&◌, not, nat_le, nat_lt, List, [], ◌∷◌, ◌++◌, map, length, Option, Some, None, is_none, option_map, All, refl, sym, ap, subst, ◌∙◌, inr, arith}
 use Rattle.std.proofs.lemmas.Bool.{and_from, cond_both, cond-true, cond-false, eqb-true, eq-eqb, ltb-true, ltb-false, leb-true, leb-false, not_from_false}
 use Rattle.std.proofs.lemmas.List.Elements.{All-nil, All-cons, All-head, All-tail}
 use Rattle.std.proofs.lemmas.Option.{same_Some, none-some}
@@ -14,7 +14,7 @@ use Rattle.vk_base.specs.declared.message.Message.{Message}
 use Rattle.vk_base.specs.declared.pid.Pid.{Pid}
 use Rattle.vk_base.specs.declared.step.Step.{Step}
 use Rattle.vk_base.specs.declared.step.Step.TheVariants as steps
-use Rattle.vk_base.specs.Brought.{brought, bytes_from, put_at, put_move}
+use Rattle.vk_base.specs.Brought.{brought, bytes_from, put_move}
 use Rattle.vk_base.specs.Calls.{unseen}
 use Rattle.vk_base.specs.Counts.{sends_of, opened_of, done_of}
 use Rattle.vk_base.specs.Kernel.{Kernel, name_of, holds_of, blocked_in, sending, move_of, waiting_on}
@@ -26,18 +26,20 @@ use Rattle.vk_base.proofs.OptionLemmas.{bind_is}
 use Rattle.v_laws.proofs.Options.{some_that_holds}
 use Rattle.v_laws.proofs.States.{sending_is}
 use Rattle.v_laws.proofs.StepLemmas.{waiting_is}
-use Rattle.v_laws.proofs.Tables.{same_pid_self, put_exchange_here}
+use Rattle.v_laws.proofs.Tables.{same_pid_self, put_exchange_here, exchange_here}
+use Rattle.v_laws.proofs.MoveLists.{opened_here, put_move_here}
+use Rattle.v_laws.proofs.MoveSteps.{opened_with}
 use Rattle.v_sim.specs.Acts.{Backs, Knows, IsOfData, IsOfRequest}
 use Rattle.v_sim.specs.Agreement.{sent_of, noted_of, is_from, is_from_at}
-use Rattle.v_sim.specs.Frames.{IsFarTo, move_at}
+use Rattle.v_sim.specs.Frames.{IsFarTo}
 use Rattle.v_sim.specs.Simulation.{host_of}
 use Rattle.v_sim.proofs.Growth.{sent_target}
 use Rattle.v_sim.proofs.Made.{copying_from, opening_from, waiting_from}
-use Rattle.v_sim.proofs.MoveSets.{opened_here}
-unfoldable use Rattle.v_sim.proofs.MoveSets.{opened_exchange}
 use Rattle.v_sim.proofs.OwnTransfers.{waiting_same}
 use Rattle.v_sim.proofs.Puts.{bind_to}
 use Rattle.v_sim.proofs.Views.{view_is_sound}
+use Rattle.v_sim.proofs.Frozen.{move_first}
+use Rattle.v_sim.proofs.Rows.{front_bytes}
 use Rattle.vk_rules.specs.PacketOutcomes.{FarSender, data_outcome, has_made, may_be_read, may_be_written, no_sender, request_outcome, far_sender}
 use Rattle.vk_rules.specs.Rounds.{Outcome, list_if, nothing, offsets, piece}
 use Rattle.vk_rules.specs.Works.{awaits, is_last, is_send_to}
@@ -45,8 +47,8 @@ use Rattle.v_whole.proofs.Brought.{brought_traced}
 use Rattle.v_whole.proofs.Calls.{offsets_within, piece_part}
 use Rattle.v_whole.proofs.Events.{none_arrive}
 use Rattle.v_whole.proofs.Made.{made_first, made_one}
-use Rattle.v_whole.proofs.Moves.{Sized, is_next_from, part_of}
-use Rattle.v_whole.proofs.Packets.{Ground, IsAwaiting, IsFine, awaiting_is, exchange_here, nothing_fine, one_fine, only_fine}
+use Rattle.v_whole.proofs.Moves.{Sized, is_next_from}
+use Rattle.v_whole.proofs.Packets.{Ground, IsAwaiting, IsFine, awaiting_is, nothing_fine, one_fine, only_fine}
 use Rattle.v_whole.proofs.Traced.{IsTraced, traced_steps}
 
 -- A process that waits on the exchange waits for its target.
@@ -97,23 +99,6 @@ no_sender_fine h l last pk g from to number moving traced here far none =
     }) (All-nil (Backs h l (Some pk))))
     (λ f. All-nil (Backs h l (Some pk))))
 
--- A move that is put in its place.
-put_here : (xs : List Move) (i : ℕ) (m : Move) → slice_get (put_at xs i m) i ≡ Some m
-put_here [] zero m = refl
-put_here [] (suc i) m = put_here [] i m
-put_here (x ∷ xs) zero m = refl
-put_here (x ∷ xs) (suc i) m = put_here xs i m
-
-put_move_here : (e : Exchange) (number : ℕ) (m : Move) → 0 < number →
-    move_of (record e { moves = put_move e.moves number m }) number ≡ Some m
-put_move_here e zero m some = absurd (omega arith)
-put_move_here e (suc i) m some = put_here e.moves i m
-
-some_number : (o : Option Exchange) (number : ℕ) (x : Move) → move_at number o ≡ Some x → 0 < number
-some_number None number x e = absurd (none-some x e)
-some_number (Some a) zero x e = absurd (none-some x e)
-some_number (Some a) (suc i) x e = omega arith
-
 -- A move that is opened.
 record IsOpened (k : Kernel) (n : Name) (moving : ℕ) (p : Process) (e : Exchange) (m : Move) : Type 0 where
   after : Kernel
@@ -128,7 +113,7 @@ record IsOpened (k : Kernel) (n : Name) (moving : ℕ) (p : Process) (e : Exchan
 opened_is : (k : Kernel) (n : Name) (moving : ℕ) (p : Process) (target : Pid) (message : Message) (e : Exchange) (m : Move) →
     k.procs n.sender ≡ Some p → sending p.state ≡ Some (target, message) → (p.sends == n.number) ≡ true → k.exchanges n ≡ Some e →
     nat_lt e.opened moving ≡ true → move_of e moving ≡ Some m → IsOpened k n moving p e m
-unfolding move_opened opened_exchange
+unfolding move_opened
 opened_is k n moving p target message e m at sends last there later move =
     let o : Opening = record { sender = p; exchange = e; move = m } in
     let f = opening_from k n moving p e m (waiting_from k n p (target, message) at sends last) there later move in
@@ -137,8 +122,8 @@ opened_is k n moving p target message e m at sends last there later move =
     record {
       after = after;
       is = bind_to _ (opening_move k n moving) o _ f refl;
-      exchange = opened_exchange e moving y;
-      there = put_exchange_here k.exchanges n (opened_exchange e moving y);
+      exchange = opened_with e moving y;
+      there = put_exchange_here k.exchanges n (opened_with e moving y);
       opened = refl;
       done = refl;
       move = opened_here e moving m y move;
@@ -207,7 +192,7 @@ module _ (h : ℕ) (l : Kernel) (last : Pid → Option Call) (from to : Pid) (nu
   there = exchange_here l.exchanges n (λ e. record e { moves = put_move e.moves moving mv }) w.exchange a.exchange
 
   move_there : move_of e1 moving ≡ Some mv
-  move_there = put_move_here w.exchange moving mv (some_number (g.machine.exchanges n) moving g.says.move g.says.is)
+  move_there = put_move_here w.exchange moving mv (move_first (g.machine.exchanges n) moving g.says.move g.says.is)
 
   last_is : (w.process.sends == number) ≡ true
   last_is = eq-eqb w.process.sends number a.last
@@ -231,7 +216,7 @@ module _ (h : ℕ) (l : Kernel) (last : Pid → Option Call) (from to : Pid) (nu
     λ x y at_x at_y.
         subst (λ (z : Move). IsOfData z dest total offset (length bytes) bytes)
         (sym (same_Some y mv (sym at_y ∙ ap (λ (q : Exchange). move_of q moving) (same_Some x e (sym at_x ∙ at)) ∙ move)))
-        (record { direction = refl; place = refl; total_is = refl; size = refl; part = part_of offset bytes }),
+        (record { direction = refl; place = refl; total_is = refl; size = refl; part = front_bytes offset bytes }),
   )
 
   -- the acknowledgement
@@ -263,7 +248,7 @@ module _ (h : ℕ) (l : Kernel) (last : Pid → Option Call) (from to : Pid) (nu
   opening_fine : (next : Bool) → nat_lt w.exchange.opened moving ≡ true → (offset == 0) ≡ next → IsFine h l last pk (opening_outcome next)
   opening_fine false later e =
       let o = opened_is k n moving w.process a.target w.message e1 mv a.process a.sends last_is there later move_there in
-      one_fine h l last pk opener _ (unseen o.after) traced here here open_known tt refl o.is refl
+      one_fine h l last pk opener _ (unseen o.after) traced here here open_known tt refl o.is refl refl
       (ack_backed o.after 0 (ap opened_of o.there ∙ o.opened) (ap done_of o.there ∙ o.done))
   opening_fine true later e =
       let o = opened_is k n moving w.process a.target w.message e1 mv a.process a.sends last_is there later move_there in
@@ -280,6 +265,7 @@ module _ (h : ℕ) (l : Kernel) (last : Pid → Option Call) (from to : Pid) (nu
           is = made;
           backed = ack_backed c.after (0 + length bytes) c.opened
               (c.done_is ∙ ap (λ z. z + length bytes) o.done);
+          leaves = refl;
         };
         traced = traced_steps h last k (opener ∷ copy ∷ []) (record { after = c.after; seen = [] }) (tt, (tt, tt)) made.makes
             (brought_traced h last l pk traced);
@@ -294,7 +280,7 @@ module _ (h : ℕ) (l : Kernel) (last : Pid → Option Call) (from to : Pid) (nu
       let c = copied_is k n moving offset (length bytes) w.process e1 mv there opened (sym (eqb-true offset w.exchange.done e)) move_there
       refl size.some size.within (waits k a.process) in
       one_fine h l last pk copy _ (unseen c.after) traced here (copy_host k n moving offset (length bytes) e1 mv h there move_there refl
-      here) (copy_known k e1 there move_there) tt refl c.is refl
+      here) (copy_known k e1 there move_there) tt refl c.is refl refl
       (ack_backed c.after (w.exchange.done + length bytes) c.opened c.done_is)
 
   -- by how the move stands to the open one
@@ -393,7 +379,7 @@ module _ (h : ℕ) (l : Kernel) (last : Pid → Option Call) (from to : Pid) (nu
   wanted_there : nat_lt w.exchange.opened moving ≡ true → move_of (request w.exchange) moving ≡ Some wanted
   wanted_there later = ap (λ ms. move_of (record w.exchange { moves = ms }) moving)
       (cond-true (nat_lt w.exchange.opened moving) (put_move w.exchange.moves moving wanted) w.exchange.moves later)
-      ∙ put_move_here w.exchange moving wanted (some_number (g.machine.exchanges name) moving g.says.move g.says.is)
+      ∙ put_move_here w.exchange moving wanted (move_first (g.machine.exchanges name) moving g.says.move g.says.is)
 
   opens_known : nat_lt w.exchange.opened moving ≡ true → Knows (Some asked) view opens_it
   opens_known later = (
@@ -416,7 +402,7 @@ module _ (h : ℕ) (l : Kernel) (last : Pid → Option Call) (from to : Pid) (nu
       let noted : noted_of (o.after.exchanges name) ≡ Some (bytes_in (range_of src total) w.process.memory) =
       ap noted_of o.there ∙ ap (option_map (λ (z : Move). z.bytes)) (ap (move_of o.exchange) o.opened ∙ o.move)
       in
-      one_fine h l last asked opens_it all_bytes (unseen o.after) traced here here (opens_known later) tt refl o.is refl
+      one_fine h l last asked opens_it all_bytes (unseen o.after) traced here here (opens_known later) tt refl o.is refl refl
       (bytes_backed h o.after from to number moving src total offset w.process.memory (offsets offset total) here
       (ap opened_of o.there ∙ o.opened) noted (offsets_within offset total))
 

@@ -24,34 +24,28 @@ use Rattle.vk_base.specs.Pids.{same_host, same_pid}
 use Rattle.vk_base.specs.Settings.{Settings, has_process, is_on, is_process}
 use Rattle.vk_base.specs.Steps.{effect, failing, ending, asking, first_of, only_if}
 use Rattle.vk_base.proofs.OptionLemmas.{bind_is}
-use Rattle.v_laws.proofs.StepLemmas.{only_if_is}
+use Rattle.v_laws.proofs.StepLemmas.{only_if_is, IsNoCall}
 use Rattle.v_laws.proofs.Tables.{put_process_other}
 use Rattle.v_sim.specs.Acts.{Backs, Knows}
 use Rattle.v_sim.specs.Simulation.{host_of}
 use Rattle.v_sim.proofs.Made.{failing_from, ending_from, asking_from}
 use Rattle.v_sim.proofs.Puts.{bind_to}
 use Rattle.v_sim.proofs.Views.{view_is_sound}
+use Rattle.v_sim.proofs.OwnParts.{own_at}
 use Rattle.vk_rules.specs.Aliens.{as_arrival}
 use Rattle.vk_rules.specs.CallOutcomes.{failed, sent_again, tick_outcome, work_failure}
 use Rattle.vk_rules.specs.Readings.{Reading}
 use Rattle.vk_rules.specs.Right.{own_pids}
 use Rattle.vk_rules.specs.Rounds.{round}
 use Rattle.vk_rules.specs.Works.{is_due, is_unanswered}
+use Rattle.vk_rules.specs.Each.{Each}
+use Rattle.vk_rules.proofs.Lists.{each_weaker}
 use Rattle.v_whole.specs.Schedules.{AreDistinct}
 use Rattle.v_whole.proofs.Doing.{Doing, DoingState, IsInMoveOf}
 use Rattle.v_whole.proofs.Events.{IsRight, none_arrive}
 use Rattle.v_whole.proofs.Made.{IsMade, made_nothing, made_first}
-use Rattle.v_whole.proofs.Resent.{Base, own_here, round_backed}
-use Rattle.v_whole.proofs.Traced.{IsTraced, IsNoCall, NoCalls, traced_steps}
-
--- what holds of each of these
-abbrev Each : (Pid → Type 0) → List Pid → Type 0
-Each P [] = Unit {0}
-Each P (q ∷ qs) = P q × Each P qs
-
-each_weaker : (P Q : Pid → Type 0) → ((q : Pid) → P q → Q q) → (qs : List Pid) → Each P qs → Each Q qs
-each_weaker P Q f [] all = tt
-each_weaker P Q f (q ∷ qs) all = (f q all.0, each_weaker P Q f qs all.1)
+use Rattle.v_whole.proofs.Resent.{Base, round_backed}
+use Rattle.v_whole.proofs.Traced.{IsTraced, NoCalls, traced_steps}
 
 each_both : (P Q : Pid → Type 0) (qs : List Pid) → Each P qs → Each Q qs → Each (λ q. P q × Q q) qs
 each_both P Q [] a b = tt
@@ -130,7 +124,7 @@ failure_is h r b t now procs pid s here same e =
     (r.view.procs pid >>= λ p. blocked_in p.state >>= work_failure pid) s e in
     let p = bind_is (r.view.procs pid) _ s test.1 in
     state_failure h r.view b procs pid p.0 here p.1 (same ∙ p.1) p.0.state s refl
-    (b.doing.each pid p.0 (own_here h b.machine r.view pid p.0 b.agrees here p.1)) p.2
+    (b.doing.each pid p.0 (own_at h b.machine r.view pid p.0 b.agrees here p.1)) p.2
 
 -- All works that fail.
 record HasFailed (h : ℕ) (l : Kernel) (procs : Pid → Option Process) (ss : List Step) : Type 0 where
@@ -158,9 +152,9 @@ fail_next h l procs q s ss f rest = record {
 put_same : (h : ℕ) (l : Kernel) (procs : Pid → Option Process) (q : Pid) (qs : List Pid) (after : Process) → Each (IsAs h l procs) qs →
     Each (λ z. same_pid z q ≡ false) qs → Each (IsAs h l (put_process procs q after)) qs
 put_same h l procs q qs after same apart =
-    each_weaker (λ z. IsAs h l procs z × (same_pid z q ≡ false)) (IsAs h l (put_process procs q after))
-    (λ z is. (is.0.0, put_process_other procs q after z is.1 ∙ is.0.1)) qs
+    each_weaker (λ z. IsAs h l procs z × (same_pid z q ≡ false)) (IsAs h l (put_process procs q after)) qs
     (each_both (IsAs h l procs) (λ z. same_pid z q ≡ false) qs same apart)
+    (λ z is. (is.0.0, put_process_other procs q after z is.1 ∙ is.0.1))
 
 by_failure : (h : ℕ) (r : Reading) (b : Base h r.view) (t : Times) (now : ℕ) (procs : Pid → Option Process) (q : Pid) (ss : List Step)
     (o : Option Step) → q.host ≡ h → procs q ≡ r.view.procs q → HasFailed h r.view procs ss →
@@ -220,7 +214,13 @@ tick_right c h r last now b distinct traced =
     let ss = filter_map (failed c.times now r) (own_pids c h) in
     let after : Kernel = record r.view { procs = f.after } in
     record {
-      local = record { after = after; enters = refl; is = f.is; backed = again_backed h r b c.times now f.after (own_pids c h) own };
+      local = record {
+        after = after;
+        enters = refl;
+        is = f.is;
+        backed = again_backed h r b c.times now f.after (own_pids c h) own;
+        leaves = refl;
+      };
       traced = traced_steps h last r.view ss (record { after = after; seen = [] }) f.calls f.is.makes traced;
       arrivals = none_arrive h ss f.arrivals;
     }

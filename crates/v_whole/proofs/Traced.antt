@@ -30,7 +30,7 @@ use Rattle.vk_base.specs.Steps.{Run, effect, run, only_if, arriving, with_arriva
 use Rattle.vk_base.proofs.OptionLemmas.{bind_is}
 use Rattle.v_laws.proofs.Options.{of_either, mapped_is}
 use Rattle.v_laws.proofs.States.{sending_is}
-use Rattle.v_laws.proofs.StepLemmas.{taking_is, finishing_is, failing_is, copying_is, ending_is, asking_is, finding_is, only_if_is}
+use Rattle.v_laws.proofs.StepLemmas.{taking_is, finishing_is, failing_is, copying_is, ending_is, asking_is, finding_is, only_if_is, IsNoCall}
 use Rattle.v_laws.proofs.Tables.{same_pid_is, same_pid_self}
 use Rattle.v_sim.proofs.Puts.{put_process_all}
 use Rattle.vk_rules.specs.Observed.{is_not_yet, is_not_yet_refusal}
@@ -149,10 +149,6 @@ ending_now k r why x g =
     let m = bind_is (only_if _ p.0.moving) _ x p.2 in
     let a = bind_is (move_ending k m.0 why) _ x m.2 in
     ap (λ (z : Process × Answer). is_not_yet z.1) (sym (same_Some _ x a.2)) ∙ move_ending_now k m.0 why a.0 a.1
-
-abbrev pub IsNoCall : Step → Type 0
-IsNoCall (steps.Call pid c) = ⊥
-IsNoCall s = Unit {0}
 
 pub traced_step : (h : ℕ) (last : Pid → Option Call) (k : Kernel) (s : Step) (e : Effect) → IsNoCall s → effect k s ≡ Some e →
     IsTraced h last k → IsTraced h last e.after

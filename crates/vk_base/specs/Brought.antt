@@ -1,18 +1,25 @@
 -- What a packet that a station takes brings into the kernel as the station sees it: what happened elsewhere, and shows there
 -- by nothing else.
-use Rattle.std.specs.Prelude.{ℕ, zero, suc, false, max, ◌==◌, nat_lt, List, [], ◌∷◌, ◌++◌, replicate, Option, Some, None, if◌then◌else◌}
+use Rattle.std.specs.Prelude.{ℕ, zero, suc, Bool, false, max, not, nat_lt, List, [], ◌∷◌, ◌++◌, length, take, filter, replicate, Option, Some, None, if◌then◌else◌}
+use Rattle.std.specs.Option.{option_map_or}
+use Rattle.vk_base.specs.declared.call.Call.{Call}
+use Rattle.vk_base.specs.declared.call.Call.TheVariants as calls
 use Rattle.vk_base.specs.declared.kernel.Direction.TheVariants as directions
 use Rattle.vk_base.specs.declared.kernel.Exchange.{Exchange}
 use Rattle.vk_base.specs.declared.kernel.Lookup.{Lookup}
 use Rattle.vk_base.specs.declared.kernel.Move.{Move}
+use Rattle.vk_base.specs.declared.kernel.Name.{Name}
 use Rattle.vk_base.specs.declared.kernel.Process.{Process}
 use Rattle.vk_base.specs.declared.kernel.Stage.TheVariants as stages
 use Rattle.vk_base.specs.declared.kernel.State.TheVariants as states
 use Rattle.vk_base.specs.declared.message.Message.{Message}
 use Rattle.vk_base.specs.declared.pid.Pid.{Pid}
+use Rattle.vk_base.specs.Calls.{new_move}
 use Rattle.vk_base.specs.Changes.{change_process, change_exchange, change_lookup}
-use Rattle.vk_base.specs.Kernel.{Kernel, name_of, put_process, put_exchange, put_lookup}
+use Rattle.vk_base.specs.Kernel.{◌>>=◌, Kernel, name_of, same_name, holds_of, blocked_in, move_of, put_process, put_exchange, put_lookup}
 use Rattle.vk_base.specs.Packets.{Packet, Send, Reply, Pending, Negative, MoveData, MoveAck, MoveRequest, MoveBytes, MoveNegative, AskPid, TellPid}
+use Rattle.vk_base.specs.Pids.{same_pid}
+use Rattle.vk_base.specs.Ranges.{range_of, bytes_in}
 
 -- Processes.
 
@@ -34,6 +41,10 @@ found_dead p = record p { alive = false }
 abbrev pub posted : Pid → Message → List ℕ → Exchange
 posted target message part =
     record { target = target; message = message; part = part; stage = stages.Posted; moves = []; opened = 0; done = 0 }
+
+-- A name that comes anew loses its earlier place, which only a forged Send brings about.
+abbrev pub without : Name → List Name → List Name
+without name = filter (λ n. not (same_name n name))
 
 abbrev pub answered_by : Message → ℕ → List ℕ → Exchange → Exchange
 answered_by message dest bytes e = record e { stage = stages.Replied message dest bytes }
@@ -77,6 +88,25 @@ move_from_sender mover src total =
 abbrev pub with_data : ℕ → Move → Exchange → Exchange
 with_data moving m e = record e { moves = put_move e.moves moving m }
 
+-- The move in which a process is blocked, as its own call says; the bytes of one to its partner stand in its memory.
+abbrev pub move_of_call : Pid → List ℕ → Call → Option Move
+move_of_call mover memory (calls.MoveTo partner dest src count) =
+    Some (new_move mover directions.To dest src count (bytes_in (range_of src count) memory))
+move_of_call mover memory (calls.MoveFrom partner dest src count) = Some (new_move mover directions.From dest src count [])
+move_of_call mover memory c = None
+
+abbrev pub running_move : Kernel → Pid → Option Move
+running_move k mover = k.procs mover >>= λ p. blocked_in p.state >>= move_of_call mover p.memory
+
+-- It is put where the exchange does not have it: a forged Send made the exchange anew since.
+abbrev pub is_moved_by : Pid → Move → Bool
+is_moved_by mover m = same_pid m.mover mover
+
+abbrev pub with_running : ℕ → Pid → Option Move → Exchange → Exchange
+with_running moving mover own e = record e {
+  moves = if holds_of (is_moved_by mover) (move_of e moving) then e.moves else option_map_or (put_move e.moves moving) own e.moves;
+}
+
 -- how far the sender's station is with a move
 abbrev pub with_progress : ℕ → ℕ → Exchange → Exchange
 with_progress moving received e = record e { opened = moving; done = received }
@@ -85,12 +115,10 @@ with_progress moving received e = record e { opened = moving; done = received }
 abbrev pub with_request : ℕ → Move → Exchange → Exchange
 with_request moving m e = record e { moves = if nat_lt e.opened moving then put_move e.moves moving m else e.moves }
 
-abbrev pub with_bytes_of : ℕ → List ℕ → Exchange → Exchange
-with_bytes_of moving bytes e = record e {
-  moves = put_bytes e.moves moving bytes;
-  opened = moving;
-  done = if e.opened == moving then e.done else 0;
-}
+-- bytes that come are the next ones of their move
+abbrev pub with_bytes_of : ℕ → ℕ → List ℕ → Exchange → Exchange
+with_bytes_of moving offset bytes e =
+    record e { moves = put_bytes e.moves moving (bytes_from offset bytes); opened = moving; done = offset }
 
 -- Lookups.
 abbrev pub lookup_asked : ℕ → Lookup
@@ -104,6 +132,7 @@ abbrev pub brought : Kernel → Packet → Kernel
 brought k (Send from to number message part) = record k {
   procs = put_process k.procs from (sender_heard number (k.procs from));
   exchanges = put_exchange k.exchanges (name_of from number) (posted to message part);
+  arrived = without (name_of from number) k.arrived;
 }
 brought k (Reply from to number message dest bytes) =
     record k { exchanges = change_exchange k.exchanges (name_of to number) (answered_by message dest bytes) }
@@ -115,11 +144,32 @@ brought k (MoveData from to number moving dest total offset bytes) =
           (with_data moving (move_to_sender from dest total offset bytes));
     }
 brought k (MoveAck from to number moving received) =
-    record k { exchanges = change_exchange k.exchanges (name_of from number) (with_progress moving received) }
+    record k {
+      exchanges = change_exchange k.exchanges (name_of from number)
+          (λ e. with_progress moving received (with_running moving to (running_move k to) e));
+    }
 brought k (MoveRequest from to number moving src total offset) =
     record k { exchanges = change_exchange k.exchanges (name_of to number) (with_request moving (move_from_sender from src total)) }
 brought k (MoveBytes from to number moving total offset bytes) =
-    record k { exchanges = change_exchange k.exchanges (name_of from number) (with_bytes_of moving (bytes_from offset bytes)) }
+    record k {
+      exchanges = change_exchange k.exchanges (name_of from number)
+          (λ e. with_bytes_of moving offset bytes (with_running moving to (running_move k to) e));
+    }
 brought k (MoveNegative from to number moving) = k
 brought k (AskPid asker lookup logical) = record k { lookups = put_lookup k.lookups asker lookup (lookup_asked logical) }
 brought k (TellPid found asker lookup) = record k { lookups = change_lookup k.lookups asker lookup (lookup_told found) }
+
+-- What it brings for its event alone: a mover's own move, where the exchange did not have it. Afterwards an exchange has as
+-- many moves as before, so that the next one has its number.
+abbrev pub as_many_moves : Option Exchange → Exchange → Exchange
+as_many_moves None e = e
+as_many_moves (Some before) e = record e { moves = take (length before.moves) e.moves }
+
+abbrev pub without_running : Kernel → Name → Kernel → Kernel
+without_running before name k = record k { exchanges = change_exchange k.exchanges name (as_many_moves (before.exchanges name)) }
+
+-- the kernel after the event's steps, where it was `before` when the packet came
+abbrev pub settled : Kernel → Packet → Kernel → Kernel
+settled before (MoveAck from to number moving received) k = without_running before (name_of from number) k
+settled before (MoveBytes from to number moving total offset bytes) k = without_running before (name_of from number) k
+settled before p k = k

@@ -191,9 +191,16 @@ abbrev pub found_here : List Registration → ℕ → Option Pid
 found_here names logical =
     option_map (λ (r : Registration). r.pid) (find (λ (r : Registration). r.logical == logical && is_found_here r.scope) names)
 
+-- the process that it tells others under a logical id
+abbrev pub is_told_under : ℕ → Registration → Bool
+is_told_under logical r = r.logical == logical && is_found_there r.scope
+
+abbrev pub found_there : List Registration → ℕ → Option Pid
+found_there names logical = option_map (λ (r : Registration). r.pid) (find (is_told_under logical) names)
+
 -- whether it tells others that this process is registered under the logical id
 abbrev pub is_told : List Registration → ℕ → Pid → Bool
-is_told names logical pid = list_any (λ (r : Registration). r.logical == logical && is_found_there r.scope && same_pid r.pid pid) names
+is_told names logical pid = list_any (λ (r : Registration). is_told_under logical r && same_pid r.pid pid) names
 
 -- what it has registered under other logical ids
 abbrev pub others : List Registration → ℕ → List Registration

@@ -5,6 +5,7 @@
 //! packets or texts.
 #![tactic(auto)]
 
+mod activity;
 mod answer;
 mod call;
 mod config;
@@ -20,6 +21,7 @@ mod no_memory;
 mod pid;
 mod step;
 
+pub use activity::{Activity, Outcome, Waiting};
 pub use answer::{Answer, CallOutcome, Ending, Refusal};
 pub use call::{Call, Scope};
 pub use config::{Config, ConfigRefusal, ProcessSpec, Times};

@@ -1,5 +1,13 @@
+pub mod EachHasText
 pub mod Events
 pub mod FrontLines
 pub mod Lawfulness
 pub mod ReadAgain
+pub mod ScenarioHeads
+pub mod ScenarioLines
+pub mod ScenarioRanges
+pub mod ScenarioTexts
+pub mod Stations
+pub mod TaskLines
+pub mod TaskPlaces
 pub mod Wanted

@@ -1,5 +1,5 @@
 -- Of the code alone: no law rests on it. What the reader of a line does to the schedule so far.
-use Rattle.std.specs.Prelude.{◌≡◌, ◌⊎◌, Option, Some, None, option_map, Result, IsErr, IsSome, MatchResult, is_some, if◌then◌else◌}
+use Rattle.std.specs.Prelude.{◌≡◌, ◌⊎◌, Option, Some, None, option_map, Result, IsSome, MatchResult, is_some, if◌then◌else◌}
 use Rattle.vk_event.specs.declared.event.Event.{Event}
 use Rattle.vk_event.specs.declared.reader.LineRefusal.{LineRefusal}
 use Rattle.vk_event.specs.declared.reader.LineRefusal.TheVariants as refusals

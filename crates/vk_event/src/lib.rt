@@ -1,4 +1,5 @@
-//! Schedules: the events of a run, and the text that gives a configuration and its events.
+//! Schedules: the events of a run, and the text that gives a configuration and its events. Scenarios: what each process of a
+//! configuration is to do, and their text.
 //!
 //! Stands on the values of `vk_base` and the words of `vk_text`.
 #![tactic(auto)]
@@ -7,12 +8,20 @@ mod event;
 mod law;
 mod line;
 mod reader;
+mod scenario;
 mod schedule;
+mod task;
+mod task_line;
 #[cfg(test)]
 mod tests;
 mod writing;
 
 pub use event::Event;
-pub use law::{front_lines, schedules_are_read_again, schedules_are_spelled_once};
+pub use law::{
+    front_lines, scenarios_are_read_again, scenarios_are_spelled, schedules_are_read_again,
+    schedules_are_spelled_once,
+};
+pub use scenario::{LinkPlan, Scenario, TICKS, read_scenario};
 pub use schedule::{Front, Schedule, TextRefusal, read_front, read_schedule};
+pub use task::{PAGE_BYTES, PAGES, Task, TaskKind};
 pub use writing::write_schedule;

@@ -20,7 +20,9 @@ pub record IsOpened (bytes : List ℕ) (h : Header) (rest : List ℕ) : Type 0 w
   pub filled : 1 ≤ length rest
 
 -- fields that stand behind one another
-joined : (bytes b c d e f g rest : List ℕ) (h : Header) → bytes ≡ big_bytes 2 mark ++ b → b ≡ big_bytes 2 h.source ++ c → c ≡ big_bytes 2 h.destination ++ d → d ≡ big_bytes 8 h.stamp ++ e → e ≡ big_bytes 8 h.number ++ f → f ≡ big_bytes 8 h.event ++ g → g ≡ big_bytes 2 h.output ++ rest → bytes ≡ frame_bytes h rest
+joined : (bytes b c d e f g rest : List ℕ) (h : Header) → bytes ≡ big_bytes 2 mark ++ b → b ≡ big_bytes 2 h.source ++ c →
+    c ≡ big_bytes 2 h.destination ++ d → d ≡ big_bytes 8 h.stamp ++ e → e ≡ big_bytes 8 h.number ++ f → f ≡ big_bytes 8 h.event ++ g →
+    g ≡ big_bytes 2 h.output ++ rest → bytes ≡ frame_bytes h rest
 unfolding header_bytes
 joined bytes b c d e f g rest h p q r s t u v = cc
 
@@ -42,7 +44,14 @@ opened bytes r b found =
     let number = bind_is (number_at 8 stamp.0.1) _ r stamp.2 in
     let event = bind_is (number_at 8 number.0.1) _ r number.2 in
     let output = bind_is (number_at 2 event.0.1) _ r event.2 in
-    let h : Header = record { source = source.0.0; destination = destination.0.0; stamp = stamp.0.0; number = number.0.0; event = event.0.0; output = output.0.0 } in
+    let h : Header = record {
+      source = source.0.0;
+      destination = destination.0.0;
+      stamp = stamp.0.0;
+      number = number.0.0;
+      event = event.0.0;
+      output = output.0.0;
+    } in
     let is = cond_some (opens first.0.0 h output.0.1) (h, output.0.1) r output.2 in
     let tests = three (first.0.0 == mark) (is_lawful h) (not (length output.0.1 == 0)) is.0 in
     let f = number_stands 2 bytes first.0 b first.1 in
@@ -52,9 +61,11 @@ opened bytes r b found =
     let n = number_stands 8 stamp.0.1 number.0 t.rest_bytes number.1 in
     let e = number_stands 8 number.0.1 event.0 n.rest_bytes event.1 in
     let o = number_stands 2 event.0.1 output.0 e.rest_bytes output.1 in
-    let marked : bytes ≡ big_bytes 2 mark ++ first.0.1 = subst (λ (m : ℕ). bytes ≡ big_bytes 2 m ++ first.0.1) (eqb-true first.0.0 mark tests.0) f.bytes_are in
+    let marked : bytes ≡ big_bytes 2 mark ++ first.0.1 =
+    subst (λ (m : ℕ). bytes ≡ big_bytes 2 m ++ first.0.1) (eqb-true first.0.0 mark tests.0) f.bytes_are in
     subst (λ (r : Header × List ℕ). IsOpened bytes r.0 r.1) is.1 (record {
-      bytes_are = joined bytes first.0.1 source.0.1 destination.0.1 stamp.0.1 number.0.1 event.0.1 output.0.1 h marked s.bytes_are d.bytes_are t.bytes_are n.bytes_are e.bytes_are o.bytes_are;
+      bytes_are = joined bytes first.0.1 source.0.1 destination.0.1 stamp.0.1 number.0.1 event.0.1 output.0.1 h marked s.bytes_are
+          d.bytes_are t.bytes_are n.bytes_are e.bytes_are o.bytes_are;
       lawful = tests.1;
       filled = filled_by output.0.1 tests.2;
     })
@@ -69,7 +80,14 @@ record FitsFields (h : Header) : Type 0 where
   output : h.output < 256 ^ 2
 
 fits_fields : (h : Header) → IsTrue (is_lawful h) → FitsFields h
-fits_fields h lawful = record { source = grind (arith, common_steps); destination = grind (arith, common_steps); stamp = grind (arith, common_steps); number = grind (arith, common_steps); event = grind (arith, common_steps); output = grind (arith, common_steps) }
+fits_fields h lawful = record {
+  source = grind (arith, common_steps);
+  destination = grind (arith, common_steps);
+  stamp = grind (arith, common_steps);
+  number = grind (arith, common_steps);
+  event = grind (arith, common_steps);
+  output = grind (arith, common_steps);
+}
 
 opens_by : (h : Header) (rest : List ℕ) → IsTrue (is_lawful h) → 1 ≤ length rest → opens mark h rest ≡ true
 opens_by h rest lawful filled = grind (arith, common_steps)
@@ -84,7 +102,16 @@ again h rest lawful filled =
     let d = big_bytes 8 h.stamp ++ e in
     let c = big_bytes 2 h.destination ++ d in
     let b = big_bytes 2 h.source ++ c in
-    rw (number_again 2 mark b (omega arith), number_again 2 h.source c fits.source, number_again 2 h.destination d fits.destination, number_again 8 h.stamp e fits.stamp, number_again 8 h.number f fits.number, number_again 8 h.event g fits.event, number_again 2 h.output rest fits.output, opens_by h rest lawful filled) refl
+    rw (
+      number_again 2 mark b (omega arith),
+      number_again 2 h.source c fits.source,
+      number_again 2 h.destination d fits.destination,
+      number_again 8 h.stamp e fits.stamp,
+      number_again 8 h.number f fits.number,
+      number_again 8 h.event g fits.event,
+      number_again 2 h.output rest fits.output,
+      opens_by h rest lawful filled,
+    ) refl
 
 pub frames : FramesAreSpelledOnce
 frames = record { read = λ bytes rest h b e. let o = opened bytes (h, rest) b e in (o.bytes_are, o.lawful, o.filled); written = again }

@@ -5,17 +5,17 @@ ghost use Rattle.vk_frame.specs.Spelling.{frame_bytes};
 
 use crate::header::Header;
 use vk_base::FrameBytes;
-use vk_wire::{bytes_of_u16, bytes_of_u64, next_u16, next_u64};
+use vk_wire::{PACKET_BYTES, bytes_of_u16, bytes_of_u64, next_u16, next_u64};
 
 /// The number that stands first in each frame.
 const MARK: u16 = 0x564b;
 
-/// Makes `into` the frame of this header, which must be lawful, and this packet, which must have 1 to 1,120 bytes.
+/// Makes `into` the frame of this header, which must be lawful, and this packet, which must have 1 to [`PACKET_BYTES`] bytes.
 #[tactic(auto, unfolding(crate::specs::Spelling::header_bytes))]
 pub fn seal(header: &Header, packet: &[u8], into: &mut FrameBytes)
     requires lawful { IsTrue (is_lawful header.now) }
     requires some { 1 ≤ length packet.now }
-    requires fits { length packet.now ≤ 1120 }
+    requires fits { length packet.now ≤ PACKET_BYTES }
     ensures { into.new ≡ frame_bytes header.now packet.now }
 {
     into.clear();

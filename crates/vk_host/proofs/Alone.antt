@@ -1,6 +1,6 @@
 -- What an event of a station that is alone amounts to in a kernel: of the code alone, in the terms of which its proofs go. That it
 -- is what the right entry says is `Entries.antt`.
-use Rattle.std.specs.Prelude.{◌≡◌, Bool, List, [], ◌∷◌, fold, if◌then◌else◌}
+use Rattle.std.specs.Prelude.{List, [], ◌∷◌, fold, if◌then◌else◌}
 use Rattle.vk_base.specs.declared.call.Call.{Call}
 use Rattle.vk_base.specs.declared.event.EventAnswer.{EventAnswer}
 use Rattle.vk_base.specs.declared.event.EventAnswer.TheVariants as events_answered

@@ -20,21 +20,25 @@ use Rattle.v_laws.proofs.Queues.{queue-stage}
 use Rattle.v_laws.proofs.Tables.{put_process_here, put_process_other, put_exchange_here, put_exchange_other}
 use Rattle.vk_host.specs.declared.seat.Seat.{Seat}
 use Rattle.vk_host.specs.Stands.{IsSeated, AreSeats}
-use Rattle.vk_host.specs.Tables.{is_seat, change_first, is_awaiting, state_of, replied_by, replied as replied_seat}
+use Rattle.vk_base.specs.Firsts.{change_first}
+use Rattle.vk_host.specs.Tables.{is_seat, is_awaiting, state_of, replied_by, replied as replied_seat}
 use Rattle.vk_host.specs.declared.seat.Doing.{Doing}
 use Rattle.vk_host.specs.declared.seat.Doing.TheVariants as doings
 use Rattle.vk_host.proofs.Keeping.{home_put, queue-procs, seats_done}
 use Rattle.vk_host.proofs.Reading.{IsHeld, awaiting_is, held_awaiting}
 
 -- a Send that has its reply is done with it
-replied_is : (d : Doing) (target : Pid) (m reply : Message) → state_of d ≡ states.Blocked (calls.Send target m) → state_of (replied_by d reply) ≡ states.Done (calls.Send target m) (answers.Replied reply)
+replied_is : (d : Doing) (target : Pid) (m reply : Message) → state_of d ≡ states.Blocked (calls.Send target m) →
+    state_of (replied_by d reply) ≡ states.Done (calls.Send target m) (answers.Replied reply)
 replied_is doings.Ready target m reply e = absurd (none-some _ (ap sending e))
 replied_is doings.Receiving target m reply e = absurd (none-some _ (ap sending e))
 replied_is (doings.Received from n) target m reply e = absurd (none-some _ (ap sending e))
 replied_is (doings.Replied other n old) target m reply e = absurd (none-some _ (ap sending e))
-replied_is (doings.Sending other n) target m reply e = let same = same_Some (other, n) (target, m) (ap sending e) in λ i. states.Done (calls.Send (same i).0 (same i).1) (answers.Replied reply)
+replied_is (doings.Sending other n) target m reply e = let same = same_Some (other, n) (target, m) (ap sending e) in
+    λ i. states.Done (calls.Send (same i).0 (same i).1) (answers.Replied reply)
 
-module _ (host n : ℕ) (seats : List Seat) (k : Kernel) (pid to : Pid) (p : Process) (m : Message) (sound : IsSound k) (tables : AreSeats host n seats k) (awaits : is_awaiting seats pid to ≡ true) where
+module _ (host n : ℕ) (seats : List Seat) (k : Kernel) (pid to : Pid) (p : Process) (m : Message) (sound : IsSound k)
+    (tables : AreSeats host n seats k) (awaits : is_awaiting seats pid to ≡ true) where
   pub has : (s : Seat) × (find (is_seat to) seats ≡ Some s) × IsSeated k to s × IsHeld k pid to s
   has = awaiting_is host n seats k pid to tables awaits
 
@@ -59,7 +63,9 @@ module _ (host n : ℕ) (seats : List Seat) (k : Kernel) (pid to : Pid) (p : Pro
   -- the Reply is answered ok
   pub reply_is : accepted k pid p (calls.Reply m to) ≡ Some (answered replied pid (calls.Reply m to) answers.Ok)
   reply_is =
-      ap (λ o. o >>= λ number. k.exchanges (name_of to number) >>= λ e. Some (answered (with_stage k (name_of to number) e reply) pid (calls.Reply m to) answers.Ok)) (held_awaiting k pid to seat sound has.2 has.3)
+      ap (λ o. o >>= λ number. k.exchanges (name_of to number) >>= λ e.
+      Some (answered (with_stage k (name_of to number) e reply) pid (calls.Reply m to) answers.Ok))
+      (held_awaiting k pid to seat sound has.2 has.3)
       ∙ ap (λ o. o >>= λ e. Some (answered (with_stage k name e reply) pid (calls.Reply m to) answers.Ok)) has.3.sent.is
 
   abbrev pub finish : Finishing
@@ -69,10 +75,16 @@ module _ (host n : ℕ) (seats : List Seat) (k : Kernel) (pid to : Pid) (p : Pro
   pub finish_is : finishing replied to ≡ Some finish
   unfolding finishing
   finish_is =
-      ap (λ o. o >>= λ x. sending x.state >>= λ send. replied.exchanges (name_of to x.sends) >>= λ e. reply_of e.stage >>= λ r. Some (record { process = x; target = send.0; message = send.1; reply = r.0; dest = r.1; bytes = r.2 })) has.2.is
-      ∙ ap (λ o. o >>= λ send. replied.exchanges (name_of to sender.sends) >>= λ e. reply_of e.stage >>= λ r. Some (record { process = sender; target = send.0; message = send.1; reply = r.0; dest = r.1; bytes = r.2 })) (ap sending (has.2.state ∙ has.3.state))
-      ∙ ap (λ number. replied.exchanges (name_of to number) >>= λ e. reply_of e.stage >>= λ r. Some (record { process = sender; target = has.3.target; message = has.3.message; reply = r.0; dest = r.1; bytes = r.2 })) has.2.sends
-      ∙ ap (λ o. o >>= λ e. reply_of e.stage >>= λ r. Some (record { process = sender; target = has.3.target; message = has.3.message; reply = r.0; dest = r.1; bytes = r.2 })) (put_exchange_here k.exchanges name (record exchange { stage = reply }))
+      ap (λ o. o >>= λ x. sending x.state >>= λ send. replied.exchanges (name_of to x.sends) >>= λ e. reply_of e.stage >>= λ r. Some
+      (record { process = x; target = send.0; message = send.1; reply = r.0; dest = r.1; bytes = r.2 })) has.2.is
+      ∙ ap (λ o. o >>= λ send. replied.exchanges (name_of to sender.sends) >>= λ e. reply_of e.stage >>= λ r.
+      Some (record { process = sender; target = send.0; message = send.1; reply = r.0; dest = r.1; bytes = r.2 }))
+      (ap sending (has.2.state ∙ has.3.state))
+      ∙ ap (λ number. replied.exchanges (name_of to number) >>= λ e. reply_of e.stage >>= λ r. Some
+      (record { process = sender; target = has.3.target; message = has.3.message; reply = r.0; dest = r.1; bytes = r.2 })) has.2.sends
+      ∙ ap (λ o. o >>= λ e. reply_of e.stage >>= λ r.
+      Some (record { process = sender; target = has.3.target; message = has.3.message; reply = r.0; dest = r.1; bytes = r.2 }))
+      (put_exchange_here k.exchanges name (record exchange { stage = reply }))
 
   taken_not_queued : is_queued exchange.stage ≡ false
   taken_not_queued = ap is_queued has.3.sent.stage_is
@@ -90,7 +102,8 @@ module _ (host n : ℕ) (seats : List Seat) (k : Kernel) (pid to : Pid) (p : Pro
       has.2.sends
       (λ q apart. put_process_other replied.procs to _ q apart)
       (λ q. queue-procs replied after q refl refl ∙ queue-stage k name exchange reply q has.3.sent.is (sym taken_not_queued))
-      (λ q number apart. put_exchange_other k.exchanges name (record exchange { stage = reply }) (name_of q number) (ap (λ b. b && number == seat.sends) apart))
+      (λ q number apart. put_exchange_other k.exchanges name (record exchange { stage = reply }) (name_of q number)
+      (ap (λ b. b && number == seat.sends) apart))
       (home_put host k.exchanges name (record exchange { stage = reply }) (λ at not_ended. absurd (never not_ended)) tables.home)
       tables
     where

@@ -34,7 +34,8 @@ use Rattle.vk_rules.specs.CallOutcomes.{seen_answer, effect_answer, take_where}
 use Rattle.vk_host.specs.Entries.{grants_nothing, is_built_call}
 use Rattle.vk_host.proofs.Alone.{answer_alone, follow_up, steps_of, after_event}
 use Rattle.vk_host.specs.Stands.{IsSeated, AreSeats}
-use Rattle.vk_host.specs.Tables.{is_seat, change_first, state_of, waiting, made_ready, doing_in, answer_held, is_awaiting, own_refusal, refusal_in, refusal_by, served, served_steps, serving, sent_seats, accepted_by, called_by, call_on_seats, collected, collect_seats, collect_steps, collect_answer}
+use Rattle.vk_base.specs.Firsts.{change_first}
+use Rattle.vk_host.specs.Tables.{is_seat, state_of, waiting, made_ready, doing_in, answer_held, is_awaiting, own_refusal, refusal_in, refusal_by, served, served_steps, serving, sent_seats, accepted_by, called_by, call_on_seats, collected, collect_seats, collect_steps, collect_answer}
 use Rattle.vk_host.proofs.Keeping.{seats_later, seats_state, seats_taken}
 use Rattle.vk_host.proofs.Reading.{shown, refusal_same, takes_same, awaiting_host}
 use Rattle.vk_host.proofs.Replying.{replied, reply_is, finish, finish_is, seats_replied}
@@ -51,12 +52,14 @@ some_run : (o : Option Run) (r : Run) → o ≡ Some r → IsSome o
 some_run o r e = ap is_some e
 
 -- A call that brings nothing about behind its own step.
-module _ (host n : ℕ) (seats : List Seat) (k : Kernel) (pid : Pid) (c : Call) (f : Effect) (a : EventAnswer) (sound : IsSound k) (is : effect k (steps.Call pid c) ≡ Some f) (answer : seen_answer f.seen ≡ a) where
+module _ (host n : ℕ) (seats : List Seat) (k : Kernel) (pid : Pid) (c : Call) (f : Effect) (a : EventAnswer) (sound : IsSound k)
+    (is : effect k (steps.Call pid c) ≡ Some f) (answer : seen_answer f.seen ≡ a) where
   call_steps : steps_of k (events.Call pid c) ≡ steps.Call pid c ∷ follow_up f.after pid c a
   unfolding steps_of
   call_steps = λ i. steps.Call pid c ∷ follow_up (ap (after_effect k) is i) pid c ((ap effect_answer is ∙ answer) i)
 
-  call_alone : follow_up f.after pid c a ≡ [] → AreSeats host (n + 1) seats f.after → Right host n seats (steps.Call pid c ∷ []) a k (events.Call pid c)
+  call_alone : follow_up f.after pid c a ≡ [] → AreSeats host (n + 1) seats f.after →
+      Right host n seats (steps.Call pid c ∷ []) a k (events.Call pid c)
   unfolding after_event
   call_alone nothing stands =
       let all : steps_of k (events.Call pid c) ≡ steps.Call pid c ∷ [] = call_steps ∙ ap (λ ss. steps.Call pid c ∷ ss) nothing in
@@ -70,15 +73,19 @@ module _ (host n : ℕ) (seats : List Seat) (k : Kernel) (pid : Pid) (c : Call) 
       }
 
   -- a call that brings one step about
-  call_and : (s : Step) (g : Effect) → follow_up f.after pid c a ≡ s ∷ [] → effect f.after s ≡ Some g → AreSeats host (n + 1) seats g.after → Right host n seats (steps.Call pid c ∷ s ∷ []) a k (events.Call pid c)
+  call_and : (s : Step) (g : Effect) → follow_up f.after pid c a ≡ s ∷ [] → effect f.after s ≡ Some g →
+      AreSeats host (n + 1) seats g.after → Right host n seats (steps.Call pid c ∷ s ∷ []) a k (events.Call pid c)
   unfolding after_event
   call_and s g one then_ stands =
       let all : steps_of k (events.Call pid c) ≡ steps.Call pid c ∷ s ∷ [] = call_steps ∙ ap (λ ss. steps.Call pid c ∷ ss) one in
-      let after : after_event k (events.Call pid c) ≡ g.after = ap (fold next k) all ∙ ap (λ x. next (after_effect k x) s) is ∙ ap (after_effect f.after) then_ in
+      let after : after_event k (events.Call pid c) ≡ g.after = ap (fold next k) all ∙ ap (λ x. next (after_effect k x) s) is
+      ∙ ap (after_effect f.after) then_ in
       record {
         answer_is = sym (ap effect_answer is ∙ answer);
         steps_are = sym all;
-        allowed = some_run (run k (steps_of k (events.Call pid c))) _ (ap (run k) all ∙ run_on k (steps.Call pid c ∷ []) (s ∷ []) _ _ (run_step k (steps.Call pid c) f is) (run_step f.after s g then_));
+        allowed = some_run (run k (steps_of k (events.Call pid c))) _
+            (ap (run k) all
+            ∙ run_on k (steps.Call pid c ∷ []) (s ∷ []) _ _ (run_step k (steps.Call pid c) f is) (run_step f.after s g then_));
         sound = subst IsSound (sym after) (sound_step f.after s g (sound_step k (steps.Call pid c) f sound is) then_);
         stands = subst (AreSeats host (n + 1) seats) (sym after) stands;
       }
@@ -93,14 +100,21 @@ take_some k r t e = ap (λ o. cond (is_some (o >>= λ t. Some (unseen (taken k r
 take_is : (k : Kernel) (r : Pid) (t : Taking) → taking k r ≡ Some t → effect k (steps.Take r) ≡ Some (unseen (taken k r t))
 take_is k r t e = ap (λ o. o >>= λ t. Some (unseen (taken k r t))) e
 
-served_by : (host n : ℕ) (seats : List Seat) (k l : Kernel) (pid : Pid) (c : Call) (r : Pid) (o : Option Taking) → IsSound k → effect k (steps.Call pid c) ≡ Some (unseen l) → follow_up l pid c given_answers.Begun ≡ take_where l r → r.host ≡ host → AreSeats host (n + 1) seats l → taking l r ≡ o →
-    Right host n (served seats r (option_map shown o)) (steps.Call pid c ∷ served_steps r (option_map shown o)) given_answers.Begun k (events.Call pid c)
-served_by host n seats k l pid c r None sound is follow here stands e = call_alone host n seats k pid c (unseen l) given_answers.Begun sound is refl (follow ∙ take_none l r e) stands
+served_by : (host n : ℕ) (seats : List Seat) (k l : Kernel) (pid : Pid) (c : Call) (r : Pid) (o : Option Taking) → IsSound k →
+    effect k (steps.Call pid c) ≡ Some (unseen l) → follow_up l pid c given_answers.Begun ≡ take_where l r → r.host ≡ host →
+    AreSeats host (n + 1) seats l → taking l r ≡ o →
+    Right host n (served seats r (option_map shown o)) (steps.Call pid c ∷ served_steps r (option_map shown o)) given_answers.Begun k
+    (events.Call pid c)
+served_by host n seats k l pid c r None sound is follow here stands e =
+    call_alone host n seats k pid c (unseen l) given_answers.Begun sound is refl (follow ∙ take_none l r e) stands
 served_by host n seats k l pid c r (Some t) sound is follow here stands e =
-    call_and host n (served seats r (Some (shown t))) k pid c (unseen l) given_answers.Begun sound is refl (steps.Take r) (unseen (taken l r t)) (follow ∙ take_some l r t e) (take_is l r t e)
+    call_and host n (served seats r (Some (shown t))) k pid c (unseen l) given_answers.Begun sound is refl (steps.Take r)
+    (unseen (taken l r t)) (follow ∙ take_some l r t e) (take_is l r t e)
     (seats_taken host (n + 1) seats l r t (sound_step k (steps.Call pid c) (unseen l) sound is) stands here e)
 
-call_served : (host n : ℕ) (seats : List Seat) (k l : Kernel) (pid : Pid) (c : Call) (r : Pid) → IsSound k → effect k (steps.Call pid c) ≡ Some (unseen l) → follow_up l pid c given_answers.Begun ≡ take_where l r → r.host ≡ host → AreSeats host (n + 1) seats l →
+call_served : (host n : ℕ) (seats : List Seat) (k l : Kernel) (pid : Pid) (c : Call) (r : Pid) → IsSound k →
+    effect k (steps.Call pid c) ≡ Some (unseen l) → follow_up l pid c given_answers.Begun ≡ take_where l r → r.host ≡ host →
+    AreSeats host (n + 1) seats l →
     Right host n (serving seats r).seats (steps.Call pid c ∷ (serving seats r).steps) (serving seats r).answer k (events.Call pid c)
 unfolding serving
 call_served host n seats k l pid c r sound is follow here stands =
@@ -116,7 +130,8 @@ refused_alone k pid calls.Receive why = refl
 refused_alone k pid (calls.Reply m to) why = refl
 refused_alone k pid c why = refl
 
-send_follows : (k : Kernel) (pid target : Pid) (m : Message) → same_host pid target ≡ true → follow_up k pid (calls.Send target m) given_answers.Begun ≡ take_where k target
+send_follows : (k : Kernel) (pid target : Pid) (m : Message) → same_host pid target ≡ true →
+    follow_up k pid (calls.Send target m) given_answers.Begun ≡ take_where k target
 unfolding follow_up
 send_follows k pid target m local = ap (λ b. cond b (take_where k target) []) local
 
@@ -124,7 +139,8 @@ receive_follows : (k : Kernel) (pid : Pid) → follow_up k pid calls.Receive giv
 unfolding follow_up
 receive_follows k pid = refl
 
-reply_follows : (k : Kernel) (pid to : Pid) (m : Message) → same_host pid to ≡ true → follow_up k pid (calls.Reply m to) (given_answers.Answered answers.Ok) ≡ steps.Finish to ∷ []
+reply_follows : (k : Kernel) (pid to : Pid) (m : Message) → same_host pid to ≡ true →
+    follow_up k pid (calls.Reply m to) (given_answers.Answered answers.Ok) ≡ steps.Finish to ∷ []
 unfolding follow_up
 reply_follows k pid to m local = ap (λ b. cond b (steps.Finish to ∷ []) []) local
 
@@ -132,8 +148,10 @@ awaits_by : (seats : List Seat) (pid to : Pid) (b : Bool) → (cond b None (Some
 awaits_by seats pid to true e = refl
 awaits_by seats pid to false e = absurd (none-some _ (sym e))
 
-module _ (host n : ℕ) (seats : List Seat) (k : Kernel) (pid : Pid) (s : Seat) (sound : IsSound k) (tables : AreSeats host n seats k) (here : pid.host ≡ host) (found : find (is_seat pid) seats ≡ Some s) (seated : IsSeated k pid s) (few : n < 2 ^ 48) where
-  effect_by : (c : Call) (o : Option Refusal) → call_refusal k pid seated.process c ≡ o → effect k (steps.Call pid c) ≡ called k pid seated.process c o
+module _ (host n : ℕ) (seats : List Seat) (k : Kernel) (pid : Pid) (s : Seat) (sound : IsSound k) (tables : AreSeats host n seats k)
+    (here : pid.host ≡ host) (found : find (is_seat pid) seats ≡ Some s) (seated : IsSeated k pid s) (few : n < 2 ^ 48) where
+  effect_by : (c : Call) (o : Option Refusal) → call_refusal k pid seated.process c ≡ o →
+      effect k (steps.Call pid c) ≡ called k pid seated.process c o
   effect_by c o e = ap (λ x. x >>= λ p. called k pid p c (call_refusal k pid p c)) seated.is ∙ ap (called k pid seated.process c) e
 
   later : AreSeats host (n + 1) seats k
@@ -145,33 +163,43 @@ module _ (host n : ℕ) (seats : List Seat) (k : Kernel) (pid : Pid) (s : Seat) 
 
   -- what the tables make of a call that is not refused
   abbrev AcceptedRight : Call → Type 0
-  AcceptedRight c = Right host n (accepted_by seats pid c).seats (steps.Call pid c ∷ (accepted_by seats pid c).steps) (accepted_by seats pid c).answer k (events.Call pid c)
+  AcceptedRight c = Right host n (accepted_by seats pid c).seats (steps.Call pid c ∷ (accepted_by seats pid c).steps)
+      (accepted_by seats pid c).answer k (events.Call pid c)
 
-  send_right : (target : Pid) (m : Message) → same_host pid target ≡ true → call_refusal k pid seated.process (calls.Send target m) ≡ None → AcceptedRight (calls.Send target m)
+  send_right : (target : Pid) (m : Message) → same_host pid target ≡ true → call_refusal k pid seated.process (calls.Send target m) ≡ None →
+      AcceptedRight (calls.Send target m)
   send_right target m local free =
-      call_served host n (sent_seats seats pid target m) k (sent k pid seated.process target m) pid (calls.Send target m) target sound (effect_by (calls.Send target m) None free) (send_follows (sent k pid seated.process target m) pid target m local)
+      call_served host n (sent_seats seats pid target m) k (sent k pid seated.process target m) pid (calls.Send target m) target sound
+      (effect_by (calls.Send target m) None free) (send_follows (sent k pid seated.process target m) pid target m local)
       (sym (eqb-true pid.host target.host local) ∙ here)
       (seats_sent host n seats k pid s target m sound tables here found seated (free_by (calls.Send target m) free) local few)
 
   receive_right : call_refusal k pid seated.process calls.Receive ≡ None → AcceptedRight calls.Receive
   receive_right free =
-      call_served host n (change_first (is_seat pid) waiting seats) k (with_state k pid seated.process (states.Blocked calls.Receive)) pid calls.Receive pid sound (effect_by calls.Receive None free) (receive_follows (with_state k pid seated.process (states.Blocked calls.Receive)) pid) here
-      (seats_state host n (n + 1) seats k pid seated.process s (states.Blocked calls.Receive) waiting (omega arith) (λ x. refl) (λ x. refl) (λ x. refl) found seated seated.is refl refl tables)
+      call_served host n (change_first (is_seat pid) waiting seats) k (with_state k pid seated.process (states.Blocked calls.Receive)) pid
+      calls.Receive pid sound (effect_by calls.Receive None free)
+      (receive_follows (with_state k pid seated.process (states.Blocked calls.Receive)) pid) here
+      (seats_state host n (n + 1) seats k pid seated.process s (states.Blocked calls.Receive) waiting (omega arith) (λ x. refl) (λ x. refl)
+      (λ x. refl) found seated seated.is refl refl tables)
 
-  reply_right : (m : Message) (to : Pid) → call_refusal k pid seated.process (calls.Reply m to) ≡ None → own_refusal seats pid (calls.Reply m to) ≡ None → AcceptedRight (calls.Reply m to)
+  reply_right : (m : Message) (to : Pid) → call_refusal k pid seated.process (calls.Reply m to) ≡ None →
+      own_refusal seats pid (calls.Reply m to) ≡ None → AcceptedRight (calls.Reply m to)
   reply_right m to free own =
       let awaits = awaits_by seats pid to (is_awaiting seats pid to) own in
       let local = eq-eqb pid.host to.host (here ∙ sym (awaiting_host host n seats k pid to tables awaits)) in
       let after = replied host n seats k pid to seated.process m sound tables awaits in
       let end = finish host n seats k pid to seated.process m sound tables awaits in
-      call_and host n _ k pid (calls.Reply m to) (answered after pid (calls.Reply m to) answers.Ok) (given_answers.Answered answers.Ok) sound
+      call_and host n _ k pid (calls.Reply m to) (answered after pid (calls.Reply m to) answers.Ok) (given_answers.Answered answers.Ok)
+      sound
       (effect_by (calls.Reply m to) None free ∙ reply_is host n seats k pid to seated.process m sound tables awaits) refl
       (steps.Finish to) (unseen (finished after to end)) (reply_follows after pid to m local)
       (ap (λ o. o >>= λ f. Some (unseen (finished after to f))) (finish_is host n seats k pid to seated.process m sound tables awaits))
       (seats_later host n (n + 1) _ _ (omega arith) (seats_replied host n seats k pid to seated.process m sound tables awaits))
 
-  accepted_right : (c : Call) → is_built_call pid c ≡ true → call_refusal k pid seated.process c ≡ None → own_refusal seats pid c ≡ None → AcceptedRight c
-  accepted_right (calls.Send target m) built free own = send_right target m (and_parts (same_host pid target) (grants_nothing m) built).0 free
+  accepted_right : (c : Call) → is_built_call pid c ≡ true → call_refusal k pid seated.process c ≡ None → own_refusal seats pid c ≡ None →
+      AcceptedRight c
+  accepted_right (calls.Send target m) built free own =
+      send_right target m (and_parts (same_host pid target) (grants_nothing m) built).0 free
   accepted_right calls.Receive built free own = receive_right free
   accepted_right (calls.Reply m to) built free own = reply_right m to free own
   accepted_right c built free own = absurd (both_ways false refl built)
@@ -188,18 +216,27 @@ module _ (host n : ℕ) (seats : List Seat) (k : Kernel) (pid : Pid) (s : Seat) 
       refusal_of o = refusal_in seats pid c o
 
   by_refusal : (c : Call) (o : Option Refusal) → is_built_call pid c ≡ true → refusal_by seats pid c ≡ o →
-      Right host n (called_by seats pid c o).seats (steps.Call pid c ∷ (called_by seats pid c o).steps) (called_by seats pid c o).answer k (events.Call pid c)
-  by_refusal c None built e = accepted_right c built (refusal_same host n seats k pid s c sound tables here found seated built ∙ e) (own_by c e)
-  by_refusal c (Some why) built e = call_alone host n seats k pid c (answered k pid c (answers.Refused why)) (given_answers.Answered (answers.Refused why)) sound (effect_by c (Some why) (refusal_same host n seats k pid s c sound tables here found seated built ∙ e)) refl (refused_alone k pid c why) later
+      Right host n (called_by seats pid c o).seats (steps.Call pid c ∷ (called_by seats pid c o).steps) (called_by seats pid c o).answer k
+      (events.Call pid c)
+  by_refusal c None built e =
+      accepted_right c built (refusal_same host n seats k pid s c sound tables here found seated built ∙ e) (own_by c e)
+  by_refusal c (Some why) built e = call_alone host n seats k pid c (answered k pid c (answers.Refused why))
+      (given_answers.Answered (answers.Refused why)) sound
+      (effect_by c (Some why) (refusal_same host n seats k pid s c sound tables here found seated built ∙ e)) refl
+      (refused_alone k pid c why) later
 
   -- a call of a process of the station
-  pub call_right : (c : Call) → is_built_call pid c ≡ true → Right host n (call_on_seats seats pid c).seats (steps.Call pid c ∷ (call_on_seats seats pid c).steps) (call_on_seats seats pid c).answer k (events.Call pid c)
+  pub call_right : (c : Call) → is_built_call pid c ≡ true →
+      Right host n (call_on_seats seats pid c).seats (steps.Call pid c ∷ (call_on_seats seats pid c).steps)
+      (call_on_seats seats pid c).answer k (events.Call pid c)
   unfolding call_on_seats
   call_right c built = by_refusal c (refusal_by seats pid c) built refl
 
 -- Collects.
-module _ (host n : ℕ) (seats : List Seat) (k : Kernel) (pid : Pid) (s : Seat) (sound : IsSound k) (tables : AreSeats host n seats k) (here : pid.host ≡ host) (found : find (is_seat pid) seats ≡ Some s) (seated : IsSeated k pid s) where
-  collecting_by : (o : Option (Call × Answer)) → finished_call (state_of s.doing) ≡ o → collecting k pid ≡ (o >>= λ d. Some (record { process = seated.process; call = d.0; answer = d.1 }))
+module _ (host n : ℕ) (seats : List Seat) (k : Kernel) (pid : Pid) (s : Seat) (sound : IsSound k) (tables : AreSeats host n seats k)
+    (here : pid.host ≡ host) (found : find (is_seat pid) seats ≡ Some s) (seated : IsSeated k pid s) where
+  collecting_by : (o : Option (Call × Answer)) → finished_call (state_of s.doing) ≡ o →
+      collecting k pid ≡ (o >>= λ d. Some (record { process = seated.process; call = d.0; answer = d.1 }))
   unfolding collecting
   collecting_by o e =
       ap (λ x. x >>= λ p. finished_call p.state >>= λ d. Some (record { process = p; call = d.0; answer = d.1 })) seated.is
@@ -210,14 +247,18 @@ module _ (host n : ℕ) (seats : List Seat) (k : Kernel) (pid : Pid) (s : Seat) 
   collect_allowed = by (finished_call (state_of s.doing)) refl
     where
       by : (o : Option (Call × Answer)) → finished_call (state_of s.doing) ≡ o → is_some o ≡ is_some (effect k (steps.Collect pid))
-      by None e = sym (ap (λ x. is_some (x >>= λ d. Some (answered (with_state k pid d.process states.Ready) pid d.call d.answer))) (collecting_by None e))
-      by (Some d) e = sym (ap (λ x. is_some (x >>= λ d. Some (answered (with_state k pid d.process states.Ready) pid d.call d.answer))) (collecting_by (Some d) e))
+      by None e = sym (ap (λ x. is_some (x >>= λ d. Some (answered (with_state k pid d.process states.Ready) pid d.call d.answer)))
+          (collecting_by None e))
+      by (Some d) e = sym (ap (λ x. is_some (x >>= λ d. Some (answered (with_state k pid d.process states.Ready) pid d.call d.answer)))
+          (collecting_by (Some d) e))
 
   collect_by : (o : Option (Call × Answer)) → finished_call (state_of s.doing) ≡ o →
-      Right host n (collect_seats seats pid (option_map (λ d. d.1) o)) (collect_steps pid (option_map (λ d. d.1) o)) (collect_answer (option_map (λ d. d.1) o)) k (events.Collect pid)
+      Right host n (collect_seats seats pid (option_map (λ d. d.1) o)) (collect_steps pid (option_map (λ d. d.1) o))
+      (collect_answer (option_map (λ d. d.1) o)) k (events.Collect pid)
   unfolding steps_of after_event
   collect_by None e =
-      let none : effect k (steps.Collect pid) ≡ None = ap (λ x. x >>= λ d. Some (answered (with_state k pid d.process states.Ready) pid d.call d.answer)) (collecting_by None e) in
+      let none : effect k (steps.Collect pid) ≡ None =
+      ap (λ x. x >>= λ d. Some (answered (with_state k pid d.process states.Ready) pid d.call d.answer)) (collecting_by None e) in
       let all : steps_of k (events.Collect pid) ≡ [] = ap (λ o. cond (is_some o) (steps.Collect pid ∷ []) []) none in
       let after : after_event k (events.Collect pid) ≡ k = ap (fold next k) all in
       record {
@@ -229,7 +270,8 @@ module _ (host n : ℕ) (seats : List Seat) (k : Kernel) (pid : Pid) (s : Seat) 
       }
   collect_by (Some d) e =
       let ready = with_state k pid seated.process states.Ready in
-      let is : effect k (steps.Collect pid) ≡ Some (answered ready pid d.0 d.1) = ap (λ x. x >>= λ d. Some (answered (with_state k pid d.process states.Ready) pid d.call d.answer)) (collecting_by (Some d) e) in
+      let is : effect k (steps.Collect pid) ≡ Some (answered ready pid d.0 d.1) =
+      ap (λ x. x >>= λ d. Some (answered (with_state k pid d.process states.Ready) pid d.call d.answer)) (collecting_by (Some d) e) in
       let all : steps_of k (events.Collect pid) ≡ steps.Collect pid ∷ [] = ap (λ o. cond (is_some o) (steps.Collect pid ∷ []) []) is in
       let after : after_event k (events.Collect pid) ≡ ready = ap (fold next k) all ∙ ap (after_effect k) is in
       record {
@@ -238,7 +280,8 @@ module _ (host n : ℕ) (seats : List Seat) (k : Kernel) (pid : Pid) (s : Seat) 
         allowed = some_run (run k (steps_of k (events.Collect pid))) _ (ap (run k) all ∙ run_step k (steps.Collect pid) _ is);
         sound = subst IsSound (sym after) (sound_step k (steps.Collect pid) _ sound is);
         stands = subst (AreSeats host (n + 1) (change_first (is_seat pid) made_ready seats)) (sym after)
-            (seats_state host n (n + 1) seats k pid seated.process s states.Ready made_ready (omega arith) (λ x. refl) (λ x. refl) (λ x. refl) found seated seated.is refl refl tables);
+            (seats_state host n (n + 1) seats k pid seated.process s states.Ready made_ready (omega arith) (λ x. refl) (λ x. refl)
+            (λ x. refl) found seated seated.is refl refl tables);
       }
 
   collected_is : collected seats pid ≡ option_map (λ d. d.1) (finished_call (state_of s.doing))
@@ -252,5 +295,7 @@ module _ (host n : ℕ) (seats : List Seat) (k : Kernel) (pid : Pid) (s : Seat) 
       by (doings.Replied target m reply) = refl
 
   -- a collect of a process of the station
-  pub collect_right : Right host n (collect_seats seats pid (collected seats pid)) (collect_steps pid (collected seats pid)) (collect_answer (collected seats pid)) k (events.Collect pid)
-  collect_right = subst (λ o. Right host n (collect_seats seats pid o) (collect_steps pid o) (collect_answer o) k (events.Collect pid)) (sym collected_is) (collect_by (finished_call (state_of s.doing)) refl)
+  pub collect_right : Right host n (collect_seats seats pid (collected seats pid)) (collect_steps pid (collected seats pid))
+      (collect_answer (collected seats pid)) k (events.Collect pid)
+  collect_right = subst (λ o. Right host n (collect_seats seats pid o) (collect_steps pid o) (collect_answer o) k (events.Collect pid))
+      (sym collected_is) (collect_by (finished_call (state_of s.doing)) refl)

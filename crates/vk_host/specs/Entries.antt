@@ -15,7 +15,7 @@ use Rattle.vk_base.specs.Settings.{Settings, has_process}
 use Rattle.vk_base.specs.Steps.{is_allowed}
 use Rattle.vk_rules.specs.Entries.{Entry, Input, Called, Collected, Ticked, Delivered}
 use Rattle.vk_rules.specs.Frames.{unsealed_of}
-use Rattle.vk_rules.specs.Readings.{Reading, reading, reading_after}
+use Rattle.vk_rules.specs.Readings.{Reading, reading_after}
 use Rattle.vk_rules.specs.Right.{entry_of, right_entry}
 
 -- the segment that the message grants, if it grants one, is the empty one at 0

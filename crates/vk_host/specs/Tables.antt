@@ -22,6 +22,7 @@ use Rattle.vk_host.specs.declared.calls.Decision.{Decision}
 use Rattle.vk_host.specs.declared.calls.Decision.TheVariants as verdicts
 use Rattle.vk_base.specs.declared.event.EventAnswer.{EventAnswer}
 use Rattle.vk_base.specs.declared.event.EventAnswer.TheVariants as events_answered
+use Rattle.vk_base.specs.Firsts.{change_first}
 use Rattle.vk_host.specs.declared.seat.Doing.{Doing}
 use Rattle.vk_host.specs.declared.seat.Doing.TheVariants as doings
 use Rattle.vk_host.specs.declared.seat.Seat.{Seat}
@@ -43,11 +44,6 @@ state_of doings.Receiving = states.Blocked calls.Receive
 state_of (doings.Sending target m) = states.Blocked (calls.Send target m)
 state_of (doings.Received from m) = states.Done calls.Receive (answers.Received from m)
 state_of (doings.Replied target m reply) = states.Done (calls.Send target m) (answers.Replied reply)
-
--- a list with the first element that passes changed
-abbrev pub change_first : {X : Type 0} → (X → Bool) → (X → X) → List X → List X
-change_first p f [] = []
-change_first p f (x ∷ xs) = if p x then f x ∷ xs else x ∷ change_first p f xs
 
 -- Changes of one process.
 abbrev pub waiting : Seat → Seat

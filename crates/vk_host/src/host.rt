@@ -4,7 +4,8 @@ ghost use Rattle.vk_base.specs.Kernel.{Kernel, initial_kernel};
 ghost use Rattle.vk_base.specs.Settings.{has_station, has_process};
 ghost use Rattle.vk_host.specs.Entries.{is_built, is_built_call};
 ghost use Rattle.vk_host.specs.Stands.{Stands, IsEvent, is_at, is_own, is_done, initial_seats};
-ghost use Rattle.vk_host.specs.Tables.{Tables, is_seat, change_first, made_ready, collected};
+ghost use Rattle.vk_base.specs.Firsts.{change_first};
+ghost use Rattle.vk_host.specs.Tables.{Tables, is_seat, made_ready, collected};
 
 use crate::calls;
 use crate::queue::Queue;

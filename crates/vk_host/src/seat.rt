@@ -3,7 +3,8 @@
 ghost use Rattle.std.specs.Prelude.{◌≡◌, ◌++◌, ◌∷◌, ◌+◌, [], Bool, true, false, is_some, find, option_copied, position, drop, if◌then◌else◌, min, ◌^◌, ◌-◌};
 ghost use Rattle.circular_buffer.specs.Buffer.{keep_last};
 ghost use Rattle.vk_base.specs.Kernel.{receiving, sending, is_ready, finished_call};
-ghost use Rattle.vk_host.specs.Tables.{is_seat, change_first, state_of, waiting, send_begun, enqueued, dequeued, marked_taken, received, replied, made_ready, replied_by, doing_in};
+ghost use Rattle.vk_base.specs.Firsts.{change_first};
+ghost use Rattle.vk_host.specs.Tables.{is_seat, state_of, waiting, send_begun, enqueued, dequeued, marked_taken, received, replied, made_ready, replied_by, doing_in};
 
 use crate::queue::Queue;
 use vk_base::{Message, Name, Pid};

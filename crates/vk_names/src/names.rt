@@ -2,9 +2,8 @@ ghost use Rattle.std.specs.Prelude.{◌≡◌, ◌<◌, ◌≤◌, ◌==◌, ◌
 ghost use Rattle.vk_base.specs.declared.kernel.Registration.{Registration as TheRegistration};
 ghost use Rattle.vk_base.specs.declared.pid.Pid.{Pid as ThePid};
 ghost use Rattle.vk_base.specs.Calls.{with_name};
-ghost use Rattle.vk_base.specs.Kernel.{found_here, holds_of, is_found_here, is_found_there, is_told, others};
+ghost use Rattle.vk_base.specs.Kernel.{found_here, found_there, holds_of, is_found_here, is_found_there, is_told, others};
 ghost use Rattle.vk_base.specs.Pids.{same_pid};
-ghost use Rattle.vk_names.specs.Told.{found_there};
 
 use std::alloc::Global;
 use std::marker::Model;

@@ -57,7 +57,8 @@ move_stands bytes x b e =
     let f = exchange_stands bytes front.0 b front.1 in
     let m = number_stands 8 front.0.3 moving.0 f.rest_bytes moving.1 in
     subst (Move bytes) (same_Some _ x moving.2) (record {
-      bytes_are = joined bytes (exchange_bytes front.0.0 front.0.1 front.0.2) front.0.3 (big_bytes 8 moving.0.0) moving.0.1 f.bytes_are m.bytes_are;
+      bytes_are =
+          joined bytes (exchange_bytes front.0.0 front.0.1 front.0.2) front.0.3 (big_bytes 8 moving.0.0) moving.0.1 f.bytes_are m.bytes_are;
       from = f.from;
       to = f.to;
       rest_bytes = m.rest_bytes;
@@ -90,7 +91,8 @@ kind_first (TellPid found asker lookup) = refl
 -- the packet that was found is this one
 whole : (bytes : List ℕ) (q p : Packet) → Some q ≡ Some p → bytes ≡ behind q → IsPacket q → Stands (kind_byte q) bytes p
 whole bytes q p e is fits =
-    subst (Stands (kind_byte q) bytes) (same_Some q p e) (record { bytes_are = ap (λ (l : List ℕ). kind_byte q ∷ l) is ∙ kind_first q; is = fits })
+    subst (Stands (kind_byte q) bytes) (same_Some q p e)
+    (record { bytes_are = ap (λ (l : List ℕ). kind_byte q ∷ l) is ∙ kind_first q; is = fits })
 
 -- the same where no byte is left
 closed : (bytes rest : List ℕ) (q p : Packet) → ended rest q ≡ Some p → bytes ≡ behind q ++ rest → IsPacket q → Stands (kind_byte q) bytes p
@@ -104,7 +106,8 @@ send_stands bytes p b e =
     let message = bind_is (message_at front.0.3) _ p front.2 in
     let f = exchange_stands bytes front.0 b front.1 in
     let m = message_stands front.0.3 message.0 f.rest_bytes message.1 in
-    whole bytes (Send front.0.0 front.0.1 front.0.2 message.0.0 message.0.1) p message.2 (joined bytes _ _ _ _ f.bytes_are m.bytes_are) (f.from, f.to, m.is, m.rest_bytes)
+    whole bytes (Send front.0.0 front.0.1 front.0.2 message.0.0 message.0.1) p message.2 (joined bytes _ _ _ _ f.bytes_are m.bytes_are)
+    (f.from, f.to, m.is, m.rest_bytes)
 
 reply_stands : (bytes : List ℕ) (p : Packet) → IsBytes bytes → reply_of bytes ≡ Some p → Stands 2 bytes p
 unfolding reply_of
@@ -123,8 +126,10 @@ reply_stands bytes p b e =
     let text = exchange_bytes front.0.0 front.0.1 front.0.2 in
     let one = joined bytes text front.0.3 message.0.0.0 message.0.1 f.bytes_are m.bytes_are in
     let two = joined bytes (text ++ message.0.0.0) message.0.1 (big_bytes 4 dest.0.0) dest.0.1 one d.bytes_are in
-    let three = joined bytes (text ++ message.0.0.0 ++ big_bytes 4 dest.0.0) dest.0.1 (big_bytes 2 (length count.0.1)) count.0.1 two counted in
-    whole bytes (Reply front.0.0 front.0.1 front.0.2 message.0.0 dest.0.0 count.0.1) p (ap Some chosen.1) three (f.from, f.to, m.is, d.below, n.rest_bytes)
+    let three =
+    joined bytes (text ++ message.0.0.0 ++ big_bytes 4 dest.0.0) dest.0.1 (big_bytes 2 (length count.0.1)) count.0.1 two counted in
+    whole bytes (Reply front.0.0 front.0.1 front.0.2 message.0.0 dest.0.0 count.0.1) p (ap Some chosen.1) three
+    (f.from, f.to, m.is, d.below, n.rest_bytes)
 
 pending_stands : (bytes : List ℕ) (p : Packet) → IsBytes bytes → pending_of bytes ≡ Some p → Stands 3 bytes p
 unfolding pending_of
@@ -154,8 +159,10 @@ move_data_stands bytes p b e =
     let text = move_bytes front.0.0 front.0.1 front.0.2 front.0.3 in
     let one = joined bytes text front.0.4 (big_bytes 4 dest.0.0) dest.0.1 f.bytes_are d.bytes_are in
     let two = joined bytes (text ++ big_bytes 4 dest.0.0) dest.0.1 (big_bytes 4 total.0.0) total.0.1 one t.bytes_are in
-    let three = joined bytes (text ++ big_bytes 4 dest.0.0 ++ big_bytes 4 total.0.0) total.0.1 (big_bytes 4 offset.0.0) offset.0.1 two o.bytes_are in
-    whole bytes (MoveData front.0.0 front.0.1 front.0.2 front.0.3 dest.0.0 total.0.0 offset.0.0 offset.0.1) p offset.2 three (f.from, f.to, d.below, o.rest_bytes)
+    let three = joined bytes (text ++ big_bytes 4 dest.0.0 ++ big_bytes 4 total.0.0) total.0.1 (big_bytes 4 offset.0.0) offset.0.1 two
+    o.bytes_are in
+    whole bytes (MoveData front.0.0 front.0.1 front.0.2 front.0.3 dest.0.0 total.0.0 offset.0.0 offset.0.1) p offset.2 three
+    (f.from, f.to, d.below, o.rest_bytes)
 
 move_ack_stands : (bytes : List ℕ) (p : Packet) → IsBytes bytes → move_ack_of bytes ≡ Some p → Stands 6 bytes p
 unfolding move_ack_of
@@ -182,8 +189,10 @@ move_request_stands bytes p b e =
     let text = move_bytes front.0.0 front.0.1 front.0.2 front.0.3 in
     let one = joined bytes text front.0.4 (big_bytes 4 src.0.0) src.0.1 f.bytes_are s.bytes_are in
     let two = joined bytes (text ++ big_bytes 4 src.0.0) src.0.1 (big_bytes 4 total.0.0) total.0.1 one t.bytes_are in
-    let three = joined bytes (text ++ big_bytes 4 src.0.0 ++ big_bytes 4 total.0.0) total.0.1 (big_bytes 4 offset.0.0) offset.0.1 two o.bytes_are in
-    closed bytes offset.0.1 (MoveRequest front.0.0 front.0.1 front.0.2 front.0.3 src.0.0 total.0.0 offset.0.0) p offset.2 three (f.from, f.to, s.below)
+    let three =
+    joined bytes (text ++ big_bytes 4 src.0.0 ++ big_bytes 4 total.0.0) total.0.1 (big_bytes 4 offset.0.0) offset.0.1 two o.bytes_are in
+    closed bytes offset.0.1 (MoveRequest front.0.0 front.0.1 front.0.2 front.0.3 src.0.0 total.0.0 offset.0.0) p offset.2 three
+    (f.from, f.to, s.below)
 
 move_bytes_stands : (bytes : List ℕ) (p : Packet) → IsBytes bytes → move_bytes_of bytes ≡ Some p → Stands 8 bytes p
 unfolding move_bytes_of
@@ -197,7 +206,8 @@ move_bytes_stands bytes p b e =
     let text = move_bytes front.0.0 front.0.1 front.0.2 front.0.3 in
     let one = joined bytes text front.0.4 (big_bytes 4 total.0.0) total.0.1 f.bytes_are t.bytes_are in
     let two = joined bytes (text ++ big_bytes 4 total.0.0) total.0.1 (big_bytes 4 offset.0.0) offset.0.1 one o.bytes_are in
-    whole bytes (MoveBytes front.0.0 front.0.1 front.0.2 front.0.3 total.0.0 offset.0.0 offset.0.1) p offset.2 two (f.from, f.to, o.rest_bytes)
+    whole bytes (MoveBytes front.0.0 front.0.1 front.0.2 front.0.3 total.0.0 offset.0.0 offset.0.1) p offset.2 two
+    (f.from, f.to, o.rest_bytes)
 
 move_negative_stands : (bytes : List ℕ) (p : Packet) → IsBytes bytes → move_negative_of bytes ≡ Some p → Stands 9 bytes p
 unfolding move_negative_of
@@ -235,7 +245,8 @@ tell_pid_stands bytes p b e =
     closed bytes lookup.0.1 (TellPid name.0.0 asker.0.0 lookup.0.0) p lookup.2 two (f.is, a.is)
 
 -- a kind is this one, or one of the others
-this_or_other : (R : Type 0) (kind k : ℕ) (x y : Option Packet) (p : Packet) → (kind ≡ k → x ≡ Some p → R) → (y ≡ Some p → R) → (if kind == k then x else y) ≡ Some p → R
+this_or_other : (R : Type 0) (kind k : ℕ) (x y : Option Packet) (p : Packet) → (kind ≡ k → x ≡ Some p → R) → (y ≡ Some p → R) →
+    (if kind == k then x else y) ≡ Some p → R
 this_or_other R kind k x y p this other e = by_test (kind == k) refl e
   where
     by_test : (t : Bool) → (kind == k) ≡ t → (if t then x else y) ≡ Some p → R

@@ -1,4 +1,5 @@
 -- What contracts see of the packets of code, whose parts are lent.
+use Rattle.std.specs.Prelude.{Bool, true, false}
 use Rattle.vk_base.specs.Packets as packets
 use Rattle.vk_base.specs.Packets.{Packet}
 use Rattle.vk_packet.specs.declared.packet.PacketView.{PacketView}
@@ -16,3 +17,11 @@ value_of (views.MoveBytes from to number moving total offset bytes) = packets.Mo
 value_of (views.MoveNegative from to number moving) = packets.MoveNegative from to number moving
 value_of (views.AskPid asker lookup logical) = packets.AskPid asker lookup logical
 value_of (views.TellPid found asker lookup) = packets.TellPid found asker lookup
+
+-- it is of bytes of a remote move
+abbrev pub is_of_bytes : Packet → Bool
+is_of_bytes (packets.MoveData from to number moving dest total offset bytes) = true
+is_of_bytes (packets.MoveAck from to number moving received) = true
+is_of_bytes (packets.MoveRequest from to number moving src total offset) = true
+is_of_bytes (packets.MoveBytes from to number moving total offset bytes) = true
+is_of_bytes _ = false

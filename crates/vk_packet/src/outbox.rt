@@ -7,6 +7,7 @@ use std::alloc::Global;
 use std::marker::Model;
 use vk_base::NoMemory;
 use vk_base::limits::FRAME_BYTES;
+use vk_wire::PACKET_BYTES;
 
 /// A packet's bytes, and the station that it is for.
 #[derive(Drop)]
@@ -110,7 +111,7 @@ impl Outbox {
         requires { at < length self.now.posts }
         ensures post { slice_get self.now.posts at ≡ Some (result.0, result.1.now) }
         ensures some { 0 < length result.1.now }
-        ensures few { length result.1.now ≤ 1120 }
+        ensures few { length result.1.now ≤ PACKET_BYTES }
     {
         let slot = &self.slots[at as usize];
         (slot.to, slot.bytes.as_slice())

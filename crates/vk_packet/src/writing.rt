@@ -6,14 +6,14 @@ ghost use Rattle.byteorder.specs.Endian.{big_bytes};
 ghost use Rattle.vk_base.specs.Packets as packets;
 ghost use Rattle.vk_packet.specs.Rules.{is_lawful};
 ghost use Rattle.vk_packet.specs.Spelling.{exchange_bytes, move_bytes, packet_bytes};
-ghost use Rattle.vk_packet.specs.Views.{value_of};
+ghost use Rattle.vk_packet.specs.Views.{is_of_bytes, value_of};
 ghost use Rattle.vk_wire.specs.Fields.{pid_bytes};
 
 use crate::packet::PacketView;
 use arrayvec::ArrayVec;
 use vk_base::limits::{DATA_BYTES, FRAME_BYTES, HEADER_BYTES, SEGMENT_BYTES};
 use vk_base::{Message, Pid};
-use vk_wire::{bytes_of_pid, bytes_of_u16, bytes_of_u32, bytes_of_u64};
+use vk_wire::{PACKET_BYTES, bytes_of_pid, bytes_of_u16, bytes_of_u32, bytes_of_u64};
 
 /// Appends the packet, which keeps to the rules. Before it there are at most 32 bytes, a frame's header.
 pub fn encode(packet: &PacketView, into: &mut ArrayVec<u8, FRAME_BYTES>)
@@ -21,7 +21,7 @@ pub fn encode(packet: &PacketView, into: &mut ArrayVec<u8, FRAME_BYTES>)
     requires room { array_vec_len into.old ≤ HEADER_BYTES }
     ensures bytes { into.new.items ≡ into.old.items ++ packet_bytes (value_of packet.now) }
     ensures some { array_vec_len into.old < array_vec_len into.new }
-    ensures few { array_vec_len into.new ≤ array_vec_len into.old + 1120 }
+    ensures few { array_vec_len into.new ≤ array_vec_len into.old + PACKET_BYTES }
 {
     match *packet {
         PacketView::Send {
@@ -41,6 +41,36 @@ pub fn encode(packet: &PacketView, into: &mut ArrayVec<u8, FRAME_BYTES>)
         } => put_reply(into, from, to, number, message, dest, bytes),
         PacketView::Pending { from, to, number } => put_exchange(into, 3, from, to, number),
         PacketView::Negative { from, to, number } => put_exchange(into, 4, from, to, number),
+        PacketView::MoveNegative {
+            from,
+            to,
+            number,
+            moving,
+        } => put_move(into, 9, from, to, number, moving),
+        PacketView::AskPid {
+            asker,
+            lookup,
+            logical,
+        } => put_ask_pid(into, asker, lookup, logical),
+        PacketView::TellPid {
+            found,
+            asker,
+            lookup,
+        } => put_tell_pid(into, found, asker, lookup),
+        _ => put_of_bytes(into, packet),
+    }
+}
+
+/// Appends the packet, which is of bytes of a remote move.
+fn put_of_bytes(into: &mut ArrayVec<u8, FRAME_BYTES>, packet: &PacketView)
+    requires lawful { is_lawful (value_of packet.now) ≡ true }
+    requires of_bytes { is_of_bytes (value_of packet.now) ≡ true }
+    requires room { array_vec_len into.old ≤ HEADER_BYTES }
+    ensures bytes { into.new.items ≡ into.old.items ++ packet_bytes (value_of packet.now) }
+    ensures some { array_vec_len into.old < array_vec_len into.new }
+    ensures few { array_vec_len into.new ≤ array_vec_len into.old + PACKET_BYTES }
+{
+    match *packet {
         PacketView::MoveData {
             from,
             to,
@@ -76,22 +106,7 @@ pub fn encode(packet: &PacketView, into: &mut ArrayVec<u8, FRAME_BYTES>)
             offset,
             bytes,
         } => put_move_bytes(into, from, to, number, moving, total, offset, bytes),
-        PacketView::MoveNegative {
-            from,
-            to,
-            number,
-            moving,
-        } => put_move(into, 9, from, to, number, moving),
-        PacketView::AskPid {
-            asker,
-            lookup,
-            logical,
-        } => put_ask_pid(into, asker, lookup, logical),
-        PacketView::TellPid {
-            found,
-            asker,
-            lookup,
-        } => put_tell_pid(into, found, asker, lookup),
+        _ => unreachable!(),
     }
 }
 
@@ -158,7 +173,7 @@ fn put_send(
     requires part { length part.now ≤ SEGMENT_BYTES }
     requires room { array_vec_len into.old ≤ HEADER_BYTES }
     ensures bytes { into.new.items ≡ into.old.items ++ packet_bytes (packets.Send from to number message.now part.now) }
-    ensures few { array_vec_len into.new ≤ array_vec_len into.old + 1120 }
+    ensures few { array_vec_len into.new ≤ array_vec_len into.old + PACKET_BYTES }
 {
     put_exchange(into, 1, from, to, number);
     put(into, &message.0);
@@ -178,7 +193,7 @@ fn put_reply(
     requires part { length bytes.now ≤ SEGMENT_BYTES }
     requires room { array_vec_len into.old ≤ HEADER_BYTES }
     ensures bytes { into.new.items ≡ into.old.items ++ packet_bytes (packets.Reply from to number message.now dest bytes.now) }
-    ensures few { array_vec_len into.new ≤ array_vec_len into.old + 1120 }
+    ensures few { array_vec_len into.new ≤ array_vec_len into.old + PACKET_BYTES }
 {
     put_exchange(into, 2, from, to, number);
     put(into, &message.0);
@@ -202,7 +217,7 @@ fn put_move_data(
     requires part { length bytes.now ≤ DATA_BYTES }
     requires room { array_vec_len into.old ≤ HEADER_BYTES }
     ensures bytes { into.new.items ≡ into.old.items ++ packet_bytes (packets.MoveData from to number moving dest total offset bytes.now) }
-    ensures few { array_vec_len into.new ≤ array_vec_len into.old + 1120 }
+    ensures few { array_vec_len into.new ≤ array_vec_len into.old + PACKET_BYTES }
 {
     put_move(into, 5, from, to, number, moving);
     put(into, &bytes_of_u32(dest));
@@ -222,7 +237,7 @@ fn put_move_ack(
 )
     requires { array_vec_len into.old ≤ HEADER_BYTES }
     ensures bytes { into.new.items ≡ into.old.items ++ packet_bytes (packets.MoveAck from to number moving received) }
-    ensures few { array_vec_len into.new ≤ array_vec_len into.old + 1120 }
+    ensures few { array_vec_len into.new ≤ array_vec_len into.old + PACKET_BYTES }
 {
     put_move(into, 6, from, to, number, moving);
     put(into, &bytes_of_u32(received));
@@ -241,7 +256,7 @@ fn put_move_request(
 )
     requires { array_vec_len into.old ≤ HEADER_BYTES }
     ensures bytes { into.new.items ≡ into.old.items ++ packet_bytes (packets.MoveRequest from to number moving src total offset) }
-    ensures few { array_vec_len into.new ≤ array_vec_len into.old + 1120 }
+    ensures few { array_vec_len into.new ≤ array_vec_len into.old + PACKET_BYTES }
 {
     put_move(into, 7, from, to, number, moving);
     put(into, &bytes_of_u32(src));
@@ -263,7 +278,7 @@ fn put_move_bytes(
     requires part { length bytes.now ≤ DATA_BYTES }
     requires room { array_vec_len into.old ≤ HEADER_BYTES }
     ensures bytes { into.new.items ≡ into.old.items ++ packet_bytes (packets.MoveBytes from to number moving total offset bytes.now) }
-    ensures few { array_vec_len into.new ≤ array_vec_len into.old + 1120 }
+    ensures few { array_vec_len into.new ≤ array_vec_len into.old + PACKET_BYTES }
 {
     put_move(into, 8, from, to, number, moving);
     put(into, &bytes_of_u32(total));
@@ -275,7 +290,7 @@ fn put_move_bytes(
 fn put_ask_pid(into: &mut ArrayVec<u8, FRAME_BYTES>, asker: Pid, lookup: u64, logical: u32)
     requires { array_vec_len into.old ≤ HEADER_BYTES }
     ensures bytes { into.new.items ≡ into.old.items ++ packet_bytes (packets.AskPid asker lookup logical) }
-    ensures few { array_vec_len into.new ≤ array_vec_len into.old + 1120 }
+    ensures few { array_vec_len into.new ≤ array_vec_len into.old + PACKET_BYTES }
 {
     put_kind(into, 10, asker);
     put(into, &bytes_of_u64(lookup));
@@ -286,7 +301,7 @@ fn put_ask_pid(into: &mut ArrayVec<u8, FRAME_BYTES>, asker: Pid, lookup: u64, lo
 fn put_tell_pid(into: &mut ArrayVec<u8, FRAME_BYTES>, found: Pid, asker: Pid, lookup: u64)
     requires { array_vec_len into.old ≤ HEADER_BYTES }
     ensures bytes { into.new.items ≡ into.old.items ++ packet_bytes (packets.TellPid found asker lookup) }
-    ensures few { array_vec_len into.new ≤ array_vec_len into.old + 1120 }
+    ensures few { array_vec_len into.new ≤ array_vec_len into.old + PACKET_BYTES }
 {
     put_kind(into, 11, found);
     put(into, &bytes_of_pid(asker));

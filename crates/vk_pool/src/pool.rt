@@ -3,7 +3,7 @@
 ghost use Rattle.std.specs.Prelude.{◌≡◌, ◌≤◌, ◌<◌, ◌+◌, ◌^◌, length, map, option_copied, slice_set, is_none, position, replicate, IfOk, IfSome, None, Some};
 ghost use Rattle.std.specs.Result.{result_ok};
 ghost use Rattle.vk_base.specs.declared.limits.TheConstants.{DATA_BYTES, POOL};
-ghost use Rattle.vk_pool.specs.Aliens.{admitted, alien_at, alien_of, changed_at, heard, heard_of, is_alien_of, kept, moves_at, new_alien, refused, replied, taken, with_moves};
+ghost use Rattle.vk_pool.specs.Aliens.{admitted, alien_at, alien_from, changed_at, heard, heard_of, is_alien_from, kept, moves_at, new_alien, refused, replied, taken, with_moves};
 
 use crate::alien::{Alien, AlienStage, Arrival};
 use crate::slots::{self, Slot};
@@ -54,7 +54,7 @@ impl AlienPool {
     /// The slot of the sender's alien, `None` where it has none.
     #[tactic(auto, using(crate::proofs::Shown::places))]
     pub fn find(&self, sender: Pid) -> Option<u32>
-        ensures slot { result ≡ position (is_alien_of sender) self.now }
+        ensures slot { result ≡ position (is_alien_from sender) self.now }
         ensures low { IfSome result (λ slot. slot < POOL) }
     {
         let at = slots::place_of(&self.slots, sender)?;
@@ -63,9 +63,9 @@ impl AlienPool {
 
     /// The sender's alien, `None` where it has none.
     pub fn of(&self, sender: Pid) -> Option<&Alien>
-        ensures { option_copied result ≡ alien_of self.now sender }
+        ensures { option_copied result ≡ alien_from self.now sender }
     {
-        slots::alien_of(&self.slots, sender)
+        slots::alien_from(&self.slots, sender)
     }
 
     /// The alien in a slot, `None` where there is none.

@@ -57,7 +57,7 @@ fn slot_of(slots: &[Slot], sender: Pid) -> Option<&Slot>
 }
 
 /// The sender's alien.
-pub fn alien_of(slots: &[Slot], sender: Pid) -> Option<&Alien>
+pub fn alien_from(slots: &[Slot], sender: Pid) -> Option<&Alien>
     ensures { option_copied result ≡ option_map alien_in (find (is_slot_of sender) slots.now) }
 {
     let slot = slot_of(slots, sender)?;

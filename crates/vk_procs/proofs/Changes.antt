@@ -2,7 +2,7 @@
 use Rattle.std.proofs.Common.{◌≡◌, ℕ, zero, suc, ◌+◌, ◌<◌, ◌≤◌, Bool, true, false, cond, not, List, [], ◌∷◌, length, get_or, set, refl, ap, arith, Some, None, sym, ◌∙◌}
 use Rattle.std.specs.List.{position, position_or_len}
 use Rattle.std.proofs.lemmas.List.Quantifiers.{position-Some}
-use Rattle.vk_procs.specs.Changes.{change_first}
+use Rattle.vk_base.specs.Firsts.{change_first}
 
 module _ {X : Type 0} (p : X → Bool) (f : X → X) where
   passes_at : (xs : List X) (i : ℕ) (d : X) → i < length xs → p (get_or xs i d) ≡ true →

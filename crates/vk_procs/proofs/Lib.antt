@@ -1,2 +1,3 @@
 mod Changes
-mod Initial
+pub mod Initial
+mod Passing

@@ -1,17 +1,19 @@
 //! The processes of a station, found by their names.
 
-ghost use Rattle.std.specs.Prelude.{◌≡◌, ◌==◌, ◌<◌, ◌++◌, ◌^◌, true, find, position, length, option_copied, option_map, slice_get, IfOk, IfSome};
+ghost use Rattle.std.specs.Prelude.{◌≡◌, ◌≢◌, false, slice_set, slice_index_or, ◌==◌, ◌<◌, ◌++◌, ◌^◌, true, find, position, length, option_copied, option_map, map, slice_get, IfOk, IfSome};
 ghost use Rattle.vk_base.specs.declared.limits.TheConstants.{STATION_PROCESSES};
 ghost use Rattle.vk_base.specs.declared.pid.Pid.{Pid as ThePid};
 ghost use Rattle.vk_base.specs.Kernel.{initial_kernel};
-ghost use Rattle.vk_procs.specs.Changes.{change_first};
-ghost use Rattle.vk_procs.specs.Seats.{begun_lookup, begun_send, collected, doing_now, finished, initial_seats, is_live_in, is_seat, killed, noting, outcome_of, process_of, reached, receive_of, seat_in, written};
+ghost use Rattle.vk_base.specs.Firsts.{change_first};
+ghost use Rattle.vk_base.specs.Pids.{same_pid};
+ghost use Rattle.vk_procs.specs.declared.seat.Seat.{Seat as TheSeat};
+ghost use Rattle.vk_procs.specs.Kept.{places_in};
+ghost use Rattle.vk_procs.specs.Seats.{bereft, begun_lookup, begun_send, collected, doing_now, finished, got, initial_seats, is_live_in, is_seat, killed, marked_taken, noting, outcome_of, passed, passed_by, process_of, reached, receive_of, seat_in, written};
 
-use crate::doing::{Doing, Outcome, Waiting};
-use crate::seat::{ProcNote, Seat};
+use crate::seat::{Passed, ProcNote, Seat};
 use std::alloc::Global;
 use std::marker::Model;
-use vk_base::{Config, Message, NoMemory, Pid, ProcessSpec, Scope};
+use vk_base::{Activity, Config, Message, NoMemory, Outcome, Pid, ProcessSpec, Scope, Waiting};
 
 /// The processes of a station, at most 32, in order.
 #[derive(Drop)]
@@ -99,7 +101,7 @@ impl Procs {
     /// The process waits in this call, which raises no number.
     #[tactic(auto, using(crate::proofs::Changes::changes))]
     pub fn wait(&mut self, pid: Pid, waiting: Waiting)
-        ensures { self.new ≡ change_first (is_seat pid) (doing_now (Doing.Blocked waiting)) self.old }
+        ensures { self.new ≡ change_first (is_seat pid) (doing_now (Activity.Blocked waiting)) self.old }
     {
         if let Some(at) = place_of(&self.seats, pid) {
             self.seats[at].wait(waiting);
@@ -114,6 +116,23 @@ impl Procs {
         if let Some(at) = place_of(&self.seats, pid) {
             self.seats[at].begin_send(target, message);
         }
+    }
+
+    /// A process of the station has taken the message of the process's last Send.
+    #[tactic(auto, using(crate::proofs::Changes::changes))]
+    pub fn mark_taken(&mut self, pid: Pid)
+        ensures { self.new ≡ change_first (is_seat pid) marked_taken self.old }
+    {
+        if let Some(at) = place_of(&self.seats, pid) {
+            self.seats[at].mark_taken();
+        }
+    }
+
+    /// Each process that waits in a Send to this one ends with NoProcess.
+    pub fn leave(&mut self, target: Pid)
+        ensures { self.new ≡ map (bereft target) self.old }
+    {
+        leave(&mut self.seats, target);
     }
 
     /// The process waits for what its next lookup finds.
@@ -176,6 +195,24 @@ impl Procs {
         }
     }
 
+    /// One process gets this of another, bytes straight out of the one into the other. Nothing changes where both are one.
+    pub fn pass(&mut self, from: Pid, pid: Pid, what: Passed)
+        ensures { self.new ≡ passed from pid what self.old }
+    {
+        if from != pid {
+            self.pass_on(from, pid, what);
+        }
+    }
+
+    fn pass_on(&mut self, from: Pid, pid: Pid, what: Passed)
+        requires { same_pid from pid ≡ false }
+        ensures { self.new ≡ passed_by (seat_in self.old from) pid what self.old }
+    {
+        if let Some((giver, at)) = places_of(&self.seats, from, pid) {
+            give(&mut self.seats, giver, at, what);
+        }
+    }
+
     /// The process has these numbers from now on.
     #[tactic(auto, using(crate::proofs::Changes::changes))]
     pub fn set_note(&mut self, pid: Pid, note: ProcNote)
@@ -207,6 +244,41 @@ fn place_of(seats: &[Seat], pid: Pid) -> Option<usize>
     ensures { result ≡ position (is_seat pid) seats.now }
 {
     seats.iter().position(|s| s.pid == pid)
+}
+
+/// Each that waits in a Send to the target ends with NoProcess.
+fn leave(seats: &mut [Seat], target: Pid)
+    ensures { seats.new ≡ map (bereft target) seats.old }
+{
+    for seat in seats.iter_mut() {
+        seat.leave(target);
+    }
+}
+
+/// The places of two processes.
+fn places_of(seats: &[Seat], from: Pid, pid: Pid) -> Option<(usize, usize)>
+    ensures { result ≡ places_in seats.now from pid }
+{
+    let giver = place_of(seats, from)?;
+    let at = place_of(seats, pid)?;
+    Some((giver, at))
+}
+
+/// The process in the place `at` gets this of the one in the place `giver`.
+fn give(seats: &mut [Seat], giver: usize, at: usize, what: Passed)
+    requires giver { giver < length seats.old }
+    requires at { at < length seats.old }
+    requires apart { giver ≢ at }
+    ensures { (d : TheSeat) → seats.new
+        ≡ slice_set seats.old at (got what (slice_index_or seats.old giver d) (slice_index_or seats.old at d)) }
+{
+    if giver < at {
+        let (low, high) = seats.split_at_mut(at);
+        high[0].get(&low[giver], what);
+    } else {
+        let (low, high) = seats.split_at_mut(giver);
+        low[at].get(&high[0], what);
+    }
 }
 
 /// The processes of the host, each of which is ready and has begun nothing.

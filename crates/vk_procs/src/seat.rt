@@ -2,12 +2,14 @@
 
 ghost use Rattle.std.specs.Prelude.{◌≡◌, ◌<◌, ◌^◌, length, IfOk};
 ghost use Rattle.vk_base.specs.Calls.{first_part};
-ghost use Rattle.vk_procs.specs.Seats.{begun_lookup, begun_send, collected, doing_now, finished, initial_seat, killed, memory_by, noting, outcome_by, overwritten, reached, written};
+ghost use Rattle.vk_procs.specs.Seats.{begun_lookup, begun_send, collected, doing_now, finished, got, initial_seat, is_sent_to, killed, marked_taken, memory_by, noting, outcome_by, overwritten, reached, written, bereft};
 
-use crate::doing::{Doing, Outcome, Waiting};
 use std::alloc::Global;
 use vk_base::limits::SEGMENT_BYTES;
-use vk_base::{Data, Memory, Message, MoveName, NoMemory, Pid, ProcessSpec, Scope};
+use vk_base::{
+    Activity, Data, Memory, Message, MoveName, NoMemory, Outcome, Pid, ProcessSpec, Refusal, Scope,
+    Waiting,
+};
 
 /// The numbers of a process.
 #[derive(Clone, Copy, Debug, PartialEq, Eq)]
@@ -39,10 +41,18 @@ pub struct ProcNote {
 pub struct Seat {
     pub pid: Pid,
     pub alive: bool,
-    pub doing: Doing,
+    pub doing: Activity,
     pub note: ProcNote,
     pub memory: Memory,
     pub part: Data,
+}
+
+/// What one process gets of another: a message with the first part of the last Send of the other, if it waits for one; or
+/// `count` bytes from `src` of the other's memory, written from `dest` on, where they all lie in its own.
+#[derive(Clone, Copy)]
+pub enum Passed {
+    Message { message: Message },
+    Bytes { src: u32, count: u32, dest: u32 },
 }
 
 impl Seat {
@@ -53,7 +63,7 @@ impl Seat {
         Ok(Seat {
             pid: spec.pid,
             alive: true,
-            doing: Doing::Ready,
+            doing: Activity::Ready,
             note: ProcNote {
                 sends: 0,
                 lookups: 0,
@@ -72,15 +82,15 @@ impl Seat {
     }
 
     pub fn wait(&mut self, waiting: Waiting)
-        ensures { self.new ≡ doing_now (Doing.Blocked waiting) self.old }
+        ensures { self.new ≡ doing_now (Activity.Blocked waiting) self.old }
     {
-        self.doing = Doing::Blocked { waiting };
+        self.doing = Activity::Blocked { waiting };
     }
 
     pub fn begin_send(&mut self, target: Pid, message: &Message)
         ensures { self.new ≡ begun_send target message.now self.old }
     {
-        self.doing = Doing::Blocked {
+        self.doing = Activity::Blocked {
             waiting: Waiting::Send {
                 target,
                 message: *message,
@@ -93,10 +103,27 @@ impl Seat {
         take_part(&mut self.part, &self.memory, message);
     }
 
+    pub fn mark_taken(&mut self)
+        ensures { self.new ≡ marked_taken self.old }
+    {
+        self.note.taken = true;
+    }
+
+    /// Ends with NoProcess where it waits in a Send to this target.
+    pub fn leave(&mut self, target: Pid)
+        ensures { self.new ≡ bereft target self.old }
+    {
+        if is_sent_to(&self.doing, target) {
+            self.finish(Outcome::Refused {
+                why: Refusal::NoProcess,
+            });
+        }
+    }
+
     pub fn begin_lookup(&mut self, logical: u32, scope: Scope)
         ensures { self.new ≡ begun_lookup logical scope self.old }
     {
-        self.doing = Doing::Blocked {
+        self.doing = Activity::Blocked {
             waiting: Waiting::GetPid { logical, scope },
         };
         self.note.lookups = self.note.lookups.saturating_add(1);
@@ -109,7 +136,7 @@ impl Seat {
         match self.doing.receiving() {
             Some(waiting) => {
                 write_part(&mut self.memory, waiting, part);
-                self.doing = Doing::Done {
+                self.doing = Activity::Done {
                     waiting,
                     outcome: outcome_by(waiting, from, *message, part),
                 };
@@ -136,6 +163,19 @@ impl Seat {
         write_in(&mut self.memory, at, bytes);
     }
 
+    pub fn get(&mut self, giver: &Seat, what: Passed)
+        ensures { self.new ≡ got what giver.now self.old }
+    {
+        match what {
+            Passed::Message { message } => {
+                self.reach(giver.pid, &message, giver.part.as_slice());
+            }
+            Passed::Bytes { src, count, dest } => {
+                self.write(dest, giver.memory.bytes(src, count));
+            }
+        }
+    }
+
     pub fn set_note(&mut self, note: ProcNote)
         ensures { self.new ≡ noting note self.old }
     {
@@ -146,6 +186,15 @@ impl Seat {
         ensures { self.new ≡ killed self.old }
     {
         self.alive = false;
+    }
+}
+
+fn is_sent_to(doing: &Activity, target: Pid) -> bool
+    ensures { result ≡ is_sent_to target doing.now }
+{
+    match doing.sending() {
+        Some((to, _)) => to == target,
+        None => false,
     }
 }
 

@@ -1,8 +1,8 @@
 //! A process sends, another receives what reaches it, and both collect.
 
-use super::{Outcome, Procs, Waiting};
+use super::Procs;
 use std::test::Fail;
-use vk_base::{Config, Message, Pid, ProcessSpec, Times};
+use vk_base::{Config, Message, Outcome, Pid, ProcessSpec, Times, Waiting};
 
 const SERVER: Pid = Pid { host: 1, local: 1 };
 

@@ -1,3 +1,4 @@
+pub mod Cleared
 mod Homes
 mod Keeping
 mod Once

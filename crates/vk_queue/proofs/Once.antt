@@ -14,7 +14,8 @@ abbrev same : ℕ → ℕ → Bool
 same a b = a == b
 
 -- one list is changed
-pub once_set : (lists : List (List ℕ)) (list : ℕ) (queue : List ℕ) → list < length lists → AreOnce lists → IsDistinct same queue → AreOnce (set lists list queue)
+pub once_set : (lists : List (List ℕ)) (list : ℕ) (queue : List ℕ) → list < length lists → AreOnce lists → IsDistinct same queue →
+    AreOnce (set lists list queue)
 once_set lists list queue low once apart l =
     subst (IsDistinct same) (sym (get_or-put lists list l queue [] (l == list) low refl))
     (cond_both (l == list) queue (queue_at lists l) (IsDistinct same) (λ t. apart) (λ f. once l))
@@ -27,19 +28,22 @@ once_drop slot rest apart = IsDistinct-tail same slot rest apart
 
 all_filter : (P : ℕ → Type 0) (test : ℕ → Bool) (xs : List ℕ) → AllByRecursion P xs → AllByRecursion P (filter test xs)
 all_filter P test [] all = tt
-all_filter P test (x ∷ xs) all = cond_both (test x) (x ∷ filter test xs) (filter test xs) (AllByRecursion P) (λ t. (all.0, all_filter P test xs all.1)) (λ f. all_filter P test xs all.1)
+all_filter P test (x ∷ xs) all = cond_both (test x) (x ∷ filter test xs) (filter test xs) (AllByRecursion P)
+    (λ t. (all.0, all_filter P test xs all.1)) (λ f. all_filter P test xs all.1)
 
 pub once_filter : (test : ℕ → Bool) (xs : List ℕ) → IsDistinct same xs → IsDistinct same (filter test xs)
 unfolding IsDistinct
 once_filter test [] apart = tt
-once_filter test (x ∷ xs) apart = cond_both (test x) (x ∷ filter test xs) (filter test xs) (IsDistinct same) (λ t. (all_filter (λ y. same x y ≡ false) test xs apart.0, once_filter test xs apart.1)) (λ f. once_filter test xs apart.1)
+once_filter test (x ∷ xs) apart = cond_both (test x) (x ∷ filter test xs) (filter test xs) (IsDistinct same)
+    (λ t. (all_filter (λ y. same x y ≡ false) test xs apart.0, once_filter test xs apart.1)) (λ f. once_filter test xs apart.1)
 
 -- what is held where the first is taken
 none_of : (slot : ℕ) (queue : List ℕ) → AllByRecursion (λ y. same slot y ≡ false) queue → holds slot queue ≡ false
 none_of slot [] apart = refl
 none_of slot (x ∷ xs) apart = or_from (slot == x) (holds slot xs) apart.0 (none_of slot xs apart.1)
 
-drop_by : (slot s : ℕ) (rest : List ℕ) (t : Bool) → IsDistinct same (slot ∷ rest) → (s == slot) ≡ t → holds s rest ≡ (not t && (t || holds s rest))
+drop_by : (slot s : ℕ) (rest : List ℕ) (t : Bool) → IsDistinct same (slot ∷ rest) → (s == slot) ≡ t →
+    holds s rest ≡ (not t && (t || holds s rest))
 drop_by slot s rest true apart is = ap (λ n. holds n rest) (eqb-true s slot is) ∙ none_of slot rest (IsDistinct-head same slot rest apart)
 drop_by slot s rest false apart is = refl
 
@@ -53,7 +57,8 @@ holds-without slot s queue =
     (λ k is. ap not (nat_eq_equiv.symm slot k ∙ ap (λ n. n == slot) (sym (eqb-true s k is)))) queue
 
 -- there is room for one more: each slot is below their number, and stands once
-below_more : (slot s slots : ℕ) (queue : List ℕ) (t : Bool) → (holds s queue ≡ true → s < slots) → slot < slots → (s == slot) ≡ t → (holds s queue || t) ≡ true → s < slots
+below_more : (slot s slots : ℕ) (queue : List ℕ) (t : Bool) → (holds s queue ≡ true → s < slots) → slot < slots → (s == slot) ≡ t →
+    (holds s queue || t) ≡ true → s < slots
 below_more slot s slots queue true low fits is h = subst (λ n. n < slots) (sym (eqb-true s slot is)) fits
 below_more slot s slots queue false low fits is h = low (sym (or_false (holds s queue)) ∙ h)
   where
@@ -61,7 +66,8 @@ below_more slot s slots queue false low fits is h = low (sym (or_false (holds s 
     or_false true = refl
     or_false false = refl
 
-pub room_for_one : (slot slots : ℕ) (queue : List ℕ) → IsDistinct same queue → ((s : ℕ) → holds s queue ≡ true → s < slots) → slot < slots → holds slot queue ≡ false → length queue < slots
+pub room_for_one : (slot slots : ℕ) (queue : List ℕ) → IsDistinct same queue → ((s : ℕ) → holds s queue ≡ true → s < slots) → slot < slots →
+    holds slot queue ≡ false → length queue < slots
 room_for_one slot slots queue apart low fits free =
     let most = length-le_from_distinct_below (queue ++ slot ∷ []) slots (once_push slot queue apart free)
     (λ s h. below_more slot s slots queue (s == slot) (low s) fits refl (sym (holds-push slot s queue) ∙ h)) in

@@ -1,7 +1,7 @@
 //! The lists of all processes of a station.
 
 ghost use Rattle.std.specs.Prelude.{◌≡◌, ◌==◌, ◌<◌, ◌++◌, ◌∷◌, [], length, drop, replicate, slice_get, ℕ, None, Some, IsSome, IfOk, IfSome, IfNone, unwrap_or, if◌then◌else◌};
-ghost use Rattle.vk_queue.specs.Lists.{IsApart, list_with, queue_at, with_list, without};
+ghost use Rattle.vk_queue.specs.Lists.{IsApart, cleared, list_with, queue_at, requeued, with_list, without};
 
 use crate::line::Line;
 use crate::no_memory::NoMemory;
@@ -81,6 +81,28 @@ impl Queues {
             self.lines[list as usize].remove(slot);
             self.homes[slot as usize] = None;
         }
+    }
+
+    /// Takes a slot out of the list that it is in, if it is in one.
+    pub fn clear(&mut self, slot: u32)
+        ensures out { self.new ≡ cleared self.old slot }
+        ensures free { list_with slot self.new.lists ≡ None }
+    {
+        match self.list_of(slot) {
+            Some(_) => self.unlink(slot),
+            None => {}
+        }
+    }
+
+    /// Puts a slot at the end of a list, and takes it out of the list that it was in.
+    #[tactic(auto, unfolding(crate::specs::Lists::requeued))]
+    pub fn requeue(&mut self, list: u32, slot: u32)
+        requires list { list < length self.old.lists }
+        requires slot { slot < self.old.slots }
+        ensures { self.new ≡ requeued self.old list slot }
+    {
+        self.clear(slot);
+        self.push_back(list, slot);
     }
 
     /// The list that a slot is in, `None` where it is in none.

@@ -1,17 +1,17 @@
 -- What a packet that comes amounts to, by what the station's entries say.
-use Rattle.std.specs.Prelude.{ℕ, ◌+◌, ◌%◌, Bool, true, ◌==◌, ◌&&◌, not, nat_le, nat_lt, List, [], ◌∷◌, ◌++◌, length, map, find, Option, Some, is_some, is_none, option_map, if◌then◌else◌}
+use Rattle.std.specs.Prelude.{ℕ, ◌+◌, ◌%◌, Bool, true, ◌==◌, ◌&&◌, not, nat_le, nat_lt, List, [], ◌∷◌, ◌++◌, length, map, Option, Some, is_some, is_none, if◌then◌else◌}
 use Rattle.std.specs.Option.{option_map_or}
 use Rattle.vk_base.specs.declared.limits.TheConstants.{DATA_BYTES}
 use Rattle.vk_base.specs.declared.answer.Ending.TheVariants as endings
 use Rattle.vk_base.specs.declared.kernel.Exchange.{Exchange}
 use Rattle.vk_base.specs.declared.kernel.Name.{Name}
 use Rattle.vk_base.specs.declared.kernel.Process.{Process}
-use Rattle.vk_base.specs.declared.kernel.Registration.{Registration}
 use Rattle.vk_base.specs.declared.message.Message.{Message}
 use Rattle.vk_base.specs.declared.pid.Pid.{Pid}
 use Rattle.vk_base.specs.declared.step.Step.{Step}
 use Rattle.vk_base.specs.declared.step.Step.TheVariants as steps
-use Rattle.vk_base.specs.Kernel.{◌>>=◌, Kernel, name_of, holds_of, is_live, is_asking, sending, is_found_there}
+use Rattle.vk_base.specs.Kernel.{◌>>=◌, Kernel, name_of, holds_of, is_live, is_asking, sending}
+pub use Rattle.vk_base.specs.Kernel.{found_there}
 use Rattle.vk_base.specs.Messages.{grants_read, grants_write, segment_of}
 use Rattle.vk_base.specs.Packets.{Packet, Send, Reply, Pending, Negative, MoveData, MoveAck, MoveRequest, MoveBytes, MoveNegative, AskPid, TellPid}
 use Rattle.vk_base.specs.Ranges.{range_of, lies_within}
@@ -21,7 +21,7 @@ use Rattle.vk_rules.specs.CallOutcomes.{take_where}
 use Rattle.vk_rules.specs.Readings.{Reading}
 use Rattle.vk_rules.specs.Rounds.{Outcome, nothing, only_steps, only_packets, list_if, step_where, offsets, piece, round, told_sender}
 use Rattle.vk_rules.specs.View.{after_steps}
-use Rattle.vk_rules.specs.Works.{Work, awaits, move_count, moves_to, moves_from, received_of, is_last, shows_gap}
+use Rattle.vk_rules.specs.Works.{Work, awaits, move_count, moves_to, moves_from, is_last, shows_gap}
 
 -- Sends, by the alien of their sender: a later one; that Send itself; else whether the target is alive, and whether there is a
 -- slot. A message that arrives is taken at once where its target is blocked in a receive.
@@ -137,18 +137,11 @@ ack_outcome k w to received p =
 -- the last round
 abbrev pub bytes_outcome : Kernel → Work → Pid → Name → ℕ → ℕ → ℕ → List ℕ → Outcome
 bytes_outcome k w to name moving total offset bytes =
-    if offset == received_of k name moving then
+    if offset == w.received then
     only_steps (copies_bytes name moving offset bytes ∷ list_if (is_last total offset bytes) (steps.End to endings.Ok ∷ []))
-    else only_packets (list_if (shows_gap (received_of k name moving) total offset bytes && w.fresh) (round k w to))
+    else only_packets (list_if (shows_gap w.received total offset bytes && w.fresh) (round k w to))
 
 -- Lookups.
-
--- the process that a station tells others under a logical id
-abbrev pub tells : ℕ → Registration → Bool
-tells logical r = r.logical == logical && is_found_there r.scope
-
-abbrev pub found_there : List Registration → ℕ → Option Pid
-found_there names logical = option_map (λ (r : Registration). r.pid) (find (tells logical) names)
 
 abbrev pub told_asker : Pid → ℕ → Pid → Outcome
 told_asker asker lookup pid =

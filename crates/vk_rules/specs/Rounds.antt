@@ -19,7 +19,7 @@ use Rattle.vk_base.specs.Packets.{Packet, Send, Reply, Pending, Negative, MoveDa
 use Rattle.vk_base.specs.Pids.{same_host}
 use Rattle.vk_base.specs.Ranges.{range_of, bytes_in}
 use Rattle.vk_packet.specs.Rules.{piece_len}
-use Rattle.vk_rules.specs.Works.{Work, received_of}
+use Rattle.vk_rules.specs.Works.{Work}
 
 pub record Outcome : Type 0 where
   pub steps : List Step
@@ -55,9 +55,8 @@ data_packet pid partner memory dest src count m offset =
 abbrev pub data_packets : (pid partner : Pid) (memory : List ℕ) (dest src count from : ℕ) → MoveName → List Packet
 data_packets pid partner memory dest src count from m = map (data_packet pid partner memory dest src count m) (offsets from count)
 
-abbrev pub request_packet : Kernel → (pid partner : Pid) (src count : ℕ) → MoveName → Packet
-request_packet k pid partner src count m =
-    MoveRequest pid partner m.exchange.number m.number src count (received_of k m.exchange m.number)
+abbrev pub request_packet : (pid partner : Pid) (src count received : ℕ) → MoveName → Packet
+request_packet pid partner src count received m = MoveRequest pid partner m.exchange.number m.number src count received
 
 abbrev pub send_packets : Kernel → Pid → Process → Pid → Message → List Packet
 send_packets k pid p target m =
@@ -70,7 +69,7 @@ round_of_call k w pid p (calls.Send target m) = list_if (not (same_host pid targ
 round_of_call k w pid p (calls.MoveTo partner dest src count) =
     option_map_or (data_packets pid partner p.memory dest src count w.acknowledged) p.moving []
 round_of_call k w pid p (calls.MoveFrom partner dest src count) =
-    option_map_or (λ (m : MoveName). request_packet k pid partner src count m ∷ []) p.moving []
+    option_map_or (λ (m : MoveName). request_packet pid partner src count w.received m ∷ []) p.moving []
 round_of_call k w pid p (calls.GetPid logical scope) = AskPid pid p.lookups logical ∷ []
 round_of_call k w pid p c = []
 

@@ -11,7 +11,6 @@ use Rattle.vk_base.specs.declared.kernel.Process.{Process}
 use Rattle.vk_base.specs.declared.pid.Pid.{Pid}
 use Rattle.vk_base.specs.declared.step.Step.{Step}
 use Rattle.vk_base.specs.declared.step.Step.TheVariants as steps
-use Rattle.vk_base.specs.Counts.{bytes_copied}
 use Rattle.vk_base.specs.Kernel.{Kernel, name_of, holds_of, blocked_in}
 use Rattle.vk_base.specs.Packets.{Packet, Send, Pending, MoveData, MoveAck, MoveRequest, MoveBytes, AskPid}
 use Rattle.vk_base.specs.Pids.{same_pid, same_host}
@@ -50,11 +49,12 @@ pub record Work : Type 0 where
   pub rounds : ℕ
   -- of a move to a partner: the bytes that the partner has acknowledged, from which the move was started anew last
   pub acknowledged : ℕ
-  -- of a move from a partner: whether bytes were received since the last round
+  -- of a move from a partner: the bytes that were received, and whether some of them since the last round
+  pub received : ℕ
   pub fresh : Bool
 
 abbrev pub no_work : Work
-no_work = record { since = 0; rounds = 0; acknowledged = 0; fresh = false }
+no_work = record { since = 0; rounds = 0; acknowledged = 0; received = 0; fresh = false }
 
 -- the bytes that an entry copies out of a packet to this process
 abbrev pub count_in : Step → ℕ
@@ -109,28 +109,23 @@ shows_gap received total offset bytes = nat_lt received offset && is_last total 
 
 -- bytes answer a request that are the next ones and not the last; or the last behind a gap, where none was copied since the
 -- last round
-abbrev pub is_progress : Work → ℕ → ℕ → ℕ → List ℕ → Bool
-is_progress w received total offset bytes =
-    (offset == received && not (is_last total offset bytes)) || (shows_gap received total offset bytes && not w.fresh)
-
--- the bytes of a move from a partner that were received
-abbrev pub received_of : Kernel → Name → ℕ → ℕ
-received_of k name moving = bytes_copied moving (k.exchanges name)
+abbrev pub is_progress : Work → ℕ → ℕ → List ℕ → Bool
+is_progress w total offset bytes =
+    (offset == w.received && not (is_last total offset bytes)) || (shows_gap w.received total offset bytes && not w.fresh)
 
 -- A packet answers the work of p: the Send is pending; the partner has as many bytes as before; or bytes come that answer the
 -- request.
-abbrev pub is_answer : Kernel → Pid → Work → Packet → Process → Bool
-is_answer k pid w (Pending from to number) p = same_pid to pid && awaits pid p from number
-is_answer k pid w (MoveAck from to number moving received) p =
+abbrev pub is_answer : Pid → Work → Packet → Process → Bool
+is_answer pid w (Pending from to number) p = same_pid to pid && awaits pid p from number
+is_answer pid w (MoveAck from to number moving received) p =
     same_pid to pid && moves_to p (name_of from number) moving && received == w.acknowledged
-is_answer k pid w (MoveBytes from to number moving total offset bytes) p =
-    same_pid to pid && moves_from p (name_of from number) moving total
-    && is_progress w (received_of k (name_of from number) moving) total offset bytes
-is_answer k pid w packet p = false
+is_answer pid w (MoveBytes from to number moving total offset bytes) p =
+    same_pid to pid && moves_from p (name_of from number) moving total && is_progress w total offset bytes
+is_answer pid w packet p = false
 
 -- The work of a process after an entry, where it was w in this kernel before.
 abbrev pub answers : Kernel → Pid → Entry → Work → Bool
-answers k pid e w = holds_of (λ packet. holds_of (is_answer k pid w packet) (k.procs pid)) (taken_packet e)
+answers k pid e w = holds_of (λ packet. holds_of (is_answer pid w packet) (k.procs pid)) (taken_packet e)
 
 abbrev pub is_base : Kernel → Pid → Entry → Work → Bool
 is_base k pid e w = begins pid e || answers k pid e w || restarts pid e
@@ -147,6 +142,7 @@ work_after k pid e w = record {
       if begins pid e then 0
       else if restarts pid e then acknowledged_by (taken_packet e)
       else w.acknowledged;
+  received = if begins pid e then 0 else w.received + copied_in pid e;
   fresh = not (has_round pid e) && (nat_lt 0 (copied_in pid e) || w.fresh);
 }
 

@@ -1,3 +1,4 @@
+pub mod AskedForInPieces
 pub mod CopiesOfOneSend
 pub mod ExitRefuses
 pub mod FindingAName

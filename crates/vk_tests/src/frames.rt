@@ -1,31 +1,26 @@
 //! Frames as bytes: vectors that open as their headers and are sealed again, and the bounds of a header and of a life.
 
+use crate::packets::PACKETS;
+use crate::rows::{bytes_of, row};
+use std::alloc::Global;
 use std::test::Fail;
 use vk_base::FrameBytes;
 use vk_frame::{Header, is_young, seal, unseal};
 
-/// The frame of a first Send, from 2.1 to 1.1, with the message `0a`.
-const SEND: [u8; 81] = [
-    0x56, 0x4b, 0x00, 0x02, 0x00, 0x01, 0, 0, 0, 0, 0, 0, 0, 0, 0, 0, 0, 0, 0, 0, 0, 1, 0, 0, 0, 0,
-    0, 0, 0, 1, 0x00, 0x01, // the packet
-    0x01, 0, 2, 0, 1, 0, 1, 0, 1, 0, 0, 0, 0, 0, 0, 0, 1, 0x0a, 0, 0, 0, 0, 0, 0, 0, 0, 0, 0, 0, 0,
-    0, 0, 0, 0, 0, 0, 0, 0, 0, 0, 0, 0, 0, 0, 0, 0, 0, 0, 0,
-];
+/// Headers of packets of these names, one a line, field by field.
+const HEADERS: &str =
+    "the Send of the first vector: 564b 0002 0001 0000000000000000 0000000000000001 0000000000000001 0001
+the Pending of the second vector: 564b 0001 0002 0000000000000000 0000000000000003 0000000000000002 0001
+the third vector: 564b 0001 0002 0000000000000000 0000000000000007 0000000000000006 0001
+";
 
-/// The frame of a Pending, the answer to that Send when it comes again.
-const PENDING: [u8; 49] = [
-    0x56, 0x4b, 0x00, 0x01, 0x00, 0x02, 0, 0, 0, 0, 0, 0, 0, 0, 0, 0, 0, 0, 0, 0, 0, 3, 0, 0, 0, 0,
-    0, 0, 0, 2, 0x00, 0x01, // the packet
-    0x03, 0, 1, 0, 1, 0, 2, 0, 1, 0, 0, 0, 0, 0, 0, 0, 1,
-];
-
-/// The frame of the Reply to that Send, with the message `0b` and no bytes.
-const REPLY: [u8; 87] = [
-    0x56, 0x4b, 0x00, 0x01, 0x00, 0x02, 0, 0, 0, 0, 0, 0, 0, 0, 0, 0, 0, 0, 0, 0, 0, 7, 0, 0, 0, 0,
-    0, 0, 0, 6, 0x00, 0x01, // the packet
-    0x02, 0, 1, 0, 1, 0, 2, 0, 1, 0, 0, 0, 0, 0, 0, 0, 1, 0x0b, 0, 0, 0, 0, 0, 0, 0, 0, 0, 0, 0, 0,
-    0, 0, 0, 0, 0, 0, 0, 0, 0, 0, 0, 0, 0, 0, 0, 0, 0, 0, 0, 0, 0, 0, 0, 0, 0,
-];
+/// The frame of the header and the packet of that name.
+fn frame_of(alloc: Global, name: &str) -> Result<Vec<u8>, Fail> {
+    let mut frame = bytes_of(alloc, row(HEADERS, name)?)?;
+    let packet = bytes_of(alloc, row(PACKETS, name)?)?;
+    frame.extend_from_slice(&packet)?;
+    Ok(frame)
+}
 
 const HEADER: Header = Header {
     source: 2,
@@ -59,7 +54,9 @@ fn is_frame_of(frame: &[u8], header: &Header) -> bool {
 
 #[test]
 fn vectors(rt: HostRuntime) -> Result<(), Fail> {
-    assert!(rt; is_frame_of(&SEND, &HEADER));
+    let alloc = rt.alloc();
+    let send = frame_of(alloc, "the Send of the first vector")?;
+    assert!(rt; is_frame_of(&send, &HEADER));
     let pending = Header {
         source: 1,
         destination: 2,
@@ -67,22 +64,26 @@ fn vectors(rt: HostRuntime) -> Result<(), Fail> {
         event: 2,
         ..HEADER
     };
-    assert!(rt; is_frame_of(&PENDING, &pending));
+    let frame = frame_of(alloc, "the Pending of the second vector")?;
+    assert!(rt; is_frame_of(&frame, &pending));
     let reply = Header {
         number: 7,
         event: 6,
         ..pending
     };
-    assert!(rt; is_frame_of(&REPLY, &reply));
+    let frame = frame_of(alloc, "the third vector")?;
+    assert!(rt; is_frame_of(&frame, &reply));
     Ok(())
 }
 
 #[test]
 fn bounds(rt: HostRuntime) -> Result<(), Fail> {
-    assert!(rt; unseal(&SEND[..32]).is_none());
-    let (header, packet) = unseal(&SEND[..33]).ok_or("a header and one byte")?;
+    let frame = frame_of(rt.alloc(), "the Send of the first vector")?;
+    assert!(rt; unseal(frame.get(..32).ok_or("a header")?).is_none());
+    let front = frame.get(..33).ok_or("a header and one byte")?;
+    let (header, packet) = unseal(front).ok_or("a packet of one byte")?;
     assert!(rt; header == HEADER);
-    assert!(rt; packet == [1u8].as_slice());
+    assert!(rt; packet == b"\x01".as_slice());
     assert!(rt; is_young(&header, 8, 8));
     assert!(rt; !is_young(&header, 9, 8));
     Ok(())

@@ -11,4 +11,6 @@ mod limits;
 #[cfg(test)]
 mod packets;
 #[cfg(test)]
+mod rows;
+#[cfg(test)]
 mod running;

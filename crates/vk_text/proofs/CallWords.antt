@@ -1,6 +1,5 @@
 -- Calls have one spelling each.
-use Rattle.std.proofs.Common.{◌≡◌, ℕ, ◌<◌, cond, List, [], ◌∷◌, ◌++◌, length, decimal, codes, bytes_eq, true, Option, Some, refl, arith, ap, sym, ◌∙◌}
-use Rattle.std.proofs.lemmas.Option.{cond_some}
+use Rattle.std.proofs.Common.{◌≡◌, ℕ, ◌<◌, cond, List, [], ◌∷◌, ◌++◌, length, decimal, codes, bytes_eq, Option, Some, refl, arith, ap, sym, ◌∙◌}
 use Rattle.vk_base.specs.declared.call.Call.{Call}
 use Rattle.vk_base.specs.declared.call.Call.TheVariants as calls
 use Rattle.vk_base.specs.declared.pid.Pid.{Pid}
@@ -15,6 +14,7 @@ use Rattle.vk_text.proofs.Firsts.{first_spelled, ended_is}
 use Rattle.vk_text.proofs.Fronts.{spaced_joined}
 use Rattle.vk_text.proofs.Messages.{message_spelled, message_read}
 use Rattle.vk_text.proofs.PlainWords.{call_plain, no_spaces}
+use Rattle.vk_text.proofs.Ranges.{same_call}
 use Rattle.vk_text.proofs.ReadBack.{joined_words, line_joined}
 use Rattle.vk_text.proofs.Spelled.{either_word, count_spelled, count_read, pid_spelled, pid_read, scope_spelled, scope_read}
 
@@ -82,9 +82,6 @@ store_spelled ws call h =
     let end = ended_is bytes.1 (calls.Store start.0 bytes.0) call bytes.3 in
     ap (λ l. codes "store" ∷ l) (start.2 ∙ ap (λ l. decimal start.0 ∷ l) (bytes.2 ∙ ap (λ l. bytes_text bytes.0 ∷ l) end.0))
     ∙ ap call_words end.1
-
-same_call : (a b : Call) → Some a ≡ Some b → a ≡ b
-same_call a b h = (cond_some true a b h).1
 
 reply_segment_spelled : (ws : List (List ℕ)) (call : Call) → reply_segment_of ws ≡ Some call → codes "replysegment" ∷ ws ≡ call_words call
 unfolding reply_segment_of call_words

@@ -12,6 +12,7 @@ use Rattle.vk_base.specs.declared.pid.Pid.{Pid}
 use Rattle.std.specs.Str.Parse.{digits_value}
 use Rattle.vk_text.proofs.Numerals.{front_least}
 use Rattle.vk_text.specs.Words.{number_of, pid_of}
+use Rattle.vk_text.proofs.Spelled.{no_digit}
 
 -- a word with another byte than a digit is no number
 other_byte_in : (most : ℕ) (w : List ℕ) (k : ℕ) → k < length w → is_ascii_digit (get_or w k 0) ≡ false → number_of most w ≡ None
@@ -57,8 +58,8 @@ unfolding number_of
 number_is w v all starts value most = rw (all, sym starts, sym value, le-leb v 65535 most) refl
 
 -- a word with more than its first digits is no number
-pub more_than_digits : (most : ℕ) (w : List ℕ) → prefix_len is_ascii_digit w < length w → number_of most w ≡ None
-more_than_digits most w more = other_byte_in most w (prefix_len is_ascii_digit w) more (prefix_len_stops is_ascii_digit w 0 more)
+pub beyond_digits : (most : ℕ) (w : List ℕ) → prefix_len is_ascii_digit w < length w → number_of most w ≡ None
+beyond_digits most w more = other_byte_in most w (prefix_len is_ascii_digit w) more (prefix_len_stops is_ascii_digit w 0 more)
 
 -- and one of digits alone is what they are
 pub digits_alone : (most : ℕ) (w : List ℕ) → length w ≤ prefix_len is_ascii_digit w
@@ -68,15 +69,12 @@ digits_alone most w all = ap (number_of most) (take_all (prefix_len is_ascii_dig
 -- no number has first digits that are none
 pub bad_digits : (most : ℕ) (w : List ℕ) → number_of most (take (prefix_len is_ascii_digit w) w) ≡ None → number_of most w ≡ None
 bad_digits most w none = elim (cases_lt (prefix_len is_ascii_digit w) (length w)) [
-  | inl more ↦ more_than_digits most w more
+  | inl more ↦ beyond_digits most w more
   | inr all ↦ sym (digits_alone most w all) ∙ none
 ]
 
 point_is_none : (c : ℕ) → (c == 46) ≡ true → is_ascii_digit c ≡ false
 point_is_none c h = grind arith
-
-digit_is_none : (c : ℕ) → is_ascii_digit c ≡ true → (c == 46) ≡ false
-digit_is_none c h = grind arith
 
 -- a word's first point stands behind its first digits, or no number stands before it
 point_place : (w : List ℕ) (q : ℕ) → position (λ c. c == 46) w ≡ Some q
@@ -132,7 +130,7 @@ unfolding pid_of
 pid_at_point w within here =
     let place : position_or_len (λ c. c == 46) w ≡ prefix_len is_ascii_digit w = position_or_len_is (λ c. c == 46) w
     (prefix_len is_ascii_digit w) 0 (omega arith)
-    (λ k less. digit_is_none (get_or w k 0) (prefix_len_passes is_ascii_digit w k 0 less)) (λ _. here) in
+    (λ k less. no_digit (get_or w k 0) (prefix_len_passes is_ascii_digit w k 0 less)) (λ _. here) in
     let found : position (λ c. c == 46) w ≡ Some (prefix_len is_ascii_digit w) =
     cond-true _ _ _ (lt-ltb (position_or_len (λ c. c == 46) w) (length w) (omega (arith, place))) ∙ ap Some place in
     ap (λ (o : Option ℕ). o >>= behind_point w) found

@@ -114,7 +114,7 @@ places_fit ws p h =
     let count = first_holds count_of IsCount count_fits _ p src.1 src.3 in
     subst ArePlaces (ended_is count.1 (dest.0, src.0, count.0) p count.3).1 (dest.2, src.2, count.2)
 
-same_call : (a b : Call) → Some a ≡ Some b → a ≡ b
+pub same_call : (a b : Call) → Some a ≡ Some b → a ≡ b
 same_call a b h = (cond_some true a b h).1
 
 send_fits : (ws : List (List ℕ)) (call : Call) → send_of ws ≡ Some call → IsReadable call

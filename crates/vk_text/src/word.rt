@@ -99,7 +99,7 @@ fn first_short(bytes: &[u8]) -> Option<(u16, usize)>
 }
 
 /// The number of 16 bits that the word spells.
-#[tactic(auto, using(crate::proofs::PidWords::more_than_digits, crate::proofs::PidWords::digits_alone, crate::proofs::PidWords::bad_digits))]
+#[tactic(auto, using(crate::proofs::PidWords::beyond_digits, crate::proofs::PidWords::digits_alone, crate::proofs::PidWords::bad_digits))]
 fn short(word: &[u8]) -> Option<u16>
     ensures { result ≡ number_of 65535 word.now }
 {

@@ -251,13 +251,9 @@ fn write_words(alloc: Global, into: &mut Vec<u8>, call: &Call) -> Result<(), NoM
             ref message,
         } => write_send(alloc, into, target, message),
         Call::Receive => put(into, b"receive"),
-        Call::ReceiveSegment { start, count } => write_range(
-            alloc,
-            into,
-            b"receivesegment",
-            start,
-            count,
-        ),
+        Call::ReceiveSegment { start, count } => {
+            write_range(alloc, into, b"receivesegment", start, count)
+        }
         Call::Reply { ref message, to } => write_reply(alloc, into, b"reply", message, to),
         Call::ReplySegment {
             ref message,

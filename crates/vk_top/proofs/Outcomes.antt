@@ -245,7 +245,10 @@ pub front_is : (words : List Text) (a : Asked) (told old new : Option (List ℕ)
 front_is words a told old new is given = record {
   input = given.input;
   all = given.all;
-  holds = record { count = given.holds.0; written = subst (λ (o : Option Asked). Appends old new (take given.holds.0 (output_of o given.input))) is given.holds.1 };
+  holds = record {
+    count = given.holds.0;
+    written = subst (λ (o : Option Asked). Appends old new (take given.holds.0 (output_of o given.input))) is given.holds.1;
+  };
 }
 
 pub nothing_written : (words : List Text) (told old : Option (List ℕ)) → OfInput told (λ i. IsFront words i old old)

@@ -95,7 +95,9 @@ no_unbuilt s t None None h = (cc, refl)
 
 pub is_playable : (text : List ℕ) (s : Schedule) → playable_of text ≡ Ok s → IsPlayable s
 is_playable text s h =
-    let same = no_unbuilt (front_of text).schedule s (or_else (unbuilt_line (front_of text).schedule) (unbuilt_beyond (front_of text).schedule (front_of text).beyond)) (front_of text).refused h in
+    let same = no_unbuilt (front_of text).schedule s
+    (or_else (unbuilt_line (front_of text).schedule) (unbuilt_beyond (front_of text).schedule (front_of text).beyond))
+    (front_of text).refused h in
     subst IsPlayable same.0 (record { lawful = front_is_lawful text; built = (neither _ _ same.1).0 })
 
 -- with a process behind the title, no line before the third is refused
@@ -140,10 +142,11 @@ unbuilt_behind : (s : Schedule) (o : Option Event) (n : ℕ) → 0 < length s.co
     → or_else (unbuilt_line s) (unbuilt_beyond s o) ≡ Some n → 2 < n
 unbuilt_behind s o n some h =
     elim (either (unbuilt_line s) (unbuilt_beyond s o) n h) [
-      | inl line ↦ elim (either (option_map (λ i. i + 2) (unbuilt_process s.config.specs)) (option_map (λ i. length s.config.specs + i + 2) (unbuilt_event s.events)) n line) [
-        | inl process ↦ process_behind s.config.specs n some process
-        | inr event ↦ event_behind s n some event
-      ]
+      | inl line ↦ elim (either (option_map (λ i. i + 2) (unbuilt_process s.config.specs))
+          (option_map (λ i. length s.config.specs + i + 2) (unbuilt_event s.events)) n line) [
+            | inl process ↦ process_behind s.config.specs n some process
+            | inr event ↦ event_behind s n some event
+          ]
       | inr beyond ↦ beyond_behind s o n some beyond
     ]
 

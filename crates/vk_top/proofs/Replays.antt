@@ -36,24 +36,29 @@ counts_more : (n k : ℕ) (h : Happened) (hs : List Happened) → frame_count h 
 unfolding counts
 counts_more n k h hs quiet =
     let events : n + 1 + length hs ≡ n + length (h ∷ hs) = omega arith in
-    let steps : k + length (steps_in h) + length (all_steps hs) ≡ k + length (steps_in h ++ all_steps hs) = omega (arith, length-append (steps_in h) (all_steps hs)) in
+    let steps : k + length (steps_in h) + length (all_steps hs) ≡ k + length (steps_in h ++ all_steps hs) =
+    omega (arith, length-append (steps_in h) (all_steps hs)) in
     let frames : sum_by frame_count hs ≡ sum_by frame_count (h ∷ hs) = omega (arith, quiet, sum_by-cons frame_count h hs) in
     (λ i. counts (events i) (steps i) (frames i))
 
 lines_more : (form : Form) (n k : ℕ) (h : Happened) (hs : List Happened) → frame_count h ≡ 0 →
     told_lines form (told_of (n + 1) h) ++ lines_behind form (n + 1) (k + length (steps_in h)) hs ≡ lines_behind form n k (h ∷ hs)
 lines_more form n k h hs quiet =
-    ap (λ c. told_lines form (told_of (n + 1) h) ++ (flat_map (told_lines form) (told_from (n + 1) hs) ++ end_lines form c)) (counts_more n k h hs quiet)
-    ∙ sym (append_assoc (told_lines form (told_of (n + 1) h)) (flat_map (told_lines form) (told_from (n + 1) hs)) (end_lines form (counts_behind n k (h ∷ hs))))
+    ap (λ c. told_lines form (told_of (n + 1) h) ++ (flat_map (told_lines form) (told_from (n + 1) hs) ++ end_lines form c))
+    (counts_more n k h hs quiet)
+    ∙ sym (append_assoc (told_lines form (told_of (n + 1) h)) (flat_map (told_lines form) (told_from (n + 1) hs))
+    (end_lines form (counts_behind n k (h ∷ hs))))
 
 -- the station has had so many events of logs from which what is written of the events that are left makes this text whole
-pub record IsReplayedTo (c : Settings) (form : Form) (host number steps : ℕ) (station : Tables) (text : List ℕ) (left : List Event) (whole : List ℕ) : Type 0 where
+pub record IsReplayedTo (c : Settings) (form : Form) (host number steps : ℕ) (station : Tables) (text : List ℕ) (left : List Event)
+    (whole : List ℕ) : Type 0 where
   pub logs : Logs
   pub had : HasHad station c logs host number
   pub text_is : text ++ lines_behind form number steps (history c logs left) ≡ whole
 
 -- one event more
-pub IsReplayedTo-more : (c : Settings) (form : Form) (host number steps n : ℕ) (old new : Tables) (text longer whole : List ℕ) (events : List Event) (i : ℕ) (e : Event)
+pub IsReplayedTo-more : (c : Settings) (form : Form) (host number steps n : ℕ) (old new : Tables) (text longer whole : List ℕ)
+    (events : List Event) (i : ℕ) (e : Event)
     → i < length events → e ≡ get_or events i e
     → IsPlayed form host number old new text longer e n
     → IsReplayedTo c form host number steps old text (drop i events) whole

@@ -32,7 +32,8 @@ use Rattle.vk_top.specs.Playing.{HasHad, end_line, lines_behind, station_event, 
 use Rattle.vk_top.specs.Report.{history_of_schedule}
 
 -- what follows at each element
-pub list_all-weaker : {X : Type 0} (p q : X → Bool) → ((x : X) → p x ≡ true → q x ≡ true) → (xs : List X) → list_all p xs ≡ true → list_all q xs ≡ true
+pub list_all-weaker : {X : Type 0} (p q : X → Bool) → ((x : X) → p x ≡ true → q x ≡ true) → (xs : List X) → list_all p xs ≡ true →
+    list_all q xs ≡ true
 list_all-weaker p q weaker [] h = refl
 list_all-weaker p q weaker (x ∷ xs) h = and_from _ _ (weaker x (and_parts _ _ h).0) (list_all-weaker p q weaker xs (and_parts _ _ h).1)
 
@@ -98,14 +99,16 @@ first_host : (specs : List ProcessSpec) (s : ProcessSpec) → Some s ≡ slice_g
 first_host [] s h = absurd (cc)
 first_host (t ∷ ts) s h = let same : s ≡ t = cc in ap (λ (x : ProcessSpec). x.pid.host) (sym same)
 
-pub station_of-first : (seen specs : List ProcessSpec) (s : ProcessSpec) → seen ≡ specs → Some s ≡ slice_get seen 0 → station_of specs ≡ s.pid.host
+pub station_of-first : (seen specs : List ProcessSpec) (s : ProcessSpec) → seen ≡ specs → Some s ≡ slice_get seen 0 →
+    station_of specs ≡ s.pid.host
 station_of-first seen specs s same h = first_host specs s (h ∙ ap (λ xs. slice_get xs 0) same)
 
 first_station : (specs : List ProcessSpec) (s : ProcessSpec) → Some s ≡ slice_get specs 0 → has_station specs s.pid.host ≡ true
 first_station [] s h = absurd (cc)
 first_station (t ∷ ts) s h = let same : s ≡ t = cc in rw same (rw (same_number t.pid.host) refl)
 
-pub has_station-first : (seen specs : List ProcessSpec) (s : ProcessSpec) → seen ≡ specs → Some s ≡ slice_get seen 0 → has_station specs s.pid.host ≡ true
+pub has_station-first : (seen specs : List ProcessSpec) (s : ProcessSpec) → seen ≡ specs → Some s ≡ slice_get seen 0 →
+    has_station specs s.pid.host ≡ true
 has_station-first seen specs s same h = first_station specs s (h ∙ ap (λ xs. slice_get xs 0) same)
 
 -- where there is no process, there is no event
@@ -134,24 +137,29 @@ lines-no_process form seen s same h lawful =
     end_alone form s.config.specs s.events (no_process s.config.specs (h ∙ ap (λ xs. slice_get xs 0) same)) lawful.events s.config
 
 -- a process is on the station of all processes
-on_station : (host : ℕ) (pid : Pid) (specs : List ProcessSpec) → list_all (λ (t : ProcessSpec). t.pid.host == host) specs ≡ true → has_process specs pid ≡ true → (pid.host == host) ≡ true
+on_station : (host : ℕ) (pid : Pid) (specs : List ProcessSpec) → list_all (λ (t : ProcessSpec). t.pid.host == host) specs ≡ true →
+    has_process specs pid ≡ true → (pid.host == host) ≡ true
 on_station host pid [] all has = absurd (cc)
 on_station host pid (s ∷ ss) all has =
     let rest = on_station host pid ss (and_parts _ _ all).1 in
-    either_way (is_process pid s) (has_process ss pid) (pid.host == host) (λ h. same_through s.pid.host pid.host host (and_parts _ _ h).0 (and_parts _ _ all).0) rest has
+    either_way (is_process pid s) (has_process ss pid) (pid.host == host)
+    (λ h. same_through s.pid.host pid.host host (and_parts _ _ h).0 (and_parts _ _ all).0) rest has
 
-is_at-first : (specs : List ProcessSpec) (t : Tables) (host : ℕ) (pid : Pid) → list_all (λ (s : ProcessSpec). s.pid.host == host) specs ≡ true
+is_at-first : (specs : List ProcessSpec) (t : Tables) (host : ℕ) (pid : Pid) →
+    list_all (λ (s : ProcessSpec). s.pid.host == host) specs ≡ true
     → is_at t pid ≡ (pid.host == host && has_process specs pid) → has_process specs pid ≡ true → is_at t pid ≡ true
 is_at-first specs t host pid one is has = is ∙ and_from _ _ (on_station host pid specs one has) has
 
 own_event : (specs : List ProcessSpec) (t : Tables) (host : ℕ) → list_all (λ (s : ProcessSpec). s.pid.host == host) specs ≡ true
-    → ((pid : Pid) → is_at t pid ≡ (pid.host == host && has_process specs pid)) → (e : Event) → is_playable_event specs e ≡ true → is_own t (station_event e) ≡ true
+    → ((pid : Pid) → is_at t pid ≡ (pid.host == host && has_process specs pid)) → (e : Event) → is_playable_event specs e ≡ true →
+    is_own t (station_event e) ≡ true
 own_event specs t host one is (scheduled.Call pid c) h = is_at-first specs t host pid one (is pid) (and_parts _ _ h).0
 own_event specs t host one is (scheduled.Collect pid) h = is_at-first specs t host pid one (is pid) (and_parts _ _ h).0
 own_event specs t host one is (scheduled.Tick other) h = refl
 own_event specs t host one is (scheduled.Deliver to from event output) h = refl
 
-one_host : (specs : List ProcessSpec) → is_one_station specs ≡ true → list_all (λ (t : ProcessSpec). t.pid.host == station_of specs) specs ≡ true
+one_host : (specs : List ProcessSpec) → is_one_station specs ≡ true →
+    list_all (λ (t : ProcessSpec). t.pid.host == station_of specs) specs ≡ true
 one_host [] one = refl
 one_host (s ∷ ss) one = and_from _ _ (same_number s.pid.host) one
 

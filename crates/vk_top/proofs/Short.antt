@@ -27,7 +27,8 @@ word_at-24 m h = zeros _ _ _ _ (short_at m 0 h) (short_at m 1 h) (short_at m 2 h
 pub word_at-28 : (m : Message) → is_short m ≡ true → word_at m 28 ≡ 0
 word_at-28 m h = zeros _ _ _ _ (short_at m 4 h) (short_at m 5 h) (short_at m 6 h) (short_at m 7 h)
 
-either : (b : Bool) (start len : ℕ) → start ≡ 0 → len ≡ 0 → (let r : Range = cond b (record { start = start; len = len }) (record { start = 0; len = 0 }) in r) ≡ record { start = 0; len = 0 }
+either : (b : Bool) (start len : ℕ) → start ≡ 0 → len ≡ 0 →
+    (let r : Range = cond b (record { start = start; len = len }) (record { start = 0; len = 0 }) in r) ≡ record { start = 0; len = 0 }
 either true start len e f = rw (e, f) refl
 either false start len e f = refl
 

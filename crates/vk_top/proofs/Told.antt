@@ -12,6 +12,7 @@ use Rattle.v_trace.specs.Traces.{trace_of}
 use Rattle.v_trace.specs.declared.trace.Trace.{Trace}
 use Rattle.v_trace.specs.declared.trace.TraceRefusal.{TraceRefusal}
 use Rattle.v_trace.specs.declared.trace.TraceRefusal.TheVariants as traces
+use Rattle.v_trace.proofs.TraceLines.{bad_behind}
 use Rattle.vk_top.proofs.Playable.{front_is_whole, is_playable, plain, refused_behind}
 use Rattle.vk_top.proofs.Schedules.{schedule_is_run}
 use Rattle.vk_top.proofs.Verdicts.{verdict_holds}
@@ -33,7 +34,14 @@ use Rattle.vk_top.specs.declared.words.Asked.TheVariants as asked
 replayed : (form : Form) (text : List ℕ) (old new : Option (List ℕ)) (r : Result Schedule TextRefusal) → length text ≤ 16777216
     → playable_of text ≡ r → replay_status r ≡ status.Done → Appends old new (replay_output form r) → IsReplayed form text old new
 replayed form text old new (Ok s) small is done written =
-    record { small = small; schedule = s; text = front_is_whole text s is; playable = is; output = written; run = schedule_is_run s (is_playable text s is).lawful }
+    record {
+      small = small;
+      schedule = s;
+      text = front_is_whole text s is;
+      playable = is;
+      output = written;
+      run = schedule_is_run s (is_playable text s is).lawful;
+    }
 replayed form text old new (Err (schedules.BadInput line)) small is done written = absurd (grind (arith, done))
 replayed form text old new (Err schedules.Limit) small is done written = absurd (grind (arith, done))
 replayed form text old new (Err schedules.NoMemory) small is done written = absurd (grind (arith, done))
@@ -182,11 +190,24 @@ refused_is a text old status.WriteFault small why = absurd why
 
 -- an answer at which all is written is that of the work
 told_kinds : (s : Status) → IsTold s
-    → ¬ (s ≡ status.Usage) × ¬ (s ≡ status.ReadFault) × ¬ (s ≡ status.WriteFault) × ¬ (s ≡ status.Limit) × ((line : ℕ) → ¬ (s ≡ status.BadInput line)) × ¬ (s ≡ status.NoMemory)
-told_kinds status.Done told =
-    (λ is. grind (arith, is), λ is. grind (arith, is), λ is. grind (arith, is), λ is. grind (arith, is), λ line is. grind (arith, is), λ is. grind (arith, is))
-told_kinds (status.NotARun step) told =
-    (λ is. grind (arith, is), λ is. grind (arith, is), λ is. grind (arith, is), λ is. grind (arith, is), λ line is. grind (arith, is), λ is. grind (arith, is))
+    → ¬ (s ≡ status.Usage) × ¬ (s ≡ status.ReadFault) × ¬ (s ≡ status.WriteFault) × ¬ (s ≡ status.Limit)
+    × ((line : ℕ) → ¬ (s ≡ status.BadInput line)) × ¬ (s ≡ status.NoMemory)
+told_kinds status.Done told = (
+  λ is. grind (arith, is),
+  λ is. grind (arith, is),
+  λ is. grind (arith, is),
+  λ is. grind (arith, is),
+  λ line is. grind (arith, is),
+  λ is. grind (arith, is),
+)
+told_kinds (status.NotARun step) told = (
+  λ is. grind (arith, is),
+  λ is. grind (arith, is),
+  λ is. grind (arith, is),
+  λ is. grind (arith, is),
+  λ line is. grind (arith, is),
+  λ is. grind (arith, is),
+)
 told_kinds status.Usage told = absurd told
 told_kinds (status.BadInput line) told = absurd told
 told_kinds status.ReadFault told = absurd told
@@ -229,10 +250,15 @@ pub written_is : (a : Asked) (text : List ℕ) (w : Work) (old new : Option (Lis
     → IsWritten w.text.items w.status old new s
     → (n : ℕ) × Appends old new (take n w.text.items) → IsAnswered a text old new s
 written_is a text w old new s small work (inl (same, written)) (n, some) =
-    all_written a text old new s small (same ∙ work.status) (subst IsTold (sym same) work.told) (subst (Appends old new) work.output written) (n, subst (λ t. Appends old new (take n t)) (work.output ∙ small_output a text small) some)
+    all_written a text old new s small (same ∙ work.status) (subst IsTold (sym same) work.told)
+    (subst (Appends old new) work.output written) (
+      n,
+      subst (λ t. Appends old new (take n t)) (work.output ∙ small_output a text small) some,
+    )
 written_is a text w old new s small work (inr failed) (n, some) =
     subst (IsAnswered a text old new) (sym failed)
-    (failed_is a text old new (subst IsTold (work.status ∙ small_status a text small) work.told) (n, subst (λ t. Appends old new (take n t)) (work.output ∙ small_output a text small) some))
+    (failed_is a text old new (subst IsTold (work.status ∙ small_status a text small) work.told)
+    (n, subst (λ t. Appends old new (take n t)) (work.output ∙ small_output a text small) some))
 
 -- where memory is wanted for a text, no line before the third is refused
 
@@ -248,7 +274,7 @@ played_wanted form text s h line bad =
 
 pub check_wanted : (text : List ℕ) (e : TraceRefusal) → e ≡ traces.NoMemory
     → ((e ≡ traces.NoMemory) × trace_lines.KeepsLines text) ⊎ (trace_of text ≡ Err e) → KeepsLines asked.Check text
-check_wanted text e is (inl h) line bad = h.1 line (check_bad (trace_of text) line bad)
+check_wanted text e is (inl h) line bad = bad_behind text line h.1 (check_bad (trace_of text) line bad)
 check_wanted text e is (inr h) line bad = let none : trace_of text ≡ Err (traces.BadInput line) = check_bad (trace_of text) line bad in cc
 
 pub checked_wanted : (text : List ℕ) (t : Trace) → trace_of text ≡ Ok t → KeepsLines asked.Check text

@@ -19,25 +19,33 @@ use Rattle.vk_top.specs.declared.check.TraceVerdict.TheVariants as verdicts
 abbrev judged : Kernel → ℕ → ℕ → Step → List Step → Effect → TraceVerdict
 judged k n noted s ss e = cond (nat_lt most (noted + notes k s)) verdicts.TooMuch (verdict_from e.after (n + 1) (noted + notes k s) ss)
 
-verdict_by : (k : Kernel) (n noted : ℕ) (s : Step) (ss : List Step) → verdict_from k n noted (s ∷ ss) ≡ option_map_or (judged k n noted s ss) (effect k s) (verdicts.Refused (n + 1))
+verdict_by : (k : Kernel) (n noted : ℕ) (s : Step) (ss : List Step) →
+    verdict_from k n noted (s ∷ ss) ≡ option_map_or (judged k n noted s ss) (effect k s) (verdicts.Refused (n + 1))
 unfolding verdict_from
 verdict_by k n noted s ss = refl
 
-pub verdict-refused : (k : Kernel) (n noted : ℕ) (s : Step) (ss : List Step) → effect k s ≡ None → verdict_from k n noted (s ∷ ss) ≡ verdicts.Refused (n + 1)
-verdict-refused k n noted s ss none = verdict_by k n noted s ss ∙ ap (λ o. option_map_or (judged k n noted s ss) o (verdicts.Refused (n + 1))) none
+pub verdict-refused : (k : Kernel) (n noted : ℕ) (s : Step) (ss : List Step) → effect k s ≡ None →
+    verdict_from k n noted (s ∷ ss) ≡ verdicts.Refused (n + 1)
+verdict-refused k n noted s ss none = verdict_by k n noted s ss
+    ∙ ap (λ o. option_map_or (judged k n noted s ss) o (verdicts.Refused (n + 1))) none
 
-verdict-allowed : (k : Kernel) (n noted : ℕ) (s : Step) (ss : List Step) (e : Effect) → effect k s ≡ Some e → verdict_from k n noted (s ∷ ss) ≡ judged k n noted s ss e
-verdict-allowed k n noted s ss e is = verdict_by k n noted s ss ∙ ap (λ o. option_map_or (judged k n noted s ss) o (verdicts.Refused (n + 1))) is
+verdict-allowed : (k : Kernel) (n noted : ℕ) (s : Step) (ss : List Step) (e : Effect) → effect k s ≡ Some e →
+    verdict_from k n noted (s ∷ ss) ≡ judged k n noted s ss e
+verdict-allowed k n noted s ss e is = verdict_by k n noted s ss
+    ∙ ap (λ o. option_map_or (judged k n noted s ss) o (verdicts.Refused (n + 1))) is
 
 pub verdict-more : (k : Kernel) (n noted : ℕ) (s : Step) (ss : List Step) (e : Effect) → effect k s ≡ Some e → noted + notes k s ≤ most
     → verdict_from k n noted (s ∷ ss) ≡ verdict_from e.after (n + 1) (noted + notes k s) ss
 verdict-more k n noted s ss e is few = verdict-allowed k n noted s ss e is ∙ cond-false _ _ _ (le-ltb most (noted + notes k s) few)
 
-too_much_by : (k : Kernel) (n noted : ℕ) (s : Step) (ss : List Step) (o : Option Effect) → effect k s ≡ o → IsSome o → most < noted + notes k s → verdict_from k n noted (s ∷ ss) ≡ verdicts.TooMuch
+too_much_by : (k : Kernel) (n noted : ℕ) (s : Step) (ss : List Step) (o : Option Effect) → effect k s ≡ o → IsSome o →
+    most < noted + notes k s → verdict_from k n noted (s ∷ ss) ≡ verdicts.TooMuch
 too_much_by k n noted s ss None is some many = absurd (grind (arith, some))
-too_much_by k n noted s ss (Some e) is some many = verdict-allowed k n noted s ss e is ∙ cond-true _ _ _ (lt-ltb most (noted + notes k s) many)
+too_much_by k n noted s ss (Some e) is some many = verdict-allowed k n noted s ss e is
+    ∙ cond-true _ _ _ (lt-ltb most (noted + notes k s) many)
 
-pub verdict-too_much : (k : Kernel) (n noted : ℕ) (s : Step) (ss : List Step) → IsSome (effect k s) → most < noted + notes k s → verdict_from k n noted (s ∷ ss) ≡ verdicts.TooMuch
+pub verdict-too_much : (k : Kernel) (n noted : ℕ) (s : Step) (ss : List Step) → IsSome (effect k s) → most < noted + notes k s →
+    verdict_from k n noted (s ∷ ss) ≡ verdicts.TooMuch
 verdict-too_much k n noted s ss some many = too_much_by k n noted s ss (effect k s) refl some many
 
 pub verdict-end : (k : Kernel) (n noted : ℕ) (ss : List Step) → ss ≡ [] → verdict_from k n noted ss ≡ verdicts.Run n
@@ -45,14 +53,17 @@ unfolding verdict_from
 verdict-end k n noted ss none = ap (verdict_from k n noted) none
 
 -- the steps that are left, by their first
-pub verdict-at : (k : Kernel) (n noted : ℕ) (steps : List Step) (i : ℕ) (s : Step) → i < length steps → s ≡ get_or steps i s → verdict_from k n noted (drop i steps) ≡ verdict_from k n noted (s ∷ drop (i + 1) steps)
-verdict-at k n noted steps i s within is = ap (verdict_from k n noted) (drop_more steps i s within ∙ ap (λ x. x ∷ drop (i + 1) steps) (sym is))
+pub verdict-at : (k : Kernel) (n noted : ℕ) (steps : List Step) (i : ℕ) (s : Step) → i < length steps → s ≡ get_or steps i s →
+    verdict_from k n noted (drop i steps) ≡ verdict_from k n noted (s ∷ drop (i + 1) steps)
+verdict-at k n noted steps i s within is =
+    ap (verdict_from k n noted) (drop_more steps i s within ∙ ap (λ x. x ∷ drop (i + 1) steps) (sym is))
 
 -- runs and what they note, by their first step
 
 run-none : (k : Kernel) (s : Step) (ss : List Step) → effect k s ≡ None → run k (s ∷ ss) ≡ None
 unfolding run
-run-none k s ss none = ap (λ o. o >>= λ (e : Effect). run e.after ss >>= λ r. Some (record { after = r.after; seen = option_to_list e.seen ++ r.seen })) none
+run-none k s ss none =
+    ap (λ o. o >>= λ (e : Effect). run e.after ss >>= λ r. Some (record { after = r.after; seen = option_to_list e.seen ++ r.seen })) none
 
 abbrev with_first : Effect → Run → Option Run
 with_first e r = Some (record { after = r.after; seen = option_to_list e.seen ++ r.seen })
@@ -65,7 +76,8 @@ kept : (e : Effect) (o : Option Run) → is_some (o >>= with_first e) ≡ is_som
 kept e None = refl
 kept e (Some r) = refl
 
-run-is_some : (k : Kernel) (s : Step) (ss : List Step) (e : Effect) → effect k s ≡ Some e → IsSome (run e.after ss) → IsSome (run k (s ∷ ss))
+run-is_some : (k : Kernel) (s : Step) (ss : List Step) (e : Effect) → effect k s ≡ Some e → IsSome (run e.after ss) →
+    IsSome (run k (s ∷ ss))
 run-is_some k s ss e is some = ap is_some (run-some k s ss e is) ∙ kept e (run e.after ss) ∙ some
 
 run-is_none : (k : Kernel) (s : Step) (ss : List Step) (e : Effect) → effect k s ≡ Some e → run e.after ss ≡ None → run k (s ∷ ss) ≡ None
@@ -85,7 +97,8 @@ run-nothing : (k : Kernel) → IsSome (run k [])
 unfolding run
 run-nothing k = refl
 
-noted-more : (k : Kernel) (s : Step) (ss : List Step) (e : Effect) → effect k s ≡ Some e → noted_from k (s ∷ ss) ≡ notes k s + noted_from e.after ss
+noted-more : (k : Kernel) (s : Step) (ss : List Step) (e : Effect) → effect k s ≡ Some e →
+    noted_from k (s ∷ ss) ≡ notes k s + noted_from e.after ss
 noted-more k s ss e is = ap (λ o. option_map_or (λ (f : Effect). notes k s + noted_from f.after ss) o 0) is
 
 -- what a verdict on steps says, behind n others that noted so many bytes
@@ -95,13 +108,22 @@ Says k n noted ss (verdicts.Refused m) =
     (i : ℕ) × (m ≡ n + i + 1) × IsSome (run k (take i ss)) × (noted + noted_from k (take i ss) ≤ most) × (run k (take (suc i) ss) ≡ None)
 Says k n noted ss verdicts.TooMuch = (i : ℕ) × IsSome (run k (take i ss)) × (most < noted + noted_from k (take i ss))
 
-more : (k : Kernel) (n noted : ℕ) (s : Step) (ss : List Step) (e : Effect) (v : TraceVerdict) → effect k s ≡ Some e → Says e.after (n + 1) (noted + notes k s) ss v → Says k n noted (s ∷ ss) v
-more k n noted s ss e (verdicts.Run m) is (some, counted, few) = (run-is_some k s ss e is some, omega (arith, counted), omega (arith, few, noted-more k s ss e is))
-more k n noted s ss e (verdicts.Refused m) is (i, counted, some, few, none) =
-    (suc i, omega (arith, counted), run-is_some k s (take i ss) e is some, omega (arith, few, noted-more k s (take i ss) e is), run-is_none k s (take (suc i) ss) e is none)
-more k n noted s ss e verdicts.TooMuch is (i, some, many) = (suc i, run-is_some k s (take i ss) e is some, omega (arith, many, noted-more k s (take i ss) e is))
+more : (k : Kernel) (n noted : ℕ) (s : Step) (ss : List Step) (e : Effect) (v : TraceVerdict) → effect k s ≡ Some e →
+    Says e.after (n + 1) (noted + notes k s) ss v → Says k n noted (s ∷ ss) v
+more k n noted s ss e (verdicts.Run m) is (some, counted, few) =
+    (run-is_some k s ss e is some, omega (arith, counted), omega (arith, few, noted-more k s ss e is))
+more k n noted s ss e (verdicts.Refused m) is (i, counted, some, few, none) = (
+  suc i,
+  omega (arith, counted),
+  run-is_some k s (take i ss) e is some,
+  omega (arith, few, noted-more k s (take i ss) e is),
+  run-is_none k s (take (suc i) ss) e is none,
+)
+more k n noted s ss e verdicts.TooMuch is (i, some, many) =
+    (suc i, run-is_some k s (take i ss) e is some, omega (arith, many, noted-more k s (take i ss) e is))
 
-by_room : (k : Kernel) (n noted : ℕ) (s : Step) (ss : List Step) (e : Effect) (b : Bool) → effect k s ≡ Some e → nat_lt most (noted + notes k s) ≡ b
+by_room : (k : Kernel) (n noted : ℕ) (s : Step) (ss : List Step) (e : Effect) (b : Bool) → effect k s ≡ Some e →
+    nat_lt most (noted + notes k s) ≡ b
     → (noted + notes k s ≤ most → Says e.after (n + 1) (noted + notes k s) ss (verdict_from e.after (n + 1) (noted + notes k s) ss))
     → Says k n noted (s ∷ ss) (cond b verdicts.TooMuch (verdict_from e.after (n + 1) (noted + notes k s) ss))
 by_room k n noted s ss e true is room rest =
@@ -109,7 +131,8 @@ by_room k n noted s ss e true is room rest =
 by_room k n noted s ss e false is room rest = more k n noted s ss e _ is (rest (omega (arith, ltb-false most (noted + notes k s) room)))
 
 by_effect : (k : Kernel) (n noted : ℕ) (s : Step) (ss : List Step) (o : Option Effect) → effect k s ≡ o → noted ≤ most
-    → ((e : Effect) → noted + notes k s ≤ most → Says e.after (n + 1) (noted + notes k s) ss (verdict_from e.after (n + 1) (noted + notes k s) ss))
+    → ((e : Effect) → noted + notes k s ≤ most →
+    Says e.after (n + 1) (noted + notes k s) ss (verdict_from e.after (n + 1) (noted + notes k s) ss))
     → Says k n noted (s ∷ ss) (option_map_or (judged k n noted s ss) o (verdicts.Refused (n + 1)))
 by_effect k n noted s ss None is few rest = (0, omega arith, run-nothing k, omega (arith, few), run-none k s [] is)
 by_effect k n noted s ss (Some e) is few rest = by_room k n noted s ss e _ is refl (rest e)
@@ -145,44 +168,63 @@ both_ways : (o : Option Run) → IsSome o → o ≡ None → ⊥
 both_ways None some none = absurd (grind (arith, some))
 both_ways (Some r) some none = absurd (grind (arith, none))
 
-less : (k : Kernel) (n noted : ℕ) (s : Step) (ss : List Step) (e : Effect) (v : TraceVerdict) → effect k s ≡ Some e → noted + notes k s ≤ most → Says k n noted (s ∷ ss) v → Says e.after (n + 1) (noted + notes k s) ss v
-less k n noted s ss e (verdicts.Run m) is room (some, counted, few) = (run-later k s ss e is some, omega (arith, counted), omega (arith, few, noted-more k s ss e is))
-less k n noted s ss e (verdicts.Refused m) is room (zero, counted, some, few, none) = absurd (both_ways _ (run-is_some k s [] e is (run-nothing e.after)) none)
-less k n noted s ss e (verdicts.Refused m) is room (suc i, counted, some, few, none) =
-    (i, omega (arith, counted), run-later k s (take i ss) e is some, omega (arith, few, noted-more k s (take i ss) e is), run-none_later k s (take (suc i) ss) e is none)
+less : (k : Kernel) (n noted : ℕ) (s : Step) (ss : List Step) (e : Effect) (v : TraceVerdict) → effect k s ≡ Some e →
+    noted + notes k s ≤ most → Says k n noted (s ∷ ss) v → Says e.after (n + 1) (noted + notes k s) ss v
+less k n noted s ss e (verdicts.Run m) is room (some, counted, few) =
+    (run-later k s ss e is some, omega (arith, counted), omega (arith, few, noted-more k s ss e is))
+less k n noted s ss e (verdicts.Refused m) is room (zero, counted, some, few, none) =
+    absurd (both_ways _ (run-is_some k s [] e is (run-nothing e.after)) none)
+less k n noted s ss e (verdicts.Refused m) is room (suc i, counted, some, few, none) = (
+  i,
+  omega (arith, counted),
+  run-later k s (take i ss) e is some,
+  omega (arith, few, noted-more k s (take i ss) e is),
+  run-none_later k s (take (suc i) ss) e is none,
+)
 less k n noted s ss e verdicts.TooMuch is room (zero, some, many) = absurd (omega (arith, many, room))
-less k n noted s ss e verdicts.TooMuch is room (suc i, some, many) = (i, run-later k s (take i ss) e is some, omega (arith, many, noted-more k s (take i ss) e is))
+less k n noted s ss e verdicts.TooMuch is room (suc i, some, many) =
+    (i, run-later k s (take i ss) e is some, omega (arith, many, noted-more k s (take i ss) e is))
 
 -- once too much is noted, no other verdict holds
-over : (k : Kernel) (n noted : ℕ) (s : Step) (ss : List Step) (e : Effect) (v : TraceVerdict) → effect k s ≡ Some e → noted ≤ most → most < noted + notes k s → Says k n noted (s ∷ ss) v → verdicts.TooMuch ≡ v
+over : (k : Kernel) (n noted : ℕ) (s : Step) (ss : List Step) (e : Effect) (v : TraceVerdict) → effect k s ≡ Some e → noted ≤ most →
+    most < noted + notes k s → Says k n noted (s ∷ ss) v → verdicts.TooMuch ≡ v
 over k n noted s ss e (verdicts.Run m) is small room (some, counted, few) = absurd (omega (arith, few, room, noted-more k s ss e is))
-over k n noted s ss e (verdicts.Refused m) is small room (zero, counted, some, few, none) = absurd (both_ways _ (run-is_some k s [] e is (run-nothing e.after)) none)
-over k n noted s ss e (verdicts.Refused m) is small room (suc i, counted, some, few, none) = absurd (omega (arith, few, room, noted-more k s (take i ss) e is))
+over k n noted s ss e (verdicts.Refused m) is small room (zero, counted, some, few, none) =
+    absurd (both_ways _ (run-is_some k s [] e is (run-nothing e.after)) none)
+over k n noted s ss e (verdicts.Refused m) is small room (suc i, counted, some, few, none) =
+    absurd (omega (arith, few, room, noted-more k s (take i ss) e is))
 over k n noted s ss e verdicts.TooMuch is small room said = refl
 
 -- a step that is not allowed is the first
-stops : (k : Kernel) (n noted : ℕ) (s : Step) (ss : List Step) (v : TraceVerdict) → effect k s ≡ None → noted ≤ most → Says k n noted (s ∷ ss) v → verdicts.Refused (n + 1) ≡ v
+stops : (k : Kernel) (n noted : ℕ) (s : Step) (ss : List Step) (v : TraceVerdict) → effect k s ≡ None → noted ≤ most →
+    Says k n noted (s ∷ ss) v → verdicts.Refused (n + 1) ≡ v
 stops k n noted s ss (verdicts.Run m) none small (some, counted, few) = absurd (both_ways _ some (run-none k s ss none))
 stops k n noted s ss (verdicts.Refused m) none small (zero, counted, some, few, refused) = ap verdicts.Refused (omega (arith, counted))
-stops k n noted s ss (verdicts.Refused m) none small (suc i, counted, some, few, refused) = absurd (both_ways _ some (run-none k s (take i ss) none))
+stops k n noted s ss (verdicts.Refused m) none small (suc i, counted, some, few, refused) =
+    absurd (both_ways _ some (run-none k s (take i ss) none))
 stops k n noted s ss verdicts.TooMuch none small (zero, some, many) = absurd (omega (arith, many, small))
 stops k n noted s ss verdicts.TooMuch none small (suc i, some, many) = absurd (both_ways _ some (run-none k s (take i ss) none))
 
 ends : (k : Kernel) (n noted : ℕ) (v : TraceVerdict) → noted ≤ most → Says k n noted [] v → verdicts.Run n ≡ v
 ends k n noted (verdicts.Run m) small (some, counted, few) = ap verdicts.Run (omega (arith, counted))
 ends k n noted (verdicts.Refused m) small (i, counted, some, few, none) = absurd (both_ways _ (run-nothing k) none)
-ends k n noted verdicts.TooMuch small (i, some, many) = absurd (omega (arith, small, subst (λ ss. most < noted + noted_from k ss) (nothing_left i) many))
+ends k n noted verdicts.TooMuch small (i, some, many) =
+    absurd (omega (arith, small, subst (λ ss. most < noted + noted_from k ss) (nothing_left i) many))
 
-only_by_room : (k : Kernel) (n noted : ℕ) (s : Step) (ss : List Step) (e : Effect) (v : TraceVerdict) (b : Bool) → effect k s ≡ Some e → nat_lt most (noted + notes k s) ≡ b → noted ≤ most
+only_by_room : (k : Kernel) (n noted : ℕ) (s : Step) (ss : List Step) (e : Effect) (v : TraceVerdict) (b : Bool) → effect k s ≡ Some e →
+    nat_lt most (noted + notes k s) ≡ b → noted ≤ most
     → (noted + notes k s ≤ most → Says e.after (n + 1) (noted + notes k s) ss v → verdict_from e.after (n + 1) (noted + notes k s) ss ≡ v)
     → Says k n noted (s ∷ ss) v → cond b verdicts.TooMuch (verdict_from e.after (n + 1) (noted + notes k s) ss) ≡ v
-only_by_room k n noted s ss e v true is room small rest said = over k n noted s ss e v is small (ltb-true most (noted + notes k s) room) said
+only_by_room k n noted s ss e v true is room small rest said =
+    over k n noted s ss e v is small (ltb-true most (noted + notes k s) room) said
 only_by_room k n noted s ss e v false is room small rest said =
     let few : noted + notes k s ≤ most = omega (arith, ltb-false most (noted + notes k s) room) in
     rest few (less k n noted s ss e v is few said)
 
-only_by_effect : (k : Kernel) (n noted : ℕ) (s : Step) (ss : List Step) (v : TraceVerdict) (o : Option Effect) → effect k s ≡ o → noted ≤ most
-    → ((e : Effect) → noted + notes k s ≤ most → Says e.after (n + 1) (noted + notes k s) ss v → verdict_from e.after (n + 1) (noted + notes k s) ss ≡ v)
+only_by_effect : (k : Kernel) (n noted : ℕ) (s : Step) (ss : List Step) (v : TraceVerdict) (o : Option Effect) → effect k s ≡ o →
+    noted ≤ most
+    → ((e : Effect) → noted + notes k s ≤ most → Says e.after (n + 1) (noted + notes k s) ss v →
+    verdict_from e.after (n + 1) (noted + notes k s) ss ≡ v)
     → Says k n noted (s ∷ ss) v → option_map_or (judged k n noted s ss) o (verdicts.Refused (n + 1)) ≡ v
 only_by_effect k n noted s ss v None is small rest said = stops k n noted s ss v is small said
 only_by_effect k n noted s ss v (Some e) is small rest said = only_by_room k n noted s ss e v _ is refl small (rest e) said
@@ -190,7 +232,8 @@ only_by_effect k n noted s ss v (Some e) is small rest said = only_by_room k n n
 only : (k : Kernel) (n noted : ℕ) (ss : List Step) (v : TraceVerdict) → noted ≤ most → Says k n noted ss v → verdict_from k n noted ss ≡ v
 unfolding verdict_from
 only k n noted [] v small said = ends k n noted v small said
-only k n noted (s ∷ ss) v small said = only_by_effect k n noted s ss v (effect k s) refl small (λ e few. only e.after (n + 1) (noted + notes k s) ss v few) said
+only k n noted (s ∷ ss) v small said =
+    only_by_effect k n noted s ss v (effect k s) refl small (λ e few. only e.after (n + 1) (noted + notes k s) ss v few) said
 
 -- a step that is refused is one of them
 place_of : (t : Trace) (m : ℕ) → IsVerdict t (verdicts.Refused m) → m ≡ suc (m - 1)
@@ -200,8 +243,13 @@ place_of t (suc i) said = omega arith
 to_says : (t : Trace) (v : TraceVerdict) → IsVerdict t v → Says (initial_kernel t.config.specs) 0 0 t.steps v
 to_says t (verdicts.Run m) (counted, some, few) = (some, omega (arith, counted), omega (arith, few))
 to_says t (verdicts.Refused m) (some, few, none) =
-    let place = place_of t m (some, few, none) in
-    (m - 1, omega (arith, place), some, omega (arith, few), subst (λ j. run (initial_kernel t.config.specs) (take j t.steps) ≡ None) place none)
+    let place = place_of t m (some, few, none) in (
+      m - 1,
+      omega (arith, place),
+      some,
+      omega (arith, few),
+      subst (λ j. run (initial_kernel t.config.specs) (take j t.steps) ≡ None) place none,
+    )
 to_says t verdicts.TooMuch (i, some, many) = (i, some, omega (arith, many))
 
 pub exact : VerdictsAreExact

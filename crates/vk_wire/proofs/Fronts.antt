@@ -35,7 +35,8 @@ pub number_again : (n x : ℕ) (rest : List ℕ) → x < 256 ^ n → number_at n
 unfolding number_at
 number_again n x rest h =
     let len = length-bytes_high_first n x in
-    let long : nat_le n (length (big_bytes n x ++ rest)) ≡ true = le-leb n (length (big_bytes n x ++ rest)) (let e = length-append (big_bytes n x) rest in omega (arith, len, e)) in
+    let long : nat_le n (length (big_bytes n x ++ rest)) ≡ true =
+    le-leb n (length (big_bytes n x ++ rest)) (let e = length-append (big_bytes n x) rest in omega (arith, len, e)) in
     rw (long, big_number-reads_back n x rest h, drop_at (big_bytes n x) rest n len) refl
 
 pub numbers : (n : ℕ) → NumbersAreSpelledOnce n
@@ -49,10 +50,12 @@ pub record PidStands (bytes : List ℕ) (p : Pid) (rest : List ℕ) : Type 0 whe
   pub is : IsPid p
   pub rest_bytes : IsBytes rest
 
-pid_stands_by : (bytes : List ℕ) (host local : ℕ × List ℕ) (p : Pid) → Stands 2 bytes host.0 host.1 → Stands 2 host.1 local.0 local.1 → pid_of_numbers host.0 local.0 ≡ Some p → PidStands bytes p local.1
+pid_stands_by : (bytes : List ℕ) (host local : ℕ × List ℕ) (p : Pid) → Stands 2 bytes host.0 host.1 → Stands 2 host.1 local.0 local.1 →
+    pid_of_numbers host.0 local.0 ≡ Some p → PidStands bytes p local.1
 pid_stands_by bytes host local p h l e =
     let n = numbers_of host.0 local.0 p e in
-    let joined : bytes ≡ big_bytes 2 host.0 ++ (big_bytes 2 local.0 ++ local.1) = h.bytes_are ∙ ap (λ (rest : List ℕ). big_bytes 2 host.0 ++ rest) l.bytes_are in
+    let joined : bytes ≡ big_bytes 2 host.0 ++ (big_bytes 2 local.0 ++ local.1) = h.bytes_are
+    ∙ ap (λ (rest : List ℕ). big_bytes 2 host.0 ++ rest) l.bytes_are in
     let named : bytes ≡ big_bytes 2 p.host ++ (big_bytes 2 p.local ++ local.1) =
     subst (λ (n : ℕ). bytes ≡ big_bytes 2 n ++ (big_bytes 2 p.local ++ local.1)) n.0
     (subst (λ (n : ℕ). bytes ≡ big_bytes 2 host.0 ++ (big_bytes 2 n ++ local.1)) n.1 joined) in
@@ -99,7 +102,8 @@ message_stands bytes r h e =
 pub message_again : (m : Message) (rest : List ℕ) → IsMessage m → message_at (m.0 ++ rest) ≡ Some (m, rest)
 unfolding message_at
 message_again m rest h =
-    let long : nat_le 32 (length (m.0 ++ rest)) ≡ true = le-leb 32 (length (m.0 ++ rest)) (let e = length-append m.0 rest in omega (arith, h.0, e)) in
+    let long : nat_le 32 (length (m.0 ++ rest)) ≡ true =
+    le-leb 32 (length (m.0 ++ rest)) (let e = length-append m.0 rest in omega (arith, h.0, e)) in
     rw (long, take_at m.0 rest 32 h.0, drop_at m.0 rest 32 h.0) refl
 
 pub pids : PidsAreSpelledOnce

@@ -34,7 +34,8 @@ number_lt : (n : ℕ) (xs : List ℕ) → IsBytes xs → big_from 0 n xs < 256 ^
 number_lt n xs h = big_from-lt 0 n xs h
 
 -- of two lists of n bytes that read as one number, each is the other
-same_bytes : (n : ℕ) (xs ys : List ℕ) → length xs ≡ n → length ys ≡ n → IsBytes xs → IsBytes ys → big_from 0 n xs ≡ big_from 0 n ys → xs ≡ ys
+same_bytes : (n : ℕ) (xs ys : List ℕ) → length xs ≡ n → length ys ≡ n → IsBytes xs → IsBytes ys → big_from 0 n xs ≡ big_from 0 n ys →
+    xs ≡ ys
 same_bytes zero [] [] hx hy bx by e = refl
 same_bytes zero (x ∷ xs) ys hx hy bx by e = absurd (omega (arith, hx))
 same_bytes zero [] (y ∷ ys) hx hy bx by e = absurd (omega (arith, hy))
@@ -48,7 +49,8 @@ same_bytes (suc n) (x ∷ xs) (y ∷ ys) hx hy bx by e =
     let whole : x * 256 ^ n + big_from 0 n xs ≡ y * 256 ^ n + big_from 0 n ys = omega (arith, ex, ey, e) in
     let head : x ≡ y = same_digit x y (256 ^ n) (big_from 0 n xs) (big_from 0 n ys) lx ly whole in
     let places : x * 256 ^ n ≡ y * 256 ^ n = ap (λ (a : ℕ). a * 256 ^ n) head in
-    let rest : xs ≡ ys = same_bytes n xs ys (omega (arith, hx)) (omega (arith, hy)) (tail_bytes x xs bx) (tail_bytes y ys by) (omega (arith, whole, places)) in
+    let rest : xs ≡ ys = same_bytes n xs ys (omega (arith, hx)) (omega (arith, hy)) (tail_bytes x xs bx) (tail_bytes y ys by)
+    (omega (arith, whole, places)) in
     ap (λ (a : ℕ). a ∷ xs) head ∙ ap (λ (r : List ℕ). y ∷ r) rest
 
 byte_lt : (k x : ℕ) → byte_at k x < 256
@@ -67,4 +69,5 @@ first_bytes n bytes h long =
     let x = big_number n bytes in
     let read : big_from 0 n (bytes_high_first n x) ≡ x =
     ap (big_from 0 n) (sym (append-nil (bytes_high_first n x))) ∙ big_from-bytes n x [] ∙ mod-eq_of_lt (number_lt n bytes h) in
-    same_bytes n (take n bytes) (bytes_high_first n x) (length-take-le n bytes long) (length-bytes_high_first n x) (take_bytes n bytes h) (bytes_of-bytes n x) (big_from-take 0 n n bytes (omega arith) ∙ sym read)
+    same_bytes n (take n bytes) (bytes_high_first n x) (length-take-le n bytes long) (length-bytes_high_first n x) (take_bytes n bytes h)
+    (bytes_of-bytes n x) (big_from-take 0 n n bytes (omega arith) ∙ sym read)

@@ -4,9 +4,11 @@
 #![tactic(auto)]
 
 mod law;
+mod limits;
 mod reading;
 mod writing;
 
 pub use law::fields_are_spelled_once;
+pub use limits::PACKET_BYTES;
 pub use reading::{next_message, next_pid, next_u8, next_u16, next_u32, next_u64};
 pub use writing::{bytes_of_pid, bytes_of_u16, bytes_of_u32, bytes_of_u64};

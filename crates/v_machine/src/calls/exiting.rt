@@ -3,7 +3,7 @@
 ghost use Rattle.std.specs.Prelude.{◌≡◌, length, filter, not, ℕ, Ok};
 ghost use Rattle.vk_base.specs.Calls.{is_message_at};
 ghost use Rattle.vk_base.specs.Pids.{same_pid};
-ghost use Rattle.v_machine.specs.Activities.{state_of};
+ghost use Rattle.vk_base.specs.Activities.{state_of};
 ghost use Rattle.v_machine.specs.Kept.{IsKept, IsAt};
 ghost use Rattle.v_machine.specs.Leaving.{is_left, left, Leaves, Drops};
 ghost use Rattle.v_machine.specs.Lists.{Each};
@@ -12,13 +12,12 @@ ghost use Rattle.v_machine.specs.Tables.{process_of};
 
 use crate::calls::response::Response;
 use crate::tables::Store;
-use crate::tables::activity::{Activity, Outcome};
 use crate::tables::latest::Latests;
 use crate::tables::numbered::Numbered;
 use crate::tables::places::Places;
 use crate::tables::proc::Proc;
 use crate::tables::sends::{drop_at, is_message_at};
-use vk_base::{Call, Exchange, Pid, Refusal, Registration};
+use vk_base::{Activity, Call, Exchange, Outcome, Pid, Refusal, Registration};
 
 /// Exit.
 pub fn exit(store: &mut Store, at: usize, pid: Pid) -> Response

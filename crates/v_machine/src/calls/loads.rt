@@ -41,7 +41,7 @@ pub fn load(
 
 /// Why a Load from a memory of this size is refused, if it is.
 fn load_refusal(start: u32, count: u32, size: u32) -> Option<Refusal>
-    ensures { result ≡ first_that_holds ((nat_lt 1024 count, Refusal.TooLong)
+    ensures { result ≡ first_that_holds ((nat_lt DATA_BYTES count, Refusal.TooLong)
         ∷ (not (lies_in (range_of start count) size), Refusal.BadRange) ∷ []) }
 {
     if count as usize > DATA_BYTES {
@@ -56,7 +56,7 @@ fn load_refusal(start: u32, count: u32, size: u32) -> Option<Refusal>
 /// The bytes of a range that lies in the memory.
 #[inline(never)]
 fn loaded(memory: &Memory, start: u32, count: u32) -> Answer
-    requires few { count ≤ 1024 }
+    requires few { count ≤ DATA_BYTES }
     requires lies { lies_in (range_of start count) (length memory.now) ≡ true }
     ensures { result ≡ Answer.Loaded (bytes_in (range_of start count) memory.now) }
 {

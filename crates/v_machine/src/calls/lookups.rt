@@ -12,9 +12,8 @@ use crate::calls::names::found_at_once;
 use crate::calls::response::Response;
 use crate::refusal::ApplyRefusal;
 use crate::tables::Store;
-use crate::tables::activity::{Activity, Waiting};
 use std::alloc::Global;
-use vk_base::{Call, List, Lookup, NoMemory, Pid, Refusal, Scope};
+use vk_base::{Activity, Call, List, Lookup, NoMemory, Pid, Refusal, Scope, Waiting};
 
 /// GetPid.
 pub fn get_pid(

@@ -7,7 +7,7 @@ ghost use Rattle.vk_base.specs.declared.pid.Pid.{Pid as ThePid};
 ghost use Rattle.vk_base.specs.Calls.{is_at_once, new_move};
 ghost use Rattle.vk_base.specs.Kernel.{name_of};
 ghost use Rattle.vk_base.specs.Ranges.{range_of, lies_in, bytes_in};
-ghost use Rattle.v_machine.specs.Activities.{call_of};
+ghost use Rattle.vk_base.specs.Activities.{call_of};
 ghost use Rattle.v_machine.specs.Kept.{IsKept, IsIndexed, IsAt, kernel_in};
 ghost use Rattle.v_machine.specs.Moves.{JudgesBegun, Copies, Begins, BeginsOrNot};
 ghost use Rattle.v_machine.specs.Places.{place_in};
@@ -18,13 +18,12 @@ use crate::calls::held::Holding;
 use crate::calls::response::Response;
 use crate::refusal::ApplyRefusal;
 use crate::tables::Store;
-use crate::tables::activity::Waiting;
 use crate::tables::bytes::own_bytes;
 use crate::tables::moving::{push_move, put_moving};
 use crate::tables::put::{put_bytes, sent_of};
 use std::alloc::Global;
 use vk_base::limits::MOVE_BYTES;
-use vk_base::{Call, Direction, List, Move, MoveName, Name, NoMemory, Pid, Range};
+use vk_base::{Call, Direction, List, Move, MoveName, Name, NoMemory, Pid, Range, Waiting};
 
 /// What a MoveTo or a MoveFrom asks for.
 #[derive(Clone, Copy)]

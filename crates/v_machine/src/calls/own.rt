@@ -4,17 +4,16 @@ ghost use Rattle.std.specs.Prelude.{◌≡◌, ◌∷◌, [], not, Some, None, O
 ghost use Rattle.vk_base.specs.Calls.{first_that_holds};
 ghost use Rattle.vk_base.specs.Kernel.{is_ready};
 ghost use Rattle.vk_base.specs.Ranges.{lies_in};
-ghost use Rattle.v_machine.specs.Activities.{state_of};
+ghost use Rattle.vk_base.specs.Activities.{state_of};
 ghost use Rattle.v_machine.specs.Kept.{IsKept, IsAt};
 ghost use Rattle.v_machine.specs.Rules.{Judges};
 
 use crate::calls::response::Response;
 use crate::tables::Store;
-use crate::tables::activity::{Activity, Waiting};
 use crate::tables::bytes::lies_in;
 use crate::tables::proc::Proc;
 use crate::tables::put::{put_activity, put_bytes, size_of};
-use vk_base::{Call, Data, Pid, Refusal};
+use vk_base::{Activity, Call, Data, Pid, Refusal, Waiting};
 
 /// The process may make a call.
 fn is_ready(activity: &Activity) -> bool

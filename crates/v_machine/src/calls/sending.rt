@@ -15,14 +15,15 @@ ghost use Rattle.v_machine.specs.Rules.{Judges, Fits, HasRoomFor, Posts, Stays};
 use crate::calls::response::Response;
 use crate::refusal::ApplyRefusal;
 use crate::tables::Store;
-use crate::tables::activity::{Activity, Waiting};
 use crate::tables::arrivals::{make_room, push_name};
 use crate::tables::bytes::{lies_in, own_bytes};
 use crate::tables::put::{find_live, put_activity, size_of};
 use crate::tables::sends::next_number;
 use std::alloc::Global;
 use vk_base::limits::SEGMENT_BYTES;
-use vk_base::{Call, Exchange, List, Message, Name, NoMemory, Pid, Range, Refusal, Stage};
+use vk_base::{
+    Activity, Call, Exchange, List, Message, Name, NoMemory, Pid, Range, Refusal, Stage, Waiting,
+};
 
 /// Send.
 pub fn send(

@@ -13,10 +13,9 @@ ghost use Rattle.v_machine.specs.Rules.{GoesOrNot, Answers, quiet};
 
 use crate::refusal::ApplyRefusal;
 use crate::tables::Store;
-use crate::tables::activity::Outcome;
 use crate::tables::lookups::tell;
 use crate::tables::put::{find, proc, put_activity};
-use vk_base::{Lookup, Pid, Refusal, Registration, Scope};
+use vk_base::{Lookup, Outcome, Pid, Refusal, Registration, Scope};
 
 /// Hear. Where memory is wanting the tables stay.
 pub fn hear(store: &mut Store, asker: Pid, number: u64, pid: Pid) -> Result<(), ApplyRefusal>

@@ -5,15 +5,16 @@ ghost use Rattle.vk_base.specs.declared.kernel.Exchange.{Exchange as TheExchange
 ghost use Rattle.vk_base.specs.Kernel.{Kernel, is_live};
 ghost use Rattle.vk_base.specs.Steps.{collect_step, take_step, finish_step, fail_step, failure, received, with_part};
 ghost use Rattle.v_machine.specs.Kept.{IsKept, kernel_in};
-ghost use Rattle.v_machine.specs.Activities.{call_of, outcome_answer};
+ghost use Rattle.vk_base.specs.Activities.{call_of, answer_of};
 ghost use Rattle.v_machine.specs.Rules.{Answers, GoesOrNot, Delivers, HasRoom};
 
 use crate::refusal::ApplyRefusal;
-use crate::tables::activity::{Activity, Outcome, Waiting};
 use crate::tables::put::{find, is_live, proc, put_activity, sends_of, sent_of};
 use crate::tables::queues::front;
 use crate::tables::{Store, sends};
-use vk_base::{Ending, Exchange, Memory, Name, Observation, Pid, Refusal, Stage};
+use vk_base::{
+    Activity, Ending, Exchange, Memory, Name, Observation, Outcome, Pid, Refusal, Stage, Waiting,
+};
 
 /// Take.
 #[tactic(auto, unfolding(vk_base::specs::Steps::taking))]
@@ -44,7 +45,7 @@ fn deliver(store: &mut Store, at: usize, from: usize, name: Name, waiting: Waiti
 
 /// What a receive gives, and the first bytes of the part into the memory, where they were asked for.
 fn receive_into(memory: &mut Memory, sent: &Exchange, waiting: Waiting, sender: Pid) -> Outcome
-    ensures answer { outcome_answer result ≡ received (call_of waiting) sender sent.now }
+    ensures answer { answer_of result ≡ received (call_of waiting) sender sent.now }
     ensures memory { HasRoom (call_of waiting) memory.old → memory.new ≡ with_part (call_of waiting) sent.now memory.old }
 {
     let message = sent.message;

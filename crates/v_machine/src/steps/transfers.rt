@@ -6,7 +6,7 @@ ghost use Rattle.vk_base.specs.declared.kernel.Process.{Process};
 ghost use Rattle.vk_base.specs.declared.pid.Pid.{Pid as ThePid};
 ghost use Rattle.vk_base.specs.Kernel.{holds_of, move_of};
 ghost use Rattle.vk_base.specs.Steps.{only_if, is_next, is_in_move, is_complete, written_process, move_ending, copy_step, end_step};
-ghost use Rattle.v_machine.specs.Activities.{outcome_answer};
+ghost use Rattle.vk_base.specs.Activities.{answer_of};
 ghost use Rattle.v_machine.specs.Kept.{IsKept, IsIndexed, IsAt, kernel_in};
 ghost use Rattle.v_machine.specs.Moves.{IsWritten, Notes, Opens, noted_for};
 ghost use Rattle.v_machine.specs.Places.{place_in};
@@ -15,14 +15,15 @@ ghost use Rattle.v_machine.specs.Tables.{process_of};
 
 use crate::refusal::ApplyRefusal;
 use crate::tables::Store;
-use crate::tables::activity::Outcome;
 use crate::tables::bytes::own_bytes;
 use crate::tables::moving::{move_of, put_done, put_open, waiting_at, write_part};
 use crate::tables::proc::Proc;
 use crate::tables::put::{find, proc, put_activity, sent_of};
 use crate::tables::queues::named;
 use std::alloc::Global;
-use vk_base::{Direction, Ending, Exchange, List, Move, MoveName, Name, Pid, Range, Refusal};
+use vk_base::{
+    Direction, Ending, Exchange, List, Move, MoveName, Name, Outcome, Pid, Range, Refusal,
+};
 
 /// OpenMove, where at most so many more bytes may be noted.
 #[tactic(auto, unfolding(vk_base::specs::Steps::opening_move))]
@@ -197,7 +198,7 @@ pub fn end(store: &mut Store, pid: Pid, why: Ending) -> Option<()>
 /// What a move ends with, if it may end so.
 fn move_outcome(store: &Store, name: MoveName, why: Ending) -> Option<Outcome>
     requires { IsIndexed store.now }
-    ensures { option_map outcome_answer result ≡ move_ending (kernel_in store.now) name why }
+    ensures { option_map answer_of result ≡ move_ending (kernel_in store.now) name why }
 {
     match why {
         Ending::Ok if is_complete(store, name) => Some(Outcome::Ok),

@@ -43,7 +43,7 @@ fn bytes_of(memory: &Memory, alloc: Global, start: u32, count: u32) -> Result<Li
 
 /// Appends a range of the memory, which lies in it.
 fn append(memory: &Memory, bytes: &mut Vec<u8>, start: u32, count: u32) -> Result<(), NoMemory>
-    requires few { count ≤ 1024 }
+    requires few { count ≤ PIECE }
     requires lies { start + count ≤ length memory.now }
     ensures { OnOk result (bytes.new.items ≡ bytes.old.items ++ bytes_in (range_of start count) memory.now) }
 {

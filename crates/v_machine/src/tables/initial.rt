@@ -6,14 +6,13 @@ ghost use Rattle.v_machine.specs.Kept.{IsIndexed, kernel_in};
 ghost use Rattle.v_machine.specs.Initial.{IsGrown, IsInitial};
 
 use crate::tables::Store;
-use crate::tables::activity::Activity;
 use crate::tables::latest::Latests;
 use crate::tables::numbered::Numbered;
 use crate::tables::places::Places;
 use crate::tables::proc::Proc;
 use crate::tables::queue::Queue;
 use std::alloc::Global;
-use vk_base::{Memory, NoMemory, ProcessSpec};
+use vk_base::{Activity, Memory, NoMemory, ProcessSpec};
 
 /// The store that stands for the initial kernel of these processes.
 pub fn initial_store(alloc: Global, specs: &[ProcessSpec]) -> Result<Store, NoMemory>

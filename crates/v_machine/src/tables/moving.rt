@@ -7,19 +7,18 @@ ghost use Rattle.vk_base.specs.declared.kernel.Move.{Move as TheMove};
 ghost use Rattle.vk_base.specs.declared.pid.Pid.{Pid as ThePid};
 ghost use Rattle.vk_base.specs.Kernel.{name_of, move_of, waiting_on, with_memory};
 ghost use Rattle.vk_base.specs.Ranges.{with_bytes, bytes_in};
-ghost use Rattle.v_machine.specs.Activities.{call_of};
+ghost use Rattle.vk_base.specs.Activities.{call_of};
 ghost use Rattle.v_machine.specs.Kept.{IsIndexed, IsAt, kernel_in};
 ghost use Rattle.v_machine.specs.Moves.{Puts, with_moving};
 ghost use Rattle.v_machine.specs.Places.{place_in};
 ghost use Rattle.v_machine.specs.Rules.{Stays};
 ghost use Rattle.v_machine.specs.Sends.{with_begun, with_opened, with_written};
 
-use crate::tables::activity::{Activity, Waiting};
 use crate::tables::numbered::index_of;
 use crate::tables::put::{find, proc, sends_of};
 use crate::tables::{Store, sends};
 use std::alloc::Global;
-use vk_base::{Exchange, List, Memory, Move, MoveName, Name, NoMemory, Range};
+use vk_base::{Activity, Exchange, List, Memory, Move, MoveName, Name, NoMemory, Range, Waiting};
 
 /// One more move of a Send of the process of this place. Where memory is wanting nothing changes.
 pub fn push_move(store: &mut Store, at: usize, number: u64, begun: Move) -> Result<(), NoMemory>

@@ -24,12 +24,13 @@ impl Model for Places {
     ghost use Rattle.std.specs.Prelude.{◌≡◌, List, length};
     ghost use Rattle.vk_base.specs.declared.pid.Pid.{Pid};
     ghost use Rattle.v_machine.specs.Places.{AreGrouped};
+    ghost use Rattle.v_machine.specs.declared.tables.places.TheConstants.{GROUPS};
 
     ghost Value = { List Pid };
 
     ghost view = { λ p. p.pids.items };
 
-    ghost invariant = { λ p. (length p.groups.items ≡ 1024) × AreGrouped p.pids.items p.groups.items };
+    ghost invariant = { λ p. (length p.groups.items ≡ GROUPS) × AreGrouped p.pids.items p.groups.items };
 }
 
 impl Places {
@@ -64,14 +65,14 @@ impl Places {
 /// The group of a process.
 fn group_of(pid: Pid) -> usize
     ensures value { result ≡ group_of pid }
-    ensures low { result < 1024 }
+    ensures low { result < GROUPS }
 {
     (usize::from(pid.host) * 32 + usize::from(pid.local)) % GROUPS
 }
 
 /// Groups of no processes.
 fn no_groups(alloc: Global) -> Result<Vec<Group>, NoMemory>
-    ensures { IfOk result (λ g. g.items ≡ replicate 1024 []) }
+    ensures { IfOk result (λ g. g.items ≡ replicate GROUPS []) }
 {
     let mut groups = Vec::new(alloc);
     for _group in 0..GROUPS {
@@ -82,8 +83,8 @@ fn no_groups(alloc: Global) -> Result<Vec<Group>, NoMemory>
 
 /// One more process, which has this place.
 fn add(groups: &mut Vec<Group>, pid: Pid, at: usize) -> Result<(), NoMemory>
-    requires { length groups.old.items ≡ 1024 }
-    ensures count { length groups.new.items ≡ 1024 }
+    requires { length groups.old.items ≡ GROUPS }
+    ensures count { length groups.new.items ≡ GROUPS }
     ensures grouped { OnOk result ((pids : List ThePid) → length pids ≡ at → AreGrouped pids groups.old.items →
         AreGrouped (pids ++ pid ∷ []) groups.new.items) }
 {

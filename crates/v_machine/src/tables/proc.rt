@@ -1,7 +1,6 @@
 //! What is kept of a process beside its Sends and lookups.
 
-use crate::tables::activity::Activity;
-use vk_base::{Memory, MoveName};
+use vk_base::{Activity, Memory, MoveName};
 
 #[derive(Drop)]
 pub struct Proc {

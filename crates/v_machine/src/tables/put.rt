@@ -7,15 +7,14 @@ ghost use Rattle.vk_base.specs.declared.pid.Pid.{Pid as ThePid};
 ghost use Rattle.vk_base.specs.declared.kernel.Exchange.{Exchange as TheExchange};
 ghost use Rattle.vk_base.specs.Kernel.{name_of, is_live, with_state, with_memory, with_stage};
 ghost use Rattle.vk_base.specs.Ranges.{with_bytes, range_of, lies_in};
-ghost use Rattle.v_machine.specs.Activities.{state_of};
+ghost use Rattle.vk_base.specs.Activities.{state_of};
 ghost use Rattle.v_machine.specs.Kept.{IsIndexed, IsAt, IsNoNearer, kernel_in};
 ghost use Rattle.v_machine.specs.Places.{place_in, count_at};
 ghost use Rattle.v_machine.specs.Tables.{process_of};
 
-use crate::tables::activity::Activity;
 use crate::tables::proc::Proc;
 use crate::tables::{Store, sends};
-use vk_base::{Exchange, Pid, Stage};
+use vk_base::{Activity, Exchange, Pid, Stage};
 
 /// The place of a process, if it is in the configuration.
 pub fn find(store: &Store, pid: Pid) -> Option<usize>

@@ -17,7 +17,9 @@ returns-in-Some-caller_refusal-clause-answers c =
     let refused = sym c.caller_refusal.ensures ∙ c.in-Some-caller_refusal.is in
     let none = refused_notes s c.args.pid _ c.args.call.now there why refused in
     let seen = seen_by c.args.pid c.args.call.now (responses.Refused why) in
-    subst (Answers (call_step (kernel_in s) c.args.pid c.args.call.now) (noted_by_call c.args.call.now (call_step (kernel_in s) c.args.pid c.args.call.now)) (most - c.args.noted.now) s s) (sym c.observation.ensures) (
+    subst (Answers (call_step (kernel_in s) c.args.pid c.args.call.now)
+    (noted_by_call c.args.call.now (call_step (kernel_in s) c.args.pid c.args.call.now)) (most - c.args.noted.now) s s)
+    (sym c.observation.ensures) (
       refused_goes s c.args.pid _ c.args.call.now there why seen c.requires.kept.indexed refused refl,
       subst (λ n. n ≤ most - c.args.noted.now) (sym none) (omega arith),
     )
@@ -25,14 +27,17 @@ returns-in-Some-caller_refusal-clause-answers c =
 pub returns-in-Some-caller_refusal-clause-counts : goal.returns-in-Some-caller_refusal-clause-counts
 returns-in-Some-caller_refusal-clause-counts c =
     let there = c.proc.ensures c.args.pid c.in-Some.ensures.here.place in
-    let none = refused_notes c.args.store.now c.args.pid _ c.args.call.now there c.in-Some-caller_refusal.why (sym c.caller_refusal.ensures ∙ c.in-Some-caller_refusal.is) in
-    subst (λ n. Counts n c.args.noted.now c.args.noted.now c.observation.result) (sym none) (counts_none c.args.noted.now c.observation.result)
+    let none = refused_notes c.args.store.now c.args.pid _ c.args.call.now there c.in-Some-caller_refusal.why
+    (sym c.caller_refusal.ensures ∙ c.in-Some-caller_refusal.is) in
+    subst (λ n. Counts n c.args.noted.now c.args.noted.now c.observation.result) (sym none)
+    (counts_none c.args.noted.now c.observation.result)
 
 pub returns-in-Load-clause-answers : goal.returns-in-Load-clause-answers
 returns-in-Load-clause-answers c =
     let there = c.proc.ensures c.args.pid c.in-Some.ensures.here.place in
     let ready = sym c.caller_refusal.ensures ∙ none_if c.caller_refusal.result c.in_default-caller_refusal.not-Some in
-    load_answers c.args.store.now c.args.pid _ c.args.call.now there c.in-Load.start c.in-Load.count (most - c.args.noted.now) c.load.result c.in-Load.is ready (c.load.ensures _ there)
+    load_answers c.args.store.now c.args.pid _ c.args.call.now there c.in-Load.start c.in-Load.count (most - c.args.noted.now) c.load.result
+    c.in-Load.is ready (c.load.ensures _ there)
 
 pub returns-in-Load-clause-counts : goal.returns-in-Load-clause-counts
 returns-in-Load-clause-counts c =
@@ -46,7 +51,9 @@ returns-in_err-response c =
     let there = c.proc.ensures c.args.pid c.in-Some.ensures.here.place in
     let ready = sym c.caller_refusal.ensures ∙ none_if c.caller_refusal.result c.in_default-caller_refusal.not-Some in
     rw (is_error c.from_residual.result _ c.from_residual.ensures.1) (record {
-      answers = accepted_goes s c.args.pid _ c.args.call.now there c.accept.new.store (most - c.args.noted.now) c.accept.result (Err c.in_err-response.field-0.0) ready c.accept.ensures (sym (ap (seen_result c.args.pid c.args.call.now) c.in_err-response.was));
+      answers = accepted_goes s c.args.pid _ c.args.call.now there c.accept.new.store (most - c.args.noted.now) c.accept.result
+          (Err c.in_err-response.field-0.0) ready c.accept.ensures
+          (sym (ap (seen_result c.args.pid c.args.call.now) c.in_err-response.was));
       counts = refl;
     })
 
@@ -56,8 +63,10 @@ overflow_add-noted c =
     let there = c.proc.ensures c.args.pid c.in-Some.ensures.here.place in
     let ready = sym c.caller_refusal.ensures ∙ none_if c.caller_refusal.result c.in_default-caller_refusal.not-Some in
     let seen = seen_by c.args.pid c.args.call.now c.in_ok-response.response in
-    let answers = accepted_goes s c.args.pid _ c.args.call.now there c.accept.new.store (most - c.args.noted.now) c.accept.result (Ok seen) ready c.accept.ensures (sym (ap (seen_result c.args.pid c.args.call.now) c.in_ok-response.was)) in
-    let notes = accepted_notes s c.args.pid _ c.args.call.now there c.accept.new.store (most - c.args.noted.now) c.noted_by_call.result c.in_ok-response.response seen refl answers c.noted_by_call.ensures in
+    let answers = accepted_goes s c.args.pid _ c.args.call.now there c.accept.new.store (most - c.args.noted.now) c.accept.result (Ok seen)
+    ready c.accept.ensures (sym (ap (seen_result c.args.pid c.args.call.now) c.in_ok-response.was)) in
+    let notes = accepted_notes s c.args.pid _ c.args.call.now there c.accept.new.store (most - c.args.noted.now) c.noted_by_call.result
+    c.in_ok-response.response seen refl answers c.noted_by_call.ensures in
     let low = answers.1 in
     let before = c.requires.low in
     omega (arith, notes, low, before)
@@ -68,10 +77,14 @@ returns-in-Begun c =
     let there = c.proc.ensures c.args.pid c.in-Some.ensures.here.place in
     let ready = sym c.caller_refusal.ensures ∙ none_if c.caller_refusal.result c.in_default-caller_refusal.not-Some in
     let seen = seen_by c.args.pid c.args.call.now c.in_ok-response.response in
-    let answers = accepted_goes s c.args.pid _ c.args.call.now there c.accept.new.store (most - c.args.noted.now) c.accept.result (Ok seen) ready c.accept.ensures (sym (ap (seen_result c.args.pid c.args.call.now) c.in_ok-response.was)) in
-    let notes = accepted_notes s c.args.pid _ c.args.call.now there c.accept.new.store (most - c.args.noted.now) c.noted_by_call.result c.in_ok-response.response seen refl answers c.noted_by_call.ensures in
+    let answers = accepted_goes s c.args.pid _ c.args.call.now there c.accept.new.store (most - c.args.noted.now) c.accept.result (Ok seen)
+    ready c.accept.ensures (sym (ap (seen_result c.args.pid c.args.call.now) c.in_ok-response.was)) in
+    let notes = accepted_notes s c.args.pid _ c.args.call.now there c.accept.new.store (most - c.args.noted.now) c.noted_by_call.result
+    c.in_ok-response.response seen refl answers c.noted_by_call.ensures in
     record {
-      answers = subst (λ o. Answers (call_step (kernel_in s) c.args.pid c.args.call.now) (noted_by_call c.args.call.now (call_step (kernel_in s) c.args.pid c.args.call.now)) (most - c.args.noted.now) s c.accept.new.store (Ok o)) (ap (seen_by c.args.pid c.args.call.now) c.in-Begun.is) answers;
+      answers = subst (λ o. Answers (call_step (kernel_in s) c.args.pid c.args.call.now)
+          (noted_by_call c.args.call.now (call_step (kernel_in s) c.args.pid c.args.call.now)) (most - c.args.noted.now) s
+          c.accept.new.store (Ok o)) (ap (seen_by c.args.pid c.args.call.now) c.in-Begun.is) answers;
       counts = ap (λ n. c.args.noted.now + n) notes;
     }
 
@@ -81,9 +94,14 @@ returns c =
     let there = c.proc.ensures c.args.pid c.in-Some.ensures.here.place in
     let ready = sym c.caller_refusal.ensures ∙ none_if c.caller_refusal.result c.in_default-caller_refusal.not-Some in
     let seen = seen_by c.args.pid c.args.call.now c.in_ok-response.response in
-    let answers = accepted_goes s c.args.pid _ c.args.call.now there c.accept.new.store (most - c.args.noted.now) c.accept.result (Ok seen) ready c.accept.ensures (sym (ap (seen_result c.args.pid c.args.call.now) c.in_ok-response.was)) in
-    let notes = accepted_notes s c.args.pid _ c.args.call.now there c.accept.new.store (most - c.args.noted.now) c.noted_by_call.result c.in_ok-response.response seen refl answers c.noted_by_call.ensures in
+    let answers = accepted_goes s c.args.pid _ c.args.call.now there c.accept.new.store (most - c.args.noted.now) c.accept.result (Ok seen)
+    ready c.accept.ensures (sym (ap (seen_result c.args.pid c.args.call.now) c.in_ok-response.was)) in
+    let notes = accepted_notes s c.args.pid _ c.args.call.now there c.accept.new.store (most - c.args.noted.now) c.noted_by_call.result
+    c.in_ok-response.response seen refl answers c.noted_by_call.ensures in
     record {
-      answers = subst (Answers (call_step (kernel_in s) c.args.pid c.args.call.now) (noted_by_call c.args.call.now (call_step (kernel_in s) c.args.pid c.args.call.now)) (most - c.args.noted.now) s c.accept.new.store) (sym c.observation-2.ensures) answers;
-      counts = subst (Counts (noted_by_call c.args.call.now (call_step (kernel_in s) c.args.pid c.args.call.now)) c.args.noted.now (c.args.noted.now + c.noted_by_call.result)) (sym c.observation-2.ensures) (ap (λ n. c.args.noted.now + n) notes);
+      answers = subst (Answers (call_step (kernel_in s) c.args.pid c.args.call.now)
+          (noted_by_call c.args.call.now (call_step (kernel_in s) c.args.pid c.args.call.now)) (most - c.args.noted.now) s
+          c.accept.new.store) (sym c.observation-2.ensures) answers;
+      counts = subst (Counts (noted_by_call c.args.call.now (call_step (kernel_in s) c.args.pid c.args.call.now)) c.args.noted.now
+          (c.args.noted.now + c.noted_by_call.result)) (sym c.observation-2.ensures) (ap (λ n. c.args.noted.now + n) notes);
     }

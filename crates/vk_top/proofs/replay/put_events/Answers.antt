@@ -11,13 +11,15 @@ loop-event-preserved c = record {
   events = omega (arith, c.in_ok-steps.ensures.events);
   processes = λ pid. c.in_ok-steps.ensures.processes pid ∙ c.loop-event.invariant.processes pid;
   host = c.in_ok-steps.ensures.same_host ∙ c.loop-event.invariant.host;
-  replayed = λ s logs had. IsReplayedTo-more s _ _ _ _ _ _ _ _ _ _ c.args.events.now c.loop-event.event-index c.event-item.result c.loop-event-test.true c.event-item.is c.in_ok-steps.ensures
+  replayed = λ s logs had. IsReplayedTo-more s _ _ _ _ _ _ _ _ _ _ c.args.events.now c.loop-event.event-index c.event-item.result
+      c.loop-event-test.true c.event-item.is c.in_ok-steps.ensures
       (c.loop-event.invariant.replayed s logs had);
 }
 
 pub returns : goal.returns
 returns c =
     on_ok_weaker c.put_end.result
-    (λ written s logs had. written ∙ IsReplayedTo-end s _ _ _ _ _ _ _ _ (drop_all c.loop-event.event-index c.args.events.now c.loop-event-test.false)
+    (λ written s logs had. written
+    ∙ IsReplayedTo-end s _ _ _ _ _ _ _ _ (drop_all c.loop-event.event-index c.args.events.now c.loop-event-test.false)
     (c.loop-event.invariant.replayed s logs had))
     c.put_end.ensures

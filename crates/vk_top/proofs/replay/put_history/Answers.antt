@@ -10,11 +10,14 @@ use Rattle.vk_top.proofs.replay.put_history.Goals as goal
 pub returns-in_default : goal.returns-in_default
 returns-in_default c =
     on_ok_weaker c.put_end.result
-    (λ written. written ∙ ap (λ r. c.args.text.now.items ++ r) (lines-no_process c.args.form c.specs.result.now c.args.schedule.now c.specs.ensures.specs (ap option_copied (sym c.in_default.is) ∙ c.first.ensures.value) (plain c.args.schedule.now c.requires)))
+    (λ written. written ∙ ap (λ r. c.args.text.now.items ++ r)
+    (lines-no_process c.args.form c.specs.result.now c.args.schedule.now c.specs.ensures.specs
+    (ap option_copied (sym c.in_default.is) ∙ c.first.ensures.value) (plain c.args.schedule.now c.requires)))
     c.put_end.ensures
 
 pub new-requires : goal.new-requires
-new-requires c = has_station-first c.specs.result.now c.args.schedule.now.config.specs c.in-Some.first.now c.specs.ensures.specs c.in-Some.ensures.value
+new-requires c =
+    has_station-first c.specs.result.now c.args.schedule.now.config.specs c.in-Some.first.now c.specs.ensures.specs c.in-Some.ensures.value
 
 pub put_events-requires : goal.put_events-requires
 put_events-requires c =

@@ -3,7 +3,8 @@ use Rattle.vk_top.proofs.Told.{refused_is, written_is}
 use Rattle.vk_top.proofs.top.answer.Goals as goal
 
 pub returns-in-Ok-clause-answered : goal.returns-in-Ok-clause-answered
-returns-in-Ok-clause-answered g c = written_is _ _ _ _ _ _ c.requires c.in-Ok.ensures.work c.write_work.ensures.written c.write_work.ensures.front
+returns-in-Ok-clause-answered g c =
+    written_is _ _ _ _ _ _ c.requires c.in-Ok.ensures.work c.write_work.ensures.written c.write_work.ensures.front
 
 pub returns-in-Ok-clause-nothing : goal.returns-in-Ok-clause-nothing
 returns-in-Ok-clause-nothing g c = λ early. absurd (written_late _ _ _ _ _ c.in-Ok.ensures.work.told c.write_work.ensures.written early)

@@ -3,19 +3,24 @@ use Rattle.vk_top.proofs.Outcomes.{asks, clash, decided_for, front_is, nothing_w
 use Rattle.vk_top.proofs.top.vkernel.Goals as goal
 
 pub returns-in-Ok-Some-clause-done : goal.returns-in-Ok-Some-clause-done
-returns-in-Ok-Some-clause-done g c = λ is. asks _ _ _ _ (sym c.in-Ok-Some.field-0-is ∙ c.in-Ok-Some.ensures) (c.serve.ensures.outcome.done is)
+returns-in-Ok-Some-clause-done g c =
+    λ is. asks _ _ _ _ (sym c.in-Ok-Some.field-0-is ∙ c.in-Ok-Some.ensures) (c.serve.ensures.outcome.done is)
 
 pub returns-in-Ok-Some-clause-not_a_run : goal.returns-in-Ok-Some-clause-not_a_run
-returns-in-Ok-Some-clause-not_a_run g c = λ step is. asks _ _ _ _ (sym c.in-Ok-Some.field-0-is ∙ c.in-Ok-Some.ensures) (c.serve.ensures.outcome.no step is)
+returns-in-Ok-Some-clause-not_a_run g c =
+    λ step is. asks _ _ _ _ (sym c.in-Ok-Some.field-0-is ∙ c.in-Ok-Some.ensures) (c.serve.ensures.outcome.no step is)
 
 pub returns-in-Ok-Some-clause-bad : goal.returns-in-Ok-Some-clause-bad
-returns-in-Ok-Some-clause-bad g c = λ line is. asks _ _ _ _ (sym c.in-Ok-Some.field-0-is ∙ c.in-Ok-Some.ensures) (c.serve.ensures.outcome.bad line is)
+returns-in-Ok-Some-clause-bad g c =
+    λ line is. asks _ _ _ _ (sym c.in-Ok-Some.field-0-is ∙ c.in-Ok-Some.ensures) (c.serve.ensures.outcome.bad line is)
 
 pub returns-in-Ok-Some-clause-limit : goal.returns-in-Ok-Some-clause-limit
-returns-in-Ok-Some-clause-limit g c = λ is. asks _ _ _ _ (sym c.in-Ok-Some.field-0-is ∙ c.in-Ok-Some.ensures) (c.serve.ensures.outcome.limit is)
+returns-in-Ok-Some-clause-limit g c =
+    λ is. asks _ _ _ _ (sym c.in-Ok-Some.field-0-is ∙ c.in-Ok-Some.ensures) (c.serve.ensures.outcome.limit is)
 
 pub returns-in-Ok-Some-clause-writing : goal.returns-in-Ok-Some-clause-writing
-returns-in-Ok-Some-clause-writing g c = λ is. asks _ _ _ _ (sym c.in-Ok-Some.field-0-is ∙ c.in-Ok-Some.ensures) (c.serve.ensures.outcome.writing is)
+returns-in-Ok-Some-clause-writing g c =
+    λ is. asks _ _ _ _ (sym c.in-Ok-Some.field-0-is ∙ c.in-Ok-Some.ensures) (c.serve.ensures.outcome.writing is)
 
 pub returns-in-Ok-Some-clause-memory : goal.returns-in-Ok-Some-clause-memory
 returns-in-Ok-Some-clause-memory g c = λ is. inr (c.serve.ensures.outcome.memory is)
@@ -51,4 +56,5 @@ pub returns-in-Ok-Some-clause-unread : goal.returns-in-Ok-Some-clause-unread
 returns-in-Ok-Some-clause-unread g c = λ none. clash _ _ (sym c.in-Ok-Some.field-0-is ∙ c.in-Ok-Some.ensures) none
 
 pub returns-in-Ok-Some-clause-complete : goal.returns-in-Ok-Some-clause-complete
-returns-in-Ok-Some-clause-complete g c = λ a same. decided_for a _ _ _ _ (sym c.in-Ok-Some.field-0-is ∙ c.in-Ok-Some.ensures) same c.serve.ensures.outcome.complete
+returns-in-Ok-Some-clause-complete g c =
+    λ a same. decided_for a _ _ _ _ (sym c.in-Ok-Some.field-0-is ∙ c.in-Ok-Some.ensures) same c.serve.ensures.outcome.complete

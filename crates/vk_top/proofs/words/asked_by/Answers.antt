@@ -8,7 +8,8 @@ use Rattle.vk_top.proofs.words.asked_by.Goals as goal
 pub returns : goal.returns
 returns c =
     let f = found_of c.args.matches.now in
-    let value : (id : List ℕ) (o : Option (Bor (List ℕ))) → option_map (λ s. s.now) o ≡ first_value f id → option_map (λ s. s.now) o ≡ first_of id (rows_of f) = λ id o is. is ∙ first_value-rows f id in
+    let value : (id : List ℕ) (o : Option (Bor (List ℕ))) → option_map (λ s. s.now) o ≡ first_value f id →
+    option_map (λ s. s.now) o ≡ first_of id (rows_of f) = λ id o is. is ∙ first_value-rows f id in
     let command = value _ _ c.get_str.ensures in
     let trace = value _ _ c.get_str-2.ensures in
     let number = value _ _ c.get_str-3.ensures in

@@ -14,4 +14,5 @@ returns c =
     IfOk-weaker c.arg-3.result _ _ (λ r added.
     added.shape (search rules)
     ∙ ap₂ with_rule (c.in_ok-arg-2.ensures.shape (search rules)
-    ∙ ap₂ with_rule (c.in_ok-arg.ensures.shape (search rules) ∙ ap₂ with_rule (bare ∙ ap (on_top with_settings) c.new-3.ensures.app) trace_is) command_is) number_is) c.arg-3.ensures
+    ∙ ap₂ with_rule (c.in_ok-arg.ensures.shape (search rules)
+    ∙ ap₂ with_rule (bare ∙ ap (on_top with_settings) c.new-3.ensures.app) trace_is) command_is) number_is) c.arg-3.ensures

@@ -16,7 +16,8 @@ returns-in-Some-access_refusal c = λ p there.
     let holds : held k c.args.pid a.partner ≡ Some c.in-Some.holding.number = sym c.in-Some.ensures.number in
     let x = holding_is k c.args.pid a.partner c.in-Some.holding.number holds in
     let same = same_Some _ p (sym (c.proc.ensures c.args.pid c.requires.here.place) ∙ there) in
-    tests_found k c.args.pid p a c.in-Some.holding.number x.exchange c.granted-grants.result c.may-may.result c.lies_in-own.result (le-ltb a.limit a.own.len (omega arith)) holds x.is
+    tests_found k c.args.pid p a c.in-Some.holding.number x.exchange c.granted-grants.result c.may-may.result c.lies_in-own.result
+    (le-ltb a.limit a.own.len (omega arith)) holds x.is
     (c.granted-grants.ensures a.partner x.exchange c.in-Some.ensures.here.place x.is) c.may-may.ensures
     (c.lies_in-own.ensures ∙ ap (lies_in (range_of a.own.start a.own.len)) (c.size.ensures ∙ ap (λ (q : Process). length q.memory) same))
     ∙ sym c.access_refusal.ensures ∙ c.in-Some-access_refusal.is
@@ -28,9 +29,11 @@ returns-in-None c = λ p there.
     let holds : held k c.args.pid a.partner ≡ Some c.in-Some.holding.number = sym c.in-Some.ensures.number in
     let x = holding_is k c.args.pid a.partner c.in-Some.holding.number holds in
     let same = same_Some _ p (sym (c.proc.ensures c.args.pid c.requires.here.place) ∙ there) in (
-      tests_found k c.args.pid p a c.in-Some.holding.number x.exchange c.granted-grants.result c.may-may.result c.lies_in-own.result (le-ltb a.limit a.own.len (omega arith)) holds x.is
+      tests_found k c.args.pid p a c.in-Some.holding.number x.exchange c.granted-grants.result c.may-may.result c.lies_in-own.result
+          (le-ltb a.limit a.own.len (omega arith)) holds x.is
           (c.granted-grants.ensures a.partner x.exchange c.in-Some.ensures.here.place x.is) c.may-may.ensures
-          (c.lies_in-own.ensures ∙ ap (lies_in (range_of a.own.start a.own.len)) (c.size.ensures ∙ ap (λ (q : Process). length q.memory) same))
+          (c.lies_in-own.ensures
+          ∙ ap (lies_in (range_of a.own.start a.own.len)) (c.size.ensures ∙ ap (λ (q : Process). length q.memory) same))
           ∙ sym c.access_refusal.ensures ∙ c.in-None.is,
       holds,
       c.in-Some.ensures.here,

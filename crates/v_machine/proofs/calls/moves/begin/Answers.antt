@@ -2,7 +2,7 @@ use Rattle.std.proofs.Common.{ap, ◌∙◌}
 use Rattle.vk_base.specs.declared.kernel.Name.{Name}
 use Rattle.vk_base.specs.Calls.{move_begun}
 use Rattle.vk_base.specs.Kernel.{Kernel, name_of}
-use Rattle.v_machine.specs.Activities.{call_of}
+use Rattle.vk_base.specs.Activities.{call_of}
 use Rattle.v_machine.specs.Kept.{kernel_in}
 use Rattle.v_machine.specs.Moves.{with_exchange, with_moving}
 use Rattle.v_machine.specs.Sends.{with_begun}
@@ -18,9 +18,11 @@ returns-clause-ok c = λ p e there at.
     let call = call_of c.args.waiting in
     let put = c.in_ok-push_move.ensures.ok c.args.partner e c.requires.there.place at in
     let number = c.next_move-number.ensures c.args.partner e c.requires.there.place at in
-    let blocked = c.put_moving.ensures.kernel pid p (ap (λ ps. place_in ps pid) c.push_move.ensures.places ∙ c.requires.here.place) (ap (λ (x : Kernel). x.procs pid) put.0 ∙ there) in (
+    let blocked = c.put_moving.ensures.kernel pid p (ap (λ ps. place_in ps pid) c.push_move.ensures.places ∙ c.requires.here.place)
+    (ap (λ (x : Kernel). x.procs pid) put.0 ∙ there) in (
       blocked
           ∙ ap (λ x. with_moving x pid p call (record { exchange = name; number = c.next_move-number.result })) put.0
-          ∙ ap (λ n. with_moving (with_exchange k name (with_begun c.args.begun e)) pid p call (record { exchange = name; number = n })) number,
+          ∙ ap (λ n. with_moving (with_exchange k name (with_begun c.args.begun e)) pid p call (record { exchange = name; number = n }))
+          number,
       c.put_moving.ensures.indexed (put.1 c.requires.indexed),
     )

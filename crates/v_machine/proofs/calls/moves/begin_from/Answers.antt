@@ -12,6 +12,7 @@ returns c =
     let move = c.new_move-begun.ensures ∙ ap (new_move c.args.pid directions.From a.dest a.src a.count) c.empty.ensures in (
       refl,
       omega arith,
-      subst (λ (m : Move). Begins m.mover (calls.MoveFrom a.partner a.dest a.src a.count) a.partner c.args.holding.number m c.args.store.now c.begin.new.store) move
+      subst (λ (m : Move). Begins m.mover (calls.MoveFrom a.partner a.dest a.src a.count) a.partner c.args.holding.number m c.args.store.now
+          c.begin.new.store) move
           c.in_ok-begin.ensures.ok,
     )

@@ -10,10 +10,12 @@ use Rattle.v_machine.proofs.calls.moves.begin_to.Goals as goal
 pub returns : goal.returns
 returns c = λ p there lies.
     let a = c.args.asked in
-    let bytes : c.in_ok-bytes.bytes ≡ bytes_in (range_of a.src a.count) p.memory = c.in_ok-bytes.ensures c.args.pid p c.requires.here.place there lies in
+    let bytes : c.in_ok-bytes.bytes ≡ bytes_in (range_of a.src a.count) p.memory =
+    c.in_ok-bytes.ensures c.args.pid p c.requires.here.place there lies in
     let move = c.new_move-begun.ensures ∙ ap (new_move c.args.pid directions.To a.dest a.src a.count) bytes in (
       refl,
       omega arith,
-      subst (λ (m : Move). Begins m.mover (calls.MoveTo a.partner a.dest a.src a.count) a.partner c.args.holding.number m c.args.store.now c.begin.new.store) move
+      subst (λ (m : Move). Begins m.mover (calls.MoveTo a.partner a.dest a.src a.count) a.partner c.args.holding.number m c.args.store.now
+          c.begin.new.store) move
           c.in_ok-begin.ensures.ok,
     )

@@ -13,7 +13,8 @@ use Rattle.v_machine.proofs.Stores.{process_at, stays, is_error}
 use Rattle.v_machine.proofs.calls.moves.move_from.Goals as goal
 
 abbrev asked_for : Pid → ℕ → ℕ → ℕ → Access
-asked_for partner dest src count = record { partner = partner; limit = 65536; write = false; granted = range_of src count; own = range_of dest count }
+asked_for partner dest src count =
+    record { partner = partner; limit = 65536; write = false; granted = range_of src count; own = range_of dest count }
 
 pub begin_from-requires-clause-there : goal.begin_from-requires-clause-there
 begin_from-requires-clause-there c =
@@ -31,7 +32,8 @@ returns-then-not-is_at_once c = λ p there ready.
     let a = c.args.asked in
     let ok = c.in-Ok.ensures p there in
     let x = holding_is (kernel_in s) c.args.pid a.partner c.in-Ok.holding.number ok.1 in
-    from_begins s c.args.pid p a.partner a.dest a.src a.count there c.in-Ok.holding.number x.exchange c.begin_from.new.store c.begin_from.result ok.0 (sym c.is_at_once.ensures ∙ c.if-not-is_at_once.true) ok.1 x.is c.begin_from.ensures
+    from_begins s c.args.pid p a.partner a.dest a.src a.count there c.in-Ok.holding.number x.exchange c.begin_from.new.store
+    c.begin_from.result ok.0 (sym c.is_at_once.ensures ∙ c.if-not-is_at_once.true) ok.1 x.is c.begin_from.ensures
 
 pub returns-in_err-copy_now : goal.returns-in_err-copy_now
 returns-in_err-copy_now c = λ p there ready.
@@ -40,7 +42,9 @@ returns-in_err-copy_now c = λ p there ready.
     let ok = c.in-Ok.ensures p there in
     let q = process_at s a.partner c.in-Ok.holding.at ok.2 in
     let same = c.in_err-copy_now.ensures.err in
-    rw (is_error c.from_residual.result _ c.from_residual.ensures.1) (from_wants s c.args.pid p a.partner a.dest a.src a.count there q.0 c.copy_now.new.store ok.0 (sym c.is_at_once.ensures ∙ c.if-not-is_at_once.false) q.1 (subst (Stays s) (sym same) (stays s c.requires.kept.indexed)))
+    rw (is_error c.from_residual.result _ c.from_residual.ensures.1)
+    (from_wants s c.args.pid p a.partner a.dest a.src a.count there q.0 c.copy_now.new.store ok.0
+    (sym c.is_at_once.ensures ∙ c.if-not-is_at_once.false) q.1 (subst (Stays s) (sym same) (stays s c.requires.kept.indexed)))
 
 pub returns : goal.returns
 returns c = λ p there ready.
@@ -51,8 +55,11 @@ returns c = λ p there ready.
     let q = process_at s a.partner h.at ok.2 in
     let x = holding_is (kernel_in s) c.args.pid a.partner h.number ok.1 in
     let lies = ranges_lie (kernel_in s) c.args.pid p (asked_for a.partner a.dest a.src a.count) h.number x.exchange ok.1 x.is ok.0 in
-    let fits = granted_lies c.requires.kept.size (kernel_in s) a.partner h.number x.exchange q.0 (range_of a.src a.count) c.requires.kept.sized x.is q.1 lies.0 in
+    let fits = granted_lies c.requires.kept.size (kernel_in s) a.partner h.number x.exchange q.0 (range_of a.src a.count)
+    c.requires.kept.sized x.is q.1 lies.0 in
     let own = leb-true (a.dest + a.count) (length p.memory) lies.1 in
     let copies : Copies h.at c.args.at (range_of a.src a.count) a.dest s c.copy_now.new.store = c.in_ok-copy_now.ensures.ok in
-    from_copied s c.args.pid p a.partner a.dest a.src a.count there q.0 c.copy_now.new.store ok.0 (sym c.is_at_once.ensures ∙ c.if-not-is_at_once.false) q.1
-    (copies a.partner c.args.pid q.0 p ok.2.place c.requires.here.place q.1 there (le-leb (a.src + a.count) (length q.0.memory) fits) own) (c.copy_now.ensures.indexed c.requires.kept.indexed)
+    from_copied s c.args.pid p a.partner a.dest a.src a.count there q.0 c.copy_now.new.store ok.0
+    (sym c.is_at_once.ensures ∙ c.if-not-is_at_once.false) q.1
+    (copies a.partner c.args.pid q.0 p ok.2.place c.requires.here.place q.1 there (le-leb (a.src + a.count) (length q.0.memory) fits) own)
+    (c.copy_now.ensures.indexed c.requires.kept.indexed)

@@ -12,7 +12,8 @@ use Rattle.v_machine.proofs.Naming.{found_here_is}
 use Rattle.v_machine.proofs.calls.names.found_at_once.Goals as goal
 
 -- where the lookup looks at the asker's own station
-looks_here : (k : Kernel) (pid : Pid) (logical : ℕ) (scope : Scope) → (scope ≡ scopes.Remote → ⊥) → found_at_once k pid logical scope ≡ found_here (k.names pid.host) logical
+looks_here : (k : Kernel) (pid : Pid) (logical : ℕ) (scope : Scope) → (scope ≡ scopes.Remote → ⊥) →
+    found_at_once k pid logical scope ≡ found_here (k.names pid.host) logical
 looks_here k pid logical scopes.Local other = refl
 looks_here k pid logical scopes.Remote other = absurd (other refl)
 looks_here k pid logical scopes.Both other = refl
@@ -20,6 +21,7 @@ looks_here k pid logical scopes.Both other = refl
 pub returns-in_default : goal.returns-in_default
 returns-in_default c =
     c.found_here.ensures
-    ∙ ap (λ (ns : List Registration). option_map (λ (r : Registration). r.pid) (find (answers_here c.args.pid.host c.args.logical) ns)) c.deref.ensures.value
+    ∙ ap (λ (ns : List Registration). option_map (λ (r : Registration). r.pid) (find (answers_here c.args.pid.host c.args.logical) ns))
+    c.deref.ensures.value
     ∙ sym (found_here_is c.args.store.now.names.items c.args.pid.host c.args.logical)
     ∙ sym (looks_here (kernel_in c.args.store.now) c.args.pid c.args.logical c.args.scope c.in_default.not-Remote)

@@ -10,4 +10,6 @@ after_push older left pushed r kept is = is ∙ ap (λ (xs : List Registration).
 
 pub returns-clause-ok : goal.returns-clause-ok
 returns-clause-ok c =
-    after_push _ _ _ c.args.name (filter_same _ _ _ (λ x b f' k. search rules) _ _ c.retain.ensures.filtered ∙ ap (filter (λ x. not (is_older c.args.name.pid.host c.args.name.logical x))) c.reserve.ensures.items) (grind (arith, common_steps))
+    after_push _ _ _ c.args.name (filter_same _ _ _ (λ x b f' k. search rules) _ _ c.retain.ensures.filtered
+    ∙ ap (filter (λ x. not (is_older c.args.name.pid.host c.args.name.logical x))) c.reserve.ensures.items)
+    (grind (arith, common_steps))

@@ -19,9 +19,16 @@ returns-then-count_others-ge-NAMES c = λ p there ready.
     let same : host ≡ c.args.name.pid.host = omega arith in
     let live : is_live (k.procs c.args.name.pid) ≡ true = grind (arith, c.is_live.ensures) in
     let count : c.count_others.result ≡ length (others (names_by names host) logical) =
-    c.count_others.ensures ∙ ap (λ (ns : List Registration). length (filter (is_other host logical) ns)) c.deref.ensures.value ∙ ap length (sym (others_are names host logical)) in
-    let full : nat_le 64 (length (others (names_by names host) logical)) ≡ true = le-leb 64 (length (others (names_by names host) logical)) (omega arith) in
-    (record { effect = set_pid_full k c.args.pid p c.args.name (eq-eqb host c.args.name.pid.host same) live full; indexed = c.requires.indexed }, lit≤ tt)
+    c.count_others.ensures ∙ ap (λ (ns : List Registration). length (filter (is_other host logical) ns)) c.deref.ensures.value
+    ∙ ap length (sym (others_are names host logical)) in
+    let full : nat_le 64 (length (others (names_by names host) logical)) ≡ true =
+    le-leb 64 (length (others (names_by names host) logical)) (omega arith) in (
+      record {
+        effect = set_pid_full k c.args.pid p c.args.name (eq-eqb host c.args.name.pid.host same) live full;
+        indexed = c.requires.indexed;
+      },
+      lit≤ tt,
+    )
 
 pub returns : goal.returns
 returns c = λ p there ready.
@@ -32,13 +39,17 @@ returns c = λ p there ready.
     let same : host ≡ c.args.name.pid.host = omega arith in
     let live : is_live (k.procs c.args.name.pid) ≡ true = grind (arith, c.is_live.ensures) in
     let count : c.count_others.result ≡ length (others (names_by names host) logical) =
-    c.count_others.ensures ∙ ap (λ (ns : List Registration). length (filter (is_other host logical) ns)) c.deref.ensures.value ∙ ap length (sym (others_are names host logical)) in
-    let few : nat_le 64 (length (others (names_by names host) logical)) ≡ false = lt-leb 64 (length (others (names_by names host) logical)) (omega arith) in
+    c.count_others.ensures ∙ ap (λ (ns : List Registration). length (filter (is_other host logical) ns)) c.deref.ensures.value
+    ∙ ap length (sym (others_are names host logical)) in
+    let few : nat_le 64 (length (others (names_by names host) logical)) ≡ false =
+    lt-leb 64 (length (others (names_by names host) logical)) (omega arith) in
     let new : c.register.new.names.items ≡ with_registered names c.args.name = c.in_ok-register.ensures.ok in
     let named : names_by c.register.new.names.items ≡ put_names (names_by names) host (with_name (names_by names host) c.args.name) =
-    ap names_by new ∙ names-registered names c.args.name ∙ ap (λ (h : ℕ). put_names (names_by names) h (with_name (names_by names h) c.args.name)) (sym same) in (
+    ap names_by new ∙ names-registered names c.args.name
+    ∙ ap (λ (h : ℕ). put_names (names_by names) h (with_name (names_by names h) c.args.name)) (sym same) in (
       record {
-        effect = set_pid_allowed k _ c.args.pid p c.args.name (eq-eqb host c.args.name.pid.host same) live few (ap (λ (n : ℕ → List Registration). record k { names = n }) named);
+        effect = set_pid_allowed k _ c.args.pid p c.args.name (eq-eqb host c.args.name.pid.host same) live few
+            (ap (λ (n : ℕ → List Registration). record k { names = n }) named);
         indexed = indexed_same c.args.store.now _ refl refl refl refl refl refl refl c.requires.indexed;
       },
       lit≤ tt,

@@ -17,10 +17,15 @@ returns c = λ p there ready.
     let x = holding_is k c.args.pid c.args.to c.in-Some.holding.number holds in (
       record {
         effect =
-            ap (λ (o : Option ℕ). called k c.args.pid p (calls.Reply c.args.message c.args.to) (first_that_holds ((is_none o, refusals.NotAwaiting) ∷ []))) holds
-            ∙ reply_allowed k _ c.args.pid c.args.to (calls.Reply c.args.message c.args.to) c.args.message 0 c.in-Some.holding.number [] x.exchange holds x.is
-            (c.put_stage.ensures.kernel c.args.to x.exchange here.place x.is ∙ ap (λ b. with_stage k (name_of c.args.to c.in-Some.holding.number) x.exchange (stages.Replied c.args.message 0 b)) c.empty.ensures);
-        indexed = c.put_stage.ensures.indexed c.args.to x.exchange here.place x.is (replied_is_nearer x.exchange.stage _ _ _) c.requires.indexed;
+            ap (λ (o : Option ℕ). called k c.args.pid p (calls.Reply c.args.message c.args.to)
+            (first_that_holds ((is_none o, refusals.NotAwaiting) ∷ []))) holds
+            ∙ reply_allowed k _ c.args.pid c.args.to (calls.Reply c.args.message c.args.to) c.args.message 0 c.in-Some.holding.number []
+            x.exchange holds x.is
+            (c.put_stage.ensures.kernel c.args.to x.exchange here.place x.is
+            ∙ ap (λ b. with_stage k (name_of c.args.to c.in-Some.holding.number) x.exchange (stages.Replied c.args.message 0 b))
+            c.empty.ensures);
+        indexed =
+            c.put_stage.ensures.indexed c.args.to x.exchange here.place x.is (replied_is_nearer x.exchange.stage _ _ _) c.requires.indexed;
       },
       lit≤ tt,
     )

@@ -26,15 +26,20 @@ returns c = λ p there ready.
     let ok = c.in-Ok.ensures p there in
     let x = holding_is k c.args.pid r.to h.number ok.1 in
     let call = calls.ReplySegment r.message r.to r.dest r.src r.count in
-    let a : Access = record { partner = r.to; limit = 512; write = true; granted = range_of r.dest r.count; own = range_of r.src r.count } in
+    let a : Access =
+    record { partner = r.to; limit = 512; write = true; granted = range_of r.dest r.count; own = range_of r.src r.count } in
     let lies = ranges_lie k c.args.pid p a h.number x.exchange ok.1 x.is ok.0 in
-    let bytes : c.in_ok-bytes.bytes ≡ bytes_in (range_of r.src r.count) p.memory = c.in_ok-bytes.ensures c.args.pid p c.requires.here.place there lies.1 in (
+    let bytes : c.in_ok-bytes.bytes ≡ bytes_in (range_of r.src r.count) p.memory =
+    c.in_ok-bytes.ensures c.args.pid p c.requires.here.place there lies.1 in (
       record {
         effect =
             ap (λ (o : Option Refusal). called k c.args.pid p call o) ok.0
-            ∙ reply_allowed k _ c.args.pid r.to call r.message r.dest h.number (bytes_in (range_of r.src r.count) p.memory) x.exchange ok.1 x.is
-            (c.put_stage.ensures.kernel r.to x.exchange ok.2.place x.is ∙ ap (λ b. with_stage k (name_of r.to h.number) x.exchange (stages.Replied r.message r.dest b)) bytes);
-        indexed = c.put_stage.ensures.indexed r.to x.exchange ok.2.place x.is (replied_is_nearer x.exchange.stage _ _ _) c.requires.kept.indexed;
+            ∙ reply_allowed k _ c.args.pid r.to call r.message r.dest h.number (bytes_in (range_of r.src r.count) p.memory) x.exchange ok.1
+            x.is
+            (c.put_stage.ensures.kernel r.to x.exchange ok.2.place x.is
+            ∙ ap (λ b. with_stage k (name_of r.to h.number) x.exchange (stages.Replied r.message r.dest b)) bytes);
+        indexed =
+            c.put_stage.ensures.indexed r.to x.exchange ok.2.place x.is (replied_is_nearer x.exchange.stage _ _ _) c.requires.kept.indexed;
       },
       lit≤ tt,
     )

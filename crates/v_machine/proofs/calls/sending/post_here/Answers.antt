@@ -18,8 +18,11 @@ pub returns-then-is_err-clause-err : goal.returns-then-is_err-clause-err
 returns-then-is_err-clause-err c =
     let s = c.args.store.now in
     let failed = on_err c.push-2.result _ (sym c.is_err.ensures.value ∙ c.if-is_err.true) c.push-2.ensures.err in
-    let sends = ap (set s.sends.items c.args.at) failed ∙ set_self s.sends.items c.args.at c.index_mut-2.result.now c.index_mut-2.ensures.value in
-    let queues = truncated s.queues.items c.args.to c.len-waiting.result c.index_mut.result.now c.index-2.result.now c.push.new.self c.index_mut-then-is_err.result.now c.truncate.new.self _ c.requires.there.queues c.index_mut.ensures.value c.index-2.ensures c.len-waiting.ensures c.in_ok-push.ensures.ok c.index_mut-then-is_err.ensures.value c.truncate.ensures in
+    let sends = ap (set s.sends.items c.args.at) failed
+    ∙ set_self s.sends.items c.args.at c.index_mut-2.result.now c.index_mut-2.ensures.value in
+    let queues = truncated s.queues.items c.args.to c.len-waiting.result c.index_mut.result.now c.index-2.result.now c.push.new.self
+    c.index_mut-then-is_err.result.now c.truncate.new.self _ c.requires.there.queues c.index_mut.ensures.value c.index-2.ensures
+    c.len-waiting.ensures c.in_ok-push.ensures.ok c.index_mut-then-is_err.ensures.value c.truncate.ensures in
     stays_alike s _ refl refl sends refl refl refl queues refl (λ q h. refl) c.requires.kept.indexed
 
 pub returns-clause-ok : goal.returns-clause-ok
@@ -31,17 +34,29 @@ returns-clause-ok c = λ p there ready.
     let x = c.args.sent in
     let s0 = c.index_mut-2.result.now in
     let pushed = on_ok c.push-2.result _ (sym c.is_err.ensures.value ∙ c.if-is_err.false) c.push-2.ensures.ok in
-    let counted = count_pushed s.places s.procs.items s.sends.items s.asked.items pid at p c.args.sent s0 c.push-2.new.self here.place here.procs here.sends c.index_mut-2.ensures.value pushed there in
-    let one : c.index.result.now ≡ s0 = same_Some c.index.result.now s0 (sym (get_of_or s.sends.items at c.index.result.now here.sends ∙ ap Some (sym c.index.ensures)) ∙ get_of_or s.sends.items at s0 here.sends ∙ ap Some (sym c.index_mut-2.ensures.value)) in
-    let number : c.next_number-number.result ≡ p.sends + 1 = c.next_number-number.ensures ∙ ap (λ (ss : List Exchange). length ss + 1) one ∙ sym counted in
-    let arrived : c.push_name.new.names.items ≡ s.arrived.items ++ name_of pid (p.sends + 1) ∷ [] = c.push_name.ensures ∙ ap (λ n. s.arrived.items ++ name_of pid n ∷ []) number in
-    let exchanges = exchanges-pushed s.places s.procs.items s.sends.items s.asked.items pid at p c.args.sent s0 c.push-2.new.self here.place here.procs here.sends c.index_mut-2.ensures.value pushed there in
+    let counted = count_pushed s.places s.procs.items s.sends.items s.asked.items pid at p c.args.sent s0 c.push-2.new.self here.place
+    here.procs here.sends c.index_mut-2.ensures.value pushed there in
+    let one : c.index.result.now ≡ s0 = same_Some c.index.result.now s0
+    (sym (get_of_or s.sends.items at c.index.result.now here.sends ∙ ap Some (sym c.index.ensures))
+    ∙ get_of_or s.sends.items at s0 here.sends ∙ ap Some (sym c.index_mut-2.ensures.value)) in
+    let number : c.next_number-number.result ≡ p.sends + 1 = c.next_number-number.ensures ∙ ap (λ (ss : List Exchange). length ss + 1) one
+    ∙ sym counted in
+    let arrived : c.push_name.new.names.items ≡ s.arrived.items ++ name_of pid (p.sends + 1) ∷ [] = c.push_name.ensures
+    ∙ ap (λ n. s.arrived.items ++ name_of pid n ∷ []) number in
+    let exchanges = exchanges-pushed s.places s.procs.items s.sends.items s.asked.items pid at p c.args.sent s0 c.push-2.new.self here.place
+    here.procs here.sends c.index_mut-2.ensures.value pushed there in
     let grown : length c.push-2.new.self ≡ p.sends + 1 = ap length pushed ∙ length-append s0 (c.args.sent ∷ []) ∙ sym counted in
     let mine = ap length (list_at_is s.places s.sends.items pid at s0 here.place here.sends c.index_mut-2.ensures.value) in
-    let waits : c.push.new.self ≡ c.index_mut.result.now ++ name_of pid (p.sends + 1) ∷ [] = c.in_ok-push.ensures.ok ∙ ap (λ n. c.index_mut.result.now ++ name_of pid n ∷ []) number in (
-      kernel-pushed s.places s.procs.items s.sends.items s.asked.items pid at p c.args.sent s0 c.push-2.new.self here.place here.procs here.sends c.index_mut-2.ensures.value pushed there s.names.items s.arrived.items c.push_name.new.names.items
-          ∙ ap (λ a. record (posted (kernel_in s) pid p x) { arrived = a }) (arrived ∙ sym (cond-true (same_host pid x.target) (s.arrived.items ++ name_of pid (p.sends + 1) ∷ []) s.arrived.items c.requires.local)),
-      indexed_posted s pid at c.args.to p x c.requires.kept here c.requires.there c.requires.local c.requires.queued there ready _ c.push-2.new.self c.index_mut.result.now c.index_mut-3.result.now c.put.new.self refl refl refl
-          refl grown (omega (arith, grown, mine, counted)) exchanges arrived c.index_mut.ensures.value (ap (set s.queues.items c.args.to) waits) c.index_mut-3.ensures.value refl
+    let waits : c.push.new.self ≡ c.index_mut.result.now ++ name_of pid (p.sends + 1) ∷ [] = c.in_ok-push.ensures.ok
+    ∙ ap (λ n. c.index_mut.result.now ++ name_of pid n ∷ []) number in (
+      kernel-pushed s.places s.procs.items s.sends.items s.asked.items pid at p c.args.sent s0 c.push-2.new.self here.place here.procs
+          here.sends c.index_mut-2.ensures.value pushed there s.names.items s.arrived.items c.push_name.new.names.items
+          ∙ ap (λ a. record (posted (kernel_in s) pid p x) { arrived = a })
+          (arrived ∙ sym
+          (cond-true (same_host pid x.target) (s.arrived.items ++ name_of pid (p.sends + 1) ∷ []) s.arrived.items c.requires.local)),
+      indexed_posted s pid at c.args.to p x c.requires.kept here c.requires.there c.requires.local c.requires.queued there ready _
+          c.push-2.new.self c.index_mut.result.now c.index_mut-3.result.now c.put.new.self refl refl refl
+          refl grown (omega (arith, grown, mine, counted)) exchanges arrived c.index_mut.ensures.value
+          (ap (set s.queues.items c.args.to) waits) c.index_mut-3.ensures.value refl
           (λ h. c.put.ensures h ∙ ap (λ n. if h == pid.host then n else latest_in c.index_mut-3.result.now h) number),
     )

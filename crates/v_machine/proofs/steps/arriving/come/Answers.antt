@@ -24,8 +24,11 @@ returns-in_err-push c =
     let s = c.args.store.now in
     let is = c.requires.posted in
     let failed = c.in_err-push.ensures.err in
-    let queues = ap (set s.queues.items c.args.to) failed ∙ set_self s.queues.items c.args.to c.index_mut.result.now c.index_mut.ensures.value in rw (is_error c.from_residual.result _ c.from_residual.ensures.1) (
-      ap is_some (arrive_allowed (kernel_in s) c.args.name is.exchange is.is is.posted (ap (λ t. is_live ((kernel_in s).procs t)) is.same_target ∙ c.requires.live)),
+    let queues = ap (set s.queues.items c.args.to) failed
+    ∙ set_self s.queues.items c.args.to c.index_mut.result.now c.index_mut.ensures.value in
+    rw (is_error c.from_residual.result _ c.from_residual.ensures.1) (
+      ap is_some (arrive_allowed (kernel_in s) c.args.name is.exchange is.is is.posted
+          (ap (λ t. is_live ((kernel_in s).procs t)) is.same_target ∙ c.requires.live)),
       lit≤ tt,
       stays_alike s _ refl refl refl refl refl refl queues refl (λ q h. refl) c.requires.kept.indexed,
     )
@@ -34,9 +37,11 @@ pub come-requires : goal.come-requires
 come-requires c =
     let s = c.args.store.now in
     let is = c.requires.posted in
-    let before = latest_is_before s c.args.name c.args.at c.args.to is.exchange c.requires.kept c.requires.here (subst (λ t. IsAt s t c.args.to) (sym is.same_target) c.requires.there) is.is is.posted in
+    let before = latest_is_before s c.args.name c.args.at c.args.to is.exchange c.requires.kept c.requires.here
+    (subst (λ t. IsAt s t c.args.to) (sym is.same_target) c.requires.there) is.is is.posted in
     let latest : latest_by s.places s.latest.items c.args.name.sender is.exchange.target.host ≡ c.get-latest.result =
-    ap (λ ls. latest_in ls is.exchange.target.host) (list_at_is s.places s.latest.items c.args.name.sender c.args.at c.index.result.now c.requires.here.place c.requires.here.latest c.index.ensures)
+    ap (λ ls. latest_in ls is.exchange.target.host) (list_at_is s.places s.latest.items c.args.name.sender c.args.at c.index.result.now
+    c.requires.here.place c.requires.here.latest c.index.ensures)
     ∙ ap (λ (t : Pid). latest_in c.index.result.now t.host) is.same_target ∙ sym c.get-latest.ensures in
     subst (λ n. n ≤ c.args.name.number) latest before
 
@@ -51,16 +56,23 @@ returns c =
     let host = ap (λ (t : Pid). t.host) is.same_target in
     let there = subst (λ t. IsAt s t c.args.to) (sym is.same_target) c.requires.there in
     let latest : latest_by s.places s.latest.items name.sender e.target.host ≡ c.get-latest.result =
-    ap (λ ls. latest_in ls e.target.host) (list_at_is s.places s.latest.items name.sender c.args.at c.index.result.now here.place here.latest c.index.ensures)
+    ap (λ ls. latest_in ls e.target.host)
+    (list_at_is s.places s.latest.items name.sender c.args.at c.index.result.now here.place here.latest c.index.ensures)
     ∙ ap (λ (t : Pid). latest_in c.index.result.now t.host) is.same_target ∙ sym c.get-latest.ensures in
     let s0 = c.index_mut-2.result.now in
     let s' = c.come.new.sends in
-    let exchanges = exchanges-come name.sender name.number c.get-latest.result e s.places s.sends.items c.args.at s0 s' here.place here.sends c.index_mut-2.ensures.value
+    let exchanges = exchanges-come name.sender name.number c.get-latest.result e s.places s.sends.items c.args.at s0 s' here.place
+    here.sends c.index_mut-2.ensures.value
     (λ m. c.come.ensures.value m ∙ ap (λ h. option_map (come_at c.get-latest.result name.number h m) (numbered s0 m)) (sym host))
-    (λ n x was mine near. subst (λ l. IsLatest l n x) latest (arrive_latest s name c.args.at c.args.to e c.requires.kept here there is.is is.posted n x was mine near)) in
-    let counts = count-set_even s.sends.items c.args.at s0 s' (get_of_or s.sends.items c.args.at s0 here.sends ∙ ap Some (sym c.index_mut-2.ensures.value)) c.come.ensures.count in
-    let processes = procs-even s.places s.procs.items s.sends.items (set s.sends.items c.args.at s') s.asked.items s.asked.items counts (λ to. refl) in
-    let sent : numbered s0 name.number ≡ Some e = sym (sent_there s.places s.procs.items s.sends.items s.asked.items name.sender c.args.at s0 name.number here.place here.sends c.index_mut-2.ensures.value) ∙ is.is in
+    (λ n x was mine near. subst (λ l. IsLatest l n x) latest
+    (arrive_latest s name c.args.at c.args.to e c.requires.kept here there is.is is.posted n x was mine near)) in
+    let counts = count-set_even s.sends.items c.args.at s0 s'
+    (get_of_or s.sends.items c.args.at s0 here.sends ∙ ap Some (sym c.index_mut-2.ensures.value)) c.come.ensures.count in
+    let processes =
+    procs-even s.places s.procs.items s.sends.items (set s.sends.items c.args.at s') s.asked.items s.asked.items counts (λ to. refl) in
+    let sent : numbered s0 name.number ≡ Some e = sym
+    (sent_there s.places s.procs.items s.sends.items s.asked.items name.sender c.args.at s0 name.number here.place here.sends
+    c.index_mut-2.ensures.value) ∙ is.is in
     let low = (numbered_low s0 name.number e sent).1 in
     let mine = ap length (list_at_is s.places s.sends.items name.sender c.args.at s0 here.place here.sends c.index_mut-2.ensures.value) in
     let count = c.come.ensures.count in
@@ -68,13 +80,16 @@ returns c =
       record {
         effect =
             arrive_allowed (kernel_in s) name e is.is is.posted (ap (λ t. is_live ((kernel_in s).procs t)) is.same_target ∙ c.requires.live)
-            ∙ (λ i. Some (unseen (record (kernel_in s) { procs = sym processes i; exchanges = sym exchanges i; arrived = sym c.push_name.ensures i })));
-        indexed = indexed_arrived s _ name.sender c.args.at c.args.to name.number (record e { stage = stages.Queued }) (λ n. option_map (after_arrival name e n) (exchanges_by s.places s.sends.items n)) here there c.requires.kept.indexed
+            ∙ (λ i. Some (unseen
+            (record (kernel_in s) { procs = sym processes i; exchanges = sym exchanges i; arrived = sym c.push_name.ensures i })));
+        indexed = indexed_arrived s _ name.sender c.args.at c.args.to name.number (record e { stage = stages.Queued })
+            (λ n. option_map (after_arrival name e n) (exchanges_by s.places s.sends.items n)) here there c.requires.kept.indexed
             (arrive_at s name c.args.at c.args.to e c.requires.kept here there is.is is.posted) refl
             (arrive_others s name c.args.at c.args.to e c.requires.kept here there is.is is.posted)
             (arrive_new s name c.args.at c.args.to e c.requires.kept here there is.is is.posted)
             (arrive_rest s name c.args.at c.args.to e c.requires.kept here there is.is is.posted)
-            s' c.index_mut.result.now c.index_mut-3.result.now c.put.new.self refl refl refl refl (omega (arith, low, count)) (omega (arith, mine, count)) exchanges c.push_name.ensures c.index_mut.ensures.value
+            s' c.index_mut.result.now c.index_mut-3.result.now c.put.new.self refl refl refl refl (omega (arith, low, count))
+            (omega (arith, mine, count)) exchanges c.push_name.ensures c.index_mut.ensures.value
             (ap (set s.queues.items c.args.to) pushed) c.index_mut-3.ensures.value refl
             (λ h. c.put.ensures h ∙ ap (λ z. if h == z then name.number else latest_in c.index_mut-3.result.now h) (sym host));
       },

@@ -5,7 +5,7 @@ use Rattle.vk_base.specs.declared.kernel.Stage.TheVariants as stages
 use Rattle.vk_base.specs.declared.kernel.State.TheVariants as states
 use Rattle.vk_base.specs.Kernel.{Kernel, put_exchange}
 use Rattle.vk_base.specs.Steps.{taken, received, with_part}
-use Rattle.v_machine.specs.Activities.{call_of, outcome_answer}
+use Rattle.vk_base.specs.Activities.{call_of, answer_of}
 use Rattle.v_machine.specs.Places.{count_at}
 use Rattle.v_machine.specs.Rules.{HasRoom}
 use Rattle.v_machine.specs.Sends.{at_stage}
@@ -19,7 +19,8 @@ pub returns-in_err-sent : goal.returns-in_err-sent
 returns-in_err-sent c = rw c.from_residual.ensures (
   λ is.
       let s = c.args.store.now in
-      let there = sent_there s.places s.procs.items s.sends.items s.asked.items c.args.name.sender c.args.from c.index.result.now c.args.name.number is c.requires.from c.index.ensures in
+      let there = sent_there s.places s.procs.items s.sends.items s.asked.items c.args.name.sender c.args.from c.index.result.now
+      c.args.name.number is c.requires.from c.index.ensures in
       grind (arith, common_steps, there),
   refl,
 )
@@ -30,17 +31,32 @@ returns c = λ pid p e place sender there at_name room queued indexed.
     let s = c.args.store.now in
     let x = c.index_mut-proc.result.now in
     let w = call_of c.args.waiting in
-    let named = sent_there s.places s.procs.items s.sends.items s.asked.items c.args.name.sender c.args.from c.index.result.now c.args.name.number sender c.requires.from c.index.ensures in
+    let named = sent_there s.places s.procs.items s.sends.items s.asked.items c.args.name.sender c.args.from c.index.result.now
+    c.args.name.number sender c.requires.from c.index.ensures in
     let sent : c.in_ok-sent.sent.now ≡ e = grind (arith, common_steps, named, at_name) in
-    let is_p = proc_is s.places s.procs.items s.sends.items s.asked.items pid c.args.at x p place c.requires.at c.index_mut-proc.ensures.value there in
-    let into : Process → Process = λ q. record q { memory = with_part w e q.memory; state = states.Done w (received w c.args.name.sender e) } in
+    let is_p = proc_is s.places s.procs.items s.sends.items s.asked.items pid c.args.at x p place c.requires.at
+    c.index_mut-proc.ensures.value there in
+    let into : Process →
+    Process = λ q. record q { memory = with_part w e q.memory; state = states.Done w (received w c.args.name.sender e) } in
     let memory : c.receive_into-outcome.new.memory ≡ with_part w e x.memory =
-    c.receive_into-outcome.ensures.memory (subst (λ (q : Process). HasRoom w q.memory) (sym is_p) room) ∙ ap (λ y. with_part w y x.memory) sent in
-    let answer : outcome_answer c.receive_into-outcome.result ≡ received w c.args.name.sender e = c.receive_into-outcome.ensures.answer ∙ ap (received w c.args.name.sender) sent in
-    let processes = kernel-process s.places s.procs.items s.sends.items s.asked.items s.names.items s.arrived.items into pid c.args.at x _ p place c.requires.at c.index_mut-proc.ensures.value there
-    (λ i. record (process_of x (count_at s.sends.items c.args.at) (count_at s.asked.items c.args.at)) { memory = memory i; state = states.Done w (answer i) }) in
-    let exchanges = kernel-exchange s.places _ s.sends.items s.asked.items s.names.items s.arrived.items (at_stage stages.Taken) c.args.name.sender c.args.from c.args.name.number c.index_mut.result.now c.put_stage.new.sends e sender c.requires.from c.index_mut.ensures.value at_name c.put_stage.ensures in
-    let later = exchanges-change s.places s.procs.items s.sends.items s.asked.items (at_stage stages.Taken) c.args.name.sender c.args.from c.args.name.number c.index_mut.result.now c.put_stage.new.sends e sender c.requires.from c.index_mut.ensures.value at_name c.put_stage.ensures in (
-      exchanges ∙ ap (λ (k : Kernel). record k { exchanges = put_exchange (exchanges_by s.places s.sends.items) c.args.name (at_stage stages.Taken e) }) processes,
-      indexed_later s _ refl (length-set s.procs.items c.args.at _) (length-set s.sends.items c.args.from c.put_stage.new.sends) refl refl refl refl (sends_even s.places s.procs.items s.sends.items s.asked.items (at_stage stages.Taken) c.args.from c.args.name.number c.index_mut.result.now c.put_stage.new.sends c.requires.from c.index_mut.ensures.value c.put_stage.ensures) (put_no_nearer _ _ _ e _ at_name later refl (taken_is_nearer e.stage queued)) indexed,
+    c.receive_into-outcome.ensures.memory (subst (λ (q : Process). HasRoom w q.memory) (sym is_p) room)
+    ∙ ap (λ y. with_part w y x.memory) sent in
+    let answer : answer_of c.receive_into-outcome.result ≡ received w c.args.name.sender e = c.receive_into-outcome.ensures.answer
+    ∙ ap (received w c.args.name.sender) sent in
+    let processes = kernel-process s.places s.procs.items s.sends.items s.asked.items s.names.items s.arrived.items into pid c.args.at x _ p
+    place c.requires.at c.index_mut-proc.ensures.value there
+    (λ i. record (process_of x (count_at s.sends.items c.args.at) (count_at s.asked.items c.args.at))
+    { memory = memory i; state = states.Done w (answer i) }) in
+    let exchanges = kernel-exchange s.places _ s.sends.items s.asked.items s.names.items s.arrived.items (at_stage stages.Taken)
+    c.args.name.sender c.args.from c.args.name.number c.index_mut.result.now c.put_stage.new.sends e sender c.requires.from
+    c.index_mut.ensures.value at_name c.put_stage.ensures in
+    let later = exchanges-change s.places s.procs.items s.sends.items s.asked.items (at_stage stages.Taken) c.args.name.sender c.args.from
+    c.args.name.number c.index_mut.result.now c.put_stage.new.sends e sender c.requires.from c.index_mut.ensures.value at_name
+    c.put_stage.ensures in (
+      exchanges ∙ ap (λ (k : Kernel).
+          record k { exchanges = put_exchange (exchanges_by s.places s.sends.items) c.args.name (at_stage stages.Taken e) }) processes,
+      indexed_later s _ refl (length-set s.procs.items c.args.at _) (length-set s.sends.items c.args.from c.put_stage.new.sends) refl refl
+          refl refl (sends_even s.places s.procs.items s.sends.items s.asked.items (at_stage stages.Taken) c.args.from c.args.name.number
+          c.index_mut.result.now c.put_stage.new.sends c.requires.from c.index_mut.ensures.value c.put_stage.ensures)
+          (put_no_nearer _ _ _ e _ at_name later refl (taken_is_nearer e.stage queued)) indexed,
     )

@@ -13,11 +13,13 @@ returns c =
     let place = c.in_ok-at.ensures.here.place in
     let there = c.proc.ensures c.args.pid place in
     let sent = c.sent_of.ensures c.args.pid place in
-    let p = process_of c.proc.result.now (count_at c.args.store.now.sends.items c.in_ok-at.at) (count_at c.args.store.now.asked.items c.in_ok-at.at) in
+    let p = process_of c.proc.result.now (count_at c.args.store.now.sends.items c.in_ok-at.at)
+    (count_at c.args.store.now.asked.items c.in_ok-at.at) in
     let e = c.in_ok-sent.sent.now in
     record {
-      effect = fail_allowed k _ c.args.pid p c.in_ok-_send._send e c.args.why c.in_ok-why.why there (grind arith) (grind (arith, common_steps)) (grind (arith, common_steps))
+      effect = fail_allowed k _ c.args.pid p c.in_ok-_send._send e c.args.why c.in_ok-why.why there (grind arith)
+          (grind (arith, common_steps)) (grind (arith, common_steps))
           (sym (c.failure.ensures k e (sym c.is_live.ensures)) ∙ c.in_ok-why.was)
-          (c.put_activity.ensures.kernel c.args.pid p place there ∙ ap (with_state k c.args.pid p) c.ended.ensures);
+          (c.put_activity.ensures.kernel c.args.pid p place there ∙ ap (with_state k c.args.pid p) c.ended.ensures.kernel);
       indexed = c.put_activity.ensures.indexed c.requires.indexed;
     }

@@ -6,7 +6,7 @@ use Rattle.vk_base.specs.declared.kernel.Process.{Process}
 use Rattle.vk_base.specs.declared.kernel.State.TheVariants as states
 use Rattle.vk_base.specs.Kernel.{name_of, sending, reply_of}
 use Rattle.vk_base.specs.Ranges.{with_bytes}
-use Rattle.v_machine.specs.Activities.{state_of}
+use Rattle.vk_base.specs.Activities.{state_of}
 use Rattle.v_machine.specs.Kept.{kernel_in}
 use Rattle.v_machine.specs.Places.{count_at}
 use Rattle.v_machine.specs.Tables.{exchanges_by, process_of}
@@ -23,9 +23,14 @@ returns-in_default c =
     let here = c.in_ok-at.ensures.here in
     let there = c.proc.ensures c.args.pid here.place in
     let blocked : sending (state_of c.proc.result.now.activity) ≡ Some c.in_ok-send.send = grind arith in
-    let named = sent_there s.places s.procs.items s.sends.items s.asked.items c.args.pid c.in_ok-at.at c.index.result.now (count_at s.sends.items c.in_ok-at.at) here.place here.sends c.index.ensures in
-    let at : exchanges_by s.places s.sends.items (name_of c.args.pid (count_at s.sends.items c.in_ok-at.at)) ≡ Some (c.in_ok-sent.sent.now) = grind (arith, common_steps, named) in
-    (finish_not (kernel_in s) c.args.pid _ c.in_ok-send.send _ there blocked at (not_replied c.in_ok-sent.sent.now.stage c.in_default.not-Replied), stays s c.requires.indexed)
+    let named = sent_there s.places s.procs.items s.sends.items s.asked.items c.args.pid c.in_ok-at.at c.index.result.now
+    (count_at s.sends.items c.in_ok-at.at) here.place here.sends c.index.ensures in
+    let at : exchanges_by s.places s.sends.items (name_of c.args.pid (count_at s.sends.items c.in_ok-at.at)) ≡ Some
+    (c.in_ok-sent.sent.now) = grind (arith, common_steps, named) in (
+      finish_not (kernel_in s) c.args.pid _ c.in_ok-send.send _ there blocked at
+          (not_replied c.in_ok-sent.sent.now.stage c.in_default.not-Replied),
+      stays s c.requires.indexed,
+    )
 
 pub returns : goal.returns
 returns c =
@@ -34,18 +39,31 @@ returns c =
     let here = c.in_ok-at.ensures.here in
     let there = c.proc.ensures c.args.pid here.place in
     let blocked : sending (state_of c.proc.result.now.activity) ≡ Some c.in_ok-send.send = grind arith in
-    let named = sent_there s.places s.procs.items s.sends.items s.asked.items c.args.pid c.in_ok-at.at c.index.result.now (count_at s.sends.items c.in_ok-at.at) here.place here.sends c.index.ensures in
-    let at : exchanges_by s.places s.sends.items (name_of c.args.pid (count_at s.sends.items c.in_ok-at.at)) ≡ Some (c.in_ok-sent.sent.now) = grind (arith, common_steps, named) in
-    let into : Process → Process = λ q. record q { memory = with_bytes q.memory c.in-Replied.dest c.in-Replied.bytes; state = states.Done (calls.Send c.in_ok-send.send.0 c.in_ok-send.send.1) (answers.Replied c.in-Replied.message) } in
-    let same_size = memory_is s.places s.procs.items s.sends.items s.asked.items c.args.pid c.in_ok-at.at x _ here.place here.procs c.index_mut-proc.ensures.value there in
-    let fits = reply_room c.requires.size (kernel_in s) c.args.pid _ (count_at s.sends.items c.in_ok-at.at) _ c.in-Replied.message c.in-Replied.dest c.in-Replied.bytes c.requires.sized there at c.in-Replied.is in
+    let named = sent_there s.places s.procs.items s.sends.items s.asked.items c.args.pid c.in_ok-at.at c.index.result.now
+    (count_at s.sends.items c.in_ok-at.at) here.place here.sends c.index.ensures in
+    let at : exchanges_by s.places s.sends.items (name_of c.args.pid (count_at s.sends.items c.in_ok-at.at)) ≡ Some
+    (c.in_ok-sent.sent.now) = grind (arith, common_steps, named) in
+    let into : Process → Process = λ q. record q {
+      memory = with_bytes q.memory c.in-Replied.dest c.in-Replied.bytes;
+      state = states.Done (calls.Send c.in_ok-send.send.0 c.in_ok-send.send.1) (answers.Replied c.in-Replied.message);
+    } in
+    let same_size = memory_is s.places s.procs.items s.sends.items s.asked.items c.args.pid c.in_ok-at.at x _ here.place here.procs
+    c.index_mut-proc.ensures.value there in
+    let fits = reply_room c.requires.size (kernel_in s) c.args.pid _ (count_at s.sends.items c.in_ok-at.at) _ c.in-Replied.message
+    c.in-Replied.dest c.in-Replied.bytes c.requires.sized there at c.in-Replied.is in
     let bytes : c.as_slice.result.now ≡ c.in-Replied.bytes = c.as_slice.ensures in
     let written : c.write-fits.new.self ≡ with_bytes x.memory c.in-Replied.dest c.in-Replied.bytes =
-    (no_error c.write-fits.result _ _ c.write-fits.ensures.ok c.write-fits.ensures.err (λ short. let few = short.0 in let many = ap length bytes in omega (arith, fits, same_size, few, many))).1
+    (no_error c.write-fits.result _ _ c.write-fits.ensures.ok c.write-fits.ensures.err
+    (λ short. let few = short.0 in let many = ap length bytes in omega (arith, fits, same_size, few, many))).1
     ∙ ap (with_bytes x.memory c.in-Replied.dest) bytes in
     record {
-      effect = finish_allowed (kernel_in s) _ c.args.pid _ c.in_ok-send.send _ c.in-Replied.message c.in-Replied.dest c.in-Replied.bytes there blocked at (ap (λ p. reply_of p) c.in-Replied.is)
-          (kernel-process s.places s.procs.items s.sends.items s.asked.items s.names.items s.arrived.items into c.args.pid c.in_ok-at.at x _ _ here.place here.procs c.index_mut-proc.ensures.value there
-          (λ i. record (process_of x (count_at s.sends.items c.in_ok-at.at) (count_at s.asked.items c.in_ok-at.at)) { memory = written i; state = states.Done (calls.Send c.in_ok-send.send.0 c.in_ok-send.send.1) (answers.Replied c.in-Replied.message) }));
+      effect = finish_allowed (kernel_in s) _ c.args.pid _ c.in_ok-send.send _ c.in-Replied.message c.in-Replied.dest c.in-Replied.bytes
+          there blocked at (ap (λ p. reply_of p) c.in-Replied.is)
+          (kernel-process s.places s.procs.items s.sends.items s.asked.items s.names.items s.arrived.items into c.args.pid c.in_ok-at.at x _
+          _ here.place here.procs c.index_mut-proc.ensures.value there
+          (λ i. record (process_of x (count_at s.sends.items c.in_ok-at.at) (count_at s.asked.items c.in_ok-at.at)) {
+            memory = written i;
+            state = states.Done (calls.Send c.in_ok-send.send.0 c.in_ok-send.send.1) (answers.Replied c.in-Replied.message);
+          }));
       indexed = indexed_same s _ refl (length-set s.procs.items c.in_ok-at.at _) refl refl refl refl refl c.requires.indexed;
     }

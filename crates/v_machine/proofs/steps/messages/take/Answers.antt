@@ -1,24 +1,34 @@
 use Rattle.std.proofs.Common.{◌≡◌, Some, sym, arith, ◌∙◌}
 use Rattle.vk_base.specs.Kernel.{receiving}
-use Rattle.v_machine.specs.Activities.{call_of, state_of}
+use Rattle.vk_base.specs.Activities.{call_of, state_of}
 use Rattle.v_machine.proofs.Taking.{take_by, take_lost, still_low}
 use Rattle.v_machine.proofs.steps.messages.take.Goals as goal
 
 pub returns-in_err-from : goal.returns-in_err-from
 returns-in_err-from c =
     let place = c.in_ok-at.ensures.here.place in
-    let waits : receiving (state_of c.proc.result.now.activity) ≡ Some (call_of c.in_ok-waiting.waiting) = grind (arith, c.receiving.ensures, c.in_ok-waiting.was) in
-    rw c.from_residual-in_err-from.ensures (take_lost c.args.store.now c.front.new.store c.args.pid c.in_ok-at.at _ (call_of c.in_ok-waiting.waiting) c.in_ok-name.name c.requires c.in_ok-at.ensures.here (c.proc.ensures c.args.pid place) waits (sym c.in_ok-name.was ∙ c.front.ensures.first) c.front.ensures.tables c.front.ensures.indexed (sym c.in_err-from.was ∙ c.find-2.ensures.place))
+    let waits : receiving (state_of c.proc.result.now.activity) ≡ Some (call_of c.in_ok-waiting.waiting) =
+    grind (arith, c.receiving.ensures, c.in_ok-waiting.was) in
+    rw c.from_residual-in_err-from.ensures (take_lost c.args.store.now c.front.new.store c.args.pid c.in_ok-at.at _
+    (call_of c.in_ok-waiting.waiting) c.in_ok-name.name c.requires c.in_ok-at.ensures.here (c.proc.ensures c.args.pid place) waits
+    (sym c.in_ok-name.was ∙ c.front.ensures.first) c.front.ensures.tables c.front.ensures.indexed
+    (sym c.in_err-from.was ∙ c.find-2.ensures.place))
 
 pub deliver-requires-clause-at : goal.deliver-requires-clause-at
 deliver-requires-clause-at c =
     let place = c.in_ok-at.ensures.here.place in
-    let waits : receiving (state_of c.proc.result.now.activity) ≡ Some (call_of c.in_ok-waiting.waiting) = grind (arith, c.receiving.ensures, c.in_ok-waiting.was) in
-    still_low c.args.store.now c.front.new.store c.args.pid c.in_ok-at.at _ (call_of c.in_ok-waiting.waiting) c.in_ok-name.name c.requires c.in_ok-at.ensures.here (c.proc.ensures c.args.pid place) waits (sym c.in_ok-name.was ∙ c.front.ensures.first) c.front.ensures.tables
+    let waits : receiving (state_of c.proc.result.now.activity) ≡ Some (call_of c.in_ok-waiting.waiting) =
+    grind (arith, c.receiving.ensures, c.in_ok-waiting.was) in
+    still_low c.args.store.now c.front.new.store c.args.pid c.in_ok-at.at _ (call_of c.in_ok-waiting.waiting) c.in_ok-name.name c.requires
+    c.in_ok-at.ensures.here (c.proc.ensures c.args.pid place) waits (sym c.in_ok-name.was ∙ c.front.ensures.first)
+    c.front.ensures.tables
 
 pub returns : goal.returns
 returns c =
     let place = c.in_ok-at.ensures.here.place in
-    let waits : receiving (state_of c.proc.result.now.activity) ≡ Some (call_of c.in_ok-waiting.waiting) = grind (arith, c.receiving.ensures, c.in_ok-waiting.was) in
-    take_by c.args.store.now c.front.new.store c.args.pid c.in_ok-at.at _ (call_of c.in_ok-waiting.waiting) c.in_ok-name.name c.requires c.in_ok-at.ensures.here (c.proc.ensures c.args.pid place) waits (sym c.in_ok-name.was ∙ c.front.ensures.first) c.front.ensures.tables
+    let waits : receiving (state_of c.proc.result.now.activity) ≡ Some (call_of c.in_ok-waiting.waiting) =
+    grind (arith, c.receiving.ensures, c.in_ok-waiting.was) in
+    take_by c.args.store.now c.front.new.store c.args.pid c.in_ok-at.at _ (call_of c.in_ok-waiting.waiting) c.in_ok-name.name c.requires
+    c.in_ok-at.ensures.here (c.proc.ensures c.args.pid place) waits (sym c.in_ok-name.was ∙ c.front.ensures.first)
+    c.front.ensures.tables
     c.deliver.new.store c.in_ok-from.from c.deliver.result c.front.ensures.indexed c.in_ok-from.ensures.here c.deliver.ensures

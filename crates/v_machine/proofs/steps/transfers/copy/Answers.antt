@@ -30,11 +30,13 @@ returns c =
     let low = parts.1 in
     let room : m.dest + (part.start + part.len) ≤ length w.process.memory = omega (arith, fits, low) in
     let first = c.write_part.ensures.kernel name.sender who w.process e m place w.here.place w.there at opened room in
-    let second = c.put_done.ensures name.sender e (ap (λ ps. place_in ps name.sender) c.write_part.ensures.places ∙ place) (ap (λ (x : Kernel). x.exchanges name) first ∙ at) in
+    let second = c.put_done.ensures name.sender e (ap (λ ps. place_in ps name.sender) c.write_part.ensures.places ∙ place)
+    (ap (λ (x : Kernel). x.exchanges name) first ∙ at) in
     let done : c.in_ok-done.done ≡ e.done + part.len = c.in_ok-done.ensures.done ∙ ap (λ n. n + part.len) (sym parts.0) in
     let between = with_memory k who w.process (with_bytes w.process.memory (m.dest + part.start) (bytes_in part m.bytes)) in
     record {
       effect = copy_allowed k _ name c.args.moving part.start part.len e m who w.process at opened next w.is
-          (second.0 ∙ ap (λ x. with_exchange x name (with_written c.in_ok-done.done e)) first ∙ ap (λ d. with_exchange between name (with_written d e)) done);
+          (second.0 ∙ ap (λ x. with_exchange x name (with_written c.in_ok-done.done e)) first
+          ∙ ap (λ d. with_exchange between name (with_written d e)) done);
       indexed = second.1 (c.write_part.ensures.indexed c.requires.indexed);
     }

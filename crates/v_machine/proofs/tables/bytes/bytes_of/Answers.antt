@@ -13,7 +13,8 @@ pieces-preserved c =
     let lies : c.args.start + c.args.count ≤ length memory = grind (arith, common_steps) in
     let few : len + length old ≤ c.args.count = grind (arith, common_steps) in
     let inside : c.args.start + length old + len ≤ length memory = omega (arith, lies, few) in
-    let more : c.append.new.bytes.items ≡ old ++ bytes_in (range_of (c.args.start + length old) len) memory = c.in_ok-append.ensures ∙ ap (λ n. old ++ bytes_in (range_of (c.args.start + n) len) memory) done in
+    let more : c.append.new.bytes.items ≡ old ++ bytes_in (range_of (c.args.start + length old) len) memory = c.in_ok-append.ensures
+    ∙ ap (λ n. old ++ bytes_in (range_of (c.args.start + n) len) memory) done in
     let size = ap length more ∙ length-append old _ ∙ ap (λ n. length old + n) (piece_len memory (c.args.start + length old) len inside) in
     record {
       most = omega (arith, size, few);

@@ -12,6 +12,8 @@ returns-clause-grouped c =
     let group = c.index_mut.result.now in
     let more = c.push.new.self in
     let low : place < length groups = let small = c.group_of.ensures.low in let count = c.requires in omega (arith, small, count) in
-    let put : more ≡ group ++ record { pid = c.args.pid; at = c.args.at } ∷ [] → (pids : List Pid) → length pids ≡ c.args.at → AreGrouped pids groups → AreGrouped (pids ++ c.args.pid ∷ []) (set groups place more) =
-    λ pushed pids count grouped. grouped_put pids groups c.args.pid group more place c.args.at c.group_of.ensures.value count pushed c.index_mut.ensures.value low grouped in
+    let put : more ≡ group ++ record { pid = c.args.pid; at = c.args.at } ∷ [] → (pids : List Pid) → length pids ≡ c.args.at →
+    AreGrouped pids groups → AreGrouped (pids ++ c.args.pid ∷ []) (set groups place more) =
+    λ pushed pids count grouped. grouped_put pids groups c.args.pid group more place c.args.at c.group_of.ensures.value count pushed
+    c.index_mut.ensures.value low grouped in
     on_ok_weaker c.push.result put c.push.ensures

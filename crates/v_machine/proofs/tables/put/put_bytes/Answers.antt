@@ -19,4 +19,8 @@ returns-in-Err-clause-fits c = λ pid p is there.
     lt-leb (c.args.start + length c.args.bytes.now) (length p.memory) (omega (arith, short, size))
 
 pub returns-in-Ok-clause-kernel : goal.returns-in-Ok-clause-kernel
-returns-in-Ok-clause-kernel c = λ pid p is there. kernel-process _ _ _ _ _ _ (λ q. record q { memory = with_bytes q.memory c.args.start c.args.bytes.now }) pid c.args.at c.index_mut.result.now _ p is c.requires c.index_mut.ensures.value there (ap (λ m. process_of (record c.index_mut.result.now { memory = m }) (count_at c.args.store.now.sends.items c.args.at) (count_at c.args.store.now.asked.items c.args.at)) c.in-Ok.ensures.ok.1)
+returns-in-Ok-clause-kernel c = λ pid p is there.
+    kernel-process _ _ _ _ _ _ (λ q. record q { memory = with_bytes q.memory c.args.start c.args.bytes.now }) pid c.args.at
+    c.index_mut.result.now _ p is c.requires c.index_mut.ensures.value there
+    (ap (λ m. process_of (record c.index_mut.result.now { memory = m }) (count_at c.args.store.now.sends.items c.args.at)
+    (count_at c.args.store.now.asked.items c.args.at)) c.in-Ok.ensures.ok.1)

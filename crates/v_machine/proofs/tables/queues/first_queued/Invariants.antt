@@ -8,7 +8,8 @@ use Rattle.v_machine.proofs.tables.queues.first_queued.Given as goal
 
 abbrev pub invariant-loop-name : goal.invariant-loop-name
 invariant-loop-name l = record {
-  same : filter (queued_at (exchanges_by l.places l.sends) l.pid) l.queue ≡ filter (queued_at (exchanges_by l.places l.sends) l.pid) l.fn.queue;
+  same : filter (queued_at (exchanges_by l.places l.sends) l.pid) l.queue ≡ filter (queued_at (exchanges_by l.places l.sends) l.pid)
+      l.fn.queue;
   among : (n : Name) → list_any (same_name n) l.queue ≡ true → list_any (same_name n) l.fn.queue ≡ true;
 }
 

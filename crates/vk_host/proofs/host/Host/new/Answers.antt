@@ -7,7 +7,9 @@ use Rattle.vk_host.proofs.Events.{stands_initial, at_initial}
 use Rattle.vk_host.proofs.host.Host.new.Goals as goal
 
 pub returns-clause-stands : goal.returns-clause-stands
-returns-clause-stands c = stands_initial _ c.args.config.now.specs (c.in_ok-initial_seats.ensures ∙ ap (initial_seats c.args.host) c.specs.ensures.specs) refl (λ host. subst (λ specs. count_by (is_on host) specs ≤ 32) c.specs.ensures.specs (c.specs.ensures.few host))
+returns-clause-stands c = stands_initial _ c.args.config.now.specs
+    (c.in_ok-initial_seats.ensures ∙ ap (initial_seats c.args.host) c.specs.ensures.specs) refl
+    (λ host. subst (λ specs. count_by (is_on host) specs ≤ 32) c.specs.ensures.specs (c.specs.ensures.few host))
 
 pub returns-clause-processes : goal.returns-clause-processes
 returns-clause-processes c = λ pid.

@@ -11,7 +11,8 @@ returns-in_err-get-clause-list c =
 
 pub returns-clause-list : goal.returns-clause-list
 returns-clause-list c =
-    c.in_ok-get.ensures.lookup.3.1 None ∙ ap (λ xs. get_or xs c.args.slot None) c.deref.ensures.value ∙ sym (home_seen _ _ _ c.self.view_is c.args.slot c.self.invariant)
+    c.in_ok-get.ensures.lookup.3.1 None ∙ ap (λ xs. get_or xs c.args.slot None) c.deref.ensures.value
+    ∙ sym (home_seen _ _ _ c.self.view_is c.args.slot c.self.invariant)
 
 pub returns-clause-low : goal.returns-clause-low
 returns-clause-low c =

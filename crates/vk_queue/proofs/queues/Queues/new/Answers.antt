@@ -7,7 +7,8 @@ pub invariant_of-result : goal.invariant_of-result
 invariant_of-result c =
     let none : c.in_ok-homes.homes.items ≡ replicate c.args.slots None = search rules in
     subst (λ (ls : List Line). IsKept ls c.in_ok-homes.homes.items) (sym c.in_ok-lines.ensures)
-    (subst (λ (hs : List (Option ℕ)). IsKept (replicate c.args.lists (record { slots = []; room = c.args.slots })) hs) (sym none) (kept_new c.args.slots c.args.lists))
+    (subst (λ (hs : List (Option ℕ)). IsKept (replicate c.args.lists (record { slots = []; room = c.args.slots })) hs) (sym none)
+    (kept_new c.args.slots c.args.lists))
 
 pub returns-clause-empty : goal.returns-clause-empty
 returns-clause-empty c =

@@ -15,7 +15,8 @@ invariant_of-self c =
     let low = low_line _ _ _ c.self.view_is c.args.list c.requires.list in
     let fits = low_home _ _ _ c.self.view_is c.args.slot c.requires.slot in
     let free = sym (home_seen _ _ _ c.self.view_is c.args.slot c.self.invariant) ∙ c.requires.free in
-    kept_push _ _ c.self.invariant c.args.list c.index_mut.result.now low c.index_mut.ensures.value c.args.slot c.push.new.self fits free c.push.ensures
+    kept_push _ _ c.self.invariant c.args.list c.index_mut.result.now low c.index_mut.ensures.value c.args.slot c.push.new.self fits free
+    c.push.ensures
 
 pub returns-clause-last : goal.returns-clause-last
 returns-clause-last c =

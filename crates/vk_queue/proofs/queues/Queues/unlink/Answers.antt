@@ -16,7 +16,8 @@ pub invariant_of-self : goal.invariant_of-self
 invariant_of-self c =
     let home = sym (home_seen _ _ _ c.self.view_is c.args.slot c.self.invariant) ∙ sym c.list_of.ensures.list ∙ c.in-Some.is in
     let low = low_of_home _ _ _ c.args.slot c.self.invariant home in
-    kept_unlink _ _ c.self.invariant c.in-Some.list c.index_mut.result.now low c.index_mut.ensures.value c.args.slot c.remove.new.self home c.remove.ensures
+    kept_unlink _ _ c.self.invariant c.in-Some.list c.index_mut.result.now low c.index_mut.ensures.value c.args.slot c.remove.new.self home
+    c.remove.ensures
 
 pub returns-in-Some-clause-out : goal.returns-in-Some-clause-out
 returns-in-Some-clause-out c =
@@ -34,4 +35,5 @@ returns-in-Some-clause-apart c = apart_kept _ _ (invariant_of-self c)
 pub returns-in-Some-clause-homes : goal.returns-in-Some-clause-homes
 returns-in-Some-clause-homes c = λ s.
     let home = sym (home_seen _ _ _ c.self.view_is c.args.slot c.self.invariant) ∙ sym c.list_of.ensures.list ∙ c.in-Some.is in
-    homes_seen _ _ _ c.self.view_is c.in-Some.list c.args.slot s c.remove.new.self None (low_slot _ _ _ home) c.self.invariant (invariant_of-self c)
+    homes_seen _ _ _ c.self.view_is c.in-Some.list c.args.slot s c.remove.new.self None (low_slot _ _ _ home) c.self.invariant
+    (invariant_of-self c)

@@ -10,7 +10,8 @@ loop-spec-init c =
     record {
       pids = c.new-pids.ensures.items;
       count = count_none groups 1024 c.in_ok-groups.ensures;
-      grouped = subst (λ pids. AreGrouped pids groups) (sym c.new-pids.ensures.items) (subst (AreGrouped []) (sym c.in_ok-groups.ensures) (grouped_none 1024));
+      grouped = subst (λ pids. AreGrouped pids groups) (sym c.new-pids.ensures.items)
+          (subst (AreGrouped []) (sym c.in_ok-groups.ensures) (grouped_none 1024));
     }
 
 pub loop-spec-preserved : goal.loop-spec-preserved
@@ -20,5 +21,6 @@ loop-spec-preserved c =
     record {
       pids = grind (arith, common_steps);
       count = c.add.ensures.count;
-      grouped = subst (λ pids. AreGrouped pids c.add.new.groups.items) (sym pushed) (c.in_ok-add.ensures.grouped c.loop-spec.pids.items count c.loop-spec.invariant.grouped);
+      grouped = subst (λ pids. AreGrouped pids c.add.new.groups.items) (sym pushed)
+          (c.in_ok-add.ensures.grouped c.loop-spec.pids.items count c.loop-spec.invariant.grouped);
     }

@@ -1,0 +1,176 @@
+//! Scenarios as texts.
+
+ghost use Rattle.std.specs.Prelude.{◌≡◌, ◌⊎◌, ◌+◌, ◌<◌, ◌≤◌, ◌^◌, Ok, Err, IfOk, IfErr, map, drop, length};
+ghost use Rattle.vk_base.specs.declared.limits.TheConstants.{PROCESSES};
+ghost use Rattle.vk_text.specs.Heads.{settings_of};
+ghost use Rattle.vk_text.specs.Lines.{lines_of};
+ghost use Rattle.vk_event.specs.Endings.{ending_from};
+ghost use Rattle.vk_event.specs.ScenarioLaws.{IsLawfulScenario};
+ghost use Rattle.vk_event.specs.Scenario.{HasScenarioProcess, idle, most_rounds, scenario_from, scenario_of, scenario_with};
+
+use crate::schedule::TextRefusal;
+use crate::task::{Task, TaskKind};
+use crate::task_line::{read_plan, read_rounds, take_line};
+use std::alloc::Global;
+use vk_base::{Config, List, NoMemory, ProcessSpec};
+use vk_text::{Head, HeadRefusal, next_line, read_head};
+
+/// Ticks of all stations of a scenario together.
+pub const TICKS: u32 = 50_000;
+
+/// What becomes of frames on the way. Each station that a frame is addressed to has three draws of 0 to 255: a first below
+/// `lose` loses the frame, else a third below `hold` holds it back, else a second below `double` brings it twice.
+#[derive(Clone, Copy, Debug, PartialEq, Eq)]
+pub struct LinkPlan {
+    pub lose: u8,
+    pub double: u8,
+    pub hold: u8,
+    /// The generator's first state.
+    pub seed: u64,
+}
+
+/// A configuration, what each of its processes is to do, in their order, what becomes of frames on the way, and how many
+/// rounds of ticks there are, of which each ticks every station once.
+#[derive(Drop)]
+pub struct Scenario {
+    pub config: Config,
+    pub tasks: List<Task>,
+    pub plan: LinkPlan,
+    pub rounds: u32,
+}
+
+/// What the last two lines tell.
+#[derive(Clone, Copy)]
+struct Ending {
+    plan: LinkPlan,
+    rounds: u32,
+}
+
+/// A task for each process, which has nothing to do yet.
+fn idle_tasks(alloc: Global, specs: &[ProcessSpec]) -> Result<Vec<Task>, NoMemory>
+    ensures { IfOk result (λ tasks. tasks.items ≡ map idle specs.now) }
+{
+    let mut tasks = Vec::with_capacity(alloc, specs.len())?;
+    for spec in specs {
+        let kind = TaskKind::Script {
+            calls: List::empty(alloc),
+        };
+        tasks.push(Task {
+            pid: spec.pid,
+            kind,
+        })?;
+    }
+    Ok(tasks)
+}
+
+/// How many rounds of ticks a configuration may have.
+fn most_rounds(config: &Config) -> u32
+    requires { 0 < length config.now.specs }
+    ensures { result ≡ most_rounds config.now.specs }
+{
+    TICKS / config.station_count()
+}
+
+/// What the last two lines tell, of which the first starts at `at` and has the number `line`; or the number of the bad line.
+#[tactic(auto, unfolding(crate::specs::Endings::ending_from, crate::specs::Endings::rounds_from))]
+fn read_ending(text: &[u8], at: usize, line: u64, most: u32) -> Result<Ending, u64>
+    requires { line + 2 < 2 ^ 64 }
+    ensures { result ≡ ending_from most line (lines_of (drop at text.now)) }
+{
+    let Some((words, at)) = next_line(text, at) else {
+        return Err(line);
+    };
+    let Some(plan) = read_plan(words) else {
+        return Err(line);
+    };
+    let Some((words, at)) = next_line(text, at) else {
+        return Err(line + 1);
+    };
+    let Some(rounds) = read_rounds(words, most) else {
+        return Err(line + 1);
+    };
+    if next_line(text, at).is_some() {
+        return Err(line + 2);
+    }
+    Ok(Ending { plan, rounds })
+}
+
+/// The scenario of these tasks and of the last two lines, of which the first starts at `at` and has the number `line`.
+fn end(
+    config: Config,
+    tasks: Vec<Task>,
+    text: &[u8],
+    at: usize,
+    line: u64,
+) -> Result<Scenario, TextRefusal>
+    requires some { 0 < length config.specs }
+    requires line { line + 2 < 2 ^ 64 }
+    requires config { config ≡ settings_of config.specs }
+    ensures { result ≡ scenario_with config.specs tasks.items (ending_from (most_rounds config.specs) line (lines_of (drop at text.now))) }
+{
+    match read_ending(text, at, line, most_rounds(&config)) {
+        Ok(Ending { plan, rounds }) => Ok(Scenario {
+            config,
+            tasks: List::new(tasks),
+            plan,
+            rounds,
+        }),
+        Err(line) => Err(TextRefusal::BadInput { line }),
+    }
+}
+
+/// The scenario of these processes and of the lines from `start` on, of which the first has the number `first`.
+fn read_body(
+    alloc: Global,
+    config: Config,
+    text: &[u8],
+    start: usize,
+    first: u64,
+) -> Result<Scenario, TextRefusal>
+    requires some { 0 < length config.specs }
+    requires few { length config.specs ≤ PROCESSES }
+    requires first { first ≡ length config.specs + 2 }
+    requires within { start ≤ length text.now }
+    requires config { config ≡ settings_of config.specs }
+    ensures scenario { IfOk result (λ s. scenario_from config.specs (map idle config.specs) first (lines_of (drop start text.now)) ≡ Ok s) }
+    ensures refused { IfErr result (λ e. (e ≡ TextRefusal.NoMemory)
+        ⊎ (scenario_from config.specs (map idle config.specs) first (lines_of (drop start text.now)) ≡ Err e)) }
+{
+    let Ok(mut tasks) = idle_tasks(alloc, config.specs()) else {
+        return Err(TextRefusal::NoMemory);
+    };
+    let mut at = start;
+    let mut line = first;
+    while let Some((words, next)) = next_line(text, at) {
+        match take_line(config.specs(), &mut tasks, words) {
+            Ok(true) => {}
+            Ok(false) => return end(config, tasks, text, at, line),
+            Err(NoMemory) => return Err(TextRefusal::NoMemory),
+        }
+        at = next;
+        line += 1;
+    }
+    Err(TextRefusal::BadInput { line })
+}
+
+/// The scenario that the text spells. Its first line is `vkernel scenario 1`, then come `process PID SIZE` lines by rising
+/// pids, at least one. Then come lines of tasks, of processes that the text names: `do PID CALLTEXT` puts a call behind
+/// those of the process's script, and `program PID pageserver PAGES REQUESTS` and `program PID pageclient SERVER PAGES
+/// ROUNDS` give it a program instead, for which it needs 512 and 1,024 bytes of memory. The last two lines are
+/// `link LOSE DOUBLE HOLD SEED` and `ticks ROUNDS`, of at most 50,000 rounds by the number of stations. The first line that
+/// is none of these decides; [`TextRefusal::Limit`] never comes. Memory is wanted only where a process stands behind the title.
+pub fn read_scenario(alloc: Global, text: &[u8]) -> Result<Scenario, TextRefusal>
+    ensures scenario { IfOk result (λ s. scenario_of text.now ≡ Ok s) }
+    ensures refused { IfErr result (λ e. ((e ≡ TextRefusal.NoMemory) × HasScenarioProcess text.now) ⊎ (scenario_of text.now ≡ Err e)) }
+    ensures lawful { IfOk result IsLawfulScenario }
+{
+    let Head { config, at, line } = match read_head(alloc, text, b"vkernel scenario 1") {
+        Ok(head) => head,
+        Err(HeadRefusal::NoTitle) => return Err(TextRefusal::BadInput { line: 1 }),
+        Err(HeadRefusal::NoMemory) => return Err(TextRefusal::NoMemory),
+    };
+    if config.specs().is_empty() {
+        return Err(TextRefusal::BadInput { line: 2 });
+    }
+    read_body(alloc, config, text, at, line)
+}

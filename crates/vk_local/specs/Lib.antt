@@ -1,0 +1,5 @@
+pub mod Access
+pub mod Calls
+pub mod Exits
+pub mod Rules
+pub mod Takes

@@ -1,0 +1,99 @@
+//! Receive and ReceiveSegment.
+
+ghost use Rattle.std.specs.Prelude.{◌≡◌, ◌<◌, ◌≤◌, ◌+◌, ◌++◌, length, true, Some};
+ghost use Rattle.arrayvec.specs.ArrayVec.{array_vec_len};
+ghost use Rattle.vk_base.specs.Activities.{as_receive, call_of};
+ghost use Rattle.vk_base.specs.declared.limits.TheConstants.{STATION_PROCESSES, STEPS};
+ghost use Rattle.vk_local.specs.Calls.{after_receive, awaited, begun_by, receive_refusal, receive_steps, received, steps_of, tables_of};
+ghost use Rattle.vk_local.specs.Rules.{IsTablesRule, may_call};
+
+use crate::access::own_range;
+use crate::serving::serve;
+use vk_base::{Outcome, Pid, Refusal, Step, StepList, Waiting};
+use vk_pool::AlienPool;
+use vk_procs::Procs;
+use vk_queue::Queues;
+
+/// Why the receive is refused.
+fn receive_refusal(procs: &Procs, pid: Pid, waiting: Waiting) -> Option<Refusal>
+    ensures { result ≡ receive_refusal procs.now pid waiting }
+{
+    match waiting {
+        Waiting::ReceiveSegment { start, count } if !own_range(procs, pid, start, count) => {
+            Some(Refusal::BadRange)
+        }
+        _ => None,
+    }
+}
+
+/// The process waits for a message, and takes the first that waits at it.
+fn begin(
+    procs: &mut Procs,
+    queues: &mut Queues,
+    aliens: &mut AlienPool,
+    steps: &mut StepList,
+    pid: Pid,
+    waiting: Waiting,
+)
+    requires lists { length queues.old.lists ≡ STATION_PROCESSES }
+    requires room { array_vec_len steps.old < STEPS }
+    ensures seats { procs.new ≡ (awaited (tables_of procs.old queues.old.lists aliens.old) pid waiting).seats }
+    ensures lists { queues.new.lists ≡ (awaited (tables_of procs.old queues.old.lists aliens.old) pid waiting).lists }
+    ensures slots { aliens.new ≡ (awaited (tables_of procs.old queues.old.lists aliens.old) pid waiting).slots }
+    ensures steps { steps.new.items ≡ steps.old.items
+        ++ steps_of (received (tables_of procs.old queues.old.lists aliens.old) pid waiting) pid }
+    ensures room { queues.new.slots ≡ queues.old.slots }
+{
+    procs.wait(pid, waiting);
+    serve(procs, queues, aliens, steps, pid);
+}
+
+/// The receive, by the tables.
+fn play_receive(
+    procs: &mut Procs,
+    queues: &mut Queues,
+    aliens: &mut AlienPool,
+    steps: &mut StepList,
+    pid: Pid,
+    waiting: Waiting,
+) -> Option<Outcome>
+    requires receive { as_receive waiting ≡ Some waiting }
+    requires lists { length queues.old.lists ≡ STATION_PROCESSES }
+    requires room { array_vec_len steps.old + 2 ≤ STEPS }
+    ensures outcome { result ≡ begun_by (receive_refusal procs.old pid waiting) }
+    ensures seats { procs.new ≡ (after_receive (tables_of procs.old queues.old.lists aliens.old) pid waiting).seats }
+    ensures lists { queues.new.lists ≡ (after_receive (tables_of procs.old queues.old.lists aliens.old) pid waiting).lists }
+    ensures slots { aliens.new ≡ (after_receive (tables_of procs.old queues.old.lists aliens.old) pid waiting).slots }
+    ensures steps { steps.new.items ≡ steps.old.items ++ receive_steps (tables_of procs.old queues.old.lists aliens.old) pid waiting }
+    ensures room { queues.new.slots ≡ queues.old.slots }
+{
+    steps.push(Step::Call {
+        pid,
+        call: waiting.call(),
+    });
+    if let Some(why) = receive_refusal(procs, pid, waiting) {
+        return Some(Outcome::Refused { why });
+    }
+    begin(procs, queues, aliens, steps, pid, waiting);
+    None
+}
+
+/// A process, which is alive and ready, waits for a message: this is its receive. It takes the first message that waits at it.
+pub fn receive(
+    procs: &mut Procs,
+    queues: &mut Queues,
+    aliens: &mut AlienPool,
+    steps: &mut StepList,
+    pid: Pid,
+    waiting: Waiting,
+) -> Option<Outcome>
+    requires receive { as_receive waiting ≡ Some waiting }
+    requires ready { may_call procs.old pid ≡ true }
+    requires lists { length queues.old.lists ≡ STATION_PROCESSES }
+    requires room { array_vec_len steps.old + 2 ≤ STEPS }
+    ensures rule { IsTablesRule pid (call_of waiting) result (tables_of procs.old queues.old.lists aliens.old)
+        (tables_of procs.new queues.new.lists aliens.new) steps.old.items steps.new.items }
+    ensures room { queues.new.slots ≡ queues.old.slots }
+{
+    play_receive(procs, queues, aliens, steps, pid, waiting)
+}

@@ -1,0 +1,123 @@
+//! A reply to a process of the same station.
+
+ghost use Rattle.std.specs.Prelude.{◌≡◌, ◌≤◌, ◌+◌, ◌++◌, true};
+ghost use Rattle.arrayvec.specs.ArrayVec.{array_vec_len};
+ghost use Rattle.vk_base.specs.declared.limits.TheConstants.{STEPS};
+ghost use Rattle.vk_base.specs.Pids.{same_host};
+ghost use Rattle.vk_local.specs.Access.{access_refusal, not_awaiting};
+ghost use Rattle.vk_local.specs.Calls.{after_reply, after_reply_segment, done_by, reply_access, reply_segment_steps, reply_steps};
+ghost use Rattle.vk_local.specs.Rules.{IsSeatsRule, may_call};
+
+use crate::access::{Access, Segment, access_refusal, not_awaiting};
+use vk_base::limits::SEGMENT_BYTES;
+use vk_base::{Call, Message, Outcome, Pid, Step, StepList};
+use vk_procs::{Passed, Procs};
+
+/// The reply, by the tables.
+fn play_reply(
+    procs: &mut Procs,
+    steps: &mut StepList,
+    pid: Pid,
+    to: Pid,
+    message: &Message,
+) -> Option<Outcome>
+    requires { array_vec_len steps.old + 2 ≤ STEPS }
+    ensures outcome { result ≡ done_by (not_awaiting procs.old pid to) }
+    ensures seats { procs.new ≡ after_reply procs.old pid to message.now }
+    ensures steps { steps.new.items ≡ steps.old.items ++ reply_steps procs.old pid to message.now }
+{
+    steps.push(Step::Call {
+        pid,
+        call: Call::Reply {
+            message: *message,
+            to,
+        },
+    });
+    if let Some(why) = not_awaiting(procs, pid, to) {
+        return Some(Outcome::Refused { why });
+    }
+    procs.finish(to, Outcome::Replied { message: *message });
+    steps.push(Step::Finish { pid: to });
+    Some(Outcome::Ok)
+}
+
+/// What a reply asks for.
+fn reply_access(segment: Segment) -> Access
+    ensures { result ≡ reply_access segment }
+{
+    Access {
+        limit: SEGMENT_BYTES,
+        count: segment.count,
+        write: true,
+        granted: segment.dest,
+        own: segment.src,
+    }
+}
+
+/// The reply with bytes, by the tables.
+fn play_reply_segment(
+    procs: &mut Procs,
+    steps: &mut StepList,
+    pid: Pid,
+    to: Pid,
+    message: &Message,
+    segment: Segment,
+) -> Option<Outcome>
+    requires { array_vec_len steps.old + 2 ≤ STEPS }
+    ensures outcome { result ≡ done_by (access_refusal procs.old pid to (reply_access segment)) }
+    ensures seats { procs.new ≡ after_reply_segment procs.old pid to message.now segment }
+    ensures steps { steps.new.items ≡ steps.old.items ++ reply_segment_steps procs.old pid to message.now segment }
+{
+    let Segment { dest, src, count } = segment;
+    steps.push(Step::Call {
+        pid,
+        call: Call::ReplySegment {
+            message: *message,
+            to,
+            dest,
+            src,
+            count,
+        },
+    });
+    if let Some(why) = access_refusal(procs, pid, to, reply_access(segment)) {
+        return Some(Outcome::Refused { why });
+    }
+    procs.pass(pid, to, Passed::Bytes { src, count, dest });
+    procs.finish(to, Outcome::Replied { message: *message });
+    steps.push(Step::Finish { pid: to });
+    Some(Outcome::Ok)
+}
+
+/// A process, which is alive and ready, replies to one of its station, which has the reply now.
+pub fn reply(
+    procs: &mut Procs,
+    steps: &mut StepList,
+    pid: Pid,
+    to: Pid,
+    message: &Message,
+) -> Option<Outcome>
+    requires near { same_host pid to ≡ true }
+    requires ready { may_call procs.old pid ≡ true }
+    requires room { array_vec_len steps.old + 2 ≤ STEPS }
+    ensures { IsSeatsRule pid (Call.Reply message.now to) result procs.old procs.new steps.old.items steps.new.items }
+{
+    play_reply(procs, steps, pid, to, message)
+}
+
+/// The same with bytes of the caller's memory, which are written into the memory of the other.
+pub fn reply_segment(
+    procs: &mut Procs,
+    steps: &mut StepList,
+    pid: Pid,
+    to: Pid,
+    message: &Message,
+    segment: Segment,
+) -> Option<Outcome>
+    requires near { same_host pid to ≡ true }
+    requires ready { may_call procs.old pid ≡ true }
+    requires room { array_vec_len steps.old + 2 ≤ STEPS }
+    ensures { IsSeatsRule pid (Call.ReplySegment message.now to segment.dest segment.src segment.count) result procs.old procs.new
+        steps.old.items steps.new.items }
+{
+    play_reply_segment(procs, steps, pid, to, message, segment)
+}

@@ -1,0 +1,129 @@
+//! A Send to a process of the same station.
+
+ghost use Rattle.std.specs.Prelude.{◌≡◌, ◌<◌, ◌≤◌, ◌+◌, ◌++◌, ◌∷◌, ◌^◌, [], length, true, Some};
+ghost use Rattle.arrayvec.specs.ArrayVec.{array_vec_len};
+ghost use Rattle.vk_base.specs.declared.limits.TheConstants.{STATION_PROCESSES, STEPS};
+ghost use Rattle.vk_base.specs.Pids.{same_host};
+ghost use Rattle.vk_procs.specs.declared.seat.Seat.{Seat as TheSeat};
+ghost use Rattle.vk_procs.specs.Seats.{seat_in};
+ghost use Rattle.vk_local.specs.Calls.{after_send, begun, begun_by, queued, send_refusal, send_steps, sent, steps_of, tables_of};
+ghost use Rattle.vk_local.specs.Rules.{IsTablesRule, may_call};
+
+use crate::access::own_range;
+use crate::serving::serve;
+use vk_base::{Call, Message, Outcome, Pid, Refusal, Step, StepList};
+use vk_pool::AlienPool;
+use vk_procs::Procs;
+use vk_queue::Queues;
+
+/// Why the Send is refused.
+fn send_refusal(procs: &Procs, pid: Pid, target: Pid, message: &Message) -> Option<Refusal>
+    ensures { result ≡ send_refusal procs.now pid target message.now }
+{
+    let segment = message.grants().range;
+    if !own_range(procs, pid, segment.start, segment.len) {
+        Some(Refusal::BadSegment)
+    } else if !procs.is_live(target) {
+        Some(Refusal::NoProcess)
+    } else {
+        None
+    }
+}
+
+/// The message of the process waits at the target, behind all others.
+#[tactic(auto, unfolding(vk_queue::specs::Lists::requeued))]
+fn enqueue(procs: &Procs, queues: &mut Queues, pid: Pid, target: Pid)
+    requires lists { length queues.old.lists ≡ STATION_PROCESSES }
+    requires slots { STATION_PROCESSES ≤ queues.old.slots }
+    ensures lists { queues.new.lists ≡ queued procs.now queues.old.lists pid target }
+    ensures room { queues.new.slots ≡ queues.old.slots }
+{
+    if let Some(list) = procs.place(target) {
+        if let Some(slot) = procs.place(pid) {
+            queues.requeue(list, slot);
+        }
+    }
+}
+
+/// The Send is begun, and its message taken if the target waits for one.
+fn begin(
+    procs: &mut Procs,
+    queues: &mut Queues,
+    aliens: &mut AlienPool,
+    steps: &mut StepList,
+    pid: Pid,
+    target: Pid,
+    message: &Message,
+)
+    requires lists { length queues.old.lists ≡ STATION_PROCESSES }
+    requires slots { STATION_PROCESSES ≤ queues.old.slots }
+    requires room { array_vec_len steps.old < STEPS }
+    ensures seats { procs.new ≡ (begun (tables_of procs.old queues.old.lists aliens.old) pid target message.now).seats }
+    ensures lists { queues.new.lists ≡ (begun (tables_of procs.old queues.old.lists aliens.old) pid target message.now).lists }
+    ensures slots { aliens.new ≡ (begun (tables_of procs.old queues.old.lists aliens.old) pid target message.now).slots }
+    ensures steps { steps.new.items ≡ steps.old.items
+        ++ steps_of (sent (tables_of procs.old queues.old.lists aliens.old) pid target message.now) target }
+    ensures room { queues.new.slots ≡ queues.old.slots }
+{
+    procs.begin_send(pid, target, message);
+    enqueue(procs, queues, pid, target);
+    serve(procs, queues, aliens, steps, target);
+}
+
+/// The Send, by the tables.
+fn play_send(
+    procs: &mut Procs,
+    queues: &mut Queues,
+    aliens: &mut AlienPool,
+    steps: &mut StepList,
+    pid: Pid,
+    target: Pid,
+    message: &Message,
+) -> Option<Outcome>
+    requires lists { length queues.old.lists ≡ STATION_PROCESSES }
+    requires slots { STATION_PROCESSES ≤ queues.old.slots }
+    requires room { array_vec_len steps.old + 2 ≤ STEPS }
+    ensures outcome { result ≡ begun_by (send_refusal procs.old pid target message.now) }
+    ensures seats { procs.new ≡ (after_send (tables_of procs.old queues.old.lists aliens.old) pid target message.now).seats }
+    ensures lists { queues.new.lists ≡ (after_send (tables_of procs.old queues.old.lists aliens.old) pid target message.now).lists }
+    ensures slots { aliens.new ≡ (after_send (tables_of procs.old queues.old.lists aliens.old) pid target message.now).slots }
+    ensures steps { steps.new.items ≡ steps.old.items
+        ++ send_steps (tables_of procs.old queues.old.lists aliens.old) pid target message.now }
+    ensures room { queues.new.slots ≡ queues.old.slots }
+{
+    steps.push(Step::Call {
+        pid,
+        call: Call::Send {
+            target,
+            message: *message,
+        },
+    });
+    if let Some(why) = send_refusal(procs, pid, target, message) {
+        return Some(Outcome::Refused { why });
+    }
+    begin(procs, queues, aliens, steps, pid, target, message);
+    None
+}
+
+/// A process, which is alive and ready, sends to one of its station, which takes the message now if it waits for one.
+pub fn send(
+    procs: &mut Procs,
+    queues: &mut Queues,
+    aliens: &mut AlienPool,
+    steps: &mut StepList,
+    pid: Pid,
+    target: Pid,
+    message: &Message,
+) -> Option<Outcome>
+    requires near { same_host pid target ≡ true }
+    requires ready { may_call procs.old pid ≡ true }
+    requires few { (s : TheSeat) → seat_in procs.old pid ≡ Some s → s.note.sends < 2 ^ 48 }
+    requires lists { length queues.old.lists ≡ STATION_PROCESSES }
+    requires slots { STATION_PROCESSES ≤ queues.old.slots }
+    requires room { array_vec_len steps.old + 2 ≤ STEPS }
+    ensures rule { IsTablesRule pid (Call.Send target message.now) result (tables_of procs.old queues.old.lists aliens.old)
+        (tables_of procs.new queues.new.lists aliens.new) steps.old.items steps.new.items }
+    ensures room { queues.new.slots ≡ queues.old.slots }
+{
+    play_send(procs, queues, aliens, steps, pid, target, message)
+}

@@ -1,0 +1,94 @@
+//! A process that waits for a message takes the first that waits at it.
+
+ghost use Rattle.std.specs.Prelude.{◌≡◌, ◌<◌, ◌-◌, ◌++◌, length, is_some, slice_get, Some};
+ghost use Rattle.std.specs.List.{position};
+ghost use Rattle.arrayvec.specs.ArrayVec.{array_vec_len};
+ghost use Rattle.vk_base.specs.declared.limits.TheConstants.{STATION_PROCESSES as PROCESSES, STEPS};
+ghost use Rattle.vk_pool.specs.Aliens.{alien_at, changed_at, taken};
+ghost use Rattle.vk_procs.specs.Seats.{is_seat};
+ghost use Rattle.vk_local.specs.Takes.{alien_taken, front_of, local_taken, seats_at, served_lists, served_seats, served_slots, served_steps, slots_at};
+
+use vk_base::limits::STATION_PROCESSES;
+use vk_base::{Pid, Step, StepList};
+use vk_pool::AlienPool;
+use vk_procs::{Passed, Procs};
+use vk_queue::Queues;
+
+/// The message of the station's process in this place is taken.
+fn take_local(procs: &mut Procs, pid: Pid, place: u32)
+    ensures { procs.new ≡ local_taken procs.old pid (slice_get procs.old place) }
+{
+    let Some(seat) = procs.at(place) else {
+        return;
+    };
+    let Some((_, message)) = seat.doing.sending() else {
+        return;
+    };
+    let from = seat.pid;
+    procs.mark_taken(from);
+    procs.pass(from, pid, Passed::Message { message });
+}
+
+/// The message of the alien in this slot reaches the process.
+fn reach_from(procs: &mut Procs, aliens: &AlienPool, pid: Pid, slot: u32)
+    ensures { procs.new ≡ alien_taken procs.old pid (alien_at aliens.now slot) }
+{
+    if let Some(alien) = aliens.alien(slot) {
+        procs.reach(pid, alien.sender, &alien.message, alien.part.as_slice());
+    }
+}
+
+/// What stands at a slot of the queues is taken.
+fn take_slot(procs: &mut Procs, aliens: &mut AlienPool, pid: Pid, slot: u32)
+    ensures seats { procs.new ≡ seats_at procs.old aliens.old pid slot }
+    ensures slots { aliens.new ≡ slots_at aliens.old slot }
+{
+    if slot < STATION_PROCESSES as u32 {
+        take_local(procs, pid, slot);
+    } else {
+        reach_from(procs, aliens, pid, slot - STATION_PROCESSES as u32);
+        aliens.take(slot - STATION_PROCESSES as u32);
+    }
+}
+
+/// The slot of the message that the process takes now, which is out of its list then.
+fn take_front(procs: &Procs, queues: &mut Queues, pid: Pid) -> Option<u32>
+    requires { length queues.old.lists ≡ PROCESSES }
+    ensures front { result ≡ front_of procs.now queues.old.lists pid }
+    ensures lists { queues.new.lists ≡ served_lists procs.now queues.old.lists pid result }
+    ensures slots { queues.new.slots ≡ queues.old.slots }
+{
+    if procs.receiving(pid).is_none() {
+        return None;
+    }
+    let list = procs.place(pid)?;
+    queues.pop_front(list)
+}
+
+/// A process that waits for a message takes the first that waits at it, of its own station or of another; true exactly where
+/// there was one.
+pub fn serve(
+    procs: &mut Procs,
+    queues: &mut Queues,
+    aliens: &mut AlienPool,
+    steps: &mut StepList,
+    pid: Pid,
+) -> bool
+    requires lists { length queues.old.lists ≡ PROCESSES }
+    requires room { array_vec_len steps.old < STEPS }
+    ensures seats { procs.new ≡ served_seats procs.old aliens.old pid (front_of procs.old queues.old.lists pid) }
+    ensures lists { queues.new.lists ≡ served_lists procs.old queues.old.lists pid (front_of procs.old queues.old.lists pid) }
+    ensures slots { aliens.new ≡ served_slots aliens.old (front_of procs.old queues.old.lists pid) }
+    ensures steps { steps.new.items ≡ steps.old.items ++ served_steps pid (front_of procs.old queues.old.lists pid) }
+    ensures took { result ≡ is_some (front_of procs.old queues.old.lists pid) }
+    ensures room { queues.new.slots ≡ queues.old.slots }
+{
+    match take_front(procs, queues, pid) {
+        Some(slot) => {
+            take_slot(procs, aliens, pid, slot);
+            steps.push(Step::Take { pid });
+            true
+        }
+        None => false,
+    }
+}

@@ -1,0 +1,51 @@
+-- Bytes behind the end of a memory are not written.
+use Rattle.std.proofs.Common.{◌≡◌, ℕ, ◌+◌, Bool, true, false, cond, List, [], ◌∷◌, length, refl, ap, sym, ◌∙◌, Option, Some, None, leb, arith}
+use Rattle.std.specs.List.{find}
+use Rattle.std.proofs.lemmas.Bool.{leb-true, le-leb, both_ways}
+use Rattle.std.proofs.lemmas.Option.{none-some}
+use Rattle.vk_base.specs.declared.pid.Pid.{Pid}
+use Rattle.vk_base.specs.Firsts.{change_first}
+use Rattle.vk_base.specs.Ranges.{range_of, lies_in, with_bytes}
+use Rattle.vk_procs.specs.declared.seat.Seat.{Seat}
+use Rattle.vk_procs.specs.Seats.{is_seat, seat_in, written}
+use Rattle.vk_stands.proofs.Seats.{change_agree}
+use Rattle.vk_move.specs.Moved.{place_behind, place_in}
+use Rattle.vk_move.proofs.Notes.{with_none}
+
+-- a change that does nothing
+same_each : (p : Seat → Bool) (x : Seat) (xs : List Seat) (b : Bool) → change_first p (λ s. s) xs ≡ xs →
+    cond b (x ∷ xs) (x ∷ change_first p (λ s. s) xs) ≡ (x ∷ xs)
+same_each p x xs true again = refl
+same_each p x xs false again = ap (λ ys. x ∷ ys) again
+
+pub change_none : (p : Seat → Bool) (xs : List Seat) → change_first p (λ s. s) xs ≡ xs
+change_none p [] = refl
+change_none p (x ∷ xs) = same_each p x xs (p x) (change_none p xs)
+
+-- the process as it is
+pub change_still : (p : Seat → Bool) (f : Seat → Seat) (s : Seat) (xs : List Seat) → find p xs ≡ Some s → f s ≡ s →
+    change_first p f xs ≡ xs
+change_still p f s xs found same = change_agree p f (λ x. x) xs s found same ∙ change_none p xs
+
+not_some : (b : Bool) (n : ℕ) → cond b (Some n) None ≡ None → b ≡ false
+not_some true n is = absurd (none-some n (sym is))
+not_some false n is = refl
+
+beyond : (b : Bool) (at len size : ℕ) → leb at size ≡ false → leb (at + len) size ≡ b → b ≡ false
+beyond true at len size f t = let h = leb-true (at + len) size t in absurd (both_ways (leb at size) f (le-leb at size (omega arith)))
+beyond false at len size f t = refl
+
+none_in : (pid : Pid) (start offset : ℕ) (bytes : List ℕ) (xs : List Seat) (o : Option Seat) → seat_in xs pid ≡ o →
+    place_behind o start offset ≡ None → xs ≡ change_first (is_seat pid) (written (place_in start offset) bytes) xs
+none_in pid start offset bytes xs None found is = with_none (is_seat pid) (λ n. n) (written (place_in start offset) bytes) xs found
+none_in pid start offset bytes xs (Some s) found is =
+    let far : leb (start + offset) (length s.memory) ≡ false = not_some (leb (start + offset) (length s.memory)) (start + offset) is in
+    let out : lies_in (range_of (start + offset) (length bytes)) (length s.memory) ≡ false =
+    beyond (leb (start + offset + length bytes) (length s.memory)) (start + offset) (length bytes) (length s.memory) far refl in
+    sym (change_still (is_seat pid) (written (place_in start offset) bytes) s xs found
+    (λ i. record s { memory = cond (out i) (with_bytes s.memory (start + offset) bytes) s.memory }))
+
+pub none_behind : (pid : Pid) (start offset : ℕ) (bytes : List ℕ) (xs : List Seat) →
+    place_behind (seat_in xs pid) start offset ≡ None →
+    xs ≡ change_first (is_seat pid) (written (place_in start offset) bytes) xs
+none_behind pid start offset bytes xs is = none_in pid start offset bytes xs (seat_in xs pid) refl is

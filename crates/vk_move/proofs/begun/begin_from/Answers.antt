@@ -1,0 +1,11 @@
+use Rattle.std.proofs.Common.{sym, ◌∙◌}
+use Rattle.vk_move.proofs.Begins.{begins_from, few_moves}
+use Rattle.vk_move.proofs.begun.begin_from.Goals as goal
+
+pub begin_by-requires-clause-moves : goal.begin_by-requires-clause-moves
+begin_by-requires-clause-moves c = few_moves c.args.aliens.now c.requires.moves c.args.partner
+
+pub begin_by-requires-clause-goes : goal.begin_by-requires-clause-goes
+begin_by-requires-clause-goes c is =
+    begins_from c.args.procs.now c.args.aliens.now c.requires.fit c.requires.moves c.args.pid c.args.partner c.args.dest c.args.src c.args.count
+    (sym c.verdict_in-verdict.ensures ∙ is)

@@ -1,0 +1,16 @@
+use Rattle.std.proofs.Common.{◌∙◌, sym}
+use Rattle.vk_procs.specs.Seats.{is_seat}
+use Rattle.vk_move.specs.Begun.{begun_note}
+use Rattle.vk_move.specs.Moved.{renoted}
+use Rattle.vk_move.proofs.Notes.{with_note, with_none}
+use Rattle.vk_move.proofs.begun.note_begun.Goals as goal
+
+pub returns-in-Some : goal.returns-in-Some
+returns-in-Some c =
+    c.set_note.ensures ∙ with_note (is_seat c.args.pid)
+    (begun_note c.args.times.now c.args.now c.args.name) c.in-Some.seat.now c.args.procs.now (sym c.in-Some.ensures)
+
+pub returns-in_default : goal.returns-in_default
+returns-in_default c =
+    with_none (is_seat c.args.pid) (begun_note c.args.times.now c.args.now c.args.name)
+    (renoted (begun_note c.args.times.now c.args.now c.args.name)) c.args.procs.now (sym c.in_default.ensures)

@@ -1,0 +1,9 @@
+use Rattle.std.proofs.Common.{◌≡◌, ◌+◌, ◌*◌, map}
+use Rattle.std.specs.List.{range_with_len}
+use Rattle.vk_rules.specs.PacketOutcomes.{bytes_packet}
+use Rattle.vk_stands.specs.Rules.{posted}
+use Rattle.vk_move.proofs.rounds.post_bytes.Given as goal
+
+abbrev pub invariant-loop-piece : goal.invariant-loop-piece
+invariant-loop-piece l = l.out ≡ posted l.initial.out
+    (map (bytes_packet l.name l.mover l.moving l.src l.total l.memory) (map (λ i. l.from + 1024 * i) (range_with_len 0 l.piece)))

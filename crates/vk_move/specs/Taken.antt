@@ -1,0 +1,19 @@
+-- What a packet of a move does, by the tables, of whichever end it is.
+use Rattle.std.specs.Prelude.{ℕ, List}
+use Rattle.vk_base.specs.declared.config.Times.{Times}
+use Rattle.vk_base.specs.Packets.{Packet, MoveData, MoveAck, MoveRequest, MoveBytes, MoveNegative}
+use Rattle.vk_procs.specs.declared.seat.Seat.{Seat}
+use Rattle.vk_move.specs.Moved.{Moved, still}
+use Rattle.vk_move.specs.Mover.{ack_taken, bytes_taken, gone_taken}
+use Rattle.vk_move.specs.Sender.{data_taken, request_taken}
+
+abbrev pub packet_taken : Times → ℕ → Packet → List Seat → Moved
+packet_taken t now (MoveData from to number moving dest total offset bytes) seats =
+    data_taken from to number moving dest total offset bytes seats
+packet_taken t now (MoveAck from to number moving received) seats = ack_taken t now from to number moving received seats
+packet_taken t now (MoveRequest from to number moving src total offset) seats =
+    request_taken from to number moving src total offset seats
+packet_taken t now (MoveBytes from to number moving total offset bytes) seats =
+    bytes_taken t now from to number moving total offset bytes seats
+packet_taken t now (MoveNegative from to number moving) seats = gone_taken from to number moving seats
+packet_taken t now p seats = still seats

@@ -1,0 +1,380 @@
+//! A process begins a move.
+
+ghost use Rattle.std.specs.Prelude.{◌≡◌, ◌≤◌, ◌<◌, ◌+◌, ◌++◌, ◌∷◌, [], ◌^◌, true, length, option_copied, None};
+ghost use Rattle.std.specs.List.{position};
+ghost use Rattle.arrayvec.specs.ArrayVec.{array_vec_len};
+ghost use Rattle.vk_base.specs.Kernel.{is_move};
+ghost use Rattle.vk_move.specs.Begun.{CanBegin, HasFewMoves, HasFitAliens, begun_by, begun_note, counted, grants_access, has_ranges, message_held, move_begun, moves_of, next_name, size_of, verdict_by, verdict_in, verdict_on, waiting_seats};
+ghost use Rattle.vk_move.specs.Moved.{change_note};
+ghost use Rattle.vk_pool.specs.Aliens.{alien_from, is_alien_from};
+ghost use Rattle.vk_procs.specs.Seats.{seat_in};
+ghost use Rattle.vk_stands.specs.Rules.{posted};
+
+use crate::rounds::post_round;
+use vk_base::limits::MOVE_BYTES;
+use vk_base::{
+    Call, Direction, Message, MoveName, Name, Outcome, Pid, Refusal, Step, StepList, Times, Waiting,
+};
+use vk_packet::Outbox;
+use vk_pool::{Alien, AlienPool, AlienStage};
+use vk_procs::{ProcNote, Procs, Seat};
+
+/// Whether a move may be made: it is refused; it is made at once, of no bytes; or it begins.
+#[derive(Clone, Copy)]
+pub enum Verdict {
+    Refused { why: Refusal },
+    Made,
+    Begins,
+}
+
+/// The message of the alien, if the process holds it.
+fn message_held(alien: Option<&Alien>, pid: Pid) -> Option<Message>
+    ensures { result ≡ message_held pid (option_copied alien.entry) }
+{
+    let alien = alien?;
+    match alien.stage {
+        AlienStage::Taken => {
+            if alien.target == pid {
+                Some(alien.message)
+            } else {
+                None
+            }
+        }
+        _ => None,
+    }
+}
+
+fn grants_access(message: &Message, way: Direction) -> bool
+    ensures { result ≡ grants_access way message.now }
+{
+    match way {
+        Direction::To => message.grants().write,
+        Direction::From => message.grants().read,
+    }
+}
+
+fn verdict_on(
+    message: &Message,
+    way: Direction,
+    size: u32,
+    theirs: u32,
+    own: u32,
+    count: u32,
+) -> Verdict
+    ensures { result ≡ verdict_on way size theirs own count message.now }
+{
+    if !grants_access(message, way) {
+        return Verdict::Refused {
+            why: Refusal::NoAccess,
+        };
+    }
+    if !has_ranges(message, size, theirs, own, count) {
+        return Verdict::Refused {
+            why: Refusal::BadRange,
+        };
+    }
+    if count == 0 {
+        Verdict::Made
+    } else {
+        Verdict::Begins
+    }
+}
+
+/// Whether the partner's range lies in the segment of its message, and the own one in a memory of this size.
+fn has_ranges(message: &Message, size: u32, theirs: u32, own: u32, count: u32) -> bool
+    ensures { result ≡ has_ranges message.now size theirs own count }
+{
+    let range = message.grants().range;
+    let low = range.start as u64;
+    let high = low + range.len as u64;
+    low <= theirs as u64
+        && theirs as u64 + count as u64 <= high
+        && own as u64 + count as u64 <= size as u64
+}
+
+fn verdict_by(
+    message: Option<Message>,
+    way: Direction,
+    size: u32,
+    theirs: u32,
+    own: u32,
+    count: u32,
+) -> Verdict
+    ensures { result ≡ verdict_by way size theirs own count message }
+{
+    if count > MOVE_BYTES {
+        return Verdict::Refused {
+            why: Refusal::TooLong,
+        };
+    }
+    match message {
+        None => Verdict::Refused {
+            why: Refusal::NotAwaiting,
+        },
+        Some(message) => verdict_on(&message, way, size, theirs, own, count),
+    }
+}
+
+fn size_of(procs: &Procs, pid: Pid) -> u32
+    ensures { result ≡ size_of (seat_in procs.now pid) }
+{
+    match procs.seat(pid) {
+        Some(seat) => seat.memory.size(),
+        None => 0,
+    }
+}
+
+fn verdict_in(
+    procs: &Procs,
+    aliens: &AlienPool,
+    pid: Pid,
+    partner: Pid,
+    way: Direction,
+    theirs: u32,
+    own: u32,
+    count: u32,
+) -> Verdict
+    ensures { result ≡ verdict_in procs.now aliens.now pid partner way theirs own count }
+{
+    let message = message_held(aliens.of(partner), pid);
+    verdict_by(message, way, size_of(procs, pid), theirs, own, count)
+}
+
+/// The name of the next move of the partner's Send, which is counted.
+fn next_name(aliens: &mut AlienPool, partner: Pid) -> Option<MoveName>
+    requires { moves_of aliens.old partner < 2 ^ 48 }
+    ensures name { result ≡ next_name aliens.old partner (position (is_alien_from partner) aliens.old) }
+    ensures slots { aliens.new ≡ counted aliens.old (position (is_alien_from partner) aliens.old) }
+{
+    let slot = aliens.find(partner)?;
+    let number = aliens.alien(slot)?.number;
+    let moving = aliens.next_move(slot);
+    Some(MoveName {
+        exchange: Name {
+            sender: partner,
+            number,
+        },
+        number: moving,
+    })
+}
+
+fn note_begun(procs: &mut Procs, pid: Pid, now: u64, times: &Times, name: MoveName)
+    requires { now < 2 ^ 48 }
+    ensures { procs.new ≡ change_note pid (begun_note times.now now name) procs.old }
+{
+    if let Some(seat) = procs.seat(pid) {
+        let note = ProcNote {
+            moving: Some(name),
+            tries: 1,
+            deadline: now + times.interval as u64,
+            offset: 0,
+            fresh: false,
+            ..seat.note
+        };
+        procs.set_note(pid, note);
+    }
+}
+
+/// The process waits in its move from now on.
+fn wait(procs: &mut Procs, pid: Pid, now: u64, times: &Times, waiting: Waiting, name: MoveName)
+    requires { now < 2 ^ 48 }
+    ensures { procs.new ≡ waiting_seats times.now now pid waiting name procs.old }
+{
+    procs.wait(pid, waiting);
+    note_begun(procs, pid, now, times, name);
+}
+
+/// The move is the next of its partner's Send, and its first round goes out.
+#[tactic(auto, using(crate::proofs::Pieces::none_posted))]
+fn run(
+    procs: &mut Procs,
+    aliens: &mut AlienPool,
+    now: u64,
+    times: &Times,
+    out: &mut Outbox,
+    pid: Pid,
+    partner: Pid,
+    waiting: Waiting,
+)
+    requires now { now < 2 ^ 48 }
+    requires moves { moves_of aliens.old partner < 2 ^ 48 }
+    requires goes { CanBegin procs.old aliens.old pid partner waiting }
+    requires room { length out.old.posts + 64 ≤ out.old.room }
+    ensures seats { procs.new ≡ (begun_by times.now now pid waiting
+        (position (is_alien_from partner) aliens.old) partner Verdict.Begins procs.old aliens.old).seats }
+    ensures slots { aliens.new ≡ (begun_by times.now now pid waiting
+        (position (is_alien_from partner) aliens.old) partner Verdict.Begins procs.old aliens.old).slots }
+    ensures packets { out.new ≡ posted out.old
+        (begun_by times.now now pid waiting
+        (position (is_alien_from partner) aliens.old) partner Verdict.Begins procs.old aliens.old).packets }
+{
+    let Some(name) = next_name(aliens, partner) else {
+        return;
+    };
+    wait(procs, pid, now, times, waiting, name);
+    post_round(procs, out, pid, 0);
+}
+
+/// A move that may begin does.
+fn begin_by(
+    procs: &mut Procs,
+    aliens: &mut AlienPool,
+    now: u64,
+    times: &Times,
+    out: &mut Outbox,
+    pid: Pid,
+    partner: Pid,
+    waiting: Waiting,
+    verdict: Verdict,
+) -> Option<Outcome>
+    requires now { now < 2 ^ 48 }
+    requires moves { moves_of aliens.old partner < 2 ^ 48 }
+    requires goes { verdict ≡ Verdict.Begins → CanBegin procs.old aliens.old pid partner waiting }
+    requires room { length out.old.posts + 64 ≤ out.old.room }
+    ensures answer { result ≡ (begun_by times.now now pid waiting
+        (position (is_alien_from partner) aliens.old) partner verdict procs.old aliens.old).answer }
+    ensures seats { procs.new ≡ (begun_by times.now now pid waiting
+        (position (is_alien_from partner) aliens.old) partner verdict procs.old aliens.old).seats }
+    ensures slots { aliens.new ≡ (begun_by times.now now pid waiting
+        (position (is_alien_from partner) aliens.old) partner verdict procs.old aliens.old).slots }
+    ensures packets { out.new ≡ posted out.old
+        (begun_by times.now now pid waiting (position (is_alien_from partner) aliens.old) partner verdict procs.old aliens.old).packets }
+{
+    match verdict {
+        Verdict::Refused { why } => Some(Outcome::Refused { why }),
+        Verdict::Made => Some(Outcome::Ok),
+        Verdict::Begins => {
+            run(procs, aliens, now, times, out, pid, partner, waiting);
+            None
+        }
+    }
+}
+
+/// A process of the station, which is alive and ready, calls for a move at the tick `now`, below 2^48, with a partner of another
+/// station. A refusal tells why; a move of no bytes is made at once; any other begins, with no answer yet, is the next of the partner's
+/// Send, and its first round goes out. There is room for a step and for 64 packets.
+pub fn begin(
+    procs: &mut Procs,
+    aliens: &mut AlienPool,
+    now: u64,
+    times: &Times,
+    out: &mut Outbox,
+    steps: &mut StepList,
+    pid: Pid,
+    call: &Call,
+) -> Option<Outcome>
+    requires now { now < 2 ^ 48 }
+    requires call { is_move call.now ≡ true }
+    requires moves { HasFewMoves aliens.old }
+    requires fit { HasFitAliens aliens.old }
+    requires packets { length out.old.posts + 64 ≤ out.old.room }
+    requires room { array_vec_len steps.old + 1 ≤ 40 }
+    ensures answer { result ≡ (move_begun times.now now pid call.now procs.old aliens.old).answer }
+    ensures seats { procs.new ≡ (move_begun times.now now pid call.now procs.old aliens.old).seats }
+    ensures slots { aliens.new ≡ (move_begun times.now now pid call.now procs.old aliens.old).slots }
+    ensures packets { out.new ≡ posted out.old (move_begun times.now now pid call.now procs.old aliens.old).packets }
+    ensures steps { steps.new.items ≡ steps.old.items ++ Step.Call pid call.now ∷ [] }
+{
+    steps.push(Step::Call {
+        pid,
+        call: call.copy(),
+    });
+    match *call {
+        Call::MoveTo {
+            partner,
+            dest,
+            src,
+            count,
+        } => begin_to(
+            procs, aliens, now, times, out, pid, partner, dest, src, count,
+        ),
+        Call::MoveFrom {
+            partner,
+            dest,
+            src,
+            count,
+        } => begin_from(
+            procs, aliens, now, times, out, pid, partner, dest, src, count,
+        ),
+        _ => unreachable!(),
+    }
+}
+
+/// A move to a partner.
+fn begin_to(
+    procs: &mut Procs,
+    aliens: &mut AlienPool,
+    now: u64,
+    times: &Times,
+    out: &mut Outbox,
+    pid: Pid,
+    partner: Pid,
+    dest: u32,
+    src: u32,
+    count: u32,
+) -> Option<Outcome>
+    requires now { now < 2 ^ 48 }
+    requires moves { HasFewMoves aliens.old }
+    requires fit { HasFitAliens aliens.old }
+    requires room { length out.old.posts + 64 ≤ out.old.room }
+    ensures answer { result ≡ (move_begun times.now now pid (Call.MoveTo partner dest src count) procs.old aliens.old).answer }
+    ensures seats { procs.new ≡ (move_begun times.now now pid (Call.MoveTo partner dest src count) procs.old aliens.old).seats }
+    ensures slots { aliens.new ≡ (move_begun times.now now pid (Call.MoveTo partner dest src count) procs.old aliens.old).slots }
+    ensures packets { out.new ≡ posted out.old
+        (move_begun times.now now pid (Call.MoveTo partner dest src count) procs.old aliens.old).packets }
+{
+    let verdict = verdict_in(procs, aliens, pid, partner, Direction::To, dest, src, count);
+    let waiting = Waiting::MoveTo {
+        partner,
+        dest,
+        src,
+        count,
+    };
+    begin_by(
+        procs, aliens, now, times, out, pid, partner, waiting, verdict,
+    )
+}
+
+/// A move from a partner.
+fn begin_from(
+    procs: &mut Procs,
+    aliens: &mut AlienPool,
+    now: u64,
+    times: &Times,
+    out: &mut Outbox,
+    pid: Pid,
+    partner: Pid,
+    dest: u32,
+    src: u32,
+    count: u32,
+) -> Option<Outcome>
+    requires now { now < 2 ^ 48 }
+    requires moves { HasFewMoves aliens.old }
+    requires fit { HasFitAliens aliens.old }
+    requires room { length out.old.posts + 64 ≤ out.old.room }
+    ensures answer { result ≡ (move_begun times.now now pid (Call.MoveFrom partner dest src count) procs.old aliens.old).answer }
+    ensures seats { procs.new ≡ (move_begun times.now now pid (Call.MoveFrom partner dest src count) procs.old aliens.old).seats }
+    ensures slots { aliens.new ≡ (move_begun times.now now pid (Call.MoveFrom partner dest src count) procs.old aliens.old).slots }
+    ensures packets { out.new ≡ posted out.old
+        (move_begun times.now now pid (Call.MoveFrom partner dest src count) procs.old aliens.old).packets }
+{
+    let verdict = verdict_in(
+        procs,
+        aliens,
+        pid,
+        partner,
+        Direction::From,
+        src,
+        dest,
+        count,
+    );
+    let waiting = Waiting::MoveFrom {
+        partner,
+        dest,
+        src,
+        count,
+    };
+    begin_by(
+        procs, aliens, now, times, out, pid, partner, waiting, verdict,
+    )
+}

@@ -1,0 +1,103 @@
+//! A tick of the clock, for a process that waits in a move.
+
+ghost use Rattle.std.specs.Prelude.{◌≡◌, ◌≤◌, ◌<◌, ◌+◌, ◌++◌, ◌^◌, length, option_copied};
+ghost use Rattle.arrayvec.specs.ArrayVec.{array_vec_len};
+ghost use Rattle.vk_move.specs.Due.{IsDueRule, due_moved, ticked_at, ticked_in};
+ghost use Rattle.vk_move.specs.Fitting.{KeepsFit};
+ghost use Rattle.vk_move.specs.Moved.{HasFitSeats};
+ghost use Rattle.vk_stands.specs.Rules.{posted};
+
+use crate::mover::{end, go_on};
+use vk_base::{Ending, Pid, StepList, Times};
+use vk_packet::Outbox;
+use vk_procs::{ProcNote, Procs, Seat};
+use vk_timer::{Due, Work};
+
+/// What a tick finds of a move: nothing; it was tried often enough, and ends; or its round goes out again, from this offset on, and was
+/// tried so often then.
+#[derive(Clone, Copy)]
+pub enum Ticked {
+    Nothing,
+    Ends,
+    Again { tries: u32, from: u32 },
+}
+
+fn ticked_at(note: &ProcNote, now: u64, times: &Times) -> Ticked
+    requires { now < 2 ^ 48 }
+    ensures { result ≡ ticked_at times.now now note.now }
+{
+    let mut work = Work {
+        tries: note.tries,
+        deadline: note.deadline,
+    };
+    match work.due(now, times) {
+        Due::NotDue => Ticked::Nothing,
+        Due::GiveUp => Ticked::Ends,
+        Due::Resend => Ticked::Again {
+            tries: work.tries,
+            from: note.offset,
+        },
+    }
+}
+
+fn ticked_in(seat: Option<&Seat>, now: u64, times: &Times) -> Ticked
+    requires { now < 2 ^ 48 }
+    ensures { result ≡ ticked_in times.now now (option_copied seat.entry) }
+{
+    let Some(seat) = seat else {
+        return Ticked::Nothing;
+    };
+    if seat.doing.is_moving() {
+        ticked_at(&seat.note, now, times)
+    } else {
+        Ticked::Nothing
+    }
+}
+
+/// The tick `now`, below 2^48, of one process: if it waits in a move whose work is due, the work fails where it was tried often
+/// enough, else its round goes out again. Of the tables only the seat of that process changes. There is room for a step and for
+/// 64 packets.
+pub fn due(
+    procs: &mut Procs,
+    now: u64,
+    times: &Times,
+    out: &mut Outbox,
+    steps: &mut StepList,
+    pid: Pid,
+)
+    requires now { now < 2 ^ 48 }
+    requires fit { HasFitSeats procs.old }
+    requires packets { length out.old.posts + 64 ≤ out.old.room }
+    requires room { array_vec_len steps.old + 1 ≤ 40 }
+    ensures seats { procs.new ≡ (due_moved times.now now pid procs.old).seats }
+    ensures steps { steps.new.items ≡ steps.old.items ++ (due_moved times.now now pid procs.old).steps }
+    ensures packets { out.new ≡ posted out.old (due_moved times.now now pid procs.old).packets }
+    ensures fit { KeepsFit procs.old procs.new }
+    ensures right { IsDueRule times.now now pid procs.old }
+{
+    tick(procs, now, times, out, steps, pid);
+}
+
+/// What the tick finds of the process, by the tables.
+fn tick(
+    procs: &mut Procs,
+    now: u64,
+    times: &Times,
+    out: &mut Outbox,
+    steps: &mut StepList,
+    pid: Pid,
+)
+    requires now { now < 2 ^ 48 }
+    requires fit { HasFitSeats procs.old }
+    requires packets { length out.old.posts + 64 ≤ out.old.room }
+    requires room { array_vec_len steps.old + 1 ≤ 40 }
+    ensures seats { procs.new ≡ (due_moved times.now now pid procs.old).seats }
+    ensures steps { steps.new.items ≡ steps.old.items ++ (due_moved times.now now pid procs.old).steps }
+    ensures packets { out.new ≡ posted out.old (due_moved times.now now pid procs.old).packets }
+{
+    match ticked_in(procs.seat(pid), now, times) {
+        Ticked::Nothing => {}
+        Ticked::Ends => end(procs, steps, pid, Ending::TimedOut),
+        Ticked::Again { tries, from } => go_on(procs, now, times, out, pid, tries, from),
+    }
+}

@@ -1,0 +1,20 @@
+//! Page programs: a server that keeps pages of 512 bytes, and a client that writes and reads them; and any program of a
+//! scenario. The program `vkernel` does not use them yet.
+//!
+//! Stands on `vk_base`, on the tasks of `vk_event` and on `vk_program`.
+#![tactic(auto)]
+
+mod any;
+mod client;
+mod message;
+mod server;
+mod serving;
+mod store;
+#[cfg(test)]
+mod tests;
+
+pub use any::AnyProgram;
+pub use client::PageClient;
+pub use server::PageServer;
+pub use serving::Serving;
+pub use store::{MemoryPages, PageStore};

@@ -1,0 +1,13 @@
+//! Programs of processes: what a process calls next, after the answers so far. Scripts are the simplest. The program
+//! `vkernel` does not use them yet.
+//!
+//! Stands on `vk_base` alone.
+#![tactic(auto)]
+
+mod program;
+mod script;
+#[cfg(test)]
+mod tests;
+
+pub use program::Program;
+pub use script::Script;

@@ -1,0 +1,17 @@
+pub mod Awaiting
+pub mod Admitted
+pub mod Arrived
+pub mod ArrivedQueues
+pub mod Brought
+pub mod Come
+pub mod Heard
+pub mod Kept
+pub mod KeptPackets
+pub mod Pended
+pub mod Right
+pub mod SendRules
+pub mod Unplaced
+pub mod Works
+pub mod FarSenders
+pub mod Refused
+pub mod Replied
