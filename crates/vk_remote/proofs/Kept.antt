@@ -30,7 +30,7 @@ use Rattle.vk_timer.specs.declared.work.Work.{Work}
 use Rattle.vk_timer.specs.Works.{work_at}
 use Rattle.vk_remote.specs.Fits.{AreFew, HasFitAliens, HasFitSeat, KeepsSeats, KeepsSlots}
 use Rattle.vk_remote.specs.Replies.{bytes_of, replied_slots, segment_refusal, slots_by}
-use Rattle.vk_remote.specs.declared.replies.Segment.{Segment}
+use Rattle.vk_local.specs.declared.access.Segment.{Segment}
 use Rattle.vk_remote.specs.Rows.{AreTold}
 use Rattle.vk_remote.specs.Sends.{IsSpelled, due_seats, has_segment, is_sendable, seats_by, send_packet_of, sent_from, sent_seats, work_in, working}
 use Rattle.vk_stands.specs.Fit.{IsFitSeat, may_go_on, may_wait}

@@ -16,5 +16,5 @@ mod tell;
 mod ticks;
 mod work;
 
-pub use replies::Segment;
 pub use rules::{due, reply, reply_segment, send, take_packet};
+pub use vk_local::Segment;

@@ -13,17 +13,10 @@ ghost use Rattle.vk_stands.specs.Rules.{posted};
 use crate::tell::tell;
 use vk_base::limits::SEGMENT_BYTES;
 use vk_base::{Call, Message, Outcome, Pid, Refusal, Step, StepList};
+use vk_local::Segment;
 use vk_packet::Outbox;
 use vk_pool::{Alien, AlienPool, AlienStage};
 use vk_procs::{Procs, Seat};
-
-/// The bytes that a reply brings: `count` from `src` of the memory of the one who replies, for the place `dest` of the sender's.
-#[derive(Clone, Copy)]
-pub struct Segment {
-    pub dest: u32,
-    pub src: u32,
-    pub count: u32,
-}
 
 fn is_held_by(alien: &Alien, pid: Pid) -> bool
     ensures { result ≡ is_held_by pid alien.now }

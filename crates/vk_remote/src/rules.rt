@@ -15,11 +15,12 @@ ghost use Rattle.vk_remote.specs.Sends.{due_in, due_packets, due_seats, due_step
 ghost use Rattle.vk_stands.specs.Rules.{posted};
 
 use crate::answers::{take_negative, take_pending, take_reply};
-use crate::replies::{Segment, play_plain, play_segment};
+use crate::replies::{play_plain, play_segment};
 use crate::sends::play_send;
 use crate::take::take_send;
 use crate::ticks::play_due;
 use vk_base::{Call, Message, Outcome, Pid, Step, StepList, Times};
+use vk_local::Segment;
 use vk_packet::{Outbox, PacketView};
 use vk_pool::{AlienPool, Arrival};
 use vk_procs::Procs;
