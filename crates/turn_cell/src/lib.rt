@@ -16,6 +16,3 @@ mod turn;
 pub use cell::{NoMemory, Ready, TurnCell};
 pub use replay::{Replay, Room};
 pub use seat::TurnSeat;
-
-#[cfg(test)]
-mod tests;

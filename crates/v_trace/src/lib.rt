@@ -7,8 +7,6 @@ mod answer;
 mod law;
 mod reading;
 mod step;
-#[cfg(test)]
-mod tests;
 mod trace;
 mod word;
 

@@ -12,8 +12,6 @@ mod scenario;
 mod schedule;
 mod task;
 mod task_line;
-#[cfg(test)]
-mod tests;
 mod writing;
 
 pub use event::Event;

@@ -1,262 +1,311 @@
--- Events of the tables, from what their fields hold to what is said of them.
-use Rattle.std.proofs.Common.{◌≡◌, ℕ, ◌+◌, ◌^◌, ◌≤◌, ◌<◌, Bool, true, false, cond, ◌==◌, ◌&&◌, ◌||◌, List, [], ◌∷◌, ◌++◌, length, take, drop, filter, map, Option, Some, None, refl, sym, ap, ◌∙◌, subst, arith}
-use Rattle.std.specs.List.{find, count_by}
-use Rattle.std.specs.Option.{option_map, is_some}
-use Rattle.std.proofs.lemmas.Bool.{eqb-true, eq-eqb, cond-true, cond-false}
-use Rattle.std.proofs.lemmas.Grind.{common_steps}
-use Rattle.std.proofs.lemmas.List.Sums.{sum_by-cons}
-use Rattle.std.proofs.lemmas.Option.{same_Some, none-some}
-use Rattle.vk_base.specs.declared.answer.Answer.{Answer}
-use Rattle.vk_base.specs.declared.answer.Refusal.{Refusal}
-use Rattle.vk_base.specs.declared.call.Call.{Call}
-use Rattle.vk_base.specs.declared.call.Call.TheVariants as calls
-use Rattle.vk_base.specs.declared.kernel.Name.{Name}
-use Rattle.vk_base.specs.declared.message.Message.{Message}
-use Rattle.vk_base.specs.declared.pid.Pid.{Pid}
-use Rattle.vk_base.specs.declared.config.ProcessSpec.{ProcessSpec}
-use Rattle.vk_base.specs.declared.step.Step.{Step}
-use Rattle.vk_base.specs.declared.step.Step.TheVariants as steps
-use Rattle.vk_base.specs.Kernel.{Kernel, finished_call, queue_of, initial_kernel, initial_process}
-use Rattle.vk_base.specs.Settings.{is_on, is_process, has_process}
-use Rattle.vk_base.specs.Pids.{same_pid}
-use Rattle.v_laws.proofs.Options.{mapped_some}
-use Rattle.v_laws.proofs.SoundLemmas.{sound_initial}
-use Rattle.v_laws.proofs.Tables.{same_pid_is}
+-- From what an event does to the desk to what it does to the station, for the entries that it stands for.
+use Rattle.std.proofs.Common.{◌≡◌, ◌≤◌, ◌<◌, ℕ, ◌+◌, ◌-◌, ◌^◌, min, max, true, List, [], ◌∷◌, filter, map, None, refl, sym, ap, subst, ◌∙◌, arith}
+use Rattle.std.specs.Option.{is_some}
 use Rattle.vk_base.specs.declared.event.EventAnswer.{EventAnswer}
-use Rattle.vk_base.specs.declared.event.StationEvent.{StationEvent}
-use Rattle.vk_base.specs.declared.event.StationEvent.TheVariants as events
-use Rattle.vk_host.specs.declared.seat.Seat.{Seat}
-use Rattle.vk_base.specs.Steps.{effect}
-use Rattle.vk_rules.specs.Aliens.{Alien}
-use Rattle.vk_host.specs.Entries.{is_built, is_built_call}
-use Rattle.vk_host.proofs.Quiet.{IsQuiet, call_quiet}
-use Rattle.vk_host.proofs.Alone.{after_event}
-use Rattle.vk_host.specs.Stands.{IsSeated, Fits, AreSeats, Stands, is_at, is_own, is_done, initial_seat, initial_seats}
-use Rattle.vk_base.specs.Firsts.{change_first}
-use Rattle.vk_host.specs.Tables.{Tables, is_seat, state_of, waiting, send_begun, enqueued, dequeued, marked_taken, received, replied, made_ready, next_name_in, sent_seats, takes, served, serving, refusal_by, accepted_by, called_by, call_on_seats, collected, collect_seats, collect_steps, collect_answer}
-use Rattle.vk_host.proofs.Seats.{find-either}
-use Rattle.vk_host.proofs.Right.{Right, call_right, collect_right, collect_allowed}
+use Rattle.vk_base.specs.declared.pid.Pid.{Pid}
+use Rattle.vk_base.specs.declared.step.Step.TheVariants as steps
+use Rattle.vk_base.specs.declared.limits.TheConstants.{STATION_PROCESSES}
+use Rattle.vk_base.specs.Settings.{Settings, is_on, refusal_of}
+use Rattle.vk_base.specs.Steps.{is_allowed}
+use Rattle.vk_packet.specs.Posts.{Posts}
+use Rattle.vk_procs.specs.Seats.{outcome_of, pids, seat_in}
+use Rattle.vk_rules.specs.Entries.{Called, Collected, Delivered, Entry, Input, Ticked}
+use Rattle.vk_rules.specs.Frames.{Unsealed, frames_of, number_in}
+use Rattle.vk_rules.specs.Readings.{Reading, first_reading}
+unfoldable use Rattle.vk_rules.specs.Readings.{reading, reading_after}
+use Rattle.vk_rules.specs.Right.{answer_to, entry_of, number_after, own_pids, tick_after}
+unfoldable use Rattle.vk_rules.specs.Right.{right_entry}
+use Rattle.vk_stands.specs.Fit.{AreFit}
+use Rattle.vk_stands.specs.Rules.{Doing, Makes, packets_in, post_of}
+use Rattle.vk_stands.specs.Stands.{Stands}
+use Rattle.vk_stands.specs.Tables.{Tables, new_tables}
+use Rattle.vk_stands.proofs.After.{packets_are}
+use Rattle.vk_stands.proofs.Opening.{new_fit, new_stands}
+use Rattle.vk_host.specs.declared.desk.Desk.{Desk}
+use Rattle.vk_host.specs.declared.desk.TheConstants.{PACKETS}
+use Rattle.vk_host.specs.Desks.{KeepsDesk, doing_in, fresh, value_in}
+use Rattle.vk_host.specs.Played.{IsPlayed}
+use Rattle.vk_host.specs.Sealed.{AreSealed, CanSeal, sealed}
+use Rattle.vk_host.specs.Standing.{IsAt, IsEvent, Shows, StandsSomewhere}
+use Rattle.vk_host.specs.Ticking.{IsOneTick, IsTickPlayed}
+use Rattle.vk_host.specs.Values.{StationValue, has}
+use Rattle.vk_host.proofs.Collecting.{collectable}
+use Rattle.vk_host.proofs.Rooms.{has_room, there}
+use Rattle.vk_host.proofs.Staying.{own_host, pids_at_first, same_found}
 
--- what is written over all elements of a vector is what it has then
-pub written : {X : Type 0} (n : ℕ) (new old : List X) → n ≡ length old → length new ≡ length old →
-    take n (new ++ drop (length new) old) ≡ new
-written n new old e f = grind (arith, common_steps)
+-- What an event does to the counts of a station, and to whose its processes are.
+pub record Counts (old : StationValue) (i : Input) (d : Desk) (lamport count : ℕ) : Type 0 where
+  pub host : d.host ≡ old.host
+  pub times : d.times ≡ old.times
+  pub now : (r : Reading) → r.now ≡ old.now → d.now ≡ tick_after r i
+  pub number : (r : Reading) → r.number ≡ old.number → lamport ≡ number_after r i
+  pub events : count ≡ old.events + 1
+  pub pids : pids d.procs ≡ pids old.doing.tables.seats
+  pub places : d.queues.slots ≡ old.places
 
-some_is : {X : Type 0} (o : Option X) → is_some o ≡ true → (x : X) × (o ≡ Some x)
-some_is None e = cc
-some_is (Some x) e = (x, refl)
+-- What it is for the settings and a reading of what the station stands for.
+pub record IsRight (old : StationValue) (i : Input) (given : EventAnswer) (after : Doing) (c : Settings) (r : Reading) : Type 0 where
+  pub answer : given ≡ answer_to c old.host r i
+  pub makes : Makes c old.host r (right_entry c old.host r i) (fresh old.doing) after
+  pub fits : AreFit old.host after.tables
 
--- the seat of a process of the station
-pub record IsHere (t : Tables) (k : Kernel) (pid : Pid) : Type 0 where
-  pub seat : Seat
-  pub found : find (is_seat pid) t.seats ≡ Some seat
-  pub host : pid.host ≡ t.host
-  pub seated : IsSeated k pid seat
+abbrev pub AreRight : (old : StationValue) → Input → EventAnswer → (after : Doing) → Type 0
+AreRight old i given after = (c : Settings) (r : Reading) → c.times ≡ old.times → r.now ≡ old.now →
+    pids old.doing.tables.seats ≡ own_pids c old.host → Stands old.times old.host old.doing.tables r → IsRight old i given after c r
 
-pub is_here : (t : Tables) (k : Kernel) (pid : Pid) → is_at t pid ≡ true → Stands t k → IsHere t k pid
-is_here t k pid at stands =
-    let some = some_is (find (is_seat pid) t.seats) at in
-    let host = (stands.seats.own pid some.0 some.1).0 in
-    record { seat = some.0; found = some.1; host = host; seated = subst (Fits k pid) some.1 (stands.seats.fits pid host) }
+-- An event, as the desk, the Lamport number and the count have it.
+pub record Happens (old : StationValue) (i : Input) (given : EventAnswer) (d : Desk) (lamport count : ℕ) : Type 0 where
+  pub counts : Counts old i d lamport count
+  pub right : AreRight old i given (doing_in d)
 
-pub call_event : (t : Tables) (k : Kernel) (pid : Pid) (c : Call) (e : StationEvent) → e ≡ events.Call pid c → is_own t e ≡ true →
-    is_built e ≡ true → t.events < 2 ^ 48 → Stands t k →
-    Right t.host t.events (call_on_seats t.seats pid c).seats (steps.Call pid c ∷ (call_on_seats t.seats pid c).steps)
-    (call_on_seats t.seats pid c).answer k e
-call_event t k pid c e is own built few stands =
-    let here = is_here t k pid (sym (ap (is_own t) is) ∙ own) stands in
-    subst (λ x. Right t.host t.events (call_on_seats t.seats pid c).seats (steps.Call pid c ∷ (call_on_seats t.seats pid c).steps)
-    (call_on_seats t.seats pid c).answer k x) (sym is)
-    (call_right t.host t.events t.seats k pid here.seat stands.sound stands.seats here.host here.found here.seated few c
-    (sym (ap is_built is) ∙ built))
+-- a tick is one more at most, and a number at most 2^63 - 1
+soon : (r : Reading) (i : Input) → tick_after r i ≤ r.now + 1
+soon r (Called pid call) = omega arith
+soon r (Collected pid) = omega arith
+soon r Ticked = omega arith
+soon r (Delivered o) = omega arith
 
--- a call of a process of the station sends no packet
-pub own_quiet : (t : Tables) (k : Kernel) (slots : List (Option Alien)) (pid : Pid) (c : Call) → is_at t pid ≡ true →
-    is_built_call pid c ≡ true → Stands t k →
-    IsQuiet k slots pid c (effect k (steps.Call pid c))
-own_quiet t k slots pid c own built stands =
-    let here = is_here t k pid own stands in
-    call_quiet t.host t.events t.seats k slots pid stands.seats here.host c built
+least : (n m last : ℕ) → n ≡ min m last → n ≤ last
+least n m last is = omega arith
 
-pub collect_event : (t : Tables) (k : Kernel) (pid : Pid) (e : StationEvent) → e ≡ events.Collect pid → is_own t e ≡ true → Stands t k →
-    Right t.host t.events (collect_seats t.seats pid (collected t.seats pid)) (collect_steps pid (collected t.seats pid))
-    (collect_answer (collected t.seats pid)) k e
-collect_event t k pid e is own stands =
-    let here = is_here t k pid (sym (ap (is_own t) is) ∙ own) stands in
-    subst (Right t.host t.events (collect_seats t.seats pid (collected t.seats pid)) (collect_steps pid (collected t.seats pid))
-    (collect_answer (collected t.seats pid)) k) (sym is)
-    (collect_right t.host t.events t.seats k pid here.seat stands.sound stands.seats here.host here.found here.seated)
+bound : (r : Reading) (i : Input) → number_after r i ≤ 2 ^ 63 - 1
+bound r (Called pid call) = least (number_after r (Called pid call)) (r.number + 1) (2 ^ 63 - 1) refl
+bound r (Collected pid) = least (number_after r (Collected pid)) (r.number + 1) (2 ^ 63 - 1) refl
+bound r Ticked = least (number_after r Ticked) (r.number + 1) (2 ^ 63 - 1) refl
+bound r (Delivered o) = least (number_after r (Delivered o)) (max r.number (number_in o) + 1) (2 ^ 63 - 1) refl
 
-pub done_here : (t : Tables) (k : Kernel) (pid : Pid) (s : Seat) → is_at t pid ≡ true → find (is_seat pid) t.seats ≡ Some s → Stands t k →
-    is_some (finished_call (state_of s.doing)) ≡ is_done k pid
-done_here t k pid s at found stands =
-    let here = is_here t k pid at stands in
-    let same : s ≡ here.seat = same_Some s here.seat (sym found ∙ here.found) in
-    ap (λ (x : Seat). is_some (finished_call (state_of x.doing))) same
-    ∙ collect_allowed t.host t.events t.seats k pid here.seat stands.sound stands.seats here.host here.found here.seated
+later : (now after before events new : ℕ) → now ≡ after → after ≤ before + 1 → before ≤ events → new ≡ events + 1 → now ≤ new
+later now after before events new a b c d = omega arith
 
--- The processes of the station stay.
+-- what is sealed has 63 bits
+short : (now count events : ℕ) → now ≤ count → count ≡ events + 1 → events < 2 ^ 48 → now < 2 ^ 63
+short now count events a b c = omega arith
 
-either_some : (f : Seat → Seat) (o : Option Seat) (b : Bool) → is_some (cond b (option_map f o) o) ≡ is_some o
-either_some f o true = mapped_some f o
-either_some f o false = refl
+short_number : (n m : ℕ) → n ≡ m → m ≤ 2 ^ 63 - 1 → n < 2 ^ 63
+short_number n m a b = omega arith
 
-stays : (q pid : Pid) (f : Seat → Seat) (seats : List Seat) → ((s : Seat) → (f s).pid ≡ s.pid) →
-    is_some (find (is_seat q) (change_first (is_seat pid) f seats)) ≡ is_some (find (is_seat q) seats)
-stays q pid f seats keeps = ap is_some (find-either pid f keeps q seats) ∙ either_some f (find (is_seat q) seats) (same_pid q pid)
+some_count : (count events : ℕ) → count ≡ events + 1 → 0 < count
+some_count count events is = omega arith
 
-stays_served : (q r : Pid) (seats : List Seat) (o : Option (Name × Message)) →
-    is_some (find (is_seat q) (served seats r o)) ≡ is_some (find (is_seat q) seats)
-stays_served q r seats None = refl
-stays_served q r seats (Some t) =
-    stays q r (received t.0.sender t.1) (change_first (is_seat t.0.sender) marked_taken (change_first (is_seat r) dequeued seats))
-    (λ s. refl)
-    ∙ stays q t.0.sender marked_taken (change_first (is_seat r) dequeued seats) (λ s. refl)
-    ∙ stays q r dequeued seats (λ s. refl)
+room_is : (n m : ℕ) → n ≡ m → m ≡ 2048 → n ≤ PACKETS
+room_is n m a b = omega arith
 
-stays_accepted : (q pid : Pid) (c : Call) (seats : List Seat) →
-    is_some (find (is_seat q) (accepted_by seats pid c).seats) ≡ is_some (find (is_seat q) seats)
-unfolding serving sent_seats
-stays_accepted q pid (calls.Send target m) seats =
-    let begun = change_first (is_seat pid) (send_begun target m) seats in
-    let sent = change_first (is_seat target) (enqueued (next_name_in pid (find (is_seat pid) begun))) begun in
-    stays_served q target sent (takes sent target)
-    ∙ stays q target (enqueued (next_name_in pid (find (is_seat pid) begun))) begun (λ s. refl)
-    ∙ stays q pid (send_begun target m) seats (λ s. refl)
-stays_accepted q pid calls.Receive seats =
-    stays_served q pid (change_first (is_seat pid) waiting seats) (takes (change_first (is_seat pid) waiting seats) pid)
-    ∙ stays q pid waiting seats (λ s. refl)
-stays_accepted q pid (calls.Reply m to) seats = stays q to (replied m) seats (λ s. refl)
-stays_accepted q pid c seats = refl
+same_is : (n : ℕ) → n ≤ n
+same_is n = omega arith
 
-stays_called : (q pid : Pid) (c : Call) (seats : List Seat) (o : Option Refusal) →
-    is_some (find (is_seat q) (called_by seats pid c o).seats) ≡ is_some (find (is_seat q) seats)
-stays_called q pid c seats None = stays_accepted q pid c seats
-stays_called q pid c seats (Some why) = refl
+module _ (old : StationValue) (i : Input) (given : EventAnswer) (d : Desk) (lamport count : ℕ) (h : Happens old i given d lamport count) where
+  counts : Counts old i d lamport count
+  counts = h.counts
 
-pub call_stays : (q pid : Pid) (c : Call) (seats : List Seat) →
-    is_some (find (is_seat q) (call_on_seats seats pid c).seats) ≡ is_some (find (is_seat q) seats)
-unfolding call_on_seats
-call_stays q pid c seats = stays_called q pid c seats (refusal_by seats pid c)
+  module _ (c : Settings) (es : List Entry) (at : IsAt c es old) where
+    abbrev r : Reading
+    r = reading c old.host es
 
-pub collect_stays : (q pid : Pid) (seats : List Seat) (o : Option Answer) →
-    is_some (find (is_seat q) (collect_seats seats pid o)) ≡ is_some (find (is_seat q) seats)
-collect_stays q pid seats None = refl
-collect_stays q pid seats (Some a) = stays q pid made_ready seats (λ s. refl)
+    abbrev e : Entry
+    e = entry_of c old.host es i
 
--- The opening.
+    is : IsRight old i given (doing_in d) c r
+    is = h.right c r (sym at.times) (sym at.now) at.order (subst (λ t. Stands t old.host old.doing.tables r) (sym at.times) at.stands)
 
-found_by : (host : ℕ) (s : ProcessSpec) (ss : List ProcessSpec) (q : Pid) (a b : Bool) → q.host ≡ host → is_on host s ≡ a →
-    is_process q s ≡ b → find (is_seat q) (initial_seats host ss) ≡ option_map initial_seat (find (is_process q) ss) →
-    find (is_seat q) (map initial_seat (cond a (s ∷ filter (is_on host) ss) (filter (is_on host) ss))) ≡ option_map initial_seat
-    (cond b (Some s) (find (is_process q) ss))
-found_by host s ss q true true here ea eb again = rw eb refl
-found_by host s ss q true false here ea eb again = rw eb again
-found_by host s ss q false true here ea eb again = let on : is_on host s ≡ true =
-    eq-eqb s.pid.host host (ap (λ (p : Pid). p.host) (same_pid_is s.pid q eb) ∙ here) in cc
-found_by host s ss q false false here ea eb again = again
+    tick : d.now ≡ e.tick
+    unfolding right_entry
+    tick = counts.now r (sym at.now)
 
--- the seats at the start are the processes of the host
-found_initial : (host : ℕ) (specs : List ProcessSpec) (q : Pid) → q.host ≡ host →
-    find (is_seat q) (initial_seats host specs) ≡ option_map initial_seat (find (is_process q) specs)
-found_initial host [] q here = refl
-found_initial host (s ∷ ss) q here = found_by host s ss q (is_on host s) (is_process q s) here refl refl (found_initial host ss q here)
+    number : lamport ≡ e.number
+    unfolding right_entry
+    number = counts.number r (sym at.number)
 
-own_by : (host : ℕ) (s : ProcessSpec) (xs : List Seat) (q : Pid) (x : Seat) (a b : Bool) → is_on host s ≡ a → is_process q s ≡ b →
-    (find (is_seat q) xs ≡ Some x → (q.host ≡ host) × (x.sends ≤ 0)) →
-    find (is_seat q) (cond a (initial_seat s ∷ xs) xs) ≡ Some x → (q.host ≡ host) × (x.sends ≤ 0)
-own_by host s xs q x true true ea eb again is =
-    let at : s.pid ≡ q = same_pid_is s.pid q eb in
-    let seat : initial_seat s ≡ x =
-    same_Some (initial_seat s) x (sym (cond-true (is_process q s) (Some (initial_seat s)) (find (is_seat q) xs) eb) ∙ is) in
-    (ap (λ (p : Pid). p.host) (sym at) ∙ eqb-true s.pid.host host ea, subst (λ (y : Seat). y.sends ≤ 0) seat (omega arith))
-own_by host s xs q x true false ea eb again is =
-    again (sym (cond-false (is_process q s) (Some (initial_seat s)) (find (is_seat q) xs) eb) ∙ is)
-own_by host s xs q x false b ea eb again is = again is
+    answer : given ≡ e.answer
+    unfolding right_entry
+    answer = is.answer
 
-map_if : (s : ProcessSpec) (ss : List ProcessSpec) (a : Bool) →
-    map initial_seat (cond a (s ∷ ss) ss) ≡ cond a (initial_seat s ∷ map initial_seat ss) (map initial_seat ss)
-map_if s ss true = refl
-map_if s ss false = refl
+    posted : d.out.posts ≡ map post_of (packets_in e)
+    posted = ap (λ (o : Posts). o.posts) is.makes.packets
 
-own_initial : (host : ℕ) (specs : List ProcessSpec) (q : Pid) (x : Seat) → find (is_seat q) (initial_seats host specs) ≡ Some x →
-    (q.host ≡ host) × (x.sends ≤ 0)
-own_initial host [] q x is = absurd (none-some x is)
-own_initial host (s ∷ ss) q x is = own_by host s (initial_seats host ss) q x (is_on host s) (is_process q s) refl refl
-    (own_initial host ss q x) (ap (find (is_seat q)) (sym (map_if s (filter (is_on host) ss) (is_on host s))) ∙ is)
+    room : d.out.room ≡ old.doing.out.room
+    room = ap (λ (o : Posts). o.room) is.makes.packets
 
-fits_initial : (specs : List ProcessSpec) (q : Pid) (o : Option ProcessSpec) → find (is_process q) specs ≡ o →
-    Fits (initial_kernel specs) q (option_map initial_seat o)
-unfolding queue_of
-fits_initial specs q None e = ap (option_map initial_process) e
-fits_initial specs q (Some s) e = record {
-  process = initial_process s;
-  is = ap (option_map initial_process) e;
-  alive = refl;
-  state = refl;
-  sends = refl;
-  queue = refl;
-  sent = λ target m blocked. cc;
+    ticks : d.now ≤ count
+    ticks = later d.now (tick_after r i) old.now old.events count (counts.now r (sym at.now))
+        (subst (λ n. tick_after r i ≤ n + 1) (sym at.now) (soon r i)) at.ticks counts.events
+
+    -- its frames can be made
+    sealable : old.events < 2 ^ 48 → CanSeal d lamport count
+    sealable few = record {
+      some_host = subst (λ n. 0 < n) (sym counts.host) at.some_host;
+      one_host = subst (λ n. n < 65535) (sym counts.host) at.one_host;
+      stamp = short d.now count old.events ticks counts.events few;
+      number = short_number lamport (number_after r i) (counts.number r (sym at.number)) (bound r i);
+      some_event = some_count count old.events counts.events;
+      event = short count count old.events (same_is count) counts.events few;
+      room = room_is d.out.room old.doing.out.room room at.room;
+      posted = (packets_in e, posted);
+    }
+
+    -- they are those of the entry
+    framed : frames_of d.host d.now lamport count 1 (packets_in e) ≡ e.frames
+    unfolding right_entry
+    framed = λ j. frames_of (counts.host j) (counts.now r (sym at.now) j) (counts.number r (sym at.number) j)
+        ((counts.events ∙ ap (λ n. n + 1) at.events) j) 1 (packets_are c old.host r i j)
+
+    -- the reading with it
+    then_is : reading c d.host (e ∷ es) ≡ reading_after c.times r e
+    unfolding reading
+    then_is = ap (λ host. reading c host (e ∷ es)) counts.host
+
+    after_now : (reading_after c.times r e).now ≡ e.tick
+    unfolding reading_after
+    after_now = refl
+
+    after_number : (reading_after c.times r e).number ≡ e.number
+    unfolding reading_after
+    after_number = refl
+
+    after_events : (reading_after c.times r e).events ≡ r.events + 1
+    unfolding reading_after
+    after_events = refl
+
+    module _ (frames : List (List ℕ)) (made : AreSealed d lamport count frames) where
+      abbrev new : StationValue
+      new = value_in d lamport count frames
+
+      shown : Shows new given e
+      shown = record {
+        answer = answer;
+        tick = tick;
+        number = number;
+        steps = is.makes.steps;
+        packets = posted;
+        frames = made (packets_in e) posted ∙ ap (map sealed) framed;
+      }
+
+      stands_then : IsAt c (e ∷ es) new
+      stands_then = record {
+        lawful = at.lawful;
+        some_host = subst (λ n. 0 < n) (sym counts.host) at.some_host;
+        one_host = subst (λ n. n < 65535) (sym counts.host) at.one_host;
+        times = counts.times ∙ at.times;
+        stands = subst (λ q. Stands c.times d.host new.doing.tables q) (sym then_is)
+            (subst (λ host. Stands c.times host new.doing.tables (reading_after c.times r e)) (sym counts.host) is.makes.stands);
+        fit = subst (λ host. AreFit host new.doing.tables) (sym counts.host) is.fits;
+        order = counts.pids ∙ at.order ∙ ap (own_pids c) (sym counts.host);
+        now = tick ∙ sym after_now ∙ ap (λ (q : Reading). q.now) (sym then_is);
+        number = number ∙ sym after_number ∙ ap (λ (q : Reading). q.number) (sym then_is);
+        events = counts.events ∙ ap (λ n. n + 1) at.events ∙ sym after_events ∙ ap (λ (q : Reading). q.events) (sym then_is);
+        ticks = ticks;
+        bounded = subst (λ n. n ≤ 2 ^ 63 - 1) (sym (counts.number r (sym at.number))) (bound r i);
+        places = counts.places ∙ at.places;
+        room = room ∙ at.room;
+      }
+
+  pub can_seal : StandsSomewhere old → old.events < 2 ^ 48 → CanSeal d lamport count
+  can_seal somewhere few = sealable somewhere.0 somewhere.1 somewhere.2 few
+
+  pub event_is : (frames : List (List ℕ)) → AreSealed d lamport count frames → IsEvent old (value_in d lamport count frames) i given
+  event_is frames made = record {
+    shows = λ c es at. shown c es at frames made;
+    stands = λ c es at. stands_then c es at frames made;
+    host = counts.host;
+    events = counts.events;
+    processes = λ pid. same_found pid old.doing.tables.seats d.procs counts.pids;
+  }
+
+-- Events as the code has them: with the desk before it, and the counts.
+module _ (old : StationValue) (b d : Desk) (number events : ℕ) (frames : List (List ℕ)) (was : value_in b number events frames ≡ old)
+    (given : EventAnswer) (lamport count : ℕ) (counted : count ≡ events + 1) where
+  abbrev inside : StationValue
+  inside = value_in b number events frames
+
+  happening : (i : Input) → Happens inside i given d lamport count → Happens old i given d lamport count
+  happening i = subst (λ s. Happens s i given d lamport count) was
+
+  module _ (same : KeepsDesk b d) where
+    kept : (i : Input) → ((r : Reading) → tick_after r i ≡ r.now) → ((r : Reading) → r.number ≡ number → lamport ≡ number_after r i) →
+        Counts inside i d lamport count
+    kept i still next = record {
+      host = same.host;
+      times = same.times;
+      now = λ r is. same.now ∙ sym is ∙ sym (still r);
+      number = next;
+      events = counted;
+      pids = same.pids;
+      places = same.places;
+    }
+
+    played_right : (i : Input) → IsPlayed b.times b.host b.now i given (fresh (doing_in b)) (doing_in d) → AreRight inside i given (doing_in d)
+    played_right i played c r times now order h =
+        let x = played.rule c r times now h in
+        record { answer = x.0; makes = x.1; fits = played.fits c r times now h }
+
+    -- of a process
+    pub process_happens : (pid : Pid) (i : Input) → ((r : Reading) → tick_after r i ≡ r.now) →
+        ((r : Reading) → number_after r i ≡ min (r.number + 1) (2 ^ 63 - 1)) → lamport ≡ min (number + 1) (2 ^ 63 - 1) →
+        IsPlayed b.times pid.host b.now i given (fresh (doing_in b)) (doing_in d) → StandsSomewhere old → old.events < 2 ^ 48 →
+        has old pid ≡ true → Happens old i given d lamport count
+    process_happens pid i still next numbered played somewhere few here =
+        let host : pid.host ≡ b.host =
+        (has_room old pid somewhere few here).host ∙ ap (λ (s : StationValue). s.host) (sym was) in
+        happening i (record {
+          counts = kept i still (λ r is. numbered ∙ ap (λ n. min (n + 1) (2 ^ 63 - 1)) (sym is) ∙ sym (next r));
+          right = played_right i (subst (λ n. IsPlayed b.times n b.now i given (fresh (doing_in b)) (doing_in d)) host played);
+        })
+
+    -- of a frame
+    pub frame_happens : (o : Unsealed) → lamport ≡ min (max number (number_in o) + 1) (2 ^ 63 - 1) →
+        IsPlayed b.times b.host b.now (Delivered o) given (fresh (doing_in b)) (doing_in d) → Happens old (Delivered o) given d lamport count
+    frame_happens o numbered played = happening (Delivered o) (record {
+      counts = kept (Delivered o) (λ r. refl) (λ r is. numbered ∙ ap (λ n. min (max n (number_in o) + 1) (2 ^ 63 - 1)) (sym is));
+      right = played_right (Delivered o) played;
+    })
+
+  -- of the clock
+  pub tick_happens : IsOneTick b d → lamport ≡ min (number + 1) (2 ^ 63 - 1) →
+      IsTickPlayed b.times b.host b.now given (fresh (doing_in b)) (doing_in d) → Happens old Ticked given d lamport count
+  tick_happens one numbered played = happening Ticked (record {
+    counts = record {
+      host = one.host;
+      times = one.times;
+      now = λ r is. one.now ∙ ap (λ n. n + 1) (sym is);
+      number = λ r is. numbered ∙ ap (λ n. min (n + 1) (2 ^ 63 - 1)) (sym is);
+      events = counted;
+      pids = played.order;
+      places = one.places;
+    };
+    right = λ c r times now order h.
+        let x = played.rule c r times now order h in
+        record { answer = x.0; makes = x.1; fits = played.fits };
+  })
+
+-- A process of the station has an answer to collect where the kernel, as each of its entries has it, allows the collect.
+pub done_here : (s : StationValue) (pid : Pid) → has s pid ≡ true → (c : Settings) (es : List Entry) → IsAt c es s →
+    is_some (outcome_of (seat_in s.doing.tables.seats pid)) ≡ is_allowed (reading c s.host es).view (steps.Collect pid)
+done_here s pid is c es at =
+    let x = there (seat_in s.doing.tables.seats pid) is in
+    ap (λ o. is_some (outcome_of o)) x.1
+    ∙ collectable c s.host s.doing.tables (reading c s.host es) at.stands at.fit pid (own_host s.host s.doing.tables pid x.0 at.fit x.1) x.0
+    x.1 [] s.doing.out
+
+none_before : (a b : ℕ) → a ≡ 0 → a ≤ b
+none_before a b is = omega arith
+
+-- A new station stands for no entries.
+pub starts : (c : Settings) (s : StationValue) → refusal_of c.times c.pool c.specs ≡ None → 0 < s.host → s.host < 65535 →
+    s.times ≡ c.times → s.doing.tables ≡ new_tables c s.host → s.now ≡ 0 → s.number ≡ 0 → s.events ≡ 0 →
+    s.places ≡ STATION_PROCESSES + c.pool → s.doing.out.room ≡ 2048 → IsAt c [] s
+unfolding reading
+starts c s lawful some_host one_host times tables now number events places room = record {
+  lawful = lawful;
+  some_host = some_host;
+  one_host = one_host;
+  times = times;
+  stands = subst (λ t. Stands c.times s.host t (first_reading c s.host)) (sym tables) (new_stands c s.host lawful);
+  fit = subst (AreFit s.host) (sym tables) (new_fit c s.host lawful);
+  order = ap (λ (t : Tables). pids t.seats) tables ∙ pids_at_first (filter (is_on s.host) c.specs);
+  now = now;
+  number = number;
+  events = events;
+  ticks = none_before s.now s.events now;
+  bounded = none_before s.number (2 ^ 63 - 1) number;
+  places = places;
+  room = room;
 }
-
-length_if : (s : ProcessSpec) (ss : List ProcessSpec) (a : Bool) →
-    length (map initial_seat (cond a (s ∷ ss) ss)) ≡ cond a 1 0 + length (map initial_seat ss)
-length_if s ss true = omega arith
-length_if s ss false = omega arith
-
-length_initial : (host : ℕ) (specs : List ProcessSpec) → length (initial_seats host specs) ≡ count_by (is_on host) specs
-length_initial host [] = refl
-length_initial host (s ∷ ss) =
-    length_if s (filter (is_on host) ss) (is_on host s)
-    ∙ ap (λ n. cond (is_on host s) 1 0 + n) (length_initial host ss)
-    ∙ sym (sum_by-cons (λ x. cond (is_on host x) 1 0) s ss)
-
--- the tables of a station that has just started stand for the initial kernel
-pub stands_initial : (t : Tables) (specs : List ProcessSpec) → t.seats ≡ initial_seats t.host specs → t.events ≡ 0 →
-    ((host : ℕ) → count_by (is_on host) specs ≤ 32) → Stands t (initial_kernel specs)
-stands_initial t specs seats events few = record {
-  sound = sound_initial specs;
-  seats = subst (λ n. AreSeats t.host n t.seats (initial_kernel specs)) (sym events)
-      (subst (λ xs. AreSeats t.host 0 xs (initial_kernel specs)) (sym seats) (record {
-        fits = λ q here. subst (Fits (initial_kernel specs) q) (sym (found_initial t.host specs q here))
-            (fits_initial specs q (find (is_process q) specs) refl);
-        own = own_initial t.host specs;
-        home = λ n e is here not_ended. absurd (none-some e is);
-        few = let small = few t.host in omega (arith, length_initial t.host specs);
-      }));
-}
-
-any_by : (q : Pid) (s : ProcessSpec) (ss : List ProcessSpec) (b : Bool) → is_some (find (is_process q) ss) ≡ has_process ss q →
-    is_some (cond b (Some s) (find (is_process q) ss)) ≡ (b || has_process ss q)
-any_by q s ss true again = refl
-any_by q s ss false again = again
-
-found_any : (q : Pid) (specs : List ProcessSpec) → is_some (find (is_process q) specs) ≡ has_process specs q
-found_any q [] = refl
-found_any q (s ∷ ss) = any_by q s ss (is_process q s) (found_any q ss)
-
-at_by : (t : Tables) (specs : List ProcessSpec) (q : Pid) (b : Bool) → t.seats ≡ initial_seats t.host specs → (q.host == t.host) ≡ b →
-    is_at t q ≡ (b && has_process specs q)
-at_by t specs q true seats e =
-    ap (λ xs. is_some (find (is_seat q) xs)) seats
-    ∙ ap is_some (found_initial t.host specs q (eqb-true q.host t.host e))
-    ∙ mapped_some initial_seat (find (is_process q) specs)
-    ∙ found_any q specs
-at_by t specs q false seats e = ap (λ xs. is_some (find (is_seat q) xs)) seats ∙ by (find (is_seat q) (initial_seats t.host specs)) refl
-  where
-    by : (o : Option Seat) → find (is_seat q) (initial_seats t.host specs) ≡ o → is_some o ≡ false
-    by None is = refl
-    by (Some x) is = let here = (own_initial t.host specs q x is).0 in let same : (q.host == t.host) ≡ true = eq-eqb q.host t.host here in
-        cc
-
--- and the processes of the station are those of the host
-pub at_initial : (t : Tables) (specs : List ProcessSpec) (q : Pid) → t.seats ≡ initial_seats t.host specs →
-    is_at t q ≡ (q.host == t.host && has_process specs q)
-at_initial t specs q seats = at_by t specs q (q.host == t.host) seats refl
-
--- the fields of a station after an event
-pub stands_after : (host n : ℕ) (seats new : List Seat) (made made_new : List Step) (a : EventAnswer) (k : Kernel) (e : StationEvent) →
-    Right host n seats made a k e → new ≡ seats →
-    Stands (record { host = host; seats = new; steps = made_new; events = n + 1 }) (after_event k e)
-stands_after host n seats new made made_new a k e right is =
-    record { sound = right.sound; seats = subst (λ xs. AreSeats host (n + 1) xs (after_event k e)) (sym is) right.stands }

@@ -1,13 +1,22 @@
-pub mod Changes
-pub mod Events
-pub mod Keeping
-pub mod Reading
-pub mod Replying
-pub mod Rest
-pub mod Right
-pub mod Room
-pub mod Seats
-pub mod Sending
-mod Alone
-mod Same
-mod Quiet
+mod Asking
+mod Begun
+mod Clock
+mod Collecting
+mod Counting
+mod Delivering
+mod Entries
+mod Events
+mod Happening
+mod Hearing
+mod InOrder
+mod Naming
+mod Receiving
+mod Remembering
+mod Rooms
+mod Sealing
+mod Starting
+mod Staying
+mod Telling
+mod Ticking
+mod Untaken
+mod Views

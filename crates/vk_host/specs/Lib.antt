@@ -1,3 +1,11 @@
-pub mod Entries
-pub mod Stands
-pub mod Tables
+pub mod Desks
+pub mod Forms
+pub mod Lookups
+pub mod Opened
+pub mod Own
+pub mod Played
+pub mod Sealed
+pub mod Standing
+pub mod Taking
+pub mod Ticking
+pub mod Values

@@ -1,230 +1,229 @@
-//! The rules of the calls within a station, over its tables: first what is decided, then what changes.
+//! The calls of a process, each over the desk of its station.
 
-ghost use Rattle.std.specs.Prelude.{◌≡◌, ◌≤◌, ◌+◌, ◌++◌, ◌∷◌, [], find, is_some, true};
+ghost use Rattle.std.specs.Prelude.{◌≡◌, ◌<◌, ◌≤◌, ◌++◌, ◌∷◌, [], true, is_some, Some, IfNone};
+ghost use Rattle.vk_base.specs.declared.limits.TheConstants.{DATA_BYTES as BYTES, STEPS};
 ghost use Rattle.arrayvec.specs.ArrayVec.{array_vec_len};
-ghost use Rattle.vk_host.specs.Entries.{is_built_call};
-ghost use Rattle.vk_host.specs.Tables.{Outcome, is_seat, is_awaiting, own_refusal, refusal_by, message_from, front_of, takes, taken_seats, served, served_steps, sent_seats, next_name_in, serving, verdict_answer, accepted_by, called_by, call_on_seats, answer_held, collected, collect_seats, collect_steps, collect_answer};
+ghost use Rattle.vk_local.specs.Rules.{may_call};
+ghost use Rattle.vk_procs.specs.Seats.{seat_in};
+ghost use Rattle.vk_rules.specs.Entries.{Called, Collected};
+ghost use Rattle.vk_host.specs.Desks.{KeepsDesk, doing_in, fresh};
+ghost use Rattle.vk_host.specs.Played.{CanPlay, CanStart, IsPlayed, answer_given, collect_steps, early_in, loads};
 
-use crate::seat::{self, Doing, Seat, is_ready, is_receiving, seat_of, sending};
-use vk_base::{Answer, Call, EventAnswer, Message, Name, Pid, Refusal, Step, StepList};
+use crate::desk::Desk;
+use crate::response::{Response, collect_answer};
+use crate::{away, here};
+use vk_base::{
+    Activity, Call, EventAnswer, Message, Outcome, Pid, Refusal, Step, StepList, Waiting,
+};
+use vk_local::Segment;
+use vk_procs::Procs;
 
-/// Whether the sender awaits a reply from the holder, which has taken its message.
-fn is_awaiting(seats: &[Seat], holder: Pid, sender: Pid) -> bool
-    ensures { result ≡ is_awaiting seats.now holder sender }
+/// A Send to a process of this station, or of another.
+fn send(desk: &mut Desk, pid: Pid, target: Pid, message: &Message) -> Response
+    requires can { CanPlay pid desk.old }
+    requires ready { may_call desk.old.procs pid ≡ true }
+    ensures played { IsPlayed desk.old.times pid.host desk.old.now (Called pid (Call.Send target message.now))
+        (answer_given desk.new.procs pid result) (doing_in desk.old) (doing_in desk.new) }
+    ensures few { loads result ≤ BYTES }
+    ensures same { KeepsDesk desk.old desk.new }
 {
-    match seat_of(seats, sender) {
-        Some(seat) => match sending(&seat.doing) {
-            Some((target, _)) => target == holder && seat.taken,
-            None => false,
-        },
-        None => false,
+    if pid.host == target.host {
+        here::send(desk, pid, target, message)
+    } else {
+        away::send(desk, pid, target, message)
     }
 }
 
-/// Why this call of a process that is ready is refused.
-fn own_refusal(seats: &[Seat], pid: Pid, call: &Call) -> Option<Refusal>
-    ensures { result ≡ own_refusal seats.now pid call.now }
+fn reply(desk: &mut Desk, pid: Pid, to: Pid, message: &Message) -> Response
+    requires can { CanPlay pid desk.old }
+    requires ready { may_call desk.old.procs pid ≡ true }
+    ensures played { IsPlayed desk.old.times pid.host desk.old.now (Called pid (Call.Reply message.now to))
+        (answer_given desk.new.procs pid result) (doing_in desk.old) (doing_in desk.new) }
+    ensures few { loads result ≤ BYTES }
+    ensures same { KeepsDesk desk.old desk.new }
 {
-    match *call {
-        Call::Send { target, .. } if seat_of(seats, target).is_none() => Some(Refusal::NoProcess),
-        Call::Reply { to, .. } if !is_awaiting(seats, pid, to) => Some(Refusal::NotAwaiting),
-        _ => None,
+    if pid.host == to.host {
+        here::reply(desk, pid, to, message)
+    } else {
+        away::reply(desk, pid, to, message)
     }
 }
 
-/// Why this call is refused.
-#[tactic(auto, unfolding(crate::specs::Tables::refusal_by))]
-fn refusal(seats: &[Seat], pid: Pid, call: &Call) -> Option<Refusal>
-    ensures { result ≡ refusal_by seats.now pid call.now }
+fn reply_segment(
+    desk: &mut Desk,
+    pid: Pid,
+    to: Pid,
+    message: &Message,
+    segment: Segment,
+) -> Response
+    requires can { CanPlay pid desk.old }
+    requires ready { may_call desk.old.procs pid ≡ true }
+    ensures played { IsPlayed desk.old.times pid.host desk.old.now
+        (Called pid (Call.ReplySegment message.now to segment.dest segment.src segment.count))
+        (answer_given desk.new.procs pid result) (doing_in desk.old) (doing_in desk.new) }
+    ensures few { loads result ≤ BYTES }
+    ensures same { KeepsDesk desk.old desk.new }
 {
-    let Some(seat) = seat_of(seats, pid) else {
+    if pid.host == to.host {
+        here::reply_segment(desk, pid, to, message, segment)
+    } else {
+        away::reply_segment(desk, pid, to, message, segment)
+    }
+}
+
+/// Why the process may not call, whatever it asks.
+fn early_refusal(procs: &Procs, pid: Pid) -> Option<Refusal>
+    ensures refusal { result ≡ early_in (seat_in procs.now pid) }
+    ensures ready { IfNone result (may_call procs.now pid ≡ true) }
+{
+    let Some(seat) = procs.seat(pid) else {
         return Some(Refusal::Dead);
     };
-    if is_ready(&seat.doing) {
-        own_refusal(seats, pid, call)
-    } else {
+    if !seat.alive {
+        Some(Refusal::Dead)
+    } else if !matches!(seat.doing, Activity::Ready) {
         Some(Refusal::Busy)
-    }
-}
-
-/// The first message that waits at a process which is blocked in a receive.
-#[tactic(auto, unfolding(crate::specs::Tables::front_of))]
-fn front(seats: &[Seat], receiver: Pid) -> Option<Name>
-    ensures { result ≡ front_of seats.now receiver }
-{
-    let seat = seat_of(seats, receiver)?;
-    if is_receiving(&seat.doing) {
-        seat.queue.first()
     } else {
         None
     }
 }
 
-/// The message of the Send of this name, in which its sender is blocked.
-#[tactic(auto, unfolding(crate::specs::Tables::message_from))]
-fn message_from(seats: &[Seat], name: Name) -> Option<Message>
-    ensures { result ≡ message_from seats.now name }
+fn push_call(steps: &mut StepList, pid: Pid, call: &Call)
+    requires { array_vec_len steps.old < STEPS }
+    ensures { steps.new.items ≡ steps.old.items ++ Step.Call pid call.now ∷ [] }
 {
-    let (_, message) = sending(&seat_of(seats, name.sender)?.doing)?;
-    Some(message)
+    steps.push(Step::Call {
+        pid,
+        call: call.copy(),
+    });
 }
 
-/// What the process may take now.
-#[tactic(auto, unfolding(crate::specs::Tables::takes))]
-fn takes(seats: &[Seat], receiver: Pid) -> Option<(Name, Message)>
-    ensures { result ≡ takes seats.now receiver }
+/// A process that may not call is told so.
+fn refuse(desk: &mut Desk, pid: Pid, call: &Call, why: Refusal) -> Response
+    requires can { CanPlay pid desk.old }
+    requires own { is_some (seat_in desk.old.procs pid) ≡ true }
+    requires early { early_in (seat_in desk.old.procs pid) ≡ Some why }
+    ensures played { IsPlayed desk.old.times pid.host desk.old.now (Called pid call.now)
+        (answer_given desk.new.procs pid result) (doing_in desk.old) (doing_in desk.new) }
+    ensures few { loads result ≤ BYTES }
+    ensures same { KeepsDesk desk.old desk.new }
 {
-    let name = front(seats, receiver)?;
-    let message = message_from(seats, name)?;
-    Some((name, message))
-}
-
-/// A process that is blocked in a receive takes the first message that waits at it, if there is one.
-fn serve(seats: &mut [Seat], steps: &mut StepList, receiver: Pid)
-    requires { array_vec_len steps.old + 1 ≤ 40 }
-    ensures seats { seats.new ≡ served seats.old receiver (takes seats.old receiver) }
-    ensures steps { steps.new.items ≡ steps.old.items ++ served_steps receiver (takes seats.old receiver) }
-{
-    if let Some((name, message)) = takes(seats, receiver) {
-        seat::dequeue(seats, receiver);
-        seat::mark_taken(seats, name.sender);
-        seat::receive(seats, receiver, name.sender, message);
-        steps.push(Step::Take { pid: receiver });
+    push_call(&mut desk.steps, pid, call);
+    Response::Given {
+        outcome: Outcome::Refused { why },
     }
 }
 
-/// The name of the last Send of a process.
-fn last_name(seats: &[Seat], pid: Pid) -> Name
-    ensures { result ≡ next_name_in pid (find (is_seat pid) seats.now) }
-{
-    let number = seat_of(seats, pid).map_or(0, |seat| seat.sends);
-    Name {
-        sender: pid,
-        number,
-    }
-}
-
-/// A Send to a process of the station, which waits there from now on.
-#[tactic(auto, unfolding(crate::specs::Tables::sent_seats))]
-fn send(seats: &mut [Seat], pid: Pid, target: Pid, message: Message)
-    ensures { seats.new ≡ sent_seats seats.old pid target message }
-{
-    seat::begin_send(seats, pid, target, message);
-    let name = last_name(seats, pid);
-    seat::enqueue(seats, target, name);
-}
-
-/// What a call within a station is answered.
-#[derive(Clone, Copy)]
-pub enum Decision {
-    Begun,
-    Ok,
-    Refused { why: Refusal },
-}
-
-impl Decision {
-    /// The verdict as the answer to an event.
-    pub fn answer(self) -> EventAnswer
-        ensures { result ≡ verdict_answer self }
-    {
-        let answer = match self {
-            Decision::Begun => return EventAnswer::Begun,
-            Decision::Ok => Answer::Ok,
-            Decision::Refused { why } => Answer::Refused { why },
-        };
-        EventAnswer::Answered { answer }
-    }
-}
-
-/// Makes this step the only one.
-fn restart(steps: &mut StepList, step: Step)
-    ensures { steps.new.items ≡ step ∷ [] }
-{
-    steps.truncate(1);
-    if steps.is_empty() {
-        steps.push(step);
-    } else {
-        let slots = steps.as_mut_slice();
-        slots[0] = step;
-    }
-}
-
-/// A call that is not refused.
-#[tactic(auto, unfolding(crate::specs::Tables::serving))]
-fn accept(seats: &mut [Seat], steps: &mut StepList, pid: Pid, call: &Call) -> Decision
-    requires room { array_vec_len steps.old + 1 ≤ 40 }
-    requires built { is_built_call pid call.now ≡ true }
-    ensures seats { seats.new ≡ (accepted_by seats.old pid call.now).seats }
-    ensures steps { steps.new.items ≡ steps.old.items ++ (accepted_by seats.old pid call.now).steps }
-    ensures answer { verdict_answer result ≡ (accepted_by seats.old pid call.now).answer }
+/// A call of a process that may call.
+fn accept(desk: &mut Desk, pid: Pid, call: &Call) -> Response
+    requires can { CanPlay pid desk.old }
+    requires ready { may_call desk.old.procs pid ≡ true }
+    ensures played { IsPlayed desk.old.times pid.host desk.old.now (Called pid call.now)
+        (answer_given desk.new.procs pid result) (doing_in desk.old) (doing_in desk.new) }
+    ensures few { loads result ≤ BYTES }
+    ensures same { KeepsDesk desk.old desk.new }
 {
     match *call {
-        Call::Send { target, message } => {
-            send(seats, pid, target, message);
-            serve(seats, steps, target);
-            Decision::Begun
+        Call::Send {
+            target,
+            ref message,
+        } => send(desk, pid, target, message),
+        Call::Receive => here::receive(desk, pid, Waiting::Receive),
+        Call::ReceiveSegment { start, count } => {
+            here::receive(desk, pid, Waiting::ReceiveSegment { start, count })
         }
-        Call::Receive => {
-            seat::wait_for_message(seats, pid);
-            serve(seats, steps, pid);
-            Decision::Begun
+        Call::Reply { ref message, to } => reply(desk, pid, to, message),
+        Call::Load { start, count } => here::load(desk, pid, start, count),
+        Call::Store { start, ref bytes } => here::store(desk, pid, start, bytes),
+        Call::Exit => here::exit(desk, pid),
+        Call::ReplySegment {
+            ref message,
+            to,
+            dest,
+            src,
+            count,
+        } => reply_segment(desk, pid, to, message, Segment { dest, src, count }),
+        Call::MoveTo {
+            partner,
+            dest,
+            src,
+            count,
+        } => {
+            if pid.host == partner.host {
+                here::move_to(desk, pid, partner, Segment { dest, src, count })
+            } else {
+                away::begin_move(desk, pid, call)
+            }
         }
-        Call::Reply { message, to } => {
-            seat::take_reply(seats, to, message);
-            steps.push(Step::Finish { pid: to });
-            Decision::Ok
+        Call::MoveFrom {
+            partner,
+            dest,
+            src,
+            count,
+        } => {
+            if pid.host == partner.host {
+                here::move_from(desk, pid, partner, Segment { dest, src, count })
+            } else {
+                away::begin_move(desk, pid, call)
+            }
         }
-        _ => unreachable!(),
+        Call::SetPid {
+            logical,
+            pid: named,
+            scope,
+        } => here::set_pid(desk, pid, logical, named, scope),
+        Call::GetPid { logical, scope } => away::get_pid(desk, pid, logical, scope),
     }
 }
 
-/// A call: what it is answered, and its steps, its own first.
-#[tactic(auto, unfolding(crate::specs::Tables::call_on_seats))]
-pub fn call(seats: &mut [Seat], steps: &mut StepList, pid: Pid, call: &Call) -> Decision
-    requires { is_built_call pid call.now ≡ true }
-    ensures seats { seats.new ≡ (call_on_seats seats.old pid call.now).seats }
-    ensures steps { steps.new.items ≡ Step.Call pid call.now ∷ (call_on_seats seats.old pid call.now).steps }
-    ensures answer { verdict_answer result ≡ (call_on_seats seats.old pid call.now).answer }
+/// A call, in a desk without steps and packets.
+fn respond(desk: &mut Desk, pid: Pid, call: &Call) -> Response
+    requires can { CanPlay pid desk.old }
+    requires own { is_some (seat_in desk.old.procs pid) ≡ true }
+    ensures played { IsPlayed desk.old.times pid.host desk.old.now (Called pid call.now)
+        (answer_given desk.new.procs pid result) (doing_in desk.old) (doing_in desk.new) }
+    ensures few { loads result ≤ BYTES }
+    ensures same { KeepsDesk desk.old desk.new }
 {
-    restart(
-        steps,
-        Step::Call {
-            pid,
-            call: call.copy(),
-        },
-    );
-    match refusal(seats, pid, call) {
-        Some(why) => Decision::Refused { why },
-        None => accept(seats, steps, pid, call),
+    match early_refusal(&desk.procs, pid) {
+        Some(why) => refuse(desk, pid, call, why),
+        None => accept(desk, pid, call),
     }
 }
 
-/// A collect: a process that is done is ready again. Gives what the process did before.
-pub fn collect(seats: &mut [Seat], steps: &mut StepList, pid: Pid) -> Doing
-    ensures seats { seats.new ≡ collect_seats seats.old pid (collected seats.old pid) }
-    ensures steps { steps.new.items ≡ collect_steps pid (collected seats.old pid) }
-    ensures doing { answer_held result ≡ collected seats.old pid }
+/// A call of a process of the station, as an event of its own.
+pub fn call(desk: &mut Desk, pid: Pid, call: &Call) -> EventAnswer
+    requires can { CanStart pid desk.old }
+    requires own { is_some (seat_in desk.old.procs pid) ≡ true }
+    ensures played { IsPlayed desk.old.times pid.host desk.old.now (Called pid call.now) result
+        (fresh (doing_in desk.old)) (doing_in desk.new) }
+    ensures same { KeepsDesk desk.old desk.new }
 {
-    let doing = seat::doing_of(seats, pid);
-    if seat::is_done(&doing) {
-        seat::make_ready(seats, pid);
-        restart(steps, Step::Collect { pid });
-    } else {
-        steps.clear();
-    }
-    doing
+    desk.clear();
+    let response = respond(desk, pid, call);
+    response.answer(&desk.procs, pid)
 }
 
-/// What a collect is answered of a process that did this: its answer, or that there is nothing yet.
-pub fn collect_answer(doing: &Doing) -> EventAnswer
-    ensures { result ≡ collect_answer (answer_held doing.now) }
+/// The step of a collect, where there is something to collect.
+fn push_collect(steps: &mut StepList, pid: Pid, outcome: &Option<Outcome>)
+    requires { array_vec_len steps.old < STEPS }
+    ensures { steps.new.items ≡ steps.old.items ++ collect_steps pid outcome.now }
 {
-    let answer = match *doing {
-        Doing::Received { from, message } => Answer::Received { from, message },
-        Doing::Replied { reply, .. } => Answer::Replied { message: reply },
-        _ => Answer::Refused {
-            why: Refusal::NotYet,
-        },
-    };
-    EventAnswer::Answered { answer }
+    if outcome.is_some() {
+        steps.push(Step::Collect { pid });
+    }
+}
+
+/// A collect of a process of the station, as an event of its own.
+pub fn collect(desk: &mut Desk, pid: Pid) -> EventAnswer
+    requires can { CanStart pid desk.old }
+    requires own { is_some (seat_in desk.old.procs pid) ≡ true }
+    ensures played { IsPlayed desk.old.times pid.host desk.old.now (Collected pid) result
+        (fresh (doing_in desk.old)) (doing_in desk.new) }
+    ensures same { KeepsDesk desk.old desk.new }
+{
+    desk.clear();
+    let outcome = desk.procs.collect(pid);
+    push_collect(&mut desk.steps, pid, &outcome);
+    collect_answer(outcome)
 }

@@ -1,94 +1,160 @@
-ghost use Rattle.std.specs.Prelude.{◌≡◌, ◌≤◌, ◌<◌, ◌+◌, ◌^◌, ◌==◌, ◌&&◌, ◌++◌, ◌∷◌, [], true, is_some, IfOk, IsSome, find};
-ghost use Rattle.vk_base.specs.declared.pid.Pid.{Pid as ThePid};
-ghost use Rattle.vk_base.specs.Kernel.{Kernel, initial_kernel};
-ghost use Rattle.vk_base.specs.Settings.{has_station, has_process};
-ghost use Rattle.vk_host.specs.Entries.{is_built, is_built_call};
-ghost use Rattle.vk_host.specs.Stands.{Stands, IsEvent, is_at, is_own, is_done, initial_seats};
-ghost use Rattle.vk_base.specs.Firsts.{change_first};
-ghost use Rattle.vk_host.specs.Tables.{Tables, is_seat, made_ready, collected};
+//! A station: its events.
 
-use crate::calls;
-use crate::queue::Queue;
-use crate::seat::{self, Doing, Seat, seat_of};
-use arrayvec::ArrayVec;
+ghost use Rattle.std.specs.Prelude.{◌≡◌, ◌<◌, ◌+◌, ◌-◌, ◌^◌, List, [], length, max, min, slice_get, true, None, Some, IfOk};
+ghost use Rattle.vk_base.specs.Settings.{Settings, refusal_of};
+ghost use Rattle.vk_base.specs.Steps.{is_allowed};
+ghost use Rattle.vk_rules.specs.Entries.{Called, Collected, Delivered, Entry, Ticked};
+ghost use Rattle.vk_rules.specs.Frames.{number_in, unsealed_of};
+ghost use Rattle.vk_rules.specs.Readings.{reading};
+ghost use Rattle.vk_host.specs.Forms.{input_of};
+ghost use Rattle.vk_host.specs.Opened.{unsealed_as};
+ghost use Rattle.vk_host.specs.Sealed.{AreSealed, CanSeal};
+ghost use Rattle.vk_host.specs.Standing.{IsAt, IsEvent, StandsSomewhere};
+ghost use Rattle.vk_host.specs.Values.{has, is_own};
+
+use crate::desk::Desk;
+use crate::frames::Frames;
+use crate::opening::{Opened, next_number, number_after, open_frame};
+use crate::{calls, deliveries, ticks};
 use std::alloc::Global;
 use std::marker::Model;
-use vk_base::{Call, Config, EventAnswer, NoMemory, Pid, ProcessSpec, StationEvent, StepList};
+use vk_base::{Call, Config, EventAnswer, NoMemory, Pid, StationEvent, Step, StepList};
+use vk_packet::Outbox;
 
-/// One station: its processes, their queues, and the steps of its last event.
+/// One station with its kernel: its tables and counts, and the steps, the packets and the frames of its last event.
 #[derive(Drop)]
 pub struct Host {
-    host: u16,
-    seats: Vec<Seat>,
-    steps: StepList,
+    number: u64,
     events: u64,
+    desk: Desk,
+    frames: Frames,
 }
 
 impl Model for Host {
-    ghost use Rattle.vk_host.specs.Tables.{Tables};
+    ghost use Rattle.vk_host.specs.Desks.{value_in};
+    ghost use Rattle.vk_host.specs.Values.{StationValue};
 
-    ghost Value = { Tables };
+    ghost Value = { StationValue };
 
-    ghost view = { λ h. record { host = h.host; seats = h.seats.items; steps = h.steps.items; events = h.events } };
+    ghost view = { λ h. value_in h.desk h.number h.events h.frames };
 }
 
 impl Host {
-    /// The station of this host, before its first event. All memory of the station is taken here.
+    /// The station of this host, 1 to 65,534, before its first event: it stands for no entries. All memory of the station is taken
+    /// here.
+    ///
+    /// # Errors
+    ///
+    /// [`NoMemory`] where memory is wanting.
     pub fn new(alloc: Global, config: &Config, host: u16) -> Result<Self, NoMemory>
-        requires { has_station config.now.specs host ≡ true }
-        ensures stands { IfOk result (λ h. Stands h (initial_kernel config.now.specs)) }
-        ensures start { IfOk result (λ h. (h.host ≡ host) × (h.events ≡ 0) × (h.steps ≡ [])) }
-        ensures processes { IfOk result (λ h. (pid : ThePid) → is_at h pid ≡ (pid.host == host && has_process config.now.specs pid)) }
+        requires lawful { refusal_of config.now.times config.now.pool config.now.specs ≡ None }
+        requires some_host { 0 < host }
+        requires one_host { host < 65535 }
+        ensures stands { IfOk result (λ h. IsAt config.now [] h) }
+        ensures host { IfOk result (λ h. h.host ≡ host) }
     {
         Ok(Host {
-            host,
-            seats: initial_seats(alloc, config.specs(), host)?,
-            steps: ArrayVec::new(),
+            number: 0,
             events: 0,
+            desk: Desk::new(alloc, config, host)?,
+            frames: Frames::new(alloc)?,
         })
     }
 
-    /// One event. Takes no memory.
+    /// One event: a call or a collect of a process of the station, a tick, or a frame that comes, whatever its bytes are. Takes no
+    /// memory.
     pub fn event(&mut self, event: &StationEvent) -> EventAnswer
-        requires few { self.old.events < 2 ^ 48 }
+        requires somewhere { StandsSomewhere self.old }
+        requires few { self.old.events + 1 < 2 ^ 48 }
         requires own { is_own self.old event.now ≡ true }
-        requires built { is_built event.now ≡ true }
-        ensures { IsEvent self.old self.new event.now result }
+        ensures { IsEvent self.old self.new (input_of event.now) result }
     {
         match event {
             StationEvent::Call { pid, call } => self.call(*pid, call),
             StationEvent::Collect { pid } => self.collect(*pid),
-            StationEvent::Tick | StationEvent::Deliver { .. } => unreachable!(),
+            StationEvent::Tick => self.tick(),
+            StationEvent::Deliver { frame } => self.deliver(frame.as_slice()),
         }
     }
 
     /// The event that the process makes the call. Takes no memory.
     pub fn call(&mut self, pid: Pid, call: &Call) -> EventAnswer
+        requires somewhere { StandsSomewhere self.old }
         requires few { self.old.events < 2 ^ 48 }
-        requires own { is_at self.old pid ≡ true }
-        requires built { is_built_call pid call.now ≡ true }
-        ensures { IsEvent self.old self.new (StationEvent.Call pid call.now) result }
+        requires own { has self.old pid ≡ true }
+        ensures { IsEvent self.old self.new (Called pid call.now) result }
     {
-        self.events += 1;
-        calls::call(&mut self.seats, &mut self.steps, pid, call).answer()
+        count(&mut self.events, &mut self.number);
+        let answer = calls::call(&mut self.desk, pid, call);
+        seal(&mut self.frames, &self.desk, self.number, self.events);
+        answer
     }
 
     /// The event that the process collects its answer. Takes no memory.
     pub fn collect(&mut self, pid: Pid) -> EventAnswer
+        requires somewhere { StandsSomewhere self.old }
         requires few { self.old.events < 2 ^ 48 }
-        requires own { is_at self.old pid ≡ true }
-        ensures { IsEvent self.old self.new (StationEvent.Collect pid) result }
+        requires own { has self.old pid ≡ true }
+        ensures { IsEvent self.old self.new (Collected pid) result }
     {
-        self.events += 1;
-        let doing = calls::collect(&mut self.seats, &mut self.steps, pid);
-        calls::collect_answer(&doing)
+        count(&mut self.events, &mut self.number);
+        let answer = calls::collect(&mut self.desk, pid);
+        seal(&mut self.frames, &self.desk, self.number, self.events);
+        answer
+    }
+
+    /// The event that the station's clock ticks. Takes no memory.
+    pub fn tick(&mut self) -> EventAnswer
+        requires somewhere { StandsSomewhere self.old }
+        requires few { self.old.events + 1 < 2 ^ 48 }
+        ensures { IsEvent self.old self.new Ticked result }
+    {
+        count(&mut self.events, &mut self.number);
+        let answer = ticks::tick(&mut self.desk);
+        seal(&mut self.frames, &self.desk, self.number, self.events);
+        answer
+    }
+
+    /// The event that these bytes come, a frame or not. Takes no memory.
+    pub fn deliver(&mut self, bytes: &[u8]) -> EventAnswer
+        requires somewhere { StandsSomewhere self.old }
+        requires few { self.old.events < 2 ^ 48 }
+        ensures { IsEvent self.old self.new (Delivered (unsealed_of bytes.now)) result }
+    {
+        let opened = open_frame(bytes);
+        count_frame(&mut self.events, &mut self.number, &opened);
+        let answer = deliveries::deliver(&mut self.desk, &opened);
+        seal(&mut self.frames, &self.desk, self.number, self.events);
+        answer
     }
 
     /// The steps of the last event, in order.
     pub fn steps(&self) -> &StepList
-        ensures { result.now.items ≡ self.now.steps }
+        ensures { result.now.items ≡ self.now.doing.steps }
     {
-        &self.steps
+        &self.desk.steps
+    }
+
+    /// The packets that the last event sends, in order.
+    pub fn packets(&self) -> &Outbox
+        ensures { result.now ≡ self.now.doing.out }
+    {
+        &self.desk.out
+    }
+
+    /// How many frames the last event sends: one for each packet.
+    pub fn frame_count(&self) -> u32
+        ensures { result ≡ length self.now.frames }
+    {
+        self.frames.len()
+    }
+
+    /// The bytes of frame number `at` of the last event, counted from 0.
+    pub fn frame(&self, at: u32) -> &[u8]
+        requires { at < length self.now.frames }
+        ensures { slice_get self.now.frames at ≡ Some result.now }
+    {
+        self.frames.frame(at)
     }
 
     /// How many events there were.
@@ -98,33 +164,61 @@ impl Host {
         self.events
     }
 
+    /// The station's tick.
+    pub fn now(&self) -> u64
+        ensures { result ≡ self.now.now }
+    {
+        self.desk.now
+    }
+
+    /// The station's Lamport number, at most 2^63 - 1.
+    pub fn number(&self) -> u64
+        ensures { result ≡ self.now.number }
+    {
+        self.number
+    }
+
+    /// Whether the process is one of the station.
+    pub fn has(&self, pid: Pid) -> bool
+        ensures { result ≡ has self.now pid }
+    {
+        self.desk.procs.seat(pid).is_some()
+    }
+
     /// Whether the process has an answer to collect.
     pub fn is_done(&self, pid: Pid) -> bool
-        requires { is_at self.now pid ≡ true }
-        ensures { (k : Kernel) → Stands self.now k → result ≡ is_done k pid }
+        requires { has self.now pid ≡ true }
+        ensures { (c : Settings) (es : List Entry) → IsAt c es self.now →
+            result ≡ is_allowed (reading c self.now.host es).view (Step.Collect pid) }
     {
-        match seat_of(&self.seats, pid) {
-            Some(seat) => seat::is_done(&seat.doing),
-            None => false,
-        }
+        self.desk.procs.outcome(pid).is_some()
     }
 }
 
-/// The processes of the host, each of which is ready and has sent nothing.
-fn initial_seats(alloc: Global, specs: &[ProcessSpec], host: u16) -> Result<Vec<Seat>, NoMemory>
-    ensures { IfOk result (λ seats. seats.items ≡ initial_seats host specs.now) }
+/// Counts an event with which no Lamport number came.
+fn count(events: &mut u64, number: &mut u64)
+    requires { events.old < 2 ^ 48 }
+    ensures events { events.new ≡ events.old + 1 }
+    ensures number { number.new ≡ min (number.old + 1) (2 ^ 63 - 1) }
 {
-    let mut seats = Vec::new(alloc);
-    for spec in specs {
-        if spec.pid.host == host {
-            seats.push(Seat {
-                pid: spec.pid,
-                doing: Doing::Ready,
-                sends: 0,
-                taken: false,
-                queue: Queue::new(alloc)?,
-            })?;
-        }
-    }
-    Ok(seats)
+    *events += 1;
+    *number = next_number(*number);
+}
+
+/// Counts an event with which this came.
+fn count_frame(events: &mut u64, number: &mut u64, opened: &Opened)
+    requires { events.old < 2 ^ 48 }
+    ensures events { events.new ≡ events.old + 1 }
+    ensures number { number.new ≡ min (max number.old (number_in (unsealed_as opened.now)) + 1) (2 ^ 63 - 1) }
+{
+    *events += 1;
+    *number = number_after(*number, opened);
+}
+
+/// Makes the frames of the event that the desk has, which has this Lamport number and is so many of the station's events.
+fn seal(frames: &mut Frames, desk: &Desk, number: u64, events: u64)
+    requires { CanSeal desk.now number events }
+    ensures { AreSealed desk.entry.now number events frames.new }
+{
+    frames.seal_all(desk.host, desk.now, number, events, &desk.out);
 }

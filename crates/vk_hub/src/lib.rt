@@ -21,6 +21,3 @@ pub use hub::Hub;
 pub use law::fetches_are_posts;
 pub use plan::LinkPlan;
 pub use state::HubState;
-
-#[cfg(test)]
-mod tests;

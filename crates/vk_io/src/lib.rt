@@ -13,6 +13,3 @@ pub use ends::{Failed, Sink, Source};
 pub use memory::{MemorySink, MemorySource, SureSink, SureSource};
 pub use standard::{StdSink, StdSource};
 pub use whole::{ReadRefusal, read_all, write_all};
-
-#[cfg(test)]
-mod tests;

@@ -11,6 +11,8 @@ use Rattle.vk_base.specs.declared.answer.Refusal.TheVariants as refusals
 use Rattle.vk_base.specs.declared.call.Call.{Call}
 use Rattle.vk_base.specs.declared.call.Call.TheVariants as calls
 use Rattle.vk_base.specs.declared.config.Times.{Times}
+use Rattle.vk_base.specs.declared.kernel.Direction.{Direction}
+use Rattle.vk_base.specs.declared.kernel.Direction.TheVariants as directions
 use Rattle.vk_base.specs.declared.limits.TheConstants.{MOVE_BYTES, SEGMENT_BYTES}
 use Rattle.vk_base.specs.declared.message.Message.{Message}
 use Rattle.vk_base.specs.declared.pid.Pid.{Pid}
@@ -32,7 +34,7 @@ use Rattle.vk_stands.proofs.Held.{IsHolding, held_here, message_held, none_held}
 use Rattle.vk_local.specs.declared.access.Access.{Access}
 use Rattle.vk_local.specs.declared.access.Segment.{Segment}
 use Rattle.vk_local.specs.Access.{access_refusal, grants, has_range, may_use, not_awaiting, own_range}
-use Rattle.vk_local.specs.Calls.{from_access, receive_refusal, reply_access, send_refusal, to_access}
+use Rattle.vk_local.specs.Calls.{move_access, move_call, receive_refusal, reply_access, send_refusal}
 
 -- A process that may call: it is in its seat, alive and ready.
 pub record MayCall (seats : List Seat) (pid : Pid) (s : Seat) : Type 0 where
@@ -120,15 +122,17 @@ module _ (times : Times) (host : ℕ) (t : Tables) (r : Reading) (h : Stands tim
   segment_decided to m g near = decided (calls.ReplySegment m to g.dest g.src g.count) (access_refusal t.seats pid to (reply_access g))
       (access_is to (reply_access g) grants_write near (λ x. refl) ∙ kernel_is to (reply_access g) grants_write near)
 
-  pub move_to_decided : (to : Pid) (g : Segment) → to.host ≡ host →
-      access_refusal t.seats pid to (to_access g) ≡ call_refusal k pid (process_of s) (calls.MoveTo to g.dest g.src g.count)
-  move_to_decided to g near = decided (calls.MoveTo to g.dest g.src g.count) (access_refusal t.seats pid to (to_access g))
-      (access_is to (to_access g) grants_write near (λ x. refl) ∙ kernel_is to (to_access g) grants_write near)
+  move_tests : (way : Direction) (to : Pid) (g : Segment) → to.host ≡ host →
+      access_refusal t.seats pid to (move_access way g) ≡ first_that_holds (tests_of k pid (process_of s) (move_call way to g))
+  move_tests directions.To to g near =
+      access_is to (move_access directions.To g) grants_write near (λ x. refl) ∙ kernel_is to (move_access directions.To g) grants_write near
+  move_tests directions.From to g near =
+      access_is to (move_access directions.From g) grants_read near (λ x. refl) ∙ kernel_is to (move_access directions.From g) grants_read near
 
-  pub move_from_decided : (to : Pid) (g : Segment) → to.host ≡ host →
-      access_refusal t.seats pid to (from_access g) ≡ call_refusal k pid (process_of s) (calls.MoveFrom to g.dest g.src g.count)
-  move_from_decided to g near = decided (calls.MoveFrom to g.dest g.src g.count) (access_refusal t.seats pid to (from_access g))
-      (access_is to (from_access g) grants_read near (λ x. refl) ∙ kernel_is to (from_access g) grants_read near)
+  pub move_decided : (way : Direction) (to : Pid) (g : Segment) → to.host ≡ host →
+      access_refusal t.seats pid to (move_access way g) ≡ call_refusal k pid (process_of s) (move_call way to g)
+  move_decided way to g near =
+      decided (move_call way to g) (access_refusal t.seats pid to (move_access way g)) (move_tests way to g near)
 
   pub send_decided : (target : Pid) (m : Message) → same_host pid target ≡ true → target.host ≡ host →
       send_refusal t.seats pid target m ≡ call_refusal k pid (process_of s) (calls.Send target m)

@@ -37,11 +37,12 @@ use Rattle.vk_stands.proofs.ExitEntry.{told_for}
 use Rattle.vk_stands.proofs.ExitFits.{exit_fit}
 use Rattle.vk_stands.proofs.ExitStands.{exit_answer, exit_packets_are, exit_stands, exit_steps}
 use Rattle.vk_stands.proofs.Seats.{placed}
+use Rattle.vk_local.specs.Done.{IsExit}
 use Rattle.vk_local.specs.Exits as exits
 use Rattle.vk_local.specs.Exits.{is_left, left_in, left_of, negatives, told_left, told_slot}
-use Rattle.vk_local.specs.Rules.{IsExitRule, may_call, whole_tables}
+use Rattle.vk_local.specs.Rules.{IsExitRule, may_call}
 use Rattle.vk_local.proofs.Decided.{MayCall, ready_refusal}
-use Rattle.vk_local.proofs.Rules.{may_be}
+use Rattle.vk_local.proofs.Rules.{at_times, may_be}
 
 -- what the code gives back, in one
 record Whole : Type 0 where
@@ -71,9 +72,6 @@ exit_does : (k : Kernel) (seats : List Seat) (pid : Pid) (s : Seat) → MayCall 
 exit_does k seats pid s may at =
     ap (λ (o : Option Process). o >>= λ p. called k pid p calls.Exit (call_refusal k pid p calls.Exit)) at
     ∙ ap (called k pid (process_of s) calls.Exit) (ready_refusal k seats pid s calls.Exit may)
-
-at_times : (host : ℕ) (t : Tables) (r : Reading) (a b : Times) → a ≡ b → Stands b host t r → Stands a host t r
-at_times host t r a b is h = subst (λ x. Stands x host t r) (sym is) h
 
 module _ (pid : Pid) (now : ℕ) (t : Tables) (before : List Step) (out : Posts) (fit : AreFit pid.host t) (may : may_call t.seats pid
     ≡ true) where
@@ -115,17 +113,14 @@ module _ (pid : Pid) (now : ℕ) (t : Tables) (before : List Step) (out : Posts)
       (exit_fit pid.host t pid now place.0 (exits.exited t pid now).names fit)
 
 -- what the code makes of it
-pub exit_done : (pid : Pid) (now : ℕ) (t : Tables) (seats : List Seat) (lists : List (List ℕ)) (slots : List (Option Alien))
-    (names : List Registration) (before after : List Step) (sent out : Posts) (o : Option Outcome) → may_call t.seats pid ≡ true →
-    o ≡ Some outcomes.Ok → seats ≡ (exits.exited t pid now).seats → lists ≡ (exits.exited t pid now).lists →
-    slots ≡ (exits.exited t pid now).slots → names ≡ (exits.exited t pid now).names → after ≡ before ++ steps.Call pid calls.Exit ∷ [] →
-    out ≡ posted sent (negatives pid t.slots) → IsExitRule pid now o t (whole_tables seats lists slots names) before after sent out
-exit_done pid now t seats lists slots names before after sent out o may outcome seats_are lists_are slots_are names_are steps_are out_is fit =
-    subst (λ (z : Whole). Rule z) (λ i. record {
-      answer = sym outcome i;
-      tables = whole_tables (sym seats_are i) (sym lists_are i) (sym slots_are i) (sym names_are i);
-      steps = sym steps_are i;
-      out = sym out_is i;
+pub exit_done : (pid : Pid) (now : ℕ) (t u : Tables) (before after : List Step) (sent out : Posts) (o : Option Outcome) →
+    may_call t.seats pid ≡ true → IsExit pid now o t u before after sent out → IsExitRule pid now o t u before after sent out
+exit_done pid now t u before after sent out o may is fit =
+    subst Rule (λ i. record {
+      answer = sym is.outcome i;
+      tables = record { seats = sym is.seats i; lists = sym is.lists i; slots = sym is.slots i; names = sym is.names i };
+      steps = sym is.steps i;
+      out = sym is.packets i;
     })
     (exit_rule pid now t before sent fit may, exit_fits pid now t before sent fit may)
   where

@@ -27,7 +27,7 @@ module _ {X : Type 0} (f : X → X) (d : X) where
   at_next (x ∷ xs) zero = refl
   at_next (x ∷ xs) (suc n) = at_next xs n
 
-  one_more : (xs : List X) (n : ℕ) → set (map f (take n xs) ++ drop n xs) n (f (get_or xs n d)) ≡ map f (take (suc n) xs) ++ drop
+  pub one_more : (xs : List X) (n : ℕ) → set (map f (take n xs) ++ drop n xs) n (f (get_or xs n d)) ≡ map f (take (suc n) xs) ++ drop
       (suc n) xs
   one_more [] zero = refl
   one_more [] (suc n) = refl
@@ -43,7 +43,7 @@ told_next pid (x ∷ xs) (suc n) =
     append_assoc (told_slot pid x) (negatives pid (take n xs)) (told_slot pid (get_or xs n None))
     ∙ ap (λ ps. told_slot pid x ++ ps) (told_next pid xs n)
 
-posted_twice : (o : Posts) (ps qs : List Packet) → posted (posted o ps) qs ≡ posted o (ps ++ qs)
+pub posted_twice : (o : Posts) (ps qs : List Packet) → posted (posted o ps) qs ≡ posted o (ps ++ qs)
 posted_twice o ps qs = ap (λ posts. record o { posts = posts })
     (append_assoc o.posts (map post_of ps) (map post_of qs) ∙ ap (λ xs. o.posts ++ xs) (sym (map-append post_of ps qs)))
 

@@ -1,14 +1,15 @@
 mod Copied
-mod Decided
+pub mod Decided
 mod ExitRules
-mod Leaving
+pub mod Leaving
 mod MoveRules
 mod Moved
+pub mod PidsStay
 mod ReceiveRules
 mod Received
 mod Replied
 mod ReplyRules
-mod Rules
+pub mod Rules
 mod Segments
 mod SendRules
 mod Sent

@@ -8,6 +8,8 @@ use Rattle.vk_base.specs.declared.answer.Refusal.{Refusal}
 use Rattle.vk_base.specs.declared.call.Call.{Call}
 use Rattle.vk_base.specs.declared.call.Call.TheVariants as calls
 use Rattle.vk_base.specs.declared.config.Times.{Times}
+use Rattle.vk_base.specs.declared.kernel.Direction.{Direction}
+use Rattle.vk_base.specs.declared.kernel.Direction.TheVariants as directions
 use Rattle.vk_base.specs.declared.kernel.Process.{Process}
 use Rattle.vk_base.specs.declared.pid.Pid.{Pid}
 use Rattle.vk_base.specs.declared.step.Step.{Step}
@@ -34,14 +36,16 @@ use Rattle.vk_stands.specs.Tables.{Tables}
 use Rattle.vk_stands.proofs.Parts.{Carries, Part, part_of}
 use Rattle.vk_stands.proofs.Quiet.{refused_answer}
 use Rattle.vk_stands.proofs.Whole.{sound_next}
+use Rattle.vk_local.specs.declared.access.Access.{Access}
 use Rattle.vk_local.specs.declared.access.Segment.{Segment}
 use Rattle.vk_local.specs.Access.{access_refusal}
-use Rattle.vk_local.specs.Calls.{after_move_from, after_move_to, bytes_passed, done_by, from_access, to_access, unless}
+use Rattle.vk_local.specs.Calls.{after_move, bytes_passed, done_by, move_access, move_call, moved_seats, unless}
+use Rattle.vk_local.specs.Done.{IsMove}
 use Rattle.vk_local.specs.Rules.{IsSeatsRule, may_call}
 use Rattle.vk_local.proofs.Copied.{copied_carries, copied_part}
-use Rattle.vk_local.proofs.Decided.{MayCall, move_from_decided, move_to_decided}
+use Rattle.vk_local.proofs.Decided.{MayCall, move_decided}
 use Rattle.vk_local.proofs.Moved.{IsPartner, mine_is, moved_from, moved_to, partner_apart, partner_is}
-use Rattle.vk_local.proofs.Rules.{IsDone, done_as, may_be, ok_makes, refused_done, seats_rule}
+use Rattle.vk_local.proofs.Rules.{IsDone, ok_makes, refused_done, seats_rule}
 
 -- the kernel stays sound over an allowed call
 sound_call : (k l : Kernel) (pid : Pid) (call : Call) → IsSoundAt (λ g. false) k →
@@ -63,17 +67,24 @@ module _ (c : Settings) (host : ℕ) (t : Tables) (r : Reading) (h : Stands c.ti
   part = part_of c.times host t r fit h
 
   abbrev to_call : Call
-  to_call = calls.MoveTo to g.dest g.src g.count
+  to_call = move_call directions.To to g
 
   abbrev from_call : Call
-  from_call = calls.MoveFrom to g.dest g.src g.count
+  from_call = move_call directions.From to g
 
-  abbrev Done : Call → Option Refusal → List Seat → Type 0
-  Done call o seats = IsDone c host r pid call t before out (done_by o) seats (before ++ steps.Call pid call ∷ [])
+  abbrev to_access : Access
+  to_access = move_access directions.To g
 
-  module _ (free : access_refusal t.seats pid to (to_access g) ≡ None) where
-    partner : IsPartner t.seats pid to (to_access g)
-    partner = partner_is host t fit pid s may to (to_access g) free
+  abbrev from_access : Access
+  from_access = move_access directions.From g
+
+  abbrev Done : Direction → Option Refusal → List Seat → Type 0
+  Done way o seats =
+      IsDone c host r pid (move_call way to g) t before out (done_by o) seats (before ++ steps.Call pid (move_call way to g) ∷ [])
+
+  module _ (free : access_refusal t.seats pid to to_access ≡ None) where
+    partner : IsPartner t.seats pid to to_access
+    partner = partner_is host t fit pid s may to to_access free
 
     at : r.view.procs to ≡ Some (process_of partner.seat)
     at = h.procs to there ∙ ap (option_map process_of) partner.found
@@ -87,16 +98,16 @@ module _ (c : Settings) (host : ℕ) (t : Tables) (r : Reading) (h : Stands c.ti
 
     does : effect r.view (steps.Call pid to_call) ≡ Some (answered l pid to_call answers.Ok)
     does = moved_to r.view pid to (process_of s) (process_of partner.seat) here at near g.dest g.src g.count
-        (sym (move_to_decided c.times host t r h fit pid own s may to g there) ∙ free)
+        (sym (move_decided c.times host t r h fit pid own s may directions.To to g there) ∙ free)
 
     mine : lies_in (range_of g.src g.count) (length s.memory) ≡ true
-    mine = mine_is host t fit pid s may to (to_access g) free
+    mine = mine_is host t fit pid s may to to_access free
 
     after_part : Part host (record t { seats = bytes_passed t.seats pid to g }) l
     after_part = copied_part host t r.view part pid to there s partner.seat may.found partner.found apart g mine partner.granted
         (sound_call r.view l pid to_call h.sound does)
 
-    to_accepted : Done to_call None (bytes_passed t.seats pid to g)
+    to_accepted : Done directions.To None (bytes_passed t.seats pid to g)
     to_accepted = record {
       answer = sym (ap effect_answer does);
       makes = ok_makes c host t r h pid to_call before out l l []
@@ -105,18 +116,9 @@ module _ (c : Settings) (host : ℕ) (t : Tables) (r : Reading) (h : Stands c.ti
       fits = after_part.fit;
     }
 
-  to_by : (o : Option Refusal) → access_refusal t.seats pid to (to_access g) ≡ o →
-      Done to_call o (unless o (bytes_passed t.seats pid to g) t.seats)
-  to_by None free = to_accepted free
-  to_by (Some why) is = refused_done c host t r h fit pid to_call before out (process_of s) why here
-      (sym is ∙ move_to_decided c.times host t r h fit pid own s may to g there)
-
-  pub move_to_is : Done to_call (access_refusal t.seats pid to (to_access g)) (after_move_to t.seats pid to g)
-  move_to_is = to_by (access_refusal t.seats pid to (to_access g)) refl
-
-  module _ (free : access_refusal t.seats pid to (from_access g) ≡ None) where
-    giver : IsPartner t.seats pid to (from_access g)
-    giver = partner_is host t fit pid s may to (from_access g) free
+  module _ (free : access_refusal t.seats pid to from_access ≡ None) where
+    giver : IsPartner t.seats pid to from_access
+    giver = partner_is host t fit pid s may to from_access free
 
     abbrev m : Kernel
     m = with_memory r.view pid (process_of s) (with_bytes s.memory g.dest (bytes_in (range_of g.src g.count) giver.seat.memory))
@@ -124,19 +126,19 @@ module _ (c : Settings) (host : ℕ) (t : Tables) (r : Reading) (h : Stands c.ti
     does_from : effect r.view (steps.Call pid from_call) ≡ Some (answered m pid from_call answers.Ok)
     does_from = moved_from r.view pid to (process_of s) (process_of giver.seat) here
         (h.procs to there ∙ ap (option_map process_of) giver.found) near g.dest g.src g.count
-        (sym (move_from_decided c.times host t r h fit pid own s may to g there) ∙ free)
+        (sym (move_decided c.times host t r h fit pid own s may directions.From to g there) ∙ free)
 
     apart_from : same_pid to pid ≡ false
     apart_from = same_pid_laws.symm to pid ∙ partner_apart t.seats pid to s giver.seat giver.message may giver.found giver.waits
 
     own_room : lies_in (range_of g.dest g.count) (length s.memory) ≡ true
-    own_room = mine_is host t fit pid s may to (from_access g) free
+    own_room = mine_is host t fit pid s may to from_access free
 
     part_from : Part host (record t { seats = bytes_passed t.seats to pid g }) m
     part_from = copied_part host t r.view part to pid own giver.seat s giver.found may.found apart_from g giver.granted own_room
         (sound_call r.view m pid from_call h.sound does_from)
 
-    from_accepted : Done from_call None (bytes_passed t.seats to pid g)
+    from_accepted : Done directions.From None (bytes_passed t.seats to pid g)
     from_accepted = record {
       answer = sym (ap effect_answer does_from);
       makes = ok_makes c host t r h pid from_call before out m m []
@@ -146,41 +148,25 @@ module _ (c : Settings) (host : ℕ) (t : Tables) (r : Reading) (h : Stands c.ti
       fits = part_from.fit;
     }
 
-  from_by : (o : Option Refusal) → access_refusal t.seats pid to (from_access g) ≡ o →
-      Done from_call o (unless o (bytes_passed t.seats to pid g) t.seats)
-  from_by None free = from_accepted free
-  from_by (Some why) is = refused_done c host t r h fit pid from_call before out (process_of s) why here
-      (sym is ∙ move_from_decided c.times host t r h fit pid own s may to g there)
+  accepted : (way : Direction) → access_refusal t.seats pid to (move_access way g) ≡ None →
+      Done way None (moved_seats way t.seats pid to g)
+  accepted directions.To free = to_accepted free
+  accepted directions.From free = from_accepted free
 
-  pub move_from_is : Done from_call (access_refusal t.seats pid to (from_access g)) (after_move_from t.seats pid to g)
-  move_from_is = from_by (access_refusal t.seats pid to (from_access g)) refl
+  by_refusal : (way : Direction) (o : Option Refusal) → access_refusal t.seats pid to (move_access way g) ≡ o →
+      Done way o (unless o (moved_seats way t.seats pid to g) t.seats)
+  by_refusal way None free = accepted way free
+  by_refusal way (Some why) is = refused_done c host t r h fit pid (move_call way to g) before out (process_of s) why here
+      (sym is ∙ move_decided c.times host t r h fit pid own s may way to g there)
 
--- The rules, as the code has them.
-module _ (pid to : Pid) (g : Segment) (seats new : List Seat) (before after : List Step) (p : Option Outcome)
-    (may : may_call seats pid ≡ true)
-    (near : same_host pid to ≡ true) where
-  abbrev move_call : Call
-  move_call = calls.MoveTo to g.dest g.src g.count
+  pub move_is : (way : Direction) → Done way (access_refusal t.seats pid to (move_access way g)) (after_move way t.seats pid to g)
+  move_is way = by_refusal way (access_refusal t.seats pid to (move_access way g)) refl
 
-  pub to_rule : p ≡ done_by (access_refusal seats pid to (to_access g)) → new ≡ after_move_to seats pid to g →
-      after ≡ before ++ steps.Call pid move_call ∷ [] → IsSeatsRule pid move_call p seats new before after
-  to_rule outcome is listed = seats_rule pid move_call p seats new before after (λ c t r out same h fit.
-      let s = may_be t.seats pid (ap (λ xs. may_call xs pid) same ∙ may) in
-      done_as c pid.host r pid move_call t before out (done_by (access_refusal t.seats pid to (to_access g))) p
-      (after_move_to t.seats pid to g) new (before ++ steps.Call pid move_call ∷ []) after
-      (move_to_is c pid.host t r h fit pid refl s.0 s.1 to near g before out)
-      (outcome ∙ ap (λ xs. done_by (access_refusal xs pid to (to_access g))) (sym same))
-      (is ∙ ap (λ xs. after_move_to xs pid to g) (sym same)) listed)
-
-  abbrev fetch_call : Call
-  fetch_call = calls.MoveFrom to g.dest g.src g.count
-
-  pub from_rule : p ≡ done_by (access_refusal seats pid to (from_access g)) → new ≡ after_move_from seats pid to g →
-      after ≡ before ++ steps.Call pid fetch_call ∷ [] → IsSeatsRule pid fetch_call p seats new before after
-  from_rule outcome is listed = seats_rule pid fetch_call p seats new before after (λ c t r out same h fit.
-      let s = may_be t.seats pid (ap (λ xs. may_call xs pid) same ∙ may) in
-      done_as c pid.host r pid fetch_call t before out (done_by (access_refusal t.seats pid to (from_access g))) p
-      (after_move_from t.seats pid to g) new (before ++ steps.Call pid fetch_call ∷ []) after
-      (move_from_is c pid.host t r h fit pid refl s.0 s.1 to near g before out)
-      (outcome ∙ ap (λ xs. done_by (access_refusal xs pid to (from_access g))) (sym same))
-      (is ∙ ap (λ xs. after_move_from xs pid to g) (sym same)) listed)
+-- The rule, as the code has it.
+pub move_rule : (way : Direction) (pid to : Pid) (g : Segment) (seats new : List Seat) (before after : List Step) (p : Option Outcome) →
+    may_call seats pid ≡ true → same_host pid to ≡ true → IsMove way pid to g p seats new before after →
+    IsSeatsRule pid (move_call way to g) p seats new before after
+move_rule way pid to g seats new before after p may near is =
+    seats_rule pid (move_call way to g) (λ xs. done_by (access_refusal xs pid to (move_access way g))) (λ xs. after_move way xs pid to g)
+    (λ xs. steps.Call pid (move_call way to g) ∷ []) p seats new before after may is
+    (λ c t r s out h fit can. move_is c pid.host t r h fit pid refl s can to near g before out way)

@@ -11,6 +11,7 @@ use Rattle.vk_base.specs.declared.answer.Refusal.{Refusal}
 use Rattle.vk_base.specs.declared.answer.Refusal.TheVariants as refusals
 use Rattle.vk_base.specs.declared.call.Call.{Call}
 use Rattle.vk_base.specs.declared.call.Call.TheVariants as calls
+use Rattle.vk_base.specs.declared.call.Scope.{Scope}
 use Rattle.vk_base.specs.declared.event.EventAnswer.TheVariants as events_answered
 use Rattle.vk_base.specs.declared.kernel.Process.{Process}
 use Rattle.vk_base.specs.declared.kernel.State.TheVariants as states
@@ -55,6 +56,7 @@ pub record IsReceive (k : Kernel) (pid : Pid) (s : Seat) (w : Waiting) : Type 0 
   pub waiting : IsWaiting k (doing_now (activities.Blocked w) s) w
   pub goes : may_go_on s.note w ≡ true
   pub no_send : (target : Pid) (m : Message) → w ≡ waitings.Send target m → ⊥
+  pub no_lookup : (logical : ℕ) (scope : Scope) → w ≡ waitings.GetPid logical scope → ⊥
   pub no_work : is_work pid w ≡ false
   pub begins : (p : Process) → accepted k pid p (call_of w) ≡ Some (unseen (with_state k pid p (states.Blocked (call_of w))))
   pub takes : (l : Kernel) → steps_behind l pid (call_of w) events_answered.Begun ≡ take_where l pid
@@ -67,6 +69,7 @@ plain k pid s = record {
   waiting = tt;
   goes = refl;
   no_send = λ target m is. absurd (cc);
+  no_lookup = λ logical scope is. absurd (cc);
   no_work = refl;
   begins = λ p. refl;
   takes = λ l. refl;
@@ -80,6 +83,7 @@ with_segment k pid s start count = record {
   waiting = tt;
   goes = refl;
   no_send = λ target m is. absurd (cc);
+  no_lookup = λ logical scope is. absurd (cc);
   no_work = refl;
   begins = λ p. refl;
   takes = λ l. refl;
@@ -136,6 +140,7 @@ module _ (c : Settings) (host : ℕ) (t : Tables) (r : Reading) (h : Stands c.ti
       fits = fits_of t.seats pid s w may.found is free;
       goes = kind.goes;
       no_send = kind.no_send;
+      no_lookup = kind.no_lookup;
     }
 
     waiting_part : Part host u l

@@ -38,11 +38,12 @@ use Rattle.vk_stands.proofs.LocalReply.{answered_with, written_none}
 use Rattle.vk_stands.proofs.OneSeat.{seated}
 use Rattle.vk_local.specs.Access.{not_awaiting}
 use Rattle.vk_local.specs.Calls.{after_reply, done_by, finish_steps, replied_seats, reply_steps, unless}
+use Rattle.vk_local.specs.Done.{IsReply}
 use Rattle.vk_local.specs.Rules.{IsSeatsRule, may_call}
 use Rattle.vk_local.proofs.Copied.{changes_agree}
 use Rattle.vk_local.proofs.Decided.{MayCall, reply_decided}
 use Rattle.vk_local.proofs.ReplyRules.{IsReplied, replied_is, reply_answer, reply_fits, reply_makes}
-use Rattle.vk_local.proofs.Rules.{IsDone, done_as, may_be, refused_done, seats_rule}
+use Rattle.vk_local.proofs.Rules.{IsDone, refused_done, seats_rule}
 
 awaited_is : (b : Bool) → first_that_holds ((b, refusals.NotAwaiting) ∷ []) ≡ None → b ≡ false
 awaited_is true is = absurd (none-some refusals.NotAwaiting (sym is))
@@ -102,16 +103,10 @@ module _ (c : Settings) (host : ℕ) (t : Tables) (r : Reading) (h : Stands c.ti
   reply_is = by_refusal (not_awaiting t.seats pid to) refl
 
 -- as the code has it
-module _ (pid to : Pid) (m : Message) (seats new : List Seat) (before after : List Step) (p : Option Outcome)
-    (may : may_call seats pid ≡ true)
-    (near : same_host pid to ≡ true) where
-  pub reply_rule : p ≡ done_by (not_awaiting seats pid to) → new ≡ after_reply seats pid to m →
-      after ≡ before ++ reply_steps seats pid to m →
-      IsSeatsRule pid (calls.Reply m to) p seats new before after
-  reply_rule outcome is listed = seats_rule pid (calls.Reply m to) p seats new before after (λ c t r out same h fit.
-      let s = may_be t.seats pid (ap (λ xs. may_call xs pid) same ∙ may) in
-      done_as c pid.host r pid (calls.Reply m to) t before out (done_by (not_awaiting t.seats pid to)) p
-      (after_reply t.seats pid to m) new (before ++ reply_steps t.seats pid to m) after
-      (reply_is c pid.host t r h fit pid refl s.0 s.1 to near m before out)
-      (outcome ∙ ap (λ xs. done_by (not_awaiting xs pid to)) (sym same))
-      (is ∙ ap (λ xs. after_reply xs pid to m) (sym same)) (listed ∙ ap (λ xs. before ++ reply_steps xs pid to m) (sym same)))
+pub reply_rule : (pid to : Pid) (m : Message) (seats new : List Seat) (before after : List Step) (p : Option Outcome) →
+    may_call seats pid ≡ true → same_host pid to ≡ true → IsReply pid to m p seats new before after →
+    IsSeatsRule pid (calls.Reply m to) p seats new before after
+reply_rule pid to m seats new before after p may near is =
+    seats_rule pid (calls.Reply m to) (λ xs. done_by (not_awaiting xs pid to)) (λ xs. after_reply xs pid to m)
+    (λ xs. reply_steps xs pid to m) p seats new before after may is
+    (λ c t r s out h fit can. reply_is c pid.host t r h fit pid refl s can to near m before out)

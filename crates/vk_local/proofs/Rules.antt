@@ -28,6 +28,7 @@ use Rattle.vk_base.specs.Settings.{Settings}
 use Rattle.vk_base.specs.Steps.{after_effect, effect, next}
 use Rattle.v_laws.proofs.Options.{some_that_holds}
 use Rattle.vk_packet.specs.Posts.{Posts}
+use Rattle.vk_pool.specs.declared.alien.Alien.{Alien}
 use Rattle.vk_procs.specs.declared.seat.Seat.{Seat}
 use Rattle.vk_procs.specs.Seats.{process_of, seat_in}
 use Rattle.vk_rules.specs.Aliens.{is_closing}
@@ -45,6 +46,8 @@ use Rattle.vk_stands.proofs.AfterEntries.{answered_works, called_slots, called_s
 use Rattle.vk_stands.proofs.CallStands.{call_stands}
 use Rattle.vk_stands.proofs.Parts.{Carries, IsCarried, Part, stands_part}
 use Rattle.vk_stands.proofs.Quiet.{call_refused, refused_answer}
+use Rattle.vk_local.specs.Calls.{tables_of, unless}
+use Rattle.vk_local.specs.Done.{LeavesSeats, LeavesTables}
 use Rattle.vk_local.specs.Rules.{IsSeatsRule, IsTablesRule, is_idle, may_call, named}
 use Rattle.vk_local.proofs.Decided.{MayCall}
 
@@ -142,13 +145,15 @@ pub record IsDone (c : Settings) (host : ℕ) (r : Reading) (pid : Pid) (call : 
       (record { tables = record t { seats = seats }; steps = after; out = out })
   pub fits : AreFit host (record t { seats = seats })
 
-pub done_as : (c : Settings) (host : ℕ) (r : Reading) (pid : Pid) (call : Call) (t : Tables) (before : List Step) (out : Posts)
-    (o p : Option Outcome) (seats new : List Seat) (ss after : List Step) → IsDone c host r pid call t before out o seats ss →
-    p ≡ o → new ≡ seats → after ≡ ss → IsDone c host r pid call t before out p new after
-done_as c host r pid call t before out o p seats new ss after h outcome is listed =
-    subst (λ x. IsDone c host r pid call t before out x new after) (sym outcome)
-    (subst (λ x. IsDone c host r pid call t before out o x after) (sym is)
-    (subst (λ x. IsDone c host r pid call t before out o seats x) (sym listed) h))
+-- the same of what the code leaves
+done_as : (c : Settings) (host : ℕ) (r : Reading) (pid : Pid) (call : Call) (t : Tables) (before : List Step) (out : Posts)
+    (due : Option Outcome) (left : List Seat) (made : List Step) (p : Option Outcome) (new : List Seat) (after : List Step) →
+    IsDone c host r pid call t before out due left (before ++ made) → LeavesSeats due left made p new before after →
+    IsDone c host r pid call t before out p new after
+done_as c host r pid call t before out due left made p new after h is =
+    subst (λ x. IsDone c host r pid call t before out x new after) (sym is.outcome)
+    (subst (λ x. IsDone c host r pid call t before out due x after) (sym is.seats)
+    (subst (λ x. IsDone c host r pid call t before out due left x) (sym is.steps) h))
 
 pub refused_done : (c : Settings) (host : ℕ) (t : Tables) (r : Reading) (h : Stands c.times host t r) (fit : AreFit host t) (pid : Pid)
     (call : Call) (before : List Step) (out : Posts) (p : Process) (why : Refusal) → r.view.procs pid ≡ Some p →
@@ -160,20 +165,29 @@ refused_done c host t r h fit pid call before out p why at is = record {
   fits = fit;
 }
 
-at_times : (host : ℕ) (t : Tables) (r : Reading) (a b : Times) → a ≡ b → Stands b host t r → Stands a host t r
+pub at_times : (host : ℕ) (t : Tables) (r : Reading) (a b : Times) → a ≡ b → Stands b host t r → Stands a host t r
 at_times host t r a b is h = subst (λ x. Stands x host t r) (sym is) h
 
 -- what is done for all tables of these processes is a rule
-pub seats_rule : (pid : Pid) (call : Call) (o : Option Outcome) (seats new : List Seat) (before after : List Step) →
-    ((c : Settings) (t : Tables) (r : Reading) (out : Posts) → t.seats ≡ seats → Stands c.times pid.host t r → AreFit pid.host t →
-    IsDone c pid.host r pid call t before out o new after) →
-    IsSeatsRule pid call o seats new before after
-seats_rule pid call o seats new before after f = λ times now t out same fit. (
+pub seats_rule : (pid : Pid) (call : Call) (due : List Seat → Option Outcome) (left : List Seat → List Seat)
+    (made : List Seat → List Step) (p : Option Outcome) (seats new : List Seat) (before after : List Step) →
+    may_call seats pid ≡ true → LeavesSeats (due seats) (left seats) (made seats) p new before after →
+    ((c : Settings) (t : Tables) (r : Reading) (s : Seat) (out : Posts) → Stands c.times pid.host t r → AreFit pid.host t →
+    MayCall t.seats pid s → IsDone c pid.host r pid call t before out (due t.seats) (left t.seats) (before ++ made t.seats)) →
+    IsSeatsRule pid call p seats new before after
+seats_rule pid call due left made p seats new before after may is f = λ times now t out same fit. (
   λ c r times_is now_is h.
-      let x = f c t r out same (at_times pid.host t r c.times times times_is h) fit in
+      let x = done c t r out same fit (at_times pid.host t r c.times times times_is h) in
       (x.answer, x.makes),
-  λ c r h. (f c t r out same h fit).fits,
+  λ c r h. (done c t r out same fit h).fits,
 )
+  where
+    done : (c : Settings) (t : Tables) (r : Reading) (out : Posts) → t.seats ≡ seats → AreFit pid.host t → Stands c.times pid.host t r →
+        IsDone c pid.host r pid call t before out p new after
+    done c t r out same fit h =
+        let s = may_be t.seats pid (ap (λ xs. may_call xs pid) same ∙ may) in
+        done_as c pid.host r pid call t before out (due t.seats) (left t.seats) (made t.seats) p new after (f c t r s.0 out h fit s.1)
+        (subst (λ xs. LeavesSeats (due xs) (left xs) (made xs) p new before after) (sym same) is)
 
 pub more_carried : (t u : Tables) → Carries 0 t u → Carries 1 t u
 more_carried t u carries = record {
@@ -237,7 +251,7 @@ module _ (c : Settings) (host : ℕ) (t : Tables) (r : Reading) (h : Stands c.ti
     fits = part.fit;
   }
 
-pub played_as : (c : Settings) (host : ℕ) (r : Reading) (pid : Pid) (call : Call) (t : Tables) (before : List Step) (out : Posts)
+played_as : (c : Settings) (host : ℕ) (r : Reading) (pid : Pid) (call : Call) (t : Tables) (before : List Step) (out : Posts)
     (o p : Option Outcome) (u new : Tables) (ss after : List Step) → IsPlayed c host r pid call t before out o u ss →
     p ≡ o → new ≡ u → after ≡ ss → IsPlayed c host r pid call t before out p new after
 played_as c host r pid call t before out o p u new ss after h outcome is listed =
@@ -245,13 +259,33 @@ played_as c host r pid call t before out o p u new ss after h outcome is listed 
     (subst (λ x. IsPlayed c host r pid call t before out o x after) (sym is)
     (subst (λ x. IsPlayed c host r pid call t before out o u x) (sym listed) h))
 
-pub tables_rule : (pid : Pid) (call : Call) (o : Option Outcome) (old new : Tables) (before after : List Step) →
-    ((c : Settings) (r : Reading) (names : List Registration) (out : Posts) → Stands c.times pid.host (named names old) r →
-    AreFit pid.host (named names old) → IsPlayed c pid.host r pid call (named names old) before out o (named names new) after) →
-    IsTablesRule pid call o old new before after
-tables_rule pid call o old new before after f = λ times now names out fit. (
+-- what is done whatever names there are is a rule
+pub tables_rule : (pid : Pid) (call : Call) (due : Option Outcome) (left : Tables) (made : List Step) (p : Option Outcome) (t : Tables)
+    (seats : List Seat) (lists : List (List ℕ)) (slots : List (Option Alien)) (before after : List Step) → may_call t.seats pid ≡ true →
+    LeavesTables due left made p (tables_of seats lists slots) before after →
+    ((c : Settings) (r : Reading) (s : Seat) (names : List Registration) (out : Posts) → Stands c.times pid.host (named names t) r →
+    AreFit pid.host (named names t) → MayCall t.seats pid s →
+    IsPlayed c pid.host r pid call (named names t) before out due (named names left) (before ++ made)) →
+    IsTablesRule pid call p t (tables_of seats lists slots) before after
+tables_rule pid call due left made p t seats lists slots before after may is f = λ times now names out fit. (
   λ c r times_is now_is h.
-      let x = f c r names out (at_times pid.host (named names old) r c.times times times_is h) fit in
+      let x = done c r names out fit (at_times pid.host (named names t) r c.times times times_is h) in
       (x.answer, x.makes),
-  λ c r h. (f c r names out h fit).fits,
+  λ c r h. (done c r names out fit h).fits,
 )
+  where
+    tables_are : (names : List Registration) → named names (tables_of seats lists slots) ≡ named names left
+    tables_are names = λ i. record { seats = is.seats i; lists = is.lists i; slots = is.slots i; names = names }
+
+    done : (c : Settings) (r : Reading) (names : List Registration) (out : Posts) → AreFit pid.host (named names t) →
+        Stands c.times pid.host (named names t) r →
+        IsPlayed c pid.host r pid call (named names t) before out p (named names (tables_of seats lists slots)) after
+    done c r names out fit h =
+        let s = may_be t.seats pid may in
+        played_as c pid.host r pid call (named names t) before out due p (named names left) (named names (tables_of seats lists slots))
+        (before ++ made) after (f c r s.0 names out h fit s.1) is.outcome (tables_are names) is.steps
+
+pub named_unless : (names : List Registration) (o : Option Refusal) (x y : Tables) →
+    named names (unless o x y) ≡ unless o (named names x) (named names y)
+named_unless names None x y = refl
+named_unless names (Some why) x y = refl

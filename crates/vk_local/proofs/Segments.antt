@@ -40,12 +40,13 @@ use Rattle.vk_stands.proofs.OneSeat.{seated}
 use Rattle.vk_local.specs.declared.access.Segment.{Segment}
 use Rattle.vk_local.specs.Access.{access_refusal}
 use Rattle.vk_local.specs.Calls.{after_reply_segment, bytes_passed, done_by, finish_steps, replied_seats, reply_access, reply_segment_steps, unless}
+use Rattle.vk_local.specs.Done.{IsReplySegment}
 use Rattle.vk_local.specs.Rules.{IsSeatsRule, may_call}
 use Rattle.vk_local.proofs.Copied.{taken_length}
 use Rattle.vk_local.proofs.Decided.{MayCall, segment_decided}
 use Rattle.vk_local.proofs.Moved.{IsPartner, is_held, mine_is, partner_apart, partner_is}
 use Rattle.vk_local.proofs.ReplyRules.{IsReplied, replied_is, reply_answer, reply_fits, reply_makes}
-use Rattle.vk_local.proofs.Rules.{IsDone, done_as, may_be, refused_done, seats_rule}
+use Rattle.vk_local.proofs.Rules.{IsDone, refused_done, seats_rule}
 
 -- two changes of the one that is found
 module _ {X : Type 0} (p : X → Bool) (f g : X → X) (keeps : (x : X) → p (f x) ≡ p x) where
@@ -130,18 +131,10 @@ module _ (c : Settings) (host : ℕ) (t : Tables) (r : Reading) (h : Stands c.ti
   segment_is = by_refusal (access_refusal t.seats pid to (reply_access g)) refl
 
 -- as the code has it
-module _ (pid to : Pid) (m : Message) (g : Segment) (seats new : List Seat) (before after : List Step) (p : Option Outcome)
-    (may : may_call seats pid ≡ true) (near : same_host pid to ≡ true) where
-  abbrev segment_call : Call
-  segment_call = calls.ReplySegment m to g.dest g.src g.count
-
-  pub segment_rule : p ≡ done_by (access_refusal seats pid to (reply_access g)) → new ≡ after_reply_segment seats pid to m g →
-      after ≡ before ++ reply_segment_steps seats pid to m g → IsSeatsRule pid segment_call p seats new before after
-  segment_rule outcome is listed = seats_rule pid segment_call p seats new before after (λ c t r out same h fit.
-      let s = may_be t.seats pid (ap (λ xs. may_call xs pid) same ∙ may) in
-      done_as c pid.host r pid segment_call t before out (done_by (access_refusal t.seats pid to (reply_access g))) p
-      (after_reply_segment t.seats pid to m g) new (before ++ reply_segment_steps t.seats pid to m g) after
-      (segment_is c pid.host t r h fit pid refl s.0 s.1 to near m g before out)
-      (outcome ∙ ap (λ xs. done_by (access_refusal xs pid to (reply_access g))) (sym same))
-      (is ∙ ap (λ xs. after_reply_segment xs pid to m g) (sym same))
-      (listed ∙ ap (λ xs. before ++ reply_segment_steps xs pid to m g) (sym same)))
+pub segment_rule : (pid to : Pid) (m : Message) (g : Segment) (seats new : List Seat) (before after : List Step) (p : Option Outcome) →
+    may_call seats pid ≡ true → same_host pid to ≡ true → IsReplySegment pid to m g p seats new before after →
+    IsSeatsRule pid (calls.ReplySegment m to g.dest g.src g.count) p seats new before after
+segment_rule pid to m g seats new before after p may near is =
+    seats_rule pid (calls.ReplySegment m to g.dest g.src g.count) (λ xs. done_by (access_refusal xs pid to (reply_access g)))
+    (λ xs. after_reply_segment xs pid to m g) (λ xs. reply_segment_steps xs pid to m g) p seats new before after may is
+    (λ c t r s out h fit can. segment_is c pid.host t r h fit pid refl s can to near m g before out)

@@ -48,7 +48,7 @@ pub record IsServed (host : ℕ) (t : Tables) (k : Kernel) (pid : Pid) (u : Tabl
 abbrev listed_by : Kernel → Pid → Option Taking → List Step
 listed_by k pid o = list_if (is_some (o >>= λ tk. Some (unseen (taken k pid tk)))) (steps.Take pid ∷ [])
 
-same_carries : (t : Tables) → Carries 0 t t
+pub same_carries : (t : Tables) → Carries 0 t t
 same_carries t = record {
   seats = λ pid s at. record {
     old = s;

@@ -8,7 +8,10 @@ use Rattle.vk_base.specs.declared.activity.Waiting.{Waiting}
 use Rattle.vk_base.specs.declared.activity.Waiting.TheVariants as waitings
 use Rattle.vk_base.specs.declared.answer.Refusal.{Refusal}
 use Rattle.vk_base.specs.declared.answer.Refusal.TheVariants as refusals
+use Rattle.vk_base.specs.declared.call.Call.{Call}
 use Rattle.vk_base.specs.declared.call.Call.TheVariants as calls
+use Rattle.vk_base.specs.declared.kernel.Direction.{Direction}
+use Rattle.vk_base.specs.declared.kernel.Direction.TheVariants as directions
 use Rattle.vk_base.specs.declared.limits.TheConstants.{MOVE_BYTES, SEGMENT_BYTES}
 use Rattle.vk_base.specs.declared.message.Message.{Message}
 use Rattle.vk_base.specs.declared.pid.Pid.{Pid}
@@ -137,15 +140,19 @@ abbrev pub reply_segment_steps : List Seat → Pid → Pid → Message → Segme
 reply_segment_steps seats pid to m s =
     steps.Call pid (calls.ReplySegment m to s.dest s.src s.count) ∷ finish_steps (access_refusal seats pid to (reply_access s)) to
 
--- Moves.
-abbrev pub to_access : Segment → Access
-to_access s = record { limit = MOVE_BYTES; count = s.count; write = true; granted = s.dest; own = s.src }
+-- Moves, in either direction.
+abbrev pub move_call : Direction → Pid → Segment → Call
+move_call directions.To partner s = calls.MoveTo partner s.dest s.src s.count
+move_call directions.From partner s = calls.MoveFrom partner s.dest s.src s.count
 
-abbrev pub from_access : Segment → Access
-from_access s = record { limit = MOVE_BYTES; count = s.count; write = false; granted = s.src; own = s.dest }
+abbrev pub move_access : Direction → Segment → Access
+move_access directions.To s = record { limit = MOVE_BYTES; count = s.count; write = true; granted = s.dest; own = s.src }
+move_access directions.From s = record { limit = MOVE_BYTES; count = s.count; write = false; granted = s.src; own = s.dest }
 
-abbrev pub after_move_to : List Seat → Pid → Pid → Segment → List Seat
-after_move_to seats pid partner s = unless (access_refusal seats pid partner (to_access s)) (bytes_passed seats pid partner s) seats
+abbrev pub moved_seats : Direction → List Seat → Pid → Pid → Segment → List Seat
+moved_seats directions.To seats pid partner s = bytes_passed seats pid partner s
+moved_seats directions.From seats pid partner s = bytes_passed seats partner pid s
 
-abbrev pub after_move_from : List Seat → Pid → Pid → Segment → List Seat
-after_move_from seats pid partner s = unless (access_refusal seats pid partner (from_access s)) (bytes_passed seats partner pid s) seats
+abbrev pub after_move : Direction → List Seat → Pid → Pid → Segment → List Seat
+after_move way seats pid partner s =
+    unless (access_refusal seats pid partner (move_access way s)) (moved_seats way seats pid partner s) seats

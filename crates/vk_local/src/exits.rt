@@ -1,15 +1,16 @@
 //! Exit.
 
-ghost use Rattle.std.specs.Prelude.{◌≡◌, ◌<◌, ◌≤◌, ◌+◌, ◌++◌, ◌∷◌, [], ℕ, true, length, filter, Some};
+ghost use Rattle.std.specs.Prelude.{◌≡◌, ◌<◌, ◌≤◌, ◌+◌, ◌++◌, ◌∷◌, [], ℕ, true, length, Some};
 ghost use Rattle.std.specs.List.{position};
 ghost use Rattle.arrayvec.specs.ArrayVec.{array_vec_len};
 ghost use Rattle.vk_base.specs.declared.limits.TheConstants.{POOL as ALIENS, STATION_PROCESSES, STEPS};
 ghost use Rattle.vk_packet.specs.Rules.{is_number};
 ghost use Rattle.vk_pool.specs.declared.alien.Alien.{Alien as TheAlien};
 ghost use Rattle.vk_pool.specs.Aliens.{alien_at};
-ghost use Rattle.vk_procs.specs.Seats.{is_seat};
+ghost use Rattle.vk_procs.specs.Seats.{is_seat, pids};
 ghost use Rattle.vk_queue.specs.Lists.{with_list};
-ghost use Rattle.vk_local.specs.Exits.{emptied, exited_seats, is_left, is_other, left_in, left_of, left_slots, negatives, slots_left, told_left};
+ghost use Rattle.vk_local.specs.Done.{IsExit};
+ghost use Rattle.vk_local.specs.Exits.{emptied, is_left, left_in, left_of, left_slots, negatives, slots_left, told_left};
 ghost use Rattle.vk_local.specs.Rules.{IsExitRule, may_call, whole_tables};
 ghost use Rattle.vk_stands.specs.Rules.{posted};
 
@@ -113,13 +114,8 @@ fn play_exit(
     requires few { length aliens.old ≤ ALIENS }
     requires out { length out.old.posts + ALIENS ≤ out.old.room }
     requires steps { array_vec_len steps.old < STEPS }
-    ensures outcome { result ≡ Some Outcome.Ok }
-    ensures seats { procs.new ≡ exited_seats procs.old pid }
-    ensures lists { queues.new.lists ≡ emptied queues.old.lists (position (is_seat pid) procs.old) }
-    ensures slots { aliens.new ≡ left_slots pid now aliens.old }
-    ensures names { names.new ≡ filter (is_other pid) names.old }
-    ensures steps { steps.new.items ≡ steps.old.items ++ Step.Call pid Call.Exit ∷ [] }
-    ensures packets { out.new ≡ posted out.old (negatives pid aliens.old) }
+    ensures done { IsExit pid now result (whole_tables procs.old queues.old.lists aliens.old names.old)
+        (whole_tables procs.new queues.new.lists aliens.new names.new) steps.old.items steps.new.items out.old out.new }
     ensures room { queues.new.slots ≡ queues.old.slots }
 {
     steps.push(Step::Call {
@@ -152,8 +148,11 @@ pub fn exit(
     requires few { length aliens.old ≤ ALIENS }
     requires out { length out.old.posts + ALIENS ≤ out.old.room }
     requires steps { array_vec_len steps.old < STEPS }
+    ensures done { IsExit pid now result (whole_tables procs.old queues.old.lists aliens.old names.old)
+        (whole_tables procs.new queues.new.lists aliens.new names.new) steps.old.items steps.new.items out.old out.new }
     ensures rule { IsExitRule pid now result (whole_tables procs.old queues.old.lists aliens.old names.old)
         (whole_tables procs.new queues.new.lists aliens.new names.new) steps.old.items steps.new.items out.old out.new }
+    ensures pids { pids procs.new ≡ pids procs.old }
     ensures room { queues.new.slots ≡ queues.old.slots }
 {
     play_exit(procs, names, queues, aliens, now, out, steps, pid)

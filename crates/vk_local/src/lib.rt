@@ -1,5 +1,5 @@
 //! Calls within one station, as rules over its tables: a Send, a receive, a reply and a move between two of its processes, the Take
-//! of a process that waits for a message, and an exit. The program does not use it yet.
+//! of a process that waits for a message, and an exit.
 //!
 //! Stands on the tables (`vk_procs`, `vk_queue`, `vk_pool`, `vk_names`) and on what they stand for (`vk_stands`). What each rule does
 //! to the tables is a short function in `specs/`. No call takes memory.
@@ -13,7 +13,7 @@ mod replies;
 mod sends;
 mod serving;
 
-pub use access::Segment;
+pub use access::{Segment, own_range};
 pub use exits::exit;
 pub use moves::{move_from, move_to};
 pub use receives::receive;

@@ -1,101 +1,92 @@
 //! Moves between two processes of the station, which are made at once.
 
-ghost use Rattle.std.specs.Prelude.{◌≡◌, ◌<◌, ◌++◌, ◌∷◌, [], true};
+ghost use Rattle.std.specs.Prelude.{◌≡◌, ◌<◌, true};
 ghost use Rattle.arrayvec.specs.ArrayVec.{array_vec_len};
 ghost use Rattle.vk_base.specs.declared.limits.TheConstants.{STEPS};
 ghost use Rattle.vk_base.specs.Pids.{same_host};
-ghost use Rattle.vk_local.specs.Access.{access_refusal};
-ghost use Rattle.vk_local.specs.Calls.{after_move_from, after_move_to, done_by, from_access, to_access};
+ghost use Rattle.vk_procs.specs.Seats.{pids};
+ghost use Rattle.vk_local.specs.Calls.{move_access, move_call, moved_seats};
+ghost use Rattle.vk_local.specs.Done.{IsMove};
 ghost use Rattle.vk_local.specs.Rules.{IsSeatsRule, may_call};
 
 use crate::access::{Access, Segment, access_refusal};
 use vk_base::limits::MOVE_BYTES;
-use vk_base::{Call, Outcome, Pid, Step, StepList};
+use vk_base::{Call, Direction, Outcome, Pid, Step, StepList};
 use vk_procs::{Passed, Procs};
 
-fn to_access(segment: Segment) -> Access
-    ensures { result ≡ to_access segment }
-{
-    Access {
-        limit: MOVE_BYTES,
-        count: segment.count,
-        write: true,
-        granted: segment.dest,
-        own: segment.src,
-    }
-}
-
-fn from_access(segment: Segment) -> Access
-    ensures { result ≡ from_access segment }
-{
-    Access {
-        limit: MOVE_BYTES,
-        count: segment.count,
-        write: false,
-        granted: segment.src,
-        own: segment.dest,
-    }
-}
-
-/// The call and the move, by the tables.
-fn play_move_to(
-    procs: &mut Procs,
-    steps: &mut StepList,
-    pid: Pid,
-    partner: Pid,
-    segment: Segment,
-) -> Option<Outcome>
-    requires { array_vec_len steps.old < STEPS }
-    ensures outcome { result ≡ done_by (access_refusal procs.old pid partner (to_access segment)) }
-    ensures seats { procs.new ≡ after_move_to procs.old pid partner segment }
-    ensures steps { steps.new.items ≡ steps.old.items
-        ++ Step.Call pid (Call.MoveTo partner segment.dest segment.src segment.count) ∷ [] }
+fn move_call(way: Direction, partner: Pid, segment: Segment) -> Call
+    ensures { result ≡ move_call way partner segment }
 {
     let Segment { dest, src, count } = segment;
-    steps.push(Step::Call {
-        pid,
-        call: Call::MoveTo {
+    match way {
+        Direction::To => Call::MoveTo {
             partner,
             dest,
             src,
             count,
         },
-    });
-    if let Some(why) = access_refusal(procs, pid, partner, to_access(segment)) {
-        return Some(Outcome::Refused { why });
-    }
-    procs.pass(pid, partner, Passed::Bytes { src, count, dest });
-    Some(Outcome::Ok)
-}
-
-/// The call and the move, by the tables.
-fn play_move_from(
-    procs: &mut Procs,
-    steps: &mut StepList,
-    pid: Pid,
-    partner: Pid,
-    segment: Segment,
-) -> Option<Outcome>
-    requires { array_vec_len steps.old < STEPS }
-    ensures outcome { result ≡ done_by (access_refusal procs.old pid partner (from_access segment)) }
-    ensures seats { procs.new ≡ after_move_from procs.old pid partner segment }
-    ensures steps { steps.new.items ≡ steps.old.items
-        ++ Step.Call pid (Call.MoveFrom partner segment.dest segment.src segment.count) ∷ [] }
-{
-    let Segment { dest, src, count } = segment;
-    steps.push(Step::Call {
-        pid,
-        call: Call::MoveFrom {
+        Direction::From => Call::MoveFrom {
             partner,
             dest,
             src,
             count,
         },
+    }
+}
+
+fn move_access(way: Direction, segment: Segment) -> Access
+    ensures { result ≡ move_access way segment }
+{
+    let Segment { dest, src, count } = segment;
+    match way {
+        Direction::To => Access {
+            limit: MOVE_BYTES,
+            count,
+            write: true,
+            granted: dest,
+            own: src,
+        },
+        Direction::From => Access {
+            limit: MOVE_BYTES,
+            count,
+            write: false,
+            granted: src,
+            own: dest,
+        },
+    }
+}
+
+fn move_bytes(procs: &mut Procs, pid: Pid, partner: Pid, way: Direction, segment: Segment)
+    ensures { procs.new ≡ moved_seats way procs.old pid partner segment }
+{
+    let Segment { dest, src, count } = segment;
+    let bytes = Passed::Bytes { src, count, dest };
+    match way {
+        Direction::To => procs.pass(pid, partner, bytes),
+        Direction::From => procs.pass(partner, pid, bytes),
+    }
+}
+
+/// The call and the move, by the tables.
+fn play_move(
+    procs: &mut Procs,
+    steps: &mut StepList,
+    pid: Pid,
+    partner: Pid,
+    way: Direction,
+    segment: Segment,
+) -> Option<Outcome>
+    requires { array_vec_len steps.old < STEPS }
+    ensures { IsMove way pid partner segment result procs.old procs.new steps.old.items steps.new.items }
+{
+    steps.push(Step::Call {
+        pid,
+        call: move_call(way, partner, segment),
     });
-    if let Some(why) = access_refusal(procs, pid, partner, from_access(segment)) {
+    if let Some(why) = access_refusal(procs, pid, partner, move_access(way, segment)) {
         return Some(Outcome::Refused { why });
     }
-    procs.pass(partner, pid, Passed::Bytes { src, count, dest });
+    move_bytes(procs, pid, partner, way, segment);
     Some(Outcome::Ok)
 }
 
@@ -110,10 +101,12 @@ pub fn move_to(
     requires near { same_host pid partner ≡ true }
     requires ready { may_call procs.old pid ≡ true }
     requires room { array_vec_len steps.old < STEPS }
-    ensures { IsSeatsRule pid (Call.MoveTo partner segment.dest segment.src segment.count) result procs.old procs.new steps.old.items
-        steps.new.items }
+    ensures done { IsMove Direction.To pid partner segment result procs.old procs.new steps.old.items steps.new.items }
+    ensures rule { IsSeatsRule pid (Call.MoveTo partner segment.dest segment.src segment.count) result procs.old procs.new
+        steps.old.items steps.new.items }
+    ensures pids { pids procs.new ≡ pids procs.old }
 {
-    play_move_to(procs, steps, pid, partner, segment)
+    play_move(procs, steps, pid, partner, Direction::To, segment)
 }
 
 /// A process, which is alive and ready, reads bytes of the memory of a partner of its station into its own.
@@ -127,8 +120,10 @@ pub fn move_from(
     requires near { same_host pid partner ≡ true }
     requires ready { may_call procs.old pid ≡ true }
     requires room { array_vec_len steps.old < STEPS }
-    ensures { IsSeatsRule pid (Call.MoveFrom partner segment.dest segment.src segment.count) result procs.old procs.new steps.old.items
-        steps.new.items }
+    ensures done { IsMove Direction.From pid partner segment result procs.old procs.new steps.old.items steps.new.items }
+    ensures rule { IsSeatsRule pid (Call.MoveFrom partner segment.dest segment.src segment.count) result procs.old procs.new
+        steps.old.items steps.new.items }
+    ensures pids { pids procs.new ≡ pids procs.old }
 {
-    play_move_from(procs, steps, pid, partner, segment)
+    play_move(procs, steps, pid, partner, Direction::From, segment)
 }

@@ -4,7 +4,9 @@ ghost use Rattle.std.specs.Prelude.{◌≡◌, ◌<◌, ◌≤◌, ◌+◌, ◌+
 ghost use Rattle.arrayvec.specs.ArrayVec.{array_vec_len};
 ghost use Rattle.vk_base.specs.Activities.{as_receive, call_of};
 ghost use Rattle.vk_base.specs.declared.limits.TheConstants.{STATION_PROCESSES, STEPS};
-ghost use Rattle.vk_local.specs.Calls.{after_receive, awaited, begun_by, receive_refusal, receive_steps, received, steps_of, tables_of};
+ghost use Rattle.vk_procs.specs.Seats.{pids};
+ghost use Rattle.vk_local.specs.Calls.{awaited, receive_refusal, received, steps_of, tables_of};
+ghost use Rattle.vk_local.specs.Done.{IsReceive};
 ghost use Rattle.vk_local.specs.Rules.{IsTablesRule, may_call};
 
 use crate::access::own_range;
@@ -60,11 +62,8 @@ fn play_receive(
     requires receive { as_receive waiting ≡ Some waiting }
     requires lists { length queues.old.lists ≡ STATION_PROCESSES }
     requires room { array_vec_len steps.old + 2 ≤ STEPS }
-    ensures outcome { result ≡ begun_by (receive_refusal procs.old pid waiting) }
-    ensures seats { procs.new ≡ (after_receive (tables_of procs.old queues.old.lists aliens.old) pid waiting).seats }
-    ensures lists { queues.new.lists ≡ (after_receive (tables_of procs.old queues.old.lists aliens.old) pid waiting).lists }
-    ensures slots { aliens.new ≡ (after_receive (tables_of procs.old queues.old.lists aliens.old) pid waiting).slots }
-    ensures steps { steps.new.items ≡ steps.old.items ++ receive_steps (tables_of procs.old queues.old.lists aliens.old) pid waiting }
+    ensures done { IsReceive pid waiting result (tables_of procs.old queues.old.lists aliens.old)
+        (tables_of procs.new queues.new.lists aliens.new) steps.old.items steps.new.items }
     ensures room { queues.new.slots ≡ queues.old.slots }
 {
     steps.push(Step::Call {
@@ -91,8 +90,11 @@ pub fn receive(
     requires ready { may_call procs.old pid ≡ true }
     requires lists { length queues.old.lists ≡ STATION_PROCESSES }
     requires room { array_vec_len steps.old + 2 ≤ STEPS }
+    ensures done { IsReceive pid waiting result (tables_of procs.old queues.old.lists aliens.old)
+        (tables_of procs.new queues.new.lists aliens.new) steps.old.items steps.new.items }
     ensures rule { IsTablesRule pid (call_of waiting) result (tables_of procs.old queues.old.lists aliens.old)
         (tables_of procs.new queues.new.lists aliens.new) steps.old.items steps.new.items }
+    ensures pids { pids procs.new ≡ pids procs.old }
     ensures room { queues.new.slots ≡ queues.old.slots }
 {
     play_receive(procs, queues, aliens, steps, pid, waiting)

@@ -1,11 +1,12 @@
 //! A reply to a process of the same station.
 
-ghost use Rattle.std.specs.Prelude.{◌≡◌, ◌≤◌, ◌+◌, ◌++◌, true};
+ghost use Rattle.std.specs.Prelude.{◌≡◌, ◌≤◌, ◌+◌, true};
 ghost use Rattle.arrayvec.specs.ArrayVec.{array_vec_len};
 ghost use Rattle.vk_base.specs.declared.limits.TheConstants.{STEPS};
 ghost use Rattle.vk_base.specs.Pids.{same_host};
-ghost use Rattle.vk_local.specs.Access.{access_refusal, not_awaiting};
-ghost use Rattle.vk_local.specs.Calls.{after_reply, after_reply_segment, done_by, reply_access, reply_segment_steps, reply_steps};
+ghost use Rattle.vk_procs.specs.Seats.{pids};
+ghost use Rattle.vk_local.specs.Calls.{reply_access};
+ghost use Rattle.vk_local.specs.Done.{IsReply, IsReplySegment};
 ghost use Rattle.vk_local.specs.Rules.{IsSeatsRule, may_call};
 
 use crate::access::{Access, Segment, access_refusal, not_awaiting};
@@ -22,9 +23,7 @@ fn play_reply(
     message: &Message,
 ) -> Option<Outcome>
     requires { array_vec_len steps.old + 2 ≤ STEPS }
-    ensures outcome { result ≡ done_by (not_awaiting procs.old pid to) }
-    ensures seats { procs.new ≡ after_reply procs.old pid to message.now }
-    ensures steps { steps.new.items ≡ steps.old.items ++ reply_steps procs.old pid to message.now }
+    ensures { IsReply pid to message.now result procs.old procs.new steps.old.items steps.new.items }
 {
     steps.push(Step::Call {
         pid,
@@ -64,9 +63,7 @@ fn play_reply_segment(
     segment: Segment,
 ) -> Option<Outcome>
     requires { array_vec_len steps.old + 2 ≤ STEPS }
-    ensures outcome { result ≡ done_by (access_refusal procs.old pid to (reply_access segment)) }
-    ensures seats { procs.new ≡ after_reply_segment procs.old pid to message.now segment }
-    ensures steps { steps.new.items ≡ steps.old.items ++ reply_segment_steps procs.old pid to message.now segment }
+    ensures { IsReplySegment pid to message.now segment result procs.old procs.new steps.old.items steps.new.items }
 {
     let Segment { dest, src, count } = segment;
     steps.push(Step::Call {
@@ -99,7 +96,9 @@ pub fn reply(
     requires near { same_host pid to ≡ true }
     requires ready { may_call procs.old pid ≡ true }
     requires room { array_vec_len steps.old + 2 ≤ STEPS }
-    ensures { IsSeatsRule pid (Call.Reply message.now to) result procs.old procs.new steps.old.items steps.new.items }
+    ensures done { IsReply pid to message.now result procs.old procs.new steps.old.items steps.new.items }
+    ensures rule { IsSeatsRule pid (Call.Reply message.now to) result procs.old procs.new steps.old.items steps.new.items }
+    ensures pids { pids procs.new ≡ pids procs.old }
 {
     play_reply(procs, steps, pid, to, message)
 }
@@ -116,8 +115,10 @@ pub fn reply_segment(
     requires near { same_host pid to ≡ true }
     requires ready { may_call procs.old pid ≡ true }
     requires room { array_vec_len steps.old + 2 ≤ STEPS }
-    ensures { IsSeatsRule pid (Call.ReplySegment message.now to segment.dest segment.src segment.count) result procs.old procs.new
+    ensures done { IsReplySegment pid to message.now segment result procs.old procs.new steps.old.items steps.new.items }
+    ensures rule { IsSeatsRule pid (Call.ReplySegment message.now to segment.dest segment.src segment.count) result procs.old procs.new
         steps.old.items steps.new.items }
+    ensures pids { pids procs.new ≡ pids procs.old }
 {
     play_reply_segment(procs, steps, pid, to, message, segment)
 }

@@ -5,8 +5,9 @@ ghost use Rattle.arrayvec.specs.ArrayVec.{array_vec_len};
 ghost use Rattle.vk_base.specs.declared.limits.TheConstants.{STATION_PROCESSES, STEPS};
 ghost use Rattle.vk_base.specs.Pids.{same_host};
 ghost use Rattle.vk_procs.specs.declared.seat.Seat.{Seat as TheSeat};
-ghost use Rattle.vk_procs.specs.Seats.{seat_in};
-ghost use Rattle.vk_local.specs.Calls.{after_send, begun, begun_by, queued, send_refusal, send_steps, sent, steps_of, tables_of};
+ghost use Rattle.vk_procs.specs.Seats.{pids, seat_in};
+ghost use Rattle.vk_local.specs.Calls.{begun, queued, send_refusal, sent, steps_of, tables_of};
+ghost use Rattle.vk_local.specs.Done.{IsSend};
 ghost use Rattle.vk_local.specs.Rules.{IsTablesRule, may_call};
 
 use crate::access::own_range;
@@ -83,12 +84,8 @@ fn play_send(
     requires lists { length queues.old.lists ≡ STATION_PROCESSES }
     requires slots { STATION_PROCESSES ≤ queues.old.slots }
     requires room { array_vec_len steps.old + 2 ≤ STEPS }
-    ensures outcome { result ≡ begun_by (send_refusal procs.old pid target message.now) }
-    ensures seats { procs.new ≡ (after_send (tables_of procs.old queues.old.lists aliens.old) pid target message.now).seats }
-    ensures lists { queues.new.lists ≡ (after_send (tables_of procs.old queues.old.lists aliens.old) pid target message.now).lists }
-    ensures slots { aliens.new ≡ (after_send (tables_of procs.old queues.old.lists aliens.old) pid target message.now).slots }
-    ensures steps { steps.new.items ≡ steps.old.items
-        ++ send_steps (tables_of procs.old queues.old.lists aliens.old) pid target message.now }
+    ensures done { IsSend pid target message.now result (tables_of procs.old queues.old.lists aliens.old)
+        (tables_of procs.new queues.new.lists aliens.new) steps.old.items steps.new.items }
     ensures room { queues.new.slots ≡ queues.old.slots }
 {
     steps.push(Step::Call {
@@ -121,8 +118,11 @@ pub fn send(
     requires lists { length queues.old.lists ≡ STATION_PROCESSES }
     requires slots { STATION_PROCESSES ≤ queues.old.slots }
     requires room { array_vec_len steps.old + 2 ≤ STEPS }
+    ensures done { IsSend pid target message.now result (tables_of procs.old queues.old.lists aliens.old)
+        (tables_of procs.new queues.new.lists aliens.new) steps.old.items steps.new.items }
     ensures rule { IsTablesRule pid (Call.Send target message.now) result (tables_of procs.old queues.old.lists aliens.old)
         (tables_of procs.new queues.new.lists aliens.new) steps.old.items steps.new.items }
+    ensures pids { pids procs.new ≡ pids procs.old }
     ensures room { queues.new.slots ≡ queues.old.slots }
 {
     play_send(procs, queues, aliens, steps, pid, target, message)

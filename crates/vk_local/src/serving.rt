@@ -5,7 +5,7 @@ ghost use Rattle.std.specs.List.{position};
 ghost use Rattle.arrayvec.specs.ArrayVec.{array_vec_len};
 ghost use Rattle.vk_base.specs.declared.limits.TheConstants.{STATION_PROCESSES as PROCESSES, STEPS};
 ghost use Rattle.vk_pool.specs.Aliens.{alien_at, changed_at, taken};
-ghost use Rattle.vk_procs.specs.Seats.{is_seat};
+ghost use Rattle.vk_procs.specs.Seats.{is_seat, pids};
 ghost use Rattle.vk_local.specs.Takes.{alien_taken, front_of, local_taken, seats_at, served_lists, served_seats, served_slots, served_steps, slots_at};
 
 use vk_base::limits::STATION_PROCESSES;
@@ -82,6 +82,7 @@ pub fn serve(
     ensures steps { steps.new.items ≡ steps.old.items ++ served_steps pid (front_of procs.old queues.old.lists pid) }
     ensures took { result ≡ is_some (front_of procs.old queues.old.lists pid) }
     ensures room { queues.new.slots ≡ queues.old.slots }
+    ensures pids { pids procs.new ≡ pids procs.old }
 {
     match take_front(procs, queues, pid) {
         Some(slot) => {

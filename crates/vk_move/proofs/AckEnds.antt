@@ -30,7 +30,7 @@ use Rattle.vk_base.specs.Kernel.{◌>>=◌, Kernel, blocked_in, holds_of, is_mov
 use Rattle.vk_base.specs.Packets.{Packet, MoveAck}
 use Rattle.vk_base.specs.Pids.{same_pid}
 use Rattle.vk_base.specs.Settings.{Settings}
-use Rattle.vk_base.specs.Steps.{first_of, is_in_move, move_ending, next, only_if}
+use Rattle.vk_base.specs.Steps.{first_of, move_ending, only_if}
 use Rattle.v_laws.specs.Sound.{IsSoundAt}
 use Rattle.v_laws.proofs.Tables.{same_name_is, same_pid_laws, same_pid_self}
 use Rattle.vk_frame.specs.declared.header.Header.{Header}
@@ -41,15 +41,14 @@ use Rattle.vk_procs.specs.Seats.{process_of, seat_in}
 use Rattle.vk_rules.specs.Aliens.{as_arrival, is_closing}
 use Rattle.vk_rules.specs.Entries.{Delivered}
 use Rattle.vk_rules.specs.Frames.{Framed}
-use Rattle.vk_rules.specs.PacketOutcomes.{ack_outcome, running_to}
+use Rattle.vk_rules.specs.PacketOutcomes.{ack_outcome}
 unfoldable use Rattle.vk_rules.specs.PacketOutcomes.{packet_outcome}
 use Rattle.vk_rules.specs.Readings.{Reading}
 use Rattle.vk_rules.specs.Right.{answer_to}
 use Rattle.vk_rules.specs.Rounds.{Outcome, nothing, only_packets, only_steps}
 use Rattle.vk_rules.specs.View.{after_steps}
-use Rattle.vk_rules.specs.Works.{Work, count_in, is_answer, is_move_to, is_of_round, is_packet_to, moves_to}
+use Rattle.vk_rules.specs.Works.{count_in, is_answer, is_move_to, is_of_round, is_packet_to, moves_to}
 use Rattle.vk_stands.specs.Fit.{AreFit}
-use Rattle.vk_stands.specs.Rules.{packets_in}
 use Rattle.vk_stands.specs.Stands.{IsMoving, IsOwnMove, Stands}
 use Rattle.vk_stands.specs.Tables.{Tables}
 use Rattle.vk_stands.proofs.After.{entry_for, events_are, packets_are, reading_for}
@@ -64,7 +63,7 @@ use Rattle.vk_stands.proofs.Parts.{Part, part_of}
 use Rattle.vk_stands.proofs.Received.{received}
 use Rattle.vk_move.specs.declared.mover.Acked.{Acked}
 use Rattle.vk_move.specs.declared.mover.Acked.TheVariants as acks
-use Rattle.vk_move.specs.Mover.{ack_moved, ack_taken, acked_by, acked_doing, acked_in, is_mover}
+use Rattle.vk_move.specs.Mover.{ack_moved, ack_taken, acked_doing, acked_in, is_mover}
 use Rattle.vk_move.specs.Right.{IsMoveRule, IsRight}
 use Rattle.vk_move.proofs.Acks.{answers_right, decided, goes_right, nothing_right, outcome}
 use Rattle.vk_move.proofs.Acks as acks_to
@@ -75,11 +74,22 @@ uncopied : (b : Bool) (to : Pid) → cond b (sum_by count_in (steps.End to endin
 uncopied true to = refl
 uncopied false to = refl
 
-first_number : (number moving : ℕ) (b : Bool) → (list_all is_number (number ∷ moving ∷ []) && b) ≡ true → 0 < moving
+pub first_number : (number moving : ℕ) (b : Bool) → (list_all is_number (number ∷ moving ∷ []) && b) ≡ true → 0 < moving
 first_number number moving b t =
     let a = and_parts (list_all is_number (number ∷ moving ∷ [])) b t in
     let n = and_parts (is_number moving) true (and_parts (is_number number) (list_all is_number (moving ∷ [])) a.0).1 in
     ltb-true 0 moving (and_parts (ltb 0 moving) (ltb moving (2 ^ 63)) n.0).0
+
+-- the move that a process notes, which waits in this one
+pub noted_move : (name : Name) (moving : ℕ) (s : Seat) (noted : MoveName) → s.note.moving ≡ Some noted → is_mover name moving s ≡ true →
+    (noted.exchange ≡ name) × (noted.number ≡ moving)
+noted_move name moving s noted is mover =
+    let m = mover_is name moving s mover in
+    let one : m.noted ≡ noted = same_Some m.noted noted (sym m.is ∙ is) in
+    let a = and_parts (same_name m.noted.exchange name) (m.noted.number == moving) m.same in (
+      ap (λ (x : MoveName). x.exchange) (sym one) ∙ same_name_is m.noted.exchange name a.0,
+      ap (λ (x : MoveName). x.number) (sym one) ∙ eqb-true m.noted.number moving a.1,
+    )
 
 -- a move is to a partner, or from one
 pub either_way : (P : Type 0) (d : Activity) (w : Waiting) → d ≡ activities.Blocked w → is_moving (state_of (activities.Blocked w)) ≡ true →
@@ -130,22 +140,11 @@ module _ (c : Settings) (host : ℕ) (r : Reading) (h : Header) (from to : Pid) 
     abbrev moves : IsMoving r.view s partner directions.To dest count
     moves = stands.waiting to s waiting found state
 
-    named : same_name moves.name.exchange name ≡ true
-    named =
-        let m = mover_is name moving s mover in
-        let one : m.noted ≡ moves.name = same_Some m.noted moves.name (sym m.is ∙ moves.noted) in
-        ap (λ (x : MoveName). same_name x.exchange name) (sym one)
-        ∙ (and_parts (same_name m.noted.exchange name) (m.noted.number == moving) m.same).0
-
     numbered : moves.name.number ≡ moving
-    numbered =
-        let m = mover_is name moving s mover in
-        let one : m.noted ≡ moves.name = same_Some m.noted moves.name (sym m.is ∙ moves.noted) in
-        ap (λ (x : MoveName). x.number) (sym one)
-        ∙ eqb-true m.noted.number moving (and_parts (same_name m.noted.exchange name) (m.noted.number == moving) m.same).1
+    numbered = (noted_move name moving s moves.name moves.noted mover).1
 
     at_name : moves.name.exchange ≡ name
-    at_name = same_name_is moves.name.exchange name named
+    at_name = (noted_move name moving s moves.name moves.noted mover).0
 
     abbrev e : Exchange
     e = moves.exchange
@@ -212,7 +211,8 @@ module _ (c : Settings) (host : ℕ) (r : Reading) (h : Header) (from to : Pid) 
 
     part : Part host t k
     part = part_moved host t r.view (part_of c.times host t r fit stands) name (received c host r h packet taken).away e then_is e_is same
-        (owned t r.view to s found waiting state name e then_is e_is mine refl (record { direction_is = refl; dest_is = refl; count_is = refl })
+        (owned t r.view to s found waiting state name e then_is e_is mine refl
+        (record { direction_is = refl; dest_is = refl; count_is = refl })
         (left_acknowledged e moving to got mine))
 
     busy : is_ready (process_of s).state ≡ false
@@ -234,7 +234,8 @@ module _ (c : Settings) (host : ℕ) (r : Reading) (h : Header) (from to : Pid) 
         (ap (λ (o : Outcome). list_any (is_of_round q) o.packets) out)
         (ap (λ (o : Outcome). cond (is_packet_to q packet) (sum_by count_in o.steps) 0) out ∙ uncopied (is_packet_to q packet) to)
 
-    pub ends_right : IsRight c host t r (entry_for c host r (Delivered (Framed h packet))) (ack_moved c.times r.now to got acks.Ends t.seats)
+    pub ends_right : IsRight c host t r (entry_for c host r (Delivered (Framed h packet)))
+        (ack_moved c.times r.now to got acks.Ends t.seats)
     ends_right = record {
       steps = sym (came_steps c host r h packet taken ∙ ap (λ (o : Outcome). o.steps) out);
       packets = sym (packets_are c host r (Delivered (Framed h packet))
@@ -250,7 +251,8 @@ module _ (c : Settings) (host : ℕ) (r : Reading) (h : Header) (from to : Pid) 
   none_runs None f = refl
   none_runs (Some p) f = ap (λ b. only_if b (Some p)) f
 
-  none_answers : (o : Option Process) → holds_of (λ p. moves_to p name moving) o ≡ false → holds_of (is_answer to (r.work to) packet) o ≡ false
+  none_answers : (o : Option Process) → holds_of (λ p. moves_to p name moving) o ≡ false →
+      holds_of (is_answer to (r.work to) packet) o ≡ false
   none_answers None f = refl
   none_answers (Some p) f = λ i. same_pid_self to i && f i && got == (r.work to).acknowledged
 
@@ -308,9 +310,11 @@ module _ (c : Settings) (host : ℕ) (r : Reading) (h : Header) (from to : Pid) 
         by_tests false true as_many is is_more is_same =
             goes_right c host r h from to number moving got taken t fit stands s found partner dest src count state mover is is_more
         by_tests false false true is is_more is_same =
-            answers_right c host r h from to number moving got taken t fit stands s found partner dest src count state mover is is_more is_same
+            answers_right c host r h from to number moving got taken t fit stands s found partner dest src count state mover is is_more
+            is_same
         by_tests false false false is is_more is_same =
-            nothing_right c host r h from to number moving got taken t fit stands s found partner dest src count state mover is is_more is_same
+            nothing_right c host r h from to number moving got taken t fit stands s found partner dest src count state mover is is_more
+            is_same
 
         to_partner : Right (acked_in name moving got (seat_in t.seats to))
         to_partner = subst Right
@@ -331,13 +335,15 @@ module _ (c : Settings) (host : ℕ) (r : Reading) (h : Header) (from to : Pid) 
       (idles (ap (holds_of (λ p. moves_to p name moving)) (stands.procs to own ∙ ap (option_map process_of) none)))
   by_seat (Some s) found = by_mover s found (is_mover name moving s) refl
 
-  pub ack_right : IsRight c host t r (entry_for c host r (Delivered (Framed h packet))) (ack_taken c.times r.now from to number moving got t.seats)
+  pub ack_right : IsRight c host t r (entry_for c host r (Delivered (Framed h packet)))
+      (ack_taken c.times r.now from to number moving got t.seats)
   ack_right = by_seat (seat_in t.seats to) refl
 
 pub ack_rule : (times : Times) (now : ℕ) (from to : Pid) (number moving got : ℕ) (seats : List Seat) →
     IsMoveRule times now (MoveAck from to number moving got) seats (ack_taken times now from to number moving got seats)
 ack_rule times now from to number moving got seats c host t r h same at fit stands taken =
-    subst (λ x. IsRight c host (record t { seats = seats }) r (entry_for c host r (Delivered (Framed h (MoveAck from to number moving got))))
+    subst (λ x. IsRight c host (record t { seats = seats }) r
+    (entry_for c host r (Delivered (Framed h (MoveAck from to number moving got))))
     (ack_taken x now from to number moving got seats)) same
     (subst (λ n. IsRight c host (record t { seats = seats }) r
     (entry_for c host r (Delivered (Framed h (MoveAck from to number moving got))))

@@ -1,8 +1,8 @@
 -- An acknowledgement that does not end its move, by the tables and by the rules.
-use Rattle.std.proofs.Common.{◌≡◌, ℕ, zero, suc, ◌+◌, ◌-◌, ◌*◌, ◌/◌, ◌%◌, ◌<◌, Bool, true, false, cond, ◌&&◌, ◌||◌, ◌==◌, List, [], ◌∷◌, length, map, refl, ap, sym, ◌∙◌, subst, Option, Some, None, ltb, arith, inl, inr}
-use Rattle.std.specs.List.{list_any, filter_map, range_with_len, sum_by}
+use Rattle.std.proofs.Common.{◌≡◌, ℕ, zero, suc, ◌+◌, ◌-◌, ◌*◌, ◌/◌, ◌%◌, ◌<◌, Bool, true, false, cond, ◌&&◌, ◌||◌, ◌==◌, List, [], ◌∷◌, length, map, refl, ap, sym, ◌∙◌, subst, Option, Some, None, ltb, arith}
+use Rattle.std.specs.List.{list_any, range_with_len}
 use Rattle.std.specs.Option.{option_map, option_map_or}
-use Rattle.std.proofs.lemmas.Bool.{and_from, and_parts, cases_Bool, ltb-true}
+use Rattle.std.proofs.lemmas.Bool.{and_from, and_parts, ltb-true}
 use Rattle.vk_base.specs.declared.activity.Activity.TheVariants as activities
 use Rattle.vk_base.specs.declared.activity.Waiting.{Waiting}
 use Rattle.vk_base.specs.declared.activity.Waiting.TheVariants as waitings
@@ -18,21 +18,21 @@ use Rattle.vk_base.specs.Kernel.{◌>>=◌, blocked_in, holds_of, is_moving, nam
 use Rattle.vk_base.specs.Packets.{Packet, MoveAck}
 use Rattle.vk_base.specs.Pids.{same_pid}
 use Rattle.vk_base.specs.Settings.{Settings}
-use Rattle.vk_base.specs.Steps.{first_of, only_if, same_move}
-use Rattle.v_laws.proofs.Tables.{same_pid_is, same_pid_laws, same_pid_self}
+use Rattle.vk_base.specs.Steps.{only_if, same_move}
+use Rattle.v_laws.proofs.Tables.{same_pid_self}
 use Rattle.vk_frame.specs.declared.header.Header.{Header}
 use Rattle.vk_procs.specs.declared.seat.Seat.{Seat}
-use Rattle.vk_procs.specs.Seats.{is_seat, process_of, seat_in}
-use Rattle.vk_rules.specs.Aliens.{as_arrival, is_closing}
+use Rattle.vk_procs.specs.Seats.{process_of, seat_in}
+use Rattle.vk_rules.specs.Aliens.{is_closing}
 use Rattle.vk_rules.specs.Entries.{Delivered}
 use Rattle.vk_rules.specs.Frames.{Framed}
 use Rattle.vk_rules.specs.PacketOutcomes.{ack_outcome, running_to}
 unfoldable use Rattle.vk_rules.specs.PacketOutcomes.{packet_outcome}
 use Rattle.vk_rules.specs.Readings.{Reading}
 use Rattle.vk_rules.specs.Right.{answer_to}
-use Rattle.vk_rules.specs.Rounds.{Outcome, data_packet, list_if, nothing, only_packets, only_steps, round_of, round_of_call}
+use Rattle.vk_rules.specs.Rounds.{data_packet, list_if, nothing, only_packets, only_steps, round_of, round_of_call}
 unfoldable use Rattle.vk_rules.specs.Rounds.{round}
-use Rattle.vk_rules.specs.Works.{Work, count_in, count_of_move, is_answer, is_move_to, is_of_round, is_packet_to, move_count, moves_to}
+use Rattle.vk_rules.specs.Works.{Work, count_of_move, is_answer, is_move_to, is_of_round, move_count, moves_to}
 use Rattle.vk_stands.specs.Fit.{AreFit, may_wait}
 use Rattle.vk_stands.specs.Stands.{IsWorking, Stands}
 use Rattle.vk_stands.specs.Tables.{Tables}
@@ -43,14 +43,14 @@ use Rattle.vk_stands.proofs.MovesNoted.{worked}
 use Rattle.vk_stands.proofs.Received.{received}
 use Rattle.vk_move.specs.declared.mover.Acked.{Acked}
 use Rattle.vk_move.specs.declared.mover.Acked.TheVariants as acks
-use Rattle.vk_move.specs.Moved.{renoted, restarted, answered, round_by, round_from}
+use Rattle.vk_move.specs.Moved.{restarted, answered, round_by, round_from}
 use Rattle.vk_move.specs.Mover.{ack_moved, acked_by, acked_doing, acked_in, is_mover}
 use Rattle.vk_move.specs.Right.{IsRight}
 use Rattle.vk_move.proofs.Dues.{move_work, round_call}
 use Rattle.vk_move.proofs.Still.{IsToMover, noted_stands, quiet, right_packets, right_steps, work_here}
 
 -- some packet of a round is of it
-any_of : (to partner : Pid) (memory : List ℕ) (dest src count from n : ℕ) (m : MoveName) → 0 < n →
+pub any_of : (to partner : Pid) (memory : List ℕ) (dest src count from n : ℕ) (m : MoveName) → 0 < n →
     list_any (is_of_round to) (map (data_packet to partner memory dest src count m)
     (map (λ i. from + 1024 * i) (range_with_len 0 n))) ≡ true
 any_of to partner memory dest src count from zero m some = absurd (omega arith)
@@ -58,7 +58,7 @@ any_of to partner memory dest src count from (suc n) m some =
     ap (λ b. b || list_any (is_of_round to)
     (map (data_packet to partner memory dest src count m) (map (λ i. from + 1024 * i) (range_with_len 1 n)))) (same_pid_self to)
 
-some_pieces : (count from : ℕ) → from < count → 0 < (count - from + 1023) / 1024
+pub some_pieces : (count from : ℕ) → from < count → 0 < (count - from + 1023) / 1024
 some_pieces count from lt = omega arith
 
 restart_work : (now got : ℕ) (a : Bool) (w : Work) →
@@ -182,7 +182,8 @@ module _ (c : Settings) (host : ℕ) (r : Reading) (h : Header) (from to : Pid) 
         packets = rounds ∙ right_packets c host r h packet taken t stands to to_mover again out closes others;
         stands = noted_stands c host r h packet taken t stands to to_mover again out closes others fit own s found waiting state 1 got false
             (subst (λ x. IsWorking c.times (worked 1 (r.now + c.times.interval) got false s) x waiting)
-            (sym (work_here c host r h packet taken t stands to to_mover again out closes others (got == w.acknowledged) true answers_by sent
+            (sym (work_here c host r h packet taken t stands to to_mover again out closes others
+            (got == w.acknowledged) true answers_by sent
             ∙ restart_work r.now got (got == w.acknowledged) w))
             (record { tries = refl; deadline = refl; far = refl }))
             (restarted c.times r.now 1 got) refl;
@@ -198,7 +199,8 @@ module _ (c : Settings) (host : ℕ) (r : Reading) (h : Header) (from to : Pid) 
       answers_right as_many = record {
         steps = right_steps c host r h packet taken t stands to to_mover [] none (λ n. refl) (λ q other. refl);
         packets = right_packets c host r h packet taken t stands to to_mover [] none (λ n. refl) (λ q other. refl);
-        stands = noted_stands c host r h packet taken t stands to to_mover [] none (λ n. refl) (λ q other. refl) fit own s found waiting state
+        stands = noted_stands c host r h packet taken t stands to to_mover [] none (λ n. refl)
+            (λ q other. refl) fit own s found waiting state
             0 s.note.offset s.note.fresh
             (subst (λ x. IsWorking c.times (worked 0 (r.now + c.times.interval) s.note.offset s.note.fresh s) x waiting)
             (sym (work_here c host r h packet taken t stands to to_mover [] none (λ n. refl) (λ q other. refl) true false

@@ -7,7 +7,7 @@ use Rattle.std.proofs.lemmas.Bool.{and_parts, lt-ltb, both_ways}
 use Rattle.std.proofs.lemmas.Option.{same_Some, none-some}
 use Rattle.vk_base.specs.declared.activity.Activity.TheVariants as activities
 use Rattle.vk_base.specs.declared.activity.Waiting.{Waiting}
-use Rattle.vk_base.specs.declared.activity.Waiting.TheVariants as waitings
+use Rattle.vk_base.specs.declared.answer.Refusal.{Refusal}
 use Rattle.vk_base.specs.declared.answer.Refusal.TheVariants as refusals
 use Rattle.vk_base.specs.Firsts.{change_first}
 use Rattle.vk_base.specs.declared.config.Times.{Times}
@@ -24,10 +24,12 @@ use Rattle.vk_pool.specs.declared.alien.Alien.{Alien}
 use Rattle.vk_pool.specs.Aliens.{alien_at, alien_from, is_alien_from, moves_at}
 use Rattle.vk_procs.specs.declared.seat.Seat.{Seat}
 use Rattle.vk_procs.specs.Seats.{doing_now, is_seat, seat_in}
+use Rattle.vk_stands.proofs.Placed.{IsAt, alien_is_at}
 use Rattle.vk_stands.proofs.Seats.{find-changed}
 use Rattle.v_laws.proofs.Options.{mapped_is}
+use Rattle.vk_move.specs.declared.begun.Verdict.{Verdict}
 use Rattle.vk_move.specs.declared.begun.Verdict.TheVariants as verdicts
-use Rattle.vk_move.specs.Begun.{CanBegin, HasFewMoves, HasFitAliens, begun_note, grants_access, has_ranges, message_held, moves_of, next_name, size_of, verdict_by, verdict_in, verdict_on, waiting_seats}
+use Rattle.vk_move.specs.Begun.{CanBegin, HasFewMoves, HasFitAliens, begun_note, grants_access, has_ranges, message_held, moves_of, next_name, own_of, size_of, theirs_of, verdict_by, verdict_in, verdict_on, waiting_in, waiting_seats}
 use Rattle.vk_move.specs.Moved.{CanGoOn, going, renoted}
 use Rattle.vk_move.proofs.Pieces.{is_at}
 
@@ -65,7 +67,7 @@ number_by slots fit few partner slot m (Some a) at is =
           ∙ both_true (lt-ltb 0 (moves_at slots slot + 1) some) (lt-ltb (moves_at slots slot + 1) (2 ^ 63) high);
     }
 
-numbers_at : (slots : List (Option Alien)) (fit : HasFitAliens slots) (few : HasFewMoves slots) (partner : Pid) (m : MoveName)
+pub numbers_at : (slots : List (Option Alien)) (fit : HasFitAliens slots) (few : HasFewMoves slots) (partner : Pid) (m : MoveName)
     (o : Option ℕ) →
     next_name slots partner o ≡ Some m → HasNumbers m
 numbers_at slots fit few partner m None is = absurd (none-some m is)
@@ -118,21 +120,80 @@ begins_by way size theirs own count o is = with_test (ltb 65536 count) o refl is
 size_is : (seats : List Seat) (pid : Pid) (s : Seat) → seat_in seats pid ≡ Some s → size_of (seat_in seats pid) ≡ length s.memory
 size_is seats pid s found = ap size_of found
 
-module _ (seats : List Seat) (slots : List (Option Alien)) (fit : HasFitAliens slots) (few : HasFewMoves slots) (pid partner : Pid)
-    (dest src count : ℕ) where
-  pub begins_to : verdict_in seats slots pid partner directions.To dest src count ≡ verdicts.Begins →
-      CanBegin seats slots pid partner (waitings.MoveTo partner dest src count)
-  begins_to is s m found next =
-      let b = begins_by directions.To (size_of (seat_in seats pid)) dest src count (message_held pid (alien_from slots partner)) is in
-      let n = numbers_at slots fit few partner m (position (is_alien_from partner) slots) next in
-      both_true (both_true (both_true n.send n.move) b.place) (ap (lies_in (range_of src count)) (sym (size_is seats pid s found)) ∙ b.lies)
+-- a move that is not refused: of a message that is held, so of an alien; and it has no bytes where it is made at once
+never_without : (long : Bool) (v : Verdict) → cond long (verdicts.Refused refusals.TooLong) (verdicts.Refused refusals.NotAwaiting) ≡ v →
+    (why : Refusal) × (v ≡ verdicts.Refused why)
+never_without true v is = (refusals.TooLong, sym is)
+never_without false v is = (refusals.NotAwaiting, sym is)
 
-  pub begins_from : verdict_in seats slots pid partner directions.From src dest count ≡ verdicts.Begins →
-      CanBegin seats slots pid partner (waitings.MoveFrom partner dest src count)
-  begins_from is s m found next =
-      let b = begins_by directions.From (size_of (seat_in seats pid)) src dest count (message_held pid (alien_from slots partner)) is in
-      let n = numbers_at slots fit few partner m (position (is_alien_from partner) slots) next in
-      both_true (both_true n.send n.move) b.place
+held_alien : (pid : Pid) (o : Option Alien) (m : Message) → message_held pid o ≡ Some m → (a : Alien) × (o ≡ Some a)
+held_alien pid None m is = absurd (none-some m is)
+held_alien pid (Some a) m is = (a, refl)
+
+begins_some : (way : Direction) (size theirs own count : ℕ) (o : Option Message) →
+    verdict_by way size theirs own count o ≡ verdicts.Begins → (m : Message) × (o ≡ Some m)
+begins_some way size theirs own count None is = let never = never_without (ltb 65536 count) verdicts.Begins is in absurd
+    (never_refused never.0 never.1)
+  where
+    never_refused : (why : Refusal) → verdicts.Begins ≡ verdicts.Refused why → ⊥
+    never_refused why is = cc
+begins_some way size theirs own count (Some m) is = (m, refl)
+
+pub begins_held : (seats : List Seat) (slots : List (Option Alien)) (pid partner : Pid) (way : Direction) (dest src count : ℕ) →
+    verdict_in seats slots pid partner way dest src count ≡ verdicts.Begins → (a : Alien) × IsAt slots partner a
+begins_held seats slots pid partner way dest src count is =
+    let m = begins_some way (size_of (seat_in seats pid)) (theirs_of way dest src) (own_of way dest src) count
+    (message_held pid (alien_from slots partner)) is in
+    let a = held_alien pid (alien_from slots partner) m.0 m.1 in
+    (a.0, alien_is_at slots partner a.0 a.1)
+
+empty_by : (long lets ranges empty : Bool) → cond long (verdicts.Refused refusals.TooLong)
+    (cond (not lets) (verdicts.Refused refusals.NoAccess)
+    (cond (not ranges) (verdicts.Refused refusals.BadRange) (cond empty verdicts.Made verdicts.Begins))) ≡ verdicts.Made → empty ≡ true
+empty_by true lets ranges empty is = cc
+empty_by false false ranges empty is = cc
+empty_by false true false empty is = cc
+empty_by false true true true is = refl
+empty_by false true true false is = cc
+
+made_by : (way : Direction) (size theirs own count : ℕ) (o : Option Message) → verdict_by way size theirs own count o ≡ verdicts.Made →
+    (count == 0) ≡ true
+made_by way size theirs own count None is = let never = never_without (ltb 65536 count) verdicts.Made is in absurd
+    (never_refused never.0 never.1)
+  where
+    never_refused : (why : Refusal) → verdicts.Made ≡ verdicts.Refused why → ⊥
+    never_refused why is = cc
+made_by way size theirs own count (Some m) is =
+    empty_by (ltb 65536 count) (grants_access way m) (has_ranges m size theirs own count) (count == 0) is
+
+pub made_empty : (seats : List Seat) (slots : List (Option Alien)) (pid partner : Pid) (way : Direction) (dest src count : ℕ) →
+    verdict_in seats slots pid partner way dest src count ≡ verdicts.Made → (count == 0) ≡ true
+made_empty seats slots pid partner way dest src count is =
+    made_by way (size_of (seat_in seats pid)) (theirs_of way dest src) (own_of way dest src) count
+    (message_held pid (alien_from slots partner)) is
+
+-- a round that goes out first
+first_goes : (way : Direction) (size : ℕ) (m : MoveName) (partner : Pid) (dest src count : ℕ) → HasNumbers m → is_place count 0 ≡ true →
+    lies_in (range_of (own_of way dest src) count) size ≡ true →
+    going size 0 (Some m) (activities.Blocked (waiting_in way partner dest src count)) ≡ true
+first_goes directions.To size m partner dest src count n place lies = both_true (both_true (both_true n.send n.move) place) lies
+first_goes directions.From size m partner dest src count n place lies = both_true (both_true n.send n.move) place
+
+pub may_begin : (seats : List Seat) (slots : List (Option Alien)) (pid partner : Pid) (way : Direction) (dest src count : ℕ) →
+    verdict_in seats slots pid partner way dest src count ≡ verdicts.Begins →
+    MayBegin (size_of (seat_in seats pid)) (own_of way dest src) count
+may_begin seats slots pid partner way dest src count is =
+    begins_by way (size_of (seat_in seats pid)) (theirs_of way dest src) (own_of way dest src) count
+    (message_held pid (alien_from slots partner)) is
+
+pub begins : (seats : List Seat) (slots : List (Option Alien)) → HasFitAliens slots → HasFewMoves slots → (pid partner : Pid)
+    (way : Direction) (dest src count : ℕ) → verdict_in seats slots pid partner way dest src count ≡ verdicts.Begins →
+    CanBegin seats slots pid partner (waiting_in way partner dest src count)
+begins seats slots fit few pid partner way dest src count is s m found next =
+    let b = may_begin seats slots pid partner way dest src count is in
+    first_goes way (length s.memory) m partner dest src count
+    (numbers_at slots fit few partner m (position (is_alien_from partner) slots) next) b.place
+    (ap (lies_in (range_of (own_of way dest src) count)) (sym (size_is seats pid s found)) ∙ b.lies)
 
 -- the process that waits in it
 pub begun_goes : (seats : List Seat) (slots : List (Option Alien)) (pid partner : Pid) (w : Waiting) (m : MoveName) (t : Times) (now : ℕ) →

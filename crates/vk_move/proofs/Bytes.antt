@@ -30,9 +30,9 @@ use Rattle.vk_rules.specs.PacketOutcomes.{bytes_outcome, copies_bytes, running_f
 unfoldable use Rattle.vk_rules.specs.PacketOutcomes.{packet_outcome}
 use Rattle.vk_rules.specs.Readings.{Reading}
 use Rattle.vk_rules.specs.Right.{answer_to}
-use Rattle.vk_rules.specs.Rounds.{Outcome, list_if, nothing, only_packets, only_steps, round_of, round_of_call}
+use Rattle.vk_rules.specs.Rounds.{list_if, nothing, only_packets, only_steps, round_of, round_of_call}
 unfoldable use Rattle.vk_rules.specs.Rounds.{round}
-use Rattle.vk_rules.specs.Works.{Work, is_answer, is_last, is_move_from, is_of_round, is_progress, moves_from, shows_gap}
+use Rattle.vk_rules.specs.Works.{Work, is_answer, is_last, is_move_from, is_of_round, is_progress, moves_from}
 use Rattle.vk_stands.specs.Fit.{AreFit, may_wait}
 use Rattle.vk_stands.specs.Stands.{IsWorking, Stands}
 use Rattle.vk_stands.specs.Tables.{Tables}

@@ -1,5 +1,5 @@
 -- Data of a move comes to its sender's station, by the tables and by the rules.
-use Rattle.std.proofs.Common.{◌≡◌, ◌≤◌, ◌<◌, ℕ, ◌+◌, ◌==◌, ◌&&◌, Bool, true, false, cond, List, [], ◌∷◌, ◌++◌, fold, length, refl, sym, ap, subst, ◌∙◌, Option, Some, None, ltb, leb, arith}
+use Rattle.std.proofs.Common.{◌≡◌, ◌≤◌, ◌<◌, ℕ, ◌+◌, ◌==◌, ◌&&◌, Bool, true, false, cond, List, [], ◌∷◌, ◌++◌, length, refl, sym, ap, subst, ◌∙◌, Option, Some, None, ltb, leb, arith}
 use Rattle.std.specs.List.{list_all, list_any, filter_map}
 use Rattle.std.specs.Option.{option_map_or}
 use Rattle.std.proofs.lemmas.Bool.{and_parts, eqb-true, leb-true, le-leb, leb-false, ltb-true, ltb-false}
@@ -15,7 +15,7 @@ use Rattle.vk_base.specs.declared.message.Message.{Message}
 use Rattle.vk_base.specs.declared.pid.Pid.{Pid}
 use Rattle.vk_base.specs.declared.step.Step.{Step}
 use Rattle.vk_base.specs.declared.step.Step.TheVariants as steps
-use Rattle.vk_base.specs.Brought.{brought, move_to_sender, put_move, with_data}
+use Rattle.vk_base.specs.Brought.{brought, move_to_sender, with_data}
 use Rattle.vk_base.specs.Firsts.{change_first}
 use Rattle.vk_base.specs.Kernel.{Kernel, holds_of, move_of, name_of, sending, with_memory}
 use Rattle.vk_base.specs.Messages.{grants_write, segment_of}
@@ -30,7 +30,7 @@ use Rattle.vk_procs.specs.Seats.{is_seat, process_of, seat_in, written}
 use Rattle.vk_rules.specs.Aliens.{as_arrival, is_closing}
 use Rattle.vk_rules.specs.Entries.{Delivered}
 use Rattle.vk_rules.specs.Frames.{Framed}
-use Rattle.vk_rules.specs.PacketOutcomes.{FarSender, copies_bytes, data_outcome, far_sender, has_made, may_be_written, no_sender}
+use Rattle.vk_rules.specs.PacketOutcomes.{FarSender, data_outcome, far_sender, has_made, may_be_written, no_sender}
 unfoldable use Rattle.vk_rules.specs.PacketOutcomes.{packet_outcome}
 use Rattle.vk_rules.specs.Readings.{Reading}
 use Rattle.vk_rules.specs.Right.{answer_to}
@@ -49,13 +49,12 @@ use Rattle.vk_stands.proofs.Received.{received}
 use Rattle.vk_stands.proofs.SentMoves.{HasMoreMoves, with_send}
 use Rattle.vk_stands.proofs.SentStands.{IsCalm, IsPlain, sends_are, stands_moved, stands_quiet, steps_are}
 use Rattle.vk_stands.proofs.SentSteps.{change_is, copies, moved_there, opened, opens}
-use Rattle.vk_move.specs.declared.sender.Piece.{Piece}
 use Rattle.vk_move.specs.declared.sender.Piece.TheVariants as pieces
 use Rattle.vk_move.specs.declared.sender.Sender.{Sender}
 use Rattle.vk_move.specs.declared.sender.Sender.TheVariants as senders
 use Rattle.vk_move.specs.Moved.{Moved, change_note, place_in, progressed, still}
 use Rattle.vk_move.specs.Right.{IsMoveRule, IsRight}
-use Rattle.vk_move.specs.Sender.{data_moved, data_taken, data_wanted, gone, may_write, sender_by}
+use Rattle.vk_move.specs.Sender.{data_moved, data_taken, data_wanted, may_write, sender_by}
 use Rattle.vk_move.proofs.Keeping.{IsPiece, piece_of}
 use Rattle.vk_move.proofs.Pieces.{place_is}
 use Rattle.vk_move.proofs.Senders.{Decided, IsWaiter, decided}
@@ -242,7 +241,8 @@ module _ (c : Settings) (host : ℕ) (r : Reading) (h : Header) (from to : Pid) 
 
     copied_view : (x : Exchange) → x.opened ≡ moving → x.done ≡ offset → move_of x moving ≡ Some mv →
         stepped (with_send r.view name x) copy ≡ with_send k1 name (record x { done = x.done + length bytes })
-    copied_view x is_open so_far at = copies r.view to number moving p process_here (from, m) sends w.last from dest total offset bytes any within x
+    copied_view x is_open so_far at = copies r.view to number moving p process_here
+        (from, m) sends w.last from dest total offset bytes any within x
         is_open so_far at
 
     lies : may_write m dest total ≡ true → lies_in (range_of (dest + offset) (length bytes)) (length w.seat.memory) ≡ true
@@ -259,7 +259,8 @@ module _ (c : Settings) (host : ℕ) (r : Reading) (h : Header) (from to : Pid) 
     out_waits = out_by (Some (record { process = p; message = m; exchange = e })) w.far
 
     abbrev out_at : (now so_far : ℕ) → Outcome
-    out_at now so_far = by_tests (ltb now moving) (leb now moving) (offset == cond (ltb now moving) 0 so_far) (cond (ltb now moving) 0 so_far)
+    out_at now so_far = by_tests (ltb now moving) (leb now moving) (offset == cond (ltb now moving) 0 so_far) (cond
+        (ltb now moving) 0 so_far)
 
     out_granted : may_write m dest total ≡ true → packet_outcome host r packet ≡ out_at current done
     out_granted granted = out_waits ∙ ap (λ b. cond b (data_outcome name from moving total offset bytes e) nothing) granted
@@ -271,7 +272,8 @@ module _ (c : Settings) (host : ℕ) (r : Reading) (h : Header) (from to : Pid) 
         Carries 1 t (record t { seats = (moved_by later next before).seats }) →
         Stands c.times host (record t { seats = (moved_by later next before).seats }) after
     moved_stands later next before out part carries =
-        stands_moved c host r h packet taken to plain (by_tests later true next before) out (calm_by later next before) t stands w.seat w.found
+        stands_moved c host r h packet taken to plain (by_tests later true next before) out
+        (calm_by later next before) t stands w.seat w.found
         from m w.state (record t { seats = (moved_by later next before).seats }) part carries refl
 
     acked_same : (next : Bool) (before : ℕ) → (next ≡ true → offset ≡ before) →
@@ -280,7 +282,8 @@ module _ (c : Settings) (host : ℕ) (r : Reading) (h : Header) (from to : Pid) 
     acked_same false before is = ap acked (sym (plus_zero before))
 
     -- by what is next
-    right_by : (later next : Bool) (before : ℕ) → may_write m dest total ≡ true → packet_outcome host r packet ≡ by_tests later true next before →
+    right_by : (later next : Bool) (before : ℕ) → may_write m dest total ≡ true →
+        packet_outcome host r packet ≡ by_tests later true next before →
         (next ≡ true → offset ≡ before) → ltb current moving ≡ later → leb current moving ≡ true → before ≡ cond later 0 done →
         Right (moved_by later next before)
     right_by false false before granted out is later far so_far =
@@ -288,11 +291,13 @@ module _ (c : Settings) (host : ℕ) (r : Reading) (h : Header) (from to : Pid) 
         let seats : change_note to (progressed moving before) t.seats ≡ t.seats =
         ap (λ d. change_note to (progressed moving d) t.seats) so_far
         ∙ still_noted c.times host t r stands fit from to own away number moving m current done w same in
-        right (by_tests false true false before) out (calm_by false false before) (moved_by false false before) refl (acked_same false before is)
+        right (by_tests false true false before) out (calm_by false false before) (moved_by false false before) refl
+        (acked_same false before is)
         (subst (λ xs. Stands c.times host (record t { seats = xs }) after) (sym seats)
         (stands_quiet c host r h packet taken to plain (by_tests false true false before) out (calm_by false false before) t stands refl))
     right_by true false before granted out is later far so_far =
-        right (by_tests true true false before) out (calm_by true false before) (moved_by true false before) refl (acked_same false before is)
+        right (by_tests true true false before) out (calm_by true false before) (moved_by true false before) refl
+        (acked_same false before is)
         (moved_stands true false before out
         (subst (Part host (record t { seats = (moved_by true false before).seats })) (sym (opened_view later))
         (part_noted c.times host t r stands fit from to own away number moving m current done w e1 before more1 refl (sym so_far)
@@ -302,7 +307,8 @@ module _ (c : Settings) (host : ℕ) (r : Reading) (h : Header) (from to : Pid) 
         let same : current ≡ moving = omega (arith, ltb-false current moving later, leb-true current moving far) in
         let start : e.done ≡ offset = w.so_far ∙ sym so_far ∙ sym (is refl) in
         let y : Exchange = record e0 { done = e0.done + length bytes } in
-        right (by_tests false true true before) out (calm_by false true before) (moved_by false true before) refl (acked_same true before is)
+        right (by_tests false true true before) out (calm_by false true before) (moved_by false true before) refl
+        (acked_same true before is)
         (moved_stands false true before out
         (subst (Part host (record t { seats = (moved_by false true before).seats }))
         (sym (ap (λ k. stepped k copy) brought_is ∙ copied_view e0 (w.open_is ∙ same) start at0))
@@ -338,7 +344,8 @@ module _ (c : Settings) (host : ℕ) (r : Reading) (h : Header) (from to : Pid) 
     right_tests true false true granted reached higher =
         absurd (omega (arith, ltb-true current moving higher, leb-false current moving reached))
     right_tests true false false granted reached higher =
-        nothing_out (out_granted granted ∙ (λ i. by_tests (higher i) (reached i) (offset == cond (higher i) 0 done) (cond (higher i) 0 done)))
+        nothing_out (out_granted granted ∙ (λ i. by_tests (higher i) (reached i) (offset == cond (higher i) 0 done) (cond
+        (higher i) 0 done)))
     right_tests true true later granted reached higher =
         right_by later (offset == cond later 0 done) (cond later 0 done) granted
         (out_granted granted ∙ (λ i. by_tests (higher i) (reached i) (offset == cond (higher i) 0 done) (cond (higher i) 0 done)))

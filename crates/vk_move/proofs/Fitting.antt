@@ -44,12 +44,14 @@ fit_finished host o s f = record {
   part = λ target m is. absurd (never_blocked s.doing o (waitings.Send target m) is);
   few = f.few;
   begun = λ target m is. absurd (never_blocked s.doing o (waitings.Send target m) is);
+  asked = λ logical scope is. absurd (never_blocked s.doing o (waitings.GetPid logical scope) is);
 }
 
--- a note that changes nothing of Sends, where what goes on may
-pub fit_noted : (host : ℕ) (g : ProcNote → ProcNote) (s : Seat) → (g s.note).sends ≡ s.note.sends → (g s.note).done ≤ 65536 →
+-- a note that changes no number of Sends and lookups, where what goes on may
+pub fit_noted : (host : ℕ) (g : ProcNote → ProcNote) (s : Seat) → (g s.note).sends ≡ s.note.sends →
+    (g s.note).lookups ≡ s.note.lookups → (g s.note).done ≤ 65536 →
     ((w : Waiting) → s.doing ≡ activities.Blocked w → may_go_on (g s.note) w ≡ true) → IsFitSeat host s → IsFitSeat host (renoted g s)
-fit_noted host g s sends low goes f = record {
+fit_noted host g s sends lookups low goes f = record {
   own = f.own;
   waits = f.waits;
   moves = goes;
@@ -57,6 +59,7 @@ fit_noted host g s sends low goes f = record {
   part = f.part;
   few = f.few;
   begun = λ target m is. subst (λ n. 0 < n) (sym sends) (f.begun target m is);
+  asked = λ logical scope is. subst (λ n. 0 < n) (sym lookups) (f.asked logical scope is);
 }
 
 -- bytes written change no size
@@ -77,6 +80,7 @@ fit_written host at bytes s f = record {
   part = f.part;
   few = f.few;
   begun = f.begun;
+  asked = f.asked;
 }
 
 -- Over whole tables.
@@ -107,7 +111,7 @@ same_goes t now n w = refl
 
 pub kept_answered : (seats : List Seat) (pid : Pid) (t : Times) (now : ℕ) → KeepsFit seats (change_note pid (answered t now) seats)
 kept_answered seats pid t now = kept_change seats pid (renoted (answered t now)) (λ x. refl)
-    (λ host s found f. fit_noted host (answered t now) s refl f.done (λ w is. same_goes t now s.note w ∙ f.moves w is) f)
+    (λ host s found f. fit_noted host (answered t now) s refl refl f.done (λ w is. same_goes t now s.note w ∙ f.moves w is) f)
 
 -- a move that goes on from an offset where it may
 place_by : (size from count : ℕ) (m : Option MoveName) (partner : Pid) (dest src : ℕ) → holds_of (is_move_of partner) m ≡ true →
@@ -143,7 +147,7 @@ at_offset t now tries from n w = refl
 pub kept_restarted : (seats : List Seat) (pid : Pid) (t : Times) (now tries from : ℕ) → CanGoOn seats pid from →
     KeepsFit seats (change_note pid (restarted t now tries from) seats)
 kept_restarted seats pid t now tries from goes = kept_change seats pid (renoted (restarted t now tries from)) (λ x. refl)
-    (λ host s found f. fit_noted host (restarted t now tries from) s refl f.done
+    (λ host s found f. fit_noted host (restarted t now tries from) s refl refl f.done
     (λ w is. at_offset t now tries from s.note w
     ∙ goes_at (length s.memory) from s.note w (f.moves w is) (ap (going (length s.memory) from s.note.moving) (sym is) ∙ goes s found)) f)
 
@@ -153,7 +157,7 @@ same_progress moving done n w = refl
 pub kept_progressed : (seats : List Seat) (pid : Pid) (moving done : ℕ) → done ≤ 65536 →
     KeepsFit seats (change_note pid (progressed moving done) seats)
 kept_progressed seats pid moving done low = kept_change seats pid (renoted (progressed moving done)) (λ x. refl)
-    (λ host s found f. fit_noted host (progressed moving done) s refl low (λ w is. same_progress moving done s.note w ∙ f.moves w is) f)
+    (λ host s found f. fit_noted host (progressed moving done) s refl refl low (λ w is. same_progress moving done s.note w ∙ f.moves w is) f)
 
 pub kept_written : (seats : List Seat) (pid : Pid) (at : ℕ) (bytes : List ℕ) →
     KeepsFit seats (change_first (is_seat pid) (written at bytes) seats)

@@ -128,7 +128,7 @@ module _ (t : Times) (now : ℕ) (seats : List Seat) (fit : HasFitSeats seats) (
       let x = mapped_is (written at bytes) (seat_in seats to) y (sym (find-changed to (written at bytes) (λ z. refl) seats) ∙ found) in
       let note : x.0.note ≡ y.note = ap (λ (z : Seat). z.note) x.2 in
       let doing : x.0.doing ≡ y.doing = ap (λ (z : Seat). z.doing) x.2 in
-      fit_noted host (received t now (offset + length bytes)) y refl f.done
+      fit_noted host (received t now (offset + length bytes)) y refl refl f.done
       (λ w blocked.
       same_received (offset + length bytes) y.note w
       ∙ goes_further y.note w (is_mover (name_of from number) moving x.0) total offset dest (offset + length bytes) bytes p refl
@@ -206,7 +206,8 @@ packet_keeps t now (MoveData from to number moving dest total offset bytes) seat
     data_keeps t now seats fit from to number moving dest total offset bytes
     (piece_of total offset bytes (list_all is_number (numbers_of (MoveData from to number moving dest total offset bytes))) lawful)
 packet_keeps t now (MoveAck from to number moving got) seats fit lawful = ack_keeps t now seats fit from to number moving got
-packet_keeps t now (MoveRequest from to number moving src total offset) seats fit lawful = request_keeps t now seats fit from to number moving src total offset
+packet_keeps t now (MoveRequest from to number moving src total offset) seats fit lawful = request_keeps t now seats fit from to number
+    moving src total offset
 packet_keeps t now (MoveBytes from to number moving total offset bytes) seats fit lawful =
     bytes_keep t now seats fit from to number moving total offset bytes
     (piece_of total offset bytes (list_all is_number (numbers_of (MoveBytes from to number moving total offset bytes))) lawful)

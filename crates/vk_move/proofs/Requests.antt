@@ -1,32 +1,27 @@
 -- A request for bytes of a move comes to its sender's station, by the tables and by the rules.
-use Rattle.std.proofs.Common.{◌≡◌, ◌≤◌, ◌<◌, ℕ, ◌+◌, ◌==◌, ◌&&◌, ◌||◌, Bool, true, false, cond, List, [], ◌∷◌, ◌++◌, map, refl, sym, ap, subst, ◌∙◌, Option, Some, None, ltb, leb, arith}
+use Rattle.std.proofs.Common.{◌≡◌, ◌<◌, ℕ, ◌&&◌, ◌||◌, Bool, true, false, cond, List, [], ◌∷◌, map, refl, sym, ap, subst, ◌∙◌, Option, Some, None, ltb, leb, arith}
 use Rattle.std.specs.List.{list_all, list_any, filter_map}
 use Rattle.std.specs.Option.{option_map_or}
-use Rattle.std.proofs.lemmas.Bool.{and_parts, eqb-true, leb-true, le-leb, leb-false, ltb-true, ltb-false}
-use Rattle.vk_base.specs.declared.activity.Waiting.TheVariants as waitings
+use Rattle.std.proofs.lemmas.Bool.{and_parts, leb-true, leb-false, ltb-true, ltb-false}
 use Rattle.vk_base.specs.declared.config.Times.{Times}
 use Rattle.vk_base.specs.declared.event.EventAnswer.TheVariants as events_answered
 use Rattle.vk_base.specs.declared.kernel.Exchange.{Exchange}
 use Rattle.vk_base.specs.declared.kernel.Move.{Move}
 use Rattle.vk_base.specs.declared.kernel.Name.{Name}
 use Rattle.vk_base.specs.declared.kernel.Process.{Process}
-use Rattle.vk_base.specs.declared.limits.TheConstants.{MOVE_BYTES}
 use Rattle.vk_base.specs.declared.message.Message.{Message}
 use Rattle.vk_base.specs.declared.pid.Pid.{Pid}
 use Rattle.vk_base.specs.declared.step.Step.{Step}
 use Rattle.vk_base.specs.declared.step.Step.TheVariants as steps
 use Rattle.vk_base.specs.Brought.{brought, move_from_sender, put_move, with_data, with_request}
-use Rattle.vk_base.specs.Firsts.{change_first}
-use Rattle.vk_base.specs.Kernel.{Kernel, holds_of, move_of, name_of, sending, with_memory}
-use Rattle.vk_base.specs.Messages.{grants_write, segment_of}
-use Rattle.vk_base.specs.Packets.{Packet, MoveBytes, MoveNegative, MoveRequest}
-use Rattle.vk_base.specs.Ranges.{lies_in, lies_within, range_of, with_bytes}
+use Rattle.vk_base.specs.Kernel.{move_of, name_of, sending}
+use Rattle.vk_base.specs.Packets.{Packet, MoveNegative, MoveRequest}
 use Rattle.vk_base.specs.Settings.{Settings}
 use Rattle.vk_base.specs.Steps.{first_of, next as stepped}
 use Rattle.vk_frame.specs.declared.header.Header.{Header}
-use Rattle.vk_packet.specs.Rules.{is_number, is_place, piece_len}
+use Rattle.vk_packet.specs.Rules.{is_number, is_place}
 use Rattle.vk_procs.specs.declared.seat.Seat.{Seat}
-use Rattle.vk_procs.specs.Seats.{is_seat, process_of, seat_in, written}
+use Rattle.vk_procs.specs.Seats.{process_of, seat_in}
 use Rattle.vk_rules.specs.Aliens.{as_arrival, is_closing}
 use Rattle.vk_rules.specs.Entries.{Delivered}
 use Rattle.vk_rules.specs.Frames.{Framed}
@@ -35,25 +30,22 @@ unfoldable use Rattle.vk_rules.specs.PacketOutcomes.{packet_outcome}
 use Rattle.vk_rules.specs.Readings.{Reading}
 use Rattle.vk_rules.specs.Right.{answer_to}
 use Rattle.vk_rules.specs.Rounds.{Outcome, list_if, nothing, offsets, only_packets}
-use Rattle.vk_rules.specs.View.{after_steps}
 use Rattle.vk_rules.specs.Works.{is_answer, is_of_round}
 use Rattle.vk_stands.specs.Fit.{AreFit}
 use Rattle.vk_stands.specs.Stands.{Stands}
 use Rattle.vk_stands.specs.Tables.{Tables}
 use Rattle.vk_stands.proofs.After.{entry_for, reading_for}
-use Rattle.vk_stands.proofs.Found.{seat_found}
 use Rattle.vk_stands.proofs.MovesAllowed.{put_own}
 use Rattle.vk_stands.proofs.MovesOwn.{moved_long}
-use Rattle.vk_stands.proofs.Parts.{Carries, Part}
+use Rattle.vk_stands.proofs.Parts.{Part}
 use Rattle.vk_stands.proofs.Received.{received}
 use Rattle.vk_stands.proofs.SentMoves.{HasMoreMoves, with_send}
 use Rattle.vk_stands.proofs.SentStands.{IsCalm, IsPlain, sends_are, stands_moved, stands_quiet, steps_are}
 use Rattle.vk_stands.proofs.SentSteps.{change_is, opened, opens}
-use Rattle.vk_move.specs.declared.sender.Piece.{Piece}
 use Rattle.vk_move.specs.declared.sender.Piece.TheVariants as pieces
 use Rattle.vk_move.specs.declared.sender.Sender.{Sender}
 use Rattle.vk_move.specs.declared.sender.Sender.TheVariants as senders
-use Rattle.vk_move.specs.Moved.{Moved, change_note, place_in, progressed, still}
+use Rattle.vk_move.specs.Moved.{Moved, change_note, progressed, still}
 use Rattle.vk_move.specs.Right.{IsMoveRule, IsRight}
 use Rattle.vk_move.specs.Sender.{bytes_of, bytes_wanted, may_read, request_moved, request_taken, sender_by}
 use Rattle.vk_move.proofs.Data.{never, some_number}
@@ -218,7 +210,8 @@ module _ (c : Settings) (host : ℕ) (r : Reading) (h : Header) (from to : Pid) 
           (part_noted c.times host t r stands fit from to own away number moving m current done w e1 0 more1 refl refl (omega arith)))
           (carries_noted c.times host t r stands fit from to own away number moving m current done w 0) refl)
 
-    right_by : (later : Bool) → packet_outcome host r packet ≡ by_tests later true → ltb current moving ≡ later → leb current moving ≡ true →
+    right_by : (later : Bool) → packet_outcome host r packet ≡ by_tests later true → ltb current moving ≡ later →
+        leb current moving ≡ true →
         Right (moved_by later (cond later 0 done))
     right_by true out higher reached = opens_right higher out
     right_by false out higher reached =

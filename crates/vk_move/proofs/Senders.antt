@@ -134,7 +134,8 @@ module _ (times : Times) (host : ℕ) (t : Tables) (r : Reading) (h : Stands tim
         over (awaits_by (activities.Blocked (waitings.MoveTo partner dest src count)) is)
     by_doing (activities.Blocked (waitings.MoveFrom partner dest src count)) is =
         over (awaits_by (activities.Blocked (waitings.MoveFrom partner dest src count)) is)
-    by_doing (activities.Blocked (waitings.GetPid logical scope)) is = over (awaits_by (activities.Blocked (waitings.GetPid logical scope)) is)
+    by_doing (activities.Blocked (waitings.GetPid logical scope)) is = over (awaits_by (activities.Blocked
+        (waitings.GetPid logical scope)) is)
 
   by_seat : (o : Option Seat) → seat_in t.seats to ≡ o → Decided t r from to number (sender_by to from number o)
   by_seat None none = nobody none

@@ -1,11 +1,9 @@
 -- A process that waits in its Send to the mover: what becomes of the relation when one of the Send's moves is opened, or its next bytes
 -- are written.
-use Rattle.std.proofs.Common.{◌≡◌, ◌≤◌, ℕ, ◌+◌, ◌-◌, ◌==◌, Bool, true, false, List, length, refl, sym, ap, subst, ◌∙◌, Option, Some, None, ltb, leb, arith}
-use Rattle.std.specs.List.{slice_set}
+use Rattle.std.proofs.Common.{◌≡◌, ◌≤◌, ℕ, ◌-◌, true, List, length, refl, sym, ap, subst, ◌∙◌, Some, arith}
 use Rattle.std.specs.Option.{option_map}
 use Rattle.std.proofs.lemmas.Bool.{eqb-true}
 use Rattle.std.proofs.lemmas.List.{length-set}
-use Rattle.vk_base.specs.declared.activity.Activity.TheVariants as activities
 use Rattle.vk_base.specs.declared.activity.Waiting.{Waiting}
 use Rattle.vk_base.specs.declared.activity.Waiting.TheVariants as waitings
 use Rattle.vk_base.specs.declared.config.Times.{Times}
@@ -124,7 +122,8 @@ module _ (times : Times) (host : ℕ) (t : Tables) (r : Reading) (h : Stands tim
         (subst (λ z. Part host (seated (seated t to (written at bytes)) to (moved_on moving z)) (with_send k (seat_name s) y)) so_far
         (subst (λ z. Part host (seated (seated t to (written at bytes)) to (moved_on z y.done)) (with_send k (seat_name s) y)) opens
         (part_moved_on host (seated t to (written at bytes)) k
-        (part_written host t r.view part to own s w.found waiting w.state at bytes lies) to own (written at bytes s) found from m w.state away e
+        (part_written host t r.view part to own s w.found waiting w.state at bytes lies) to own
+        (written at bytes s) found from m w.state away e
         (sym (ap r.view.exchanges named) ∙ w.is) y more (subst (λ z. z ≤ MOVE_BYTES) (sym so_far) low))))
 
     pub carries_copied : (d : ℕ) → Carries 1 t (with_written d)

@@ -17,18 +17,23 @@ use Rattle.vk_base.specs.declared.kernel.MoveName.{MoveName}
 use Rattle.vk_base.specs.declared.limits.TheConstants.{MOVE_BYTES}
 use Rattle.vk_base.specs.declared.message.Message.{Message}
 use Rattle.vk_base.specs.declared.pid.Pid.{Pid}
+use Rattle.vk_base.specs.declared.step.Step.{Step}
 use Rattle.vk_base.specs.Firsts.{change_first}
 use Rattle.vk_base.specs.Kernel.{name_of}
 use Rattle.vk_base.specs.Packets.{Packet}
 use Rattle.vk_base.specs.Messages.{grants_read, grants_write, segment_of}
+use Rattle.vk_base.specs.Pids.{same_host}
 use Rattle.vk_base.specs.Ranges.{range_of, lies_in, lies_within}
+use Rattle.vk_packet.specs.Posts.{Posts}
 use Rattle.vk_pool.specs.declared.alien.Alien.{Alien}
 use Rattle.vk_pool.specs.Aliens.{alien_at, alien_from, changed_at, is_alien_from, moves_at, with_moves}
 use Rattle.vk_procs.specs.declared.seat.ProcNote.{ProcNote}
 use Rattle.vk_procs.specs.declared.seat.Seat.{Seat}
 use Rattle.vk_procs.specs.Seats.{doing_now, is_seat, seat_in}
-use Rattle.vk_stands.specs.Fit.{IsFitAlien}
+use Rattle.vk_stands.specs.Fit.{AreFit, IsFitAlien}
 use Rattle.vk_stands.specs.Held.{Holding, alien_holding}
+use Rattle.vk_stands.specs.Rules.{Doing, IsCallRule, given_by}
+use Rattle.vk_stands.specs.Tables.{Tables}
 use Rattle.vk_move.specs.declared.begun.Verdict.{Verdict}
 use Rattle.vk_move.specs.declared.begun.Verdict.TheVariants as verdicts
 use Rattle.vk_move.specs.Moved.{change_note, going, round_from}
@@ -109,7 +114,8 @@ pub record Begun : Type 0 where
 abbrev pub begun_by : Times → ℕ → Pid → Waiting → Option ℕ → Pid → Verdict → List Seat → List (Option Alien) → Begun
 begun_by t now pid w slot partner (verdicts.Refused why) seats slots =
     record { answer = Some (outcomes.Refused why); seats = seats; slots = slots; packets = [] }
-begun_by t now pid w slot partner verdicts.Made seats slots = record { answer = Some outcomes.Ok; seats = seats; slots = slots; packets = [] }
+begun_by t now pid w slot partner verdicts.Made seats slots = record
+    { answer = Some outcomes.Ok; seats = seats; slots = slots; packets = [] }
 begun_by t now pid w slot partner verdicts.Begins seats slots = record {
   answer = None;
   seats = begun_seats t now pid w (next_name slots partner slot) seats;
@@ -117,17 +123,35 @@ begun_by t now pid w slot partner verdicts.Begins seats slots = record {
   packets = begun_packets pid (next_name slots partner slot) (begun_seats t now pid w (next_name slots partner slot) seats);
 }
 
-abbrev pub verdict_in : List Seat → List (Option Alien) → Pid → Pid → Direction → ℕ → ℕ → ℕ → Verdict
-verdict_in seats slots pid partner way theirs own count =
-    verdict_by way (size_of (seat_in seats pid)) theirs own count (message_held pid (alien_from slots partner))
+-- what its process waits in
+abbrev pub waiting_in : Direction → Pid → ℕ → ℕ → ℕ → Waiting
+waiting_in directions.To partner dest src count = waitings.MoveTo partner dest src count
+waiting_in directions.From partner dest src count = waitings.MoveFrom partner dest src count
+
+-- its place in the partner's memory, and in the own one
+abbrev pub theirs_of : Direction → ℕ → ℕ → ℕ
+theirs_of directions.To dest src = dest
+theirs_of directions.From dest src = src
+
+abbrev pub own_of : Direction → ℕ → ℕ → ℕ
+own_of directions.To dest src = src
+own_of directions.From dest src = dest
+
+abbrev pub verdict_in : List Seat → List (Option Alien) → Pid → Pid → Direction → (dest src count : ℕ) → Verdict
+verdict_in seats slots pid partner way dest src count =
+    verdict_by way (size_of (seat_in seats pid)) (theirs_of way dest src) (own_of way dest src) count
+    (message_held pid (alien_from slots partner))
+
+abbrev pub way_begun : Times → ℕ → Pid → Direction → Pid → (dest src count : ℕ) → List Seat → List (Option Alien) → Begun
+way_begun t now pid way partner dest src count seats slots =
+    begun_by t now pid (waiting_in way partner dest src count) (position (is_alien_from partner) slots) partner
+    (verdict_in seats slots pid partner way dest src count) seats slots
 
 abbrev pub move_begun : Times → ℕ → Pid → Call → List Seat → List (Option Alien) → Begun
-move_begun t now pid (calls.MoveTo partner dest src count) seats slots =
-    begun_by t now pid (waitings.MoveTo partner dest src count) (position (is_alien_from partner) slots) partner
-    (verdict_in seats slots pid partner directions.To dest src count) seats slots
+move_begun t now pid (calls.MoveTo partner dest src count) seats slots = way_begun t now pid directions.To partner dest src count seats
+    slots
 move_begun t now pid (calls.MoveFrom partner dest src count) seats slots =
-    begun_by t now pid (waitings.MoveFrom partner dest src count) (position (is_alien_from partner) slots) partner
-    (verdict_in seats slots pid partner directions.From src dest count) seats slots
+    way_begun t now pid directions.From partner dest src count seats slots
 move_begun t now pid c seats slots = record { answer = None; seats = seats; slots = slots; packets = [] }
 
 -- the first round of this move may go out
@@ -143,3 +167,23 @@ HasFitAliens slots = (host : ℕ) × ((i : ℕ) (a : Alien) → alien_at slots i
 -- of each Send so few moves were begun that there may be more
 abbrev pub HasFewMoves : List (Option Alien) → Type 0
 HasFewMoves slots = (i : ℕ) (a : Alien) → alien_at slots i ≡ Some a → a.moves < 2 ^ 48
+
+-- The partner is of another station.
+abbrev pub is_away : Pid → Call → Bool
+is_away pid (calls.MoveTo partner dest src count) = not (same_host pid partner)
+is_away pid (calls.MoveFrom partner dest src count) = not (same_host pid partner)
+is_away pid c = false
+
+-- Whatever queues and names there are that fit these processes and aliens: for every reading that the tables stand for the call is its
+-- right entry, and they fit afterwards.
+abbrev pub doing_in : List Seat → List (Option Alien) → List Step → Posts → Doing
+doing_in seats slots ss out =
+    record { tables = record { seats = seats; lists = []; slots = slots; names = [] }; steps = ss; out = out }
+
+abbrev pub beside : Tables → Doing → Doing
+beside t d = record d { tables = record t { seats = d.tables.seats; slots = d.tables.slots } }
+
+abbrev pub IsBeginRule : Times → ℕ → Pid → Call → Option Outcome → (before after : Doing) → Type 0
+IsBeginRule times now pid call answer before after = (t : Tables) → AreFit pid.host (beside t before).tables →
+    IsCallRule times pid.host now pid call (given_by answer) (beside t before) (beside t after)
+    × AreFit pid.host (beside t after).tables

@@ -3,7 +3,7 @@
 use Rattle.std.specs.Prelude.{ℕ, ◌≡◌, List}
 use Rattle.vk_base.specs.declared.config.Times.{Times}
 use Rattle.vk_base.specs.declared.event.EventAnswer.TheVariants as events_answered
-use Rattle.vk_base.specs.Packets.{Packet, MoveData, MoveAck, MoveRequest, MoveNegative}
+use Rattle.vk_base.specs.Packets.{Packet, MoveData, MoveAck, MoveBytes, MoveRequest, MoveNegative}
 use Rattle.vk_base.specs.Settings.{Settings}
 use Rattle.vk_frame.specs.declared.header.Header.{Header}
 use Rattle.vk_procs.specs.declared.seat.Seat.{Seat}
@@ -30,10 +30,13 @@ IsMoveRule times now p seats m =
     Stands times host (record t { seats = seats }) r → answer_to c host r (Delivered (Framed h p)) ≡ events_answered.Taken →
     IsRight c host (record t { seats = seats }) r (right_entry c host r (Delivered (Framed h p))) m
 
--- of the packets to a mover: an acknowledgement, and that its partner no longer waits
+-- of the packets to a mover: an acknowledgement, bytes, and that its partner no longer waits
 abbrev pub IsMoverRule : Times → ℕ → Packet → List Seat → Type 0
 IsMoverRule times now (MoveAck from to number moving got) seats =
     IsMoveRule times now (MoveAck from to number moving got) seats (packet_taken times now (MoveAck from to number moving got) seats)
+IsMoverRule times now (MoveBytes from to number moving total offset bytes) seats =
+    IsMoveRule times now (MoveBytes from to number moving total offset bytes) seats
+    (packet_taken times now (MoveBytes from to number moving total offset bytes) seats)
 IsMoverRule times now (MoveNegative from to number moving) seats =
     IsMoveRule times now (MoveNegative from to number moving) seats (packet_taken times now (MoveNegative from to number moving) seats)
 IsMoverRule times now p seats = Unit {0}

@@ -4,7 +4,8 @@ ghost use Rattle.std.specs.Prelude.{◌≡◌, ◌≤◌, ◌<◌, ◌+◌, ◌+
 ghost use Rattle.std.specs.List.{position};
 ghost use Rattle.arrayvec.specs.ArrayVec.{array_vec_len};
 ghost use Rattle.vk_base.specs.Kernel.{is_move};
-ghost use Rattle.vk_move.specs.Begun.{CanBegin, HasFewMoves, HasFitAliens, begun_by, begun_note, counted, grants_access, has_ranges, message_held, move_begun, moves_of, next_name, size_of, verdict_by, verdict_in, verdict_on, waiting_seats};
+ghost use Rattle.vk_local.specs.Rules.{may_call};
+ghost use Rattle.vk_move.specs.Begun.{CanBegin, HasFewMoves, HasFitAliens, IsBeginRule, begun_by, begun_note, counted, doing_in, grants_access, has_ranges, is_away, message_held, move_begun, moves_of, next_name, size_of, verdict_by, verdict_in, verdict_on, waiting_in, waiting_seats, way_begun};
 ghost use Rattle.vk_move.specs.Moved.{change_note};
 ghost use Rattle.vk_pool.specs.Aliens.{alien_from, is_alien_from};
 ghost use Rattle.vk_procs.specs.Seats.{seat_in};
@@ -124,20 +125,44 @@ fn size_of(procs: &Procs, pid: Pid) -> u32
     }
 }
 
+/// What a process that begins a move waits in.
+fn waiting_in(way: Direction, partner: Pid, dest: u32, src: u32, count: u32) -> Waiting
+    ensures { result ≡ waiting_in way partner dest src count }
+{
+    match way {
+        Direction::To => Waiting::MoveTo {
+            partner,
+            dest,
+            src,
+            count,
+        },
+        Direction::From => Waiting::MoveFrom {
+            partner,
+            dest,
+            src,
+            count,
+        },
+    }
+}
+
 fn verdict_in(
     procs: &Procs,
     aliens: &AlienPool,
     pid: Pid,
     partner: Pid,
     way: Direction,
-    theirs: u32,
-    own: u32,
+    dest: u32,
+    src: u32,
     count: u32,
 ) -> Verdict
-    ensures { result ≡ verdict_in procs.now aliens.now pid partner way theirs own count }
+    ensures { result ≡ verdict_in procs.now aliens.now pid partner way dest src count }
 {
     let message = message_held(aliens.of(partner), pid);
-    verdict_by(message, way, size_of(procs, pid), theirs, own, count)
+    let size = size_of(procs, pid);
+    match way {
+        Direction::To => verdict_by(message, way, size, dest, src, count),
+        Direction::From => verdict_by(message, way, size, src, dest, count),
+    }
 }
 
 /// The name of the next move of the partner's Send, which is counted.
@@ -265,6 +290,8 @@ pub fn begin(
 ) -> Option<Outcome>
     requires now { now < 2 ^ 48 }
     requires call { is_move call.now ≡ true }
+    requires away { is_away pid call.now ≡ true }
+    requires ready { may_call procs.old pid ≡ true }
     requires moves { HasFewMoves aliens.old }
     requires fit { HasFitAliens aliens.old }
     requires packets { length out.old.posts + 64 ≤ out.old.room }
@@ -274,40 +301,45 @@ pub fn begin(
     ensures slots { aliens.new ≡ (move_begun times.now now pid call.now procs.old aliens.old).slots }
     ensures packets { out.new ≡ posted out.old (move_begun times.now now pid call.now procs.old aliens.old).packets }
     ensures steps { steps.new.items ≡ steps.old.items ++ Step.Call pid call.now ∷ [] }
+    ensures right { IsBeginRule times.now now pid call.now result (doing_in procs.old aliens.old steps.old.items out.old)
+        (doing_in procs.new aliens.new steps.new.items out.new) }
 {
     steps.push(Step::Call {
         pid,
         call: call.copy(),
     });
+    let to = Direction::To;
+    let from = Direction::From;
     match *call {
         Call::MoveTo {
             partner,
             dest,
             src,
             count,
-        } => begin_to(
-            procs, aliens, now, times, out, pid, partner, dest, src, count,
+        } => begin_way(
+            procs, aliens, now, times, out, pid, to, partner, dest, src, count,
         ),
         Call::MoveFrom {
             partner,
             dest,
             src,
             count,
-        } => begin_from(
-            procs, aliens, now, times, out, pid, partner, dest, src, count,
+        } => begin_way(
+            procs, aliens, now, times, out, pid, from, partner, dest, src, count,
         ),
         _ => unreachable!(),
     }
 }
 
-/// A move to a partner.
-fn begin_to(
+/// A move to a partner, or from one.
+fn begin_way(
     procs: &mut Procs,
     aliens: &mut AlienPool,
     now: u64,
     times: &Times,
     out: &mut Outbox,
     pid: Pid,
+    way: Direction,
     partner: Pid,
     dest: u32,
     src: u32,
@@ -317,63 +349,13 @@ fn begin_to(
     requires moves { HasFewMoves aliens.old }
     requires fit { HasFitAliens aliens.old }
     requires room { length out.old.posts + 64 ≤ out.old.room }
-    ensures answer { result ≡ (move_begun times.now now pid (Call.MoveTo partner dest src count) procs.old aliens.old).answer }
-    ensures seats { procs.new ≡ (move_begun times.now now pid (Call.MoveTo partner dest src count) procs.old aliens.old).seats }
-    ensures slots { aliens.new ≡ (move_begun times.now now pid (Call.MoveTo partner dest src count) procs.old aliens.old).slots }
-    ensures packets { out.new ≡ posted out.old
-        (move_begun times.now now pid (Call.MoveTo partner dest src count) procs.old aliens.old).packets }
+    ensures answer { result ≡ (way_begun times.now now pid way partner dest src count procs.old aliens.old).answer }
+    ensures seats { procs.new ≡ (way_begun times.now now pid way partner dest src count procs.old aliens.old).seats }
+    ensures slots { aliens.new ≡ (way_begun times.now now pid way partner dest src count procs.old aliens.old).slots }
+    ensures packets { out.new ≡ posted out.old (way_begun times.now now pid way partner dest src count procs.old aliens.old).packets }
 {
-    let verdict = verdict_in(procs, aliens, pid, partner, Direction::To, dest, src, count);
-    let waiting = Waiting::MoveTo {
-        partner,
-        dest,
-        src,
-        count,
-    };
-    begin_by(
-        procs, aliens, now, times, out, pid, partner, waiting, verdict,
-    )
-}
-
-/// A move from a partner.
-fn begin_from(
-    procs: &mut Procs,
-    aliens: &mut AlienPool,
-    now: u64,
-    times: &Times,
-    out: &mut Outbox,
-    pid: Pid,
-    partner: Pid,
-    dest: u32,
-    src: u32,
-    count: u32,
-) -> Option<Outcome>
-    requires now { now < 2 ^ 48 }
-    requires moves { HasFewMoves aliens.old }
-    requires fit { HasFitAliens aliens.old }
-    requires room { length out.old.posts + 64 ≤ out.old.room }
-    ensures answer { result ≡ (move_begun times.now now pid (Call.MoveFrom partner dest src count) procs.old aliens.old).answer }
-    ensures seats { procs.new ≡ (move_begun times.now now pid (Call.MoveFrom partner dest src count) procs.old aliens.old).seats }
-    ensures slots { aliens.new ≡ (move_begun times.now now pid (Call.MoveFrom partner dest src count) procs.old aliens.old).slots }
-    ensures packets { out.new ≡ posted out.old
-        (move_begun times.now now pid (Call.MoveFrom partner dest src count) procs.old aliens.old).packets }
-{
-    let verdict = verdict_in(
-        procs,
-        aliens,
-        pid,
-        partner,
-        Direction::From,
-        src,
-        dest,
-        count,
-    );
-    let waiting = Waiting::MoveFrom {
-        partner,
-        dest,
-        src,
-        count,
-    };
+    let verdict = verdict_in(procs, aliens, pid, partner, way, dest, src, count);
+    let waiting = waiting_in(way, partner, dest, src, count);
     begin_by(
         procs, aliens, now, times, out, pid, partner, waiting, verdict,
     )

@@ -1,5 +1,5 @@
 //! Both ends of a move between stations: a mover's, which begins it and sends its rounds, and that of the sender whose memory is
-//! moved. The program does not use it yet.
+//! moved.
 //!
 //! Stands on the tables of a station (`vk_procs`, `vk_pool`), on works (`vk_timer`) and packets (`vk_packet`), and on what it
 //! means that tables stand for a reading (`vk_stands`). What each rule does to the tables is a function on plain values in

@@ -6,7 +6,5 @@
 #![tactic(auto)]
 
 mod names;
-#[cfg(test)]
-mod tests;
 
 pub use names::{Names, NamesFull};

@@ -8,8 +8,6 @@ mod law;
 mod outbox;
 mod packet;
 mod reading;
-#[cfg(test)]
-mod tests;
 mod writing;
 
 pub use law::packets_are_spelled_once;

@@ -99,9 +99,10 @@ impl Outbox {
         self.used += 1;
     }
 
-    /// How many packets there are.
+    /// How many packets there are: at most as many as there is room for.
     pub fn len(&self) -> u32
-        ensures { result ≡ length self.now.posts }
+        ensures count { result ≡ length self.now.posts }
+        ensures room { length self.now.posts ≤ self.now.room }
     {
         self.used
     }

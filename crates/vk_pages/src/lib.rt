@@ -10,8 +10,6 @@ mod message;
 mod server;
 mod serving;
 mod store;
-#[cfg(test)]
-mod tests;
 
 pub use any::AnyProgram;
 pub use client::PageClient;

@@ -1,3 +1,4 @@
 mod Changes
 pub mod Initial
 mod Passing
+pub mod PidsStay

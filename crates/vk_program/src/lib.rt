@@ -6,8 +6,6 @@
 
 mod program;
 mod script;
-#[cfg(test)]
-mod tests;
 
 pub use program::Program;
 pub use script::Script;

@@ -10,6 +10,3 @@ mod queues;
 
 pub use no_memory::NoMemory;
 pub use queues::Queues;
-
-#[cfg(test)]
-mod tests;

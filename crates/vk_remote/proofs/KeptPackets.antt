@@ -109,7 +109,7 @@ sent_fits host t fit pid s None = fit
 sent_fits host t fit pid s (Some to) =
     passed_where host (record t { seats = change_first (is_seat s.pid) marked_taken t.seats })
     (fit_seated host t fit s.pid marked_taken (λ x. refl)
-    (λ x at h. fit_note host x (marked_taken x).note (record { moving = refl; offset = refl; done = refl; sends = refl }) h))
+    (λ x at h. fit_note host x (marked_taken x).note (record { moving = refl; offset = refl; done = refl; sends = refl; lookups = refl }) h))
     s.pid pid to.1 (same_pid s.pid pid)
 
 local_fits : (host : ℕ) (t : Tables) → AreFit host t → (pid : Pid) (o : Option Seat) →
@@ -198,7 +198,7 @@ pended_fits : (times : Times) (now host : ℕ) (t : Tables) → AreFit host t �
     AreFit host (record t { seats = pended_seats times now t.seats to b })
 pended_fits times now host t fit to false = fit
 pended_fits times now host t fit to true = fit_seated host t fit to (working (answered times now)) (λ x. refl)
-    (λ s at h. fit_note host s (working (answered times now) s).note (record { moving = refl; offset = refl; done = refl; sends = refl }) h)
+    (λ s at h. fit_note host s (working (answered times now) s).note (record { moving = refl; offset = refl; done = refl; sends = refl; lookups = refl }) h)
 
 replied_fits : (host : ℕ) (t : Tables) → AreFit host t → (to : Pid) (m : Message) (dest : ℕ) (bytes : List ℕ) (b : Bool) →
     AreFit host (record t { seats = replied_seats t.seats to m dest bytes b })

@@ -153,16 +153,26 @@ pub fn play_plain(
     aliens: &mut AlienPool,
     now: u64,
     out: &mut Outbox,
+    steps: &mut StepList,
     pid: Pid,
     to: Pid,
     message: &Message,
 ) -> Option<Outcome>
     requires lawful { plain_refusal aliens.old pid to ≡ None → AreTold (replied_slots aliens.old to message.now 0 [] now) to }
+    requires steps { array_vec_len steps.old < STEPS }
     requires room { length out.old.posts < out.old.room }
     ensures outcome { result ≡ outcome_by (plain_refusal aliens.old pid to) }
     ensures slots { aliens.new ≡ slots_by (plain_refusal aliens.old pid to) aliens.old to message.now 0 [] now }
+    ensures steps { steps.new.items ≡ steps.old.items ++ Step.Call pid (Call.Reply message.now to) ∷ [] }
     ensures packets { out.new ≡ posted out.old (packets_by (plain_refusal aliens.old pid to) aliens.new to) }
 {
+    steps.push(Step::Call {
+        pid,
+        call: Call::Reply {
+            message: *message,
+            to,
+        },
+    });
     if let Some(why) = plain_refusal(aliens, pid, to) {
         return Some(Outcome::Refused { why });
     }
@@ -176,6 +186,7 @@ pub fn play_segment(
     aliens: &mut AlienPool,
     now: u64,
     out: &mut Outbox,
+    steps: &mut StepList,
     pid: Pid,
     to: Pid,
     message: &Message,
@@ -183,12 +194,25 @@ pub fn play_segment(
 ) -> Option<Outcome>
     requires lawful { segment_refusal procs.now aliens.old pid to segment ≡ None →
         AreTold (replied_slots aliens.old to message.now segment.dest (bytes_of procs.now pid segment) now) to }
+    requires steps { array_vec_len steps.old < STEPS }
     requires room { length out.old.posts < out.old.room }
     ensures outcome { result ≡ outcome_by (segment_refusal procs.now aliens.old pid to segment) }
     ensures slots { aliens.new ≡ slots_by (segment_refusal procs.now aliens.old pid to segment) aliens.old to message.now segment.dest
         (bytes_of procs.now pid segment) now }
+    ensures steps { steps.new.items ≡ steps.old.items ++ Step.Call pid
+        (Call.ReplySegment message.now to segment.dest segment.src segment.count) ∷ [] }
     ensures packets { out.new ≡ posted out.old (packets_by (segment_refusal procs.now aliens.old pid to segment) aliens.new to) }
 {
+    steps.push(Step::Call {
+        pid,
+        call: Call::ReplySegment {
+            message: *message,
+            to,
+            dest: segment.dest,
+            src: segment.src,
+            count: segment.count,
+        },
+    });
     if let Some(why) = segment_refusal(procs, aliens, pid, to, segment) {
         return Some(Outcome::Refused { why });
     }

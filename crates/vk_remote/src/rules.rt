@@ -5,6 +5,7 @@ ghost use Rattle.arrayvec.specs.ArrayVec.{array_vec_len};
 ghost use Rattle.vk_base.specs.declared.limits.TheConstants.{STATION_PROCESSES as PROCESSES, STEPS};
 ghost use Rattle.vk_packet.specs.Rules.{is_lawful};
 ghost use Rattle.vk_packet.specs.Views.{value_of};
+ghost use Rattle.vk_remote.specs.Calls.{IsFarSend, IsPlainReply, IsSegmentReply};
 ghost use Rattle.vk_remote.specs.Fits.{AreFew, HasFitAliens, HasFitSeat, IsFit, IsRight, KeepsSeats, KeepsSlots, KeepsTables, doing_of};
 ghost use Rattle.vk_remote.specs.Packets.{packet_packets, packet_steps, packet_tables};
 ghost use Rattle.vk_remote.specs.Played.{tables_of};
@@ -12,6 +13,7 @@ ghost use Rattle.vk_remote.specs.Replies as replies;
 ghost use Rattle.vk_remote.specs.Replies.{bytes_of, plain_refusal, segment_refusal, slots_by};
 ghost use Rattle.vk_remote.specs.Sends as sends;
 ghost use Rattle.vk_remote.specs.Sends.{due_in, due_packets, due_seats, due_steps, is_sendable, seats_by};
+ghost use Rattle.vk_remote.specs.Ticked.{TicksSend};
 ghost use Rattle.vk_stands.specs.Rules.{posted};
 
 use crate::answers::{take_negative, take_pending, take_reply};
@@ -48,6 +50,8 @@ pub fn send(
     ensures packets { out.new ≡ posted out.old (sends.packets_by times.now now procs.old pid target message.now
         (is_sendable procs.old pid message.now)) }
     ensures fit { KeepsSeats procs.old procs.new }
+    ensures right { IsFarSend times.now now pid target (Call.Send target message.now) result procs.old procs.new steps.old.items
+        steps.new.items out.old out.new }
 {
     play_send(procs, now, times, out, steps, pid, target, message)
 }
@@ -70,16 +74,12 @@ pub fn reply(
     ensures slots { aliens.new ≡ slots_by (plain_refusal aliens.old pid to) aliens.old to message.now 0 [] now }
     ensures steps { steps.new.items ≡ steps.old.items ++ Step.Call pid (Call.Reply message.now to) ∷ [] }
     ensures packets { out.new ≡ posted out.old (replies.packets_by (plain_refusal aliens.old pid to) aliens.new to) }
+    ensures pool { length aliens.new ≡ length aliens.old }
     ensures fit { KeepsSlots aliens.old aliens.new }
+    ensures right { IsPlainReply now pid to (Call.Reply message.now to) result aliens.old aliens.new steps.old.items steps.new.items out.old
+        out.new }
 {
-    steps.push(Step::Call {
-        pid,
-        call: Call::Reply {
-            message: *message,
-            to,
-        },
-    });
-    play_plain(aliens, now, out, pid, to, message)
+    play_plain(aliens, now, out, steps, pid, to, message)
 }
 
 /// The same with bytes of its memory for the segment of the other: refused also where they are too many, where the message does not
@@ -104,19 +104,12 @@ pub fn reply_segment(
     ensures steps { steps.new.items ≡ steps.old.items ++ Step.Call pid
         (Call.ReplySegment message.now to segment.dest segment.src segment.count) ∷ [] }
     ensures packets { out.new ≡ posted out.old (replies.packets_by (segment_refusal procs.now aliens.old pid to segment) aliens.new to) }
+    ensures pool { length aliens.new ≡ length aliens.old }
     ensures fit { KeepsSlots aliens.old aliens.new }
+    ensures right { IsSegmentReply now pid to (Call.ReplySegment message.now to segment.dest segment.src segment.count) result procs.now
+        aliens.old aliens.new steps.old.items steps.new.items out.old out.new }
 {
-    steps.push(Step::Call {
-        pid,
-        call: Call::ReplySegment {
-            message: *message,
-            to,
-            dest: segment.dest,
-            src: segment.src,
-            count: segment.count,
-        },
-    });
-    play_segment(procs, aliens, now, out, pid, to, message, segment)
+    play_segment(procs, aliens, now, out, steps, pid, to, message, segment)
 }
 
 /// A tick, for a process of this station that waits in a Send to another station: nothing where it is not due; else its packet goes
@@ -139,6 +132,7 @@ pub fn due(
     ensures packets { out.new ≡ posted out.old (due_packets (due_seats times.now now procs.old pid
         (due_in times.now now procs.old pid)) pid (due_in times.now now procs.old pid)) }
     ensures fit { KeepsSeats procs.old procs.new }
+    ensures ticked { TicksSend times.now now pid procs.old procs.new steps.old.items steps.new.items out.old out.new }
 {
     play_due(procs, now, times, out, steps, pid)
 }
@@ -168,6 +162,8 @@ pub fn take_packet(
     ensures slots { aliens.new ≡ (packet_tables times.now now stamp (tables_of procs.old queues.old.lists aliens.old) packet.now).slots }
     ensures steps { steps.new.items ≡ steps.old.items ++ packet_steps stamp (tables_of procs.old queues.old.lists aliens.old) packet.now }
     ensures packets { out.new ≡ posted out.old (packet_packets stamp (tables_of procs.old queues.old.lists aliens.old) packet.now) }
+    ensures places { queues.new.slots ≡ queues.old.slots }
+    ensures pool { length aliens.new ≡ length aliens.old }
     ensures fit { KeepsTables (value_of packet.now) (tables_of procs.old queues.old.lists aliens.old)
         (tables_of procs.new queues.new.lists aliens.new) }
     ensures right { IsRight times.now now stamp packet.now
@@ -201,6 +197,7 @@ fn play_packet(
     ensures slots { aliens.new ≡ (packet_tables times.now now stamp (tables_of procs.old queues.old.lists aliens.old) packet.now).slots }
     ensures steps { steps.new.items ≡ steps.old.items ++ packet_steps stamp (tables_of procs.old queues.old.lists aliens.old) packet.now }
     ensures packets { out.new ≡ posted out.old (packet_packets stamp (tables_of procs.old queues.old.lists aliens.old) packet.now) }
+    ensures places { queues.new.slots ≡ queues.old.slots }
 {
     match *packet {
         PacketView::Send {

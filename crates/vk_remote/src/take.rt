@@ -44,6 +44,7 @@ fn line_up(procs: &Procs, queues: &mut Queues, target: Pid, slot: u32)
     requires slot { slot < queues.old.slots }
     ensures lists { queues.new.lists ≡ lined_up queues.old.lists (position (is_seat target) procs.now) slot }
     ensures all { length queues.new.lists ≡ PROCESSES }
+    ensures places { queues.new.slots ≡ queues.old.slots }
 {
     if let Some(list) = procs.place(target) {
         queues.requeue(list, slot);
@@ -75,6 +76,7 @@ fn arrive(
     ensures steps { steps.new.items ≡ steps.old.items ++ Step.Arrive arrival.now.sender arrival.now.number
         ∷ served_steps arrival.now.target (front_of procs.old
         (lined_up queues.old.lists (position (is_seat arrival.now.target) procs.old) (PROCESSES + slot)) arrival.now.target) }
+    ensures places { queues.new.slots ≡ queues.old.slots }
 {
     line_up(
         procs,
@@ -114,6 +116,7 @@ fn admit(
     ensures steps { steps.new.items ≡ steps.old.items ++ placed_steps (tables_of procs.old queues.old.lists aliens.old) arrival.now
         (slot_for aliens.old arrival.now.sender) }
     ensures packets { out.new ≡ posted out.old (placed_packets arrival.now (slot_for aliens.old arrival.now.sender)) }
+    ensures places { queues.new.slots ≡ queues.old.slots }
 {
     match place(aliens, arrival) {
         Some(slot) => arrive(procs, queues, aliens, steps, arrival, slot),
@@ -155,6 +158,7 @@ pub fn take_send(
         (row_in (tables_of procs.old queues.old.lists aliens.old) arrival.now) }
     ensures packets { out.new ≡ posted out.old (row_packets (tables_of procs.old queues.old.lists aliens.old) arrival.now
         (row_in (tables_of procs.old queues.old.lists aliens.old) arrival.now)) }
+    ensures places { queues.new.slots ≡ queues.old.slots }
 {
     match decide(
         procs,

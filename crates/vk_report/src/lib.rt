@@ -10,8 +10,6 @@ mod answer;
 mod entry;
 mod frame;
 mod law;
-#[cfg(test)]
-mod tests;
 
 pub use entry::{Counts, Form, Place, put_end, put_entry, put_frame, put_missing, put_opening};
 pub use frame::{Emitted, PacketKind};

@@ -5,6 +5,7 @@ use Rattle.vk_base.specs.declared.activity.Activity.{Activity}
 use Rattle.vk_base.specs.declared.activity.Activity.TheVariants as activities
 use Rattle.vk_base.specs.declared.activity.Waiting.{Waiting}
 use Rattle.vk_base.specs.declared.activity.Waiting.TheVariants as waitings
+use Rattle.vk_base.specs.declared.call.Scope.{Scope}
 use Rattle.vk_base.specs.declared.kernel.State.TheVariants as states
 use Rattle.vk_base.specs.declared.limits.TheConstants.{MOVE_BYTES, SEGMENT_BYTES}
 use Rattle.vk_base.specs.declared.message.Message.{Message}
@@ -18,7 +19,7 @@ use Rattle.vk_procs.specs.declared.seat.Seat.{Seat}
 use Rattle.vk_procs.specs.Seats.{doing_now, process_of, seat_in}
 use Rattle.vk_stands.specs.Fit.{IsFitSeat, may_go_on, may_wait}
 use Rattle.vk_stands.specs.Stands.{IsWaiting}
-use Rattle.vk_stands.specs.Tables.{Tables, is_work, seat_name}
+use Rattle.vk_stands.specs.Tables.{Tables, is_work}
 use Rattle.vk_stands.proofs.FitSeats.{fit_memory}
 use Rattle.vk_stands.proofs.OneSeat.{seated}
 use Rattle.vk_stands.proofs.Parts.{Carries, Part, carries_seated, same_more}
@@ -44,6 +45,7 @@ fit_idle host s y pid note part idles fit = record {
   part = λ target m is. absurd (idle_not y.doing (waitings.Send target m) idles is);
   few = subst (λ p. length p ≤ SEGMENT_BYTES) (sym part) fit.few;
   begun = λ target m is. absurd (idle_not y.doing (waitings.Send target m) idles is);
+  asked = λ logical scope is. absurd (idle_not y.doing (waitings.GetPid logical scope) idles is);
 }
 
 -- what a process does now, where it is ready
@@ -53,6 +55,7 @@ pub record CanBegin (host : ℕ) (k : Kernel) (s : Seat) (w : Waiting) : Type 0 
   pub fits : may_wait s.pid (length s.memory) w ≡ true
   pub goes : may_go_on s.note w ≡ true
   pub no_send : (target : Pid) (m : Message) → w ≡ waitings.Send target m → ⊥
+  pub no_lookup : (logical : ℕ) (scope : Scope) → w ≡ waitings.GetPid logical scope → ⊥
 
 same_waiting : (v w : Waiting) → activities.Blocked v ≡ activities.Blocked w → v ≡ w
 same_waiting v w is = cc
@@ -70,6 +73,7 @@ module _ (host : ℕ) (t : Tables) (k : Kernel) (part : Part host t k) (pid : Pi
       part = λ target m is. absurd (g.no_send target m (same_waiting w (waitings.Send target m) is));
       few = fit.few;
       begun = λ target m is. absurd (g.no_send target m (same_waiting w (waitings.Send target m) is));
+      asked = λ logical scope is. absurd (g.no_lookup logical scope (same_waiting w (waitings.GetPid logical scope) is));
     }
 
     pub begun_part : IsSoundAt (λ g. false) (with_state k pid (process_of s) (states.Blocked (call_of w))) →

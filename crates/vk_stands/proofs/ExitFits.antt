@@ -91,6 +91,7 @@ fit_killed host s fit = record {
   part = fit.part;
   few = fit.few;
   begun = fit.begun;
+  asked = fit.asked;
 }
 
 turned_fits : (host now : ℕ) (b : Bool) (a : Alien) → IsFitAlien host a → IsFitAlien host (if b then refused now a else a)

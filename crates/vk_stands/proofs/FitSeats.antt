@@ -1,19 +1,15 @@
 -- A process of the station fits after a change of what it does, of its memory or of its numbers.
-use Rattle.std.proofs.Common.{◌≡◌, ℕ, ◌<◌, ◌≤◌, Bool, true, false, cond, List, length, refl, sym, ap, subst, ◌∙◌}
+use Rattle.std.proofs.Common.{◌≡◌, ℕ, ◌<◌, ◌≤◌, List, length, refl, sym, ap, subst, ◌∙◌}
 use Rattle.vk_base.specs.declared.activity.Activity.{Activity}
 use Rattle.vk_base.specs.declared.activity.Activity.TheVariants as activities
 use Rattle.vk_base.specs.declared.activity.Outcome.{Outcome}
 use Rattle.vk_base.specs.declared.activity.Waiting.{Waiting}
 use Rattle.vk_base.specs.declared.activity.Waiting.TheVariants as waitings
 use Rattle.vk_base.specs.declared.limits.TheConstants.{MOVE_BYTES}
-use Rattle.vk_base.specs.declared.message.Message.{Message}
-use Rattle.vk_base.specs.declared.pid.Pid.{Pid}
 use Rattle.vk_base.specs.Activities.{done_with}
-use Rattle.vk_base.specs.Ranges.{range_of, lies_in, with_bytes}
-use Rattle.vk_packet.specs.Rules.{part_len}
 use Rattle.vk_procs.specs.declared.seat.ProcNote.{ProcNote}
 use Rattle.vk_procs.specs.declared.seat.Seat.{Seat}
-use Rattle.vk_procs.specs.Seats.{finished, overwritten, written}
+use Rattle.vk_procs.specs.Seats.{finished}
 use Rattle.vk_stands.specs.Fit.{IsFitSeat, may_go_on, may_wait}
 
 -- one that waits in nothing
@@ -27,6 +23,7 @@ fit_idle host s d idle h = record {
   part = λ target m is. absurd (idle (waitings.Send target m) is);
   few = h.few;
   begun = λ target m is. absurd (idle (waitings.Send target m) is);
+  asked = λ logical scope is. absurd (idle (waitings.GetPid logical scope) is);
 }
 
 not_blocked : (d : Activity) (o : Outcome) (w : Waiting) → done_with d o ≡ activities.Blocked w → ⊥
@@ -53,6 +50,7 @@ pub record IsSameNote (a b : ProcNote) : Type 0 where
   pub offset : b.offset ≡ a.offset
   pub done : b.done ≡ a.done
   pub sends : b.sends ≡ a.sends
+  pub lookups : b.lookups ≡ a.lookups
 
 pub fit_note : (host : ℕ) (s : Seat) (n : ProcNote) → IsSameNote s.note n → IsFitSeat host s → IsFitSeat host (record s { note = n })
 fit_note host s n same h = record {
@@ -63,6 +61,7 @@ fit_note host s n same h = record {
   part = h.part;
   few = h.few;
   begun = λ target m is. subst (λ d. 0 < d) (sym same.sends) (h.begun target m is);
+  asked = λ logical scope is. subst (λ d. 0 < d) (sym same.lookups) (h.asked logical scope is);
 }
 
 -- a memory of the same size
@@ -76,4 +75,5 @@ fit_memory host s memory same h = record {
   part = h.part;
   few = h.few;
   begun = h.begun;
+  asked = h.asked;
 }

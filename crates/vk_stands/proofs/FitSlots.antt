@@ -1,18 +1,18 @@
 -- Tables still fit where an alien has changed, or a new one has a slot.
-use Rattle.std.proofs.Common.{◌≡◌, ◌≢◌, ℕ, ◌≤◌, ◌<◌, Bool, true, false, cond, ◌&&◌, nat_eq, List, length, get_or, set, refl, sym, ap, subst, ◌∙◌, Option, Some, None, inl, inr, arith}
-use Rattle.std.specs.List.{position, slice_get}
+use Rattle.std.proofs.Common.{◌≡◌, ◌≢◌, ℕ, ◌≤◌, Bool, true, false, ◌&&◌, nat_eq, List, length, get_or, set, refl, sym, ap, subst, ◌∙◌, Option, Some, None, arith}
+use Rattle.std.specs.List.{position}
 use Rattle.std.specs.Option.{option_map, option_map_or}
-use Rattle.std.proofs.lemmas.Bool.{cases_Bool, both_ways, eqb-true, eq-eqb, leb-true, le-leb}
+use Rattle.std.proofs.lemmas.Bool.{both_ways, eqb-true, eq-eqb}
 use Rattle.std.proofs.lemmas.List.{get_or-set_same, get_or-set_other, length-set, set-get_or}
-use Rattle.std.proofs.lemmas.Option.{same_Some, none-some}
+use Rattle.std.proofs.lemmas.Option.{same_Some}
 use Rattle.vk_base.specs.declared.limits.TheConstants.{POOL, SEGMENT_BYTES}
 use Rattle.vk_base.specs.declared.message.Message.{Message}
 use Rattle.vk_base.specs.declared.pid.Pid.{Pid}
-use Rattle.vk_packet.specs.Rules.{is_lawful, is_number}
+use Rattle.vk_packet.specs.Rules.{is_number}
 use Rattle.vk_pool.specs.declared.alien.Alien.{Alien}
 use Rattle.vk_pool.specs.Aliens.{alien_at, changed_at, heard, heard_of, is_alien_from, replied, taken}
 use Rattle.vk_stands.specs.Fit.{AreFit, IsFitAlien}
-use Rattle.vk_stands.specs.Tables.{Tables, told}
+use Rattle.vk_stands.specs.Tables.{Tables}
 use Rattle.vk_stands.proofs.Placed.{IsPlace, place_at, put_apart}
 
 module _ (host : ℕ) (t : Tables) (fit : AreFit host t) (i : ℕ) (a : Alien) (place : IsPlace t.slots a.sender i)

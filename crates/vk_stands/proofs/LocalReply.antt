@@ -62,7 +62,7 @@ landed dest bytes memory lies =
 abbrev pub IsOutOfQueues : ℕ → Exchange → Type 0
 IsOutOfQueues host e = (is_taken e.stage ≡ true) ⊎ (e.target.host ≡ host → ⊥)
 
-taken_unqueued : (s : Stage) → is_taken s ≡ true → false ≡ is_queued s
+pub taken_unqueued : (s : Stage) → is_taken s ≡ true → false ≡ is_queued s
 taken_unqueued stages.Posted t = refl
 taken_unqueued stages.Queued t = absurd (cc)
 taken_unqueued stages.Taken t = refl

@@ -1,5 +1,6 @@
--- One process changes what it notes of its work, and waits in it as before: the whole relation from the part of it.
-use Rattle.std.proofs.Common.{◌≡◌, ◌≤◌, ℕ, ◌+◌, Bool, true, false, cond, refl, sym, ap, ◌∙◌, subst, Some, arith}
+-- One process changes what it notes of its work, or begins one; aliens may change beside it: the whole relation from the part of it.
+use Rattle.std.proofs.Common.{◌≡◌, ◌≤◌, ℕ, ◌+◌, Bool, true, false, cond, List, map, refl, sym, ap, ◌∙◌, subst, Option, Some, arith}
+use Rattle.std.specs.Option.{option_map}
 use Rattle.std.proofs.lemmas.Option.{same_Some}
 use Rattle.vk_base.specs.declared.activity.Activity.TheVariants as activities
 use Rattle.vk_base.specs.declared.activity.Waiting.{Waiting}
@@ -8,11 +9,13 @@ use Rattle.vk_base.specs.declared.pid.Pid.{Pid}
 use Rattle.vk_base.specs.Pids.{same_pid}
 use Rattle.v_laws.proofs.Options.{mapped_is}
 use Rattle.v_laws.proofs.Tables.{same_pid_is}
+use Rattle.vk_pool.specs.declared.alien.Alien.{Alien}
+use Rattle.vk_pool.specs.Aliens.{alien_from}
 use Rattle.vk_procs.specs.declared.seat.Seat.{Seat}
 use Rattle.vk_procs.specs.Seats.{seat_in}
 use Rattle.vk_rules.specs.Readings.{Reading}
 use Rattle.vk_stands.specs.Stands.{IsWorking, Stands}
-use Rattle.vk_stands.specs.Tables.{Tables, is_work}
+use Rattle.vk_stands.specs.Tables.{Tables, is_work, read_alien}
 use Rattle.vk_stands.proofs.Found.{seat_found}
 use Rattle.vk_stands.proofs.OneSeat.{seated}
 use Rattle.vk_stands.proofs.Parts.{Part}
@@ -21,8 +24,10 @@ use Rattle.vk_stands.proofs.Whole.{IsLater, same_work, stands_then, working_kept
 
 module _ (times : Times) (host : ℕ) (t : Tables) (r : Reading) (h : Stands times host t r) (pid : Pid) (s : Seat)
     (found : seat_in t.seats pid ≡ Some s) (f : Seat → Seat) (keeps : (x : Seat) → (f x).pid ≡ x.pid)
-    (sends : (x : Seat) → (f x).note.sends ≡ x.note.sends) (lookups : (x : Seat) → (f x).note.lookups ≡ x.note.lookups) (q : Reading)
-    (part : Part host (seated t pid f) q.view) (slots_same : q.slots ≡ r.slots) (events : q.events ≡ r.events + 1)
+    (sends : (x : Seat) → (f x).note.sends ≡ x.note.sends) (lookups : (x : Seat) → (f x).note.lookups ≡ x.note.lookups)
+    (aliens : List (Option Alien)) (q : Reading) (part : Part host (record (seated t pid f) { slots = aliens }) q.view)
+    (slots_are : q.slots ≡ map (option_map read_alien) aliens) (events : q.events ≡ r.events + 1)
+    (few : (sender : Pid) (x : Alien) → alien_from aliens sender ≡ Some x → x.moves ≤ r.events + 1)
     (work_other : (p : Pid) → same_pid p pid ≡ false → q.work p ≡ r.work p)
     (work_here : (w : Waiting) → (f s).doing ≡ activities.Blocked w → is_work pid w ≡ true → IsWorking times (f s) (q.work pid) w) where
   counts : (x : Seat) (b : Bool) → ((cond b (f x) x).note.sends ≤ x.note.sends + 1) × ((cond b (f x) x).note.lookups ≤ x.note.lookups + 1)
@@ -56,18 +61,32 @@ module _ (times : Times) (host : ℕ) (t : Tables) (r : Reading) (h : Stands tim
       (working_kept times x x (r.work p) (q.work p) w (same_work x) (work_other p other)
       (h.works p x w at (ap (λ (z : Seat). z.doing) (sym away) ∙ blocked) is))
 
-  pub stands_seated : Stands times host (seated t pid f) q
-  stands_seated = stands_then times host t (seated t pid f) r q h part.view (record {
+  pub stands_slotted : Stands times host (record (seated t pid f) { slots = aliens }) q
+  stands_slotted = stands_then times host t (record (seated t pid f) { slots = aliens }) r q h part.view (record {
     sound = part.sound;
     unknown = part.unknown;
     names = part.names;
-    slots = slots_same ∙ h.slots;
+    slots = slots_are;
     queues = part.queues;
     events = events;
     seats = later;
-    aliens = λ sender x at. let low = h.moved sender x at in omega (arith, events);
+    aliens = λ sender x at. subst (λ n. x.moves ≤ n) (sym events) (few sender x at);
   })
       (λ p y w at blocked is.
       let x = mapped_is (only pid f) (seat_in t.seats p) y (sym (seats_changed pid f keeps t.seats p) ∙ at) in
       subst (λ z. IsWorking times z (q.work p) w) x.2
       (works_by p x.0 w (same_pid p pid) refl x.1 (ap (λ (z : Seat). z.doing) x.2 ∙ blocked) is))
+
+-- The aliens are as they were.
+rises : (n m : ℕ) → n ≤ m → n ≤ m + 1
+rises n m low = omega arith
+
+module _ (times : Times) (host : ℕ) (t : Tables) (r : Reading) (h : Stands times host t r) (pid : Pid) (s : Seat)
+    (found : seat_in t.seats pid ≡ Some s) (f : Seat → Seat) (keeps : (x : Seat) → (f x).pid ≡ x.pid)
+    (sends : (x : Seat) → (f x).note.sends ≡ x.note.sends) (lookups : (x : Seat) → (f x).note.lookups ≡ x.note.lookups) (q : Reading)
+    (part : Part host (seated t pid f) q.view) (slots_same : q.slots ≡ r.slots) (events : q.events ≡ r.events + 1)
+    (work_other : (p : Pid) → same_pid p pid ≡ false → q.work p ≡ r.work p)
+    (work_here : (w : Waiting) → (f s).doing ≡ activities.Blocked w → is_work pid w ≡ true → IsWorking times (f s) (q.work pid) w) where
+  pub stands_seated : Stands times host (seated t pid f) q
+  stands_seated = stands_slotted times host t r h pid s found f keeps sends lookups t.slots q part (slots_same ∙ h.slots) events
+      (λ sender x at. rises x.moves r.events (h.moved sender x at)) work_other work_here

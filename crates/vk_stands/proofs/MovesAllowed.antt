@@ -1,6 +1,6 @@
 -- That a move which its partner has acknowledged in full ends in the view, and that its next bytes are written there: whatever frames
 -- were forged, the view has the mover's own move for the event.
-use Rattle.std.proofs.Common.{◌≡◌, ◌<◌, ◌≤◌, ℕ, zero, suc, ◌+◌, Bool, true, false, cond, ◌==◌, ◌&&◌, List, [], ◌∷◌, length, refl, sym, ap, ◌∙◌, subst, Option, Some, None, arith}
+use Rattle.std.proofs.Common.{◌≡◌, ◌<◌, ◌≤◌, ℕ, zero, suc, ◌+◌, Bool, true, false, cond, ◌==◌, List, [], ◌∷◌, length, refl, sym, ap, ◌∙◌, subst, Option, Some, arith}
 use Rattle.std.specs.List.{slice_get}
 use Rattle.std.specs.Option.{option_map, option_map_or}
 use Rattle.std.proofs.lemmas.Bool.{and_from, eq-eqb, le-leb}
@@ -14,17 +14,15 @@ use Rattle.vk_base.specs.declared.kernel.Exchange.{Exchange}
 use Rattle.vk_base.specs.declared.kernel.Move.{Move}
 use Rattle.vk_base.specs.declared.kernel.MoveName.{MoveName}
 use Rattle.vk_base.specs.declared.kernel.Name.{Name}
-use Rattle.vk_base.specs.declared.kernel.Process.{Process}
 use Rattle.vk_base.specs.declared.pid.Pid.{Pid}
 use Rattle.vk_base.specs.Activities.{state_of}
 use Rattle.vk_base.specs.Brought.{brought, bytes_from, is_moved_by, move_of_call, put_at, put_bytes, put_move, running_move, set_bytes, with_bytes_of, with_progress, with_running}
 unfoldable use Rattle.vk_base.specs.Changes.{change_exchange}
 use Rattle.vk_base.specs.Calls.{new_move}
-use Rattle.vk_base.specs.Kernel.{◌>>=◌, Kernel, blocked_in, holds_of, move_of, name_of, same_name}
+use Rattle.vk_base.specs.Kernel.{◌>>=◌, Kernel, blocked_in, holds_of, move_of, name_of}
 use Rattle.vk_base.specs.Packets.{MoveAck, MoveBytes}
-use Rattle.vk_base.specs.Pids.{same_pid}
 use Rattle.vk_base.specs.Ranges.{range_of, bytes_in}
-use Rattle.vk_base.specs.Steps.{Copying, is_complete, is_in_move, is_next, move_ending, only_if, written_process}
+use Rattle.vk_base.specs.Steps.{is_complete, is_in_move, is_next, move_ending, only_if, written_process}
 unfoldable use Rattle.vk_base.specs.Steps.{copying}
 use Rattle.v_laws.proofs.Options.{some_that_holds}
 use Rattle.v_laws.proofs.Tables.{same_name_self, same_pid_is}

@@ -1,8 +1,8 @@
 -- A move of a process of the station is over.
-use Rattle.std.proofs.Common.{◌≡◌, ℕ, ◌+◌, Bool, true, false, cond, not, ◌==◌, List, [], ◌∷◌, refl, ap, sym, ◌∙◌, subst, Option, Some, None}
+use Rattle.std.proofs.Common.{◌≡◌, ℕ, ◌+◌, Bool, true, false, cond, ◌==◌, List, [], ◌∷◌, refl, ap, sym, ◌∙◌, subst, Option, Some, None}
 use Rattle.std.specs.List.{find}
 use Rattle.std.specs.Option.{option_map, is_none}
-use Rattle.std.proofs.lemmas.Option.{same_Some, none-some}
+use Rattle.std.proofs.lemmas.Option.{same_Some}
 use Rattle.vk_base.specs.declared.activity.Activity.{Activity}
 use Rattle.vk_base.specs.declared.activity.Activity.TheVariants as activities
 use Rattle.vk_base.specs.declared.activity.Outcome.{Outcome}
@@ -17,12 +17,10 @@ use Rattle.vk_base.specs.declared.config.Times.{Times}
 use Rattle.vk_base.specs.declared.kernel.MoveName.{MoveName}
 use Rattle.vk_base.specs.declared.kernel.Name.{Name}
 use Rattle.vk_base.specs.declared.kernel.Process.{Process}
-use Rattle.vk_base.specs.declared.kernel.State.{State}
-use Rattle.vk_base.specs.declared.kernel.State.TheVariants as states
 use Rattle.vk_base.specs.declared.message.Message.{Message}
 use Rattle.vk_base.specs.declared.pid.Pid.{Pid}
 use Rattle.vk_base.specs.declared.step.Step.TheVariants as steps
-use Rattle.vk_base.specs.Activities.{answer_of, call_of, done_with, state_of}
+use Rattle.vk_base.specs.Activities.{answer_of, done_with, state_of}
 use Rattle.vk_base.specs.Calls.{unseen}
 use Rattle.vk_base.specs.Firsts.{change_first}
 use Rattle.vk_base.specs.Kernel.{◌>>=◌, Kernel, ended, is_moving, sending, with_state}
@@ -38,12 +36,11 @@ use Rattle.vk_procs.specs.Seats.{doing_now, finished, is_seat, process_of, seat_
 use Rattle.vk_rules.specs.Readings.{Reading}
 use Rattle.vk_stands.specs.Fit.{AreFit}
 use Rattle.vk_stands.specs.Stands.{Stands}
-use Rattle.vk_stands.specs.Tables.{Tables, is_work}
+use Rattle.vk_stands.specs.Tables.{Tables}
 use Rattle.vk_stands.proofs.Doing.{idle_part}
 use Rattle.vk_stands.proofs.OneSeat.{seated}
-use Rattle.vk_stands.proofs.Parts.{IsAfter, Part, carries_seated, part_of, same_more, stands_part}
+use Rattle.vk_stands.proofs.Parts.{Part, carries_seated, part_of, same_more, stands_part}
 use Rattle.vk_stands.proofs.Seats.{find-changed}
-use Rattle.vk_stands.proofs.Whole.{sound_next}
 
 -- changes of the first that passes, which do the same to it
 same_by : {X : Type 0} (p : X → Bool) (f g : X → X) (s x : X) (xs : List X) (b : Bool) → f s ≡ g s → cond b (Some x) (find p xs) ≡ Some s →

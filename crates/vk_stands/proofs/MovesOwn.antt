@@ -1,26 +1,13 @@
 -- The exchange of a mover's partner after an event: as many moves as before, of which those that a process waits in are its own.
-use Rattle.std.proofs.Common.{◌≡◌, ◌⊎◌, ◌≤◌, ℕ, zero, suc, ◌-◌, Bool, true, false, cond, List, [], ◌∷◌, length, take, refl, sym, ap, ◌∙◌, subst, Option, Some, None, inl, inr, arith}
+use Rattle.std.proofs.Common.{◌≡◌, ◌⊎◌, ◌≤◌, ℕ, zero, suc, Bool, true, false, cond, List, [], ◌∷◌, length, take, sym, ◌∙◌, Some, inl, inr, arith}
 use Rattle.std.specs.List.{slice_get}
-use Rattle.std.specs.Option.{option_map_or}
 use Rattle.std.proofs.lemmas.List.{length-take}
-use Rattle.std.proofs.lemmas.Option.{same_Some, none-some}
-use Rattle.vk_base.specs.declared.activity.Activity.TheVariants as activities
-use Rattle.vk_base.specs.declared.activity.Waiting.{Waiting}
-use Rattle.vk_base.specs.declared.activity.Waiting.TheVariants as waitings
-use Rattle.vk_base.specs.declared.kernel.Direction.{Direction}
-use Rattle.vk_base.specs.declared.kernel.Direction.TheVariants as directions
+use Rattle.std.proofs.lemmas.Option.{same_Some}
 use Rattle.vk_base.specs.declared.kernel.Exchange.{Exchange}
 use Rattle.vk_base.specs.declared.kernel.Move.{Move}
-use Rattle.vk_base.specs.declared.kernel.Name.{Name}
 use Rattle.vk_base.specs.declared.pid.Pid.{Pid}
-use Rattle.vk_base.specs.Brought.{as_many_moves, is_moved_by, put_at, put_move, with_running}
-use Rattle.vk_base.specs.Kernel.{Kernel, holds_of, move_of}
-use Rattle.vk_procs.specs.declared.seat.Seat.{Seat}
-use Rattle.vk_procs.specs.Seats.{seat_in}
-use Rattle.vk_stands.specs.Stands.{IsMoving, IsOwnMove}
-use Rattle.vk_stands.specs.Tables.{Tables}
-use Rattle.vk_stands.proofs.Found.{seat_found}
-use Rattle.vk_stands.proofs.MovesExchange.{Owns}
+use Rattle.vk_base.specs.Brought.{is_moved_by, put_at, put_move, with_running}
+use Rattle.vk_base.specs.Kernel.{holds_of, move_of}
 
 -- what stands in a list with a move put into its place
 padding : (j : ℕ) (x : Move) (i : ℕ) (m : Move) → slice_get (put_at [] j x) i ≡ Some m → m ≡ x

@@ -1,5 +1,5 @@
 -- One alien changes, and with it its Send.
-use Rattle.std.proofs.Common.{◌≡◌, ℕ, ◌-◌, nat_lt, nat_eq, Bool, true, false, ◌&&◌, ◌==◌, cond, map, set, Option, Some, None, refl, sym, ap, subst, ◌∙◌, inl, if◌then◌else◌}
+use Rattle.std.proofs.Common.{◌≡◌, ℕ, ◌<◌, ◌-◌, length, nat_lt, nat_eq, Bool, true, false, ◌&&◌, ◌==◌, cond, map, set, Option, Some, None, refl, sym, ap, subst, ◌∙◌, inl, if◌then◌else◌}
 use Rattle.std.specs.List.{slice_get}
 use Rattle.std.specs.Option.{option_map}
 use Rattle.std.proofs.lemmas.Bool.{both_ways, cond-true, cond-false, eq-eqb, eqb-true, false_from_ne_true}
@@ -29,6 +29,34 @@ use Rattle.vk_stands.proofs.Placed.{IsPlace, place_at, put_of}
 use Rattle.vk_stands.proofs.Views.{Goes, IsSameAlien, StandsView, same_alien, view_turned}
 use Rattle.vk_stands.proofs.Waits.{same_seat, waiting_kept}
 use Rattle.vk_stands.proofs.Whole.{same_work}
+
+-- Slots are of the Sends that they were of, where an alien becomes another one of its Send.
+module _ (t : Tables) (i : ℕ) (a b : Alien) (here : alien_at t.slots i ≡ Some a) (low : i < length t.slots)
+    (same : alien_name b ≡ alien_name a) where
+  name_at : (j : ℕ) (c : Bool) → nat_eq j i ≡ c →
+      option_map alien_name (alien_at (set t.slots i (Some b)) j) ≡ option_map alien_name (alien_at t.slots j)
+  name_at j true is =
+      let one : j ≡ i = eqb-true j i is in
+      ap (λ n. option_map alien_name (alien_at (set t.slots i (Some b)) n)) one
+      ∙ ap (option_map alien_name) (get_or-set_same t.slots i (Some b) None low)
+      ∙ ap Some same
+      ∙ sym (ap (option_map alien_name) (ap (alien_at t.slots) one ∙ here))
+  name_at j false other =
+      ap (option_map alien_name) (get_or-set_other t.slots i j (Some b) None (λ e. both_ways (nat_eq j i) other (eq-eqb j i e)))
+
+  pub slot_put : (slot : ℕ) → slot_name t.seats (set t.slots i (Some b)) slot ≡ slot_name t.seats t.slots slot
+  slot_put slot = ap (λ o. cond (nat_lt slot STATION_PROCESSES) (option_map seat_name (slice_get t.seats slot)) o)
+      (name_at (slot - STATION_PROCESSES) (nat_eq (slot - STATION_PROCESSES) i) refl)
+
+module _ (t : Tables) (i : ℕ) (a b : Alien) (here : alien_at t.slots i ≡ Some a) where
+  -- where entries say the same of it
+  pub slots_put : read_alien b ≡ read_alien a → map (option_map read_alien) (set t.slots i (Some b)) ≡ map (option_map read_alien) t.slots
+  slots_put read =
+      map-set (option_map read_alien) t.slots i (Some b)
+      ∙ ap (λ x. set (map (option_map read_alien) t.slots) i (Some x)) read
+      ∙ ap (λ o. set (map (option_map read_alien) t.slots) i (option_map read_alien o)) (sym here)
+      ∙ sym (map-set (option_map read_alien) t.slots i (alien_at t.slots i))
+      ∙ ap (map (option_map read_alien)) (set-get_or t.slots i None)
 
 -- the change of the alien of this sender
 abbrev pub only_alien : Pid → (Alien → Alien) → Alien → Alien
@@ -146,22 +174,9 @@ module _ (host : ℕ) (t : Tables) (k l : Kernel) (fit : AreFit host t) (h : Sta
   })
 
   -- slots are of the Sends that they were of
-  name_at : (j : ℕ) (b : Bool) → nat_eq j i ≡ b → option_map alien_name (alien_at (slotted t i f).slots j)
-      ≡ option_map alien_name (alien_at t.slots j)
-  name_at j true same =
-      let one : j ≡ i = eqb-true j i same in
-      ap (λ n. option_map alien_name (alien_at (slotted t i f).slots n)) one
-      ∙ ap (λ slots. option_map alien_name (alien_at slots i)) is_set
-      ∙ ap (option_map alien_name) (get_or-set_same t.slots i (Some (f a)) None place.lt)
-      ∙ (λ n. Some (name_of (g.same.sender n) (g.same.number n)))
-      ∙ sym (ap (option_map alien_name) (ap (alien_at t.slots) one ∙ here))
-  name_at j false other =
-      ap (λ slots. option_map alien_name (alien_at slots j)) is_set
-      ∙ ap (option_map alien_name) (get_or-set_other t.slots i j (Some (f a)) None (λ e. both_ways (nat_eq j i) other (eq-eqb j i e)))
-
   pub slot_slotted : (slot : ℕ) → slot_name t.seats (slotted t i f).slots slot ≡ slot_name t.seats t.slots slot
-  slot_slotted slot = ap (λ o. cond (nat_lt slot STATION_PROCESSES) (option_map seat_name (slice_get t.seats slot)) o)
-      (name_at (slot - STATION_PROCESSES) (nat_eq (slot - STATION_PROCESSES) i) refl)
+  slot_slotted slot = ap (λ slots. slot_name t.seats slots slot) is_set
+      ∙ slot_put t i a (f a) here place.lt (λ n. name_of (g.same.sender n) (g.same.number n)) slot
 
   pub names_slotted : (at : ℕ) → names_at (slotted t i f) at ≡ names_at t at
   names_slotted at = map_all (slot_name t.seats (slotted t i f).slots) (slot_name t.seats t.slots) (queue_at t.lists at) slot_slotted
@@ -186,9 +201,4 @@ module _ (host : ℕ) (t : Tables) (k l : Kernel) (fit : AreFit host t) (h : Sta
 
   -- where entries say the same of it
   pub slots_read : read_alien (f a) ≡ read_alien a → map (option_map read_alien) (slotted t i f).slots ≡ map (option_map read_alien) t.slots
-  slots_read same =
-      ap (map (option_map read_alien)) is_set ∙ map-set (option_map read_alien) t.slots i (Some (f a))
-      ∙ ap (λ x. set (map (option_map read_alien) t.slots) i (Some x)) same
-      ∙ ap (λ o. set (map (option_map read_alien) t.slots) i (option_map read_alien o)) (sym here)
-      ∙ sym (map-set (option_map read_alien) t.slots i (alien_at t.slots i))
-      ∙ ap (map (option_map read_alien)) (set-get_or t.slots i None)
+  slots_read same = ap (map (option_map read_alien)) is_set ∙ slots_put t i a (f a) here same

@@ -31,13 +31,14 @@ abbrev pub seated : Tables → Pid → (Seat → Seat) → Tables
 seated t pid f = record t { seats = change_first (is_seat pid) f t.seats }
 
 -- The process s becomes y, and the kernel has it so.
-pub record ChangesOne (k l : Kernel) (pid : Pid) (s y : Seat) : Type 0 where
+pub record ChangesSeat (k l : Kernel) (pid : Pid) (s y : Seat) : Type 0 where
   pub procs : (q : Pid) → l.procs q ≡ put_process k.procs pid (process_of y) q
   pub others : (n : Name) → same_name n (seat_name s) ≡ false → l.exchanges n ≡ k.exchanges n
   pub forth : (n : Name) (e : Exchange) → k.exchanges n ≡ Some e → (x : Exchange) × (l.exchanges n ≡ Some x) × Goes e x
   pub back : (n : Name) (x : Exchange) → l.exchanges n ≡ Some x → (e : Exchange) × (k.exchanges n ≡ Some e) × Goes e x
   pub lookups : (asker : Pid) (number : ℕ) → l.lookups asker number ≡ k.lookups asker number
-  pub same : IsSameSeat s y
+  -- where it waited in something its part and its numbers are the same
+  pub same : (w : Waiting) → s.doing ≡ activities.Blocked w → IsSameSeat s y
   -- where it waits in a local Send, its note tells how far that is
   pub stage : (target : Pid) (e x : Exchange) → k.exchanges (seat_name s) ≡ Some e → l.exchanges (seat_name s) ≡ Some x →
       same_host s.pid target ≡ true → y.doing ≡ s.doing → e.stage ≡ local_stage s → x.stage ≡ local_stage y
@@ -50,7 +51,8 @@ pub record ChangesOne (k l : Kernel) (pid : Pid) (s y : Seat) : Type 0 where
 
 module _ (host : ℕ) (t : Tables) (k l : Kernel) (fit : AreFit host t) (h : StandsView host t k) (pid : Pid) (own : pid.host ≡ host)
     (s : Seat)
-    (found : seat_in t.seats pid ≡ Some s) (f : Seat → Seat) (keeps : (x : Seat) → (f x).pid ≡ x.pid) (g : ChangesOne k l pid s (f s)) where
+    (found : seat_in t.seats pid ≡ Some s) (f : Seat → Seat) (keeps : (x : Seat) → (f x).pid ≡ x.pid)
+    (g : ChangesSeat k l pid s (f s)) where
   abbrev u : Tables
   u = seated t pid f
 
@@ -93,7 +95,7 @@ module _ (host : ℕ) (t : Tables) (k l : Kernel) (fit : AreFit host t) (h : Sta
 
   mine : (w : Waiting) → (f s).doing ≡ activities.Blocked w → (s.doing ≡ activities.Blocked w) ⊎ IsWaiting l (f s) w → IsWaiting l (f s) w
   mine w now (inl before) =
-      waiting_kept k l g.forth g.lookups s (f s) g.same
+      waiting_kept k l g.forth g.lookups s (f s) (g.same w before)
       (λ target e z at there local stage. g.stage target e z at there local (now ∙ sym before) stage) w (h.waiting pid s w found before)
   mine w now (inr is) = is
 
@@ -123,7 +125,7 @@ module _ (host : ℕ) (t : Tables) (k l : Kernel) (fit : AreFit host t) (h : Sta
       subst (λ z. IsSender n y (only pid f z)) one (subst (IsSender n y) (sym (only_here pid f s named)) (record {
         waits = g.sends y (sym (ap l.exchanges name) ∙ there)
             (eq-eqb s.pid.host y.target.host (ap (λ (p : Pid). p.host) named ∙ own ∙ sym here)) near sender.waits ∙ sender.waits;
-        last = g.same.sends ∙ sender.last;
+        last = (g.same (waitings.Send y.target y.message) sender.waits).sends ∙ sender.last;
       }))
   still_by n x y false other at there here near is =
       subst (IsSender n y) (sym (only_other pid f x (ap (λ p. same_pid p pid) (seat_found t.seats n.sender x at).named ∙ other))) is
@@ -153,5 +155,40 @@ module _ (host : ℕ) (t : Tables) (k l : Kernel) (fit : AreFit host t) (h : Sta
     refused = λ sender x closed at is. dead_by x.target (same_pid x.target pid) refl ((h.kept sender x at).refused closed is);
   }
 
-  pub view_seated : StandsView host u l
-  view_seated = view_turned host t u k l (only pid f) (λ x. x) fit h turned
+  pub view_changed : StandsView host u l
+  view_changed = view_turned host t u k l (only pid f) (λ x. x) fit h turned
+
+-- The same where it may wait in something, whatever it was doing.
+pub record ChangesOne (k l : Kernel) (pid : Pid) (s y : Seat) : Type 0 where
+  pub procs : (q : Pid) → l.procs q ≡ put_process k.procs pid (process_of y) q
+  pub others : (n : Name) → same_name n (seat_name s) ≡ false → l.exchanges n ≡ k.exchanges n
+  pub forth : (n : Name) (e : Exchange) → k.exchanges n ≡ Some e → (x : Exchange) × (l.exchanges n ≡ Some x) × Goes e x
+  pub back : (n : Name) (x : Exchange) → l.exchanges n ≡ Some x → (e : Exchange) × (k.exchanges n ≡ Some e) × Goes e x
+  pub lookups : (asker : Pid) (number : ℕ) → l.lookups asker number ≡ k.lookups asker number
+  pub same : IsSameSeat s y
+  -- where it waits in a local Send, its note tells how far that is
+  pub stage : (target : Pid) (e x : Exchange) → k.exchanges (seat_name s) ≡ Some e → l.exchanges (seat_name s) ≡ Some x →
+      same_host s.pid target ≡ true → y.doing ≡ s.doing → e.stage ≡ local_stage s → x.stage ≡ local_stage y
+  pub dead : s.alive ≡ false → y.alive ≡ false
+  -- what it waits in it waited in before, or the view has it
+  pub waits : (w : Waiting) → y.doing ≡ activities.Blocked w → (s.doing ≡ activities.Blocked w) ⊎ IsWaiting l y w
+  -- it still waits in a local Send that is at its target
+  pub sends : (e : Exchange) → l.exchanges (seat_name s) ≡ Some e → same_host s.pid e.target ≡ true → is_at_target e.stage ≡ true →
+      s.doing ≡ activities.Blocked (waitings.Send e.target e.message) → y.doing ≡ s.doing
+
+module _ (host : ℕ) (t : Tables) (k l : Kernel) (fit : AreFit host t) (h : StandsView host t k) (pid : Pid) (own : pid.host ≡ host)
+    (s : Seat)
+    (found : seat_in t.seats pid ≡ Some s) (f : Seat → Seat) (keeps : (x : Seat) → (f x).pid ≡ x.pid) (g : ChangesOne k l pid s (f s)) where
+  pub view_seated : StandsView host (seated t pid f) l
+  view_seated = view_changed host t k l fit h pid own s found f keeps (record {
+    procs = g.procs;
+    others = g.others;
+    forth = g.forth;
+    back = g.back;
+    lookups = g.lookups;
+    same = λ w is. g.same;
+    stage = g.stage;
+    dead = g.dead;
+    waits = g.waits;
+    sends = g.sends;
+  })

@@ -163,6 +163,7 @@ module _ (c : Settings) (host : ℕ) (fine : refusal_of c.times c.pool c.specs �
     part = λ target m blocked. absurd (cc);
     few = omega arith;
     begun = λ target m blocked. absurd (cc);
+    asked = λ logical scope blocked. absurd (cc);
   }
 
   on_host : (xs : List ProcessSpec) (i : ℕ) (x : ProcessSpec) → slice_get (filter (is_on host) xs) i ≡ Some x → x.pid.host ≡ host

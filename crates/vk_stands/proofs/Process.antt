@@ -1,5 +1,6 @@
 -- One process of the station does something else, or its memory is another one, and no Send changes.
-use Rattle.std.proofs.Common.{◌≡◌, ◌⊎◌, ℕ, true, false, Some, refl, sym, ap, subst, ◌∙◌, inl, inr}
+use Rattle.std.proofs.Common.{◌≡◌, ◌⊎◌, ℕ, Bool, true, false, Some, refl, sym, ap, subst, ◌∙◌, inl, inr}
+use Rattle.std.specs.Option.{option_map}
 use Rattle.std.proofs.lemmas.Option.{same_Some}
 use Rattle.vk_base.specs.declared.activity.Activity.TheVariants as activities
 use Rattle.vk_base.specs.declared.activity.Waiting.{Waiting}
@@ -9,8 +10,9 @@ use Rattle.vk_base.specs.declared.kernel.Name.{Name}
 use Rattle.vk_base.specs.declared.kernel.Process.{Process}
 use Rattle.vk_base.specs.declared.pid.Pid.{Pid}
 use Rattle.vk_base.specs.Kernel.{Kernel, is_at_target, put_process, queue_of}
-use Rattle.vk_base.specs.Pids.{same_host}
+use Rattle.vk_base.specs.Pids.{same_host, same_pid}
 use Rattle.v_laws.specs.Sound.{IsSoundAt}
+use Rattle.v_laws.proofs.Tables.{put_process_at, put_process_other, same_pid_is}
 use Rattle.vk_procs.specs.declared.seat.Seat.{Seat}
 use Rattle.vk_procs.specs.Seats.{process_of, seat_in}
 use Rattle.vk_stands.specs.Fit.{IsFitSeat}
@@ -109,3 +111,17 @@ module _ (host : ℕ) (t : Tables) (k : Kernel) (part : Part host t k) (pid : Pi
     unknown = part.unknown;
     queues = queues_seated t pid f keeps k l (λ q at place. refl) part.queues;
   }
+
+  -- what the kernel has of it is the same
+  process_by : (q : Pid) (b : Bool) → same_pid q pid ≡ b → process_of (f s) ≡ process_of s → l.procs q ≡ k.procs q
+  process_by q true same is =
+      put_process_at k.procs pid (process_of (f s)) q same ∙ ap Some is
+      ∙ sym (ap k.procs (same_pid_is q pid same) ∙ part.view.procs pid own ∙ ap (option_map process_of) found)
+  process_by q false other is = put_process_other k.procs pid (process_of (f s)) q other
+
+  same_kernel : process_of (f s) ≡ process_of s → l ≡ k
+  same_kernel is = λ i. record k { procs = λ q. process_by q (same_pid q pid) refl is i }
+
+  pub part_noted : process_of (f s) ≡ process_of s → Part host (seated t pid f) k
+  part_noted is = subst (Part host (seated t pid f)) (same_kernel is)
+      (part_process (subst (IsSoundAt (λ g. false)) (sym (same_kernel is)) part.sound))

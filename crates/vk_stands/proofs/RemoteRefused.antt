@@ -1,14 +1,12 @@
 -- A Negative ends a remote Send of the station.
-use Rattle.std.proofs.Common.{◌≡◌, ℕ, ◌≤◌, Bool, true, false, cond, not, ◌==◌, List, Option, Some, None, All, refl, sym, ap, subst, ◌∙◌, inl, inr, arith}
-use Rattle.std.specs.List.{IsDistinct}
+use Rattle.std.proofs.Common.{◌≡◌, ℕ, ◌≤◌, Bool, true, false, not, ◌==◌, Option, Some, None, All, refl, sym, ap, subst, ◌∙◌, inl, inr, arith}
 use Rattle.std.specs.Option.{option_map}
 use Rattle.std.proofs.lemmas.Bool.{both_ways, cases_Bool, cond-false, cond-true, eq-eqb, eqb-true, false_from_ne_true}
 use Rattle.std.proofs.lemmas.List.Elements.{All-weaker}
 use Rattle.std.proofs.lemmas.Option.{none-some, same_Some}
 use Rattle.v_laws.proofs.Options.{mapped_is}
-use Rattle.v_laws.proofs.SoundChanges.{orderly_where}
 use Rattle.v_laws.proofs.Tables.{same_pid_is, same_pid_self}
-use Rattle.v_laws.specs.Sound.{IsAwaited, IsBegun, IsRegistered, IsSent as IsLastSend, IsSoundAt}
+use Rattle.v_laws.specs.Sound.{IsAwaited, IsRegistered, IsSoundAt}
 use Rattle.vk_base.specs.declared.activity.Activity.TheVariants as activities
 use Rattle.vk_base.specs.declared.activity.Outcome.TheVariants as outcomes
 use Rattle.vk_base.specs.declared.activity.Waiting.{Waiting}
@@ -20,7 +18,6 @@ use Rattle.vk_base.specs.declared.answer.Refusal.TheVariants as refusals
 use Rattle.vk_base.specs.declared.kernel.Exchange.{Exchange}
 use Rattle.vk_base.specs.declared.kernel.Name.{Name}
 use Rattle.vk_base.specs.declared.kernel.Process.{Process}
-use Rattle.vk_base.specs.declared.kernel.Registration.{Registration}
 use Rattle.vk_base.specs.declared.kernel.State.TheVariants as states
 use Rattle.vk_base.specs.declared.message.Message.{Message}
 use Rattle.vk_base.specs.declared.pid.Pid.{Pid}
@@ -45,9 +42,9 @@ use Rattle.vk_stands.proofs.Doing.{fit_idle}
 use Rattle.vk_stands.proofs.Endings.{Comes}
 use Rattle.vk_stands.proofs.Found.{alien_found, seat_found}
 use Rattle.vk_stands.proofs.OneSeat.{seated}
-use Rattle.vk_stands.proofs.Parts.{Carries, Part, carries_seated, same_more}
+use Rattle.vk_stands.proofs.Parts.{Part, carries_seated, same_more}
 use Rattle.vk_stands.proofs.Process.{part_process}
-use Rattle.vk_stands.proofs.RemoteReply.{far_name, sent_far, target_away}
+use Rattle.vk_stands.proofs.RemoteReply.{sent_far}
 use Rattle.vk_stands.proofs.Views.{StandsView, goes_self}
 use Rattle.vk_stands.proofs.Waits.{same_seat, waiting_kept}
 use Rattle.vk_stands.proofs.Whole.{sound_next}
@@ -115,7 +112,8 @@ module _ (host : ℕ) (t : Tables) (k : Kernel) (part : Part host t k) (from : P
       All-weaker (IsRegistered k g) (IsRegistered l g)
       (λ r x. record { here = x.here; live = ap is_live (at_own r.pid (x.here ∙ here)) ∙ x.live }) (k.names g) (part.sound.registered g)
   registered_by g false is =
-      subst (All (IsRegistered l g)) (sym (part.unknown g (λ here. both_ways (g == host) is (eq-eqb g host here)))) (λ i d low. absurd (omega (arith, low)))
+      subst (All (IsRegistered l g)) (sym (part.unknown g (λ here. both_ways (g == host) is (eq-eqb g host here))))
+      (λ i d low. absurd (omega (arith, low)))
 
   resting_by : (pid : Pid) (y : Process) → l.procs pid ≡ Some y → y.alive ≡ false → (b : Bool) → same_pid pid from ≡ b →
       is_ready y.state ≡ true
@@ -141,7 +139,12 @@ module _ (host : ℕ) (t : Tables) (k : Kernel) (part : Part host t k) (from : P
     sent = λ pid y target m is sends.
         let x = was pid y is in
         let v = part.sound.sent pid x.0 target m x.1 (ap sending (sym x.2.state) ∙ sends) in
-        record { exchange = v.exchange; is = ap (λ n. k.exchanges (name_of pid n)) x.2.sends ∙ v.is; target = v.target; message = v.message };
+        record {
+          exchange = v.exchange;
+          is = ap (λ n. k.exchanges (name_of pid n)) x.2.sends ∙ v.is;
+          target = v.target;
+          message = v.message;
+        };
     registered = λ g. registered_by g (g == host) refl;
     distinct = part.sound.distinct;
   }

@@ -28,9 +28,10 @@ use Rattle.vk_packet.specs.Rules.{part_len}
 use Rattle.vk_pool.specs.Aliens.{alien_from}
 use Rattle.vk_procs.specs.declared.seat.Seat.{Seat}
 use Rattle.vk_procs.specs.Seats.{begun_send, next, process_of, seat_in}
-use Rattle.vk_stands.specs.Fit.{IsFitSeat, may_go_on, may_wait}
+use Rattle.vk_stands.specs.Fit.{AreFit, IsFitSeat, may_go_on, may_wait}
 use Rattle.vk_stands.specs.Stands.{IsHome, IsSender, IsWaiting}
 use Rattle.vk_stands.specs.Tables.{Tables, alien_name, seat_name}
+use Rattle.vk_stands.proofs.Fits.{fit_seated}
 use Rattle.vk_stands.proofs.Found.{alien_found, seat_found}
 use Rattle.vk_stands.proofs.OneSeat.{same_map, seated}
 use Rattle.vk_stands.proofs.Parts.{Part}
@@ -101,11 +102,16 @@ module _ (host : ℕ) (t : Tables) (k : Kernel) (part : Part host t k) (pid : Pi
     part = λ to n is. part_length m s.memory g.lies ∙ ap (λ w. part_len_in w) (same_send target m (waitings.Send to n) is);
     few = subst (λ n. n ≤ SEGMENT_BYTES) (sym (part_length m s.memory g.lies)) (part_low (grants_read m) (segment_of m).len);
     begun = λ to n is. subst (λ n. 0 < n) (sym g.more) (omega arith);
+    asked = λ logical scope is. absurd (cc);
   }
     where
       part_len_in : Waiting → ℕ
       part_len_in (waitings.Send to n) = part_len n
       part_len_in w = 0
+
+  pub begun_fit : AreFit host (seated t pid f)
+  begun_fit = fit_seated host t part.fit pid f (λ x. refl)
+      (λ x is. subst (λ z. IsFitSeat host z → IsFitSeat host (f z)) (same_Some s x (sym found ∙ is)) fits_sent)
 
   here : k.procs pid ≡ Some p
   here = part.view.procs pid own ∙ ap (option_map process_of) found

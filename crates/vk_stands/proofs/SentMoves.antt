@@ -1,10 +1,10 @@
 -- At the station of a sender that waits for its mover: of the moves of its Send another is open, and so far, and its memory has other
 -- bytes.
-use Rattle.std.proofs.Common.{◌≡◌, ◌⊎◌, ◌≤◌, ℕ, Bool, true, false, cond, ◌&&◌, ◌==◌, not, List, length, map, refl, sym, ap, ◌∙◌, subst, Option, Some, None, inl, inr, arith}
+use Rattle.std.proofs.Common.{◌≡◌, ◌≤◌, ℕ, Bool, true, false, cond, ◌&&◌, ◌==◌, not, List, length, refl, sym, ap, ◌∙◌, subst, Option, Some, None, inl, inr, arith}
 use Rattle.std.specs.Option.{option_map}
 use Rattle.std.proofs.lemmas.Bool.{and_parts, both_ways, cond-true, eq-eqb, eqb-true, false_from_ne_true}
 use Rattle.std.proofs.lemmas.List.Elements.{filter_agree}
-use Rattle.std.proofs.lemmas.Option.{same_Some, none-some}
+use Rattle.std.proofs.lemmas.Option.{same_Some}
 use Rattle.vk_base.specs.declared.activity.Activity.TheVariants as activities
 use Rattle.vk_base.specs.declared.activity.Waiting.{Waiting}
 use Rattle.vk_base.specs.declared.activity.Waiting.TheVariants as waitings
@@ -18,7 +18,7 @@ use Rattle.vk_base.specs.declared.pid.Pid.{Pid}
 use Rattle.vk_base.specs.declared.step.Step.TheVariants as steps
 use Rattle.vk_base.specs.Activities.{state_of}
 use Rattle.vk_base.specs.Firsts.{change_first}
-use Rattle.vk_base.specs.Kernel.{Kernel, holds_of, is_at_target, is_queued, is_queued_at, is_ready, name_of, put_exchange, same_name, with_memory}
+use Rattle.vk_base.specs.Kernel.{Kernel, holds_of, is_at_target, is_queued, is_queued_at, is_ready, put_exchange, same_name, with_memory}
 unfoldable use Rattle.vk_base.specs.Kernel.{queue_of}
 use Rattle.vk_base.specs.Pids.{same_host, same_pid}
 use Rattle.vk_base.specs.Ranges.{lies_in, range_of, with_bytes}
@@ -32,14 +32,14 @@ use Rattle.vk_pool.specs.declared.alien.Alien.{Alien}
 use Rattle.vk_pool.specs.Aliens.{alien_from}
 use Rattle.vk_procs.specs.declared.seat.Seat.{Seat}
 use Rattle.vk_procs.specs.Seats.{is_seat, process_of, seat_in, written}
-use Rattle.vk_stands.specs.Fit.{AreFit, IsFitSeat, is_remote_move, may_go_on, may_wait}
+use Rattle.vk_stands.specs.Fit.{IsFitSeat, is_remote_move, may_go_on, may_wait}
 use Rattle.vk_stands.specs.Stands.{IsHome, IsKept, IsMoving, IsSender, IsSent, IsWaiting}
 use Rattle.vk_stands.specs.Tables.{Tables, alien_name, seat_name}
 use Rattle.vk_stands.proofs.Doing.{memory_part, overwritten_length, remembering}
 use Rattle.vk_stands.proofs.Fits.{fit_seated, queues_seated}
 use Rattle.vk_stands.proofs.Found.{alien_found, seat_found}
 use Rattle.vk_stands.proofs.OneSeat.{seated}
-use Rattle.vk_stands.proofs.Parts.{AreQueues, Part}
+use Rattle.vk_stands.proofs.Parts.{Part}
 use Rattle.vk_stands.proofs.Seats.{change_agree}
 use Rattle.vk_stands.proofs.Views.{StandsView}
 use Rattle.vk_stands.proofs.Waits.{only, only_here, only_other, seats_changed}
@@ -101,7 +101,8 @@ module _ (host : ℕ) (t : Tables) (k : Kernel) (part : Part host t k) (pid : Pi
 
   -- exchanges
   other : (n : Name) → same_pid n.sender pid ≡ false → l.exchanges n ≡ k.exchanges n
-  other n apart = put_exchange_other k.exchanges (seat_name s) y n (ap (λ b. b && n.number == s.note.sends) (ap (same_pid n.sender) named ∙ apart))
+  other n apart = put_exchange_other k.exchanges (seat_name s) y n (ap (λ b. b && n.number == s.note.sends) (ap
+      (same_pid n.sender) named ∙ apart))
 
   not_own : (q : Pid) → (q.host ≡ host → ⊥) → same_pid q pid ≡ false
   not_own q far = false_from_ne_true (same_pid q pid) (λ t1. far (ap (λ (p : Pid). p.host) (same_pid_is q pid t1) ∙ own))
@@ -265,10 +266,12 @@ module _ (host : ℕ) (t : Tables) (k : Kernel) (part : Part host t k) (pid : Pi
     part = h.part;
     few = h.few;
     begun = h.begun;
+    asked = h.asked;
   }
 
   sound : IsSoundAt (λ g. false) l
-  sound = sound_onward (steps.Take pid) k l part.sound (goes_exchange (steps.Take pid) k (put_exchange k.exchanges (seat_name s) y) k.lookups
+  sound = sound_onward (steps.Take pid) k l part.sound (goes_exchange (steps.Take pid) k (put_exchange k.exchanges
+      (seat_name s) y) k.lookups
       part.sound (one_exchange_changes (steps.Take pid) k (seat_name s) e y is (record {
         target = same.target;
         message = same.message;

@@ -1,11 +1,11 @@
 -- The message of a local Send waits at its target behind all others.
-use Rattle.std.proofs.Common.{◌≡◌, ◌≢◌, ℕ, zero, suc, ◌+◌, ◌-◌, ◌<◌, ◌≤◌, ◌==◌, ◌||◌, nat_lt, Bool, true, false, cond, not, List, [], ◌∷◌, ◌++◌, length, map, get_or, slice_set, Option, Some, None, refl, sym, ap, subst, ◌∙◌, inl, inr, le_refl}
+use Rattle.std.proofs.Common.{◌≡◌, ◌≢◌, ℕ, zero, suc, ◌+◌, ◌-◌, ◌<◌, ◌≤◌, ◌==◌, ◌||◌, nat_lt, Bool, true, false, cond, not, List, [], ◌∷◌, ◌++◌, length, map, slice_set, Option, Some, None, refl, sym, ap, subst, ◌∙◌, inl, inr, le_refl}
 use Rattle.std.specs.List.{position, slice_get}
 use Rattle.std.specs.Option.{option_map}
 use Rattle.std.proofs.lemmas.Bool.{and_parts, and_right, both_ways, cases_Bool, cond-true, eq-eqb, false_from_ne_true, lt-ltb}
 use Rattle.std.proofs.lemmas.List.{get_or-set_other, get_or-set_same, length-map, length-set}
 use Rattle.std.proofs.lemmas.List.Quantifiers.{position-Some}
-use Rattle.std.proofs.lemmas.Option.{same_Some, none-some, slice_get-get_or}
+use Rattle.std.proofs.lemmas.Option.{same_Some, none-some}
 use Rattle.vk_base.specs.declared.activity.Activity.TheVariants as activities
 use Rattle.vk_base.specs.declared.activity.Waiting.TheVariants as waitings
 use Rattle.vk_base.specs.declared.call.Call.TheVariants as calls
@@ -29,16 +29,16 @@ use Rattle.vk_procs.specs.declared.seat.Seat.{Seat}
 use Rattle.vk_procs.specs.Seats.{begun_send, is_seat, process_of, seat_in}
 use Rattle.vk_queue.specs.Lists.{holds, queue_at, without}
 use Rattle.vk_queue.proofs.Cleared.{whole}
-use Rattle.vk_stands.specs.Fit.{AreFit, IsFitSeat}
+use Rattle.vk_stands.specs.Fit.{AreFit}
 use Rattle.vk_stands.specs.Stands.{IsHome}
 use Rattle.vk_stands.specs.Tables.{Tables, alien_name, is_work, names_at, seat_name, slot_name}
-use Rattle.vk_stands.proofs.Fits.{fit_seated, get_changed_is}
+use Rattle.vk_stands.proofs.Fits.{get_changed_is, placed_here}
 use Rattle.vk_stands.proofs.Found.{alien_found}
 use Rattle.vk_stands.proofs.Listed.{low_place, not_in_list, place_name, placed_at, places_apart}
 use Rattle.vk_stands.proofs.OneSeat.{seated}
 use Rattle.vk_stands.proofs.Parts.{AreQueues, Carries, Part, carries_seated, same_more}
 use Rattle.vk_stands.proofs.Seats.{get-changed, length-changed, position-changed}
-use Rattle.vk_stands.proofs.Sent.{CanSend, fits_sent, ready_waits, same_send, seat_here, view_sent}
+use Rattle.vk_stands.proofs.Sent.{CanSend, begun_fit, ready_waits, same_send, seat_here, view_sent}
 
 -- a process that is ready has no Send that is queued
 pub ready_unqueued : (host : ℕ) (t : Tables) (k : Kernel) (part : Part host t k) (pid : Pid) (own : pid.host ≡ host) (s : Seat)
@@ -91,6 +91,49 @@ names_but f g slot same (j ∷ q) none =
     neither true b e = absurd (cc)
     neither false b e = (refl, e)
 
+-- A process that is ready changes, and its last Send may be another one: its slot stands in no list, and the others are of the Sends that
+-- they were of.
+module _ (host : ℕ) (t : Tables) (k : Kernel) (part : Part host t k) (pid : Pid) (own : pid.host ≡ host) (s : Seat)
+    (found : seat_in t.seats pid ≡ Some s) (ready : s.doing ≡ activities.Ready) (slot : ℕ)
+    (here : position (is_seat pid) t.seats ≡ Some slot) where
+  pub unlisted : (q : Pid) (i : ℕ) → position (is_seat q) t.seats ≡ Some i → holds slot (queue_at t.lists i) ≡ false
+  unlisted q i place =
+      not_in_list t k part.queues q i slot (seat_name s) place (place_name host t part.fit pid s slot here found)
+      (ap (λ p. holds_of (is_queued_at q) (k.exchanges (name_of p s.note.sends)))
+      (same_pid_is s.pid pid (placed_at t pid s slot here found).named)
+      ∙ ready_unqueued host t k part pid own s found ready q (placed_here host t part.fit q i s place) s.note.sends)
+
+  module _ (f : Seat → Seat) (keeps : (x : Seat) → (f x).pid ≡ x.pid) where
+    other_by : (j : ℕ) → (slot == j) ≡ false → (o : Option Seat) → slice_get (seated t pid f).seats j ≡ o →
+        option_map seat_name (slice_get (seated t pid f).seats j) ≡ option_map seat_name (slice_get t.seats j)
+    other_by j other None none =
+        ap (option_map seat_name) none ∙ sym (ap (option_map seat_name) (gone (slice_get t.seats j) refl))
+      where
+        gone : (o : Option Seat) → slice_get t.seats j ≡ o → slice_get t.seats j ≡ None
+        gone None is = is
+        gone (Some x) is =
+            let same = get-changed (is_seat pid) f (λ (z : Seat). z.pid) t.seats j keeps in
+            absurd (none-some x.pid (sym (ap (option_map (λ (z : Seat). z.pid)) none) ∙ same
+            ∙ ap (option_map (λ (z : Seat). z.pid)) is))
+    other_by j other (Some y) some =
+        let c = get_changed_is (is_seat pid) f t.seats j y some in
+        ap (option_map seat_name) some ∙ ap (λ z. Some (seat_name z)) (elim c.how [
+          | inl same ↦ same
+          | inr is ↦
+              let one : slot ≡ j = same_Some slot j (sym here ∙ ap (λ p. position (is_seat p) t.seats)
+              (sym (same_pid_is c.old.pid pid is.0))
+              ∙ part.fit.places j c.old c.was) in
+              absurd (both_ways (slot == j) other (eq-eqb slot j one))
+        ]) ∙ sym (ap (option_map seat_name) c.was)
+
+    pub other_kept : (j : ℕ) → (slot == j) ≡ false → slot_name (seated t pid f).seats t.slots j ≡ slot_name t.seats t.slots j
+    other_kept j other = ap (λ o. cond (nat_lt j STATION_PROCESSES) o (option_map alien_name (alien_at t.slots (j - STATION_PROCESSES))))
+        (other_by j other (slice_get (seated t pid f).seats j) refl)
+
+    pub names_still : (q : Pid) (i : ℕ) → position (is_seat q) t.seats ≡ Some i → names_at (seated t pid f) i ≡ names_at t i
+    names_still q i place = names_but (slot_name (seated t pid f).seats t.slots) (slot_name t.seats t.slots) slot other_kept
+        (queue_at t.lists i) (unlisted q i place)
+
 module _ (host : ℕ) (t : Tables) (k : Kernel) (part : Part host t k) (pid : Pid) (own : pid.host ≡ host) (s : Seat)
     (found : seat_in t.seats pid ≡ Some s) (target : Pid) (m : Message) (g : CanSend s m) (local : same_host pid target ≡ true)
     (at slot : ℕ)
@@ -129,44 +172,10 @@ module _ (host : ℕ) (t : Tables) (k : Kernel) (part : Part host t k) (pid : Pi
           ∙ ap (option_map seat_name) is.here
 
   in_none : (q : Pid) (i : ℕ) → position (is_seat q) t.seats ≡ Some i → holds slot (queue_at t.lists i) ≡ false
-  in_none q i place =
-      let at_q = position-Some (is_seat q) t.seats i s place in
-      let own_q : q.host ≡ host = host_of_place q i place in
-      not_in_list t k part.queues q i slot (seat_name s) place (place_name host t part.fit pid s slot here found)
-      (ap (λ p. holds_of (is_queued_at q) (k.exchanges (name_of p s.note.sends)))
-      (same_pid_is s.pid pid (placed_at t pid s slot here found).named)
-      ∙ ready_unqueued host t k part pid own s found g.ready q own_q s.note.sends)
-    where
-      host_of_place : (q : Pid) (i : ℕ) → position (is_seat q) t.seats ≡ Some i → q.host ≡ host
-      host_of_place q i place =
-          let facts = position-Some (is_seat q) t.seats i s place in
-          sym (ap (λ (p : Pid). p.host) (same_pid_is (get_or t.seats i s).pid q facts.1))
-          ∙ (part.fit.seats i (get_or t.seats i s) (slice_get-get_or t.seats i s facts.0)).own
-
-  -- other slots are of the Sends that they were of
-  other_by : (j : ℕ) → (slot == j) ≡ false → (o : Option Seat) → slice_get sent_tables.seats j ≡ o →
-      option_map seat_name (slice_get sent_tables.seats j) ≡ option_map seat_name (slice_get t.seats j)
-  other_by j other None none =
-      ap (option_map seat_name) none ∙ sym (ap (option_map seat_name) (gone (slice_get t.seats j) refl))
-    where
-      gone : (o : Option Seat) → slice_get t.seats j ≡ o → slice_get t.seats j ≡ None
-      gone None is = is
-      gone (Some x) is =
-          let same = get-changed (is_seat pid) (begun_send target m) (λ (z : Seat). z.pid) t.seats j (λ z. refl) in
-          absurd (none-some x.pid (sym (ap (option_map (λ (z : Seat). z.pid)) none) ∙ same ∙ ap (option_map (λ (z : Seat). z.pid)) is))
-  other_by j other (Some y) some =
-      let c = get_changed_is (is_seat pid) (begun_send target m) t.seats j y some in
-      ap (option_map seat_name) some ∙ ap (λ z. Some (seat_name z)) (elim c.how [
-        | inl same ↦ same
-        | inr is ↦
-            let one : slot ≡ j = same_Some slot j (sym here ∙ ap (λ p. position (is_seat p) t.seats) (sym (same_pid_is c.old.pid pid is.0))
-            ∙ part.fit.places j c.old c.was) in
-            absurd (both_ways (slot == j) other (eq-eqb slot j one))
-      ]) ∙ sym (ap (option_map seat_name) c.was)
+  in_none q i place = unlisted host t k part pid own s found g.ready slot here q i place
 
   other_slot : (j : ℕ) → (slot == j) ≡ false → now j ≡ before j
-  other_slot j other = ap (λ o. cond (nat_lt j STATION_PROCESSES) o (option_map alien_name (alien_at t.slots (j - STATION_PROCESSES))))
-      (other_by j other (slice_get sent_tables.seats j) refl)
+  other_slot j other = other_kept host t k part pid own s found g.ready slot here (begun_send target m) (λ x. refl) j other
 
   kept_names : (q : Pid) (i : ℕ) → position (is_seat q) t.seats ≡ Some i →
       map now (without slot (queue_at t.lists i)) ≡ map before (queue_at t.lists i)
@@ -218,9 +227,7 @@ module _ (host : ℕ) (t : Tables) (k : Kernel) (part : Part host t k) (pid : Pi
 
   pub sent_fit : AreFit host sent_tables
   sent_fit =
-      let fit : AreFit host (seated t pid (begun_send target m)) = fit_seated host t part.fit pid (begun_send target m) (λ x. refl)
-      (λ x is. subst (λ z. IsFitSeat host z → IsFitSeat host (begun_send target m z)) (same_Some s x (sym found ∙ is))
-      (fits_sent host t k part pid own s found target m g)) in
+      let fit : AreFit host (seated t pid (begun_send target m)) = begun_fit host t k part pid own s found target m g in
       record {
         few = fit.few;
         lists = lists_length ∙ part.fit.lists;

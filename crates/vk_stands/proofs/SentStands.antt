@@ -1,9 +1,8 @@
 -- The relation after a packet of a mover came to the station of its partner, which waits in its Send: the packet is no answer to any work
 -- and sends no round.
-use Rattle.std.proofs.Common.{◌≡◌, ◌≤◌, ℕ, ◌+◌, Bool, true, false, cond, List, [], map, refl, sym, ap, subst, ◌∙◌, Option, Some, None, arith, inl, inr}
+use Rattle.std.proofs.Common.{◌≡◌, ℕ, ◌+◌, Bool, true, false, cond, map, refl, sym, ap, subst, ◌∙◌, Option, Some, None, arith, []}
 use Rattle.std.specs.List.{filter_map, list_any, sum_by}
 use Rattle.std.specs.Option.{option_map}
-use Rattle.std.proofs.lemmas.Bool.{cases_Bool}
 use Rattle.std.proofs.lemmas.Option.{same_Some}
 use Rattle.vk_base.specs.declared.activity.Activity.TheVariants as activities
 use Rattle.vk_base.specs.declared.activity.Waiting.{Waiting}
@@ -23,7 +22,6 @@ use Rattle.v_laws.proofs.Tables.{same_pid_is}
 use Rattle.vk_frame.specs.declared.header.Header.{Header}
 use Rattle.vk_procs.specs.declared.seat.Seat.{Seat}
 use Rattle.vk_procs.specs.Seats.{seat_in}
-use Rattle.vk_pool.specs.declared.alien.Alien.{Alien}
 use Rattle.vk_rules.specs.Aliens.{as_arrival, is_closing, is_copy}
 use Rattle.vk_rules.specs.Entries.{Delivered}
 use Rattle.vk_rules.specs.Frames.{Framed}
@@ -126,7 +124,8 @@ module _ (c : Settings) (host : ℕ) (r : Reading) (h : Header) (p : Packet) (ta
 
   work_here : after.work to ≡ work_by r.now false false false false (acknowledged_by (Some p)) copied (r.work to)
   work_here = came_work c host r h p taken to
-      ∙ (λ i. work_by r.now false (plain.answer to (r.work to) (r.view.procs to) i) (unsent to i) (unsent to i) (acknowledged_by (Some p)) copied
+      ∙ (λ i. work_by r.now false (plain.answer to (r.work to) (r.view.procs to) i) (unsent to i) (unsent to i) (acknowledged_by
+      (Some p)) copied
       (r.work to))
 
   plus_zero : (n : ℕ) → n + 0 ≡ n
@@ -145,7 +144,8 @@ module _ (c : Settings) (host : ℕ) (r : Reading) (h : Header) (p : Packet) (ta
       s.doing ≡ activities.Blocked (waitings.Send target m) → (u : Tables) → Part host u (after_steps r.view (Some p) o.steps) →
       Carries 1 t u → u.slots ≡ t.slots → Stands c.times host u after
   stands_moved s found target m state u part carries slots = stands_sent c.times host t r stands to s found target m state u after
-      (subst (Part host u) (sym (came_view c host r h p taken ∙ ap (λ (o : Outcome). after_steps r.view (Some p) o.steps) out)) part) carries
+      (subst (Part host u) (sym (came_view c host r h p taken
+      ∙ ap (λ (o : Outcome). after_steps r.view (Some p) o.steps) out)) part) carries
       (slots_same ∙ stands.slots ∙ ap (map (option_map read_alien)) (sym slots)) (events_are c host r (Delivered (Framed h p))) work_other
       (ap (λ (w : Work). w.rounds) work_here ∙ plus_zero (r.work to).rounds) (ap (λ (w : Work). w.since) work_here)
 

@@ -1,10 +1,9 @@
 -- The steps of a mover's packets in the view of its partner's station: a move is opened, and its next bytes are written.
-use Rattle.std.proofs.Common.{◌≡◌, ◌≤◌, ◌<◌, ℕ, zero, suc, ◌+◌, ◌-◌, ◌==◌, ◌&&◌, Bool, true, false, cond, List, [], ◌∷◌, ◌++◌, length, take, drop, replicate, refl, sym, ap, ◌∙◌, Option, Some, None, ltb, leb, arith}
+use Rattle.std.proofs.Common.{◌≡◌, ◌≤◌, ℕ, zero, suc, ◌+◌, ◌-◌, ◌==◌, Bool, true, false, cond, List, [], ◌∷◌, ◌++◌, length, take, drop, replicate, refl, ap, ◌∙◌, Option, Some, None, ltb, arith}
 use Rattle.std.specs.List.{slice_get, slice_set}
 use Rattle.std.specs.Option.{option_map}
 use Rattle.std.proofs.lemmas.Bool.{and_from, eq-eqb, le-leb}
 use Rattle.std.proofs.lemmas.List.{take_all}
-use Rattle.vk_base.specs.declared.kernel.Direction.TheVariants as directions
 use Rattle.vk_base.specs.declared.kernel.Exchange.{Exchange}
 use Rattle.vk_base.specs.declared.kernel.Move.{Move}
 use Rattle.vk_base.specs.declared.kernel.Name.{Name}
@@ -18,9 +17,9 @@ unfoldable use Rattle.vk_base.specs.Changes.{change_exchange}
 use Rattle.vk_base.specs.Kernel.{◌>>=◌, Kernel, move_of, name_of, same_name, sending, with_memory}
 unfoldable use Rattle.vk_base.specs.Kernel.{put_exchange, waiting_on}
 use Rattle.vk_base.specs.Ranges.{bytes_in, range_of, with_bytes}
-use Rattle.vk_base.specs.Steps.{Copying, Opening, after_effect, is_next, next, noted_bytes, only_if, written_process}
+use Rattle.vk_base.specs.Steps.{Opening, after_effect, is_next, next, noted_bytes, only_if, written_process}
 unfoldable use Rattle.vk_base.specs.Steps.{copied, copying, move_opened, opening_move}
-use Rattle.v_laws.proofs.Tables.{put_exchange_here, same_name_is, same_name_self}
+use Rattle.v_laws.proofs.Tables.{put_exchange_here, same_name_is}
 use Rattle.vk_stands.proofs.SentMoves.{with_send}
 
 -- Changes of one exchange.
@@ -61,7 +60,7 @@ drop_front : (n : ℕ) (bytes : List ℕ) → drop n (replicate n 0 ++ bytes) �
 drop_front zero bytes = refl
 drop_front (suc n) bytes = drop_front n bytes
 
-front_bytes : (offset : ℕ) (bytes : List ℕ) → bytes_in (range_of offset (length bytes)) (bytes_from offset bytes) ≡ bytes
+pub front_bytes : (offset : ℕ) (bytes : List ℕ) → bytes_in (range_of offset (length bytes)) (bytes_from offset bytes) ≡ bytes
 front_bytes offset bytes = ap (take (length bytes)) (drop_front offset bytes) ∙ take_all (length bytes) bytes (omega arith)
 
 module _ (k : Kernel) (to : Pid) (number moving : ℕ) (p : Process) (here : k.procs to ≡ Some p) (x : Pid × Message)
@@ -78,7 +77,12 @@ module _ (k : Kernel) (to : Pid) (number moving : ℕ) (p : Process) (here : k.p
 
   -- the exchange of a move that is opened
   abbrev pub opened : Exchange → Move → Exchange
-  opened e m = record e { moves = slice_set e.moves (moving - 1) (record m { bytes = noted_bytes m.direction p m }); opened = moving; done = 0 }
+  opened e m = record e {
+    moves = slice_set e.moves (moving - 1)
+        (record m { bytes = noted_bytes m.direction p m });
+    opened = moving;
+    done = 0;
+  }
 
   opening : (e : Exchange) (m : Move) → ltb e.opened moving ≡ true → move_of e moving ≡ Some m →
       opening_move (with_send k name e) name moving ≡ Some (record { sender = p; exchange = e; move = m })

@@ -184,7 +184,7 @@ module _ (host : ℕ) (t : Tables) (k : Kernel) (part : Part host t k) (pid : Pi
     pub noted_local : Noted host t (seated t x.pid marked_taken) (send_taken k tk) pid s
     noted_local = record {
       fit = fit_seated host t part.fit x.pid marked_taken (λ z. refl)
-          (λ z there. fit_note host z (marked_taken z).note (record { moving = refl; offset = refl; done = refl; sends = refl }));
+          (λ z there. fit_note host z (marked_taken z).note (record { moving = refl; offset = refl; done = refl; sends = refl; lookups = refl }));
       view = view_seated host t k (send_taken k tk) part.fit part.view x.pid own_x x found_x marked_taken (λ z. refl) changes;
       found = seats_changed x.pid marked_taken (λ z. refl) t.seats pid ∙ ap (option_map _) found
           ∙ ap Some (only_other x.pid marked_taken s apart);

@@ -1,6 +1,6 @@
 -- A tick of a whole station: it is the right entry, and the tables then stand for the reading after it.
-use Rattle.std.proofs.Common.{◌≡◌, ◌≤◌, ℕ, zero, suc, ◌+◌, ◌-◌, nat_lt, Bool, true, false, cond, not, List, [], ◌∷◌, ◌++◌, fold, map, flat_map, refl, ap, sym, ◌∙◌, subst, Option, Some, None, arith}
-use Rattle.std.specs.List.{filter_map, list_any, position, slice_get}
+use Rattle.std.proofs.Common.{◌≡◌, ◌≤◌, ℕ, ◌+◌, ◌-◌, nat_lt, Bool, true, false, cond, not, List, [], ◌∷◌, ◌++◌, fold, map, flat_map, refl, ap, sym, ◌∙◌, subst, Option, Some, None, arith}
+use Rattle.std.specs.List.{filter_map, list_any, slice_get}
 use Rattle.std.specs.Option.{option_map, option_to_list}
 use Rattle.std.proofs.lemmas.List.Concat.{flat_map-cons}
 use Rattle.std.proofs.lemmas.List.Elements.{filter_map-append}
@@ -13,7 +13,6 @@ use Rattle.vk_base.specs.declared.config.Times.{Times}
 use Rattle.vk_base.specs.declared.kernel.Name.{Name}
 use Rattle.vk_base.specs.declared.limits.TheConstants.{STATION_PROCESSES}
 use Rattle.vk_base.specs.declared.pid.Pid.{Pid}
-use Rattle.vk_base.specs.declared.step.Step.{Step}
 use Rattle.vk_base.specs.declared.step.Step.TheVariants as steps
 use Rattle.vk_base.specs.Activities.{call_of}
 use Rattle.vk_base.specs.Kernel.{Kernel, name_of}
@@ -23,10 +22,9 @@ use Rattle.vk_base.specs.Settings.{Settings}
 use Rattle.vk_base.specs.Steps.{first_of, next, only_if}
 use Rattle.v_laws.specs.Sound.{IsSoundAt}
 use Rattle.v_laws.proofs.Options.{mapped_is}
-use Rattle.vk_pool.specs.declared.alien.Alien.{Alien}
-use Rattle.vk_pool.specs.Aliens.{alien_at, alien_from, kept}
+use Rattle.vk_pool.specs.Aliens.{alien_at, kept}
 use Rattle.vk_procs.specs.declared.seat.Seat.{Seat}
-use Rattle.vk_procs.specs.Seats.{is_seat, seat_in}
+use Rattle.vk_procs.specs.Seats.{seat_in}
 use Rattle.vk_queue.specs.Lists.{queue_at}
 use Rattle.vk_rules.specs.Aliens.{arrival_in, as_arrival, closes, is_closing, slots_after}
 use Rattle.vk_rules.specs.CallOutcomes.{failed, sent_again, work_failure}
@@ -36,18 +34,18 @@ use Rattle.vk_rules.specs.Readings.{Reading}
 unfoldable use Rattle.vk_rules.specs.Readings.{reading_after}
 use Rattle.vk_rules.specs.Right.{own_pids}
 unfoldable use Rattle.vk_rules.specs.Right.{right_entry}
-use Rattle.vk_rules.specs.Works.{Work, is_of_round, work_after}
+use Rattle.vk_rules.specs.Works.{is_of_round, work_after}
 use Rattle.vk_stands.specs.Fit.{AreFit}
-use Rattle.vk_stands.specs.Rules.{Doing, Makes, packets_in, posted}
+use Rattle.vk_stands.specs.Rules.{packets_in, posted}
 use Rattle.vk_stands.specs.Stands.{HasOwnNames, IsWorking, Stands}
-use Rattle.vk_stands.specs.Tables.{Tables, alien_name, is_work, names_at, read_alien, seat_name, slot_name}
-use Rattle.vk_stands.specs.Ticks.{Ticking, TicksAreRight, TicksKeepFit, after_tick, at_rest, tick_packets, tick_steps, tick_tables, ticked_seat, ticking, ticking_by, ticking_in, work_in}
+use Rattle.vk_stands.specs.Tables.{Tables, alien_name, is_work, read_alien, seat_name, slot_name}
+use Rattle.vk_stands.specs.Ticks.{TicksAreRight, TicksKeepFit, at_rest, tick_packets, tick_steps, tick_tables, ticked_seat, ticking, ticking_by, ticking_in, work_in}
 use Rattle.vk_stands.proofs.After.{IsDone, closes_is, entry_for, events_are, has_round_is, outcome_for, packets_are, reading_for, view_is}
 use Rattle.vk_stands.proofs.AfterEntries.{answers_none, copies_none, unheard, view_then}
 use Rattle.vk_stands.proofs.Fits.{map_all}
 use Rattle.vk_stands.proofs.Found.{seat_found}
 use Rattle.vk_stands.proofs.Parts.{AreQueues}
-use Rattle.vk_stands.proofs.TicksAll.{IsTicked, fit_apart, next_all, seat_ticked, ticked_procs, ticked_seats}
+use Rattle.vk_stands.proofs.TicksAll.{fit_apart, next_all, seat_ticked, ticked_procs, ticked_seats}
 use Rattle.vk_stands.proofs.TicksFreed.{fit_freed, freed_was, queues_freed, slots_freed, view_freed}
 use Rattle.vk_stands.proofs.TicksSeat.{IsTold, told_at}
 use Rattle.vk_stands.proofs.TicksSeats.{fit_all, get_mapped, position_ticked, view_ticked, waited}

@@ -1,15 +1,14 @@
 -- A tick of all processes of a station: what becomes of each, and the view then.
-use Rattle.std.proofs.Common.{◌≡◌, ◌⊎◌, ℕ, zero, suc, Bool, true, false, cond, List, [], ◌∷◌, ◌++◌, fold, map, refl, ap, sym, ◌∙◌, subst, Option, Some, None, inl, inr, arith}
+use Rattle.std.proofs.Common.{◌≡◌, ◌⊎◌, ℕ, suc, Bool, true, false, cond, List, [], ◌∷◌, fold, map, refl, ap, sym, ◌∙◌, Option, Some, None, inl, inr, arith}
 use Rattle.std.specs.List.{find, position, slice_get}
 use Rattle.std.specs.Option.{option_map, option_or}
-use Rattle.std.proofs.lemmas.Bool.{cases_Bool, false_from_ne_true}
+use Rattle.std.proofs.lemmas.Bool.{false_from_ne_true}
 use Rattle.std.proofs.lemmas.List.Concat.{flat_map-cons}
 use Rattle.std.proofs.lemmas.List.Sums.{fold-append}
-use Rattle.std.proofs.lemmas.Option.{none-some, same_Some}
+use Rattle.std.proofs.lemmas.Option.{same_Some}
 use Rattle.vk_base.specs.declared.activity.Activity.{Activity}
 use Rattle.vk_base.specs.declared.activity.Activity.TheVariants as activities
 use Rattle.vk_base.specs.declared.activity.Waiting.{Waiting}
-use Rattle.vk_base.specs.declared.activity.Waiting.TheVariants as waitings
 use Rattle.vk_base.specs.declared.config.Times.{Times}
 use Rattle.vk_base.specs.declared.kernel.Process.{Process}
 use Rattle.vk_base.specs.declared.pid.Pid.{Pid}
@@ -17,13 +16,13 @@ use Rattle.vk_base.specs.Kernel.{Kernel, put_process}
 use Rattle.vk_base.specs.Activities.{done_with}
 use Rattle.vk_base.specs.Pids.{same_pid}
 use Rattle.vk_base.specs.Steps.{next}
-use Rattle.v_laws.proofs.Tables.{same_pid_is, same_pid_laws, same_pid_self, put_process_at, put_process_other}
+use Rattle.v_laws.proofs.Tables.{same_pid_is, same_pid_laws, put_process_at, put_process_other}
 use Rattle.vk_procs.specs.declared.seat.Seat.{Seat}
 use Rattle.vk_procs.specs.Seats.{is_seat, process_of, seat_in}
 use Rattle.vk_stands.specs.Fit.{AreFit}
 use Rattle.vk_stands.specs.Stands.{IsWaiting}
 use Rattle.vk_stands.specs.Tables.{Tables, is_work}
-use Rattle.vk_stands.specs.Ticks.{Ticking, at_rest, tick_steps, ticked_seat, ticking, ticking_by, ticking_in, tried_again, unanswered, work_in}
+use Rattle.vk_stands.specs.Ticks.{at_rest, tick_steps, ticked_seat, ticking, ticking_by, ticking_in, unanswered, work_in}
 use Rattle.vk_stands.proofs.Lists.{find-mapped}
 use Rattle.vk_stands.proofs.TicksView.{next_ticked, peopled}
 use Rattle.vk_timer.specs.declared.work.Due.{Due}

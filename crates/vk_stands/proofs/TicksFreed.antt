@@ -1,6 +1,6 @@
 -- A tick frees the aliens that are over: nothing in the view rests on them.
-use Rattle.std.proofs.Common.{◌≡◌, ◌≤◌, ◌<◌, ◌+◌, ◌-◌, ℕ, zero, suc, max, nat_lt, Bool, true, false, cond, ◌&&◌, List, [], ◌∷◌, filter, length, map, get_or, refl, ap, sym, ◌∙◌, subst, Option, Some, None, inl, inr, arith, ltb}
-use Rattle.std.specs.List.{position, position_or_len, slice_get}
+use Rattle.std.proofs.Common.{◌≡◌, ◌≤◌, ◌+◌, ◌-◌, ℕ, zero, suc, max, nat_lt, Bool, true, false, cond, ◌&&◌, List, [], ◌∷◌, filter, length, map, get_or, refl, ap, sym, ◌∙◌, subst, Option, Some, None, inl, inr, arith, ltb}
+use Rattle.std.specs.List.{position_or_len, slice_get}
 use Rattle.std.specs.Option.{option_map}
 use Rattle.std.proofs.lemmas.Bool.{cond-true, lt-ltb}
 use Rattle.std.proofs.lemmas.List.{length-map}
@@ -29,7 +29,7 @@ unfoldable use Rattle.vk_rules.specs.Aliens.{slots_after}
 use Rattle.vk_rules.specs.Entries.{Entry, is_tick}
 use Rattle.vk_stands.specs.Fit.{AreFit}
 use Rattle.vk_stands.specs.Stands.{IsHome, IsKept}
-use Rattle.vk_stands.specs.Tables.{Tables, alien_name, names_at, read_alien, seat_name, slot_name, stage_by, stage_of}
+use Rattle.vk_stands.specs.Tables.{Tables, alien_name, read_alien, seat_name, slot_name, stage_by, stage_of}
 use Rattle.vk_stands.proofs.After.{told_alien, told_nothing}
 use Rattle.vk_stands.proofs.Aliens.{AreApart, of_at, read}
 use Rattle.vk_stands.proofs.Found.{alien_found}

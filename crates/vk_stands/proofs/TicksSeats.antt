@@ -1,5 +1,5 @@
 -- The view after a tick of all processes, and that the processes fit.
-use Rattle.std.proofs.Common.{◌≡◌, ◌⊎◌, ◌≤◌, ◌<◌, ℕ, zero, suc, Bool, true, false, cond, not, List, [], ◌∷◌, length, map, refl, ap, sym, ◌∙◌, subst, Option, Some, None, inl, inr}
+use Rattle.std.proofs.Common.{◌≡◌, ◌⊎◌, ◌≤◌, ◌<◌, ℕ, zero, suc, false, not, List, [], ◌∷◌, length, map, refl, ap, sym, ◌∙◌, subst, Option, Some, None, inl, inr}
 use Rattle.std.specs.List.{position, slice_get}
 use Rattle.std.specs.Option.{option_map, option_or}
 use Rattle.std.proofs.lemmas.Bool.{eq-eqb}
@@ -10,20 +10,18 @@ use Rattle.vk_base.specs.declared.activity.Waiting.{Waiting}
 use Rattle.vk_base.specs.declared.activity.Waiting.TheVariants as waitings
 use Rattle.vk_base.specs.declared.config.Times.{Times}
 use Rattle.vk_base.specs.declared.kernel.Exchange.{Exchange}
-use Rattle.vk_base.specs.declared.kernel.Name.{Name}
 use Rattle.vk_base.specs.declared.limits.TheConstants.{MOVE_BYTES, SEGMENT_BYTES}
 use Rattle.vk_base.specs.declared.message.Message.{Message}
 use Rattle.vk_base.specs.declared.pid.Pid.{Pid}
 use Rattle.vk_base.specs.Kernel.{Kernel, is_live}
-use Rattle.vk_base.specs.Pids.{same_host, same_pid}
-use Rattle.vk_packet.specs.Rules.{part_len}
+use Rattle.vk_base.specs.Pids.{same_pid}
 use Rattle.vk_pool.specs.Aliens.{alien_from}
 use Rattle.vk_pool.proofs.Shown.{position-mapped}
 use Rattle.vk_procs.specs.declared.seat.Seat.{Seat}
 use Rattle.vk_procs.specs.Seats.{is_seat, process_of, seat_in}
-use Rattle.vk_stands.specs.Fit.{AreFit, IsFitSeat, may_go_on, may_wait}
+use Rattle.vk_stands.specs.Fit.{AreFit, IsFitSeat, may_wait}
 use Rattle.vk_stands.specs.Stands.{IsSender, IsWaiting}
-use Rattle.vk_stands.specs.Tables.{Tables, is_work, seat_name}
+use Rattle.vk_stands.specs.Tables.{Tables, is_work}
 use Rattle.vk_stands.specs.Ticks.{ticked_seat, unanswered}
 use Rattle.vk_stands.proofs.FitSeats.{move_note}
 use Rattle.vk_stands.proofs.Found.{alien_found, seat_found}
@@ -31,7 +29,7 @@ use Rattle.vk_stands.proofs.OneSeat.{same_map}
 use Rattle.vk_stands.proofs.TicksAll.{IsOver, IsTicked, seat_ticked, ticked_procs, ticked_seats}
 use Rattle.vk_stands.proofs.TicksView.{peopled}
 use Rattle.vk_stands.proofs.Views.{StandsView, Turns, goes_self, same_alien, view_turned}
-use Rattle.vk_stands.proofs.Waits.{IsSameSeat, stage_of_local, waiting_kept}
+use Rattle.vk_stands.proofs.Waits.{stage_of_local, waiting_kept}
 
 -- what stands at a place of a mapped list
 pub record IsMapped {X Y : Type 0} (f : X → Y) (xs : List X) (i : ℕ) (y : Y) : Type 0 where
@@ -78,6 +76,8 @@ fit_ticked host s y is fit = record {
   few = subst (λ bytes. length bytes ≤ SEGMENT_BYTES) (sym is.part) fit.few;
   begun = λ target m blocked. subst (λ n. 0 < n) (sym is.sends) (fit.begun target m (waited s y
       (waitings.Send target m) is.doing blocked));
+  asked = λ logical scope blocked. subst (λ n. 0 < n) (sym is.lookups) (fit.asked logical scope
+      (waited s y (waitings.GetPid logical scope) is.doing blocked));
 }
 
 module _ (times : Times) (now host : ℕ) (t : Tables) (fit : AreFit host t) where

@@ -1,10 +1,6 @@
 -- The steps of a tick, one after another: each changes its own process alone.
-use Rattle.std.proofs.Common.{◌≡◌, ℕ, zero, suc, ◌+◌, ◌==◌, Bool, true, false, cond, not, ◌&&◌, List, [], ◌∷◌, ◌++◌, fold, length, map, flat_map, refl, ap, sym, ◌∙◌, subst, Option, Some, None, inl, inr}
-use Rattle.std.specs.List.{find, slice_get}
-use Rattle.std.specs.Option.{option_map, option_or, option_to_list}
-use Rattle.std.proofs.lemmas.Bool.{cases_Bool, cond-true, cond-false, false_from_ne_true}
-use Rattle.std.proofs.lemmas.List.Concat.{flat_map-cons}
-use Rattle.std.proofs.lemmas.Option.{none-some, same_Some}
+use Rattle.std.proofs.Common.{◌≡◌, ℕ, Bool, true, false, cond, not, fold, refl, ap, sym, ◌∙◌, Option, Some}
+use Rattle.std.specs.Option.{option_to_list}
 use Rattle.vk_base.specs.declared.activity.Activity.{Activity}
 use Rattle.vk_base.specs.declared.activity.Activity.TheVariants as activities
 use Rattle.vk_base.specs.declared.activity.Waiting.{Waiting}
@@ -21,24 +17,20 @@ use Rattle.vk_base.specs.declared.kernel.Process.{Process}
 use Rattle.vk_base.specs.declared.message.Message.{Message}
 use Rattle.vk_base.specs.declared.call.Scope.{Scope}
 use Rattle.vk_base.specs.declared.pid.Pid.{Pid}
-use Rattle.vk_base.specs.declared.step.Step.{Step}
 use Rattle.vk_base.specs.declared.step.Step.TheVariants as steps
 use Rattle.vk_base.specs.Activities.{answer_of, call_of, done_with, state_of}
 use Rattle.vk_base.specs.Calls.{unseen}
-use Rattle.vk_base.specs.Kernel.{◌>>=◌, Kernel, blocked_in, ended, is_asking, is_moving, put_process, sending, name_of, with_state}
+use Rattle.vk_base.specs.Kernel.{◌>>=◌, Kernel, ended, is_asking, is_moving, put_process, sending, name_of, with_state}
 use Rattle.vk_base.specs.Pids.{same_host, same_pid}
 use Rattle.vk_base.specs.Steps.{after_effect, asking, failure, move_ending, next, only_if}
 unfoldable use Rattle.vk_base.specs.Steps.{ending, failing}
-use Rattle.v_laws.proofs.Tables.{same_pid_is, same_pid_self, put_process_at, put_process_other}
+use Rattle.v_laws.proofs.Tables.{same_pid_is, put_process_at, put_process_other}
 use Rattle.vk_procs.specs.declared.seat.Seat.{Seat}
-use Rattle.vk_procs.specs.Seats.{finished, is_seat, process_of, seat_in}
-use Rattle.vk_rules.specs.CallOutcomes.{failed, failing_step, work_failure}
-use Rattle.vk_rules.specs.Readings.{Reading}
-use Rattle.vk_stands.specs.Fit.{IsFitSeat}
-use Rattle.vk_stands.specs.Stands.{IsAsking, IsMoving, IsSent, IsWaiting}
+use Rattle.vk_procs.specs.Seats.{process_of}
+use Rattle.vk_rules.specs.CallOutcomes.{work_failure}
+use Rattle.vk_stands.specs.Stands.{IsSent, IsWaiting}
 use Rattle.vk_stands.specs.Tables.{is_work}
-use Rattle.vk_stands.specs.Ticks.{Ticking, at_rest, ticked_seat, ticking, ticking_by, ticking_in, tick_steps, tried_again, unanswered, work_in}
-use Rattle.vk_stands.proofs.TicksSeat.{IsTold}
+use Rattle.vk_stands.specs.Ticks.{Ticking, at_rest, ticking, ticking_by, ticking_in, unanswered, work_in}
 use Rattle.vk_timer.specs.declared.work.Due.{Due}
 use Rattle.vk_timer.specs.declared.work.Due.TheVariants as dues
 use Rattle.vk_timer.specs.Works.{due_at}

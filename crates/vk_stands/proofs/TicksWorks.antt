@@ -1,8 +1,8 @@
 -- What a tick's entry says of works: a round goes out, or nothing happens to it.
-use Rattle.std.proofs.Common.{◌≡◌, ◌<◌, ◌≤◌, ℕ, zero, suc, ◌+◌, ◌-◌, ◌*◌, ◌/◌, ◌%◌, ◌==◌, nat_lt, Bool, true, false, cond, not, ◌&&◌, ◌||◌, List, [], ◌∷◌, ◌++◌, length, map, flat_map, refl, ap, sym, ◌∙◌, subst, Option, Some, None, inl, inr, arith, leb, ltb}
+use Rattle.std.proofs.Common.{◌≡◌, ◌<◌, ℕ, zero, suc, ◌+◌, ◌-◌, ◌*◌, ◌/◌, ◌%◌, ◌==◌, Bool, true, false, cond, ◌&&◌, ◌||◌, List, [], ◌∷◌, ◌++◌, map, flat_map, refl, ap, sym, ◌∙◌, subst, Option, Some, None, arith, leb, ltb}
 use Rattle.std.specs.List.{cons_option, filter_map, list_any, range_with_len, slice_get}
-use Rattle.std.specs.Option.{option_map, option_map_or, option_to_list}
-use Rattle.std.proofs.lemmas.Bool.{and_parts, cases_Bool, ltb-true}
+use Rattle.std.specs.Option.{option_map_or, option_to_list}
+use Rattle.std.proofs.lemmas.Bool.{and_parts, ltb-true}
 use Rattle.std.proofs.lemmas.List.Concat.{flat_map-cons}
 use Rattle.std.proofs.lemmas.List.Folds.{list_any-append}
 use Rattle.std.proofs.lemmas.Option.{same_Some}
@@ -13,19 +13,18 @@ use Rattle.vk_base.specs.declared.config.Times.{Times}
 use Rattle.vk_base.specs.declared.kernel.MoveName.{MoveName}
 use Rattle.vk_base.specs.declared.kernel.Name.{Name}
 use Rattle.vk_base.specs.declared.pid.Pid.{Pid}
-use Rattle.vk_base.specs.declared.step.Step.{Step}
 use Rattle.vk_base.specs.Activities.{done_with}
 use Rattle.vk_base.specs.Kernel.{Kernel, holds_of}
 use Rattle.vk_base.specs.Packets.{Packet}
 use Rattle.vk_base.specs.Pids.{same_pid}
-use Rattle.v_laws.proofs.Tables.{same_pid_is, same_pid_self}
+use Rattle.v_laws.proofs.Tables.{same_pid_self}
 use Rattle.vk_packet.specs.Rules.{is_place}
 use Rattle.vk_procs.specs.declared.seat.Seat.{Seat}
 use Rattle.vk_rules.specs.Aliens.{is_closing}
 use Rattle.vk_rules.specs.CallOutcomes.{failed, sent_again}
 use Rattle.vk_rules.specs.Entries.{Entry}
 use Rattle.vk_rules.specs.Readings.{Reading}
-use Rattle.vk_rules.specs.Rounds.{data_packet, data_packets, offsets, request_packet, round}
+use Rattle.vk_rules.specs.Rounds.{data_packet, data_packets, request_packet, round}
 use Rattle.vk_rules.specs.Works.{Work, is_of_round, work_after}
 use Rattle.vk_stands.specs.Fit.{is_move_of, may_go_on}
 use Rattle.vk_stands.specs.Stands.{IsFar, IsWorking}
@@ -33,9 +32,8 @@ use Rattle.vk_stands.specs.Tables.{is_work}
 use Rattle.vk_stands.specs.Ticks.{Ticking, at_rest, work_round, tick_packets, tick_steps, ticked_seat, ticking, ticking_by, ticking_in, tried_again, unanswered, work_in}
 use Rattle.vk_stands.proofs.After.{IsDone, work_sent_again, work_still}
 use Rattle.vk_stands.proofs.AfterCalls.{none_if, none_of_round, skips_closing, skips_others}
-use Rattle.vk_stands.proofs.TicksAll.{AreApart, IsOver}
+use Rattle.vk_stands.proofs.TicksAll.{AreApart}
 use Rattle.vk_stands.proofs.TicksSeat.{IsTold, right_ticking}
-use Rattle.vk_stands.proofs.TicksSeats.{waited}
 use Rattle.vk_timer.specs.declared.work.Due.{Due}
 use Rattle.vk_timer.specs.declared.work.Due.TheVariants as dues
 use Rattle.vk_timer.specs.Works.{due_at}

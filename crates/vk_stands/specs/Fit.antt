@@ -1,9 +1,10 @@
 -- When the tables of a station fit each other: what each rule asks of them, and keeps.
-use Rattle.std.specs.Prelude.{ℕ, ◌≡◌, ◌≤◌, ◌<◌, Bool, true, ◌&&◌, not, nat_lt, nat_le, List, length, slice_get, Some}
+use Rattle.std.specs.Prelude.{ℕ, ◌≡◌, ◌≤◌, ◌<◌, Bool, true, ◌&&◌, not, nat_lt, nat_le, length, slice_get, Some}
 use Rattle.std.specs.List.{position}
 use Rattle.vk_base.specs.declared.activity.Activity.TheVariants as activities
 use Rattle.vk_base.specs.declared.activity.Waiting.{Waiting}
 use Rattle.vk_base.specs.declared.activity.Waiting.TheVariants as waitings
+use Rattle.vk_base.specs.declared.call.Scope.{Scope}
 use Rattle.vk_base.specs.declared.kernel.MoveName.{MoveName}
 use Rattle.vk_base.specs.declared.limits.TheConstants.{MOVE_BYTES, POOL, SEGMENT_BYTES, STATION_PROCESSES}
 use Rattle.vk_base.specs.declared.message.Message.{Message}
@@ -55,6 +56,7 @@ pub record IsFitSeat (host : ℕ) (s : Seat) : Type 0 where
   pub part : (target : Pid) (m : Message) → s.doing ≡ activities.Blocked (waitings.Send target m) → length s.part ≡ part_len m
   pub few : length s.part ≤ SEGMENT_BYTES
   pub begun : (target : Pid) (m : Message) → s.doing ≡ activities.Blocked (waitings.Send target m) → 0 < s.note.sends
+  pub asked : (logical : ℕ) (scope : Scope) → s.doing ≡ activities.Blocked (waitings.GetPid logical scope) → 0 < s.note.lookups
 
 -- One alien: it is of another station, its target of this one, and what its sender is told is lawful.
 pub record IsFitAlien (host : ℕ) (a : Alien) : Type 0 where

@@ -14,11 +14,10 @@ use Rattle.vk_base.specs.Settings.{Settings}
 use Rattle.vk_frame.specs.declared.header.Header.{Header}
 use Rattle.vk_packet.specs.Posts.{Posts}
 use Rattle.vk_packet.specs.Spelling.{packet_bytes}
-use Rattle.vk_rules.specs.Entries.{Entry, Input, Called, Delivered}
+use Rattle.vk_rules.specs.Entries.{Entry, Called, Delivered}
 use Rattle.vk_rules.specs.Frames.{Frame, Framed, destination_of}
 use Rattle.vk_rules.specs.Readings.{Reading, reading_after}
 use Rattle.vk_rules.specs.Right.{answer_to, right_entry}
-use Rattle.vk_stands.specs.Fit.{AreFit}
 use Rattle.vk_stands.specs.Stands.{Stands}
 use Rattle.vk_stands.specs.Tables.{Tables}
 

@@ -1,5 +1,5 @@
 -- The tables of a station as plain values, and what they tell by themselves.
-use Rattle.std.specs.Prelude.{ℕ, ◌-◌, Bool, false, not, nat_lt, List, [], map, replicate, slice_get, Option, Some, None, option_map, if◌then◌else◌}
+use Rattle.std.specs.Prelude.{ℕ, ◌-◌, Bool, false, not, nat_lt, List, [], map, replicate, slice_get, Option, None, option_map, if◌then◌else◌}
 use Rattle.vk_base.specs.declared.kernel.Name.{Name}
 use Rattle.vk_base.specs.declared.kernel.Registration.{Registration}
 use Rattle.vk_base.specs.declared.kernel.Stage.{Stage}

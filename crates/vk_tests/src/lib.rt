@@ -1,16 +1,10 @@
-//! Tests that cross crates, of what no contract says: faults of the outside, limits, and packets and frames as bytes. Worked
-//! rows are no tests in code: they are files, in `vk_rows`.
+//! Tests of the whole program, of what no contract says: faults of the outside, and limits. Worked rows are no tests in code: they
+//! are files, in `vk_rows`; tests of single crates below stand in `vk_part_tests`.
 #![tactic(auto)]
 
 #[cfg(test)]
 mod faults;
 #[cfg(test)]
-mod frames;
-#[cfg(test)]
 mod limits;
-#[cfg(test)]
-mod packets;
-#[cfg(test)]
-mod rows;
 #[cfg(test)]
 mod running;

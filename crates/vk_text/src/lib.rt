@@ -10,8 +10,6 @@ mod law;
 mod line;
 mod next;
 mod spelling;
-#[cfg(test)]
-mod tests;
 mod word;
 mod writing;
 

@@ -1,9 +1,10 @@
 pub mod Entries
 pub mod Outcomes
 pub mod Playable
+pub mod Quiet
 pub mod Replays
 pub mod Schedules
-pub mod Short
+pub mod Staying
 pub mod Told
 pub mod Verdicts
 pub mod WordExamples

@@ -1,5 +1,5 @@
 -- From the answer to a text to that to an input, and to the words.
-use Rattle.std.proofs.Common.{◌≡◌, ℕ, ◌<◌, ◌≤◌, nat_lt, List, [], ◌∷◌, ◌++◌, length, take, Option, Some, None, inl, inr, refl, ap, subst, sym, ◌∙◌, ◌⊎◌, arith, length-append}
+use Rattle.std.proofs.Common.{◌≡◌, ℕ, ◌<◌, ◌≤◌, List, [], ◌∷◌, length, take, Option, Some, None, inl, inr, refl, ap, subst, sym, ◌∙◌, ◌⊎◌, arith, length-append}
 use Rattle.std.specs.Prelude.{IfSome, IsSomeAnd}
 use Rattle.std.specs.Io.KnownBytes.{Appends, Consumes}
 use Rattle.std.proofs.lemmas.Bool.{cond-true, lt-ltb}

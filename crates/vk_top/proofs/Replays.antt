@@ -3,13 +3,10 @@ use Rattle.std.proofs.Common.{◌≡◌, ℕ, ◌+◌, ◌<◌, List, [], ◌∷
 use Rattle.std.proofs.lemmas.List.{drop_more, length-append}
 use Rattle.std.proofs.lemmas.List.Sums.{sum_by-cons}
 use Rattle.std.specs.Prelude.{sum_by}
-use Rattle.vk_base.specs.declared.event.StationEvent.{StationEvent}
-use Rattle.vk_base.specs.declared.event.StationEvent.TheVariants as events
 use Rattle.vk_base.specs.declared.pid.Pid.{Pid}
 use Rattle.vk_base.specs.Settings.{Settings}
 use Rattle.vk_event.specs.declared.event.Event.{Event}
-use Rattle.vk_host.specs.Stands.{is_at, is_own}
-use Rattle.vk_host.specs.Tables.{Tables}
+use Rattle.vk_event.specs.declared.event.Event.TheVariants as events
 use Rattle.vk_report.specs.declared.entry.Counts.{Counts}
 use Rattle.vk_report.specs.declared.entry.Form.{Form}
 use Rattle.vk_report.specs.Histories.{history_text, told_lines}
@@ -17,15 +14,16 @@ use Rattle.vk_report.specs.Report.{end_lines, opening_lines}
 use Rattle.vk_rules.specs.Histories.{Logs, Happened, happened, history, logs_after}
 use Rattle.vk_rules.specs.Observed.{all_steps, steps_in}
 use Rattle.vk_base.specs.declared.config.ProcessSpec.{ProcessSpec}
-use Rattle.vk_top.specs.Playing.{HasHad, IsPlayed, counts_behind, end_line, lines_behind}
+use Rattle.vk_host.specs.Values.{StationValue, has}
+use Rattle.vk_top.specs.Playing.{HasHad, IsPlayed, counts_behind, end_line, is_own, lines_behind}
 use Rattle.vk_top.specs.Report.{counts_of, frame_count, told_from, told_of}
 
 -- stations with the same processes own the same events
-pub is_own-same : (s t : Tables) → ((pid : Pid) → is_at t pid ≡ is_at s pid) → (e : StationEvent) → is_own t e ≡ is_own s e
+pub is_own-same : (s t : StationValue) → ((pid : Pid) → has t pid ≡ has s pid) → (e : Event) → is_own t e ≡ is_own s e
 is_own-same s t same (events.Call pid c) = same pid
 is_own-same s t same (events.Collect pid) = same pid
-is_own-same s t same events.Tick = refl
-is_own-same s t same (events.Deliver frame) = refl
+is_own-same s t same (events.Tick host) = refl
+is_own-same s t same (events.Deliver to from event output) = refl
 
 counts : ℕ → ℕ → ℕ → Counts
 counts events steps frames = record { events = events; steps = steps; frames = frames }
@@ -50,14 +48,14 @@ lines_more form n k h hs quiet =
     (end_lines form (counts_behind n k (h ∷ hs))))
 
 -- the station has had so many events of logs from which what is written of the events that are left makes this text whole
-pub record IsReplayedTo (c : Settings) (form : Form) (host number steps : ℕ) (station : Tables) (text : List ℕ) (left : List Event)
+pub record IsReplayedTo (c : Settings) (form : Form) (host number steps : ℕ) (station : StationValue) (text : List ℕ) (left : List Event)
     (whole : List ℕ) : Type 0 where
   pub logs : Logs
   pub had : HasHad station c logs host number
   pub text_is : text ++ lines_behind form number steps (history c logs left) ≡ whole
 
 -- one event more
-pub IsReplayedTo-more : (c : Settings) (form : Form) (host number steps n : ℕ) (old new : Tables) (text longer whole : List ℕ)
+pub IsReplayedTo-more : (c : Settings) (form : Form) (host number steps n : ℕ) (old new : StationValue) (text longer whole : List ℕ)
     (events : List Event) (i : ℕ) (e : Event)
     → i < length events → e ≡ get_or events i e
     → IsPlayed form host number old new text longer e n
@@ -82,7 +80,8 @@ IsReplayedTo-more c form host number steps n old new text longer whole events i 
     }
 
 -- no event is left
-pub IsReplayedTo-end : (c : Settings) (form : Form) (host number steps : ℕ) (station : Tables) (text whole : List ℕ) (left : List Event)
+pub IsReplayedTo-end : (c : Settings) (form : Form) (host number steps : ℕ) (station : StationValue) (text whole : List ℕ)
+    (left : List Event)
     → left ≡ [] → IsReplayedTo c form host number steps station text left whole → text ++ end_line form number steps ≡ whole
 unfolding history counts
 IsReplayedTo-end c form host number steps station text whole left none so_far =

@@ -1,34 +1,30 @@
 -- What a lawful schedule gives the station that plays it.
-use Rattle.std.proofs.Common.{◌≡◌, ℕ, ◌==◌, ◌&&◌, ◌||◌, Bool, true, false, List, [], ◌∷◌, map, Some, None, refl, ap, sym, ◌∙◌, subst}
+use Rattle.std.proofs.Common.{◌≡◌, ℕ, ◌==◌, ◌||◌, Bool, true, false, List, [], ◌∷◌, Some, None, refl, ap, sym, ◌∙◌, subst}
 use Rattle.std.proofs.lemmas.Bool.{and_from, and_parts, eq-eqb, eqb-true}
-use Rattle.std.proofs.lemmas.List.Folds.{list_all-map}
 use Rattle.std.specs.List.{list_all}
 use Rattle.std.specs.Prelude.{slice_get}
-use Rattle.vk_base.specs.declared.call.Call.{Call}
-use Rattle.vk_base.specs.declared.call.Call.TheVariants as calls
 use Rattle.vk_base.specs.declared.config.ProcessSpec.{ProcessSpec}
-use Rattle.vk_base.specs.declared.message.Message.{Message}
 use Rattle.vk_base.specs.declared.pid.Pid.{Pid}
-use Rattle.vk_base.specs.Settings.{Settings, has_process, has_station, is_process}
-use Rattle.vk_top.proofs.Short.{short_start, short_len}
+use Rattle.vk_base.specs.Settings.{Settings, has_process, is_process, refusal_of}
 use Rattle.vk_event.specs.declared.event.Event.{Event}
 use Rattle.vk_event.specs.declared.event.Event.TheVariants as scheduled
 use Rattle.vk_event.specs.declared.schedule.Schedule.{Schedule}
-use Rattle.vk_top.specs.Forms as forms
+use Rattle.vk_top.specs.Forms.{is_built_event}
 use Rattle.vk_top.proofs.Playable.{is_playable_event, is_one_station, IsPlain}
 use Rattle.v_whole.proofs.Distinct.{lawful_distinct}
 use Rattle.v_whole.proofs.Histories.{schedules_run}
 use Rattle.v_whole.specs.Schedules.{AreOfProcesses, IsOfProcess}
+use Rattle.vk_base.specs.Settings.{first_fault}
 use Rattle.vk_event.specs.Lawful.{IsLawful, has_actors}
-use Rattle.vk_host.specs.Entries.{grants_nothing, is_built, is_built_call}
+use Rattle.vk_text.specs.Heads.{settings_of}
 use Rattle.vk_rules.specs.Histories.{history, history_of, no_entries}
 use Rattle.vk_rules.specs.Observed.{IsRunOf}
-use Rattle.vk_base.specs.Kernel.{initial_kernel}
-use Rattle.vk_host.specs.Stands.{Stands, is_at, is_own}
-use Rattle.vk_rules.specs.Readings.{reading}
-use Rattle.vk_host.specs.Tables.{Tables}
 use Rattle.vk_report.specs.declared.entry.Form.{Form}
-use Rattle.vk_top.specs.Playing.{HasHad, end_line, lines_behind, station_event, station_of}
+unfoldable use Rattle.vk_rules.specs.Readings.{reading}
+use Rattle.vk_host.specs.Standing.{IsAt}
+use Rattle.vk_host.specs.Values.{StationValue, has}
+use Rattle.vk_top.proofs.Staying.{has_first}
+use Rattle.vk_top.specs.Playing.{HasHad, StandsAlone, end_line, is_own, lines_behind, station_of}
 use Rattle.vk_top.specs.Report.{history_of_schedule}
 
 -- what follows at each element
@@ -36,9 +32,6 @@ pub list_all-weaker : {X : Type 0} (p q : X → Bool) → ((x : X) → p x ≡ t
     list_all q xs ≡ true
 list_all-weaker p q weaker [] h = refl
 list_all-weaker p q weaker (x ∷ xs) h = and_from _ _ (weaker x (and_parts _ _ h).0) (list_all-weaker p q weaker xs (and_parts _ _ h).1)
-
-grants_nothing-short : (m : Message) → forms.is_short m ≡ true → grants_nothing m ≡ true
-grants_nothing-short m short = rw (short_start m short, short_len m short) refl
 
 same_number : (n : ℕ) → (n == n) ≡ true
 same_number n = eq-eqb n n refl
@@ -50,28 +43,8 @@ either_way : (a b c : Bool) → (a ≡ true → c ≡ true) → (b ≡ true → 
 either_way true b c left right h = left refl
 either_way false b c left right h = right h
 
-same_sym : (m n : ℕ) → (m == n) ≡ true → (n == m) ≡ true
-same_sym m n h = eq-eqb n m (sym (eqb-true m n h))
-
-built_call : (pid : Pid) (c : Call) → forms.is_built_call pid c ≡ true → is_built_call pid c ≡ true
-built_call pid (calls.Send target m) h = and_from _ _ (same_sym _ _ (and_parts _ _ h).0) (grants_nothing-short m (and_parts _ _ h).1)
-built_call pid calls.Receive h = refl
-built_call pid (calls.ReceiveSegment start count) h = h
-built_call pid (calls.Reply m to) h = refl
-built_call pid (calls.ReplySegment m to dest src count) h = h
-built_call pid (calls.MoveTo partner dest src count) h = h
-built_call pid (calls.MoveFrom partner dest src count) h = h
-built_call pid (calls.SetPid logical p scope) h = h
-built_call pid (calls.GetPid logical scope) h = h
-built_call pid (calls.Load start count) h = h
-built_call pid (calls.Store start bytes) h = h
-built_call pid calls.Exit h = h
-
-pub built_event : (specs : List ProcessSpec) (e : Event) → is_playable_event specs e ≡ true → is_built (station_event e) ≡ true
-built_event specs (scheduled.Call pid c) h = built_call pid c (and_parts _ _ h).1
-built_event specs (scheduled.Collect pid) h = refl
-built_event specs (scheduled.Tick host) h = (and_parts _ _ h).1
-built_event specs (scheduled.Deliver to from event output) h = (and_parts _ _ h).1
+pub built_event : (specs : List ProcessSpec) (e : Event) → is_playable_event specs e ≡ true → is_built_event e ≡ true
+built_event specs e h = (and_parts (has_actors specs e) (is_built_event e) h).1
 
 -- who calls is a process of the configuration
 of_process : (specs : List ProcessSpec) (e : Event) → has_actors specs e ≡ true → IsOfProcess specs e
@@ -90,7 +63,7 @@ pub schedule_is_run : (s : Schedule) → IsLawful s → IsRunOf s.config s.event
 schedule_is_run s lawful =
     schedules_run s.config s.events (lawful_distinct s.config.specs lawful.faultless) (of_processes s.config.specs s.events lawful.events)
 
-pub all_built : (s : Schedule) → IsPlain s → list_all (λ e. is_built (station_event e)) s.events ≡ true
+pub all_built : (s : Schedule) → IsPlain s → list_all is_built_event s.events ≡ true
 all_built s lawful = list_all-weaker _ _ (built_event s.config.specs) s.events lawful.events
 
 -- The station is that of the first process.
@@ -103,13 +76,13 @@ pub station_of-first : (seen specs : List ProcessSpec) (s : ProcessSpec) → see
     station_of specs ≡ s.pid.host
 station_of-first seen specs s same h = first_host specs s (h ∙ ap (λ xs. slice_get xs 0) same)
 
-first_station : (specs : List ProcessSpec) (s : ProcessSpec) → Some s ≡ slice_get specs 0 → has_station specs s.pid.host ≡ true
-first_station [] s h = absurd (cc)
-first_station (t ∷ ts) s h = let same : s ≡ t = cc in rw same (rw (same_number t.pid.host) refl)
+-- nothing is wrong with the configuration of a lawful schedule
+faultless_by : (c : Settings) (specs : List ProcessSpec) → c ≡ settings_of specs → first_fault [] specs ≡ None →
+    refusal_of c.times c.pool c.specs ≡ None
+faultless_by c specs is none = ap (λ (x : Settings). refusal_of x.times x.pool x.specs) is ∙ none
 
-pub has_station-first : (seen specs : List ProcessSpec) (s : ProcessSpec) → seen ≡ specs → Some s ≡ slice_get seen 0 →
-    has_station specs s.pid.host ≡ true
-has_station-first seen specs s same h = first_station specs s (h ∙ ap (λ xs. slice_get xs 0) same)
+pub faultless : (s : Schedule) → IsLawful s → refusal_of s.config.times s.config.pool s.config.specs ≡ None
+faultless s lawful = faultless_by s.config s.config.specs lawful.config lawful.faultless
 
 -- where there is no process, there is no event
 no_event : (events : List Event) → list_all (is_playable_event []) events ≡ true → events ≡ []
@@ -145,18 +118,18 @@ on_station host pid (s ∷ ss) all has =
     either_way (is_process pid s) (has_process ss pid) (pid.host == host)
     (λ h. same_through s.pid.host pid.host host (and_parts _ _ h).0 (and_parts _ _ all).0) rest has
 
-is_at-first : (specs : List ProcessSpec) (t : Tables) (host : ℕ) (pid : Pid) →
-    list_all (λ (s : ProcessSpec). s.pid.host == host) specs ≡ true
-    → is_at t pid ≡ (pid.host == host && has_process specs pid) → has_process specs pid ≡ true → is_at t pid ≡ true
-is_at-first specs t host pid one is has = is ∙ and_from _ _ (on_station host pid specs one has) has
+own_pid : (c : Settings) (t : StationValue) (host : ℕ) → list_all (λ (s : ProcessSpec). s.pid.host == host) c.specs ≡ true →
+    t.host ≡ host → (pid : Pid) → has_process c.specs pid ≡ true → pid.host ≡ t.host
+own_pid c t host one here pid is = eqb-true pid.host host (on_station host pid c.specs one is) ∙ sym here
 
-own_event : (specs : List ProcessSpec) (t : Tables) (host : ℕ) → list_all (λ (s : ProcessSpec). s.pid.host == host) specs ≡ true
-    → ((pid : Pid) → is_at t pid ≡ (pid.host == host && has_process specs pid)) → (e : Event) → is_playable_event specs e ≡ true →
-    is_own t (station_event e) ≡ true
-own_event specs t host one is (scheduled.Call pid c) h = is_at-first specs t host pid one (is pid) (and_parts _ _ h).0
-own_event specs t host one is (scheduled.Collect pid) h = is_at-first specs t host pid one (is pid) (and_parts _ _ h).0
-own_event specs t host one is (scheduled.Tick other) h = refl
-own_event specs t host one is (scheduled.Deliver to from event output) h = refl
+own_event : (c : Settings) (t : StationValue) (host : ℕ) → list_all (λ (s : ProcessSpec). s.pid.host == host) c.specs ≡ true →
+    t.host ≡ host → IsAt c [] t → (e : Event) → is_playable_event c.specs e ≡ true → is_own t e ≡ true
+own_event c t host one here at (scheduled.Call pid call) h =
+    has_first c t pid at (own_pid c t host one here pid (and_parts _ _ h).0) (and_parts _ _ h).0
+own_event c t host one here at (scheduled.Collect pid) h =
+    has_first c t pid at (own_pid c t host one here pid (and_parts _ _ h).0) (and_parts _ _ h).0
+own_event c t host one here at (scheduled.Tick other) h = refl
+own_event c t host one here at (scheduled.Deliver to from event output) h = refl
 
 one_host : (specs : List ProcessSpec) → is_one_station specs ≡ true →
     list_all (λ (t : ProcessSpec). t.pid.host == station_of specs) specs ≡ true
@@ -164,14 +137,21 @@ one_host [] one = refl
 one_host (s ∷ ss) one = and_from _ _ (same_number s.pid.host) one
 
 -- every event is one of this station
-pub all_own : (s : Schedule) (t : Tables) (host : ℕ) → IsPlain s → station_of s.config.specs ≡ host
-    → ((pid : Pid) → is_at t pid ≡ (pid.host == host && has_process s.config.specs pid))
-    → list_all (λ e. is_own t (station_event e)) s.events ≡ true
-all_own s t host lawful first is =
+pub all_own : (s : Schedule) (t : StationValue) (host : ℕ) → IsPlain s → station_of s.config.specs ≡ host → t.host ≡ host →
+    IsAt s.config [] t → list_all (is_own t) s.events ≡ true
+all_own s t host lawful first here at =
     let P : ℕ → Type 0 = λ h. list_all (λ (p : ProcessSpec). p.pid.host == h) s.config.specs ≡ true in
-    list_all-weaker _ _ (own_event s.config.specs t host (subst P first (one_host s.config.specs lawful.station)) is) s.events lawful.events
+    list_all-weaker _ _ (own_event s.config t host (subst P first (one_host s.config.specs lawful.station)) here at) s.events lawful.events
 
 -- a station that has just started has had none of the events of a schedule
-pub had_none : (t : Tables) (c : Settings) (host : ℕ) → Stands t (initial_kernel c.specs) → HasHad t c no_entries host 0
+pub had_none : (t : StationValue) (c : Settings) (host : ℕ) → IsAt c [] t → HasHad t c no_entries host 0
 unfolding reading
-had_none t c host stands = record { stands = stands; count = refl }
+had_none t c host at = record { at = at; count = refl; alone = refl }
+
+pub none_yet : (t : StationValue) (c : Settings) → IsAt c [] t → t.events ≡ 0
+unfolding reading
+none_yet t c at = at.events
+
+pub none_kept : (t : StationValue) (c : Settings) → IsAt c [] t → StandsAlone t
+unfolding reading
+none_kept t c at = (c, [], at, refl)

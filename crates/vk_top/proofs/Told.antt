@@ -13,7 +13,7 @@ use Rattle.v_trace.specs.declared.trace.Trace.{Trace}
 use Rattle.v_trace.specs.declared.trace.TraceRefusal.{TraceRefusal}
 use Rattle.v_trace.specs.declared.trace.TraceRefusal.TheVariants as traces
 use Rattle.v_trace.proofs.TraceLines.{bad_behind}
-use Rattle.vk_top.proofs.Playable.{front_is_whole, is_playable, plain, refused_behind}
+use Rattle.vk_top.proofs.Playable.{front_is_whole, is_playable, refused_behind}
 use Rattle.vk_top.proofs.Schedules.{schedule_is_run}
 use Rattle.vk_top.proofs.Verdicts.{verdict_holds}
 use Rattle.vk_top.specs.Check.{IsNo, IsTooMuch, IsVerdict, IsYes, verdict_of, verdict_text}

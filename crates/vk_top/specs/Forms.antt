@@ -1,12 +1,9 @@
 -- Which processes and events can be played so far. A line of any other is refused as if it were bad.
-use Rattle.std.specs.Prelude.{◌≡◌, ℕ, ◌+◌, ◌==◌, ◌&&◌, not, Bool, true, false, List, [], ◌∷◌, length, drop, position, Option, Some, None, option_map, Result, Ok, Err, if◌then◌else◌}
-use Rattle.std.specs.List.{list_all}
-use Rattle.vk_base.specs.Pids.{same_host}
+use Rattle.std.specs.Prelude.{◌≡◌, ℕ, ◌+◌, ◌==◌, not, Bool, true, false, List, [], ◌∷◌, length, position, Option, Some, None, option_map, Result, Ok, Err, if◌then◌else◌}
 use Rattle.vk_base.specs.Settings.{or_else}
 use Rattle.vk_base.specs.declared.call.Call.{Call}
 use Rattle.vk_base.specs.declared.call.Call.TheVariants as calls
 use Rattle.vk_base.specs.declared.config.ProcessSpec.{ProcessSpec}
-use Rattle.vk_base.specs.declared.message.Message.{Message}
 use Rattle.vk_base.specs.declared.pid.Pid.{Pid}
 use Rattle.vk_event.specs.declared.event.Event.{Event}
 use Rattle.vk_event.specs.declared.event.Event.TheVariants as events
@@ -16,21 +13,18 @@ use Rattle.vk_event.specs.declared.schedule.TextRefusal.{TextRefusal}
 use Rattle.vk_event.specs.declared.schedule.TextRefusal.TheVariants as refusals
 use Rattle.vk_event.specs.Lawful.{IsLawful}
 use Rattle.vk_event.specs.Schedule.{front_of, line_behind}
+use Rattle.vk_host.specs.Forms.{is_built_call}
 
--- the last eight bytes, which name a segment, are 0
-abbrev pub is_short : Message → Bool
-is_short m = list_all (λ b. b == 0) (drop 24 m.0)
-
--- a Send to the caller's own station, a Receive or a Reply, without a segment
-abbrev pub is_built_call : Pid → Call → Bool
-is_built_call pid (calls.Send target message) = same_host target pid && is_short message
-is_built_call pid calls.Receive = true
-is_built_call pid (calls.Reply message to) = is_short message
-is_built_call pid _ = false
+-- a call that concerns the caller's station alone, or a reply, to whomever: as no frame comes, the caller holds no message of another
+-- station
+abbrev pub is_playable_call : Pid → Call → Bool
+is_playable_call pid (calls.Reply m to) = true
+is_playable_call pid (calls.ReplySegment m to dest src count) = true
+is_playable_call pid call = is_built_call pid call
 
 -- such a call, or a collect
 abbrev pub is_built_event : Event → Bool
-is_built_event (events.Call pid call) = is_built_call pid call
+is_built_event (events.Call pid call) = is_playable_call pid call
 is_built_event (events.Collect pid) = true
 is_built_event _ = false
 

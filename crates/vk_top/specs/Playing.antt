@@ -1,32 +1,30 @@
 -- Of the code alone, no law rests on it: playing a schedule on its station, one event after another.
-use Rattle.std.specs.Prelude.{◌≡◌, ℕ, ◌+◌, ◌≤◌, List, [], ◌∷◌, ◌++◌, flat_map, length, sum_by}
+use Rattle.std.specs.Prelude.{◌≡◌, ℕ, ◌+◌, ◌≤◌, Bool, true, List, [], ◌∷◌, ◌++◌, flat_map, length, replicate, sum_by, None}
 use Rattle.vk_base.specs.declared.config.ProcessSpec.{ProcessSpec}
 use Rattle.vk_base.specs.declared.event.EventAnswer.{EventAnswer}
-use Rattle.vk_base.specs.declared.event.StationEvent.{StationEvent}
-use Rattle.vk_base.specs.declared.event.StationEvent.TheVariants as events
 use Rattle.vk_base.specs.declared.limits.TheConstants.{STEPS}
 use Rattle.vk_base.specs.declared.pid.Pid.{Pid}
 use Rattle.vk_base.specs.declared.step.Step.{Step}
 use Rattle.vk_base.specs.Settings.{Settings}
 use Rattle.vk_event.specs.declared.event.Event.{Event}
-use Rattle.vk_event.specs.declared.event.Event.TheVariants as scheduled
-use Rattle.vk_host.specs.Stands.{Stands, is_at}
-use Rattle.vk_host.specs.Tables.{Tables}
+use Rattle.vk_event.specs.declared.event.Event.TheVariants as events
 use Rattle.vk_report.specs.declared.entry.Counts.{Counts}
 use Rattle.vk_report.specs.declared.entry.Form.{Form}
 use Rattle.vk_report.specs.Histories.{told_lines}
 use Rattle.vk_report.specs.Report.{end_lines, entry_lines}
+use Rattle.vk_rules.specs.Entries.{Entry}
 use Rattle.vk_rules.specs.Histories.{Logs, Happened, happened, logs_after}
 use Rattle.vk_rules.specs.Observed.{all_steps, steps_in}
 use Rattle.vk_rules.specs.Readings.{reading}
+use Rattle.vk_host.specs.Standing.{IsAt}
+use Rattle.vk_host.specs.Values.{StationValue, has}
 use Rattle.vk_top.specs.Report.{frame_count, told_from, told_of}
 
--- what an event of a schedule is at its station; no delivery is built, so the bytes that it brings are left empty
-abbrev pub station_event : Event → StationEvent
-station_event (scheduled.Call pid call) = events.Call pid call
-station_event (scheduled.Collect pid) = events.Collect pid
-station_event (scheduled.Tick host) = events.Tick
-station_event (scheduled.Deliver to from event output) = events.Deliver []
+-- the process whose event it is is one of the station
+abbrev pub is_own : StationValue → Event → Bool
+is_own s (events.Call pid call) = has s pid
+is_own s (events.Collect pid) = has s pid
+is_own s e = true
 
 -- the station of the processes; with none there is no event, and no line that names it
 abbrev pub station_of : List ProcessSpec → ℕ
@@ -49,13 +47,18 @@ counts_behind n k hs = record { events = n + length hs; steps = k + length (all_
 abbrev pub lines_behind : Form → ℕ → ℕ → List Happened → List ℕ
 lines_behind form n k hs = flat_map (told_lines form) (told_from n hs) ++ end_lines form (counts_behind n k hs)
 
--- The entries of these logs are those of the station so far, which has had n events.
-pub record HasHad (station : Tables) (c : Settings) (logs : Logs) (host n : ℕ) : Type 0 where
-  pub stands : Stands station (reading c host (logs host)).view
+-- The station stands for entries of which none took a frame: it keeps nothing of other stations' Sends.
+abbrev pub StandsAlone : StationValue → Type 0
+StandsAlone s = (c : Settings) × (es : List Entry) × IsAt c es s × ((reading c s.host es).slots ≡ replicate c.pool None)
+
+-- The entries of these logs are those of the station so far, which has had n events, and none of them took a frame.
+pub record HasHad (station : StationValue) (c : Settings) (logs : Logs) (host n : ℕ) : Type 0 where
+  pub at : IsAt c (logs host) station
   pub count : length (logs host) ≡ n
+  pub alone : (reading c station.host (logs host)).slots ≡ replicate c.pool None
 
 -- this happened as the event of this number, with so many steps and no frame, and its lines were appended
-pub record IsTold (form : Form) (host number : ℕ) (new : Tables) (front text : List ℕ) (steps : ℕ) (c : Settings) (logs : Logs)
+pub record IsTold (form : Form) (host number : ℕ) (new : StationValue) (front text : List ℕ) (steps : ℕ) (c : Settings) (logs : Logs)
     (h : Happened) : Type 0 where
   pub lines : text ≡ front ++ told_lines form (told_of number h)
   pub count : steps ≡ length (steps_in h)
@@ -63,10 +66,11 @@ pub record IsTold (form : Form) (host number : ℕ) (new : Tables) (front text :
   pub had : HasHad new c (logs_after logs h) host number
 
 -- the station had this event, the one behind so many, and its lines were appended
-pub record IsPlayed (form : Form) (host before : ℕ) (old new : Tables) (front text : List ℕ) (e : Event) (steps : ℕ) : Type 0 where
+pub record IsPlayed (form : Form) (host before : ℕ) (old new : StationValue) (front text : List ℕ) (e : Event) (steps : ℕ) : Type 0 where
   pub told : (c : Settings) (logs : Logs) → HasHad old c logs host before →
       IsTold form host (before + 1) new front text steps c logs (happened c logs e)
   pub few : steps ≤ STEPS
   pub same_host : new.host ≡ old.host
   pub events : new.events ≡ old.events + 1
-  pub processes : (pid : Pid) → is_at new pid ≡ is_at old pid
+  pub alone : StandsAlone new
+  pub processes : (pid : Pid) → has new pid ≡ has old pid

@@ -1,5 +1,5 @@
 -- What the top call answers and writes.
-use Rattle.std.specs.Prelude.{ℕ, ◌≡◌, ◌<◌, ◌≤◌, ◌⊎◌, nat_lt, List, [], length, map, take, Option, Some, None, IfSome, IsSomeAnd, Result, Ok, Err, if◌then◌else◌}
+use Rattle.std.specs.Prelude.{ℕ, ◌≡◌, ◌<◌, ◌≤◌, ◌⊎◌, nat_lt, List, [], length, take, Option, Some, None, IfSome, IsSomeAnd, Result, Ok, Err, if◌then◌else◌}
 use Rattle.clap.specs.Walk.{Text}
 use Rattle.std.specs.Io.KnownBytes.{Appends}
 use Rattle.vk_base.specs.declared.limits.TheConstants.{INPUT_BYTES}

@@ -2,28 +2,21 @@
 
 ghost use Rattle.std.specs.Prelude.{◌≡◌, ◌≤◌, None, Some, MatchResult, length, IfSome, option_map};
 ghost use Rattle.vk_event.specs.Lawful.{IsLawful};
-ghost use Rattle.vk_top.specs.Forms.{is_short, is_built_call, is_built_event, unbuilt_process, unbuilt_event, unbuilt_line, unbuilt_beyond, playable_front, IsPlayable};
+ghost use Rattle.vk_top.specs.Forms.{is_built_event, is_playable_call, unbuilt_process, unbuilt_event, unbuilt_line, unbuilt_beyond, playable_front, IsPlayable};
 
 use vk_base::limits::EVENTS;
-use vk_base::{Call, Message, Pid, ProcessSpec};
+use vk_base::{Call, Pid, ProcessSpec, Scope};
 use vk_event::{Event, Front, Schedule, TextRefusal};
 
-fn is_short(message: &Message) -> bool
-    ensures { result ≡ is_short message.now }
-{
-    let bytes: &[u8] = &message.0;
-    let (_, last) = bytes.split_at(24);
-    last.iter().all(|b| *b == 0)
-}
-
-fn is_built_call(pid: Pid, call: &Call) -> bool
-    ensures { result ≡ is_built_call pid call.now }
+/// Whether the call concerns the station of its process alone, or is a reply.
+fn is_playable_call(pid: Pid, call: &Call) -> bool
+    ensures { result ≡ is_playable_call pid call.now }
 {
     match call {
-        Call::Send { target, message } => target.host == pid.host && is_short(message),
-        Call::Receive => true,
-        Call::Reply { message, .. } => is_short(message),
-        _ => false,
+        Call::Send { target, .. } => pid.host == target.host,
+        Call::MoveTo { partner, .. } | Call::MoveFrom { partner, .. } => pid.host == partner.host,
+        Call::GetPid { scope, .. } => matches!(scope, Scope::Local),
+        _ => true,
     }
 }
 
@@ -31,7 +24,7 @@ fn is_built_event(event: &Event) -> bool
     ensures { result ≡ is_built_event event.now }
 {
     match event {
-        Event::Call { pid, call } => is_built_call(*pid, call),
+        Event::Call { pid, call } => is_playable_call(*pid, call),
         Event::Collect { .. } => true,
         Event::Tick { .. } | Event::Deliver { .. } => false,
     }

@@ -4,11 +4,10 @@ ghost use Rattle.std.specs.Prelude.{◌≡◌, ◌≤◌, ◌<◌, ◌+◌, ◌^
 ghost use Rattle.std.specs.List.{list_all};
 ghost use Rattle.vk_base.specs.Settings.{Settings};
 ghost use Rattle.vk_event.specs.declared.event.Event.TheVariants as scheduled;
-ghost use Rattle.vk_host.specs.Entries.{is_built, is_built_call};
-ghost use Rattle.vk_host.specs.Stands.{is_at, is_own};
 ghost use Rattle.vk_rules.specs.Histories.{Logs, history};
-ghost use Rattle.vk_top.specs.Forms.{IsPlayable};
-ghost use Rattle.vk_top.specs.Playing.{HasHad, IsPlayed, end_line, event_lines, lines_behind, station_event};
+ghost use Rattle.vk_host.specs.Values.{has};
+ghost use Rattle.vk_top.specs.Forms.{IsPlayable, is_built_event, is_playable_call};
+ghost use Rattle.vk_top.specs.Playing.{HasHad, IsPlayed, StandsAlone, end_line, event_lines, is_own, lines_behind};
 ghost use Rattle.vk_top.specs.Report.{history_of_schedule, output_text};
 
 use crate::report::{put_end, put_entry};
@@ -29,8 +28,8 @@ fn put_last_entry(
     host: u16,
     answer: &EventAnswer,
 ) -> Result<u64, NoMemory>
-    ensures lines { OnOk result (text.new.items ≡ text.old.items ++ event_lines form host number answer.now station.now.steps) }
-    ensures count { IfOk result (λ n. n ≡ length station.now.steps) }
+    ensures lines { OnOk result (text.new.items ≡ text.old.items ++ event_lines form host number answer.now station.now.doing.steps) }
+    ensures count { IfOk result (λ n. n ≡ length station.now.doing.steps) }
     ensures few { IfOk result (λ n. n ≤ STEPS) }
 {
     let steps = station.steps();
@@ -49,11 +48,12 @@ fn put_call(
     pid: Pid,
     call: &Call,
 ) -> Result<u64, NoMemory>
+    requires alone { StandsAlone station.old }
     requires few { station.old.events < 2 ^ 48 }
     requires before { before < 2 ^ 48 }
     requires host { station.old.host ≡ host }
-    requires own { is_at station.old pid ≡ true }
-    requires built { is_built_call pid call.now ≡ true }
+    requires own { has station.old pid ≡ true }
+    requires built { is_playable_call pid call.now ≡ true }
     ensures { IfOk result (IsPlayed form host before station.old station.new text.old.items text.new.items (scheduled.Call pid call.now)) }
 {
     let answer = station.call(pid, call);
@@ -70,10 +70,11 @@ fn put_collect(
     host: u16,
     pid: Pid,
 ) -> Result<u64, NoMemory>
+    requires alone { StandsAlone station.old }
     requires few { station.old.events < 2 ^ 48 }
     requires before { before < 2 ^ 48 }
     requires host { station.old.host ≡ host }
-    requires own { is_at station.old pid ≡ true }
+    requires own { has station.old pid ≡ true }
     ensures { IfOk result (IsPlayed form host before station.old station.new text.old.items text.new.items (scheduled.Collect pid)) }
 {
     let answer = station.collect(pid);
@@ -90,11 +91,12 @@ fn put_event(
     host: u16,
     event: &Event,
 ) -> Result<u64, NoMemory>
+    requires alone { StandsAlone station.old }
     requires few { station.old.events < 2 ^ 48 }
     requires before { before < 2 ^ 48 }
     requires host { station.old.host ≡ host }
-    requires own { is_own station.old (station_event event.now) ≡ true }
-    requires built { is_built (station_event event.now) ≡ true }
+    requires own { is_own station.old event.now ≡ true }
+    requires built { is_built_event event.now ≡ true }
     ensures { IfOk result (IsPlayed form host before station.old station.new text.old.items text.new.items event.now) }
 {
     match event {
@@ -113,11 +115,12 @@ fn put_events(
     host: u16,
     events: &[Event],
 ) -> Result<(), NoMemory>
+    requires alone { StandsAlone station.old }
     requires few { length events.now ≤ EVENTS }
     requires first { station.old.events ≡ 0 }
     requires host { station.old.host ≡ host }
-    requires own { list_all (λ e. is_own station.old (station_event e)) events.now ≡ true }
-    requires built { list_all (λ e. is_built (station_event e)) events.now ≡ true }
+    requires own { list_all (is_own station.old) events.now ≡ true }
+    requires built { list_all is_built_event events.now ≡ true }
     ensures { OnOk result ((c : Settings) (logs : Logs) → HasHad station.old c logs host 0 →
         text.new.items ≡ text.old.items ++ lines_behind form 0 0 (history c logs events.now)) }
 {

@@ -1,8 +1,16 @@
-use Rattle.vk_local.proofs.MoveRules.{from_rule}
+use Rattle.std.proofs.Common.{◌∙◌, ap}
+use Rattle.vk_base.specs.declared.kernel.Direction.TheVariants as directions
+use Rattle.vk_procs.specs.Seats.{pids}
+use Rattle.vk_local.proofs.MoveRules.{move_rule}
+use Rattle.vk_local.proofs.PidsStay.{pids_moved}
 use Rattle.vk_local.proofs.moves.move_from.Goals as goal
 
-pub returns : goal.returns
-returns c =
-    from_rule c.args.pid c.args.partner c.args.segment c.args.procs.now c.play_move_from.new.procs c.args.steps.now.items
-    c.play_move_from.new.steps.items c.play_move_from.result c.requires.ready c.requires.near
-    c.play_move_from.ensures.outcome c.play_move_from.ensures.seats c.play_move_from.ensures.steps
+pub returns-clause-rule : goal.returns-clause-rule
+returns-clause-rule c =
+    let p = c.play_move in
+    move_rule directions.From c.args.pid c.args.partner c.args.segment c.args.procs.now p.new.procs c.args.steps.now.items p.new.steps.items
+    p.result c.requires.ready c.requires.near p.ensures
+
+pub returns-clause-pids : goal.returns-clause-pids
+returns-clause-pids c =
+    ap pids c.play_move.ensures.seats ∙ pids_moved directions.From c.args.procs.now c.args.pid c.args.partner c.args.segment

@@ -1,4 +1,7 @@
+use Rattle.std.proofs.Common.{◌∙◌, ap}
+use Rattle.vk_procs.specs.Seats.{pids}
 use Rattle.vk_local.specs.Calls.{tables_of}
+use Rattle.vk_local.proofs.PidsStay.{pids_received}
 use Rattle.vk_local.proofs.ReceiveRules.{receive_rule}
 use Rattle.vk_local.proofs.receives.receive.Goals as goal
 
@@ -7,4 +10,9 @@ returns-clause-rule c =
     let p = c.play_receive in
     receive_rule c.args.pid c.args.waiting (tables_of c.args.procs.now c.args.queues.now.lists c.args.aliens.now)
     p.new.procs p.new.queues.lists p.new.aliens c.args.steps.now.items p.new.steps.items p.result c.requires.ready c.requires.receive
-    p.ensures.outcome p.ensures.seats p.ensures.lists p.ensures.slots p.ensures.steps
+    p.ensures.done
+
+pub returns-clause-pids : goal.returns-clause-pids
+returns-clause-pids c =
+    ap pids c.play_receive.ensures.done.seats
+    ∙ pids_received (tables_of c.args.procs.now c.args.queues.now.lists c.args.aliens.now) c.args.pid c.args.waiting

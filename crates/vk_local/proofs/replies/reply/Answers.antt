@@ -1,8 +1,15 @@
+use Rattle.std.proofs.Common.{◌∙◌, ap}
+use Rattle.vk_procs.specs.Seats.{pids}
+use Rattle.vk_local.proofs.PidsStay.{pids_replied}
 use Rattle.vk_local.proofs.Replied.{reply_rule}
 use Rattle.vk_local.proofs.replies.reply.Goals as goal
 
-pub returns : goal.returns
-returns c =
-    reply_rule c.args.pid c.args.to c.args.message.now c.args.procs.now c.play_reply.new.procs c.args.steps.now.items
-    c.play_reply.new.steps.items c.play_reply.result
-    c.requires.ready c.requires.near c.play_reply.ensures.outcome c.play_reply.ensures.seats c.play_reply.ensures.steps
+pub returns-clause-rule : goal.returns-clause-rule
+returns-clause-rule c =
+    let p = c.play_reply in
+    reply_rule c.args.pid c.args.to c.args.message.now c.args.procs.now p.new.procs c.args.steps.now.items p.new.steps.items p.result
+    c.requires.ready c.requires.near p.ensures
+
+pub returns-clause-pids : goal.returns-clause-pids
+returns-clause-pids c =
+    ap pids c.play_reply.ensures.seats ∙ pids_replied c.args.procs.now c.args.pid c.args.to c.args.message.now

@@ -1,9 +1,16 @@
+use Rattle.std.proofs.Common.{◌∙◌, ap}
+use Rattle.vk_procs.specs.Seats.{pids}
+use Rattle.vk_local.proofs.PidsStay.{pids_replied_segment}
 use Rattle.vk_local.proofs.Segments.{segment_rule}
 use Rattle.vk_local.proofs.replies.reply_segment.Goals as goal
 
-pub returns : goal.returns
-returns c =
-    segment_rule c.args.pid c.args.to c.args.message.now c.args.segment c.args.procs.now c.play_reply_segment.new.procs
-    c.args.steps.now.items c.play_reply_segment.new.steps.items c.play_reply_segment.result
-    c.requires.ready c.requires.near c.play_reply_segment.ensures.outcome c.play_reply_segment.ensures.seats
-    c.play_reply_segment.ensures.steps
+pub returns-clause-rule : goal.returns-clause-rule
+returns-clause-rule c =
+    let p = c.play_reply_segment in
+    segment_rule c.args.pid c.args.to c.args.message.now c.args.segment c.args.procs.now p.new.procs c.args.steps.now.items
+    p.new.steps.items p.result c.requires.ready c.requires.near p.ensures
+
+pub returns-clause-pids : goal.returns-clause-pids
+returns-clause-pids c =
+    ap pids c.play_reply_segment.ensures.seats
+    ∙ pids_replied_segment c.args.procs.now c.args.pid c.args.to c.args.message.now c.args.segment

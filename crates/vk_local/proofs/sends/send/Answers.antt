@@ -1,4 +1,7 @@
+use Rattle.std.proofs.Common.{◌∙◌, ap}
+use Rattle.vk_procs.specs.Seats.{pids}
 use Rattle.vk_local.specs.Calls.{tables_of}
+use Rattle.vk_local.proofs.PidsStay.{pids_sent}
 use Rattle.vk_local.proofs.SendRules.{send_rule}
 use Rattle.vk_local.proofs.sends.send.Goals as goal
 
@@ -7,5 +10,9 @@ returns-clause-rule c =
     let p = c.play_send in
     send_rule c.args.pid c.args.target c.args.message.now (tables_of c.args.procs.now c.args.queues.now.lists c.args.aliens.now)
     p.new.procs p.new.queues.lists p.new.aliens c.args.steps.now.items p.new.steps.items p.result c.requires.ready
-    c.requires.near c.requires.few
-    p.ensures.outcome p.ensures.seats p.ensures.lists p.ensures.slots p.ensures.steps
+    c.requires.near c.requires.few p.ensures.done
+
+pub returns-clause-pids : goal.returns-clause-pids
+returns-clause-pids c =
+    ap pids c.play_send.ensures.done.seats
+    ∙ pids_sent (tables_of c.args.procs.now c.args.queues.now.lists c.args.aliens.now) c.args.pid c.args.target c.args.message.now

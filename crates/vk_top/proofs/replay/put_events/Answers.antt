@@ -9,6 +9,7 @@ loop-event-preserved c = record {
   counted = omega arith;
   few = omega (arith, c.in_ok-steps.ensures.few);
   events = omega (arith, c.in_ok-steps.ensures.events);
+  alone = c.in_ok-steps.ensures.alone;
   processes = λ pid. c.in_ok-steps.ensures.processes pid ∙ c.loop-event.invariant.processes pid;
   host = c.in_ok-steps.ensures.same_host ∙ c.loop-event.invariant.host;
   replayed = λ s logs had. IsReplayedTo-more s _ _ _ _ _ _ _ _ _ _ c.args.events.now c.loop-event.event-index c.event-item.result

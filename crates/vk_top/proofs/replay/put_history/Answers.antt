@@ -1,7 +1,7 @@
-use Rattle.std.proofs.Common.{◌≡◌, ◌++◌, map, ap, sym, ◌∙◌}
+use Rattle.std.proofs.Common.{◌≡◌, ◌++◌, ap, sym, ◌∙◌}
 use Rattle.std.proofs.lemmas.Result.{on_ok_weaker}
 use Rattle.std.specs.Option.{option_copied}
-use Rattle.vk_top.proofs.Schedules.{lines-no_process, station_of-first, has_station-first, all_built, all_own, had_none}
+use Rattle.vk_top.proofs.Schedules.{lines-no_process, station_of-first, faultless, all_built, all_own, had_none, none_kept, none_yet}
 use Rattle.vk_rules.specs.Histories.{history_of, no_entries}
 use Rattle.vk_top.specs.Playing.{lines_behind}
 use Rattle.vk_top.proofs.Playable.{plain}
@@ -17,18 +17,25 @@ returns-in_default c =
 
 pub new-requires : goal.new-requires
 new-requires c =
-    has_station-first c.specs.result.now c.args.schedule.now.config.specs c.in-Some.first.now c.specs.ensures.specs c.in-Some.ensures.value
+    let pid = c.in-Some.first.now.pid in
+    record {
+      lawful = faultless c.args.schedule.now c.requires.lawful;
+      some_host = pid.some_host;
+      one_host = pid.one_host;
+    }
 
 pub put_events-requires : goal.put_events-requires
 put_events-requires c =
     let s = c.args.schedule.now in
     let same : c.as_slice.result.now ≡ s.events = c.as_slice.ensures in
     let first = station_of-first c.specs.result.now s.config.specs c.in-Some.first.now c.specs.ensures.specs c.in-Some.ensures.value in
+    let at = c.in_ok-station.ensures.stands in
     record {
+      alone = none_kept _ s.config at;
       few = rw same c.requires.lawful.few;
-      first = c.in_ok-station.ensures.start.1;
-      host = c.in_ok-station.ensures.start.0;
-      own = rw same (all_own s c.in_ok-station.station _ (plain s c.requires) first c.in_ok-station.ensures.processes);
+      first = none_yet _ s.config at;
+      host = c.in_ok-station.ensures.host;
+      own = rw same (all_own s c.in_ok-station.station _ (plain s c.requires) first c.in_ok-station.ensures.host at);
       built = rw same (all_built s (plain s c.requires));
     }
 

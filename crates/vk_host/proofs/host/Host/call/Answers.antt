@@ -1,56 +1,38 @@
-use Rattle.std.proofs.Common.{◌∙◌, ap, sym, subst, refl, ◌∷◌, ◌+◌, ◌^◌, ◌<◌, length}
-use Rattle.std.specs.List.{find}
-use Rattle.std.specs.Option.{is_some, IsSome}
-use Rattle.vk_base.specs.declared.step.Step.TheVariants as steps
-use Rattle.vk_base.specs.Kernel.{Kernel}
-use Rattle.vk_base.specs.declared.event.StationEvent.TheVariants as events
-use Rattle.vk_host.specs.Stands.{Stands, is_at}
-use Rattle.vk_host.specs.Tables.{Tables, is_seat, call_on_seats}
-use Rattle.vk_base.specs.Steps.{run}
-use Rattle.vk_host.proofs.Quiet.{call_frames}
-use Rattle.vk_host.proofs.Same.{answer_same, steps_same, view_same}
-use Rattle.vk_host.proofs.Events.{call_event, own_quiet, call_stays, stands_after, written}
+use Rattle.std.proofs.Common.{refl}
+use Rattle.vk_rules.specs.Entries.{Called}
+use Rattle.vk_host.proofs.Events.{can_seal, event_is, process_happens}
+use Rattle.vk_host.proofs.Rooms.{can_start, few_yet, own_yet}
 use Rattle.vk_host.proofs.host.Host.call.Goals as goal
+
+pub count-requires : goal.count-requires
+count-requires c =
+    let s = c.self.inside in few_yet c.args.self.now s.desk s.number s.events s.frames c.self.view_is c.requires.few
+
+pub call-answer-requires-clause-can : goal.call-answer-requires-clause-can
+call-answer-requires-clause-can c =
+    let s = c.self.inside in
+    can_start c.args.self.now s.desk s.number s.events s.frames c.self.view_is c.args.pid c.requires.somewhere c.requires.few c.requires.own
+
+pub call-answer-requires-clause-own : goal.call-answer-requires-clause-own
+call-answer-requires-clause-own c =
+    let s = c.self.inside in own_yet c.args.self.now s.desk s.number s.events s.frames c.self.view_is c.args.pid c.requires.own
+
+pub seal-requires : goal.seal-requires
+seal-requires c =
+    let s = c.self.inside in
+    let n = c.count.new in
+    let d = c.call-answer.new.desk in
+    can_seal c.args.self.now (Called c.args.pid c.args.call.now) c.call-answer.result d n.number n.events
+    (process_happens c.args.self.now s.desk d s.number s.events s.frames c.self.view_is c.call-answer.result n.number n.events
+    c.count.ensures.events c.call-answer.ensures.same c.args.pid (Called c.args.pid c.args.call.now) (λ r. refl) (λ r. refl) c.count.ensures.number
+    c.call-answer.ensures.played c.requires.somewhere c.requires.few c.requires.own) c.requires.somewhere c.requires.few
 
 pub returns : goal.returns
 returns c =
-    let now = c.deref_mut.ensures.value ∙ ap (λ (t : Tables). t.seats) c.self.view_is in
-    let kept = written c.self.inside.seats.len c.call.new.seats c.self.inside.seats.items c.self.inside.seats.ok.0
-    (c.call.auto.seats ∙ ap length c.deref_mut.ensures.value) in
-    let seats = kept ∙ c.call.ensures.seats ∙ ap (λ xs. (call_on_seats xs c.args.pid c.args.call.now).seats) c.deref_mut.ensures.value in
-    let inside : Tables = record {
-      host = c.self.inside.host;
-      seats = c.self.inside.seats.items;
-      steps = c.self.inside.steps.items;
-      events = c.self.inside.events;
-    } in
-    let right = λ (k : Kernel) (stands : Stands c.args.self.now k). call_event c.args.self.now k c.args.pid c.args.call.now
-    (events.Call c.args.pid c.args.call.now) refl c.requires.own c.requires.built c.requires.few stands in
-    let right_inside = λ (k : Kernel) (stands : Stands c.args.self.now k).
-    call_event inside k c.args.pid c.args.call.now (events.Call c.args.pid c.args.call.now) refl
-    (ap (λ t. is_at t c.args.pid) c.self.view_is ∙ c.requires.own) c.requires.built
-    (subst (λ (x : Tables). x.events < 2 ^ 48) (sym c.self.view_is) c.requires.few)
-    (subst (λ x. Stands x k) (sym c.self.view_is) stands) in
-    record {
-      answer = λ s host r stands. c.answer.ensures ∙ c.call.ensures.answer
-          ∙ ap (λ xs. (call_on_seats xs c.args.pid c.args.call.now).answer) now ∙ (right r.view stands).answer_is
-          ∙ answer_same s host r (events.Call c.args.pid c.args.call.now) c.requires.built;
-      steps = λ s host r stands.
-          c.call.ensures.steps
-          ∙ ap (λ xs. steps.Call c.args.pid c.args.call.now ∷ (call_on_seats xs c.args.pid c.args.call.now).steps) now
-          ∙ (right r.view stands).steps_are
-          ∙ steps_same s host r (events.Call c.args.pid c.args.call.now) c.requires.built;
-      allowed = λ s host r stands. subst (λ ss. IsSome (run r.view ss))
-          (steps_same s host r (events.Call c.args.pid c.args.call.now) c.requires.built) (right r.view stands).allowed;
-      stands = λ s host r stands. subst (Stands _) (view_same s host r (events.Call c.args.pid c.args.call.now) c.requires.built)
-          (stands_after c.self.inside.host c.self.inside.events _ _ _ c.call.new.steps.items _ r.view
-          (events.Call c.args.pid c.args.call.now) (right_inside r.view stands) seats);
-      quiet = λ s host r stands. call_frames s host r c.args.pid c.args.call.now
-          (own_quiet c.args.self.now r.view r.slots c.args.pid c.args.call.now c.requires.own c.requires.built stands);
-      host = ap (λ (t : Tables). t.host) c.self.view_is;
-      events = ap (λ (t : Tables). t.events + 1) c.self.view_is;
-      processes = λ pid.
-          ap (λ xs. is_some (find (is_seat pid) xs)) seats
-          ∙ call_stays pid c.args.pid c.args.call.now c.self.inside.seats.items
-          ∙ ap (λ t. is_at t pid) c.self.view_is;
-    }
+    let s = c.self.inside in
+    let n = c.count.new in
+    let d = c.call-answer.new.desk in
+    event_is c.args.self.now (Called c.args.pid c.args.call.now) c.call-answer.result d n.number n.events
+    (process_happens c.args.self.now s.desk d s.number s.events s.frames c.self.view_is c.call-answer.result n.number n.events
+    c.count.ensures.events c.call-answer.ensures.same c.args.pid (Called c.args.pid c.args.call.now) (λ r. refl) (λ r. refl) c.count.ensures.number
+    c.call-answer.ensures.played c.requires.somewhere c.requires.few c.requires.own) c.seal.new.frames c.seal.ensures

@@ -1,5 +1,0 @@
-use Rattle.turn_cell.specs.Seats.{IsSameSeat, IsSeatOf}
-use Rattle.turn_cell.proofs.tests.enter_all.Given as goal
-
-abbrev pub invariant-loop-k : goal.invariant-loop-k
-invariant-loop-k g l = IsSeatOf l.cell l.seat × IsSameSeat l.fn.seat l.seat

@@ -1,0 +1,93 @@
+-- A reply to a process of another station is kept in its alien, which it closes.
+use Rattle.std.proofs.Common.{◌≡◌, ◌≤◌, ℕ, true, false, List, length, map, Some, refl, sym, ap, subst, ◌∙◌, inl, inr}
+use Rattle.std.proofs.lemmas.Bool.{cases_Bool}
+use Rattle.std.proofs.lemmas.Option.{same_Some}
+use Rattle.vk_base.specs.declared.kernel.Exchange.{Exchange}
+use Rattle.vk_base.specs.declared.kernel.Name.{Name}
+use Rattle.vk_base.specs.declared.kernel.Stage.TheVariants as stages
+use Rattle.vk_base.specs.declared.limits.TheConstants.{SEGMENT_BYTES}
+use Rattle.vk_base.specs.declared.message.Message.{Message}
+use Rattle.vk_base.specs.Kernel.{Kernel, is_taken, queue_of, same_name, with_stage}
+use Rattle.v_laws.proofs.Queues.{queue-stage}
+use Rattle.v_laws.proofs.Tables.{put_exchange_at, put_exchange_other, same_name_is, same_name_self}
+use Rattle.vk_pool.specs.declared.alien.Alien.{Alien}
+use Rattle.vk_pool.specs.Aliens.{alien_at, replied}
+use Rattle.vk_stands.specs.Stands.{IsKept}
+use Rattle.vk_stands.specs.Tables.{Tables, alien_name, stage_of}
+use Rattle.vk_stands.proofs.Aliens.{of_at}
+use Rattle.vk_stands.proofs.FitSlots.{fit_replied}
+use Rattle.vk_stands.proofs.LocalReply.{taken_unqueued}
+use Rattle.vk_stands.proofs.OneAlien.{ChangesAlien, names_slotted, slotted, slotted_carries, view_slotted}
+use Rattle.vk_stands.proofs.Parts.{Carries, Part}
+use Rattle.vk_stands.proofs.RemoteReply.{sound_told}
+use Rattle.vk_stands.proofs.Views.{Goes, goes_self}
+
+module _ (host : ℕ) (t : Tables) (k : Kernel) (part : Part host t k) (i : ℕ) (a : Alien) (here : alien_at t.slots i ≡ Some a)
+    (taken : is_taken (stage_of a) ≡ true) (m : Message) (dest : ℕ) (bytes : List ℕ) (closed : ℕ) where
+  pub kept_alien : IsKept k a
+  kept_alien = part.view.kept a.sender a (of_at t.slots i a part.fit.apart here)
+
+  abbrev e : Exchange
+  e = kept_alien.exchange
+
+  abbrev x : Exchange
+  x = record e { stage = stages.Replied m dest bytes }
+
+  abbrev f : Alien → Alien
+  f = replied m dest bytes closed
+
+  abbrev l : Kernel
+  l = with_stage k (alien_name a) e (stages.Replied m dest bytes)
+
+  goes : Goes e x
+  goes = record { target = refl; message = refl; part = refl; moves = refl; opened = refl; done = refl; near = λ t. absurd (cc) }
+
+  others : (n : Name) → same_name n (alien_name a) ≡ false → l.exchanges n ≡ k.exchanges n
+  others n other = put_exchange_other k.exchanges (alien_name a) x n other
+
+  forth : (n : Name) (z : Exchange) → k.exchanges n ≡ Some z → (v : Exchange) × (l.exchanges n ≡ Some v) × Goes z v
+  forth n z there = elim (cases_Bool (same_name n (alien_name a))) [
+    | inl same ↦
+        let one : e ≡ z = same_Some e z (sym kept_alien.is ∙ ap k.exchanges (sym (same_name_is n (alien_name a) same)) ∙ there) in
+        (x, put_exchange_at k.exchanges (alien_name a) x n same, subst (λ y. Goes y x) one goes)
+    | inr other ↦ (z, others n other ∙ there, goes_self z)
+  ]
+
+  back : (n : Name) (v : Exchange) → l.exchanges n ≡ Some v → (z : Exchange) × (k.exchanges n ≡ Some z) × Goes z v
+  back n v there = elim (cases_Bool (same_name n (alien_name a))) [
+    | inl same ↦
+        let one : x ≡ v = same_Some x v (sym (put_exchange_at k.exchanges (alien_name a) x n same) ∙ there) in
+        (e, ap k.exchanges (same_name_is n (alien_name a) same) ∙ kept_alien.is, subst (Goes e) one goes)
+    | inr other ↦ (v, sym (others n other) ∙ there, goes_self v)
+  ]
+
+  pub closed_exchange : l.exchanges (alien_name a) ≡ Some x
+  closed_exchange = put_exchange_at k.exchanges (alien_name a) x (alien_name a) (same_name_self (alien_name a))
+
+  change : ChangesAlien k l a (f a)
+  change = record {
+    procs = λ q. refl;
+    others = others;
+    forth = forth;
+    back = back;
+    lookups = λ asker number. refl;
+    same = record { sender = refl; number = refl; target = refl; message = refl; part = refl; moves = refl };
+    stage = λ y z at there stage. ap (λ (v : Exchange). v.stage) (same_Some z x (sym there ∙ closed_exchange));
+    refused = λ at is. absurd (cc);
+  }
+
+  pub closed_part : length bytes ≤ SEGMENT_BYTES → Part host (slotted t i f) l
+  unfolding queue_of
+  closed_part few = record {
+    fit = fit_replied host t part.fit (Some i) m dest bytes closed few;
+    view = view_slotted host t k l part.fit part.view i a here f change;
+    sound = sound_told k part.sound (alien_name a) e kept_alien.is m dest bytes;
+    names = part.names;
+    unknown = part.unknown;
+    queues = λ q at place. ap (map Some) (queue-stage k (alien_name a) e (stages.Replied m dest bytes) q kept_alien.is
+        (taken_unqueued e.stage (ap is_taken kept_alien.stage ∙ taken))) ∙ part.queues q at place
+        ∙ sym (names_slotted host t k l part.fit part.view i a here f change at);
+  }
+
+  pub closed_carries : Carries 0 t (slotted t i f)
+  closed_carries = slotted_carries host t k l part.fit part.view i a here f change (λ y. refl)
