@@ -15,7 +15,7 @@ use Rattle.vk_base.specs.declared.pid.Pid.{Pid}
 use Rattle.vk_base.specs.declared.step.Step.{Step}
 use Rattle.vk_base.specs.declared.step.Step.TheVariants as steps
 use Rattle.vk_base.specs.declared.event.EventAnswer.{EventAnswer}
-use Rattle.vk_base.specs.Kernel.{◌>>=◌, Kernel, name_of, holds_of, held}
+use Rattle.vk_base.specs.Kernel.{Kernel, name_of, holds_of, held}
 use Rattle.vk_base.specs.Calls.{is_message_at}
 use Rattle.vk_base.specs.Pids.{IsPid, same_host}
 use Rattle.vk_base.specs.Settings.{is_on}

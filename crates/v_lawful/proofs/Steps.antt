@@ -32,7 +32,6 @@ use Rattle.v_laws.proofs.StepLemmas.{taking_is, finishing_is, failing_is, openin
 use Rattle.v_laws.proofs.Tables.{same_name_is, put_exchange_at, put_exchange_other}
 use Rattle.vk_wire.specs.Fields.{IsBytes}
 use Rattle.vk_wire.proofs.Numbers.{take_bytes}
-use Rattle.vk_rules.specs.Each.{Each}
 use Rattle.v_lawful.specs.Fitting.{IsFittingMove, IsFittingStage, IsFittingExchange, IsFittingView}
 use Rattle.v_lawful.proofs.Bytes.{bytes_in_bytes, with_bytes_bytes, with_bytes_grows}
 use Rattle.v_lawful.proofs.Changes.{HasOwn, Keeps, AreFitting, alike_self, has_own_self, calm, grown, process_kept, goes_on, exchanges_on, keeps_self, keeps_put, keeps_map, fitting_put, fitting_map}

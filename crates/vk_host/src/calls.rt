@@ -7,14 +7,12 @@ ghost use Rattle.vk_local.specs.Rules.{may_call};
 ghost use Rattle.vk_procs.specs.Seats.{seat_in};
 ghost use Rattle.vk_rules.specs.Entries.{Called, Collected};
 ghost use Rattle.vk_host.specs.Desks.{KeepsDesk, doing_in, fresh};
-ghost use Rattle.vk_host.specs.Played.{CanPlay, CanStart, IsPlayed, answer_given, collect_steps, early_in, loads};
+ghost use Rattle.vk_host.specs.Played.{CanPlay, CanStart, IsPlayed, answer_given, collect_given, collect_steps, early_in, loads};
 
 use crate::desk::Desk;
-use crate::response::{Response, collect_answer};
+use crate::response::Response;
 use crate::{away, here};
-use vk_base::{
-    Activity, Call, EventAnswer, Message, Outcome, Pid, Refusal, Step, StepList, Waiting,
-};
+use vk_base::{Activity, Call, Message, Outcome, Pid, Refusal, Step, StepList, Waiting};
 use vk_local::Segment;
 use vk_procs::Procs;
 
@@ -192,16 +190,16 @@ fn respond(desk: &mut Desk, pid: Pid, call: &Call) -> Response
 }
 
 /// A call of a process of the station, as an event of its own.
-pub fn call(desk: &mut Desk, pid: Pid, call: &Call) -> EventAnswer
+pub fn call(desk: &mut Desk, pid: Pid, call: &Call) -> Response
     requires can { CanStart pid desk.old }
     requires own { is_some (seat_in desk.old.procs pid) ≡ true }
-    ensures played { IsPlayed desk.old.times pid.host desk.old.now (Called pid call.now) result
-        (fresh (doing_in desk.old)) (doing_in desk.new) }
+    ensures played { IsPlayed desk.old.times pid.host desk.old.now (Called pid call.now)
+        (answer_given desk.new.procs pid result) (fresh (doing_in desk.old)) (doing_in desk.new) }
+    ensures few { loads result ≤ BYTES }
     ensures same { KeepsDesk desk.old desk.new }
 {
     desk.clear();
-    let response = respond(desk, pid, call);
-    response.answer(&desk.procs, pid)
+    respond(desk, pid, call)
 }
 
 /// The step of a collect, where there is something to collect.
@@ -214,16 +212,16 @@ fn push_collect(steps: &mut StepList, pid: Pid, outcome: &Option<Outcome>)
     }
 }
 
-/// A collect of a process of the station, as an event of its own.
-pub fn collect(desk: &mut Desk, pid: Pid) -> EventAnswer
+/// A collect of a process of the station, as an event of its own: what there was to collect.
+pub fn collect(desk: &mut Desk, pid: Pid) -> Option<Outcome>
     requires can { CanStart pid desk.old }
     requires own { is_some (seat_in desk.old.procs pid) ≡ true }
-    ensures played { IsPlayed desk.old.times pid.host desk.old.now (Collected pid) result
+    ensures played { IsPlayed desk.old.times pid.host desk.old.now (Collected pid) (collect_given result)
         (fresh (doing_in desk.old)) (doing_in desk.new) }
     ensures same { KeepsDesk desk.old desk.new }
 {
     desk.clear();
     let outcome = desk.procs.collect(pid);
     push_collect(&mut desk.steps, pid, &outcome);
-    collect_answer(outcome)
+    outcome
 }

@@ -15,6 +15,7 @@ ghost use Rattle.vk_host.specs.Values.{has, is_own};
 use crate::desk::Desk;
 use crate::frames::Frames;
 use crate::opening::{Opened, next_number, number_after, open_frame};
+use crate::response::collect_answer;
 use crate::{calls, deliveries, ticks};
 use std::alloc::Global;
 use std::marker::Model;
@@ -85,9 +86,9 @@ impl Host {
         ensures { IsEvent self.old self.new (Called pid call.now) result }
     {
         count(&mut self.events, &mut self.number);
-        let answer = calls::call(&mut self.desk, pid, call);
+        let response = calls::call(&mut self.desk, pid, call);
         seal(&mut self.frames, &self.desk, self.number, self.events);
-        answer
+        response.answer(&self.desk.procs, pid)
     }
 
     /// The event that the process collects its answer. Takes no memory.
@@ -98,9 +99,9 @@ impl Host {
         ensures { IsEvent self.old self.new (Collected pid) result }
     {
         count(&mut self.events, &mut self.number);
-        let answer = calls::collect(&mut self.desk, pid);
+        let outcome = calls::collect(&mut self.desk, pid);
         seal(&mut self.frames, &self.desk, self.number, self.events);
-        answer
+        collect_answer(outcome)
     }
 
     /// The event that the station's clock ticks. Takes no memory.
@@ -110,9 +111,9 @@ impl Host {
         ensures { IsEvent self.old self.new Ticked result }
     {
         count(&mut self.events, &mut self.number);
-        let answer = ticks::tick(&mut self.desk);
+        let now = ticks::tick(&mut self.desk);
         seal(&mut self.frames, &self.desk, self.number, self.events);
-        answer
+        EventAnswer::Ticked { now }
     }
 
     /// The event that these bytes come, a frame or not. Takes no memory.
@@ -123,9 +124,9 @@ impl Host {
     {
         let opened = open_frame(bytes);
         count_frame(&mut self.events, &mut self.number, &opened);
-        let answer = deliveries::deliver(&mut self.desk, &opened);
+        let judged = deliveries::deliver(&mut self.desk, &opened);
         seal(&mut self.frames, &self.desk, self.number, self.events);
-        answer
+        judged.answer()
     }
 
     /// The steps of the last event, in order.

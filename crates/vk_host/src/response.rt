@@ -47,11 +47,35 @@ impl Response {
     }
 }
 
+/// The answer, made where the caller wants it: each of its forms has a literal of its own, since one that is made first is moved.
 fn given(outcome: Outcome) -> EventAnswer
     ensures { result ≡ given_by (Some outcome) }
 {
-    EventAnswer::Answered {
-        answer: outcome.answer(),
+    match outcome {
+        Outcome::Ok => EventAnswer::Answered { answer: Answer::Ok },
+        Outcome::Replied { message } => EventAnswer::Answered {
+            answer: Answer::Replied { message },
+        },
+        Outcome::Received { from, message } => EventAnswer::Answered {
+            answer: Answer::Received { from, message },
+        },
+        Outcome::ReceivedSegment {
+            from,
+            message,
+            count,
+        } => EventAnswer::Answered {
+            answer: Answer::ReceivedSegment {
+                from,
+                message,
+                count,
+            },
+        },
+        Outcome::Found { pid } => EventAnswer::Answered {
+            answer: Answer::Found { pid },
+        },
+        Outcome::Refused { why } => EventAnswer::Answered {
+            answer: Answer::Refused { why },
+        },
     }
 }
 
@@ -71,10 +95,11 @@ fn loaded(procs: &Procs, pid: Pid, start: u32, count: u32) -> Data
 pub fn collect_answer(outcome: Option<Outcome>) -> EventAnswer
     ensures { result ≡ collect_given outcome }
 {
-    match outcome {
-        Some(outcome) => given(outcome),
-        None => given(Outcome::Refused {
+    let outcome = match outcome {
+        Some(outcome) => outcome,
+        None => Outcome::Refused {
             why: Refusal::NotYet,
-        }),
-    }
+        },
+    };
+    given(outcome)
 }

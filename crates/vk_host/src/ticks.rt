@@ -28,9 +28,10 @@ pub enum WorkKind {
 }
 
 /// The clock of the station ticks: the answer is the new tick, which is below 2^48.
-pub fn tick(desk: &mut Desk) -> EventAnswer
+pub fn tick(desk: &mut Desk) -> u64
     requires can { CanTick desk.old }
-    ensures played { IsTickPlayed desk.old.times desk.old.host desk.old.now result (fresh (doing_in desk.old)) (doing_in desk.new) }
+    ensures played { IsTickPlayed desk.old.times desk.old.host desk.old.now (EventAnswer.Ticked result) (fresh (doing_in desk.old))
+        (doing_in desk.new) }
     ensures same { IsOneTick desk.old desk.new }
 {
     desk.clear();
@@ -44,7 +45,7 @@ pub fn tick(desk: &mut Desk) -> EventAnswer
         &mut desk.out,
         &mut desk.steps,
     );
-    EventAnswer::Ticked { now }
+    now
 }
 
 /// The tick `now`, below 2^48, of the tables of a station: the work of each process, in order, and then the aliens of whose Sends no

@@ -5,7 +5,7 @@ use Rattle.vk_rules.specs.Entries.{Collected}
 use Rattle.vk_stands.specs.Fit.{AreFit}
 use Rattle.vk_stands.specs.Rules.{Doing}
 use Rattle.vk_host.specs.Desks.{doing_in, tables_in}
-use Rattle.vk_host.specs.Played.{IsPlayed}
+use Rattle.vk_host.specs.Played.{IsPlayed, collect_given}
 use Rattle.vk_host.proofs.Happening.{collect_played}
 use Rattle.vk_host.proofs.Staying.{pids_collected}
 use Rattle.vk_host.proofs.calls.collect.Goals as goal
@@ -24,8 +24,8 @@ returns-clause-played c =
     let played = collect_played c.args.pid d.times d.now (tables_in m) m.steps.items c.push_collect.new.steps.items m.out fit own
     c.collect-outcome.new.self c.collect-outcome.result c.collect-outcome.ensures.outcome c.collect-outcome.ensures.new
     c.push_collect.ensures in
-    subst (λ from. IsPlayed d.times c.args.pid.host d.now (Collected c.args.pid) c.collect_answer.result from end) c.clear.ensures.doing
-    (subst (λ a. IsPlayed d.times c.args.pid.host d.now (Collected c.args.pid) a (doing_in m) end) (sym c.collect_answer.ensures) played)
+    subst (λ from. IsPlayed d.times c.args.pid.host d.now (Collected c.args.pid) (collect_given c.collect-outcome.result) from end)
+    c.clear.ensures.doing played
 
 pub returns-clause-same : goal.returns-clause-same
 returns-clause-same c = record {

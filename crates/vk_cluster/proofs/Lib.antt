@@ -1,0 +1,5 @@
+pub mod Found
+pub mod Handed
+pub mod Pieces
+pub mod Piles
+pub mod Rooms

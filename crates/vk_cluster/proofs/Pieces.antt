@@ -1,0 +1,101 @@
+-- Pieces of a list, and of one that grows.
+use Rattle.std.proofs.Common.{◌≡◌, ℕ, zero, suc, ◌+◌, ◌-◌, ◌<◌, ◌≤◌, List, [], ◌∷◌, ◌++◌, length, map, take, drop, Option, Some, None, option_map, refl, sym, ap, subst, ◌∙◌, arith}
+use Rattle.std.specs.Prelude.{slice_get}
+use Rattle.std.proofs.lemmas.List.{length-append, length-drop, take-append-le, drop-append-le, drop_at, take_all, take-map, drop-map}
+use Rattle.std.proofs.lemmas.Option.{none-some, same_Some, slice_get-map}
+use Rattle.vk_rules.specs.Each.{Each}
+use Rattle.vk_rules.proofs.Lists.{each_append, each_weaker}
+use Rattle.vk_cluster.specs.declared.emitted.Piece.{Piece}
+use Rattle.vk_cluster.specs.Piles.{IsWithin, from_one, piece}
+
+-- What holds of each element holds of the one at a place, and of one that is written.
+pub each_at : {A : Type 0} (P : A → Type 0) (xs : List A) (i : ℕ) (x : A) → Each P xs → slice_get xs i ≡ Some x → P x
+each_at P [] i x h found = absurd (none-some x found)
+each_at P (y ∷ ys) zero x h found = subst P (same_Some y x found) h.0
+each_at P (y ∷ ys) (suc i) x h found = each_at P ys i x h.1 found
+
+pub each_one : {A : Type 0} (P : A → Type 0) (xs : List A) (n : ℕ) (x : A) → Each P xs → from_one xs n ≡ Some x → P x
+each_one P xs zero x h found = absurd (none-some x found)
+each_one P xs (suc n) x h found = each_at P xs n x h found
+
+-- A list that grows.
+pub piece_more : {A : Type 0} (xs ys : List A) (p : Piece) → IsWithin (length xs) p → piece (xs ++ ys) p ≡ piece xs p
+piece_more xs ys p within =
+    let start : p.from ≤ length xs = omega arith in
+    let rest : p.count ≤ length (drop p.from xs) = omega (arith, length-drop p.from xs) in
+    ap (take p.count) (drop-append-le p.from xs ys start) ∙ take-append-le p.count (drop p.from xs) ys rest
+
+pub pieces_more : {A : Type 0} (xs ys : List A) (ps : List Piece) → Each (IsWithin (length xs)) ps →
+    map (piece (xs ++ ys)) ps ≡ map (piece xs) ps
+pieces_more xs ys [] h = refl
+pieces_more xs ys (p ∷ ps) h =
+    ap (λ x. x ∷ map (piece (xs ++ ys)) ps) (piece_more xs ys p h.0) ∙ ap (λ l. piece xs p ∷ l) (pieces_more xs ys ps h.1)
+
+pub all_pieces_more : {A : Type 0} (xs ys : List A) (pss : List (List Piece)) → Each (Each (IsWithin (length xs))) pss →
+    map (map (piece (xs ++ ys))) pss ≡ map (map (piece xs)) pss
+all_pieces_more xs ys [] h = refl
+all_pieces_more xs ys (ps ∷ pss) h =
+    ap (λ x. x ∷ map (map (piece (xs ++ ys))) pss) (pieces_more xs ys ps h.0)
+    ∙ ap (λ l. map (piece xs) ps ∷ l) (all_pieces_more xs ys pss h.1)
+
+pub within_more : (n m : ℕ) (ps : List Piece) → n ≤ m → Each (IsWithin n) ps → Each (IsWithin m) ps
+within_more n m ps more h = each_weaker (IsWithin n) (IsWithin m) ps h (λ p in_n. omega arith)
+
+pub all_within_more : (n m : ℕ) (pss : List (List Piece)) → n ≤ m → Each (Each (IsWithin n)) pss → Each (Each (IsWithin m)) pss
+all_within_more n m pss more h =
+    each_weaker (Each (IsWithin n)) (Each (IsWithin m)) pss h (λ ps in_n. within_more n m ps more in_n)
+
+-- the last piece
+pub last_piece : {A : Type 0} (xs ys : List A) (p : Piece) → p.from ≡ length xs → p.count ≡ length ys → piece (xs ++ ys) p ≡ ys
+last_piece xs ys p start size =
+    ap (λ n. take n (drop p.from (xs ++ ys))) size
+    ∙ ap (λ n. take (length ys) (drop n (xs ++ ys))) start
+    ∙ ap (take (length ys)) (drop_at xs ys (length xs) refl)
+    ∙ take_all (length ys) ys (omega arith)
+
+-- Pieces of a list whose elements are changed.
+pub piece-map : {A B : Type 0} (f : A → B) (xs : List A) (p : Piece) → piece (map f xs) p ≡ map f (piece xs p)
+piece-map f xs p = ap (take p.count) (drop-map f p.from xs) ∙ take-map f p.count (drop p.from xs)
+
+pub from_one-map : {A B : Type 0} (f : A → B) (xs : List A) (n : ℕ) → from_one (map f xs) n ≡ option_map f (from_one xs n)
+from_one-map f xs zero = refl
+from_one-map f xs (suc n) = slice_get-map f xs n
+
+-- Elements of a piece.
+dropped : {A : Type 0} (xs : List A) (n k : ℕ) → slice_get (drop n xs) k ≡ slice_get xs (n + k)
+dropped [] zero k = refl
+dropped [] (suc n) k = refl
+dropped (x ∷ xs) zero k = let same : k ≡ 0 + k = omega arith in ap (slice_get (x ∷ xs)) same
+dropped (x ∷ xs) (suc n) k =
+    let same : suc (n + k) ≡ suc n + k = omega arith in dropped xs n k ∙ ap (slice_get (x ∷ xs)) same
+
+taken : {A : Type 0} (xs : List A) (n k : ℕ) → k < n → slice_get (take n xs) k ≡ slice_get xs k
+taken xs zero k low = absurd (omega arith)
+taken [] (suc n) k low = refl
+taken (x ∷ xs) (suc n) zero low = refl
+taken (x ∷ xs) (suc n) (suc k) low = taken xs n k (omega arith)
+
+past : {A : Type 0} (xs : List A) (n k : ℕ) → n ≤ k → slice_get (take n xs) k ≡ None
+past xs zero k high = refl
+past [] (suc n) k high = refl
+past (x ∷ xs) (suc n) zero high = absurd (omega arith)
+past (x ∷ xs) (suc n) (suc k) high = past xs n k (omega arith)
+
+pub past_piece : {A : Type 0} (xs : List A) (p : Piece) (n : ℕ) → p.count < n → from_one (piece xs p) n ≡ None
+past_piece xs p zero high = refl
+past_piece xs p (suc n) high = past (drop p.from xs) p.count n (omega arith)
+
+pub at_piece : {A : Type 0} (xs : List A) (p : Piece) (n : ℕ) → 0 < n → n ≤ p.count →
+    from_one (piece xs p) n ≡ slice_get xs (p.from + n - 1)
+at_piece xs p zero some low = absurd (omega arith)
+at_piece xs p (suc n) some low =
+    let same : p.from + n ≡ p.from + suc n - 1 = omega arith in
+    taken (drop p.from xs) p.count n (omega arith) ∙ dropped xs p.from n ∙ ap (slice_get xs) same
+
+-- The number counted from 1 and the place counted from 0.
+pub none_at_zero : {A : Type 0} (xs : List A) (n : ℕ) → n ≡ 0 → None ≡ from_one xs n
+none_at_zero xs n none = ap (from_one xs) (sym none)
+
+pub place_of_number : {A : Type 0} (xs : List A) (n : ℕ) → 0 < n → slice_get xs (n - 1) ≡ from_one xs n
+place_of_number xs zero some = absurd (omega arith)
+place_of_number xs (suc n) some = let same : suc n - 1 ≡ n = omega arith in ap (slice_get xs) same

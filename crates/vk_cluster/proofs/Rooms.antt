@@ -1,0 +1,36 @@
+-- A list of vectors, of which one is changed.
+use Rattle.std.proofs.Common.{◌≡◌, ℕ, ◌+◌, ◌<◌, List, [], ◌∷◌, ◌++◌, length, map, get_or, set, replicate, Some, sym, ap, subst, ◌∙◌, vec_len, vec_capacity, arith}
+use Rattle.std.specs.Prelude.{slice_get}
+use Rattle.std.specs.Global.{Vec}
+use Rattle.std.proofs.Math.Seq.{map-set_same}
+use Rattle.std.proofs.lemmas.List.{length-set, get_or-set_same, get_or-map, map-set, map_push, replicate_more}
+use Rattle.std.proofs.lemmas.Option.{same_Some, slice_get-get_or}
+use Rattle.vk_cluster.specs.declared.emitted.Piece.{Piece}
+use Rattle.vk_cluster.specs.Piles.{items_of, with_event}
+
+-- one more that is empty
+pub more_none : (vs : List (Vec Piece)) (n : ℕ) (v : Vec Piece) → map items_of vs ≡ replicate n [] → v.items ≡ [] →
+    map items_of (vs ++ v ∷ []) ≡ replicate (n + 1) []
+more_none vs n v before none =
+    map_push items_of vs v ∙ ap (λ l. l ++ v.items ∷ []) before ∙ ap (λ x. replicate n [] ++ x ∷ []) none ∙ replicate_more n []
+
+-- one that has more room
+pub same_items : (vs : List (Vec Piece)) (i : ℕ) (old new : Vec Piece) → old ≡ get_or vs i old → new.items ≡ old.items →
+    map items_of (set vs i new) ≡ map items_of vs
+same_items vs i old new is same = map-set_same items_of vs i new old (same ∙ ap items_of is)
+
+pub has_room : (vs : List (Vec Piece)) (i : ℕ) (new s : Vec Piece) → i < length vs → vec_len new < vec_capacity new →
+    slice_get (set vs i new) i ≡ Some s → vec_len s < vec_capacity s
+has_room vs i new s low room found =
+    let there : i < length (set vs i new) = omega (arith, length-set vs i new) in
+    let is : new ≡ s =
+    same_Some new s (sym (slice_get-get_or (set vs i new) i new there ∙ ap Some (get_or-set_same vs i new new low)) ∙ found) in
+    let P : Vec Piece → Type 0 = λ v. vec_len v < vec_capacity v in subst P is room
+
+-- one that has a piece more
+pub pushed_items : (vs : List (Vec Piece)) (i : ℕ) (old new : Vec Piece) (one : Piece) → old ≡ get_or vs i old → i < length vs →
+    new.items ≡ old.items ++ one ∷ [] → map items_of (set vs i new) ≡ with_event (map items_of vs) i one
+pushed_items vs i old new one is low more =
+    map-set items_of vs i new
+    ∙ ap (set (map items_of vs) i)
+    (more ∙ ap (λ l. l ++ one ∷ []) (ap items_of is ∙ sym (get_or-map items_of vs i old [] low)))

@@ -1,0 +1,93 @@
+-- What is kept of the frames that were emitted: pieces of one list of bytes, and pieces of the list of these.
+use Rattle.std.specs.Prelude.{ℕ, zero, suc, ◌≡◌, ◌+◌, ◌-◌, ◌<◌, ◌≤◌, List, [], ◌∷◌, ◌++◌, length, map, take, drop, sum_by, slice_get, slice_set, slice_index_or, vec_len, vec_capacity, Option, Some, None}
+use Rattle.std.specs.Global.{Vec}
+use Rattle.vk_base.specs.Options.{◌>>=◌}
+use Rattle.vk_rules.specs.Each.{Each}
+use Rattle.vk_cluster.specs.declared.emitted.Emitted.{Emitted}
+use Rattle.vk_cluster.specs.declared.emitted.Piece.{Piece}
+
+-- a part of a list, and that it lies within a list of this length
+abbrev pub piece : {A : Type 0} → List A → Piece → List A
+piece xs p = take p.count (drop p.from xs)
+
+abbrev pub IsWithin : ℕ → Piece → Type 0
+IsWithin n p = p.from + p.count ≤ n
+
+-- the element of this number, counted from 1
+abbrev pub from_one : {A : Type 0} → List A → ℕ → Option A
+from_one xs zero = None
+from_one xs (suc n) = slice_get xs n
+
+-- what is kept, without the room that there is for more
+pub record Pile : Type 0 where
+  pub bytes : List ℕ
+  pub frames : List Piece
+  pub events : List (List Piece)
+
+abbrev pub items_of : Vec Piece → List Piece
+items_of v = v.items
+
+abbrev pub pile_of : Emitted → Pile
+pile_of e = record { bytes = e.bytes.items; frames = e.frames.items; events = map items_of e.events.items }
+
+-- each piece lies within the list that it is of
+pub record IsKept (p : Pile) : Type 0 where
+  pub frames : Each (IsWithin (length p.bytes)) p.frames
+  pub events : Each (Each (IsWithin (length p.frames))) p.events
+
+-- What it stands for: the frames, one behind another; and for each station its events, in order, of each of which its frames.
+abbrev pub frames_in : Pile → List (List ℕ)
+frames_in p = map (piece p.bytes) p.frames
+
+abbrev pub shown : Pile → List (List (List (List ℕ)))
+shown p = map (map (piece (frames_in p))) p.events
+
+-- the frame with this output number of the event with this number of the station at this place
+abbrev pub frame_at : {A : Type 0} → List (List (List A)) → ℕ → ℕ → ℕ → Option A
+frame_at logs place event output = slice_get logs place >>= λ s. from_one s event >>= λ fs. from_one fs output
+
+-- where its bytes lie
+abbrev pub event_piece : Pile → ℕ → ℕ → Option Piece
+event_piece p place event = slice_get p.events place >>= λ s. from_one s event
+
+abbrev pub located : Pile → ℕ → ℕ → ℕ → Option Piece
+located p place event output = event_piece p place event >>= λ e. from_one (piece p.frames e) output
+
+-- one event more of the station at this place
+abbrev pub with_event : {A : Type 0} → List (List A) → ℕ → A → List (List A)
+with_event logs place e = slice_set logs place (slice_index_or logs place [] ++ e ∷ [])
+
+-- A frame more; and the frames from this one on are those of one event of the station at this place.
+abbrev pub put_frame : Pile → List ℕ → Pile
+put_frame p frame = record {
+  bytes = p.bytes ++ frame;
+  frames = p.frames ++ record { from = length p.bytes; count = length frame } ∷ [];
+  events = p.events;
+}
+
+abbrev pub end_event : Pile → ℕ → ℕ → Pile
+end_event p place first = record {
+  bytes = p.bytes;
+  frames = p.frames;
+  events = with_event p.events place (record { from = first; count = length p.frames - first });
+}
+
+-- these frames were put behind all that were before, and are of no event yet
+pub record IsAdding (before now : Pile) (fs : List (List ℕ)) : Type 0 where
+  pub kept : IsKept now
+  pub frames : frames_in now ≡ frames_in before ++ fs
+  pub shown : shown now ≡ shown before
+  pub events : now.events ≡ before.events
+  pub bytes : length now.bytes ≡ length before.bytes + sum_by length fs
+
+-- what is kept after an event of these frames
+pub record IsAdded (before now : Pile) (place : ℕ) (fs : List (List ℕ)) : Type 0 where
+  pub kept : IsKept now
+  pub shown : shown now ≡ with_event (shown before) place fs
+  pub bytes : length now.bytes ≡ length before.bytes + sum_by length fs
+
+-- there is room for so many bytes and frames, and for an event of the station at this place
+pub record HasRoom (e : Emitted) (place bytes frames : ℕ) : Type 0 where
+  pub for_bytes : vec_len e.bytes + bytes ≤ vec_capacity e.bytes
+  pub for_frames : vec_len e.frames + frames ≤ vec_capacity e.frames
+  pub for_event : (s : Vec Piece) → slice_get e.events.items place ≡ Some s → vec_len s < vec_capacity s

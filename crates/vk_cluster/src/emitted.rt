@@ -1,0 +1,219 @@
+//! The frames that were emitted, in one buffer of bytes.
+
+ghost use Rattle.std.specs.Prelude.{◌≡◌, ◌<◌, ◌≤◌, ◌+◌, ◌-◌, ◌++◌, ◌∷◌, [], ℕ, List, None, Some, length, map, replicate, drop, slice_get, slice_set, slice_index_or, vec_len, vec_capacity, IfOk, OnOk, MatchOption};
+ghost use Rattle.std.specs.Global.{Vec as TheVec};
+ghost use Rattle.vk_cluster.specs.declared.emitted.Piece.{Piece as ThePiece};
+ghost use Rattle.vk_cluster.specs.Piles.{HasRoom, IsKept, IsWithin, end_event, event_piece, frame_at, from_one, items_of, located, pile_of, piece, put_frame, shown, with_event};
+
+use std::alloc::Global;
+use vk_base::NoMemory;
+
+/// The most frames that one event has.
+pub const EVENT_FRAMES: usize = 2_048;
+/// The most bytes that the frames of one event have: [`EVENT_FRAMES`] of 1,152 bytes.
+pub const EVENT_BYTES: usize = 2_359_296;
+
+/// A part of a list: where it begins, and how many elements it has.
+#[derive(Clone, Copy)]
+pub struct Piece {
+    pub from: usize,
+    pub count: usize,
+}
+
+/// The frames of all events of all stations, one behind another: each frame is a piece of the bytes, and each event of a station a piece
+/// of the frames. What it stands for is `shown` of `specs/Piles.antt`.
+#[derive(Drop)]
+pub struct Emitted {
+    pub bytes: Vec<u8>,
+    pub frames: Vec<Piece>,
+    pub events: Vec<Vec<Piece>>,
+}
+
+impl Emitted {
+    /// No events of so many stations.
+    ///
+    /// # Errors
+    ///
+    /// [`NoMemory`] where memory is wanting.
+    pub fn new(alloc: Global, stations: usize) -> Result<Self, NoMemory>
+        ensures { IfOk result (λ e. pile_of e ≡ record { bytes = []; frames = []; events = replicate stations [] }) }
+    {
+        Ok(Emitted {
+            bytes: Vec::new(alloc),
+            frames: Vec::new(alloc),
+            events: no_events(alloc, stations)?,
+        })
+    }
+
+    /// Makes room for one event of the station at this place, however many frames it has. Changes nothing else.
+    ///
+    /// # Errors
+    ///
+    /// [`NoMemory`] where memory is wanting.
+    pub fn make_room(&mut self, place: usize) -> Result<(), NoMemory>
+        requires { place < length self.old.events.items }
+        ensures bytes { self.new.bytes.items ≡ self.old.bytes.items }
+        ensures frames { self.new.frames.items ≡ self.old.frames.items }
+        ensures events { map items_of self.new.events.items ≡ map items_of self.old.events.items }
+        ensures room { OnOk result (HasRoom self.new place EVENT_BYTES EVENT_FRAMES) }
+    {
+        self.bytes.reserve(EVENT_BYTES)?;
+        self.frames.reserve(EVENT_FRAMES)?;
+        room_for_event(&mut self.events, place)
+    }
+
+    /// One more frame, for which there is room, of the event that [`Emitted::end_event`] ends.
+    pub fn put(&mut self, frame: &[u8])
+        requires bytes { vec_len self.old.bytes + length frame.now ≤ vec_capacity self.old.bytes }
+        requires frames { vec_len self.old.frames < vec_capacity self.old.frames }
+        ensures pile { pile_of self.new ≡ put_frame (pile_of self.old) frame.now }
+        ensures bytes { vec_capacity self.old.bytes ≤ vec_capacity self.new.bytes }
+        ensures frames { vec_capacity self.old.frames ≤ vec_capacity self.new.frames }
+        ensures events { self.new.events ≡ self.old.events }
+    {
+        let piece = Piece {
+            from: self.bytes.len(),
+            count: frame.len(),
+        };
+        push_bytes(&mut self.bytes, frame);
+        push_piece(&mut self.frames, piece);
+    }
+
+    /// The frames from the one numbered `first` on, counted from 0, are those of one event of the station at this place.
+    pub fn end_event(&mut self, place: usize, first: usize)
+        requires place { place < length self.old.events.items }
+        requires first { first ≤ length self.old.frames.items }
+        requires room { (s : TheVec ThePiece) → slice_get self.old.events.items place ≡ Some s → vec_len s < vec_capacity s }
+        ensures { pile_of self.new ≡ end_event (pile_of self.old) place first }
+    {
+        let piece = Piece {
+            from: first,
+            count: self.frames.len() - first,
+        };
+        push_event(&mut self.events, place, piece);
+    }
+
+    /// The frame with this output number of the event with this number of the station at this place, each number counted from 1.
+    pub fn find(&self, place: usize, event: u64, output: u16) -> Option<&[u8]>
+        requires { IsKept (pile_of self.now) }
+        ensures { MatchOption result (frame_at (shown (pile_of self.now)) place event output ≡ None)
+            (λ r. frame_at (shown (pile_of self.now)) place event output ≡ Some r.now) }
+    {
+        match self.locate(place, event, output) {
+            Some(frame) => Some(self.bytes_of(frame)),
+            None => None,
+        }
+    }
+
+    /// How many bytes the frames have.
+    pub fn size(&self) -> usize
+        ensures { result ≡ length self.now.bytes.items }
+    {
+        self.bytes.len()
+    }
+
+    /// Where the bytes of a frame lie.
+    fn locate(&self, place: usize, event: u64, output: u16) -> Option<Piece>
+        requires { IsKept (pile_of self.now) }
+        ensures { result ≡ located (pile_of self.now) place event output }
+    {
+        match self.event_piece(place, event) {
+            Some(piece) => self.frame_piece(piece, output as usize),
+            None => None,
+        }
+    }
+
+    fn event_piece(&self, place: usize, event: u64) -> Option<Piece>
+        ensures { result ≡ event_piece (pile_of self.now) place event }
+    {
+        match self.events.get(place) {
+            Some(events) => numbered(events.as_slice(), event as usize),
+            None => None,
+        }
+    }
+
+    fn frame_piece(&self, event: Piece, output: usize) -> Option<Piece>
+        requires { IsWithin (length self.now.frames.items) event }
+        ensures { result ≡ from_one (piece self.now.frames.items event) output }
+    {
+        if output == 0 || output > event.count {
+            return None;
+        }
+        self.frames.get(event.from + output - 1).copied()
+    }
+
+    fn bytes_of(&self, frame: Piece) -> &[u8]
+        requires { IsWithin (length self.now.bytes.items) frame }
+        ensures { result.now ≡ piece self.now.bytes.items frame }
+    {
+        &self.bytes[frame.from..frame.from + frame.count]
+    }
+}
+
+#[tactic(auto, using(crate::proofs::Rooms::more_none))]
+fn no_events(alloc: Global, stations: usize) -> Result<Vec<Vec<Piece>>, NoMemory>
+    ensures { IfOk result (λ v. map items_of v.items ≡ replicate stations []) }
+{
+    let mut events = Vec::with_capacity(alloc, stations)?;
+    for _station in 0..stations {
+        events.push(Vec::new(alloc))?;
+    }
+    Ok(events)
+}
+
+/// The event or the frame of this number, counted from 1.
+fn numbered(pieces: &[Piece], number: usize) -> Option<Piece>
+    ensures { result ≡ from_one pieces.now number }
+{
+    if number == 0 {
+        return None;
+    }
+    pieces.get(number - 1).copied()
+}
+
+fn room_for_event(events: &mut Vec<Vec<Piece>>, place: usize) -> Result<(), NoMemory>
+    requires { place < length events.old.items }
+    ensures same { map items_of events.new.items ≡ map items_of events.old.items }
+    ensures room { OnOk result ((s : TheVec ThePiece) → slice_get events.new.items place ≡ Some s → vec_len s < vec_capacity s) }
+{
+    reserve_one(&mut events[place])
+}
+
+fn reserve_one(pieces: &mut Vec<Piece>) -> Result<(), NoMemory>
+    ensures same { pieces.new.items ≡ pieces.old.items }
+    ensures room { OnOk result (vec_len pieces.new < vec_capacity pieces.new) }
+{
+    pieces.reserve(1)?;
+    Ok(())
+}
+
+/// One more event of the station at this place, for which there is room.
+fn push_event(events: &mut Vec<Vec<Piece>>, place: usize, piece: Piece)
+    requires place { place < length events.old.items }
+    requires room { (s : TheVec ThePiece) → slice_get events.old.items place ≡ Some s → vec_len s < vec_capacity s }
+    ensures { map items_of events.new.items ≡ with_event (map items_of events.old.items) place piece }
+{
+    push_piece(&mut events[place], piece);
+}
+
+/// These bytes more, for which there is room.
+fn push_bytes(bytes: &mut Vec<u8>, more: &[u8])
+    requires { vec_len bytes.old + length more.now ≤ vec_capacity bytes.old }
+    ensures items { bytes.new.items ≡ bytes.old.items ++ more.now }
+    ensures capacity { vec_capacity bytes.old ≤ vec_capacity bytes.new }
+{
+    if bytes.extend_from_slice(more).is_err() {
+        unreachable!();
+    }
+}
+
+/// One more piece, for which there is room.
+fn push_piece(pieces: &mut Vec<Piece>, piece: Piece)
+    requires { vec_len pieces.old < vec_capacity pieces.old }
+    ensures items { pieces.new.items ≡ pieces.old.items ++ piece ∷ [] }
+    ensures capacity { vec_capacity pieces.old ≤ vec_capacity pieces.new }
+{
+    if pieces.push(piece).is_err() {
+        unreachable!();
+    }
+}
