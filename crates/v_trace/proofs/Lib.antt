@@ -1,4 +1,5 @@
 mod LastWords
+mod RemainingSteps
 pub mod StepTexts
 pub mod StepWords
 pub mod TraceLines

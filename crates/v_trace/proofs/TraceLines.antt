@@ -1,7 +1,7 @@
 -- The lines of a trace, one after another.
-use Rattle.std.proofs.Common.{◌≡◌, ℕ, ◌+◌, ◌-◌, ◌<◌, ◌≤◌, Bool, true, false, cond, List, [], ◌∷◌, ◌++◌, length, Option, Some, None, IsSome, Result, Ok, Err, drop, codes, refl, ap, sym, ◌∙◌, ◌⊎◌, inl, inr, arith, length-append}
+use Rattle.std.proofs.Common.{◌≡◌, ℕ, ◌+◌, ◌-◌, ◌<◌, ◌≤◌, Bool, true, false, cond, List, [], ◌∷◌, ◌++◌, length, Option, Some, None, Err, drop, codes, refl, ap, sym, ◌∙◌, ◌⊎◌, inl, inr, arith, length-append}
 use Rattle.std.specs.Option.{option_map_or}
-use Rattle.std.specs.Prelude.{IsSomeAnd, MatchResult}
+use Rattle.std.specs.Prelude.{IsSomeAnd}
 use Rattle.vk_base.specs.Settings.{Settings}
 use Rattle.vk_base.specs.declared.step.Step.{Step}
 use Rattle.vk_text.specs.Heads.{HasProcess, settings_of, head_of}
@@ -12,26 +12,7 @@ use Rattle.vk_text.specs.declared.heads.HeadRefusal.TheVariants as heads
 use Rattle.v_trace.specs.Steps.{step_of}
 use Rattle.v_trace.specs.Traces.{KeepsLines, kept_lines, has_actor, line_behind, with_step, with_lines, behind_head, trace_of}
 use Rattle.v_trace.specs.declared.trace.Trace.{Trace}
-use Rattle.v_trace.specs.declared.trace.TraceRefusal.{TraceRefusal}
 use Rattle.v_trace.specs.declared.trace.TraceRefusal.TheVariants as refusals
-
-next : (t : Trace) (l : List ℕ) (left ls : List (List ℕ)) (o : Option Trace) → left ≡ l ∷ ls → with_step t (step_of (words_from l 0)) ≡ o
-    → with_lines t left ≡ option_map_or (λ more. with_lines more ls) o (Err (refusals.BadInput (line_behind t)))
-unfolding with_lines
-next t l left ls o here line =
-    ap (with_lines t) here ∙ ap (λ x. option_map_or (λ more. with_lines more ls) x (Err (refusals.BadInput (line_behind t)))) line
-
-pub step_added : (all : Result Trace TraceRefusal) (t more : Trace) (l : List ℕ) (left ls : List (List ℕ)) → all ≡ with_lines t left
-    → left ≡ l ∷ ls → with_step t (step_of (words_from l 0)) ≡ Some more → all ≡ with_lines more ls
-step_added all t more l left ls so here line = so ∙ next t l left ls (Some more) here line
-
-pub line_refused : (all : Result Trace TraceRefusal) (t : Trace) (l : List ℕ) (left ls : List (List ℕ)) → all ≡ with_lines t left
-    → left ≡ l ∷ ls → with_step t (step_of (words_from l 0)) ≡ None → all ≡ Err (refusals.BadInput (line_behind t))
-line_refused all t l left ls so here line = so ∙ next t l left ls None here line
-
-pub no_line_left : (all : Result Trace TraceRefusal) (t : Trace) (left : List (List ℕ)) → all ≡ with_lines t left → left ≡ [] → all ≡ Ok t
-unfolding with_lines
-no_line_left all t left so here = so ∙ ap (with_lines t) here
 
 pub behind_title : (text : List ℕ) (s : Settings) (at : ℕ)
     → head_of (codes "vkernel trace 1") (lines_of text) ≡ Some (s.specs, lines_of (drop at text)) → s ≡ settings_of s.specs
@@ -47,16 +28,6 @@ pub no_title : (text : List ℕ) (e : HeadRefusal) → e ≡ heads.NoTitle
 unfolding behind_head
 no_title text e is (inl (other, wanted)) = absurd (let clash : heads.NoTitle ≡ heads.NoMemory = sym is ∙ other in cc)
 no_title text e is (inr h) = ap behind_head h.1
-
-pub at_ok : {A E : Type 0} (r : Result A E) (a : A) (o : Option Trace) (more : Trace) → r ≡ Ok a
-    → MatchResult r (λ _. o ≡ Some more) (λ _. IsSome o) → o ≡ Some more
-at_ok (Ok b) a o more is h = h
-at_ok (Err e) a o more is h = cc
-
-pub at_err : {A E : Type 0} (r : Result A E) (e : E) (o : Option Trace) (more : Trace) → r ≡ Err e
-    → MatchResult r (λ _. o ≡ Some more) (λ _. IsSome o) → IsSome o
-at_err (Ok b) e o more is h = cc
-at_err (Err d) e o more is h = h
 
 -- the lines that were kept are those before a bad one
 
@@ -83,19 +54,6 @@ unfolding with_lines
 all_kept t [] = omega arith
 all_kept t (l ∷ ls) = kept_by t ls (with_step t (step_of (words_from l 0)))
     (λ more is. omega (arith, all_kept more ls, line_more t more (step_of (words_from l 0)) is))
-
-some_step : (o : Option Trace) → IsSome o → (more : Trace) × (o ≡ Some more)
-some_step (Some more) h = (more, refl)
-some_step None h = cc
-
--- where memory is wanted for a step
-pub step_wanted : (text : List ℕ) (t : Trace) (l : List ℕ) (left ls : List (List ℕ)) → trace_of text ≡ with_lines t left
-    → left ≡ l ∷ ls → IsSome (with_step t (step_of (words_from l 0))) → KeepsLines text
-step_wanted text t l left ls so here good =
-    let found = some_step (with_step t (step_of (words_from l 0))) good in
-    let after : trace_of text ≡ with_lines found.0 ls = step_added (trace_of text) t found.0 l left ls so here found.1 in
-    let kept : kept_lines (trace_of text) ≡ kept_lines (with_lines found.0 ls) = ap kept_lines after in
-    omega (arith, kept, all_kept found.0 ls, line_more t found.0 (step_of (words_from l 0)) found.1)
 
 wanted_by : (o : Option Parts) → IsSomeAnd o (λ h. 0 < length h.0) → 0 < kept_lines (behind_head o)
 unfolding behind_head

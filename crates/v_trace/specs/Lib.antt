@@ -1,5 +1,5 @@
-pub mod Adding
 pub mod Laws
+pub mod Remaining
 pub mod Steps
 pub mod Texts
 pub mod Traces

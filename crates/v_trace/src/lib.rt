@@ -5,6 +5,7 @@
 
 mod answer;
 mod law;
+mod reader;
 mod reading;
 mod step;
 mod trace;
@@ -12,5 +13,6 @@ mod word;
 
 pub use answer::put_answer;
 pub use law::{steps_are_spelled_once, traces_are_spelled_once};
+pub use reader::StepReader;
 pub use step::put_step;
 pub use trace::{Trace, TraceRefusal, read_trace};

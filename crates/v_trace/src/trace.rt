@@ -1,12 +1,15 @@
 //! Traces as texts.
 
-ghost use Rattle.std.specs.Prelude.{◌≡◌, ◌⊎◌, Ok, Err, IfOk, IfErr};
+ghost use Rattle.std.specs.Prelude.{◌≡◌, ◌⊎◌, ◌<◌, length, Ok, Err, IfOk, IfErr};
+ghost use Rattle.v_trace.specs.Remaining.{whole};
 ghost use Rattle.v_trace.specs.Traces.{KeepsLines, trace_of};
 
-use crate::reading::Reader;
+use crate::reader::StepReader;
 use std::alloc::Global;
-use vk_base::{Config, List, NoMemory, Step};
-use vk_text::{HeadRefusal, next_line, read_head};
+use vk_base::{Config, List, Pid, Step};
+
+/// Any pid.
+const FIRST: Pid = Pid { host: 1, local: 1 };
 
 /// A configuration, and steps of the one-machine kernel. Whether they are a run is not said.
 #[derive(Drop)]
@@ -23,6 +26,30 @@ pub enum TraceRefusal {
     NoMemory,
 }
 
+/// What is left to be read, with its steps.
+fn collect(alloc: Global, mut reader: StepReader<'_>) -> Result<Trace, TraceRefusal>
+    ensures trace { IfOk result (λ t. whole reader.entry ≡ Ok t) }
+    ensures refused { IfErr result (λ e. ((e ≡ TraceRefusal.NoMemory) × (0 < length reader.entry.steps)) ⊎ (whole reader.entry ≡ Err e)) }
+{
+    let mut steps = List::empty(alloc);
+    loop {
+        let mut step = Step::Take { pid: FIRST };
+        if !reader.next(&mut step) {
+            break;
+        }
+        if steps.push(step).is_err() {
+            return Err(TraceRefusal::NoMemory);
+        }
+    }
+    match reader.bad_line() {
+        Some(line) => Err(TraceRefusal::BadInput { line }),
+        None => Ok(Trace {
+            config: reader.into_config(),
+            steps,
+        }),
+    }
+}
+
 /// The trace that the text spells: its first line is `vkernel trace 1`, then come `process PID SIZE` lines by rising
 /// pids, and then the steps, a line each. The process of a `call` or `collect` is in the configuration; other steps may
 /// name any. The first line that is none of these decides. Memory is wanted only for lines before it, so only where the line
@@ -31,21 +58,8 @@ pub fn read_trace(alloc: Global, text: &[u8]) -> Result<Trace, TraceRefusal>
     ensures trace { IfOk result (λ t. trace_of text.now ≡ Ok t) }
     ensures refused { IfErr result (λ e. ((e ≡ TraceRefusal.NoMemory) × KeepsLines text.now) ⊎ (trace_of text.now ≡ Err e)) }
 {
-    let head = match read_head(alloc, text, b"vkernel trace 1") {
-        Ok(head) => head,
-        Err(HeadRefusal::NoTitle) => return Err(TraceRefusal::BadInput { line: 1 }),
-        Err(HeadRefusal::NoMemory) => return Err(TraceRefusal::NoMemory),
-    };
-    let mut at = head.at;
-    let mut reader = Reader::new(alloc, head.config);
-    while let Some((line, next)) = next_line(text, at) {
-        match reader.add_line(line) {
-            Some(Ok(())) => at = next,
-            Some(Err(NoMemory)) => return Err(TraceRefusal::NoMemory),
-            None => return Err(TraceRefusal::BadInput {
-                line: reader.line(),
-            }),
-        }
+    match StepReader::new(alloc, text) {
+        Ok(reader) => collect(alloc, reader),
+        Err(refusal) => Err(refusal),
     }
-    Ok(reader.into_trace())
 }

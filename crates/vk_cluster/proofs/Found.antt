@@ -1,15 +1,15 @@
 -- What is handed over is found by its position.
-use Rattle.std.proofs.Common.{◌≡◌, ◌≢◌, ◌⊎◌, ℕ, zero, suc, ◌+◌, ◌<◌, ◌≤◌, Bool, true, false, cond, ◌==◌, ◌&&◌, List, [], ◌∷◌, ◌++◌, length, map, find, Option, Some, None, option_map, IsTrue, refl, sym, ap, subst, ◌∙◌, inl, inr, arith}
+use Rattle.std.proofs.Common.{◌≡◌, ◌≢◌, ℕ, zero, suc, ◌+◌, ◌<◌, Bool, true, false, cond, ◌==◌, ◌&&◌, List, [], ◌∷◌, ◌++◌, length, find, Option, Some, None, refl, sym, ap, subst, ◌∙◌, inl, inr, arith}
 use Rattle.std.specs.Prelude.{slice_get}
-use Rattle.std.proofs.lemmas.Bool.{cases_Bool, cond-true, cond-false, eqb-true, eq-eqb}
+use Rattle.std.proofs.lemmas.Bool.{cases_Bool, cond-false, eqb-true, eq-eqb}
 use Rattle.std.proofs.lemmas.List.{length-append}
 use Rattle.std.proofs.lemmas.List.Folds.{find-append}
-use Rattle.std.proofs.lemmas.Option.{slice_get-map, slice_get_past}
+use Rattle.std.proofs.lemmas.Option.{slice_get_past}
 use Rattle.std.specs.Option.{option_or}
 use Rattle.vk_base.specs.Options.{◌>>=◌}
 use Rattle.vk_frame.specs.declared.header.Header.{Header}
 use Rattle.vk_rules.specs.Entries.{Entry}
-use Rattle.vk_rules.specs.Frames.{Frame, destination_of}
+use Rattle.vk_rules.specs.Frames.{Frame}
 use Rattle.vk_rules.specs.Histories.{is_output, emitted}
 use Rattle.vk_rules.specs.Laws.{HaveHeaders, AllRise}
 use Rattle.vk_cluster.specs.Found.{events_in, if_addressed, is_addressed, frame_for}

@@ -1,5 +1,5 @@
 -- What is handed over, as the bytes that are kept of it.
-use Rattle.std.proofs.Common.{◌≡◌, ℕ, ◌+◌, ◌*◌, ◌≤◌, Bool, true, false, cond, List, [], ◌∷◌, ◌++◌, length, map, find, Option, Some, None, option_map, refl, sym, ap, subst, ◌∙◌, arith}
+use Rattle.std.proofs.Common.{◌≡◌, ℕ, ◌*◌, ◌≤◌, Bool, true, false, cond, List, [], ◌∷◌, length, map, find, Option, Some, None, option_map, refl, sym, ap, ◌∙◌, arith}
 use Rattle.std.specs.Prelude.{slice_get, sum_by}
 use Rattle.std.proofs.lemmas.List.Sums.{sum_by-cons}
 use Rattle.vk_base.specs.declared.limits.TheConstants.{FRAME_BYTES}
@@ -10,7 +10,7 @@ use Rattle.vk_frame.specs.Reading.{frame_of}
 use Rattle.vk_packet.specs.Reading.{packet_of}
 use Rattle.vk_rules.specs.Each.{Each}
 use Rattle.vk_rules.specs.Entries.{Entry}
-use Rattle.vk_rules.specs.Frames.{Frame, Unsealed, Framed, unsealed_behind, unsealed_by, unsealed_of}
+use Rattle.vk_rules.specs.Frames.{Frame, Framed, unsealed_behind, unsealed_by, unsealed_of}
 use Rattle.vk_rules.specs.Histories.{is_output, emitted}
 use Rattle.vk_rules.specs.Laws.{AllRise, FramesUnsealAgain}
 use Rattle.vk_rules.proofs.Lengths.{frames_fit}

@@ -1,5 +1,13 @@
+pub mod Arms
+pub mod Begins
 pub mod Found
 pub mod Handed
+pub mod Logs
+pub mod Loops
 pub mod Pieces
 pub mod Piles
 pub mod Rooms
+pub mod Runs
+pub mod Stations
+pub mod Steps
+pub mod Taking

@@ -1,10 +1,10 @@
 -- Pieces of a list, and of one that grows.
-use Rattle.std.proofs.Common.{◌≡◌, ℕ, zero, suc, ◌+◌, ◌-◌, ◌<◌, ◌≤◌, List, [], ◌∷◌, ◌++◌, length, map, take, drop, Option, Some, None, option_map, refl, sym, ap, subst, ◌∙◌, arith}
+use Rattle.std.proofs.Common.{◌≡◌, ℕ, zero, suc, ◌+◌, ◌-◌, ◌<◌, ◌≤◌, List, [], ◌∷◌, ◌++◌, length, map, take, drop, Some, None, option_map, refl, sym, ap, subst, ◌∙◌, arith}
 use Rattle.std.specs.Prelude.{slice_get}
-use Rattle.std.proofs.lemmas.List.{length-append, length-drop, take-append-le, drop-append-le, drop_at, take_all, take-map, drop-map}
+use Rattle.std.proofs.lemmas.List.{length-drop, take-append-le, drop-append-le, drop_at, take_all, take-map, drop-map}
 use Rattle.std.proofs.lemmas.Option.{none-some, same_Some, slice_get-map}
 use Rattle.vk_rules.specs.Each.{Each}
-use Rattle.vk_rules.proofs.Lists.{each_append, each_weaker}
+use Rattle.vk_rules.proofs.Lists.{each_weaker}
 use Rattle.vk_cluster.specs.declared.emitted.Piece.{Piece}
 use Rattle.vk_cluster.specs.Piles.{IsWithin, from_one, piece}
 

@@ -1,7 +1,7 @@
 -- What is kept stands for what was added to it.
 use Rattle.std.proofs.Common.{◌≡◌, ℕ, zero, suc, ◌+◌, ◌-◌, ◌<◌, ◌≤◌, List, [], ◌∷◌, ◌++◌, length, map, get_or, set, Option, Some, None, option_map, refl, sym, ap, subst, ◌∙◌, append_assoc, arith}
 use Rattle.std.specs.Prelude.{slice_get, sum_by}
-use Rattle.std.proofs.lemmas.List.{append-nil, length-append, length-map, length-set, map-set, map_push, get_or-map}
+use Rattle.std.proofs.lemmas.List.{append-nil, length-append, length-map, map-set, map_push, get_or-map}
 use Rattle.std.proofs.lemmas.List.Sums.{sum_by-append}
 use Rattle.std.proofs.lemmas.Option.{slice_get-map}
 use Rattle.vk_base.specs.Options.{◌>>=◌}
@@ -9,7 +9,7 @@ use Rattle.vk_rules.specs.Each.{Each}
 use Rattle.vk_rules.proofs.Lists.{each_append}
 use Rattle.vk_cluster.specs.declared.emitted.Piece.{Piece}
 use Rattle.vk_cluster.specs.Piles.{IsWithin, from_one, piece, Pile, IsKept, frames_in, shown, frame_at, located, with_event, put_frame, end_event, IsAdding, IsAdded}
-use Rattle.vk_cluster.proofs.Pieces.{each_at, each_one, pieces_more, all_pieces_more, within_more, all_within_more, last_piece, piece-map, from_one-map}
+use Rattle.vk_cluster.proofs.Pieces.{pieces_more, all_pieces_more, within_more, all_within_more, last_piece, piece-map, from_one-map}
 
 -- A frame is found where its bytes lie.
 in_frames : (bytes : List ℕ) (frames : List Piece) (o : Option Piece) (output : ℕ) →

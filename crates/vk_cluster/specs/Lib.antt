@@ -1,2 +1,6 @@
+pub mod Clusters
 pub mod Found
+pub mod Law
 pub mod Piles
+pub mod Standing
+pub mod Values

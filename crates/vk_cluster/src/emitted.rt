@@ -12,6 +12,8 @@ use vk_base::NoMemory;
 pub const EVENT_FRAMES: usize = 2_048;
 /// The most bytes that the frames of one event have: [`EVENT_FRAMES`] of 1,152 bytes.
 pub const EVENT_BYTES: usize = 2_359_296;
+/// No event is taken where the frames so far hold more bytes than this; so they never hold more than 268,435,456.
+pub const LAST_BYTES: usize = 266_076_160;
 
 /// A part of a list: where it begins, and how many elements it has.
 #[derive(Clone, Copy)]

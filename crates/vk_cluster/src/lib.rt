@@ -1,7 +1,19 @@
-//! The frames that all stations of a run emitted, in one buffer of bytes: [`Emitted`], in which a frame is found by its position. That
-//! this is what a delivery hands over by the definitions of `vk_rules` is `proofs/Found.antt`, and as bytes `proofs/Handed.antt`.
+//! All stations of a run in one value: each event of a schedule is played at its station, and a delivery hands over a frame that was
+//! emitted before.
+//!
+//! The public type is [`Cluster`]. What it promises of an event, for every list of events that it stands for, is `specs/Standing.antt`:
+//! the report is what the history tells of the event, and the cluster then stands for the list with it. Stands on the stations of
+//! `vk_host` and on the definitions of `vk_rules`; that emitted frames are lawful is from `v_lawful`. All frames lie in one buffer of
+//! bytes and are found by position (`src/emitted.rt`, `specs/Piles.antt`); that this finds what the definitions hand over is
+//! `proofs/Found.antt` and `Handed.antt`. Entries and events are not kept.
 #![tactic(auto)]
 
+mod cluster;
 mod emitted;
+mod fields;
+mod law;
+mod report;
 
-pub use emitted::{EVENT_BYTES, EVENT_FRAMES, Emitted, Piece};
+pub use cluster::Cluster;
+pub use law::clusters_run;
+pub use report::{ClusterAnswer, ClusterRefusal, StepReport};

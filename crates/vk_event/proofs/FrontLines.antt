@@ -1,6 +1,5 @@
 -- The lines of a front, one after another, and as texts.
 use Rattle.std.proofs.Common.{◌≡◌, ℕ, nat_lt, Bool, true, false, cond, List, [], ◌∷◌, ◌++◌, length, map, codes, Option, Some, None, Ok, Err, refl, sym, ap, ◌∙◌, append-nil}
-use Rattle.std.specs.Prelude.{IsErr}
 use Rattle.vk_text.specs.Heads.{process_text, head_of}
 use Rattle.vk_text.specs.Lines.{lines_of, words_from}
 use Rattle.vk_text.specs.Spelling.{joined}
@@ -15,39 +14,10 @@ use Rattle.vk_event.specs.declared.schedule.TextRefusal.{TextRefusal}
 use Rattle.vk_event.specs.declared.schedule.TextRefusal.TheVariants as refusals
 use Rattle.vk_event.specs.Lawful.{has_actors}
 use Rattle.vk_event.specs.Laws.{SchedulesAreSpelledOnce, FrontsHaveTheirLines}
-use Rattle.vk_event.specs.Schedule.{event_of, acting, more, with_event, or_end, next_event, front_from, without_events, front_by, front_of, schedule_of}
+use Rattle.vk_event.specs.Schedule.{event_of, acting, more, with_event, or_end, front_from, without_events, front_by, front_of, schedule_of}
 use Rattle.vk_event.specs.Spelling.{event_text, schedule_text, schedule_lines}
-use Rattle.vk_event.specs.Taking.{refused_at}
 use Rattle.vk_event.proofs.Events.{event_spelled}
 use Rattle.vk_event.proofs.Lawfulness.{whole_is}
-
--- one line more
-pub line_taken : (all : Front) (s t : Schedule) (l : List ℕ) (left ls : List (List ℕ)) → all ≡ front_from s left → left ≡ l ∷ ls
-    → with_event s (next_event s l) ≡ Ok t → all ≡ front_from t ls
-unfolding front_from
-line_taken all s t l left ls so here step =
-    so ∙ ap (front_from s) here ∙ ap (λ r. or_end s (next_event s l) r (λ u. front_from u ls)) step
-
-refused_by_room : (s : Schedule) (e : Event) (b : Bool) (rest : Schedule → Front) → IsErr (cond b (Ok (more s e)) (Err refusals.Limit))
-    → or_end s (Some e) (cond b (Ok (more s e)) (Err refusals.Limit)) rest ≡ refused_at s (Some e)
-refused_by_room s e true rest h = cc
-refused_by_room s e false rest h = refl
-
-refused_by : (s : Schedule) (o : Option Event) (rest : Schedule → Front) → IsErr (with_event s o)
-    → or_end s o (with_event s o) rest ≡ refused_at s o
-refused_by s None rest h = refl
-refused_by s (Some e) rest h = refused_by_room s e (nat_lt (length s.events) 100000) rest h
-
-pub line_refused : (all : Front) (s : Schedule) (l : List ℕ) (left ls : List (List ℕ)) → all ≡ front_from s left → left ≡ l ∷ ls
-    → IsErr (with_event s (next_event s l)) → all ≡ refused_at s (next_event s l)
-unfolding front_from
-line_refused all s l left ls so here step =
-    so ∙ ap (front_from s) here ∙ refused_by s (next_event s l) (λ u. front_from u ls) step
-
-pub lines_end : (all : Front) (s : Schedule) (left : List (List ℕ)) → all ≡ front_from s left → left ≡ []
-    → all ≡ record { schedule = s; refused = None; beyond = None }
-unfolding front_from
-lines_end all s left so here = so ∙ ap (front_from s) here
 
 -- the lines of the schedule and those left, of which there are none where no line is refused
 record Splits (lines : List (List ℕ)) (f : Front) : Type 0 where

@@ -77,7 +77,7 @@ named : (w word : List ℕ) (e : Event) (x y : Option Event) → (x ≡ Some e �
     → cond (bytes_eq w word) x y ≡ Some e → IsReadableEvent e
 named w word e x y is other h = either_word (IsReadableEvent e) w word x y (Some e) (λ same f. is f) other h
 
-event_fits : (ws : List (List ℕ)) (e : Event) → event_of ws ≡ Some e → IsReadableEvent e
+pub event_fits : (ws : List (List ℕ)) (e : Event) → event_of ws ≡ Some e → IsReadableEvent e
 unfolding event_of
 event_fits [] e h = cc
 event_fits (w ∷ ws) e h =

@@ -3,6 +3,7 @@ pub mod Events
 pub mod FrontLines
 pub mod Lawfulness
 pub mod ReadAgain
+pub mod RemainingEvents
 pub mod ScenarioHeads
 pub mod ScenarioLines
 pub mod ScenarioRanges

@@ -1,10 +1,10 @@
 -- Memory is wanted only for lines that are taken.
-use Rattle.std.proofs.Common.{◌≡◌, ℕ, ◌+◌, ◌<◌, ◌≤◌, nat_lt, Bool, true, false, cond, List, [], ◌∷◌, length, codes, Option, Some, None, Ok, Err, refl, sym, ap, subst, ◌∙◌, ◌⊎◌, inl, inr, arith}
-use Rattle.std.specs.Prelude.{IsOk, IsSomeAnd}
+use Rattle.std.proofs.Common.{◌≡◌, ℕ, ◌+◌, ◌<◌, ◌≤◌, nat_lt, Bool, true, false, cond, List, [], ◌∷◌, length, codes, Option, Some, None, Ok, Err, refl, sym, ap, ◌∙◌, ◌⊎◌, inl, inr, arith}
+use Rattle.std.specs.Prelude.{IsSomeAnd}
 use Rattle.vk_base.specs.declared.config.ProcessSpec.{ProcessSpec}
 use Rattle.vk_text.specs.Heads.{head_of}
 use Rattle.vk_text.specs.Heads as heads
-use Rattle.vk_text.specs.Lines.{lines_of, words_from}
+use Rattle.vk_text.specs.Lines.{lines_of}
 use Rattle.vk_text.specs.declared.heads.HeadRefusal.{HeadRefusal}
 use Rattle.vk_text.specs.declared.heads.HeadRefusal.TheVariants as head_refusals
 use Rattle.vk_text.proofs.HeadReading.{Parts}
@@ -14,7 +14,7 @@ use Rattle.vk_event.specs.declared.schedule.Front.{Front}
 use Rattle.vk_event.specs.declared.schedule.Schedule.{Schedule}
 use Rattle.vk_event.specs.declared.schedule.TextRefusal.TheVariants as refusals
 use Rattle.vk_event.specs.Lawful.{has_actors}
-use Rattle.vk_event.specs.Schedule.{HasProcess, acting, event_of, front_by, front_from, front_of, line_behind, more, next_event, without_events, or_end, with_event}
+use Rattle.vk_event.specs.Schedule.{HasProcess, front_by, front_from, front_of, line_behind, more, next_event, without_events, or_end, with_event}
 
 -- the processes of a front are those of its head
 
@@ -79,27 +79,11 @@ pub process_wanted : (text : List ℕ) (e : HeadRefusal) → e ≡ head_refusals
 process_wanted text e is (inl h) = wanted_in (head_of (codes "vkernel 1") (lines_of text)) h.1
 process_wanted text e is (inr h) = absurd (let clash : head_refusals.NoTitle ≡ head_refusals.NoMemory = sym h.0 ∙ is in cc)
 
--- memory was wanted for an event, which a process has
+-- memory is wanted for an event, which a process has
 
-some_actor : (specs : List ProcessSpec) (e : Event) → has_actors specs e ≡ true → 0 < length specs
+pub some_actor : (specs : List ProcessSpec) (e : Event) → has_actors specs e ≡ true → 0 < length specs
 some_actor [] (events.Call pid call) h = cc
 some_actor [] (events.Collect pid) h = cc
 some_actor [] (events.Tick host) h = cc
 some_actor [] (events.Deliver to from event output) h = cc
 some_actor (s ∷ ss) e h = omega arith
-
-acting_by : (s : Schedule) (e : Event) (b : Bool) → has_actors s.config.specs e ≡ b → IsOk (with_event s (cond b (Some e) None))
-    → 0 < length s.config.specs
-acting_by s e true is taken = some_actor s.config.specs e is
-acting_by s e false is taken = cc
-
-acting_in : (s : Schedule) (o : Option Event) → IsOk (with_event s (acting s.config.specs o)) → 0 < length s.config.specs
-acting_in s None taken = cc
-acting_in s (Some e) taken = acting_by s e (has_actors s.config.specs e) refl taken
-
-pub event_wanted : (text : List ℕ) (s : Schedule) (l : List ℕ) (left : List (List ℕ)) → front_of text ≡ front_from s left
-    → IsOk (with_event s (next_event s l)) → HasProcess text
-event_wanted text s l left so taken =
-    let same : (front_of text).schedule.config.specs ≡ s.config.specs =
-    ap (λ (f : Front). f.schedule.config.specs) so ∙ specs_kept s left in
-    subst (λ (ss : List ProcessSpec). 0 < length ss) (sym same) (acting_in s (event_of (words_from l 0)) taken)

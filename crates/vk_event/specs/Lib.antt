@@ -1,9 +1,9 @@
 pub mod Endings
 pub mod Lawful
 pub mod Laws
+pub mod Remaining
 pub mod Scenario
 pub mod ScenarioLaws
 pub mod Schedule
 pub mod Spelling
-pub mod Taking
 pub mod Tasks

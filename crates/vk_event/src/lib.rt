@@ -19,6 +19,7 @@ pub use law::{
     front_lines, scenarios_are_read_again, scenarios_are_spelled, schedules_are_read_again,
     schedules_are_spelled_once,
 };
+pub use reader::EventReader;
 pub use scenario::{LinkPlan, Scenario, TICKS, read_scenario};
 pub use schedule::{Front, Schedule, TextRefusal, read_front, read_schedule};
 pub use task::{PAGE_BYTES, PAGES, Task, TaskKind};

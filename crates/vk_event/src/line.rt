@@ -1,14 +1,20 @@
-//! The line of an event.
+//! The line of an event. Each of these reads the words from `at` on, and writes their event over the one that it is given. `None`
+//! is a bad line.
 
-ghost use Rattle.std.specs.Prelude.{◌≡◌, ◌∷◌, option_map};
+ghost use Rattle.std.specs.Prelude.{◌≡◌, ◌∷◌, false, codes, bytes_eq, option_map};
+ghost use Rattle.vk_base.specs.declared.call.Call.TheVariants as calls;
+ghost use Rattle.vk_text.specs.Calls.{ended, send_of, reply_of, call_of};
 ghost use Rattle.vk_text.specs.Lines.{words_from};
 ghost use Rattle.vk_event.specs.Lawful.{has_actors};
 ghost use Rattle.vk_event.specs.Schedule.{acting, call_event_of, collect_event_of, tick_event_of, deliver_event_of, event_of};
 ghost use Rattle.vk_event.specs.declared.event.Event.TheVariants as events;
 
 use crate::event::Event;
-use vk_base::Config;
-use vk_text::{is_end, next_pid, next_positive, next_station, next_word, read_call};
+use vk_base::{Call, Config, Pid};
+use vk_text::{
+    is_end, next_pid, next_positive, next_station, next_word, read_other_call, reply_fields,
+    send_fields,
+};
 
 /// The greatest number of an event of a station.
 const EVENT: u64 = 9_223_372_036_854_775_807;
@@ -16,104 +22,144 @@ const EVENT: u64 = 9_223_372_036_854_775_807;
 /// The greatest number of a frame of an event.
 const OUTPUT: u64 = 65_535;
 
-/// A frame, and the station to which it comes.
-#[derive(Clone, Copy)]
-pub struct Delivery {
-    pub to: u16,
-    pub from: u16,
-    pub event: u64,
-    pub output: u16,
+/// The Send of these fields.
+fn read_send(pid: Pid, line: &[u8], at: usize, into: &mut Event) -> Option<()>
+    ensures { option_map (λ _. into.new) result ≡ option_map (events.Call pid) (send_of (words_from line.now at)) }
+{
+    let (target, message) = send_fields(line, at)?;
+    *into = Event::Call {
+        pid,
+        call: Call::Send { target, message },
+    };
+    Some(())
 }
 
-/// `TO FROM EVENT OUTPUT`
-#[tactic(auto, unfolding(crate::specs::Schedule::deliver_event_of))]
-pub fn read_delivery(line: &[u8], at: usize) -> Option<Delivery>
-    ensures { option_map (λ d. events.Deliver d.to d.from d.event d.output) result ≡ deliver_event_of (words_from line.now at) }
+/// The Receive, which has no fields.
+fn read_receive(pid: Pid, line: &[u8], at: usize, into: &mut Event) -> Option<()>
+    ensures { option_map (λ _. into.new) result ≡ option_map (events.Call pid) (ended (words_from line.now at) calls.Receive) }
 {
-    let (to, at) = next_station(line, at)?;
-    let (from, at) = next_station(line, at)?;
-    let (event, at) = next_positive(line, at, EVENT)?;
-    let (output, at) = next_positive(line, at, OUTPUT)?;
-    if is_end(line, at) {
-        Some(Delivery {
-            to,
-            from,
-            event,
-            output: output as u16,
-        })
+    if !is_end(line, at) {
+        return None;
+    }
+    *into = Event::Call {
+        pid,
+        call: Call::Receive,
+    };
+    Some(())
+}
+
+/// The Reply of these fields.
+fn read_reply(pid: Pid, line: &[u8], at: usize, into: &mut Event) -> Option<()>
+    ensures { option_map (λ _. into.new) result ≡ option_map (events.Call pid) (reply_of (words_from line.now at)) }
+{
+    let (message, to) = reply_fields(line, at)?;
+    *into = Event::Call {
+        pid,
+        call: Call::Reply { message, to },
+    };
+    Some(())
+}
+
+/// The call of this word, which is none of these three, and of these fields. It stays a function of its own, so that these
+/// three, which are built in place, do not pay for its room.
+#[inline(never)]
+fn read_other(pid: Pid, word: &[u8], line: &[u8], at: usize, into: &mut Event) -> Option<()>
+    requires send { bytes_eq word.now (codes "send") ≡ false }
+    requires receive { bytes_eq word.now (codes "receive") ≡ false }
+    requires reply { bytes_eq word.now (codes "reply") ≡ false }
+    ensures { option_map (λ _. into.new) result ≡ option_map (events.Call pid) (call_of (word.now ∷ words_from line.now at)) }
+{
+    let call = read_other_call(word, line, at)?;
+    *into = Event::Call { pid, call };
+    Some(())
+}
+
+/// A call: its word and its fields.
+fn read_made(pid: Pid, line: &[u8], at: usize, into: &mut Event) -> Option<()>
+    ensures { option_map (λ _. into.new) result ≡ option_map (events.Call pid) (call_of (words_from line.now at)) }
+{
+    let (word, at) = next_word(line, at)?;
+    if word == b"send".as_slice() {
+        read_send(pid, line, at, into)
+    } else if word == b"receive".as_slice() {
+        read_receive(pid, line, at, into)
+    } else if word == b"reply".as_slice() {
+        read_reply(pid, line, at, into)
     } else {
-        None
+        read_other(pid, word, line, at, into)
     }
 }
 
 /// `PID CALLTEXT`
 #[tactic(auto, unfolding(crate::specs::Schedule::call_event_of))]
-fn read_call_event(line: &[u8], at: usize) -> Option<Event>
-    ensures { result ≡ call_event_of (words_from line.now at) }
+fn read_call_event(line: &[u8], at: usize, into: &mut Event) -> Option<()>
+    ensures { option_map (λ _. into.new) result ≡ call_event_of (words_from line.now at) }
 {
     let (pid, at) = next_pid(line, at)?;
-    let call = read_call(line, at)?;
-    Some(Event::Call { pid, call })
+    read_made(pid, line, at, into)
 }
 
 /// `PID`
 #[tactic(auto, unfolding(crate::specs::Schedule::collect_event_of))]
-fn read_collect(line: &[u8], at: usize) -> Option<Event>
-    ensures { result ≡ collect_event_of (words_from line.now at) }
+fn read_collect(line: &[u8], at: usize, into: &mut Event) -> Option<()>
+    ensures { option_map (λ _. into.new) result ≡ collect_event_of (words_from line.now at) }
 {
     let (pid, at) = next_pid(line, at)?;
-    if is_end(line, at) {
-        Some(Event::Collect { pid })
-    } else {
-        None
+    if !is_end(line, at) {
+        return None;
     }
+    *into = Event::Collect { pid };
+    Some(())
 }
 
 /// `H`
 #[tactic(auto, unfolding(crate::specs::Schedule::tick_event_of))]
-fn read_tick(line: &[u8], at: usize) -> Option<Event>
-    ensures { result ≡ tick_event_of (words_from line.now at) }
+fn read_tick(line: &[u8], at: usize, into: &mut Event) -> Option<()>
+    ensures { option_map (λ _. into.new) result ≡ tick_event_of (words_from line.now at) }
 {
     let (host, at) = next_station(line, at)?;
-    if is_end(line, at) {
-        Some(Event::Tick { host })
-    } else {
-        None
+    if !is_end(line, at) {
+        return None;
     }
+    *into = Event::Tick { host };
+    Some(())
 }
 
 /// `TO FROM EVENT OUTPUT`
-fn read_deliver(line: &[u8], at: usize) -> Option<Event>
-    ensures { result ≡ deliver_event_of (words_from line.now at) }
+#[tactic(auto, unfolding(crate::specs::Schedule::deliver_event_of))]
+fn read_delivery(line: &[u8], at: usize, into: &mut Event) -> Option<()>
+    ensures { option_map (λ _. into.new) result ≡ deliver_event_of (words_from line.now at) }
 {
-    let Delivery {
+    let (to, at) = next_station(line, at)?;
+    let (from, at) = next_station(line, at)?;
+    let (event, at) = next_positive(line, at, EVENT)?;
+    let (output, at) = next_positive(line, at, OUTPUT)?;
+    if !is_end(line, at) {
+        return None;
+    }
+    *into = Event::Deliver {
         to,
         from,
         event,
-        output,
-    } = read_delivery(line, at)?;
-    Some(Event::Deliver {
-        to,
-        from,
-        event,
-        output,
-    })
+        output: output as u16,
+    };
+    Some(())
 }
 
 /// The event that the line spells.
 #[tactic(auto, unfolding(crate::specs::Schedule::event_of))]
-fn read_words(line: &[u8]) -> Option<Event>
-    ensures { result ≡ event_of (words_from line.now 0) }
+fn read_words(line: &[u8], into: &mut Event) -> Option<()>
+    ensures { option_map (λ _. into.new) result ≡ event_of (words_from line.now 0) }
 {
     let (word, at) = next_word(line, 0)?;
     if word == b"call".as_slice() {
-        read_call_event(line, at)
+        read_call_event(line, at, into)
     } else if word == b"collect".as_slice() {
-        read_collect(line, at)
+        read_collect(line, at, into)
     } else if word == b"tick".as_slice() {
-        read_tick(line, at)
+        read_tick(line, at, into)
     } else if word == b"deliver".as_slice() {
-        read_deliver(line, at)
+        read_delivery(line, at, into)
     } else {
         None
     }
@@ -131,12 +177,12 @@ fn has_actors(config: &Config, event: &Event) -> bool
 }
 
 /// The event of the line, where it is one of processes and stations of the configuration.
-pub fn read_event(config: &Config, line: &[u8]) -> Option<Event>
-    ensures { result ≡ acting config.now.specs (event_of (words_from line.now 0)) }
+pub fn read_event(config: &Config, line: &[u8], into: &mut Event) -> Option<()>
+    ensures { option_map (λ _. into.new) result ≡ acting config.now.specs (event_of (words_from line.now 0)) }
 {
-    let event = read_words(line)?;
-    if has_actors(config, &event) {
-        Some(event)
+    read_words(line, into)?;
+    if has_actors(config, into) {
+        Some(())
     } else {
         None
     }

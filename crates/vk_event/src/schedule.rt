@@ -1,14 +1,14 @@
 //! Schedules as texts.
 
-ghost use Rattle.std.specs.Prelude.{◌≡◌, ◌⊎◌, None, Ok, Err, IfOk, IfErr, OnErr};
+ghost use Rattle.std.specs.Prelude.{◌≡◌, ◌⊎◌, ◌<◌, None, Ok, Err, IfOk, IfErr, OnErr, length};
 ghost use Rattle.vk_event.specs.Lawful.{IsLawful};
 ghost use Rattle.vk_event.specs.Schedule.{HasProcess, front_by, front_of, schedule_of};
 
 use crate::event::Event;
-use crate::reader::Reader;
+use crate::reader::EventReader;
 use std::alloc::Global;
 use vk_base::{Config, List, NoMemory};
-use vk_text::{HeadRefusal, empty_config, next_line, read_head};
+use vk_text::empty_config;
 
 /// A configuration, and the events of a run of it.
 #[derive(Drop)]
@@ -45,11 +45,29 @@ fn untitled(alloc: Global) -> Front
     Front {
         schedule: Schedule {
             config: empty_config(alloc),
-            events: List::new(Vec::new(alloc)),
+            events: List::empty(alloc),
         },
         refused: Some(TextRefusal::BadInput { line: 1 }),
         beyond: None,
     }
+}
+
+/// What is left to be read, with its events.
+fn collect(alloc: Global, mut reader: EventReader<'_>) -> Result<Front, NoMemory>
+    ensures front { IfOk result (λ f. f ≡ reader.entry) }
+    ensures memory { OnErr result (0 < length reader.entry.schedule.config.specs) }
+{
+    let mut events = List::empty(alloc);
+    loop {
+        let mut event = Event::Tick { host: 0 };
+        if !reader.next(&mut event) {
+            break;
+        }
+        events.push(event)?;
+    }
+    let mut front = reader.into_front();
+    front.schedule.events = events;
+    Ok(front)
 }
 
 /// The schedule of the text up to the first line that is refused. The first line is `vkernel 1`, then come
@@ -61,20 +79,11 @@ pub fn read_front(alloc: Global, text: &[u8]) -> Result<Front, NoMemory>
     ensures lawful { IfOk result (λ f. IsLawful f.schedule) }
     ensures memory { OnErr result (HasProcess text.now) }
 {
-    let head = match read_head(alloc, text, b"vkernel 1") {
-        Ok(head) => head,
-        Err(HeadRefusal::NoTitle) => return Ok(untitled(alloc)),
-        Err(HeadRefusal::NoMemory) => return Err(NoMemory),
-    };
-    let mut at = head.at;
-    let mut reader = Reader::new(alloc, head.config);
-    while let Some((line, next)) = next_line(text, at) {
-        if !reader.take_line(line)? {
-            return Ok(reader.into_refused(line));
-        }
-        at = next;
+    match EventReader::new(alloc, text) {
+        Ok(reader) => collect(alloc, reader),
+        Err(TextRefusal::NoMemory) => Err(NoMemory),
+        Err(_) => Ok(untitled(alloc)),
     }
-    Ok(reader.into_front())
 }
 
 /// The schedule that the whole text spells, as [`read_front`] reads it. The first line that is bad, or that has an event

@@ -1,5 +1,5 @@
 -- Collects are right entries.
-use Rattle.std.proofs.Common.{◌≡◌, ℕ, Bool, true, false, cond, List, [], ◌∷◌, ◌++◌, Option, Some, None, refl, sym, ap, subst, ◌∙◌}
+use Rattle.std.proofs.Common.{◌≡◌, ℕ, false, List, [], ◌∷◌, ◌++◌, Option, Some, None, refl, sym, ap, subst, ◌∙◌}
 use Rattle.std.specs.Option.{is_some}
 use Rattle.vk_base.specs.declared.answer.Answer.{Answer}
 use Rattle.vk_base.specs.declared.call.Call.{Call}
@@ -41,19 +41,10 @@ use Rattle.vk_stands.proofs.Doing.{idle_carries, idle_part}
 use Rattle.vk_stands.proofs.OneSeat.{seated}
 use Rattle.vk_stands.proofs.Parts.{Part, carries_more, part_of}
 use Rattle.vk_stands.proofs.Quiet.{collect_early}
-use Rattle.vk_stands.proofs.Seats.{change_agree}
+use Rattle.vk_stands.proofs.Seats.{change_agree, change_still}
 use Rattle.vk_stands.proofs.Whole.{sound_next}
 use Rattle.vk_host.specs.Played.{collect_given, collect_steps}
 use Rattle.vk_host.proofs.Entries.{IsEntry, here, posted_none}
-
--- what changes nothing changes no list
-same_by : (x : Seat) (xs ys : List Seat) (b : Bool) → ys ≡ xs → cond b (x ∷ xs) (x ∷ ys) ≡ x ∷ xs
-same_by x xs ys true again = refl
-same_by x xs ys false again = ap (λ zs. x ∷ zs) again
-
-change_none : (p : Seat → Bool) (xs : List Seat) → change_first p (λ x. x) xs ≡ xs
-change_none p [] = refl
-change_none p (x ∷ xs) = same_by x xs (change_first p (λ x. x) xs) (p x) (change_none p xs)
 
 -- what a collect does to a process in this state
 abbrev collected_from : Kernel → Pid → Process → Option (Call × Answer) → Option Effect
@@ -93,7 +84,7 @@ module _ (c : Settings) (host : ℕ) (t : Tables) (r : Reading) (h : Stands c.ti
       IsEntry c host r (Collected pid) (collect_given None) from (doing_with (change_first (is_seat pid) collected t.seats) [])
   early none still =
       subst (λ xs. IsEntry c host r (Collected pid) (collect_given None) from (doing_with xs []))
-      (sym (change_agree (is_seat pid) collected (λ x. x) t.seats s found still ∙ change_none (is_seat pid) t.seats))
+      (sym (change_still (is_seat pid) collected s t.seats found still))
       (record {
         answer_is = sym (ap effect_answer none);
         makes = record {

@@ -1,5 +1,4 @@
 pub mod Desks
-pub mod Forms
 pub mod Lookups
 pub mod Opened
 pub mod Own

@@ -1,5 +1,5 @@
 -- What a tick makes of a station's processes, one after the other.
-use Rattle.std.specs.Prelude.{ℕ, ◌≡◌, ◌≤◌, ◌<◌, ◌+◌, ◌++◌, ◌^◌, true, List, [], ◌∷◌, drop, map, slice_get, take, Option, Some, None, if◌then◌else◌}
+use Rattle.std.specs.Prelude.{ℕ, ◌≡◌, ◌≤◌, ◌<◌, ◌+◌, ◌++◌, ◌^◌, List, [], ◌∷◌, drop, map, slice_get, take, Option, Some, None, if◌then◌else◌}
 use Rattle.std.specs.Option.{option_map_or}
 use Rattle.vk_base.specs.declared.activity.Activity.{Activity}
 use Rattle.vk_base.specs.declared.activity.Activity.TheVariants as activities
@@ -15,9 +15,8 @@ use Rattle.vk_base.specs.Firsts.{change_first}
 use Rattle.vk_base.specs.Packets.{Packet, AskPid}
 use Rattle.vk_base.specs.Pids.{same_host}
 use Rattle.vk_base.specs.Settings.{Settings}
-use Rattle.vk_packet.specs.Rules.{is_number}
 use Rattle.vk_procs.specs.declared.seat.Seat.{Seat}
-use Rattle.vk_procs.specs.Seats.{finished, is_seat}
+use Rattle.vk_procs.specs.Seats.{finished, is_seat, pids}
 use Rattle.vk_rules.specs.Entries.{Ticked}
 use Rattle.vk_rules.specs.Readings.{Reading}
 use Rattle.vk_rules.specs.Right.{answer_to, own_pids, right_entry}
@@ -30,6 +29,7 @@ use Rattle.vk_stands.specs.Ticks.{ticked_seat, ticking}
 use Rattle.vk_timer.specs.declared.work.Due.{Due}
 use Rattle.vk_timer.specs.declared.work.Due.TheVariants as dues
 use Rattle.vk_host.specs.declared.desk.Desk.{Desk}
+use Rattle.vk_host.specs.declared.desk.TheConstants.{PACKETS}
 use Rattle.vk_host.specs.declared.ticks.WorkKind.{WorkKind}
 use Rattle.vk_host.specs.declared.ticks.WorkKind.TheVariants as kinds
 use Rattle.vk_host.specs.Desks.{tables_in}
@@ -43,26 +43,18 @@ pub record HasBegunFew (s : Seat) : Type 0 where
   pub sends : s.note.sends < 2 ^ 48
   pub lookups : s.note.lookups < 2 ^ 48
 
--- the processes of the tables, in order
-abbrev pub pids_in : Tables → List Pid
-pids_in t = map (λ (s : Seat). s.pid) t.seats
-
 abbrev pub IsFew : Option Seat → Type 0
 IsFew o = (s : Seat) → o ≡ Some s → HasBegunFew s
 
 abbrev pub AreAllFew : List Seat → Type 0
 AreAllFew seats = (i : ℕ) → IsFew (slice_get seats i)
 
--- its lookup can be named in a packet
-abbrev pub HasNumber : Option Seat → Type 0
-HasNumber o = (s : Seat) → o ≡ Some s → is_number s.note.lookups ≡ true
-
 -- What a tick asks of the desk: tables that fit, and room for 2,048 packets.
 pub record CanTick (d : Desk) : Type 0 where
   pub fit : AreFit d.host (tables_in d)
   pub few : AreAllFew d.procs
   pub now : d.now + 1 < 2 ^ 48
-  pub room : 2048 ≤ d.out.room
+  pub room : PACKETS ≤ d.out.room
 
 -- the clock is one tick on, and the station is the same
 pub record IsOneTick (old new : Desk) : Type 0 where
@@ -75,10 +67,10 @@ pub record IsOneTick (old new : Desk) : Type 0 where
 -- the order of the configuration, the answer, the steps and the packets are those of the right entry, and the tables then stand for the
 -- reading after it. They fit, and the order stays.
 pub record IsTickPlayed (times : Times) (host now : ℕ) (answer : EventAnswer) (before after : Doing) : Type 0 where
-  pub rule : (c : Settings) (r : Reading) → c.times ≡ times → r.now ≡ now → pids_in before.tables ≡ own_pids c host →
+  pub rule : (c : Settings) (r : Reading) → c.times ≡ times → r.now ≡ now → pids before.tables.seats ≡ own_pids c host →
       Stands times host before.tables r → (answer ≡ answer_to c host r Ticked) × Makes c host r (right_entry c host r Ticked) before after
   pub fits : AreFit host after.tables
-  pub order : pids_in after.tables ≡ pids_in before.tables
+  pub order : pids after.tables.seats ≡ pids before.tables.seats
 
 -- the work that a process waits in
 abbrev pub kind_of : Pid → Activity → WorkKind

@@ -41,7 +41,8 @@ impl Desk {
         ensures times { IfOk result (λ d. d.times ≡ config.now.times) }
         ensures now { IfOk result (λ d. d.now ≡ 0) }
         ensures steps { IfOk result (λ d. d.steps.items ≡ []) }
-        ensures out { IfOk result (λ d. d.out ≡ record { room = 2048; posts = [] }) }
+        ensures room { IfOk result (λ d. d.out.room ≡ PACKETS) }
+        ensures posts { IfOk result (λ d. d.out.posts ≡ []) }
         ensures places { IfOk result (λ d. d.queues.slots ≡ PROCESSES + config.now.pool) }
     {
         let pool = config.pool();

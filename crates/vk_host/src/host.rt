@@ -6,14 +6,12 @@ ghost use Rattle.vk_base.specs.Steps.{is_allowed};
 ghost use Rattle.vk_rules.specs.Entries.{Called, Collected, Delivered, Entry, Ticked};
 ghost use Rattle.vk_rules.specs.Frames.{number_in, unsealed_of};
 ghost use Rattle.vk_rules.specs.Readings.{reading};
-ghost use Rattle.vk_host.specs.Forms.{input_of};
 ghost use Rattle.vk_host.specs.Opened.{unsealed_as};
-ghost use Rattle.vk_host.specs.Sealed.{AreSealed, CanSeal};
 ghost use Rattle.vk_host.specs.Standing.{IsAt, IsEvent, StandsSomewhere};
-ghost use Rattle.vk_host.specs.Values.{has, is_own};
+ghost use Rattle.vk_host.specs.Values.{has, input_of, is_own};
 
 use crate::desk::Desk;
-use crate::frames::Frames;
+use crate::frames::seal;
 use crate::opening::{Opened, next_number, number_after, open_frame};
 use crate::response::collect_answer;
 use crate::{calls, deliveries, ticks};
@@ -22,13 +20,12 @@ use std::marker::Model;
 use vk_base::{Call, Config, EventAnswer, NoMemory, Pid, StationEvent, Step, StepList};
 use vk_packet::Outbox;
 
-/// One station with its kernel: its tables and counts, and the steps, the packets and the frames of its last event.
+/// One station with its kernel: its tables and counts, and the steps of its last event and its packets, each in its frame.
 #[derive(Drop)]
 pub struct Host {
     number: u64,
     events: u64,
     desk: Desk,
-    frames: Frames,
 }
 
 impl Model for Host {
@@ -37,7 +34,7 @@ impl Model for Host {
 
     ghost Value = { StationValue };
 
-    ghost view = { λ h. value_in h.desk h.number h.events h.frames };
+    ghost view = { λ h. value_in h.desk h.number h.events };
 }
 
 impl Host {
@@ -58,7 +55,6 @@ impl Host {
             number: 0,
             events: 0,
             desk: Desk::new(alloc, config, host)?,
-            frames: Frames::new(alloc)?,
         })
     }
 
@@ -87,7 +83,13 @@ impl Host {
     {
         count(&mut self.events, &mut self.number);
         let response = calls::call(&mut self.desk, pid, call);
-        seal(&mut self.frames, &self.desk, self.number, self.events);
+        seal(
+            &mut self.desk.out,
+            self.desk.host,
+            self.desk.now,
+            self.number,
+            self.events,
+        );
         response.answer(&self.desk.procs, pid)
     }
 
@@ -100,7 +102,13 @@ impl Host {
     {
         count(&mut self.events, &mut self.number);
         let outcome = calls::collect(&mut self.desk, pid);
-        seal(&mut self.frames, &self.desk, self.number, self.events);
+        seal(
+            &mut self.desk.out,
+            self.desk.host,
+            self.desk.now,
+            self.number,
+            self.events,
+        );
         collect_answer(outcome)
     }
 
@@ -112,7 +120,13 @@ impl Host {
     {
         count(&mut self.events, &mut self.number);
         let now = ticks::tick(&mut self.desk);
-        seal(&mut self.frames, &self.desk, self.number, self.events);
+        seal(
+            &mut self.desk.out,
+            self.desk.host,
+            self.desk.now,
+            self.number,
+            self.events,
+        );
         EventAnswer::Ticked { now }
     }
 
@@ -125,7 +139,13 @@ impl Host {
         let opened = open_frame(bytes);
         count_frame(&mut self.events, &mut self.number, &opened);
         let judged = deliveries::deliver(&mut self.desk, &opened);
-        seal(&mut self.frames, &self.desk, self.number, self.events);
+        seal(
+            &mut self.desk.out,
+            self.desk.host,
+            self.desk.now,
+            self.number,
+            self.events,
+        );
         judged.answer()
     }
 
@@ -147,7 +167,7 @@ impl Host {
     pub fn frame_count(&self) -> u32
         ensures { result ≡ length self.now.frames }
     {
-        self.frames.len()
+        self.desk.out.len()
     }
 
     /// The bytes of frame number `at` of the last event, counted from 0.
@@ -155,7 +175,7 @@ impl Host {
         requires { at < length self.now.frames }
         ensures { slice_get self.now.frames at ≡ Some result.now }
     {
-        self.frames.frame(at)
+        self.desk.out.framed(at)
     }
 
     /// How many events there were.
@@ -214,12 +234,4 @@ fn count_frame(events: &mut u64, number: &mut u64, opened: &Opened)
 {
     *events += 1;
     *number = number_after(*number, opened);
-}
-
-/// Makes the frames of the event that the desk has, which has this Lamport number and is so many of the station's events.
-fn seal(frames: &mut Frames, desk: &Desk, number: u64, events: u64)
-    requires { CanSeal desk.now number events }
-    ensures { AreSealed desk.entry.now number events frames.new }
-{
-    frames.seal_all(desk.host, desk.now, number, events, &desk.out);
 }

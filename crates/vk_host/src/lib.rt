@@ -8,8 +8,8 @@
 //! does to them is `specs/Played.antt`, of a tick `specs/Ticking.antt`: for every reading that the tables stand for (`vk_stands`), the
 //! answer, steps and packets of the right entry, and the tables then stand for the reading after it. The rules are those of `vk_local`
 //! for calls within the station (`src/here.rt`), of `vk_remote` and `vk_move` for what concerns others (`src/away.rt`, `src/ticks.rt`,
-//! `src/deliveries.rt`), and of this crate for memory and names (`src/own.rt`) and lookups (`src/lookups.rt`). Which calls the program
-//! plays so far is `specs/Forms.antt`. Nothing but [`Host::new`] takes memory.
+//! `src/deliveries.rt`), and of this crate for memory and names (`src/own.rt`) and lookups (`src/lookups.rt`). Nothing but [`Host::new`] takes
+//! memory.
 #![tactic(auto)]
 
 mod away;

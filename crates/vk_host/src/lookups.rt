@@ -8,7 +8,7 @@ ghost use Rattle.vk_base.specs.Kernel.{found_there};
 ghost use Rattle.vk_base.specs.Packets.{AskPid, TellPid};
 ghost use Rattle.vk_local.specs.Rules.{may_call};
 ghost use Rattle.vk_packet.specs.Rules.{is_lawful};
-ghost use Rattle.vk_procs.specs.Seats.{is_seat, process_of};
+ghost use Rattle.vk_procs.specs.Seats.{is_seat, process_of, seat_in};
 ghost use Rattle.vk_remote.specs.Sends.{working};
 ghost use Rattle.vk_rules.specs.PacketOutcomes.{asks};
 ghost use Rattle.vk_stands.specs.Rules.{posted};
@@ -68,7 +68,7 @@ fn set_work(procs: &mut Procs, pid: Pid, work: Work)
 
 /// The question of the lookup that the process made last goes out to every station.
 fn post_question(procs: &Procs, out: &mut Outbox, pid: Pid, logical: u32)
-    requires lawful { HasNumber procs.now pid }
+    requires lawful { HasNumber (seat_in procs.now pid) }
     requires room { length out.old.posts < out.old.room }
     ensures { out.new ≡ posted out.old (questions procs.now pid logical) }
 {
@@ -96,7 +96,7 @@ fn begin(
     scope: Scope,
 )
     requires now { now < 2 ^ 48 }
-    requires lawful { HasNumber (asked_seats times.now now procs.old pid logical scope) pid }
+    requires lawful { HasNumber (seat_in (asked_seats times.now now procs.old pid logical scope) pid) }
     requires room { length out.old.posts < out.old.room }
     ensures seats { procs.new ≡ asked_seats times.now now procs.old pid logical scope }
     ensures packets { out.new ≡ posted out.old (questions (asked_seats times.now now procs.old pid logical scope) pid logical) }
@@ -119,7 +119,7 @@ fn play_get_pid(
     scope: Scope,
 ) -> Option<Outcome>
     requires now { now < 2 ^ 48 }
-    requires lawful { HasNumber (asked_seats times.now now procs.old pid logical scope) pid }
+    requires lawful { HasNumber (seat_in (asked_seats times.now now procs.old pid logical scope) pid) }
     requires steps { array_vec_len steps.old < STEPS }
     requires room { length out.old.posts < out.old.room }
     ensures outcome { result ≡ at_once names.now logical scope }

@@ -8,7 +8,8 @@ ghost use Rattle.vk_procs.specs.Seats.{seat_in};
 ghost use Rattle.vk_remote.specs.Sends.{due_in, due_seats};
 ghost use Rattle.vk_stands.specs.Rules.{posted};
 ghost use Rattle.vk_stands.specs.Ticks.{work_in};
-ghost use Rattle.vk_host.specs.Ticking.{HasNumber, lookup_packets, lookup_seats, lookup_steps, not_found, question_in, question_of};
+ghost use Rattle.vk_host.specs.Lookups.{HasNumber};
+ghost use Rattle.vk_host.specs.Ticking.{lookup_packets, lookup_seats, lookup_steps, not_found, question_in, question_of};
 
 use crate::opening::EVERY_STATION;
 use vk_base::{Activity, Outcome, Pid, Refusal, Step, StepList, Times, Waiting};

@@ -4,7 +4,7 @@ use Rattle.std.proofs.lemmas.Bool.Decides.{nat_tests}
 use Rattle.vk_frame.specs.declared.header.Header.{Header}
 use Rattle.vk_hub.specs.Links.{Frame, Waiting, drawn, holding, into_ring, is_addressed, next, once, posted, posted_all, third_next, twice, with_held}
 use Rattle.vk_hub.specs.Counting.{copies}
-use Rattle.vk_hub.specs.declared.plan.LinkPlan.{LinkPlan}
+use Rattle.vk_event.specs.declared.scenario.LinkPlan.{LinkPlan}
 
 module _ (test : Frame → Bool) where
   abbrev pub hit : Frame → ℕ

@@ -8,13 +8,13 @@ ghost use Rattle.vk_hub.specs.Hubs.{fetched_from, has_halt, is_at_limit, is_read
 ghost use Rattle.vk_hub.specs.Posts.{IsFromPost};
 
 use crate::event::{Fetched, HubEvent, HubOut};
-use crate::plan::LinkPlan;
 use crate::state::HubState;
 use std::alloc::Global;
 use std::marker::Model;
 use std::sync::Wait;
 use turn_cell::{Ready, Room, TurnCell, TurnSeat};
 use vk_base::{Config, FrameBytes, NoMemory};
+use vk_event::LinkPlan;
 
 /// The links between the stations of a configuration. Threads share it, each with a seat of its own.
 #[derive(Drop)]

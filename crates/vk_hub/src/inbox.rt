@@ -2,11 +2,11 @@
 ghost use Rattle.std.specs.Prelude.{◌≡◌, [], None, is_some, IfOk};
 ghost use Rattle.vk_hub.specs.Links.{drawn, first_of, next, posted, rest_of};
 
-use crate::plan::LinkPlan;
 use circular_buffer::HeapCircularBuffer;
 use std::alloc::{AllocError, Global};
 use std::marker::Model;
 use vk_base::FrameBytes;
+use vk_event::LinkPlan;
 
 const MOST: usize = 128;
 

@@ -1,9 +1,9 @@
 //! The links between stations, which threads share. A hub takes frames by posts, and gives each station those that are addressed to
-//! it by fetches; its link plan says by a generator's numbers which frames are lost, doubled or held back on the way. It counts the
-//! programs that have finished, and ends once all have, or by a halt.
+//! it by fetches; a scenario's link plan says by a generator's numbers which frames are lost, doubled or held back on the way. It
+//! counts the programs that have finished, and ends once all have, or by a halt.
 //!
 //! Stands on `turn_cell`: the state is the replay of its history, `specs/Hubs.antt`, and each call is one turn at it. Of frames it
-//! knows the header, by `vk_frame`. The link plan is `specs/Links.antt`. The rings are private: `src/inbox.rt` is what waits for one
+//! knows the header, by `vk_frame`. What a link plan does is `specs/Links.antt`. The rings are private: `src/inbox.rt` is what waits for one
 //! station, `src/links.rt` all that is under way, `src/state.rt` that beside its history. That what is fetched was posted is
 //! [`fetches_are_posts`]. What a station does with frames it does not ask.
 #![tactic(auto)]
@@ -13,11 +13,9 @@ mod hub;
 mod inbox;
 mod law;
 mod links;
-mod plan;
 mod state;
 
 pub use event::{Fetched, HubEvent, HubOut};
 pub use hub::Hub;
 pub use law::fetches_are_posts;
-pub use plan::LinkPlan;
 pub use state::HubState;

@@ -5,9 +5,9 @@ ghost use Rattle.vk_hub.specs.Links.{header_of, is_addressed, posted_all};
 
 use crate::event::{Fetched, HubEvent};
 use crate::inbox::{Inbox, next};
-use crate::plan::LinkPlan;
 use std::marker::Model;
 use vk_base::FrameBytes;
+use vk_event::LinkPlan;
 use vk_frame::{Header, unseal};
 
 /// The generator's state, what waits for each station, how many programs have finished, and whether the hub is halted.

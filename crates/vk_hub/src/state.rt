@@ -6,11 +6,11 @@ ghost use Rattle.vk_hub.specs.Kept.{room_for};
 use crate::event::{HubEvent, HubOut};
 use crate::inbox::Inbox;
 use crate::links::Links;
-use crate::plan::LinkPlan;
 use std::alloc::{AllocError, Global};
 use std::marker::Model;
 use turn_cell::{Replay, Room};
 use vk_base::Config;
+use vk_event::LinkPlan;
 
 /// The greatest number of entries that are no halt.
 const MOST: usize = 200_000;

@@ -1,9 +1,7 @@
 -- Bytes of one process come into the memory of another.
-use Rattle.std.proofs.Common.{◌≡◌, ◌≤◌, ℕ, ◌+◌, Bool, true, false, cond, ◌&&◌, nat_le, List, [], ◌∷◌, drop, take, length, Option, Some, None, refl, sym, ap, subst, ◌∙◌, arith}
-use Rattle.std.specs.List.{find}
+use Rattle.std.proofs.Common.{◌≡◌, ◌≤◌, ℕ, ◌+◌, true, false, nat_le, List, length, Some, sym, ap, subst, ◌∙◌, arith}
 use Rattle.std.proofs.lemmas.Bool.{and_parts, cond-true, cond-false, leb-true, le-leb}
 use Rattle.std.proofs.lemmas.Grind.{common_steps}
-use Rattle.std.proofs.lemmas.Option.{same_Some, none-some}
 use Rattle.vk_base.specs.declared.message.Range.{Range}
 use Rattle.vk_base.specs.declared.pid.Pid.{Pid}
 use Rattle.vk_base.specs.Firsts.{change_first}
@@ -13,27 +11,14 @@ use Rattle.vk_base.specs.Ranges.{bytes_in, lies_in, lies_within, range_of, with_
 use Rattle.v_laws.specs.Sound.{IsSoundAt}
 use Rattle.vk_procs.specs.declared.seat.Seat.{Seat}
 use Rattle.vk_procs.specs.declared.seat.Passed.TheVariants as gifts
-use Rattle.vk_procs.specs.Seats.{got, is_seat, overwritten, passed, passed_by, process_of, seat_in, written}
+use Rattle.vk_procs.specs.Seats.{got, is_seat, passed_by, process_of, seat_in, written}
 use Rattle.vk_stands.specs.Tables.{Tables}
 use Rattle.vk_stands.proofs.Doing.{memory_carries, memory_part, overwritten_length, remembering}
 use Rattle.vk_stands.proofs.OneSeat.{seated}
 use Rattle.vk_stands.proofs.Parts.{Carries, Part}
+use Rattle.vk_stands.proofs.Seats.{change_agree}
 use Rattle.vk_local.specs.declared.access.Segment.{Segment}
 use Rattle.vk_local.specs.Calls.{bytes_passed}
-
--- changes that agree on the one that is found
-agree_by : {X : Type 0} (p : X → Bool) (f g : X → X) (x s : X) (xs : List X) (b : Bool) → f s ≡ g s →
-    cond b (Some x) (find p xs) ≡ Some s →
-    (find p xs ≡ Some s → change_first p f xs ≡ change_first p g xs) →
-    cond b (f x ∷ xs) (x ∷ change_first p f xs) ≡ cond b (g x ∷ xs) (x ∷ change_first p g xs)
-agree_by p f g x s xs true same is again =
-    let one : x ≡ s = same_Some x s is in ap (λ y. y ∷ xs) (ap f one ∙ same ∙ ap g (sym one))
-agree_by p f g x s xs false same is again = ap (λ ys. x ∷ ys) (again is)
-
-pub changes_agree : {X : Type 0} (p : X → Bool) (f g : X → X) (s : X) (xs : List X) → f s ≡ g s → find p xs ≡ Some s →
-    change_first p f xs ≡ change_first p g xs
-changes_agree p f g s [] same is = refl
-changes_agree p f g s (x ∷ xs) same is = agree_by p f g x s xs (p x) same is (changes_agree p f g s xs same)
 
 pub taken_length : (start count : ℕ) (memory : List ℕ) → lies_in (range_of start count) (length memory) ≡ true →
     length (bytes_in (range_of start count) memory) ≡ count
@@ -79,9 +64,8 @@ module _ (host : ℕ) (t : Tables) (k : Kernel) (part : Part host t k) (from to 
   seats_are =
       cond-false (same_pid from to) t.seats (passed_by (seat_in t.seats from) to (gifts.Bytes g.src g.count g.dest) t.seats) apart
       ∙ ap (λ o. passed_by o to (gifts.Bytes g.src g.count g.dest) t.seats) giver
-      ∙ changes_agree (is_seat to) (got (gifts.Bytes g.src g.count g.dest) x)
-      (remembering host t k part to own s found memory long) s t.seats
-      written_is found
+      ∙ change_agree (is_seat to) (got (gifts.Bytes g.src g.count g.dest) x)
+      (remembering host t k part to own s found memory long) t.seats s found written_is
 
   abbrev tables : Tables
   tables = record t { seats = bytes_passed t.seats from to g }

@@ -1,8 +1,7 @@
 -- What the tables refuse, the kernel refuses, in the view that they stand for.
-use Rattle.std.proofs.Common.{◌≡◌, ℕ, Bool, true, false, cond, ◌&&◌, not, nat_lt, List, [], ◌∷◌, length, Option, Some, None, refl, sym, ap, ◌∙◌}
+use Rattle.std.proofs.Common.{◌≡◌, ℕ, Bool, true, cond, ◌&&◌, not, nat_lt, List, [], ◌∷◌, Option, Some, None, refl, sym, ap, ◌∙◌}
 use Rattle.std.specs.Option.{is_none, option_map}
 use Rattle.std.proofs.lemmas.Option.{none-some}
-use Rattle.vk_base.specs.declared.activity.Activity.{Activity}
 use Rattle.vk_base.specs.declared.activity.Activity.TheVariants as activities
 use Rattle.vk_base.specs.declared.activity.Waiting.{Waiting}
 use Rattle.vk_base.specs.declared.activity.Waiting.TheVariants as waitings
@@ -13,16 +12,15 @@ use Rattle.vk_base.specs.declared.call.Call.TheVariants as calls
 use Rattle.vk_base.specs.declared.config.Times.{Times}
 use Rattle.vk_base.specs.declared.kernel.Direction.{Direction}
 use Rattle.vk_base.specs.declared.kernel.Direction.TheVariants as directions
-use Rattle.vk_base.specs.declared.limits.TheConstants.{MOVE_BYTES, SEGMENT_BYTES}
 use Rattle.vk_base.specs.declared.message.Message.{Message}
 use Rattle.vk_base.specs.declared.pid.Pid.{Pid}
 use Rattle.vk_base.specs.Activities.{as_receive, call_of, state_of}
-use Rattle.vk_base.specs.Calls.{first_that_holds, is_granted, is_own, may_read, may_write, tests_of}
+use Rattle.vk_base.specs.Calls.{first_that_holds, is_granted, is_own, tests_of}
 unfoldable use Rattle.vk_base.specs.Calls.{call_refusal}
 use Rattle.vk_base.specs.Kernel.{Kernel, held, held_exchange, holds_of, is_live, is_ready}
 use Rattle.vk_base.specs.Messages.{grants_read, grants_write, segment_of}
 use Rattle.vk_base.specs.Pids.{same_host}
-use Rattle.vk_base.specs.Ranges.{range_of, lies_in, lies_within}
+use Rattle.vk_base.specs.Ranges.{range_of, lies_within}
 use Rattle.vk_procs.specs.declared.seat.Seat.{Seat}
 use Rattle.vk_procs.specs.Seats.{is_live_in, process_of, seat_in}
 use Rattle.vk_rules.specs.Readings.{Reading}
@@ -125,9 +123,11 @@ module _ (times : Times) (host : ℕ) (t : Tables) (r : Reading) (h : Stands tim
   move_tests : (way : Direction) (to : Pid) (g : Segment) → to.host ≡ host →
       access_refusal t.seats pid to (move_access way g) ≡ first_that_holds (tests_of k pid (process_of s) (move_call way to g))
   move_tests directions.To to g near =
-      access_is to (move_access directions.To g) grants_write near (λ x. refl) ∙ kernel_is to (move_access directions.To g) grants_write near
+      access_is to (move_access directions.To g) grants_write near (λ x. refl)
+      ∙ kernel_is to (move_access directions.To g) grants_write near
   move_tests directions.From to g near =
-      access_is to (move_access directions.From g) grants_read near (λ x. refl) ∙ kernel_is to (move_access directions.From g) grants_read near
+      access_is to (move_access directions.From g) grants_read near (λ x. refl)
+      ∙ kernel_is to (move_access directions.From g) grants_read near
 
   pub move_decided : (way : Direction) (to : Pid) (g : Segment) → to.host ≡ host →
       access_refusal t.seats pid to (move_access way g) ≡ call_refusal k pid (process_of s) (move_call way to g)

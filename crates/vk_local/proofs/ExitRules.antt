@@ -1,37 +1,29 @@
 -- An exit is its right entry.
-use Rattle.std.proofs.Common.{◌≡◌, ◌&&◌, Bool, true, false, ℕ, List, [], ◌∷◌, ◌++◌, flat_map, map, Option, Some, None, refl, sym, ap, subst, ◌∙◌, if◌then◌else◌}
+use Rattle.std.proofs.Common.{◌≡◌, Bool, true, false, ℕ, List, [], ◌∷◌, ◌++◌, flat_map, Option, Some, None, refl, sym, ap, subst, ◌∙◌, if◌then◌else◌}
 use Rattle.std.specs.List.{position}
 use Rattle.std.specs.Option.{option_map}
-use Rattle.vk_base.specs.declared.activity.Activity.TheVariants as activities
 use Rattle.vk_base.specs.declared.activity.Outcome.{Outcome}
 use Rattle.vk_base.specs.declared.activity.Outcome.TheVariants as outcomes
 use Rattle.vk_base.specs.declared.answer.Answer.TheVariants as answers
-use Rattle.vk_base.specs.declared.answer.Refusal.{Refusal}
 use Rattle.vk_base.specs.declared.call.Call.TheVariants as calls
 use Rattle.vk_base.specs.declared.config.Times.{Times}
 use Rattle.vk_base.specs.declared.kernel.Process.{Process}
-use Rattle.vk_base.specs.declared.kernel.Registration.{Registration}
 use Rattle.vk_base.specs.declared.pid.Pid.{Pid}
 use Rattle.vk_base.specs.declared.step.Step.{Step}
 use Rattle.vk_base.specs.declared.step.Step.TheVariants as steps
-use Rattle.vk_base.specs.Activities.{state_of}
 use Rattle.vk_base.specs.Calls.{answered, call_refusal, called, exited}
-use Rattle.vk_base.specs.Kernel.{◌>>=◌, Kernel, is_at_target}
-use Rattle.vk_base.specs.Packets.{Packet, Negative}
-use Rattle.vk_base.specs.Pids.{same_pid}
-use Rattle.vk_base.specs.Settings.{Settings}
+use Rattle.vk_base.specs.Kernel.{◌>>=◌, Kernel}
+use Rattle.vk_base.specs.Packets.{Negative}
 use Rattle.vk_base.specs.Steps.{effect}
 use Rattle.vk_packet.specs.Posts.{Posts}
 use Rattle.vk_pool.specs.declared.alien.Alien.{Alien}
 use Rattle.vk_procs.specs.declared.seat.Seat.{Seat}
-use Rattle.vk_procs.specs.Seats.{is_seat, process_of, seat_in}
+use Rattle.vk_procs.specs.Seats.{is_seat, process_of}
 use Rattle.vk_rules.specs.Entries.{Called}
-use Rattle.vk_rules.specs.Readings.{Reading}
-use Rattle.vk_rules.specs.Right.{answer_to, right_entry}
 use Rattle.vk_stands.specs.Fit.{AreFit}
-use Rattle.vk_stands.specs.Rules.{IsCallRule, Makes, given_by, posted}
+use Rattle.vk_stands.specs.Rules.{IsCallRule, given_by, posted}
 use Rattle.vk_stands.specs.Stands.{Stands}
-use Rattle.vk_stands.specs.Tables.{Tables, stage_of}
+use Rattle.vk_stands.specs.Tables.{Tables}
 use Rattle.vk_stands.proofs.After.{reading_for}
 use Rattle.vk_stands.proofs.ExitEntry.{told_for}
 use Rattle.vk_stands.proofs.ExitFits.{exit_fit}
@@ -96,7 +88,8 @@ module _ (pid : Pid) (now : ℕ) (t : Tables) (before : List Step) (out : Posts)
       let does = exit_does r.view t.seats pid s.0 s.1 at in (
         sym (exit_answer c pid.host t r fit stands pid refl s.0 s.1.found s.1.ready place.0 place.1 does),
         record {
-          steps = ap (λ ss. before ++ ss) (sym (exit_steps c pid.host t r fit stands pid refl s.0 s.1.found s.1.ready place.0 place.1 does));
+          steps = ap (λ ss. before ++ ss)
+              (sym (exit_steps c pid.host t r fit stands pid refl s.0 s.1.found s.1.ready place.0 place.1 does));
           packets = ap (posted out) (sym (exit_packets_are c pid.host t r fit stands pid refl s.0 s.1.found s.1.ready place.0 place.1 does
               ∙ all_told pid t.slots));
           stands = subst (λ u. Stands c.times pid.host u (reading_for c pid.host r (Called pid calls.Exit)))

@@ -1,6 +1,6 @@
 -- Slots that are gone through in order, and a list that is emptied.
 use Rattle.std.proofs.Common.{◌≡◌, ℕ, zero, suc, ◌+◌, ◌<◌, ◌≤◌, Bool, true, false, cond, List, [], ◌∷◌, ◌++◌, drop, take, length, map, get_or, set, refl, sym, ap, subst, ◌∙◌, arith, append_assoc, Option, Some, None}
-use Rattle.std.specs.List.{flat_map, slice_get}
+use Rattle.std.specs.List.{slice_get}
 use Rattle.std.specs.Option.{option_map}
 use Rattle.std.proofs.lemmas.Grind.{common_steps}
 use Rattle.std.proofs.lemmas.List.{append-nil, get_or-set_same, length-append, length-set, length-map, map-append, take_all}
@@ -9,10 +9,10 @@ use Rattle.vk_base.specs.declared.pid.Pid.{Pid}
 use Rattle.vk_base.specs.Packets.{Packet}
 use Rattle.vk_packet.specs.Posts.{Posts}
 use Rattle.vk_pool.specs.declared.alien.Alien.{Alien}
-use Rattle.vk_pool.specs.Aliens.{alien_at, changed_at, refused}
+use Rattle.vk_pool.specs.Aliens.{alien_at, refused}
 use Rattle.vk_queue.specs.Lists.{Lists, queue_at, with_list}
 use Rattle.vk_stands.specs.Rules.{post_of, posted}
-use Rattle.vk_local.specs.Exits.{after_left, is_left, left_in, left_of, left_slots, negatives, slots_left, told_left, told_slot}
+use Rattle.vk_local.specs.Exits.{after_left, is_left, left_of, left_slots, negatives, slots_left, told_left, told_slot}
 
 set_same : {X : Type 0} (xs : List X) (n : ℕ) (d : X) → set xs n (get_or xs n d) ≡ xs
 set_same [] n d = refl

@@ -1,40 +1,33 @@
 -- Moves within the station are their right entries.
-use Rattle.std.proofs.Common.{◌≡◌, ℕ, Bool, true, false, List, [], ◌∷◌, ◌++◌, length, Option, Some, None, refl, sym, ap, subst, ◌∙◌}
+use Rattle.std.proofs.Common.{◌≡◌, ℕ, true, false, List, [], ◌∷◌, ◌++◌, length, Option, Some, None, refl, sym, ap, subst, ◌∙◌}
 use Rattle.std.specs.Option.{option_map}
 use Rattle.std.proofs.lemmas.Bool.{eqb-true}
 use Rattle.vk_base.specs.declared.activity.Outcome.{Outcome}
 use Rattle.vk_base.specs.declared.answer.Answer.TheVariants as answers
 use Rattle.vk_base.specs.declared.answer.Refusal.{Refusal}
 use Rattle.vk_base.specs.declared.call.Call.{Call}
-use Rattle.vk_base.specs.declared.call.Call.TheVariants as calls
-use Rattle.vk_base.specs.declared.config.Times.{Times}
 use Rattle.vk_base.specs.declared.kernel.Direction.{Direction}
 use Rattle.vk_base.specs.declared.kernel.Direction.TheVariants as directions
-use Rattle.vk_base.specs.declared.kernel.Process.{Process}
 use Rattle.vk_base.specs.declared.pid.Pid.{Pid}
 use Rattle.vk_base.specs.declared.step.Step.{Step}
 use Rattle.vk_base.specs.declared.step.Step.TheVariants as steps
-use Rattle.vk_base.specs.Calls.{answered, call_refusal}
+use Rattle.vk_base.specs.Calls.{answered}
 use Rattle.vk_base.specs.Kernel.{Kernel, with_memory}
 use Rattle.vk_base.specs.Pids.{same_host, same_pid}
 use Rattle.vk_base.specs.Ranges.{bytes_in, lies_in, range_of, with_bytes}
 use Rattle.vk_base.specs.Settings.{Settings}
-use Rattle.vk_base.specs.Steps.{after_effect, effect, next}
+use Rattle.vk_base.specs.Steps.{after_effect, effect}
 use Rattle.v_laws.specs.Sound.{IsSoundAt}
 use Rattle.v_laws.proofs.Tables.{same_pid_laws}
 use Rattle.vk_packet.specs.Posts.{Posts}
 use Rattle.vk_procs.specs.declared.seat.Seat.{Seat}
-use Rattle.vk_procs.specs.Seats.{process_of, seat_in}
+use Rattle.vk_procs.specs.Seats.{process_of}
 use Rattle.vk_rules.specs.CallOutcomes.{effect_answer}
-use Rattle.vk_rules.specs.Entries.{Called}
 use Rattle.vk_rules.specs.Readings.{Reading}
-use Rattle.vk_rules.specs.Right.{answer_to, right_entry}
 use Rattle.vk_stands.specs.Fit.{AreFit}
-use Rattle.vk_stands.specs.Rules.{IsCallRule, Makes, given_by}
 use Rattle.vk_stands.specs.Stands.{Stands}
 use Rattle.vk_stands.specs.Tables.{Tables}
-use Rattle.vk_stands.proofs.Parts.{Carries, Part, part_of}
-use Rattle.vk_stands.proofs.Quiet.{refused_answer}
+use Rattle.vk_stands.proofs.Parts.{Part, part_of}
 use Rattle.vk_stands.proofs.Whole.{sound_next}
 use Rattle.vk_local.specs.declared.access.Access.{Access}
 use Rattle.vk_local.specs.declared.access.Segment.{Segment}

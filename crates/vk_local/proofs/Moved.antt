@@ -1,39 +1,32 @@
 -- A move within the station is its right entry.
-use Rattle.std.proofs.Common.{◌≡◌, ◌≤◌, ℕ, Bool, true, false, cond, ◌&&◌, ◌||◌, ◌==◌, not, nat_le, nat_lt, List, [], ◌∷◌, ◌++◌, length, Option, Some, None, refl, sym, ap, subst, ◌∙◌}
-use Rattle.std.specs.Option.{is_none, option_map}
+use Rattle.std.proofs.Common.{◌≡◌, ℕ, Bool, true, false, ◌&&◌, ◌==◌, not, nat_lt, List, [], ◌∷◌, length, Option, Some, None, refl, sym, ap, ◌∙◌}
+use Rattle.std.specs.Option.{is_none}
 use Rattle.std.proofs.lemmas.Bool.{cond-true, false_from_ne_true, or_left}
 use Rattle.std.proofs.lemmas.Option.{none-some, same_Some}
 use Rattle.vk_base.specs.declared.activity.Activity.TheVariants as activities
 use Rattle.vk_base.specs.declared.activity.Waiting.TheVariants as waitings
 use Rattle.vk_base.specs.declared.answer.Answer.TheVariants as answers
-use Rattle.vk_base.specs.declared.answer.Refusal.{Refusal}
 use Rattle.vk_base.specs.declared.answer.Refusal.TheVariants as refusals
 use Rattle.vk_base.specs.declared.call.Call.{Call}
 use Rattle.vk_base.specs.declared.call.Call.TheVariants as calls
-use Rattle.vk_base.specs.declared.config.Times.{Times}
 use Rattle.vk_base.specs.declared.kernel.Direction.TheVariants as directions
 use Rattle.vk_base.specs.declared.kernel.Process.{Process}
 use Rattle.vk_base.specs.declared.message.Message.{Message}
 use Rattle.vk_base.specs.declared.pid.Pid.{Pid}
-use Rattle.vk_base.specs.declared.step.Step.{Step}
 use Rattle.vk_base.specs.declared.step.Step.TheVariants as steps
 use Rattle.vk_base.proofs.OptionLemmas.{bind_is}
-use Rattle.vk_base.specs.Calls.{Effect, answered, begin_move, call_refusal, called, first_that_holds, is_at_once, new_move}
+use Rattle.vk_base.specs.Calls.{answered, begin_move, call_refusal, called, first_that_holds, is_at_once, new_move}
 unfoldable use Rattle.vk_base.specs.Calls.{copied_at_once}
 use Rattle.vk_base.specs.Kernel.{◌>>=◌, Kernel, holds_of, with_memory}
 use Rattle.vk_base.specs.Messages.{segment_of}
 use Rattle.vk_base.specs.Pids.{same_host, same_pid}
-use Rattle.vk_base.specs.Ranges.{bytes_in, lies_in, lies_within, range_of, with_bytes}
-use Rattle.vk_base.specs.Settings.{Settings}
-use Rattle.vk_base.specs.Steps.{effect, next}
+use Rattle.vk_base.specs.Ranges.{bytes_in, lies_in, range_of, with_bytes}
+use Rattle.vk_base.specs.Steps.{effect}
 use Rattle.v_laws.proofs.Tables.{same_pid_is}
-use Rattle.vk_packet.specs.Posts.{Posts}
 use Rattle.vk_procs.specs.declared.seat.Seat.{Seat}
-use Rattle.vk_procs.specs.Seats.{process_of, seat_in}
-use Rattle.vk_rules.specs.Readings.{Reading}
+use Rattle.vk_procs.specs.Seats.{seat_in}
 use Rattle.vk_stands.specs.Fit.{AreFit}
 use Rattle.vk_stands.specs.Held.{Holding, local_holding, seat_holding}
-use Rattle.vk_stands.specs.Stands.{Stands}
 use Rattle.vk_stands.specs.Tables.{Tables}
 use Rattle.vk_stands.proofs.Found.{seat_found}
 use Rattle.vk_stands.proofs.Held.{IsHeldSeat, held_seat}

@@ -1,10 +1,8 @@
 -- A receive is its right entry.
-use Rattle.std.proofs.Common.{◌≡◌, ℕ, Bool, true, false, cond, not, List, [], ◌∷◌, ◌++◌, length, map, Option, Some, None, refl, sym, ap, subst, ◌∙◌}
-use Rattle.std.specs.List.{fold}
+use Rattle.std.proofs.Common.{◌≡◌, ℕ, Bool, true, false, not, List, [], ◌∷◌, ◌++◌, length, Option, Some, None, refl, sym, ap, subst, ◌∙◌}
 use Rattle.std.specs.Option.{option_map, option_map_or}
 use Rattle.std.proofs.lemmas.Option.{none-some}
 use Rattle.vk_base.specs.declared.activity.Activity.TheVariants as activities
-use Rattle.vk_base.specs.declared.activity.Outcome.{Outcome}
 use Rattle.vk_base.specs.declared.activity.Waiting.{Waiting}
 use Rattle.vk_base.specs.declared.activity.Waiting.TheVariants as waitings
 use Rattle.vk_base.specs.declared.answer.Refusal.{Refusal}
@@ -22,9 +20,8 @@ use Rattle.vk_base.specs.declared.step.Step.TheVariants as steps
 use Rattle.vk_base.specs.Activities.{as_receive, call_of}
 use Rattle.vk_base.specs.Calls.{accepted, call_refusal, called, first_that_holds, unseen}
 use Rattle.vk_base.specs.Kernel.{◌>>=◌, Kernel, blocked_in, holds_of, with_state}
-use Rattle.vk_base.specs.Ranges.{lies_in, range_of}
 use Rattle.vk_base.specs.Settings.{Settings}
-use Rattle.vk_base.specs.Steps.{after_effect, effect, next}
+use Rattle.vk_base.specs.Steps.{after_effect, effect}
 use Rattle.v_laws.specs.Sound.{IsSoundAt}
 use Rattle.v_laws.proofs.Tables.{put_process_here}
 use Rattle.vk_packet.specs.Posts.{Posts}
@@ -38,14 +35,14 @@ unfoldable use Rattle.vk_rules.specs.Rounds.{round}
 use Rattle.vk_rules.specs.Works.{no_work}
 use Rattle.vk_stands.specs.Fit.{AreFit, may_go_on, may_wait}
 use Rattle.vk_stands.specs.Stands.{IsWaiting, Stands}
-use Rattle.vk_stands.specs.Tables.{Tables, is_work, read_alien}
+use Rattle.vk_stands.specs.Tables.{Tables, is_work}
 use Rattle.vk_stands.proofs.Doing.{CanBegin, begun_carries, begun_part}
 use Rattle.vk_stands.proofs.OneSeat.{seated}
-use Rattle.vk_stands.proofs.Parts.{Carries, Part, carries_then, part_of}
+use Rattle.vk_stands.proofs.Parts.{Part, carries_then, part_of}
 use Rattle.vk_stands.proofs.Seats.{find-changed}
 use Rattle.vk_stands.proofs.Whole.{sound_next}
 use Rattle.vk_local.specs.Access.{has_range, own_range}
-use Rattle.vk_local.specs.Calls.{after_receive, awaited, begun_by, receive_refusal, receive_steps, received, steps_of, unless}
+use Rattle.vk_local.specs.Calls.{after_receive, awaited, begun_by, receive_refusal, receive_steps, steps_of, unless}
 use Rattle.vk_local.proofs.Decided.{MayCall, receive_decided}
 use Rattle.vk_local.proofs.Rules.{IsPlayed, begun_played, more_carried, refused_makes}
 use Rattle.vk_local.proofs.Taken.{IsServed, is_served}

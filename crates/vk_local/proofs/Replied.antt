@@ -1,6 +1,5 @@
 -- The rules of replies within the station.
-use Rattle.std.proofs.Common.{◌≡◌, ℕ, Bool, true, false, cond, ◌&&◌, not, nat_le, List, [], ◌∷◌, ◌++◌, length, Option, Some, None, refl, sym, ap, subst, ◌∙◌, arith}
-use Rattle.std.specs.List.{find}
+use Rattle.std.proofs.Common.{◌≡◌, ℕ, Bool, true, false, not, List, [], ◌∷◌, ◌++◌, length, Option, Some, None, refl, sym, ap, subst, ◌∙◌, arith}
 use Rattle.std.specs.Option.{is_none, option_map, option_map_or}
 use Rattle.std.proofs.lemmas.Bool.{eqb-true, le-leb}
 use Rattle.std.proofs.lemmas.Option.{none-some}
@@ -20,27 +19,26 @@ use Rattle.vk_base.specs.declared.step.Step.TheVariants as steps
 use Rattle.vk_base.specs.Calls.{call_refusal, called, first_that_holds, replied}
 use Rattle.vk_base.specs.Firsts.{change_first}
 use Rattle.vk_base.specs.Kernel.{◌>>=◌, Kernel, held, name_of}
-use Rattle.vk_base.specs.Pids.{same_host, same_pid}
-use Rattle.vk_base.specs.Ranges.{bytes_in, lies_in, range_of}
+use Rattle.vk_base.specs.Pids.{same_host}
+use Rattle.vk_base.specs.Ranges.{lies_in, range_of}
 use Rattle.vk_base.specs.Settings.{Settings}
 use Rattle.vk_base.specs.Steps.{effect}
 use Rattle.vk_packet.specs.Posts.{Posts}
 use Rattle.vk_procs.specs.declared.seat.Seat.{Seat}
-use Rattle.vk_procs.specs.Seats.{finished, is_seat, process_of, seat_in}
+use Rattle.vk_procs.specs.Seats.{finished, is_seat, process_of}
 use Rattle.vk_rules.specs.CallOutcomes.{packets_of, steps_behind}
 use Rattle.vk_rules.specs.Readings.{Reading}
 use Rattle.vk_rules.specs.Rounds.{list_if, told_sender}
 use Rattle.vk_stands.specs.Fit.{AreFit}
-use Rattle.vk_stands.specs.Held.{Holding, local_holding}
+use Rattle.vk_stands.specs.Held.{local_holding}
 use Rattle.vk_stands.specs.Stands.{Stands}
 use Rattle.vk_stands.specs.Tables.{Tables}
 use Rattle.vk_stands.proofs.LocalReply.{answered_with, written_none}
-use Rattle.vk_stands.proofs.OneSeat.{seated}
+use Rattle.vk_stands.proofs.Seats.{change_agree}
 use Rattle.vk_local.specs.Access.{not_awaiting}
 use Rattle.vk_local.specs.Calls.{after_reply, done_by, finish_steps, replied_seats, reply_steps, unless}
 use Rattle.vk_local.specs.Done.{IsReply}
 use Rattle.vk_local.specs.Rules.{IsSeatsRule, may_call}
-use Rattle.vk_local.proofs.Copied.{changes_agree}
 use Rattle.vk_local.proofs.Decided.{MayCall, reply_decided}
 use Rattle.vk_local.proofs.ReplyRules.{IsReplied, replied_is, reply_answer, reply_fits, reply_makes}
 use Rattle.vk_local.proofs.Rules.{IsDone, refused_done, seats_rule}
@@ -79,8 +77,8 @@ module _ (c : Settings) (host : ℕ) (t : Tables) (r : Reading) (h : Stands c.ti
     lies = le-leb 0 (length x.seat.memory) (omega arith)
 
     seats_are : replied_seats t.seats to m ≡ change_first (is_seat to) (answered_with m 0 []) t.seats
-    seats_are = changes_agree (is_seat to) (finished (outcomes.Replied m)) (answered_with m 0 []) x.seat t.seats
-        (ap (finished (outcomes.Replied m)) (sym (written_none x.seat))) x.found
+    seats_are = change_agree (is_seat to) (finished (outcomes.Replied m)) (answered_with m 0 []) t.seats x.seat x.found
+        (ap (finished (outcomes.Replied m)) (sym (written_none x.seat)))
 
     accepted : IsDone c host r pid call t before out (Some outcomes.Ok) (change_first (is_seat to) (answered_with m 0 []) t.seats)
         (before ++ (steps.Call pid call ∷ steps.Finish to ∷ []))

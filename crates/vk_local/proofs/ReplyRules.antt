@@ -1,52 +1,42 @@
 -- Replies within the station are their right entries.
-use Rattle.std.proofs.Common.{◌≡◌, ℕ, Bool, true, false, cond, ◌&&◌, not, List, [], ◌∷◌, ◌++◌, length, Option, Some, None, refl, sym, ap, subst, ◌∙◌, inl}
-use Rattle.std.specs.List.{fold}
-use Rattle.std.specs.Option.{is_none, option_map, option_map_or}
-use Rattle.std.proofs.lemmas.Bool.{cond-false, eqb-true}
-use Rattle.std.proofs.lemmas.Option.{none-some}
+use Rattle.std.proofs.Common.{◌≡◌, ℕ, true, false, List, [], ◌∷◌, ◌++◌, length, Option, Some, None, refl, sym, ap, subst, ◌∙◌, inl}
+use Rattle.std.specs.Option.{is_none, option_map}
+use Rattle.std.proofs.lemmas.Bool.{eqb-true}
 use Rattle.vk_base.specs.declared.activity.Activity.TheVariants as activities
-use Rattle.vk_base.specs.declared.activity.Outcome.{Outcome}
-use Rattle.vk_base.specs.declared.activity.Outcome.TheVariants as outcomes
 use Rattle.vk_base.specs.declared.activity.Waiting.TheVariants as waitings
 use Rattle.vk_base.specs.declared.answer.Answer.TheVariants as answers
-use Rattle.vk_base.specs.declared.answer.Refusal.{Refusal}
-use Rattle.vk_base.specs.declared.answer.Refusal.TheVariants as refusals
 use Rattle.vk_base.specs.declared.call.Call.{Call}
-use Rattle.vk_base.specs.declared.call.Call.TheVariants as calls
 use Rattle.vk_base.specs.declared.event.EventAnswer.TheVariants as events_answered
 use Rattle.vk_base.specs.declared.kernel.Exchange.{Exchange}
-use Rattle.vk_base.specs.declared.kernel.Process.{Process}
 use Rattle.vk_base.specs.declared.kernel.Stage.TheVariants as stages
 use Rattle.vk_base.specs.declared.message.Message.{Message}
 use Rattle.vk_base.specs.declared.pid.Pid.{Pid}
 use Rattle.vk_base.specs.declared.step.Step.{Step}
 use Rattle.vk_base.specs.declared.step.Step.TheVariants as steps
-use Rattle.vk_base.specs.Calls.{Effect, answered, call_refusal, called, first_that_holds, replied}
-use Rattle.vk_base.specs.Firsts.{change_first}
+use Rattle.vk_base.specs.Calls.{answered, replied}
 use Rattle.vk_base.specs.Kernel.{◌>>=◌, Kernel, held, is_taken, name_of, with_stage}
-use Rattle.vk_base.specs.Pids.{same_host, same_pid}
-use Rattle.vk_base.specs.Ranges.{bytes_in, lies_in, range_of, with_bytes}
+use Rattle.vk_base.specs.Pids.{same_host}
+use Rattle.vk_base.specs.Ranges.{lies_in, range_of, with_bytes}
 use Rattle.vk_base.specs.Settings.{Settings}
 use Rattle.vk_base.specs.Steps.{after_effect, effect, next}
 use Rattle.v_laws.specs.Sound.{IsSoundAt}
 use Rattle.vk_packet.specs.Posts.{Posts}
 use Rattle.vk_procs.specs.declared.seat.Seat.{Seat}
-use Rattle.vk_procs.specs.Seats.{finished, is_seat, overwritten, process_of, seat_in, written}
-use Rattle.vk_rules.specs.CallOutcomes.{effect_answer, packets_of, reply_packets, steps_behind}
+use Rattle.vk_procs.specs.Seats.{overwritten, process_of, seat_in}
+use Rattle.vk_rules.specs.CallOutcomes.{effect_answer, packets_of, steps_behind}
 use Rattle.vk_rules.specs.Entries.{Called}
 use Rattle.vk_rules.specs.Readings.{Reading}
 use Rattle.vk_rules.specs.Right.{answer_to, right_entry}
-use Rattle.vk_rules.specs.Rounds.{list_if, told_sender}
 use Rattle.vk_stands.specs.Fit.{AreFit}
 use Rattle.vk_stands.specs.Held.{Holding, local_holding}
-use Rattle.vk_stands.specs.Rules.{Makes, given_by}
+use Rattle.vk_stands.specs.Rules.{Makes}
 use Rattle.vk_stands.specs.Stands.{Stands}
 use Rattle.vk_stands.specs.Tables.{Tables, seat_name}
 use Rattle.vk_stands.proofs.Found.{seat_found}
-use Rattle.vk_stands.proofs.Held.{IsHeldAs, IsHeldSeat, IsHolding, held_here}
+use Rattle.vk_stands.proofs.Held.{IsHolding, held_here}
 use Rattle.vk_stands.proofs.LocalReply.{answered_with, finish_next, landed, part_replied, reached_by_reply, replied_carries}
 use Rattle.vk_stands.proofs.OneSeat.{seated}
-use Rattle.vk_stands.proofs.Parts.{Carries, Part, part_of}
+use Rattle.vk_stands.proofs.Parts.{Part, part_of}
 use Rattle.vk_stands.proofs.Whole.{sound_next}
 use Rattle.vk_local.proofs.Decided.{MayCall}
 use Rattle.vk_local.proofs.Moved.{seat_of}
@@ -132,14 +122,16 @@ module _ (c : Settings) (host : ℕ) (t : Tables) (r : Reading) (h : Stands c.ti
     u = seated t to (answered_with m dest bytes)
 
     part_after : Part host u after
-    part_after = part_replied host t r.view part to there x.seat x.found pid x.message x.waits x.exchange at (inl x.taken) m dest bytes lands sound
+    part_after = part_replied host t r.view part to there x.seat x.found pid x.message x.waits x.exchange at
+        (inl x.taken) m dest bytes lands sound
 
     pub reply_makes : (before : List Step) (out : Posts) → Makes c host r (right_entry c host r (Called pid call))
         (record { tables = t; steps = before; out = out })
         (record { tables = u; steps = before ++ (steps.Call pid call ∷ steps.Finish to ∷ []); out = out })
     reply_makes before out = ok_makes c host t r h pid call before out l after (steps.Finish to ∷ []) u does (behind_is l)
         (none l) leads part_after
-        (replied_carries host t r.view part to there x.seat x.found pid x.message x.waits x.exchange at (inl x.taken) m dest bytes lands) refl
+        (replied_carries host t r.view part to there x.seat x.found pid x.message x.waits x.exchange at
+        (inl x.taken) m dest bytes lands) refl
 
     pub reply_answer : events_answered.Answered answers.Ok ≡ answer_to c host r (Called pid call)
     reply_answer = sym (ap effect_answer does)

@@ -1,5 +1,5 @@
 -- What makes a call a rule: it is refused, or answered ok without a packet.
-use Rattle.std.proofs.Common.{◌≡◌, ◌≤◌, ℕ, ◌+◌, Bool, true, false, cond, ◌&&◌, List, [], ◌∷◌, ◌++◌, map, Option, Some, None, refl, sym, ap, subst, ◌∙◌, arith}
+use Rattle.std.proofs.Common.{◌≡◌, ◌≤◌, ℕ, ◌+◌, true, List, [], ◌∷◌, ◌++◌, map, Option, Some, None, refl, sym, ap, subst, ◌∙◌, arith}
 use Rattle.std.specs.List.{fold, list_any}
 use Rattle.std.specs.Option.{option_map}
 use Rattle.std.proofs.lemmas.Bool.{and_parts}
@@ -21,16 +21,15 @@ use Rattle.vk_base.specs.declared.pid.Pid.{Pid}
 use Rattle.vk_base.specs.declared.step.Step.{Step}
 use Rattle.vk_base.specs.declared.step.Step.TheVariants as steps
 use Rattle.vk_base.specs.Activities.{state_of}
-use Rattle.vk_base.specs.Calls.{Effect, answered, call_refusal, unseen}
+use Rattle.vk_base.specs.Calls.{answered, call_refusal, unseen}
 use Rattle.vk_base.specs.Kernel.{Kernel, is_ready}
-use Rattle.vk_base.specs.Packets.{Packet}
 use Rattle.vk_base.specs.Settings.{Settings}
 use Rattle.vk_base.specs.Steps.{after_effect, effect, next}
 use Rattle.v_laws.proofs.Options.{some_that_holds}
 use Rattle.vk_packet.specs.Posts.{Posts}
 use Rattle.vk_pool.specs.declared.alien.Alien.{Alien}
 use Rattle.vk_procs.specs.declared.seat.Seat.{Seat}
-use Rattle.vk_procs.specs.Seats.{process_of, seat_in}
+use Rattle.vk_procs.specs.Seats.{seat_in}
 use Rattle.vk_rules.specs.Aliens.{is_closing}
 use Rattle.vk_rules.specs.CallOutcomes.{effect_answer, packets_of, steps_behind}
 unfoldable use Rattle.vk_rules.specs.CallOutcomes.{call_outcome}
@@ -41,10 +40,10 @@ use Rattle.vk_stands.specs.Fit.{AreFit}
 use Rattle.vk_stands.specs.Rules.{Makes, given_by, posted}
 use Rattle.vk_stands.specs.Stands.{Stands}
 use Rattle.vk_stands.specs.Tables.{Tables, read_alien}
-use Rattle.vk_stands.proofs.After.{entry_for, events_are, packets_are, reading_for}
+use Rattle.vk_stands.proofs.After.{events_are, packets_are, reading_for}
 use Rattle.vk_stands.proofs.AfterEntries.{answered_works, called_slots, called_steps, called_view}
 use Rattle.vk_stands.proofs.CallStands.{call_stands}
-use Rattle.vk_stands.proofs.Parts.{Carries, IsCarried, Part, stands_part}
+use Rattle.vk_stands.proofs.Parts.{Carries, Part, stands_part}
 use Rattle.vk_stands.proofs.Quiet.{call_refused, refused_answer}
 use Rattle.vk_local.specs.Calls.{tables_of, unless}
 use Rattle.vk_local.specs.Done.{LeavesSeats, LeavesTables}

@@ -1,14 +1,12 @@
 -- The rule of replies with bytes within the station.
-use Rattle.std.proofs.Common.{◌≡◌, ℕ, Bool, true, false, cond, ◌&&◌, not, nat_le, List, [], ◌∷◌, ◌++◌, length, Option, Some, None, refl, sym, ap, subst, ◌∙◌, arith}
-use Rattle.std.specs.List.{find}
-use Rattle.std.specs.Option.{is_none, option_map, option_map_or}
+use Rattle.std.proofs.Common.{◌≡◌, ℕ, true, false, not, List, [], ◌∷◌, ◌++◌, length, Option, Some, None, refl, sym, ap, subst, ◌∙◌}
+use Rattle.std.specs.Option.{option_map, option_map_or}
 use Rattle.std.proofs.lemmas.Bool.{cond-false, eqb-true}
 use Rattle.std.proofs.lemmas.Option.{same_Some}
 use Rattle.vk_base.specs.declared.activity.Outcome.{Outcome}
 use Rattle.vk_base.specs.declared.activity.Outcome.TheVariants as outcomes
 use Rattle.vk_base.specs.declared.answer.Answer.TheVariants as answers
 use Rattle.vk_base.specs.declared.answer.Refusal.{Refusal}
-use Rattle.vk_base.specs.declared.answer.Refusal.TheVariants as refusals
 use Rattle.vk_base.specs.declared.call.Call.{Call}
 use Rattle.vk_base.specs.declared.call.Call.TheVariants as calls
 use Rattle.vk_base.specs.declared.event.EventAnswer.TheVariants as events_answered
@@ -17,7 +15,7 @@ use Rattle.vk_base.specs.declared.message.Message.{Message}
 use Rattle.vk_base.specs.declared.pid.Pid.{Pid}
 use Rattle.vk_base.specs.declared.step.Step.{Step}
 use Rattle.vk_base.specs.declared.step.Step.TheVariants as steps
-use Rattle.vk_base.specs.Calls.{call_refusal, called, first_that_holds, replied}
+use Rattle.vk_base.specs.Calls.{call_refusal, called, replied}
 use Rattle.vk_base.specs.Firsts.{change_first}
 use Rattle.vk_base.specs.Kernel.{◌>>=◌, Kernel, held, name_of}
 use Rattle.vk_base.specs.Pids.{same_host, same_pid}
@@ -32,11 +30,10 @@ use Rattle.vk_rules.specs.CallOutcomes.{packets_of, steps_behind}
 use Rattle.vk_rules.specs.Readings.{Reading}
 use Rattle.vk_rules.specs.Rounds.{list_if, told_sender}
 use Rattle.vk_stands.specs.Fit.{AreFit}
-use Rattle.vk_stands.specs.Held.{Holding, local_holding}
 use Rattle.vk_stands.specs.Stands.{Stands}
 use Rattle.vk_stands.specs.Tables.{Tables}
 use Rattle.vk_stands.proofs.LocalReply.{answered_with}
-use Rattle.vk_stands.proofs.OneSeat.{seated}
+use Rattle.vk_stands.proofs.Seats.{change_twice}
 use Rattle.vk_local.specs.declared.access.Segment.{Segment}
 use Rattle.vk_local.specs.Access.{access_refusal}
 use Rattle.vk_local.specs.Calls.{after_reply_segment, bytes_passed, done_by, finish_steps, replied_seats, reply_access, reply_segment_steps, unless}
@@ -47,18 +44,6 @@ use Rattle.vk_local.proofs.Decided.{MayCall, segment_decided}
 use Rattle.vk_local.proofs.Moved.{IsPartner, is_held, mine_is, partner_apart, partner_is}
 use Rattle.vk_local.proofs.ReplyRules.{IsReplied, replied_is, reply_answer, reply_fits, reply_makes}
 use Rattle.vk_local.proofs.Rules.{IsDone, refused_done, seats_rule}
-
--- two changes of the one that is found
-module _ {X : Type 0} (p : X → Bool) (f g : X → X) (keeps : (x : X) → p (f x) ≡ p x) where
-  twice_by : (x : X) (xs : List X) (b : Bool) → p x ≡ b → change_first p g (change_first p f xs) ≡ change_first p (λ y. g (f y)) xs →
-      change_first p g (cond b (f x ∷ xs) (x ∷ change_first p f xs)) ≡ cond b (g (f x) ∷ xs) (x ∷ change_first p (λ y. g (f y)) xs)
-  twice_by x xs true t again = ap (λ b. cond b (g (f x) ∷ xs) (f x ∷ change_first p g xs)) (keeps x ∙ t)
-  twice_by x xs false t again =
-      ap (λ b. cond b (g x ∷ change_first p f xs) (x ∷ change_first p g (change_first p f xs))) t ∙ ap (λ ys. x ∷ ys) again
-
-  change_twice : (xs : List X) → change_first p g (change_first p f xs) ≡ change_first p (λ y. g (f y)) xs
-  change_twice [] = refl
-  change_twice (x ∷ xs) = twice_by x xs (p x) refl (change_twice xs)
 
 module _ (c : Settings) (host : ℕ) (t : Tables) (r : Reading) (h : Stands c.times host t r) (fit : AreFit host t) (pid : Pid)
     (own : pid.host ≡ host) (s : Seat) (may : MayCall t.seats pid s) (to : Pid) (near : same_host pid to ≡ true) (m : Message)

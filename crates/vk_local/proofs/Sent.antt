@@ -1,10 +1,9 @@
 -- A Send within the station is its right entry.
-use Rattle.std.proofs.Common.{◌≡◌, ◌<◌, ℕ, ◌+◌, ◌^◌, Bool, true, false, cond, ◌&&◌, not, List, [], ◌∷◌, ◌++◌, length, map, Option, Some, None, refl, sym, ap, subst, ◌∙◌, arith}
-use Rattle.std.specs.List.{fold, position}
+use Rattle.std.proofs.Common.{◌≡◌, ◌<◌, ℕ, ◌+◌, ◌^◌, Bool, true, false, not, List, [], ◌∷◌, ◌++◌, Option, Some, None, refl, sym, ap, subst, ◌∙◌, arith}
+use Rattle.std.specs.List.{position}
 use Rattle.std.specs.Option.{option_map, option_map_or}
 use Rattle.std.proofs.lemmas.Bool.{eqb-true}
 use Rattle.std.proofs.lemmas.Option.{none-some}
-use Rattle.vk_base.specs.declared.activity.Outcome.{Outcome}
 use Rattle.vk_base.specs.declared.answer.Refusal.{Refusal}
 use Rattle.vk_base.specs.declared.answer.Refusal.TheVariants as refusals
 use Rattle.vk_base.specs.declared.call.Call.{Call}
@@ -18,10 +17,9 @@ use Rattle.vk_base.specs.declared.step.Step.{Step}
 use Rattle.vk_base.specs.declared.step.Step.TheVariants as steps
 use Rattle.vk_base.specs.Calls.{call_refusal, called, first_that_holds, unseen}
 unfoldable use Rattle.vk_base.specs.Calls.{sent}
-use Rattle.vk_base.specs.Kernel.{◌>>=◌, Kernel, blocked_in, holds_of, put_process}
+use Rattle.vk_base.specs.Kernel.{◌>>=◌, Kernel, holds_of}
 use Rattle.vk_base.specs.Messages.{segment_of}
 use Rattle.vk_base.specs.Pids.{same_host}
-use Rattle.vk_base.specs.Ranges.{lies_in}
 use Rattle.vk_base.specs.Settings.{Settings}
 use Rattle.vk_base.specs.Steps.{effect}
 use Rattle.v_laws.proofs.Options.{some_that_holds}
@@ -29,10 +27,9 @@ use Rattle.v_laws.proofs.Tables.{put_process_here}
 use Rattle.vk_packet.specs.Posts.{Posts}
 use Rattle.vk_procs.specs.declared.seat.Seat.{Seat}
 use Rattle.vk_procs.specs.Seats.{begun_send, is_seat, process_of, seat_in}
-use Rattle.vk_rules.specs.Aliens.{Alien}
-use Rattle.vk_rules.specs.CallOutcomes.{packets_of, steps_behind, take_where}
+use Rattle.vk_rules.specs.CallOutcomes.{packets_of, take_where}
 use Rattle.vk_rules.specs.Readings.{Reading}
-use Rattle.vk_rules.specs.Rounds.{list_if, round_of, round_of_call, send_packets}
+use Rattle.vk_rules.specs.Rounds.{list_if, round_of, send_packets}
 unfoldable use Rattle.vk_rules.specs.Rounds.{round}
 use Rattle.vk_rules.specs.Works.{no_work}
 use Rattle.vk_stands.specs.Fit.{AreFit}

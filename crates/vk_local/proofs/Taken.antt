@@ -1,5 +1,5 @@
 -- The Take of a process, by the tables and in the view.
-use Rattle.std.proofs.Common.{◌≡◌, ℕ, ◌-◌, Bool, true, false, cond, nat_lt, List, [], ◌∷◌, map, Option, Some, None, refl, sym, ap, subst, ◌∙◌, inl, inr}
+use Rattle.std.proofs.Common.{◌≡◌, ℕ, ◌-◌, true, false, nat_lt, List, [], ◌∷◌, map, Option, Some, None, refl, sym, ap, subst, ◌∙◌, inl, inr}
 use Rattle.std.specs.List.{fold, position, slice_get}
 use Rattle.std.specs.Option.{is_some, option_map}
 use Rattle.std.proofs.lemmas.Bool.{cases_Bool, cond-true, cond-false, false_from_ne_true}
@@ -25,7 +25,7 @@ use Rattle.vk_pool.specs.Aliens as pool
 use Rattle.vk_pool.specs.Aliens.{alien_at}
 use Rattle.vk_procs.specs.declared.seat.Passed.TheVariants as gifts
 use Rattle.vk_procs.specs.declared.seat.Seat.{Seat}
-use Rattle.vk_procs.specs.Seats.{is_seat, marked_taken, passed_by, reached, seat_in}
+use Rattle.vk_procs.specs.Seats.{is_seat, marked_taken, passed_by, seat_in}
 use Rattle.vk_queue.specs.Lists.{queue_at}
 use Rattle.vk_rules.specs.CallOutcomes.{take_where}
 use Rattle.vk_rules.specs.Rounds.{list_if}

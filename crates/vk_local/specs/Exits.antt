@@ -1,18 +1,14 @@
 -- What an exit comes to, by the tables.
 use Rattle.std.specs.Prelude.{ℕ, Bool, ◌&&◌, not, List, [], ◌∷◌, filter, flat_map, map, slice_set, Option, Some, None, option_map, if◌then◌else◌}
 use Rattle.std.specs.List.{position}
-use Rattle.std.specs.Option.{option_map_or}
-use Rattle.vk_base.specs.declared.call.Call.TheVariants as calls
 use Rattle.vk_base.specs.declared.kernel.Registration.{Registration}
 use Rattle.vk_base.specs.declared.pid.Pid.{Pid}
-use Rattle.vk_base.specs.declared.step.Step.{Step}
-use Rattle.vk_base.specs.declared.step.Step.TheVariants as steps
 use Rattle.vk_base.specs.Firsts.{change_first}
 use Rattle.vk_base.specs.Kernel.{◌>>=◌, is_at_target}
 use Rattle.vk_base.specs.Packets.{Packet, Negative}
 use Rattle.vk_base.specs.Pids.{same_pid}
 use Rattle.vk_pool.specs.declared.alien.Alien.{Alien}
-use Rattle.vk_pool.specs.Aliens.{alien_at, changed_at, refused}
+use Rattle.vk_pool.specs.Aliens.{changed_at, refused}
 use Rattle.vk_procs.specs.declared.seat.Seat.{Seat}
 use Rattle.vk_procs.specs.Seats.{bereft, is_seat, killed}
 use Rattle.vk_stands.specs.Tables.{Tables, stage_of}

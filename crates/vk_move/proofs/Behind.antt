@@ -8,24 +8,9 @@ use Rattle.vk_base.specs.Firsts.{change_first}
 use Rattle.vk_base.specs.Ranges.{range_of, lies_in, with_bytes}
 use Rattle.vk_procs.specs.declared.seat.Seat.{Seat}
 use Rattle.vk_procs.specs.Seats.{is_seat, seat_in, written}
-use Rattle.vk_stands.proofs.Seats.{change_agree}
+use Rattle.vk_stands.proofs.Seats.{change_still}
 use Rattle.vk_move.specs.Moved.{place_behind, place_in}
 use Rattle.vk_move.proofs.Notes.{with_none}
-
--- a change that does nothing
-same_each : (p : Seat → Bool) (x : Seat) (xs : List Seat) (b : Bool) → change_first p (λ s. s) xs ≡ xs →
-    cond b (x ∷ xs) (x ∷ change_first p (λ s. s) xs) ≡ (x ∷ xs)
-same_each p x xs true again = refl
-same_each p x xs false again = ap (λ ys. x ∷ ys) again
-
-pub change_none : (p : Seat → Bool) (xs : List Seat) → change_first p (λ s. s) xs ≡ xs
-change_none p [] = refl
-change_none p (x ∷ xs) = same_each p x xs (p x) (change_none p xs)
-
--- the process as it is
-pub change_still : (p : Seat → Bool) (f : Seat → Seat) (s : Seat) (xs : List Seat) → find p xs ≡ Some s → f s ≡ s →
-    change_first p f xs ≡ xs
-change_still p f s xs found same = change_agree p f (λ x. x) xs s found same ∙ change_none p xs
 
 not_some : (b : Bool) (n : ℕ) → cond b (Some n) None ≡ None → b ≡ false
 not_some true n is = absurd (none-some n (sym is))

@@ -33,14 +33,11 @@ use Rattle.vk_stands.specs.Stands.{IsWorking, Stands}
 use Rattle.vk_stands.specs.Tables.{Tables}
 use Rattle.vk_stands.proofs.After.{entry_for, events_are, packets_are, reading_for, work_by}
 use Rattle.vk_stands.proofs.AfterFrames.{came_outcome, came_slots_still, came_steps, came_view, came_work, came_work_still}
-use Rattle.vk_stands.proofs.MovesEnded.{same_change}
+use Rattle.vk_stands.proofs.Seats.{change_agree}
+use Rattle.vk_stands.proofs.SentStands.{same_both}
 use Rattle.vk_stands.proofs.MovesNoted.{stands_worked, worked}
 use Rattle.vk_stands.proofs.Whole.{stands_same}
 use Rattle.vk_move.specs.Moved.{change_note, renoted}
-
-same_both : (b : Bool) (n : ℕ) → cond b n n ≡ n
-same_both true n = refl
-same_both false n = refl
 
 one_wait : (v w : Waiting) → activities.Blocked v ≡ activities.Blocked w → v ≡ w
 one_wait v w is = cc
@@ -112,7 +109,7 @@ module _ (c : Settings) (host : ℕ) (r : Reading) (h : Header) (packet : Packet
       Stands c.times host (record t { seats = change_note to g t.seats }) after
   noted_stands fit own s found waiting state tries offset fresh working g same =
       subst (λ xs. Stands c.times host (record t { seats = xs }) after)
-      (sym (same_change (is_seat to) (renoted g) (worked tries (r.now + c.times.interval) offset fresh) s t.seats found same))
+      (sym (change_agree (is_seat to) (renoted g) (worked tries (r.now + c.times.interval) offset fresh) t.seats s found same))
       (stands_worked c.times host t r stands fit to own s found tries (r.now + c.times.interval) offset fresh after
       view_same slots_same (events_are c host r (Delivered (Framed h packet))) work_other
       (λ v at work. subst (IsWorking c.times (worked tries (r.now + c.times.interval) offset fresh s) (after.work to))

@@ -28,11 +28,10 @@ use Rattle.vk_stands.specs.Tables.{Tables, seat_name}
 use Rattle.vk_stands.proofs.Found.{seat_found}
 use Rattle.vk_stands.proofs.OneSeat.{seated}
 use Rattle.vk_stands.proofs.Parts.{Carries, Part, carries_seated, part_of, same_more}
-use Rattle.vk_stands.proofs.Seats.{change_twice, find-changed}
+use Rattle.vk_stands.proofs.Seats.{change_still, change_twice, find-changed}
 use Rattle.vk_stands.proofs.SentMoves.{HasMoreMoves, moved_on, part_moved_on, part_written, with_send}
 use Rattle.vk_stands.proofs.SentSteps.{opened}
 use Rattle.vk_move.specs.Moved.{change_note, progressed, renoted}
-use Rattle.vk_move.proofs.Behind.{change_still}
 use Rattle.vk_move.proofs.Senders.{IsWaiter}
 
 module _ (times : Times) (host : ℕ) (t : Tables) (r : Reading) (h : Stands times host t r) (fit : AreFit host t) (from to : Pid)

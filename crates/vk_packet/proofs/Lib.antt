@@ -1,3 +1,4 @@
 mod Again
 mod Appended
+mod Placing
 mod Stands

@@ -1,17 +1,25 @@
 -- How an outbox keeps its packets: in the first slots, in order.
-use Rattle.std.specs.Prelude.{◌≡◌, ℕ, ◌<◌, ◌≤◌, List, length, map, take, slice_get, Some}
-use Rattle.vk_wire.specs.declared.limits.TheConstants.{PACKET_BYTES}
-use Rattle.vk_packet.specs.declared.outbox.Slot.{Slot}
+use Rattle.std.specs.Prelude.{◌≡◌, ℕ, ◌<◌, List, [], length, map, replicate, take, slice_get, Some}
+use Rattle.vk_base.specs.declared.limits.TheConstants.{HEADER_BYTES}
 
-abbrev pub post_of : Slot → ℕ × List ℕ
-post_of s = (s.to, s.bytes.items)
+-- a slot: the station that its packet is for, what stands in front of the packet, and its bytes
+pub record SlotValue : Type 0 where
+  pub to : ℕ
+  pub front : List ℕ
+  pub packet : List ℕ
 
-abbrev pub posts_of : ℕ → List Slot → List (ℕ × List ℕ)
+abbrev pub empty_slot : SlotValue
+empty_slot = record { to = 0; front = replicate HEADER_BYTES 0; packet = [] }
+
+abbrev pub front_of : SlotValue → List ℕ
+front_of s = s.front
+
+abbrev pub post_of : SlotValue → ℕ × List ℕ
+post_of s = (s.to, s.packet)
+
+abbrev pub posts_of : ℕ → List SlotValue → List (ℕ × List ℕ)
 posts_of used slots = map post_of (take used slots)
 
--- the bytes of one packet
-abbrev pub IsSized : Slot → Type 0
-IsSized s = (0 < length s.bytes.items) × (length s.bytes.items ≤ PACKET_BYTES)
-
-abbrev pub AreSized : ℕ → List Slot → Type 0
-AreSized used slots = (k : ℕ) (s : Slot) → k < used → slice_get slots k ≡ Some s → IsSized s
+-- no packet that is there is empty
+abbrev pub AreSome : ℕ → List SlotValue → Type 0
+AreSome used slots = (k : ℕ) (s : SlotValue) → k < used → slice_get slots k ≡ Some s → 0 < length s.packet

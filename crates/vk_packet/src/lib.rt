@@ -8,6 +8,7 @@ mod law;
 mod outbox;
 mod packet;
 mod reading;
+mod slot;
 mod writing;
 
 pub use law::packets_are_spelled_once;

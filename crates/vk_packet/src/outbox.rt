@@ -1,50 +1,18 @@
 //! The packets that a station posts in one event.
 
+ghost use Rattle.std.specs.Prelude.{◌≡◌, IfOk, replicate};
+ghost use Rattle.vk_packet.specs.Slots.{empty_slot};
+
 use crate::packet::PacketView;
-use crate::writing::encode;
-use arrayvec::ArrayVec;
+use crate::slot::Slot;
 use std::alloc::Global;
 use std::marker::Model;
 use vk_base::NoMemory;
-use vk_base::limits::FRAME_BYTES;
+use vk_base::limits::HEADER_BYTES;
 use vk_wire::PACKET_BYTES;
 
-/// A packet's bytes, and the station that it is for.
-#[derive(Drop)]
-struct Slot {
-    to: u16,
-    bytes: ArrayVec<u8, FRAME_BYTES>,
-}
-
-impl Slot {
-    ghost use Rattle.std.specs.Prelude.{◌≡◌, true};
-    ghost use Rattle.vk_packet.specs.Rules.{is_lawful};
-    ghost use Rattle.vk_packet.specs.Slots.{IsSized};
-    ghost use Rattle.vk_packet.specs.Spelling.{packet_bytes};
-    ghost use Rattle.vk_packet.specs.Views.{value_of};
-
-    /// A slot without a packet.
-    fn empty() -> Self {
-        Slot {
-            to: 0,
-            bytes: ArrayVec::new(),
-        }
-    }
-
-    /// Has this packet from now on.
-    fn fill(&mut self, to: u16, packet: &PacketView)
-        requires { is_lawful (value_of packet.now) ≡ true }
-        ensures to { self.new.to ≡ to }
-        ensures bytes { self.new.bytes.items ≡ packet_bytes (value_of packet.now) }
-        ensures sized { IsSized self.new }
-    {
-        self.to = to;
-        self.bytes.clear();
-        encode(packet, &mut self.bytes);
-    }
-}
-
-/// The packets of one event in the order in which they were posted, each with the station that it is for. The room for them is
+/// The packets of one event in the order in which they were posted, each with the station that it is for. In front of each place
+/// for a packet are 32 bytes, which stay until they are written: so a packet becomes a frame where it lies. The room for all is
 /// taken once, at `new`.
 #[derive(Drop)]
 pub struct Outbox {
@@ -53,32 +21,36 @@ pub struct Outbox {
 }
 
 impl Model for Outbox {
-    ghost use Rattle.std.specs.Prelude.{length, ◌≤◌, ◌<◌, ◌^◌};
+    ghost use Rattle.std.specs.Prelude.{length, map, ◌≤◌, ◌<◌, ◌^◌};
     ghost use Rattle.vk_packet.specs.Posts.{Posts};
-    ghost use Rattle.vk_packet.specs.Slots.{posts_of, AreSized};
+    ghost use Rattle.vk_packet.specs.Slots.{front_of, posts_of, AreSome};
 
     ghost Value = { Posts };
 
-    ghost view = { λ o. record { room = length o.slots.items; posts = posts_of o.used o.slots.items } };
+    ghost view = { λ o. record {
+      room = length o.slots.items;
+      fronts = map front_of o.slots.items;
+      posts = posts_of o.used o.slots.items;
+    } };
 
-    ghost invariant = { λ o. (o.used ≤ length o.slots.items) × (length o.slots.items < 2 ^ 32) × AreSized o.used o.slots.items };
+    ghost invariant = { λ o. (o.used ≤ length o.slots.items) × (length o.slots.items < 2 ^ 32) × AreSome o.used o.slots.items };
 }
 
 impl Outbox {
-    ghost use Rattle.std.specs.Prelude.{◌≡◌, ◌<◌, ◌≤◌, ◌++◌, ◌∷◌, [], true, length, slice_get, Some, IfOk};
+    ghost use Rattle.std.specs.Prelude.{◌≡◌, ◌<◌, ◌≤◌, ◌++◌, ◌∷◌, [], true, length, replicate, slice_get, slice_set, Some, IfOk};
+    ghost use Rattle.vk_packet.specs.Posts.{framed};
     ghost use Rattle.vk_packet.specs.Rules.{is_lawful};
     ghost use Rattle.vk_packet.specs.Spelling.{packet_bytes};
     ghost use Rattle.vk_packet.specs.Views.{value_of};
 
-    /// An empty outbox with room for so many packets. No other call takes memory.
+    /// An empty outbox with room for so many packets, and zeros in front of each. No other call takes memory.
     pub fn new(alloc: Global, packets: u32) -> Result<Self, NoMemory>
-        ensures { IfOk result (λ o. o ≡ record { room = packets; posts = [] }) }
+        ensures { IfOk result (λ o. o ≡ record { room = packets; fronts = replicate packets (replicate HEADER_BYTES 0); posts = [] }) }
     {
-        let mut slots = Vec::with_capacity(alloc, packets as usize)?;
-        for _ in 0..packets {
-            slots.push(Slot::empty())?;
-        }
-        Ok(Outbox { slots, used: 0 })
+        Ok(Outbox {
+            slots: empty_slots(alloc, packets)?,
+            used: 0,
+        })
     }
 
     /// Takes all packets out.
@@ -103,6 +75,7 @@ impl Outbox {
     pub fn len(&self) -> u32
         ensures count { result ≡ length self.now.posts }
         ensures room { length self.now.posts ≤ self.now.room }
+        ensures framed { length (framed self.now) ≡ length self.now.posts }
     {
         self.used
     }
@@ -115,6 +88,34 @@ impl Outbox {
         ensures few { length result.1.now ≤ PACKET_BYTES }
     {
         let slot = &self.slots[at as usize];
-        (slot.to, slot.bytes.as_slice())
+        (slot.to(), slot.packet())
     }
+
+    /// Writes these bytes in front of place number `at`, counted from 0.
+    pub fn put_front(&mut self, at: u32, front: &[u8; HEADER_BYTES])
+        requires { at < self.old.room }
+        ensures { self.new ≡ record self.old { fronts = slice_set self.old.fronts at front.now } }
+    {
+        let slot = &mut self.slots[at as usize];
+        slot.put_front(front);
+    }
+
+    /// The packet that was posted as number `at`, counted from 0, behind what stands in front of it.
+    pub fn framed(&self, at: u32) -> &[u8]
+        requires { at < length (framed self.now) }
+        ensures { slice_get (framed self.now) at ≡ Some result.now }
+    {
+        self.slots[at as usize].framed()
+    }
+}
+
+/// So many slots without a packet.
+fn empty_slots(alloc: Global, packets: u32) -> Result<Vec<Slot>, NoMemory>
+    ensures { IfOk result (λ slots. slots.items ≡ replicate packets empty_slot) }
+{
+    let mut slots = Vec::with_capacity(alloc, packets as usize)?;
+    for _ in 0..packets {
+        slots.push(Slot::empty())?;
+    }
+    Ok(slots)
 }

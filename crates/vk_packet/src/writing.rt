@@ -111,7 +111,7 @@ fn put_of_bytes(into: &mut ArrayVec<u8, FRAME_BYTES>, packet: &PacketView)
 }
 
 /// Appends the bytes, for which there is room.
-fn put(into: &mut ArrayVec<u8, FRAME_BYTES>, bytes: &[u8])
+pub fn put(into: &mut ArrayVec<u8, FRAME_BYTES>, bytes: &[u8])
     requires { array_vec_len into.old + length bytes.now ≤ FRAME_BYTES }
     ensures { into.new.items ≡ into.old.items ++ bytes.now }
 {

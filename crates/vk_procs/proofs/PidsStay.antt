@@ -56,4 +56,5 @@ pids_given (Some giver) pid what seats = pids_changed (got what giver) (got_pid 
 
 pub pids_passed : (from pid : Pid) (what : Passed) (seats : List Seat) → pids (passed from pid what seats) ≡ pids seats
 pids_passed from pid what seats =
-    pids_if (same_pid from pid) seats (passed_by (seat_in seats from) pid what seats) seats refl (pids_given (seat_in seats from) pid what seats)
+    pids_if (same_pid from pid) seats (passed_by (seat_in seats from) pid what seats) seats refl
+    (pids_given (seat_in seats from) pid what seats)

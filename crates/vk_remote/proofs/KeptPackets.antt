@@ -27,6 +27,7 @@ use Rattle.vk_pool.specs.declared.alien.Arrival.{Arrival}
 use Rattle.vk_pool.specs.Aliens.{alien_at, changed_at, new_alien, taken}
 use Rattle.vk_procs.specs.declared.seat.Passed.TheVariants as gifts
 use Rattle.vk_procs.specs.declared.seat.Seat.{Seat}
+use Rattle.vk_procs.proofs.PidsStay.{reached_pid}
 use Rattle.vk_procs.specs.Seats.{is_seat, marked_taken, memory_by, outcome_by, overwritten, passed_by, reached, reached_by, seat_in, written}
 use Rattle.vk_queue.specs.Lists.{queue_at, without}
 use Rattle.vk_timer.specs.Works.{answered}
@@ -67,29 +68,16 @@ kept_by at bytes memory false lies = refl
 same_size : (at : ℕ) (bytes memory : List ℕ) → length (overwritten at bytes memory) ≡ length memory
 same_size at bytes memory = kept_by at bytes memory (lies_in (range_of at (length bytes)) (length memory)) refl
 
-part_size : (w : Waiting) (part memory : List ℕ) → length (memory_by w part memory) ≡ length memory
-part_size (waitings.ReceiveSegment start count) part memory = same_size start (take count part) memory
-part_size (waitings.Send target m) part memory = refl
-part_size waitings.Receive part memory = refl
-part_size (waitings.MoveTo partner dest src count) part memory = refl
-part_size (waitings.MoveFrom partner dest src count) part memory = refl
-part_size (waitings.GetPid logical scope) part memory = refl
-
 fit_reached_by : (host : ℕ) (from : Pid) (m : Message) (part : List ℕ) (s : Seat) (o : Option Waiting) → IsFitSeat host s →
     IsFitSeat host (reached_by o from m part s)
 fit_reached_by host from m part s None h = h
 fit_reached_by host from m part s (Some w) h =
-    fit_idle host (record s { memory = memory_by w part s.memory }) (activities.Done w (outcome_by w from m part)) (λ v is. cc)
-    (fit_memory host s (memory_by w part s.memory) (part_size w part s.memory) h)
-
-reached_pid : (from : Pid) (m : Message) (part : List ℕ) (s : Seat) (o : Option Waiting) → (reached_by o from m part s).pid ≡ s.pid
-reached_pid from m part s None = refl
-reached_pid from m part s (Some w) = refl
+    fit_idle host s (reached_by (Some w) from m part s) refl refl refl (λ v is. cc) h
 
 fit_reached : (host : ℕ) (t : Tables) → AreFit host t → (pid from : Pid) (m : Message) (part : List ℕ) →
     AreFit host (record t { seats = change_first (is_seat pid) (reached from m part) t.seats })
 fit_reached host t fit pid from m part = fit_seated host t fit pid (reached from m part)
-    (λ s. reached_pid from m part s (receive_in s.doing))
+    (reached_pid from m part)
     (λ s at h. fit_reached_by host from m part s (receive_in s.doing) h)
 
 -- The message of a process of the station, or of an alien, is taken.

@@ -5,6 +5,9 @@ use Rattle.vk_base.specs.declared.limits.TheConstants.{STATION_PROCESSES}
 use Rattle.vk_base.specs.declared.step.Step.{Step}
 use Rattle.vk_base.specs.declared.step.Step.TheVariants as steps
 use Rattle.vk_base.specs.Packets.{Packet, Pending, Negative}
+use Rattle.vk_local.specs.Calls.{queued_by}
+-- the tables that Sends of other stations concern
+pub use Rattle.vk_local.specs.Calls.{tables_of}
 use Rattle.vk_local.specs.Takes.{front_of, served, served_steps}
 use Rattle.vk_pool.specs.declared.alien.Alien.{Alien}
 use Rattle.vk_pool.specs.declared.alien.Arrival.{Arrival}
@@ -17,14 +20,9 @@ use Rattle.vk_remote.specs.declared.row.Row.TheVariants as rows
 use Rattle.vk_remote.specs.Rows.{row_of, slot_for}
 use Rattle.vk_stands.specs.Tables.{Tables, told}
 
--- the tables that Sends of other stations concern
-abbrev pub tables_of : List Seat → List (List ℕ) → List (Option Alien) → Tables
-tables_of seats lists slots = record { seats = seats; lists = lists; slots = slots; names = [] }
-
--- a slot at the end of a list, and nowhere else
+-- the slot at the end of its target's list
 abbrev pub lined_up : List (List ℕ) → Option ℕ → ℕ → List (List ℕ)
-lined_up lists None slot = lists
-lined_up lists (Some at) slot = slice_set (map (without slot) lists) at (queue_at (map (without slot) lists) at ++ slot ∷ [])
+lined_up lists at slot = queued_by lists at (Some slot)
 
 -- The message has this slot, and waits at its target behind all others.
 abbrev pub arrived : Tables → Arrival → ℕ → Tables

@@ -8,7 +8,7 @@ use crate::entry::Place;
 use std::alloc::Global;
 use v_trace::put_answer;
 use vk_base::{EventAnswer, NoMemory};
-use vk_text::{put, put_number, write_number};
+use vk_text::{put, put_byte, put_number, write_number};
 
 /// `now TICK`
 fn write_ticked(alloc: Global, text: &mut Vec<u8>, now: u64) -> Result<(), NoMemory>
@@ -40,7 +40,7 @@ pub fn write_event(alloc: Global, text: &mut Vec<u8>, host: u16, own: u64) -> Re
     ensures front { OnErr result (Begins text.old.items text.new.items) }
 {
     put_number(alloc, text, u64::from(host))?;
-    put(text, b":")?;
+    put_byte(text, b':')?;
     put_number(alloc, text, own)
 }
 
@@ -50,9 +50,9 @@ fn write_place(alloc: Global, text: &mut Vec<u8>, place: Place) -> Result<(), No
     ensures front { OnErr result (Begins text.old.items text.new.items) }
 {
     put_number(alloc, text, place.number)?;
-    put(text, b" ")?;
+    put_byte(text, b' ')?;
     write_event(alloc, text, place.host, place.own)?;
-    put(text, b" ")
+    put_byte(text, b' ')
 }
 
 /// `N H:E ANSWER`
@@ -67,7 +67,7 @@ pub fn write_answer_line(
 {
     write_place(alloc, text, place)?;
     write_answer(alloc, text, answer)?;
-    put(text, b"\n")
+    put_byte(text, b'\n')
 }
 
 /// `N H`

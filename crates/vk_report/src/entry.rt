@@ -9,7 +9,7 @@ use crate::frame::{Emitted, write_frame_line};
 use std::alloc::Global;
 use v_trace::put_step;
 use vk_base::{Config, EventAnswer, NoMemory, Step};
-use vk_text::{put, put_head, write_number};
+use vk_text::{put, put_byte, put_head, write_number};
 
 /// What is written of a history.
 #[derive(Clone, Copy, Debug, PartialEq, Eq)]
@@ -51,7 +51,7 @@ fn write_step_line(
 {
     put(text, word)?;
     put_step(alloc, text, step)?;
-    put(text, b"\n")
+    put_byte(text, b'\n')
 }
 
 /// The steps, each on a line of its own behind this word.
@@ -164,7 +164,7 @@ fn write_end_line(alloc: Global, text: &mut Vec<u8>, counts: Counts) -> Result<(
     write_number(alloc, text, counts.events)?;
     write_number(alloc, text, counts.steps)?;
     write_number(alloc, text, counts.frames)?;
-    put(text, b"\n")
+    put_byte(text, b'\n')
 }
 
 /// Appends what stands behind the last entry: the last line of a report, nothing of a trace.

@@ -7,7 +7,7 @@ ghost use Rattle.vk_report.specs.Report.{kind_text, destination_text, frame_plac
 use crate::answer::write_event;
 use std::alloc::Global;
 use vk_base::NoMemory;
-use vk_text::{put, put_number, write_number, write_word};
+use vk_text::{put, put_byte, put_number, write_number, write_word};
 
 /// The destination of a frame that is for all stations.
 const ALL: u16 = 65_535;
@@ -81,7 +81,7 @@ fn write_frame_place(
 {
     put(text, b"frame ")?;
     write_event(alloc, text, host, own)?;
-    put(text, b".")?;
+    put_byte(text, b'.')?;
     put_number(alloc, text, u64::from(output))
 }
 
@@ -101,5 +101,5 @@ pub fn write_frame_line(
     write_destination(alloc, text, frame.destination)?;
     write_word(text, kind_word(frame.kind))?;
     write_number(alloc, text, u64::from(frame.length))?;
-    put(text, b"\n")
+    put_byte(text, b'\n')
 }

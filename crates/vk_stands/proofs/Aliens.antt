@@ -27,7 +27,8 @@ joined None = refl
 joined (Some slot) = refl
 
 -- the alien of a sender, and the slot of a new message
-pub alien_of_read : (slots : List (Option Alien)) (sender : Pid) → readings.alien_of (map read slots) sender ≡ read (alien_from slots sender)
+pub alien_of_read : (slots : List (Option Alien)) (sender : Pid) →
+    readings.alien_of (map read slots) sender ≡ read (alien_from slots sender)
 unfolding readings.alien_of
 alien_of_read slots sender =
     ap (λ o. option_flatten o) (find-mapped (readings.is_alien_of sender) (is_alien_from sender) read (of_read sender) slots)

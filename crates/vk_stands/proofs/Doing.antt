@@ -1,5 +1,5 @@
 -- Changes of one process: a receive is begun, an answer is collected, bytes are written.
-use Rattle.std.proofs.Common.{◌≡◌, ◌≤◌, ℕ, ◌+◌, true, false, List, length, Some, refl, sym, ap, subst, ◌∙◌, inl, inr}
+use Rattle.std.proofs.Common.{◌≡◌, ℕ, ◌+◌, true, false, List, length, Some, refl, sym, ap, subst, ◌∙◌, inl, inr}
 use Rattle.std.proofs.lemmas.Bool.{leb-true}
 use Rattle.vk_base.specs.declared.activity.Activity.{Activity}
 use Rattle.vk_base.specs.declared.activity.Activity.TheVariants as activities
@@ -7,7 +7,6 @@ use Rattle.vk_base.specs.declared.activity.Waiting.{Waiting}
 use Rattle.vk_base.specs.declared.activity.Waiting.TheVariants as waitings
 use Rattle.vk_base.specs.declared.call.Scope.{Scope}
 use Rattle.vk_base.specs.declared.kernel.State.TheVariants as states
-use Rattle.vk_base.specs.declared.limits.TheConstants.{MOVE_BYTES, SEGMENT_BYTES}
 use Rattle.vk_base.specs.declared.message.Message.{Message}
 use Rattle.vk_base.specs.declared.pid.Pid.{Pid}
 use Rattle.vk_base.specs.Activities.{call_of, state_of}
@@ -20,7 +19,7 @@ use Rattle.vk_procs.specs.Seats.{doing_now, process_of, seat_in}
 use Rattle.vk_stands.specs.Fit.{IsFitSeat, may_go_on, may_wait}
 use Rattle.vk_stands.specs.Stands.{IsWaiting}
 use Rattle.vk_stands.specs.Tables.{Tables, is_work}
-use Rattle.vk_stands.proofs.FitSeats.{fit_memory}
+use Rattle.vk_stands.proofs.FitSeats.{fit_idle, fit_memory}
 use Rattle.vk_stands.proofs.OneSeat.{seated}
 use Rattle.vk_stands.proofs.Parts.{Carries, Part, carries_seated, same_more}
 use Rattle.vk_stands.proofs.Process.{part_process}
@@ -33,20 +32,6 @@ Idles (activities.Done w o) = Unit {0}
 
 idle_not : (d : Activity) (w : Waiting) → Idles d → d ≡ activities.Blocked w → ⊥
 idle_not d w idles is = subst Idles is idles
-
--- A seat that differs in what it does, and waits in nothing, fits; so does one whose memory has other bytes.
-pub fit_idle : (host : ℕ) (s y : Seat) → y.pid ≡ s.pid → y.note ≡ s.note → y.part ≡ s.part → Idles y.doing → IsFitSeat host s →
-    IsFitSeat host y
-fit_idle host s y pid note part idles fit = record {
-  own = ap (λ (p : Pid). p.host) pid ∙ fit.own;
-  waits = λ w is. absurd (idle_not y.doing w idles is);
-  moves = λ w is. absurd (idle_not y.doing w idles is);
-  done = subst (λ n. n.done ≤ MOVE_BYTES) (sym note) fit.done;
-  part = λ target m is. absurd (idle_not y.doing (waitings.Send target m) idles is);
-  few = subst (λ p. length p ≤ SEGMENT_BYTES) (sym part) fit.few;
-  begun = λ target m is. absurd (idle_not y.doing (waitings.Send target m) idles is);
-  asked = λ logical scope is. absurd (idle_not y.doing (waitings.GetPid logical scope) idles is);
-}
 
 -- what a process does now, where it is ready
 pub record CanBegin (host : ℕ) (k : Kernel) (s : Seat) (w : Waiting) : Type 0 where
@@ -103,7 +88,7 @@ module _ (host : ℕ) (t : Tables) (k : Kernel) (part : Part host t k) (pid : Pi
       alive = refl;
       waits = λ v is. absurd (idle_not d v idles is);
       sends = λ e at here near is. absurd (over e.target e.message is);
-      fits = fit_idle host s (doing_now d s) refl refl refl idles;
+      fits = fit_idle host s (doing_now d s) refl refl refl (λ w is. idle_not d w idles is);
     })
 
     pub idle_carries : Carries 0 t (seated t pid (doing_now d))

@@ -5,23 +5,24 @@ use Rattle.vk_base.specs.declared.activity.Activity.TheVariants as activities
 use Rattle.vk_base.specs.declared.activity.Outcome.{Outcome}
 use Rattle.vk_base.specs.declared.activity.Waiting.{Waiting}
 use Rattle.vk_base.specs.declared.activity.Waiting.TheVariants as waitings
-use Rattle.vk_base.specs.declared.limits.TheConstants.{MOVE_BYTES}
+use Rattle.vk_base.specs.declared.limits.TheConstants.{MOVE_BYTES, SEGMENT_BYTES}
+use Rattle.vk_base.specs.declared.pid.Pid.{Pid}
 use Rattle.vk_base.specs.Activities.{done_with}
 use Rattle.vk_procs.specs.declared.seat.ProcNote.{ProcNote}
 use Rattle.vk_procs.specs.declared.seat.Seat.{Seat}
 use Rattle.vk_procs.specs.Seats.{finished}
 use Rattle.vk_stands.specs.Fit.{IsFitSeat, may_go_on, may_wait}
 
--- one that waits in nothing
-pub fit_idle : (host : ℕ) (s : Seat) (d : Activity) → ((w : Waiting) → d ≡ activities.Blocked w → ⊥) → IsFitSeat host s →
-    IsFitSeat host (record s { doing = d })
-fit_idle host s d idle h = record {
-  own = h.own;
+-- one that waits in nothing, whatever it does and has in its memory
+pub fit_idle : (host : ℕ) (s y : Seat) → y.pid ≡ s.pid → y.note ≡ s.note → y.part ≡ s.part →
+    ((w : Waiting) → y.doing ≡ activities.Blocked w → ⊥) → IsFitSeat host s → IsFitSeat host y
+fit_idle host s y pid note part idle h = record {
+  own = ap (λ (p : Pid). p.host) pid ∙ h.own;
   waits = λ w is. absurd (idle w is);
   moves = λ w is. absurd (idle w is);
-  done = h.done;
+  done = subst (λ (n : ProcNote). n.done ≤ MOVE_BYTES) (sym note) h.done;
   part = λ target m is. absurd (idle (waitings.Send target m) is);
-  few = h.few;
+  few = subst (λ bytes. length bytes ≤ SEGMENT_BYTES) (sym part) h.few;
   begun = λ target m is. absurd (idle (waitings.Send target m) is);
   asked = λ logical scope is. absurd (idle (waitings.GetPid logical scope) is);
 }
@@ -32,7 +33,7 @@ not_blocked (activities.Blocked v) o w is = cc
 not_blocked (activities.Done v old) o w is = cc
 
 pub fit_finished : (host : ℕ) (s : Seat) (o : Outcome) → IsFitSeat host s → IsFitSeat host (finished o s)
-fit_finished host s o h = fit_idle host s (done_with s.doing o) (λ w is. not_blocked s.doing o w is) h
+fit_finished host s o h = fit_idle host s (finished o s) refl refl refl (λ w is. not_blocked s.doing o w is) h
 
 -- numbers that its moves and its Sends do not rest on
 pub move_note : (a b : ProcNote) (w : Waiting) → b.moving ≡ a.moving → b.offset ≡ a.offset → may_go_on b w ≡ may_go_on a w

@@ -32,7 +32,7 @@ use Rattle.vk_procs.specs.Seats as procs
 use Rattle.vk_procs.specs.Seats.{overwritten, process_of, seat_in, written}
 use Rattle.vk_stands.specs.Fit.{IsFitSeat}
 use Rattle.vk_stands.specs.Tables.{Tables, seat_name}
-use Rattle.vk_stands.proofs.Doing.{fit_idle}
+use Rattle.vk_stands.proofs.FitSeats.{fit_idle}
 use Rattle.vk_stands.proofs.Fits.{fit_seated, placed_here, queues_seated}
 use Rattle.vk_stands.proofs.Found.{seat_found}
 use Rattle.vk_stands.proofs.OneSeat.{ChangesOne, seated, view_seated}
@@ -149,7 +149,7 @@ module _ (host : ℕ) (t : Tables) (k : Kernel) (part : Part host t k) (to : Pid
   part_replied sound = record {
     fit = fit_seated host t part.fit to f (λ z. refl)
         (λ z there. subst (λ a. IsFitSeat host a → IsFitSeat host (f a)) (same_Some s z (sym found ∙ there))
-        (subst (λ a. IsFitSeat host s → IsFitSeat host a) (sym is_y) (fit_idle host s y refl refl refl tt)));
+        (subst (λ a. IsFitSeat host s → IsFitSeat host a) (sym is_y) (fit_idle host s y refl refl refl (λ w is. cc))));
     view = view_seated host t k l part.fit part.view to own s found f (λ z. refl) (subst (ChangesOne k l to s) (sym is_y) changes);
     sound = sound;
     names = part.names;

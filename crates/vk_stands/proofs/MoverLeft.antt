@@ -78,8 +78,8 @@ module _ (t : Tables) (k : Kernel) (pid : Pid) (s : Seat) (found : seat_in t.sea
         let one : e ≡ v.exchange = same_Some e v.exchange (sym is ∙ ap k.exchanges (sym named) ∙ v.is) in
         own_kept z m direction dest count of (v.own z (ap (λ a. move_of a v.name.number) (sym one) ∙ there) (sym of.mover ∙ by))
     by_left m z (inr own) of by =
-        let same_pids : pid ≡ q =
-        sym mover ∙ sym (ap (λ (a : Move). a.mover) own) ∙ sym of.mover ∙ by ∙ (seat_found t.seats q x at).named in
+        let same_pids : pid ≡ q = sym mover ∙ sym (ap (λ (a : Move). a.mover) own) ∙ sym of.mover ∙ by
+        ∙ (seat_found t.seats q x at).named in
         let one : s ≡ x = same_Some s x (sym found ∙ ap (seat_in t.seats) same_pids ∙ at) in
         own_kept z m direction dest count of (subst (IsOwnMove direction dest count) (sym own) (same one))
 

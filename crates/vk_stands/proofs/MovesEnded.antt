@@ -1,8 +1,6 @@
 -- A move of a process of the station is over.
-use Rattle.std.proofs.Common.{◌≡◌, ℕ, ◌+◌, Bool, true, false, cond, ◌==◌, List, [], ◌∷◌, refl, ap, sym, ◌∙◌, subst, Option, Some, None}
-use Rattle.std.specs.List.{find}
+use Rattle.std.proofs.Common.{◌≡◌, ℕ, ◌+◌, Bool, true, false, cond, ◌==◌, refl, ap, sym, ◌∙◌, subst, Option, Some, None}
 use Rattle.std.specs.Option.{option_map, is_none}
-use Rattle.std.proofs.lemmas.Option.{same_Some}
 use Rattle.vk_base.specs.declared.activity.Activity.{Activity}
 use Rattle.vk_base.specs.declared.activity.Activity.TheVariants as activities
 use Rattle.vk_base.specs.declared.activity.Outcome.{Outcome}
@@ -40,19 +38,7 @@ use Rattle.vk_stands.specs.Tables.{Tables}
 use Rattle.vk_stands.proofs.Doing.{idle_part}
 use Rattle.vk_stands.proofs.OneSeat.{seated}
 use Rattle.vk_stands.proofs.Parts.{Part, carries_seated, part_of, same_more, stands_part}
-use Rattle.vk_stands.proofs.Seats.{find-changed}
-
--- changes of the first that passes, which do the same to it
-same_by : {X : Type 0} (p : X → Bool) (f g : X → X) (s x : X) (xs : List X) (b : Bool) → f s ≡ g s → cond b (Some x) (find p xs) ≡ Some s →
-    (find p xs ≡ Some s → change_first p f xs ≡ change_first p g xs) →
-    cond b (f x ∷ xs) (x ∷ change_first p f xs) ≡ cond b (g x ∷ xs) (x ∷ change_first p g xs)
-same_by p f g s x xs true same is again = let one = same_Some x s is in ap (λ y. y ∷ xs) (ap f one ∙ same ∙ ap g (sym one))
-same_by p f g s x xs false same is again = ap (λ ys. x ∷ ys) (again is)
-
-pub same_change : {X : Type 0} (p : X → Bool) (f g : X → X) (s : X) (xs : List X) → find p xs ≡ Some s → f s ≡ g s →
-    change_first p f xs ≡ change_first p g xs
-same_change p f g s [] is same = refl
-same_change p f g s (x ∷ xs) is same = same_by p f g s x xs (p x) same is (λ e. same_change p f g s xs e same)
+use Rattle.vk_stands.proofs.Seats.{change_agree, find-changed}
 
 -- A process that waits in a move.
 pub record IsInMove (s : Seat) : Type 0 where
@@ -145,7 +131,7 @@ module _ (times : Times) (host : ℕ) (t : Tables) (r : Reading) (h : Stands tim
         let ended = idle_part host t k part pid own s found d tt (no_send s m) sound in
         let never : (w : Waiting) → d ≡ activities.Blocked w → ⊥ = λ w is. cc in
         let same : change_first (is_seat pid) (finished o) t.seats ≡ change_first (is_seat pid) (done o) t.seats =
-        same_change (is_seat pid) (finished o) (done o) s t.seats found (ap (λ x. record s { doing = done_with x o }) m.state) in
+        change_agree (is_seat pid) (finished o) (done o) t.seats s found (ap (λ x. record s { doing = done_with x o }) m.state) in
         subst (λ xs. Stands times host (record t { seats = xs }) q) (sym same)
         (stands_part times host t u r q h (subst (Part host u) (sym view) ended)
         (carries_seated 1 t pid s found (done o) (λ x. refl) (same_more 1 s.note.sends) (same_more 1 s.note.lookups)

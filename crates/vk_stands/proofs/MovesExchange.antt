@@ -83,8 +83,8 @@ module _ (host : ℕ) (t : Tables) (k : Kernel) (part : Part host t k) (name : N
   sound_moved =
       let old = part.sound in
       record {
-        begun = λ n z at. let x = back n z at in let b = old.begun n x.0 x.1 in record
-            { process = b.process; is = b.is; first = b.first; last = b.last };
+        begun = λ n z at. let x = back n z at in let b = old.begun n x.0 x.1 in
+            record { process = b.process; is = b.is; first = b.first; last = b.last };
         awaited = λ n z at local near.
             let x = back n z at in
             let a = old.awaited n x.0 x.1 (ap (same_host n.sender) (sym x.2.target) ∙ local) (ap is_at_target (sym x.2.stage) ∙ near) in

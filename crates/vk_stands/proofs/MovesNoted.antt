@@ -27,7 +27,8 @@ use Rattle.vk_stands.proofs.Whole.{Beside, IsLater, same_work, stands_then, work
 
 -- the numbers of its work
 abbrev pub worked : (tries deadline offset : ℕ) (fresh : Bool) → Seat → Seat
-worked tries deadline offset fresh s = record s { note = record s.note { tries = tries; deadline = deadline; offset = offset; fresh = fresh } }
+worked tries deadline offset fresh s =
+    record s { note = record s.note { tries = tries; deadline = deadline; offset = offset; fresh = fresh } }
 
 module _ (times : Times) (host : ℕ) (t : Tables) (r : Reading) (h : Stands times host t r) (fit : AreFit host t) (pid : Pid)
     (own : pid.host ≡ host)

@@ -75,7 +75,8 @@ place_by slots s i None none is =
       lt = free.0;
       before = λ k lt. nowhere (is_alien_from s) slots k None none (omega arith);
       other = λ q f. other_free q (get_or slots i None) free.1;
-      only = λ apart j b here same. absurd (none-some j (sym none ∙ ap (λ x. position (is_alien_from x) slots) (sym same) ∙ apart j b here));
+      only = λ apart j b here same. absurd (none-some j (sym none ∙ ap (λ x. position (is_alien_from x) slots) (sym same)
+          ∙ apart j b here));
     }
 place_by slots s i (Some j) some is =
     let here = position-Some (is_alien_from s) slots i None (some ∙ is) in
@@ -157,7 +158,12 @@ never p xs e = find_at p xs ∙ past xs (position_or_len p xs) (elim (cases_Bool
 position_of : (slots : List (Option Alien)) (s : Pid) (a : Alien) (o : Option ℕ) → position (is_alien_from s) slots ≡ o →
     alien_from slots s ≡ Some a → (i : ℕ) × (o ≡ Some i) × (alien_at slots i ≡ Some a)
 position_of slots s a None none is = absurd (none-some a (sym (ap (λ o. option_flatten o) (never (is_alien_from s) slots none)) ∙ is))
-position_of slots s a (Some i) some is = (i, refl, sym (ap (λ o. option_flatten o) (find-position (is_alien_from s) slots i None some)) ∙ is)
+position_of slots s a (Some i) some is = (
+  i,
+  refl,
+  sym (ap (λ o. option_flatten o) (find-position (is_alien_from s) slots i None some))
+      ∙ is,
+)
 
 pub record IsAt (slots : List (Option Alien)) (s : Pid) (a : Alien) : Type 0 where
   pub at : ℕ

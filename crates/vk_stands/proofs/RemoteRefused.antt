@@ -38,7 +38,7 @@ use Rattle.vk_procs.specs.Seats.{finished, process_of, seat_in}
 use Rattle.vk_stands.specs.Fit.{IsFitSeat}
 use Rattle.vk_stands.specs.Stands.{IsKept}
 use Rattle.vk_stands.specs.Tables.{Tables}
-use Rattle.vk_stands.proofs.Doing.{fit_idle}
+use Rattle.vk_stands.proofs.FitSeats.{fit_idle}
 use Rattle.vk_stands.proofs.Endings.{Comes}
 use Rattle.vk_stands.proofs.Found.{alien_found, seat_found}
 use Rattle.vk_stands.proofs.OneSeat.{seated}
@@ -277,7 +277,7 @@ module _ (host : ℕ) (t : Tables) (k : Kernel) (part : Part host t k) (to : Pid
     alive = refl;
     waits = λ w blocked. absurd (over w blocked);
     sends = λ z at local near blocked. absurd (no_local z local blocked);
-    fits = λ fit. subst (IsFitSeat host) (sym is_y) (fit_idle host s y refl refl refl tt fit);
+    fits = λ fit. subst (IsFitSeat host) (sym is_y) (fit_idle host s y refl refl refl (λ w is. cc) fit);
   })
 
   pub refusal_comes : Comes host t (seated t to refused) (next (brought k (Negative from to number)) (steps.Fail to endings.NoProcess))

@@ -100,6 +100,20 @@ pub change_agree : (p : Seat → Bool) (f g : Seat → Seat) (xs : List Seat) (s
 change_agree p f g [] s is same = refl
 change_agree p f g (x ∷ xs) s is same = agree_by p f g x s xs (p x) same is (λ h. change_agree p f g xs s h same)
 
+-- a change that changes nothing
+none_by : (p : Seat → Bool) (x : Seat) (xs : List Seat) (b : Bool) → change_first p (λ s. s) xs ≡ xs →
+    cond b (x ∷ xs) (x ∷ change_first p (λ s. s) xs) ≡ x ∷ xs
+none_by p x xs true again = refl
+none_by p x xs false again = ap (λ ys. x ∷ ys) again
+
+change_none : (p : Seat → Bool) (xs : List Seat) → change_first p (λ s. s) xs ≡ xs
+change_none p [] = refl
+change_none p (x ∷ xs) = none_by p x xs (p x) (change_none p xs)
+
+pub change_still : (p : Seat → Bool) (f : Seat → Seat) (s : Seat) (xs : List Seat) → find p xs ≡ Some s → f s ≡ s →
+    change_first p f xs ≡ xs
+change_still p f s xs found same = change_agree p f (λ x. x) xs s found same ∙ change_none p xs
+
 -- two changes of one process, one after the other
 twice_by : (p : Seat → Bool) (f g : Seat → Seat) (x : Seat) (xs : List Seat) (b : Bool) → p x ≡ b → p (f x) ≡ b →
     change_first p g (change_first p f xs) ≡ change_first p (λ y. g (f y)) xs →

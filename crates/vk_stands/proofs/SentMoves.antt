@@ -101,8 +101,8 @@ module _ (host : ℕ) (t : Tables) (k : Kernel) (part : Part host t k) (pid : Pi
 
   -- exchanges
   other : (n : Name) → same_pid n.sender pid ≡ false → l.exchanges n ≡ k.exchanges n
-  other n apart = put_exchange_other k.exchanges (seat_name s) y n (ap (λ b. b && n.number == s.note.sends) (ap
-      (same_pid n.sender) named ∙ apart))
+  other n apart = put_exchange_other k.exchanges (seat_name s) y n
+      (ap (λ b. b && n.number == s.note.sends) (ap (same_pid n.sender) named ∙ apart))
 
   not_own : (q : Pid) → (q.host ≡ host → ⊥) → same_pid q pid ≡ false
   not_own q far = false_from_ne_true (same_pid q pid) (λ t1. far (ap (λ (p : Pid). p.host) (same_pid_is q pid t1) ∙ own))
@@ -270,8 +270,8 @@ module _ (host : ℕ) (t : Tables) (k : Kernel) (part : Part host t k) (pid : Pi
   }
 
   sound : IsSoundAt (λ g. false) l
-  sound = sound_onward (steps.Take pid) k l part.sound (goes_exchange (steps.Take pid) k (put_exchange k.exchanges
-      (seat_name s) y) k.lookups
+  sound = sound_onward (steps.Take pid) k l part.sound (goes_exchange (steps.Take pid) k
+      (put_exchange k.exchanges (seat_name s) y) k.lookups
       part.sound (one_exchange_changes (steps.Take pid) k (seat_name s) e y is (record {
         target = same.target;
         message = same.message;

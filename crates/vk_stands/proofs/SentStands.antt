@@ -1,6 +1,6 @@
 -- The relation after a packet of a mover came to the station of its partner, which waits in its Send: the packet is no answer to any work
 -- and sends no round.
-use Rattle.std.proofs.Common.{◌≡◌, ℕ, ◌+◌, Bool, true, false, cond, map, refl, sym, ap, subst, ◌∙◌, Option, Some, None, arith, []}
+use Rattle.std.proofs.Common.{◌≡◌, ℕ, ◌+◌, Bool, true, false, cond, [], map, refl, sym, ap, subst, ◌∙◌, Option, Some, None, arith}
 use Rattle.std.specs.List.{filter_map, list_any, sum_by}
 use Rattle.std.specs.Option.{option_map}
 use Rattle.std.proofs.lemmas.Option.{same_Some}
@@ -95,7 +95,7 @@ pub record IsPlain (to : Pid) (p : Packet) : Type 0 where
   pub answer : (q : Pid) (w : Work) (x : Option Process) → holds_of (is_answer q w p) x ≡ false
   pub receiver : (q : Pid) → is_packet_to q p ≡ same_pid q to
 
-same_both : (b : Bool) (n : ℕ) → cond b n n ≡ n
+pub same_both : (b : Bool) (n : ℕ) → cond b n n ≡ n
 same_both true n = refl
 same_both false n = refl
 
@@ -124,8 +124,8 @@ module _ (c : Settings) (host : ℕ) (r : Reading) (h : Header) (p : Packet) (ta
 
   work_here : after.work to ≡ work_by r.now false false false false (acknowledged_by (Some p)) copied (r.work to)
   work_here = came_work c host r h p taken to
-      ∙ (λ i. work_by r.now false (plain.answer to (r.work to) (r.view.procs to) i) (unsent to i) (unsent to i) (acknowledged_by
-      (Some p)) copied
+      ∙ (λ i. work_by r.now false (plain.answer to (r.work to) (r.view.procs to) i) (unsent to i) (unsent to i)
+      (acknowledged_by (Some p)) copied
       (r.work to))
 
   plus_zero : (n : ℕ) → n + 0 ≡ n

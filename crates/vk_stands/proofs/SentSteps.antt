@@ -78,8 +78,7 @@ module _ (k : Kernel) (to : Pid) (number moving : ℕ) (p : Process) (here : k.p
   -- the exchange of a move that is opened
   abbrev pub opened : Exchange → Move → Exchange
   opened e m = record e {
-    moves = slice_set e.moves (moving - 1)
-        (record m { bytes = noted_bytes m.direction p m });
+    moves = slice_set e.moves (moving - 1) (record m { bytes = noted_bytes m.direction p m });
     opened = moving;
     done = 0;
   }

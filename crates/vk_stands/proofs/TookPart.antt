@@ -33,7 +33,7 @@ use Rattle.vk_procs.specs.Seats.{is_seat, process_of, reached, reached_by, seat_
 use Rattle.vk_queue.specs.Lists.{queue_at}
 use Rattle.vk_stands.specs.Fit.{AreFit, IsFitSeat}
 use Rattle.vk_stands.specs.Tables.{Tables, names_at, slot_name}
-use Rattle.vk_stands.proofs.Doing.{fit_idle}
+use Rattle.vk_stands.proofs.FitSeats.{fit_idle}
 use Rattle.vk_stands.proofs.Fits.{fit_seated, map_all, slot_kept}
 use Rattle.vk_stands.proofs.Found.{seat_found}
 use Rattle.vk_stands.proofs.Listed.{low_place, places_apart}
@@ -142,7 +142,7 @@ module _ (host : ℕ) (t : Tables) (k : Kernel) (part : Part host t k) (pid : Pi
   took_fit =
       let fit : AreFit host (seated u pid f) = fit_seated host u g.fit pid f keeps_pid
       (λ x there. subst (λ z. IsFitSeat host z → IsFitSeat host (f z)) (same_Some s x (sym g.found ∙ there))
-      (subst (λ z. IsFitSeat host s → IsFitSeat host z) (sym is_y) (fit_idle host s y refl refl refl tt))) in
+      (subst (λ z. IsFitSeat host s → IsFitSeat host z) (sym is_y) (fit_idle host s y refl refl refl (λ w is. cc)))) in
       record {
         few = fit.few;
         lists = length-set u.lists at (drop 1 (queue_at u.lists at)) ∙ fit.lists;

@@ -127,7 +127,8 @@ pub record Stands (times : Times) (host : ℕ) (t : Tables) (r : Reading) : Type
   pub waiting : (pid : Pid) (s : Seat) (w : Waiting) → seat_in t.seats pid ≡ Some s → s.doing ≡ activities.Blocked w → IsWaiting r.view s w
   pub works : (pid : Pid) (s : Seat) (w : Waiting) → seat_in t.seats pid ≡ Some s → s.doing ≡ activities.Blocked w →
       is_work pid w ≡ true → IsWorking times s (r.work pid) w
-  pub home : (n : Name) (e : Exchange) → r.view.exchanges n ≡ Some e → e.target.host ≡ host → is_at_target e.stage ≡ true → IsHome host t n e
+  pub home : (n : Name) (e : Exchange) → r.view.exchanges n ≡ Some e → e.target.host ≡ host → is_at_target e.stage ≡ true →
+      IsHome host t n e
   pub queues : (pid : Pid) (at : ℕ) → position (is_seat pid) t.seats ≡ Some at → map Some (queue_of r.view pid) ≡ names_at t at
   pub counted : (pid : Pid) (s : Seat) → seat_in t.seats pid ≡ Some s → IsCounted r.events s
   pub moved : (sender : Pid) (a : Alien) → alien_from t.slots sender ≡ Some a → a.moves ≤ r.events

@@ -48,16 +48,16 @@ fn many_events(rt: HostRuntime) -> Result<(), Fail> {
     Ok(())
 }
 
-/// A line that is bad among or behind more events than a schedule may have: an event in line 5 that is not built, and as the one
-/// too many an event that is not built, and one of a process that is not there.
+/// A line that is bad among or behind more events than a schedule may have: a tick in line 5 of a station that is not there, and as the
+/// one too many such a tick, and an event of a process that is not there.
 #[test]
 fn bad_events(rt: HostRuntime) -> Result<(), Fail> {
     let alloc = rt.alloc();
-    let early = "vkernel 1\nprocess 1.1 64\ncollect 1.1\ncollect 1.1\ntick 1\n";
+    let early = "vkernel 1\nprocess 1.1 64\ncollect 1.1\ncollect 1.1\ntick 2\n";
     let bad = Status::BadInput { line: 5 };
     assert_eq!(rt; replayed(alloc, early, 100_000, "")?, (bad, true));
     let bad = Status::BadInput { line: 100_003 };
-    assert_eq!(rt; replayed(alloc, FRONT, 100_000, "tick 1")?, (bad, true));
+    assert_eq!(rt; replayed(alloc, FRONT, 100_000, "tick 2")?, (bad, true));
     assert_eq!(rt;
         replayed(alloc, FRONT, 100_000, "collect 1.2")?,
         (bad, true)

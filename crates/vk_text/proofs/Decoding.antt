@@ -1,11 +1,11 @@
 -- Lower-case hexadecimal, read one byte after another.
-use Rattle.std.proofs.Common.{inl, inr, ◌≡◌, ℕ, ◌+◌, ◌*◌, ◌/◌, ◌%◌, ◌<◌, ◌≤◌, List, [], ◌∷◌, ◌++◌, length, get_or, slice_index, slice_set, take, Some, refl, append_assoc, arith, ap, sym, ◌∙◌}
+use Rattle.std.proofs.Common.{inl, inr, ◌≡◌, ℕ, ◌+◌, ◌*◌, ◌/◌, ◌%◌, ◌<◌, ◌≤◌, List, [], ◌∷◌, ◌++◌, length, get_or, slice_index, slice_set, take, Option, Some, None, MatchOption, refl, append_assoc, arith, ap, sym, ◌∙◌}
 use Rattle.std.proofs.lemmas.Bool.{cases_eq}
 use Rattle.std.proofs.lemmas.Grind.{get_or-set_at}
 use Rattle.std.proofs.lemmas.List.{get_or-set_other, take_all, take_more, take_more_set}
 use Rattle.hex.specs.Hex.{lower_digits, encode_with, encode_lower, IsBytes}
 use Rattle.vk_text.proofs.HexDigits.{read_back}
-use Rattle.vk_text.specs.Words.{lower_hex}
+use Rattle.vk_text.specs.Words.{lower_hex, IsReadTo}
 
 -- two digits are those of their byte
 pub byte_shown : (high low h l : ℕ) → slice_index lower_digits h ≡ high → slice_index lower_digits l ≡ low → l < 16
@@ -23,7 +23,7 @@ pub nothing_read : encode_lower [] ≡ []
 unfolding encode_with
 nothing_read = refl
 
-encode_append : (xs ys : List ℕ) → encode_lower (xs ++ ys) ≡ encode_lower xs ++ encode_lower ys
+pub encode_append : (xs ys : List ℕ) → encode_lower (xs ++ ys) ≡ encode_lower xs ++ encode_lower ys
 unfolding encode_with
 encode_append [] ys = refl
 encode_append (x ∷ xs) ys = ap (λ l. slice_index lower_digits (x / 16) ∷ slice_index lower_digits (x % 16) ∷ l) (encode_append xs ys)
@@ -61,3 +61,22 @@ pub all_read : (word into : List ℕ) (k : ℕ) → encode_lower (take k into) �
 all_read word into k front past half even fits =
     let text : encode_lower into ≡ word = ap encode_lower (sym (take_all k into past)) ∙ front ∙ take_all (2 * k) word (omega arith) in
     ap lower_hex (sym text) ∙ read_back into fits
+
+-- one byte more of the word is read
+pub read_more : (word into : List ℕ) (at k b : ℕ) → IsReadTo word into (at + k)
+    → encode_lower (b ∷ []) ≡ get_or word (2 * (at + k)) 0 ∷ get_or word (2 * (at + k) + 1) 0 ∷ [] → b < 256 → at + k < length into
+    → 2 * (at + k) + 1 < length word → IsReadTo word (slice_set into (at + k) b) (at + (k + 1))
+read_more word into at k b read here fits less within =
+    let next : at + (k + 1) ≡ at + k + 1 = omega arith in
+    rw next (bytes_set into (at + k) b read.0 fits less, byte_more word into (at + k) b read.1 here less within)
+
+-- nothing is read yet
+pub none_read : (word into : List ℕ) → IsBytes into → IsReadTo word into 0
+none_read word into fits = (fits, nothing_read)
+
+-- all is read at the end
+pub all_at_end : {A : Type 0} (o : Option A) (word into : List ℕ) (at : ℕ)
+    → MatchOption o (lower_hex word ≡ None) (λ x. IsReadTo word into at) → length into ≤ at → length into ≡ length word / 2
+    → length word % 2 ≡ 0 → MatchOption o (lower_hex word ≡ None) (λ x. lower_hex word ≡ Some into)
+all_at_end None word into at read past half even = read
+all_at_end (Some x) word into at read past half even = all_read word into at read.1 past half even read.0

@@ -7,7 +7,9 @@ pub mod Fronts
 pub mod HeadRanges
 pub mod HeadReading
 pub mod HeadTexts
+pub mod HexBlocks
 pub mod HexDigits
+pub mod HexTables
 pub mod Hexadecimal
 pub mod LineTexts
 pub mod Messages

@@ -5,6 +5,7 @@
 #![tactic(auto)]
 
 mod call;
+mod digits;
 mod heads;
 mod law;
 mod line;
@@ -21,7 +22,7 @@ pub use next::{
     is_end, next_bytes, next_count, next_message, next_number, next_pid, next_positive, next_scope,
     next_station,
 };
-pub use spelling::{put, put_bytes, put_message, put_number, put_scope};
+pub use spelling::{put, put_byte, put_bytes, put_message, put_number, put_scope};
 pub use word::{bytes, message, number, pid, positive, scope, station};
 pub use writing::{
     put_call, put_pid, write_bytes, write_call, write_message, write_number, write_pid,

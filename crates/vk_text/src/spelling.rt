@@ -1,9 +1,11 @@
 //! Values as text, at the end of a list of bytes. A refusal changes nothing.
 
-ghost use Rattle.std.specs.Prelude.{◌≡◌, ◌==◌, ◌+◌, ◌*◌, ◌<◌, ◌≤◌, ◌++◌, length, decimal, OnOk, OnErr};
+ghost use Rattle.std.specs.Prelude.{◌≡◌, ◌==◌, ◌+◌, ◌*◌, ◌<◌, ◌≤◌, ◌++◌, [], ◌∷◌, length, decimal, OnOk, OnErr};
 ghost use Rattle.std.specs.List.{suffix_len};
-ghost use Rattle.vk_text.specs.Spelling.{bytes_text, message_text, scope_text};
+ghost use Rattle.hex.specs.Hex.{encode_lower};
+ghost use Rattle.vk_text.specs.Spelling.{Begins, bytes_text, message_text, scope_text};
 
+use crate::digits::encode;
 use itoa::Buffer;
 use std::alloc::Global;
 use vk_base::limits::DATA_BYTES;
@@ -15,6 +17,17 @@ pub fn put(into: &mut Vec<u8>, bytes: &[u8]) -> Result<(), NoMemory>
     ensures err { OnErr result (into.new.items ≡ into.old.items) }
 {
     match into.extend_from_slice(bytes) {
+        Ok(()) => Ok(()),
+        Err(_) => Err(NoMemory),
+    }
+}
+
+/// Appends one byte.
+pub fn put_byte(into: &mut Vec<u8>, byte: u8) -> Result<(), NoMemory>
+    ensures ok { OnOk result (into.new.items ≡ into.old.items ++ byte ∷ []) }
+    ensures err { OnErr result (into.new.items ≡ into.old.items) }
+{
+    match into.push(byte) {
         Ok(()) => Ok(()),
         Err(_) => Err(NoMemory),
     }
@@ -73,14 +86,12 @@ fn put_few(into: &mut Vec<u8>, bytes: &[u8]) -> Result<(), NoMemory>
     ensures err { OnErr result (into.new.items ≡ into.old.items) }
 {
     if bytes.is_empty() {
-        return put(into, b"-");
+        return put_byte(into, b'-');
     }
     let mut text = [0u8; 64];
     let len = 2 * bytes.len();
-    match hex::encode_to_slice(bytes, &mut text[..len]) {
-        Ok(()) => put(into, &text[..len]),
-        Err(_) => unreachable!(),
-    }
+    encode(bytes, &mut text[..len]);
+    put(into, &text[..len])
 }
 
 /// Appends the message: hexadecimal of the bytes up to the last that is not 0, or `-`.
@@ -93,19 +104,47 @@ pub fn put_message(_alloc: Global, into: &mut Vec<u8>, message: &Message) -> Res
     put_few(into, &message.0[..len])
 }
 
-/// Appends the hexadecimal of many bytes. Their text has a function of its own, since each call pays for room that large.
+/// The bytes of a block of text that is written at once.
+const BLOCK: usize = 128;
+
+/// Appends the hexadecimal of a block of bytes.
+fn put_block(into: &mut Vec<u8>, bytes: &[u8]) -> Result<(), NoMemory>
+    requires { length bytes.now ≤ BLOCK }
+    ensures ok { OnOk result (into.new.items ≡ into.old.items ++ encode_lower bytes.now) }
+    ensures err { OnErr result (into.new.items ≡ into.old.items) }
+{
+    let mut text = [0u8; 2 * BLOCK];
+    let len = 2 * bytes.len();
+    encode(bytes, &mut text[..len]);
+    put(into, &text[..len])
+}
+
+/// Appends the hexadecimal of all bytes, block by block. At a refusal a part may stand.
+fn write_blocks(into: &mut Vec<u8>, bytes: &[u8]) -> Result<(), NoMemory>
+    ensures ok { OnOk result (into.new.items ≡ into.old.items ++ encode_lower bytes.now) }
+    ensures front { OnErr result (Begins into.old.items into.new.items) }
+{
+    let mut left = bytes;
+    while !left.is_empty() {
+        let (block, rest) = left.split_at(left.len().min(BLOCK));
+        put_block(into, block)?;
+        left = rest;
+    }
+    Ok(())
+}
+
+/// Appends the hexadecimal of many bytes.
 fn put_many(into: &mut Vec<u8>, bytes: &[u8]) -> Result<(), NoMemory>
-    requires some { 0 < length bytes.now }
-    requires most { length bytes.now ≤ DATA_BYTES }
+    requires { 0 < length bytes.now }
     ensures ok { OnOk result (into.new.items ≡ into.old.items ++ bytes_text bytes.now) }
     ensures err { OnErr result (into.new.items ≡ into.old.items) }
 {
-    let mut text = [0u8; 2048];
-    let len = 2 * bytes.len();
-    match hex::encode_to_slice(bytes, &mut text[..len]) {
-        Ok(()) => put(into, &text[..len]),
-        Err(_) => unreachable!(),
+    let len = into.len();
+    let written = write_blocks(into, bytes);
+    if written.is_err() {
+        into.truncate(len);
     }
+    written
 }
 
 /// Appends the hexadecimal of all bytes, or `-` for none.

@@ -1,12 +1,12 @@
 //! Words and what they spell.
 
-ghost use Rattle.std.specs.Prelude.{◌≡◌, ◌==◌, ◌+◌, ◌-◌, ◌*◌, ◌/◌, ◌^◌, ◌<◌, ◌≤◌, ◌&&◌, ◌||◌, ◌∷◌, [], None, Some, false, not, IsTrue, slice_index, length, take, MatchOption, SomeIff, IfSome, option_map};
+ghost use Rattle.std.specs.Prelude.{◌≡◌, ◌==◌, ◌+◌, ◌-◌, ◌*◌, ◌/◌, ◌^◌, ◌<◌, ◌≤◌, ◌&&◌, ◌||◌, None, Some, not, IsTrue, slice_index, length, take, MatchOption, SomeIff, IfSome, option_map};
 ghost use Rattle.std.specs.Char.{is_ascii_digit};
 ghost use Rattle.std.specs.List.{list_all, prefix_len};
 ghost use Rattle.std.specs.Str.Parse.{digits_value};
-ghost use Rattle.hex.specs.Hex.{lower_digits, encode_lower};
-ghost use Rattle.vk_text.specs.Words.{number_of, positive_of, station_of, pid_of, is_lower_hex, lower_hex, padded, message_of, bytes_of, scope_of};
+ghost use Rattle.vk_text.specs.Words.{number_of, positive_of, station_of, pid_of, lower_hex, IsReadTo, padded, message_of, bytes_of, scope_of};
 
+use crate::digits::byte;
 use vk_base::limits::DATA_BYTES;
 use vk_base::{Data, Message, Pid, Scope};
 
@@ -128,28 +128,22 @@ pub fn pid(word: &[u8]) -> Option<Pid>
     Pid::new(host, local)
 }
 
-/// The value of a lower-case hexadecimal digit.
-fn digit(c: u8) -> Option<u8>
-    ensures shown { MatchOption result (is_lower_hex c ≡ false) (λ d. slice_index lower_digits d ≡ c) }
-    ensures within { IfSome result (λ d. d < 16) }
+/// Writes so many bytes more of this lower-case hexadecimal, or some of those before what is none.
+#[inline(always)]
+fn unhex_more(word: &[u8], into: &mut [u8], at: usize, count: usize) -> Option<()>
+    requires room { at + count ≤ length into.old }
+    requires half { length into.old ≡ length word.now / 2 }
+    requires front { IsReadTo word.now into.old at }
+    ensures read { MatchOption result (lower_hex word.now ≡ None) (λ _. IsReadTo word.now into.new (at + count)) }
 {
-    if c.is_ascii_digit() {
-        Some(c - b'0')
-    } else if (b'a'..=b'f').contains(&c) {
-        Some(c - b'a' + 10)
-    } else {
-        None
+    for more in 0..count {
+        let place = at + more;
+        into[place] = byte(word[2 * place], word[2 * place + 1])?;
     }
+    Some(())
 }
 
-/// The byte of two digits.
-fn byte(high: u8, low: u8) -> Option<u8>
-    ensures { MatchOption result ((is_lower_hex high && is_lower_hex low) ≡ false) (λ b. encode_lower (b ∷ []) ≡ high ∷ low ∷ []) }
-{
-    Some(digit(high)? * 16 + digit(low)?)
-}
-
-/// Writes the bytes of this lower-case hexadecimal, or some of those before what is none.
+/// Writes the bytes of this lower-case hexadecimal, or some of those before what is none. Eight are read without a loop.
 fn unhex(word: &[u8], into: &mut [u8]) -> Option<()>
     requires { length into.old ≡ length word.now / 2 }
     ensures { MatchOption result (lower_hex word.now ≡ None) (λ _. lower_hex word.now ≡ Some into.new) }
@@ -157,10 +151,13 @@ fn unhex(word: &[u8], into: &mut [u8]) -> Option<()>
     if word.len() % 2 != 0 {
         return None;
     }
-    for place in 0..into.len() {
-        into[place] = byte(word[2 * place], word[2 * place + 1])?;
+    let mut at = 0;
+    while into.len() - at >= 8 {
+        unhex_more(word, into, at, 8)?;
+        at += 8;
     }
-    Some(())
+    let left = into.len() - at;
+    unhex_more(word, into, at, left)
 }
 
 /// The bytes of this lower-case hexadecimal, at most 32, and zeros behind.

@@ -4,7 +4,7 @@
 ghost use Rattle.std.specs.Prelude.{◌≡◌, ◌≤◌, [], ◌∷◌, ◌++◌, length, codes, decimal, OnOk, OnErr};
 ghost use Rattle.vk_text.specs.Spelling.{Begins, spaced, pid_text, bytes_text, message_text, scope_text, call_text};
 
-use crate::spelling::{put, put_bytes, put_message, put_number, put_scope};
+use crate::spelling::{put, put_byte, put_bytes, put_message, put_number, put_scope};
 use std::alloc::Global;
 use vk_base::limits::DATA_BYTES;
 use vk_base::{Call, Data, Message, NoMemory, Pid, Scope};
@@ -15,7 +15,7 @@ fn write_pair(alloc: Global, into: &mut Vec<u8>, pid: Pid) -> Result<(), NoMemor
     ensures front { OnErr result (Begins into.old.items into.new.items) }
 {
     put_number(alloc, into, u64::from(pid.host))?;
-    put(into, b".")?;
+    put_byte(into, b'.')?;
     put_number(alloc, into, u64::from(pid.local))
 }
 
@@ -37,7 +37,7 @@ pub fn write_word(into: &mut Vec<u8>, word: &[u8]) -> Result<(), NoMemory>
     ensures ok { OnOk result (into.new.items ≡ into.old.items ++ 32 ∷ word.now) }
     ensures front { OnErr result (Begins into.old.items into.new.items) }
 {
-    put(into, b" ")?;
+    put_byte(into, b' ')?;
     put(into, word)
 }
 
@@ -46,7 +46,7 @@ pub fn write_number(alloc: Global, into: &mut Vec<u8>, n: u64) -> Result<(), NoM
     ensures ok { OnOk result (into.new.items ≡ into.old.items ++ 32 ∷ decimal n) }
     ensures front { OnErr result (Begins into.old.items into.new.items) }
 {
-    put(into, b" ")?;
+    put_byte(into, b' ')?;
     put_number(alloc, into, n)
 }
 
@@ -55,7 +55,7 @@ pub fn write_pid(alloc: Global, into: &mut Vec<u8>, pid: Pid) -> Result<(), NoMe
     ensures ok { OnOk result (into.new.items ≡ into.old.items ++ 32 ∷ pid_text pid) }
     ensures front { OnErr result (Begins into.old.items into.new.items) }
 {
-    put(into, b" ")?;
+    put_byte(into, b' ')?;
     write_pair(alloc, into, pid)
 }
 
@@ -64,7 +64,7 @@ pub fn write_message(alloc: Global, into: &mut Vec<u8>, message: &Message) -> Re
     ensures ok { OnOk result (into.new.items ≡ into.old.items ++ 32 ∷ message_text message.now) }
     ensures front { OnErr result (Begins into.old.items into.new.items) }
 {
-    put(into, b" ")?;
+    put_byte(into, b' ')?;
     put_message(alloc, into, message)
 }
 
@@ -74,7 +74,7 @@ pub fn write_bytes(alloc: Global, into: &mut Vec<u8>, bytes: &[u8]) -> Result<()
     ensures ok { OnOk result (into.new.items ≡ into.old.items ++ 32 ∷ bytes_text bytes.now) }
     ensures front { OnErr result (Begins into.old.items into.new.items) }
 {
-    put(into, b" ")?;
+    put_byte(into, b' ')?;
     put_bytes(alloc, into, bytes)
 }
 
@@ -83,7 +83,7 @@ pub fn write_scope(alloc: Global, into: &mut Vec<u8>, scope: Scope) -> Result<()
     ensures ok { OnOk result (into.new.items ≡ into.old.items ++ 32 ∷ scope_text scope) }
     ensures front { OnErr result (Begins into.old.items into.new.items) }
 {
-    put(into, b" ")?;
+    put_byte(into, b' ')?;
     put_scope(alloc, into, scope)
 }
 
@@ -92,7 +92,7 @@ pub fn write_call(alloc: Global, into: &mut Vec<u8>, call: &Call) -> Result<(), 
     ensures ok { OnOk result (into.new.items ≡ into.old.items ++ 32 ∷ call_text call.now) }
     ensures front { OnErr result (Begins into.old.items into.new.items) }
 {
-    put(into, b" ")?;
+    put_byte(into, b' ')?;
     write_words(alloc, into, call)
 }
 

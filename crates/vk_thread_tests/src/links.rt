@@ -4,8 +4,9 @@ ghost use Rattle.turn_cell.specs.Seats.{IsSeatOf};
 use std::alloc::Global;
 use std::test::Fail;
 use vk_base::{Config, FrameBytes, Pid, ProcessSpec, Times};
+use vk_event::LinkPlan;
 use vk_frame::{Header, seal};
-use vk_hub::{Fetched, Hub, LinkPlan};
+use vk_hub::{Fetched, Hub};
 
 // Two stations with a process each.
 fn config(alloc: Global) -> Option<Config> {

@@ -1,10 +1,11 @@
-pub mod Entries
+pub mod Endings
+pub mod Events
+pub mod Fronts
+pub mod Lefts
+pub mod Nexts
 pub mod Outcomes
-pub mod Playable
-pub mod Quiet
-pub mod Replays
+pub mod Plays
 pub mod Schedules
-pub mod Staying
 pub mod Told
 pub mod Verdicts
 pub mod WordExamples

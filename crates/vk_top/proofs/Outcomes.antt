@@ -10,9 +10,9 @@ use Rattle.vk_text.specs.Heads.{head_of}
 use Rattle.vk_text.specs.Lines.{lines_of}
 use Rattle.v_trace.specs.Traces.{behind_head}
 use Rattle.vk_top.proofs.Told.{nothing_more}
-use Rattle.vk_top.specs.Top.{Asks, IsDecided, IsEarly, IsFront, IsOverLimit, IsTold, OfInput, output_of, status_of, text_status}
+use Rattle.vk_top.specs.Top.{Asks, IsDecided, IsEarly, IsFront, IsOverLimit, OfInput, output_of, status_of, text_status}
 use Rattle.vk_top.specs.Words.{asked_of}
-use Rattle.vk_top.specs.Work.{IsAnswered, IsOutcome, IsReadCount, IsRefusal, IsUnread, IsWriteCount, IsWritten, KeepsLines}
+use Rattle.vk_top.specs.Work.{IsAnswered, IsLate, IsOutcome, IsReadCount, IsRefusal, IsUnread, IsWriteCount, IsWritten, KeepsLines}
 use Rattle.vk_top.specs.declared.status.Status.{Status}
 use Rattle.vk_top.specs.declared.status.Status.TheVariants as status
 use Rattle.vk_top.specs.declared.words.Asked.{Asked}
@@ -56,15 +56,15 @@ read_kept status.WriteFault before now other same = same
 read_kept status.NoMemory before now other same = same
 read_kept status.Limit before now other same = same
 
-pub told_count : (s : Status) (before now : ℕ) → IsTold s → now ≡ before → IsWriteCount s before now
-told_count status.Done before now told same = same
-told_count (status.NotARun step) before now told same = same
-told_count status.Usage before now told same = absurd told
-told_count (status.BadInput line) before now told same = absurd told
-told_count status.ReadFault before now told same = absurd told
-told_count status.WriteFault before now told same = absurd told
-told_count status.NoMemory before now told same = absurd told
-told_count status.Limit before now told same = absurd told
+pub late_count : (s : Status) (before now : ℕ) → IsLate s → now ≡ before → IsWriteCount s before now
+late_count status.Done before now late same = same
+late_count (status.NotARun step) before now late same = same
+late_count status.Limit before now late same = same
+late_count status.Usage before now late same = absurd late
+late_count (status.BadInput line) before now late same = absurd late
+late_count status.ReadFault before now late same = absurd late
+late_count status.WriteFault before now late same = absurd late
+late_count status.NoMemory before now late same = absurd late
 
 pub refusal_count : (a : Asked) (text : List ℕ) (s : Status) (before : ℕ) → IsRefusal a text s → IsWriteCount s before before
 refusal_count a text (status.BadInput line) before why = refl
@@ -88,20 +88,20 @@ unread_count left rest status.WriteFault before why = absurd why
 
 -- an answer behind a write is none at which nothing is written
 
-told_late : (s : Status) → IsTold s → IsEarly s → ⊥
-told_late status.Done told early = early
-told_late (status.NotARun step) told early = early
-told_late status.Usage told early = told
-told_late (status.BadInput line) told early = told
-told_late status.ReadFault told early = told
-told_late status.WriteFault told early = told
-told_late status.NoMemory told early = told
-told_late status.Limit told early = told
+late_not_early : (s : Status) → IsLate s → IsEarly s → ⊥
+late_not_early status.Done late early = early
+late_not_early (status.NotARun step) late early = early
+late_not_early status.Limit late early = early
+late_not_early status.Usage late early = late
+late_not_early (status.BadInput line) late early = late
+late_not_early status.ReadFault late early = late
+late_not_early status.WriteFault late early = late
+late_not_early status.NoMemory late early = late
 
-pub written_late : (text : List ℕ) (told : Status) (old new : Option (List ℕ)) (s : Status) → IsTold told → IsWritten text told old new s
+pub written_late : (text : List ℕ) (told : Status) (old new : Option (List ℕ)) (s : Status) → IsLate told → IsWritten text told old new s
     → IsEarly s → ⊥
-written_late text told old new s is (inl (same, written)) early = told_late told is (subst IsEarly same early)
-written_late text told old new s is (inr failed) early = subst IsEarly failed early
+written_late text told old new s late (inl (same, written)) early = late_not_early told late (subst IsEarly same early)
+written_late text told old new s late (inr failed) early = subst IsEarly failed early
 
 -- the input
 
@@ -161,9 +161,9 @@ by_text a left text s all (inl is) = subst (IsDecided a left) (sym is) tt
 by_text a left text s all (inr (inl is)) = subst (IsDecided a left) (sym is) tt
 by_text a left text s all (inr (inr is)) = decided a left s (record { input = text; all = all; holds = is })
 
-answered_is : (a : Asked) (left rest old new : Option (List ℕ)) (text : List ℕ) (s : Status) → length text ≤ 16777216
-    → IfSome left (λ i. (text ≡ i) × (rest ≡ Some [])) → IsAnswered a text old new s → IsOutcome a left rest old new s
-answered_is a left rest old new text s small read answered =
+answered_is : (Unchanged : Type 0) (a : Asked) (left rest old new : Option (List ℕ)) (text : List ℕ) (s : Status) → length text ≤ 16777216
+    → IfSome left (λ i. (text ≡ i) × (rest ≡ Some [])) → IsAnswered Unchanged a text old new s → IsOutcome Unchanged a left rest old new s
+answered_is Unchanged a left rest old new text s small read answered =
     let all = told_input left rest text read in
     record {
       kinds = answered.kinds.0;
@@ -172,6 +172,7 @@ answered_is a left rest old new text s small read answered =
       whole = λ is. told_whole left rest text read;
       bad = λ line is. record { input = text; all = all; holds = answered.bad line is };
       limit = λ is. record { input = text; all = all; holds = answered.limit is };
+      read = λ is. inr (told_whole left rest text read);
       memory = λ is. record { bytes = text; front = all_taken left rest text read; count = (kept_some a text (answered.memory is), small) };
       writing = λ is. record { input = text; all = all; holds = answered.writing is };
       complete = by_text a left text s all answered.complete;
@@ -179,10 +180,12 @@ answered_is a left rest old new text s small read answered =
     }
 
 -- the text that was read is the one that was answered to
-pub served_is : (a : Asked) (left rest old new : Option (List ℕ)) (text seen : List ℕ) (s : Status) → length text ≤ 16777216
-    → IfSome left (λ i. (text ≡ i) × (rest ≡ Some [])) → seen ≡ text → IsAnswered a seen old new s → IsOutcome a left rest old new s
-served_is a left rest old new text seen s small read same answered =
-    answered_is a left rest old new text s small read (subst (λ t. IsAnswered a t old new s) same answered)
+pub served_is : (Unchanged : Type 0) (a : Asked) (left rest old new : Option (List ℕ)) (text seen : List ℕ) (s : Status)
+    → length text ≤ 16777216
+    → IfSome left (λ i. (text ≡ i) × (rest ≡ Some [])) → seen ≡ text → IsAnswered Unchanged a seen old new s
+    → IsOutcome Unchanged a left rest old new s
+served_is Unchanged a left rest old new text seen s small read same answered =
+    answered_is Unchanged a left rest old new text s small read (subst (λ t. IsAnswered Unchanged a t old new s) same answered)
 
 over_limit : (a : Asked) (i : List ℕ) → 16777216 < length i → IsOverLimit a i
 over_limit (asked.Replay form) i many = inl many
@@ -191,48 +194,52 @@ over_limit asked.Check i many = inl many
 limit_status : (a : Asked) (i : List ℕ) → 16777216 < length i → status.Limit ≡ status_of a i
 limit_status a i many = sym (cond-true _ _ _ (lt-ltb 16777216 (length i) many))
 
-pub unread_is : (a : Asked) (left rest old : Option (List ℕ)) (s : Status) → IsUnread left rest s → IsOutcome a left rest old old s
-unread_is a left rest old status.ReadFault why = record {
+pub unread_is : (Unchanged : Type 0) (a : Asked) (left rest old : Option (List ℕ)) (s : Status) → Unchanged → IsUnread left rest s
+    → IsOutcome Unchanged a left rest old old s
+unread_is Unchanged a left rest old status.ReadFault same why = record {
   kinds = λ is. grind (arith, is);
   done = λ is. absurd (grind (arith, is));
   no = λ step is. absurd (grind (arith, is));
   whole = λ told. absurd told;
   bad = λ line is. absurd (grind (arith, is));
   limit = λ is. absurd (grind (arith, is));
+  read = λ is. absurd (grind (arith, is));
   memory = λ is. absurd (grind (arith, is));
   writing = λ is. absurd (grind (arith, is));
   complete = tt;
   front = some_input left _ (λ i. (0, nothing_more old));
 }
-unread_is a left rest old status.Limit why = record {
+unread_is Unchanged a left rest old status.Limit same why = record {
   kinds = λ is. grind (arith, is);
   done = λ is. absurd (grind (arith, is));
   no = λ step is. absurd (grind (arith, is));
   whole = λ told. absurd told;
   bad = λ line is. absurd (grind (arith, is));
-  limit = λ is. weaker left _ _ (over_limit a) (too_many left rest why);
+  limit = λ is. weaker left _ _ (λ i many. inl (over_limit a i many, same)) (too_many left rest why);
+  read = λ is. inl same;
   memory = λ is. absurd (grind (arith, is));
   writing = λ is. absurd (grind (arith, is));
   complete = weaker left _ _ (limit_status a) (too_many left rest why);
   front = some_input left _ (λ i. (0, nothing_more old));
 }
-unread_is a left rest old status.NoMemory why = record {
+unread_is Unchanged a left rest old status.NoMemory same why = record {
   kinds = λ is. grind (arith, is);
   done = λ is. absurd (grind (arith, is));
   no = λ step is. absurd (grind (arith, is));
   whole = λ told. absurd told;
   bad = λ line is. absurd (grind (arith, is));
   limit = λ is. absurd (grind (arith, is));
+  read = λ is. absurd (grind (arith, is));
   memory = λ is. why;
   writing = λ is. absurd (grind (arith, is));
   complete = tt;
   front = some_input left _ (λ i. (0, nothing_more old));
 }
-unread_is a left rest old status.Done why = absurd why
-unread_is a left rest old (status.NotARun step) why = absurd why
-unread_is a left rest old status.Usage why = absurd why
-unread_is a left rest old (status.BadInput line) why = absurd why
-unread_is a left rest old status.WriteFault why = absurd why
+unread_is Unchanged a left rest old status.Done same why = absurd why
+unread_is Unchanged a left rest old (status.NotARun step) same why = absurd why
+unread_is Unchanged a left rest old status.Usage same why = absurd why
+unread_is Unchanged a left rest old (status.BadInput line) same why = absurd why
+unread_is Unchanged a left rest old status.WriteFault same why = absurd why
 
 -- the words
 

@@ -1,25 +1,30 @@
 -- From what a text asks for to what the top call answers.
-use Rattle.std.proofs.Common.{◌≡◌, ℕ, ◌≤◌, List, [], length, take, Option, Some, None, Result, Ok, Err, ◌⊎◌, inl, inr, refl, ap, subst, sym, ◌∙◌, arith}
+use Rattle.std.proofs.Common.{◌≡◌, ℕ, ◌<◌, ◌≤◌, Bool, true, false, cond, List, [], length, take, Option, Some, None, Result, Ok, Err, ◌⊎◌, inl, inr, refl, ap, subst, sym, ◌∙◌, arith}
 use Rattle.std.specs.Io.KnownBytes.{Appends}
-use Rattle.std.proofs.lemmas.Bool.{cond-false, le-ltb}
+use Rattle.std.proofs.lemmas.Bool.{cond-false, cond-true, le-ltb}
+use Rattle.std.proofs.lemmas.List.{take_all}
 use Rattle.std.proofs.lemmas.List.{append-nil}
 use Rattle.vk_event.specs.declared.schedule.Schedule.{Schedule}
 use Rattle.vk_event.specs.declared.schedule.TextRefusal.{TextRefusal}
 use Rattle.vk_event.specs.declared.schedule.TextRefusal.TheVariants as schedules
-use Rattle.vk_event.specs.Schedule.{HasProcess}
+use Rattle.vk_event.specs.Lawful.{IsLawful}
+use Rattle.vk_event.specs.Schedule.{HasProcess, front_of, schedule_of, whole}
+use Rattle.vk_event.proofs.Lawfulness.{only_lawful}
+use Rattle.vk_event.proofs.Wanted.{bad_line}
+use Rattle.vk_rules.specs.Observed.{IsRunOf}
 use Rattle.v_trace.specs.Traces as trace_lines
 use Rattle.v_trace.specs.Traces.{trace_of}
 use Rattle.v_trace.specs.declared.trace.Trace.{Trace}
 use Rattle.v_trace.specs.declared.trace.TraceRefusal.{TraceRefusal}
 use Rattle.v_trace.specs.declared.trace.TraceRefusal.TheVariants as traces
 use Rattle.v_trace.proofs.TraceLines.{bad_behind}
-use Rattle.vk_top.proofs.Playable.{front_is_whole, is_playable, refused_behind}
-use Rattle.vk_top.proofs.Schedules.{schedule_is_run}
+use Rattle.vk_top.proofs.Fronts.{fits_all, fits_before, full_before, refused_within}
+use Rattle.vk_top.proofs.Schedules.{front_is_run}
 use Rattle.vk_top.proofs.Verdicts.{verdict_holds}
 use Rattle.vk_top.specs.Check.{IsNo, IsTooMuch, IsVerdict, IsYes, verdict_of, verdict_text}
-use Rattle.vk_top.specs.Forms.{playable_of}
-use Rattle.vk_top.specs.Top.{IsBadAt, IsDone, IsNotARun, IsOverLimit, IsReplayed, IsTold, check_output, check_status, replay_output, output_of, replay_status, status_of, text_output, text_status, verdict_status}
-use Rattle.vk_top.specs.Work.{IsAnswered, IsRefusal, KeepsLines, IsWork, IsWritten}
+use Rattle.vk_top.specs.Report.{front_text, is_cut, output_text, taken_of, written_text}
+use Rattle.vk_top.specs.Top.{HasRefused, IsBadAt, IsCut, IsCutShort, IsDone, IsNotARun, IsRefusedLate, IsReplayed, IsToWrite, IsTold, check_output, check_status, replay_output, output_of, replay_status, status_of, text_output, text_status, verdict_status}
+use Rattle.vk_top.specs.Work.{IsAnswered, IsLate, IsRefusal, KeepsLines, IsWork, IsWritten}
 use Rattle.vk_top.specs.declared.check.TraceVerdict.{TraceVerdict}
 use Rattle.vk_top.specs.declared.check.TraceVerdict.TheVariants as verdicts
 use Rattle.vk_report.specs.declared.entry.Form.{Form}
@@ -31,35 +36,68 @@ use Rattle.vk_top.specs.declared.words.Asked.TheVariants as asked
 
 -- schedules
 
+schedule_is_run : (s : Schedule) → IsLawful s → IsRunOf s.config s.events
+schedule_is_run s lawful =
+    subst (IsRunOf s.config) (take_all (length s.events) s.events (omega arith)) (front_is_run s (length s.events) lawful)
+
+-- no event of it is refused, or one is
+whole_played : (form : Form) (text : List ℕ) (old new : Option (List ℕ)) (s : Schedule) (b : Bool) → length text ≤ 16777216
+    → schedule_of text ≡ Ok s → is_cut s ≡ b → cond b status.Limit status.Done ≡ status.Done → Appends old new (written_text form s)
+    → IsReplayed form text old new
+whole_played form text old new s true small is cut done written = absurd (grind (arith, done))
+whole_played form text old new s false small is cut done written = record {
+  small = small;
+  schedule = s;
+  text = is;
+  fits = fits_all s cut;
+  output = subst (Appends old new) (cond-false (is_cut s) (front_text form (taken_of s) s) (output_text form s) cut) written;
+  run = schedule_is_run s (only_lawful text s is);
+}
+
 replayed : (form : Form) (text : List ℕ) (old new : Option (List ℕ)) (r : Result Schedule TextRefusal) → length text ≤ 16777216
-    → playable_of text ≡ r → replay_status r ≡ status.Done → Appends old new (replay_output form r) → IsReplayed form text old new
-replayed form text old new (Ok s) small is done written =
-    record {
-      small = small;
-      schedule = s;
-      text = front_is_whole text s is;
-      playable = is;
-      output = written;
-      run = schedule_is_run s (is_playable text s is).lawful;
-    }
+    → schedule_of text ≡ r → replay_status r ≡ status.Done → Appends old new (replay_output form r) → IsReplayed form text old new
+replayed form text old new (Ok s) small is done written = whole_played form text old new s (is_cut s) small is refl done written
 replayed form text old new (Err (schedules.BadInput line)) small is done written = absurd (grind (arith, done))
 replayed form text old new (Err schedules.Limit) small is done written = absurd (grind (arith, done))
 replayed form text old new (Err schedules.NoMemory) small is done written = absurd (grind (arith, done))
 
+cut_short : (form : Form) (text : List ℕ) (old new : Option (List ℕ)) → length text ≤ 16777216 → HasRefused text
+    → Appends old new (replay_output form (schedule_of text)) → IsCut form text old new
+cut_short form text old new small refused written =
+    let s = refused.schedule in
+    let front : replay_output form (schedule_of text) ≡ front_text form (taken_of s) s =
+    ap (replay_output form) refused.text
+    ∙ cond-true (is_cut s) (front_text form (taken_of s) s) (output_text form s) refused.cut in
+    record {
+      small = small;
+      schedule = s;
+      text = refused.text;
+      count = taken_of s;
+      within = refused_within s refused.cut;
+      full = full_before s refused.cut;
+      first = fits_before s;
+      output = subst (Appends old new) front written;
+      run = front_is_run s (taken_of s) (only_lawful text s refused.text);
+    }
+
+cut_not : (b : Bool) (t : Status) → cond b status.Limit status.Done ≡ t → (t ≡ status.Limit) ⊎ (t ≡ status.Done)
+cut_not true t is = inl (sym is)
+cut_not false t is = inr (sym is)
+
 replay_bad : (r : Result Schedule TextRefusal) (line : ℕ) → replay_status r ≡ status.BadInput line → r ≡ Err (schedules.BadInput line)
-replay_bad (Ok s) line is = absurd (grind (arith, is))
+replay_bad (Ok s) line is = elim (cut_not (is_cut s) (status.BadInput line) is) [
+  | inl limit ↦ absurd (grind (arith, limit))
+  | inr done ↦ absurd (grind (arith, done))
+]
 replay_bad (Err (schedules.BadInput n)) line is = grind (arith, is)
 replay_bad (Err schedules.Limit) line is = absurd (grind (arith, is))
 replay_bad (Err schedules.NoMemory) line is = absurd (grind (arith, is))
 
-replay_limit : (r : Result Schedule TextRefusal) → replay_status r ≡ status.Limit → r ≡ Err schedules.Limit
-replay_limit (Ok s) is = absurd (grind (arith, is))
-replay_limit (Err (schedules.BadInput n)) is = absurd (grind (arith, is))
-replay_limit (Err schedules.Limit) is = refl
-replay_limit (Err schedules.NoMemory) is = absurd (grind (arith, is))
-
 replay_no : (r : Result Schedule TextRefusal) (step : ℕ) → replay_status r ≡ status.NotARun step → ⊥
-replay_no (Ok s) step is = grind (arith, is)
+replay_no (Ok s) step is = elim (cut_not (is_cut s) (status.NotARun step) is) [
+  | inl limit ↦ grind (arith, limit)
+  | inr done ↦ grind (arith, done)
+]
 replay_no (Err (schedules.BadInput n)) step is = grind (arith, is)
 replay_no (Err schedules.Limit) step is = grind (arith, is)
 replay_no (Err schedules.NoMemory) step is = grind (arith, is)
@@ -119,21 +157,22 @@ check_limit text (Err traces.NoMemory) is limit = absurd (grind (arith, limit))
 
 done_is : (a : Asked) (text : List ℕ) (old new : Option (List ℕ)) → length text ≤ 16777216 → text_status a text ≡ status.Done
     → Appends old new (text_output a text) → IsDone a text old new
-done_is (asked.Replay form) text old new small done written = replayed form text old new (playable_of text) small refl done written
+done_is (asked.Replay form) text old new small done written = replayed form text old new (schedule_of text) small refl done written
 done_is asked.Check text old new small done written = check_yes text old new (trace_of text) small refl done written
 
 no_is : (a : Asked) (text : List ℕ) (old new : Option (List ℕ)) (step : ℕ) → length text ≤ 16777216
     → text_status a text ≡ status.NotARun step → Appends old new (text_output a text) → IsNotARun a text step old new
-no_is (asked.Replay form) text old new step small refused written = replay_no (playable_of text) step refused
+no_is (asked.Replay form) text old new step small refused written = replay_no (schedule_of text) step refused
 no_is asked.Check text old new step small refused written = check_no text old new step (trace_of text) small refl refused written
 
 bad_is : (a : Asked) (text : List ℕ) (line : ℕ) → length text ≤ 16777216 → text_status a text ≡ status.BadInput line → IsBadAt a text line
-bad_is (asked.Replay form) text line small is = record { small = small; bad = replay_bad (playable_of text) line is }
+bad_is (asked.Replay form) text line small is = record { small = small; bad = replay_bad (schedule_of text) line is }
 bad_is asked.Check text line small is = record { small = small; bad = check_bad (trace_of text) line is }
 
-limit_is : (a : Asked) (text : List ℕ) → text_status a text ≡ status.Limit → IsOverLimit a text
-limit_is (asked.Replay form) text is = inr (replay_limit (playable_of text) is)
-limit_is asked.Check text is = inr (check_limit text (trace_of text) refl is)
+cut_is : (a : Asked) (text : List ℕ) (old new : Option (List ℕ)) → length text ≤ 16777216 → IsRefusedLate a text
+    → Appends old new (text_output a text) → IsCutShort a text old new
+cut_is (asked.Replay form) text old new small refused written = cut_short form text old new small refused written
+cut_is asked.Check text old new small refused written = refused
 
 small_status : (a : Asked) (text : List ℕ) → length text ≤ 16777216 → text_status a text ≡ status_of a text
 small_status a text small = sym (cond-false _ _ _ (le-ltb 16777216 (length text) small))
@@ -147,9 +186,9 @@ pub nothing_more : (o : Option (List ℕ)) → Appends o o []
 nothing_more None = tt
 nothing_more (Some xs) = sym (append-nil xs)
 
-pub refused_is : (a : Asked) (text : List ℕ) (old : Option (List ℕ)) (s : Status) → length text ≤ 16777216 → IsRefusal a text s
-    → IsAnswered a text old old s
-refused_is a text old (status.BadInput line) small why = record {
+pub refused_is : (a : Asked) (text : List ℕ) (old : Option (List ℕ)) (Unchanged : Type 0) (s : Status) → Unchanged → length text ≤ 16777216
+    → IsRefusal a text s → IsAnswered Unchanged a text old old s
+refused_is a text old Unchanged (status.BadInput line) same small why = record {
   kinds = (λ is. grind (arith, is), λ is. grind (arith, is));
   done = λ is. absurd (grind (arith, is));
   no = λ step is. absurd (grind (arith, is));
@@ -160,18 +199,18 @@ refused_is a text old (status.BadInput line) small why = record {
   complete = inr (inr (sym why ∙ small_status a text small));
   front = (0, nothing_more old);
 }
-refused_is a text old status.Limit small why = record {
+refused_is a text old Unchanged status.Limit same small why = record {
   kinds = (λ is. grind (arith, is), λ is. grind (arith, is));
   done = λ is. absurd (grind (arith, is));
   no = λ step is. absurd (grind (arith, is));
   bad = λ n is. absurd (grind (arith, is));
-  limit = λ is. limit_is a text why;
+  limit = λ is. inl (why.1, same);
   memory = λ is. absurd (grind (arith, is));
   writing = λ is. absurd (grind (arith, is));
-  complete = inr (inr (sym why ∙ small_status a text small));
+  complete = inr (inr (sym why.0 ∙ small_status a text small));
   front = (0, nothing_more old);
 }
-refused_is a text old status.NoMemory small why = record {
+refused_is a text old Unchanged status.NoMemory same small why = record {
   kinds = (λ is. grind (arith, is), λ is. grind (arith, is));
   done = λ is. absurd (grind (arith, is));
   no = λ step is. absurd (grind (arith, is));
@@ -182,99 +221,113 @@ refused_is a text old status.NoMemory small why = record {
   complete = inl refl;
   front = (0, nothing_more old);
 }
-refused_is a text old status.Done small why = absurd why
-refused_is a text old (status.NotARun step) small why = absurd why
-refused_is a text old status.Usage small why = absurd why
-refused_is a text old status.ReadFault small why = absurd why
-refused_is a text old status.WriteFault small why = absurd why
+refused_is a text old Unchanged status.Done same small why = absurd why
+refused_is a text old Unchanged (status.NotARun step) same small why = absurd why
+refused_is a text old Unchanged status.Usage same small why = absurd why
+refused_is a text old Unchanged status.ReadFault same small why = absurd why
+refused_is a text old Unchanged status.WriteFault same small why = absurd why
 
--- an answer at which all is written is that of the work
-told_kinds : (s : Status) → IsTold s
-    → ¬ (s ≡ status.Usage) × ¬ (s ≡ status.ReadFault) × ¬ (s ≡ status.WriteFault) × ¬ (s ≡ status.Limit)
+-- an answer behind a write is that of the work
+late_kinds : (s : Status) → IsLate s
+    → ¬ (s ≡ status.Usage) × ¬ (s ≡ status.ReadFault) × ¬ (s ≡ status.WriteFault)
     × ((line : ℕ) → ¬ (s ≡ status.BadInput line)) × ¬ (s ≡ status.NoMemory)
-told_kinds status.Done told = (
-  λ is. grind (arith, is),
-  λ is. grind (arith, is),
-  λ is. grind (arith, is),
-  λ is. grind (arith, is),
-  λ line is. grind (arith, is),
-  λ is. grind (arith, is),
-)
-told_kinds (status.NotARun step) told = (
-  λ is. grind (arith, is),
-  λ is. grind (arith, is),
-  λ is. grind (arith, is),
-  λ is. grind (arith, is),
-  λ line is. grind (arith, is),
-  λ is. grind (arith, is),
-)
-told_kinds status.Usage told = absurd told
-told_kinds (status.BadInput line) told = absurd told
-told_kinds status.ReadFault told = absurd told
-told_kinds status.WriteFault told = absurd told
-told_kinds status.NoMemory told = absurd told
-told_kinds status.Limit told = absurd told
+late_kinds status.Done late =
+    (λ is. grind (arith, is), λ is. grind (arith, is), λ is. grind (arith, is), λ line is. grind (arith, is), λ is. grind (arith, is))
+late_kinds (status.NotARun step) late =
+    (λ is. grind (arith, is), λ is. grind (arith, is), λ is. grind (arith, is), λ line is. grind (arith, is), λ is. grind (arith, is))
+late_kinds status.Limit late =
+    (λ is. grind (arith, is), λ is. grind (arith, is), λ is. grind (arith, is), λ line is. grind (arith, is), λ is. grind (arith, is))
+late_kinds status.Usage late = absurd late
+late_kinds (status.BadInput line) late = absurd late
+late_kinds status.ReadFault late = absurd late
+late_kinds status.WriteFault late = absurd late
+late_kinds status.NoMemory late = absurd late
 
-all_written : (a : Asked) (text : List ℕ) (old new : Option (List ℕ)) (s : Status) → length text ≤ 16777216 → s ≡ text_status a text
-    → IsTold s → Appends old new (text_output a text)
-    → (n : ℕ) × Appends old new (take n (output_of (Some a) text)) → IsAnswered a text old new s
-all_written a text old new s small same told written front =
-    let other = told_kinds s told in
+late_is : (a : Asked) (text : List ℕ) (s : Status) → length text ≤ 16777216 → IsLate s → (s ≡ status.Limit → IsRefusedLate a text)
+    → s ≡ status_of a text → IsToWrite a text
+late_is a text status.Limit small late limit is = inr (small, limit refl)
+late_is a text status.Done small late limit is = inl (subst IsTold is tt)
+late_is a text (status.NotARun step) small late limit is = inl (subst IsTold is tt)
+late_is a text status.Usage small late limit is = absurd late
+late_is a text (status.BadInput line) small late limit is = absurd late
+late_is a text status.ReadFault small late limit is = absurd late
+late_is a text status.WriteFault small late limit is = absurd late
+late_is a text status.NoMemory small late limit is = absurd late
+
+all_written : (Unchanged : Type 0) (a : Asked) (text : List ℕ) (old new : Option (List ℕ)) (s : Status) → length text ≤ 16777216
+    → s ≡ text_status a text → IsLate s → (s ≡ status.Limit → IsRefusedLate a text) → Appends old new (text_output a text)
+    → (n : ℕ) × Appends old new (take n (output_of (Some a) text)) → IsAnswered Unchanged a text old new s
+all_written Unchanged a text old new s small same late limit written front =
+    let other = late_kinds s late in
     record {
       kinds = (other.0, other.1);
       done = λ is. done_is a text old new small (sym same ∙ is) written;
       no = λ step is. no_is a text old new step small (sym same ∙ is) written;
-      bad = λ line is. absurd (other.4 line is);
-      limit = λ is. absurd (other.3 is);
-      memory = λ is. absurd (other.5 is);
+      bad = λ line is. absurd (other.3 line is);
+      limit = λ is. inr (cut_is a text old new small (limit is) written);
+      memory = λ is. absurd (other.4 is);
       writing = λ is. absurd (other.2 is);
       complete = inr (inr (same ∙ small_status a text small));
       front = front;
     }
 
-failed_is : (a : Asked) (text : List ℕ) (old new : Option (List ℕ)) → IsTold (status_of a text)
-    → (n : ℕ) × Appends old new (take n (output_of (Some a) text)) → IsAnswered a text old new status.WriteFault
-failed_is a text old new told front = record {
+failed_is : (Unchanged : Type 0) (a : Asked) (text : List ℕ) (old new : Option (List ℕ)) → IsToWrite a text
+    → (n : ℕ) × Appends old new (take n (output_of (Some a) text)) → IsAnswered Unchanged a text old new status.WriteFault
+failed_is Unchanged a text old new late front = record {
   kinds = (λ is. grind (arith, is), λ is. grind (arith, is));
   done = λ is. absurd (grind (arith, is));
   no = λ step is. absurd (grind (arith, is));
   bad = λ line is. absurd (grind (arith, is));
   limit = λ is. absurd (grind (arith, is));
   memory = λ is. absurd (grind (arith, is));
-  writing = λ is. told;
+  writing = λ is. late;
   complete = inr (inl refl);
   front = front;
 }
 
-pub written_is : (a : Asked) (text : List ℕ) (w : Work) (old new : Option (List ℕ)) (s : Status) → length text ≤ 16777216 → IsWork a text w
-    → IsWritten w.text.items w.status old new s
-    → (n : ℕ) × Appends old new (take n w.text.items) → IsAnswered a text old new s
-written_is a text w old new s small work (inl (same, written)) (n, some) =
-    all_written a text old new s small (same ∙ work.status) (subst IsTold (sym same) work.told)
-    (subst (Appends old new) work.output written) (
+pub written_is : (Unchanged : Type 0) (a : Asked) (text : List ℕ) (w : Work) (old new : Option (List ℕ)) (s : Status)
+    → length text ≤ 16777216 → IsWork a text w → IsWritten w.text.items w.status old new s
+    → (n : ℕ) × Appends old new (take n w.text.items) → IsAnswered Unchanged a text old new s
+written_is Unchanged a text w old new s small work (inl (same, written)) (n, some) =
+    all_written Unchanged a text old new s small (same ∙ work.status) (subst IsLate (sym same) work.late)
+    (λ is. work.limit (sym same ∙ is)) (subst (Appends old new) work.output written) (
       n,
       subst (λ t. Appends old new (take n t)) (work.output ∙ small_output a text small) some,
     )
-written_is a text w old new s small work (inr failed) (n, some) =
-    subst (IsAnswered a text old new) (sym failed)
-    (failed_is a text old new (subst IsTold (work.status ∙ small_status a text small) work.told)
+written_is Unchanged a text w old new s small work (inr failed) (n, some) =
+    subst (IsAnswered Unchanged a text old new) (sym failed)
+    (failed_is Unchanged a text old new
+    (late_is a text w.status small work.late work.limit (work.status ∙ small_status a text small))
     (n, subst (λ t. Appends old new (take n t)) (work.output ∙ small_output a text small) some))
 
 -- where memory is wanted for a text, no line before the third is refused
 
-pub replay_wanted : (form : Form) (text : List ℕ) (e : TextRefusal) → e ≡ schedules.NoMemory
-    → ((e ≡ schedules.NoMemory) × HasProcess text) ⊎ (playable_of text ≡ Err e) → KeepsLines (asked.Replay form) text
-replay_wanted form text e is (inl h) line bad = refused_behind text line h.1 (replay_bad (playable_of text) line bad)
-replay_wanted form text e is (inr h) line bad =
-    let none : playable_of text ≡ Err (schedules.BadInput line) = replay_bad (playable_of text) line bad in cc
+refused_behind : (s : Schedule) (refused : Option TextRefusal) (line : ℕ) → whole s refused ≡ Err (schedules.BadInput line) → (text : List ℕ)
+    → HasProcess text → (front_of text).refused ≡ refused → 2 < line
+refused_behind s None line h text some is = absurd (cc)
+refused_behind s (Some why) line h text some is =
+    let same : why ≡ schedules.BadInput line = cc in bad_line text line some (is ∙ ap Some same)
 
-pub played_wanted : (form : Form) (text : List ℕ) (s : Schedule) → playable_of text ≡ Ok s → KeepsLines (asked.Replay form) text
+pub process_wanted : (form : Form) (text : List ℕ) → HasProcess text → KeepsLines (asked.Replay form) text
+process_wanted form text some line bad =
+    refused_behind (front_of text).schedule (front_of text).refused line (replay_bad (schedule_of text) line bad) text some refl
+
+pub replay_wanted : (form : Form) (text : List ℕ) (e : TextRefusal) → e ≡ schedules.NoMemory
+    → ((e ≡ schedules.NoMemory) × KeepsLines (asked.Replay form) text) ⊎ (schedule_of text ≡ Err e) → KeepsLines (asked.Replay form) text
+replay_wanted form text e is (inl h) line bad = h.1 line bad
+replay_wanted form text e is (inr h) line bad =
+    let none : schedule_of text ≡ Err (schedules.BadInput line) = replay_bad (schedule_of text) line bad in cc
+
+pub played_wanted : (form : Form) (text : List ℕ) (s : Schedule) → schedule_of text ≡ Ok s → KeepsLines (asked.Replay form) text
 played_wanted form text s h line bad =
-    let none : playable_of text ≡ Err (schedules.BadInput line) = replay_bad (playable_of text) line bad in cc
+    let none : schedule_of text ≡ Err (schedules.BadInput line) = replay_bad (schedule_of text) line bad in cc
+
+pub trace_wanted : (text : List ℕ) → trace_lines.KeepsLines text → KeepsLines asked.Check text
+trace_wanted text keeps line bad = bad_behind text line keeps (check_bad (trace_of text) line bad)
 
 pub check_wanted : (text : List ℕ) (e : TraceRefusal) → e ≡ traces.NoMemory
-    → ((e ≡ traces.NoMemory) × trace_lines.KeepsLines text) ⊎ (trace_of text ≡ Err e) → KeepsLines asked.Check text
-check_wanted text e is (inl h) line bad = bad_behind text line h.1 (check_bad (trace_of text) line bad)
+    → ((e ≡ traces.NoMemory) × KeepsLines asked.Check text) ⊎ (trace_of text ≡ Err e) → KeepsLines asked.Check text
+check_wanted text e is (inl h) line bad = h.1 line bad
 check_wanted text e is (inr h) line bad = let none : trace_of text ≡ Err (traces.BadInput line) = check_bad (trace_of text) line bad in cc
 
 pub checked_wanted : (text : List ℕ) (t : Trace) → trace_of text ≡ Ok t → KeepsLines asked.Check text
@@ -285,4 +338,53 @@ checked_wanted text t h line bad = let none : trace_of text ≡ Err (traces.BadI
 pub told_by : (text : List ℕ) (t : Trace) (v : TraceVerdict) (s : Status) → trace_of text ≡ Ok t → v ≡ verdict_of t
     → (¬ (v ≡ verdicts.TooMuch) × (s ≡ status.NoMemory)) ⊎ ((v ≡ verdicts.TooMuch) × (s ≡ status.Limit)) → IsRefusal asked.Check text s
 told_by text t v s is same (inl h) = subst (IsRefusal asked.Check text) (sym h.1) (checked_wanted text t is)
-told_by text t v s is same (inr h) = subst (IsRefusal asked.Check text) (sym h.1) (ap check_status is ∙ ap verdict_status (sym same ∙ h.0))
+told_by text t v s is same (inr h) =
+    let limit : check_status (trace_of text) ≡ status.Limit = ap check_status is ∙ ap verdict_status (sym same ∙ h.0) in
+    subst (IsRefusal asked.Check text) (sym h.1) (limit, inr (check_limit text (trace_of text) refl limit))
+
+late_by : (b : Bool) → IsLate (cond b status.Limit status.Done)
+late_by true = tt
+late_by false = tt
+
+limit_by : (b : Bool) → cond b status.Limit status.Done ≡ status.Limit → b ≡ true
+limit_by true is = refl
+limit_by false is = absurd (grind (arith, is))
+
+-- what is written of a schedule, and the answer then
+pub replay_work : (form : Form) (text : List ℕ) (w : Work) (s : Schedule) (b : Bool) → schedule_of text ≡ Ok s → b ≡ is_cut s
+    → w.text.items ≡ written_text form s → w.status ≡ cond b status.Limit status.Done → IsWork (asked.Replay form) text w
+replay_work form text w s b is cut output told = record {
+  output = output ∙ ap (replay_output form) (sym is);
+  status = told ∙ ap (λ x. cond x status.Limit status.Done) cut ∙ ap replay_status (sym is);
+  late = subst IsLate (sym told) (late_by b);
+  limit = λ limit. record { schedule = s; text = is; cut = sym cut ∙ limit_by b (sym told ∙ limit) };
+}
+
+-- what is written of a trace, and the answer then
+told_late : (s : Status) → IsTold s → IsLate s × ¬ (s ≡ status.Limit)
+told_late status.Done told = (tt, λ is. grind (arith, is))
+told_late (status.NotARun step) told = (tt, λ is. grind (arith, is))
+told_late status.Usage told = absurd told
+told_late (status.BadInput line) told = absurd told
+told_late status.ReadFault told = absurd told
+told_late status.WriteFault told = absurd told
+told_late status.NoMemory told = absurd told
+told_late status.Limit told = absurd told
+
+pub check_work : (text : List ℕ) (w : Work) (t : Trace) (v : TraceVerdict) → trace_of text ≡ Ok t → v ≡ verdict_of t
+    → (w.text.items ≡ verdict_text v) × (w.status ≡ verdict_status v) × IsTold w.status → IsWork asked.Check text w
+check_work text w t v is same told =
+    let late = told_late w.status told.2 in
+    record {
+      output = told.0 ∙ ap verdict_text same ∙ ap check_output (sym is);
+      status = told.1 ∙ ap verdict_status same ∙ ap check_status (sym is);
+      late = late.0;
+      limit = late.1;
+    }
+
+-- where there are too many events
+pub replay_limited : (form : Form) (text : List ℕ) (e : TextRefusal) → e ≡ schedules.Limit
+    → ((e ≡ schedules.NoMemory) × KeepsLines (asked.Replay form) text) ⊎ (schedule_of text ≡ Err e) → IsRefusal (asked.Replay form) text status.Limit
+replay_limited form text e is (inl h) = let none : schedules.Limit ≡ schedules.NoMemory = sym is ∙ h.0 in absurd (cc)
+replay_limited form text e is (inr h) =
+    let limit : schedule_of text ≡ Err schedules.Limit = h ∙ ap Err is in (ap replay_status limit, inr limit)

@@ -8,6 +8,7 @@ use Rattle.vk_base.specs.Steps.{effect, run}
 use Rattle.vk_base.specs.declared.config.ProcessSpec.{ProcessSpec}
 use Rattle.vk_base.specs.declared.step.Step.{Step}
 use Rattle.v_machine.specs.Apply.{most, notes}
+use Rattle.v_trace.specs.Remaining.{Remaining}
 use Rattle.v_trace.specs.Traces.{trace_of}
 use Rattle.v_trace.specs.declared.trace.Trace.{Trace}
 use Rattle.vk_top.specs.declared.check.TraceVerdict.{TraceVerdict}
@@ -77,3 +78,15 @@ pub record IsTooMuch (input : List ℕ) : Type 0 where
   pub trace : Trace
   pub text : trace_of input ≡ Ok trace
   pub holds : IsVerdict trace verdicts.TooMuch
+
+-- Of the code alone from here on: no law rests on it.
+
+-- the text is that of this trace, and so is the verdict on it
+pub record IsVerdictOf (text : List ℕ) (v : TraceVerdict) : Type 0 where
+  pub trace : Trace
+  pub spells : trace_of text ≡ Ok trace
+  pub verdict : v ≡ verdict_of trace
+
+-- how the reading ends, when no step is left
+abbrev pub ending : Remaining → Remaining
+ending r = record r { steps = [] }

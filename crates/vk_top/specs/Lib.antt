@@ -1,5 +1,4 @@
 pub mod Check
-pub mod Forms
 pub mod Playing
 pub mod Report
 pub mod Statuses

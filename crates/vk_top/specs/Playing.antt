@@ -1,76 +1,99 @@
--- Of the code alone, no law rests on it: playing a schedule on its station, one event after another.
-use Rattle.std.specs.Prelude.{◌≡◌, ℕ, ◌+◌, ◌≤◌, Bool, true, List, [], ◌∷◌, ◌++◌, flat_map, length, replicate, sum_by, None}
-use Rattle.vk_base.specs.declared.config.ProcessSpec.{ProcessSpec}
+-- Of the code alone, no law rests on it: playing a schedule on its stations, one event after another.
+use Rattle.std.specs.Prelude.{◌≡◌, ℕ, ◌+◌, ◌*◌, ◌≤◌, ◌<◌, List, [], ◌∷◌, ◌++◌, drop, length, map, take, true, Some, Ok}
 use Rattle.vk_base.specs.declared.event.EventAnswer.{EventAnswer}
-use Rattle.vk_base.specs.declared.limits.TheConstants.{STEPS}
-use Rattle.vk_base.specs.declared.pid.Pid.{Pid}
-use Rattle.vk_base.specs.declared.step.Step.{Step}
+use Rattle.vk_base.specs.declared.limits.TheConstants.{EVENTS, STEPS}
 use Rattle.vk_base.specs.Settings.{Settings}
+use Rattle.vk_cluster.specs.declared.emitted.TheConstants.{EVENT_FRAMES}
+use Rattle.vk_cluster.specs.declared.report.StepReport.{StepReport}
+use Rattle.vk_cluster.specs.Standing.{IsNext, StandsFor, emitted_bytes, logs_of}
+use Rattle.vk_cluster.specs.Values.{ClusterValue}
 use Rattle.vk_event.specs.declared.event.Event.{Event}
-use Rattle.vk_event.specs.declared.event.Event.TheVariants as events
+use Rattle.vk_event.specs.declared.schedule.Front.{Front}
+use Rattle.vk_event.specs.declared.schedule.Schedule.{Schedule}
+use Rattle.vk_event.specs.Schedule.{schedule_of}
+use Rattle.vk_event.specs.Lawful.{has_actors}
+use Rattle.vk_host.specs.Sealed.{sealed}
+use Rattle.vk_host.specs.Standing.{Shows}
+use Rattle.vk_host.specs.Values.{StationValue}
 use Rattle.vk_report.specs.declared.entry.Counts.{Counts}
 use Rattle.vk_report.specs.declared.entry.Form.{Form}
-use Rattle.vk_report.specs.Histories.{told_lines}
-use Rattle.vk_report.specs.Report.{end_lines, entry_lines}
+use Rattle.vk_report.specs.declared.entry.Place.{Place}
+use Rattle.vk_report.specs.Histories.{Told, told_lines}
+use Rattle.vk_rules.specs.Each.{Each}
 use Rattle.vk_rules.specs.Entries.{Entry}
-use Rattle.vk_rules.specs.Histories.{Logs, Happened, happened, logs_after}
-use Rattle.vk_rules.specs.Observed.{all_steps, steps_in}
-use Rattle.vk_rules.specs.Readings.{reading}
-use Rattle.vk_host.specs.Standing.{IsAt}
-use Rattle.vk_host.specs.Values.{StationValue, has}
-use Rattle.vk_top.specs.Report.{frame_count, told_from, told_of}
+use Rattle.vk_rules.specs.Frames.{Frame}
+use Rattle.vk_rules.specs.Histories.{Happened, happened, history}
+use Rattle.vk_rules.specs.Observed.{steps_in}
+use Rattle.v_lawful.specs.Sending.{IsLawfulFrame}
+use Rattle.vk_top.specs.Report.{counts_of, emitted_of, frame_count, front_text, history_before, is_cut, taken_from, taken_of, told_of, written_text}
+use Rattle.vk_top.specs.declared.replay.Written.{Written}
 
--- the process whose event it is is one of the station
-abbrev pub is_own : StationValue → Event → Bool
-is_own s (events.Call pid call) = has s pid
-is_own s (events.Collect pid) = has s pid
-is_own s e = true
+-- the frames of the station's last event are these, which are lawful, and not too many
+pub record Sends (s : StationValue) (fs : List Frame) : Type 0 where
+  pub frames : s.frames ≡ map sealed fs
+  pub lawful : Each IsLawfulFrame fs
+  pub few : length fs ≤ EVENT_FRAMES
 
--- the station of the processes; with none there is no event, and no line that names it
-abbrev pub station_of : List ProcessSpec → ℕ
-station_of [] = 0
-station_of (s ∷ ss) = s.pid.host
+-- the station's last event is this entry, and was answered so
+pub record IsLast (s : StationValue) (answer : EventAnswer) (e : Entry) : Type 0 where
+  pub shows : Shows s answer e
+  pub sends : Sends s e.frames
 
--- the lines of event n of a station that is alone: the schedule's number of it is the station's
-abbrev pub event_lines : Form → ℕ → ℕ → EventAnswer → List Step → List ℕ
-event_lines form host n answer steps = entry_lines form (record { number = n; host = host; own = n }) answer steps
+-- what is told of an entry at this place
+abbrev pub told_entry : Place → Entry → Told
+told_entry place e = record { place = place; answer = Some e.answer; steps = e.steps; frames = map emitted_of e.frames }
 
--- what is written behind the last event; such a station emits no frame
-abbrev pub end_line : Form → ℕ → ℕ → List ℕ
-end_line form events steps = end_lines form (record { events = events; steps = steps; frames = 0 })
+-- before one event more
+pub record AreFew (c : Counts) : Type 0 where
+  pub events : c.events < EVENTS
+  pub steps : c.steps ≤ STEPS * c.events
+  pub frames : c.frames ≤ EVENT_FRAMES * c.events
 
--- how much there is of each, behind n events that had k steps and no frame
-abbrev pub counts_behind : ℕ → ℕ → List Happened → Counts
-counts_behind n k hs = record { events = n + length hs; steps = k + length (all_steps hs); frames = sum_by frame_count hs }
+-- the counts with what happened at one event more
+abbrev pub counts_after : Counts → Happened → Counts
+counts_after c h = record { events = c.events + 1; steps = c.steps + length (steps_in h); frames = c.frames + frame_count h }
 
--- what is written of what happens behind these
-abbrev pub lines_behind : Form → ℕ → ℕ → List Happened → List ℕ
-lines_behind form n k hs = flat_map (told_lines form) (told_from n hs) ++ end_lines form (counts_behind n k hs)
+-- the cluster reports so of this event, which is behind these and of a process or of stations of the configuration
+pub record HasReported (c : Settings) (es : List Event) (now : ClusterValue) (e : Event) (r : StepReport) : Type 0 where
+  pub actors : has_actors c.specs e ≡ true
+  pub next : IsNext c es now e r
 
--- The station stands for entries of which none took a frame: it keeps nothing of other stations' Sends.
-abbrev pub StandsAlone : StationValue → Type 0
-StandsAlone s = (c : Settings) × (es : List Entry) × IsAt c es s × ((reading c s.host es).slots ≡ replicate c.pool None)
+-- this happened: its lines were appended, and it is counted
+pub record IsTold (form : Form) (before after : Counts) (front text : List ℕ) (h : Happened) : Type 0 where
+  pub lines : text ≡ front ++ told_lines form (told_of (before.events + 1) h)
+  pub counts : after ≡ counts_after before h
+  pub steps : length (steps_in h) ≤ STEPS
+  pub frames : frame_count h ≤ EVENT_FRAMES
 
--- The entries of these logs are those of the station so far, which has had n events, and none of them took a frame.
-pub record HasHad (station : StationValue) (c : Settings) (logs : Logs) (host n : ℕ) : Type 0 where
-  pub at : IsAt c (logs host) station
-  pub count : length (logs host) ≡ n
-  pub alone : (reading c station.host (logs host)).slots ≡ replicate c.pool None
+-- the cluster had this event behind these
+pub record IsHad (form : Form) (c : Settings) (es : List Event) (e : Event) (before after : Counts) (front text : List ℕ)
+    (now : ClusterValue) : Type 0 where
+  pub told : IsTold form before after front text (happened c (logs_of c es) e)
+  pub stands : StandsFor c (es ++ e ∷ []) now
 
--- this happened as the event of this number, with so many steps and no frame, and its lines were appended
-pub record IsTold (form : Form) (host number : ℕ) (new : StationValue) (front text : List ℕ) (steps : ℕ) (c : Settings) (logs : Logs)
-    (h : Happened) : Type 0 where
-  pub lines : text ≡ front ++ told_lines form (told_of number h)
-  pub count : steps ≡ length (steps_in h)
-  pub quiet : frame_count h ≡ 0
-  pub had : HasHad new c (logs_after logs h) host number
+-- The first so many events of a schedule were had, none of them was refused, and their lines stand behind the opening lines.
+pub record HasPlayed (form : Form) (s : Schedule) (n : ℕ) (now : ClusterValue) (counts : Counts) (text : List ℕ) : Type 0 where
+  pub stands : StandsFor s.config (take n s.events) now
+  pub lines : text ≡ front_text form n s
+  pub counted : counts ≡ counts_of (history_before n s)
+  pub steps : counts.steps ≤ STEPS * n
+  pub frames : counts.frames ≤ EVENT_FRAMES * n
+  pub taken : taken_of s ≡ n
+      + taken_from (emitted_bytes (history_before n s)) (history s.config (logs_of s.config (take n s.events)) (drop n s.events))
 
--- the station had this event, the one behind so many, and its lines were appended
-pub record IsPlayed (form : Form) (host before : ℕ) (old new : StationValue) (front text : List ℕ) (e : Event) (steps : ℕ) : Type 0 where
-  pub told : (c : Settings) (logs : Logs) → HasHad old c logs host before →
-      IsTold form host (before + 1) new front text steps c logs (happened c logs e)
-  pub few : steps ≤ STEPS
-  pub same_host : new.host ≡ old.host
-  pub events : new.events ≡ old.events + 1
-  pub alone : StandsAlone new
-  pub processes : (pid : Pid) → has new pid ≡ has old pid
+-- how the reading ends, when no event is left
+abbrev pub ending : Front → Front
+ending f = record f { schedule = record f.schedule { events = [] } }
+
+-- the events of a front but those that are left were had
+pub record IsUnderWay (form : Form) (all left : Front) (now : ClusterValue) (counts : Counts) (text : List ℕ) : Type 0 where
+  pub played : HasPlayed form all.schedule counts.events now counts text
+  pub rest : left.schedule.events ≡ drop counts.events all.schedule.events
+  pub same : ending left ≡ ending all
+
+-- the text is that of this schedule, and so it is written
+pub record IsWrittenOf (form : Form) (text : List ℕ) (w : Written) : Type 0 where
+  pub schedule : Schedule
+  pub spells : schedule_of text ≡ Ok schedule
+  pub lines : w.text.items ≡ written_text form schedule
+  pub cut : w.is_cut ≡ is_cut schedule

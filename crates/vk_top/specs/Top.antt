@@ -1,5 +1,5 @@
 -- What the top call answers and writes.
-use Rattle.std.specs.Prelude.{ℕ, ◌≡◌, ◌<◌, ◌≤◌, ◌⊎◌, nat_lt, List, [], length, take, Option, Some, None, IfSome, IsSomeAnd, Result, Ok, Err, if◌then◌else◌}
+use Rattle.std.specs.Prelude.{ℕ, ◌≡◌, ◌<◌, ◌≤◌, ◌⊎◌, nat_lt, true, List, [], length, take, Option, Some, None, IfSome, IsSomeAnd, Result, Ok, Err, if◌then◌else◌}
 use Rattle.clap.specs.Walk.{Text}
 use Rattle.std.specs.Io.KnownBytes.{Appends}
 use Rattle.vk_base.specs.declared.limits.TheConstants.{INPUT_BYTES}
@@ -8,6 +8,8 @@ use Rattle.v_trace.specs.Traces.{trace_of}
 use Rattle.v_trace.specs.declared.trace.Trace.{Trace}
 use Rattle.v_trace.specs.declared.trace.TraceRefusal.{TraceRefusal}
 use Rattle.v_trace.specs.declared.trace.TraceRefusal.TheVariants as traces
+use Rattle.vk_cluster.specs.declared.emitted.TheConstants.{LAST_BYTES}
+use Rattle.vk_cluster.specs.Standing.{emitted_bytes}
 use Rattle.vk_event.specs.declared.schedule.Schedule.{Schedule}
 use Rattle.vk_event.specs.declared.schedule.TextRefusal.{TextRefusal}
 use Rattle.vk_event.specs.declared.schedule.TextRefusal.TheVariants as schedules
@@ -21,8 +23,7 @@ use Rattle.vk_top.specs.declared.words.Asked.{Asked}
 use Rattle.vk_top.specs.declared.words.Asked.TheVariants as asked
 use Rattle.vk_report.specs.declared.entry.Form.{Form}
 use Rattle.vk_top.specs.Check.{IsNo, IsTooMuch, IsYes, verdict_of, verdict_text}
-use Rattle.vk_top.specs.Forms.{playable_of}
-use Rattle.vk_top.specs.Report.{output_text}
+use Rattle.vk_top.specs.Report.{front_text, history_before, is_cut, output_text, written_text}
 use Rattle.vk_top.specs.Words.{asked_of}
 
 -- the bytes of the input: those that the source tells as left, or some where it tells none, and this holds of them
@@ -35,15 +36,28 @@ pub record OfInput (told : Option (List ℕ)) (Holds : List ℕ → Type 0) : Ty
 abbrev pub Asks : List Text → Option (List ℕ) → (Asked → List ℕ → Type 0) → Type 0
 Asks words told Holds = IsSomeAnd (asked_of words) (λ a. OfInput told (Holds a))
 
--- the input is the text of a schedule that can be played, and its report or its trace is written; the steps in it are a run of the
--- one-machine kernel, with exactly the observations of the processes
+-- the input is the text of a schedule, and its report or its trace is written; before none of its events the emitted frames hold too many
+-- bytes; the steps in it are a run of the one-machine kernel, with exactly the observations of the processes
 pub record IsReplayed (form : Form) (input : List ℕ) (old new : Option (List ℕ)) : Type 0 where
   pub small : length input ≤ INPUT_BYTES
   pub schedule : Schedule
   pub text : schedule_of input ≡ Ok schedule
-  pub playable : playable_of input ≡ Ok schedule
+  pub fits : (n : ℕ) → n < length schedule.events → emitted_bytes (history_before n schedule) ≤ LAST_BYTES
   pub output : Appends old new (output_text form schedule)
   pub run : IsRunOf schedule.config schedule.events
+
+-- the input is the text of a schedule; before the event behind so many, and before none earlier, the emitted frames hold too many bytes;
+-- the report of those events, or their trace, is written without the last line; their steps are a run, likewise
+pub record IsCut (form : Form) (input : List ℕ) (old new : Option (List ℕ)) : Type 0 where
+  pub small : length input ≤ INPUT_BYTES
+  pub schedule : Schedule
+  pub text : schedule_of input ≡ Ok schedule
+  pub count : ℕ
+  pub within : count < length schedule.events
+  pub full : LAST_BYTES < emitted_bytes (history_before count schedule)
+  pub first : (n : ℕ) → n < count → emitted_bytes (history_before n schedule) ≤ LAST_BYTES
+  pub output : Appends old new (front_text form count schedule)
+  pub run : IsRunOf schedule.config (take count schedule.events)
 
 abbrev pub IsDone : Asked → List ℕ → Option (List ℕ) → Option (List ℕ) → Type 0
 IsDone (asked.Replay form) input old new = IsReplayed form input old new
@@ -53,9 +67,9 @@ abbrev pub IsNotARun : Asked → List ℕ → ℕ → Option (List ℕ) → Opti
 IsNotARun (asked.Replay form) input step old new = ⊥
 IsNotARun asked.Check input step old new = IsNo input step old new
 
--- the line is the first of the text that is bad, or, of a schedule, not built
+-- the line is the first of the text that is bad
 abbrev pub IsBadLine : Asked → List ℕ → ℕ → Type 0
-IsBadLine (asked.Replay form) input line = playable_of input ≡ Err (schedules.BadInput line)
+IsBadLine (asked.Replay form) input line = schedule_of input ≡ Err (schedules.BadInput line)
 IsBadLine asked.Check input line = trace_of input ≡ Err (traces.BadInput line)
 
 pub record IsBadAt (a : Asked) (input : List ℕ) (line : ℕ) : Type 0 where
@@ -64,18 +78,23 @@ pub record IsBadAt (a : Asked) (input : List ℕ) (line : ℕ) : Type 0 where
 
 -- there are too many bytes; or too many events in a schedule; or a trace that notes too much for remote moves
 abbrev pub IsOverLimit : Asked → List ℕ → Type 0
-IsOverLimit (asked.Replay form) input = (INPUT_BYTES < length input) ⊎ (playable_of input ≡ Err schedules.Limit)
+IsOverLimit (asked.Replay form) input = (INPUT_BYTES < length input) ⊎ (schedule_of input ≡ Err schedules.Limit)
 IsOverLimit asked.Check input = (INPUT_BYTES < length input) ⊎ IsTooMuch input
+
+-- an event of the schedule is refused, and what comes before it is written
+abbrev pub IsCutShort : Asked → List ℕ → Option (List ℕ) → Option (List ℕ) → Type 0
+IsCutShort (asked.Replay form) input old new = IsCut form input old new
+IsCutShort asked.Check input old new = ⊥
 
 -- what a schedule asks for; only code can want memory, so that no text has this refusal
 abbrev pub replay_status : Result Schedule TextRefusal → Status
-replay_status (Ok schedule) = status.Done
+replay_status (Ok schedule) = if is_cut schedule then status.Limit else status.Done
 replay_status (Err (schedules.BadInput line)) = status.BadInput line
 replay_status (Err schedules.Limit) = status.Limit
 replay_status (Err schedules.NoMemory) = status.NoMemory
 
 abbrev pub replay_output : Form → Result Schedule TextRefusal → List ℕ
-replay_output form (Ok schedule) = output_text form schedule
+replay_output form (Ok schedule) = written_text form schedule
 replay_output form (Err why) = []
 
 -- what a trace asks for, likewise
@@ -94,11 +113,11 @@ check_output (Ok trace) = verdict_text (verdict_of trace)
 check_output (Err why) = []
 
 abbrev pub text_status : Asked → List ℕ → Status
-text_status (asked.Replay form) text = replay_status (playable_of text)
+text_status (asked.Replay form) text = replay_status (schedule_of text)
 text_status asked.Check text = check_status (trace_of text)
 
 abbrev pub text_output : Asked → List ℕ → List ℕ
-text_output (asked.Replay form) text = replay_output form (playable_of text)
+text_output (asked.Replay form) text = replay_output form (schedule_of text)
 text_output asked.Check text = check_output (trace_of text)
 
 -- what the input asks for where nothing fails
@@ -110,7 +129,7 @@ abbrev pub output_of : Option Asked → List ℕ → List ℕ
 output_of None input = []
 output_of (Some a) input = if nat_lt INPUT_BYTES (length input) then [] else text_output a input
 
--- the answers at which all is written
+-- the answers at which all is written that is asked for
 abbrev pub IsTold : Status → Type 0
 IsTold status.Done = Unit {0}
 IsTold (status.NotARun step) = Unit {0}
@@ -120,6 +139,20 @@ IsTold status.ReadFault = ⊥
 IsTold status.WriteFault = ⊥
 IsTold status.NoMemory = ⊥
 IsTold status.Limit = ⊥
+
+-- the input is the text of a schedule of which an event is refused
+pub record HasRefused (input : List ℕ) : Type 0 where
+  pub schedule : Schedule
+  pub text : schedule_of input ≡ Ok schedule
+  pub cut : is_cut schedule ≡ true
+
+abbrev pub IsRefusedLate : Asked → List ℕ → Type 0
+IsRefusedLate (asked.Replay form) input = HasRefused input
+IsRefusedLate asked.Check input = ⊥
+
+-- something is to be written
+abbrev pub IsToWrite : Asked → List ℕ → Type 0
+IsToWrite a input = IsTold (status_of a input) ⊎ ((length input ≤ INPUT_BYTES) × IsRefusedLate a input)
 
 -- so many bytes of the output that is asked for are written behind what stood written
 pub record IsFront (words : List Text) (input : List ℕ) (old new : Option (List ℕ)) : Type 0 where
@@ -137,13 +170,13 @@ IsDecided a told status.WriteFault = Unit {0}
 IsDecided a told status.NoMemory = Unit {0}
 IsDecided a told s = OfInput told (λ i. s ≡ status_of a i)
 
--- the answers at which nothing is written
+-- the answers at which nothing is written; at Limit it depends on what is over a limit
 abbrev pub IsEarly : Status → Type 0
 IsEarly status.Usage = Unit {0}
 IsEarly (status.BadInput line) = Unit {0}
 IsEarly status.ReadFault = Unit {0}
 IsEarly status.NoMemory = Unit {0}
-IsEarly status.Limit = Unit {0}
+IsEarly status.Limit = ⊥
 IsEarly status.Done = ⊥
 IsEarly (status.NotARun step) = ⊥
 IsEarly status.WriteFault = ⊥

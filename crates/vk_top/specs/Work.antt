@@ -7,7 +7,7 @@ use Rattle.vk_top.specs.declared.status.Status.{Status}
 use Rattle.vk_top.specs.declared.status.Status.TheVariants as status
 use Rattle.vk_top.specs.declared.top.Work.{Work}
 use Rattle.vk_top.specs.declared.words.Asked.{Asked}
-use Rattle.vk_top.specs.Top.{IsBadAt, IsDecided, IsDone, IsNotARun, IsOverLimit, IsTold, OfInput, output_of, status_of, text_output, text_status}
+use Rattle.vk_top.specs.Top.{IsBadAt, IsCutShort, IsDecided, IsDone, IsNotARun, IsOverLimit, IsRefusedLate, IsToWrite, IsTold, OfInput, output_of, status_of, text_output, text_status}
 
 -- the count of a source's faults: it rose where the answer is that a read failed, and else is as it was
 abbrev pub IsReadCount : Status → ℕ → ℕ → Type 0
@@ -33,41 +33,53 @@ KeepsLines a text = (line : ℕ) → text_status a text ≡ status.BadInput line
 -- why nothing is written of a text
 abbrev pub IsRefusal : Asked → List ℕ → Status → Type 0
 IsRefusal a text (status.BadInput line) = text_status a text ≡ status.BadInput line
-IsRefusal a text status.Limit = text_status a text ≡ status.Limit
+IsRefusal a text status.Limit = (text_status a text ≡ status.Limit) × IsOverLimit a text
 IsRefusal a text status.NoMemory = KeepsLines a text
 IsRefusal a text s = ⊥
 
+-- the answers behind a write
+abbrev pub IsLate : Status → Type 0
+IsLate status.Limit = Unit {0}
+IsLate s = IsTold s
+
 -- what is written of a text, and the answer then
 pub record IsWork (a : Asked) (text : List ℕ) (w : Work) : Type 0 where
+  pub late : IsLate w.status
+  pub limit : w.status ≡ status.Limit → IsRefusedLate a text
   pub output : w.text.items ≡ text_output a text
   pub status : w.status ≡ text_status a text
-  pub told : IsTold w.status
 
 -- all was written, and the answer is that of the work; or a write failed
 abbrev pub IsWritten : List ℕ → Status → Option (List ℕ) → Option (List ℕ) → Status → Type 0
 IsWritten text told old new s = ((s ≡ told) × Appends old new text) ⊎ (s ≡ status.WriteFault)
 
+-- Limit is answered without a change, of an input that is over a limit; or an event of a schedule is refused, and what comes before it is
+-- written
+abbrev pub IsLimit : Type 0 → Asked → List ℕ → Option (List ℕ) → Option (List ℕ) → Type 0
+IsLimit Unchanged a input old new = (IsOverLimit a input × Unchanged) ⊎ IsCutShort a input old new
+
 -- what the answer to a text says, which was read whole
-pub record IsAnswered (a : Asked) (text : List ℕ) (old new : Option (List ℕ)) (s : Status) : Type 0 where
+pub record IsAnswered (Unchanged : Type 0) (a : Asked) (text : List ℕ) (old new : Option (List ℕ)) (s : Status) : Type 0 where
   pub kinds : ¬ (s ≡ status.Usage) × ¬ (s ≡ status.ReadFault)
   pub done : s ≡ status.Done → IsDone a text old new
   pub no : (step : ℕ) → s ≡ status.NotARun step → IsNotARun a text step old new
   pub bad : (line : ℕ) → s ≡ status.BadInput line → IsBadAt a text line
-  pub limit : s ≡ status.Limit → IsOverLimit a text
+  pub limit : s ≡ status.Limit → IsLimit Unchanged a text old new
   pub memory : s ≡ status.NoMemory → KeepsLines a text
-  pub writing : s ≡ status.WriteFault → IsTold (status_of a text)
+  pub writing : s ≡ status.WriteFault → IsToWrite a text
   pub complete : (s ≡ status.NoMemory) ⊎ (s ≡ status.WriteFault) ⊎ (s ≡ status_of a text)
   pub front : (n : ℕ) × Appends old new (take n (output_of (Some a) text))
 
 -- what the answer to an input says, which has these bytes left and then those
-pub record IsOutcome (a : Asked) (left rest old new : Option (List ℕ)) (s : Status) : Type 0 where
+pub record IsOutcome (Unchanged : Type 0) (a : Asked) (left rest old new : Option (List ℕ)) (s : Status) : Type 0 where
   pub kinds : ¬ (s ≡ status.Usage)
   pub done : s ≡ status.Done → OfInput left (λ i. IsDone a i old new)
   pub no : (step : ℕ) → s ≡ status.NotARun step → OfInput left (λ i. IsNotARun a i step old new)
   pub whole : IsTold s → IfSome left (λ i. rest ≡ Some [])
   pub bad : (line : ℕ) → s ≡ status.BadInput line → OfInput left (λ i. IsBadAt a i line)
-  pub limit : s ≡ status.Limit → OfInput left (IsOverLimit a)
+  pub limit : s ≡ status.Limit → OfInput left (λ i. IsLimit Unchanged a i old new)
+  pub read : s ≡ status.Limit → Unchanged ⊎ IfSome left (λ i. rest ≡ Some [])
   pub memory : s ≡ status.NoMemory → LosesFront left rest (λ n. (0 < n) × (n ≤ INPUT_BYTES))
-  pub writing : s ≡ status.WriteFault → OfInput left (λ i. IsTold (status_of a i))
+  pub writing : s ≡ status.WriteFault → OfInput left (IsToWrite a)
   pub complete : IsDecided a left s
   pub front : OfInput left (λ i. (n : ℕ) × Appends old new (take n (output_of (Some a) i)))

@@ -1,14 +1,20 @@
 //! The steps of a trace, checked against the one-machine kernel.
 
-ghost use Rattle.std.specs.Prelude.{◌≡◌, ◌++◌, codes, decimal, IfOk, OnOk};
+ghost use Rattle.std.specs.Prelude.{◌≡◌, ◌<◌, ◌^◌, ◌++◌, ◌⊎◌, codes, decimal, length, Err, IfOk, IfErr, OnOk};
 ghost use Rattle.v_machine.specs.Tables.{kernel_of};
-ghost use Rattle.vk_top.specs.Check.{verdict_from, verdict_of};
+ghost use Rattle.v_trace.specs.Traces.{trace_of};
+ghost use Rattle.vk_top.specs.Check.{IsVerdictOf, ending, verdict_from, verdict_of};
+ghost use Rattle.vk_top.specs.Work.{KeepsLines};
+ghost use Rattle.vk_top.specs.declared.words.Asked.TheVariants as asked;
 
 use std::alloc::Global;
 use v_machine::{ApplyRefusal, Machine};
-use v_trace::Trace;
-use vk_base::{NoMemory, Step};
+use v_trace::{StepReader, TraceRefusal};
+use vk_base::{NoMemory, Pid, Step};
 use vk_text::{put, put_number};
+
+/// Any pid.
+const FIRST: Pid = Pid { host: 1, local: 1 };
 
 /// What becomes of the steps of a trace.
 #[derive(Clone, Copy, Debug, PartialEq, Eq)]
@@ -21,18 +27,21 @@ pub(crate) enum TraceVerdict {
     TooMuch,
 }
 
-/// Applies the steps in turn, up to the first that decides.
-fn verdict_from(
+/// Applies the steps that are left in the reader, in turn, up to the first that decides.
+fn apply_steps(
     alloc: Global,
     machine: &mut Machine,
-    steps: &[Step],
+    reader: &mut StepReader<'_>,
 ) -> Result<TraceVerdict, NoMemory>
-    ensures { IfOk result (λ v. v ≡ verdict_from (kernel_of machine.old) 0 machine.old.noted steps.now) }
+    requires { length reader.old.steps < 2 ^ 63 }
+    ensures verdict { IfOk result (λ v. v ≡ verdict_from (kernel_of machine.old) 0 machine.old.noted reader.old.steps) }
+    ensures ending { ending reader.new ≡ ending reader.old }
 {
     let mut number = 0u64;
-    for step in steps {
+    let mut step = Step::Take { pid: FIRST };
+    while reader.next(&mut step) {
         number += 1;
-        match machine.apply(alloc, step) {
+        match machine.apply(alloc, &step) {
             Ok(_) => {}
             Err(ApplyRefusal::NotAllowed) => return Ok(TraceVerdict::Refused { step: number }),
             Err(ApplyRefusal::Limit) => return Ok(TraceVerdict::TooMuch),
@@ -42,12 +51,40 @@ fn verdict_from(
     Ok(TraceVerdict::Run { steps: number })
 }
 
-/// The verdict on a trace.
-pub(crate) fn verdict_of(alloc: Global, trace: &Trace) -> Result<TraceVerdict, NoMemory>
-    ensures { IfOk result (λ v. v ≡ verdict_of trace.now) }
+/// The verdict on the trace that is left in the reader.
+fn verdict_on(alloc: Global, reader: &mut StepReader<'_>) -> Result<TraceVerdict, NoMemory>
+    requires { length reader.old.steps < 2 ^ 63 }
+    ensures verdict { IfOk result (λ v. v ≡ verdict_of (record { config = reader.old.config; steps = reader.old.steps })) }
+    ensures ending { ending reader.new ≡ ending reader.old }
 {
-    let mut machine = Machine::new(alloc, &trace.config)?;
-    verdict_from(alloc, &mut machine, trace.steps.as_slice())
+    let mut machine = Machine::new(alloc, reader.config())?;
+    apply_steps(alloc, &mut machine, reader)
+}
+
+/// Reads all that is left.
+fn read_on(reader: &mut StepReader<'_>)
+    ensures { reader.new ≡ ending reader.old }
+{
+    let mut step = Step::Take { pid: FIRST };
+    while reader.next(&mut step) {}
+}
+
+/// The verdict on the trace that the text spells, in one pass. The first line that is bad decides, also where a step or memory ends the
+/// checking before it.
+pub(crate) fn verdict_of(alloc: Global, text: &[u8]) -> Result<TraceVerdict, TraceRefusal>
+    ensures verdict { IfOk result (IsVerdictOf text.now) }
+    ensures refused { IfErr result (λ e. ((e ≡ TraceRefusal.NoMemory) × KeepsLines asked.Check text.now) ⊎ (trace_of text.now ≡ Err e)) }
+{
+    let mut reader = StepReader::new(alloc, text)?;
+    let verdict = verdict_on(alloc, &mut reader);
+    read_on(&mut reader);
+    if let Some(line) = reader.bad_line() {
+        return Err(TraceRefusal::BadInput { line });
+    }
+    match verdict {
+        Ok(verdict) => Ok(verdict),
+        Err(NoMemory) => Err(TraceRefusal::NoMemory),
+    }
 }
 
 /// A word, a number and the end of the line.

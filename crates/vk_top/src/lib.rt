@@ -1,18 +1,16 @@
 //! The top call: words in, one input read to its end, one output written, and a status. `vkernel` does the whole work of
 //! the program; what a program adds are the real objects.
 //!
-//! Stands on the reader of schedules (`vk_event`), on a station (`vk_host`), on the machine that applies steps (`v_machine`),
-//! on traces (`v_trace`), on what is written of a history (`vk_report`) and of words (`vk_text`), on sources and sinks (`vk_io`), and
-//! on `clap`, which reads the program's words. What they ask for is `specs/Words.antt`, what can be played `specs/Forms.antt`,
-//! what is written of a schedule `specs/Report.antt`, what is said of a trace `specs/Check.antt`; what each status says is
-//! `specs/Top.antt`.
+//! Stands on the reader of schedules (`vk_event`), on all stations of a run (`vk_cluster`), on the machine that applies steps
+//! (`v_machine`), on traces (`v_trace`), on what is written of a history (`vk_report`) and of words (`vk_text`), on sources and sinks
+//! (`vk_io`), and on `clap`, which reads the program's words. What they ask for is `specs/Words.antt`, what is written of a schedule
+//! `specs/Report.antt`, what is said of a trace `specs/Check.antt`; what each status says is `specs/Top.antt`.
 #![tactic(auto)]
 
 mod check;
-mod forms;
+mod emitted;
 mod law;
 mod replay;
-mod report;
 mod status;
 mod top;
 mod words;

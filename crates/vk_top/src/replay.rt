@@ -1,170 +1,215 @@
-//! A schedule, played on its station, and the report or the trace of it.
+//! A schedule, played on all stations of its configuration, and the report or the trace of it.
 
-ghost use Rattle.std.specs.Prelude.{◌≡◌, ◌≤◌, ◌<◌, ◌+◌, ◌^◌, ◌++◌, [], true, length, IfOk, OnOk};
-ghost use Rattle.std.specs.List.{list_all};
+ghost use Rattle.std.specs.Prelude.{◌≡◌, ◌≤◌, ◌<◌, ◌++◌, ◌∷◌, ◌⊎◌, [], Ok, Err, List, length, map, true, false, IfOk, IfErr, OnOk};
 ghost use Rattle.vk_base.specs.Settings.{Settings};
-ghost use Rattle.vk_event.specs.declared.event.Event.TheVariants as scheduled;
-ghost use Rattle.vk_rules.specs.Histories.{Logs, history};
-ghost use Rattle.vk_host.specs.Values.{has};
-ghost use Rattle.vk_top.specs.Forms.{IsPlayable, is_built_event, is_playable_call};
-ghost use Rattle.vk_top.specs.Playing.{HasHad, IsPlayed, StandsAlone, end_line, event_lines, is_own, lines_behind};
-ghost use Rattle.vk_top.specs.Report.{history_of_schedule, output_text};
+ghost use Rattle.vk_event.specs.declared.event.Event.{Event as TheEvent};
+ghost use Rattle.vk_event.specs.Lawful.{IsLawful, has_actors};
+ghost use Rattle.vk_event.specs.Schedule.{schedule_of};
+ghost use Rattle.vk_cluster.specs.Clusters.{value_of};
+ghost use Rattle.vk_cluster.specs.Standing.{StandsFor, StandsSomewhere, logs_of};
+ghost use Rattle.vk_cluster.specs.Values.{is_full};
+ghost use Rattle.vk_report.specs.Histories.{frames_from, told_lines};
+ghost use Rattle.vk_report.specs.Report.{opening_lines};
+ghost use Rattle.vk_rules.specs.Entries.{Entry};
+ghost use Rattle.vk_rules.specs.Frames.{Frame as TheFrame};
+ghost use Rattle.vk_rules.specs.Histories.{happened};
+ghost use Rattle.vk_top.specs.Playing.{AreFew, HasReported, IsHad, IsLast, IsTold, IsWrittenOf, Sends, ending, told_entry};
+ghost use Rattle.vk_top.specs.Report.{emitted_of, is_cut, written_text};
+ghost use Rattle.vk_top.specs.Work.{KeepsLines};
+ghost use Rattle.vk_top.specs.declared.words.Asked.TheVariants as asked;
 
-use crate::report::{put_end, put_entry};
+use crate::emitted::emitted_of;
 use std::alloc::Global;
-use vk_base::limits::{EVENTS, STEPS};
-use vk_base::{Call, EventAnswer, NoMemory, Pid};
-use vk_event::{Event, Schedule};
+use vk_base::{EventAnswer, NoMemory};
+use vk_cluster::{Cluster, ClusterAnswer, ClusterRefusal, StepReport};
+use vk_event::{Event, EventReader, TextRefusal};
 use vk_host::Host;
-use vk_report::{Form, put_opening};
+use vk_report::{Counts, Form, Place, put_end, put_entry, put_frame, put_missing, put_opening};
 
-/// The entry of the station's last event, which was answered so, and how many steps it had.
-fn put_last_entry(
+/// What is written of a schedule.
+#[derive(Drop)]
+pub(crate) struct Written {
+    pub text: Vec<u8>,
+    /// Whether an event was refused, since the frames emitted before it hold too many bytes. Then the text is that of the events before it,
+    /// without the last line.
+    pub is_cut: bool,
+}
+
+/// The frames of the station's last event, which is the event `own` of the station `host`.
+fn put_frames(
     alloc: Global,
     station: &Host,
     text: &mut Vec<u8>,
     form: Form,
-    number: u64,
     host: u16,
+    own: u64,
+) -> Result<(), NoMemory>
+    requires { (fs : List TheFrame) × Sends station.now fs }
+    ensures { OnOk result ((fs : List TheFrame) → Sends station.now fs →
+        text.new.items ≡ text.old.items ++ frames_from form host own 0 (map emitted_of fs)) }
+{
+    let mut output = 0u16;
+    for at in 0..station.frame_count() {
+        output += 1;
+        let frame = emitted_of(station.frame(at));
+        put_frame(alloc, text, form, host, own, output, frame)?;
+    }
+    Ok(())
+}
+
+/// The lines of the station's last event, which was answered so.
+fn put_told(
+    alloc: Global,
+    station: &Host,
+    text: &mut Vec<u8>,
+    form: Form,
+    place: Place,
     answer: &EventAnswer,
-) -> Result<u64, NoMemory>
-    ensures lines { OnOk result (text.new.items ≡ text.old.items ++ event_lines form host number answer.now station.now.doing.steps) }
-    ensures count { IfOk result (λ n. n ≡ length station.now.doing.steps) }
-    ensures few { IfOk result (λ n. n ≤ STEPS) }
+) -> Result<(), NoMemory>
+    requires { (e : Entry) × IsLast station.now answer.now e }
+    ensures { OnOk result ((e : Entry) → IsLast station.now answer.now e →
+        text.new.items ≡ text.old.items ++ told_lines form (told_entry place e)) }
 {
-    let steps = station.steps();
-    put_entry(alloc, text, form, number, host, answer, steps.as_slice())?;
-    Ok(steps.len() as u64)
+    put_entry(alloc, text, form, place, answer, station.steps().as_slice())?;
+    match form {
+        Form::Report => put_frames(alloc, station, text, form, place.host, place.own),
+        Form::Trace => Ok(()),
+    }
 }
 
-/// A call at the station, which is the event behind `before`, and its lines; and how many steps it had.
-fn put_call(
+/// The lines of what the cluster reports of its last event, which is counted.
+fn put_report(
     alloc: Global,
-    station: &mut Host,
+    cluster: &Cluster,
     text: &mut Vec<u8>,
     form: Form,
-    before: u64,
-    host: u16,
-    pid: Pid,
-    call: &Call,
-) -> Result<u64, NoMemory>
-    requires alone { StandsAlone station.old }
-    requires few { station.old.events < 2 ^ 48 }
-    requires before { before < 2 ^ 48 }
-    requires host { station.old.host ≡ host }
-    requires own { has station.old pid ≡ true }
-    requires built { is_playable_call pid call.now ≡ true }
-    ensures { IfOk result (IsPlayed form host before station.old station.new text.old.items text.new.items (scheduled.Call pid call.now)) }
+    counts: &mut Counts,
+    report: &StepReport,
+) -> Result<(), NoMemory>
+    requires few { AreFew counts.old }
+    requires reported { (c : Settings) × (es : List TheEvent) × (e : TheEvent) × HasReported c es (value_of cluster.now) e report.now }
+    ensures { OnOk result ((c : Settings) (es : List TheEvent) (e : TheEvent) → HasReported c es (value_of cluster.now) e report.now →
+        IsTold form counts.old counts.new text.old.items text.new.items (happened c (logs_of c es) e)) }
 {
-    let answer = station.call(pid, call);
-    put_last_entry(alloc, station, text, form, before + 1, host, &answer)
+    let number = counts.events + 1;
+    counts.events = number;
+    match &report.answer {
+        ClusterAnswer::Missing => put_missing(alloc, text, form, number, report.host),
+        ClusterAnswer::Event { answer } => {
+            let station = cluster.host(report.host);
+            counts.steps += station.steps().len() as u64;
+            counts.frames += u64::from(station.frame_count());
+            let place = Place {
+                number,
+                host: report.host,
+                own: report.event,
+            };
+            put_told(alloc, station, text, form, place, answer)
+        }
+    }
 }
 
-/// A collect at the station, which is the event behind `before`, and its lines; and how many steps it had.
-fn put_collect(
-    alloc: Global,
-    station: &mut Host,
-    text: &mut Vec<u8>,
-    form: Form,
-    before: u64,
-    host: u16,
-    pid: Pid,
-) -> Result<u64, NoMemory>
-    requires alone { StandsAlone station.old }
-    requires few { station.old.events < 2 ^ 48 }
-    requires before { before < 2 ^ 48 }
-    requires host { station.old.host ≡ host }
-    requires own { has station.old pid ≡ true }
-    ensures { IfOk result (IsPlayed form host before station.old station.new text.old.items text.new.items (scheduled.Collect pid)) }
-{
-    let answer = station.collect(pid);
-    put_last_entry(alloc, station, text, form, before + 1, host, &answer)
-}
-
-/// One event of the station, behind `before`, and its lines; and how many steps it had.
+/// One event, and its lines.
 fn put_event(
     alloc: Global,
-    station: &mut Host,
+    cluster: &mut Cluster,
     text: &mut Vec<u8>,
     form: Form,
-    before: u64,
-    host: u16,
+    counts: &mut Counts,
     event: &Event,
-) -> Result<u64, NoMemory>
-    requires alone { StandsAlone station.old }
-    requires few { station.old.events < 2 ^ 48 }
-    requires before { before < 2 ^ 48 }
-    requires host { station.old.host ≡ host }
-    requires own { is_own station.old event.now ≡ true }
-    requires built { is_built_event event.now ≡ true }
-    ensures { IfOk result (IsPlayed form host before station.old station.new text.old.items text.new.items event.now) }
+) -> Result<(), ClusterRefusal>
+    requires few { AreFew counts.old }
+    requires somewhere { StandsSomewhere (value_of cluster.old) }
+    requires actors { has_actors (value_of cluster.old).config.specs event.now ≡ true }
+    ensures had { OnOk result ((c : Settings) (es : List TheEvent) → StandsFor c es (value_of cluster.old) →
+        IsHad form c es event.now counts.old counts.new text.old.items text.new.items (value_of cluster.new)) }
+    ensures room { OnOk result (is_full (value_of cluster.old) ≡ false) }
+    ensures refused { result ≡ Err ClusterRefusal.Limit → (is_full (value_of cluster.old) ≡ true) × (text.new.items ≡ text.old.items) }
 {
-    match event {
-        Event::Call { pid, call } => put_call(alloc, station, text, form, before, host, *pid, call),
-        Event::Collect { pid } => put_collect(alloc, station, text, form, before, host, *pid),
-        Event::Tick { .. } | Event::Deliver { .. } => unreachable!(),
+    let stepped = cluster.step(alloc, event);
+    match &stepped {
+        Ok(report) => match put_report(alloc, cluster, text, form, counts, report) {
+            Ok(()) => Ok(()),
+            Err(NoMemory) => Err(ClusterRefusal::NoMemory),
+        },
+        Err(refusal) => Err(*refusal),
     }
 }
 
-/// What is written of these events, which the station finds before it, and behind them.
+/// The events that are left in the reader, of which the cluster had none, up to the first that is refused, and their lines. Whether one is
+/// refused; if not, the last line too.
 fn put_events(
     alloc: Global,
-    station: &mut Host,
+    cluster: &mut Cluster,
     text: &mut Vec<u8>,
     form: Form,
-    host: u16,
-    events: &[Event],
-) -> Result<(), NoMemory>
-    requires alone { StandsAlone station.old }
-    requires few { length events.now ≤ EVENTS }
-    requires first { station.old.events ≡ 0 }
-    requires host { station.old.host ≡ host }
-    requires own { list_all (is_own station.old) events.now ≡ true }
-    requires built { list_all is_built_event events.now ≡ true }
-    ensures { OnOk result ((c : Settings) (logs : Logs) → HasHad station.old c logs host 0 →
-        text.new.items ≡ text.old.items ++ lines_behind form 0 0 (history c logs events.now)) }
+    reader: &mut EventReader<'_>,
+) -> Result<bool, NoMemory>
+    requires lawful { IsLawful reader.old.schedule }
+    requires stands { StandsFor reader.old.schedule.config [] (value_of cluster.old) }
+    requires opening { text.old.items ≡ opening_lines form reader.old.schedule.config.specs }
+    ensures cut { IfOk result (λ cut. cut ≡ is_cut reader.old.schedule) }
+    ensures text { OnOk result (text.new.items ≡ written_text form reader.old.schedule) }
+    ensures ending { ending reader.new ≡ ending reader.old }
 {
-    let mut number = 0u64;
-    let mut steps = 0u64;
-    for event in events {
-        steps += put_event(alloc, station, text, form, number, host, event)?;
-        number += 1;
-    }
-    put_end(alloc, text, form, number, steps)
-}
-
-/// What is written of the schedule behind the opening lines.
-fn put_history(
-    alloc: Global,
-    text: &mut Vec<u8>,
-    form: Form,
-    schedule: &Schedule,
-) -> Result<(), NoMemory>
-    requires { IsPlayable schedule.now }
-    ensures { OnOk result (text.new.items ≡ text.old.items ++ lines_behind form 0 0 (history_of_schedule schedule.now)) }
-{
-    let Some(first) = schedule.config.specs().first() else {
-        return put_end(alloc, text, form, 0, 0);
+    let mut counts = Counts {
+        events: 0,
+        steps: 0,
+        frames: 0,
     };
-    let host = first.pid.host;
-    let mut station = Host::new(alloc, &schedule.config, host)?;
-    put_events(
-        alloc,
-        &mut station,
-        text,
-        form,
-        host,
-        schedule.events.as_slice(),
-    )
+    let mut event = Event::Tick { host: 0 };
+    while reader.next(&mut event) {
+        match put_event(alloc, cluster, text, form, &mut counts, &event) {
+            Ok(()) => {}
+            Err(ClusterRefusal::Limit) => return Ok(true),
+            Err(ClusterRefusal::NoMemory) => return Err(NoMemory),
+        }
+    }
+    put_end(alloc, text, form, counts)?;
+    Ok(false)
 }
 
-/// The report of the schedule, or its trace.
-pub(crate) fn output(alloc: Global, form: Form, schedule: &Schedule) -> Result<Vec<u8>, NoMemory>
-    requires { IsPlayable schedule.now }
-    ensures { IfOk result (λ text. text.items ≡ output_text form schedule.now) }
+/// The report of the schedule that is left in the reader, or its trace.
+fn put_schedule(
+    alloc: Global,
+    form: Form,
+    reader: &mut EventReader<'_>,
+) -> Result<Written, NoMemory>
+    requires { IsLawful reader.old.schedule }
+    ensures text { IfOk result (λ w. w.text.items ≡ written_text form reader.old.schedule) }
+    ensures cut { IfOk result (λ w. w.is_cut ≡ is_cut reader.old.schedule) }
+    ensures ending { ending reader.new ≡ ending reader.old }
 {
     let mut text = Vec::new(alloc);
-    put_opening(alloc, &mut text, form, &schedule.config)?;
-    put_history(alloc, &mut text, form, schedule)?;
-    Ok(text)
+    put_opening(alloc, &mut text, form, reader.config())?;
+    let mut cluster = Cluster::new(alloc, reader.config())?;
+    let is_cut = put_events(alloc, &mut cluster, &mut text, form, reader)?;
+    Ok(Written { text, is_cut })
+}
+
+/// Reads all that is left.
+fn read_on(reader: &mut EventReader<'_>)
+    ensures { reader.new ≡ ending reader.old }
+{
+    let mut event = Event::Tick { host: 0 };
+    while reader.next(&mut event) {}
+}
+
+/// The report of the schedule that the text spells, or its trace, in one pass. The first line that is bad, or that has an event too many,
+/// decides, also where an event or memory ends the playing before it.
+pub(crate) fn output(alloc: Global, form: Form, text: &[u8]) -> Result<Written, TextRefusal>
+    ensures written { IfOk result (IsWrittenOf form text.now) }
+    ensures refused { IfErr result (λ e. ((e ≡ TextRefusal.NoMemory) × KeepsLines (asked.Replay form) text.now)
+        ⊎ (schedule_of text.now ≡ Err e)) }
+{
+    let mut reader = EventReader::new(alloc, text)?;
+    let written = put_schedule(alloc, form, &mut reader);
+    read_on(&mut reader);
+    if let Some(refusal) = reader.into_front().refused {
+        return Err(refusal);
+    }
+    match written {
+        Ok(written) => Ok(written),
+        Err(NoMemory) => Err(TextRefusal::NoMemory),
+    }
 }

@@ -1,25 +1,22 @@
-ghost use Rattle.std.specs.Prelude.{◌≡◌, ◌<◌, ◌≤◌, ◌⊎◌, ℕ, [], length, Some, None, Ok, Err, map, take, string_bytes, IfSome, IfOk, IfErr, OnOk};
+ghost use Rattle.std.specs.Prelude.{◌≡◌, ◌<◌, ◌≤◌, ◌⊎◌, ℕ, [], length, Some, None, Ok, Err, map, take, string_bytes, IfSome, IfOk, IfErr, OnOk, if◌then◌else◌};
 ghost use Rattle.std.specs.Io.KnownBytes.{Appends};
 ghost use Rattle.vk_io.specs.Causes.{Rose};
-ghost use Rattle.vk_event.specs.Schedule.{HasProcess};
-ghost use Rattle.vk_top.specs.Forms.{IsPlayable, playable_of};
 ghost use Rattle.vk_top.specs.Check.{verdict_text};
-ghost use Rattle.vk_top.specs.Top.{Asks, IsBadAt, IsDecided, IsDone, IsEarly, IsFront, IsNotARun, IsOverLimit, IsTold, IsWanting, OfInput, status_of, verdict_status};
-ghost use Rattle.vk_top.specs.Work.{IsAnswered, IsOutcome, IsReadCount, IsRefusal, IsUnread, IsWork, IsWriteCount, IsWritten};
+ghost use Rattle.vk_top.specs.Top.{Asks, IsBadAt, IsCutShort, IsDecided, IsDone, IsEarly, IsFront, IsNotARun, IsOverLimit, IsToWrite, IsTold, IsWanting, OfInput, verdict_status};
+ghost use Rattle.vk_top.specs.Work.{IsAnswered, IsLate, IsOutcome, IsReadCount, IsRefusal, IsUnread, IsWork, IsWriteCount, IsWritten};
 ghost use Rattle.vk_top.specs.Words.{asked_of};
 ghost use Rattle.vk_top.specs.declared.words.Asked.{Asked};
 ghost use Rattle.vk_top.specs.declared.words.Asked.TheVariants as asked;
 
 use crate::check::{TraceVerdict, put_line, verdict_of};
-use crate::forms::playable;
-use crate::replay::output;
+use crate::replay::{Written, output};
 use crate::status::Status;
 use crate::words::{Asked, read_words};
 use std::alloc::Global;
-use v_trace::{TraceRefusal, read_trace};
+use v_trace::TraceRefusal;
 use vk_base::NoMemory;
 use vk_base::limits::INPUT_BYTES;
-use vk_event::{Schedule, TextRefusal, read_front};
+use vk_event::TextRefusal;
 use vk_io::{Failed, ReadRefusal, Sink, Source, read_all, write_all};
 use vk_report::Form;
 
@@ -30,16 +27,11 @@ struct Work {
     status: Status,
 }
 
-/// The schedule of the text, where it can be played.
-fn read_playable(alloc: Global, text: &[u8]) -> Result<Schedule, TextRefusal>
-    ensures schedule { IfOk result (λ s. playable_of text.now ≡ Ok s) }
-    ensures refused { IfErr result (λ e. ((e ≡ TextRefusal.NoMemory) × HasProcess text.now) ⊎ (playable_of text.now ≡ Err e)) }
-    ensures playable { IfOk result IsPlayable }
+/// The answer to a schedule, where an event of it was refused or none.
+fn replayed(is_cut: bool) -> Status
+    ensures { result ≡ if is_cut then Status.Limit else Status.Done }
 {
-    match read_front(alloc, text) {
-        Ok(front) => playable(front),
-        Err(NoMemory) => Err(TextRefusal::NoMemory),
-    }
+    if is_cut { Status::Limit } else { Status::Done }
 }
 
 /// `replay`: the report or the trace of a schedule.
@@ -47,18 +39,14 @@ fn replay(alloc: Global, form: Form, text: &[u8]) -> Result<Work, Status>
     ensures work { IfOk result (IsWork (asked.Replay form) text.now) }
     ensures refused { IfErr result (IsRefusal (asked.Replay form) text.now) }
 {
-    let schedule = match read_playable(alloc, text) {
-        Ok(schedule) => schedule,
-        Err(TextRefusal::BadInput { line }) => return Err(Status::BadInput { line }),
-        Err(TextRefusal::Limit) => return Err(Status::Limit),
-        Err(TextRefusal::NoMemory) => return Err(Status::NoMemory),
-    };
-    match output(alloc, form, &schedule) {
-        Ok(text) => Ok(Work {
+    match output(alloc, form, text) {
+        Ok(Written { text, is_cut }) => Ok(Work {
             text,
-            status: Status::Done,
+            status: replayed(is_cut),
         }),
-        Err(NoMemory) => Err(Status::NoMemory),
+        Err(TextRefusal::BadInput { line }) => Err(Status::BadInput { line }),
+        Err(TextRefusal::Limit) => Err(Status::Limit),
+        Err(TextRefusal::NoMemory) => Err(Status::NoMemory),
     }
 }
 
@@ -85,14 +73,10 @@ fn check(alloc: Global, text: &[u8]) -> Result<Work, Status>
     ensures work { IfOk result (IsWork asked.Check text.now) }
     ensures refused { IfErr result (IsRefusal asked.Check text.now) }
 {
-    let trace = match read_trace(alloc, text) {
-        Ok(trace) => trace,
-        Err(TraceRefusal::BadInput { line }) => return Err(Status::BadInput { line }),
-        Err(TraceRefusal::NoMemory) => return Err(Status::NoMemory),
-    };
-    match verdict_of(alloc, &trace) {
+    match verdict_of(alloc, text) {
         Ok(verdict) => told(alloc, verdict),
-        Err(NoMemory) => Err(Status::NoMemory),
+        Err(TraceRefusal::BadInput { line }) => Err(Status::BadInput { line }),
+        Err(TraceRefusal::NoMemory) => Err(Status::NoMemory),
     }
 }
 
@@ -126,7 +110,7 @@ fn read_text<S: Source>(alloc: Global, input: &mut S) -> Result<Vec<u8>, Status>
 
 /// Writes the whole text and flushes. The answer is that of the work, unless one of these fails.
 fn write_work<K: Sink>(output: &mut K, work: &Work) -> Status
-    requires { IsTold work.now.status }
+    requires { IsLate work.now.status }
     ensures written { IsWritten work.now.text.items work.now.status (K.written output.old) (K.written output.new) result }
     ensures count { IsWriteCount result (K.fault_count output.old) (K.fault_count output.new) }
     ensures front { (n : ℕ) × Appends (K.written output.old) (K.written output.new) (take n work.now.text.items) }
@@ -144,7 +128,7 @@ fn write_work<K: Sink>(output: &mut K, work: &Work) -> Status
 /// The whole work on a text that was read.
 fn answer<K: Sink>(alloc: Global, asked: Asked, text: &[u8], output: &mut K) -> Status
     requires { length text.now ≤ INPUT_BYTES }
-    ensures answered { IsAnswered asked text.now (K.written output.old) (K.written output.new) result }
+    ensures answered { IsAnswered (output.new ≡ output.old) asked text.now (K.written output.old) (K.written output.new) result }
     ensures count { IsWriteCount result (K.fault_count output.old) (K.fault_count output.new) }
     ensures nothing { IsEarly result → output.new ≡ output.old }
     ensures never_falls { K.fault_count output.old ≤ K.fault_count output.new }
@@ -157,7 +141,8 @@ fn answer<K: Sink>(alloc: Global, asked: Asked, text: &[u8], output: &mut K) -> 
 
 /// The whole work that is asked for.
 fn serve<S: Source, K: Sink>(alloc: Global, asked: Asked, input: &mut S, output: &mut K) -> Status
-    ensures outcome { IsOutcome asked (S.left input.old) (S.left input.new) (K.written output.old) (K.written output.new) result }
+    ensures outcome { IsOutcome (output.new ≡ output.old) asked (S.left input.old) (S.left input.new)
+        (K.written output.old) (K.written output.new) result }
     ensures nothing { IsEarly result → output.new ≡ output.old }
     ensures read_count { IsReadCount result (S.fault_count input.old) (S.fault_count input.new) }
     ensures write_count { IsWriteCount result (K.fault_count output.old) (K.fault_count output.new) }
@@ -174,8 +159,9 @@ fn serve<S: Source, K: Sink>(alloc: Global, asked: Asked, input: &mut S, output:
 /// steps. `check` reads a trace and writes `yes STEPS` where its steps are a run of the one-machine kernel, else `no STEP`
 /// with the first that is not allowed. The words come first, then the input is read to its end, then its text is read, and
 /// only then is anything written. `Limit` comes for more than 16,777,216 bytes, for more than 100,000 events before any
-/// line that is bad or cannot be played, and where `check` finds that more than 268,435,456 bytes would be noted for remote
-/// moves by steps that are allowed. After the output it is flushed once.
+/// line that is bad, where `check` finds that more than 268,435,456 bytes would be noted for remote moves by steps that are
+/// allowed, and at an event of `replay` before which the emitted frames hold more than 266,076,160 bytes: then what is written ends
+/// before that event. After the output it is flushed once.
 ///
 /// Where the source does not tell what is left, the clauses speak of some input that it may have had.
 pub fn vkernel<S: Source, K: Sink>(
@@ -200,11 +186,16 @@ pub fn vkernel<S: Source, K: Sink>(
         (λ a i. IsNotARun a i step (K.written output.old) (K.written output.new)) }
     // At Done and NotARun the input was read to its end.
     ensures whole { IsTold result → IfSome (S.left input.old) (λ i. S.left input.new ≡ Some []) }
-    // BadInput tells the first line of the input that is bad or cannot be played.
+    // BadInput tells the first line of the input that is bad.
     ensures bad { (line : ℕ) → result ≡ Status.BadInput line → Asks (map string_bytes words.now) (S.left input.old)
         (λ a i. IsBadAt a i line) }
-    // Limit comes only where the input has too many bytes, or too many events or noted bytes before any line or step that is refused.
-    ensures limit { result ≡ Status.Limit → Asks (map string_bytes words.now) (S.left input.old) IsOverLimit }
+    // Limit comes only where the input has too many bytes, or too many events or noted bytes before any line or step that is refused, and
+    // then nothing is written; or where before an event of a schedule too many bytes were emitted, and then the events before it are
+    // written, of which the steps are a run.
+    ensures limit { result ≡ Status.Limit → Asks (map string_bytes words.now) (S.left input.old)
+        (λ a i. (IsOverLimit a i × (output.new ≡ output.old)) ⊎ IsCutShort a i (K.written output.old) (K.written output.new)) }
+    // If something was written then, the input was read to its end.
+    ensures limit_whole { result ≡ Status.Limit → (output.new ≡ output.old) ⊎ IfSome (S.left input.old) (λ i. S.left input.new ≡ Some []) }
     // NoMemory comes only before anything was read, or where at least one byte was read and not one too many.
     ensures memory { result ≡ Status.NoMemory → IsWanting input.old input.new (S.left input.old) (S.left input.new) }
     // Where no fault is told and memory sufficed, words and input alone decide.
@@ -217,9 +208,9 @@ pub fn vkernel<S: Source, K: Sink>(
     ensures write_fault { result ≡ Status.WriteFault → Rose (K.fault_count output.old) (K.fault_count output.new) }
     ensures write_told { K.fault_count output.old < K.fault_count output.new → result ≡ Status.WriteFault }
     // A write is tried only where the input is one that asks for something to be written.
-    ensures writing { result ≡ Status.WriteFault → Asks (map string_bytes words.now) (S.left input.old) (λ a i. IsTold (status_of a i)) }
+    ensures writing { result ≡ Status.WriteFault → Asks (map string_bytes words.now) (S.left input.old) IsToWrite }
 
-    // At Usage, BadInput, ReadFault, NoMemory and Limit nothing is written.
+    // At Usage, BadInput, ReadFault and NoMemory nothing is written.
     ensures nothing { IsEarly result → output.new ≡ output.old }
     // At every answer what stood written stays in front, and a front of what is asked for is behind it.
     ensures front { OfInput (S.left input.old)

@@ -1,4 +1,4 @@
-use Rattle.vk_cluster.proofs.Rooms.{has_room, same_items}
+use Rattle.vk_cluster.proofs.Rooms.{same_items}
 use Rattle.vk_cluster.proofs.emitted.room_for_event.Goals as goal
 
 pub returns-clause-same : goal.returns-clause-same

@@ -4,7 +4,7 @@ use Rattle.vk_procs.specs.Seats.{pids, seat_in}
 use Rattle.vk_rules.specs.Entries.{Collected}
 use Rattle.vk_stands.specs.Fit.{AreFit}
 use Rattle.vk_stands.specs.Rules.{Doing}
-use Rattle.vk_host.specs.Desks.{doing_in, tables_in}
+use Rattle.vk_host.specs.Desks.{tables_in}
 use Rattle.vk_host.specs.Played.{IsPlayed, collect_given}
 use Rattle.vk_host.proofs.Happening.{collect_played}
 use Rattle.vk_host.proofs.Staying.{pids_collected}

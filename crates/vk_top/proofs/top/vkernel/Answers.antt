@@ -18,6 +18,9 @@ pub returns-in-Ok-Some-clause-limit : goal.returns-in-Ok-Some-clause-limit
 returns-in-Ok-Some-clause-limit g c =
     λ is. asks _ _ _ _ (sym c.in-Ok-Some.field-0-is ∙ c.in-Ok-Some.ensures) (c.serve.ensures.outcome.limit is)
 
+pub returns-in-Ok-Some-clause-limit_whole : goal.returns-in-Ok-Some-clause-limit_whole
+returns-in-Ok-Some-clause-limit_whole g c = λ is. c.serve.ensures.outcome.read is
+
 pub returns-in-Ok-Some-clause-writing : goal.returns-in-Ok-Some-clause-writing
 returns-in-Ok-Some-clause-writing g c =
     λ is. asks _ _ _ _ (sym c.in-Ok-Some.field-0-is ∙ c.in-Ok-Some.ensures) (c.serve.ensures.outcome.writing is)

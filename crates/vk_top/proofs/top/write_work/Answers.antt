@@ -2,7 +2,7 @@ use Rattle.std.proofs.Common.{◌∙◌, length, subst, sym}
 use Rattle.std.proofs.KnownBytes.{Appends-kept}
 use Rattle.std.proofs.Math.Seq.{take-length}
 use Rattle.std.specs.Io.KnownBytes.{Appends}
-use Rattle.vk_top.proofs.Outcomes.{told_count}
+use Rattle.vk_top.proofs.Outcomes.{late_count}
 use Rattle.vk_top.proofs.top.write_work.Goals as goal
 
 pub returns-in-Ok-clause-front : goal.returns-in-Ok-clause-front
@@ -22,4 +22,4 @@ returns-in-Err-flush-clause-front g c =
     )
 
 pub returns-in-Ok-clause-count : goal.returns-in-Ok-clause-count
-returns-in-Ok-clause-count g c = told_count _ _ _ c.requires (c.in-Ok.ensures.cause.kept ∙ c.in_default.ensures.cause.kept)
+returns-in-Ok-clause-count g c = late_count _ _ _ c.requires (c.in-Ok.ensures.cause.kept ∙ c.in_default.ensures.cause.kept)

@@ -8,16 +8,16 @@ use Rattle.vk_host.proofs.host.Host.collect.Goals as goal
 
 pub count-requires : goal.count-requires
 count-requires c =
-    let s = c.self.inside in few_yet c.args.self.now s.desk s.number s.events s.frames c.self.view_is c.requires.few
+    let s = c.self.inside in few_yet c.args.self.now s.desk s.number s.events c.self.view_is c.requires.few
 
 pub collect-outcome-requires-clause-can : goal.collect-outcome-requires-clause-can
 collect-outcome-requires-clause-can c =
     let s = c.self.inside in
-    can_start c.args.self.now s.desk s.number s.events s.frames c.self.view_is c.args.pid c.requires.somewhere c.requires.few c.requires.own
+    can_start c.args.self.now s.desk s.number s.events c.self.view_is c.args.pid c.requires.somewhere c.requires.few c.requires.own
 
 pub collect-outcome-requires-clause-own : goal.collect-outcome-requires-clause-own
 collect-outcome-requires-clause-own c =
-    let s = c.self.inside in own_yet c.args.self.now s.desk s.number s.events s.frames c.self.view_is c.args.pid c.requires.own
+    let s = c.self.inside in own_yet c.args.self.now s.desk s.number s.events c.self.view_is c.args.pid c.requires.own
 
 pub seal-requires : goal.seal-requires
 seal-requires c =
@@ -25,7 +25,7 @@ seal-requires c =
     let n = c.count.new in
     let d = c.collect-outcome.new.desk in
     can_seal c.args.self.now (Collected c.args.pid) (collect_given c.collect-outcome.result) d n.number n.events
-    (process_happens c.args.self.now s.desk d s.number s.events s.frames c.self.view_is
+    (process_happens c.args.self.now s.desk d s.number s.events c.self.view_is
     (collect_given c.collect-outcome.result) n.number n.events
     c.count.ensures.events c.collect-outcome.ensures.same c.args.pid (Collected c.args.pid) (λ r. refl) (λ r. refl) c.count.ensures.number
     c.collect-outcome.ensures.played c.requires.somewhere c.requires.few c.requires.own) c.requires.somewhere c.requires.few
@@ -38,6 +38,6 @@ returns c =
     let played = subst (λ a. IsPlayed s.desk.times c.args.pid.host s.desk.now (Collected c.args.pid) a (fresh (doing_in s.desk))
     (doing_in d)) (sym c.collect_answer.ensures) c.collect-outcome.ensures.played in
     event_is c.args.self.now (Collected c.args.pid) c.collect_answer.result d n.number n.events
-    (process_happens c.args.self.now s.desk d s.number s.events s.frames c.self.view_is c.collect_answer.result n.number n.events
+    (process_happens c.args.self.now s.desk d s.number s.events c.self.view_is c.collect_answer.result n.number n.events
     c.count.ensures.events c.collect-outcome.ensures.same c.args.pid (Collected c.args.pid) (λ r. refl) (λ r. refl)
-    c.count.ensures.number played c.requires.somewhere c.requires.few c.requires.own) c.seal.new.frames c.seal.ensures
+    c.count.ensures.number played c.requires.somewhere c.requires.few c.requires.own) c.seal.new.out c.seal.ensures

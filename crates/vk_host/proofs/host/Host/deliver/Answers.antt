@@ -13,7 +13,7 @@ use Rattle.vk_host.proofs.host.Host.deliver.Goals as goal
 
 pub count_frame-requires : goal.count_frame-requires
 count_frame-requires c =
-    let s = c.self.inside in few_yet c.args.self.now s.desk s.number s.events s.frames c.self.view_is c.requires.few
+    let s = c.self.inside in few_yet c.args.self.now s.desk s.number s.events c.self.view_is c.requires.few
 
 pub deliver-judged-requires-clause-can : goal.deliver-judged-requires-clause-can
 deliver-judged-requires-clause-can c =
@@ -29,7 +29,7 @@ seal-requires c =
     let o : Unsealed = unsealed_as c.open_frame-opened.result in
     let a : EventAnswer = answer_judged c.deliver-judged.result in
     can_seal c.args.self.now (Delivered o) a d n.number n.events
-    (frame_happens c.args.self.now s.desk d s.number s.events s.frames c.self.view_is a n.number n.events
+    (frame_happens c.args.self.now s.desk d s.number s.events c.self.view_is a n.number n.events
     c.count_frame.ensures.events c.deliver-judged.ensures.same o c.count_frame.ensures.number c.deliver-judged.ensures.played)
     c.requires.somewhere c.requires.few
 
@@ -40,10 +40,10 @@ returns c =
     let d = c.deliver-judged.new.desk in
     let o : Unsealed = unsealed_as c.open_frame-opened.result in
     let a : EventAnswer = answer_judged c.deliver-judged.result in
-    let new : StationValue = value_in d n.number n.events c.seal.new.frames in
+    let new : StationValue = value_in (record d { out = c.seal.new.out }) n.number n.events in
     subst (λ x. IsEvent c.args.self.now new (Delivered x) c.answer.result) c.open_frame-opened.ensures.value
     (subst (IsEvent c.args.self.now new (Delivered o)) (sym c.answer.ensures)
     (event_is c.args.self.now (Delivered o) a d n.number n.events
-    (frame_happens c.args.self.now s.desk d s.number s.events s.frames c.self.view_is a n.number n.events
+    (frame_happens c.args.self.now s.desk d s.number s.events c.self.view_is a n.number n.events
     c.count_frame.ensures.events c.deliver-judged.ensures.same o c.count_frame.ensures.number c.deliver-judged.ensures.played)
-    c.seal.new.frames c.seal.ensures))
+    c.seal.new.out c.seal.ensures))

@@ -7,12 +7,12 @@ use Rattle.vk_host.proofs.host.Host.tick.Goals as goal
 pub count-requires : goal.count-requires
 count-requires c =
     let s = c.self.inside in
-    few_yet c.args.self.now s.desk s.number s.events s.frames c.self.view_is (few_before c.args.self.now.events c.requires.few)
+    few_yet c.args.self.now s.desk s.number s.events c.self.view_is (few_before c.args.self.now.events c.requires.few)
 
 pub tick-now-requires : goal.tick-now-requires
 tick-now-requires c =
     let s = c.self.inside in
-    record { can = can_tick c.args.self.now s.desk s.number s.events s.frames c.self.view_is c.requires.somewhere c.requires.few }
+    record { can = can_tick c.args.self.now s.desk s.number s.events c.self.view_is c.requires.somewhere c.requires.few }
 
 pub seal-requires : goal.seal-requires
 seal-requires c =
@@ -20,7 +20,7 @@ seal-requires c =
     let n = c.count.new in
     let d = c.tick-now.new.desk in
     can_seal c.args.self.now Ticked (events_answered.Ticked c.tick-now.result) d n.number n.events
-    (tick_happens c.args.self.now s.desk d s.number s.events s.frames c.self.view_is (events_answered.Ticked c.tick-now.result) n.number n.events
+    (tick_happens c.args.self.now s.desk d s.number s.events c.self.view_is (events_answered.Ticked c.tick-now.result) n.number n.events
     c.count.ensures.events c.tick-now.ensures.same c.count.ensures.number c.tick-now.ensures.played) c.requires.somewhere
     (few_before c.args.self.now.events c.requires.few)
 
@@ -30,5 +30,5 @@ returns c =
     let n = c.count.new in
     let d = c.tick-now.new.desk in
     event_is c.args.self.now Ticked (events_answered.Ticked c.tick-now.result) d n.number n.events
-    (tick_happens c.args.self.now s.desk d s.number s.events s.frames c.self.view_is (events_answered.Ticked c.tick-now.result) n.number n.events
-    c.count.ensures.events c.tick-now.ensures.same c.count.ensures.number c.tick-now.ensures.played) c.seal.new.frames c.seal.ensures
+    (tick_happens c.args.self.now s.desk d s.number s.events c.self.view_is (events_answered.Ticked c.tick-now.result) n.number n.events
+    c.count.ensures.events c.tick-now.ensures.same c.count.ensures.number c.tick-now.ensures.played) c.seal.new.out c.seal.ensures

@@ -1,0 +1,80 @@
+-- What a step asks before the station acts, and what is left to do once it has.
+use Rattle.std.proofs.Common.{◌≡◌, ℕ, ◌+◌, ◌<◌, Bool, true, false, cond, nat_le, ◌==◌, ◌||◌, List, [], ◌∷◌, map, Option, Some, None, refl, sym, ap, ◌∙◌, subst, inl, inr}
+use Rattle.std.specs.Prelude.{slice_get}
+use Rattle.std.proofs.lemmas.Bool.{and_parts, leb-false, or_cases, or_left, or_parts, or_right}
+use Rattle.vk_base.specs.declared.config.ProcessSpec.{ProcessSpec}
+use Rattle.vk_base.specs.declared.event.EventAnswer.{EventAnswer}
+use Rattle.vk_base.specs.declared.limits.TheConstants.{EVENTS}
+use Rattle.vk_base.specs.declared.pid.Pid.{Pid}
+use Rattle.vk_base.specs.Options.{◌>>=◌}
+use Rattle.vk_base.specs.Settings.{Settings, has_process, has_station, is_on, is_process}
+use Rattle.vk_event.specs.declared.event.Event.{Event}
+use Rattle.vk_event.specs.declared.event.Event.TheVariants as events
+use Rattle.vk_event.specs.Lawful.{has_actors}
+use Rattle.vk_frame.specs.Reading.{frame_of}
+use Rattle.vk_rules.specs.Laws.{station_of}
+use Rattle.vk_host.specs.Standing.{IsAt}
+use Rattle.vk_host.specs.Values.{StationValue}
+use Rattle.vk_cluster.specs.declared.cluster.Cluster.{Cluster}
+use Rattle.vk_cluster.specs.declared.emitted.Emitted.{Emitted}
+use Rattle.vk_cluster.specs.declared.report.ClusterAnswer.TheVariants as answers
+use Rattle.vk_cluster.specs.Clusters.{value_of}
+use Rattle.vk_cluster.specs.Found.{if_for, opens_for}
+use Rattle.vk_cluster.specs.Piles.{IsAdded, Pile, items_of, pile_of}
+use Rattle.vk_cluster.specs.Standing.{IsFinished, StandsFor, logs_of}
+use Rattle.vk_cluster.specs.Values.{ClusterValue}
+
+-- who acts has a station in the configuration
+process_station : (pid : Pid) (specs : List ProcessSpec) → has_process specs pid ≡ true → has_station specs pid.host ≡ true
+process_station pid [] has = cc
+process_station pid (s ∷ ss) has = elim (or_cases (is_process pid s) (has_process ss pid) has) [
+  | inl this ↦
+      or_left (is_on pid.host s) (has_station ss pid.host)
+      (and_parts (s.pid.host == pid.host) (s.pid.local == pid.local) this).0
+  | inr rest ↦ or_right (is_on pid.host s) (has_station ss pid.host) (process_station pid ss rest)
+]
+
+pub actor_station : (specs : List ProcessSpec) (e : Event) → has_actors specs e ≡ true → has_station specs (station_of e) ≡ true
+actor_station specs (events.Call pid call) has = process_station pid specs has
+actor_station specs (events.Collect pid) has = process_station pid specs has
+actor_station specs (events.Tick host) has = has
+actor_station specs (events.Deliver to from event output) has = (and_parts (has_station specs to) (has_station specs from) has).0
+
+-- where not too many events were
+pub few_events : (events : ℕ) (over : Bool) → (nat_le EVENTS events || over) ≡ false → events < EVENTS
+few_events events over h = leb-false 100000 events (or_parts (nat_le EVENTS events) over h).0
+
+-- room alone changes nothing that is kept
+pub same_pile : (old new : Emitted) → new.bytes.items ≡ old.bytes.items → new.frames.items ≡ old.frames.items →
+    map items_of new.events.items ≡ map items_of old.events.items → pile_of new ≡ pile_of old
+same_pile old new bytes frames events = λ k. record { bytes = bytes k; frames = frames k; events = events k }
+
+pub same_value : (k : Cluster) (e : Emitted) → pile_of e ≡ pile_of k.emitted → value_of (record k { emitted = e }) ≡ value_of k
+same_value k e same = ap (λ p. record (value_of k) { pile = p }) same
+
+-- the station at a place stands for its entries
+pub station_at : (c : Settings) (es : List Event) (v : ClusterValue) (place host : ℕ) (s : StationValue) → StandsFor c es v →
+    slice_get v.hosts place ≡ Some s → s.host ≡ host → IsAt c (logs_of c es host) s
+station_at c es v place host s st found same = subst (λ h. IsAt c (logs_of c es h) s) same (st.stands.at place s found)
+
+-- what is left to do once the station at a place has had its event
+pub finished : (mid : ClusterValue) (pile : Pile) (place : ℕ) (t : StationValue) (given : EventAnswer) (host event : ℕ) → t.host ≡ host →
+    event ≡ t.events → IsAdded mid.pile pile place t.frames →
+    IsFinished mid (record mid { pile = pile; events = mid.events + 1 }) place t given
+    (record { host = host; event = event; answer = answers.Event given })
+finished mid pile place t given host event same number added = record {
+  config = refl;
+  hosts = refl;
+  pile = added;
+  events = refl;
+  report = λ k. record { host = sym same k; event = number k; answer = answers.Event given };
+}
+
+-- the bytes that are found are handed over where they are for this station
+pub handed_if : (to : ℕ) (bytes : List ℕ) (o : Option (List ℕ)) → o ≡ Some bytes → opens_for to (frame_of bytes) ≡ true →
+    (o >>= if_for to) ≡ Some bytes
+handed_if to bytes o found is = ap (λ p. p >>= if_for to) found ∙ ap (λ b. cond b (Some bytes) None) is
+
+pub refused_if : (to : ℕ) (bytes : List ℕ) (o : Option (List ℕ)) → o ≡ Some bytes → opens_for to (frame_of bytes) ≡ false →
+    (o >>= if_for to) ≡ None
+refused_if to bytes o found is = ap (λ p. p >>= if_for to) found ∙ ap (λ b. cond b (Some bytes) None) is

@@ -1,0 +1,98 @@
+-- When a cluster stands for the events so far, and what a step does.
+use Rattle.std.specs.Prelude.{ℕ, Bool, true, false, ◌≡◌, ◌+◌, ◌≤◌, List, [], ◌∷◌, ◌++◌, length, map, slice_get, sum_by, Some, None}
+use Rattle.vk_base.specs.declared.config.ProcessSpec.{ProcessSpec}
+use Rattle.vk_base.specs.declared.event.EventAnswer.{EventAnswer}
+use Rattle.vk_base.specs.declared.limits.TheConstants.{EVENTS}
+use Rattle.vk_base.specs.Pids.{IsPid}
+use Rattle.vk_base.specs.Settings.{Settings, refusal_of, stations_of}
+use Rattle.vk_event.specs.declared.event.Event.{Event}
+use Rattle.vk_rules.specs.Each.{Each}
+use Rattle.vk_rules.specs.Histories.{At, Happened, Logs, Missing, happened, history_of, logs_from, no_entries}
+use Rattle.vk_rules.specs.Readings.{reading}
+use Rattle.v_lawful.specs.Fitting.{IsFitting}
+use Rattle.v_lawful.specs.Sending.{IsSentEntry}
+use Rattle.v_whole.specs.Schedules.{AreOfProcesses}
+use Rattle.vk_host.specs.Sealed.{sealed}
+use Rattle.vk_host.specs.Standing.{IsAt, Shows}
+use Rattle.vk_host.specs.Values.{StationValue}
+use Rattle.vk_cluster.specs.declared.report.ClusterAnswer.TheVariants as answers
+use Rattle.vk_cluster.specs.declared.report.ClusterRefusal.{ClusterRefusal}
+use Rattle.vk_cluster.specs.declared.report.ClusterRefusal.TheVariants as refusals
+use Rattle.vk_cluster.specs.declared.report.StepReport.{StepReport}
+use Rattle.vk_cluster.specs.Found.{sent_of}
+use Rattle.vk_cluster.specs.Piles.{IsAdded, IsKept, Pile, shown}
+use Rattle.vk_cluster.specs.Values.{ClusterValue}
+
+-- the entries of each station after these events
+abbrev pub logs_of : Settings → List Event → Logs
+logs_of c es = logs_from c no_entries es
+
+-- how many bytes the frames of an event have, and those of all
+abbrev pub bytes_of : Happened → ℕ
+bytes_of (At host event e) = sum_by length (map sealed e.frames)
+bytes_of (Missing host) = 0
+
+abbrev pub emitted_bytes : List Happened → ℕ
+emitted_bytes hs = sum_by bytes_of hs
+
+-- The stations are those of the configuration, each stands for its entries, and what is kept are the frames of these. Whatever comes of
+-- an event of a process, each entry sends lawful packets.
+pub record AreAt (c : Settings) (logs : Logs) (hosts : List StationValue) (pile : Pile) : Type 0 where
+  pub order : map (λ (s : StationValue). s.host) hosts ≡ stations_of c.specs
+  pub at : (place : ℕ) (s : StationValue) → slice_get hosts place ≡ Some s → IsAt c (logs s.host) s
+  pub kept : IsKept pile
+  pub emitted : shown pile ≡ map (λ host. sent_of (logs host)) (stations_of c.specs)
+  pub sent : (host : ℕ) → Each IsSentEntry (logs host)
+  pub fitting : (host : ℕ) → IsFitting c host (reading c host (logs host))
+
+-- The cluster stands for these events.
+pub record StandsFor (c : Settings) (es : List Event) (k : ClusterValue) : Type 0 where
+  pub config : k.config ≡ c
+  pub lawful : refusal_of c.times c.pool c.specs ≡ None
+  pub pids : Each (λ (s : ProcessSpec). IsPid s.pid) c.specs
+  pub stands : AreAt c (logs_of c es) k.hosts k.pile
+  pub bytes : length k.pile.bytes ≡ emitted_bytes (history_of c es)
+  pub events : k.events ≡ length es
+  pub few : length es ≤ EVENTS
+  pub processes : AreOfProcesses c.specs es
+
+-- the stations with these numbers, none of which had an event
+pub record AreHosts (c : Settings) (hosts : List StationValue) (numbers : List ℕ) : Type 0 where
+  pub order : map (λ (s : StationValue). s.host) hosts ≡ numbers
+  pub at : (place : ℕ) (s : StationValue) → slice_get hosts place ≡ Some s → IsAt c [] s
+
+-- it stands for some
+abbrev pub StandsSomewhere : ClusterValue → Type 0
+StandsSomewhere k = (c : Settings) × (es : List Event) × StandsFor c es k
+
+abbrev pub is_limit : ClusterRefusal → Bool
+is_limit refusals.Limit = true
+is_limit refusals.NoMemory = false
+
+-- what is told of what happened
+abbrev pub report_of : Happened → StepReport
+report_of (At host event e) = record { host = host; event = event; answer = answers.Event e.answer }
+report_of (Missing host) = record { host = host; event = 0; answer = answers.Missing }
+
+-- the station that acted shows the entry, with the steps and the frames of the event
+abbrev pub ShowsLast : List StationValue → Happened → Type 0
+ShowsLast hosts (At host event e) = (place : ℕ) (s : StationValue) → slice_get hosts place ≡ Some s → s.host ≡ host → Shows s e.answer e
+ShowsLast hosts (Missing host) = Unit {0}
+
+-- An event behind others: the report is what is told of what happens, the station shows it, and the cluster stands for one event more.
+pub record IsNext (c : Settings) (es : List Event) (new : ClusterValue) (e : Event) (r : StepReport) : Type 0 where
+  pub report : r ≡ report_of (happened c (logs_of c es) e)
+  pub shows : ShowsLast new.hosts (happened c (logs_of c es) e)
+  pub stands : StandsFor c (es ++ e ∷ []) new
+
+-- It is so whatever events the cluster stood for.
+abbrev pub IsStep : ClusterValue → ClusterValue → Event → StepReport → Type 0
+IsStep old new e r = (c : Settings) (es : List Event) → StandsFor c es old → IsNext c es new e r
+
+-- Of the code alone: what is left to do once the station at a place has had its event and been put back, as this value, answering so.
+pub record IsFinished (mid new : ClusterValue) (place : ℕ) (t : StationValue) (given : EventAnswer) (r : StepReport) : Type 0 where
+  pub config : new.config ≡ mid.config
+  pub hosts : new.hosts ≡ mid.hosts
+  pub pile : IsAdded mid.pile new.pile place t.frames
+  pub events : new.events ≡ mid.events + 1
+  pub report : r ≡ record { host = t.host; event = t.events; answer = answers.Event given }

@@ -1,0 +1,312 @@
+//! The cluster and its events.
+
+ghost use Rattle.std.specs.Prelude.{◌≡◌, ◌≤◌, ◌<◌, ◌+◌, ◌||◌, ℕ, List, [], true, false, None, Some, length, map, sum_by, nat_le, nat_lt, slice_get, slice_index, IfOk, IfErr, OnErr, MatchOption};
+ghost use Rattle.vk_base.specs.Pids.{IsPid};
+ghost use Rattle.vk_base.specs.Settings.{Settings, has_process, has_station, refusal_of, stations_of};
+ghost use Rattle.vk_event.specs.declared.event.Event.{Event as TheEvent};
+ghost use Rattle.vk_event.specs.Lawful.{has_actors};
+ghost use Rattle.vk_frame.specs.Reading.{frame_of};
+ghost use Rattle.vk_rules.specs.Each.{Each};
+ghost use Rattle.vk_rules.specs.Histories.{Missing};
+ghost use Rattle.vk_rules.specs.Laws.{station_of};
+ghost use Rattle.vk_host.specs.Standing.{IsAt};
+ghost use Rattle.vk_host.specs.Values.{StationValue};
+ghost use Rattle.vk_base.specs.declared.config.ProcessSpec.{ProcessSpec as TheProcessSpec};
+ghost use Rattle.vk_cluster.specs.Found.{bytes_for, is_addressed, opens_for};
+ghost use Rattle.vk_cluster.specs.Piles.{HasRoom, IsAdded, IsKept, pile_of, shown};
+ghost use Rattle.vk_cluster.specs.Standing.{AreHosts, IsFinished, IsStep, StandsFor, StandsSomewhere, is_limit, logs_of, report_of};
+ghost use Rattle.vk_cluster.specs.Clusters.{value_of};
+ghost use Rattle.vk_cluster.specs.Values.{is_full};
+
+use crate::emitted::{EVENT_BYTES, EVENT_FRAMES, Emitted, LAST_BYTES};
+use crate::fields::{are_in_range, pid_is};
+use crate::report::{ClusterAnswer, ClusterRefusal, StepReport};
+use std::alloc::Global;
+use vk_base::limits::EVENTS;
+use vk_base::{Call, Config, EventAnswer, NoMemory, Pid, ProcessSpec};
+use vk_event::Event;
+use vk_frame::{Header, unseal};
+use vk_host::Host;
+use vk_rules::frames_unseal_again;
+
+/// The destination of a frame for every station.
+const EVERY_STATION: u16 = 65_535;
+
+/// All stations of a configuration, and the frames that they emitted.
+#[derive(Drop)]
+pub struct Cluster {
+    config: Config,
+    hosts: Vec<Host>,
+    emitted: Emitted,
+    events: usize,
+}
+
+impl Cluster {
+    /// The stations of the configuration before the first event.
+    ///
+    /// # Errors
+    ///
+    /// [`NoMemory`] where memory is wanting.
+    pub fn new(alloc: Global, config: &Config) -> Result<Self, NoMemory>
+        requires { refusal_of config.now.times config.now.pool config.now.specs ≡ None }
+        ensures { IfOk result (λ k. StandsFor config.now [] (value_of k)) }
+    {
+        pids_are(config.specs());
+        Ok(Cluster {
+            config: config.copy(alloc)?,
+            hosts: new_hosts(alloc, config)?,
+            emitted: Emitted::new(alloc, config.station_count() as usize)?,
+            events: 0,
+        })
+    }
+
+    /// One event of a process or of a station of the configuration; of a delivery both stations are of it.
+    ///
+    /// # Errors
+    ///
+    /// [`ClusterRefusal::Limit`] exactly where there were 100,000 events, or where the frames so far hold more than 266,076,160
+    /// bytes; then [`ClusterRefusal::NoMemory`]. Both change nothing: memory is taken before the station acts.
+    pub fn step(&mut self, _alloc: Global, event: &Event) -> Result<StepReport, ClusterRefusal>
+        requires somewhere { StandsSomewhere (value_of self.old) }
+        requires actors { has_actors self.old.config.specs event.now ≡ true }
+        ensures step { IfOk result (IsStep (value_of self.old) (value_of self.new) event.now) }
+        ensures room { IfOk result (λ _. is_full (value_of self.old) ≡ false) }
+        ensures cause { IfErr result (λ e. is_full (value_of self.old) ≡ is_limit e) }
+        ensures same { OnErr result (value_of self.new ≡ value_of self.old) }
+    {
+        if is_full(self.events, self.emitted.size()) {
+            return Err(ClusterRefusal::Limit);
+        }
+        let place = place_of(&self.config, acting(event));
+        self.emitted.make_room(place)?;
+        Ok(self.play(place, event))
+    }
+
+    /// The station of this host, which is one of the configuration, with the steps and frames of its last event.
+    pub fn host(&self, host: u16) -> &Host
+        requires somewhere { StandsSomewhere (value_of self.now) }
+        requires station { has_station self.now.config.specs host ≡ true }
+        ensures host { result.now.host ≡ host }
+        ensures found { (place : ℕ) × (slice_get self.now.hosts.items place ≡ Some result.now) }
+        ensures at { (c : Settings) (es : List TheEvent) → StandsFor c es (value_of self.now) → IsAt c (logs_of c es host) result.now }
+    {
+        &self.hosts[place_of(&self.config, host)]
+    }
+
+    /// The event at the station of this place, for which there is room.
+    fn play(&mut self, place: usize, event: &Event) -> StepReport
+        requires somewhere { StandsSomewhere (value_of self.old) }
+        requires few { self.old.events < EVENTS }
+        requires actors { has_actors self.old.config.specs event.now ≡ true }
+        requires place { slice_get (stations_of self.old.config.specs) place ≡ Some (station_of event.now) }
+        requires room { HasRoom self.old.emitted place EVENT_BYTES EVENT_FRAMES }
+        ensures { IsStep (value_of self.old) (value_of self.new) event.now result }
+    {
+        match event {
+            Event::Call { pid, call } => self.call(place, *pid, call),
+            Event::Collect { pid } => self.collect(place, *pid),
+            Event::Tick { host } => self.tick(place, *host),
+            Event::Deliver {
+                to,
+                from,
+                event,
+                output,
+            } => self.deliver(place, *to, *from, *event, *output),
+        }
+    }
+
+    fn call(&mut self, place: usize, pid: Pid, call: &Call) -> StepReport
+        requires somewhere { StandsSomewhere (value_of self.old) }
+        requires few { self.old.events < EVENTS }
+        requires process { has_process self.old.config.specs pid ≡ true }
+        requires place { slice_get (stations_of self.old.config.specs) place ≡ Some pid.host }
+        requires room { HasRoom self.old.emitted place EVENT_BYTES EVENT_FRAMES }
+        ensures { IsStep (value_of self.old) (value_of self.new) (Event.Call pid call.now) result }
+    {
+        pid_is(&pid);
+        are_in_range(call);
+        let answer = self.hosts[place].call(pid, call);
+        self.finish(place, pid.host, answer)
+    }
+
+    fn collect(&mut self, place: usize, pid: Pid) -> StepReport
+        requires somewhere { StandsSomewhere (value_of self.old) }
+        requires few { self.old.events < EVENTS }
+        requires process { has_process self.old.config.specs pid ≡ true }
+        requires place { slice_get (stations_of self.old.config.specs) place ≡ Some pid.host }
+        requires room { HasRoom self.old.emitted place EVENT_BYTES EVENT_FRAMES }
+        ensures { IsStep (value_of self.old) (value_of self.new) (Event.Collect pid) result }
+    {
+        let answer = self.hosts[place].collect(pid);
+        self.finish(place, pid.host, answer)
+    }
+
+    fn tick(&mut self, place: usize, host: u16) -> StepReport
+        requires somewhere { StandsSomewhere (value_of self.old) }
+        requires few { self.old.events < EVENTS }
+        requires place { slice_get (stations_of self.old.config.specs) place ≡ Some host }
+        requires room { HasRoom self.old.emitted place EVENT_BYTES EVENT_FRAMES }
+        ensures { IsStep (value_of self.old) (value_of self.new) (Event.Tick host) result }
+    {
+        let answer = self.hosts[place].tick();
+        self.finish(place, host, answer)
+    }
+
+    fn deliver(&mut self, place: usize, to: u16, from: u16, event: u64, output: u16) -> StepReport
+        requires somewhere { StandsSomewhere (value_of self.old) }
+        requires few { self.old.events < EVENTS }
+        requires from { has_station self.old.config.specs from ≡ true }
+        requires place { slice_get (stations_of self.old.config.specs) place ≡ Some to }
+        requires room { HasRoom self.old.emitted place EVENT_BYTES EVENT_FRAMES }
+        ensures { IsStep (value_of self.old) (value_of self.new) (Event.Deliver to from event output) result }
+    {
+        frames_unseal_again();
+        let source = place_of(&self.config, from);
+        match handed_over(&self.emitted, to, source, event, output) {
+            Some(bytes) => {
+                let answer = self.hosts[place].deliver(bytes);
+                self.finish(place, to, answer)
+            }
+            None => self.missing(to),
+        }
+    }
+
+    /// The frames of the last event of the station at this place, which is this one, are kept, and the event is counted.
+    fn finish(&mut self, place: usize, host: u16, answer: EventAnswer) -> StepReport
+        requires count { self.old.events < EVENTS }
+        requires place { place < length self.old.hosts.items }
+        requires events { place < length self.old.emitted.events.items }
+        requires kept { IsKept (pile_of self.old.emitted) }
+        requires room { HasRoom self.old.emitted place EVENT_BYTES EVENT_FRAMES }
+        requires host { (t : StationValue) → slice_get self.old.hosts.items place ≡ Some t → t.host ≡ host }
+        requires few { (t : StationValue) → slice_get self.old.hosts.items place ≡ Some t → length t.frames ≤ EVENT_FRAMES }
+        requires bytes { (t : StationValue) → slice_get self.old.hosts.items place ≡ Some t → sum_by length t.frames ≤ EVENT_BYTES }
+        ensures { (t : StationValue) → slice_get self.old.hosts.items place ≡ Some t →
+            IsFinished (value_of self.old) (value_of self.new) place t answer result }
+    {
+        keep(&mut self.emitted, &self.hosts[place], place);
+        self.events += 1;
+        StepReport {
+            host,
+            event: self.hosts[place].events(),
+            answer: ClusterAnswer::Event { answer },
+        }
+    }
+
+    /// There is nothing to deliver to this station.
+    fn missing(&mut self, to: u16) -> StepReport
+        requires { self.old.events < EVENTS }
+        ensures report { result ≡ report_of (Missing to) }
+        ensures value { value_of self.new ≡ record (value_of self.old) { events = self.old.events + 1 } }
+    {
+        self.events += 1;
+        StepReport {
+            host: to,
+            event: 0,
+            answer: ClusterAnswer::Missing,
+        }
+    }
+}
+
+/// Keeps the frames of the last event of the station at this place.
+fn keep(emitted: &mut Emitted, host: &Host, place: usize)
+    requires kept { IsKept (pile_of emitted.old) }
+    requires place { place < length emitted.old.events.items }
+    requires room { HasRoom emitted.old place EVENT_BYTES EVENT_FRAMES }
+    requires few { length host.now.frames ≤ EVENT_FRAMES }
+    requires bytes { sum_by length host.now.frames ≤ EVENT_BYTES }
+    ensures { IsAdded (pile_of emitted.old) (pile_of emitted.new) place host.now.frames }
+{
+    let first = emitted.frames.len();
+    for at in 0..host.frame_count() {
+        emitted.put(host.frame(at));
+    }
+    emitted.end_event(place, first);
+}
+
+/// The bytes that a delivery hands over to this station: the frame with this output number of the event with this number of the station
+/// at the place, where it is addressed to it.
+fn handed_over<'a>(
+    emitted: &'a Emitted,
+    to: u16,
+    place: usize,
+    event: u64,
+    output: u16,
+) -> Option<&'a [u8]>
+    requires { IsKept (pile_of emitted.now) }
+    ensures { MatchOption result (bytes_for to (shown (pile_of emitted.now)) place event output ≡ None)
+        (λ r. bytes_for to (shown (pile_of emitted.now)) place event output ≡ Some r.now) }
+{
+    match emitted.find(place, event, output) {
+        Some(bytes) => { if is_for(bytes, to) { Some(bytes) } else { None } }
+        None => None,
+    }
+}
+
+fn is_for(bytes: &[u8], to: u16) -> bool
+    ensures { result ≡ opens_for to (frame_of bytes.now) }
+{
+    match unseal(bytes) {
+        Some((header, _)) => is_addressed(&header, to),
+        None => false,
+    }
+}
+
+/// Whether the header names this station, or all of them and another as its source.
+fn is_addressed(header: &Header, to: u16) -> bool
+    ensures { result ≡ is_addressed to header.now }
+{
+    header.destination == to || (header.destination == EVERY_STATION && header.source != to)
+}
+
+/// Whether no event is taken any more.
+fn is_full(events: usize, size: usize) -> bool
+    ensures { result ≡ (nat_le EVENTS events || nat_lt LAST_BYTES size) }
+{
+    events >= EVENTS || size > LAST_BYTES
+}
+
+/// The station that acts.
+fn acting(event: &Event) -> u16
+    ensures { result ≡ station_of event.now }
+{
+    match event {
+        Event::Call { pid, .. } | Event::Collect { pid } => pid.host,
+        Event::Tick { host } => *host,
+        Event::Deliver { to, .. } => *to,
+    }
+}
+
+/// The place of a station among those of the configuration, counted from 0.
+fn place_of(config: &Config, host: u16) -> usize
+    requires { has_station config.now.specs host ≡ true }
+    ensures { slice_get (stations_of config.now.specs) result ≡ Some host }
+{
+    for at in 0..config.station_count() {
+        if config.station(at) == host {
+            return at as usize;
+        }
+    }
+    unreachable!()
+}
+
+/// The stations of the configuration, none of which had an event.
+fn new_hosts(alloc: Global, config: &Config) -> Result<Vec<Host>, NoMemory>
+    requires { refusal_of config.now.times config.now.pool config.now.specs ≡ None }
+    ensures { IfOk result (λ hosts. AreHosts config.now hosts.items (stations_of config.now.specs)) }
+{
+    let mut hosts = Vec::with_capacity(alloc, config.station_count() as usize)?;
+    for at in 0..config.station_count() {
+        hosts.push(Host::new(alloc, config, config.station(at))?)?;
+    }
+    Ok(hosts)
+}
+
+/// The numbers of these pids have 16 bits. Changes nothing.
+fn pids_are(specs: &[ProcessSpec])
+    ensures { Each (λ (s : TheProcessSpec). IsPid s.pid) specs.now }
+{
+    for spec in specs {
+        pid_is(&spec.pid);
+    }
+}

@@ -1,0 +1,39 @@
+//! What a cluster tells of an event.
+
+ghost use Rattle.std.specs.Prelude.{◌≡◌};
+ghost use Rattle.vk_cluster.specs.declared.report.ClusterRefusal.TheVariants.{NoMemory as memory_wanting};
+
+use vk_base::{EventAnswer, NoMemory};
+
+/// What became of one event.
+#[derive(Drop)]
+pub struct StepReport {
+    /// The station that acts.
+    pub host: u16,
+    /// Which of its events this is, counted from 1; 0 where the delivery is missing.
+    pub event: u64,
+    pub answer: ClusterAnswer,
+}
+
+/// The station's answer, or that there is nothing to deliver: the frame was not emitted, or is for another station.
+#[derive(Drop)]
+pub enum ClusterAnswer {
+    Missing,
+    Event { answer: EventAnswer },
+}
+
+/// Why no event happened. Nothing has changed.
+#[derive(Clone, Copy, Debug, PartialEq, Eq)]
+pub enum ClusterRefusal {
+    /// There were 100,000 events, or the frames so far hold more than 266,076,160 bytes.
+    Limit,
+    NoMemory,
+}
+
+impl From<NoMemory> for ClusterRefusal {
+    ghost from_gives = { λ _ e. e ≡ memory_wanting };
+
+    fn from(_refused: NoMemory) -> ClusterRefusal {
+        ClusterRefusal::NoMemory
+    }
+}

@@ -1,0 +1,23 @@
+use Rattle.std.proofs.Common.{◌+◌, List, length, Some, None, sym, ap, ◌∙◌}
+use Rattle.vk_base.specs.declared.config.ProcessSpec.{ProcessSpec}
+use Rattle.vk_event.specs.declared.schedule.Front.{Front}
+use Rattle.vk_event.specs.declared.schedule.TextRefusal.TheVariants as refusals
+use Rattle.vk_event.specs.Remaining.{end_of}
+use Rattle.vk_event.proofs.RemainingEvents.{nothing_left, line_left, one_too_many}
+use Rattle.vk_event.proofs.reader.EventReader.into_front.Goals as goal
+
+pub returns-in_default : goal.returns-in_default
+returns-in_default c = c.ended.ensures ∙ sym (nothing_left _ _ _ c.in_default.ensures.line) ∙ c.self.view_is
+
+pub returns-in-Some-read_event : goal.returns-in-Some-read_event
+returns-in-Some-read_event c =
+    let none = ap (λ (f : Front). f.schedule.events) c.self.view_is ∙ c.requires in
+    c.ended-in-Some-read_event.ensures
+    ∙ sym (one_too_many _ _ _ _ _ c.read_event.new.into c.in-Some.ensures.line c.in-Some-read_event.ensures none) ∙ c.self.view_is
+
+pub returns : goal.returns
+returns c =
+    c.ended-2.ensures
+    ∙ ap (λ (ss : List ProcessSpec). end_of c.self.inside.config (Some (refusals.BadInput (length ss + c.self.inside.given + 2))) None)
+    c.specs.ensures.specs
+    ∙ sym (line_left _ _ _ _ _ None c.in-Some.ensures.line c.in_default-read_event.ensures) ∙ c.self.view_is

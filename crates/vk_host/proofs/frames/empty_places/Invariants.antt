@@ -1,5 +1,0 @@
-use Rattle.std.proofs.Common.{◌≡◌, vec_len}
-use Rattle.vk_host.proofs.frames.empty_places.Given as goal
-
-abbrev pub invariant-loop : goal.invariant-loop
-invariant-loop l = vec_len l.places ≡ l.counter
