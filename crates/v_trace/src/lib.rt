@@ -11,7 +11,7 @@ mod step;
 mod trace;
 mod word;
 
-pub use answer::put_answer;
+pub use answer::{put_answer, put_loaded, put_outcome};
 pub use law::{steps_are_spelled_once, traces_are_spelled_once};
 pub use reader::StepReader;
 pub use step::put_step;

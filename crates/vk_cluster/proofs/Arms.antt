@@ -27,15 +27,18 @@ use Rattle.v_lawful.specs.Sending.{IsInput, IsLawfulEntry, IsLawfulFrame, IsUnse
 use Rattle.v_lawful.proofs.Faultless.{configs_are_faultless}
 use Rattle.v_lawful.proofs.Schedules.{lawful_log}
 use Rattle.v_whole.specs.Schedules.{IsOfProcess}
+use Rattle.vk_host.specs.declared.response.Response.{Response}
+use Rattle.vk_host.specs.Responses.{answer_of}
 use Rattle.vk_host.specs.Sealed.{sealed}
 use Rattle.vk_host.specs.Standing.{IsAt, IsEvent}
 use Rattle.vk_host.specs.Standing as station
 use Rattle.vk_host.specs.Values.{StationValue, has}
 use Rattle.vk_cluster.specs.declared.emitted.TheConstants.{EVENT_BYTES, EVENT_FRAMES}
-use Rattle.vk_cluster.specs.declared.report.StepReport.{StepReport}
+use Rattle.vk_cluster.specs.declared.report.Advance.{Advance}
+use Rattle.vk_cluster.specs.declared.report.Advance.TheVariants as advances
 use Rattle.vk_cluster.specs.Found.{bytes_for, sent_of}
 use Rattle.vk_cluster.specs.Piles.{shown}
-use Rattle.vk_cluster.specs.Standing.{AreAt, IsFinished, IsNext, IsStep, ShowsLast, StandsFor, StandsSomewhere, bytes_of, logs_of, report_of}
+use Rattle.vk_cluster.specs.Standing.{AreAt, IsAdvance, IsFinished, IsNext, IsStep, ShowsLast, StandsFor, StandsSomewhere, Tells, bytes_of, logs_of, report_by, report_of}
 use Rattle.vk_cluster.specs.Values.{ClusterValue}
 use Rattle.vk_cluster.proofs.Handed.{found_bytes, opens_again}
 use Rattle.vk_cluster.proofs.Logs.{get_set_same, with_here, with_other}
@@ -78,9 +81,8 @@ put_back : (P : StationValue → Type 0) (hosts : List StationValue) (place : �
     (u : StationValue) → slice_get (set hosts place t) place ≡ Some u → P u
 put_back P hosts place s t found h u there = subst P (same_Some t u (sym (get_set_same hosts place t s found) ∙ there)) h
 
--- the station at a place has this number, and neither too many frames nor too many bytes in them
-pub record IsFitAt (hosts : List StationValue) (place number : ℕ) : Type 0 where
-  pub host : (s : StationValue) → slice_get hosts place ≡ Some s → s.host ≡ number
+-- the station at a place has neither too many frames nor too many bytes in them
+pub record IsFitAt (hosts : List StationValue) (place : ℕ) : Type 0 where
   pub few : (s : StationValue) → slice_get hosts place ≡ Some s → length s.frames ≤ EVENT_FRAMES
   pub bytes : (s : StationValue) → slice_get hosts place ≡ Some s → sum_by length s.frames ≤ EVENT_BYTES
 
@@ -145,9 +147,8 @@ module _ (v : ClusterValue) (some : StandsSomewhere v) (place host : ℕ) (there
         (configs_are_faultless some.0 some.2.lawful some.2.pids s.host) input (short_log s) some.2.stands found event
 
     pub fit_at : (s t : StationValue) (i : Input) (given : EventAnswer) → slice_get v.hosts place ≡ Some s → IsInput s.host i → IsEvent s t i given →
-        IsFitAt (set v.hosts place t) place host
+        IsFitAt (set v.hosts place t) place
     fit_at s t i given found input event = record {
-      host = put_back (λ (u : StationValue). u.host ≡ host) v.hosts place s t found (event.host ∙ host_is s found);
       few =
           put_back (λ (u : StationValue). length u.frames ≤ EVENT_FRAMES) v.hosts place s t found
           (frames_at s t i given found input event);
@@ -157,11 +158,13 @@ module _ (v : ClusterValue) (some : StandsSomewhere v) (place host : ℕ) (there
     }
 
 -- A station's event is a step.
-pub station_step : (old new : ClusterValue) (place : ℕ) (s t : StationValue) (i : Input) (given : EventAnswer) (e : Event) (r : StepReport) →
-    slice_get old.hosts place ≡ Some s → IsEvent s t i given → IsInput s.host i → old.events < EVENTS → IsOfProcess old.config.specs e →
+stepped : (old new : ClusterValue) (place : ℕ) (s t : StationValue) (i : Input) (given : Response) (e : Event) →
+    slice_get old.hosts place ≡ Some s → IsEvent s t i (answer_of t given) → IsInput s.host i → old.events < EVENTS →
+    IsOfProcess old.config.specs e →
     ((c : Settings) (es : List Event) → StandsFor c es old → happened c (logs_of c es) e ≡ happens_at c (logs_of c es) s.host i) →
-    IsFinished (record old { hosts = set old.hosts place t }) new place t given r → IsStep old new e r
-station_step old new place s t i given e r found event input few process happens done c es st =
+    IsFinished (record old { hosts = set old.hosts place t }) new place t → IsStep old new e (report_by t given)
+stepped old new place s t i response e found event input few process happens done c es st =
+    let given : EventAnswer = answer_of t response in
     let logs : Logs = logs_of c es in
     let entry : Entry = entry_of c s.host (logs s.host) i in
     let here = st.stands.at place s found in
@@ -181,8 +184,7 @@ station_step old new place s t i given e r found event input few process happens
     let shown = event.shows c (logs s.host) here in
     record {
       report =
-          done.report
-          ∙ report_is t given s.host (length (logs s.host) + 1) entry event.host
+          report_is t given s.host (length (logs s.host) + 1) entry event.host
           (event.events ∙ ap (λ n. n + 1) (here.events ∙ events_are c s.host (logs s.host))) shown.answer
           ∙ ap report_of (sym is);
       shows =
@@ -192,20 +194,43 @@ station_step old new place s t i given e r found event input few process happens
       stands = next_stands c es old new e (happens_at c logs s.host i) st is all bytes done.events done.config few own;
     }
 
+pub station_step : (old new : ClusterValue) (place : ℕ) (s t : StationValue) (i : Input) (given : Response) (e : Event) →
+    slice_get old.hosts place ≡ Some s → IsEvent s t i (answer_of t given) → IsInput s.host i → old.events < EVENTS →
+    IsOfProcess old.config.specs e →
+    ((c : Settings) (es : List Event) → StandsFor c es old → happened c (logs_of c es) e ≡ happens_at c (logs_of c es) s.host i) →
+    IsFinished (record old { hosts = set old.hosts place t }) new place t → IsAdvance old new e (advances.Event place given)
+station_step old new place s t i given e found event input few process happens done =
+    let there : slice_get new.hosts place ≡ Some t =
+    ap (λ hs. slice_get hs place) done.hosts ∙ get_set_same old.hosts place t s found in
+    record {
+      report = report_by t given;
+      told = (t, there, refl);
+      step = stepped old new place s t i given e found event input few process happens done;
+    }
+
 -- A missing delivery is one.
-pub missing_step : (old new : ClusterValue) (to : ℕ) (e : Event) (r : StepReport) → old.events < EVENTS → IsOfProcess old.config.specs e →
+missed_step : (old new : ClusterValue) (to : ℕ) (e : Event) → old.events < EVENTS → IsOfProcess old.config.specs e →
     ((c : Settings) (es : List Event) → StandsFor c es old → happened c (logs_of c es) e ≡ Missing to) →
-    r ≡ report_of (Missing to) → new ≡ record old { events = old.events + 1 } → IsStep old new e r
-missing_step old new to e r few process happens told is c es st =
+    new ≡ record old { events = old.events + 1 } → IsStep old new e (report_of (Missing to))
+missed_step old new to e few process happens is c es st =
     let next : ClusterValue = record old { events = old.events + 1 } in
     let missed = happens c es st in
     let own : IsOfProcess c.specs e = subst (λ (d : Settings). IsOfProcess d.specs e) st.config process in
     let same : length old.pile.bytes ≡ length old.pile.bytes + 0 = omega arith in
-    subst (λ k. IsNext c es k e r) (sym is) (record {
-      report = told ∙ ap report_of (sym missed);
+    subst (λ k. IsNext c es k e (report_of (Missing to))) (sym is) (record {
+      report = ap report_of (sym missed);
       shows = subst (ShowsLast next.hosts) (sym missed) tt;
       stands = next_stands c es old next e (Missing to) st missed st.stands same refl refl few own;
     })
+
+pub missing_step : (old new : ClusterValue) (to : ℕ) (e : Event) (a : Advance) → old.events < EVENTS → IsOfProcess old.config.specs e →
+    ((c : Settings) (es : List Event) → StandsFor c es old → happened c (logs_of c es) e ≡ Missing to) →
+    a ≡ advances.Missing to → new ≡ record old { events = old.events + 1 } → IsAdvance old new e a
+missing_step old new to e a few process happens told is = record {
+  report = report_of (Missing to);
+  told = subst (λ x. Tells new x (report_of (Missing to))) (sym told) refl;
+  step = missed_step old new to e few process happens is;
+}
 
 -- What happens at a station with this number.
 pub call_happens : (c : Settings) (es : List Event) (host : ℕ) (pid : Pid) (call : Call) → host ≡ pid.host →

@@ -11,3 +11,4 @@ pub mod Runs
 pub mod Stations
 pub mod Steps
 pub mod Taking
+pub mod Told

@@ -1,9 +1,8 @@
 -- What a step asks before the station acts, and what is left to do once it has.
-use Rattle.std.proofs.Common.{◌≡◌, ℕ, ◌+◌, ◌<◌, Bool, true, false, cond, nat_le, ◌==◌, ◌||◌, List, [], ◌∷◌, map, Option, Some, None, refl, sym, ap, ◌∙◌, subst, inl, inr}
+use Rattle.std.proofs.Common.{◌≡◌, ℕ, ◌+◌, ◌<◌, Bool, true, false, cond, nat_le, ◌==◌, ◌||◌, List, [], ◌∷◌, map, Option, Some, None, refl, ap, ◌∙◌, subst, inl, inr}
 use Rattle.std.specs.Prelude.{slice_get}
 use Rattle.std.proofs.lemmas.Bool.{and_parts, leb-false, or_cases, or_left, or_parts, or_right}
 use Rattle.vk_base.specs.declared.config.ProcessSpec.{ProcessSpec}
-use Rattle.vk_base.specs.declared.event.EventAnswer.{EventAnswer}
 use Rattle.vk_base.specs.declared.limits.TheConstants.{EVENTS}
 use Rattle.vk_base.specs.declared.pid.Pid.{Pid}
 use Rattle.vk_base.specs.Options.{◌>>=◌}
@@ -17,7 +16,6 @@ use Rattle.vk_host.specs.Standing.{IsAt}
 use Rattle.vk_host.specs.Values.{StationValue}
 use Rattle.vk_cluster.specs.declared.cluster.Cluster.{Cluster}
 use Rattle.vk_cluster.specs.declared.emitted.Emitted.{Emitted}
-use Rattle.vk_cluster.specs.declared.report.ClusterAnswer.TheVariants as answers
 use Rattle.vk_cluster.specs.Clusters.{value_of}
 use Rattle.vk_cluster.specs.Found.{if_for, opens_for}
 use Rattle.vk_cluster.specs.Piles.{IsAdded, Pile, items_of, pile_of}
@@ -58,17 +56,9 @@ pub station_at : (c : Settings) (es : List Event) (v : ClusterValue) (place host
 station_at c es v place host s st found same = subst (λ h. IsAt c (logs_of c es h) s) same (st.stands.at place s found)
 
 -- what is left to do once the station at a place has had its event
-pub finished : (mid : ClusterValue) (pile : Pile) (place : ℕ) (t : StationValue) (given : EventAnswer) (host event : ℕ) → t.host ≡ host →
-    event ≡ t.events → IsAdded mid.pile pile place t.frames →
-    IsFinished mid (record mid { pile = pile; events = mid.events + 1 }) place t given
-    (record { host = host; event = event; answer = answers.Event given })
-finished mid pile place t given host event same number added = record {
-  config = refl;
-  hosts = refl;
-  pile = added;
-  events = refl;
-  report = λ k. record { host = sym same k; event = number k; answer = answers.Event given };
-}
+pub finished : (mid : ClusterValue) (pile : Pile) (place : ℕ) (t : StationValue) → IsAdded mid.pile pile place t.frames →
+    IsFinished mid (record mid { pile = pile; events = mid.events + 1 }) place t
+finished mid pile place t added = record { config = refl; hosts = refl; pile = added; events = refl }
 
 -- the bytes that are found are handed over where they are for this station
 pub handed_if : (to : ℕ) (bytes : List ℕ) (o : Option (List ℕ)) → o ≡ Some bytes → opens_for to (frame_of bytes) ≡ true →

@@ -1,7 +1,6 @@
 -- When a cluster stands for the events so far, and what a step does.
 use Rattle.std.specs.Prelude.{ℕ, Bool, true, false, ◌≡◌, ◌+◌, ◌≤◌, List, [], ◌∷◌, ◌++◌, length, map, slice_get, sum_by, Some, None}
 use Rattle.vk_base.specs.declared.config.ProcessSpec.{ProcessSpec}
-use Rattle.vk_base.specs.declared.event.EventAnswer.{EventAnswer}
 use Rattle.vk_base.specs.declared.limits.TheConstants.{EVENTS}
 use Rattle.vk_base.specs.Pids.{IsPid}
 use Rattle.vk_base.specs.Settings.{Settings, refusal_of, stations_of}
@@ -12,9 +11,13 @@ use Rattle.vk_rules.specs.Readings.{reading}
 use Rattle.v_lawful.specs.Fitting.{IsFitting}
 use Rattle.v_lawful.specs.Sending.{IsSentEntry}
 use Rattle.v_whole.specs.Schedules.{AreOfProcesses}
+use Rattle.vk_host.specs.declared.response.Response.{Response}
+use Rattle.vk_host.specs.Responses.{answer_of}
 use Rattle.vk_host.specs.Sealed.{sealed}
 use Rattle.vk_host.specs.Standing.{IsAt, Shows}
 use Rattle.vk_host.specs.Values.{StationValue}
+use Rattle.vk_cluster.specs.declared.report.Advance.{Advance}
+use Rattle.vk_cluster.specs.declared.report.Advance.TheVariants as advances
 use Rattle.vk_cluster.specs.declared.report.ClusterAnswer.TheVariants as answers
 use Rattle.vk_cluster.specs.declared.report.ClusterRefusal.{ClusterRefusal}
 use Rattle.vk_cluster.specs.declared.report.ClusterRefusal.TheVariants as refusals
@@ -89,10 +92,24 @@ pub record IsNext (c : Settings) (es : List Event) (new : ClusterValue) (e : Eve
 abbrev pub IsStep : ClusterValue → ClusterValue → Event → StepReport → Type 0
 IsStep old new e r = (c : Settings) (es : List Event) → StandsFor c es old → IsNext c es new e r
 
--- Of the code alone: what is left to do once the station at a place has had its event and been put back, as this value, answering so.
-pub record IsFinished (mid new : ClusterValue) (place : ℕ) (t : StationValue) (given : EventAnswer) (r : StepReport) : Type 0 where
+-- A report of few bytes stands for this one, until the next event: there was nothing to deliver to a station; or the station in a place
+-- had the event, and answers so.
+abbrev pub report_by : StationValue → Response → StepReport
+report_by s given = record { host = s.host; event = s.events; answer = answers.Event (answer_of s given) }
+
+abbrev pub Tells : ClusterValue → Advance → StepReport → Type 0
+Tells k (advances.Missing host) r = r ≡ report_of (Missing host)
+Tells k (advances.Event place given) r = (s : StationValue) × (slice_get k.hosts place ≡ Some s) × (r ≡ report_by s given)
+
+-- a step, of which so is told
+pub record IsAdvance (old new : ClusterValue) (e : Event) (a : Advance) : Type 0 where
+  pub report : StepReport
+  pub told : Tells new a report
+  pub step : IsStep old new e report
+
+-- Of the code alone: what is left to do once the station at a place has had its event and been put back, as this value.
+pub record IsFinished (mid new : ClusterValue) (place : ℕ) (t : StationValue) : Type 0 where
   pub config : new.config ≡ mid.config
   pub hosts : new.hosts ≡ mid.hosts
   pub pile : IsAdded mid.pile new.pile place t.frames
   pub events : new.events ≡ mid.events + 1
-  pub report : r ≡ record { host = t.host; event = t.events; answer = answers.Event given }

@@ -7,23 +7,23 @@ ghost use Rattle.vk_event.specs.declared.event.Event.{Event as TheEvent};
 ghost use Rattle.vk_event.specs.Lawful.{has_actors};
 ghost use Rattle.vk_frame.specs.Reading.{frame_of};
 ghost use Rattle.vk_rules.specs.Each.{Each};
-ghost use Rattle.vk_rules.specs.Histories.{Missing};
 ghost use Rattle.vk_rules.specs.Laws.{station_of};
 ghost use Rattle.vk_host.specs.Standing.{IsAt};
 ghost use Rattle.vk_host.specs.Values.{StationValue};
 ghost use Rattle.vk_base.specs.declared.config.ProcessSpec.{ProcessSpec as TheProcessSpec};
+ghost use Rattle.vk_cluster.specs.declared.report.StepReport.{StepReport as TheReport};
 ghost use Rattle.vk_cluster.specs.Found.{bytes_for, is_addressed, opens_for};
 ghost use Rattle.vk_cluster.specs.Piles.{HasRoom, IsAdded, IsKept, pile_of, shown};
-ghost use Rattle.vk_cluster.specs.Standing.{AreHosts, IsFinished, IsStep, StandsFor, StandsSomewhere, is_limit, logs_of, report_of};
+ghost use Rattle.vk_cluster.specs.Standing.{AreHosts, IsAdvance, IsFinished, IsStep, StandsFor, StandsSomewhere, Tells, is_limit, logs_of};
 ghost use Rattle.vk_cluster.specs.Clusters.{value_of};
 ghost use Rattle.vk_cluster.specs.Values.{is_full};
 
 use crate::emitted::{EVENT_BYTES, EVENT_FRAMES, Emitted, LAST_BYTES};
 use crate::fields::{are_in_range, pid_is};
-use crate::report::{ClusterAnswer, ClusterRefusal, StepReport};
+use crate::report::{Advance, ClusterAnswer, ClusterRefusal, StepReport};
 use std::alloc::Global;
 use vk_base::limits::EVENTS;
-use vk_base::{Call, Config, EventAnswer, NoMemory, Pid, ProcessSpec};
+use vk_base::{Call, Config, NoMemory, Pid, ProcessSpec};
 use vk_event::Event;
 use vk_frame::{Header, unseal};
 use vk_host::Host;
@@ -66,10 +66,27 @@ impl Cluster {
     ///
     /// [`ClusterRefusal::Limit`] exactly where there were 100,000 events, or where the frames so far hold more than 266,076,160
     /// bytes; then [`ClusterRefusal::NoMemory`]. Both change nothing: memory is taken before the station acts.
-    pub fn step(&mut self, _alloc: Global, event: &Event) -> Result<StepReport, ClusterRefusal>
+    pub fn step(&mut self, alloc: Global, event: &Event) -> Result<StepReport, ClusterRefusal>
         requires somewhere { StandsSomewhere (value_of self.old) }
         requires actors { has_actors self.old.config.specs event.now ≡ true }
         ensures step { IfOk result (IsStep (value_of self.old) (value_of self.new) event.now) }
+        ensures room { IfOk result (λ _. is_full (value_of self.old) ≡ false) }
+        ensures cause { IfErr result (λ e. is_full (value_of self.old) ≡ is_limit e) }
+        ensures same { OnErr result (value_of self.new ≡ value_of self.old) }
+    {
+        let advance = self.advance(alloc, event)?;
+        Ok(self.report(advance))
+    }
+
+    /// The same, with what it reports in few bytes.
+    ///
+    /// # Errors
+    ///
+    /// Those of [`Cluster::step`].
+    pub fn advance(&mut self, _alloc: Global, event: &Event) -> Result<Advance, ClusterRefusal>
+        requires somewhere { StandsSomewhere (value_of self.old) }
+        requires actors { has_actors self.old.config.specs event.now ≡ true }
+        ensures step { IfOk result (IsAdvance (value_of self.old) (value_of self.new) event.now) }
         ensures room { IfOk result (λ _. is_full (value_of self.old) ≡ false) }
         ensures cause { IfErr result (λ e. is_full (value_of self.old) ≡ is_limit e) }
         ensures same { OnErr result (value_of self.new ≡ value_of self.old) }
@@ -80,6 +97,38 @@ impl Cluster {
         let place = place_of(&self.config, acting(event));
         self.emitted.make_room(place)?;
         Ok(self.play(place, event))
+    }
+
+    /// The report that this stands for, before the next event.
+    pub fn report(&self, advance: Advance) -> StepReport
+        requires { (r : TheReport) × Tells (value_of self.now) advance r }
+        ensures { (r : TheReport) → Tells (value_of self.now) advance r → result ≡ r }
+    {
+        match advance {
+            Advance::Missing { host } => StepReport {
+                host,
+                event: 0,
+                answer: ClusterAnswer::Missing,
+            },
+            Advance::Event { place, response } => {
+                let station = self.station(place);
+                StepReport {
+                    host: station.host(),
+                    event: station.events(),
+                    answer: ClusterAnswer::Event {
+                        answer: station.answer(response),
+                    },
+                }
+            }
+        }
+    }
+
+    /// The station in this place among those of the configuration, counted from 0, with the steps and frames of its last event.
+    pub fn station(&self, place: usize) -> &Host
+        requires { place < length self.now.hosts.items }
+        ensures { slice_get self.now.hosts.items place ≡ Some result.now }
+    {
+        &self.hosts[place]
     }
 
     /// The station of this host, which is one of the configuration, with the steps and frames of its last event.
@@ -94,13 +143,13 @@ impl Cluster {
     }
 
     /// The event at the station of this place, for which there is room.
-    fn play(&mut self, place: usize, event: &Event) -> StepReport
+    fn play(&mut self, place: usize, event: &Event) -> Advance
         requires somewhere { StandsSomewhere (value_of self.old) }
         requires few { self.old.events < EVENTS }
         requires actors { has_actors self.old.config.specs event.now ≡ true }
         requires place { slice_get (stations_of self.old.config.specs) place ≡ Some (station_of event.now) }
         requires room { HasRoom self.old.emitted place EVENT_BYTES EVENT_FRAMES }
-        ensures { IsStep (value_of self.old) (value_of self.new) event.now result }
+        ensures { IsAdvance (value_of self.old) (value_of self.new) event.now result }
     {
         match event {
             Event::Call { pid, call } => self.call(place, *pid, call),
@@ -115,96 +164,90 @@ impl Cluster {
         }
     }
 
-    fn call(&mut self, place: usize, pid: Pid, call: &Call) -> StepReport
+    fn call(&mut self, place: usize, pid: Pid, call: &Call) -> Advance
         requires somewhere { StandsSomewhere (value_of self.old) }
         requires few { self.old.events < EVENTS }
         requires process { has_process self.old.config.specs pid ≡ true }
         requires place { slice_get (stations_of self.old.config.specs) place ≡ Some pid.host }
         requires room { HasRoom self.old.emitted place EVENT_BYTES EVENT_FRAMES }
-        ensures { IsStep (value_of self.old) (value_of self.new) (Event.Call pid call.now) result }
+        ensures { IsAdvance (value_of self.old) (value_of self.new) (Event.Call pid call.now) result }
     {
         pid_is(&pid);
         are_in_range(call);
-        let answer = self.hosts[place].call(pid, call);
-        self.finish(place, pid.host, answer)
+        let response = self.hosts[place].call(pid, call);
+        self.finish(place);
+        Advance::Event { place, response }
     }
 
-    fn collect(&mut self, place: usize, pid: Pid) -> StepReport
+    fn collect(&mut self, place: usize, pid: Pid) -> Advance
         requires somewhere { StandsSomewhere (value_of self.old) }
         requires few { self.old.events < EVENTS }
         requires process { has_process self.old.config.specs pid ≡ true }
         requires place { slice_get (stations_of self.old.config.specs) place ≡ Some pid.host }
         requires room { HasRoom self.old.emitted place EVENT_BYTES EVENT_FRAMES }
-        ensures { IsStep (value_of self.old) (value_of self.new) (Event.Collect pid) result }
+        ensures { IsAdvance (value_of self.old) (value_of self.new) (Event.Collect pid) result }
     {
-        let answer = self.hosts[place].collect(pid);
-        self.finish(place, pid.host, answer)
+        let response = self.hosts[place].collect(pid);
+        self.finish(place);
+        Advance::Event { place, response }
     }
 
-    fn tick(&mut self, place: usize, host: u16) -> StepReport
+    fn tick(&mut self, place: usize, host: u16) -> Advance
         requires somewhere { StandsSomewhere (value_of self.old) }
         requires few { self.old.events < EVENTS }
         requires place { slice_get (stations_of self.old.config.specs) place ≡ Some host }
         requires room { HasRoom self.old.emitted place EVENT_BYTES EVENT_FRAMES }
-        ensures { IsStep (value_of self.old) (value_of self.new) (Event.Tick host) result }
+        ensures { IsAdvance (value_of self.old) (value_of self.new) (Event.Tick host) result }
     {
-        let answer = self.hosts[place].tick();
-        self.finish(place, host, answer)
+        let response = self.hosts[place].tick();
+        self.finish(place);
+        Advance::Event { place, response }
     }
 
-    fn deliver(&mut self, place: usize, to: u16, from: u16, event: u64, output: u16) -> StepReport
+    fn deliver(&mut self, place: usize, to: u16, from: u16, event: u64, output: u16) -> Advance
         requires somewhere { StandsSomewhere (value_of self.old) }
         requires few { self.old.events < EVENTS }
         requires from { has_station self.old.config.specs from ≡ true }
         requires place { slice_get (stations_of self.old.config.specs) place ≡ Some to }
         requires room { HasRoom self.old.emitted place EVENT_BYTES EVENT_FRAMES }
-        ensures { IsStep (value_of self.old) (value_of self.new) (Event.Deliver to from event output) result }
+        ensures { IsAdvance (value_of self.old) (value_of self.new) (Event.Deliver to from event output) result }
     {
         frames_unseal_again();
         let source = place_of(&self.config, from);
         match handed_over(&self.emitted, to, source, event, output) {
             Some(bytes) => {
-                let answer = self.hosts[place].deliver(bytes);
-                self.finish(place, to, answer)
+                let response = self.hosts[place].deliver(bytes);
+                self.finish(place);
+                Advance::Event { place, response }
             }
             None => self.missing(to),
         }
     }
 
-    /// The frames of the last event of the station at this place, which is this one, are kept, and the event is counted.
-    fn finish(&mut self, place: usize, host: u16, answer: EventAnswer) -> StepReport
+    /// The frames of the last event of the station at this place are kept, and the event is counted.
+    fn finish(&mut self, place: usize)
         requires count { self.old.events < EVENTS }
         requires place { place < length self.old.hosts.items }
         requires events { place < length self.old.emitted.events.items }
         requires kept { IsKept (pile_of self.old.emitted) }
         requires room { HasRoom self.old.emitted place EVENT_BYTES EVENT_FRAMES }
-        requires host { (t : StationValue) → slice_get self.old.hosts.items place ≡ Some t → t.host ≡ host }
         requires few { (t : StationValue) → slice_get self.old.hosts.items place ≡ Some t → length t.frames ≤ EVENT_FRAMES }
         requires bytes { (t : StationValue) → slice_get self.old.hosts.items place ≡ Some t → sum_by length t.frames ≤ EVENT_BYTES }
         ensures { (t : StationValue) → slice_get self.old.hosts.items place ≡ Some t →
-            IsFinished (value_of self.old) (value_of self.new) place t answer result }
+            IsFinished (value_of self.old) (value_of self.new) place t }
     {
         keep(&mut self.emitted, &self.hosts[place], place);
         self.events += 1;
-        StepReport {
-            host,
-            event: self.hosts[place].events(),
-            answer: ClusterAnswer::Event { answer },
-        }
     }
 
     /// There is nothing to deliver to this station.
-    fn missing(&mut self, to: u16) -> StepReport
+    fn missing(&mut self, to: u16) -> Advance
         requires { self.old.events < EVENTS }
-        ensures report { result ≡ report_of (Missing to) }
+        ensures advance { result ≡ Advance.Missing to }
         ensures value { value_of self.new ≡ record (value_of self.old) { events = self.old.events + 1 } }
     {
         self.events += 1;
-        StepReport {
-            host: to,
-            event: 0,
-            answer: ClusterAnswer::Missing,
-        }
+        Advance::Missing { host: to }
     }
 }
 

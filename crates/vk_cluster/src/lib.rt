@@ -16,4 +16,4 @@ mod report;
 
 pub use cluster::Cluster;
 pub use law::clusters_run;
-pub use report::{ClusterAnswer, ClusterRefusal, StepReport};
+pub use report::{Advance, ClusterAnswer, ClusterRefusal, StepReport};

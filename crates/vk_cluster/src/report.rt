@@ -4,6 +4,16 @@ ghost use Rattle.std.specs.Prelude.{◌≡◌};
 ghost use Rattle.vk_cluster.specs.declared.report.ClusterRefusal.TheVariants.{NoMemory as memory_wanting};
 
 use vk_base::{EventAnswer, NoMemory};
+use vk_host::Response;
+
+/// What became of one event, in few bytes. Until the next event a [`StepReport`] can be made of it.
+#[derive(Clone, Copy)]
+pub enum Advance {
+    /// There was nothing to deliver to this station.
+    Missing { host: u16 },
+    /// The station in this place had the event, and answers so.
+    Event { place: usize, response: Response },
+}
 
 /// What became of one event.
 #[derive(Drop)]

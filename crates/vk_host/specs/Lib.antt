@@ -3,6 +3,7 @@ pub mod Lookups
 pub mod Opened
 pub mod Own
 pub mod Played
+pub mod Responses
 pub mod Sealed
 pub mod Standing
 pub mod Taking

@@ -2,20 +2,16 @@
 use Rattle.std.specs.Prelude.{ℕ, ◌≡◌, ◌+◌, ◌≤◌, ◌<◌, ◌^◌, not, List, [], ◌∷◌, length, Option, Some, None, if◌then◌else◌}
 use Rattle.arrayvec.specs.ArrayVec.{array_vec_len}
 use Rattle.vk_base.specs.declared.activity.Outcome.{Outcome}
-use Rattle.vk_base.specs.declared.activity.Outcome.TheVariants as outcomes
-use Rattle.vk_base.specs.declared.answer.Answer.TheVariants as answers
 use Rattle.vk_base.specs.declared.answer.Refusal.{Refusal}
 use Rattle.vk_base.specs.declared.answer.Refusal.TheVariants as refusals
 use Rattle.vk_base.specs.declared.config.Times.{Times}
 use Rattle.vk_base.specs.declared.event.EventAnswer.{EventAnswer}
-use Rattle.vk_base.specs.declared.event.EventAnswer.TheVariants as events_answered
 use Rattle.vk_base.specs.declared.limits.TheConstants.{POOL, STATION_PROCESSES, STEPS}
 use Rattle.vk_base.specs.declared.pid.Pid.{Pid}
 use Rattle.vk_base.specs.declared.step.Step.{Step}
 use Rattle.vk_base.specs.declared.step.Step.TheVariants as steps
 use Rattle.vk_base.specs.Activities.{state_of}
 use Rattle.vk_base.specs.Kernel.{is_ready}
-use Rattle.vk_base.specs.Ranges.{bytes_in, range_of}
 use Rattle.vk_base.specs.Settings.{Settings}
 use Rattle.vk_procs.specs.declared.seat.Seat.{Seat}
 use Rattle.vk_procs.specs.Seats.{seat_in}
@@ -24,11 +20,9 @@ use Rattle.vk_rules.specs.Readings.{Reading}
 use Rattle.vk_rules.specs.Right.{answer_to, right_entry}
 use Rattle.vk_move.specs.Begun.{HasFewMoves}
 use Rattle.vk_stands.specs.Fit.{AreFit}
-use Rattle.vk_stands.specs.Rules.{Doing, Makes, given_by}
+use Rattle.vk_stands.specs.Rules.{Doing, Makes}
 use Rattle.vk_stands.specs.Stands.{Stands}
 use Rattle.vk_host.specs.declared.desk.Desk.{Desk}
-use Rattle.vk_host.specs.declared.response.Response.{Response}
-use Rattle.vk_host.specs.declared.response.Response.TheVariants as responses
 use Rattle.vk_host.specs.Desks.{tables_in}
 use Rattle.vk_host.specs.Lookups.{HasFewLookups}
 
@@ -69,28 +63,7 @@ abbrev pub early_in : Option Seat → Option Refusal
 early_in None = Some refusals.Dead
 early_in (Some s) = early s
 
--- The answer of a call, by what it is answered in few bytes.
-abbrev pub loaded_from : Option Seat → ℕ → ℕ → List ℕ
-loaded_from None start count = []
-loaded_from (Some s) start count = bytes_in (range_of start count) s.memory
-
-abbrev pub loaded : List Seat → Pid → ℕ → ℕ → List ℕ
-loaded seats pid start count = loaded_from (seat_in seats pid) start count
-
-abbrev pub answer_given : List Seat → Pid → Response → EventAnswer
-answer_given seats pid responses.Begun = events_answered.Begun
-answer_given seats pid (responses.Given o) = given_by (Some o)
-answer_given seats pid (responses.Loaded start count) = events_answered.Answered (answers.Loaded (loaded seats pid start count))
-
--- how many bytes of memory it has
-abbrev pub loads : Response → ℕ
-loads (responses.Loaded start count) = count
-loads r = 0
-
-abbrev pub collect_given : Option Outcome → EventAnswer
-collect_given None = given_by (Some (outcomes.Refused refusals.NotYet))
-collect_given (Some o) = given_by (Some o)
-
+-- the step of a collect
 abbrev pub collect_steps : Pid → Option Outcome → List Step
 collect_steps pid None = []
 collect_steps pid (Some o) = steps.Collect pid ∷ []

@@ -1,13 +1,14 @@
 //! The calls of a process, each over the desk of its station.
 
-ghost use Rattle.std.specs.Prelude.{◌≡◌, ◌<◌, ◌≤◌, ◌++◌, ◌∷◌, [], true, is_some, Some, IfNone};
-ghost use Rattle.vk_base.specs.declared.limits.TheConstants.{DATA_BYTES as BYTES, STEPS};
+ghost use Rattle.std.specs.Prelude.{◌≡◌, ◌<◌, ◌++◌, ◌∷◌, [], true, is_some, Some, IfNone};
+ghost use Rattle.vk_base.specs.declared.limits.TheConstants.{STEPS};
 ghost use Rattle.arrayvec.specs.ArrayVec.{array_vec_len};
 ghost use Rattle.vk_local.specs.Rules.{may_call};
 ghost use Rattle.vk_procs.specs.Seats.{seat_in};
 ghost use Rattle.vk_rules.specs.Entries.{Called, Collected};
 ghost use Rattle.vk_host.specs.Desks.{KeepsDesk, doing_in, fresh};
-ghost use Rattle.vk_host.specs.Played.{CanPlay, CanStart, IsPlayed, answer_given, collect_given, collect_steps, early_in, loads};
+ghost use Rattle.vk_host.specs.Played.{CanPlay, CanStart, IsPlayed, collect_steps, early_in};
+ghost use Rattle.vk_host.specs.Responses.{answer_given, collect_given};
 
 use crate::desk::Desk;
 use crate::response::Response;
@@ -21,8 +22,7 @@ fn send(desk: &mut Desk, pid: Pid, target: Pid, message: &Message) -> Response
     requires can { CanPlay pid desk.old }
     requires ready { may_call desk.old.procs pid ≡ true }
     ensures played { IsPlayed desk.old.times pid.host desk.old.now (Called pid (Call.Send target message.now))
-        (answer_given desk.new.procs pid result) (doing_in desk.old) (doing_in desk.new) }
-    ensures few { loads result ≤ BYTES }
+        (answer_given desk.new.procs result) (doing_in desk.old) (doing_in desk.new) }
     ensures same { KeepsDesk desk.old desk.new }
 {
     if pid.host == target.host {
@@ -36,8 +36,7 @@ fn reply(desk: &mut Desk, pid: Pid, to: Pid, message: &Message) -> Response
     requires can { CanPlay pid desk.old }
     requires ready { may_call desk.old.procs pid ≡ true }
     ensures played { IsPlayed desk.old.times pid.host desk.old.now (Called pid (Call.Reply message.now to))
-        (answer_given desk.new.procs pid result) (doing_in desk.old) (doing_in desk.new) }
-    ensures few { loads result ≤ BYTES }
+        (answer_given desk.new.procs result) (doing_in desk.old) (doing_in desk.new) }
     ensures same { KeepsDesk desk.old desk.new }
 {
     if pid.host == to.host {
@@ -58,8 +57,7 @@ fn reply_segment(
     requires ready { may_call desk.old.procs pid ≡ true }
     ensures played { IsPlayed desk.old.times pid.host desk.old.now
         (Called pid (Call.ReplySegment message.now to segment.dest segment.src segment.count))
-        (answer_given desk.new.procs pid result) (doing_in desk.old) (doing_in desk.new) }
-    ensures few { loads result ≤ BYTES }
+        (answer_given desk.new.procs result) (doing_in desk.old) (doing_in desk.new) }
     ensures same { KeepsDesk desk.old desk.new }
 {
     if pid.host == to.host {
@@ -102,8 +100,7 @@ fn refuse(desk: &mut Desk, pid: Pid, call: &Call, why: Refusal) -> Response
     requires own { is_some (seat_in desk.old.procs pid) ≡ true }
     requires early { early_in (seat_in desk.old.procs pid) ≡ Some why }
     ensures played { IsPlayed desk.old.times pid.host desk.old.now (Called pid call.now)
-        (answer_given desk.new.procs pid result) (doing_in desk.old) (doing_in desk.new) }
-    ensures few { loads result ≤ BYTES }
+        (answer_given desk.new.procs result) (doing_in desk.old) (doing_in desk.new) }
     ensures same { KeepsDesk desk.old desk.new }
 {
     push_call(&mut desk.steps, pid, call);
@@ -117,8 +114,7 @@ fn accept(desk: &mut Desk, pid: Pid, call: &Call) -> Response
     requires can { CanPlay pid desk.old }
     requires ready { may_call desk.old.procs pid ≡ true }
     ensures played { IsPlayed desk.old.times pid.host desk.old.now (Called pid call.now)
-        (answer_given desk.new.procs pid result) (doing_in desk.old) (doing_in desk.new) }
-    ensures few { loads result ≤ BYTES }
+        (answer_given desk.new.procs result) (doing_in desk.old) (doing_in desk.new) }
     ensures same { KeepsDesk desk.old desk.new }
 {
     match *call {
@@ -179,8 +175,7 @@ fn respond(desk: &mut Desk, pid: Pid, call: &Call) -> Response
     requires can { CanPlay pid desk.old }
     requires own { is_some (seat_in desk.old.procs pid) ≡ true }
     ensures played { IsPlayed desk.old.times pid.host desk.old.now (Called pid call.now)
-        (answer_given desk.new.procs pid result) (doing_in desk.old) (doing_in desk.new) }
-    ensures few { loads result ≤ BYTES }
+        (answer_given desk.new.procs result) (doing_in desk.old) (doing_in desk.new) }
     ensures same { KeepsDesk desk.old desk.new }
 {
     match early_refusal(&desk.procs, pid) {
@@ -194,8 +189,7 @@ pub fn call(desk: &mut Desk, pid: Pid, call: &Call) -> Response
     requires can { CanStart pid desk.old }
     requires own { is_some (seat_in desk.old.procs pid) ≡ true }
     ensures played { IsPlayed desk.old.times pid.host desk.old.now (Called pid call.now)
-        (answer_given desk.new.procs pid result) (fresh (doing_in desk.old)) (doing_in desk.new) }
-    ensures few { loads result ≤ BYTES }
+        (answer_given desk.new.procs result) (fresh (doing_in desk.old)) (doing_in desk.new) }
     ensures same { KeepsDesk desk.old desk.new }
 {
     desk.clear();

@@ -1,19 +1,21 @@
 //! A station: its events.
 
-ghost use Rattle.std.specs.Prelude.{◌≡◌, ◌<◌, ◌+◌, ◌-◌, ◌^◌, List, [], length, max, min, slice_get, true, None, Some, IfOk};
+ghost use Rattle.std.specs.Prelude.{◌≡◌, ◌<◌, ◌≤◌, ◌+◌, ◌-◌, ◌^◌, List, [], length, max, min, slice_get, true, None, Some, IfOk};
+ghost use Rattle.vk_base.specs.declared.limits.TheConstants.{DATA_BYTES};
 ghost use Rattle.vk_base.specs.Settings.{Settings, refusal_of};
 ghost use Rattle.vk_base.specs.Steps.{is_allowed};
 ghost use Rattle.vk_rules.specs.Entries.{Called, Collected, Delivered, Entry, Ticked};
 ghost use Rattle.vk_rules.specs.Frames.{number_in, unsealed_of};
 ghost use Rattle.vk_rules.specs.Readings.{reading};
 ghost use Rattle.vk_host.specs.Opened.{unsealed_as};
+ghost use Rattle.vk_host.specs.Responses.{answer_of, loaded};
 ghost use Rattle.vk_host.specs.Standing.{IsAt, IsEvent, StandsSomewhere};
 ghost use Rattle.vk_host.specs.Values.{has, input_of, is_own};
 
 use crate::desk::Desk;
 use crate::frames::seal;
 use crate::opening::{Opened, next_number, number_after, open_frame};
-use crate::response::collect_answer;
+use crate::response::{Response, loaded};
 use crate::{calls, deliveries, ticks};
 use std::alloc::Global;
 use std::marker::Model;
@@ -66,6 +68,31 @@ impl Host {
         requires own { is_own self.old event.now ≡ true }
         ensures { IsEvent self.old self.new (input_of event.now) result }
     {
+        let response = self.respond(event);
+        self.answer(response)
+    }
+
+    /// The answer that this stands for, until the next event.
+    pub fn answer(&self, response: Response) -> EventAnswer
+        ensures { result ≡ answer_of self.now response }
+    {
+        response.answer(&self.desk.procs)
+    }
+
+    /// The bytes that a response with these fields stands for, at most 1,024, until the next event.
+    pub fn loaded(&self, pid: Pid, start: u32, count: u32) -> &[u8]
+        ensures value { result.now ≡ loaded self.now.doing.tables.seats pid start count }
+        ensures few { length result.now ≤ DATA_BYTES }
+    {
+        loaded(&self.desk.procs, pid, start, count)
+    }
+
+    fn respond(&mut self, event: &StationEvent) -> Response
+        requires somewhere { StandsSomewhere self.old }
+        requires few { self.old.events + 1 < 2 ^ 48 }
+        requires own { is_own self.old event.now ≡ true }
+        ensures { IsEvent self.old self.new (input_of event.now) (answer_of self.new result) }
+    {
         match event {
             StationEvent::Call { pid, call } => self.call(*pid, call),
             StationEvent::Collect { pid } => self.collect(*pid),
@@ -75,11 +102,11 @@ impl Host {
     }
 
     /// The event that the process makes the call. Takes no memory.
-    pub fn call(&mut self, pid: Pid, call: &Call) -> EventAnswer
+    pub fn call(&mut self, pid: Pid, call: &Call) -> Response
         requires somewhere { StandsSomewhere self.old }
         requires few { self.old.events < 2 ^ 48 }
         requires own { has self.old pid ≡ true }
-        ensures { IsEvent self.old self.new (Called pid call.now) result }
+        ensures { IsEvent self.old self.new (Called pid call.now) (answer_of self.new result) }
     {
         count(&mut self.events, &mut self.number);
         let response = calls::call(&mut self.desk, pid, call);
@@ -90,15 +117,15 @@ impl Host {
             self.number,
             self.events,
         );
-        response.answer(&self.desk.procs, pid)
+        response
     }
 
     /// The event that the process collects its answer. Takes no memory.
-    pub fn collect(&mut self, pid: Pid) -> EventAnswer
+    pub fn collect(&mut self, pid: Pid) -> Response
         requires somewhere { StandsSomewhere self.old }
         requires few { self.old.events < 2 ^ 48 }
         requires own { has self.old pid ≡ true }
-        ensures { IsEvent self.old self.new (Collected pid) result }
+        ensures { IsEvent self.old self.new (Collected pid) (answer_of self.new result) }
     {
         count(&mut self.events, &mut self.number);
         let outcome = calls::collect(&mut self.desk, pid);
@@ -109,14 +136,14 @@ impl Host {
             self.number,
             self.events,
         );
-        collect_answer(outcome)
+        Response::collected(outcome)
     }
 
     /// The event that the station's clock ticks. Takes no memory.
-    pub fn tick(&mut self) -> EventAnswer
+    pub fn tick(&mut self) -> Response
         requires somewhere { StandsSomewhere self.old }
         requires few { self.old.events + 1 < 2 ^ 48 }
-        ensures { IsEvent self.old self.new Ticked result }
+        ensures { IsEvent self.old self.new Ticked (answer_of self.new result) }
     {
         count(&mut self.events, &mut self.number);
         let now = ticks::tick(&mut self.desk);
@@ -127,14 +154,14 @@ impl Host {
             self.number,
             self.events,
         );
-        EventAnswer::Ticked { now }
+        Response::Ticked { now }
     }
 
     /// The event that these bytes come, a frame or not. Takes no memory.
-    pub fn deliver(&mut self, bytes: &[u8]) -> EventAnswer
+    pub fn deliver(&mut self, bytes: &[u8]) -> Response
         requires somewhere { StandsSomewhere self.old }
         requires few { self.old.events < 2 ^ 48 }
-        ensures { IsEvent self.old self.new (Delivered (unsealed_of bytes.now)) result }
+        ensures { IsEvent self.old self.new (Delivered (unsealed_of bytes.now)) (answer_of self.new result) }
     {
         let opened = open_frame(bytes);
         count_frame(&mut self.events, &mut self.number, &opened);
@@ -146,7 +173,7 @@ impl Host {
             self.number,
             self.events,
         );
-        judged.answer()
+        judged.response()
     }
 
     /// The steps of the last event, in order.
@@ -176,6 +203,13 @@ impl Host {
         ensures { slice_get self.now.frames at ≡ Some result.now }
     {
         self.desk.out.framed(at)
+    }
+
+    /// Which station it is.
+    pub fn host(&self) -> u16
+        ensures { result ≡ self.now.host }
+    {
+        self.desk.host
     }
 
     /// How many events there were.

@@ -6,7 +6,6 @@ ghost use Rattle.vk_base.specs.declared.limits.TheConstants.{DATA_BYTES as BYTES
 ghost use Rattle.vk_local.specs.Calls.{done_by};
 ghost use Rattle.vk_procs.specs.Seats.{pids};
 ghost use Rattle.vk_host.specs.Own.{after_set, after_store, full_refusal, load_refusal, loaded_unless, name_refusal, set_unless, store_refusal};
-ghost use Rattle.vk_host.specs.Played.{loads};
 
 use crate::response::Response;
 use vk_base::limits::DATA_BYTES;
@@ -31,9 +30,8 @@ fn load_refusal(procs: &Procs, pid: Pid, start: u32, count: u32) -> Option<Refus
 /// The Load, by the tables.
 pub fn load(procs: &Procs, steps: &mut StepList, pid: Pid, start: u32, count: u32) -> Response
     requires { array_vec_len steps.old < STEPS }
-    ensures answer { result ≡ loaded_unless (load_refusal procs.now pid start count) start count }
+    ensures answer { result ≡ loaded_unless (load_refusal procs.now pid start count) pid start count }
     ensures steps { steps.new.items ≡ steps.old.items ++ Step.Call pid (Call.Load start count) ∷ [] }
-    ensures few { loads result ≤ BYTES }
 {
     steps.push(Step::Call {
         pid,
@@ -43,7 +41,7 @@ pub fn load(procs: &Procs, steps: &mut StepList, pid: Pid, start: u32, count: u3
         Some(why) => Response::Given {
             outcome: Outcome::Refused { why },
         },
-        None => Response::Loaded { start, count },
+        None => Response::Loaded { pid, start, count },
     }
 }
 

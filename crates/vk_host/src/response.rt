@@ -1,28 +1,33 @@
-//! What a call is answered, in few bytes.
+//! What a station answers an event with, in few bytes.
 
-ghost use Rattle.std.specs.Prelude.{◌≡◌, ◌≤◌, List, Some};
+ghost use Rattle.std.specs.Prelude.{◌≡◌, ◌≤◌, List, length};
 ghost use Rattle.vk_base.specs.declared.limits.TheConstants.{DATA_BYTES as BYTES};
-ghost use Rattle.vk_base.specs.declared.pid.Pid.{Pid as ThePid};
 ghost use Rattle.vk_procs.specs.declared.seat.Seat.{Seat as TheSeat};
-ghost use Rattle.vk_host.specs.Played.{answer_given, collect_given, loaded, loads};
+ghost use Rattle.vk_host.specs.Responses.{answer_given, collect_given, loaded};
 ghost use Rattle.vk_stands.specs.Rules.{given_by};
 
+use vk_base::limits::DATA_BYTES;
 use vk_base::{Answer, Data, EventAnswer, Outcome, Pid, Refusal};
 use vk_procs::Procs;
 
-/// A call is begun, or answered at once: with an outcome, or with bytes of the caller's memory, at most 1,024.
+/// What a station answers an event with. A call is begun, or answered at once, as a collect is: with an outcome, or with bytes of the
+/// caller's memory; a tick is answered with the new tick; a frame is taken, too old, or none for this station.
 #[derive(Clone, Copy)]
 pub enum Response {
     Begun,
     Given { outcome: Outcome },
-    Loaded { start: u32, count: u32 },
+    /// The bytes that there are of this range of the process's memory, at most 1,024, until another event changes them.
+    Loaded { pid: Pid, start: u32, count: u32 },
+    Ticked { now: u64 },
+    Taken,
+    Old,
+    Bad,
 }
 
 impl Response {
     /// What a rule answers.
     pub fn of(outcome: Option<Outcome>) -> Self
-        ensures answer { (seats : List TheSeat) (pid : ThePid) → answer_given seats pid result ≡ given_by outcome }
-        ensures few { loads result ≤ BYTES }
+        ensures { (seats : List TheSeat) → answer_given seats result ≡ given_by outcome }
     {
         match outcome {
             Some(outcome) => Response::Given { outcome },
@@ -30,19 +35,35 @@ impl Response {
         }
     }
 
+    /// What a collect is answered of a process that had this to collect.
+    pub fn collected(outcome: Option<Outcome>) -> Self
+        ensures { (seats : List TheSeat) → answer_given seats result ≡ collect_given outcome }
+    {
+        let outcome = match outcome {
+            Some(outcome) => outcome,
+            None => Outcome::Refused {
+                why: Refusal::NotYet,
+            },
+        };
+        Response::Given { outcome }
+    }
+
     /// The answer as the kernel has it.
-    pub fn answer(self, procs: &Procs, pid: Pid) -> EventAnswer
-        requires { loads self ≤ BYTES }
-        ensures { result ≡ answer_given procs.now pid self }
+    pub fn answer(self, procs: &Procs) -> EventAnswer
+        ensures { result ≡ answer_given procs.now self }
     {
         match self {
             Response::Begun => EventAnswer::Begun,
             Response::Given { outcome } => given(outcome),
-            Response::Loaded { start, count } => EventAnswer::Answered {
+            Response::Loaded { pid, start, count } => EventAnswer::Answered {
                 answer: Answer::Loaded {
-                    bytes: loaded(procs, pid, start, count),
+                    bytes: load(procs, pid, start, count),
                 },
             },
+            Response::Ticked { now } => EventAnswer::Ticked { now },
+            Response::Taken => EventAnswer::Taken,
+            Response::Old => EventAnswer::Old,
+            Response::Bad => EventAnswer::Bad,
         }
     }
 }
@@ -79,27 +100,22 @@ fn given(outcome: Outcome) -> EventAnswer
     }
 }
 
-/// What there is of a range of the process's memory.
-fn loaded(procs: &Procs, pid: Pid, start: u32, count: u32) -> Data
-    requires { count ≤ BYTES }
+/// What there is of a range of the process's memory, at most 1,024 bytes.
+pub fn loaded(procs: &Procs, pid: Pid, start: u32, count: u32) -> &[u8]
+    ensures value { result.now ≡ loaded procs.now pid start count }
+    ensures few { length result.now ≤ BYTES }
+{
+    match procs.seat(pid) {
+        Some(seat) => seat.memory.bytes(start, count.min(DATA_BYTES as u32)),
+        None => &[],
+    }
+}
+
+/// A copy of it.
+fn load(procs: &Procs, pid: Pid, start: u32, count: u32) -> Data
     ensures { result ≡ loaded procs.now pid start count }
 {
     let mut bytes = Data::empty();
-    if let Some(seat) = procs.seat(pid) {
-        bytes.fill(seat.memory.bytes(start, count));
-    }
+    bytes.fill(loaded(procs, pid, start, count));
     bytes
-}
-
-/// What a collect is answered of a process that had this to collect.
-pub fn collect_answer(outcome: Option<Outcome>) -> EventAnswer
-    ensures { result ≡ collect_given outcome }
-{
-    let outcome = match outcome {
-        Some(outcome) => outcome,
-        None => Outcome::Refused {
-            why: Refusal::NotYet,
-        },
-    };
-    given(outcome)
 }

@@ -2,7 +2,8 @@
 use Rattle.std.proofs.Common.{◌≡◌, ℕ, zero, suc, ◌+◌, ◌*◌, ◌-◌, ◌≤◌, ◌==◌, eqb-true, ◌&&◌, Bool, true, false, Option, Some, None, List, [], ◌∷◌, ◌++◌, length, drop, nat_lt, cond, refl, sym, ap, ◌∙◌, subst, arith, le_refl, mul-le-mul_right}
 use Rattle.std.proofs.lemmas.Bool.Decides.{nat_tests}
 use Rattle.vk_frame.specs.declared.header.Header.{Header}
-use Rattle.vk_hub.specs.Links.{Frame, Waiting, drawn, holding, into_ring, is_addressed, next, once, posted, posted_all, third_next, twice, with_held}
+use Rattle.vk_hub.specs.Links.{Frame, Waiting, drawn_byte, holding, into_ring, is_addressed, once, posted, posted_all, third_next, twice, with_held}
+use Rattle.vk_generator.specs.Numbers.{next}
 use Rattle.vk_hub.specs.Counting.{copies}
 use Rattle.vk_event.specs.declared.scenario.LinkPlan.{LinkPlan}
 
@@ -91,9 +92,9 @@ module _ (test : Frame → Bool) where
 
   post_inside : (plan : LinkPlan) (x : ℕ) (w : Waiting) (f : Frame) → inside (posted plan x w f) ≤ inside w + copies plan * hit f
   post_inside plan x w f =
-      post_by w f (copies plan) (nat_lt (drawn (next x)) plan.lose) (nat_lt (drawn (third_next x)) plan.hold)
-      (nat_lt (drawn (next (next x))) plan.double) (one_or_two (plan.double == 0))
-      (λ e. two_of plan.double (drawn (next (next x))) (plan.double == 0) e refl)
+      post_by w f (copies plan) (nat_lt (drawn_byte (next x)) plan.lose) (nat_lt (drawn_byte (third_next x)) plan.hold)
+      (nat_lt (drawn_byte (next (next x))) plan.double) (one_or_two (plan.double == 0))
+      (λ e. two_of plan.double (drawn_byte (next (next x))) (plan.double == 0) e refl)
 
   station_by : (w a b c : Waiting) (lost back doubled : Bool) → a.station ≡ w.station → b.station ≡ w.station → c.station ≡ w.station
       → (cond lost w (cond back a (cond doubled b c))).station ≡ w.station
@@ -104,8 +105,8 @@ module _ (test : Frame → Bool) where
 
   post_station : (plan : LinkPlan) (x : ℕ) (w : Waiting) (f : Frame) → (posted plan x w f).station ≡ w.station
   post_station plan x w f =
-      station_by w (holding w f) (twice w f) (once w f) (nat_lt (drawn (next x)) plan.lose) (nat_lt (drawn (third_next x)) plan.hold)
-      (nat_lt (drawn (next (next x))) plan.double) refl refl refl
+      station_by w (holding w f) (twice w f) (once w f) (nat_lt (drawn_byte (next x)) plan.lose) (nat_lt (drawn_byte (third_next x)) plan.hold)
+      (nat_lt (drawn_byte (next (next x))) plan.double) refl refl refl
 
   -- one station's part of a post to all; `most` copies of a frame that passes the test
   module _ (host most : ℕ) (header : Option Header) (f : Frame) where

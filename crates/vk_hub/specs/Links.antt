@@ -1,10 +1,11 @@
 -- The link plan: what waits for each station, and what a post and a fetch make of it.
-use Rattle.std.specs.Prelude.{ℕ, ◌+◌, ◌*◌, ◌/◌, ◌%◌, ◌^◌, ◌==◌, ◌&&◌, ◌||◌, not, Bool, false, Option, Some, None, List, [], ◌∷◌, ◌++◌, nat_lt, if◌then◌else◌}
+use Rattle.std.specs.Prelude.{ℕ, ◌%◌, ◌==◌, ◌&&◌, ◌||◌, not, Bool, false, Option, Some, None, List, [], ◌∷◌, ◌++◌, nat_lt, if◌then◌else◌}
 use Rattle.std.specs.Option.{option_map}
 use Rattle.circular_buffer.specs.Buffer.{keep_last}
 use Rattle.vk_frame.specs.Reading.{frame_of}
 use Rattle.vk_frame.specs.declared.header.Header.{Header}
 use Rattle.vk_event.specs.declared.scenario.LinkPlan.{LinkPlan}
+use Rattle.vk_generator.specs.Numbers.{drawn, next}
 
 abbrev pub Frame : Type 0
 Frame = List ℕ
@@ -15,16 +16,13 @@ pub record Waiting : Type 0 where
   pub ring : List Frame
   pub held : Option Frame
 
--- the generator's next state
-unfoldable pub next : ℕ → ℕ
-next x = (x * 6364136223846793005 + 1442695040888963407) % 2 ^ 64
-
+-- the generator's state after three draws
 abbrev pub third_next : ℕ → ℕ
 third_next x = next (next (next x))
 
--- what a draw gives in this state, of 256
-abbrev pub drawn : ℕ → ℕ
-drawn x = (x / 2 ^ 33) % 256
+-- what a draw gives that comes to this state, of 256
+abbrev pub drawn_byte : ℕ → ℕ
+drawn_byte x = drawn x % 256
 
 -- a ring of 128 frames; a full one loses its oldest
 abbrev pub into_ring : List Frame → Frame → List Frame
@@ -48,9 +46,9 @@ holding w frame = record w { ring = with_held w.ring w.held; held = Some frame }
 -- it comes twice
 abbrev pub posted : LinkPlan → ℕ → Waiting → Frame → Waiting
 posted plan x w frame =
-    if nat_lt (drawn (next x)) plan.lose then w
-    else if nat_lt (drawn (third_next x)) plan.hold then holding w frame
-    else if nat_lt (drawn (next (next x))) plan.double then twice w frame
+    if nat_lt (drawn_byte (next x)) plan.lose then w
+    else if nat_lt (drawn_byte (third_next x)) plan.hold then holding w frame
+    else if nat_lt (drawn_byte (next (next x))) plan.double then twice w frame
     else once w frame
 
 -- what a fetch gives: the oldest of the ring, else the held one

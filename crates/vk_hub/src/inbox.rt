@@ -1,12 +1,14 @@
 // What waits for one station.
 ghost use Rattle.std.specs.Prelude.{◌≡◌, [], None, is_some, IfOk};
-ghost use Rattle.vk_hub.specs.Links.{drawn, first_of, next, posted, rest_of};
+ghost use Rattle.vk_generator.specs.Numbers.{next};
+ghost use Rattle.vk_hub.specs.Links.{drawn_byte, first_of, posted, rest_of, third_next};
 
 use circular_buffer::HeapCircularBuffer;
 use std::alloc::{AllocError, Global};
 use std::marker::Model;
 use vk_base::FrameBytes;
 use vk_event::LinkPlan;
+use vk_generator::Generator;
 
 const MOST: usize = 128;
 
@@ -29,19 +31,12 @@ impl Model for Inbox {
     ghost invariant = { λ i. i.ring.capacity ≡ 128 };
 }
 
-/// The generator's next state.
-pub fn next(x: u64) -> u64
-    ensures { result ≡ next x }
+/// A draw of the generator, of 256.
+fn draw_byte(generator: &mut Generator) -> u8
+    ensures state { generator.new ≡ next generator.old }
+    ensures drawn { result ≡ drawn_byte generator.new }
 {
-    x.wrapping_mul(6_364_136_223_846_793_005)
-        .wrapping_add(1_442_695_040_888_963_407)
-}
-
-// What a draw gives in this state.
-fn drawn(x: u64) -> u8
-    ensures { result ≡ drawn x }
-{
-    ((x >> 33) % 256) as u8
+    (generator.draw() % 256) as u8
 }
 
 impl Inbox {
@@ -67,17 +62,18 @@ impl Inbox {
         !self.ring.is_empty() || self.held.is_some()
     }
 
-    /// A post of the frame, in the generator's state `x`.
-    pub fn post(&mut self, plan: &LinkPlan, x: u64, frame: &FrameBytes)
-        ensures { self.new ≡ posted plan.now x self.old frame.now }
+    /// A post of the frame, by three draws of the generator.
+    pub fn post(&mut self, plan: &LinkPlan, generator: &mut Generator, frame: &FrameBytes)
+        ensures waiting { self.new ≡ posted plan.now generator.old self.old frame.now }
+        ensures state { generator.new ≡ third_next generator.old }
     {
-        let first = next(x);
-        let second = next(first);
-        let third = next(second);
-        if drawn(first) < plan.lose {
+        let first = draw_byte(generator);
+        let second = draw_byte(generator);
+        let third = draw_byte(generator);
+        if first < plan.lose {
             return;
         }
-        if drawn(third) < plan.hold {
+        if third < plan.hold {
             if let Some(earlier) = self.held.take() {
                 self.ring.push_back(earlier);
             }
@@ -85,7 +81,7 @@ impl Inbox {
             return;
         }
         self.ring.push_back(frame.copy());
-        if drawn(second) < plan.double {
+        if second < plan.double {
             self.ring.push_back(frame.copy());
         }
     }

@@ -4,16 +4,17 @@ ghost use Rattle.vk_hub.specs.Hubs.{answered, changed, first_for, found, is_read
 ghost use Rattle.vk_hub.specs.Links.{header_of, is_addressed, posted_all};
 
 use crate::event::{Fetched, HubEvent};
-use crate::inbox::{Inbox, next};
+use crate::inbox::Inbox;
 use std::marker::Model;
 use vk_base::FrameBytes;
 use vk_event::LinkPlan;
 use vk_frame::{Header, unseal};
+use vk_generator::Generator;
 
 /// The generator's state, what waits for each station, how many programs have finished, and whether the hub is halted.
 #[derive(Drop)]
 pub struct Links {
-    x: u64,
+    generator: Generator,
     inboxes: Vec<Inbox>,
     finished: u64,
     halted: bool,
@@ -24,7 +25,7 @@ impl Model for Links {
 
     ghost Value = { Traffic };
 
-    ghost view = { λ l. record { x = l.x; waiting = l.inboxes.items; finished = l.finished; halted = l.halted } };
+    ghost view = { λ l. record { x = l.generator; waiting = l.inboxes.items; finished = l.finished; halted = l.halted } };
 }
 
 // The header that opens the frame, if one does.
@@ -49,20 +50,22 @@ fn is_addressed(header: Option<Header>, station: u16) -> bool
     }
 }
 
-// Posts the frame to each station that it is addressed to, and answers the generator's state after that.
-fn post_all(inboxes: &mut Vec<Inbox>, plan: &LinkPlan, seed: u64, frame: &FrameBytes) -> u64
-    ensures { posted_all plan.now seed inboxes.old.items (header_of frame.now) frame.now ≡ (result, inboxes.new.items) }
+// Posts the frame to each station that it is addressed to, by three draws of the generator for each.
+fn post_all(
+    inboxes: &mut Vec<Inbox>,
+    plan: &LinkPlan,
+    generator: &mut Generator,
+    frame: &FrameBytes,
+)
+    ensures { posted_all plan.now generator.old inboxes.old.items (header_of frame.now) frame.now ≡ (generator.new, inboxes.new.items) }
 {
     let header = header_of(frame);
-    let mut x = seed;
     for i in 0..inboxes.len() {
         let inbox = &mut inboxes[i];
         if is_addressed(header, inbox.station()) {
-            inbox.post(plan, x, frame);
-            x = next(next(next(x)));
+            inbox.post(plan, generator, frame);
         }
     }
-    x
 }
 
 // Whether a frame waits for the station.
@@ -104,7 +107,7 @@ impl Links {
         ensures { result ≡ record { x = seed; waiting = inboxes.items; finished = 0; halted = false } }
     {
         Links {
-            x: seed,
+            generator: Generator::new(seed),
             inboxes,
             finished: 0,
             halted: false,
@@ -143,7 +146,7 @@ impl Links {
     {
         match event {
             HubEvent::Post { frame } => {
-                self.x = post_all(&mut self.inboxes, plan, self.x, frame);
+                post_all(&mut self.inboxes, plan, &mut self.generator, frame);
                 None
             }
             HubEvent::Fetch { host } => {

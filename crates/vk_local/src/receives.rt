@@ -1,6 +1,6 @@
 //! Receive and ReceiveSegment.
 
-ghost use Rattle.std.specs.Prelude.{◌≡◌, ◌<◌, ◌≤◌, ◌+◌, ◌++◌, length, true, Some};
+ghost use Rattle.std.specs.Prelude.{◌≡◌, ◌<◌, ◌≤◌, ◌+◌, ◌++◌, ◌∷◌, [], length, true, Some};
 ghost use Rattle.arrayvec.specs.ArrayVec.{array_vec_len};
 ghost use Rattle.vk_base.specs.Activities.{as_receive, call_of};
 ghost use Rattle.vk_base.specs.declared.limits.TheConstants.{STATION_PROCESSES, STEPS};
@@ -11,7 +11,7 @@ ghost use Rattle.vk_local.specs.Rules.{IsTablesRule, may_call};
 
 use crate::access::own_range;
 use crate::serving::serve;
-use vk_base::{Outcome, Pid, Refusal, Step, StepList, Waiting};
+use vk_base::{Call, Outcome, Pid, Refusal, Step, StepList, Waiting};
 use vk_pool::AlienPool;
 use vk_procs::Procs;
 use vk_queue::Queues;
@@ -50,6 +50,25 @@ fn begin(
     serve(procs, queues, aliens, steps, pid);
 }
 
+/// The step of a receive.
+fn push_receive(steps: &mut StepList, pid: Pid, waiting: Waiting)
+    requires receive { as_receive waiting ≡ Some waiting }
+    requires room { array_vec_len steps.old < STEPS }
+    ensures { steps.new.items ≡ steps.old.items ++ Step.Call pid (call_of waiting) ∷ [] }
+{
+    match waiting {
+        Waiting::Receive => steps.push(Step::Call {
+            pid,
+            call: Call::Receive,
+        }),
+        Waiting::ReceiveSegment { start, count } => steps.push(Step::Call {
+            pid,
+            call: Call::ReceiveSegment { start, count },
+        }),
+        _ => unreachable!(),
+    }
+}
+
 /// The receive, by the tables.
 fn play_receive(
     procs: &mut Procs,
@@ -66,10 +85,7 @@ fn play_receive(
         (tables_of procs.new queues.new.lists aliens.new) steps.old.items steps.new.items }
     ensures room { queues.new.slots ≡ queues.old.slots }
 {
-    steps.push(Step::Call {
-        pid,
-        call: waiting.call(),
-    });
+    push_receive(steps, pid, waiting);
     if let Some(why) = receive_refusal(procs, pid, waiting) {
         return Some(Outcome::Refused { why });
     }

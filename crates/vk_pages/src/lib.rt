@@ -1,5 +1,5 @@
 //! Page programs: a server that keeps pages of 512 bytes, and a client that writes and reads them; and any program of a
-//! scenario. The program `vkernel` does not use them yet.
+//! scenario.
 //!
 //! Stands on `vk_base`, on the tasks of `vk_event` and on `vk_program`.
 #![tactic(auto)]

@@ -1,11 +1,13 @@
 //! A report with each kind of line, and the trace of the same history.
 
+ghost use Rattle.vk_report.specs.Views.{IsShort};
+
 use std::alloc::Global;
 use std::test::Fail;
-use vk_base::{Answer, Call, EventAnswer, NoMemory, Pid, Refusal, Step};
+use vk_base::{Call, NoMemory, Outcome, Pid, Refusal, Step};
 use vk_report::{
-    Counts, Emitted, Form, PacketKind, Place, put_end, put_entry, put_frame, put_missing,
-    put_opening,
+    AnswerView, Counts, Emitted, Form, PacketKind, Place, put_end, put_entry, put_frame,
+    put_missing, put_opening,
 };
 use vk_text::empty_config;
 
@@ -43,7 +45,7 @@ fn put_call(alloc: Global, text: &mut Vec<u8>, form: Form, pid: Pid) -> Result<(
         },
         Step::Take { pid },
     ];
-    put_entry(alloc, text, form, place, &EventAnswer::Begun, &steps)?;
+    put_entry(alloc, text, form, place, &AnswerView::Begun, &steps)?;
     let asked = Emitted {
         destination: 65_535,
         kind: PacketKind::AskPid,
@@ -65,8 +67,10 @@ fn put_other(
     form: Form,
     number: u64,
     own: u64,
-    answer: &EventAnswer,
-) -> Result<(), NoMemory> {
+    answer: &AnswerView,
+) -> Result<(), NoMemory>
+    requires { IsShort answer.now }
+{
     let place = Place {
         number,
         host: 1,
@@ -76,15 +80,15 @@ fn put_other(
 }
 
 fn put_others(alloc: Global, text: &mut Vec<u8>, form: Form) -> Result<(), NoMemory> {
-    let early = EventAnswer::Answered {
-        answer: Answer::Refused {
+    let early = AnswerView::Given {
+        outcome: Outcome::Refused {
             why: Refusal::NotYet,
         },
     };
-    put_other(alloc, text, form, 3, 1, &EventAnswer::Ticked { now: 1 })?;
-    put_other(alloc, text, form, 4, 2, &EventAnswer::Taken)?;
-    put_other(alloc, text, form, 5, 3, &EventAnswer::Old)?;
-    put_other(alloc, text, form, 6, 4, &EventAnswer::Bad)?;
+    put_other(alloc, text, form, 3, 1, &AnswerView::Ticked { now: 1 })?;
+    put_other(alloc, text, form, 4, 2, &AnswerView::Taken)?;
+    put_other(alloc, text, form, 5, 3, &AnswerView::Old)?;
+    put_other(alloc, text, form, 6, 4, &AnswerView::Bad)?;
     put_other(alloc, text, form, 7, 5, &early)
 }
 

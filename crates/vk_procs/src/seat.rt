@@ -154,7 +154,9 @@ impl Seat {
     pub fn collect(&mut self)
         ensures { self.new ≡ collected self.old }
     {
-        self.doing = self.doing.collected();
+        if matches!(self.doing, Activity::Done { .. }) {
+            self.doing = Activity::Ready;
+        }
     }
 
     pub fn write(&mut self, at: u32, bytes: &[u8])

@@ -1,5 +1,4 @@
-//! Programs of processes: what a process calls next, after the answers so far. Scripts are the simplest. The program
-//! `vkernel` does not use them yet.
+//! Programs of processes: what a process calls next, after the answers so far. Scripts are the simplest.
 //!
 //! Stands on `vk_base` alone.
 #![tactic(auto)]

@@ -3,11 +3,12 @@
 ghost use Rattle.std.specs.Prelude.{◌≡◌, ◌++◌, OnOk, OnErr};
 ghost use Rattle.vk_text.specs.Spelling.{Begins};
 ghost use Rattle.vk_report.specs.Report.{place_text, answer_text_of, answer_line, number_and_host, missing_line, event_place};
+ghost use Rattle.vk_report.specs.Views.{IsShort, viewed};
 
 use crate::entry::Place;
 use std::alloc::Global;
-use v_trace::put_answer;
-use vk_base::{EventAnswer, NoMemory};
+use v_trace::{put_loaded, put_outcome};
+use vk_base::{Answer, EventAnswer, NoMemory, Outcome};
 use vk_text::{put, put_byte, put_number, write_number};
 
 /// `now TICK`
@@ -19,18 +20,78 @@ fn write_ticked(alloc: Global, text: &mut Vec<u8>, now: u64) -> Result<(), NoMem
     write_number(alloc, text, now)
 }
 
+/// What an event is answered, in few bytes: those that a Load gives, at most 1,024, are lent.
+#[derive(Clone, Copy)]
+pub enum AnswerView<'a> {
+    Begun,
+    Given { outcome: Outcome },
+    Loaded { bytes: &'a [u8] },
+    Ticked { now: u64 },
+    Taken,
+    Old,
+    Bad,
+}
+
+impl AnswerView<'_> {
+    /// The view of an answer.
+    pub fn of(answer: &EventAnswer) -> AnswerView<'_>
+        ensures value { viewed result ≡ answer.now }
+        ensures short { IsShort result }
+    {
+        match answer {
+            EventAnswer::Begun => AnswerView::Begun,
+            EventAnswer::Answered { answer } => given(answer),
+            EventAnswer::Ticked { now } => AnswerView::Ticked { now: *now },
+            EventAnswer::Taken => AnswerView::Taken,
+            EventAnswer::Old => AnswerView::Old,
+            EventAnswer::Bad => AnswerView::Bad,
+        }
+    }
+}
+
+/// The view of the answer of a call.
+fn given(answer: &Answer) -> AnswerView<'_>
+    ensures value { viewed result ≡ EventAnswer.Answered answer.now }
+    ensures short { IsShort result }
+{
+    let outcome = match *answer {
+        Answer::Ok => Outcome::Ok,
+        Answer::Replied { message } => Outcome::Replied { message },
+        Answer::Received { from, message } => Outcome::Received { from, message },
+        Answer::ReceivedSegment {
+            from,
+            message,
+            count,
+        } => Outcome::ReceivedSegment {
+            from,
+            message,
+            count,
+        },
+        Answer::Found { pid } => Outcome::Found { pid },
+        Answer::Loaded { ref bytes } => {
+            return AnswerView::Loaded {
+                bytes: bytes.as_slice(),
+            };
+        }
+        Answer::Refused { why } => Outcome::Refused { why },
+    };
+    AnswerView::Given { outcome }
+}
+
 /// What an event is answered.
-fn write_answer(alloc: Global, text: &mut Vec<u8>, answer: &EventAnswer) -> Result<(), NoMemory>
-    ensures ok { OnOk result (text.new.items ≡ text.old.items ++ answer_text_of answer.now) }
+fn write_answer(alloc: Global, text: &mut Vec<u8>, answer: &AnswerView) -> Result<(), NoMemory>
+    requires { IsShort answer.now }
+    ensures ok { OnOk result (text.new.items ≡ text.old.items ++ answer_text_of (viewed answer.now)) }
     ensures front { OnErr result (Begins text.old.items text.new.items) }
 {
     match answer {
-        EventAnswer::Begun => put(text, b"begun"),
-        EventAnswer::Answered { answer } => put_answer(alloc, text, answer),
-        EventAnswer::Ticked { now } => write_ticked(alloc, text, *now),
-        EventAnswer::Taken => put(text, b"taken"),
-        EventAnswer::Old => put(text, b"old"),
-        EventAnswer::Bad => put(text, b"bad"),
+        AnswerView::Begun => put(text, b"begun"),
+        AnswerView::Given { outcome } => put_outcome(alloc, text, outcome),
+        AnswerView::Loaded { bytes } => put_loaded(alloc, text, bytes),
+        AnswerView::Ticked { now } => write_ticked(alloc, text, *now),
+        AnswerView::Taken => put(text, b"taken"),
+        AnswerView::Old => put(text, b"old"),
+        AnswerView::Bad => put(text, b"bad"),
     }
 }
 
@@ -60,9 +121,10 @@ pub fn write_answer_line(
     alloc: Global,
     text: &mut Vec<u8>,
     place: Place,
-    answer: &EventAnswer,
+    answer: &AnswerView,
 ) -> Result<(), NoMemory>
-    ensures ok { OnOk result (text.new.items ≡ text.old.items ++ answer_line place answer.now) }
+    requires { IsShort answer.now }
+    ensures ok { OnOk result (text.new.items ≡ text.old.items ++ answer_line place (viewed answer.now)) }
     ensures front { OnErr result (Begins text.old.items text.new.items) }
 {
     write_place(alloc, text, place)?;

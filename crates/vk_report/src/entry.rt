@@ -2,13 +2,14 @@
 
 ghost use Rattle.std.specs.Prelude.{◌≡◌, ◌++◌, OnOk, OnErr};
 ghost use Rattle.vk_text.specs.Spelling.{Begins};
+ghost use Rattle.vk_report.specs.Views.{IsShort, viewed};
 ghost use Rattle.vk_report.specs.Report.{step_line, step_lines, report_entry, entry_lines, missing_lines, frame_lines, end_line, end_lines, opening_lines};
 
-use crate::answer::{write_answer_line, write_missing_line};
+use crate::answer::{AnswerView, write_answer_line, write_missing_line};
 use crate::frame::{Emitted, write_frame_line};
 use std::alloc::Global;
 use v_trace::put_step;
-use vk_base::{Config, EventAnswer, NoMemory, Step};
+use vk_base::{Config, NoMemory, Step};
 use vk_text::{put, put_byte, put_head, write_number};
 
 /// What is written of a history.
@@ -74,10 +75,11 @@ fn write_report_entry(
     alloc: Global,
     text: &mut Vec<u8>,
     place: Place,
-    answer: &EventAnswer,
+    answer: &AnswerView,
     steps: &[Step],
 ) -> Result<(), NoMemory>
-    ensures ok { OnOk result (text.new.items ≡ text.old.items ++ report_entry place answer.now steps.now) }
+    requires { IsShort answer.now }
+    ensures ok { OnOk result (text.new.items ≡ text.old.items ++ report_entry place (viewed answer.now) steps.now) }
     ensures front { OnErr result (Begins text.old.items text.new.items) }
 {
     write_answer_line(alloc, text, place, answer)?;
@@ -90,10 +92,11 @@ pub fn put_entry(
     text: &mut Vec<u8>,
     form: Form,
     place: Place,
-    answer: &EventAnswer,
+    answer: &AnswerView,
     steps: &[Step],
 ) -> Result<(), NoMemory>
-    ensures ok { OnOk result (text.new.items ≡ text.old.items ++ entry_lines form place answer.now steps.now) }
+    requires { IsShort answer.now }
+    ensures ok { OnOk result (text.new.items ≡ text.old.items ++ entry_lines form place (viewed answer.now) steps.now) }
     ensures err { OnErr result (text.new.items ≡ text.old.items) }
 {
     let len = text.len();

@@ -11,6 +11,7 @@ mod entry;
 mod frame;
 mod law;
 
+pub use answer::AnswerView;
 pub use entry::{Counts, Form, Place, put_end, put_entry, put_frame, put_missing, put_opening};
 pub use frame::{Emitted, PacketKind};
 pub use law::traces_are_of_their_steps;

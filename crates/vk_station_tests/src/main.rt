@@ -1,39 +1,55 @@
 //! Stations that are driven by hand, as files: what no report shows. Each file of `data/stations/` is a text of stations, of frames by
 //! name, with every byte, and of events with what the station must tell of each: its Lamport number, itself and its count, the
 //! answer, the steps, and the names of its frames. The frames that come are those of the file too, so they may be bad, old or forged.
-//! `src/transcript.rt` says how such a text is read. A text more is its file, and one more in the number of the file `stdout`.
+//! `src/transcript.rt` says how such a text is read. Each file of `data/clusters/` is a schedule over stations with so many places for
+//! aliens as it says, which the text of a schedule cannot, with what they must tell of each event (`src/schedule.rt`). A text more is its
+//! file, and one more in the number of the file `stdout`.
 //!
-//! Stands on the station (`vk_host`) and on the texts of calls and reports (`vk_text`, `vk_report`).
+//! Stands on the station (`vk_host`), on all stations (`vk_cluster`) and on the texts of calls, schedules and reports (`vk_text`,
+//! `vk_event`, `vk_report`).
 #![tactic(auto)]
 
+mod cluster;
 mod frames;
+mod schedule;
 mod station;
 mod transcript;
 
-use crate::transcript::transcript;
+use std::alloc::Global;
 use std::rt::Files;
 use std::{fs, io, str};
 
-/// The folder of the texts.
-const FOLDER: &str = "stations";
+/// The folders of the texts of stations, and of all stations.
+const STATIONS: &str = "stations";
 
-/// The texts, sorted.
-fn names(rt: &HostRuntime) -> io::Result<Vec<String>> {
+const CLUSTERS: &str = "clusters";
+
+/// The texts of a folder, sorted.
+fn names(rt: &HostRuntime, folder: &str) -> io::Result<Vec<String>> {
     let mut names = Vec::new(rt.alloc());
-    for entry in fs::read_dir(rt, FOLDER)? {
+    for entry in fs::read_dir(rt, folder)? {
         let entry = entry?;
         let alloc = rt.alloc();
         let name = entry.file_name();
-        names.push(format!(in alloc; "{FOLDER}/{name}")?)?;
+        names.push(format!(in alloc; "{folder}/{name}")?)?;
     }
     names.sort()?;
     Ok(names)
 }
 
+/// What the stations tell of the text.
+fn told_of(alloc: Global, name: &str, text: &str) -> io::Result<Vec<u8>> {
+    if name.starts_with(CLUSTERS) {
+        schedule::transcript(alloc, text)
+    } else {
+        transcript::transcript(alloc, text)
+    }
+}
+
 /// Whether the stations tell what the text wants; else what they tell is written.
 fn agrees(rt: &HostRuntime, name: &str) -> io::Result<bool> {
     let wanted = fs::read_to_string(rt, name)?;
-    let told = transcript(rt.alloc(), wanted.as_str())?;
+    let told = told_of(rt.alloc(), name, wanted.as_str())?;
     if told.as_slice() == wanted.as_bytes() {
         return Ok(true);
     }
@@ -43,12 +59,18 @@ fn agrees(rt: &HostRuntime, name: &str) -> io::Result<bool> {
     Ok(false)
 }
 
-fn main(rt: HostRuntime) -> io::Result<()> {
+/// How many texts of the folder agree.
+fn agreeing_in(rt: &HostRuntime, folder: &str) -> io::Result<u64> {
     let mut agreeing = 0u64;
-    for name in names(&rt)? {
-        if agrees(&rt, name.as_str())? {
+    for name in names(rt, folder)? {
+        if agrees(rt, name.as_str())? {
             agreeing = agreeing.saturating_add(1);
         }
     }
+    Ok(agreeing)
+}
+
+fn main(rt: HostRuntime) -> io::Result<()> {
+    let agreeing = agreeing_in(&rt, STATIONS)?.saturating_add(agreeing_in(&rt, CLUSTERS)?);
     println!(rt; "{agreeing} texts agree")
 }

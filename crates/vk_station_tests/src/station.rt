@@ -4,13 +4,13 @@ use crate::frames::{frame_named, is_bad, name_of};
 use std::alloc::Global;
 use std::io;
 use std::marker::Model;
-use vk_base::{Config, EventAnswer, Pid, ProcessSpec, Times};
-use vk_host::Host;
-use vk_report::{Form, Place, put_entry};
+use vk_base::{Config, Pid, ProcessSpec, Times};
+use vk_host::{Host, Response};
+use vk_report::{AnswerView, Form, Place, put_entry};
 use vk_text::{next_pid, pid, read_call};
 
 /// How often and how long a station tries.
-const TIMES: Times = Times {
+pub const TIMES: Times = Times {
     tries: 5,
     interval: 4,
     life: 8,
@@ -75,7 +75,7 @@ impl Station {
 
     /// A call: `PID CALL`. Nothing where the text is none, or not that of a process of the station.
     #[tactic(auto, using(crate::proofs::Standing::goes_on))]
-    fn call(&mut self, text: &[u8]) -> Option<EventAnswer> {
+    fn call(&mut self, text: &[u8]) -> Option<Response> {
         let (pid, at) = next_pid(text, 0)?;
         let call = read_call(text, at)?;
         if self.host.events() < EVENTS && self.host.has(pid) {
@@ -87,7 +87,7 @@ impl Station {
 
     /// A collect of this process, under the same condition.
     #[tactic(auto, using(crate::proofs::Standing::goes_on))]
-    fn collect(&mut self, pid: Pid) -> Option<EventAnswer> {
+    fn collect(&mut self, pid: Pid) -> Option<Response> {
         if self.host.events() < EVENTS && self.host.has(pid) {
             Some(self.host.collect(pid))
         } else {
@@ -96,7 +96,7 @@ impl Station {
     }
 
     #[tactic(auto, using(crate::proofs::Standing::goes_on))]
-    fn tick(&mut self) -> Option<EventAnswer> {
+    fn tick(&mut self) -> Option<Response> {
         if self.host.events() < EVENTS {
             Some(self.host.tick())
         } else {
@@ -105,7 +105,7 @@ impl Station {
     }
 
     #[tactic(auto, using(crate::proofs::Standing::goes_on))]
-    fn deliver(&mut self, frame: &[u8]) -> Option<EventAnswer> {
+    fn deliver(&mut self, frame: &[u8]) -> Option<Response> {
         if self.host.events() < EVENTS {
             Some(self.host.deliver(frame))
         } else {
@@ -114,13 +114,13 @@ impl Station {
     }
 
     /// What the station answers to the event of this kind.
-    fn answer(
+    fn respond(
         &mut self,
         alloc: Global,
         text: &str,
         kind: &str,
         rest: &str,
-    ) -> io::Result<Option<EventAnswer>> {
+    ) -> io::Result<Option<Response>> {
         if kind == "call" {
             return Ok(self.call(rest.as_bytes()));
         }
@@ -146,11 +146,11 @@ impl Station {
         told: &mut Vec<u8>,
     ) -> io::Result<()> {
         for left in (0..count).rev() {
-            let Some(answer) = self.tick() else {
+            let Some(response) = self.tick() else {
                 return Err(is_bad());
             };
             if left == 0 || self.host.frame_count() > 0 || !self.host.steps().is_empty() {
-                self.tell(alloc, text, &answer, told)?;
+                self.tell(alloc, text, response, told)?;
             }
         }
         Ok(())
@@ -162,7 +162,7 @@ impl Station {
         &self,
         alloc: Global,
         text: &str,
-        answer: &EventAnswer,
+        response: Response,
         told: &mut Vec<u8>,
     ) -> io::Result<()> {
         let place = Place {
@@ -170,8 +170,10 @@ impl Station {
             host: self.number,
             own: self.host.events(),
         };
+        let answer = self.host.answer(response);
+        let answer = AnswerView::of(&answer);
         let steps = self.host.steps().as_slice();
-        if put_entry(alloc, told, Form::Report, place, answer, steps).is_err() {
+        if put_entry(alloc, told, Form::Report, place, &answer, steps).is_err() {
             return Err(io::Error::from(io::ErrorKind::OutOfMemory));
         }
         for at in 0..self.host.frame_count() {
@@ -201,8 +203,8 @@ impl Station {
                 Err(_) => Err(is_bad()),
             };
         }
-        match self.answer(alloc, text, kind, rest)? {
-            Some(answer) => self.tell(alloc, text, &answer, told),
+        match self.respond(alloc, text, kind, rest)? {
+            Some(response) => self.tell(alloc, text, response, told),
             None => Err(is_bad()),
         }
     }

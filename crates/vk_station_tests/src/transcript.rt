@@ -31,7 +31,8 @@ fn place_of(stations: &[Station], host: &str) -> Option<usize> {
     stations.iter().position(|s| s.number() == host)
 }
 
-fn put_line(told: &mut Vec<u8>, line: &str) -> io::Result<()> {
+/// Appends the line.
+pub fn put_line(told: &mut Vec<u8>, line: &str) -> io::Result<()> {
     told.extend_from_slice(line.as_bytes())?;
     told.push(b'\n')?;
     Ok(())

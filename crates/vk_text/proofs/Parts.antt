@@ -1,7 +1,7 @@
 -- The first line of a text and the first word of a line.
-use Rattle.std.proofs.Common.{◌≡◌, ℕ, suc, ◌+◌, ◌<◌, ◌≤◌, Bool, true, false, cond, not, nat_lt, ◌==◌, List, [], ◌∷◌, length, take, drop, slice_index, Some, None, refl, arith, ap, sym, ◌∙◌, subst, inl, inr}
+use Rattle.std.proofs.Common.{◌≡◌, ℕ, suc, zero, ◌+◌, ◌<◌, ◌≤◌, Bool, true, false, cond, not, nat_lt, ◌==◌, List, [], ◌∷◌, length, take, drop, slice_index, Some, None, refl, arith, ap, sym, ◌∙◌, subst, inl, inr}
 use Rattle.std.specs.List.{slice_split, onto_first, position, position_or_len, before_first, after_first}
-use Rattle.std.proofs.lemmas.Bool.{true≢false, cases_lt, cases_Bool, cond-true, cond-false, lt-ltb, le-ltb}
+use Rattle.std.proofs.lemmas.Bool.{true≢false, cases_lt, cases_Bool, cond-true, cond-false, lt-ltb, le-ltb, ltb-true}
 use Rattle.std.proofs.lemmas.List.{take_all, drop_all, length-take-le, length-drop, drop-drop}
 use Rattle.std.proofs.lemmas.List.Splits.{slice_split_first, slice_split_none, length-slice_split}
 use Rattle.std.proofs.lemmas.List.Sums.{fails_before_first, position_or_len_is, prefix_len-le-length}
@@ -16,6 +16,26 @@ front_found p xs i h = ap (λ n. take n xs) (sym (cond_some _ _ _ h).1)
 nowhere : (b : Bool) (i : ℕ) → cond b (Some i) None ≡ None → b ≡ false
 nowhere true i h = cc
 nowhere false i h = refl
+
+-- what is found in the first bytes is what is found in all
+found_after : (b : Bool) (m k len : ℕ) → (m < len → k ≡ m) → cond (not b) (1 + m) 0 < suc len
+    → cond (not b) (1 + k) 0 ≡ cond (not b) (1 + m) 0
+found_after true m k len same less = refl
+found_after false m k len same less = ap (λ n. 1 + n) (same (omega arith))
+
+found_on : (p : ℕ → Bool) (n : ℕ) (xs : List ℕ) → position_or_len p (take n xs) < length (take n xs)
+    → position_or_len p xs ≡ position_or_len p (take n xs)
+found_on p zero xs less = absurd (omega arith)
+found_on p (suc n) [] less = refl
+found_on p (suc n) (x ∷ xs) less =
+    found_after (p x) (position_or_len p (take n xs)) (position_or_len p xs) (length (take n xs)) (found_on p n xs) less
+
+pub front_found_on : (p : ℕ → Bool) (n : ℕ) (xs front : List ℕ) (i : ℕ) → front ≡ take n xs → position p front ≡ Some i
+    → take i xs ≡ before_first p xs
+front_found_on p n xs front i first h =
+    let found : position p (take n xs) ≡ Some i = ap (position p) (sym first) ∙ h in
+    let at = cond_some _ _ _ found in
+    ap (λ k. take k xs) (sym at.1 ∙ sym (found_on p n xs (ltb-true _ _ at.0)))
 
 pub front_all : (p : ℕ → Bool) (xs : List ℕ) → position p xs ≡ None → xs ≡ before_first p xs
 front_all p xs h =

@@ -6,6 +6,9 @@ ghost use Rattle.vk_text.specs.Lines.{lines_of, words_from, StartsNoWord};
 
 use memchr::memchr;
 
+/// Most words have fewer bytes than these.
+const SHORT: usize = 24;
+
 /// Where the first such byte stands.
 fn place_of(bytes: &[u8], byte: u8) -> Option<usize>
     ensures place { result ≡ position (λ b. b == byte) bytes.now }
@@ -14,11 +17,11 @@ fn place_of(bytes: &[u8], byte: u8) -> Option<usize>
     bytes.iter().position(|b| *b == byte)
 }
 
-/// What stands before the first such byte, or all where there is none.
-fn before(bytes: &[u8], byte: u8) -> &[u8]
+/// What stands before the first such byte, or all where there is none. For long pieces.
+fn searched(bytes: &[u8], byte: u8) -> &[u8]
     ensures { result.now ≡ before_first (λ b. b == byte) bytes.now }
 {
-    match place_of(bytes, byte) {
+    match memchr(byte, bytes) {
         Some(at) => {
             let (front, _) = bytes.split_at(at);
             front
@@ -27,16 +30,18 @@ fn before(bytes: &[u8], byte: u8) -> &[u8]
     }
 }
 
-/// The text up to its first line feed.
-fn first_line(text: &[u8]) -> &[u8]
-    ensures { result.now ≡ before_first (λ b. b == 10) text.now }
+/// What stands before the first such byte, or all where there is none. The first bytes are looked at one by one, which for a short piece
+/// takes less than a search.
+fn before(bytes: &[u8], byte: u8) -> &[u8]
+    ensures { result.now ≡ before_first (λ b. b == byte) bytes.now }
 {
-    match memchr(b'\n', text) {
+    let (first, _) = bytes.split_at(bytes.len().min(SHORT));
+    match place_of(first, byte) {
         Some(at) => {
-            let (line, _) = text.split_at(at);
-            line
+            let (front, _) = bytes.split_at(at);
+            front
         }
-        None => text,
+        None => searched(bytes, byte),
     }
 }
 
@@ -51,7 +56,7 @@ pub fn next_line(text: &[u8], at: usize) -> Option<(&[u8], usize)>
         return None;
     }
     let (_, rest) = text.split_at(at);
-    let line = first_line(rest);
+    let line = searched(rest, b'\n');
     let behind = at + line.len();
     if behind < text.len() {
         Some((line, behind + 1))

@@ -8,16 +8,21 @@ use Rattle.vk_base.specs.declared.limits.TheConstants.{FRAME_BYTES}
 use Rattle.vk_base.specs.Packets.{Packet}
 use Rattle.vk_base.specs.Settings.{Settings, has_station}
 use Rattle.vk_cluster.specs.declared.emitted.TheConstants.{EVENT_FRAMES}
+use Rattle.vk_cluster.specs.declared.report.Advance.{Advance}
+use Rattle.vk_cluster.specs.declared.report.Advance.TheVariants as advances
 use Rattle.vk_cluster.specs.declared.report.ClusterAnswer.TheVariants as answers
 use Rattle.vk_cluster.specs.declared.report.StepReport.{StepReport}
-use Rattle.vk_cluster.specs.Standing.{ShowsLast, StandsSomewhere, logs_of, report_of}
+use Rattle.vk_cluster.specs.Standing.{ShowsLast, StandsSomewhere, Tells, logs_of, report_by, report_of}
 use Rattle.vk_cluster.specs.Values.{ClusterValue}
 use Rattle.vk_cluster.proofs.Logs.{logs_next}
 use Rattle.vk_cluster.proofs.Taking.{actor_station}
+use Rattle.vk_cluster.proofs.Told.{report_told}
 use Rattle.vk_event.specs.declared.event.Event.{Event}
 use Rattle.vk_event.specs.declared.event.Event.TheVariants as scheduled
 use Rattle.vk_frame.specs.declared.header.Header.{Header}
 use Rattle.vk_frame.specs.Reading.{frame_of}
+use Rattle.vk_host.specs.declared.response.Response.{Response}
+use Rattle.vk_host.specs.Responses.{answer_of}
 use Rattle.vk_host.specs.Sealed.{sealed}
 use Rattle.vk_host.specs.Standing.{Shows}
 use Rattle.vk_host.specs.Values.{StationValue}
@@ -42,7 +47,7 @@ use Rattle.vk_rules.proofs.OwnEvents.{own_log}
 use Rattle.vk_rules.proofs.Rising.{entries_rise}
 use Rattle.v_lawful.specs.Sending.{IsLawfulEntry, IsLawfulFrame, most_packets}
 use Rattle.v_lawful.proofs.Schedules.{lawful_log}
-use Rattle.vk_top.specs.Playing.{HasReported, IsLast, IsTold, Sends, told_entry}
+use Rattle.vk_top.specs.Playing.{HasAdvanced, HasReported, IsLast, IsTold, Sends, told_entry}
 use Rattle.vk_top.specs.Report.{emitted_of, kind_of, told_of}
 
 -- The bytes of a lawful frame open as its header and its packet.
@@ -266,14 +271,45 @@ module _ (c : Settings) (es : List Event) (now : ClusterValue) (e : Event) (r : 
           frames = few_frames;
         })
 
+-- The station in the place that is told of showed the entry.
+module _ (c : Settings) (es : List Event) (now : ClusterValue) (e : Event) (a : Advance) (had : HasAdvanced c es now e a) (place : ℕ)
+    (given : Response) (is : a ≡ advances.Event place given) (s : StationValue) (found : slice_get now.hosts place ≡ Some s) where
+  reported_by : HasReported c es now e (report_by s given)
+  reported_by = subst (HasReported c es now e) (report_told now a place given had.report is had.told s found) had.reported
+
+  one : IsEntry (report_by s given) (answer_of s given) (happened c (logs_of c es) e)
+  one = reported_entry (report_by s given) (answer_of s given) (happened c (logs_of c es) e) reported_by.next.report refl
+
+  last : IsLast s (answer_of s given) one.entry
+  last = last_is c es now e (report_by s given) reported_by one.entry one.is place s found refl (answer_of s given) one.answered
+
+  pub last_advanced : (entry : Entry) × IsLast s (answer_of s given) entry
+  last_advanced = (one.entry, last)
+
+  pub told_advanced : (form : Form) (before after : Counts) (front text : List ℕ) →
+      ((entry : Entry) → IsLast s (answer_of s given) entry →
+      text ≡ front ++ told_lines form (told_entry (record { number = before.events + 1; host = s.host; own = s.events }) entry)) →
+      after ≡ record {
+        events = before.events + 1;
+        steps = before.steps + length s.doing.steps;
+        frames = before.frames + length s.frames;
+      } → IsTold form before after front text (happened c (logs_of c es) e)
+  told_advanced form before after front text lines counts =
+      told_is c es now e (report_by s given) reported_by one.entry one.is place s found refl form before after front text
+      (lines one.entry last) counts
+
 -- there was nothing to deliver
-pub missing_told : (form : Form) (before after : Counts) (front text : List ℕ) (r : StepReport) (h : Happened) →
-    r ≡ report_of h → r.answer ≡ answers.Missing → text ≡ front ++ told_lines form (told_of (before.events + 1) (Missing r.host)) →
-    after ≡ record before { events = before.events + 1 } → IsTold form before after front text h
-missing_told form before after front text r h is given lines counts =
+pub missing_told : (c : Settings) (es : List Event) (now : ClusterValue) (e : Event) (a : Advance) (host : ℕ) → HasAdvanced c es now e a →
+    a ≡ advances.Missing host → (form : Form) (before after : Counts) (front text : List ℕ) →
+    text ≡ front ++ told_lines form (told_of (before.events + 1) (Missing host)) →
+    after ≡ record before { events = before.events + 1 } → IsTold form before after front text (happened c (logs_of c es) e)
+missing_told c es now e a host had is form before after front text lines counts =
+    let report : had.report ≡ report_of (Missing host) = subst (λ x. Tells now x had.report) is had.told in
+    let missed : happened c (logs_of c es) e ≡ Missing host =
+    reported_missing (report_of (Missing host)) (happened c (logs_of c es) e) (sym report ∙ had.reported.next.report) refl in
     let steps : before.steps ≡ before.steps + 0 = omega arith in
     let frames : before.frames ≡ before.frames + 0 = omega arith in
-    subst (IsTold form before after front text) (sym (reported_missing r h is given)) (record {
+    subst (IsTold form before after front text) (sym missed) (record {
       lines = lines;
       counts = counts ∙ (λ i. record { events = before.events + 1; steps = steps i; frames = frames i });
       steps = omega arith;

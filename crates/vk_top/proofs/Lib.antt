@@ -1,11 +1,13 @@
 pub mod Endings
 pub mod Events
 pub mod Fronts
+pub mod Jobs
 pub mod Lefts
 pub mod Nexts
 pub mod Outcomes
 pub mod Plays
 pub mod Schedules
+pub mod Storms
 pub mod Told
 pub mod Verdicts
 pub mod WordExamples

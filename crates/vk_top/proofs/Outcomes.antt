@@ -1,17 +1,15 @@
--- From the answer to a text to that to an input, and to the words.
+-- From the answer to a text to that to an input.
 use Rattle.std.proofs.Common.{◌≡◌, ℕ, ◌<◌, ◌≤◌, List, [], ◌∷◌, length, take, Option, Some, None, inl, inr, refl, ap, subst, sym, ◌∙◌, ◌⊎◌, arith, length-append}
-use Rattle.std.specs.Prelude.{IfSome, IsSomeAnd}
+use Rattle.std.specs.Prelude.{IfSome}
 use Rattle.std.specs.Io.KnownBytes.{Appends, Consumes}
 use Rattle.std.proofs.lemmas.Bool.{cond-true, lt-ltb}
 use Rattle.std.proofs.lemmas.List.{append-nil}
-use Rattle.clap.specs.Walk.{Text}
 use Rattle.vk_io.specs.Causes.{LosesFront, Rose}
 use Rattle.vk_text.specs.Heads.{head_of}
 use Rattle.vk_text.specs.Lines.{lines_of}
 use Rattle.v_trace.specs.Traces.{behind_head}
 use Rattle.vk_top.proofs.Told.{nothing_more}
-use Rattle.vk_top.specs.Top.{Asks, IsDecided, IsEarly, IsFront, IsOverLimit, OfInput, output_of, status_of, text_status}
-use Rattle.vk_top.specs.Words.{asked_of}
+use Rattle.vk_top.specs.Top.{IsDecided, IsEarly, IsOverLimit, OfInput, output_of, status_of, text_status}
 use Rattle.vk_top.specs.Work.{IsAnswered, IsLate, IsOutcome, IsReadCount, IsRefusal, IsUnread, IsWriteCount, IsWritten, KeepsLines}
 use Rattle.vk_top.specs.declared.status.Status.{Status}
 use Rattle.vk_top.specs.declared.status.Status.TheVariants as status
@@ -125,7 +123,7 @@ too_many (Some i) None lost = absurd lost.front
 too_many (Some i) (Some ys) lost =
     record { input = i; all = refl; holds = omega (arith, lost.count, ap length lost.front, length-append lost.bytes ys) }
 
-some_input : (told : Option (List ℕ)) (Holds : List ℕ → Type 0) → ((i : List ℕ) → Holds i) → OfInput told Holds
+pub some_input : (told : Option (List ℕ)) (Holds : List ℕ → Type 0) → ((i : List ℕ) → Holds i) → OfInput told Holds
 some_input None Holds holds = record { input = []; all = tt; holds = holds [] }
 some_input (Some i) Holds holds = record { input = i; all = refl; holds = holds i }
 
@@ -240,33 +238,3 @@ unread_is Unchanged a left rest old (status.NotARun step) same why = absurd why
 unread_is Unchanged a left rest old status.Usage same why = absurd why
 unread_is Unchanged a left rest old (status.BadInput line) same why = absurd why
 unread_is Unchanged a left rest old status.WriteFault same why = absurd why
-
--- the words
-
-pub asks : (words : List Text) (a : Asked) (told : Option (List ℕ)) (Holds : Asked → List ℕ → Type 0) → Some a ≡ asked_of words
-    → OfInput told (Holds a) → Asks words told Holds
-asks words a told Holds is given = subst (λ (o : Option Asked). IsSomeAnd o (λ b. OfInput told (Holds b))) is given
-
-pub front_is : (words : List Text) (a : Asked) (told old new : Option (List ℕ)) → Some a ≡ asked_of words
-    → OfInput told (λ i. (n : ℕ) × Appends old new (take n (output_of (Some a) i))) → OfInput told (λ i. IsFront words i old new)
-front_is words a told old new is given = record {
-  input = given.input;
-  all = given.all;
-  holds = record {
-    count = given.holds.0;
-    written = subst (λ (o : Option Asked). Appends old new (take given.holds.0 (output_of o given.input))) is given.holds.1;
-  };
-}
-
-pub nothing_written : (words : List Text) (told old : Option (List ℕ)) → OfInput told (λ i. IsFront words i old old)
-nothing_written words told old = some_input told _ (λ i. record { count = 0; written = nothing_more old })
-
-pub clash : {A B : Type 0} (a : A) (o : Option A) → Some a ≡ o → o ≡ None → B
-clash a o is none = cc
-
-pub decided_for : (a b : Asked) (o : Option Asked) (told : Option (List ℕ)) (s : Status) → Some b ≡ o → o ≡ Some a → IsDecided b told s
-    → IsDecided a told s
-decided_for a b o told s is same given =
-    let P : Asked → Type 0 = λ x. IsDecided x told s in
-    let e : b ≡ a = cc in
-    subst P e given

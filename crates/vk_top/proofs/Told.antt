@@ -177,7 +177,7 @@ cut_is asked.Check text old new small refused written = refused
 small_status : (a : Asked) (text : List ℕ) → length text ≤ 16777216 → text_status a text ≡ status_of a text
 small_status a text small = sym (cond-false _ _ _ (le-ltb 16777216 (length text) small))
 
-small_output : (a : Asked) (text : List ℕ) → length text ≤ 16777216 → text_output a text ≡ output_of (Some a) text
+small_output : (a : Asked) (text : List ℕ) → length text ≤ 16777216 → text_output a text ≡ output_of a text
 small_output a text small = sym (cond-false _ _ _ (le-ltb 16777216 (length text) small))
 
 -- the answers
@@ -256,7 +256,7 @@ late_is a text status.NoMemory small late limit is = absurd late
 
 all_written : (Unchanged : Type 0) (a : Asked) (text : List ℕ) (old new : Option (List ℕ)) (s : Status) → length text ≤ 16777216
     → s ≡ text_status a text → IsLate s → (s ≡ status.Limit → IsRefusedLate a text) → Appends old new (text_output a text)
-    → (n : ℕ) × Appends old new (take n (output_of (Some a) text)) → IsAnswered Unchanged a text old new s
+    → (n : ℕ) × Appends old new (take n (output_of a text)) → IsAnswered Unchanged a text old new s
 all_written Unchanged a text old new s small same late limit written front =
     let other = late_kinds s late in
     record {
@@ -272,7 +272,7 @@ all_written Unchanged a text old new s small same late limit written front =
     }
 
 failed_is : (Unchanged : Type 0) (a : Asked) (text : List ℕ) (old new : Option (List ℕ)) → IsToWrite a text
-    → (n : ℕ) × Appends old new (take n (output_of (Some a) text)) → IsAnswered Unchanged a text old new status.WriteFault
+    → (n : ℕ) × Appends old new (take n (output_of a text)) → IsAnswered Unchanged a text old new status.WriteFault
 failed_is Unchanged a text old new late front = record {
   kinds = (λ is. grind (arith, is), λ is. grind (arith, is));
   done = λ is. absurd (grind (arith, is));

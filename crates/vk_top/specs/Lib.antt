@@ -1,7 +1,9 @@
 pub mod Check
+pub mod Jobs
 pub mod Playing
 pub mod Report
 pub mod Statuses
+pub mod Storm
 pub mod Top
 pub mod Words
 pub mod Work

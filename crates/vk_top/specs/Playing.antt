@@ -4,8 +4,9 @@ use Rattle.vk_base.specs.declared.event.EventAnswer.{EventAnswer}
 use Rattle.vk_base.specs.declared.limits.TheConstants.{EVENTS, STEPS}
 use Rattle.vk_base.specs.Settings.{Settings}
 use Rattle.vk_cluster.specs.declared.emitted.TheConstants.{EVENT_FRAMES}
+use Rattle.vk_cluster.specs.declared.report.Advance.{Advance}
 use Rattle.vk_cluster.specs.declared.report.StepReport.{StepReport}
-use Rattle.vk_cluster.specs.Standing.{IsNext, StandsFor, emitted_bytes, logs_of}
+use Rattle.vk_cluster.specs.Standing.{IsNext, StandsFor, Tells, emitted_bytes, logs_of}
 use Rattle.vk_cluster.specs.Values.{ClusterValue}
 use Rattle.vk_event.specs.declared.event.Event.{Event}
 use Rattle.vk_event.specs.declared.schedule.Front.{Front}
@@ -57,6 +58,12 @@ counts_after c h = record { events = c.events + 1; steps = c.steps + length (ste
 pub record HasReported (c : Settings) (es : List Event) (now : ClusterValue) (e : Event) (r : StepReport) : Type 0 where
   pub actors : has_actors c.specs e ≡ true
   pub next : IsNext c es now e r
+
+-- in few bytes
+pub record HasAdvanced (c : Settings) (es : List Event) (now : ClusterValue) (e : Event) (a : Advance) : Type 0 where
+  pub report : StepReport
+  pub told : Tells now a report
+  pub reported : HasReported c es now e report
 
 -- this happened: its lines were appended, and it is counted
 pub record IsTold (form : Form) (before after : Counts) (front text : List ℕ) (h : Happened) : Type 0 where

@@ -1,6 +1,5 @@
--- What the top call answers and writes.
-use Rattle.std.specs.Prelude.{ℕ, ◌≡◌, ◌<◌, ◌≤◌, ◌⊎◌, nat_lt, true, List, [], length, take, Option, Some, None, IfSome, IsSomeAnd, Result, Ok, Err, if◌then◌else◌}
-use Rattle.clap.specs.Walk.{Text}
+-- What is answered to a text, and what is written of it.
+use Rattle.std.specs.Prelude.{ℕ, ◌≡◌, ◌<◌, ◌≤◌, ◌⊎◌, nat_lt, true, List, [], length, take, Option, Some, None, IfSome, Result, Ok, Err, if◌then◌else◌}
 use Rattle.std.specs.Io.KnownBytes.{Appends}
 use Rattle.vk_base.specs.declared.limits.TheConstants.{INPUT_BYTES}
 use Rattle.vk_io.specs.Causes.{LosesFront}
@@ -24,17 +23,12 @@ use Rattle.vk_top.specs.declared.words.Asked.TheVariants as asked
 use Rattle.vk_report.specs.declared.entry.Form.{Form}
 use Rattle.vk_top.specs.Check.{IsNo, IsTooMuch, IsYes, verdict_of, verdict_text}
 use Rattle.vk_top.specs.Report.{front_text, history_before, is_cut, output_text, written_text}
-use Rattle.vk_top.specs.Words.{asked_of}
 
 -- the bytes of the input: those that the source tells as left, or some where it tells none, and this holds of them
 pub record OfInput (told : Option (List ℕ)) (Holds : List ℕ → Type 0) : Type 0 where
   pub input : List ℕ
   pub all : IfSome told (λ bytes. bytes ≡ input)
   pub holds : Holds input
-
--- the words ask for something, and this holds of it and of the input
-abbrev pub Asks : List Text → Option (List ℕ) → (Asked → List ℕ → Type 0) → Type 0
-Asks words told Holds = IsSomeAnd (asked_of words) (λ a. OfInput told (Holds a))
 
 -- the input is the text of a schedule, and its report or its trace is written; before none of its events the emitted frames hold too many
 -- bytes; the steps in it are a run of the one-machine kernel, with exactly the observations of the processes
@@ -125,9 +119,8 @@ abbrev pub status_of : Asked → List ℕ → Status
 status_of a input = if nat_lt INPUT_BYTES (length input) then status.Limit else text_status a input
 
 -- what is to be written
-abbrev pub output_of : Option Asked → List ℕ → List ℕ
-output_of None input = []
-output_of (Some a) input = if nat_lt INPUT_BYTES (length input) then [] else text_output a input
+abbrev pub output_of : Asked → List ℕ → List ℕ
+output_of a input = if nat_lt INPUT_BYTES (length input) then [] else text_output a input
 
 -- the answers at which all is written that is asked for
 abbrev pub IsTold : Status → Type 0
@@ -153,11 +146,6 @@ IsRefusedLate asked.Check input = ⊥
 -- something is to be written
 abbrev pub IsToWrite : Asked → List ℕ → Type 0
 IsToWrite a input = IsTold (status_of a input) ⊎ ((length input ≤ INPUT_BYTES) × IsRefusedLate a input)
-
--- so many bytes of the output that is asked for are written behind what stood written
-pub record IsFront (words : List Text) (input : List ℕ) (old new : Option (List ℕ)) : Type 0 where
-  pub count : ℕ
-  pub written : Appends old new (take count (output_of (asked_of words) input))
 
 -- memory was wanted for the words, and then nothing was read; or some of the input was read, but no byte too many
 abbrev pub IsWanting : {S : Type 0} → S → S → Option (List ℕ) → Option (List ℕ) → Type 0

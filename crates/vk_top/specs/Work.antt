@@ -68,7 +68,7 @@ pub record IsAnswered (Unchanged : Type 0) (a : Asked) (text : List ℕ) (old ne
   pub memory : s ≡ status.NoMemory → KeepsLines a text
   pub writing : s ≡ status.WriteFault → IsToWrite a text
   pub complete : (s ≡ status.NoMemory) ⊎ (s ≡ status.WriteFault) ⊎ (s ≡ status_of a text)
-  pub front : (n : ℕ) × Appends old new (take n (output_of (Some a) text))
+  pub front : (n : ℕ) × Appends old new (take n (output_of a text))
 
 -- what the answer to an input says, which has these bytes left and then those
 pub record IsOutcome (Unchanged : Type 0) (a : Asked) (left rest old new : Option (List ℕ)) (s : Status) : Type 0 where
@@ -82,4 +82,4 @@ pub record IsOutcome (Unchanged : Type 0) (a : Asked) (left rest old new : Optio
   pub memory : s ≡ status.NoMemory → LosesFront left rest (λ n. (0 < n) × (n ≤ INPUT_BYTES))
   pub writing : s ≡ status.WriteFault → OfInput left (IsToWrite a)
   pub complete : IsDecided a left s
-  pub front : OfInput left (λ i. (n : ℕ) × Appends old new (take n (output_of (Some a) i)))
+  pub front : OfInput left (λ i. (n : ℕ) × Appends old new (take n (output_of a i)))

@@ -8,23 +8,27 @@ ghost use Rattle.vk_event.specs.Schedule.{schedule_of};
 ghost use Rattle.vk_cluster.specs.Clusters.{value_of};
 ghost use Rattle.vk_cluster.specs.Standing.{StandsFor, StandsSomewhere, logs_of};
 ghost use Rattle.vk_cluster.specs.Values.{is_full};
+ghost use Rattle.vk_host.specs.Responses.{answer_of};
 ghost use Rattle.vk_report.specs.Histories.{frames_from, told_lines};
+ghost use Rattle.vk_report.specs.Views.{IsShort, viewed};
 ghost use Rattle.vk_report.specs.Report.{opening_lines};
 ghost use Rattle.vk_rules.specs.Entries.{Entry};
 ghost use Rattle.vk_rules.specs.Frames.{Frame as TheFrame};
 ghost use Rattle.vk_rules.specs.Histories.{happened};
-ghost use Rattle.vk_top.specs.Playing.{AreFew, HasReported, IsHad, IsLast, IsTold, IsWrittenOf, Sends, ending, told_entry};
+ghost use Rattle.vk_top.specs.Playing.{AreFew, HasAdvanced, IsHad, IsLast, IsTold, IsWrittenOf, Sends, ending, told_entry};
 ghost use Rattle.vk_top.specs.Report.{emitted_of, is_cut, written_text};
 ghost use Rattle.vk_top.specs.Work.{KeepsLines};
 ghost use Rattle.vk_top.specs.declared.words.Asked.TheVariants as asked;
 
 use crate::emitted::emitted_of;
 use std::alloc::Global;
-use vk_base::{EventAnswer, NoMemory};
-use vk_cluster::{Cluster, ClusterAnswer, ClusterRefusal, StepReport};
+use vk_base::NoMemory;
+use vk_cluster::{Advance, Cluster, ClusterRefusal};
 use vk_event::{Event, EventReader, TextRefusal};
-use vk_host::Host;
-use vk_report::{Counts, Form, Place, put_end, put_entry, put_frame, put_missing, put_opening};
+use vk_host::{Host, Response};
+use vk_report::{
+    AnswerView, Counts, Form, Place, put_end, put_entry, put_frame, put_missing, put_opening,
+};
 
 /// What is written of a schedule.
 #[derive(Drop)]
@@ -57,6 +61,24 @@ fn put_frames(
     Ok(())
 }
 
+/// The answer that the station's response stands for.
+fn answer_view(station: &Host, response: Response) -> AnswerView<'_>
+    ensures value { viewed result ≡ answer_of station.now response }
+    ensures short { IsShort result }
+{
+    match response {
+        Response::Begun => AnswerView::Begun,
+        Response::Given { outcome } => AnswerView::Given { outcome },
+        Response::Loaded { pid, start, count } => AnswerView::Loaded {
+            bytes: station.loaded(pid, start, count),
+        },
+        Response::Ticked { now } => AnswerView::Ticked { now },
+        Response::Taken => AnswerView::Taken,
+        Response::Old => AnswerView::Old,
+        Response::Bad => AnswerView::Bad,
+    }
+}
+
 /// The lines of the station's last event, which was answered so.
 fn put_told(
     alloc: Global,
@@ -64,13 +86,21 @@ fn put_told(
     text: &mut Vec<u8>,
     form: Form,
     place: Place,
-    answer: &EventAnswer,
+    response: Response,
 ) -> Result<(), NoMemory>
-    requires { (e : Entry) × IsLast station.now answer.now e }
-    ensures { OnOk result ((e : Entry) → IsLast station.now answer.now e →
+    requires { (e : Entry) × IsLast station.now (answer_of station.now response) e }
+    ensures { OnOk result ((e : Entry) → IsLast station.now (answer_of station.now response) e →
         text.new.items ≡ text.old.items ++ told_lines form (told_entry place e)) }
 {
-    put_entry(alloc, text, form, place, answer, station.steps().as_slice())?;
+    let answer = answer_view(station, response);
+    put_entry(
+        alloc,
+        text,
+        form,
+        place,
+        &answer,
+        station.steps().as_slice(),
+    )?;
     match form {
         Form::Report => put_frames(alloc, station, text, form, place.host, place.own),
         Form::Trace => Ok(()),
@@ -84,27 +114,27 @@ fn put_report(
     text: &mut Vec<u8>,
     form: Form,
     counts: &mut Counts,
-    report: &StepReport,
+    advance: Advance,
 ) -> Result<(), NoMemory>
     requires few { AreFew counts.old }
-    requires reported { (c : Settings) × (es : List TheEvent) × (e : TheEvent) × HasReported c es (value_of cluster.now) e report.now }
-    ensures { OnOk result ((c : Settings) (es : List TheEvent) (e : TheEvent) → HasReported c es (value_of cluster.now) e report.now →
+    requires advanced { (c : Settings) × (es : List TheEvent) × (e : TheEvent) × HasAdvanced c es (value_of cluster.now) e advance }
+    ensures { OnOk result ((c : Settings) (es : List TheEvent) (e : TheEvent) → HasAdvanced c es (value_of cluster.now) e advance →
         IsTold form counts.old counts.new text.old.items text.new.items (happened c (logs_of c es) e)) }
 {
     let number = counts.events + 1;
     counts.events = number;
-    match &report.answer {
-        ClusterAnswer::Missing => put_missing(alloc, text, form, number, report.host),
-        ClusterAnswer::Event { answer } => {
-            let station = cluster.host(report.host);
+    match advance {
+        Advance::Missing { host } => put_missing(alloc, text, form, number, host),
+        Advance::Event { place, response } => {
+            let station = cluster.station(place);
             counts.steps += station.steps().len() as u64;
             counts.frames += u64::from(station.frame_count());
             let place = Place {
                 number,
-                host: report.host,
-                own: report.event,
+                host: station.host(),
+                own: station.events(),
             };
-            put_told(alloc, station, text, form, place, answer)
+            put_told(alloc, station, text, form, place, response)
         }
     }
 }
@@ -126,13 +156,12 @@ fn put_event(
     ensures room { OnOk result (is_full (value_of cluster.old) ≡ false) }
     ensures refused { result ≡ Err ClusterRefusal.Limit → (is_full (value_of cluster.old) ≡ true) × (text.new.items ≡ text.old.items) }
 {
-    let stepped = cluster.step(alloc, event);
-    match &stepped {
-        Ok(report) => match put_report(alloc, cluster, text, form, counts, report) {
+    match cluster.advance(alloc, event) {
+        Ok(advance) => match put_report(alloc, cluster, text, form, counts, advance) {
             Ok(()) => Ok(()),
             Err(NoMemory) => Err(ClusterRefusal::NoMemory),
         },
-        Err(refusal) => Err(*refusal),
+        Err(refusal) => Err(refusal),
     }
 }
 

@@ -1,22 +1,33 @@
 //! What the program's words ask for, read by clap. Which words it takes and what they ask for is `specs/Words.antt`.
 
-ghost use Rattle.std.specs.Prelude.{◌≡◌, map, option_map, codes, string_bytes, IfOk};
+ghost use Rattle.std.specs.Prelude.{◌≡◌, ◌≤◌, map, option_map, codes, string_bytes, IfOk};
 ghost use Rattle.clap.specs.Words.{app_of, first_of, found_of, rows_of};
-ghost use Rattle.vk_top.specs.Words.{the_app, asked_for, is_set, asked_by, asked_of};
+ghost use Rattle.vk_top.specs.Words.{AreFewIn, job_by, job_for, job_of, is_set, storm_of, the_app};
 
 use clap::error::ErrorKind;
 use clap::{Arg, ArgAction, ArgMatches, Command};
 use std::alloc::{AllocError, Global};
 use vk_base::NoMemory;
+use vk_base::limits::EVENTS;
 use vk_report::Form;
+use vk_text::number;
 
-/// What the words ask for.
+/// What is asked of a text.
 #[derive(Clone, Copy, Debug, PartialEq, Eq)]
 pub(crate) enum Asked {
     /// `replay`, with `--trace` for the trace: a schedule is read, and this is written of it.
     Replay { form: Form },
     /// `check`: a trace is read, and whether its steps are a run is written.
     Check,
+}
+
+/// What the words ask for.
+#[derive(Clone, Copy, Debug, PartialEq, Eq)]
+pub(crate) enum Job {
+    /// The input is read, and this is asked of its text.
+    OfText { asked: Asked },
+    /// `storm N`: nothing is read, and what happens in the storm of this number, at most 100,000, is written.
+    Storm { n: u32 },
 }
 
 /// The one command that the words are read as.
@@ -37,16 +48,28 @@ fn the_command<'a>(alloc: Global) -> Result<Command<'a>, AllocError>
         .arg(number)
 }
 
-/// What the values ask for, by the table.
-fn asked_for(command: Option<&str>, has_trace: bool, number: Option<&str>) -> Option<Asked>
-    ensures { result ≡ asked_for (option_map (λ s. s.now) command.entry) has_trace (option_map (λ s. s.now) number.entry) }
+/// The storm of the number that the word spells.
+fn storm_of(word: &str) -> Option<Job>
+    ensures job { result ≡ storm_of word.now }
+    ensures few { AreFewIn result }
 {
-    match (command, number) {
-        (Some("replay"), None) if has_trace => Some(Asked::Replay { form: Form::Trace }),
-        (Some("replay"), None) => Some(Asked::Replay { form: Form::Report }),
-        (Some("check"), None) if !has_trace => Some(Asked::Check),
-        _ => None,
-    }
+    let n = number(word.as_bytes(), EVENTS as u64)?;
+    Some(Job::Storm { n: n as u32 })
+}
+
+/// What the values ask for, by the table.
+fn job_for(command: Option<&str>, has_trace: bool, number: Option<&str>) -> Option<Job>
+    ensures job { result ≡ job_for (option_map (λ s. s.now) command.entry) has_trace (option_map (λ s. s.now) number.entry) }
+    ensures few { AreFewIn result }
+{
+    let asked = match (command, number) {
+        (Some("replay"), None) if has_trace => Asked::Replay { form: Form::Trace },
+        (Some("replay"), None) => Asked::Replay { form: Form::Report },
+        (Some("check"), None) if !has_trace => Asked::Check,
+        (Some("storm"), Some(word)) if !has_trace => return storm_of(word),
+        _ => return None,
+    };
+    Some(Job::OfText { asked })
 }
 
 /// Whether this is the value of a flag that was given.
@@ -57,10 +80,11 @@ fn is_set(value: Option<&str>) -> bool
 }
 
 /// What is asked for by words that clap took.
-fn asked_by(matches: &ArgMatches<'_>) -> Option<Asked>
-    ensures { result ≡ asked_by (rows_of (found_of matches.now)) }
+fn job_by(matches: &ArgMatches<'_>) -> Option<Job>
+    ensures job { result ≡ job_by (rows_of (found_of matches.now)) }
+    ensures few { AreFewIn result }
 {
-    asked_for(
+    job_for(
         matches.get_str("command"),
         is_set(matches.get_str("trace")),
         matches.get_str("number"),
@@ -68,11 +92,12 @@ fn asked_by(matches: &ArgMatches<'_>) -> Option<Asked>
 }
 
 /// What the words, without the program's own name, ask for; `None` where they ask for nothing that the program does.
-pub(crate) fn read_words(alloc: Global, words: &[String]) -> Result<Option<Asked>, NoMemory>
-    ensures { IfOk result (λ asked. asked ≡ asked_of (map string_bytes words.now)) }
+pub(crate) fn read_words(alloc: Global, words: &[String]) -> Result<Option<Job>, NoMemory>
+    ensures job { IfOk result (λ job. job ≡ job_of (map string_bytes words.now)) }
+    ensures few { IfOk result AreFewIn }
 {
     match the_command(alloc)?.try_get_matches_from(words) {
-        Ok(matches) => Ok(asked_by(&matches)),
+        Ok(matches) => Ok(job_by(&matches)),
         Err(error) if error.kind() == ErrorKind::OutOfMemory => Err(NoMemory),
         Err(_) => Ok(None),
     }

@@ -16,7 +16,7 @@ returns-clause-played c =
     let rule = c.begin.ensures.right (tables_in d) c.requires.can.fit in
     let end : Doing =
     record { tables = record (tables_in d) { seats = n.procs; slots = n.aliens }; steps = n.steps.items; out = n.out } in
-    rule_played c.args.pid c.args.call.now c.begin.result _ d.times d.now (doing_in d) end (c.of.ensures.answer n.procs c.args.pid)
+    rule_played c.args.pid c.args.call.now c.begin.result _ d.times d.now (doing_in d) end (c.of.ensures n.procs)
     rule.0 rule.1
 
 pub returns-clause-same : goal.returns-clause-same

@@ -15,7 +15,7 @@ returns-clause-played c =
     let rule = c.get_pid.ensures.right (tables_in d) refl refl c.requires.can.fit in
     let end : Doing = record { tables = record (tables_in d) { seats = n.procs }; steps = n.steps.items; out = n.out } in
     rule_played c.args.pid (calls.GetPid c.args.logical c.args.scope) c.get_pid.result _ d.times d.now (doing_in d) end
-    (c.of.ensures.answer n.procs c.args.pid) rule.0 rule.1
+    (c.of.ensures n.procs) rule.0 rule.1
 
 pub returns-clause-same : goal.returns-clause-same
 returns-clause-same c =

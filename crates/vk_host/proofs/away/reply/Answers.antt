@@ -14,6 +14,6 @@ returns-clause-played c =
     let n = c.reply.new in
     let end : Doing = record { tables = record (tables_in d) { slots = n.aliens }; steps = n.steps.items; out = n.out } in
     rule_played c.args.pid (calls.Reply c.args.message.now c.args.to) c.reply.result _ d.times d.now (doing_in d) end
-    (c.of.ensures.answer d.procs c.args.pid)
+    (c.of.ensures d.procs)
     (c.reply.ensures.right (tables_in d) refl d.times c.requires.ready c.requires.far c.requires.can.fit)
     (c.reply.ensures.fit c.args.pid.host (tables_in d) c.requires.can.fit)

@@ -14,6 +14,6 @@ returns-clause-played c =
     let n = c.reply_segment.new in
     let end : Doing = record { tables = record (tables_in d) { slots = n.aliens }; steps = n.steps.items; out = n.out } in
     rule_played c.args.pid (calls.ReplySegment c.args.message.now c.args.to c.args.segment.dest c.args.segment.src c.args.segment.count)
-    c.reply_segment.result _ d.times d.now (doing_in d) end (c.of.ensures.answer d.procs c.args.pid)
+    c.reply_segment.result _ d.times d.now (doing_in d) end (c.of.ensures d.procs)
     (c.reply_segment.ensures.right (tables_in d) refl refl d.times c.requires.ready c.requires.far c.requires.can.fit)
     (c.reply_segment.ensures.fit c.args.pid.host (tables_in d) c.requires.can.fit)

@@ -14,7 +14,7 @@ returns-clause-played c =
     let n = c.send.new in
     let end : Doing = record { tables = record (tables_in d) { seats = n.procs }; steps = n.steps.items; out = n.out } in
     rule_played c.args.pid (calls.Send c.args.target c.args.message.now) c.send.result _ d.times d.now (doing_in d) end
-    (c.of.ensures.answer n.procs c.args.pid)
+    (c.of.ensures n.procs)
     (c.send.ensures.right (tables_in d) refl c.requires.ready c.requires.far c.requires.can.fit)
     (c.send.ensures.fit c.args.pid.host (tables_in d) c.requires.can.fit)
 

@@ -5,7 +5,8 @@ use Rattle.vk_rules.specs.Entries.{Collected}
 use Rattle.vk_stands.specs.Fit.{AreFit}
 use Rattle.vk_stands.specs.Rules.{Doing}
 use Rattle.vk_host.specs.Desks.{tables_in}
-use Rattle.vk_host.specs.Played.{IsPlayed, collect_given}
+use Rattle.vk_host.specs.Played.{IsPlayed}
+use Rattle.vk_host.specs.Responses.{collect_given}
 use Rattle.vk_host.proofs.Happening.{collect_played}
 use Rattle.vk_host.proofs.Staying.{pids_collected}
 use Rattle.vk_host.proofs.calls.collect.Goals as goal

@@ -8,4 +8,4 @@ returns-clause-played c =
     let d = c.args.desk.now in
     let n = c.exit.new in
     exit_played c.args.pid c.exit.result _ d.times d.now (tables_in d) (whole_tables n.procs n.queues.lists n.aliens n.names) d.steps.items
-    n.steps.items d.out n.out (c.of.ensures.answer n.procs c.args.pid) c.requires.can.fit c.exit.ensures.rule
+    n.steps.items d.out n.out (c.of.ensures n.procs) c.requires.can.fit c.exit.ensures.rule

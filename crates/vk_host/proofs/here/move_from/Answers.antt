@@ -8,5 +8,5 @@ returns-clause-played c =
     let d = c.args.desk.now in
     let n = c.move_from.new in
     seats_played c.args.pid (calls.MoveFrom c.args.partner c.args.segment.dest c.args.segment.src c.args.segment.count) c.move_from.result _
-    (c.of.ensures.answer n.procs c.args.pid) d.times d.now (tables_in d) n.procs d.steps.items n.steps.items d.out c.requires.can.fit
+    (c.of.ensures n.procs) d.times d.now (tables_in d) n.procs d.steps.items n.steps.items d.out c.requires.can.fit
     c.move_from.ensures.rule

@@ -8,5 +8,5 @@ returns-clause-played c =
     let d = c.args.desk.now in
     let n = c.move_to.new in
     seats_played c.args.pid (calls.MoveTo c.args.partner c.args.segment.dest c.args.segment.src c.args.segment.count) c.move_to.result _
-    (c.of.ensures.answer n.procs c.args.pid) d.times d.now (tables_in d) n.procs d.steps.items n.steps.items d.out c.requires.can.fit
+    (c.of.ensures n.procs) d.times d.now (tables_in d) n.procs d.steps.items n.steps.items d.out c.requires.can.fit
     c.move_to.ensures.rule

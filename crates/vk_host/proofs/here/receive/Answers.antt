@@ -7,6 +7,6 @@ pub returns-clause-played : goal.returns-clause-played
 returns-clause-played c =
     let d = c.args.desk.now in
     let n = c.receive.new in
-    tables_played c.args.pid (call_of c.args.waiting) c.receive.result _ (c.of.ensures.answer n.procs c.args.pid) d.times d.now
+    tables_played c.args.pid (call_of c.args.waiting) c.receive.result _ (c.of.ensures n.procs) d.times d.now
     (tables_of d.procs d.queues.lists d.aliens) (tables_of n.procs n.queues.lists n.aliens) d.steps.items n.steps.items d.names d.out
     c.requires.can.fit c.receive.ensures.rule

@@ -8,5 +8,5 @@ returns-clause-played c =
     let d = c.args.desk.now in
     let n = c.reply.new in
     seats_played c.args.pid (calls.Reply c.args.message.now c.args.to) c.reply.result _
-    (c.of.ensures.answer n.procs c.args.pid) d.times d.now (tables_in d) n.procs d.steps.items n.steps.items d.out c.requires.can.fit
+    (c.of.ensures n.procs) d.times d.now (tables_in d) n.procs d.steps.items n.steps.items d.out c.requires.can.fit
     c.reply.ensures.rule

@@ -9,5 +9,5 @@ returns-clause-played c =
     let n = c.reply_segment.new in
     seats_played c.args.pid (calls.ReplySegment c.args.message.now c.args.to c.args.segment.dest c.args.segment.src c.args.segment.count)
     c.reply_segment.result _
-    (c.of.ensures.answer n.procs c.args.pid) d.times d.now (tables_in d) n.procs d.steps.items n.steps.items d.out c.requires.can.fit
+    (c.of.ensures n.procs) d.times d.now (tables_in d) n.procs d.steps.items n.steps.items d.out c.requires.can.fit
     c.reply_segment.ensures.rule

@@ -7,6 +7,6 @@ returns-clause-played c =
     let d = c.args.desk.now in
     let n = c.set_pid.new in
     set_played c.args.pid d.times d.now (tables_in d) d.steps.items n.steps.items d.out c.requires.can.fit c.requires.ready c.args.logical
-    c.args.named c.args.scope n.names c.set_pid.result _ (c.of.ensures.answer d.procs c.args.pid) c.set_pid.ensures.outcome
+    c.args.named c.args.scope n.names c.set_pid.result _ (c.of.ensures d.procs) c.set_pid.ensures.outcome
     c.set_pid.ensures.names
     c.set_pid.ensures.steps

@@ -7,5 +7,5 @@ returns-clause-played c =
     let d = c.args.desk.now in
     let n = c.store.new in
     store_played c.args.pid d.times d.now (tables_in d) d.steps.items n.steps.items d.out c.requires.can.fit c.requires.ready c.args.start
-    c.args.bytes.now n.procs c.store.result _ (c.of.ensures.answer n.procs c.args.pid) c.store.ensures.outcome c.store.ensures.seats
+    c.args.bytes.now n.procs c.store.result _ (c.of.ensures n.procs) c.store.ensures.outcome c.store.ensures.seats
     c.store.ensures.steps

@@ -1,40 +1,51 @@
-use Rattle.std.proofs.Common.{◌+◌, length, ap, ◌∙◌}
+use Rattle.std.proofs.Common.{◌≡◌, ◌+◌, ◌++◌, length, refl, ap, ◌∙◌}
+use Rattle.std.proofs.lemmas.Option.{slice_get_within}
 use Rattle.std.proofs.lemmas.Result.{on_ok_weaker}
 use Rattle.vk_cluster.specs.Clusters.{value_of}
-use Rattle.vk_cluster.specs.Standing.{logs_of}
-use Rattle.vk_rules.specs.Histories.{happened}
-use Rattle.vk_top.proofs.Events.{is_station, last_is, reported_entry, told_is}
+use Rattle.vk_cluster.proofs.Told.{station_told}
+use Rattle.vk_report.specs.declared.entry.Counts.{Counts}
+use Rattle.vk_report.specs.declared.entry.Place.{Place}
+use Rattle.vk_report.specs.Histories.{told_lines}
+use Rattle.vk_top.specs.Playing.{told_entry}
+use Rattle.vk_top.proofs.Events.{last_advanced, missing_told, told_advanced}
 use Rattle.vk_top.proofs.replay.put_report.Goals as goal
 
-pub host-station-requires-clause-station : goal.host-station-requires-clause-station
-host-station-requires-clause-station c =
-    let r = c.requires.reported in
-    is_station r.0 r.1 (value_of c.args.cluster.now) r.2 c.args.report.now r.3
+pub station-station-requires : goal.station-station-requires
+station-station-requires c =
+    let had = c.requires.advanced.3 in
+    let now = value_of c.args.cluster.now in
+    let s = station_told now c.args.advance c.in-Event.place c.in-Event.response had.report c.in-Event.is had.told in
+    slice_get_within now.hosts c.in-Event.place s.0 s.1
 
 pub put_told-requires : goal.put_told-requires
 put_told-requires c =
-    let r = c.requires.reported in
-    let one = reported_entry c.args.report.now c.in-Event.answer (happened r.0 (logs_of r.0 r.1) r.2) r.3.next.report c.in-Event.is in (
-      one.entry,
-      last_is r.0 r.1 (value_of c.args.cluster.now) r.2 c.args.report.now r.3 one.entry one.is c.host-station.ensures.found.0
-          c.host-station.result.now c.host-station.ensures.found.1 c.host-station.ensures.host c.in-Event.answer one.answered,
-    )
+    let r = c.requires.advanced in
+    last_advanced r.0 r.1 (value_of c.args.cluster.now) r.2 c.args.advance r.3 c.in-Event.place c.in-Event.response c.in-Event.is
+    c.station-station.result.now c.station-station.ensures
+
+pub returns-in-Missing : goal.returns-in-Missing
+returns-in-Missing c =
+    let before = c.args.counts.now in
+    let after : Counts = record { events = before.events + 1; steps = before.steps; frames = before.frames } in
+    on_ok_weaker c.put_missing.result
+    (λ lines s es e had. missing_told s es (value_of c.args.cluster.now) e c.args.advance c.in-Missing.host had c.in-Missing.is c.args.form
+    before after c.args.text.now.items _ lines refl) c.put_missing.ensures.ok
 
 pub returns-in-Event : goal.returns-in-Event
 returns-in-Event c =
-    let now = value_of c.args.cluster.now in
-    let report = c.args.report.now in
-    let station = c.host-station.result.now in
-    let place = c.host-station.ensures.found.0 in
-    let found = c.host-station.ensures.found.1 in
-    let here = c.host-station.ensures.host in
     let before = c.args.counts.now in
     let steps = c.len.ensures.value ∙ ap length c.steps.ensures in
     let frames = c.from.ensures ∙ c.frame_count.ensures in
+    let own : Place = record { number = before.events + 1; host = c.host.result; own = c.events.result } in
+    let shown : Place = record {
+      number = before.events + 1;
+      host = c.station-station.result.now.host;
+      own = c.station-station.result.now.events;
+    } in
+    let placed : own ≡ shown = λ i. record { number = before.events + 1; host = c.host.ensures i; own = c.events.ensures i } in
     on_ok_weaker c.put_told.result
-    (λ lines s es e r.
-    let one = reported_entry report c.in-Event.answer (happened s (logs_of s es) e) r.next.report c.in-Event.is in
-    told_is s es now e report r one.entry one.is place station found here c.args.form before _ c.args.text.now.items _
-    (lines one.entry (last_is s es now e report r one.entry one.is place station found here c.in-Event.answer one.answered))
-    (λ i. record { events = before.events + 1; steps = before.steps + steps i; frames = before.frames + frames i }))
+    (λ lines s es e had. told_advanced s es (value_of c.args.cluster.now) e c.args.advance had c.in-Event.place c.in-Event.response
+    c.in-Event.is c.station-station.result.now c.station-station.ensures c.args.form before _ c.args.text.now.items _
+    (λ entry last. lines entry last
+    ∙ (λ i. c.args.text.now.items ++ told_lines c.args.form (told_entry (placed i) entry))) (λ i. record { events = before.events + 1; steps = before.steps + steps i; frames = before.frames + frames i }))
     c.put_told.ensures

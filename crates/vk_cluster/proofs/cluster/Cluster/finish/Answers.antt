@@ -1,4 +1,4 @@
-use Rattle.std.proofs.Common.{◌≡◌, sym, ap, subst, ◌∙◌}
+use Rattle.std.proofs.Common.{◌≡◌, sym, subst, ◌∙◌}
 use Rattle.std.proofs.lemmas.Option.{same_Some}
 use Rattle.vk_host.specs.Values.{StationValue}
 use Rattle.vk_cluster.specs.Clusters.{value_of}
@@ -25,9 +25,5 @@ returns c t there =
     let s = c.index.result.now in
     let same : s ≡ t =
     same_Some s t (sym (found_at hosts c.args.place s c.requires.place c.index.ensures) ∙ there) in
-    let u = c.index-2.result.now in
-    let again : u ≡ t =
-    same_Some u t (sym (found_at hosts c.args.place u c.requires.place c.index-2.ensures) ∙ there) in
-    finished (value_of c.args.self.now) (pile_of c.keep.new.emitted) c.args.place t c.args.answer c.args.host c.events.result
-    (c.requires.host t there) (c.events.ensures ∙ ap (λ (v : StationValue). v.events) again)
+    finished (value_of c.args.self.now) (pile_of c.keep.new.emitted) c.args.place t
     (subst (λ (v : StationValue). IsAdded (pile_of c.args.self.now.emitted) (pile_of c.keep.new.emitted) c.args.place v.frames) same c.keep.ensures)

@@ -3,6 +3,7 @@ use Rattle.std.proofs.lemmas.List.{length-map, length-set}
 use Rattle.vk_event.specs.declared.event.Event.TheVariants as scheduled
 use Rattle.vk_rules.specs.Entries.{Ticked}
 use Rattle.v_lawful.specs.Sending.{IsInput}
+use Rattle.vk_host.specs.Responses.{answer_of}
 use Rattle.vk_cluster.specs.Piles.{items_of}
 use Rattle.vk_cluster.specs.Clusters.{value_of}
 use Rattle.vk_cluster.proofs.Arms.{events_low, few_at, fit_at, found_here, host_is, place_low, somewhere_at, station_step, tick_happens}
@@ -14,8 +15,8 @@ index_mut-requires c =
     let low = place_low (value_of c.args.self.now) c.requires.somewhere c.args.place c.args.host c.requires.place in
     omega (arith, c.args.self.now.hosts.ok.0)
 
-pub tick-answer-requires : goal.tick-answer-requires
-tick-answer-requires c =
+pub tick-response-requires : goal.tick-response-requires
+tick-response-requires c =
     let v = value_of c.args.self.now in
     let some = c.requires.somewhere in
     let s = c.index_mut.result.now in
@@ -31,11 +32,11 @@ finish-requires c =
     let some = c.requires.somewhere in
     let s = c.index_mut.result.now in
     let found = found_here v some c.args.place c.args.host c.requires.place s c.index_mut.ensures.value in
-    let t = c.tick-answer.new.self in
+    let t = c.tick-response.new.self in
     let input : IsInput s.host Ticked = tt in
     let fit =
-    fit_at v some c.args.place c.args.host c.requires.place s t Ticked c.tick-answer.result found input
-    c.tick-answer.ensures in
+    fit_at v some c.args.place c.args.host c.requires.place s t Ticked (answer_of t c.tick-response.result) found input
+    c.tick-response.ensures in
     record {
       count = c.requires.few;
       place =
@@ -46,7 +47,6 @@ finish-requires c =
           omega (arith, length-map c.args.self.now.emitted.events.items items_of);
       kept = some.2.stands.kept;
       room = c.requires.room;
-      host = fit.host;
       few = fit.few;
       bytes = fit.bytes;
     }
@@ -57,10 +57,10 @@ returns c =
     let some = c.requires.somewhere in
     let s = c.index_mut.result.now in
     let found = found_here v some c.args.place c.args.host c.requires.place s c.index_mut.ensures.value in
-    let t = c.tick-answer.new.self in
+    let t = c.tick-response.new.self in
     let host = host_is v some c.args.place c.args.host c.requires.place s found in
     let input : IsInput s.host Ticked = tt in
-    station_step v (value_of c.finish.new.self) c.args.place s t Ticked c.tick-answer.result
-    (scheduled.Tick c.args.host) c.finish.result found c.tick-answer.ensures input c.requires.few tt
+    station_step v (value_of c.finish.new.self) c.args.place s t Ticked c.tick-response.result
+    (scheduled.Tick c.args.host) found c.tick-response.ensures input c.requires.few tt
     (λ d es st. tick_happens d es s.host c.args.host host)
     (c.finish.ensures t (get_set_same v.hosts c.args.place t s found))

@@ -1,7 +1,10 @@
 use Rattle.std.proofs.Common.{refl, subst, sym}
+use Rattle.vk_base.specs.declared.event.EventAnswer.{EventAnswer}
 use Rattle.vk_rules.specs.Entries.{Collected}
-use Rattle.vk_host.specs.Desks.{doing_in, fresh}
-use Rattle.vk_host.specs.Played.{IsPlayed, collect_given}
+use Rattle.vk_host.specs.Desks.{value_in}
+use Rattle.vk_host.specs.Responses.{collect_given}
+use Rattle.vk_host.specs.Standing.{IsEvent}
+use Rattle.vk_host.specs.Values.{StationValue}
 use Rattle.vk_host.proofs.Events.{can_seal, event_is, process_happens}
 use Rattle.vk_host.proofs.Rooms.{can_start, few_yet, own_yet}
 use Rattle.vk_host.proofs.host.Host.collect.Goals as goal
@@ -35,9 +38,10 @@ returns c =
     let s = c.self.inside in
     let n = c.count.new in
     let d = c.collect-outcome.new.desk in
-    let played = subst (λ a. IsPlayed s.desk.times c.args.pid.host s.desk.now (Collected c.args.pid) a (fresh (doing_in s.desk))
-    (doing_in d)) (sym c.collect_answer.ensures) c.collect-outcome.ensures.played in
-    event_is c.args.self.now (Collected c.args.pid) c.collect_answer.result d n.number n.events
-    (process_happens c.args.self.now s.desk d s.number s.events c.self.view_is c.collect_answer.result n.number n.events
+    let a : EventAnswer = collect_given c.collect-outcome.result in
+    let new : StationValue = value_in (record d { out = c.seal.new.out }) n.number n.events in
+    subst (IsEvent c.args.self.now new (Collected c.args.pid)) (sym (c.collected.ensures d.procs))
+    (event_is c.args.self.now (Collected c.args.pid) a d n.number n.events
+    (process_happens c.args.self.now s.desk d s.number s.events c.self.view_is a n.number n.events
     c.count.ensures.events c.collect-outcome.ensures.same c.args.pid (Collected c.args.pid) (λ r. refl) (λ r. refl)
-    c.count.ensures.number played c.requires.somewhere c.requires.few c.requires.own) c.seal.new.out c.seal.ensures
+    c.count.ensures.number c.collect-outcome.ensures.played c.requires.somewhere c.requires.few c.requires.own) c.seal.new.out c.seal.ensures)

@@ -1,0 +1,17 @@
+mod Asked
+mod Calling
+mod Collected
+mod Events
+mod Examples
+mod Given
+mod Lists
+mod Own
+mod Places
+mod Seen
+mod Senders
+mod Sent
+mod Standing
+mod Taken
+mod Touched
+mod Turns
+mod Waiting

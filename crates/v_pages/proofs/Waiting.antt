@@ -1,0 +1,318 @@
+-- While a sender waits for a page server nothing writes into its memory.
+use Rattle.std.proofs.Common.{◌≡◌, ℕ, zero, suc, ◌+◌, ◌<◌, true, false, List, [], slice_get, Option, Some, None, option_map, refl, sym, ap, subst, ◌∙◌, inl, inr, arith}
+use Rattle.std.specs.Prelude.{find}
+use Rattle.std.proofs.lemmas.Bool.{and_parts, both_ways, cases_Bool, cond-true, eq-eqb, eqb-true}
+use Rattle.std.proofs.lemmas.Option.{same_Some, none-some}
+use Rattle.vk_base.specs.declared.call.Call.{Call}
+use Rattle.vk_base.specs.declared.call.Call.TheVariants as calls
+use Rattle.vk_base.specs.declared.config.ProcessSpec.{ProcessSpec}
+use Rattle.vk_base.specs.declared.kernel.Direction.{Direction}
+use Rattle.vk_base.specs.declared.kernel.Direction.TheVariants as directions
+use Rattle.vk_base.specs.declared.kernel.Exchange.{Exchange}
+use Rattle.vk_base.specs.declared.kernel.Name.{Name}
+use Rattle.vk_base.specs.declared.kernel.Process.{Process}
+use Rattle.vk_base.specs.declared.kernel.State.TheVariants as states
+use Rattle.vk_base.specs.declared.message.Message.{Message}
+use Rattle.vk_base.specs.declared.pid.Pid.{Pid}
+use Rattle.vk_base.specs.declared.step.Step.{Step}
+use Rattle.vk_base.specs.declared.step.Step.TheVariants as steps
+use Rattle.vk_base.specs.Calls.{Effect, sent}
+use Rattle.vk_base.specs.Kernel.{◌>>=◌, Kernel, held, holds_of, is_move, is_moving, move_of, name_of, put_process, sending, waiting_on}
+use Rattle.vk_base.specs.Pids.{same_host, same_pid}
+use Rattle.vk_base.specs.Settings.{is_process}
+use Rattle.vk_base.specs.Steps.{Copying, effect, is_in_move, same_move, with_arrival, written_process}
+use Rattle.vk_base.proofs.OptionLemmas.{bind_is}
+use Rattle.vk_pages.specs.Servers.{answered_all, new_server, server_call, stage_call}
+use Rattle.vk_pages.specs.declared.serving.Serving.{Serving}
+use Rattle.vk_pages.specs.declared.serving.Serving.TheVariants as stages
+use Rattle.v_laws.specs.Moves.{move_call}
+use Rattle.v_laws.specs.Places.{before}
+use Rattle.v_laws.specs.Sound.{IsSound}
+use Rattle.v_laws.proofs.Changes.{ProcessOn, taken_is_at_target}
+use Rattle.v_laws.proofs.Held.{holding_is}
+use Rattle.v_laws.proofs.MoveLists.{no_move}
+use Rattle.v_laws.proofs.MoveSteps.{MoveOn, all_moves, pushed, unstaged}
+use Rattle.v_laws.proofs.PlaceLemmas.{IsNext, before_first, before_next, before_sound}
+use Rattle.v_laws.proofs.Related.{related_after}
+use Rattle.v_laws.proofs.SoundCalls.{IsStep}
+use Rattle.v_laws.proofs.SoundLemmas.{initial_ready, step_is}
+use Rattle.v_laws.proofs.States.{moving_sends_none}
+use Rattle.v_laws.proofs.StepLemmas.{copying_is, only_if_is, opening_is, waiting_is}
+use Rattle.v_laws.proofs.Tables.{same_pid_is, same_pid_self, put_process_at, put_process_other}
+use Rattle.v_pages.specs.Followed.{Follows, answers_before, call_at, call_by}
+use Rattle.v_pages.proofs.Collected.{was_there}
+use Rattle.v_pages.proofs.Touched.{Kept, Touched, is_waiting, sending_waits, touched}
+
+-- A page server calls for no move.
+stored_no_move : (o : Option (List ℕ)) (c : Call) → option_map (λ bytes. calls.Store 0 bytes) o ≡ Some c → is_move c ≡ false
+stored_no_move None c e = absurd (none-some c e)
+stored_no_move (Some bytes) c e = ap is_move (sym (same_Some (calls.Store 0 bytes) c e))
+
+never_moves : (kept : List (List ℕ)) (stage : Serving) (c : Call) → stage_call kept stage ≡ Some c → is_move c ≡ false
+never_moves kept stages.Receive c e = ap is_move (sym (same_Some _ c e))
+never_moves kept (stages.Load from page) c e = ap is_move (sym (same_Some _ c e))
+never_moves kept (stages.Store from page dest) c e = stored_no_move _ c e
+never_moves kept (stages.ReplyPage from page dest) c e = ap is_move (sym (same_Some _ c e))
+never_moves kept (stages.Reply from page code) c e = ap is_move (sym (same_Some _ c e))
+never_moves kept stages.Exit c e = ap is_move (sym (same_Some _ c e))
+never_moves kept stages.Ended c e = absurd (none-some c e)
+
+-- no step is a call of r for a move
+abbrev MovesNot : Pid → Step → Type 0
+MovesNot r s = (c : Call) → s ≡ steps.Call r c → is_move c ≡ false
+
+moves_not : (pages requests : ℕ) (specs : List ProcessSpec) (ss : List Step) (r : Pid) (i : ℕ) (s : Step) →
+    Follows (server_call pages requests) specs ss r → slice_get ss i ≡ Some s → MovesNot r s
+moves_not pages requests specs ss r i s follows is c same =
+    let call : call_at ss r i ≡ Some c = ap (λ o. o >>= call_by r) is ∙ ap (call_by r) same
+    ∙ cond-true (same_pid r r) (Some c) None (same_pid_self r) in
+    let server = answered_all requests (new_server pages requests) (answers_before specs ss r i) in
+    never_moves server.pages server.stage c (follows i c call).told
+
+-- So no exchange with it has a move.
+abbrev NoMoves : Kernel → Pid → Type 0
+NoMoves k r = (n : Name) (e : Exchange) → k.exchanges n ≡ Some e → e.target ≡ r → e.moves ≡ []
+
+call_moves : (d : Direction) (partner : Pid) (dest src count : ℕ) → is_move (move_call d partner dest src count) ≡ true
+call_moves directions.To partner dest src count = refl
+call_moves directions.From partner dest src count = refl
+
+none_after : (k l : Kernel) (s : Step) (r : Pid) (n : Name) (y : Exchange) → MovesNot r s → NoMoves k r → (o p : Option Exchange) →
+    k.exchanges n ≡ o → p ≡ Some y → y.target ≡ r → MoveOn k s l n o p → y.moves ≡ []
+none_after k l s r n y not none None p at now target (MoveOn.stays same alone) =
+    absurd (none-some (unstaged y) (sym same ∙ ap (option_map unstaged) now))
+none_after k l s r n y not none (Some x) p at now target (MoveOn.stays same alone) =
+    let one : unstaged y ≡ unstaged x = same_Some (unstaged y) (unstaged x) (ap (option_map unstaged) (sym now) ∙ same) in
+    ap (λ (z : Exchange). z.moves) one ∙ none n x at (ap (λ (z : Exchange). z.target) (sym one) ∙ target)
+none_after k l s r n y not none o p at now target (MoveOn.begins z was is first opened alone) =
+    ap (λ (w : Exchange). w.moves) (same_Some y z (sym now ∙ is)) ∙ first
+none_after k l s r n y not none o p at now target (MoveOn.pushes x m was call is moved) =
+    let one : y ≡ pushed x m = same_Some y (pushed x m) (sym now ∙ is) in
+    let mover : m.mover ≡ r = sym call.target ∙ ap (λ (w : Exchange). w.target) (sym one) ∙ target in
+    let c = move_call m.direction n.sender m.dest m.src m.count in
+    absurd (both_ways (is_move c) (not c (call.is ∙ ap (λ q. steps.Call q c) mover)) (call_moves m.direction n.sender m.dest m.src m.count))
+none_after k l s r n y not none o p at now target (MoveOn.opens number a step g was is) =
+    let one = same_Some y _ (sym now ∙ is) in
+    let first = none n a.exchange (at ∙ was) (ap (λ (w : Exchange). w.target) (sym one) ∙ target) in
+    absurd (none-some a.move (sym (no_move a.exchange number first) ∙ (opening_is k n number a g).move))
+none_after k l s r n y not none o p at now target (MoveOn.copies number offset count c step g was is memory) =
+    let one = same_Some y _ (sym now ∙ is) in
+    let first = none n c.exchange (at ∙ was) (ap (λ (w : Exchange). w.target) (sym one) ∙ target) in
+    absurd (none-some c.move (sym (no_move c.exchange number first) ∙ (copying_is k n number offset count c g).move))
+
+moves_step : (k : Kernel) (s : Step) (e : Effect) (r : Pid) → IsSound k → effect k s ≡ Some e → MovesNot r s → NoMoves k r →
+    NoMoves e.after r
+moves_step k s e r sound does not none n y at target =
+    none_after k e.after s r n y not none (k.exchanges n) (e.after.exchanges n) refl at target (all_moves k s e sound does n)
+
+moves_next : (pages requests : ℕ) (specs : List ProcessSpec) (ss : List Step) (r : Pid) (i : ℕ) (l : Kernel) →
+    Follows (server_call pages requests) specs ss r → IsNext specs ss i l → ((k : Kernel) → before specs ss i ≡ Some k → NoMoves k r) →
+    NoMoves l r
+moves_next pages requests specs ss r i l follows n so_far = elim n.how [
+  | inl h ↦ subst (λ (z : Kernel). NoMoves z r) h.4
+      (moves_step n.kernel h.0 h.1 r (before_sound specs ss i n.kernel n.at) h.3 (moves_not pages requests specs ss r i h.0 follows h.2)
+      (so_far n.kernel n.at))
+  | inr h ↦ subst (λ (z : Kernel). NoMoves z r) h.1 (so_far n.kernel n.at)
+]
+
+no_moves : (pages requests : ℕ) (specs : List ProcessSpec) (ss : List Step) (r : Pid) → Follows (server_call pages requests) specs ss r →
+    (i : ℕ) (k : Kernel) → before specs ss i ≡ Some k → NoMoves k r
+no_moves pages requests specs ss r follows zero k at =
+    λ n e is target. absurd (none-some e (ap (λ (z : Kernel). z.exchanges n) (before_first specs ss k at) ∙ is))
+no_moves pages requests specs ss r follows (suc i) k at = moves_next pages requests specs ss r i k follows (before_next specs ss i k at)
+    (λ m at_m. no_moves pages requests specs ss r follows i m at_m)
+
+-- What is written into a process that waits for the server.
+to_other : (k : Kernel) (r s : Pid) (m : Message) (x : Process) (n : Name) (number : ℕ) (c : Copying) → IsSound k → NoMoves k r →
+    k.procs s ≡ Some x → sending x.state ≡ Some (r, m) → k.exchanges n ≡ Some c.exchange → move_of c.exchange number ≡ Some c.move →
+    n ≡ name_of s x.sends → ⊥
+to_other k r s m x n number c sound none at sends is move name =
+    let w = sound.sent s x r m at sends in
+    let same : c.exchange ≡ w.exchange = same_Some c.exchange w.exchange (sym is ∙ ap k.exchanges name ∙ w.is) in
+    none-some c.move
+    (sym (no_move c.exchange number (none n c.exchange is (ap (λ (z : Exchange). z.target) same ∙ w.target))) ∙ move)
+
+written_not : (k : Kernel) (r s : Pid) (m : Message) (x : Process) (n : Name) (number : ℕ) (c : Copying) (d : Direction) → IsSound k →
+    NoMoves k r → k.procs s ≡ Some x → sending x.state ≡ Some (r, m) → k.exchanges n ≡ Some c.exchange →
+    move_of c.exchange number ≡ Some c.move → written_process k n number c.move.mover d ≡ Some (c.pid, c.process) → c.pid ≡ s →
+    c.process ≡ x → ⊥
+written_not k r s m x n number c directions.To sound none at sends is move g mine who =
+    let p = bind_is (waiting_on k n) _ (c.pid, c.process) g in
+    let w = waiting_is k n p.0 p.1 in
+    let same = same_Some (n.sender, p.0) (c.pid, c.process) p.2 in
+    let sender : n.sender ≡ s = ap (λ (z : Pid × Process). z.0) same ∙ mine in
+    let process : p.0 ≡ x = ap (λ (z : Pid × Process). z.1) same ∙ who in
+    let last : n.number ≡ x.sends = sym (eqb-true p.0.sends n.number w.last) ∙ ap (λ (z : Process). z.sends) process in
+    to_other k r s m x n number c sound none at sends is move (λ j. name_of (sender j) (last j))
+written_not k r s m x n number c directions.From sound none at sends is move g mine who =
+    let p = bind_is (k.procs c.move.mover) _ (c.pid, c.process) g in
+    let test = only_if_is (is_in_move n number p.0) (Some (c.move.mover, p.0)) (c.pid, c.process) p.2 in
+    let moves = (and_parts (is_moving p.0.state) (holds_of (λ m. same_move m n number) p.0.moving) test.0).0 in
+    let process : p.0 ≡ x = ap (λ (z : Pid × Process). z.1) (same_Some (c.move.mover, p.0) (c.pid, c.process) test.1) ∙ who in
+    none-some (r, m) (sym (moving_sends_none p.0.state moves) ∙ ap (λ (z : Process). sending z.state) process ∙ sends)
+
+moved_not : (k : Kernel) (t : Step) (r s pid : Pid) (m : Message) (x : Process) (dest src count number : ℕ) → IsSound k → MovesNot r t →
+    k.procs s ≡ Some x → sending x.state ≡ Some (r, m) → t ≡ steps.Call pid (calls.MoveTo s dest src count) →
+    held k pid s ≡ Some number → same_host pid s ≡ true → ⊥
+moved_not k t r s pid m x dest src count number sound not at sends step holds near =
+    let h = holding_is k pid s number holds in
+    let target = same_pid_is h.exchange.target pid h.target in
+    let local : same_host s h.exchange.target ≡ true =
+    eq-eqb s.host h.exchange.target.host (sym (eqb-true pid.host s.host near) ∙ ap (λ (z : Pid). z.host) (sym target)) in
+    let w = sound.awaited (name_of s number) h.exchange h.is local (taken_is_at_target h.exchange.stage h.taken) in
+    let blocked : x.state ≡ states.Blocked (calls.Send h.exchange.target h.exchange.message) =
+    ap (λ (z : Process). z.state) (same_Some x w.process (sym at ∙ w.is)) ∙ w.blocked in
+    let same = same_Some (h.exchange.target, h.exchange.message) (r, m) (ap sending (sym blocked) ∙ sends) in
+    let who : pid ≡ r = sym target ∙ ap (λ (z : Pid × Message). z.0) same in
+    both_ways true (not (calls.MoveTo s dest src count) (step ∙ ap (λ q. steps.Call q (calls.MoveTo s dest src count)) who)) refl
+
+kept_memory : (k : Kernel) (t : Step) (r s : Pid) (m : Message) (x p : Process) → IsSound k → MovesNot r t → NoMoves k r →
+    k.procs s ≡ Some x → sending x.state ≡ Some (r, m) → Kept k t s x p → p.memory ≡ x.memory
+kept_memory k t r s m x p sound not none at sends (Kept.stays same) = same
+kept_memory k t r s m x p sound not none at sends (Kept.copied_to n number offset count c g mine who) =
+    let is = copying_is k n number offset count c g in
+    absurd (written_not k r s m x n number c c.move.direction sound none at sends is.exchange is.move is.written mine who)
+kept_memory k t r s m x p sound not none at sends (Kept.moved pid dest src count number step holds near) =
+    absurd (moved_not k t r s pid m x dest src count number sound not at sends step holds near)
+
+-- One step back from a sender that waits for r.
+data Back (t : Step) (s r : Pid) (m : Message) (x p : Process) : Type 0 where
+  here : t ≡ steps.Call s (calls.Send r m) → p.sends ≡ x.sends + 1 → p.memory ≡ x.memory → Back t s r m x p
+  waited : sending x.state ≡ Some (r, m) → p.sends ≡ x.sends → p.memory ≡ x.memory → Back t s r m x p
+
+same_back : (t : Step) (s r : Pid) (m : Message) (x p : Process) → x ≡ p → sending p.state ≡ Some (r, m) → Back t s r m x p
+same_back t s r m x p same sends =
+    Back.waited (ap (λ (z : Process). sending z.state) same ∙ sends) (ap (λ (z : Process). z.sends) (sym same))
+    (ap (λ (z : Process). z.memory) (sym same))
+
+touched_memory : (k : Kernel) (t : Step) (r s : Pid) (m : Message) (x p : Process) → IsSound k → MovesNot r t → NoMoves k r →
+    k.procs s ≡ Some x → sending x.state ≡ Some (r, m) → sending p.state ≡ Some (r, m) → Touched k t s x p → p.memory ≡ x.memory
+touched_memory k t r s m x p sound not none at sends now (Touched.rests same) = ap (λ (z : Process). z.memory) same
+touched_memory k t r s m x p sound not none at sends now (Touched.makes c step idle reply) =
+    absurd (both_ways (is_waiting x.state) idle (sending_waits x.state (r, m) sends))
+touched_memory k t r s m x p sound not none at sends now (Touched.takes step idle reply) =
+    absurd (both_ways (is_waiting x.state) idle (sending_waits x.state (r, m) sends))
+touched_memory k t r s m x p sound not none at sends now (Touched.collects step idle reply) =
+    absurd (both_ways (is_waiting x.state) idle (sending_waits x.state (r, m) sends))
+touched_memory k t r s m x p sound not none at sends now (Touched.finishes step over) = absurd (none-some (r, m) (sym over ∙ now))
+touched_memory k t r s m x p sound not none at sends now (Touched.waits w reply kept) =
+    kept_memory k t r s m x p sound not none at sends kept
+
+sent_procs : (k : Kernel) (pid : Pid) (p : Process) (target : Pid) (m : Message) (q : Pid) →
+    (sent k pid p target m).procs q ≡
+    put_process k.procs pid (record p { state = states.Blocked (calls.Send target m); sends = p.sends + 1 }) q
+unfolding sent
+sent_procs k pid p target m q = refl
+
+arrived_procs : (k : Kernel) (n : Name) (e : Exchange) (q : Pid) → (with_arrival k n e).procs q ≡ k.procs q
+unfolding with_arrival
+arrived_procs k n e q = refl
+
+sent_back : (k : Kernel) (t : Step) (l : Kernel) (s r : Pid) (m : Message) (x p : Process) (pid : Pid) (y : Process) (target : Pid)
+    (n : Message) → k.procs s ≡ Some x → l.procs s ≡ Some p → sending p.state ≡ Some (r, m) → t ≡ steps.Call pid (calls.Send target n) →
+    k.procs pid ≡ Some y → l ≡ sent k pid y target n → Back t s r m x p
+sent_back k t l s r m x p pid y target n at now sends step there after = elim (cases_Bool (same_pid s pid)) [
+  | inl own ↦
+      let who = same_pid_is s pid own in
+      let z = record y { state = states.Blocked (calls.Send target n); sends = y.sends + 1 } in
+      let new : z ≡ p = same_Some z p (sym (put_process_at k.procs pid z s own) ∙ procs ∙ now) in
+      let old : y ≡ x = same_Some y x (sym there ∙ ap k.procs (sym who) ∙ at) in
+      let same = same_Some (target, n) (r, m) (ap (λ (w : Process). sending w.state) new ∙ sends) in
+      Back.here (step ∙ (λ j. steps.Call (sym who j) (calls.Send (ap (λ (w : Pid × Message). w.0) same j)
+      (ap (λ (w : Pid × Message). w.1) same j))))
+      (ap (λ (w : Process). w.sends) (sym new) ∙ ap (λ (w : Process). w.sends + 1) old)
+      (ap (λ (w : Process). w.memory) (sym new) ∙ ap (λ (w : Process). w.memory) old)
+  | inr other ↦
+      let z = record y { state = states.Blocked (calls.Send target n); sends = y.sends + 1 } in
+      same_back t s r m x p (same_Some x p (sym at ∙ sym (put_process_other k.procs pid z s other) ∙ procs ∙ now)) sends
+]
+  where
+    procs : put_process k.procs pid (record y { state = states.Blocked (calls.Send target n); sends = y.sends + 1 }) s ≡ l.procs s
+    procs = sym (sent_procs k pid y target n s) ∙ ap (λ (z : Kernel). z.procs s) (sym after)
+
+step_back : (k : Kernel) (t : Step) (l : Kernel) (r s : Pid) (m : Message) (x p : Process) → IsSound k → MovesNot r t → NoMoves k r →
+    k.procs s ≡ Some x → l.procs s ≡ Some p → sending p.state ≡ Some (r, m) → Touched k t s x p → IsStep t k l → Back t s r m x p
+step_back k t l r s m x p sound not none at now sends touch (IsStep.goes on) =
+    let y = related_after (ProcessOn t s) (k.procs s) (l.procs s) x (on.processes s) at in
+    let own : ProcessOn t s x p = subst (ProcessOn t s x) (same_Some y.0 p (sym y.1 ∙ now)) y.2 in
+    let before = own.sent (r, m) sends in
+    Back.waited before own.sends (touched_memory k t r s m x p sound not none at before sends touch)
+step_back k t l r s m x p sound not none at now sends touch (IsStep.sends pid y target n is there fit after) =
+    sent_back k t l s r m x p pid y target n at now sends is there after
+step_back k t l r s m x p sound not none at now sends touch (IsStep.arrives n e is g after) =
+    same_back t s r m x p
+    (same_Some x p (sym at ∙ sym (arrived_procs k n e s) ∙ ap (λ (z : Kernel). z.procs s) (sym after) ∙ now)) sends
+
+-- Where the Send was called, and that the memory is as it was there.
+pub record IsCalled (specs : List ProcessSpec) (ss : List Step) (i : ℕ) (s r : Pid) (m : Message) (p : Process) : Type 0 where
+  pub place : ℕ
+  pub earlier : place < i
+  pub is : slice_get ss place ≡ Some (steps.Call s (calls.Send r m))
+  pub kernel : Kernel
+  pub at : before specs ss place ≡ Some kernel
+  pub caller : Process
+  pub there : kernel.procs s ≡ Some caller
+  pub sends : p.sends ≡ caller.sends + 1
+  pub memory : p.memory ≡ caller.memory
+
+later_call : (specs : List ProcessSpec) (ss : List Step) (i : ℕ) (s r : Pid) (m : Message) (x p : Process) → p.sends ≡ x.sends →
+    p.memory ≡ x.memory → IsCalled specs ss i s r m x → IsCalled specs ss (suc i) s r m p
+later_call specs ss i s r m x p sends memory c =
+    let earlier = c.earlier in
+    record {
+      place = c.place;
+      earlier = omega arith;
+      is = c.is;
+      kernel = c.kernel;
+      at = c.at;
+      caller = c.caller;
+      there = c.there;
+      sends = sends ∙ c.sends;
+      memory = memory ∙ c.memory;
+    }
+
+call_by_back : (specs : List ProcessSpec) (ss : List Step) (i : ℕ) (k : Kernel) (t : Step) (s r : Pid) (m : Message) (x p : Process) →
+    before specs ss i ≡ Some k → slice_get ss i ≡ Some t → k.procs s ≡ Some x → Back t s r m x p →
+    (sending x.state ≡ Some (r, m) → IsCalled specs ss i s r m x) → IsCalled specs ss (suc i) s r m p
+call_by_back specs ss i k t s r m x p at is there (Back.here step sends memory) again = record {
+  place = i;
+  earlier = omega arith;
+  is = is ∙ ap (λ (z : Step). Some z) step;
+  kernel = k;
+  at = at;
+  caller = x;
+  there = there;
+  sends = sends;
+  memory = memory;
+}
+call_by_back specs ss i k t s r m x p at is there (Back.waited still sends memory) again =
+    later_call specs ss i s r m x p sends memory (again still)
+
+call_by_next : (pages requests : ℕ) (specs : List ProcessSpec) (ss : List Step) (i : ℕ) (s r : Pid) (m : Message) (l : Kernel)
+    (p : Process) → Follows (server_call pages requests) specs ss r → IsNext specs ss i l → l.procs s ≡ Some p →
+    sending p.state ≡ Some (r, m) →
+    ((k : Kernel) (x : Process) → before specs ss i ≡ Some k → k.procs s ≡ Some x → sending x.state ≡ Some (r, m) →
+    IsCalled specs ss i s r m x) → IsCalled specs ss (suc i) s r m p
+call_by_next pages requests specs ss i s r m l p follows n now sends again = elim n.how [
+  | inl h ↦
+      let k = n.kernel in
+      let sound = before_sound specs ss i k n.at in
+      let later : h.1.after.procs s ≡ Some p = ap (λ (z : Kernel). z.procs s) h.4 ∙ now in
+      let x = was_there k h.0 h.1 s p sound h.3 later in
+      call_by_back specs ss i k h.0 s r m x.0 p n.at h.2 x.1
+      (step_back k h.0 h.1.after r s m x.0 p sound (moves_not pages requests specs ss r i h.0 follows h.2)
+      (no_moves pages requests specs ss r follows i k n.at) x.1 later sends (touched k h.0 h.1 sound h.3 s x.0 p x.1 later)
+      (step_is k h.0 h.1 sound h.3)) (again k x.0 n.at x.1)
+  | inr h ↦ later_call specs ss i s r m p p refl refl
+      (again n.kernel p n.at (ap (λ (z : Kernel). z.procs s) h.1 ∙ now) sends)
+]
+
+pub called_before : (pages requests : ℕ) (specs : List ProcessSpec) (ss : List Step) (s r : Pid) (m : Message) →
+    Follows (server_call pages requests) specs ss r → (i : ℕ) (k : Kernel) (p : Process) → before specs ss i ≡ Some k →
+    k.procs s ≡ Some p → sending p.state ≡ Some (r, m) → IsCalled specs ss i s r m p
+called_before pages requests specs ss s r m follows zero k p at there sends =
+    absurd (none-some (r, m) (ap sending (sym (initial_ready (find (is_process s) specs) p
+    (ap (λ (z : Kernel). z.procs s) (before_first specs ss k at) ∙ there))) ∙ sends))
+called_before pages requests specs ss s r m follows (suc i) k p at there sends =
+    call_by_next pages requests specs ss i s r m k p follows (before_next specs ss i k at) there sends
+    (λ l x at_l there_x still. called_before pages requests specs ss s r m follows i l x at_l there_x still)

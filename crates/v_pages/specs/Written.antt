@@ -1,0 +1,32 @@
+-- Where the bytes of a lawful write come from.
+use Rattle.std.specs.Prelude.{ℕ, ◌≡◌, ◌+◌, ◌<◌, true, List, slice_get, Some}
+use Rattle.vk_base.specs.declared.call.Call.TheVariants as calls
+use Rattle.vk_base.specs.declared.config.ProcessSpec.{ProcessSpec}
+use Rattle.vk_base.specs.declared.kernel.Process.{Process}
+use Rattle.vk_base.specs.declared.pid.Pid.{Pid}
+use Rattle.vk_base.specs.declared.step.Step.{Step}
+use Rattle.vk_base.specs.declared.step.Step.TheVariants as steps
+use Rattle.vk_base.specs.Messages.{segment_of}
+use Rattle.vk_base.specs.Ranges.{bytes_in}
+use Rattle.vk_pages.specs.Servers.{server_call}
+use Rattle.v_laws.specs.Places.{process_at}
+use Rattle.v_pages.specs.Followed.{Follows}
+use Rattle.v_pages.specs.PageMap.{is_lawful_write}
+use Rattle.v_pages.specs.Requests.{Request, request_at}
+
+-- At an earlier place the sender of the request called for this Send to r, and the bytes of the request are those that then stood in the
+-- segment that it grants.
+pub record IsSentBefore (specs : List ProcessSpec) (ss : List Step) (i : ℕ) (r : Pid) (q : Request) : Type 0 where
+  pub place : ℕ
+  pub earlier : place < i
+  pub is : slice_get ss place ≡ Some (steps.Call q.name.sender (calls.Send r q.message))
+  pub caller : Process
+  pub at : process_at specs ss place q.name.sender ≡ Some caller
+  pub number : q.name.number ≡ caller.sends + 1
+  pub bytes : q.bytes ≡ bytes_in (segment_of q.message) caller.memory
+
+-- Each lawful write that is taken has the bytes of its sender as they were at the Send.
+abbrev pub WritesAreSent : Type 0
+WritesAreSent = (specs : List ProcessSpec) (ss : List Step) (r : Pid) (pages requests i : ℕ) (q : Request) →
+    Follows (server_call pages requests) specs ss r → request_at specs ss r i ≡ Some q → is_lawful_write pages q.message ≡ true →
+    IsSentBefore specs ss i r q

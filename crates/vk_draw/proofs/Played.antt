@@ -1,0 +1,102 @@
+-- The rows of a history, one event after another.
+use Rattle.std.proofs.Common.{◌≡◌, ℕ, suc, ◌+◌, ◌<◌, ◌≤◌, Bool, true, false, nat_le, nat_lt, ◌||◌, List, [], ◌∷◌, ◌++◌, get_or, length, take, refl, sym, ap, subst, ◌∙◌, arith, cond}
+use Rattle.std.specs.List.{list_all}
+use Rattle.std.proofs.lemmas.Bool.{leb-true, ltb-true}
+use Rattle.std.proofs.lemmas.List.{length-append, length-take-le, take_all}
+use Rattle.std.proofs.lemmas.List.Folds.{list_all_at}
+use Rattle.vk_base.specs.declared.limits.TheConstants.{EVENTS}
+use Rattle.vk_base.specs.Settings.{Settings}
+use Rattle.vk_cluster.specs.declared.emitted.TheConstants.{LAST_BYTES}
+use Rattle.vk_cluster.specs.Standing.{StandsFor, StandsSomewhere, emitted_bytes, logs_of}
+use Rattle.vk_cluster.specs.Values.{ClusterValue, is_full}
+use Rattle.vk_event.specs.declared.event.Event.{Event}
+use Rattle.vk_event.specs.declared.schedule.Schedule.{Schedule}
+use Rattle.vk_event.specs.Lawful.{has_actors}
+use Rattle.vk_rules.specs.Histories.{Logs, logs_after, no_entries}
+unfoldable use Rattle.vk_rules.specs.Histories.{happened, logs_from}
+use Rattle.vk_top.proofs.Fronts.{taken_more}
+use Rattle.vk_top.specs.Report.{history_before}
+use Rattle.vk_picture.specs.declared.picture.Row.{Row}
+use Rattle.vk_draw.specs.Playing.{ArePlayed, IsHad, next_row}
+use Rattle.vk_draw.specs.Rows.{row_of, rows_of}
+unfoldable use Rattle.vk_draw.specs.Rows.{rows_from}
+use Rattle.vk_draw.specs.Top.{IsTooLarge}
+
+-- one row more
+rows_more : (c : Settings) (es : List Event) (logs : Logs) (n m : ℕ) (e : Event) → m ≡ n + length es + 1 →
+    rows_from c logs n (es ++ e ∷ []) ≡ rows_from c logs n es ++ row_of m e (happened c (logs_from c logs es) e) ∷ []
+unfolding rows_from logs_from
+rows_more c [] logs n m e is =
+    let same : n + 1 ≡ m = omega (arith, is) in ap (λ k. row_of k e (happened c logs e) ∷ []) same
+rows_more c (x ∷ xs) logs n m e is =
+    ap (λ rs. row_of (n + 1) x (happened c logs x) ∷ rs)
+    (rows_more c xs (logs_after logs (happened c logs x)) (n + 1) m e (omega (arith, is)))
+
+rows_many : (c : Settings) (es : List Event) (logs : Logs) (n : ℕ) → length (rows_from c logs n es) ≡ length es
+unfolding rows_from
+rows_many c [] logs n = refl
+rows_many c (x ∷ xs) logs n = ap suc (rows_many c xs (logs_after logs (happened c logs x)) (n + 1))
+
+pub as_many : (c : Settings) (es : List Event) → length (rows_of c es) ≡ length es
+as_many c es = rows_many c es no_entries 0
+
+-- before the first event
+pub played_none : (c : Settings) (es : List Event) (now : ClusterValue) → StandsFor c [] now → ArePlayed c es 0 [] now
+unfolding rows_from
+played_none c es now stands = record { rows_are = refl; many = refl; stands = stands }
+
+full_by : (a b : Bool) → ¬ (a ≡ true) → (a || b) ≡ true → b ≡ true
+full_by true b not is = absurd (not refl)
+full_by false b not is = is
+
+acts_by : (b : Bool) → ¬ (b ≡ false) → b ≡ true
+acts_by true not = refl
+acts_by false not = absurd (not refl)
+
+module _ (s : Schedule) (n : ℕ) (rows : List Row) (now : ClusterValue) (played : ArePlayed s.config s.events n rows now) where
+  pub somewhere : StandsSomewhere now
+  somewhere = (s.config, take n s.events, played.stands)
+
+  -- all of them
+  pub played_all : length s.events ≤ n → rows ≡ rows_of s.config s.events
+  played_all all = played.rows_are ∙ ap (rows_of s.config) (take_all n s.events all)
+
+  module _ (e : Event) (low : n < length s.events) (is : e ≡ get_or s.events n e) where
+    so_many : length (take n s.events) ≡ n
+    so_many = length-take-le n s.events (omega (arith, low))
+
+    -- one more
+    pub played_more : (after : List Row) (later : ClusterValue) → IsHad s.config (take n s.events) e rows after later →
+        ArePlayed s.config s.events (n + 1) after later
+    played_more after later had =
+        let taken = taken_more s n e low is in
+        let row = next_row s.config (take n s.events) e (length rows + 1) in
+        let place : length rows + 1 ≡ 0 + length (take n s.events) + 1 = omega (arith, so_many, played.many) in
+        let one : length after ≡ length rows + 1 = ap length had.rows ∙ length-append rows (row ∷ []) in
+        record {
+          rows_are =
+              had.rows ∙ ap (λ l. l ++ row ∷ []) played.rows_are
+              ∙ sym (rows_more s.config (take n s.events) no_entries 0 (length rows + 1) e place)
+              ∙ ap (rows_of s.config) (sym taken);
+          many = omega (arith, one, played.many);
+          stands = subst (λ es. StandsFor s.config es later) (sym taken) had.stands;
+        }
+
+    -- it is of the configuration
+    pub acts : list_all (has_actors s.config.specs) s.events ≡ true → has_actors now.config.specs e ≡ true
+    acts all =
+        ap (λ (c : Settings). has_actors c.specs e) played.stands.config
+        ∙ acts_by (has_actors s.config.specs e)
+        (λ not. grind (arith, all, list_all_at (has_actors s.config.specs) s.events n e low (ap (has_actors s.config.specs) (sym is) ∙ not)))
+
+    -- it is refused
+    pub too_large : length s.events < EVENTS → is_full now ≡ true → IsTooLarge s
+    too_large few full =
+        let some : ¬ (nat_le EVENTS now.events ≡ true) =
+        λ all. let reached : EVENTS ≤ now.events = leb-true EVENTS now.events all in
+        omega (arith, reached, played.stands.events, so_many, low, few) in (
+          n,
+          low,
+          subst (λ b. LAST_BYTES < b) played.stands.bytes
+              (ltb-true LAST_BYTES (length now.pile.bytes) (full_by (nat_le EVENTS now.events) (nat_lt LAST_BYTES (length now.pile.bytes)) some full)),
+        )

@@ -1,0 +1,16 @@
+use Rattle.std.proofs.Common.{length, ap, ◌∙◌, arith}
+use Rattle.vk_event.proofs.Lawfulness.{only_lawful}
+use Rattle.vk_picture.specs.declared.picture.Picture.{Picture}
+use Rattle.vk_draw.proofs.Played.{as_many}
+use Rattle.vk_draw.proofs.top.draw_schedule.Goals as goal
+
+pub picture_of-requires-clause-lawful : goal.picture_of-requires-clause-lawful
+picture_of-requires-clause-lawful c = only_lawful c.args.text.now c.args.schedule.now c.requires
+
+pub picture_text-requires-clause-rows : goal.picture_text-requires-clause-rows
+picture_text-requires-clause-rows c =
+    let s = c.args.schedule.now in
+    let same = ap (λ (p : Picture). length p.rows) c.in-Ok.ensures.picture ∙ as_many s.config s.events in
+    let few = c.if-len-gt-ROWS.false in
+    let counted = c.len.ensures in
+    omega (arith, same, few, counted)

@@ -1,0 +1,24 @@
+-- Of the code alone, no law rests on it: a schedule played on its stations, one event after another.
+use Rattle.std.specs.Prelude.{ℕ, ◌≡◌, ◌+◌, List, [], ◌∷◌, ◌++◌, length, take}
+use Rattle.vk_base.specs.Settings.{Settings}
+use Rattle.vk_cluster.specs.Standing.{StandsFor, logs_of}
+use Rattle.vk_cluster.specs.Values.{ClusterValue}
+use Rattle.vk_event.specs.declared.event.Event.{Event}
+use Rattle.vk_rules.specs.Histories.{happened}
+use Rattle.vk_picture.specs.declared.picture.Row.{Row}
+use Rattle.vk_draw.specs.Rows.{row_of, rows_of}
+
+-- the row of an event behind these
+abbrev pub next_row : Settings → List Event → Event → ℕ → Row
+next_row c es e number = row_of number e (happened c (logs_of c es) e)
+
+-- the cluster had this event behind these, and its row is added
+pub record IsHad (c : Settings) (es : List Event) (e : Event) (before after : List Row) (now : ClusterValue) : Type 0 where
+  pub rows : after ≡ before ++ next_row c es e (length before + 1) ∷ []
+  pub stands : StandsFor c (es ++ e ∷ []) now
+
+-- the first so many events were had, and their rows are these
+pub record ArePlayed (c : Settings) (es : List Event) (n : ℕ) (rows : List Row) (now : ClusterValue) : Type 0 where
+  pub rows_are : rows ≡ rows_of c (take n es)
+  pub many : length rows ≡ n
+  pub stands : StandsFor c (take n es) now

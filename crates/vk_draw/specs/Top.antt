@@ -1,0 +1,83 @@
+-- What the top call answers and writes.
+use Rattle.std.specs.Prelude.{ℕ, ◌≡◌, ◌<◌, ◌≤◌, ◌⊎◌, List, length, take, Option, Ok, Err}
+use Rattle.std.specs.Io.KnownBytes.{Appends}
+use Rattle.vk_base.specs.declared.limits.TheConstants.{INPUT_BYTES}
+use Rattle.vk_io.specs.Causes.{Rose}
+use Rattle.vk_cluster.specs.declared.emitted.TheConstants.{LAST_BYTES}
+use Rattle.vk_cluster.specs.Standing.{emitted_bytes}
+use Rattle.vk_event.specs.declared.schedule.Schedule.{Schedule}
+use Rattle.vk_event.specs.declared.schedule.TextRefusal.TheVariants as schedules
+use Rattle.vk_event.specs.Schedule.{schedule_of}
+use Rattle.vk_picture.specs.declared.svg.TheConstants.{ROWS}
+use Rattle.vk_picture.specs.Svg.{picture_text}
+use Rattle.vk_top.specs.Report.{history_before}
+use Rattle.vk_draw.specs.declared.status.Status.{Status}
+use Rattle.vk_draw.specs.declared.status.Status.TheVariants as status
+use Rattle.vk_draw.specs.Rows.{picture_of}
+
+-- before an event of the schedule the emitted frames hold too many bytes
+abbrev pub IsTooLarge : Schedule → Type 0
+IsTooLarge s = (n : ℕ) × (n < length s.events) × (LAST_BYTES < emitted_bytes (history_before n s))
+
+-- the text spells a schedule of not too many events, and this is the picture of its history
+pub record IsPicture (text drawn : List ℕ) : Type 0 where
+  pub schedule : Schedule
+  pub spells : schedule_of text ≡ Ok schedule
+  pub few : length schedule.events ≤ ROWS
+  pub is : drawn ≡ picture_text (picture_of schedule)
+
+-- there are more events than are drawn, all before any line that is bad
+abbrev pub HasTooMany : List ℕ → Type 0
+HasTooMany text = (schedule_of text ≡ Err schedules.Limit) ⊎ ((s : Schedule) × (schedule_of text ≡ Ok s) × (ROWS < length s.events))
+
+abbrev pub HasTooLarge : List ℕ → Type 0
+HasTooLarge text = (s : Schedule) × (schedule_of text ≡ Ok s) × IsTooLarge s
+
+-- why no picture is made of a text
+abbrev pub IsRefusal : List ℕ → Status → Type 0
+IsRefusal text (status.BadInput line) = schedule_of text ≡ Err (schedules.BadInput line)
+IsRefusal text status.TooManyEvents = HasTooMany text
+IsRefusal text status.Limit = HasTooLarge text
+IsRefusal text status.NoMemory = Unit {0}
+IsRefusal text s = ⊥
+
+-- the input is the text of a schedule, and the picture of its history is written behind what stood written
+pub record IsDrawn (input : List ℕ) (old new : Option (List ℕ)) : Type 0 where
+  pub small : length input ≤ INPUT_BYTES
+  pub drawn : List ℕ
+  pub picture : IsPicture input drawn
+  pub output : Appends old new drawn
+
+-- why nothing is written of an input
+abbrev pub IsRefused : List ℕ → Status → Type 0
+IsRefused input s = ((s ≡ status.Limit) × (INPUT_BYTES < length input)) ⊎ IsRefusal input s
+
+-- the answers of an input that was read
+abbrev pub IsOfText : Status → Type 0
+IsOfText (status.BadInput line) = Unit {0}
+IsOfText status.TooManyEvents = Unit {0}
+IsOfText status.Limit = Unit {0}
+IsOfText s = ⊥
+
+-- the answers at which nothing is written
+abbrev pub IsEarly : Status → Type 0
+IsEarly status.Done = ⊥
+IsEarly status.WriteFault = ⊥
+IsEarly s = Unit {0}
+
+-- the count of a source's faults: it rose where the answer is that a read failed, and else is as it was
+abbrev pub IsReadCount : Status → ℕ → ℕ → Type 0
+IsReadCount status.ReadFault before now = Rose before now
+IsReadCount s before now = now ≡ before
+
+-- that of a sink's
+abbrev pub IsWriteCount : Status → ℕ → ℕ → Type 0
+IsWriteCount status.WriteFault before now = Rose before now
+IsWriteCount s before now = now ≡ before
+
+-- so many bytes of a picture that the input asks for are written behind what stood written
+pub record IsFront (input : List ℕ) (old new : Option (List ℕ)) : Type 0 where
+  pub drawn : List ℕ
+  pub picture : IsPicture input drawn
+  pub count : ℕ
+  pub written : Appends old new (take count drawn)

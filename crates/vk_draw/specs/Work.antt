@@ -1,0 +1,37 @@
+-- What the parts of the top call promise one another.
+use Rattle.std.specs.Prelude.{ℕ, ◌≡◌, ◌<◌, ◌≤◌, ◌⊎◌, List, [], take, Option, Some, IfSome}
+use Rattle.std.specs.Io.KnownBytes.{Appends}
+use Rattle.vk_base.specs.declared.limits.TheConstants.{INPUT_BYTES}
+use Rattle.vk_io.specs.Causes.{LosesFront}
+use Rattle.vk_top.specs.Top.{OfInput}
+use Rattle.vk_draw.specs.declared.status.Status.{Status}
+use Rattle.vk_draw.specs.declared.status.Status.TheVariants as status
+use Rattle.vk_draw.specs.Top.{IsDrawn, IsEarly, IsFront, IsOfText, IsRefusal, IsRefused}
+
+-- why the input was not read whole
+abbrev pub IsUnread : Option (List ℕ) → Option (List ℕ) → Status → Type 0
+IsUnread left rest status.ReadFault = Unit {0}
+IsUnread left rest status.Limit = LosesFront left rest (λ n. INPUT_BYTES < n)
+IsUnread left rest status.NoMemory = Unit {0}
+IsUnread left rest s = ⊥
+
+-- all was written, or a write failed
+abbrev pub IsWritten : List ℕ → Option (List ℕ) → Option (List ℕ) → Status → Type 0
+IsWritten text old new s = ((s ≡ status.Done) × Appends old new text) ⊎ (s ≡ status.WriteFault)
+
+-- what the answer to a text says, which was read whole
+pub record IsAnswered (Unchanged : Type 0) (text : List ℕ) (old new : Option (List ℕ)) (s : Status) : Type 0 where
+  pub kinds : ¬ (s ≡ status.Usage) × ¬ (s ≡ status.ReadFault)
+  pub done : s ≡ status.Done → IsDrawn text old new
+  pub refused : IsOfText s → IsRefusal text s
+  pub nothing : IsEarly s → Unchanged
+  pub front : s ≡ status.WriteFault → IsFront text old new
+
+-- what the answer to an input says, which has these bytes left and then those
+pub record IsOutcome (Unchanged : Type 0) (left rest old new : Option (List ℕ)) (s : Status) : Type 0 where
+  pub kinds : ¬ (s ≡ status.Usage)
+  pub done : s ≡ status.Done → OfInput left (λ i. IsDrawn i old new)
+  pub whole : s ≡ status.Done → IfSome left (λ i. rest ≡ Some [])
+  pub refused : IsOfText s → OfInput left (λ i. IsRefused i s)
+  pub nothing : IsEarly s → Unchanged
+  pub front : s ≡ status.WriteFault → OfInput left (λ i. IsFront i old new)

@@ -1,0 +1,182 @@
+//! A schedule, played on all stations of its configuration, and what is drawn of it.
+
+ghost use Rattle.std.specs.Prelude.{◌≡◌, ◌<◌, ◌≤◌, ◌+◌, ◌++◌, ◌∷◌, ◌⊎◌, [], List, length, true, false, Err, IfOk, IfErr, OnOk, OnErr};
+ghost use Rattle.vk_base.specs.Settings.{Settings};
+ghost use Rattle.vk_base.specs.declared.limits.TheConstants.{EVENTS};
+ghost use Rattle.vk_cluster.specs.Clusters.{value_of};
+ghost use Rattle.vk_cluster.specs.Standing.{StandsFor, StandsSomewhere, logs_of};
+ghost use Rattle.vk_cluster.specs.Values.{is_full};
+ghost use Rattle.vk_event.specs.declared.event.Event.{Event as TheEvent};
+ghost use Rattle.vk_event.specs.Lawful.{IsLawful, has_actors};
+ghost use Rattle.vk_rules.specs.Entries.{Entry};
+ghost use Rattle.vk_rules.specs.Histories.{At, Missing};
+ghost use Rattle.vk_top.specs.Playing.{HasReported, IsLast};
+ghost use Rattle.vk_picture.specs.declared.svg.TheConstants.{COLUMNS, ROWS};
+ghost use Rattle.vk_draw.specs.Playing.{ArePlayed, IsHad, next_row};
+ghost use Rattle.vk_draw.specs.Rows.{picture_of, row_of};
+ghost use Rattle.vk_draw.specs.Top.{IsTooLarge};
+
+use crate::frames::frame_marks;
+use crate::rows::{act_of, said_of, step_marks};
+use crate::status::Status;
+use std::alloc::Global;
+use vk_base::{EventAnswer, List, NoMemory};
+use vk_cluster::{Cluster, ClusterAnswer, ClusterRefusal, StepReport};
+use vk_event::{Event, Schedule};
+use vk_host::Host;
+use vk_picture::{Picture, ROWS, Row, Said, columns_of};
+
+/// The station's last event, its own event `own`, which was answered so.
+fn station_row(
+    alloc: Global,
+    station: &Host,
+    number: u16,
+    event: &Event,
+    host: u16,
+    own: u64,
+    answer: &EventAnswer,
+) -> Result<Row, NoMemory>
+    requires { (e : Entry) × IsLast station.now answer.now e }
+    ensures { IfOk result (λ row. (e : Entry) → IsLast station.now answer.now e → row ≡ row_of number event.now (At host own e)) }
+{
+    Ok(Row {
+        number,
+        host,
+        own,
+        act: act_of(event),
+        said: said_of(answer),
+        steps: step_marks(alloc, station.steps().as_slice())?,
+        frames: frame_marks(alloc, station)?,
+    })
+}
+
+/// A delivery to this station, of what was not emitted for it.
+fn missing_row(alloc: Global, number: u16, event: &Event, host: u16) -> Row
+    ensures { result ≡ row_of number event.now (Missing host) }
+{
+    Row {
+        number,
+        host,
+        own: 0,
+        act: act_of(event),
+        said: Said::Missing,
+        steps: List::empty(alloc),
+        frames: List::empty(alloc),
+    }
+}
+
+/// The row of what the cluster reports of its last event.
+fn row_by(
+    alloc: Global,
+    cluster: &Cluster,
+    number: u16,
+    event: &Event,
+    report: &StepReport,
+) -> Result<Row, NoMemory>
+    requires { (c : Settings) × (es : List TheEvent) × HasReported c es (value_of cluster.now) event.now report.now }
+    ensures { IfOk result (λ row. (c : Settings) (es : List TheEvent) → HasReported c es (value_of cluster.now) event.now report.now →
+        row ≡ next_row c es event.now number) }
+{
+    match &report.answer {
+        ClusterAnswer::Missing => Ok(missing_row(alloc, number, event, report.host)),
+        ClusterAnswer::Event { answer } => {
+            let station = cluster.host(report.host);
+            station_row(
+                alloc,
+                station,
+                number,
+                event,
+                report.host,
+                report.event,
+                answer,
+            )
+        }
+    }
+}
+
+/// The row of the cluster's last event, behind the others.
+fn put_report(
+    alloc: Global,
+    cluster: &Cluster,
+    rows: &mut List<Row>,
+    event: &Event,
+    report: &StepReport,
+) -> Result<(), NoMemory>
+    requires few { length rows.old < ROWS }
+    requires reported { (c : Settings) × (es : List TheEvent) × HasReported c es (value_of cluster.now) event.now report.now }
+    ensures { OnOk result ((c : Settings) (es : List TheEvent) → HasReported c es (value_of cluster.now) event.now report.now →
+        rows.new ≡ rows.old ++ next_row c es event.now (length rows.old + 1) ∷ []) }
+{
+    let number = rows.len() as u16 + 1;
+    let row = row_by(alloc, cluster, number, event, report)?;
+    rows.push(row)
+}
+
+/// One event, and its row.
+fn put_event(
+    alloc: Global,
+    cluster: &mut Cluster,
+    rows: &mut List<Row>,
+    event: &Event,
+) -> Result<(), ClusterRefusal>
+    requires few { length rows.old < ROWS }
+    requires somewhere { StandsSomewhere (value_of cluster.old) }
+    requires actors { has_actors (value_of cluster.old).config.specs event.now ≡ true }
+    ensures had { OnOk result ((c : Settings) (es : List TheEvent) → StandsFor c es (value_of cluster.old) →
+        IsHad c es event.now rows.old rows.new (value_of cluster.new)) }
+    ensures refused { result ≡ Err ClusterRefusal.Limit → is_full (value_of cluster.old) ≡ true }
+{
+    let stepped = cluster.step(alloc, event);
+    match &stepped {
+        Ok(report) => match put_report(alloc, cluster, rows, event, report) {
+            Ok(()) => Ok(()),
+            Err(NoMemory) => Err(ClusterRefusal::NoMemory),
+        },
+        Err(refusal) => Err(*refusal),
+    }
+}
+
+/// The rows of these events, before which the cluster had none.
+fn rows_of(
+    alloc: Global,
+    cluster: &mut Cluster,
+    schedule: &Schedule,
+    events: &[Event],
+) -> Result<List<Row>, Status>
+    requires lawful { IsLawful schedule.now }
+    requires events { events.now ≡ schedule.now.events }
+    requires few { length events.now ≤ ROWS }
+    requires stands { StandsFor schedule.now.config [] (value_of cluster.old) }
+    ensures rows { IfOk result (λ rows. rows ≡ (picture_of schedule.now).rows) }
+    ensures refused { IfErr result (λ e. (e ≡ Status.NoMemory) ⊎ ((e ≡ Status.Limit) × IsTooLarge schedule.now)) }
+{
+    let mut rows = List::empty(alloc);
+    for event in events {
+        match put_event(alloc, cluster, &mut rows, event) {
+            Ok(()) => {}
+            Err(ClusterRefusal::Limit) => return Err(Status::Limit),
+            Err(ClusterRefusal::NoMemory) => return Err(Status::NoMemory),
+        }
+    }
+    Ok(rows)
+}
+
+/// What is drawn of a schedule.
+pub(crate) fn picture_of(alloc: Global, schedule: &Schedule) -> Result<Picture, Status>
+    requires lawful { IsLawful schedule.now }
+    requires few { length schedule.now.events ≤ ROWS }
+    ensures picture { IfOk result (λ p. p ≡ picture_of schedule.now) }
+    ensures columns { IfOk result (λ p. length p.columns ≤ COLUMNS) }
+    ensures refused { IfErr result (λ e. (e ≡ Status.NoMemory) ⊎ ((e ≡ Status.Limit) × IsTooLarge schedule.now)) }
+{
+    let Ok(columns) = columns_of(alloc, schedule.config.specs()) else {
+        return Err(Status::NoMemory);
+    };
+    let Ok(mut cluster) = Cluster::new(alloc, &schedule.config) else {
+        return Err(Status::NoMemory);
+    };
+    match rows_of(alloc, &mut cluster, schedule, schedule.events.as_slice()) {
+        Ok(rows) => Ok(Picture { columns, rows }),
+        Err(status) => Err(status),
+    }
+}

@@ -1,0 +1,145 @@
+ghost use Rattle.std.specs.Prelude.{◌≡◌, ◌<◌, ◌≤◌, ◌⊎◌, ℕ, [], false, length, Ok, Some, map, take, string_bytes, IfSome, IfOk, IfErr, OnOk};
+ghost use Rattle.std.specs.Io.KnownBytes.{Appends};
+ghost use Rattle.vk_event.specs.Schedule.{schedule_of};
+ghost use Rattle.vk_top.specs.Top.{OfInput};
+ghost use Rattle.vk_draw.specs.Top.{IsDrawn, IsEarly, IsOfText, IsPicture, IsFront, IsReadCount, IsRefusal, IsRefused, IsWriteCount};
+ghost use Rattle.vk_draw.specs.Work.{IsAnswered, IsOutcome, IsUnread, IsWritten};
+ghost use Rattle.vk_draw.specs.Words.{are_good};
+
+use crate::playing::picture_of;
+use crate::status::Status;
+use crate::words::read_words;
+use std::alloc::Global;
+use vk_base::NoMemory;
+use vk_base::limits::INPUT_BYTES;
+use vk_event::{Schedule, TextRefusal, read_schedule};
+use vk_io::{Failed, ReadRefusal, Sink, Source, read_all, write_all};
+use vk_picture::{ROWS, picture_text};
+
+/// The picture of the schedule that the text spells.
+fn draw_schedule(alloc: Global, text: &[u8], schedule: &Schedule) -> Result<Vec<u8>, Status>
+    requires { schedule_of text.now ≡ Ok schedule.now }
+    ensures drawn { IfOk result (λ drawn. IsPicture text.now drawn.items) }
+    ensures refused { IfErr result (IsRefusal text.now) }
+{
+    if schedule.events.len() > ROWS {
+        return Err(Status::TooManyEvents);
+    }
+    let picture = match picture_of(alloc, schedule) {
+        Ok(picture) => picture,
+        Err(status) => return Err(status),
+    };
+    match picture_text(alloc, &picture) {
+        Ok(drawn) => Ok(drawn),
+        Err(NoMemory) => Err(Status::NoMemory),
+    }
+}
+
+/// The picture of the schedule that the text spells, where it spells one.
+fn draw(alloc: Global, text: &[u8]) -> Result<Vec<u8>, Status>
+    ensures drawn { IfOk result (λ drawn. IsPicture text.now drawn.items) }
+    ensures refused { IfErr result (IsRefusal text.now) }
+{
+    match read_schedule(alloc, text) {
+        Ok(schedule) => draw_schedule(alloc, text, &schedule),
+        Err(TextRefusal::BadInput { line }) => Err(Status::BadInput { line }),
+        Err(TextRefusal::Limit) => Err(Status::TooManyEvents),
+        Err(TextRefusal::NoMemory) => Err(Status::NoMemory),
+    }
+}
+
+/// The text of the input, read to its end.
+fn read_text<S: Source>(alloc: Global, input: &mut S) -> Result<Vec<u8>, Status>
+    ensures text { IfOk result (λ text. (length text.items ≤ INPUT_BYTES)
+        × IfSome (S.left input.old) (λ i. (text.items ≡ i) × (S.left input.new ≡ Some []))) }
+    ensures refused { IfErr result (IsUnread (S.left input.old) (S.left input.new)) }
+    ensures kept { OnOk result (S.fault_count input.new ≡ S.fault_count input.old) }
+    ensures count { IfErr result (λ s. IsReadCount s (S.fault_count input.old) (S.fault_count input.new)) }
+{
+    match read_all(alloc, input, INPUT_BYTES) {
+        Ok(text) => Ok(text),
+        Err(ReadRefusal::Failed) => Err(Status::ReadFault),
+        Err(ReadRefusal::TooLong) => Err(Status::Limit),
+        Err(ReadRefusal::NoMemory) => Err(Status::NoMemory),
+    }
+}
+
+/// Writes the whole text and flushes.
+fn write_text<K: Sink>(output: &mut K, text: &[u8]) -> Status
+    ensures written { IsWritten text.now (K.written output.old) (K.written output.new) result }
+    ensures count { IsWriteCount result (K.fault_count output.old) (K.fault_count output.new) }
+    ensures front { (n : ℕ) × Appends (K.written output.old) (K.written output.new) (take n text.now) }
+{
+    if let Err(Failed) = write_all(output, text) {
+        return Status::WriteFault;
+    }
+    match output.flush() {
+        Ok(()) => Status::Done,
+        Err(Failed) => Status::WriteFault,
+    }
+}
+
+/// The whole work on a text that was read.
+fn answer<K: Sink>(alloc: Global, text: &[u8], output: &mut K) -> Status
+    requires { length text.now ≤ INPUT_BYTES }
+    ensures answered { IsAnswered (output.new ≡ output.old) text.now (K.written output.old) (K.written output.new) result }
+    ensures count { IsWriteCount result (K.fault_count output.old) (K.fault_count output.new) }
+{
+    match draw(alloc, text) {
+        Ok(drawn) => write_text(output, &drawn),
+        Err(status) => status,
+    }
+}
+
+/// The whole work.
+fn serve<S: Source, K: Sink>(alloc: Global, input: &mut S, output: &mut K) -> Status
+    ensures outcome { IsOutcome (output.new ≡ output.old) (S.left input.old) (S.left input.new)
+        (K.written output.old) (K.written output.new) result }
+    ensures read_count { IsReadCount result (S.fault_count input.old) (S.fault_count input.new) }
+    ensures write_count { IsWriteCount result (K.fault_count output.old) (K.fault_count output.new) }
+{
+    match read_text(alloc, input) {
+        Ok(text) => answer(alloc, &text, output),
+        Err(status) => status,
+    }
+}
+
+/// Reads a schedule to its end and writes the picture of its history. The words come first, then the input is read to its end, then its
+/// text is read, and only then is anything written. `TooManyEvents` comes for more than 500 events before any line that is bad, `Limit` for
+/// more than 16,777,216 bytes of input, or where before an event the emitted frames hold more than 266,076,160 bytes. After the
+/// output it is flushed once.
+///
+/// Where the source does not tell what is left, the clauses speak of some input that it may have had.
+pub fn vkdraw<S: Source, K: Sink>(
+    alloc: Global,
+    words: &[String],
+    input: &mut S,
+    output: &mut K,
+) -> Status
+    // Usage is answered only for words that clap refuses.
+    ensures usage { result ≡ Status.Usage → are_good (map string_bytes words.now) ≡ false }
+    // For such words there is no other answer, but for want of memory to read them, and nothing is read or written.
+    ensures useless { are_good (map string_bytes words.now) ≡ false → (result ≡ Status.Usage) ⊎ (result ≡ Status.NoMemory) }
+    ensures unread { are_good (map string_bytes words.now) ≡ false → (input.new ≡ input.old) × (output.new ≡ output.old) }
+
+    // Done: all of the input is the text of a schedule of at most 500 events, and the picture of its history is written.
+    ensures done { result ≡ Status.Done → OfInput (S.left input.old) (λ i. IsDrawn i (K.written output.old) (K.written output.new)) }
+    ensures whole { result ≡ Status.Done → IfSome (S.left input.old) (λ i. S.left input.new ≡ Some []) }
+    // BadInput, TooManyEvents and Limit tell of the input.
+    ensures refused { IsOfText result → OfInput (S.left input.old) (λ i. IsRefused i result) }
+
+    // ReadFault is answered only where a fault of the input was counted, and every such fault is told so; WriteFault likewise.
+    ensures read_count { IsReadCount result (S.fault_count input.old) (S.fault_count input.new) }
+    ensures write_count { IsWriteCount result (K.fault_count output.old) (K.fault_count output.new) }
+
+    // But at Done and WriteFault nothing is written. At WriteFault a front of the picture may be.
+    ensures nothing { IsEarly result → output.new ≡ output.old }
+    ensures front { result ≡ Status.WriteFault → OfInput (S.left input.old)
+        (λ i. IsFront i (K.written output.old) (K.written output.new)) }
+{
+    match read_words(alloc, words) {
+        Ok(true) => serve(alloc, input, output),
+        Ok(false) => Status::Usage,
+        Err(NoMemory) => Status::NoMemory,
+    }
+}

@@ -1,0 +1,120 @@
+-- A history with what happened at one event more.
+use Rattle.std.proofs.Common.{◌≡◌, ℕ, ◌+◌, ◌≤◌, Bool, cond, List, [], ◌∷◌, ◌++◌, length, sym, ap, subst, ◌∙◌, length-append, arith}
+use Rattle.std.proofs.lemmas.Grind.{flat_map-append}
+use Rattle.std.proofs.lemmas.List.{append-nil, length-map}
+use Rattle.std.proofs.lemmas.List.Sums.{sum_by-append, count_by-le-length}
+use Rattle.circular_buffer.specs.Buffer.{Buffer}
+use Rattle.vk_base.specs.declared.event.EventAnswer.{EventAnswer}
+use Rattle.vk_frame.specs.declared.header.Header.{Header}
+use Rattle.vk_base.specs.declared.pid.Pid.{Pid}
+use Rattle.vk_event.specs.declared.event.Event.{Event}
+use Rattle.vk_rules.specs.Entries.{Entry, is_frame_taken}
+use Rattle.vk_rules.specs.Histories.{At, Happened, Missing, happened, history_of, no_entries}
+use Rattle.vk_cluster.specs.Clusters.{value_of}
+use Rattle.vk_cluster.specs.declared.report.StepReport.{StepReport}
+use Rattle.vk_cluster.specs.Standing.{IsNext, StandsFor, logs_of}
+use Rattle.vk_cluster.proofs.Logs.{history_more}
+use Rattle.vk_drive.specs.declared.course.Course.{Course}
+use Rattle.vk_drive.specs.Tasks.{settings}
+use Rattle.vk_drive.specs.declared.counts.Counts.{Counts}
+use Rattle.vk_drive.specs.Driving.{AreLow, IsCourse, IsNoted, counted, counts_of, last_of, one_if}
+use Rattle.vk_drive.specs.Told.{all_emitted, answered_in, answered_to, count_answered, emitted_in, has_answer, headers, is_old, is_timed_out, is_told}
+
+module _ (hs : List Happened) (h : Happened) where
+  pub emitted_more : all_emitted (hs ++ h ∷ []) ≡ all_emitted hs ++ emitted_in h
+  emitted_more = flat_map-append emitted_in hs (h ∷ []) ∙ ap (λ l. all_emitted hs ++ l) (append-nil (emitted_in h))
+
+  pub answered_more : (pid : Pid) → answered_to pid (hs ++ h ∷ []) ≡ answered_to pid hs ++ answered_in pid h
+  answered_more pid =
+      flat_map-append (answered_in pid) hs (h ∷ []) ∙ ap (λ l. answered_to pid hs ++ l) (append-nil (answered_in pid h))
+
+  pub count_more : (test : EventAnswer → Bool) → count_answered test (hs ++ h ∷ []) ≡ count_answered test hs + one_if (has_answer test h)
+  count_more test =
+      let before = count_answered test hs in
+      let last = one_if (has_answer test h) in
+      let one : before + (0 + last) ≡ before + last = omega arith in
+      sum_by-append (λ x. cond (has_answer test x) 1 0) hs (h ∷ []) ∙ one
+
+  pub frames_count : length (all_emitted (hs ++ h ∷ [])) ≡ length (all_emitted hs) + length (emitted_in h)
+  frames_count = ap length emitted_more ∙ length-append (all_emitted hs) (emitted_in h)
+
+-- what happens at one event more
+pub history_with : (es : List Event) (e : Event) (h : Happened) → happened settings (logs_of settings es) e ≡ h →
+    history_of settings (es ++ e ∷ []) ≡ history_of settings es ++ h ∷ []
+history_with es e h is = history_more settings es no_entries e ∙ ap (λ x. history_of settings es ++ x ∷ []) is
+
+-- the numbers, with an entry more, and with nothing to deliver
+pub counts_at : (hs : List Happened) (host event : ℕ) (e : Entry) →
+    counts_of (hs ++ At host event e ∷ []) ≡ counted (counts_of hs) (length e.frames) e.answer
+counts_at hs host event e =
+    let h : Happened = At host event e in
+    let frames : length (all_emitted (hs ++ h ∷ [])) ≡ length (all_emitted hs) + length e.frames =
+    frames_count hs h ∙ ap (λ n. length (all_emitted hs) + n) (length-map e.frames (λ f. f.header)) in
+    (λ i. record {
+      frames = frames i;
+      taken = count_more hs h is_frame_taken i;
+      late = count_more hs h is_old i;
+      answers = count_more hs h is_told i;
+      timedout = count_more hs h is_timed_out i;
+    })
+
+none_more : (n : ℕ) → n + 0 ≡ n
+none_more n = omega arith
+
+pub counts_missing : (hs : List Happened) (host : ℕ) → counts_of (hs ++ Missing host ∷ []) ≡ counts_of hs
+counts_missing hs host =
+    let h : Happened = Missing host in
+    (λ i. record {
+      frames = (frames_count hs h ∙ none_more (length (all_emitted hs))) i;
+      taken = (count_more hs h is_frame_taken ∙ none_more (count_answered is_frame_taken hs)) i;
+      late = (count_more hs h is_old ∙ none_more (count_answered is_old hs)) i;
+      answers = (count_more hs h is_told ∙ none_more (count_answered is_told hs)) i;
+      timedout = (count_more hs h is_timed_out ∙ none_more (count_answered is_timed_out hs)) i;
+    })
+
+pub noted_missing : (hs : List Happened) (host : ℕ) (recent : Buffer Header) (counts : Counts) → IsNoted hs recent counts →
+    IsNoted (hs ++ Missing host ∷ []) recent counts
+noted_missing hs host recent counts noted = record {
+  recent_is = noted.recent_is ∙ ap last_of (sym (emitted_more hs (Missing host) ∙ append-nil (all_emitted hs)));
+  counts_are = noted.counts_are ∙ sym (counts_missing hs host);
+}
+
+pub noted_at : (hs : List Happened) (host event : ℕ) (e : Entry) (recent : Buffer Header) (counts after : Counts) (frames : ℕ) (a : EventAnswer) →
+    frames ≡ length e.frames → a ≡ e.answer → counts ≡ counts_of hs → recent ≡ last_of (all_emitted hs ++ headers e.frames) →
+    after ≡ counted counts frames a → IsNoted (hs ++ At host event e ∷ []) recent after
+noted_at hs host event e recent counts after frames a many given before recent_is counted_is = record {
+  recent_is = recent_is ∙ ap last_of (sym (emitted_more hs (At host event e)));
+  counts_are = counted_is ∙ (λ i. counted (before i) (many i) (given i)) ∙ sym (counts_at hs host event e);
+}
+
+-- there is room in the numbers for one event more
+pub low : (hs : List Happened) (recent : Buffer Header) (counts : Counts) → IsNoted hs recent counts → length hs ≤ 100000 →
+    AreLow counts
+low hs recent counts noted few =
+    let taken : counts.taken ≡ count_answered is_frame_taken hs = ap (λ (c : Counts). c.taken) noted.counts_are in
+    let late : counts.late ≡ count_answered is_old hs = ap (λ (c : Counts). c.late) noted.counts_are in
+    let answers : counts.answers ≡ count_answered is_told hs = ap (λ (c : Counts). c.answers) noted.counts_are in
+    let timedout : counts.timedout ≡ count_answered is_timed_out hs = ap (λ (c : Counts). c.timedout) noted.counts_are in
+    let one = count_by-le-length (has_answer is_frame_taken) hs in
+    let two = count_by-le-length (has_answer is_old) hs in
+    let three = count_by-le-length (has_answer is_told) hs in
+    let four = count_by-le-length (has_answer is_timed_out) hs in
+    record {
+      taken = omega (arith, taken, one, few);
+      late = omega (arith, late, two, few);
+      answers = omega (arith, answers, three, few);
+      timedout = omega (arith, timedout, four, few);
+    }
+
+-- the event happened, and was noted
+pub course_next : (old new : Course) (e : Event) (r : StepReport) → IsCourse old → IsNext settings old.events (value_of new.cluster) e r →
+    new.events ≡ old.events ++ e ∷ [] → IsNoted (history_of settings (old.events ++ e ∷ [])) new.recent new.counts →
+    new.counts.frames ≤ old.counts.frames + 4294967295 → IsCourse new
+course_next old new e r is happens events_are noted few = record {
+  stands = subst (λ es. StandsFor settings es (value_of new.cluster)) (sym events_are) happens.stands;
+  noted = subst (λ es. IsNoted (history_of settings es) new.recent new.counts) (sym events_are) noted;
+  few =
+      let long : length new.events ≡ length old.events + 1 = ap length events_are ∙ length-append old.events (e ∷ []) in
+      let before = is.few in
+      omega (arith, few, before, long);
+}

@@ -1,0 +1,160 @@
+-- The events of a storm are of its processes and stations; and what a history tells the processes of one more.
+use Rattle.std.proofs.Common.{◌≡◌, ◌≢◌, ℕ, zero, suc, ◌+◌, ◌%◌, ◌<◌, ◌==◌, min, ◌&&◌, Bool, true, false, cond, List, [], ◌∷◌, length, Option, Some, None, refl, sym, ap, ◌∙◌, arith}
+use Rattle.std.proofs.lemmas.Bool.{cond-true, cond-false, eqb-true, eq-eqb}
+use Rattle.vk_base.specs.declared.call.Call.{Call}
+use Rattle.vk_base.specs.declared.event.EventAnswer.{EventAnswer}
+use Rattle.vk_base.specs.declared.pid.Pid.{Pid}
+use Rattle.vk_base.specs.Pids.{same_pid}
+use Rattle.vk_base.specs.Settings.{Settings, has_process}
+use Rattle.vk_cluster.specs.declared.report.ClusterAnswer.TheVariants as answers
+use Rattle.vk_cluster.specs.Standing.{report_of}
+use Rattle.vk_event.specs.declared.event.Event.{Event}
+use Rattle.vk_event.specs.declared.event.Event.TheVariants as events
+use Rattle.vk_event.specs.Lawful.{has_actors}
+use Rattle.vk_frame.specs.declared.header.Header.{Header}
+use Rattle.vk_rules.specs.Entries.{Called, Collected}
+use Rattle.vk_rules.specs.Frames.{Frame}
+use Rattle.vk_rules.specs.Histories.{Logs, delivered, handed_over}
+unfoldable use Rattle.vk_rules.specs.Histories.{happened}
+unfoldable use Rattle.vk_rules.specs.Right.{right_entry}
+use Rattle.vk_rules.specs.Right.{entry_of}
+use Rattle.vk_drive.specs.Driving.{is_quiet}
+use Rattle.vk_generator.specs.Numbers.{drawn, next}
+use Rattle.vk_drive.specs.Storms.{Choice, before_last, call_event, delivery_choice, delivery_event, process_event}
+use Rattle.vk_drive.specs.Tasks.{specs, task_at}
+use Rattle.vk_drive.specs.Told.{answered_in, is_waiting}
+
+-- Who acts is there.
+
+pub tick_acts : (d : ℕ) → d < 4 → has_actors specs (events.Tick (1 + d)) ≡ true
+tick_acts zero low = refl
+tick_acts (suc zero) low = refl
+tick_acts (suc (suc zero)) low = refl
+tick_acts (suc (suc (suc zero))) low = refl
+tick_acts (suc (suc (suc (suc d)))) low = absurd (omega arith)
+
+acts_either : (d e : Event) (b : Bool) → has_actors specs d ≡ b → has_actors specs e ≡ true → has_actors specs (cond b d e) ≡ true
+acts_either d e true is other = is
+acts_either d e false is other = other
+
+pub delivery_acts : (o : Option Header) → has_actors specs (delivery_event o) ≡ true
+delivery_acts None = refl
+delivery_acts (Some h) =
+    let d : Event = events.Deliver h.destination h.source h.event h.output in
+    acts_either d (events.Tick 1) (has_actors specs d) refl refl
+
+quiet_either : (d e : Event) (b : Bool) → is_quiet d ≡ true → is_quiet e ≡ true → is_quiet (cond b d e) ≡ true
+quiet_either d e true is other = is
+quiet_either d e false is other = other
+
+pub delivery_quiet : (o : Option Header) → is_quiet (delivery_event o) ≡ true
+delivery_quiet None = refl
+delivery_quiet (Some h) =
+    let d : Event = events.Deliver h.destination h.source h.event h.output in
+    quiet_either d (events.Tick 1) (has_actors specs d) refl refl
+
+-- what is chosen, by the test of whether there is a frame
+chosen_either : (P : Event → Type 0) (b : Bool) (c d : Choice) → P c.event → P d.event → P (cond b c d).event
+chosen_either P true c d p q = p
+chosen_either P false c d p q = q
+
+pub delivery_choice_acts : (x : ℕ) (fs : List Header) → has_actors specs (delivery_choice x fs).event ≡ true
+delivery_choice_acts x fs =
+    chosen_either (λ e. has_actors specs e ≡ true) (length fs == 0) _ _ refl
+    (delivery_acts (before_last fs (drawn (next x) % min 32 (length fs))))
+
+pub delivery_choice_quiet : (x : ℕ) (fs : List Header) → is_quiet (delivery_choice x fs).event ≡ true
+delivery_choice_quiet x fs =
+    chosen_either (λ e. is_quiet e ≡ true) (length fs == 0) _ _ refl
+    (delivery_quiet (before_last fs (drawn (next x) % min 32 (length fs))))
+
+pub process_there : (place : ℕ) → place < 4 → has_process specs (task_at place).pid ≡ true
+process_there zero low = refl
+process_there (suc zero) low = refl
+process_there (suc (suc zero)) low = refl
+process_there (suc (suc (suc zero))) low = refl
+process_there (suc (suc (suc (suc place)))) low = absurd (omega arith)
+
+own_acts : (pid : Pid) (b : Bool) (o : Option Call) → has_process specs pid ≡ true →
+    has_actors specs (cond b (events.Collect pid) (call_event pid o)) ≡ true
+own_acts pid true o there = there
+own_acts pid false None there = there
+own_acts pid false (Some call) there = there
+
+pub process_acts : (place : ℕ) (heard : List EventAnswer) → place < 4 → has_actors specs (process_event (task_at place) heard) ≡ true
+process_acts place heard low = own_acts (task_at place).pid (is_waiting heard) _ (process_there place low)
+
+-- What is told the processes of an event.
+
+pub quiet_tells : (c : Settings) (logs : Logs) (e : Event) (pid : Pid) → is_quiet e ≡ true → answered_in pid (happened c logs e) ≡ []
+unfolding happened right_entry
+quiet_tells c logs (events.Call p call) pid is = cc
+quiet_tells c logs (events.Collect p) pid is = cc
+quiet_tells c logs (events.Tick host) pid is = refl
+quiet_tells c logs (events.Deliver to from event output) pid is = delivered_tells (handed_over logs to from event output)
+  where
+    delivered_tells : (o : Option Frame) → answered_in pid (delivered c logs to o) ≡ []
+    delivered_tells None = refl
+    delivered_tells (Some f) = refl
+
+-- the event of a process tells it one answer, and the others nothing
+pub record IsHeard (c : Settings) (logs : Logs) (pid : Pid) (e : Event) : Type 0 where
+  pub answer : EventAnswer
+  pub reported : (report_of (happened c logs e)).answer ≡ answers.Event answer
+  pub own : answered_in pid (happened c logs e) ≡ answer ∷ []
+  pub others : (q : Pid) → same_pid pid q ≡ false → answered_in q (happened c logs e) ≡ []
+
+same_self : (pid : Pid) → same_pid pid pid ≡ true
+same_self pid =
+    ap (λ (b : Bool). b && (pid.local == pid.local)) (eq-eqb pid.host pid.host refl) ∙ eq-eqb pid.local pid.local refl
+
+heard_call : (c : Settings) (logs : Logs) (pid : Pid) (call : Call) → IsHeard c logs pid (events.Call pid call)
+unfolding happened right_entry
+heard_call c logs pid call =
+    let a : EventAnswer = (entry_of c pid.host (logs pid.host) (Called pid call)).answer in
+    record {
+      answer = a;
+      reported = refl;
+      own = cond-true (same_pid pid pid) (a ∷ []) [] (same_self pid);
+      others = λ q apart. cond-false (same_pid pid q) (a ∷ []) [] apart;
+    }
+
+heard_collect : (c : Settings) (logs : Logs) (pid : Pid) → IsHeard c logs pid (events.Collect pid)
+unfolding happened right_entry
+heard_collect c logs pid =
+    let a : EventAnswer = (entry_of c pid.host (logs pid.host) (Collected pid)).answer in
+    record {
+      answer = a;
+      reported = refl;
+      own = cond-true (same_pid pid pid) (a ∷ []) [] (same_self pid);
+      others = λ q apart. cond-false (same_pid pid q) (a ∷ []) [] apart;
+    }
+
+heard_either : (c : Settings) (logs : Logs) (pid : Pid) (b : Bool) (o : Option Call) →
+    IsHeard c logs pid (cond b (events.Collect pid) (call_event pid o))
+heard_either c logs pid true o = heard_collect c logs pid
+heard_either c logs pid false None = heard_collect c logs pid
+heard_either c logs pid false (Some call) = heard_call c logs pid call
+
+pub process_hears : (c : Settings) (logs : Logs) (place : ℕ) (heard : List EventAnswer) →
+    IsHeard c logs (task_at place).pid (process_event (task_at place) heard)
+process_hears c logs place heard = heard_either c logs (task_at place).pid (is_waiting heard) _
+
+-- the processes are of different hosts
+host_is : (place : ℕ) → place < 4 → (task_at place).pid.host ≡ place + 1
+host_is zero low = refl
+host_is (suc zero) low = refl
+host_is (suc (suc zero)) low = refl
+host_is (suc (suc (suc zero))) low = refl
+host_is (suc (suc (suc (suc place)))) low = absurd (omega arith)
+
+apart_by : (a b : ℕ) (local : Bool) (same : Bool) → (a == b) ≡ same → a ≢ b → ((a == b) && local) ≡ false
+apart_by a b local true is apart = absurd (apart (eqb-true a b is))
+apart_by a b local false is apart = ap (λ (t : Bool). t && local) is
+
+pub processes_differ : (place q : ℕ) → place < 4 → q < 4 → q ≢ place → same_pid (task_at place).pid (task_at q).pid ≡ false
+processes_differ place q low low_q apart =
+    let one = host_is place low in
+    let other = host_is q low_q in
+    apart_by (task_at place).pid.host (task_at q).pid.host _ _ refl
+    (λ same. let equal : place + 1 ≡ q + 1 = sym one ∙ same ∙ other in apart (omega (arith, equal)))

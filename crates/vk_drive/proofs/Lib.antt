@@ -1,0 +1,9 @@
+mod Acting
+mod Behind
+mod Chosen
+mod Fronts
+mod Opening
+mod Places
+mod Playing
+mod Recent
+mod Shown

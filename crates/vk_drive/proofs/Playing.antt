@@ -1,0 +1,84 @@
+-- One event of a storm.
+use Rattle.std.proofs.Common.{◌≡◌, ℕ, ◌-◌, ◌%◌, ◌<◌, ◌≤◌, ◌==◌, min, nat_lt, false, cond, List, [], ◌∷◌, ◌++◌, length, Option, None, refl, sym, ap, subst, ◌∙◌, arith, inl, inr}
+use Rattle.std.specs.Prelude.{slice_get}
+use Rattle.std.proofs.lemmas.Bool.{cases_Bool, cond-true, cond-false, eqb-true, lt-ltb}
+use Rattle.circular_buffer.specs.Buffer.{Buffer}
+use Rattle.vk_cluster.specs.declared.emitted.TheConstants.{LAST_BYTES}
+use Rattle.vk_cluster.specs.Standing.{emitted_bytes, logs_of}
+use Rattle.vk_event.specs.declared.event.Event.{Event}
+use Rattle.vk_frame.specs.declared.header.Header.{Header}
+use Rattle.vk_generator.specs.Numbers.{drawn, next}
+use Rattle.vk_rules.specs.Histories.{Happened, happened, history_of}
+use Rattle.vk_drive.specs.declared.driver.Driver.{Driver}
+use Rattle.vk_drive.specs.Driving.{AreActors, IsCourse, IsDriver, IsPlayed, history_so_far, last_of}
+use Rattle.vk_drive.specs.Storms.{Choice, before_last, choice, chosen, delivery_choice, delivery_event, process_choice}
+use Rattle.vk_drive.specs.Tasks.{settings}
+use Rattle.vk_drive.proofs.Behind.{history_with}
+use Rattle.vk_drive.proofs.Recent.{recent_back, recent_count}
+
+-- the event of this choice happened, and the processes heard of it
+pub played : (old new : Driver) (c : Choice) (e : Event) → IsDriver old → new.config ≡ old.config → IsCourse new.course →
+    new.generator ≡ c.state → e ≡ c.event → new.course.events ≡ old.course.events ++ e ∷ [] →
+    AreActors new.actors.items (history_so_far old ++ happened settings (logs_of settings old.course.events) e ∷ []) →
+    emitted_bytes (history_so_far old) ≤ LAST_BYTES → IsPlayed old new c
+played old new c e is config course state event events_are actors fits = record {
+  driver = record {
+    config = config ∙ is.config;
+    course = course;
+    actors =
+        subst (AreActors new.actors.items)
+        (sym (ap (history_of settings) events_are ∙ history_with old.course.events e _ refl)) actors;
+  };
+  storm = (λ i. record { state = state i; events = (events_are ∙ ap (λ x. old.course.events ++ x ∷ []) event) i });
+  fits = fits;
+}
+
+-- which frame a draw chooses
+module _ (fs : List Header) (x : ℕ) where
+  module _ (len : ℕ) (same : len ≡ min 32 (length fs)) (some : ¬ (len ≡ 0)) where
+    found_is : slice_get (last_of fs).items (len - drawn (next x) % len - 1)
+        ≡ before_last fs (drawn (next x) % min 32 (length fs))
+    found_is =
+        let d : ℕ = drawn (next x) in
+        let low : d % len < len = omega arith in
+        let count : length (last_of fs).items ≡ len = recent_count fs ∙ sym same in
+        ap (λ n. slice_get (last_of fs).items (n - d % len - 1)) (sym count)
+        ∙ recent_back fs (d % len) (omega (arith, low, same))
+        ∙ ap (λ n. before_last fs (d % n)) same
+
+    chosen_is : (o : Option Header) →
+        o ≡ cond (nat_lt (drawn (next x) % len) len) (slice_get (last_of fs).items (len - drawn (next x) % len - 1)) None →
+        chosen (next x) (delivery_event o) ≡ delivery_choice x fs
+    chosen_is o is =
+        let d : ℕ = drawn (next x) in
+        let low : d % len < len = omega arith in
+        let found : o ≡ before_last fs (d % min 32 (length fs)) =
+        is ∙ cond-true (nat_lt (d % len) len) (slice_get (last_of fs).items (len - d % len - 1)) None (lt-ltb (d % len) len low)
+        ∙ found_is in
+        let not_none : (length fs == 0) ≡ false = not_zero (length fs) (λ none. some (omega (arith, same, none))) in
+        ap (λ p. chosen (next x) (delivery_event p)) found
+        ∙ sym (cond-false (length fs == 0) _ (chosen (next x) (delivery_event (before_last fs (d % min 32 (length fs))))) not_none)
+      where
+        not_zero : (n : ℕ) → ¬ (n ≡ 0) → (n == 0) ≡ false
+        not_zero n some = elim (cases_Bool (n == 0)) [ inl t ↦ absurd (some (eqb-true n 0 t)) | inr f ↦ f ]
+
+  pub delivered : (recent : Buffer Header) (o : Option Header) (draw len : ℕ) → recent ≡ last_of fs → len ≡ length recent.items →
+      ¬ (len ≡ 0) → draw ≡ drawn (next x) →
+      o ≡ cond (nat_lt (draw % len) (length recent.items)) (slice_get recent.items (length recent.items - draw % len - 1)) None →
+      chosen (next x) (delivery_event o) ≡ delivery_choice x fs
+  delivered recent o draw len is count some drawn_is found =
+      let all : length (last_of fs).items ≡ len = sym (count ∙ ap (λ (b : Buffer Header). length b.items) is) in
+      chosen_is len (sym all ∙ recent_count fs) some o
+      (found
+      ∙ ap (λ (b : Buffer Header). cond (nat_lt (draw % len) (length b.items))
+      (slice_get b.items (length b.items - draw % len - 1)) None) is
+      ∙ (λ i. cond (nat_lt (drawn_is i % len) (all i)) (slice_get (last_of fs).items (all i - drawn_is i % len - 1)) None))
+
+-- what the first draw says
+pub choice_process : (x kind state : ℕ) (hs : List Happened) → state ≡ next x → kind ≡ drawn state → kind % 8 < 3 →
+    choice x hs ≡ process_choice state hs
+choice_process x kind state hs is drawn_is low =
+    let same : kind ≡ drawn (next x) = drawn_is ∙ ap drawn is in
+    let below : drawn (next x) % 8 < 3 = subst (λ k. k % 8 < 3) same low in
+    cond-true (nat_lt (drawn (next x) % 8) 3) (process_choice (next x) hs) _ (lt-ltb (drawn (next x) % 8) 3 below)
+    ∙ ap (λ k. process_choice k hs) (sym is)

@@ -1,0 +1,14 @@
+use Rattle.std.proofs.Common.{[], subst}
+use Rattle.vk_base.specs.Settings.{Settings}
+use Rattle.vk_cluster.specs.Clusters.{value_of}
+use Rattle.vk_cluster.specs.Standing.{StandsFor}
+use Rattle.vk_drive.proofs.Opening.{course_first, lawful_settings}
+use Rattle.vk_drive.proofs.course.Course.new.Goals as goal
+
+pub new-requires : goal.new-requires
+new-requires c = lawful_settings c.args.config.now c.requires
+
+pub returns-clause-course : goal.returns-clause-course
+returns-clause-course c =
+    course_first _ (subst (λ (d : Settings). StandsFor d [] (value_of c.in_ok-new.field-0)) c.requires c.in_ok-new.ensures)
+    c.in_ok-with_capacity.ensures c.new-2.ensures c.empty.ensures

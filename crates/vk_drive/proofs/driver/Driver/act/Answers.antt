@@ -1,0 +1,53 @@
+use Rattle.std.proofs.Common.{◌≡◌, ℕ, ◌<◌, ◌%◌, refl, sym, ap, subst, ◌∙◌, arith}
+use Rattle.vk_cluster.specs.declared.report.StepReport.{StepReport}
+use Rattle.vk_cluster.specs.Standing.{logs_of}
+use Rattle.vk_event.specs.Lawful.{has_actors}
+use Rattle.vk_generator.specs.Numbers.{drawn, next}
+use Rattle.vk_rules.specs.Histories.{happened}
+use Rattle.vk_drive.specs.Driving.{history_so_far}
+use Rattle.vk_drive.specs.Storms.{process_choice, process_event}
+use Rattle.vk_drive.specs.Tasks.{settings, specs, task_at}
+use Rattle.vk_drive.specs.Told.{answered_to}
+use Rattle.vk_drive.proofs.Chosen.{IsHeard, process_acts, process_hears, processes_differ}
+use Rattle.vk_drive.proofs.Playing.{played}
+use Rattle.vk_drive.proofs.driver.Driver.act.Goals as goal
+
+pub happen-requires-clause-actors : goal.happen-requires-clause-actors
+happen-requires-clause-actors c =
+    let hs = history_so_far c.args.self.now in
+    let place : ℕ = c.draw.result % 4 in
+    let its = c.next_event-event.ensures hs c.requires.driver.actors in
+    let low : place < 4 = omega arith in
+    ap (has_actors specs) its.event ∙ process_acts place (answered_to (task_at place).pid hs) low
+
+pub hear-requires-clause-within : goal.hear-requires-clause-within
+hear-requires-clause-within c =
+    let its = c.next_event-event.ensures (history_so_far c.args.self.now) c.requires.driver.actors in
+    let count = its.actors_are.count in
+    omega (arith, count)
+
+pub hear-requires-clause-none : goal.hear-requires-clause-none
+hear-requires-clause-none c =
+    (c.next_event-event.ensures (history_so_far c.args.self.now) c.requires.driver.actors).none
+
+pub returns-clause-played : goal.returns-clause-played
+returns-clause-played c =
+    let old = c.args.self.now in
+    let hs = history_so_far old in
+    let logs = logs_of settings old.course.events in
+    let place : ℕ = c.draw.result % 4 in
+    let low : place < 4 = omega arith in
+    let its = c.next_event-event.ensures hs c.requires.driver.actors in
+    let e = c.next_event-event.result in
+    let h = happened settings logs e in
+    let heard : IsHeard settings logs (task_at place).pid e =
+    subst (IsHeard settings logs (task_at place).pid) (sym its.event)
+    (process_hears settings logs place (answered_to (task_at place).pid hs)) in
+    let happens = c.in_ok-report.ensures in
+    let drawn_is : place ≡ drawn (next old.generator) % 4 =
+    ap (λ d. d % 4) (c.draw.ensures.drawn ∙ ap drawn c.draw.ensures.state) in
+    played old _ (process_choice old.generator hs) e c.requires.driver refl happens.course c.draw.ensures.state
+    (its.event ∙ ap (λ p. process_event (task_at p) (answered_to (task_at p).pid hs)) drawn_is) happens.events
+    (c.hear.ensures hs h heard.answer its.actors_are (ap (λ (r : StepReport). r.answer) happens.report ∙ heard.reported) heard.own
+    (λ q few apart. heard.others (task_at q).pid (processes_differ place q low few apart)))
+    happens.fits

@@ -1,0 +1,5 @@
+pub mod Driving
+pub mod Shown
+pub mod Storms
+pub mod Tasks
+pub mod Told

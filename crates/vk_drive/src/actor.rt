@@ -1,0 +1,101 @@
+//! A process of a storm.
+
+ghost use Rattle.std.specs.Prelude.{◌≡◌, [], ◌∷◌, ◌++◌, List, None, IfOk};
+ghost use Rattle.vk_base.specs.declared.event.EventAnswer.{EventAnswer as TheAnswer};
+ghost use Rattle.vk_base.specs.declared.event.EventAnswer.TheVariants as given;
+ghost use Rattle.vk_cluster.specs.declared.report.ClusterAnswer.TheVariants as answered;
+ghost use Rattle.vk_event.specs.declared.task.Task.{Task as TheTask};
+ghost use Rattle.vk_pages.specs.Any.{IsTaskOf};
+ghost use Rattle.vk_rules.specs.Observed.{is_not_yet};
+ghost use Rattle.vk_drive.specs.Driving.{IsActor, IsNextEvent};
+
+use std::alloc::Global;
+use vk_base::{Answer, Config, EventAnswer, NoMemory, Pid, Refusal};
+use vk_cluster::ClusterAnswer;
+use vk_event::{Event, Task};
+use vk_pages::AnyProgram;
+use vk_program::Program;
+
+/// A process and its program.
+#[derive(Drop)]
+pub struct Actor {
+    pid: Pid,
+    program: AnyProgram,
+    /// What the process was told and its program was not.
+    told: Option<Answer>,
+    /// Whether its last call is to be collected.
+    waits: bool,
+}
+
+/// Whether the answer tells that a collect came too early.
+fn is_not_yet(answer: &Answer) -> bool
+    ensures { result ≡ is_not_yet answer.now }
+{
+    match answer {
+        Answer::Refused { why } => *why == Refusal::NotYet,
+        _ => false,
+    }
+}
+
+impl Actor {
+    /// The process of a task of this configuration, before its first call.
+    ///
+    /// # Errors
+    ///
+    /// [`NoMemory`] where memory is wanting.
+    pub fn new(alloc: Global, config: &Config, task: &Task) -> Result<Self, NoMemory>
+        requires { IsTaskOf config.now.specs task.now }
+        ensures { IfOk result (λ a. IsActor a task.now []) }
+    {
+        Ok(Actor {
+            pid: task.pid,
+            program: AnyProgram::new(alloc, config, task)?,
+            told: None,
+            waits: false,
+        })
+    }
+
+    /// Its next event: it collects, or makes its program's next call.
+    pub fn next_event(&mut self) -> Event
+        ensures { (t : TheTask) (heard : List TheAnswer) → IsActor self.old t heard → IsNextEvent self.new t heard result }
+    {
+        let pid = self.pid;
+        if self.waits {
+            return Event::Collect { pid };
+        }
+        let told = self.told.take();
+        match self.program.next(told.as_ref()) {
+            Some(call) => Event::Call { pid, call },
+            None => Event::Collect { pid },
+        }
+    }
+
+    /// Its last call or collect was answered with this.
+    fn hear_answer(&mut self, answer: Answer)
+        requires { self.old.told ≡ None }
+        ensures { (t : TheTask) (heard : List TheAnswer) → IsActor self.old t heard →
+            IsActor self.new t (heard ++ given.Answered answer ∷ []) }
+    {
+        if !is_not_yet(&answer) {
+            self.told = Some(answer);
+            self.waits = false;
+        }
+    }
+
+    /// Its last event was answered so.
+    pub fn hear(&mut self, answer: ClusterAnswer)
+        requires { self.old.told ≡ None }
+        ensures { (t : TheTask) (heard : List TheAnswer) (a : TheAnswer) → IsActor self.old t heard → answer ≡ answered.Event a →
+            IsActor self.new t (heard ++ a ∷ []) }
+    {
+        let ClusterAnswer::Event { answer } = answer else {
+            return;
+        };
+        match answer {
+            EventAnswer::Begun => self.waits = true,
+            EventAnswer::Answered { answer } => self.hear_answer(answer),
+            EventAnswer::Ticked { .. } | EventAnswer::Taken | EventAnswer::Old | EventAnswer::Bad =>
+                {}
+        }
+    }
+}

@@ -1,0 +1,48 @@
+//! The four processes of a storm, in order.
+
+ghost use Rattle.std.specs.Prelude.{◌≡◌, ◌≢◌, ◌<◌, [], ◌∷◌, ◌++◌, ℕ, List, length, IfOk};
+ghost use Rattle.vk_base.specs.declared.event.EventAnswer.{EventAnswer as TheAnswer};
+ghost use Rattle.vk_cluster.specs.declared.report.ClusterAnswer.TheVariants as answered;
+ghost use Rattle.vk_rules.specs.Histories.{Happened};
+ghost use Rattle.vk_drive.specs.Driving.{AreActors, HasPassedOn, IsNextOf};
+ghost use Rattle.vk_drive.specs.Tasks.{settings, task_at};
+ghost use Rattle.vk_drive.specs.Told.{answered_in};
+
+use crate::actor::Actor;
+use crate::tasks::tasks;
+use std::alloc::Global;
+use vk_base::{Config, NoMemory};
+use vk_cluster::ClusterAnswer;
+use vk_event::Event;
+
+/// The processes before their first calls.
+pub fn new_actors(alloc: Global, config: &Config) -> Result<Vec<Actor>, NoMemory>
+    requires { config.now ≡ settings }
+    ensures { IfOk result (λ actors. AreActors actors.items []) }
+{
+    let mut actors = Vec::new(alloc);
+    let tasks = tasks();
+    for task in &tasks {
+        actors.push(Actor::new(alloc, config, task)?)?;
+    }
+    Ok(actors)
+}
+
+/// The next event of the process at this place.
+pub fn next_event(actors: &mut Vec<Actor>, place: usize) -> Event
+    requires { place < length actors.old.items }
+    ensures { (hs : List Happened) → AreActors actors.old.items hs → IsNextOf actors.new.items hs place result }
+{
+    actors[place].next_event()
+}
+
+/// The last event, which was that of the process at this place, was answered so.
+pub fn hear(actors: &mut Vec<Actor>, place: usize, answer: ClusterAnswer)
+    requires within { place < length actors.old.items }
+    requires none { HasPassedOn actors.old.items place }
+    ensures { (hs : List Happened) (h : Happened) (a : TheAnswer) → AreActors actors.old.items hs → answer ≡ answered.Event a →
+        answered_in (task_at place).pid h ≡ a ∷ [] → ((q : ℕ) → q < 4 → q ≢ place → answered_in (task_at q).pid h ≡ []) →
+        AreActors actors.new.items (hs ++ h ∷ []) }
+{
+    actors[place].hear(answer);
+}

@@ -1,0 +1,130 @@
+//! What happens in a storm, and what is told of it.
+
+ghost use Rattle.std.specs.Prelude.{◌≡◌, ◌≤◌, ◌<◌, ◌+◌, ◌^◌, [], ◌∷◌, ◌++◌, List, length, true, Err, IfOk, OnOk};
+ghost use Rattle.vk_base.specs.declared.limits.TheConstants.{EVENTS};
+ghost use Rattle.vk_cluster.specs.declared.emitted.TheConstants.{LAST_BYTES};
+ghost use Rattle.vk_cluster.specs.Clusters.{value_of};
+ghost use Rattle.vk_cluster.specs.Standing.{emitted_bytes, logs_of, report_of};
+ghost use Rattle.vk_event.specs.declared.event.Event.{Event as TheEvent};
+ghost use Rattle.vk_event.specs.Lawful.{has_actors};
+ghost use Rattle.vk_frame.specs.declared.header.Header.{Header as TheHeader};
+ghost use Rattle.vk_host.specs.Sealed.{sealed};
+ghost use Rattle.vk_rules.specs.Frames.{Frame as TheFrame};
+ghost use Rattle.vk_rules.specs.Histories.{happened, history_of};
+ghost use Rattle.v_lawful.specs.Sending.{IsLawfulFrame};
+ghost use Rattle.vk_drive.specs.Driving.{AreLow, IsCourse, IsNoted, last_of};
+ghost use Rattle.vk_drive.specs.Shown.{HasReported, Sends};
+ghost use Rattle.vk_drive.specs.Tasks.{settings, specs};
+ghost use Rattle.vk_drive.specs.Told.{headers};
+
+use crate::counts::Counts;
+use crate::summary::StormRefusal;
+use circular_buffer::HeapCircularBuffer;
+use std::alloc::Global;
+use vk_base::{Config, List, NoMemory};
+use vk_cluster::{Cluster, ClusterAnswer, StepReport};
+use vk_event::Event;
+use vk_frame::{Header, unseal};
+use vk_host::Host;
+use vk_rules::frames_unseal_again;
+
+/// The frames of which a delivery chooses one.
+const RECENT: usize = 32;
+
+/// The stations, the frames that were emitted last, the numbers that are told, and the events so far.
+#[derive(Drop)]
+pub struct Course {
+    pub cluster: Cluster,
+    pub recent: HeapCircularBuffer<Header>,
+    pub counts: Counts,
+    pub events: List<Event>,
+}
+
+/// Puts the header of the frame of these bytes behind the others.
+fn keep_frame(recent: &mut HeapCircularBuffer<Header>, bytes: &[u8])
+    ensures { (f : TheFrame) (hs : List TheHeader) → IsLawfulFrame f → bytes.now ≡ sealed f → recent.old ≡ last_of hs →
+        recent.new ≡ last_of (hs ++ f.header ∷ []) }
+{
+    frames_unseal_again();
+    match unseal(bytes) {
+        Some((header, _)) => {
+            let _oldest = recent.push_back(header);
+        }
+        None => {}
+    }
+}
+
+/// Puts the headers of the frames of the station's last event behind the others.
+fn keep(recent: &mut HeapCircularBuffer<Header>, station: &Host)
+    ensures { (fs : List TheFrame) (hs : List TheHeader) → Sends station.now fs → recent.old ≡ last_of hs →
+        recent.new ≡ last_of (hs ++ headers fs) }
+{
+    for at in 0..station.frame_count() {
+        keep_frame(recent, station.frame(at));
+    }
+}
+
+/// The cluster reported so of its last event.
+fn note(
+    cluster: &Cluster,
+    recent: &mut HeapCircularBuffer<Header>,
+    counts: &mut Counts,
+    report: &StepReport,
+)
+    requires frames { counts.old.frames < 2 ^ 63 }
+    requires low { AreLow counts.old }
+    requires reported { (es : List TheEvent) × (e : TheEvent) × HasReported settings es (value_of cluster.now) e report.now }
+    ensures noted { (es : List TheEvent) (e : TheEvent) → HasReported settings es (value_of cluster.now) e report.now →
+        IsNoted (history_of settings es) recent.old counts.old → IsNoted (history_of settings (es ++ e ∷ [])) recent.new counts.new }
+    ensures few { counts.new.frames ≤ counts.old.frames + 4294967295 }
+{
+    match &report.answer {
+        ClusterAnswer::Missing => {}
+        ClusterAnswer::Event { answer } => {
+            let station = cluster.host(report.host);
+            keep(recent, station);
+            counts.count(station.frame_count(), answer);
+        }
+    }
+}
+
+impl Course {
+    /// Before the first event.
+    ///
+    /// # Errors
+    ///
+    /// [`NoMemory`] where memory is wanting.
+    pub fn new(alloc: Global, config: &Config) -> Result<Self, NoMemory>
+        requires { config.now ≡ settings }
+        ensures course { IfOk result IsCourse }
+        ensures events { IfOk result (λ c. c.events ≡ []) }
+    {
+        Ok(Course {
+            cluster: Cluster::new(alloc, config)?,
+            recent: HeapCircularBuffer::with_capacity(alloc, RECENT)?,
+            counts: Counts::new(),
+            events: List::empty(alloc),
+        })
+    }
+
+    /// One event more of the storm's processes and stations, behind fewer than 100,000, and what is reported of it.
+    ///
+    /// # Errors
+    ///
+    /// [`StormRefusal::Limit`] exactly where the frames so far hold more than 266,076,160 bytes; then [`StormRefusal::NoMemory`].
+    pub fn happen(&mut self, alloc: Global, event: Event) -> Result<StepReport, StormRefusal>
+        requires course { IsCourse self.old }
+        requires few { length self.old.events < EVENTS }
+        requires actors { has_actors specs event ≡ true }
+        ensures course { OnOk result (IsCourse self.new) }
+        ensures events { OnOk result (self.new.events ≡ self.old.events ++ event ∷ []) }
+        ensures report { IfOk result (λ r. r ≡ report_of (happened settings (logs_of settings self.old.events) event)) }
+        ensures fits { OnOk result (emitted_bytes (history_of settings self.old.events) ≤ LAST_BYTES) }
+        ensures limit { result ≡ Err StormRefusal.Limit → LAST_BYTES < emitted_bytes (history_of settings self.old.events) }
+    {
+        let report = self.cluster.step(alloc, &event)?;
+        self.events.push(event)?;
+        note(&self.cluster, &mut self.recent, &mut self.counts, &report);
+        Ok(report)
+    }
+}

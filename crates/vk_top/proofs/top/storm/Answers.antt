@@ -1,0 +1,13 @@
+use Rattle.std.proofs.Common.{Err, ap, refl}
+use Rattle.vk_top.proofs.Storms.{storm_limit, storm_wanting, storm_written}
+use Rattle.vk_top.proofs.top.storm.Goals as goal
+
+pub returns-in-Ok-clause-answered : goal.returns-in-Ok-clause-answered
+returns-in-Ok-clause-answered g c =
+    storm_written _ _ _ _ _ _ c.in-Ok.ensures.fits c.in-Ok.ensures.summary c.write_work.ensures.written c.write_work.ensures.front
+
+pub returns-in-Err-Limit-clause-answered : goal.returns-in-Err-Limit-clause-answered
+returns-in-Err-Limit-clause-answered g c = storm_limit _ _ _ refl (c.in-Err-Limit.ensures.limit (ap Err c.in-Err-Limit.field-0-is))
+
+pub returns-in-Err-NoMemory-clause-answered : goal.returns-in-Err-NoMemory-clause-answered
+returns-in-Err-NoMemory-clause-answered g c = storm_wanting _ _ _
