@@ -8,6 +8,7 @@ pub mod Pieces
 pub mod Piles
 pub mod Rooms
 pub mod Runs
+pub mod Shown
 pub mod Stations
 pub mod Steps
 pub mod Taking

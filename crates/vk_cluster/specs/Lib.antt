@@ -2,5 +2,6 @@ pub mod Clusters
 pub mod Found
 pub mod Law
 pub mod Piles
+pub mod Shown
 pub mod Standing
 pub mod Values

@@ -12,7 +12,7 @@ use Rattle.vk_rules.specs.Frames.{Frame}
 use Rattle.vk_rules.specs.Laws.{FramesUnsealAgain}
 use Rattle.v_lawful.specs.Sending.{IsLawfulFrame}
 use Rattle.vk_top.specs.Report.{kind_of}
-use Rattle.vk_top.proofs.Events.{IsSent, opened}
+use Rattle.vk_cluster.proofs.Shown.{IsSent, opened}
 use Rattle.vk_picture.specs.declared.picture.FrameMark.{FrameMark}
 use Rattle.vk_draw.specs.Rows.{frame_mark}
 

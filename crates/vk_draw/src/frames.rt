@@ -5,7 +5,7 @@ ghost use Rattle.vk_host.specs.Sealed.{sealed};
 ghost use Rattle.vk_packet.specs.Views.{value_of};
 ghost use Rattle.vk_rules.specs.Frames.{Frame as TheFrame};
 ghost use Rattle.v_lawful.specs.Sending.{IsLawfulFrame};
-ghost use Rattle.vk_top.specs.Playing.{Sends};
+ghost use Rattle.vk_cluster.specs.Shown.{Sends};
 ghost use Rattle.vk_top.specs.Report.{kind_of};
 ghost use Rattle.vk_draw.specs.Rows.{frame_mark};
 

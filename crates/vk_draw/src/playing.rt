@@ -10,7 +10,7 @@ ghost use Rattle.vk_event.specs.declared.event.Event.{Event as TheEvent};
 ghost use Rattle.vk_event.specs.Lawful.{IsLawful, has_actors};
 ghost use Rattle.vk_rules.specs.Entries.{Entry};
 ghost use Rattle.vk_rules.specs.Histories.{At, Missing};
-ghost use Rattle.vk_top.specs.Playing.{HasReported, IsLast};
+ghost use Rattle.vk_cluster.specs.Shown.{HasReported, IsLast};
 ghost use Rattle.vk_picture.specs.declared.svg.TheConstants.{COLUMNS, ROWS};
 ghost use Rattle.vk_draw.specs.Playing.{ArePlayed, IsHad, next_row};
 ghost use Rattle.vk_draw.specs.Rows.{picture_of, row_of};

@@ -6,4 +6,3 @@ mod Opening
 mod Places
 mod Playing
 mod Recent
-mod Shown

@@ -13,7 +13,7 @@ ghost use Rattle.vk_rules.specs.Frames.{Frame as TheFrame};
 ghost use Rattle.vk_rules.specs.Histories.{happened, history_of};
 ghost use Rattle.v_lawful.specs.Sending.{IsLawfulFrame};
 ghost use Rattle.vk_drive.specs.Driving.{AreLow, IsCourse, IsNoted, last_of};
-ghost use Rattle.vk_drive.specs.Shown.{HasReported, Sends};
+ghost use Rattle.vk_cluster.specs.Shown.{HasReported, Sends};
 ghost use Rattle.vk_drive.specs.Tasks.{settings, specs};
 ghost use Rattle.vk_drive.specs.Told.{headers};
 
@@ -89,12 +89,12 @@ fn note(
 }
 
 impl Course {
-    /// Before the first event.
+    /// Before the first event, with room for so many.
     ///
     /// # Errors
     ///
     /// [`NoMemory`] where memory is wanting.
-    pub fn new(alloc: Global, config: &Config) -> Result<Self, NoMemory>
+    pub fn new(alloc: Global, config: &Config, events: u32) -> Result<Self, NoMemory>
         requires { config.now ≡ settings }
         ensures course { IfOk result IsCourse }
         ensures events { IfOk result (λ c. c.events ≡ []) }
@@ -103,7 +103,7 @@ impl Course {
             cluster: Cluster::new(alloc, config)?,
             recent: HeapCircularBuffer::with_capacity(alloc, RECENT)?,
             counts: Counts::new(),
-            events: List::empty(alloc),
+            events: List::new(Vec::with_capacity(alloc, events as usize)?),
         })
     }
 

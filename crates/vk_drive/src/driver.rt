@@ -82,16 +82,17 @@ fn summary_by(n: u32, counts: Counts, config: Config, events: List<Event>) -> St
 }
 
 impl Driver {
-    fn new(alloc: Global, seed: u32) -> Result<Self, NoMemory>
+    /// The storm of this number before its first event.
+    fn new(alloc: Global, n: u32) -> Result<Self, NoMemory>
         ensures driver { IfOk result IsDriver }
-        ensures storm { IfOk result (λ d. storm_of d ≡ record { state = seed; events = [] }) }
+        ensures storm { IfOk result (λ d. storm_of d ≡ record { state = n; events = [] }) }
     {
         let config = settings(alloc)?;
         let actors = new_actors(alloc, &config)?;
-        let course = Course::new(alloc, &config)?;
+        let course = Course::new(alloc, &config, n)?;
         Ok(Driver {
             config,
-            generator: Generator::new(u64::from(seed)),
+            generator: Generator::new(u64::from(n)),
             actors,
             course,
         })

@@ -11,10 +11,9 @@ use crate::labels::{write_label, write_steps};
 use crate::marks::{Start, arrives, brought, event_point, frame_point, is_light, kind_brought};
 use crate::picture::{Act, FrameMark, Picture, Row, StepMark};
 use crate::places::{Point, row_y};
-use crate::words::kind_word;
 use std::alloc::Global;
 use vk_base::NoMemory;
-use vk_report::PacketKind;
+use vk_report::{PacketKind, kind_word};
 use vk_text::{put, put_number};
 
 /// The end of words.

@@ -6,11 +6,11 @@ ghost use Rattle.vk_picture.specs.Svg.{name_words};
 ghost use Rattle.vk_picture.specs.Words.{said_text, partner_text, brought_text, act_text, label_text, step_words, step_text};
 
 use crate::picture::{Act, Said, StepMark};
-use crate::words::{call_word, kind_word, step_word};
+use crate::words::{call_word, step_word};
 use std::alloc::Global;
 use v_trace::put_answer;
 use vk_base::{Answer, NoMemory, Pid};
-use vk_report::PacketKind;
+use vk_report::{PacketKind, kind_word};
 use vk_text::{put, put_byte, put_number, put_pid, write_pid};
 
 #[tactic(auto, unfolding(v_trace::specs::Texts::answer_text))]

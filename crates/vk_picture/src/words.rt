@@ -1,11 +1,9 @@
 //! Words of the labels.
 
 ghost use Rattle.std.specs.Prelude.{◌≡◌};
-ghost use Rattle.vk_report.specs.Report.{kind_text};
 ghost use Rattle.vk_picture.specs.Words.{call_word, step_word};
 
 use crate::picture::{CallKind, StepKind};
-use vk_report::PacketKind;
 
 /// As the call is spelled in a schedule.
 pub(crate) fn call_word(kind: CallKind) -> &'static [u8]
@@ -44,24 +42,5 @@ pub(crate) fn step_word(kind: StepKind) -> &'static [u8]
         StepKind::Found => b"found",
         StepKind::Lost => b"lost",
         StepKind::Collect => b"collect",
-    }
-}
-
-/// As the kind is told in a report.
-pub(crate) fn kind_word(kind: PacketKind) -> &'static [u8]
-    ensures { result.now ≡ kind_text kind }
-{
-    match kind {
-        PacketKind::Send => b"send",
-        PacketKind::Reply => b"reply",
-        PacketKind::Pending => b"pending",
-        PacketKind::Negative => b"negative",
-        PacketKind::MoveData => b"movedata",
-        PacketKind::MoveAck => b"moveack",
-        PacketKind::MoveRequest => b"moverequest",
-        PacketKind::MoveBytes => b"movebytes",
-        PacketKind::MoveNegative => b"movenegative",
-        PacketKind::AskPid => b"askpid",
-        PacketKind::TellPid => b"tellpid",
     }
 }

@@ -38,7 +38,8 @@ pub struct Emitted {
     pub length: u32,
 }
 
-fn kind_word(kind: PacketKind) -> &'static [u8]
+/// The kind's name in a report.
+pub fn kind_word(kind: PacketKind) -> &'static [u8]
     ensures { result.now ≡ kind_text kind }
 {
     match kind {

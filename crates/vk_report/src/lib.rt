@@ -13,5 +13,5 @@ mod law;
 
 pub use answer::AnswerView;
 pub use entry::{Counts, Form, Place, put_end, put_entry, put_frame, put_missing, put_opening};
-pub use frame::{Emitted, PacketKind};
+pub use frame::{Emitted, PacketKind, kind_word};
 pub use law::traces_are_of_their_steps;

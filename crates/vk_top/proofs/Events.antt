@@ -12,10 +12,10 @@ use Rattle.vk_cluster.specs.declared.report.Advance.{Advance}
 use Rattle.vk_cluster.specs.declared.report.Advance.TheVariants as advances
 use Rattle.vk_cluster.specs.declared.report.ClusterAnswer.TheVariants as answers
 use Rattle.vk_cluster.specs.declared.report.StepReport.{StepReport}
-use Rattle.vk_cluster.specs.Standing.{ShowsLast, StandsSomewhere, Tells, logs_of, report_by, report_of}
+use Rattle.vk_cluster.specs.Shown.{HasReported, IsLast}
+use Rattle.vk_cluster.specs.Standing.{Tells, logs_of, report_by, report_of}
 use Rattle.vk_cluster.specs.Values.{ClusterValue}
-use Rattle.vk_cluster.proofs.Logs.{logs_next}
-use Rattle.vk_cluster.proofs.Taking.{actor_station}
+use Rattle.vk_cluster.proofs.Shown.{IsEntry, IsSent, last_is, lawful_entry, opened, reported_entry, reported_missing}
 use Rattle.vk_cluster.proofs.Told.{report_told}
 use Rattle.vk_event.specs.declared.event.Event.{Event}
 use Rattle.vk_event.specs.declared.event.Event.TheVariants as scheduled
@@ -38,7 +38,7 @@ use Rattle.vk_report.specs.Report.{entry_lines, frame_lines}
 use Rattle.vk_rules.specs.Each.{Each}
 use Rattle.vk_rules.specs.Entries.{Called, Collected, Delivered, Entry, Input, Ticked}
 use Rattle.vk_rules.specs.Frames.{Frame, Framed, unsealed_behind, unsealed_by, unsealed_of}
-use Rattle.vk_rules.specs.Histories.{At, Happened, Logs, Missing, delivered, handed_over, logs_after}
+use Rattle.vk_rules.specs.Histories.{At, Happened, Missing}
 unfoldable use Rattle.vk_rules.specs.Histories.{happened}
 use Rattle.vk_rules.specs.Laws.{FramesUnsealAgain, station_of}
 use Rattle.vk_rules.proofs.Headers.{headers_are_lawful}
@@ -47,32 +47,8 @@ use Rattle.vk_rules.proofs.OwnEvents.{own_log}
 use Rattle.vk_rules.proofs.Rising.{entries_rise}
 use Rattle.v_lawful.specs.Sending.{IsLawfulEntry, IsLawfulFrame, most_packets}
 use Rattle.v_lawful.proofs.Schedules.{lawful_log}
-use Rattle.vk_top.specs.Playing.{HasAdvanced, HasReported, IsLast, IsTold, Sends, told_entry}
+use Rattle.vk_top.specs.Playing.{HasAdvanced, IsTold, told_entry}
 use Rattle.vk_top.specs.Report.{emitted_of, kind_of, told_of}
-
--- The bytes of a lawful frame open as its header and its packet.
-
-pub record IsOpened (f : Frame) (o : Option (Header × List ℕ)) : Type 0 where
-  pub rest : List ℕ
-  pub found : o ≡ Some (f.header, rest)
-  pub packet : packet_of rest ≡ Some f.packet
-
-opened_behind : (f : Frame) (g : Header) (rest : List ℕ) (o : Option Packet) → packet_of rest ≡ o →
-    unsealed_behind g o ≡ Framed f.header f.packet → IsOpened f (Some (g, rest))
-opened_behind f g rest None is e = absurd (cc)
-opened_behind f g rest (Some p) is e =
-    let header : g ≡ f.header = cc in
-    let packet : p ≡ f.packet = cc in
-    record { rest = rest; found = ap (λ h. Some (h, rest)) header; packet = is ∙ ap Some packet }
-
-opened_by : (f : Frame) (o : Option (Header × List ℕ)) → unsealed_by o ≡ Framed f.header f.packet → IsOpened f o
-opened_by f None e = absurd (cc)
-opened_by f (Some x) e = opened_behind f x.0 x.1 (packet_of x.1) refl e
-
-pub opened : FramesUnsealAgain → (f : Frame) (bytes : List ℕ) → IsLawfulFrame f → bytes ≡ sealed f → IsOpened f (frame_of bytes)
-opened unseal f bytes lawful is =
-    opened_by f (frame_of bytes)
-    (ap unsealed_of is ∙ unseal f.header f.packet lawful.header lawful.packet.packet lawful.packet.lawful)
 
 pub opened_told : FramesUnsealAgain → (f : Frame) (bytes : List ℕ) (h : Header) (rest : List ℕ) (p : Packet) (kind : PacketKind) →
     IsLawfulFrame f → bytes ≡ sealed f → frame_of bytes ≡ Some (h, rest) → Some p ≡ packet_of rest → kind ≡ kind_of p →
@@ -89,33 +65,7 @@ pub few_bytes : (f : Frame) (bytes : List ℕ) → IsLawfulFrame f → bytes ≡
 few_bytes f bytes lawful is =
     subst (λ b. length b ≤ FRAME_BYTES) (sym is) (frames_fit f.header f.packet lawful.packet.packet lawful.packet.lawful)
 
--- The frames of an event, one after another.
-
-pub record IsSent (fs : List Frame) (at : ℕ) (bytes : List ℕ) : Type 0 where
-  pub frame : Frame
-  pub left : drop at fs ≡ frame ∷ drop (at + 1) fs
-  pub lawful : IsLawfulFrame frame
-  pub bytes_are : bytes ≡ sealed frame
-
-sent_at : (fs : List Frame) (at : ℕ) (bytes : List ℕ) → Each IsLawfulFrame fs → slice_get (map sealed fs) at ≡ Some bytes →
-    IsSent fs at bytes
-sent_at [] at bytes lawful found = absurd (none-some bytes found)
-sent_at (f ∷ fs) zero bytes lawful found =
-    record { frame = f; left = refl; lawful = lawful.0; bytes_are = sym (same_Some (sealed f) bytes found) }
-sent_at (f ∷ fs) (suc at) bytes lawful found =
-    let rest = sent_at fs at bytes lawful.1 found in
-    let same : suc (at + 1) ≡ suc at + 1 = omega arith in
-    record {
-      frame = rest.frame;
-      left = rest.left ∙ ap (λ n. rest.frame ∷ drop n (f ∷ fs)) same;
-      lawful = rest.lawful;
-      bytes_are = rest.bytes_are;
-    }
-
-pub sent : (s : StationValue) (fs : List Frame) (at : ℕ) (bytes : List ℕ) → Sends s fs → slice_get s.frames at ≡ Some bytes →
-    IsSent fs at bytes
-sent s fs at bytes sends found =
-    sent_at fs at bytes sends.lawful (ap (λ l. slice_get l at) (sym sends.frames) ∙ found)
+-- The lines of the frames of an event, one after another.
 
 pub frames_more : (form : Form) (host own at : ℕ) (fs : List Frame) (bytes text whole : List ℕ) →
     (one : IsSent fs at bytes) → text ++ frames_from form host own at (map emitted_of (drop at fs)) ≡ whole →
@@ -159,117 +109,37 @@ trace_told form s place answer e front mid is last entry =
     ∙ no_frames place.host place.own 0 (map emitted_of e.frames) in
     entry_told form s place answer e front mid mid last entry (sym (append-nil mid) ∙ ap (λ l. mid ++ l) (sym none))
 
--- What is reported.
+-- What is told of the station that acted.
+module _ (c : Settings) (es : List Event) (now : ClusterValue) (e : Event) (r : StepReport) (reported : HasReported c es now e r)
+    (entry : Entry) (is : happened c (logs_of c es) e ≡ At r.host r.event entry) (place : ℕ) (s : StationValue)
+    (found : slice_get now.hosts place ≡ Some s) (here : s.host ≡ r.host) where
+  lasts : IsLast s entry.answer entry
+  lasts = last_is c es now e r reported entry is place s found here entry.answer refl
 
-pub record IsEntry (r : StepReport) (answer : EventAnswer) (h : Happened) : Type 0 where
-  pub entry : Entry
-  pub is : h ≡ At r.host r.event entry
-  pub answered : answer ≡ entry.answer
+  lawful : IsLawfulEntry entry
+  lawful = lawful_entry c es now e r reported entry is place s found here
 
-pub reported_entry : (r : StepReport) (answer : EventAnswer) (h : Happened) → r ≡ report_of h → r.answer ≡ answers.Event answer →
-    IsEntry r answer h
-reported_entry r answer (At host event e) is given =
-    let at : At host event e ≡ At r.host r.event e = λ i. At (sym is i).host (sym is i).event e in
-    let same : answers.Event answer ≡ answers.Event e.answer = sym given ∙ ap (λ (x : StepReport). x.answer) is in
-    record { entry = e; is = at; answered = cc }
-reported_entry r answer (Missing host) is given =
-    let none : answers.Event answer ≡ answers.Missing = sym given ∙ ap (λ (x : StepReport). x.answer) is in absurd (cc)
-
-pub reported_missing : (r : StepReport) (h : Happened) → r ≡ report_of h → r.answer ≡ answers.Missing → h ≡ Missing r.host
-reported_missing r (At host event e) is given =
-    let none : answers.Missing ≡ answers.Event e.answer = sym given ∙ ap (λ (x : StepReport). x.answer) is in absurd (cc)
-reported_missing r (Missing host) is given = ap (λ (x : StepReport). Missing x.host) (sym is)
-
-delivered_host : (c : Settings) (logs : Logs) (to : ℕ) (o : Option Frame) → (report_of (delivered c logs to o)).host ≡ to
-delivered_host c logs to None = refl
-delivered_host c logs to (Some f) = refl
-
-happened_host : (c : Settings) (logs : Logs) (e : Event) → (report_of (happened c logs e)).host ≡ station_of e
-unfolding happened
-happened_host c logs (scheduled.Call pid call) = refl
-happened_host c logs (scheduled.Collect pid) = refl
-happened_host c logs (scheduled.Tick host) = refl
-happened_host c logs (scheduled.Deliver to from event output) = delivered_host c logs to (handed_over logs to from event output)
-
-most_is : (i : Input) → most_packets i ≤ 2048
-most_is (Called pid call) = omega arith
-most_is (Collected pid) = omega arith
-most_is Ticked = omega arith
-most_is (Delivered o) = omega arith
-
-module _ (c : Settings) (es : List Event) (now : ClusterValue) (e : Event) (r : StepReport) (reported : HasReported c es now e r) where
-  pub somewhere : StandsSomewhere now
-  somewhere = (c, es ++ e ∷ [], reported.next.stands)
-
-  pub is_station : has_station now.config.specs r.host ≡ true
-  is_station =
-      ap (λ (d : Settings). has_station d.specs r.host) reported.next.stands.config
-      ∙ ap (has_station c.specs) (ap (λ (x : StepReport). x.host) reported.next.report ∙ happened_host c (logs_of c es) e)
-      ∙ actor_station c.specs e reported.actors
-
-  -- the station that acted
-  module _ (entry : Entry) (is : happened c (logs_of c es) e ≡ At r.host r.event entry) (place : ℕ) (s : StationValue)
-      (found : slice_get now.hosts place ≡ Some s) (here : s.host ≡ r.host) where
-    log_is : logs_of c (es ++ e ∷ []) r.host ≡ entry ∷ logs_of c es r.host
-    log_is =
-        ap (λ (l : Logs). l r.host) (logs_next c es e)
-        ∙ ap (λ h. logs_after (logs_of c es) h r.host) is
-        ∙ own_log (logs_of c es) r.host entry
-
-    some_host : 0 < r.host
-    some_host = subst (λ h. 0 < h) here (reported.next.stands.stands.at place s found).some_host
-
-    one_host : r.host < 65535
-    one_host = subst (λ h. h < 65535) here (reported.next.stands.stands.at place s found).one_host
-
-    lawful_entry : IsLawfulEntry entry
-    lawful_entry =
-        let few : length (es ++ e ∷ []) ≤ 100000 = reported.next.stands.few in
-        let all : Each IsLawfulEntry (logs_of c (es ++ e ∷ []) r.host) =
-        lawful_log r.host (logs_of c (es ++ e ∷ []) r.host) (entries_rise c (es ++ e ∷ []) r.host)
-        (headers_are_lawful c (es ++ e ∷ []) r.host some_host one_host (omega (arith, few))) (reported.next.stands.stands.sent r.host) in
-        (subst (Each IsLawfulEntry) log_is all).0
-
-    few_frames : length entry.frames ≤ EVENT_FRAMES
-    few_frames = omega (arith, lawful_entry.few, most_is entry.input)
-
-    shown : Shows s entry.answer entry
-    shown = (subst (ShowsLast now.hosts) is reported.next.shows) place s found here
-
-    pub last_is : (answer : EventAnswer) → answer ≡ entry.answer → IsLast s answer entry
-    last_is answer given = record {
-      shows = record {
-        answer = given;
-        tick = shown.tick;
-        number = shown.number;
-        steps = shown.steps;
-        packets = shown.packets;
-        frames = shown.frames;
-      };
-      sends = record { frames = shown.frames; lawful = lawful_entry.frames; few = few_frames };
-    }
-
-    pub told_is : (form : Form) (before after : Counts) (front text : List ℕ) →
-        text ≡ front ++ told_lines form (told_entry (record { number = before.events + 1; host = r.host; own = r.event }) entry) →
-        after ≡ record {
-          events = before.events + 1;
-          steps = before.steps + length s.doing.steps;
-          frames = before.frames + length s.frames;
-        } → IsTold form before after front text (happened c (logs_of c es) e)
-    told_is form before after front text lines counts =
-        let many : length s.frames ≡ length entry.frames = ap length shown.frames ∙ length-map entry.frames sealed in
-        subst (IsTold form before after front text) (sym is) (record {
-          lines = lines;
-          counts =
-              counts
-              ∙ (λ i. record {
-                events = before.events + 1;
-                steps = before.steps + length (shown.steps i);
-                frames = before.frames + many i;
-              });
-          steps = lawful_entry.steps;
-          frames = few_frames;
-        })
+  pub told_is : (form : Form) (before after : Counts) (front text : List ℕ) →
+      text ≡ front ++ told_lines form (told_entry (record { number = before.events + 1; host = r.host; own = r.event }) entry) →
+      after ≡ record {
+        events = before.events + 1;
+        steps = before.steps + length s.doing.steps;
+        frames = before.frames + length s.frames;
+      } → IsTold form before after front text (happened c (logs_of c es) e)
+  told_is form before after front text lines counts =
+      let many : length s.frames ≡ length entry.frames = ap length lasts.shows.frames ∙ length-map entry.frames sealed in
+      subst (IsTold form before after front text) (sym is) (record {
+        lines = lines;
+        counts =
+            counts
+            ∙ (λ i. record {
+              events = before.events + 1;
+              steps = before.steps + length (lasts.shows.steps i);
+              frames = before.frames + many i;
+            });
+        steps = lawful.steps;
+        frames = lasts.sends.few;
+      })
 
 -- The station in the place that is told of showed the entry.
 module _ (c : Settings) (es : List Event) (now : ClusterValue) (e : Event) (a : Advance) (had : HasAdvanced c es now e a) (place : ℕ)

@@ -6,6 +6,7 @@ use Rattle.vk_base.specs.Settings.{Settings}
 use Rattle.vk_cluster.specs.declared.emitted.TheConstants.{EVENT_FRAMES}
 use Rattle.vk_cluster.specs.declared.report.Advance.{Advance}
 use Rattle.vk_cluster.specs.declared.report.StepReport.{StepReport}
+use Rattle.vk_cluster.specs.Shown.{HasReported}
 use Rattle.vk_cluster.specs.Standing.{IsNext, StandsFor, Tells, emitted_bytes, logs_of}
 use Rattle.vk_cluster.specs.Values.{ClusterValue}
 use Rattle.vk_event.specs.declared.event.Event.{Event}
@@ -29,17 +30,6 @@ use Rattle.v_lawful.specs.Sending.{IsLawfulFrame}
 use Rattle.vk_top.specs.Report.{counts_of, emitted_of, frame_count, front_text, history_before, is_cut, taken_from, taken_of, told_of, written_text}
 use Rattle.vk_top.specs.declared.replay.Written.{Written}
 
--- the frames of the station's last event are these, which are lawful, and not too many
-pub record Sends (s : StationValue) (fs : List Frame) : Type 0 where
-  pub frames : s.frames ≡ map sealed fs
-  pub lawful : Each IsLawfulFrame fs
-  pub few : length fs ≤ EVENT_FRAMES
-
--- the station's last event is this entry, and was answered so
-pub record IsLast (s : StationValue) (answer : EventAnswer) (e : Entry) : Type 0 where
-  pub shows : Shows s answer e
-  pub sends : Sends s e.frames
-
 -- what is told of an entry at this place
 abbrev pub told_entry : Place → Entry → Told
 told_entry place e = record { place = place; answer = Some e.answer; steps = e.steps; frames = map emitted_of e.frames }
@@ -54,12 +44,7 @@ pub record AreFew (c : Counts) : Type 0 where
 abbrev pub counts_after : Counts → Happened → Counts
 counts_after c h = record { events = c.events + 1; steps = c.steps + length (steps_in h); frames = c.frames + frame_count h }
 
--- the cluster reports so of this event, which is behind these and of a process or of stations of the configuration
-pub record HasReported (c : Settings) (es : List Event) (now : ClusterValue) (e : Event) (r : StepReport) : Type 0 where
-  pub actors : has_actors c.specs e ≡ true
-  pub next : IsNext c es now e r
-
--- in few bytes
+-- the cluster reports so of this event, in few bytes
 pub record HasAdvanced (c : Settings) (es : List Event) (now : ClusterValue) (e : Event) (a : Advance) : Type 0 where
   pub report : StepReport
   pub told : Tells now a report

@@ -1,4 +1,4 @@
-use Rattle.vk_top.proofs.Events.{sent}
+use Rattle.vk_cluster.proofs.Shown.{sent}
 use Rattle.vk_draw.proofs.Marked.{marks_more}
 use Rattle.vk_draw.proofs.frames.frame_marks.Goals as goal
 

@@ -1,6 +1,6 @@
 use Rattle.std.proofs.Common.{◌≡◌, ◌++◌, List, drop, map}
 use Rattle.vk_rules.specs.Frames.{Frame}
-use Rattle.vk_top.specs.Playing.{Sends}
+use Rattle.vk_cluster.specs.Shown.{Sends}
 use Rattle.vk_draw.specs.Rows.{frame_mark}
 use Rattle.vk_draw.proofs.frames.frame_marks.Given as goal
 

@@ -3,7 +3,7 @@ use Rattle.std.proofs.lemmas.Result.{IfOk-weaker}
 use Rattle.vk_cluster.specs.Clusters.{value_of}
 use Rattle.vk_cluster.specs.Standing.{logs_of}
 use Rattle.vk_rules.specs.Histories.{happened}
-use Rattle.vk_top.proofs.Events.{is_station, last_is, reported_entry, reported_missing}
+use Rattle.vk_cluster.proofs.Shown.{is_station, last_is, reported_entry, reported_missing}
 use Rattle.vk_draw.specs.Rows.{row_of}
 use Rattle.vk_draw.proofs.playing.row_by.Goals as goal
 

@@ -4,7 +4,7 @@ use Rattle.vk_host.specs.Sealed.{sealed}
 use Rattle.vk_drive.specs.Driving.{last_of}
 use Rattle.vk_drive.specs.Told.{headers}
 use Rattle.vk_drive.proofs.Recent.{headers_one}
-use Rattle.vk_drive.proofs.Shown.{sent}
+use Rattle.vk_cluster.proofs.Shown.{sent}
 use Rattle.vk_drive.proofs.course.keep.Goals as goal
 
 pub loop-at-init : goal.loop-at-init

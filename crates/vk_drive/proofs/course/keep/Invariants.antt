@@ -2,7 +2,7 @@ use Rattle.std.proofs.Common.{◌≡◌, ◌++◌, List, take}
 use Rattle.vk_frame.specs.declared.header.Header.{Header}
 use Rattle.vk_rules.specs.Frames.{Frame}
 use Rattle.vk_drive.specs.Driving.{last_of}
-use Rattle.vk_drive.specs.Shown.{Sends}
+use Rattle.vk_cluster.specs.Shown.{Sends}
 use Rattle.vk_drive.specs.Told.{headers}
 use Rattle.vk_drive.proofs.course.keep.Given as goal
 

@@ -2,7 +2,7 @@ use Rattle.std.proofs.Common.{◌≡◌, [], ◌∷◌, ◌++◌, sym, ap, ◌�
 use Rattle.std.proofs.lemmas.Option.{same_Some}
 use Rattle.vk_drive.specs.Driving.{last_of}
 use Rattle.vk_drive.proofs.Recent.{pushed}
-use Rattle.vk_drive.proofs.Shown.{opened}
+use Rattle.vk_cluster.proofs.Shown.{opened}
 use Rattle.vk_drive.proofs.course.keep_frame.Goals as goal
 
 pub returns-in-Some : goal.returns-in-Some

@@ -8,7 +8,7 @@ use Rattle.vk_drive.specs.Driving.{IsNoted}
 use Rattle.vk_drive.specs.Tasks.{settings}
 use Rattle.vk_drive.specs.Told.{all_emitted}
 use Rattle.vk_drive.proofs.Behind.{history_with, noted_at, noted_missing}
-use Rattle.vk_drive.proofs.Shown.{is_station, reported_entry, reported_missing, sends}
+use Rattle.vk_cluster.proofs.Shown.{is_station, reported_entry, reported_missing, sends}
 use Rattle.vk_drive.proofs.course.note.Goals as goal
 
 pub host-station-requires-clause-station : goal.host-station-requires-clause-station

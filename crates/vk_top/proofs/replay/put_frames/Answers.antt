@@ -2,7 +2,8 @@ use Rattle.std.proofs.Common.{◌++◌, ◌+◌, map, drop, ap, ◌∙◌, arith
 use Rattle.vk_report.specs.Histories.{frames_from}
 use Rattle.vk_report.specs.Report.{frame_lines}
 use Rattle.vk_top.specs.Report.{emitted_of}
-use Rattle.vk_top.proofs.Events.{frames_more, sent}
+use Rattle.vk_cluster.proofs.Shown.{sent}
+use Rattle.vk_top.proofs.Events.{frames_more}
 use Rattle.vk_top.proofs.replay.put_frames.Goals as goal
 
 pub emitted_of-frame-requires : goal.emitted_of-frame-requires

@@ -1,7 +1,7 @@
 use Rattle.std.proofs.Common.{◌≡◌, ◌++◌, List, drop, map}
 use Rattle.vk_report.specs.Histories.{frames_from}
 use Rattle.vk_rules.specs.Frames.{Frame}
-use Rattle.vk_top.specs.Playing.{Sends}
+use Rattle.vk_cluster.specs.Shown.{Sends}
 use Rattle.vk_top.specs.Report.{emitted_of}
 use Rattle.vk_top.proofs.replay.put_frames.Given as goal
 

@@ -1,4 +1,4 @@
-use Rattle.std.proofs.Common.{[], subst}
+use Rattle.std.proofs.Common.{[], subst, ◌∙◌}
 use Rattle.vk_base.specs.Settings.{Settings}
 use Rattle.vk_cluster.specs.Clusters.{value_of}
 use Rattle.vk_cluster.specs.Standing.{StandsFor}
@@ -11,4 +11,4 @@ new-requires c = lawful_settings c.args.config.now c.requires
 pub returns-clause-course : goal.returns-clause-course
 returns-clause-course c =
     course_first _ (subst (λ (d : Settings). StandsFor d [] (value_of c.in_ok-new.field-0)) c.requires c.in_ok-new.ensures)
-    c.in_ok-with_capacity.ensures c.new-2.ensures c.empty.ensures
+    c.in_ok-with_capacity.ensures c.new-2.ensures (c.new-3.ensures ∙ c.in_ok-with_capacity-2.ensures.items)

@@ -31,7 +31,7 @@ use Rattle.vk_rules.proofs.OwnEvents.{own_log}
 use Rattle.vk_rules.proofs.Rising.{entries_rise}
 use Rattle.v_lawful.specs.Sending.{IsLawfulEntry, IsLawfulFrame, most_packets}
 use Rattle.v_lawful.proofs.Schedules.{lawful_log}
-use Rattle.vk_drive.specs.Shown.{HasReported, Sends}
+use Rattle.vk_cluster.specs.Shown.{HasReported, IsLast, Sends}
 
 -- The bytes of a lawful frame open as its header and its packet.
 
@@ -148,7 +148,7 @@ module _ (c : Settings) (es : List Event) (now : ClusterValue) (e : Event) (r : 
     one_host : r.host < 65535
     one_host = subst (λ h. h < 65535) here (reported.next.stands.stands.at place s found).one_host
 
-    lawful_entry : IsLawfulEntry entry
+    pub lawful_entry : IsLawfulEntry entry
     lawful_entry =
         let few : length (es ++ e ∷ []) ≤ 100000 = reported.next.stands.few in
         let all : Each IsLawfulEntry (logs_of c (es ++ e ∷ []) r.host) =
@@ -156,7 +156,7 @@ module _ (c : Settings) (es : List Event) (now : ClusterValue) (e : Event) (r : 
         (headers_are_lawful c (es ++ e ∷ []) r.host some_host one_host (omega (arith, few))) (reported.next.stands.stands.sent r.host) in
         (subst (Each IsLawfulEntry) log_is all).0
 
-    few_frames : length entry.frames ≤ EVENT_FRAMES
+    pub few_frames : length entry.frames ≤ EVENT_FRAMES
     few_frames = omega (arith, lawful_entry.few, most_is entry.input)
 
     pub shown : Shows s entry.answer entry
@@ -164,3 +164,16 @@ module _ (c : Settings) (es : List Event) (now : ClusterValue) (e : Event) (r : 
 
     pub sends : Sends s entry.frames
     sends = record { frames = shown.frames; lawful = lawful_entry.frames; few = few_frames }
+
+    pub last_is : (answer : EventAnswer) → answer ≡ entry.answer → IsLast s answer entry
+    last_is answer given = record {
+      shows = record {
+        answer = given;
+        tick = shown.tick;
+        number = shown.number;
+        steps = shown.steps;
+        packets = shown.packets;
+        frames = shown.frames;
+      };
+      sends = sends;
+    }

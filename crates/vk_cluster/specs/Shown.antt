@@ -1,5 +1,6 @@
 -- Of the code alone, no law rests on it: what a cluster tells and shows of the event that it had last.
 use Rattle.std.specs.Prelude.{◌≡◌, ◌≤◌, List, length, map, true}
+use Rattle.vk_base.specs.declared.event.EventAnswer.{EventAnswer}
 use Rattle.vk_base.specs.Settings.{Settings}
 use Rattle.vk_cluster.specs.declared.emitted.TheConstants.{EVENT_FRAMES}
 use Rattle.vk_cluster.specs.declared.report.StepReport.{StepReport}
@@ -8,8 +9,10 @@ use Rattle.vk_cluster.specs.Values.{ClusterValue}
 use Rattle.vk_event.specs.declared.event.Event.{Event}
 use Rattle.vk_event.specs.Lawful.{has_actors}
 use Rattle.vk_host.specs.Sealed.{sealed}
+use Rattle.vk_host.specs.Standing.{Shows}
 use Rattle.vk_host.specs.Values.{StationValue}
 use Rattle.vk_rules.specs.Each.{Each}
+use Rattle.vk_rules.specs.Entries.{Entry}
 use Rattle.vk_rules.specs.Frames.{Frame}
 use Rattle.v_lawful.specs.Sending.{IsLawfulFrame}
 
@@ -18,6 +21,11 @@ pub record Sends (s : StationValue) (fs : List Frame) : Type 0 where
   pub frames : s.frames ≡ map sealed fs
   pub lawful : Each IsLawfulFrame fs
   pub few : length fs ≤ EVENT_FRAMES
+
+-- the station's last event is this entry, and was answered so
+pub record IsLast (s : StationValue) (answer : EventAnswer) (e : Entry) : Type 0 where
+  pub shows : Shows s answer e
+  pub sends : Sends s e.frames
 
 -- the cluster reports so of this event, which is behind these and of a process or of stations of the configuration
 pub record HasReported (c : Settings) (es : List Event) (now : ClusterValue) (e : Event) (r : StepReport) : Type 0 where
