@@ -9,6 +9,7 @@ use crate::trace::TraceRefusal;
 use std::alloc::Global;
 use std::marker::Model;
 use vk_base::{Config, Step};
+use vk_brief::CallBuffer;
 use vk_text::{HeadRefusal, next_line, read_head};
 
 /// What is left to be read of a trace's text: the steps that are still to come, which [`StepReader::next`] gives one by one, and
@@ -21,6 +22,8 @@ pub struct StepReader<'a> {
     at: usize,
     /// How many steps were given.
     given: usize,
+    /// Where a call is read.
+    room: CallBuffer,
 }
 
 impl<'a> Model for StepReader<'a> {
@@ -50,6 +53,7 @@ impl<'a> StepReader<'a> {
                 text,
                 at: head.at,
                 given: 0,
+                room: CallBuffer::new(),
             }),
             Err(HeadRefusal::NoTitle) => Err(TraceRefusal::BadInput { line: 1 }),
             Err(HeadRefusal::NoMemory) => Err(TraceRefusal::NoMemory),
@@ -71,7 +75,7 @@ impl<'a> StepReader<'a> {
         let Some((line, next)) = next_line(self.text, self.at) else {
             return false;
         };
-        let Some(()) = read_step(&self.config, line, step) else {
+        let Some(()) = read_step(&self.config, line, &mut self.room, step) else {
             return false;
         };
         self.at = next;

@@ -10,16 +10,20 @@ ghost use Rattle.v_trace.specs.Traces.{has_actor};
 
 use crate::word::{last_count, last_ending, last_failure, last_ordinal, last_pid, next_ordinal};
 use vk_base::{Config, Step};
-use vk_text::{next_count, next_pid, next_word, read_call};
+use vk_brief::CallBuffer;
+use vk_text::{next_count, next_pid, next_word, take_call};
 
 /// `PID CALLTEXT`
 #[tactic(auto, unfolding(crate::specs::Steps::call_step_of))]
-fn read_call_step(line: &[u8], at: usize, into: &mut Step) -> Option<()>
+fn read_call_step(line: &[u8], at: usize, room: &mut CallBuffer, into: &mut Step) -> Option<()>
     ensures { option_map (λ _. into.new) result ≡ call_step_of (words_from line.now at) }
 {
     let (pid, at) = next_pid(line, at)?;
-    let call = read_call(line, at)?;
-    *into = Step::Call { pid, call };
+    take_call(line, at, room)?;
+    *into = Step::Call {
+        pid,
+        call: room.view().whole(),
+    };
     Some(())
 }
 
@@ -153,12 +157,12 @@ fn read_collect(line: &[u8], at: usize, into: &mut Step) -> Option<()>
 
 /// The step that the line spells.
 #[tactic(auto, using(crate::proofs::LastWords::no_step))]
-fn read_words(line: &[u8], into: &mut Step) -> Option<()>
+fn read_words(line: &[u8], room: &mut CallBuffer, into: &mut Step) -> Option<()>
     ensures { option_map (λ _. into.new) result ≡ step_of (words_from line.now 0) }
 {
     let (word, at) = next_word(line, 0)?;
     if word == b"call".as_slice() {
-        read_call_step(line, at, into)
+        read_call_step(line, at, room, into)
     } else if word == b"arrive".as_slice() {
         read_arrive(line, at, into)
     } else if word == b"take".as_slice() {
@@ -196,11 +200,11 @@ fn has_actor(config: &Config, step: &Step) -> bool
     }
 }
 
-/// The step that the line spells, where a trace of the configuration may have it.
-pub fn read_step(config: &Config, line: &[u8], into: &mut Step) -> Option<()>
+/// The step that the line spells, where a trace of the configuration may have it. The room is for a call on its way.
+pub fn read_step(config: &Config, line: &[u8], room: &mut CallBuffer, into: &mut Step) -> Option<()>
     ensures { option_map (λ _. into.new) result ≡ acting config.now.specs (step_of (words_from line.now 0)) }
 {
-    read_words(line, into)?;
+    read_words(line, room, into)?;
     if has_actor(config, into) {
         Some(())
     } else {

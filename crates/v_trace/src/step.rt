@@ -5,7 +5,8 @@ ghost use Rattle.vk_text.specs.Spelling.{Begins, spaced, pid_text, call_words};
 ghost use Rattle.v_trace.specs.Texts.{ending_text, step_text};
 
 use std::alloc::Global;
-use vk_base::{Call, Ending, NoMemory, Pid, Step};
+use vk_base::{Ending, NoMemory, Pid};
+use vk_brief::{BriefStep, CallView, StepView};
 use vk_text::{put, write_call, write_number, write_pid, write_word};
 
 fn ending_word(why: Ending) -> &'static [u8]
@@ -29,7 +30,7 @@ fn write_of(alloc: Global, into: &mut Vec<u8>, word: &[u8], pid: Pid) -> Result<
 }
 
 /// Appends `call PID CALL`.
-fn write_made(alloc: Global, into: &mut Vec<u8>, pid: Pid, call: &Call) -> Result<(), NoMemory>
+fn write_made(alloc: Global, into: &mut Vec<u8>, pid: Pid, call: &CallView) -> Result<(), NoMemory>
     ensures ok { OnOk result (into.new.items ≡ into.old.items ++ spaced (codes "call") (pid_text pid ∷ call_words call.now)) }
     ensures front { OnErr result (Begins into.old.items into.new.items) }
 {
@@ -138,38 +139,43 @@ fn write_found(alloc: Global, into: &mut Vec<u8>, asker: Pid, pid: Pid) -> Resul
 
 /// Appends the step; a refusal may leave a part of it.
 #[tactic(auto, unfolding(crate::specs::Texts::step_text, crate::specs::Texts::step_words))]
-fn write_step(alloc: Global, into: &mut Vec<u8>, step: &Step) -> Result<(), NoMemory>
+fn write_step(alloc: Global, into: &mut Vec<u8>, step: &StepView) -> Result<(), NoMemory>
     ensures ok { OnOk result (into.new.items ≡ into.old.items ++ step_text step.now) }
     ensures front { OnErr result (Begins into.old.items into.new.items) }
 {
+    let (step, bytes) = step.parts();
     match *step {
-        Step::Call { pid, ref call } => write_made(alloc, into, pid, call),
-        Step::Arrive { sender, number } => write_numbered(alloc, into, b"arrive", sender, number),
-        Step::Take { pid } => write_of(alloc, into, b"take", pid),
-        Step::Finish { pid } => write_of(alloc, into, b"finish", pid),
-        Step::Fail { pid, why } => write_ending(alloc, into, b"fail", pid, why),
-        Step::OpenMove {
+        BriefStep::Call { pid, ref call } => {
+            write_made(alloc, into, pid, &CallView::new(call, bytes))
+        }
+        BriefStep::Arrive { sender, number } => write_numbered(
+            alloc, into, b"arrive", sender, number,
+        ),
+        BriefStep::Take { pid } => write_of(alloc, into, b"take", pid),
+        BriefStep::Finish { pid } => write_of(alloc, into, b"finish", pid),
+        BriefStep::Fail { pid, why } => write_ending(alloc, into, b"fail", pid, why),
+        BriefStep::OpenMove {
             sender,
             number,
             moving,
         } => write_move(alloc, into, b"open", sender, number, moving),
-        Step::Copy {
+        BriefStep::Copy {
             sender,
             number,
             moving,
             offset,
             count,
         } => write_copy(alloc, into, b"copy", sender, number, moving, offset, count),
-        Step::End { pid, why } => write_ending(alloc, into, b"end", pid, why),
-        Step::Hear { asker, number, pid } => write_heard(alloc, into, asker, number, pid),
-        Step::Found { asker, pid } => write_found(alloc, into, asker, pid),
-        Step::Lost { asker } => write_of(alloc, into, b"lost", asker),
-        Step::Collect { pid } => write_of(alloc, into, b"collect", pid),
+        BriefStep::End { pid, why } => write_ending(alloc, into, b"end", pid, why),
+        BriefStep::Hear { asker, number, pid } => write_heard(alloc, into, asker, number, pid),
+        BriefStep::Found { asker, pid } => write_found(alloc, into, asker, pid),
+        BriefStep::Lost { asker } => write_of(alloc, into, b"lost", asker),
+        BriefStep::Collect { pid } => write_of(alloc, into, b"collect", pid),
     }
 }
 
 /// Appends the text of the step. A refusal changes nothing.
-pub fn put_step(alloc: Global, into: &mut Vec<u8>, step: &Step) -> Result<(), NoMemory>
+pub fn put_step(alloc: Global, into: &mut Vec<u8>, step: &StepView) -> Result<(), NoMemory>
     ensures ok { OnOk result (into.new.items ≡ into.old.items ++ step_text step.now) }
     ensures err { OnErr result (into.new.items ≡ into.old.items) }
 {

@@ -33,11 +33,11 @@ use Rattle.vk_host.specs.Sealed.{sealed}
 use Rattle.vk_host.specs.Standing.{IsAt, IsEvent}
 use Rattle.vk_host.specs.Standing as station
 use Rattle.vk_host.specs.Values.{StationValue, has}
-use Rattle.vk_cluster.specs.declared.emitted.TheConstants.{EVENT_BYTES, EVENT_FRAMES}
+use Rattle.vk_cluster.specs.declared.emitted.TheConstants.{EVENT_BYTES}
 use Rattle.vk_cluster.specs.declared.report.Advance.{Advance}
 use Rattle.vk_cluster.specs.declared.report.Advance.TheVariants as advances
 use Rattle.vk_cluster.specs.Found.{bytes_for, sent_of}
-use Rattle.vk_cluster.specs.Piles.{shown}
+use Rattle.vk_cluster.specs.Piles.{AreFrames, shown}
 use Rattle.vk_cluster.specs.Standing.{AreAt, IsAdvance, IsFinished, IsNext, IsStep, ShowsLast, StandsFor, StandsSomewhere, Tells, bytes_of, logs_of, report_by, report_of}
 use Rattle.vk_cluster.specs.Values.{ClusterValue}
 use Rattle.vk_cluster.proofs.Handed.{found_bytes, opens_again}
@@ -83,7 +83,7 @@ put_back P hosts place s t found h u there = subst P (same_Some t u (sym (get_se
 
 -- the station at a place has neither too many frames nor too many bytes in them
 pub record IsFitAt (hosts : List StationValue) (place : ℕ) : Type 0 where
-  pub few : (s : StationValue) → slice_get hosts place ≡ Some s → length s.frames ≤ EVENT_FRAMES
+  pub few : (s : StationValue) → slice_get hosts place ≡ Some s → AreFrames s.frames
   pub bytes : (s : StationValue) → slice_get hosts place ≡ Some s → sum_by length s.frames ≤ EVENT_BYTES
 
 -- What is found at a place of a cluster that stands for some events.
@@ -135,7 +135,7 @@ module _ (v : ClusterValue) (some : StandsSomewhere v) (place host : ℕ) (there
         omega arith
 
     frames_at : (s t : StationValue) (i : Input) (given : EventAnswer) → slice_get v.hosts place ≡ Some s → IsInput s.host i → IsEvent s t i given →
-        length t.frames ≤ EVENT_FRAMES
+        AreFrames t.frames
     frames_at s t i given found input event =
         few_frames some.0 (logs_of some.0 some.1) v.hosts v.pile place s t i given
         (configs_are_faultless some.0 some.2.lawful some.2.pids s.host) input (short_log s) some.2.stands found event
@@ -150,7 +150,7 @@ module _ (v : ClusterValue) (some : StandsSomewhere v) (place host : ℕ) (there
         IsFitAt (set v.hosts place t) place
     fit_at s t i given found input event = record {
       few =
-          put_back (λ (u : StationValue). length u.frames ≤ EVENT_FRAMES) v.hosts place s t found
+          put_back (λ (u : StationValue). AreFrames u.frames) v.hosts place s t found
           (frames_at s t i given found input event);
       bytes =
           put_back (λ (u : StationValue). sum_by length u.frames ≤ EVENT_BYTES) v.hosts place s t found

@@ -30,7 +30,7 @@ unfolding no_frames
 first_at c hosts are = record {
   order = are.order;
   at = are.at;
-  kept = record { frames = tt; events = none_within (length (stations_of c.specs)) };
+  kept = none_within (length (stations_of c.specs));
   emitted = none_shown [] (stations_of c.specs);
   sent = λ host. tt;
   fitting = λ host. (none_sent c host).fitting;

@@ -1,13 +1,19 @@
 -- What is handed over, as the bytes that are kept of it.
-use Rattle.std.proofs.Common.{◌≡◌, ℕ, ◌*◌, ◌≤◌, Bool, true, false, cond, List, [], ◌∷◌, length, map, find, Option, Some, None, option_map, refl, sym, ap, ◌∙◌, arith}
+use Rattle.std.proofs.Common.{◌≡◌, ℕ, ◌*◌, ◌<◌, ◌≤◌, Bool, true, false, cond, List, [], ◌∷◌, ◌++◌, length, map, find, Option, Some, None, option_map, refl, sym, ap, ◌∙◌, arith}
 use Rattle.std.specs.Prelude.{slice_get, sum_by}
+use Rattle.std.proofs.lemmas.List.{length-append}
 use Rattle.std.proofs.lemmas.List.Sums.{sum_by-cons}
+use Rattle.byteorder.specs.Endian.{big_bytes}
+use Rattle.byteorder.specs.Numbers.{length-bytes_high_first}
 use Rattle.vk_base.specs.declared.limits.TheConstants.{FRAME_BYTES}
 use Rattle.vk_base.specs.Options.{◌>>=◌}
 use Rattle.vk_base.specs.Packets.{Packet}
 use Rattle.vk_frame.specs.declared.header.Header.{Header}
 use Rattle.vk_frame.specs.Reading.{frame_of}
+use Rattle.vk_frame.specs.Spelling.{mark}
+unfoldable use Rattle.vk_frame.specs.Spelling.{header_bytes}
 use Rattle.vk_packet.specs.Reading.{packet_of}
+use Rattle.vk_packet.specs.Spelling.{packet_bytes}
 use Rattle.vk_rules.specs.Each.{Each}
 use Rattle.vk_rules.specs.Entries.{Entry}
 use Rattle.vk_rules.specs.Frames.{Frame, Framed, unsealed_behind, unsealed_by, unsealed_of}
@@ -17,6 +23,7 @@ use Rattle.vk_rules.proofs.Lengths.{frames_fit}
 use Rattle.vk_rules.proofs.Lists.{each_append, each_weaker}
 use Rattle.v_lawful.specs.Sending.{IsLawfulEntry, IsLawfulFrame, IsSendable}
 use Rattle.vk_host.specs.Sealed.{sealed}
+use Rattle.vk_cluster.specs.Blocks.{IsFrame}
 use Rattle.vk_cluster.specs.Found.{bytes_for, events_in, if_addressed, if_for, is_addressed, opens_for, sent_of}
 use Rattle.vk_cluster.specs.Piles.{from_one}
 use Rattle.vk_cluster.proofs.Found.{found_by_position}
@@ -86,3 +93,21 @@ sealed_size (f ∷ fs) h =
     let one : length (sealed f) ≤ 1152 = sealed_length f h.0 in
     let rest = sealed_size fs h.1 in
     omega (arith, sum_by-cons length (sealed f) (map sealed fs))
+
+-- None is empty, since each begins with a header.
+header_some : (h : Header) → 0 < length (header_bytes h)
+unfolding header_bytes
+header_some h =
+    let front : List ℕ =
+    big_bytes 2 mark ++ big_bytes 2 h.source ++ big_bytes 2 h.destination ++ big_bytes 8 h.stamp ++ big_bytes 8 h.number ++ big_bytes 8 h.event in
+    omega (arith, length-append front (big_bytes 2 h.output), length-bytes_high_first 2 h.output)
+
+sealed_frame : (f : Frame) → IsSendable f.packet → IsFrame (sealed f)
+sealed_frame f sendable = record {
+  some = let some = header_some f.header in omega (arith, length-append (header_bytes f.header) (packet_bytes f.packet));
+  few = sealed_length f sendable;
+}
+
+pub sealed_frames : (fs : List Frame) → Each (λ (f : Frame). IsSendable f.packet) fs → Each IsFrame (map sealed fs)
+sealed_frames [] h = tt
+sealed_frames (f ∷ fs) h = (sealed_frame f h.0, sealed_frames fs h.1)

@@ -1,5 +1,6 @@
 pub mod Arms
 pub mod Begins
+pub mod Blocks
 pub mod Found
 pub mod Handed
 pub mod Logs

@@ -3,7 +3,7 @@ use Rattle.std.proofs.Common.{◌≡◌, ℕ, zero, suc, ◌+◌, ◌<◌, ◌�
 use Rattle.std.specs.Prelude.{slice_get, slice_index, sum_by}
 use Rattle.std.specs.List.{list_any}
 use Rattle.std.proofs.lemmas.Bool.{cases_Bool, cases_eq, eqb-true, or_from}
-use Rattle.std.proofs.lemmas.List.{length-map, length-append, map_push, take_more}
+use Rattle.std.proofs.lemmas.List.{length-append, map_push, take_more}
 use Rattle.std.proofs.lemmas.List.Sums.{sum_by-cons}
 use Rattle.std.proofs.lemmas.Option.{get_or_from_slice_get, none-some, same_Some, slice_get-get_or, slice_get_within}
 use Rattle.vk_base.specs.declared.config.ProcessSpec.{ProcessSpec}
@@ -14,7 +14,7 @@ use Rattle.vk_rules.specs.Each.{Each}
 use Rattle.vk_rules.proofs.Lists.{each_append}
 use Rattle.vk_host.specs.Standing.{IsAt}
 use Rattle.vk_host.specs.Values.{StationValue}
-use Rattle.vk_cluster.specs.Piles.{IsAdding, Pile, frames_in, piece}
+use Rattle.vk_cluster.specs.Piles.{IsAdding, Pile}
 use Rattle.vk_cluster.specs.Standing.{AreHosts}
 use Rattle.vk_cluster.proofs.Found.{pushed_last, pushed_other}
 use Rattle.vk_cluster.proofs.Stations.{station_bounds}
@@ -37,8 +37,7 @@ sum_next (x ∷ xs) (suc i) f found =
 pub adding_count : (before now : Pile) (fs : List (List ℕ)) → IsAdding before now fs →
     length now.frames ≡ length before.frames + length fs
 adding_count before now fs is =
-    sym (length-map now.frames (piece now.bytes)) ∙ ap length is.frames ∙ length-append (frames_in before) fs
-    ∙ ap (λ n. n + length fs) (length-map before.frames (piece before.bytes))
+    ap length is.frames ∙ length-append before.frames fs
 
 -- a station that is none of these
 none_among : (hs : List ℕ) (h : ℕ) → ((k : ℕ) → k < length hs → slice_index hs k ≡ h → ⊥) → list_any (λ x. x == h) hs ≡ false

@@ -9,6 +9,7 @@ use Rattle.vk_base.specs.declared.event.EventAnswer.{EventAnswer}
 use Rattle.vk_base.specs.declared.limits.TheConstants.{EVENTS}
 use Rattle.vk_base.specs.Settings.{Settings, stations_of}
 use Rattle.vk_event.specs.declared.event.Event.{Event}
+use Rattle.vk_rules.specs.Each.{Each}
 use Rattle.vk_rules.specs.Entries.{Called, Collected, Delivered, Entry, Input, Ticked}
 use Rattle.vk_rules.specs.Histories.{At, Happened, Logs, happened, happens_at, logs_after, with_entry}
 use Rattle.vk_rules.specs.Right.{entry_of}
@@ -21,10 +22,11 @@ use Rattle.vk_host.specs.Values.{StationValue}
 use Rattle.vk_cluster.specs.declared.emitted.TheConstants.{EVENT_BYTES, EVENT_FRAMES}
 use Rattle.vk_cluster.specs.declared.report.ClusterAnswer.TheVariants as answers
 use Rattle.vk_cluster.specs.Found.{events_in, sent_of}
-use Rattle.vk_cluster.specs.Piles.{IsAdded, Pile, frames_in, piece, shown, with_event}
+use Rattle.vk_cluster.specs.Blocks.{IsFrame}
+use Rattle.vk_cluster.specs.Piles.{AreFrames, IsAdded, Pile, piece, shown, with_event}
 use Rattle.vk_cluster.specs.Standing.{AreAt, ShowsLast, StandsFor, bytes_of, logs_of, report_of}
 use Rattle.vk_cluster.specs.Values.{ClusterValue}
-use Rattle.vk_cluster.proofs.Handed.{sealed_size}
+use Rattle.vk_cluster.proofs.Handed.{sealed_frames, sealed_size}
 use Rattle.vk_cluster.proofs.Logs.{bytes_next, get_set_other, get_set_same, logs_next, processes_more, with_here, with_other}
 use Rattle.vk_cluster.proofs.Stations.{same_place, set_map, stations_apart}
 
@@ -51,7 +53,7 @@ as_many c logs hosts pile at = sym (length-map hosts (λ (t : StationValue). t.h
 pub as_many_events : (c : Settings) (logs : Logs) (hosts : List StationValue) (pile : Pile) → AreAt c logs hosts pile →
     length pile.events ≡ length (stations_of c.specs)
 as_many_events c logs hosts pile at =
-    sym (length-map pile.events (map (piece (frames_in pile))))
+    sym (length-map pile.events (map (piece pile.frames)))
     ∙ ap length at.emitted
     ∙ length-map (stations_of c.specs) (λ host. sent_of (logs host))
 
@@ -96,8 +98,8 @@ module _ (c : Settings) (logs : Logs) (hosts : List StationValue) (before : Pile
   frames_are = (event.shows c (logs s.host) here).frames
 
   -- not too many frames, and not too many bytes
-  pub few_frames : length t.frames ≤ EVENT_FRAMES
-  few_frames =
+  frame_count : length t.frames ≤ EVENT_FRAMES
+  frame_count =
       let few = log.entries.0.few in
       let most : most_packets (entry_of c s.host (logs s.host) i).input ≤ 2048 =
       most_is (entry_of c s.host (logs s.host) i).input in
@@ -105,11 +107,19 @@ module _ (c : Settings) (logs : Logs) (hosts : List StationValue) (before : Pile
       ap length frames_are ∙ length-map (entry_of c s.host (logs s.host) i).frames sealed in
       omega arith
 
+  pub few_frames : AreFrames t.frames
+  few_frames = record {
+    few = frame_count;
+    each =
+        subst (Each IsFrame) (sym frames_are)
+        (sealed_frames (entry_of c s.host (logs s.host) i).frames log.entries.0.packets);
+  }
+
   pub few_bytes : sum_by length t.frames ≤ EVENT_BYTES
   few_bytes =
       let size : length t.frames ≡ length (entry_of c s.host (logs s.host) i).frames =
       ap length frames_are ∙ length-map (entry_of c s.host (logs s.host) i).frames sealed in
-      let few : length t.frames ≤ 2048 = few_frames in
+      let few : length t.frames ≤ 2048 = frame_count in
       let sum : sum_by length (map sealed (entry_of c s.host (logs s.host) i).frames) ≤ 1152 * length (entry_of c s.host (logs s.host) i).frames =
       sealed_size (entry_of c s.host (logs s.host) i).frames log.entries.0.packets in
       let same : sum_by length t.frames ≡ sum_by length (map sealed (entry_of c s.host (logs s.host) i).frames) =

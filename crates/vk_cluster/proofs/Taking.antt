@@ -1,7 +1,8 @@
 -- What a step asks before the station acts, and what is left to do once it has.
-use Rattle.std.proofs.Common.{◌≡◌, ℕ, ◌+◌, ◌<◌, Bool, true, false, cond, nat_le, ◌==◌, ◌||◌, List, [], ◌∷◌, map, Option, Some, None, refl, ap, ◌∙◌, subst, inl, inr}
+use Rattle.std.proofs.Common.{◌≡◌, ℕ, ◌+◌, ◌<◌, ◌≤◌, Bool, true, false, cond, nat_le, nat_lt, ◌==◌, ◌||◌, List, [], ◌∷◌, map, Option, Some, None, refl, ap, ◌∙◌, subst, inl, inr}
 use Rattle.std.specs.Prelude.{slice_get}
-use Rattle.std.proofs.lemmas.Bool.{and_parts, leb-false, or_cases, or_left, or_parts, or_right}
+use Rattle.std.specs.List.{concat}
+use Rattle.std.proofs.lemmas.Bool.{and_parts, leb-false, ltb-false, or_cases, or_left, or_parts, or_right}
 use Rattle.vk_base.specs.declared.config.ProcessSpec.{ProcessSpec}
 use Rattle.vk_base.specs.declared.limits.TheConstants.{EVENTS}
 use Rattle.vk_base.specs.declared.pid.Pid.{Pid}
@@ -16,6 +17,7 @@ use Rattle.vk_host.specs.Standing.{IsAt}
 use Rattle.vk_host.specs.Values.{StationValue}
 use Rattle.vk_cluster.specs.declared.cluster.Cluster.{Cluster}
 use Rattle.vk_cluster.specs.declared.emitted.Emitted.{Emitted}
+use Rattle.vk_cluster.specs.declared.emitted.TheConstants.{LAST_BYTES}
 use Rattle.vk_cluster.specs.Clusters.{value_of}
 use Rattle.vk_cluster.specs.Found.{if_for, opens_for}
 use Rattle.vk_cluster.specs.Piles.{IsAdded, Pile, items_of, pile_of}
@@ -42,10 +44,13 @@ actor_station specs (events.Deliver to from event output) has = (and_parts (has_
 pub few_events : (events : ℕ) (over : Bool) → (nat_le EVENTS events || over) ≡ false → events < EVENTS
 few_events events over h = leb-false 100000 events (or_parts (nat_le EVENTS events) over h).0
 
+pub few_bytes : (over : Bool) (bytes : ℕ) → (over || nat_lt LAST_BYTES bytes) ≡ false → bytes ≤ LAST_BYTES
+few_bytes over bytes h = ltb-false LAST_BYTES bytes (or_parts over (nat_lt LAST_BYTES bytes) h).1
+
 -- room alone changes nothing that is kept
-pub same_pile : (old new : Emitted) → new.bytes.items ≡ old.bytes.items → new.frames.items ≡ old.frames.items →
+pub same_pile : (old new : Emitted) → new.frames.items ≡ old.frames.items →
     map items_of new.events.items ≡ map items_of old.events.items → pile_of new ≡ pile_of old
-same_pile old new bytes frames events = λ k. record { bytes = bytes k; frames = frames k; events = events k }
+same_pile old new frames events = λ k. record { bytes = concat (frames k); frames = frames k; events = events k }
 
 pub same_value : (k : Cluster) (e : Emitted) → pile_of e ≡ pile_of k.emitted → value_of (record k { emitted = e }) ≡ value_of k
 same_value k e same = ap (λ p. record (value_of k) { pile = p }) same

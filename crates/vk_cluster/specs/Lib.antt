@@ -1,3 +1,4 @@
+pub mod Blocks
 pub mod Clusters
 pub mod Found
 pub mod Law

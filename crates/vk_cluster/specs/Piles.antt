@@ -1,10 +1,14 @@
--- What is kept of the frames that were emitted: pieces of one list of bytes, and pieces of the list of these.
+-- What is kept of the frames that were emitted: all of them, and pieces of the list of these.
 use Rattle.std.specs.Prelude.{ℕ, zero, suc, ◌≡◌, ◌+◌, ◌-◌, ◌<◌, ◌≤◌, List, [], ◌∷◌, ◌++◌, length, map, take, drop, sum_by, slice_get, slice_set, slice_index_or, vec_len, vec_capacity, Option, Some, None}
 use Rattle.std.specs.Global.{Vec}
+use Rattle.std.specs.List.{concat}
 use Rattle.vk_base.specs.Options.{◌>>=◌}
 use Rattle.vk_rules.specs.Each.{Each}
 use Rattle.vk_cluster.specs.declared.emitted.Emitted.{Emitted}
 use Rattle.vk_cluster.specs.declared.emitted.Piece.{Piece}
+use Rattle.vk_cluster.specs.declared.emitted.TheConstants.{EVENT_FRAMES}
+use Rattle.vk_cluster.specs.declared.frames.TheConstants.{MOST_BYTES}
+use Rattle.vk_cluster.specs.Blocks.{IsFrame}
 
 -- a part of a list, and that it lies within a list of this length
 abbrev pub piece : {A : Type 0} → List A → Piece → List A
@@ -18,40 +22,33 @@ abbrev pub from_one : {A : Type 0} → List A → ℕ → Option A
 from_one xs zero = None
 from_one xs (suc n) = slice_get xs n
 
--- what is kept, without the room that there is for more
+-- what is kept, without the room that there is for more: the bytes are those of the frames
 pub record Pile : Type 0 where
   pub bytes : List ℕ
-  pub frames : List Piece
+  pub frames : List (List ℕ)
   pub events : List (List Piece)
 
 abbrev pub items_of : Vec Piece → List Piece
 items_of v = v.items
 
 abbrev pub pile_of : Emitted → Pile
-pile_of e = record { bytes = e.bytes.items; frames = e.frames.items; events = map items_of e.events.items }
+pile_of e = record { bytes = concat e.frames.items; frames = e.frames.items; events = map items_of e.events.items }
 
 -- each piece lies within the list that it is of
-pub record IsKept (p : Pile) : Type 0 where
-  pub frames : Each (IsWithin (length p.bytes)) p.frames
-  pub events : Each (Each (IsWithin (length p.frames))) p.events
+abbrev pub IsKept : Pile → Type 0
+IsKept p = Each (Each (IsWithin (length p.frames))) p.events
 
--- What it stands for: the frames, one behind another; and for each station its events, in order, of each of which its frames.
-abbrev pub frames_in : Pile → List (List ℕ)
-frames_in p = map (piece p.bytes) p.frames
-
+-- What it stands for: for each station its events, in order, of each of which its frames.
 abbrev pub shown : Pile → List (List (List (List ℕ)))
-shown p = map (map (piece (frames_in p))) p.events
+shown p = map (map (piece p.frames)) p.events
 
 -- the frame with this output number of the event with this number of the station at this place
 abbrev pub frame_at : {A : Type 0} → List (List (List A)) → ℕ → ℕ → ℕ → Option A
 frame_at logs place event output = slice_get logs place >>= λ s. from_one s event >>= λ fs. from_one fs output
 
--- where its bytes lie
+-- the frames of the event, as a piece of all
 abbrev pub event_piece : Pile → ℕ → ℕ → Option Piece
 event_piece p place event = slice_get p.events place >>= λ s. from_one s event
-
-abbrev pub located : Pile → ℕ → ℕ → ℕ → Option Piece
-located p place event output = event_piece p place event >>= λ e. from_one (piece p.frames e) output
 
 -- one event more of the station at this place
 abbrev pub with_event : {A : Type 0} → List (List A) → ℕ → A → List (List A)
@@ -61,7 +58,7 @@ with_event logs place e = slice_set logs place (slice_index_or logs place [] ++ 
 abbrev pub put_frame : Pile → List ℕ → Pile
 put_frame p frame = record {
   bytes = p.bytes ++ frame;
-  frames = p.frames ++ record { from = length p.bytes; count = length frame } ∷ [];
+  frames = p.frames ++ frame ∷ [];
   events = p.events;
 }
 
@@ -72,10 +69,15 @@ end_event p place first = record {
   events = with_event p.events place (record { from = first; count = length p.frames - first });
 }
 
+-- the frames of an event: not too many
+pub record AreFrames (fs : List (List ℕ)) : Type 0 where
+  pub few : length fs ≤ EVENT_FRAMES
+  pub each : Each IsFrame fs
+
 -- these frames were put behind all that were before, and are of no event yet
 pub record IsAdding (before now : Pile) (fs : List (List ℕ)) : Type 0 where
   pub kept : IsKept now
-  pub frames : frames_in now ≡ frames_in before ++ fs
+  pub frames : now.frames ≡ before.frames ++ fs
   pub shown : shown now ≡ shown before
   pub events : now.events ≡ before.events
   pub bytes : length now.bytes ≡ length before.bytes + sum_by length fs
@@ -88,6 +90,7 @@ pub record IsAdded (before now : Pile) (place : ℕ) (fs : List (List ℕ)) : Ty
 
 -- there is room for so many bytes and frames, and for an event of the station at this place
 pub record HasRoom (e : Emitted) (place bytes frames : ℕ) : Type 0 where
-  pub for_bytes : vec_len e.bytes + bytes ≤ vec_capacity e.bytes
-  pub for_frames : vec_len e.frames + frames ≤ vec_capacity e.frames
+  pub for_bytes : bytes ≤ e.frames.bytes
+  pub for_frames : frames ≤ e.frames.places
+  pub for_all : length (concat e.frames.items) + bytes ≤ MOST_BYTES
   pub for_event : (s : Vec Piece) → slice_get e.events.items place ≡ Some s → vec_len s < vec_capacity s

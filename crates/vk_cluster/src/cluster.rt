@@ -13,7 +13,7 @@ ghost use Rattle.vk_host.specs.Values.{StationValue};
 ghost use Rattle.vk_base.specs.declared.config.ProcessSpec.{ProcessSpec as TheProcessSpec};
 ghost use Rattle.vk_cluster.specs.declared.report.StepReport.{StepReport as TheReport};
 ghost use Rattle.vk_cluster.specs.Found.{bytes_for, is_addressed, opens_for};
-ghost use Rattle.vk_cluster.specs.Piles.{HasRoom, IsAdded, IsKept, pile_of, shown};
+ghost use Rattle.vk_cluster.specs.Piles.{AreFrames, HasRoom, IsAdded, IsKept, pile_of, shown};
 ghost use Rattle.vk_cluster.specs.Standing.{AreHosts, IsAdvance, IsFinished, IsStep, StandsFor, StandsSomewhere, Tells, is_limit, logs_of};
 ghost use Rattle.vk_cluster.specs.Clusters.{value_of};
 ghost use Rattle.vk_cluster.specs.Values.{is_full};
@@ -23,8 +23,9 @@ use crate::fields::{are_in_range, pid_is};
 use crate::report::{Advance, ClusterAnswer, ClusterRefusal, StepReport};
 use std::alloc::Global;
 use vk_base::limits::EVENTS;
-use vk_base::{Call, Config, NoMemory, Pid, ProcessSpec};
-use vk_event::Event;
+use vk_base::{Config, NoMemory, Pid, ProcessSpec};
+use vk_brief::CallView;
+use vk_event::{Event, EventKind, EventView};
 use vk_frame::{Header, unseal};
 use vk_host::Host;
 use vk_rules::frames_unseal_again;
@@ -74,16 +75,20 @@ impl Cluster {
         ensures cause { IfErr result (λ e. is_full (value_of self.old) ≡ is_limit e) }
         ensures same { OnErr result (value_of self.new ≡ value_of self.old) }
     {
-        let advance = self.advance(alloc, event)?;
+        let (kind, call, bytes) = EventKind::of(event);
+        let event = EventView::new(kind, &call, bytes);
+        let advance = self.advance(alloc, &event)?;
         Ok(self.report(advance))
     }
 
-    /// The same, with what it reports in few bytes.
+    /// The same, with what it reports in few bytes. It is put into its caller, so that neither the event's view nor what is
+    /// reported is moved.
     ///
     /// # Errors
     ///
     /// Those of [`Cluster::step`].
-    pub fn advance(&mut self, _alloc: Global, event: &Event) -> Result<Advance, ClusterRefusal>
+    #[inline(always)]
+    pub fn advance(&mut self, alloc: Global, event: &EventView) -> Result<Advance, ClusterRefusal>
         requires somewhere { StandsSomewhere (value_of self.old) }
         requires actors { has_actors self.old.config.specs event.now ≡ true }
         ensures step { IfOk result (IsAdvance (value_of self.old) (value_of self.new) event.now) }
@@ -95,7 +100,7 @@ impl Cluster {
             return Err(ClusterRefusal::Limit);
         }
         let place = place_of(&self.config, acting(event));
-        self.emitted.make_room(place)?;
+        self.emitted.make_room(alloc, place)?;
         Ok(self.play(place, event))
     }
 
@@ -143,7 +148,8 @@ impl Cluster {
     }
 
     /// The event at the station of this place, for which there is room.
-    fn play(&mut self, place: usize, event: &Event) -> Advance
+    #[inline(always)]
+    fn play(&mut self, place: usize, event: &EventView) -> Advance
         requires somewhere { StandsSomewhere (value_of self.old) }
         requires few { self.old.events < EVENTS }
         requires actors { has_actors self.old.config.specs event.now ≡ true }
@@ -151,20 +157,21 @@ impl Cluster {
         requires room { HasRoom self.old.emitted place EVENT_BYTES EVENT_FRAMES }
         ensures { IsAdvance (value_of self.old) (value_of self.new) event.now result }
     {
-        match event {
-            Event::Call { pid, call } => self.call(place, *pid, call),
-            Event::Collect { pid } => self.collect(place, *pid),
-            Event::Tick { host } => self.tick(place, *host),
-            Event::Deliver {
+        let (kind, call) = event.parts();
+        match kind {
+            EventKind::Call { pid } => self.call(place, pid, call),
+            EventKind::Collect { pid } => self.collect(place, pid),
+            EventKind::Tick { host } => self.tick(place, host),
+            EventKind::Deliver {
                 to,
                 from,
                 event,
                 output,
-            } => self.deliver(place, *to, *from, *event, *output),
+            } => self.deliver(place, to, from, event, output),
         }
     }
 
-    fn call(&mut self, place: usize, pid: Pid, call: &Call) -> Advance
+    fn call(&mut self, place: usize, pid: Pid, call: &CallView) -> Advance
         requires somewhere { StandsSomewhere (value_of self.old) }
         requires few { self.old.events < EVENTS }
         requires process { has_process self.old.config.specs pid ≡ true }
@@ -225,13 +232,14 @@ impl Cluster {
     }
 
     /// The frames of the last event of the station at this place are kept, and the event is counted.
+    #[inline(always)]
     fn finish(&mut self, place: usize)
         requires count { self.old.events < EVENTS }
         requires place { place < length self.old.hosts.items }
         requires events { place < length self.old.emitted.events.items }
         requires kept { IsKept (pile_of self.old.emitted) }
         requires room { HasRoom self.old.emitted place EVENT_BYTES EVENT_FRAMES }
-        requires few { (t : StationValue) → slice_get self.old.hosts.items place ≡ Some t → length t.frames ≤ EVENT_FRAMES }
+        requires few { (t : StationValue) → slice_get self.old.hosts.items place ≡ Some t → AreFrames t.frames }
         requires bytes { (t : StationValue) → slice_get self.old.hosts.items place ≡ Some t → sum_by length t.frames ≤ EVENT_BYTES }
         ensures { (t : StationValue) → slice_get self.old.hosts.items place ≡ Some t →
             IsFinished (value_of self.old) (value_of self.new) place t }
@@ -256,7 +264,7 @@ fn keep(emitted: &mut Emitted, host: &Host, place: usize)
     requires kept { IsKept (pile_of emitted.old) }
     requires place { place < length emitted.old.events.items }
     requires room { HasRoom emitted.old place EVENT_BYTES EVENT_FRAMES }
-    requires few { length host.now.frames ≤ EVENT_FRAMES }
+    requires few { AreFrames host.now.frames }
     requires bytes { sum_by length host.now.frames ≤ EVENT_BYTES }
     ensures { IsAdded (pile_of emitted.old) (pile_of emitted.new) place host.now.frames }
 {
@@ -310,13 +318,14 @@ fn is_full(events: usize, size: usize) -> bool
 }
 
 /// The station that acts.
-fn acting(event: &Event) -> u16
+fn acting(event: &EventView) -> u16
     ensures { result ≡ station_of event.now }
 {
-    match event {
-        Event::Call { pid, .. } | Event::Collect { pid } => pid.host,
-        Event::Tick { host } => *host,
-        Event::Deliver { to, .. } => *to,
+    let (kind, _) = event.parts();
+    match kind {
+        EventKind::Call { pid } | EventKind::Collect { pid } => pid.host,
+        EventKind::Tick { host } => host,
+        EventKind::Deliver { to, .. } => to,
     }
 }
 

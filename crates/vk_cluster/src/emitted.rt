@@ -1,10 +1,13 @@
-//! The frames that were emitted, in one buffer of bytes.
+//! The frames that were emitted, and which of them are of which event.
 
 ghost use Rattle.std.specs.Prelude.{◌≡◌, ◌<◌, ◌≤◌, ◌+◌, ◌-◌, ◌++◌, ◌∷◌, [], ℕ, List, None, Some, length, map, replicate, drop, slice_get, slice_set, slice_index_or, vec_len, vec_capacity, IfOk, OnOk, MatchOption};
 ghost use Rattle.std.specs.Global.{Vec as TheVec};
 ghost use Rattle.vk_cluster.specs.declared.emitted.Piece.{Piece as ThePiece};
-ghost use Rattle.vk_cluster.specs.Piles.{HasRoom, IsKept, IsWithin, end_event, event_piece, frame_at, from_one, items_of, located, pile_of, piece, put_frame, shown, with_event};
+ghost use Rattle.vk_cluster.specs.Blocks.{IsFrame};
+ghost use Rattle.vk_cluster.specs.declared.frames.TheConstants.{MOST_BYTES};
+ghost use Rattle.vk_cluster.specs.Piles.{HasRoom, IsKept, IsWithin, end_event, event_piece, frame_at, from_one, items_of, pile_of, piece, put_frame, shown, with_event};
 
+use crate::frames::Frames;
 use std::alloc::Global;
 use vk_base::NoMemory;
 
@@ -18,16 +21,15 @@ pub const LAST_BYTES: usize = 266_076_160;
 /// A part of a list: where it begins, and how many elements it has.
 #[derive(Clone, Copy)]
 pub struct Piece {
-    pub from: usize,
-    pub count: usize,
+    pub from: u32,
+    pub count: u32,
 }
 
-/// The frames of all events of all stations, one behind another: each frame is a piece of the bytes, and each event of a station a piece
-/// of the frames. What it stands for is `shown` of `specs/Piles.antt`.
+/// The frames of all events of all stations, one behind another: each event of a station is a piece of the frames. What it stands for is
+/// `shown` of `specs/Piles.antt`.
 #[derive(Drop)]
 pub struct Emitted {
-    pub bytes: Vec<u8>,
-    pub frames: Vec<Piece>,
+    pub frames: Frames,
     pub events: Vec<Vec<Piece>>,
 }
 
@@ -41,8 +43,7 @@ impl Emitted {
         ensures { IfOk result (λ e. pile_of e ≡ record { bytes = []; frames = []; events = replicate stations [] }) }
     {
         Ok(Emitted {
-            bytes: Vec::new(alloc),
-            frames: Vec::new(alloc),
+            frames: Frames::new(alloc)?,
             events: no_events(alloc, stations)?,
         })
     }
@@ -52,37 +53,33 @@ impl Emitted {
     /// # Errors
     ///
     /// [`NoMemory`] where memory is wanting.
-    pub fn make_room(&mut self, place: usize) -> Result<(), NoMemory>
-        requires { place < length self.old.events.items }
-        ensures bytes { self.new.bytes.items ≡ self.old.bytes.items }
+    pub fn make_room(&mut self, alloc: Global, place: usize) -> Result<(), NoMemory>
+        requires place { place < length self.old.events.items }
+        requires few { length (pile_of self.old).bytes ≤ LAST_BYTES }
         ensures frames { self.new.frames.items ≡ self.old.frames.items }
         ensures events { map items_of self.new.events.items ≡ map items_of self.old.events.items }
         ensures room { OnOk result (HasRoom self.new place EVENT_BYTES EVENT_FRAMES) }
     {
-        self.bytes.reserve(EVENT_BYTES)?;
-        self.frames.reserve(EVENT_FRAMES)?;
+        self.frames.make_room(alloc, EVENT_BYTES, EVENT_FRAMES)?;
         room_for_event(&mut self.events, place)
     }
 
     /// One more frame, for which there is room, of the event that [`Emitted::end_event`] ends.
     pub fn put(&mut self, frame: &[u8])
-        requires bytes { vec_len self.old.bytes + length frame.now ≤ vec_capacity self.old.bytes }
-        requires frames { vec_len self.old.frames < vec_capacity self.old.frames }
+        requires frame { IsFrame frame.now }
+        requires bytes { length frame.now ≤ self.old.frames.bytes }
+        requires frames { 0 < self.old.frames.places }
+        requires most { length (pile_of self.old).bytes + length frame.now ≤ MOST_BYTES }
         ensures pile { pile_of self.new ≡ put_frame (pile_of self.old) frame.now }
-        ensures bytes { vec_capacity self.old.bytes ≤ vec_capacity self.new.bytes }
-        ensures frames { vec_capacity self.old.frames ≤ vec_capacity self.new.frames }
+        ensures bytes { self.new.frames.bytes + length frame.now ≡ self.old.frames.bytes }
+        ensures frames { self.old.frames.places ≤ self.new.frames.places + 1 }
         ensures events { self.new.events ≡ self.old.events }
     {
-        let piece = Piece {
-            from: self.bytes.len(),
-            count: frame.len(),
-        };
-        push_bytes(&mut self.bytes, frame);
-        push_piece(&mut self.frames, piece);
+        self.frames.put(frame);
     }
 
     /// The frames from the one numbered `first` on, counted from 0, are those of one event of the station at this place.
-    pub fn end_event(&mut self, place: usize, first: usize)
+    pub fn end_event(&mut self, place: usize, first: u32)
         requires place { place < length self.old.events.items }
         requires first { first ≤ length self.old.frames.items }
         requires room { (s : TheVec ThePiece) → slice_get self.old.events.items place ≡ Some s → vec_len s < vec_capacity s }
@@ -101,28 +98,17 @@ impl Emitted {
         ensures { MatchOption result (frame_at (shown (pile_of self.now)) place event output ≡ None)
             (λ r. frame_at (shown (pile_of self.now)) place event output ≡ Some r.now) }
     {
-        match self.locate(place, event, output) {
-            Some(frame) => Some(self.bytes_of(frame)),
+        match self.event_piece(place, event) {
+            Some(piece) => self.frame(piece, output as usize),
             None => None,
         }
     }
 
     /// How many bytes the frames have.
     pub fn size(&self) -> usize
-        ensures { result ≡ length self.now.bytes.items }
+        ensures { result ≡ length (pile_of self.now).bytes }
     {
-        self.bytes.len()
-    }
-
-    /// Where the bytes of a frame lie.
-    fn locate(&self, place: usize, event: u64, output: u16) -> Option<Piece>
-        requires { IsKept (pile_of self.now) }
-        ensures { result ≡ located (pile_of self.now) place event output }
-    {
-        match self.event_piece(place, event) {
-            Some(piece) => self.frame_piece(piece, output as usize),
-            None => None,
-        }
+        self.frames.size()
     }
 
     fn event_piece(&self, place: usize, event: u64) -> Option<Piece>
@@ -134,21 +120,16 @@ impl Emitted {
         }
     }
 
-    fn frame_piece(&self, event: Piece, output: usize) -> Option<Piece>
+    /// The frame of this number of an event, counted from 1.
+    fn frame(&self, event: Piece, output: usize) -> Option<&[u8]>
         requires { IsWithin (length self.now.frames.items) event }
-        ensures { result ≡ from_one (piece self.now.frames.items event) output }
+        ensures { MatchOption result (from_one (piece self.now.frames.items event) output ≡ None)
+            (λ r. from_one (piece self.now.frames.items event) output ≡ Some r.now) }
     {
-        if output == 0 || output > event.count {
+        if output == 0 || output > event.count as usize {
             return None;
         }
-        self.frames.get(event.from + output - 1).copied()
-    }
-
-    fn bytes_of(&self, frame: Piece) -> &[u8]
-        requires { IsWithin (length self.now.bytes.items) frame }
-        ensures { result.now ≡ piece self.now.bytes.items frame }
-    {
-        &self.bytes[frame.from..frame.from + frame.count]
+        self.frames.get(event.from as usize + output - 1)
     }
 }
 
@@ -163,7 +144,7 @@ fn no_events(alloc: Global, stations: usize) -> Result<Vec<Vec<Piece>>, NoMemory
     Ok(events)
 }
 
-/// The event or the frame of this number, counted from 1.
+/// The event of this number, counted from 1.
 fn numbered(pieces: &[Piece], number: usize) -> Option<Piece>
     ensures { result ≡ from_one pieces.now number }
 {
@@ -198,24 +179,10 @@ fn push_event(events: &mut Vec<Vec<Piece>>, place: usize, piece: Piece)
     push_piece(&mut events[place], piece);
 }
 
-/// These bytes more, for which there is room.
-fn push_bytes(bytes: &mut Vec<u8>, more: &[u8])
-    requires { vec_len bytes.old + length more.now ≤ vec_capacity bytes.old }
-    ensures items { bytes.new.items ≡ bytes.old.items ++ more.now }
-    ensures capacity { vec_capacity bytes.old ≤ vec_capacity bytes.new }
-{
-    if bytes.extend_from_slice(more).is_err() {
-        unreachable!();
-    }
-}
-
 /// One more piece, for which there is room.
 fn push_piece(pieces: &mut Vec<Piece>, piece: Piece)
     requires { vec_len pieces.old < vec_capacity pieces.old }
-    ensures items { pieces.new.items ≡ pieces.old.items ++ piece ∷ [] }
-    ensures capacity { vec_capacity pieces.old ≤ vec_capacity pieces.new }
+    ensures { pieces.new.items ≡ pieces.old.items ++ piece ∷ [] }
 {
-    if pieces.push(piece).is_err() {
-        unreachable!();
-    }
+    pieces.push_reserved(piece);
 }

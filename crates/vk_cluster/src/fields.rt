@@ -1,30 +1,34 @@
 //! That the fields of a call are numbers, pids, messages and bytes that code can hold.
 
-ghost use Rattle.std.specs.Prelude.{◌≡◌, ◌<◌, ℕ, slice_index};
+ghost use Rattle.std.specs.Prelude.{◌≡◌, ◌<◌, ◌≤◌, ℕ, length, slice_index};
+ghost use Rattle.vk_base.specs.declared.limits.TheConstants.{DATA_BYTES as BYTES};
 ghost use Rattle.vk_base.specs.Messages.{IsMessage};
 ghost use Rattle.vk_base.specs.Pids.{IsPid};
 ghost use Rattle.vk_text.specs.Laws.{IsData, IsReadable};
 
-use vk_base::{Call, Data, Message, Pid};
+use vk_base::{Message, Pid};
+use vk_brief::{BriefCall, CallView};
 
 /// Each field of the call is in its range. Changes nothing.
-pub fn are_in_range(call: &Call)
+pub fn are_in_range(call: &CallView)
     ensures { IsReadable call.now }
 {
+    let (call, bytes) = call.parts();
+    bytes_are(bytes);
     match call {
-        Call::Send { target, message } => {
+        BriefCall::Send { target, message } => {
             pid_is(target);
             message_is(message);
         }
-        Call::Receive | Call::Exit => {}
-        Call::ReceiveSegment { start, count } | Call::Load { start, count } => {
+        BriefCall::Receive | BriefCall::Exit => {}
+        BriefCall::ReceiveSegment { start, count } | BriefCall::Load { start, count } => {
             let _numbers = (*start, *count);
         }
-        Call::Reply { message, to } => {
+        BriefCall::Reply { message, to } => {
             message_is(message);
             pid_is(to);
         }
-        Call::ReplySegment {
+        BriefCall::ReplySegment {
             message,
             to,
             dest,
@@ -35,13 +39,13 @@ pub fn are_in_range(call: &Call)
             pid_is(to);
             let _numbers = (*dest, *src, *count);
         }
-        Call::MoveTo {
+        BriefCall::MoveTo {
             partner,
             dest,
             src,
             count,
         }
-        | Call::MoveFrom {
+        | BriefCall::MoveFrom {
             partner,
             dest,
             src,
@@ -50,15 +54,14 @@ pub fn are_in_range(call: &Call)
             pid_is(partner);
             let _numbers = (*dest, *src, *count);
         }
-        Call::SetPid { logical, pid, .. } => {
+        BriefCall::SetPid { logical, pid, .. } => {
             pid_is(pid);
             let _number = *logical;
         }
-        Call::GetPid { logical, .. } => {
+        BriefCall::GetPid { logical, .. } => {
             let _number = *logical;
         }
-        Call::Store { start, bytes } => {
-            bytes_are(bytes);
+        BriefCall::Store { start } => {
             let _number = *start;
         }
     }
@@ -78,10 +81,11 @@ fn message_is(message: &Message)
     are_bytes(bytes);
 }
 
-fn bytes_are(bytes: &Data)
+fn bytes_are(bytes: &[u8])
+    requires { length bytes.now ≤ BYTES }
     ensures { IsData bytes.now }
 {
-    are_bytes(bytes.as_slice());
+    are_bytes(bytes);
 }
 
 fn are_bytes(_bytes: &[u8])

@@ -3,14 +3,15 @@
 //!
 //! The public type is [`Cluster`]. What it promises of an event, for every list of events that it stands for, is `specs/Standing.antt`:
 //! the report is what the history tells of the event, and the cluster then stands for the list with it. Stands on the stations of
-//! `vk_host` and on the definitions of `vk_rules`; that emitted frames are lawful is from `v_lawful`. All frames lie in one buffer of
-//! bytes and are found by position (`src/emitted.rt`, `specs/Piles.antt`); that this finds what the definitions hand over is
-//! `proofs/Found.antt` and `Handed.antt`. Entries and events are not kept.
+//! `vk_host` and on the definitions of `vk_rules`; that emitted frames are lawful is from `v_lawful`. All frames lie in blocks of bytes
+//! that are never copied again (`src/frames.rt`, `specs/Blocks.antt`) and are found by position (`src/emitted.rt`, `specs/Piles.antt`);
+//! that this finds what the definitions hand over is `proofs/Found.antt` and `Handed.antt`. Entries and events are not kept.
 #![tactic(auto)]
 
 mod cluster;
 mod emitted;
 mod fields;
+mod frames;
 mod law;
 mod report;
 

@@ -1,7 +1,7 @@
 -- From the picture of a text to the answer to an input.
-use Rattle.std.proofs.Common.{◌≡◌, ℕ, ◌+◌, ◌*◌, ◌<◌, ◌≤◌, ◌==◌, Bool, true, false, cond, List, [], ◌∷◌, ◌++◌, length, take, Option, Some, None, Ok, Err, ◌⊎◌, inl, inr, refl, ap, subst, sym, ◌∙◌, arith, length-append}
+use Rattle.std.proofs.Common.{◌≡◌, ℕ, ◌+◌, ◌*◌, ◌<◌, ◌≤◌, ◌==◌, Bool, true, false, cond, List, [], ◌∷◌, ◌++◌, length, take, Option, Some, None, Ok, Err, ◌⊎◌, inl, inr, refl, ap, subst, sym, ◌∙◌, arith, append-nil, length-append}
 use Rattle.std.specs.Prelude.{IfSome}
-use Rattle.std.specs.Io.KnownBytes.{Appends}
+use Rattle.std.specs.Io.KnownBytes.{Appends, Consumes}
 use Rattle.vk_base.specs.declared.config.ProcessSpec.{ProcessSpec}
 use Rattle.vk_base.specs.declared.limits.TheConstants.{INPUT_BYTES}
 use Rattle.vk_event.specs.declared.schedule.Schedule.{Schedule}
@@ -9,6 +9,8 @@ use Rattle.vk_event.specs.declared.schedule.TextRefusal.{TextRefusal}
 use Rattle.vk_event.specs.declared.schedule.TextRefusal.TheVariants as schedules
 use Rattle.vk_event.specs.Schedule.{HasProcess, schedule_of}
 use Rattle.vk_io.specs.Causes.{LosesFront}
+use Rattle.vk_text.specs.Heads.{head_of}
+use Rattle.vk_text.specs.Lines.{lines_of}
 use Rattle.vk_top.specs.Top.{OfInput}
 use Rattle.vk_picture.specs.declared.picture.Column.{Column}
 use Rattle.vk_picture.specs.Places.{columns_of, place_behind, station_column}
@@ -32,10 +34,31 @@ few_columns last place (s ∷ ss) =
     ∷ columns_of s.pid.host (place_behind last place s.pid.host + 1) ss) in
     omega (arith, all, front, rest)
 
+-- the empty text spells no schedule, and has no process
+
+empty_bad : schedule_of [] ≡ Err (schedules.BadInput 1)
+unfolding lines_of head_of
+empty_bad = refl
+
+empty_bare : HasProcess [] → ⊥
+unfolding lines_of head_of
+empty_bare some = absurd (omega (arith, some))
+
+pub spelled_some : (text : List ℕ) (s : Schedule) → schedule_of text ≡ Ok s → 0 < length text
+spelled_some [] s spells = let bad = empty_bad in absurd (cc)
+spelled_some (b ∷ bs) s spells = omega arith
+
+-- memory is wanted only of a text that has some bytes
+pub wanted_some : (text : List ℕ) (e : TextRefusal) → e ≡ schedules.NoMemory
+    → ((e ≡ schedules.NoMemory) × HasProcess text) ⊎ (schedule_of text ≡ Err e) → 0 < length text
+wanted_some [] e is (inl h) = absurd (empty_bare h.1)
+wanted_some [] e is (inr h) = let bad = empty_bad in absurd (cc)
+wanted_some (b ∷ bs) e is h = omega arith
+
 -- why nothing is drawn of a schedule
 pub refusal_by : (text : List ℕ) (s : Schedule) (e : Status) → schedule_of text ≡ Ok s
     → (e ≡ status.NoMemory) ⊎ ((e ≡ status.Limit) × IsTooLarge s) → IsRefusal text e
-refusal_by text s e spells (inl is) = subst (IsRefusal text) (sym is) tt
+refusal_by text s e spells (inl is) = subst (IsRefusal text) (sym is) (spelled_some text s spells)
 refusal_by text s e spells (inr is) = subst (IsRefusal text) (sym is.0) (s, spells, is.1)
 
 -- or of a text that is none's
@@ -52,6 +75,7 @@ written_is Unchanged text drawn old new s small picture (inl (is, written)) fron
       kinds = (λ e. grind (arith, e), λ e. grind (arith, e));
       done = λ e. record { small = small; drawn = drawn; picture = picture; output = written };
       refused = λ told. absurd told;
+      memory = λ e. absurd (grind (arith, e));
       nothing = λ early. absurd early;
       front = λ e. absurd (grind (arith, e));
     })
@@ -60,6 +84,7 @@ written_is Unchanged text drawn old new s small picture (inr is) front =
       kinds = (λ e. grind (arith, e), λ e. grind (arith, e));
       done = λ e. absurd (grind (arith, e));
       refused = λ told. absurd told;
+      memory = λ e. absurd (grind (arith, e));
       nothing = λ early. absurd early;
       front = λ e. record { drawn = drawn; picture = picture; count = front.0; written = front.1 };
     })
@@ -71,6 +96,7 @@ refused_is Unchanged text old (status.BadInput line) same why = record {
   kinds = (λ e. grind (arith, e), λ e. grind (arith, e));
   done = λ e. absurd (grind (arith, e));
   refused = λ told. why;
+  memory = λ e. absurd (grind (arith, e));
   nothing = λ early. same;
   front = λ e. absurd (grind (arith, e));
 }
@@ -78,6 +104,7 @@ refused_is Unchanged text old status.TooManyEvents same why = record {
   kinds = (λ e. grind (arith, e), λ e. grind (arith, e));
   done = λ e. absurd (grind (arith, e));
   refused = λ told. why;
+  memory = λ e. absurd (grind (arith, e));
   nothing = λ early. same;
   front = λ e. absurd (grind (arith, e));
 }
@@ -85,6 +112,7 @@ refused_is Unchanged text old status.Limit same why = record {
   kinds = (λ e. grind (arith, e), λ e. grind (arith, e));
   done = λ e. absurd (grind (arith, e));
   refused = λ told. why;
+  memory = λ e. absurd (grind (arith, e));
   nothing = λ early. same;
   front = λ e. absurd (grind (arith, e));
 }
@@ -92,6 +120,7 @@ refused_is Unchanged text old status.NoMemory same why = record {
   kinds = (λ e. grind (arith, e), λ e. grind (arith, e));
   done = λ e. absurd (grind (arith, e));
   refused = λ told. absurd told;
+  memory = λ e. why;
   nothing = λ early. same;
   front = λ e. absurd (grind (arith, e));
 }
@@ -112,16 +141,20 @@ told_whole : (left rest : Option (List ℕ)) (text : List ℕ) → IfSome left (
 told_whole None rest text h = tt
 told_whole (Some i) rest text h = h.1
 
+all_taken : (left rest : Option (List ℕ)) (text : List ℕ) → IfSome left (λ i. (text ≡ i) × (rest ≡ Some [])) → Consumes left rest text
+all_taken None rest text h = tt
+all_taken (Some i) rest text h = subst (λ r. Consumes (Some i) r text) (sym h.1) (sym h.0 ∙ sym (append-nil text))
+
 too_many : (left rest : Option (List ℕ)) → LosesFront left rest (λ n. INPUT_BYTES < n) → OfInput left (λ i. INPUT_BYTES < length i)
 too_many None rest lost = record { input = lost.bytes; all = tt; holds = lost.count }
 too_many (Some i) None lost = absurd lost.front
 too_many (Some i) (Some ys) lost =
     record { input = i; all = refl; holds = omega (arith, lost.count, ap length lost.front, length-append lost.bytes ys) }
 
-pub read_is : (Unchanged : Type 0) (left rest old new : Option (List ℕ)) (text seen : List ℕ) (s : Status)
+pub read_is : (Unchanged : Type 0) (left rest old new : Option (List ℕ)) (text seen : List ℕ) (s : Status) → length text ≤ INPUT_BYTES
     → IfSome left (λ i. (text ≡ i) × (rest ≡ Some [])) → seen ≡ text → IsAnswered Unchanged seen old new s
     → IsOutcome Unchanged left rest old new s
-read_is Unchanged left rest old new text seen s read same given =
+read_is Unchanged left rest old new text seen s small read same given =
     let answered = subst (λ t. IsAnswered Unchanged t old new s) same given in
     let all = told_input left rest text read in
     record {
@@ -129,6 +162,7 @@ read_is Unchanged left rest old new text seen s read same given =
       done = λ is. record { input = text; all = all; holds = answered.done is };
       whole = λ is. told_whole left rest text read;
       refused = λ told. record { input = text; all = all; holds = inr (answered.refused told) };
+      memory = λ is. record { bytes = text; front = all_taken left rest text read; count = (answered.memory is, small) };
       nothing = answered.nothing;
       front = λ is. record { input = text; all = all; holds = answered.front is };
     }
@@ -140,6 +174,7 @@ unread_is Unchanged left rest old status.ReadFault same why = record {
   done = λ e. absurd (grind (arith, e));
   whole = λ e. absurd (grind (arith, e));
   refused = λ told. absurd told;
+  memory = λ e. absurd (grind (arith, e));
   nothing = λ early. same;
   front = λ e. absurd (grind (arith, e));
 }
@@ -149,6 +184,7 @@ unread_is Unchanged left rest old status.Limit same why =
       done = λ e. absurd (grind (arith, e));
       whole = λ e. absurd (grind (arith, e));
       refused = λ told. record { input = many.input; all = many.all; holds = inl (refl, many.holds) };
+      memory = λ e. absurd (grind (arith, e));
       nothing = λ early. same;
       front = λ e. absurd (grind (arith, e));
     }
@@ -157,6 +193,7 @@ unread_is Unchanged left rest old status.NoMemory same why = record {
   done = λ e. absurd (grind (arith, e));
   whole = λ e. absurd (grind (arith, e));
   refused = λ told. absurd told;
+  memory = λ e. why;
   nothing = λ early. same;
   front = λ e. absurd (grind (arith, e));
 }

@@ -1,3 +1,4 @@
 mod Answered
 mod Marked
+mod MarkedSteps
 mod Played

@@ -38,7 +38,7 @@ abbrev pub IsRefusal : List ℕ → Status → Type 0
 IsRefusal text (status.BadInput line) = schedule_of text ≡ Err (schedules.BadInput line)
 IsRefusal text status.TooManyEvents = HasTooMany text
 IsRefusal text status.Limit = HasTooLarge text
-IsRefusal text status.NoMemory = Unit {0}
+IsRefusal text status.NoMemory = 0 < length text
 IsRefusal text s = ⊥
 
 -- the input is the text of a schedule, and the picture of its history is written behind what stood written

@@ -1,5 +1,5 @@
 -- What the parts of the top call promise one another.
-use Rattle.std.specs.Prelude.{ℕ, ◌≡◌, ◌<◌, ◌≤◌, ◌⊎◌, List, [], take, Option, Some, IfSome}
+use Rattle.std.specs.Prelude.{ℕ, ◌≡◌, ◌<◌, ◌≤◌, ◌⊎◌, List, [], length, take, Option, Some, IfSome}
 use Rattle.std.specs.Io.KnownBytes.{Appends}
 use Rattle.vk_base.specs.declared.limits.TheConstants.{INPUT_BYTES}
 use Rattle.vk_io.specs.Causes.{LosesFront}
@@ -12,7 +12,7 @@ use Rattle.vk_draw.specs.Top.{IsDrawn, IsEarly, IsFront, IsOfText, IsRefusal, Is
 abbrev pub IsUnread : Option (List ℕ) → Option (List ℕ) → Status → Type 0
 IsUnread left rest status.ReadFault = Unit {0}
 IsUnread left rest status.Limit = LosesFront left rest (λ n. INPUT_BYTES < n)
-IsUnread left rest status.NoMemory = Unit {0}
+IsUnread left rest status.NoMemory = LosesFront left rest (λ n. (0 < n) × (n ≤ INPUT_BYTES))
 IsUnread left rest s = ⊥
 
 -- all was written, or a write failed
@@ -24,6 +24,7 @@ pub record IsAnswered (Unchanged : Type 0) (text : List ℕ) (old new : Option (
   pub kinds : ¬ (s ≡ status.Usage) × ¬ (s ≡ status.ReadFault)
   pub done : s ≡ status.Done → IsDrawn text old new
   pub refused : IsOfText s → IsRefusal text s
+  pub memory : s ≡ status.NoMemory → 0 < length text
   pub nothing : IsEarly s → Unchanged
   pub front : s ≡ status.WriteFault → IsFront text old new
 
@@ -33,5 +34,6 @@ pub record IsOutcome (Unchanged : Type 0) (left rest old new : Option (List ℕ)
   pub done : s ≡ status.Done → OfInput left (λ i. IsDrawn i old new)
   pub whole : s ≡ status.Done → IfSome left (λ i. rest ≡ Some [])
   pub refused : IsOfText s → OfInput left (λ i. IsRefused i s)
+  pub memory : s ≡ status.NoMemory → LosesFront left rest (λ n. (0 < n) × (n ≤ INPUT_BYTES))
   pub nothing : IsEarly s → Unchanged
   pub front : s ≡ status.WriteFault → OfInput left (λ i. IsFront i old new)

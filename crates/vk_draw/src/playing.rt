@@ -45,7 +45,7 @@ fn station_row(
         own,
         act: act_of(event),
         said: said_of(answer),
-        steps: step_marks(alloc, station.steps().as_slice())?,
+        steps: step_marks(alloc, station.steps())?,
         frames: frame_marks(alloc, station)?,
     })
 }

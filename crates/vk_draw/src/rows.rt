@@ -4,7 +4,8 @@ ghost use Rattle.std.specs.Prelude.{◌≡◌, map, IfOk};
 ghost use Rattle.vk_draw.specs.Rows.{act_of, call_kind, partner_of, said_of, said_by, step_mark};
 
 use std::alloc::Global;
-use vk_base::{Answer, Call, EventAnswer, List, NoMemory, Pid, Step};
+use vk_base::{Answer, Call, EventAnswer, List, NoMemory, Pid};
+use vk_brief::{BriefStep, StepView, Steps};
 use vk_event::Event;
 use vk_picture::{Act, CallKind, Said, StepKind, StepMark};
 
@@ -103,32 +104,33 @@ fn mark(kind: StepKind, pid: Pid) -> StepMark
     StepMark { kind, pid }
 }
 
-fn step_mark(step: &Step) -> StepMark
+fn step_mark(step: &StepView) -> StepMark
     ensures { result ≡ step_mark step.now }
 {
-    match step {
-        Step::Call { pid, .. } => mark(StepKind::Call, *pid),
-        Step::Arrive { sender, .. } => mark(StepKind::Arrive, *sender),
-        Step::Take { pid } => mark(StepKind::Take, *pid),
-        Step::Finish { pid } => mark(StepKind::Finish, *pid),
-        Step::Fail { pid, .. } => mark(StepKind::Fail, *pid),
-        Step::OpenMove { sender, .. } => mark(StepKind::OpenMove, *sender),
-        Step::Copy { sender, .. } => mark(StepKind::Copy, *sender),
-        Step::End { pid, .. } => mark(StepKind::End, *pid),
-        Step::Hear { asker, .. } => mark(StepKind::Hear, *asker),
-        Step::Found { asker, .. } => mark(StepKind::Found, *asker),
-        Step::Lost { asker } => mark(StepKind::Lost, *asker),
-        Step::Collect { pid } => mark(StepKind::Collect, *pid),
+    let (step, _) = step.parts();
+    match *step {
+        BriefStep::Call { pid, .. } => mark(StepKind::Call, pid),
+        BriefStep::Arrive { sender, .. } => mark(StepKind::Arrive, sender),
+        BriefStep::Take { pid } => mark(StepKind::Take, pid),
+        BriefStep::Finish { pid } => mark(StepKind::Finish, pid),
+        BriefStep::Fail { pid, .. } => mark(StepKind::Fail, pid),
+        BriefStep::OpenMove { sender, .. } => mark(StepKind::OpenMove, sender),
+        BriefStep::Copy { sender, .. } => mark(StepKind::Copy, sender),
+        BriefStep::End { pid, .. } => mark(StepKind::End, pid),
+        BriefStep::Hear { asker, .. } => mark(StepKind::Hear, asker),
+        BriefStep::Found { asker, .. } => mark(StepKind::Found, asker),
+        BriefStep::Lost { asker } => mark(StepKind::Lost, asker),
+        BriefStep::Collect { pid } => mark(StepKind::Collect, pid),
     }
 }
 
 /// The steps, each as it is drawn.
-pub(crate) fn step_marks(alloc: Global, steps: &[Step]) -> Result<List<StepMark>, NoMemory>
+pub(crate) fn step_marks(alloc: Global, steps: &Steps) -> Result<List<StepMark>, NoMemory>
     ensures { IfOk result (λ marks. marks ≡ map step_mark steps.now) }
 {
     let mut marks = List::empty(alloc);
-    for step in steps {
-        marks.push(step_mark(step))?;
+    for at in 0..steps.len() {
+        marks.push(step_mark(&steps.get(at)))?;
     }
     Ok(marks)
 }

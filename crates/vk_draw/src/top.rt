@@ -1,7 +1,7 @@
 ghost use Rattle.std.specs.Prelude.{◌≡◌, ◌<◌, ◌≤◌, ◌⊎◌, ℕ, [], false, length, Ok, Some, map, take, string_bytes, IfSome, IfOk, IfErr, OnOk};
 ghost use Rattle.std.specs.Io.KnownBytes.{Appends};
 ghost use Rattle.vk_event.specs.Schedule.{schedule_of};
-ghost use Rattle.vk_top.specs.Top.{OfInput};
+ghost use Rattle.vk_top.specs.Top.{IsWanting, OfInput};
 ghost use Rattle.vk_draw.specs.Top.{IsDrawn, IsEarly, IsOfText, IsPicture, IsFront, IsReadCount, IsRefusal, IsRefused, IsWriteCount};
 ghost use Rattle.vk_draw.specs.Work.{IsAnswered, IsOutcome, IsUnread, IsWritten};
 ghost use Rattle.vk_draw.specs.Words.{are_good};
@@ -131,6 +131,9 @@ pub fn vkdraw<S: Source, K: Sink>(
     // ReadFault is answered only where a fault of the input was counted, and every such fault is told so; WriteFault likewise.
     ensures read_count { IsReadCount result (S.fault_count input.old) (S.fault_count input.new) }
     ensures write_count { IsWriteCount result (K.fault_count output.old) (K.fault_count output.new) }
+
+    // NoMemory comes before anything is read, where the words take it, or where some of the input was read, and not a byte too many.
+    ensures memory { result ≡ Status.NoMemory → IsWanting input.old input.new (S.left input.old) (S.left input.new) }
 
     // But at Done and WriteFault nothing is written. At WriteFault a front of the picture may be.
     ensures nothing { IsEarly result → output.new ≡ output.old }

@@ -2,6 +2,7 @@ mod Acting
 mod Behind
 mod Chosen
 mod Fronts
+mod Noted
 mod Opening
 mod Places
 mod Playing

@@ -3,16 +3,16 @@
 ghost use Rattle.std.specs.Prelude.{◌≡◌, [], ◌∷◌, ◌++◌, List, None, IfOk};
 ghost use Rattle.vk_base.specs.declared.event.EventAnswer.{EventAnswer as TheAnswer};
 ghost use Rattle.vk_base.specs.declared.event.EventAnswer.TheVariants as given;
-ghost use Rattle.vk_cluster.specs.declared.report.ClusterAnswer.TheVariants as answered;
 ghost use Rattle.vk_event.specs.declared.task.Task.{Task as TheTask};
+ghost use Rattle.vk_host.specs.Responses.{answer_of};
 ghost use Rattle.vk_pages.specs.Any.{IsTaskOf};
 ghost use Rattle.vk_rules.specs.Observed.{is_not_yet};
 ghost use Rattle.vk_drive.specs.Driving.{IsActor, IsNextEvent};
 
 use std::alloc::Global;
 use vk_base::{Answer, Config, EventAnswer, NoMemory, Pid, Refusal};
-use vk_cluster::ClusterAnswer;
 use vk_event::{Event, Task};
+use vk_host::{Host, Response};
 use vk_pages::AnyProgram;
 use vk_program::Program;
 
@@ -83,19 +83,27 @@ impl Actor {
     }
 
     /// Its last event was answered so.
-    pub fn hear(&mut self, answer: ClusterAnswer)
+    fn hear_whole(&mut self, answer: EventAnswer)
         requires { self.old.told ≡ None }
-        ensures { (t : TheTask) (heard : List TheAnswer) (a : TheAnswer) → IsActor self.old t heard → answer ≡ answered.Event a →
-            IsActor self.new t (heard ++ a ∷ []) }
+        ensures { (t : TheTask) (heard : List TheAnswer) → IsActor self.old t heard → IsActor self.new t (heard ++ answer ∷ []) }
     {
-        let ClusterAnswer::Event { answer } = answer else {
-            return;
-        };
         match answer {
             EventAnswer::Begun => self.waits = true,
             EventAnswer::Answered { answer } => self.hear_answer(answer),
             EventAnswer::Ticked { .. } | EventAnswer::Taken | EventAnswer::Old | EventAnswer::Bad =>
                 {}
+        }
+    }
+
+    /// The same, in few bytes of this station. The answer itself is made only where its program is told it.
+    pub fn hear(&mut self, station: &Host, response: Response)
+        requires { self.old.told ≡ None }
+        ensures { (t : TheTask) (heard : List TheAnswer) → IsActor self.old t heard →
+            IsActor self.new t (heard ++ answer_of station.now response ∷ []) }
+    {
+        match response {
+            Response::Begun => self.waits = true,
+            _ => self.hear_whole(station.answer(response)),
         }
     }
 }

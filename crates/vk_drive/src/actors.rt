@@ -2,7 +2,10 @@
 
 ghost use Rattle.std.specs.Prelude.{◌≡◌, ◌≢◌, ◌<◌, [], ◌∷◌, ◌++◌, ℕ, List, length, IfOk};
 ghost use Rattle.vk_base.specs.declared.event.EventAnswer.{EventAnswer as TheAnswer};
+ghost use Rattle.vk_cluster.specs.Clusters.{value_of};
 ghost use Rattle.vk_cluster.specs.declared.report.ClusterAnswer.TheVariants as answered;
+ghost use Rattle.vk_cluster.specs.declared.report.StepReport.{StepReport as TheReport};
+ghost use Rattle.vk_cluster.specs.Standing.{Tells};
 ghost use Rattle.vk_rules.specs.Histories.{Happened};
 ghost use Rattle.vk_drive.specs.Driving.{AreActors, HasPassedOn, IsNextOf};
 ghost use Rattle.vk_drive.specs.Tasks.{settings, task_at};
@@ -12,7 +15,7 @@ use crate::actor::Actor;
 use crate::tasks::tasks;
 use std::alloc::Global;
 use vk_base::{Config, NoMemory};
-use vk_cluster::ClusterAnswer;
+use vk_cluster::{Advance, Cluster};
 use vk_event::Event;
 
 /// The processes before their first calls.
@@ -36,13 +39,24 @@ pub fn next_event(actors: &mut Vec<Actor>, place: usize) -> Event
     actors[place].next_event()
 }
 
-/// The last event, which was that of the process at this place, was answered so.
-pub fn hear(actors: &mut Vec<Actor>, place: usize, answer: ClusterAnswer)
+/// The last event of the cluster, which was that of the process at this place, is told so.
+pub fn hear(actors: &mut Vec<Actor>, place: usize, cluster: &Cluster, advance: Advance)
     requires within { place < length actors.old.items }
     requires none { HasPassedOn actors.old.items place }
-    ensures { (hs : List Happened) (h : Happened) (a : TheAnswer) → AreActors actors.old.items hs → answer ≡ answered.Event a →
+    requires told { (r : TheReport) × Tells (value_of cluster.now) advance r }
+    ensures { (hs : List Happened) (h : Happened) (a : TheAnswer) (r : TheReport) → AreActors actors.old.items hs →
+        Tells (value_of cluster.now) advance r → r.answer ≡ answered.Event a →
         answered_in (task_at place).pid h ≡ a ∷ [] → ((q : ℕ) → q < 4 → q ≢ place → answered_in (task_at q).pid h ≡ []) →
         AreActors actors.new.items (hs ++ h ∷ []) }
 {
-    actors[place].hear(answer);
+    match advance {
+        Advance::Missing { .. } => {}
+        Advance::Event {
+            place: at,
+            response,
+        } => {
+            let station = cluster.station(at);
+            actors[place].hear(station, response);
+        }
+    }
 }

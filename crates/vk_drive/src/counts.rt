@@ -1,12 +1,15 @@
 //! The numbers that are told of a storm.
 
-ghost use Rattle.std.specs.Prelude.{◌≡◌, ◌+◌, ◌<◌, ◌^◌, not};
-ghost use Rattle.vk_base.specs.declared.event.EventAnswer.TheVariants as given;
-ghost use Rattle.vk_rules.specs.Observed.{is_not_yet, is_not_yet_refusal};
+ghost use Rattle.std.specs.Prelude.{◌≡◌, ◌+◌, ◌<◌, ◌^◌, List, Some, not};
+ghost use Rattle.vk_procs.specs.declared.seat.Seat.{Seat as TheSeat};
+ghost use Rattle.vk_host.specs.Responses.{answer_given};
+ghost use Rattle.vk_rules.specs.Observed.{is_not_yet_refusal};
+ghost use Rattle.vk_stands.specs.Rules.{given_by};
 ghost use Rattle.vk_drive.specs.Driving.{AreLow, counted, one_if};
-ghost use Rattle.vk_drive.specs.Told.{is_timed_out_answer, is_timed_out_refusal};
+ghost use Rattle.vk_drive.specs.Told.{is_timed_out, is_timed_out_refusal, is_told};
 
-use vk_base::{Answer, EventAnswer, Refusal};
+use vk_base::{Outcome, Refusal};
+use vk_host::Response;
 
 /// How many frames were emitted, how many deliveries were taken and how many were too old, how many answers processes were told, and how
 /// many of these said that nobody answered in time.
@@ -51,30 +54,31 @@ impl Counts {
     }
 
     /// A process was answered so.
-    fn count_answer(&mut self, answer: &Answer)
+    fn count_outcome(&mut self, outcome: Outcome)
         requires { AreLow self.old }
         ensures { self.new ≡ record self.old {
-          answers = self.old.answers + one_if (not (is_not_yet answer.now));
-          timedout = self.old.timedout + one_if (is_timed_out_answer answer.now);
+          answers = self.old.answers + one_if (is_told (given_by (Some outcome)));
+          timedout = self.old.timedout + one_if (is_timed_out (given_by (Some outcome)));
         } }
     {
-        match answer {
-            Answer::Refused { why } => self.count_refusal(*why),
+        match outcome {
+            Outcome::Refused { why } => self.count_refusal(why),
             _ => self.answers += 1,
         }
     }
 
     /// An event was answered so, and this many frames were emitted.
-    pub fn count(&mut self, frames: u32, answer: &EventAnswer)
+    pub fn count(&mut self, frames: u32, response: Response)
         requires frames { self.old.frames < 2 ^ 63 }
         requires low { AreLow self.old }
-        ensures { self.new ≡ counted self.old frames answer.now }
+        ensures { (seats : List TheSeat) → self.new ≡ counted self.old frames (answer_given seats response) }
     {
         self.frames += u64::from(frames);
-        match answer {
-            EventAnswer::Taken => self.taken += 1,
-            EventAnswer::Old => self.late += 1,
-            EventAnswer::Answered { answer } => self.count_answer(answer),
+        match response {
+            Response::Taken => self.taken += 1,
+            Response::Old => self.late += 1,
+            Response::Given { outcome } => self.count_outcome(outcome),
+            Response::Loaded { .. } => self.answers += 1,
             _ => {}
         }
     }

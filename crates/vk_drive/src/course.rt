@@ -1,10 +1,11 @@
 //! What happens in a storm, and what is told of it.
 
-ghost use Rattle.std.specs.Prelude.{◌≡◌, ◌≤◌, ◌<◌, ◌+◌, ◌^◌, [], ◌∷◌, ◌++◌, List, length, true, Err, IfOk, OnOk};
+ghost use Rattle.std.specs.Prelude.{◌≡◌, ◌≤◌, ◌<◌, ◌+◌, ◌^◌, [], ◌∷◌, ◌++◌, List, length, true, false, Err, IfOk, IfErr, OnOk};
 ghost use Rattle.vk_base.specs.declared.limits.TheConstants.{EVENTS};
 ghost use Rattle.vk_cluster.specs.declared.emitted.TheConstants.{LAST_BYTES};
 ghost use Rattle.vk_cluster.specs.Clusters.{value_of};
-ghost use Rattle.vk_cluster.specs.Standing.{emitted_bytes, logs_of, report_of};
+ghost use Rattle.vk_cluster.specs.Standing.{IsAdvance, StandsSomewhere, Tells, emitted_bytes, is_limit, logs_of, report_of};
+ghost use Rattle.vk_cluster.specs.Values.{is_full};
 ghost use Rattle.vk_event.specs.declared.event.Event.{Event as TheEvent};
 ghost use Rattle.vk_event.specs.Lawful.{has_actors};
 ghost use Rattle.vk_frame.specs.declared.header.Header.{Header as TheHeader};
@@ -12,8 +13,8 @@ ghost use Rattle.vk_host.specs.Sealed.{sealed};
 ghost use Rattle.vk_rules.specs.Frames.{Frame as TheFrame};
 ghost use Rattle.vk_rules.specs.Histories.{happened, history_of};
 ghost use Rattle.v_lawful.specs.Sending.{IsLawfulFrame};
-ghost use Rattle.vk_drive.specs.Driving.{AreLow, IsCourse, IsNoted, last_of};
-ghost use Rattle.vk_cluster.specs.Shown.{HasReported, Sends};
+ghost use Rattle.vk_drive.specs.Driving.{AreLow, HasAdvanced, IsCourse, IsNoted, last_of};
+ghost use Rattle.vk_cluster.specs.Shown.{Sends};
 ghost use Rattle.vk_drive.specs.Tasks.{settings, specs};
 ghost use Rattle.vk_drive.specs.Told.{headers};
 
@@ -22,8 +23,8 @@ use crate::summary::StormRefusal;
 use circular_buffer::HeapCircularBuffer;
 use std::alloc::Global;
 use vk_base::{Config, List, NoMemory};
-use vk_cluster::{Cluster, ClusterAnswer, StepReport};
-use vk_event::Event;
+use vk_cluster::{Advance, Cluster, ClusterRefusal};
+use vk_event::{Event, EventKind, EventView};
 use vk_frame::{Header, unseal};
 use vk_host::Host;
 use vk_rules::frames_unseal_again;
@@ -64,28 +65,40 @@ fn keep(recent: &mut HeapCircularBuffer<Header>, station: &Host)
     }
 }
 
-/// The cluster reported so of its last event.
+/// The cluster tells so of its last event.
 fn note(
     cluster: &Cluster,
     recent: &mut HeapCircularBuffer<Header>,
     counts: &mut Counts,
-    report: &StepReport,
+    advance: Advance,
 )
     requires frames { counts.old.frames < 2 ^ 63 }
     requires low { AreLow counts.old }
-    requires reported { (es : List TheEvent) × (e : TheEvent) × HasReported settings es (value_of cluster.now) e report.now }
-    ensures noted { (es : List TheEvent) (e : TheEvent) → HasReported settings es (value_of cluster.now) e report.now →
+    requires advanced { (es : List TheEvent) × (e : TheEvent) × HasAdvanced es (value_of cluster.now) e advance }
+    ensures noted { (es : List TheEvent) (e : TheEvent) → HasAdvanced es (value_of cluster.now) e advance →
         IsNoted (history_of settings es) recent.old counts.old → IsNoted (history_of settings (es ++ e ∷ [])) recent.new counts.new }
     ensures few { counts.new.frames ≤ counts.old.frames + 4294967295 }
 {
-    match &report.answer {
-        ClusterAnswer::Missing => {}
-        ClusterAnswer::Event { answer } => {
-            let station = cluster.host(report.host);
+    match advance {
+        Advance::Missing { .. } => {}
+        Advance::Event { place, response } => {
+            let station = cluster.station(place);
             keep(recent, station);
-            counts.count(station.frame_count(), answer);
+            counts.count(station.frame_count(), response);
         }
     }
+}
+
+/// The cluster has this event, of which it tells in few bytes.
+fn advance(cluster: &mut Cluster, alloc: Global, event: &Event) -> Result<Advance, ClusterRefusal>
+    requires somewhere { StandsSomewhere (value_of cluster.old) }
+    requires actors { has_actors (value_of cluster.old).config.specs event.now ≡ true }
+    ensures step { IfOk result (IsAdvance (value_of cluster.old) (value_of cluster.new) event.now) }
+    ensures room { IfOk result (λ _. is_full (value_of cluster.old) ≡ false) }
+    ensures cause { IfErr result (λ e. is_full (value_of cluster.old) ≡ is_limit e) }
+{
+    let (kind, call, bytes) = EventKind::of(event);
+    cluster.advance(alloc, &EventView::new(kind, &call, bytes))
 }
 
 impl Course {
@@ -107,24 +120,25 @@ impl Course {
         })
     }
 
-    /// One event more of the storm's processes and stations, behind fewer than 100,000, and what is reported of it.
+    /// One event more of the storm's processes and stations, behind fewer than 100,000, and what is told of it.
     ///
     /// # Errors
     ///
     /// [`StormRefusal::Limit`] exactly where the frames so far hold more than 266,076,160 bytes; then [`StormRefusal::NoMemory`].
-    pub fn happen(&mut self, alloc: Global, event: Event) -> Result<StepReport, StormRefusal>
+    pub fn happen(&mut self, alloc: Global, event: Event) -> Result<Advance, StormRefusal>
         requires course { IsCourse self.old }
         requires few { length self.old.events < EVENTS }
         requires actors { has_actors specs event ≡ true }
         ensures course { OnOk result (IsCourse self.new) }
         ensures events { OnOk result (self.new.events ≡ self.old.events ++ event ∷ []) }
-        ensures report { IfOk result (λ r. r ≡ report_of (happened settings (logs_of settings self.old.events) event)) }
+        ensures told { IfOk result (λ a. Tells (value_of self.new.cluster) a
+            (report_of (happened settings (logs_of settings self.old.events) event))) }
         ensures fits { OnOk result (emitted_bytes (history_of settings self.old.events) ≤ LAST_BYTES) }
         ensures limit { result ≡ Err StormRefusal.Limit → LAST_BYTES < emitted_bytes (history_of settings self.old.events) }
     {
-        let report = self.cluster.step(alloc, &event)?;
+        let told = advance(&mut self.cluster, alloc, &event)?;
         self.events.push(event)?;
-        note(&self.cluster, &mut self.recent, &mut self.counts, &report);
-        Ok(report)
+        note(&self.cluster, &mut self.recent, &mut self.counts, told);
+        Ok(told)
     }
 }

@@ -107,7 +107,7 @@ impl Driver {
         ensures played { OnOk result (IsPlayed self.old self.new (chosen self.old.generator event)) }
         ensures limit { result ≡ Err StormRefusal.Limit → LAST_BYTES < emitted_bytes (history_so_far self.old) }
     {
-        let _report = self.course.happen(alloc, event)?;
+        let _advance = self.course.happen(alloc, event)?;
         Ok(())
     }
 
@@ -120,8 +120,8 @@ impl Driver {
     {
         let place = (self.generator.draw() % 4) as usize;
         let event = next_event(&mut self.actors, place);
-        let report = self.course.happen(alloc, event)?;
-        hear(&mut self.actors, place, report.answer);
+        let advance = self.course.happen(alloc, event)?;
+        hear(&mut self.actors, place, &self.course.cluster, advance);
         Ok(())
     }
 

@@ -7,3 +7,4 @@ pub mod ScenarioLaws
 pub mod Schedule
 pub mod Spelling
 pub mod Tasks
+pub mod Views

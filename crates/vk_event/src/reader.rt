@@ -8,6 +8,7 @@ ghost use Rattle.vk_event.specs.Schedule.{HasProcess, front_by, front_of};
 use crate::event::Event;
 use crate::line::read_event;
 use crate::schedule::{Front, Schedule, TextRefusal};
+use crate::view::EventBuffer;
 use std::alloc::Global;
 use std::marker::Model;
 use vk_base::limits::EVENTS;
@@ -91,7 +92,7 @@ impl<'a> EventReader<'a> {
     }
 
     /// Writes the next event over this one, and tells whether there is one. Where there is none, any may be left in its place.
-    pub fn next(&mut self, event: &mut Event) -> bool
+    pub fn next(&mut self, event: &mut EventBuffer) -> bool
         ensures next { IsNext self.old self.new (if result then Some event.new else None) }
         ensures lawful { result ≡ true → IsReadableEvent event.new × (has_actors self.old.schedule.config.specs event.new ≡ true) }
     {
@@ -117,10 +118,10 @@ impl<'a> EventReader<'a> {
         let Some((line, _)) = next_line(self.text, self.at) else {
             return ended(self.alloc, self.config, None, None);
         };
-        let mut event = Event::Tick { host: 0 };
+        let mut event = EventBuffer::new();
         if let Some(()) = read_event(&self.config, line, &mut event) {
             let refused = Some(TextRefusal::Limit);
-            return ended(self.alloc, self.config, refused, Some(event));
+            return ended(self.alloc, self.config, refused, Some(event.view().whole()));
         }
         let line = self.config.specs().len() as u64 + self.given as u64 + 2;
         let refused = Some(TextRefusal::BadInput { line });

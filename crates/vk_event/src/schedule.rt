@@ -6,6 +6,7 @@ ghost use Rattle.vk_event.specs.Schedule.{HasProcess, front_by, front_of, schedu
 
 use crate::event::Event;
 use crate::reader::EventReader;
+use crate::view::EventBuffer;
 use std::alloc::Global;
 use vk_base::{Config, List, NoMemory};
 use vk_text::empty_config;
@@ -58,12 +59,9 @@ fn collect(alloc: Global, mut reader: EventReader<'_>) -> Result<Front, NoMemory
     ensures memory { OnErr result (0 < length reader.entry.schedule.config.specs) }
 {
     let mut events = List::empty(alloc);
-    loop {
-        let mut event = Event::Tick { host: 0 };
-        if !reader.next(&mut event) {
-            break;
-        }
-        events.push(event)?;
+    let mut event = EventBuffer::new();
+    while reader.next(&mut event) {
+        events.push(event.view().whole())?;
     }
     let mut front = reader.into_front();
     front.schedule.events = events;

@@ -11,6 +11,7 @@ use crate::event::Event;
 use crate::schedule::Schedule;
 use std::alloc::Global;
 use vk_base::{Call, NoMemory, Pid};
+use vk_brief::{BriefCall, CallView};
 use vk_text::{put, put_head, write_call, write_number, write_pid};
 
 /// Appends `call PID CALLTEXT`.
@@ -25,7 +26,8 @@ fn write_call_event(
 {
     put(into, b"call")?;
     write_pid(alloc, into, pid)?;
-    write_call(alloc, into, call)
+    let (call, bytes) = BriefCall::of(call);
+    write_call(alloc, into, &CallView::new(&call, bytes))
 }
 
 /// Appends `deliver TO FROM EVENT OUTPUT`.

@@ -57,7 +57,8 @@ pub fn seal(header: &Header, packet: &[u8], into: &mut FrameBytes)
 }
 
 /// The header of a frame, and the packet's bytes behind it. `None` exactly where no lawful header stands first, or nothing
-/// is behind it.
+/// is behind it. It is put into its callers, most of which need but one or two of the header's fields.
+#[inline(always)]
 #[tactic(auto, unfolding(crate::specs::Reading::frame_of))]
 pub fn unseal(bytes: &[u8]) -> Option<(Header, &[u8])>
     ensures exact { MatchOption result (frame_of bytes.now ≡ None) (λ r. frame_of bytes.now ≡ Some (r.0, r.1.now)) }

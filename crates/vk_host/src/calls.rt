@@ -1,8 +1,7 @@
 //! The calls of a process, each over the desk of its station.
 
-ghost use Rattle.std.specs.Prelude.{◌≡◌, ◌<◌, ◌++◌, ◌∷◌, [], true, is_some, Some, IfNone};
+ghost use Rattle.std.specs.Prelude.{◌≡◌, ◌<◌, ◌++◌, length, true, is_some, Some, IfNone};
 ghost use Rattle.vk_base.specs.declared.limits.TheConstants.{STEPS};
-ghost use Rattle.arrayvec.specs.ArrayVec.{array_vec_len};
 ghost use Rattle.vk_local.specs.Rules.{may_call};
 ghost use Rattle.vk_procs.specs.Seats.{seat_in};
 ghost use Rattle.vk_rules.specs.Entries.{Called, Collected};
@@ -13,7 +12,8 @@ ghost use Rattle.vk_host.specs.Responses.{answer_given, collect_given};
 use crate::desk::Desk;
 use crate::response::Response;
 use crate::{away, here};
-use vk_base::{Activity, Call, Message, Outcome, Pid, Refusal, Step, StepList, Waiting};
+use vk_base::{Activity, Call, Message, Outcome, Pid, Refusal, Waiting};
+use vk_brief::{BriefCall, BriefStep, CallView, Steps};
 use vk_local::Segment;
 use vk_procs::Procs;
 
@@ -84,18 +84,8 @@ fn early_refusal(procs: &Procs, pid: Pid) -> Option<Refusal>
     }
 }
 
-fn push_call(steps: &mut StepList, pid: Pid, call: &Call)
-    requires { array_vec_len steps.old < STEPS }
-    ensures { steps.new.items ≡ steps.old.items ++ Step.Call pid call.now ∷ [] }
-{
-    steps.push(Step::Call {
-        pid,
-        call: call.copy(),
-    });
-}
-
 /// A process that may not call is told so.
-fn refuse(desk: &mut Desk, pid: Pid, call: &Call, why: Refusal) -> Response
+fn refuse(desk: &mut Desk, pid: Pid, call: &CallView, why: Refusal) -> Response
     requires can { CanPlay pid desk.old }
     requires own { is_some (seat_in desk.old.procs pid) ≡ true }
     requires early { early_in (seat_in desk.old.procs pid) ≡ Some why }
@@ -103,75 +93,77 @@ fn refuse(desk: &mut Desk, pid: Pid, call: &Call, why: Refusal) -> Response
         (answer_given desk.new.procs result) (doing_in desk.old) (doing_in desk.new) }
     ensures same { KeepsDesk desk.old desk.new }
 {
-    push_call(&mut desk.steps, pid, call);
+    desk.steps.push_call(pid, call);
     Response::Given {
         outcome: Outcome::Refused { why },
     }
 }
 
 /// A call of a process that may call.
-fn accept(desk: &mut Desk, pid: Pid, call: &Call) -> Response
+fn accept(desk: &mut Desk, pid: Pid, call: &CallView) -> Response
     requires can { CanPlay pid desk.old }
     requires ready { may_call desk.old.procs pid ≡ true }
     ensures played { IsPlayed desk.old.times pid.host desk.old.now (Called pid call.now)
         (answer_given desk.new.procs result) (doing_in desk.old) (doing_in desk.new) }
     ensures same { KeepsDesk desk.old desk.new }
 {
-    match *call {
-        Call::Send {
+    let (brief, bytes) = call.parts();
+    // `return` has each arm write its response where the caller wants it, and not move it there.
+    match *brief {
+        BriefCall::Send {
             target,
             ref message,
-        } => send(desk, pid, target, message),
-        Call::Receive => here::receive(desk, pid, Waiting::Receive),
-        Call::ReceiveSegment { start, count } => {
-            here::receive(desk, pid, Waiting::ReceiveSegment { start, count })
+        } => return send(desk, pid, target, message),
+        BriefCall::Receive => return here::receive(desk, pid, Waiting::Receive),
+        BriefCall::ReceiveSegment { start, count } => {
+            return here::receive(desk, pid, Waiting::ReceiveSegment { start, count });
         }
-        Call::Reply { ref message, to } => reply(desk, pid, to, message),
-        Call::Load { start, count } => here::load(desk, pid, start, count),
-        Call::Store { start, ref bytes } => here::store(desk, pid, start, bytes),
-        Call::Exit => here::exit(desk, pid),
-        Call::ReplySegment {
+        BriefCall::Reply { ref message, to } => return reply(desk, pid, to, message),
+        BriefCall::Load { start, count } => return here::load(desk, pid, start, count),
+        BriefCall::Store { start } => return here::store(desk, pid, start, bytes),
+        BriefCall::Exit => return here::exit(desk, pid),
+        BriefCall::ReplySegment {
             ref message,
             to,
             dest,
             src,
             count,
-        } => reply_segment(desk, pid, to, message, Segment { dest, src, count }),
-        Call::MoveTo {
+        } => return reply_segment(desk, pid, to, message, Segment { dest, src, count }),
+        BriefCall::MoveTo {
             partner,
             dest,
             src,
             count,
         } => {
             if pid.host == partner.host {
-                here::move_to(desk, pid, partner, Segment { dest, src, count })
+                return here::move_to(desk, pid, partner, Segment { dest, src, count });
             } else {
-                away::begin_move(desk, pid, call)
+                return away::begin_move(desk, pid, call);
             }
         }
-        Call::MoveFrom {
+        BriefCall::MoveFrom {
             partner,
             dest,
             src,
             count,
         } => {
             if pid.host == partner.host {
-                here::move_from(desk, pid, partner, Segment { dest, src, count })
+                return here::move_from(desk, pid, partner, Segment { dest, src, count });
             } else {
-                away::begin_move(desk, pid, call)
+                return away::begin_move(desk, pid, call);
             }
         }
-        Call::SetPid {
+        BriefCall::SetPid {
             logical,
             pid: named,
             scope,
-        } => here::set_pid(desk, pid, logical, named, scope),
-        Call::GetPid { logical, scope } => away::get_pid(desk, pid, logical, scope),
+        } => return here::set_pid(desk, pid, logical, named, scope),
+        BriefCall::GetPid { logical, scope } => return away::get_pid(desk, pid, logical, scope),
     }
 }
 
 /// A call, in a desk without steps and packets.
-fn respond(desk: &mut Desk, pid: Pid, call: &Call) -> Response
+fn respond(desk: &mut Desk, pid: Pid, call: &CallView) -> Response
     requires can { CanPlay pid desk.old }
     requires own { is_some (seat_in desk.old.procs pid) ≡ true }
     ensures played { IsPlayed desk.old.times pid.host desk.old.now (Called pid call.now)
@@ -185,7 +177,7 @@ fn respond(desk: &mut Desk, pid: Pid, call: &Call) -> Response
 }
 
 /// A call of a process of the station, as an event of its own.
-pub fn call(desk: &mut Desk, pid: Pid, call: &Call) -> Response
+pub fn call(desk: &mut Desk, pid: Pid, call: &CallView) -> Response
     requires can { CanStart pid desk.old }
     requires own { is_some (seat_in desk.old.procs pid) ≡ true }
     ensures played { IsPlayed desk.old.times pid.host desk.old.now (Called pid call.now)
@@ -197,12 +189,12 @@ pub fn call(desk: &mut Desk, pid: Pid, call: &Call) -> Response
 }
 
 /// The step of a collect, where there is something to collect.
-fn push_collect(steps: &mut StepList, pid: Pid, outcome: &Option<Outcome>)
-    requires { array_vec_len steps.old < STEPS }
-    ensures { steps.new.items ≡ steps.old.items ++ collect_steps pid outcome.now }
+fn push_collect(steps: &mut Steps, pid: Pid, outcome: &Option<Outcome>)
+    requires { length steps.old < STEPS }
+    ensures { steps.new ≡ steps.old ++ collect_steps pid outcome.now }
 {
     if outcome.is_some() {
-        steps.push(Step::Collect { pid });
+        steps.push(BriefStep::Collect { pid });
     }
 }
 

@@ -19,7 +19,8 @@ use crate::response::{Response, loaded};
 use crate::{calls, deliveries, ticks};
 use std::alloc::Global;
 use std::marker::Model;
-use vk_base::{Call, Config, EventAnswer, NoMemory, Pid, StationEvent, Step, StepList};
+use vk_base::{Call, Config, EventAnswer, NoMemory, Pid, StationEvent, Step};
+use vk_brief::{BriefCall, CallView, Steps};
 use vk_packet::Outbox;
 
 /// One station with its kernel: its tables and counts, and the steps of its last event and its packets, each in its frame.
@@ -94,15 +95,25 @@ impl Host {
         ensures { IsEvent self.old self.new (input_of event.now) (answer_of self.new result) }
     {
         match event {
-            StationEvent::Call { pid, call } => self.call(*pid, call),
+            StationEvent::Call { pid, call } => self.make(*pid, call),
             StationEvent::Collect { pid } => self.collect(*pid),
             StationEvent::Tick => self.tick(),
             StationEvent::Deliver { frame } => self.deliver(frame.as_slice()),
         }
     }
 
+    fn make(&mut self, pid: Pid, call: &Call) -> Response
+        requires somewhere { StandsSomewhere self.old }
+        requires few { self.old.events < 2 ^ 48 }
+        requires own { has self.old pid ≡ true }
+        ensures { IsEvent self.old self.new (Called pid call.now) (answer_of self.new result) }
+    {
+        let (call, bytes) = BriefCall::of(call);
+        self.call(pid, &CallView::new(&call, bytes))
+    }
+
     /// The event that the process makes the call. Takes no memory.
-    pub fn call(&mut self, pid: Pid, call: &Call) -> Response
+    pub fn call(&mut self, pid: Pid, call: &CallView) -> Response
         requires somewhere { StandsSomewhere self.old }
         requires few { self.old.events < 2 ^ 48 }
         requires own { has self.old pid ≡ true }
@@ -177,8 +188,8 @@ impl Host {
     }
 
     /// The steps of the last event, in order.
-    pub fn steps(&self) -> &StepList
-        ensures { result.now.items ≡ self.now.doing.steps }
+    pub fn steps(&self) -> &Steps
+        ensures { result.now ≡ self.now.doing.steps }
     {
         &self.desk.steps
     }

@@ -1,7 +1,6 @@
 //! A tick of a station: each process whose work is due, in order, and then the aliens that are over.
 
 ghost use Rattle.std.specs.Prelude.{◌≡◌, ◌≤◌, ◌<◌, ◌+◌, ◌++◌, ◌^◌, length, map, option_map, slice_get};
-ghost use Rattle.arrayvec.specs.ArrayVec.{array_vec_len};
 ghost use Rattle.vk_base.specs.declared.limits.TheConstants.{STATION_PROCESSES as PROCESSES, STEPS};
 ghost use Rattle.vk_pool.specs.Aliens.{kept};
 ghost use Rattle.vk_procs.specs.Seats.{seat_in};
@@ -13,7 +12,8 @@ ghost use Rattle.vk_host.specs.Ticking.{AreAllFew, CanTick, HasFitProcs, IsFew, 
 use crate::desk::Desk;
 use crate::questions;
 use vk_base::limits::STATION_PROCESSES;
-use vk_base::{Activity, EventAnswer, Pid, StepList, Times, Waiting};
+use vk_base::{Activity, EventAnswer, Pid, Times, Waiting};
+use vk_brief::Steps;
 use vk_packet::Outbox;
 use vk_pool::AlienPool;
 use vk_procs::{Procs, Seat};
@@ -56,16 +56,16 @@ fn tick_tables(
     now: u64,
     times: &Times,
     out: &mut Outbox,
-    steps: &mut StepList,
+    steps: &mut Steps,
 )
     requires now { now < 2 ^ 48 }
     requires fit { HasFitProcs procs.old }
     requires few { AreAllFew procs.old }
-    requires steps { array_vec_len steps.old + PROCESSES ≤ STEPS }
+    requires steps { length steps.old + PROCESSES ≤ STEPS }
     requires room { length out.old.posts + 2048 ≤ out.old.room }
     ensures seats { procs.new ≡ map (ticked_seat times.now now) procs.old }
     ensures slots { aliens.new ≡ map (kept times.now now) aliens.old }
-    ensures steps { steps.new.items ≡ steps.old.items ++ tick_steps times.now now procs.old }
+    ensures steps { steps.new ≡ steps.old ++ tick_steps times.now now procs.old }
     ensures packets { out.new ≡ posted out.old (tick_packets times.now now procs.old) }
 {
     tick_procs(procs, now, times, out, steps);
@@ -73,14 +73,14 @@ fn tick_tables(
 }
 
 /// All processes, in order.
-fn tick_procs(procs: &mut Procs, now: u64, times: &Times, out: &mut Outbox, steps: &mut StepList)
+fn tick_procs(procs: &mut Procs, now: u64, times: &Times, out: &mut Outbox, steps: &mut Steps)
     requires now { now < 2 ^ 48 }
     requires fit { HasFitProcs procs.old }
     requires few { AreAllFew procs.old }
-    requires steps { array_vec_len steps.old + PROCESSES ≤ STEPS }
+    requires steps { length steps.old + PROCESSES ≤ STEPS }
     requires room { length out.old.posts + 2048 ≤ out.old.room }
     ensures seats { procs.new ≡ map (ticked_seat times.now now) procs.old }
-    ensures steps { steps.new.items ≡ steps.old.items ++ tick_steps times.now now procs.old }
+    ensures steps { steps.new ≡ steps.old ++ tick_steps times.now now procs.old }
     ensures packets { out.new ≡ posted out.old (tick_packets times.now now procs.old) }
 {
     for at in 0..STATION_PROCESSES as u32 {
@@ -89,25 +89,19 @@ fn tick_procs(procs: &mut Procs, now: u64, times: &Times, out: &mut Outbox, step
 }
 
 /// The process at a place in the order, if there is one.
-fn tick_at(
-    procs: &mut Procs,
-    now: u64,
-    times: &Times,
-    out: &mut Outbox,
-    steps: &mut StepList,
-    at: u32,
-)
+fn tick_at(procs: &mut Procs, now: u64, times: &Times, out: &mut Outbox, steps: &mut Steps, at: u32)
     requires now { now < 2 ^ 48 }
     requires fit { HasFitProcs procs.old }
     requires few { IsFew (slice_get procs.old at) }
-    requires steps { array_vec_len steps.old < STEPS }
+    requires steps { length steps.old < STEPS }
     requires room { length out.old.posts + 64 ≤ out.old.room }
     ensures seats { procs.new ≡ ticked_where times.now now (slice_get procs.old at) procs.old }
-    ensures steps { steps.new.items ≡ steps.old.items ++ steps_in times.now now (slice_get procs.old at) }
+    ensures steps { steps.new ≡ steps.old ++ steps_in times.now now (slice_get procs.old at) }
     ensures packets { out.new ≡ posted out.old (packets_in times.now now (slice_get procs.old at)) }
 {
+    let kind = kind_at(procs, at);
     if let Some(pid) = pid_at(procs, at) {
-        tick_process(procs, now, times, out, steps, pid);
+        tick_process(procs, now, times, out, steps, pid, kind);
     }
 }
 
@@ -141,10 +135,10 @@ fn kind_of(seat: &Seat) -> WorkKind
     }
 }
 
-fn kind_in(procs: &Procs, pid: Pid) -> WorkKind
-    ensures { result ≡ kind_in (seat_in procs.now pid) }
+fn kind_at(procs: &Procs, at: u32) -> WorkKind
+    ensures { result ≡ kind_in (slice_get procs.now at) }
 {
-    match procs.seat(pid) {
+    match procs.at(at) {
         Some(seat) => kind_of(seat),
         None => WorkKind::Rest,
     }
@@ -155,19 +149,21 @@ fn tick_process(
     now: u64,
     times: &Times,
     out: &mut Outbox,
-    steps: &mut StepList,
+    steps: &mut Steps,
     pid: Pid,
+    kind: WorkKind,
 )
     requires now { now < 2 ^ 48 }
+    requires kind { kind ≡ kind_in (seat_in procs.old pid) }
     requires fit { HasFitProcs procs.old }
     requires few { IsFew (seat_in procs.old pid) }
-    requires steps { array_vec_len steps.old < STEPS }
+    requires steps { length steps.old < STEPS }
     requires room { length out.old.posts + 64 ≤ out.old.room }
     ensures seats { procs.new ≡ ticked_of times.now now pid procs.old }
-    ensures steps { steps.new.items ≡ steps.old.items ++ steps_in times.now now (seat_in procs.old pid) }
+    ensures steps { steps.new ≡ steps.old ++ steps_in times.now now (seat_in procs.old pid) }
     ensures packets { out.new ≡ posted out.old (packets_in times.now now (seat_in procs.old pid)) }
 {
-    match kind_in(procs, pid) {
+    match kind {
         WorkKind::Rest => {}
         WorkKind::Send => tick_send(procs, now, times, out, steps, pid),
         WorkKind::Move => tick_move(procs, now, times, out, steps, pid),
@@ -180,17 +176,17 @@ fn tick_send(
     now: u64,
     times: &Times,
     out: &mut Outbox,
-    steps: &mut StepList,
+    steps: &mut Steps,
     pid: Pid,
 )
     requires now { now < 2 ^ 48 }
     requires kind { kind_in (seat_in procs.old pid) ≡ WorkKind.Send }
     requires fit { HasFitProcs procs.old }
     requires few { IsFew (seat_in procs.old pid) }
-    requires steps { array_vec_len steps.old < STEPS }
+    requires steps { length steps.old < STEPS }
     requires room { length out.old.posts + 64 ≤ out.old.room }
     ensures seats { procs.new ≡ ticked_of times.now now pid procs.old }
-    ensures steps { steps.new.items ≡ steps.old.items ++ steps_in times.now now (seat_in procs.old pid) }
+    ensures steps { steps.new ≡ steps.old ++ steps_in times.now now (seat_in procs.old pid) }
     ensures packets { out.new ≡ posted out.old (packets_in times.now now (seat_in procs.old pid)) }
 {
     vk_remote::due(procs, now, times, out, steps, pid);
@@ -201,16 +197,16 @@ fn tick_move(
     now: u64,
     times: &Times,
     out: &mut Outbox,
-    steps: &mut StepList,
+    steps: &mut Steps,
     pid: Pid,
 )
     requires now { now < 2 ^ 48 }
     requires kind { kind_in (seat_in procs.old pid) ≡ WorkKind.Move }
     requires fit { HasFitProcs procs.old }
-    requires steps { array_vec_len steps.old < STEPS }
+    requires steps { length steps.old < STEPS }
     requires room { length out.old.posts + 64 ≤ out.old.room }
     ensures seats { procs.new ≡ ticked_of times.now now pid procs.old }
-    ensures steps { steps.new.items ≡ steps.old.items ++ steps_in times.now now (seat_in procs.old pid) }
+    ensures steps { steps.new ≡ steps.old ++ steps_in times.now now (seat_in procs.old pid) }
     ensures packets { out.new ≡ posted out.old (packets_in times.now now (seat_in procs.old pid)) }
 {
     vk_move::due(procs, now, times, out, steps, pid);
@@ -221,17 +217,17 @@ fn tick_lookup(
     now: u64,
     times: &Times,
     out: &mut Outbox,
-    steps: &mut StepList,
+    steps: &mut Steps,
     pid: Pid,
 )
     requires now { now < 2 ^ 48 }
     requires kind { kind_in (seat_in procs.old pid) ≡ WorkKind.Lookup }
     requires fit { HasFitProcs procs.old }
     requires few { IsFew (seat_in procs.old pid) }
-    requires steps { array_vec_len steps.old < STEPS }
+    requires steps { length steps.old < STEPS }
     requires room { length out.old.posts + 64 ≤ out.old.room }
     ensures seats { procs.new ≡ ticked_of times.now now pid procs.old }
-    ensures steps { steps.new.items ≡ steps.old.items ++ steps_in times.now now (seat_in procs.old pid) }
+    ensures steps { steps.new ≡ steps.old ++ steps_in times.now now (seat_in procs.old pid) }
     ensures packets { out.new ≡ posted out.old (packets_in times.now now (seat_in procs.old pid)) }
 {
     questions::due(procs, now, times, out, steps, pid);

@@ -1,6 +1,7 @@
 mod Copied
 pub mod Decided
 mod ExitRules
+mod Fronts
 pub mod Leaving
 mod MoveRules
 mod Moved

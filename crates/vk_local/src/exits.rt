@@ -2,7 +2,6 @@
 
 ghost use Rattle.std.specs.Prelude.{◌≡◌, ◌<◌, ◌≤◌, ◌+◌, ◌++◌, ◌∷◌, [], ℕ, true, length, Some};
 ghost use Rattle.std.specs.List.{position};
-ghost use Rattle.arrayvec.specs.ArrayVec.{array_vec_len};
 ghost use Rattle.vk_base.specs.declared.limits.TheConstants.{POOL as ALIENS, STATION_PROCESSES, STEPS};
 ghost use Rattle.vk_packet.specs.Rules.{is_number};
 ghost use Rattle.vk_pool.specs.declared.alien.Alien.{Alien as TheAlien};
@@ -15,7 +14,8 @@ ghost use Rattle.vk_local.specs.Rules.{IsExitRule, may_call, whole_tables};
 ghost use Rattle.vk_stands.specs.Rules.{posted};
 
 use vk_base::limits::POOL;
-use vk_base::{Call, Outcome, Pid, Step, StepList};
+use vk_base::{Call, Outcome, Pid};
+use vk_brief::{BriefCall, BriefStep, Steps};
 use vk_names::Names;
 use vk_packet::{Outbox, PacketView};
 use vk_pool::{Alien, AlienPool, AlienStage};
@@ -106,21 +106,21 @@ fn play_exit(
     aliens: &mut AlienPool,
     now: u64,
     out: &mut Outbox,
-    steps: &mut StepList,
+    steps: &mut Steps,
     pid: Pid,
 ) -> Option<Outcome>
     requires lists { length queues.old.lists ≡ STATION_PROCESSES }
     requires numbers { (i : ℕ) (a : TheAlien) → alien_at aliens.old i ≡ Some a → is_number a.number ≡ true }
     requires few { length aliens.old ≤ ALIENS }
     requires out { length out.old.posts + ALIENS ≤ out.old.room }
-    requires steps { array_vec_len steps.old < STEPS }
+    requires steps { length steps.old < STEPS }
     ensures done { IsExit pid now result (whole_tables procs.old queues.old.lists aliens.old names.old)
-        (whole_tables procs.new queues.new.lists aliens.new names.new) steps.old.items steps.new.items out.old out.new }
+        (whole_tables procs.new queues.new.lists aliens.new names.new) steps.old steps.new out.old out.new }
     ensures room { queues.new.slots ≡ queues.old.slots }
 {
-    steps.push(Step::Call {
+    steps.push(BriefStep::Call {
         pid,
-        call: Call::Exit,
+        call: BriefCall::Exit,
     });
     names.forget(pid);
     empty_queue(procs, queues, pid);
@@ -139,7 +139,7 @@ pub fn exit(
     aliens: &mut AlienPool,
     now: u64,
     out: &mut Outbox,
-    steps: &mut StepList,
+    steps: &mut Steps,
     pid: Pid,
 ) -> Option<Outcome>
     requires ready { may_call procs.old pid ≡ true }
@@ -147,11 +147,11 @@ pub fn exit(
     requires numbers { (i : ℕ) (a : TheAlien) → alien_at aliens.old i ≡ Some a → is_number a.number ≡ true }
     requires few { length aliens.old ≤ ALIENS }
     requires out { length out.old.posts + ALIENS ≤ out.old.room }
-    requires steps { array_vec_len steps.old < STEPS }
+    requires steps { length steps.old < STEPS }
     ensures done { IsExit pid now result (whole_tables procs.old queues.old.lists aliens.old names.old)
-        (whole_tables procs.new queues.new.lists aliens.new names.new) steps.old.items steps.new.items out.old out.new }
+        (whole_tables procs.new queues.new.lists aliens.new names.new) steps.old steps.new out.old out.new }
     ensures rule { IsExitRule pid now result (whole_tables procs.old queues.old.lists aliens.old names.old)
-        (whole_tables procs.new queues.new.lists aliens.new names.new) steps.old.items steps.new.items out.old out.new }
+        (whole_tables procs.new queues.new.lists aliens.new names.new) steps.old steps.new out.old out.new }
     ensures pids { pids procs.new ≡ pids procs.old }
     ensures room { queues.new.slots ≡ queues.old.slots }
 {

@@ -1,9 +1,9 @@
 //! Moves between two processes of the station, which are made at once.
 
-ghost use Rattle.std.specs.Prelude.{◌≡◌, ◌<◌, true};
-ghost use Rattle.arrayvec.specs.ArrayVec.{array_vec_len};
+ghost use Rattle.std.specs.Prelude.{◌≡◌, ◌<◌, [], false, length, true};
 ghost use Rattle.vk_base.specs.declared.limits.TheConstants.{STEPS};
 ghost use Rattle.vk_base.specs.Pids.{same_host};
+ghost use Rattle.vk_brief.specs.Brief.{call_with, is_store};
 ghost use Rattle.vk_procs.specs.Seats.{pids};
 ghost use Rattle.vk_local.specs.Calls.{move_access, move_call, moved_seats};
 ghost use Rattle.vk_local.specs.Done.{IsMove};
@@ -11,21 +11,23 @@ ghost use Rattle.vk_local.specs.Rules.{IsSeatsRule, may_call};
 
 use crate::access::{Access, Segment, access_refusal};
 use vk_base::limits::MOVE_BYTES;
-use vk_base::{Call, Direction, Outcome, Pid, Step, StepList};
+use vk_base::{Call, Direction, Outcome, Pid};
+use vk_brief::{BriefCall, BriefStep, Steps};
 use vk_procs::{Passed, Procs};
 
-fn move_call(way: Direction, partner: Pid, segment: Segment) -> Call
-    ensures { result ≡ move_call way partner segment }
+fn move_call(way: Direction, partner: Pid, segment: Segment) -> BriefCall
+    ensures call { call_with [] result ≡ move_call way partner segment }
+    ensures plain { is_store result ≡ false }
 {
     let Segment { dest, src, count } = segment;
     match way {
-        Direction::To => Call::MoveTo {
+        Direction::To => BriefCall::MoveTo {
             partner,
             dest,
             src,
             count,
         },
-        Direction::From => Call::MoveFrom {
+        Direction::From => BriefCall::MoveFrom {
             partner,
             dest,
             src,
@@ -70,16 +72,16 @@ fn move_bytes(procs: &mut Procs, pid: Pid, partner: Pid, way: Direction, segment
 /// The call and the move, by the tables.
 fn play_move(
     procs: &mut Procs,
-    steps: &mut StepList,
+    steps: &mut Steps,
     pid: Pid,
     partner: Pid,
     way: Direction,
     segment: Segment,
 ) -> Option<Outcome>
-    requires { array_vec_len steps.old < STEPS }
-    ensures { IsMove way pid partner segment result procs.old procs.new steps.old.items steps.new.items }
+    requires { length steps.old < STEPS }
+    ensures { IsMove way pid partner segment result procs.old procs.new steps.old steps.new }
 {
-    steps.push(Step::Call {
+    steps.push(BriefStep::Call {
         pid,
         call: move_call(way, partner, segment),
     });
@@ -93,17 +95,17 @@ fn play_move(
 /// A process, which is alive and ready, writes bytes of its memory into that of a partner of its station.
 pub fn move_to(
     procs: &mut Procs,
-    steps: &mut StepList,
+    steps: &mut Steps,
     pid: Pid,
     partner: Pid,
     segment: Segment,
 ) -> Option<Outcome>
     requires near { same_host pid partner ≡ true }
     requires ready { may_call procs.old pid ≡ true }
-    requires room { array_vec_len steps.old < STEPS }
-    ensures done { IsMove Direction.To pid partner segment result procs.old procs.new steps.old.items steps.new.items }
+    requires room { length steps.old < STEPS }
+    ensures done { IsMove Direction.To pid partner segment result procs.old procs.new steps.old steps.new }
     ensures rule { IsSeatsRule pid (Call.MoveTo partner segment.dest segment.src segment.count) result procs.old procs.new
-        steps.old.items steps.new.items }
+        steps.old steps.new }
     ensures pids { pids procs.new ≡ pids procs.old }
 {
     play_move(procs, steps, pid, partner, Direction::To, segment)
@@ -112,17 +114,17 @@ pub fn move_to(
 /// A process, which is alive and ready, reads bytes of the memory of a partner of its station into its own.
 pub fn move_from(
     procs: &mut Procs,
-    steps: &mut StepList,
+    steps: &mut Steps,
     pid: Pid,
     partner: Pid,
     segment: Segment,
 ) -> Option<Outcome>
     requires near { same_host pid partner ≡ true }
     requires ready { may_call procs.old pid ≡ true }
-    requires room { array_vec_len steps.old < STEPS }
-    ensures done { IsMove Direction.From pid partner segment result procs.old procs.new steps.old.items steps.new.items }
+    requires room { length steps.old < STEPS }
+    ensures done { IsMove Direction.From pid partner segment result procs.old procs.new steps.old steps.new }
     ensures rule { IsSeatsRule pid (Call.MoveFrom partner segment.dest segment.src segment.count) result procs.old procs.new
-        steps.old.items steps.new.items }
+        steps.old steps.new }
     ensures pids { pids procs.new ≡ pids procs.old }
 {
     play_move(procs, steps, pid, partner, Direction::From, segment)

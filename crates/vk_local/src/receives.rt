@@ -1,7 +1,6 @@
 //! Receive and ReceiveSegment.
 
 ghost use Rattle.std.specs.Prelude.{◌≡◌, ◌<◌, ◌≤◌, ◌+◌, ◌++◌, ◌∷◌, [], length, true, Some};
-ghost use Rattle.arrayvec.specs.ArrayVec.{array_vec_len};
 ghost use Rattle.vk_base.specs.Activities.{as_receive, call_of};
 ghost use Rattle.vk_base.specs.declared.limits.TheConstants.{STATION_PROCESSES, STEPS};
 ghost use Rattle.vk_procs.specs.Seats.{pids};
@@ -11,7 +10,8 @@ ghost use Rattle.vk_local.specs.Rules.{IsTablesRule, may_call};
 
 use crate::access::own_range;
 use crate::serving::serve;
-use vk_base::{Call, Outcome, Pid, Refusal, Step, StepList, Waiting};
+use vk_base::{Call, Outcome, Pid, Refusal, Step, Waiting};
+use vk_brief::{BriefCall, BriefStep, Steps};
 use vk_pool::AlienPool;
 use vk_procs::Procs;
 use vk_queue::Queues;
@@ -33,16 +33,16 @@ fn begin(
     procs: &mut Procs,
     queues: &mut Queues,
     aliens: &mut AlienPool,
-    steps: &mut StepList,
+    steps: &mut Steps,
     pid: Pid,
     waiting: Waiting,
 )
     requires lists { length queues.old.lists ≡ STATION_PROCESSES }
-    requires room { array_vec_len steps.old < STEPS }
+    requires room { length steps.old < STEPS }
     ensures seats { procs.new ≡ (awaited (tables_of procs.old queues.old.lists aliens.old) pid waiting).seats }
     ensures lists { queues.new.lists ≡ (awaited (tables_of procs.old queues.old.lists aliens.old) pid waiting).lists }
     ensures slots { aliens.new ≡ (awaited (tables_of procs.old queues.old.lists aliens.old) pid waiting).slots }
-    ensures steps { steps.new.items ≡ steps.old.items
+    ensures steps { steps.new ≡ steps.old
         ++ steps_of (received (tables_of procs.old queues.old.lists aliens.old) pid waiting) pid }
     ensures room { queues.new.slots ≡ queues.old.slots }
 {
@@ -51,19 +51,19 @@ fn begin(
 }
 
 /// The step of a receive.
-fn push_receive(steps: &mut StepList, pid: Pid, waiting: Waiting)
+fn push_receive(steps: &mut Steps, pid: Pid, waiting: Waiting)
     requires receive { as_receive waiting ≡ Some waiting }
-    requires room { array_vec_len steps.old < STEPS }
-    ensures { steps.new.items ≡ steps.old.items ++ Step.Call pid (call_of waiting) ∷ [] }
+    requires room { length steps.old < STEPS }
+    ensures { steps.new ≡ steps.old ++ Step.Call pid (call_of waiting) ∷ [] }
 {
     match waiting {
-        Waiting::Receive => steps.push(Step::Call {
+        Waiting::Receive => steps.push(BriefStep::Call {
             pid,
-            call: Call::Receive,
+            call: BriefCall::Receive,
         }),
-        Waiting::ReceiveSegment { start, count } => steps.push(Step::Call {
+        Waiting::ReceiveSegment { start, count } => steps.push(BriefStep::Call {
             pid,
-            call: Call::ReceiveSegment { start, count },
+            call: BriefCall::ReceiveSegment { start, count },
         }),
         _ => unreachable!(),
     }
@@ -74,15 +74,15 @@ fn play_receive(
     procs: &mut Procs,
     queues: &mut Queues,
     aliens: &mut AlienPool,
-    steps: &mut StepList,
+    steps: &mut Steps,
     pid: Pid,
     waiting: Waiting,
 ) -> Option<Outcome>
     requires receive { as_receive waiting ≡ Some waiting }
     requires lists { length queues.old.lists ≡ STATION_PROCESSES }
-    requires room { array_vec_len steps.old + 2 ≤ STEPS }
+    requires room { length steps.old + 2 ≤ STEPS }
     ensures done { IsReceive pid waiting result (tables_of procs.old queues.old.lists aliens.old)
-        (tables_of procs.new queues.new.lists aliens.new) steps.old.items steps.new.items }
+        (tables_of procs.new queues.new.lists aliens.new) steps.old steps.new }
     ensures room { queues.new.slots ≡ queues.old.slots }
 {
     push_receive(steps, pid, waiting);
@@ -98,18 +98,18 @@ pub fn receive(
     procs: &mut Procs,
     queues: &mut Queues,
     aliens: &mut AlienPool,
-    steps: &mut StepList,
+    steps: &mut Steps,
     pid: Pid,
     waiting: Waiting,
 ) -> Option<Outcome>
     requires receive { as_receive waiting ≡ Some waiting }
     requires ready { may_call procs.old pid ≡ true }
     requires lists { length queues.old.lists ≡ STATION_PROCESSES }
-    requires room { array_vec_len steps.old + 2 ≤ STEPS }
+    requires room { length steps.old + 2 ≤ STEPS }
     ensures done { IsReceive pid waiting result (tables_of procs.old queues.old.lists aliens.old)
-        (tables_of procs.new queues.new.lists aliens.new) steps.old.items steps.new.items }
+        (tables_of procs.new queues.new.lists aliens.new) steps.old steps.new }
     ensures rule { IsTablesRule pid (call_of waiting) result (tables_of procs.old queues.old.lists aliens.old)
-        (tables_of procs.new queues.new.lists aliens.new) steps.old.items steps.new.items }
+        (tables_of procs.new queues.new.lists aliens.new) steps.old steps.new }
     ensures pids { pids procs.new ≡ pids procs.old }
     ensures room { queues.new.slots ≡ queues.old.slots }
 {

@@ -1,7 +1,6 @@
 //! A reply to a process of the same station.
 
-ghost use Rattle.std.specs.Prelude.{◌≡◌, ◌≤◌, ◌+◌, true};
-ghost use Rattle.arrayvec.specs.ArrayVec.{array_vec_len};
+ghost use Rattle.std.specs.Prelude.{◌≡◌, ◌≤◌, ◌+◌, true, length};
 ghost use Rattle.vk_base.specs.declared.limits.TheConstants.{STEPS};
 ghost use Rattle.vk_base.specs.Pids.{same_host};
 ghost use Rattle.vk_procs.specs.Seats.{pids};
@@ -11,23 +10,24 @@ ghost use Rattle.vk_local.specs.Rules.{IsSeatsRule, may_call};
 
 use crate::access::{Access, Segment, access_refusal, not_awaiting};
 use vk_base::limits::SEGMENT_BYTES;
-use vk_base::{Call, Message, Outcome, Pid, Step, StepList};
+use vk_base::{Call, Message, Outcome, Pid};
+use vk_brief::{BriefCall, BriefStep, Steps};
 use vk_procs::{Passed, Procs};
 
 /// The reply, by the tables.
 fn play_reply(
     procs: &mut Procs,
-    steps: &mut StepList,
+    steps: &mut Steps,
     pid: Pid,
     to: Pid,
     message: &Message,
 ) -> Option<Outcome>
-    requires { array_vec_len steps.old + 2 ≤ STEPS }
-    ensures { IsReply pid to message.now result procs.old procs.new steps.old.items steps.new.items }
+    requires { length steps.old + 2 ≤ STEPS }
+    ensures { IsReply pid to message.now result procs.old procs.new steps.old steps.new }
 {
-    steps.push(Step::Call {
+    steps.push(BriefStep::Call {
         pid,
-        call: Call::Reply {
+        call: BriefCall::Reply {
             message: *message,
             to,
         },
@@ -36,7 +36,7 @@ fn play_reply(
         return Some(Outcome::Refused { why });
     }
     procs.finish(to, Outcome::Replied { message: *message });
-    steps.push(Step::Finish { pid: to });
+    steps.push(BriefStep::Finish { pid: to });
     Some(Outcome::Ok)
 }
 
@@ -56,19 +56,19 @@ fn reply_access(segment: Segment) -> Access
 /// The reply with bytes, by the tables.
 fn play_reply_segment(
     procs: &mut Procs,
-    steps: &mut StepList,
+    steps: &mut Steps,
     pid: Pid,
     to: Pid,
     message: &Message,
     segment: Segment,
 ) -> Option<Outcome>
-    requires { array_vec_len steps.old + 2 ≤ STEPS }
-    ensures { IsReplySegment pid to message.now segment result procs.old procs.new steps.old.items steps.new.items }
+    requires { length steps.old + 2 ≤ STEPS }
+    ensures { IsReplySegment pid to message.now segment result procs.old procs.new steps.old steps.new }
 {
     let Segment { dest, src, count } = segment;
-    steps.push(Step::Call {
+    steps.push(BriefStep::Call {
         pid,
-        call: Call::ReplySegment {
+        call: BriefCall::ReplySegment {
             message: *message,
             to,
             dest,
@@ -81,23 +81,23 @@ fn play_reply_segment(
     }
     procs.pass(pid, to, Passed::Bytes { src, count, dest });
     procs.finish(to, Outcome::Replied { message: *message });
-    steps.push(Step::Finish { pid: to });
+    steps.push(BriefStep::Finish { pid: to });
     Some(Outcome::Ok)
 }
 
 /// A process, which is alive and ready, replies to one of its station, which has the reply now.
 pub fn reply(
     procs: &mut Procs,
-    steps: &mut StepList,
+    steps: &mut Steps,
     pid: Pid,
     to: Pid,
     message: &Message,
 ) -> Option<Outcome>
     requires near { same_host pid to ≡ true }
     requires ready { may_call procs.old pid ≡ true }
-    requires room { array_vec_len steps.old + 2 ≤ STEPS }
-    ensures done { IsReply pid to message.now result procs.old procs.new steps.old.items steps.new.items }
-    ensures rule { IsSeatsRule pid (Call.Reply message.now to) result procs.old procs.new steps.old.items steps.new.items }
+    requires room { length steps.old + 2 ≤ STEPS }
+    ensures done { IsReply pid to message.now result procs.old procs.new steps.old steps.new }
+    ensures rule { IsSeatsRule pid (Call.Reply message.now to) result procs.old procs.new steps.old steps.new }
     ensures pids { pids procs.new ≡ pids procs.old }
 {
     play_reply(procs, steps, pid, to, message)
@@ -106,7 +106,7 @@ pub fn reply(
 /// The same with bytes of the caller's memory, which are written into the memory of the other.
 pub fn reply_segment(
     procs: &mut Procs,
-    steps: &mut StepList,
+    steps: &mut Steps,
     pid: Pid,
     to: Pid,
     message: &Message,
@@ -114,10 +114,10 @@ pub fn reply_segment(
 ) -> Option<Outcome>
     requires near { same_host pid to ≡ true }
     requires ready { may_call procs.old pid ≡ true }
-    requires room { array_vec_len steps.old + 2 ≤ STEPS }
-    ensures done { IsReplySegment pid to message.now segment result procs.old procs.new steps.old.items steps.new.items }
+    requires room { length steps.old + 2 ≤ STEPS }
+    ensures done { IsReplySegment pid to message.now segment result procs.old procs.new steps.old steps.new }
     ensures rule { IsSeatsRule pid (Call.ReplySegment message.now to segment.dest segment.src segment.count) result procs.old procs.new
-        steps.old.items steps.new.items }
+        steps.old steps.new }
     ensures pids { pids procs.new ≡ pids procs.old }
 {
     play_reply_segment(procs, steps, pid, to, message, segment)

@@ -1,7 +1,6 @@
 //! A Send to a process of the same station.
 
 ghost use Rattle.std.specs.Prelude.{◌≡◌, ◌<◌, ◌≤◌, ◌+◌, ◌++◌, ◌∷◌, ◌^◌, [], length, true, Some};
-ghost use Rattle.arrayvec.specs.ArrayVec.{array_vec_len};
 ghost use Rattle.vk_base.specs.declared.limits.TheConstants.{STATION_PROCESSES, STEPS};
 ghost use Rattle.vk_base.specs.Pids.{same_host};
 ghost use Rattle.vk_procs.specs.declared.seat.Seat.{Seat as TheSeat};
@@ -12,7 +11,8 @@ ghost use Rattle.vk_local.specs.Rules.{IsTablesRule, may_call};
 
 use crate::access::own_range;
 use crate::serving::serve;
-use vk_base::{Call, Message, Outcome, Pid, Refusal, Step, StepList};
+use vk_base::{Call, Message, Outcome, Pid, Refusal};
+use vk_brief::{BriefCall, BriefStep, Steps};
 use vk_pool::AlienPool;
 use vk_procs::Procs;
 use vk_queue::Queues;
@@ -51,18 +51,18 @@ fn begin(
     procs: &mut Procs,
     queues: &mut Queues,
     aliens: &mut AlienPool,
-    steps: &mut StepList,
+    steps: &mut Steps,
     pid: Pid,
     target: Pid,
     message: &Message,
 )
     requires lists { length queues.old.lists ≡ STATION_PROCESSES }
     requires slots { STATION_PROCESSES ≤ queues.old.slots }
-    requires room { array_vec_len steps.old < STEPS }
+    requires room { length steps.old < STEPS }
     ensures seats { procs.new ≡ (begun (tables_of procs.old queues.old.lists aliens.old) pid target message.now).seats }
     ensures lists { queues.new.lists ≡ (begun (tables_of procs.old queues.old.lists aliens.old) pid target message.now).lists }
     ensures slots { aliens.new ≡ (begun (tables_of procs.old queues.old.lists aliens.old) pid target message.now).slots }
-    ensures steps { steps.new.items ≡ steps.old.items
+    ensures steps { steps.new ≡ steps.old
         ++ steps_of (sent (tables_of procs.old queues.old.lists aliens.old) pid target message.now) target }
     ensures room { queues.new.slots ≡ queues.old.slots }
 {
@@ -76,21 +76,21 @@ fn play_send(
     procs: &mut Procs,
     queues: &mut Queues,
     aliens: &mut AlienPool,
-    steps: &mut StepList,
+    steps: &mut Steps,
     pid: Pid,
     target: Pid,
     message: &Message,
 ) -> Option<Outcome>
     requires lists { length queues.old.lists ≡ STATION_PROCESSES }
     requires slots { STATION_PROCESSES ≤ queues.old.slots }
-    requires room { array_vec_len steps.old + 2 ≤ STEPS }
+    requires room { length steps.old + 2 ≤ STEPS }
     ensures done { IsSend pid target message.now result (tables_of procs.old queues.old.lists aliens.old)
-        (tables_of procs.new queues.new.lists aliens.new) steps.old.items steps.new.items }
+        (tables_of procs.new queues.new.lists aliens.new) steps.old steps.new }
     ensures room { queues.new.slots ≡ queues.old.slots }
 {
-    steps.push(Step::Call {
+    steps.push(BriefStep::Call {
         pid,
-        call: Call::Send {
+        call: BriefCall::Send {
             target,
             message: *message,
         },
@@ -107,7 +107,7 @@ pub fn send(
     procs: &mut Procs,
     queues: &mut Queues,
     aliens: &mut AlienPool,
-    steps: &mut StepList,
+    steps: &mut Steps,
     pid: Pid,
     target: Pid,
     message: &Message,
@@ -117,11 +117,11 @@ pub fn send(
     requires few { (s : TheSeat) → seat_in procs.old pid ≡ Some s → s.note.sends < 2 ^ 48 }
     requires lists { length queues.old.lists ≡ STATION_PROCESSES }
     requires slots { STATION_PROCESSES ≤ queues.old.slots }
-    requires room { array_vec_len steps.old + 2 ≤ STEPS }
+    requires room { length steps.old + 2 ≤ STEPS }
     ensures done { IsSend pid target message.now result (tables_of procs.old queues.old.lists aliens.old)
-        (tables_of procs.new queues.new.lists aliens.new) steps.old.items steps.new.items }
+        (tables_of procs.new queues.new.lists aliens.new) steps.old steps.new }
     ensures rule { IsTablesRule pid (Call.Send target message.now) result (tables_of procs.old queues.old.lists aliens.old)
-        (tables_of procs.new queues.new.lists aliens.new) steps.old.items steps.new.items }
+        (tables_of procs.new queues.new.lists aliens.new) steps.old steps.new }
     ensures pids { pids procs.new ≡ pids procs.old }
     ensures room { queues.new.slots ≡ queues.old.slots }
 {

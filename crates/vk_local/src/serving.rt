@@ -2,14 +2,14 @@
 
 ghost use Rattle.std.specs.Prelude.{◌≡◌, ◌<◌, ◌-◌, ◌++◌, length, is_some, slice_get, Some};
 ghost use Rattle.std.specs.List.{position};
-ghost use Rattle.arrayvec.specs.ArrayVec.{array_vec_len};
 ghost use Rattle.vk_base.specs.declared.limits.TheConstants.{STATION_PROCESSES as PROCESSES, STEPS};
 ghost use Rattle.vk_pool.specs.Aliens.{alien_at, changed_at, taken};
-ghost use Rattle.vk_procs.specs.Seats.{is_seat, pids};
+ghost use Rattle.vk_procs.specs.Seats.{is_seat, pids, receive_of};
 ghost use Rattle.vk_local.specs.Takes.{alien_taken, front_of, local_taken, seats_at, served_lists, served_seats, served_slots, served_steps, slots_at};
 
+use vk_base::Pid;
 use vk_base::limits::STATION_PROCESSES;
-use vk_base::{Pid, Step, StepList};
+use vk_brief::{BriefStep, Steps};
 use vk_pool::AlienPool;
 use vk_procs::{Passed, Procs};
 use vk_queue::Queues;
@@ -51,6 +51,16 @@ fn take_slot(procs: &mut Procs, aliens: &mut AlienPool, pid: Pid, slot: u32)
     }
 }
 
+/// Whether the process in this place waits for a message.
+fn waits_at(procs: &Procs, at: u32) -> bool
+    ensures { result ≡ is_some (receive_of (slice_get procs.now at)) }
+{
+    match procs.at(at) {
+        Some(seat) => seat.doing.receiving().is_some(),
+        None => false,
+    }
+}
+
 /// The slot of the message that the process takes now, which is out of its list then.
 fn take_front(procs: &Procs, queues: &mut Queues, pid: Pid) -> Option<u32>
     requires { length queues.old.lists ≡ PROCESSES }
@@ -58,10 +68,10 @@ fn take_front(procs: &Procs, queues: &mut Queues, pid: Pid) -> Option<u32>
     ensures lists { queues.new.lists ≡ served_lists procs.now queues.old.lists pid result }
     ensures slots { queues.new.slots ≡ queues.old.slots }
 {
-    if procs.receiving(pid).is_none() {
+    let list = procs.place(pid)?;
+    if !waits_at(procs, list) {
         return None;
     }
-    let list = procs.place(pid)?;
     queues.pop_front(list)
 }
 
@@ -71,15 +81,15 @@ pub fn serve(
     procs: &mut Procs,
     queues: &mut Queues,
     aliens: &mut AlienPool,
-    steps: &mut StepList,
+    steps: &mut Steps,
     pid: Pid,
 ) -> bool
     requires lists { length queues.old.lists ≡ PROCESSES }
-    requires room { array_vec_len steps.old < STEPS }
+    requires room { length steps.old < STEPS }
     ensures seats { procs.new ≡ served_seats procs.old aliens.old pid (front_of procs.old queues.old.lists pid) }
     ensures lists { queues.new.lists ≡ served_lists procs.old queues.old.lists pid (front_of procs.old queues.old.lists pid) }
     ensures slots { aliens.new ≡ served_slots aliens.old (front_of procs.old queues.old.lists pid) }
-    ensures steps { steps.new.items ≡ steps.old.items ++ served_steps pid (front_of procs.old queues.old.lists pid) }
+    ensures steps { steps.new ≡ steps.old ++ served_steps pid (front_of procs.old queues.old.lists pid) }
     ensures took { result ≡ is_some (front_of procs.old queues.old.lists pid) }
     ensures room { queues.new.slots ≡ queues.old.slots }
     ensures pids { pids procs.new ≡ pids procs.old }
@@ -87,7 +97,7 @@ pub fn serve(
     match take_front(procs, queues, pid) {
         Some(slot) => {
             take_slot(procs, aliens, pid, slot);
-            steps.push(Step::Take { pid });
+            steps.push(BriefStep::Take { pid });
             true
         }
         None => false,

@@ -1,5 +1,5 @@
 -- A packet to a mover that makes no step: the view and the slots stay, and the work of the mover alone may change.
-use Rattle.std.proofs.Common.{◌≡◌, ℕ, ◌+◌, Bool, true, false, cond, List, [], refl, ap, sym, ◌∙◌, subst, Option, Some, inl, inr}
+use Rattle.std.proofs.Common.{◌≡◌, ℕ, ◌+◌, Bool, false, cond, List, [], ap, sym, ◌∙◌, subst, Option, Some, inl, inr}
 use Rattle.std.specs.List.{list_any, filter_map, sum_by}
 use Rattle.std.proofs.lemmas.Bool.{cases_Bool}
 use Rattle.vk_base.specs.declared.activity.Activity.TheVariants as activities

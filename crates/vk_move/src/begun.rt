@@ -2,7 +2,6 @@
 
 ghost use Rattle.std.specs.Prelude.{◌≡◌, ◌≤◌, ◌<◌, ◌+◌, ◌++◌, ◌∷◌, [], ◌^◌, true, length, option_copied, None};
 ghost use Rattle.std.specs.List.{position};
-ghost use Rattle.arrayvec.specs.ArrayVec.{array_vec_len};
 ghost use Rattle.vk_base.specs.Kernel.{is_move};
 ghost use Rattle.vk_local.specs.Rules.{may_call};
 ghost use Rattle.vk_move.specs.Begun.{CanBegin, HasFewMoves, HasFitAliens, IsBeginRule, begun_by, begun_note, counted, doing_in, grants_access, has_ranges, is_away, message_held, move_begun, moves_of, next_name, size_of, verdict_by, verdict_in, verdict_on, waiting_in, waiting_seats, way_begun};
@@ -13,9 +12,8 @@ ghost use Rattle.vk_stands.specs.Rules.{posted};
 
 use crate::rounds::post_round;
 use vk_base::limits::MOVE_BYTES;
-use vk_base::{
-    Call, Direction, Message, MoveName, Name, Outcome, Pid, Refusal, Step, StepList, Times, Waiting,
-};
+use vk_base::{Direction, Message, MoveName, Name, Outcome, Pid, Refusal, Step, Times, Waiting};
+use vk_brief::{BriefCall, BriefStep, CallView, Steps};
 use vk_packet::Outbox;
 use vk_pool::{Alien, AlienPool, AlienStage};
 use vk_procs::{ProcNote, Procs, Seat};
@@ -284,9 +282,9 @@ pub fn begin(
     now: u64,
     times: &Times,
     out: &mut Outbox,
-    steps: &mut StepList,
+    steps: &mut Steps,
     pid: Pid,
-    call: &Call,
+    call: &CallView,
 ) -> Option<Outcome>
     requires now { now < 2 ^ 48 }
     requires call { is_move call.now ≡ true }
@@ -295,38 +293,41 @@ pub fn begin(
     requires moves { HasFewMoves aliens.old }
     requires fit { HasFitAliens aliens.old }
     requires packets { length out.old.posts + 64 ≤ out.old.room }
-    requires room { array_vec_len steps.old + 1 ≤ 40 }
+    requires room { length steps.old + 1 ≤ 40 }
     ensures answer { result ≡ (move_begun times.now now pid call.now procs.old aliens.old).answer }
     ensures seats { procs.new ≡ (move_begun times.now now pid call.now procs.old aliens.old).seats }
     ensures slots { aliens.new ≡ (move_begun times.now now pid call.now procs.old aliens.old).slots }
     ensures packets { out.new ≡ posted out.old (move_begun times.now now pid call.now procs.old aliens.old).packets }
-    ensures steps { steps.new.items ≡ steps.old.items ++ Step.Call pid call.now ∷ [] }
-    ensures right { IsBeginRule times.now now pid call.now result (doing_in procs.old aliens.old steps.old.items out.old)
-        (doing_in procs.new aliens.new steps.new.items out.new) }
+    ensures steps { steps.new ≡ steps.old ++ Step.Call pid call.now ∷ [] }
+    ensures right { IsBeginRule times.now now pid call.now result (doing_in procs.old aliens.old steps.old out.old)
+        (doing_in procs.new aliens.new steps.new out.new) }
 {
-    steps.push(Step::Call {
-        pid,
-        call: call.copy(),
-    });
     let to = Direction::To;
     let from = Direction::From;
+    let (call, _) = call.parts();
     match *call {
-        Call::MoveTo {
+        BriefCall::MoveTo {
             partner,
             dest,
             src,
             count,
-        } => begin_way(
-            procs, aliens, now, times, out, pid, to, partner, dest, src, count,
-        ),
-        Call::MoveFrom {
+        } => {
+            steps.push(BriefStep::Call { pid, call: *call });
+            begin_way(
+                procs, aliens, now, times, out, pid, to, partner, dest, src, count,
+            )
+        }
+        BriefCall::MoveFrom {
             partner,
             dest,
             src,
             count,
-        } => begin_way(
-            procs, aliens, now, times, out, pid, from, partner, dest, src, count,
-        ),
+        } => {
+            steps.push(BriefStep::Call { pid, call: *call });
+            begin_way(
+                procs, aliens, now, times, out, pid, from, partner, dest, src, count,
+            )
+        }
         _ => unreachable!(),
     }
 }

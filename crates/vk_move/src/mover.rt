@@ -1,7 +1,6 @@
 //! The mover's end of a move.
 
 ghost use Rattle.std.specs.Prelude.{◌≡◌, ◌≤◌, ◌<◌, ◌+◌, ◌++◌, ◌∷◌, [], ◌^◌, length, option_copied};
-ghost use Rattle.arrayvec.specs.ArrayVec.{array_vec_len};
 ghost use Rattle.vk_base.specs.Firsts.{change_first};
 ghost use Rattle.vk_base.specs.Kernel.{holds_of};
 ghost use Rattle.vk_move.specs.Moved.{CanGoOn, HasFitSeats, answered, change_note, received, restarted};
@@ -14,7 +13,8 @@ ghost use Rattle.vk_stands.specs.Rules.{posted};
 use crate::places::write_behind;
 use crate::rounds::post_round;
 use vk_base::limits::DATA_BYTES;
-use vk_base::{Activity, Ending, Name, Outcome, Pid, Refusal, Step, StepList, Times, Waiting};
+use vk_base::{Activity, Ending, Name, Outcome, Pid, Refusal, Times, Waiting};
+use vk_brief::{BriefStep, Steps};
 use vk_packet::Outbox;
 use vk_procs::{ProcNote, Procs, Seat};
 
@@ -187,10 +187,10 @@ fn receive(procs: &mut Procs, pid: Pid, now: u64, times: &Times, offset: u32)
 }
 
 /// The process's move ends.
-pub fn end(procs: &mut Procs, steps: &mut StepList, pid: Pid, why: Ending)
-    requires { array_vec_len steps.old + 1 ≤ 40 }
+pub fn end(procs: &mut Procs, steps: &mut Steps, pid: Pid, why: Ending)
+    requires { length steps.old + 1 ≤ 40 }
     ensures seats { procs.new ≡ ended_seats pid why procs.old }
-    ensures steps { steps.new.items ≡ steps.old.items ++ (ended pid why procs.old).steps }
+    ensures steps { steps.new ≡ steps.old ++ (ended pid why procs.old).steps }
 {
     match why {
         Ending::Ok => procs.finish(pid, Outcome::Ok),
@@ -203,7 +203,7 @@ pub fn end(procs: &mut Procs, steps: &mut StepList, pid: Pid, why: Ending)
         ),
         Ending::NoProcess => {}
     }
-    steps.push(Step::End { pid, why });
+    steps.push(BriefStep::End { pid, why });
 }
 
 /// A round of the process's move goes out at the tick `now` from an offset on, and was tried so often with this one.
@@ -229,7 +229,7 @@ pub fn go_on(
 /// The next bytes of the process's move are written.
 fn write_next(
     procs: &mut Procs,
-    steps: &mut StepList,
+    steps: &mut Steps,
     pid: Pid,
     name: Name,
     moving: u64,
@@ -238,12 +238,12 @@ fn write_next(
     bytes: &[u8],
 )
     requires few { length bytes.now < 2 ^ 32 }
-    requires room { array_vec_len steps.old + 1 ≤ 40 }
+    requires room { length steps.old + 1 ≤ 40 }
     ensures seats { procs.new ≡ next_written pid dest offset bytes.now procs.old }
-    ensures steps { steps.new.items ≡ steps.old.items ++ copies_bytes name moving offset bytes.now ∷ [] }
+    ensures steps { steps.new ≡ steps.old ++ copies_bytes name moving offset bytes.now ∷ [] }
 {
     write_behind(procs, pid, dest, offset, bytes);
-    steps.push(Step::Copy {
+    steps.push(BriefStep::Copy {
         sender: name.sender,
         number: name.number,
         moving,
@@ -258,7 +258,7 @@ pub fn take_ack(
     now: u64,
     times: &Times,
     out: &mut Outbox,
-    steps: &mut StepList,
+    steps: &mut Steps,
     from: Pid,
     to: Pid,
     number: u64,
@@ -268,9 +268,9 @@ pub fn take_ack(
     requires now { now < 2 ^ 48 }
     requires fit { HasFitSeats procs.old }
     requires packets { length out.old.posts + 64 ≤ out.old.room }
-    requires room { array_vec_len steps.old + 1 ≤ 40 }
+    requires room { length steps.old + 1 ≤ 40 }
     ensures seats { procs.new ≡ (ack_taken times.now now from to number moving received procs.old).seats }
-    ensures steps { steps.new.items ≡ steps.old.items ++ (ack_taken times.now now from to number moving received procs.old).steps }
+    ensures steps { steps.new ≡ steps.old ++ (ack_taken times.now now from to number moving received procs.old).steps }
     ensures packets { out.new ≡ posted out.old (ack_taken times.now now from to number moving received procs.old).packets }
 {
     let name = Name {
@@ -291,7 +291,7 @@ pub fn take_bytes(
     now: u64,
     times: &Times,
     out: &mut Outbox,
-    steps: &mut StepList,
+    steps: &mut Steps,
     from: Pid,
     to: Pid,
     number: u64,
@@ -304,9 +304,9 @@ pub fn take_bytes(
     requires fit { HasFitSeats procs.old }
     requires few { offset + length bytes.now ≤ MOVE_BYTES }
     requires packets { length out.old.posts + 64 ≤ out.old.room }
-    requires room { array_vec_len steps.old + 2 ≤ 40 }
+    requires room { length steps.old + 2 ≤ 40 }
     ensures seats { procs.new ≡ (bytes_taken times.now now from to number moving total offset bytes.now procs.old).seats }
-    ensures steps { steps.new.items ≡ steps.old.items
+    ensures steps { steps.new ≡ steps.old
         ++ (bytes_taken times.now now from to number moving total offset bytes.now procs.old).steps }
     ensures packets { out.new ≡ posted out.old (bytes_taken times.now now from to number moving total offset bytes.now procs.old).packets }
 {
@@ -331,17 +331,10 @@ pub fn take_bytes(
 }
 
 /// The partner of a move no longer waits.
-pub fn take_gone(
-    procs: &mut Procs,
-    steps: &mut StepList,
-    from: Pid,
-    to: Pid,
-    number: u64,
-    moving: u64,
-)
-    requires { array_vec_len steps.old + 1 ≤ 40 }
+pub fn take_gone(procs: &mut Procs, steps: &mut Steps, from: Pid, to: Pid, number: u64, moving: u64)
+    requires { length steps.old + 1 ≤ 40 }
     ensures seats { procs.new ≡ (gone_taken from to number moving procs.old).seats }
-    ensures steps { steps.new.items ≡ steps.old.items ++ (gone_taken from to number moving procs.old).steps }
+    ensures steps { steps.new ≡ steps.old ++ (gone_taken from to number moving procs.old).steps }
 {
     let name = Name {
         sender: from,

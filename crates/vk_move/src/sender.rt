@@ -1,7 +1,6 @@
 //! The other end of a move: the sender's, whose memory is moved.
 
 ghost use Rattle.std.specs.Prelude.{◌≡◌, ◌≤◌, ◌<◌, ◌+◌, ◌++◌, ◌∷◌, [], ◌^◌, ◌==◌, ◌&&◌, true, length, option_copied};
-ghost use Rattle.arrayvec.specs.ArrayVec.{array_vec_len};
 ghost use Rattle.vk_base.specs.declared.limits.TheConstants.{MOVE_BYTES};
 ghost use Rattle.vk_base.specs.Packets as packets;
 ghost use Rattle.vk_move.specs.Moved.{HasFitSeats, change_note, progressed};
@@ -15,7 +14,8 @@ ghost use Rattle.vk_stands.specs.Rules.{posted};
 
 use crate::places::write_behind;
 use crate::rounds::post_bytes;
-use vk_base::{Activity, Message, Name, Pid, Step, StepList, Waiting};
+use vk_base::{Activity, Message, Name, Pid, Waiting};
+use vk_brief::{BriefStep, Steps};
 use vk_packet::{Outbox, PacketView};
 use vk_procs::{ProcNote, Procs, Seat};
 
@@ -165,12 +165,12 @@ fn post_gone(out: &mut Outbox, name: Name, mover: Pid, moving: u64)
 
 /// A move is opened, where it is not yet.
 #[tactic(auto, using(crate::proofs::Pieces::none_posted))]
-fn open_move(steps: &mut StepList, name: Name, moving: u64, opens: bool)
-    requires { array_vec_len steps.old + 1 ≤ 40 }
-    ensures { steps.new.items ≡ steps.old.items ++ opening name moving opens }
+fn open_move(steps: &mut Steps, name: Name, moving: u64, opens: bool)
+    requires { length steps.old + 1 ≤ 40 }
+    ensures { steps.new ≡ steps.old ++ opening name moving opens }
 {
     if opens {
-        steps.push(Step::OpenMove {
+        steps.push(BriefStep::OpenMove {
             sender: name.sender,
             number: name.number,
             moving,
@@ -181,7 +181,7 @@ fn open_move(steps: &mut StepList, name: Name, moving: u64, opens: bool)
 /// Bytes are written where they are the next ones.
 fn write_piece(
     procs: &mut Procs,
-    steps: &mut StepList,
+    steps: &mut Steps,
     name: Name,
     moving: u64,
     dest: u32,
@@ -190,13 +190,13 @@ fn write_piece(
     bytes: &[u8],
 )
     requires few { length bytes.now < 2 ^ 32 }
-    requires room { array_vec_len steps.old + 1 ≤ 40 }
+    requires room { length steps.old + 1 ≤ 40 }
     ensures seats { procs.new ≡ written_if (offset == before) name.sender dest offset bytes.now procs.old }
-    ensures steps { steps.new.items ≡ steps.old.items ++ list_if (offset == before) (copies_bytes name moving offset bytes.now ∷ []) }
+    ensures steps { steps.new ≡ steps.old ++ list_if (offset == before) (copies_bytes name moving offset bytes.now ∷ []) }
 {
     if offset == before {
         write_behind(procs, name.sender, dest, offset, bytes);
-        steps.push(Step::Copy {
+        steps.push(BriefStep::Copy {
             sender: name.sender,
             number: name.number,
             moving,
@@ -257,7 +257,7 @@ fn done_after(offset: u32, before: u32, bytes: &[u8]) -> u32
 fn put_data(
     procs: &mut Procs,
     out: &mut Outbox,
-    steps: &mut StepList,
+    steps: &mut Steps,
     name: Name,
     mover: Pid,
     moving: u64,
@@ -272,9 +272,9 @@ fn put_data(
     requires few { offset + length bytes.now ≤ MOVE_BYTES }
     requires low { before ≤ MOVE_BYTES }
     requires packets { length out.old.posts < out.old.room }
-    requires room { array_vec_len steps.old + 2 ≤ 40 }
+    requires room { length steps.old + 2 ≤ 40 }
     ensures seats { procs.new ≡ (data_moved name mover moving dest total offset bytes.now (Piece.Wanted opens before) procs.old).seats }
-    ensures steps { steps.new.items ≡ steps.old.items
+    ensures steps { steps.new ≡ steps.old
         ++ (data_moved name mover moving dest total offset bytes.now (Piece.Wanted opens before) procs.old).steps }
     ensures packets { out.new ≡ posted out.old
         (data_moved name mover moving dest total offset bytes.now (Piece.Wanted opens before) procs.old).packets }
@@ -297,7 +297,7 @@ fn put_data(
 pub fn take_data(
     procs: &mut Procs,
     out: &mut Outbox,
-    steps: &mut StepList,
+    steps: &mut Steps,
     from: Pid,
     to: Pid,
     number: u64,
@@ -311,9 +311,9 @@ pub fn take_data(
     requires few { offset + length bytes.now ≤ MOVE_BYTES }
     requires fit { HasFitSeats procs.old }
     requires packets { length out.old.posts < out.old.room }
-    requires room { array_vec_len steps.old + 2 ≤ 40 }
+    requires room { length steps.old + 2 ≤ 40 }
     ensures seats { procs.new ≡ (data_taken from to number moving dest total offset bytes.now procs.old).seats }
-    ensures steps { steps.new.items ≡ steps.old.items ++ (data_taken from to number moving dest total offset bytes.now procs.old).steps }
+    ensures steps { steps.new ≡ steps.old ++ (data_taken from to number moving dest total offset bytes.now procs.old).steps }
     ensures packets { out.new ≡ posted out.old (data_taken from to number moving dest total offset bytes.now procs.old).packets }
 {
     let name = Name { sender: to, number };
@@ -355,7 +355,7 @@ fn post_asked(
 pub fn take_request(
     procs: &mut Procs,
     out: &mut Outbox,
-    steps: &mut StepList,
+    steps: &mut Steps,
     from: Pid,
     to: Pid,
     number: u64,
@@ -368,9 +368,9 @@ pub fn take_request(
     requires place { is_place total offset ≡ true }
     requires fit { HasFitSeats procs.old }
     requires packets { length out.old.posts + 64 ≤ out.old.room }
-    requires room { array_vec_len steps.old + 1 ≤ 40 }
+    requires room { length steps.old + 1 ≤ 40 }
     ensures seats { procs.new ≡ (request_taken from to number moving src total offset procs.old).seats }
-    ensures steps { steps.new.items ≡ steps.old.items ++ (request_taken from to number moving src total offset procs.old).steps }
+    ensures steps { steps.new ≡ steps.old ++ (request_taken from to number moving src total offset procs.old).steps }
     ensures packets { out.new ≡ posted out.old (request_taken from to number moving src total offset procs.old).packets }
 {
     let name = Name { sender: to, number };

@@ -1,7 +1,6 @@
 //! A packet of a move comes.
 
 ghost use Rattle.std.specs.Prelude.{◌≡◌, ◌≤◌, ◌<◌, ◌+◌, ◌++◌, ◌^◌, true, length};
-ghost use Rattle.arrayvec.specs.ArrayVec.{array_vec_len};
 ghost use Rattle.vk_move.specs.Fitting.{KeepsFit};
 ghost use Rattle.vk_move.specs.Moved.{HasFitSeats};
 ghost use Rattle.vk_move.specs.Right.{IsMoverRule, IsSenderRule};
@@ -12,7 +11,8 @@ ghost use Rattle.vk_stands.specs.Rules.{posted};
 
 use crate::mover::{take_ack, take_bytes, take_gone};
 use crate::sender::{take_data, take_request};
-use vk_base::{StepList, Times};
+use vk_base::Times;
+use vk_brief::Steps;
 use vk_packet::{Outbox, PacketView};
 use vk_procs::Procs;
 
@@ -23,16 +23,16 @@ pub fn take_packet(
     now: u64,
     times: &Times,
     out: &mut Outbox,
-    steps: &mut StepList,
+    steps: &mut Steps,
     packet: &PacketView,
 )
     requires now { now < 2 ^ 48 }
     requires lawful { is_lawful (value_of packet.now) ≡ true }
     requires fit { HasFitSeats procs.old }
     requires packets { length out.old.posts + 64 ≤ out.old.room }
-    requires room { array_vec_len steps.old + 2 ≤ 40 }
+    requires room { length steps.old + 2 ≤ 40 }
     ensures seats { procs.new ≡ (packet_taken times.now now (value_of packet.now) procs.old).seats }
-    ensures steps { steps.new.items ≡ steps.old.items ++ (packet_taken times.now now (value_of packet.now) procs.old).steps }
+    ensures steps { steps.new ≡ steps.old ++ (packet_taken times.now now (value_of packet.now) procs.old).steps }
     ensures packets { out.new ≡ posted out.old (packet_taken times.now now (value_of packet.now) procs.old).packets }
     ensures fit { KeepsFit procs.old procs.new }
     ensures mover { IsMoverRule times.now now (value_of packet.now) procs.old }
@@ -47,16 +47,16 @@ fn take_any(
     now: u64,
     times: &Times,
     out: &mut Outbox,
-    steps: &mut StepList,
+    steps: &mut Steps,
     packet: &PacketView,
 )
     requires now { now < 2 ^ 48 }
     requires lawful { is_lawful (value_of packet.now) ≡ true }
     requires fit { HasFitSeats procs.old }
     requires packets { length out.old.posts + 64 ≤ out.old.room }
-    requires room { array_vec_len steps.old + 2 ≤ 40 }
+    requires room { length steps.old + 2 ≤ 40 }
     ensures seats { procs.new ≡ (packet_taken times.now now (value_of packet.now) procs.old).seats }
-    ensures steps { steps.new.items ≡ steps.old.items ++ (packet_taken times.now now (value_of packet.now) procs.old).steps }
+    ensures steps { steps.new ≡ steps.old ++ (packet_taken times.now now (value_of packet.now) procs.old).steps }
     ensures packets { out.new ≡ posted out.old (packet_taken times.now now (value_of packet.now) procs.old).packets }
 {
     match *packet {

@@ -1,14 +1,14 @@
 //! A tick of the clock, for a process that waits in a move.
 
 ghost use Rattle.std.specs.Prelude.{◌≡◌, ◌≤◌, ◌<◌, ◌+◌, ◌++◌, ◌^◌, length, option_copied};
-ghost use Rattle.arrayvec.specs.ArrayVec.{array_vec_len};
 ghost use Rattle.vk_move.specs.Due.{IsDueRule, due_moved, ticked_at, ticked_in};
 ghost use Rattle.vk_move.specs.Fitting.{KeepsFit};
 ghost use Rattle.vk_move.specs.Moved.{HasFitSeats};
 ghost use Rattle.vk_stands.specs.Rules.{posted};
 
 use crate::mover::{end, go_on};
-use vk_base::{Ending, Pid, StepList, Times};
+use vk_base::{Ending, Pid, Times};
+use vk_brief::Steps;
 use vk_packet::Outbox;
 use vk_procs::{ProcNote, Procs, Seat};
 use vk_timer::{Due, Work};
@@ -62,15 +62,15 @@ pub fn due(
     now: u64,
     times: &Times,
     out: &mut Outbox,
-    steps: &mut StepList,
+    steps: &mut Steps,
     pid: Pid,
 )
     requires now { now < 2 ^ 48 }
     requires fit { HasFitSeats procs.old }
     requires packets { length out.old.posts + 64 ≤ out.old.room }
-    requires room { array_vec_len steps.old + 1 ≤ 40 }
+    requires room { length steps.old + 1 ≤ 40 }
     ensures seats { procs.new ≡ (due_moved times.now now pid procs.old).seats }
-    ensures steps { steps.new.items ≡ steps.old.items ++ (due_moved times.now now pid procs.old).steps }
+    ensures steps { steps.new ≡ steps.old ++ (due_moved times.now now pid procs.old).steps }
     ensures packets { out.new ≡ posted out.old (due_moved times.now now pid procs.old).packets }
     ensures fit { KeepsFit procs.old procs.new }
     ensures right { IsDueRule times.now now pid procs.old }
@@ -79,20 +79,13 @@ pub fn due(
 }
 
 /// What the tick finds of the process, by the tables.
-fn tick(
-    procs: &mut Procs,
-    now: u64,
-    times: &Times,
-    out: &mut Outbox,
-    steps: &mut StepList,
-    pid: Pid,
-)
+fn tick(procs: &mut Procs, now: u64, times: &Times, out: &mut Outbox, steps: &mut Steps, pid: Pid)
     requires now { now < 2 ^ 48 }
     requires fit { HasFitSeats procs.old }
     requires packets { length out.old.posts + 64 ≤ out.old.room }
-    requires room { array_vec_len steps.old + 1 ≤ 40 }
+    requires room { length steps.old + 1 ≤ 40 }
     ensures seats { procs.new ≡ (due_moved times.now now pid procs.old).seats }
-    ensures steps { steps.new.items ≡ steps.old.items ++ (due_moved times.now now pid procs.old).steps }
+    ensures steps { steps.new ≡ steps.old ++ (due_moved times.now now pid procs.old).steps }
     ensures packets { out.new ≡ posted out.old (due_moved times.now now pid procs.old).packets }
 {
     match ticked_in(procs.seat(pid), now, times) {

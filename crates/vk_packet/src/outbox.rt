@@ -1,6 +1,6 @@
 //! The packets that a station posts in one event.
 
-ghost use Rattle.std.specs.Prelude.{◌≡◌, IfOk, replicate};
+ghost use Rattle.std.specs.Prelude.{◌≡◌, ◌+◌, ◌-◌, ◌<◌, ◌++◌, length, replicate, vec_capacity};
 ghost use Rattle.vk_packet.specs.Slots.{empty_slot};
 
 use crate::packet::PacketView;
@@ -13,27 +13,29 @@ use vk_wire::PACKET_BYTES;
 
 /// The packets of one event in the order in which they were posted, each with the station that it is for. In front of each place
 /// for a packet are 32 bytes, which stay until they are written: so a packet becomes a frame where it lies. The room for all is
-/// taken once, at `new`.
+/// taken once, at `new`, and each place is first written when a packet comes to it.
 #[derive(Drop)]
 pub struct Outbox {
     slots: Vec<Slot>,
     used: u32,
+    room: u32,
 }
 
 impl Model for Outbox {
-    ghost use Rattle.std.specs.Prelude.{length, map, ◌≤◌, ◌<◌, ◌^◌};
+    ghost use Rattle.std.specs.Prelude.{length, vec_capacity, ◌≤◌, ◌<◌, ◌^◌};
     ghost use Rattle.vk_packet.specs.Posts.{Posts};
-    ghost use Rattle.vk_packet.specs.Slots.{front_of, posts_of, AreSome};
+    ghost use Rattle.vk_packet.specs.Slots.{fronts_of, posts_of, AreSome};
 
     ghost Value = { Posts };
 
     ghost view = { λ o. record {
-      room = length o.slots.items;
-      fronts = map front_of o.slots.items;
+      room = o.room;
+      fronts = fronts_of o.room o.slots.items;
       posts = posts_of o.used o.slots.items;
     } };
 
-    ghost invariant = { λ o. (o.used ≤ length o.slots.items) × (length o.slots.items < 2 ^ 32) × AreSome o.used o.slots.items };
+    ghost invariant = { λ o. (o.used ≤ length o.slots.items) × (length o.slots.items ≤ o.room) × (o.room ≤ vec_capacity o.slots)
+        × (o.room < 2 ^ 32) × AreSome o.used o.slots.items };
 }
 
 impl Outbox {
@@ -48,8 +50,9 @@ impl Outbox {
         ensures { IfOk result (λ o. o ≡ record { room = packets; fronts = replicate packets (replicate HEADER_BYTES 0); posts = [] }) }
     {
         Ok(Outbox {
-            slots: empty_slots(alloc, packets)?,
+            slots: Vec::with_capacity(alloc, packets as usize)?,
             used: 0,
+            room: packets,
         })
     }
 
@@ -66,6 +69,7 @@ impl Outbox {
         requires room { length self.old.posts < self.old.room }
         ensures { self.new ≡ record self.old { posts = self.old.posts ++ (to, packet_bytes (value_of packet.now)) ∷ [] } }
     {
+        make_slots(&mut self.slots, self.used as usize);
         let slot = &mut self.slots[self.used as usize];
         slot.fill(to, packet);
         self.used += 1;
@@ -96,6 +100,7 @@ impl Outbox {
         requires { at < self.old.room }
         ensures { self.new ≡ record self.old { fronts = slice_set self.old.fronts at front.now } }
     {
+        make_slots(&mut self.slots, at as usize);
         let slot = &mut self.slots[at as usize];
         slot.put_front(front);
     }
@@ -109,13 +114,13 @@ impl Outbox {
     }
 }
 
-/// So many slots without a packet.
-fn empty_slots(alloc: Global, packets: u32) -> Result<Vec<Slot>, NoMemory>
-    ensures { IfOk result (λ slots. slots.items ≡ replicate packets empty_slot) }
+/// Makes the slots that are wanting up to this place, for which there is room.
+fn make_slots(slots: &mut Vec<Slot>, at: usize)
+    requires { at < vec_capacity slots.old }
+    ensures items { slots.new.items ≡ slots.old.items ++ replicate (at + 1 - length slots.old.items) empty_slot }
+    ensures capacity { vec_capacity slots.new ≡ vec_capacity slots.old }
 {
-    let mut slots = Vec::with_capacity(alloc, packets as usize)?;
-    for _ in 0..packets {
-        slots.push(Slot::empty())?;
+    for _made in slots.len()..at + 1 {
+        slots.push_reserved(Slot::empty());
     }
-    Ok(slots)
 }

@@ -249,7 +249,8 @@ fn read_fields(bytes: &[u8]) -> Option<PacketView<'_>>
 }
 
 /// The packet that the bytes are. Its part or bytes are lent from them. `None` exactly where they are no packet that keeps to the
-/// rules, also where bytes are left behind it.
+/// rules, also where bytes are left behind it. It is put into its callers, some of which need only to know which packet it is.
+#[inline(always)]
 #[tactic(auto, unfolding(crate::specs::Reading::packet_of))]
 pub fn decode(bytes: &[u8]) -> Option<PacketView<'_>>
     ensures packet { option_map value_of result ≡ packet_of bytes.now }

@@ -1,1 +1,2 @@
+mod StepLines
 mod Traces

@@ -96,6 +96,7 @@ fn write_answer(alloc: Global, text: &mut Vec<u8>, answer: &AnswerView) -> Resul
 }
 
 /// `H:E`
+#[inline(always)]
 pub fn write_event(alloc: Global, text: &mut Vec<u8>, host: u16, own: u64) -> Result<(), NoMemory>
     ensures ok { OnOk result (text.new.items ≡ text.old.items ++ event_place host own) }
     ensures front { OnErr result (Begins text.old.items text.new.items) }

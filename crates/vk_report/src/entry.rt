@@ -9,7 +9,8 @@ use crate::answer::{AnswerView, write_answer_line, write_missing_line};
 use crate::frame::{Emitted, write_frame_line};
 use std::alloc::Global;
 use v_trace::put_step;
-use vk_base::{Config, NoMemory, Step};
+use vk_base::{Config, NoMemory};
+use vk_brief::{StepView, Steps};
 use vk_text::{put, put_byte, put_head, write_number};
 
 /// What is written of a history.
@@ -45,7 +46,7 @@ fn write_step_line(
     alloc: Global,
     text: &mut Vec<u8>,
     word: &[u8],
-    step: &Step,
+    step: &StepView,
 ) -> Result<(), NoMemory>
     ensures ok { OnOk result (text.new.items ≡ text.old.items ++ step_line word.now step.now) }
     ensures front { OnErr result (Begins text.old.items text.new.items) }
@@ -56,17 +57,18 @@ fn write_step_line(
 }
 
 /// The steps, each on a line of its own behind this word.
+#[inline(always)]
 fn write_steps(
     alloc: Global,
     text: &mut Vec<u8>,
     word: &[u8],
-    steps: &[Step],
+    steps: &Steps,
 ) -> Result<(), NoMemory>
     ensures ok { OnOk result (text.new.items ≡ text.old.items ++ step_lines word.now steps.now) }
     ensures front { OnErr result (Begins text.old.items text.new.items) }
 {
-    for step in steps {
-        write_step_line(alloc, text, word, step)?;
+    for at in 0..steps.len() {
+        write_step_line(alloc, text, word, &steps.get(at))?;
     }
     Ok(())
 }
@@ -76,7 +78,7 @@ fn write_report_entry(
     text: &mut Vec<u8>,
     place: Place,
     answer: &AnswerView,
-    steps: &[Step],
+    steps: &Steps,
 ) -> Result<(), NoMemory>
     requires { IsShort answer.now }
     ensures ok { OnOk result (text.new.items ≡ text.old.items ++ report_entry place (viewed answer.now) steps.now) }
@@ -93,7 +95,7 @@ pub fn put_entry(
     form: Form,
     place: Place,
     answer: &AnswerView,
-    steps: &[Step],
+    steps: &Steps,
 ) -> Result<(), NoMemory>
     requires { IsShort answer.now }
     ensures ok { OnOk result (text.new.items ≡ text.old.items ++ entry_lines form place (viewed answer.now) steps.now) }

@@ -101,7 +101,7 @@ impl Stations {
             own: report.event,
         };
         let answer = AnswerView::of(answer);
-        let steps = station.steps().as_slice();
+        let steps = station.steps();
         if put_entry(alloc, told, Form::Report, place, &answer, steps).is_err() {
             return Err(out_of_memory());
         }

@@ -8,14 +8,14 @@ use crate::frames::is_bad;
 use crate::transcript::put_line;
 use std::alloc::Global;
 use std::{format, io};
-use vk_event::{Event, EventReader};
+use vk_event::{EventBuffer, EventReader};
 
 /// The stations, the events that are left, and the last one.
 #[derive(Drop)]
 struct Play<'a> {
     stations: Stations,
     reader: EventReader<'a>,
-    event: Event,
+    event: EventBuffer,
 }
 
 /// The line of the schedule that this one is.
@@ -58,10 +58,11 @@ fn play_again(
     let Ok(count) = count.parse::<u32>() else {
         return Err(is_bad());
     };
+    let event = play.event.view().whole();
     let mut last = Vec::new(alloc);
     for _ in 0..count {
         last.clear();
-        play.stations.play(alloc, &play.event, &mut last)?;
+        play.stations.play(alloc, &event, &mut last)?;
     }
     told.extend_from_slice(last.as_slice())?;
     let missing = play.stations.missing();
@@ -79,7 +80,8 @@ fn put(alloc: Global, play: &mut Play<'_>, line: &str, told: &mut Vec<u8>) -> io
         if !play.reader.next(&mut play.event) {
             return Err(is_bad());
         }
-        return play.stations.play(alloc, &play.event, told);
+        let event = play.event.view().whole();
+        return play.stations.play(alloc, &event, told);
     }
     if line.is_empty()
         || line.starts_with("# ")
@@ -101,7 +103,7 @@ pub fn transcript(alloc: Global, text: &str) -> io::Result<Vec<u8>> {
     let mut play = Play {
         stations,
         reader,
-        event: Event::Tick { host: 0 },
+        event: EventBuffer::new(),
     };
     let mut told = Vec::new(alloc);
     for line in text.lines() {

@@ -5,6 +5,7 @@ use std::alloc::Global;
 use std::io;
 use std::marker::Model;
 use vk_base::{Config, Pid, ProcessSpec, Times};
+use vk_brief::{BriefCall, CallView};
 use vk_host::{Host, Response};
 use vk_report::{AnswerView, Form, Place, put_entry};
 use vk_text::{next_pid, pid, read_call};
@@ -79,7 +80,8 @@ impl Station {
         let (pid, at) = next_pid(text, 0)?;
         let call = read_call(text, at)?;
         if self.host.events() < EVENTS && self.host.has(pid) {
-            Some(self.host.call(pid, &call))
+            let (call, bytes) = BriefCall::of(&call);
+            Some(self.host.call(pid, &CallView::new(&call, bytes)))
         } else {
             None
         }
@@ -172,7 +174,7 @@ impl Station {
         };
         let answer = self.host.answer(response);
         let answer = AnswerView::of(&answer);
-        let steps = self.host.steps().as_slice();
+        let steps = self.host.steps();
         if put_entry(alloc, told, Form::Report, place, &answer, steps).is_err() {
             return Err(io::Error::from(io::ErrorKind::OutOfMemory));
         }

@@ -2,6 +2,8 @@ pub mod Bodies
 pub mod ByteLists
 pub mod CallWords
 pub mod Decoding
+pub mod Filled
+pub mod FirstWords
 pub mod Firsts
 pub mod Fronts
 pub mod HeadRanges
@@ -11,6 +13,7 @@ pub mod HexBlocks
 pub mod HexDigits
 pub mod HexTables
 pub mod Hexadecimal
+pub mod Lengths
 pub mod LineTexts
 pub mod Messages
 pub mod Numerals

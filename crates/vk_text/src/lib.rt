@@ -1,7 +1,8 @@
 //! Words of texts: the lines of a text, the words of a line, and how numbers, pids, messages, bytes, scopes and calls
 //! are spelled. What is read and what is written go by the definitions of `specs/`.
 //!
-//! Stands on the values of `vk_base`. It knows no whole text: schedules, traces and reports are read and written above.
+//! Stands on the values of `vk_base`, and for calls on their views in `vk_brief`. It knows no whole text: schedules, traces and
+//! reports are read and written above.
 #![tactic(auto)]
 
 mod call;
@@ -14,10 +15,10 @@ mod spelling;
 mod word;
 mod writing;
 
-pub use call::{read_call, read_other_call, reply_fields, send_fields};
+pub use call::{read_call, take_call};
 pub use heads::{Head, HeadRefusal, empty_config, heads_are_read_again, put_head, read_head};
 pub use law::{calls_are_spelled_once, words_are_spelled_once, written_is_read};
-pub use line::{next_line, next_word};
+pub use line::{next_line, next_long_word, next_word};
 pub use next::{
     is_end, next_bytes, next_count, next_message, next_number, next_pid, next_positive, next_scope,
     next_station,

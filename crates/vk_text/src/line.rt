@@ -1,13 +1,11 @@
 //! Lines of a text, and words of a line.
 
-ghost use Rattle.std.specs.Prelude.{◌≡◌, ◌==◌, ◌+◌, ◌<◌, ◌≤◌, [], ◌∷◌, length, drop, position, MatchOption, IfSome};
-ghost use Rattle.std.specs.List.{before_first};
+ghost use Rattle.std.specs.Prelude.{◌≡◌, ◌==◌, ◌+◌, ◌<◌, ◌≤◌, [], ◌∷◌, length, take, drop, position, MatchOption, IfSome};
+ghost use Rattle.std.specs.List.{before_first, position_or_len};
 ghost use Rattle.vk_text.specs.Lines.{lines_of, words_from, StartsNoWord};
 
 use memchr::memchr;
-
-/// Most words have fewer bytes than these.
-const SHORT: usize = 24;
+use std::simd::Simd;
 
 /// Where the first such byte stands.
 fn place_of(bytes: &[u8], byte: u8) -> Option<usize>
@@ -17,10 +15,32 @@ fn place_of(bytes: &[u8], byte: u8) -> Option<usize>
     bytes.iter().position(|b| *b == byte)
 }
 
+/// Where the first such byte of the first 32 stands, or 32 where none of them is one.
+fn near(bytes: &[u8], byte: u8) -> usize
+    requires { 32 ≤ length bytes.now }
+    ensures { result ≡ position_or_len (λ b. b == byte) (take 32 bytes.now) }
+{
+    let same = Simd::<u8, 32>::from_slice(bytes)
+        .simd_eq(Simd::splat(byte))
+        .to_bitmask();
+    if same == 0 {
+        32
+    } else {
+        same.trailing_zeros() as usize
+    }
+}
+
 /// What stands before the first such byte, or all where there is none. For long pieces.
 fn searched(bytes: &[u8], byte: u8) -> &[u8]
     ensures { result.now ≡ before_first (λ b. b == byte) bytes.now }
 {
+    if bytes.len() >= 32 {
+        let at = near(bytes, byte);
+        if at < 32 {
+            let (front, _) = bytes.split_at(at);
+            return front;
+        }
+    }
     match memchr(byte, bytes) {
         Some(at) => {
             let (front, _) = bytes.split_at(at);
@@ -30,18 +50,16 @@ fn searched(bytes: &[u8], byte: u8) -> &[u8]
     }
 }
 
-/// What stands before the first such byte, or all where there is none. The first bytes are looked at one by one, which for a short piece
-/// takes less than a search.
+/// The same for short pieces, byte by byte.
 fn before(bytes: &[u8], byte: u8) -> &[u8]
     ensures { result.now ≡ before_first (λ b. b == byte) bytes.now }
 {
-    let (first, _) = bytes.split_at(bytes.len().min(SHORT));
-    match place_of(first, byte) {
+    match place_of(bytes, byte) {
         Some(at) => {
             let (front, _) = bytes.split_at(at);
             front
         }
-        None => searched(bytes, byte),
+        None => bytes,
     }
 }
 
@@ -79,6 +97,26 @@ pub fn next_word(line: &[u8], at: usize) -> Option<(&[u8], usize)>
     }
     let (_, rest) = line.split_at(at);
     let word = before(rest, b' ');
+    if word.is_empty() {
+        None
+    } else {
+        Some((word, at + word.len() + 1))
+    }
+}
+
+/// The same as [`next_word`], for words that are mostly long.
+pub fn next_long_word(line: &[u8], at: usize) -> Option<(&[u8], usize)>
+    ensures word { MatchOption result (StartsNoWord (words_from line.now at))
+        (λ r. words_from line.now at ≡ r.0.now ∷ words_from line.now r.1) }
+    ensures filled { IfSome result (λ r. 0 < length r.0.now) }
+    ensures next { IfSome result (λ r. r.1 ≡ at + length r.0.now + 1) }
+    ensures within { IfSome result (λ r. r.1 ≤ length line.now + 1) }
+{
+    if at >= line.len() {
+        return None;
+    }
+    let (_, rest) = line.split_at(at);
+    let word = searched(rest, b' ');
     if word.is_empty() {
         None
     } else {

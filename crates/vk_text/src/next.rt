@@ -6,8 +6,8 @@ ghost use Rattle.vk_text.specs.Calls.{first_as};
 ghost use Rattle.vk_text.specs.Lines.{is_end, words_from};
 ghost use Rattle.vk_text.specs.Words.{number_of, positive_of, count_of, station_of, pid_of, message_of, bytes_of, scope_of};
 
-use crate::line::next_word;
-use crate::word::{bytes, message, number, pid, positive, scope, station};
+use crate::line::{next_long_word, next_word};
+use crate::word::{bytes, first_pid, message, number, positive, scope, station};
 use vk_base::{Data, Message, Pid, Scope};
 
 /// Whether no word is left from `at` on. A trailing space leaves an empty one.
@@ -65,8 +65,12 @@ pub fn next_pid(line: &[u8], at: usize) -> Option<(Pid, usize)>
     ensures { MatchOption result (first_as pid_of (words_from line.now at) ≡ None)
         (λ r. first_as pid_of (words_from line.now at) ≡ Some (r.0, words_from line.now r.1)) }
 {
-    let (word, next) = next_word(line, at)?;
-    Some((pid(word)?, next))
+    if at >= line.len() {
+        return None;
+    }
+    let (_, rest) = line.split_at(at);
+    let (pid, len) = first_pid(rest)?;
+    Some((pid, at + len + 1))
 }
 
 /// The message.
@@ -85,7 +89,7 @@ pub fn next_bytes(line: &[u8], at: usize) -> Option<(Data, usize)>
     ensures { MatchOption result (first_as bytes_of (words_from line.now at) ≡ None)
         (λ r. first_as bytes_of (words_from line.now at) ≡ Some (r.0, words_from line.now r.1)) }
 {
-    let (word, next) = next_word(line, at)?;
+    let (word, next) = next_long_word(line, at)?;
     Some((bytes(word)?, next))
 }
 

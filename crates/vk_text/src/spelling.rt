@@ -6,8 +6,9 @@ ghost use Rattle.hex.specs.Hex.{encode_lower};
 ghost use Rattle.vk_text.specs.Spelling.{Begins, bytes_text, message_text, scope_text};
 
 use crate::digits::encode;
-use itoa::Buffer;
+use itoa::{Buffer, write_digits};
 use std::alloc::Global;
+use std::simd::Simd;
 use vk_base::limits::DATA_BYTES;
 use vk_base::{Message, NoMemory, Scope};
 
@@ -45,15 +46,48 @@ fn put_digit(into: &mut Vec<u8>, n: u64) -> Result<(), NoMemory>
     }
 }
 
-/// Appends a number of any length. It stays a function of its own, since each call of what it were part of would pay for
-/// the buffer.
+/// Appends a number of `N` digits. How many bytes are appended is known, so that nothing is called for them.
+#[inline(always)]
+fn put_exact<const N: usize>(into: &mut Vec<u8>, n: u64) -> Result<(), NoMemory>
+    requires digits { length (decimal n) ≡ N }
+    requires few { N ≤ 5 }
+    ensures ok { OnOk result (into.new.items ≡ into.old.items ++ decimal n) }
+    ensures err { OnErr result (into.new.items ≡ into.old.items) }
+{
+    let mut text = [0u8; N];
+    write_digits(n, &mut text, N);
+    put(into, &text)
+}
+
+/// Appends a number of any length.
 #[inline(never)]
-fn put_digits(into: &mut Vec<u8>, n: u64) -> Result<(), NoMemory>
+fn put_any(into: &mut Vec<u8>, n: u64) -> Result<(), NoMemory>
     ensures ok { OnOk result (into.new.items ≡ into.old.items ++ decimal n) }
     ensures err { OnErr result (into.new.items ≡ into.old.items) }
 {
     let mut buffer = Buffer::new();
     put(into, buffer.format(n).as_bytes())
+}
+
+/// Appends a number of two digits or more. It stays a function of its own, since each call of what it were part of would pay
+/// for the buffers.
+#[inline(never)]
+fn put_digits(into: &mut Vec<u8>, n: u64) -> Result<(), NoMemory>
+    requires { 10 ≤ n }
+    ensures ok { OnOk result (into.new.items ≡ into.old.items ++ decimal n) }
+    ensures err { OnErr result (into.new.items ≡ into.old.items) }
+{
+    if n < 100 {
+        put_exact::<2>(into, n)
+    } else if n < 1_000 {
+        put_exact::<3>(into, n)
+    } else if n < 10_000 {
+        put_exact::<4>(into, n)
+    } else if n < 100_000 {
+        put_exact::<5>(into, n)
+    } else {
+        put_any(into, n)
+    }
 }
 
 /// Appends the number in decimal.
@@ -68,15 +102,12 @@ pub fn put_number(_alloc: Global, into: &mut Vec<u8>, n: u64) -> Result<(), NoMe
     }
 }
 
-/// How many bytes stand up to the last that is not 0.
-fn filled(bytes: &[u8]) -> usize
-    ensures { result + suffix_len (λ b. b == 0) bytes.now ≡ length bytes.now }
+/// How many bytes stand up to the last that is not 0. All of them are looked at together.
+fn filled(bytes: &[u8; 32]) -> usize
+    ensures { result + suffix_len (λ b. b == 0) bytes.now ≡ 32 }
 {
-    let mut len = bytes.len();
-    while len > 0 && bytes[len - 1] == 0 {
-        len -= 1;
-    }
-    len
+    let some = Simd::<u8, 32>::from_array(*bytes).simd_ne(Simd::splat(0));
+    64 - some.to_bitmask().leading_zeros() as usize
 }
 
 /// Appends the hexadecimal of a few bytes.

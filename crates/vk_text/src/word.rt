@@ -2,7 +2,7 @@
 
 ghost use Rattle.std.specs.Prelude.{◌≡◌, ◌==◌, ◌+◌, ◌-◌, ◌*◌, ◌/◌, ◌^◌, ◌<◌, ◌≤◌, ◌&&◌, ◌||◌, None, Some, not, IsTrue, slice_index, length, take, MatchOption, SomeIff, IfSome, option_map};
 ghost use Rattle.std.specs.Char.{is_ascii_digit};
-ghost use Rattle.std.specs.List.{list_all, prefix_len};
+ghost use Rattle.std.specs.List.{list_all, prefix_len, before_first};
 ghost use Rattle.std.specs.Str.Parse.{digits_value};
 ghost use Rattle.vk_text.specs.Words.{number_of, positive_of, station_of, pid_of, lower_hex, IsReadTo, padded, message_of, bytes_of, scope_of};
 
@@ -83,9 +83,22 @@ fn first_digits(bytes: &[u8]) -> Option<(u32, usize)>
     Some((value, bytes.len()))
 }
 
+/// The digit that stands first and alone, as most numbers of a pid are.
+fn first_alone(bytes: &[u8]) -> Option<u16>
+    ensures { IfSome result (λ n. (prefix_len is_ascii_digit bytes.now ≡ 1) × (number_of 65535 (take 1 bytes.now) ≡ Some n)) }
+{
+    if bytes.is_empty() || !bytes[0].is_ascii_digit() {
+        return None;
+    }
+    if bytes.len() > 1 && bytes[1].is_ascii_digit() {
+        return None;
+    }
+    Some(u16::from(bytes[0] - b'0'))
+}
+
 /// The number of 16 bits that all the digits spell that stand first, and how many they are.
 #[tactic(auto, unfolding(crate::specs::Words::number_of))]
-fn first_short(bytes: &[u8]) -> Option<(u16, usize)>
+fn first_many(bytes: &[u8]) -> Option<(u16, usize)>
     ensures number { MatchOption result (number_of 65535 (take (prefix_len is_ascii_digit bytes.now) bytes.now) ≡ None)
         (λ r. (r.1 ≡ prefix_len is_ascii_digit bytes.now) × (number_of 65535 (take r.1 bytes.now) ≡ Some r.0)) }
     ensures within { IfSome result (λ r. r.1 ≤ length bytes.now) }
@@ -96,6 +109,32 @@ fn first_short(bytes: &[u8]) -> Option<(u16, usize)>
         return None;
     }
     Some((value as u16, len))
+}
+
+/// The same, and soonest for one digit.
+fn first_short(bytes: &[u8]) -> Option<(u16, usize)>
+    ensures number { MatchOption result (number_of 65535 (take (prefix_len is_ascii_digit bytes.now) bytes.now) ≡ None)
+        (λ r. (r.1 ≡ prefix_len is_ascii_digit bytes.now) × (number_of 65535 (take r.1 bytes.now) ≡ Some r.0)) }
+    ensures within { IfSome result (λ r. r.1 ≤ length bytes.now) }
+{
+    match first_alone(bytes) {
+        Some(number) => Some((number, 1)),
+        None => first_many(bytes),
+    }
+}
+
+/// The number of 16 bits that the first word spells, and how long the word is, which a space or the end ends.
+#[tactic(auto, using(crate::proofs::FirstWords::bad_number))]
+fn short_word(bytes: &[u8]) -> Option<(u16, usize)>
+    ensures { MatchOption result (number_of 65535 (before_first (λ b. b == 32) bytes.now) ≡ None)
+        (λ r. (r.1 ≡ length (before_first (λ b. b == 32) bytes.now))
+        × (number_of 65535 (before_first (λ b. b == 32) bytes.now) ≡ Some r.0)) }
+{
+    let (number, len) = first_short(bytes)?;
+    if len < bytes.len() && bytes[len] != b' ' {
+        return None;
+    }
+    Some((number, len))
 }
 
 /// The number of 16 bits that the word spells.
@@ -126,6 +165,22 @@ pub fn pid(word: &[u8]) -> Option<Pid>
     let (_, local) = word.split_at(point + 1);
     let local = short(local)?;
     Pid::new(host, local)
+}
+
+/// The pid that the first word spells, and how long the word is, which a space or the end ends.
+#[tactic(auto, using(crate::proofs::FirstWords::no_host))]
+pub fn first_pid(bytes: &[u8]) -> Option<(Pid, usize)>
+    ensures { MatchOption result (pid_of (before_first (λ b. b == 32) bytes.now) ≡ None)
+        (λ r. (r.1 ≡ length (before_first (λ b. b == 32) bytes.now)) × (pid_of (before_first (λ b. b == 32) bytes.now) ≡ Some r.0)) }
+{
+    let (host, point) = first_short(bytes)?;
+    if point >= bytes.len() || bytes[point] != b'.' {
+        return None;
+    }
+    let (_, behind) = bytes.split_at(point + 1);
+    let (local, len) = short_word(behind)?;
+    let pid = Pid::new(host, local)?;
+    Some((pid, point + 1 + len))
 }
 
 /// Writes so many bytes more of this lower-case hexadecimal, or some of those before what is none.

@@ -7,7 +7,8 @@ ghost use Rattle.vk_text.specs.Spelling.{Begins, spaced, pid_text, bytes_text, m
 use crate::spelling::{put, put_byte, put_bytes, put_message, put_number, put_scope};
 use std::alloc::Global;
 use vk_base::limits::DATA_BYTES;
-use vk_base::{Call, Data, Message, NoMemory, Pid, Scope};
+use vk_base::{Message, NoMemory, Pid, Scope};
+use vk_brief::{BriefCall, CallView};
 
 /// Appends `H.L`.
 fn write_pair(alloc: Global, into: &mut Vec<u8>, pid: Pid) -> Result<(), NoMemory>
@@ -88,7 +89,7 @@ pub fn write_scope(alloc: Global, into: &mut Vec<u8>, scope: Scope) -> Result<()
 }
 
 /// Appends a space and the call. At a refusal a part may stand, and the front is as it was.
-pub fn write_call(alloc: Global, into: &mut Vec<u8>, call: &Call) -> Result<(), NoMemory>
+pub fn write_call(alloc: Global, into: &mut Vec<u8>, call: &CallView) -> Result<(), NoMemory>
     ensures ok { OnOk result (into.new.items ≡ into.old.items ++ 32 ∷ call_text call.now) }
     ensures front { OnErr result (Begins into.old.items into.new.items) }
 {
@@ -230,64 +231,63 @@ fn write_get_pid(
 }
 
 /// Appends `store START B`.
-fn write_store(alloc: Global, into: &mut Vec<u8>, start: u32, bytes: &Data) -> Result<(), NoMemory>
+fn write_store(alloc: Global, into: &mut Vec<u8>, start: u32, bytes: &[u8]) -> Result<(), NoMemory>
+    requires { length bytes.now ≤ DATA_BYTES }
     ensures ok { OnOk result (into.new.items ≡ into.old.items ++ spaced (codes "store") (decimal start ∷ bytes_text bytes.now ∷ [])) }
     ensures front { OnErr result (Begins into.old.items into.new.items) }
 {
     put(into, b"store")?;
     write_number(alloc, into, u64::from(start))?;
-    write_bytes(alloc, into, bytes.as_slice())
+    write_bytes(alloc, into, bytes)
 }
 
 /// Appends the call.
 #[tactic(auto, unfolding(crate::specs::Spelling::call_text, crate::specs::Spelling::call_words))]
-fn write_words(alloc: Global, into: &mut Vec<u8>, call: &Call) -> Result<(), NoMemory>
+fn write_words(alloc: Global, into: &mut Vec<u8>, call: &CallView) -> Result<(), NoMemory>
     ensures ok { OnOk result (into.new.items ≡ into.old.items ++ call_text call.now) }
     ensures front { OnErr result (Begins into.old.items into.new.items) }
 {
+    let (call, bytes) = call.parts();
     match *call {
-        Call::Send {
-            target,
-            ref message,
-        } => write_send(alloc, into, target, message),
-        Call::Receive => put(into, b"receive"),
-        Call::ReceiveSegment { start, count } => {
+        BriefCall::Send { target, message } => write_send(alloc, into, target, &message),
+        BriefCall::Receive => put(into, b"receive"),
+        BriefCall::ReceiveSegment { start, count } => {
             write_range(alloc, into, b"receivesegment", start, count)
         }
-        Call::Reply { ref message, to } => write_reply(alloc, into, b"reply", message, to),
-        Call::ReplySegment {
+        BriefCall::Reply { ref message, to } => write_reply(alloc, into, b"reply", message, to),
+        BriefCall::ReplySegment {
             ref message,
             to,
             dest,
             src,
             count,
         } => write_reply_segment(alloc, into, message, to, dest, src, count),
-        Call::MoveTo {
+        BriefCall::MoveTo {
             partner,
             dest,
             src,
             count,
         } => write_move(alloc, into, b"moveto", partner, dest, src, count),
-        Call::MoveFrom {
+        BriefCall::MoveFrom {
             partner,
             dest,
             src,
             count,
         } => write_move(alloc, into, b"movefrom", partner, dest, src, count),
-        Call::SetPid {
+        BriefCall::SetPid {
             logical,
             pid,
             scope,
         } => write_set_pid(alloc, into, logical, pid, scope),
-        Call::GetPid { logical, scope } => write_get_pid(alloc, into, logical, scope),
-        Call::Load { start, count } => write_range(alloc, into, b"load", start, count),
-        Call::Store { start, ref bytes } => write_store(alloc, into, start, bytes),
-        Call::Exit => put(into, b"exit"),
+        BriefCall::GetPid { logical, scope } => write_get_pid(alloc, into, logical, scope),
+        BriefCall::Load { start, count } => write_range(alloc, into, b"load", start, count),
+        BriefCall::Store { start } => write_store(alloc, into, start, bytes),
+        BriefCall::Exit => put(into, b"exit"),
     }
 }
 
 /// Appends the call. A refusal changes nothing.
-pub fn put_call(alloc: Global, into: &mut Vec<u8>, call: &Call) -> Result<(), NoMemory>
+pub fn put_call(alloc: Global, into: &mut Vec<u8>, call: &CallView) -> Result<(), NoMemory>
     ensures ok { OnOk result (into.new.items ≡ into.old.items ++ call_text call.now) }
     ensures err { OnErr result (into.new.items ≡ into.old.items) }
 {

@@ -25,7 +25,7 @@ use crate::emitted::emitted_of;
 use std::alloc::Global;
 use vk_base::NoMemory;
 use vk_cluster::{Advance, Cluster, ClusterRefusal};
-use vk_event::{Event, EventReader, TextRefusal};
+use vk_event::{EventBuffer, EventReader, TextRefusal};
 use vk_host::{Host, Response};
 use vk_report::{
     AnswerView, Counts, Form, Place, put_end, put_entry, put_frame, put_missing, put_opening,
@@ -94,14 +94,7 @@ fn put_told(
         text.new.items ≡ text.old.items ++ told_lines form (told_entry place e)) }
 {
     let answer = answer_view(station, response);
-    put_entry(
-        alloc,
-        text,
-        form,
-        place,
-        &answer,
-        station.steps().as_slice(),
-    )?;
+    put_entry(alloc, text, form, place, &answer, station.steps())?;
     match form {
         Form::Report => put_frames(alloc, station, text, form, place.host, place.own),
         Form::Trace => Ok(()),
@@ -147,7 +140,7 @@ fn put_event(
     text: &mut Vec<u8>,
     form: Form,
     counts: &mut Counts,
-    event: &Event,
+    event: &EventBuffer,
 ) -> Result<(), ClusterRefusal>
     requires few { AreFew counts.old }
     requires somewhere { StandsSomewhere (value_of cluster.old) }
@@ -157,7 +150,7 @@ fn put_event(
     ensures room { OnOk result (is_full (value_of cluster.old) ≡ false) }
     ensures refused { result ≡ Err ClusterRefusal.Limit → (is_full (value_of cluster.old) ≡ true) × (text.new.items ≡ text.old.items) }
 {
-    match cluster.advance(alloc, event) {
+    match cluster.advance(alloc, &event.view()) {
         Ok(advance) => match put_report(alloc, cluster, text, form, counts, advance) {
             Ok(()) => Ok(()),
             Err(NoMemory) => Err(ClusterRefusal::NoMemory),
@@ -187,7 +180,7 @@ fn put_events(
         steps: 0,
         frames: 0,
     };
-    let mut event = Event::Tick { host: 0 };
+    let mut event = EventBuffer::new();
     while reader.next(&mut event) {
         match put_event(alloc, cluster, text, form, &mut counts, &event) {
             Ok(()) => {}
@@ -221,7 +214,7 @@ fn put_schedule(
 fn read_on(reader: &mut EventReader<'_>)
     ensures { reader.new ≡ ending reader.old }
 {
-    let mut event = Event::Tick { host: 0 };
+    let mut event = EventBuffer::new();
     while reader.next(&mut event) {}
 }
 

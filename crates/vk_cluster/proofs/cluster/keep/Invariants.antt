@@ -1,4 +1,5 @@
-use Rattle.std.proofs.Common.{◌≡◌, ◌≤◌, take, vec_capacity}
+use Rattle.std.proofs.Common.{◌≡◌, ◌+◌, ◌≤◌, length, take}
+use Rattle.std.specs.Prelude.{sum_by}
 use Rattle.vk_cluster.specs.Piles.{IsAdding, pile_of}
 use Rattle.vk_cluster.proofs.cluster.keep.Given as goal
 
@@ -6,6 +7,6 @@ abbrev pub invariant-loop-at : goal.invariant-loop-at
 invariant-loop-at l = record {
   adding : IsAdding (pile_of l.initial.emitted) (pile_of l.emitted) (take l.at l.host.frames);
   events : l.emitted.events ≡ l.initial.emitted.events;
-  for_bytes : vec_capacity l.initial.emitted.bytes ≤ vec_capacity l.emitted.bytes;
-  for_frames : vec_capacity l.initial.emitted.frames ≤ vec_capacity l.emitted.frames;
+  for_bytes : l.emitted.frames.bytes + sum_by length (take l.at l.host.frames) ≡ l.initial.emitted.frames.bytes;
+  for_frames : l.initial.emitted.frames.places ≤ l.emitted.frames.places + l.at;
 }

@@ -8,7 +8,7 @@ frame_marks-requires c = (c.requires.0.frames, c.requires.1.sends)
 pub returns : goal.returns
 returns c = λ e last.
     let said = c.said_of.ensures ∙ ap said_of last.shows.answer in
-    let steps = c.in_ok-step_marks.ensures ∙ ap (map step_mark) (c.as_slice.ensures.value ∙ c.steps.ensures ∙ last.shows.steps) in
+    let steps = c.in_ok-step_marks.ensures ∙ ap (map step_mark) (c.steps.ensures ∙ last.shows.steps) in
     let frames = c.in_ok-frame_marks.ensures e.frames last.sends in
     (λ i. record {
       number = c.args.number;

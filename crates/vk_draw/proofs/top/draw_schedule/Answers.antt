@@ -1,6 +1,7 @@
 use Rattle.std.proofs.Common.{length, ap, ◌∙◌, arith}
 use Rattle.vk_event.proofs.Lawfulness.{only_lawful}
 use Rattle.vk_picture.specs.declared.picture.Picture.{Picture}
+use Rattle.vk_draw.proofs.Answered.{refusal_by, spelled_some}
 use Rattle.vk_draw.proofs.Played.{as_many}
 use Rattle.vk_draw.proofs.top.draw_schedule.Goals as goal
 
@@ -14,3 +15,10 @@ picture_text-requires-clause-rows c =
     let few = c.if-len-gt-ROWS.false in
     let counted = c.len.ensures in
     omega (arith, same, few, counted)
+
+pub returns-in-Err-clause-refused : goal.returns-in-Err-clause-refused
+returns-in-Err-clause-refused c =
+    refusal_by c.args.text.now c.args.schedule.now c.in-Err.status c.requires c.in-Err.ensures.refused
+
+pub returns-clause-refused : goal.returns-clause-refused
+returns-clause-refused c = spelled_some c.args.text.now c.args.schedule.now c.requires

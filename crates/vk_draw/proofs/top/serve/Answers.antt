@@ -4,7 +4,7 @@ use Rattle.vk_draw.proofs.top.serve.Goals as goal
 
 pub returns-in-Ok-clause-outcome : goal.returns-in-Ok-clause-outcome
 returns-in-Ok-clause-outcome g c =
-    read_is _ _ _ _ _ _ _ _ c.in-Ok.ensures.text.1 c.deref.ensures.value c.answer.ensures.answered
+    read_is _ _ _ _ _ _ _ _ c.in-Ok.ensures.text.0 c.in-Ok.ensures.text.1 c.deref.ensures.value c.answer.ensures.answered
 
 pub returns-in-Ok-clause-read_count : goal.returns-in-Ok-clause-read_count
 returns-in-Ok-clause-read_count g c = read_kept _ _ _ c.answer.ensures.answered.kinds.1 c.in-Ok.ensures.kept

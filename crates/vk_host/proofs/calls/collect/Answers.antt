@@ -17,12 +17,12 @@ returns-clause-played c =
     let m = c.clear.new.self in
     let end : Doing = record {
       tables = record (tables_in m) { seats = c.collect-outcome.new.self };
-      steps = c.push_collect.new.steps.items;
+      steps = c.push_collect.new.steps;
       out = m.out;
     } in
     let fit = subst (AreFit c.args.pid.host) (sym (ap (λ (d : Doing). d.tables) c.clear.ensures.doing)) c.requires.can.fit in
     let own = ap (λ seats. is_some (seat_in seats c.args.pid)) c.clear.ensures.procs ∙ c.requires.own in
-    let played = collect_played c.args.pid d.times d.now (tables_in m) m.steps.items c.push_collect.new.steps.items m.out fit own
+    let played = collect_played c.args.pid d.times d.now (tables_in m) m.steps c.push_collect.new.steps m.out fit own
     c.collect-outcome.new.self c.collect-outcome.result c.collect-outcome.ensures.outcome c.collect-outcome.ensures.new
     c.push_collect.ensures in
     subst (λ from. IsPlayed d.times c.args.pid.host d.now (Collected c.args.pid) (collect_given c.collect-outcome.result) from end)

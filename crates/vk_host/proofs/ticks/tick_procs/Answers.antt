@@ -4,12 +4,12 @@ use Rattle.vk_host.proofs.InOrder.{next_few, ticked_all, ticked_first, ticked_mo
 use Rattle.vk_host.proofs.ticks.tick_procs.Goals as goal
 
 pub loop-at-init : goal.loop-at-init
-loop-at-init c = ticked_first c.args.times.now c.args.now c.args.procs.now c.args.steps.now.items c.args.out.now c.requires.fit
+loop-at-init c = ticked_first c.args.times.now c.args.now c.args.procs.now c.args.steps.now c.args.out.now c.requires.fit
 
 pub loop-at-preserved : goal.loop-at-preserved
 loop-at-preserved c =
-    ticked_more c.args.times.now c.args.now c.loop-at.at c.args.procs.now c.loop-at.procs c.args.steps.now.items c.loop-at.steps.items
-    c.args.out.now c.loop-at.out c.loop-at.invariant c.tick_at.new.procs c.tick_at.new.steps.items c.tick_at.new.out
+    ticked_more c.args.times.now c.args.now c.loop-at.at c.args.procs.now c.loop-at.procs c.args.steps.now c.loop-at.steps
+    c.args.out.now c.loop-at.out c.loop-at.invariant c.tick_at.new.procs c.tick_at.new.steps c.tick_at.new.out
     c.tick_at.ensures.seats c.tick_at.ensures.steps c.tick_at.ensures.packets
 
 pub tick_at-requires-clause-fit : goal.tick_at-requires-clause-fit
@@ -17,7 +17,7 @@ tick_at-requires-clause-fit c = c.loop-at.invariant.fit
 
 pub tick_at-requires-clause-few : goal.tick_at-requires-clause-few
 tick_at-requires-clause-few c =
-    next_few c.args.times.now c.args.now c.loop-at.at c.args.procs.now c.loop-at.procs c.args.steps.now.items c.loop-at.steps.items
+    next_few c.args.times.now c.args.now c.loop-at.at c.args.procs.now c.loop-at.procs c.args.steps.now c.loop-at.steps
     c.args.out.now c.loop-at.out c.loop-at.invariant c.requires.few
 
 pub tick_at-requires-clause-steps : goal.tick_at-requires-clause-steps
@@ -30,6 +30,6 @@ tick_at-requires-clause-room c =
 
 pub returns : goal.returns
 returns c =
-    let all = ticked_all c.args.times.now c.args.now c.loop-at.at c.args.procs.now c.loop-at.procs c.args.steps.now.items
-    c.loop-at.steps.items c.args.out.now c.loop-at.out c.loop-at.invariant (omega (arith, c.requires.fit.2.few, c.loop-at-test.false)) in
+    let all = ticked_all c.args.times.now c.args.now c.loop-at.at c.args.procs.now c.loop-at.procs c.args.steps.now
+    c.loop-at.steps c.args.out.now c.loop-at.out c.loop-at.invariant (omega (arith, c.requires.fit.2.few, c.loop-at-test.false)) in
     record { seats = all.0; steps = all.1; packets = all.2 }

@@ -9,7 +9,7 @@ pub returns-clause-rule : goal.returns-clause-rule
 returns-clause-rule c =
     let p = c.play_exit in
     exit_done c.args.pid c.args.now (whole_tables c.args.procs.now c.args.queues.now.lists c.args.aliens.now c.args.names.now)
-    (whole_tables p.new.procs p.new.queues.lists p.new.aliens p.new.names) c.args.steps.now.items p.new.steps.items c.args.out.now p.new.out
+    (whole_tables p.new.procs p.new.queues.lists p.new.aliens p.new.names) c.args.steps.now p.new.steps c.args.out.now p.new.out
     p.result c.requires.ready p.ensures.done
 
 pub returns-clause-pids : goal.returns-clause-pids

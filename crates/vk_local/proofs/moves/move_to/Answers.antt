@@ -8,7 +8,7 @@ use Rattle.vk_local.proofs.moves.move_to.Goals as goal
 pub returns-clause-rule : goal.returns-clause-rule
 returns-clause-rule c =
     let p = c.play_move in
-    move_rule directions.To c.args.pid c.args.partner c.args.segment c.args.procs.now p.new.procs c.args.steps.now.items p.new.steps.items
+    move_rule directions.To c.args.pid c.args.partner c.args.segment c.args.procs.now p.new.procs c.args.steps.now p.new.steps
     p.result c.requires.ready c.requires.near p.ensures
 
 pub returns-clause-pids : goal.returns-clause-pids

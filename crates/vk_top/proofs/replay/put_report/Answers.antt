@@ -34,7 +34,7 @@ returns-in-Missing c =
 pub returns-in-Event : goal.returns-in-Event
 returns-in-Event c =
     let before = c.args.counts.now in
-    let steps = c.len.ensures.value ∙ ap length c.steps.ensures in
+    let steps = c.len.ensures.len ∙ ap length c.steps.ensures in
     let frames = c.from.ensures ∙ c.frame_count.ensures in
     let own : Place = record { number = before.events + 1; host = c.host.result; own = c.events.result } in
     let shown : Place = record {

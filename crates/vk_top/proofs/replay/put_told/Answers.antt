@@ -10,7 +10,7 @@ returns-in-Report c =
     let front = c.args.text.now.items in
     let answer = answer_of c.args.station.now c.args.response in
     let entry = c.in_ok-put_entry.ensures.ok
-    ∙ (λ i. front ++ entry_lines c.args.form c.args.place (c.answer_view-answer.ensures.value i) ((c.as_slice.ensures.value ∙ c.steps.ensures) i))
+    ∙ (λ i. front ++ entry_lines c.args.form c.args.place (c.answer_view-answer.ensures.value i) (c.steps.ensures i))
     in on_ok_weaker c.put_frames.result
     (λ frames e last. entry_told c.args.form c.args.station.now c.args.place answer e front _ _ last entry (frames e.frames last.sends))
     c.put_frames.ensures
@@ -20,5 +20,5 @@ returns-in-Trace c =
     let front = c.args.text.now.items in
     let answer = answer_of c.args.station.now c.args.response in
     let entry = c.in_ok-put_entry.ensures.ok
-    ∙ (λ i. front ++ entry_lines c.args.form c.args.place (c.answer_view-answer.ensures.value i) ((c.as_slice.ensures.value ∙ c.steps.ensures) i))
+    ∙ (λ i. front ++ entry_lines c.args.form c.args.place (c.answer_view-answer.ensures.value i) (c.steps.ensures i))
     in λ e last. trace_told c.args.form c.args.station.now c.args.place answer e front _ c.in-Trace.is last entry

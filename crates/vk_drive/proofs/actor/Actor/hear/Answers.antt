@@ -1,23 +1,14 @@
-use Rattle.std.proofs.Common.{refl, sym, ◌∙◌, inl, inr}
-use Rattle.vk_base.specs.declared.event.EventAnswer.TheVariants as given
-use Rattle.vk_drive.proofs.Acting.{hears_begun, hears_silent, one_answer}
+use Rattle.std.proofs.Common.{[], ◌∷◌, ◌++◌, refl, ap, subst}
+use Rattle.vk_host.specs.Responses.{answer_of}
+use Rattle.vk_drive.specs.Driving.{IsActor}
+use Rattle.vk_drive.proofs.Acting.{hears_begun}
 use Rattle.vk_drive.proofs.actor.Actor.hear.Goals as goal
 
 pub returns-in-Begun : goal.returns-in-Begun
-returns-in-Begun c t heard a is answered =
-    hears_begun t heard c.args.self.now _ a is c.requires
-    (sym (one_answer c.in-Event.answer a c.args.answer c.in-Event.is answered) ∙ c.in-Begun.is) refl
+returns-in-Begun c t heard is =
+    let given = answer_of c.args.station.now in
+    hears_begun t heard c.args.self.now _ (given c.args.response) is c.requires (ap given c.in-Begun.is) refl
 
-pub returns-in-Ticked : goal.returns-in-Ticked
-returns-in-Ticked c t heard a is answered =
-    let same = sym (one_answer c.in-Event.answer a c.args.answer c.in-Event.is answered) in
-    elim c.in-Ticked.is [
-      | inl n ↦ hears_silent t heard c.args.self.now a (given.Ticked n.0) is (same ∙ n.1) refl refl
-      | inr r ↦ elim r [
-        | inl e ↦ hears_silent t heard c.args.self.now a given.Taken is (same ∙ e) refl refl
-        | inr q ↦ elim q [
-          | inl e ↦ hears_silent t heard c.args.self.now a given.Old is (same ∙ e) refl refl
-          | inr e ↦ hears_silent t heard c.args.self.now a given.Bad is (same ∙ e) refl refl
-        ]
-      ]
-    ]
+pub returns-in_default : goal.returns-in_default
+returns-in_default c t heard is =
+    subst (λ x. IsActor c.hear_whole.new.self t (heard ++ x ∷ [])) c.answer.ensures (c.hear_whole.ensures t heard is)

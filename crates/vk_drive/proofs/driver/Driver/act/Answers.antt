@@ -1,6 +1,5 @@
 use Rattle.std.proofs.Common.{◌≡◌, ℕ, ◌<◌, ◌%◌, refl, sym, ap, subst, ◌∙◌, arith}
-use Rattle.vk_cluster.specs.declared.report.StepReport.{StepReport}
-use Rattle.vk_cluster.specs.Standing.{logs_of}
+use Rattle.vk_cluster.specs.Standing.{logs_of, report_of}
 use Rattle.vk_event.specs.Lawful.{has_actors}
 use Rattle.vk_generator.specs.Numbers.{drawn, next}
 use Rattle.vk_rules.specs.Histories.{happened}
@@ -30,6 +29,12 @@ pub hear-requires-clause-none : goal.hear-requires-clause-none
 hear-requires-clause-none c =
     (c.next_event-event.ensures (history_so_far c.args.self.now) c.requires.driver.actors).none
 
+pub hear-requires-clause-told : goal.hear-requires-clause-told
+hear-requires-clause-told c =
+    let old = c.args.self.now in
+    let h = happened settings (logs_of settings old.course.events) c.next_event-event.result in
+    (report_of h, c.in_ok-advance.ensures.told)
+
 pub returns-clause-played : goal.returns-clause-played
 returns-clause-played c =
     let old = c.args.self.now in
@@ -43,11 +48,11 @@ returns-clause-played c =
     let heard : IsHeard settings logs (task_at place).pid e =
     subst (IsHeard settings logs (task_at place).pid) (sym its.event)
     (process_hears settings logs place (answered_to (task_at place).pid hs)) in
-    let happens = c.in_ok-report.ensures in
+    let happens = c.in_ok-advance.ensures in
     let drawn_is : place ≡ drawn (next old.generator) % 4 =
     ap (λ d. d % 4) (c.draw.ensures.drawn ∙ ap drawn c.draw.ensures.state) in
     played old _ (process_choice old.generator hs) e c.requires.driver refl happens.course c.draw.ensures.state
     (its.event ∙ ap (λ p. process_event (task_at p) (answered_to (task_at p).pid hs)) drawn_is) happens.events
-    (c.hear.ensures hs h heard.answer its.actors_are (ap (λ (r : StepReport). r.answer) happens.report ∙ heard.reported) heard.own
+    (c.hear.ensures hs h heard.answer (report_of h) its.actors_are happens.told heard.reported heard.own
     (λ q few apart. heard.others (task_at q).pid (processes_differ place q low few apart)))
     happens.fits

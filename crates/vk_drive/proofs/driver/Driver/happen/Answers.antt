@@ -13,7 +13,7 @@ pub returns-clause-played : goal.returns-clause-played
 returns-clause-played c =
     let old = c.args.self.now in
     let logs = logs_of settings old.course.events in
-    let happens = c.in_ok-_report.ensures in
+    let happens = c.in_ok-_advance.ensures in
     played old _ (chosen old.generator c.args.event) c.args.event c.requires.driver refl happens.course refl refl happens.events
     (quiet_at old.actors.items (history_so_far old) c.requires.driver.actors (happened settings logs c.args.event)
     (λ q. quiet_tells settings logs c.args.event (task_at q).pid c.requires.quiet))

@@ -1,5 +1,6 @@
 use Rattle.std.proofs.Common.{◌+◌, List, length, Some, None, sym, ap, ◌∙◌}
 use Rattle.vk_base.specs.declared.config.ProcessSpec.{ProcessSpec}
+use Rattle.vk_event.specs.declared.event.Event.{Event}
 use Rattle.vk_event.specs.declared.schedule.Front.{Front}
 use Rattle.vk_event.specs.declared.schedule.TextRefusal.TheVariants as refusals
 use Rattle.vk_event.specs.Remaining.{end_of}
@@ -13,6 +14,7 @@ pub returns-in-Some-read_event : goal.returns-in-Some-read_event
 returns-in-Some-read_event c =
     let none = ap (λ (f : Front). f.schedule.events) c.self.view_is ∙ c.requires in
     c.ended-in-Some-read_event.ensures
+    ∙ ap (λ (e : Event). end_of c.self.inside.config (Some refusals.Limit) (Some e)) (c.whole.ensures ∙ c.view.ensures)
     ∙ sym (one_too_many _ _ _ _ _ c.read_event.new.into c.in-Some.ensures.line c.in-Some-read_event.ensures none) ∙ c.self.view_is
 
 pub returns : goal.returns

@@ -1,6 +1,6 @@
 use Rattle.std.proofs.Common.{ℕ, List, ◌==◌, ◌&&◌, ◌||◌, not, length, slice_index, arith, ap, ◌∙◌}
 use Rattle.vk_text.proofs.PidWords.{number_is}
-use Rattle.vk_text.proofs.word.first_short.Goals as goal
+use Rattle.vk_text.proofs.word.first_many.Goals as goal
 
 pub returns-clause-number : goal.returns-clause-number
 returns-clause-number c =

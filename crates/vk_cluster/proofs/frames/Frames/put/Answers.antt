@@ -1,0 +1,53 @@
+use Rattle.std.proofs.Common.{◌≡◌, ℕ, ◌+◌, List, ◌∷◌, ◌++◌, [], length, map, sym, ap, subst, ◌∙◌, arith}
+use Rattle.std.specs.Prelude.{sum_by}
+use Rattle.std.proofs.lemmas.List.{length-append, length-map}
+use Rattle.vk_cluster.specs.declared.frames.Place.{Place}
+use Rattle.vk_cluster.specs.Blocks.{AreKept, FrameList, bytes_of, frame_in}
+use Rattle.vk_cluster.proofs.Blocks.{IsNewPlace, put_frames, put_kept}
+use Rattle.vk_cluster.proofs.frames.Frames.put.Goals as goal
+
+pub invariant_of-self : goal.invariant_of-self
+invariant_of-self c =
+    let full : List (List ℕ) = map bytes_of c.self.inside.full.items in
+    let last : List ℕ = c.self.inside.last.items in
+    let f : List ℕ = c.args.frame.now in
+    let place : Place = record { from = c.len.result; count = length f; block = c.len-2.result } in
+    let is : IsNewPlace full last f place = record {
+      from = omega (arith, c.self.inside.last.ok.0);
+      count = λ k. length f;
+      block = omega (arith, c.self.inside.full.ok.0, length-map c.self.inside.full.items bytes_of);
+    } in
+    let kept = c.self.invariant.0 in
+    let all : c.self.inside.size ≡ sum_by length c.args.self.now.items =
+    kept.frames ∙ ap (λ (v : FrameList). sum_by length v.items) c.self.view_is in
+    let most = c.requires.most in
+    let put =
+    put_kept full last f c.self.inside.places.items c.self.inside.size place kept is c.requires.some (omega arith) in
+    let P : List ℕ → Type 0 = λ l. AreKept full l (c.self.inside.places.items ++ place ∷ []) (c.self.inside.size + length f) in
+    let Q : List Place → Type 0 = λ ps. AreKept full c.push_bytes.new.bytes.items ps (c.self.inside.size + length f) in
+    let longer : length c.push_bytes.new.bytes.items ≡ length (last ++ f) = ap length c.push_bytes.ensures.items in
+    let free = ap (λ (v : FrameList). v.bytes) c.self.view_is in
+    let low = c.self.invariant.1 in
+    let capacity = c.self.invariant.2 in
+    let room = c.requires.bytes in
+    let more = c.push_bytes.ensures.capacity in (
+      subst Q (sym c.push_reserved.ensures.items) (subst P (sym c.push_bytes.ensures.items) put),
+      omega (arith, length-append last f),
+      omega arith,
+    )
+
+pub returns-clause-items : goal.returns-clause-items
+returns-clause-items c =
+    let full : List (List ℕ) = map bytes_of c.self.inside.full.items in
+    let last : List ℕ = c.self.inside.last.items in
+    let f : List ℕ = c.args.frame.now in
+    let place : Place = record { from = c.len.result; count = length f; block = c.len-2.result } in
+    let is : IsNewPlace full last f place = record {
+      from = omega (arith, c.self.inside.last.ok.0);
+      count = λ k. length f;
+      block = omega (arith, c.self.inside.full.ok.0, length-map c.self.inside.full.items bytes_of);
+    } in
+    ap (λ l. map (frame_in full l) c.push_reserved.new.self.items) c.push_bytes.ensures.items
+    ∙ ap (map (frame_in full (last ++ f))) c.push_reserved.ensures.items
+    ∙ put_frames full last f c.self.inside.places.items place c.self.invariant.0.within is
+    ∙ ap (λ (v : FrameList). v.items ++ f ∷ []) c.self.view_is

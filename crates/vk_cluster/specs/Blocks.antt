@@ -1,0 +1,41 @@
+-- Frames whose bytes stand in blocks.
+use Rattle.std.specs.Prelude.{ℕ, ◌≡◌, ◌+◌, ◌*◌, ◌<◌, ◌≤◌, List, length, map, take, drop, sum_by, slice_index_or}
+use Rattle.std.specs.Global.{Vec}
+use Rattle.vk_base.specs.declared.limits.TheConstants.{FRAME_BYTES}
+use Rattle.vk_rules.specs.Each.{Each}
+use Rattle.vk_cluster.specs.declared.frames.Place.{Place}
+use Rattle.vk_cluster.specs.declared.frames.TheConstants.{HALF_BYTES, MOST_BYTES}
+
+-- what contracts see of them: the frames, and for how many bytes and frames more memory is taken
+pub record FrameList : Type 0 where
+  pub items : List (List ℕ)
+  pub bytes : ℕ
+  pub places : ℕ
+
+-- what is put has bytes, and not too many
+pub record IsFrame (bytes : List ℕ) : Type 0 where
+  pub some : 0 < length bytes
+  pub few : length bytes ≤ FRAME_BYTES
+
+abbrev pub bytes_of : Vec ℕ → List ℕ
+bytes_of v = v.items
+
+-- the block with this number, counted from 0: one of the full ones, or the last behind them
+abbrev pub block_at : List (List ℕ) → List ℕ → ℕ → List ℕ
+block_at full last n = slice_index_or full n last
+
+-- the bytes of a frame that stands there, and that they lie within the block
+abbrev pub frame_in : List (List ℕ) → List ℕ → Place → List ℕ
+frame_in full last p = take p.count (drop p.from (block_at full last p.block))
+
+abbrev pub IsIn : List (List ℕ) → List ℕ → Place → Type 0
+IsIn full last p = (p.block ≤ length full) × (p.from + p.count ≤ length (block_at full last p.block))
+
+-- Each frame lies within its block, all bytes are those of frames, none of which is empty, and each full block is half used.
+pub record AreKept (full : List (List ℕ)) (last : List ℕ) (places : List Place) (size : ℕ) : Type 0 where
+  pub within : Each (IsIn full last) places
+  pub blocks : size ≡ sum_by length full + length last
+  pub frames : size ≡ sum_by length (map (frame_in full last) places)
+  pub few : length places ≤ size
+  pub most : size ≤ MOST_BYTES
+  pub used : HALF_BYTES * length full ≤ sum_by length full

@@ -1,0 +1,75 @@
+-- What the cluster tells of an event in few bytes, and what is noted of it.
+use Rattle.std.proofs.Common.{◌≡◌, ℕ, true, List, [], ◌∷◌, ◌++◌, length, Some, refl, sym, ap, subst, ◌∙◌}
+use Rattle.std.specs.Prelude.{slice_get}
+use Rattle.std.proofs.lemmas.List.{length-map}
+use Rattle.circular_buffer.specs.Buffer.{Buffer}
+use Rattle.vk_cluster.specs.declared.report.Advance.{Advance}
+use Rattle.vk_cluster.specs.declared.report.Advance.TheVariants as advances
+use Rattle.vk_cluster.specs.Clusters.{value_of}
+use Rattle.vk_cluster.specs.Shown.{HasReported, Sends}
+use Rattle.vk_cluster.specs.Standing.{IsAdvance, Tells, logs_of, report_by, report_of}
+use Rattle.vk_cluster.specs.Values.{ClusterValue}
+use Rattle.vk_cluster.proofs.Shown.{IsEntry, reported_entry, reported_missing, sends}
+use Rattle.vk_cluster.proofs.Told.{report_told}
+use Rattle.vk_event.specs.declared.event.Event.{Event}
+use Rattle.vk_event.specs.Lawful.{has_actors}
+use Rattle.vk_frame.specs.declared.header.Header.{Header}
+use Rattle.vk_host.specs.declared.response.Response.{Response}
+use Rattle.vk_host.specs.Responses.{answer_of}
+use Rattle.vk_host.specs.Sealed.{sealed}
+use Rattle.vk_host.specs.Values.{StationValue}
+use Rattle.vk_rules.specs.Frames.{Frame}
+use Rattle.vk_rules.specs.Histories.{At, Missing, happened, history_of}
+use Rattle.vk_drive.specs.declared.counts.Counts.{Counts}
+use Rattle.vk_drive.specs.declared.course.Course.{Course}
+use Rattle.vk_drive.specs.Driving.{HasAdvanced, IsCourse, IsNoted, counted, last_of}
+use Rattle.vk_drive.specs.Tasks.{settings, specs}
+use Rattle.vk_drive.specs.Told.{all_emitted, headers}
+use Rattle.vk_drive.proofs.Behind.{history_with, noted_at, noted_missing}
+
+pub advanced : (old : Course) (new : ClusterValue) (e : Event) (a : Advance) → IsCourse old → has_actors specs e ≡ true →
+    IsAdvance (value_of old.cluster) new e a → HasAdvanced old.events new e a
+advanced old new e a is acts step = record {
+  report = step.report;
+  told = step.told;
+  reported = record { actors = acts; next = step.step settings old.events is.stands };
+}
+
+pub tells : (es : List Event) (now : ClusterValue) (e : Event) (a : Advance) → HasAdvanced es now e a →
+    Tells now a (report_of (happened settings (logs_of settings es) e))
+tells es now e a had = subst (Tells now a) had.reported.next.report had.told
+
+-- there was nothing to deliver
+pub missing_noted : (es : List Event) (now : ClusterValue) (e : Event) (a : Advance) (host : ℕ) → HasAdvanced es now e a →
+    a ≡ advances.Missing host → (recent : Buffer Header) (counts : Counts) → IsNoted (history_of settings es) recent counts →
+    IsNoted (history_of settings (es ++ e ∷ [])) recent counts
+missing_noted es now e a host had is recent counts noted =
+    let report : had.report ≡ report_of (Missing host) = subst (λ x. Tells now x had.report) is had.told in
+    let missed : happened settings (logs_of settings es) e ≡ Missing host =
+    reported_missing (report_of (Missing host)) (happened settings (logs_of settings es) e) (sym report ∙ had.reported.next.report) refl in
+    subst (λ hs. IsNoted hs recent counts) (sym (history_with es e (Missing host) missed))
+    (noted_missing (history_of settings es) host recent counts noted)
+
+-- a station had the event
+module _ (es : List Event) (now : ClusterValue) (e : Event) (a : Advance) (had : HasAdvanced es now e a) (place : ℕ) (given : Response)
+    (is : a ≡ advances.Event place given) (s : StationValue) (found : slice_get now.hosts place ≡ Some s) where
+  reported_by : HasReported settings es now e (report_by s given)
+  reported_by = subst (HasReported settings es now e) (report_told now a place given had.report is had.told s found) had.reported
+
+  one : IsEntry (report_by s given) (answer_of s given) (happened settings (logs_of settings es) e)
+  one =
+      reported_entry (report_by s given) (answer_of s given) (happened settings (logs_of settings es) e) reported_by.next.report refl
+
+  sent : Sends s one.entry.frames
+  sent = sends settings es now e (report_by s given) reported_by one.entry one.is place s found refl
+
+  pub event_noted : (recent after : Buffer Header) (before counts : Counts) (frames : ℕ) → frames ≡ length s.frames →
+      ((fs : List Frame) (hs : List Header) → Sends s fs → recent ≡ last_of hs → after ≡ last_of (hs ++ headers fs)) →
+      counts ≡ counted before frames (answer_of s given) → IsNoted (history_of settings es) recent before →
+      IsNoted (history_of settings (es ++ e ∷ [])) after counts
+  event_noted recent after before counts frames many kept counted_is noted =
+      let hs = history_of settings es in
+      let all = many ∙ ap length sent.frames ∙ length-map one.entry.frames sealed in
+      subst (λ l. IsNoted l after counts) (sym (history_with es e (At s.host s.events one.entry) one.is))
+      (noted_at hs s.host s.events one.entry after before counts frames (answer_of s given) all one.answered noted.counts_are
+      (kept one.entry.frames (all_emitted hs) sent noted.recent_is) counted_is)
