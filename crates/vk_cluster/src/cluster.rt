@@ -171,6 +171,7 @@ impl Cluster {
         }
     }
 
+    #[inline(always)]
     fn call(&mut self, place: usize, pid: Pid, call: &CallView) -> Advance
         requires somewhere { StandsSomewhere (value_of self.old) }
         requires few { self.old.events < EVENTS }
@@ -186,6 +187,7 @@ impl Cluster {
         Advance::Event { place, response }
     }
 
+    #[inline(always)]
     fn collect(&mut self, place: usize, pid: Pid) -> Advance
         requires somewhere { StandsSomewhere (value_of self.old) }
         requires few { self.old.events < EVENTS }
@@ -260,6 +262,7 @@ impl Cluster {
 }
 
 /// Keeps the frames of the last event of the station at this place.
+#[inline(always)]
 fn keep(emitted: &mut Emitted, host: &Host, place: usize)
     requires kept { IsKept (pile_of emitted.old) }
     requires place { place < length emitted.old.events.items }

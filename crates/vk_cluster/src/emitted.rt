@@ -53,6 +53,7 @@ impl Emitted {
     /// # Errors
     ///
     /// [`NoMemory`] where memory is wanting.
+    #[inline(always)]
     pub fn make_room(&mut self, alloc: Global, place: usize) -> Result<(), NoMemory>
         requires place { place < length self.old.events.items }
         requires few { length (pile_of self.old).bytes ≤ LAST_BYTES }
@@ -79,6 +80,7 @@ impl Emitted {
     }
 
     /// The frames from the one numbered `first` on, counted from 0, are those of one event of the station at this place.
+    #[inline(always)]
     pub fn end_event(&mut self, place: usize, first: u32)
         requires place { place < length self.old.events.items }
         requires first { first ≤ length self.old.frames.items }

@@ -74,6 +74,7 @@ impl Frames {
     /// # Errors
     ///
     /// [`NoMemory`] where memory is wanting.
+    #[inline(always)]
     pub fn make_room(&mut self, alloc: Global, bytes: usize, frames: usize) -> Result<(), NoMemory>
         requires { bytes ≤ HALF_BYTES }
         ensures items { self.new.items ≡ self.old.items }

@@ -42,6 +42,7 @@ pub struct Counts {
 }
 
 /// The step behind this word.
+#[inline(always)]
 fn write_step_line(
     alloc: Global,
     text: &mut Vec<u8>,
