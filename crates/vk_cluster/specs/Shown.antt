@@ -3,8 +3,9 @@ use Rattle.std.specs.Prelude.{◌≡◌, ◌≤◌, List, length, map, true}
 use Rattle.vk_base.specs.declared.event.EventAnswer.{EventAnswer}
 use Rattle.vk_base.specs.Settings.{Settings}
 use Rattle.vk_cluster.specs.declared.emitted.TheConstants.{EVENT_FRAMES}
+use Rattle.vk_cluster.specs.declared.report.Advance.{Advance}
 use Rattle.vk_cluster.specs.declared.report.StepReport.{StepReport}
-use Rattle.vk_cluster.specs.Standing.{IsNext}
+use Rattle.vk_cluster.specs.Standing.{IsNext, Tells}
 use Rattle.vk_cluster.specs.Values.{ClusterValue}
 use Rattle.vk_event.specs.declared.event.Event.{Event}
 use Rattle.vk_event.specs.Lawful.{has_actors}
@@ -31,3 +32,9 @@ pub record IsLast (s : StationValue) (answer : EventAnswer) (e : Entry) : Type 0
 pub record HasReported (c : Settings) (es : List Event) (now : ClusterValue) (e : Event) (r : StepReport) : Type 0 where
   pub actors : has_actors c.specs e ≡ true
   pub next : IsNext c es now e r
+
+-- the cluster reports so of this event, in few bytes
+pub record HasAdvanced (c : Settings) (es : List Event) (now : ClusterValue) (e : Event) (a : Advance) : Type 0 where
+  pub report : StepReport
+  pub told : Tells now a report
+  pub reported : HasReported c es now e report

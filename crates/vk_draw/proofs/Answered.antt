@@ -16,7 +16,7 @@ use Rattle.vk_picture.specs.declared.picture.Column.{Column}
 use Rattle.vk_picture.specs.Places.{columns_of, place_behind, station_column}
 use Rattle.vk_draw.specs.declared.status.Status.{Status}
 use Rattle.vk_draw.specs.declared.status.Status.TheVariants as status
-use Rattle.vk_draw.specs.Top.{IsDrawn, IsEarly, IsFront, IsOfText, IsPicture, IsReadCount, IsRefusal, IsRefused, IsTooLarge, IsWriteCount}
+use Rattle.vk_draw.specs.Top.{IsPicture, IsReadCount, IsRefusal, IsTooLarge, IsWriteCount}
 use Rattle.vk_draw.specs.Work.{IsAnswered, IsOutcome, IsUnread, IsWritten}
 
 -- a process brings two columns at the most
@@ -60,12 +60,6 @@ pub refusal_by : (text : List ℕ) (s : Schedule) (e : Status) → schedule_of t
     → (e ≡ status.NoMemory) ⊎ ((e ≡ status.Limit) × IsTooLarge s) → IsRefusal text e
 refusal_by text s e spells (inl is) = subst (IsRefusal text) (sym is) (spelled_some text s spells)
 refusal_by text s e spells (inr is) = subst (IsRefusal text) (sym is.0) (s, spells, is.1)
-
--- or of a text that is none's
-pub unspelled : (text : List ℕ) (e f : TextRefusal) → ¬ (f ≡ schedules.NoMemory) → e ≡ f
-    → ((e ≡ schedules.NoMemory) × HasProcess text) ⊎ (schedule_of text ≡ Err e) → schedule_of text ≡ Err f
-unspelled text e f other is (inl h) = absurd (other (sym is ∙ h.0))
-unspelled text e f other is (inr h) = h ∙ ap Err is
 
 -- all was written, or a write failed
 pub written_is : (Unchanged : Type 0) (text drawn : List ℕ) (old new : Option (List ℕ)) (s : Status) → length text ≤ INPUT_BYTES

@@ -6,7 +6,7 @@ use Rattle.circular_buffer.specs.Buffer.{Buffer}
 use Rattle.vk_cluster.specs.declared.report.Advance.{Advance}
 use Rattle.vk_cluster.specs.declared.report.Advance.TheVariants as advances
 use Rattle.vk_cluster.specs.Clusters.{value_of}
-use Rattle.vk_cluster.specs.Shown.{HasReported, Sends}
+use Rattle.vk_cluster.specs.Shown.{HasAdvanced, HasReported, Sends}
 use Rattle.vk_cluster.specs.Standing.{IsAdvance, Tells, logs_of, report_by, report_of}
 use Rattle.vk_cluster.specs.Values.{ClusterValue}
 use Rattle.vk_cluster.proofs.Shown.{IsEntry, reported_entry, reported_missing, sends}
@@ -22,25 +22,25 @@ use Rattle.vk_rules.specs.Frames.{Frame}
 use Rattle.vk_rules.specs.Histories.{At, Missing, happened, history_of}
 use Rattle.vk_drive.specs.declared.counts.Counts.{Counts}
 use Rattle.vk_drive.specs.declared.course.Course.{Course}
-use Rattle.vk_drive.specs.Driving.{HasAdvanced, IsCourse, IsNoted, counted, last_of}
+use Rattle.vk_drive.specs.Driving.{IsCourse, IsNoted, counted, last_of}
 use Rattle.vk_drive.specs.Tasks.{settings, specs}
 use Rattle.vk_drive.specs.Told.{all_emitted, headers}
 use Rattle.vk_drive.proofs.Behind.{history_with, noted_at, noted_missing}
 
 pub advanced : (old : Course) (new : ClusterValue) (e : Event) (a : Advance) → IsCourse old → has_actors specs e ≡ true →
-    IsAdvance (value_of old.cluster) new e a → HasAdvanced old.events new e a
+    IsAdvance (value_of old.cluster) new e a → HasAdvanced settings old.events new e a
 advanced old new e a is acts step = record {
   report = step.report;
   told = step.told;
   reported = record { actors = acts; next = step.step settings old.events is.stands };
 }
 
-pub tells : (es : List Event) (now : ClusterValue) (e : Event) (a : Advance) → HasAdvanced es now e a →
+pub tells : (es : List Event) (now : ClusterValue) (e : Event) (a : Advance) → HasAdvanced settings es now e a →
     Tells now a (report_of (happened settings (logs_of settings es) e))
 tells es now e a had = subst (Tells now a) had.reported.next.report had.told
 
 -- there was nothing to deliver
-pub missing_noted : (es : List Event) (now : ClusterValue) (e : Event) (a : Advance) (host : ℕ) → HasAdvanced es now e a →
+pub missing_noted : (es : List Event) (now : ClusterValue) (e : Event) (a : Advance) (host : ℕ) → HasAdvanced settings es now e a →
     a ≡ advances.Missing host → (recent : Buffer Header) (counts : Counts) → IsNoted (history_of settings es) recent counts →
     IsNoted (history_of settings (es ++ e ∷ [])) recent counts
 missing_noted es now e a host had is recent counts noted =
@@ -51,7 +51,7 @@ missing_noted es now e a host had is recent counts noted =
     (noted_missing (history_of settings es) host recent counts noted)
 
 -- a station had the event
-module _ (es : List Event) (now : ClusterValue) (e : Event) (a : Advance) (had : HasAdvanced es now e a) (place : ℕ) (given : Response)
+module _ (es : List Event) (now : ClusterValue) (e : Event) (a : Advance) (had : HasAdvanced settings es now e a) (place : ℕ) (given : Response)
     (is : a ≡ advances.Event place given) (s : StationValue) (found : slice_get now.hosts place ≡ Some s) where
   reported_by : HasReported settings es now e (report_by s given)
   reported_by = subst (HasReported settings es now e) (report_told now a place given had.report is had.told s found) had.reported

@@ -4,12 +4,8 @@ use Rattle.circular_buffer.specs.Buffer.{Buffer, buffer, keep_last}
 use Rattle.vk_base.specs.declared.answer.Answer.{Answer}
 use Rattle.vk_base.specs.declared.event.EventAnswer.{EventAnswer}
 use Rattle.vk_cluster.specs.declared.emitted.TheConstants.{LAST_BYTES}
-use Rattle.vk_cluster.specs.declared.report.Advance.{Advance}
-use Rattle.vk_cluster.specs.declared.report.StepReport.{StepReport}
 use Rattle.vk_cluster.specs.Clusters.{value_of}
-use Rattle.vk_cluster.specs.Shown.{HasReported}
-use Rattle.vk_cluster.specs.Standing.{StandsFor, Tells, emitted_bytes}
-use Rattle.vk_cluster.specs.Values.{ClusterValue}
+use Rattle.vk_cluster.specs.Standing.{StandsFor, emitted_bytes}
 use Rattle.vk_event.specs.declared.event.Event.{Event}
 use Rattle.vk_event.specs.declared.event.Event.TheVariants as events
 use Rattle.vk_event.specs.declared.task.Task.{Task}
@@ -96,12 +92,6 @@ last_of hs = buffer (keep_last 32 hs) 32
 pub record IsNoted (hs : List Happened) (recent : Buffer Header) (counts : Counts) : Type 0 where
   pub recent_is : recent ≡ last_of (all_emitted hs)
   pub counts_are : counts ≡ counts_of hs
-
--- the cluster tells so of this event, in few bytes
-pub record HasAdvanced (es : List Event) (now : ClusterValue) (e : Event) (a : Advance) : Type 0 where
-  pub report : StepReport
-  pub told : Tells now a report
-  pub reported : HasReported settings es now e report
 
 -- what is kept of the history of the events so far
 pub record IsCourse (c : Course) : Type 0 where

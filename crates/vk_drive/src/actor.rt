@@ -95,7 +95,7 @@ impl Actor {
         }
     }
 
-    /// The same, in few bytes of this station. The answer itself is made only where its program is told it.
+    /// The same, in few bytes of this station. No answer is made of a call that begins.
     pub fn hear(&mut self, station: &Host, response: Response)
         requires { self.old.told ≡ None }
         ensures { (t : TheTask) (heard : List TheAnswer) → IsActor self.old t heard →

@@ -13,8 +13,8 @@ ghost use Rattle.vk_host.specs.Sealed.{sealed};
 ghost use Rattle.vk_rules.specs.Frames.{Frame as TheFrame};
 ghost use Rattle.vk_rules.specs.Histories.{happened, history_of};
 ghost use Rattle.v_lawful.specs.Sending.{IsLawfulFrame};
-ghost use Rattle.vk_drive.specs.Driving.{AreLow, HasAdvanced, IsCourse, IsNoted, last_of};
-ghost use Rattle.vk_cluster.specs.Shown.{Sends};
+ghost use Rattle.vk_drive.specs.Driving.{AreLow, IsCourse, IsNoted, last_of};
+ghost use Rattle.vk_cluster.specs.Shown.{HasAdvanced, Sends};
 ghost use Rattle.vk_drive.specs.Tasks.{settings, specs};
 ghost use Rattle.vk_drive.specs.Told.{headers};
 
@@ -74,8 +74,8 @@ fn note(
 )
     requires frames { counts.old.frames < 2 ^ 63 }
     requires low { AreLow counts.old }
-    requires advanced { (es : List TheEvent) × (e : TheEvent) × HasAdvanced es (value_of cluster.now) e advance }
-    ensures noted { (es : List TheEvent) (e : TheEvent) → HasAdvanced es (value_of cluster.now) e advance →
+    requires advanced { (es : List TheEvent) × (e : TheEvent) × HasAdvanced settings es (value_of cluster.now) e advance }
+    ensures noted { (es : List TheEvent) (e : TheEvent) → HasAdvanced settings es (value_of cluster.now) e advance →
         IsNoted (history_of settings es) recent.old counts.old → IsNoted (history_of settings (es ++ e ∷ [])) recent.new counts.new }
     ensures few { counts.new.frames ≤ counts.old.frames + 4294967295 }
 {

@@ -1,18 +1,17 @@
 -- What a cluster shows of the event that it had last, and its lines.
-use Rattle.std.proofs.Common.{◌≡◌, ℕ, zero, suc, ◌+◌, ◌<◌, ◌≤◌, true, List, [], ◌∷◌, ◌++◌, length, map, drop, Option, Some, None, refl, sym, ap, subst, ◌∙◌, append_assoc, arith}
+use Rattle.std.proofs.Common.{◌≡◌, ℕ, ◌+◌, ◌<◌, ◌≤◌, List, [], ◌∷◌, ◌++◌, length, map, drop, Some, refl, sym, ap, subst, ◌∙◌, append_assoc, arith}
 use Rattle.std.specs.Prelude.{slice_get}
 use Rattle.std.proofs.lemmas.List.{append-nil, drop_all, length-map}
 use Rattle.std.proofs.lemmas.Option.{none-some, same_Some}
 use Rattle.vk_base.specs.declared.event.EventAnswer.{EventAnswer}
 use Rattle.vk_base.specs.declared.limits.TheConstants.{FRAME_BYTES}
 use Rattle.vk_base.specs.Packets.{Packet}
-use Rattle.vk_base.specs.Settings.{Settings, has_station}
-use Rattle.vk_cluster.specs.declared.emitted.TheConstants.{EVENT_FRAMES}
+use Rattle.vk_base.specs.Settings.{Settings}
 use Rattle.vk_cluster.specs.declared.report.Advance.{Advance}
 use Rattle.vk_cluster.specs.declared.report.Advance.TheVariants as advances
 use Rattle.vk_cluster.specs.declared.report.ClusterAnswer.TheVariants as answers
 use Rattle.vk_cluster.specs.declared.report.StepReport.{StepReport}
-use Rattle.vk_cluster.specs.Shown.{HasReported, IsLast}
+use Rattle.vk_cluster.specs.Shown.{HasAdvanced, HasReported, IsLast}
 use Rattle.vk_cluster.specs.Standing.{Tells, logs_of, report_by, report_of}
 use Rattle.vk_cluster.specs.Values.{ClusterValue}
 use Rattle.vk_cluster.proofs.Shown.{IsEntry, IsSent, last_is, lawful_entry, opened, reported_entry, reported_missing}
@@ -24,7 +23,6 @@ use Rattle.vk_frame.specs.Reading.{frame_of}
 use Rattle.vk_host.specs.declared.response.Response.{Response}
 use Rattle.vk_host.specs.Responses.{answer_of}
 use Rattle.vk_host.specs.Sealed.{sealed}
-use Rattle.vk_host.specs.Standing.{Shows}
 use Rattle.vk_host.specs.Values.{StationValue}
 use Rattle.vk_packet.specs.Reading.{packet_of}
 use Rattle.vk_report.specs.declared.entry.Counts.{Counts}
@@ -35,19 +33,14 @@ use Rattle.vk_report.specs.declared.frame.Emitted.{Emitted}
 use Rattle.vk_report.specs.declared.frame.PacketKind.{PacketKind}
 use Rattle.vk_report.specs.Histories.{frames_from, told_lines}
 use Rattle.vk_report.specs.Report.{entry_lines, frame_lines}
-use Rattle.vk_rules.specs.Each.{Each}
-use Rattle.vk_rules.specs.Entries.{Called, Collected, Delivered, Entry, Input, Ticked}
-use Rattle.vk_rules.specs.Frames.{Frame, Framed, unsealed_behind, unsealed_by, unsealed_of}
-use Rattle.vk_rules.specs.Histories.{At, Happened, Missing}
+use Rattle.vk_rules.specs.Entries.{Entry}
+use Rattle.vk_rules.specs.Frames.{Frame}
+use Rattle.vk_rules.specs.Histories.{At, Missing}
 unfoldable use Rattle.vk_rules.specs.Histories.{happened}
-use Rattle.vk_rules.specs.Laws.{FramesUnsealAgain, station_of}
-use Rattle.vk_rules.proofs.Headers.{headers_are_lawful}
+use Rattle.vk_rules.specs.Laws.{FramesUnsealAgain}
 use Rattle.vk_rules.proofs.Lengths.{frames_fit}
-use Rattle.vk_rules.proofs.OwnEvents.{own_log}
-use Rattle.vk_rules.proofs.Rising.{entries_rise}
-use Rattle.v_lawful.specs.Sending.{IsLawfulEntry, IsLawfulFrame, most_packets}
-use Rattle.v_lawful.proofs.Schedules.{lawful_log}
-use Rattle.vk_top.specs.Playing.{HasAdvanced, IsTold, told_entry}
+use Rattle.v_lawful.specs.Sending.{IsLawfulEntry, IsLawfulFrame}
+use Rattle.vk_top.specs.Playing.{IsTold, told_entry}
 use Rattle.vk_top.specs.Report.{emitted_of, kind_of, told_of}
 
 pub opened_told : FramesUnsealAgain → (f : Frame) (bytes : List ℕ) (h : Header) (rest : List ℕ) (p : Packet) (kind : PacketKind) →

@@ -1,32 +1,21 @@
 -- Of the code alone, no law rests on it: playing a schedule on its stations, one event after another.
-use Rattle.std.specs.Prelude.{◌≡◌, ℕ, ◌+◌, ◌*◌, ◌≤◌, ◌<◌, List, [], ◌∷◌, ◌++◌, drop, length, map, take, true, Some, Ok}
-use Rattle.vk_base.specs.declared.event.EventAnswer.{EventAnswer}
+use Rattle.std.specs.Prelude.{◌≡◌, ℕ, ◌+◌, ◌*◌, ◌≤◌, ◌<◌, List, [], ◌∷◌, ◌++◌, drop, length, map, take, Some, Ok}
 use Rattle.vk_base.specs.declared.limits.TheConstants.{EVENTS, STEPS}
 use Rattle.vk_base.specs.Settings.{Settings}
 use Rattle.vk_cluster.specs.declared.emitted.TheConstants.{EVENT_FRAMES}
-use Rattle.vk_cluster.specs.declared.report.Advance.{Advance}
-use Rattle.vk_cluster.specs.declared.report.StepReport.{StepReport}
-use Rattle.vk_cluster.specs.Shown.{HasReported}
-use Rattle.vk_cluster.specs.Standing.{IsNext, StandsFor, Tells, emitted_bytes, logs_of}
+use Rattle.vk_cluster.specs.Standing.{StandsFor, emitted_bytes, logs_of}
 use Rattle.vk_cluster.specs.Values.{ClusterValue}
 use Rattle.vk_event.specs.declared.event.Event.{Event}
 use Rattle.vk_event.specs.declared.schedule.Front.{Front}
 use Rattle.vk_event.specs.declared.schedule.Schedule.{Schedule}
 use Rattle.vk_event.specs.Schedule.{schedule_of}
-use Rattle.vk_event.specs.Lawful.{has_actors}
-use Rattle.vk_host.specs.Sealed.{sealed}
-use Rattle.vk_host.specs.Standing.{Shows}
-use Rattle.vk_host.specs.Values.{StationValue}
 use Rattle.vk_report.specs.declared.entry.Counts.{Counts}
 use Rattle.vk_report.specs.declared.entry.Form.{Form}
 use Rattle.vk_report.specs.declared.entry.Place.{Place}
 use Rattle.vk_report.specs.Histories.{Told, told_lines}
-use Rattle.vk_rules.specs.Each.{Each}
 use Rattle.vk_rules.specs.Entries.{Entry}
-use Rattle.vk_rules.specs.Frames.{Frame}
 use Rattle.vk_rules.specs.Histories.{Happened, happened, history}
 use Rattle.vk_rules.specs.Observed.{steps_in}
-use Rattle.v_lawful.specs.Sending.{IsLawfulFrame}
 use Rattle.vk_top.specs.Report.{counts_of, emitted_of, frame_count, front_text, history_before, is_cut, taken_from, taken_of, told_of, written_text}
 use Rattle.vk_top.specs.declared.replay.Written.{Written}
 
@@ -43,12 +32,6 @@ pub record AreFew (c : Counts) : Type 0 where
 -- the counts with what happened at one event more
 abbrev pub counts_after : Counts → Happened → Counts
 counts_after c h = record { events = c.events + 1; steps = c.steps + length (steps_in h); frames = c.frames + frame_count h }
-
--- the cluster reports so of this event, in few bytes
-pub record HasAdvanced (c : Settings) (es : List Event) (now : ClusterValue) (e : Event) (a : Advance) : Type 0 where
-  pub report : StepReport
-  pub told : Tells now a report
-  pub reported : HasReported c es now e report
 
 -- this happened: its lines were appended, and it is counted
 pub record IsTold (form : Form) (before after : Counts) (front text : List ℕ) (h : Happened) : Type 0 where
