@@ -2,6 +2,7 @@ pub mod EachHasText
 pub mod Events
 pub mod FrontLines
 pub mod Lawfulness
+pub mod Leading
 pub mod ReadAgain
 pub mod RemainingEvents
 pub mod ScenarioHeads

@@ -8,7 +8,7 @@ ghost use Rattle.vk_event.specs.Schedule.{acting, call_event_of, collect_event_o
 
 use crate::view::{EventBuffer, EventKind};
 use vk_base::Config;
-use vk_text::{is_end, next_pid, next_positive, next_station, next_word, take_call};
+use vk_text::{is_end, next_pid, next_positive, next_station, take_call};
 
 /// The greatest number of an event of a station.
 const EVENT: u64 = 9_223_372_036_854_775_807;
@@ -79,13 +79,16 @@ fn read_delivery(line: &[u8], at: usize, into: &mut EventBuffer) -> Option<()>
 fn read_words(line: &[u8], into: &mut EventBuffer) -> Option<()>
     ensures { option_map (λ _. into.new) result ≡ event_of (words_from line.now 0) }
 {
-    let (word, at) = next_word(line, 0)?;
-    match word {
-        b"call" => read_call_event(line, at, into),
-        b"collect" => read_collect(line, at, into),
-        b"tick" => read_tick(line, at, into),
-        b"deliver" => read_delivery(line, at, into),
-        _ => None,
+    if line.starts_with(b"call ") {
+        read_call_event(line, 5, into)
+    } else if line.starts_with(b"collect ") {
+        read_collect(line, 8, into)
+    } else if line.starts_with(b"tick ") {
+        read_tick(line, 5, into)
+    } else if line.starts_with(b"deliver ") {
+        read_delivery(line, 8, into)
+    } else {
+        None
     }
 }
 

@@ -19,7 +19,7 @@ use crate::response::{Response, loaded};
 use crate::{calls, deliveries, ticks};
 use std::alloc::Global;
 use std::marker::Model;
-use vk_base::{Call, Config, EventAnswer, NoMemory, Pid, StationEvent, Step};
+use vk_base::{Call, Config, EventAnswer, NoMemory, Outcome, Pid, Refusal, StationEvent, Step};
 use vk_brief::{BriefCall, CallView, Steps};
 use vk_packet::Outbox;
 
@@ -139,15 +139,14 @@ impl Host {
         ensures { IsEvent self.old self.new (Collected pid) (answer_of self.new result) }
     {
         count(&mut self.events, &mut self.number);
-        let outcome = calls::collect(&mut self.desk, pid);
-        seal(
-            &mut self.desk.out,
-            self.desk.host,
-            self.desk.now,
-            self.number,
-            self.events,
-        );
-        Response::collected(outcome)
+        match calls::collect(&mut self.desk, pid) {
+            Some(outcome) => Response::Given { outcome },
+            None => Response::Given {
+                outcome: Outcome::Refused {
+                    why: Refusal::NotYet,
+                },
+            },
+        }
     }
 
     /// The event that the station's clock ticks. Takes no memory.

@@ -1,7 +1,10 @@
 -- Lists with the first element that passes a test changed: against the place that `position` gives, and under a search.
 use Rattle.std.proofs.Common.{◌≡◌, ℕ, zero, suc, ◌+◌, ◌<◌, ◌≤◌, Bool, true, false, cond, not, List, [], ◌∷◌, length, get_or, set, refl, ap, arith, Some, None, sym, ◌∙◌}
-use Rattle.std.specs.List.{position, position_or_len}
+use Rattle.std.specs.List.{find, position, position_or_len, slice_get}
+use Rattle.std.proofs.lemmas.Grind.{common_steps}
+use Rattle.std.proofs.lemmas.List.Folds.{find_at}
 use Rattle.std.proofs.lemmas.List.Quantifiers.{position-Some}
+use Rattle.std.proofs.lemmas.Option.{slice_get-get_or}
 use Rattle.vk_base.specs.Firsts.{change_first}
 
 module _ {X : Type 0} (p : X → Bool) (f : X → X) where
@@ -42,5 +45,30 @@ module _ {X : Type 0} (p : X → Bool) (f : X → X) where
       d ≡ get_or inside i d → v ≡ f d → set inside i v ≡ change_first p f old
   changed inside old seen i d v at same view is value =
       change_first-with inside i d v (ap (position p) (sym same) ∙ sym at) (value ∙ ap f is) ∙ ap (change_first p f) view
+
+module _ {X : Type 0} (p : X → Bool) where
+  pub find_by : (xs : List X) (i : ℕ) (d : X) → position p xs ≡ Some i → find p xs ≡ Some (get_or xs i d)
+  find_by xs i d h =
+      let facts = position-Some p xs i d h in
+      let at : position_or_len p xs ≡ i = grind (arith, common_steps) in
+      find_at p xs ∙ ap (slice_get xs) at ∙ slice_get-get_or xs i d facts.0
+
+  past : (xs : List X) (i : ℕ) → length xs ≤ i → slice_get xs i ≡ None
+  past [] i le = refl
+  past (x ∷ xs) zero le = absurd (omega arith)
+  past (x ∷ xs) (suc i) le = past xs i (omega arith)
+
+  pub find_never : (xs : List X) → position p xs ≡ None → find p xs ≡ None
+  find_never xs e = find_at p xs ∙ past xs (position_or_len p xs) (grind arith)
+
+  -- as the code of a method reads it
+  pub found : (inside old seen : List X) (i : ℕ) (d : X) → Some i ≡ position p seen → seen ≡ inside → inside ≡ old →
+      d ≡ get_or inside i d → find p old ≡ Some d
+  found inside old seen i d at same view is =
+      ap (find p) (sym view) ∙ find_by inside i d (ap (position p) (sym same) ∙ sym at) ∙ ap Some (sym is)
+
+  pub found_never : (inside old seen : List X) → None ≡ position p seen → seen ≡ inside → inside ≡ old → find p old ≡ None
+  found_never inside old seen at same view =
+      ap (find p) (sym view) ∙ find_never inside (ap (position p) (sym same) ∙ sym at)
 
 pub ruleset changes = (change_first-at, change_first-none)

@@ -1,21 +1,19 @@
 -- What one process gets of another, by their places.
-use Rattle.std.proofs.Common.{◌≡◌, ◌≢◌, ℕ, zero, suc, ◌+◌, ◌-◌, ◌<◌, ◌≤◌, ◌==◌, Bool, true, false, cond, ltb, List, [], ◌∷◌, ◌++◌, drop, take, length, get_or, set, refl, sym, ap, subst, ◌∙◌, arith, Option, Some, None, inl, inr}
-use Rattle.std.specs.List.{find, position, position_or_len, slice_get}
-use Rattle.std.proofs.lemmas.Bool.{cases_Bool, both_ways, and_from, and_parts, cond-true, eq-eqb, eqb-true}
+use Rattle.std.proofs.Common.{◌≡◌, ◌≢◌, ℕ, ◌<◌, ◌==◌, true, false, List, [], ◌∷◌, ◌++◌, drop, take, length, get_or, set, refl, sym, ap, subst, ◌∙◌, arith, Option, Some, None}
+use Rattle.std.specs.List.{position}
+use Rattle.std.proofs.lemmas.Bool.{both_ways, and_from, and_parts, eq-eqb, eqb-true}
 use Rattle.std.proofs.lemmas.Grind.{common_steps}
 use Rattle.std.proofs.lemmas.List.{get_or_append_left, get_or-append_right, set-append_left, set-append_right}
-use Rattle.std.proofs.lemmas.List.Folds.{find_at}
 use Rattle.std.proofs.lemmas.List.Quantifiers.{position-Some}
-use Rattle.std.proofs.lemmas.Option.{none-some, slice_get-get_or}
+use Rattle.std.proofs.lemmas.Option.{none-some}
 use Rattle.vk_base.specs.declared.pid.Pid.{Pid}
-use Rattle.vk_base.specs.Firsts.{change_first}
 use Rattle.vk_base.specs.Kernel.{◌>>=◌}
 use Rattle.vk_base.specs.Pids.{same_pid}
 use Rattle.vk_procs.specs.declared.seat.Passed.{Passed}
 use Rattle.vk_procs.specs.declared.seat.Seat.{Seat}
 use Rattle.vk_procs.specs.Kept.{both, places_in}
 use Rattle.vk_procs.specs.Seats.{got, is_seat, passed_by, seat_in}
-use Rattle.vk_procs.proofs.Changes.{change_first-none, change_first-with}
+use Rattle.vk_procs.proofs.Changes.{change_first-none, change_first-with, find_by, find_never}
 
 -- One element of a list in two parts changes.
 module _ {X : Type 0} (all low high : List X) (split : all ≡ low ++ high) (n : ℕ) (len : length low ≡ n) (f : X → X → X) where
@@ -87,20 +85,6 @@ places_apart (x ∷ xs) from pid giver at apart h = λ e.
     let two = position-Some (is_seat pid) (x ∷ xs) at x h.second in
     both_ways (same_pid from pid) apart (both_pids (get_or (x ∷ xs) at x).pid from pid
     (subst (λ n. is_seat from (get_or (x ∷ xs) n x) ≡ true) e one.1) two.1)
-
-find_by : {X : Type 0} (p : X → Bool) (xs : List X) (i : ℕ) (d : X) → position p xs ≡ Some i → find p xs ≡ Some (get_or xs i d)
-find_by p xs i d h =
-    let facts = position-Some p xs i d h in
-    let at : position_or_len p xs ≡ i = grind (arith, common_steps) in
-    find_at p xs ∙ ap (slice_get xs) at ∙ slice_get-get_or xs i d facts.0
-
-find_never : {X : Type 0} (p : X → Bool) (xs : List X) → position p xs ≡ None → find p xs ≡ None
-find_never p xs e = find_at p xs ∙ past xs (position_or_len p xs) (grind arith)
-  where
-    past : {X : Type 0} (xs : List X) (i : ℕ) → length xs ≤ i → slice_get xs i ≡ None
-    past [] i le = refl
-    past (x ∷ xs) zero le = absurd (omega arith)
-    past (x ∷ xs) (suc i) le = past xs i (omega arith)
 
 -- the bytes or the message are where the one in that place gets them
 pub passed_at : (seats : List Seat) (from pid : Pid) (giver at : ℕ) (what : Passed) (new : List Seat) →

@@ -1,5 +1,5 @@
 -- Changes of processes keep whose they are, in their order.
-use Rattle.std.proofs.Common.{◌≡◌, Bool, true, false, cond, List, [], ◌∷◌, ℕ, map, Option, Some, None, refl, ap, ◌∙◌}
+use Rattle.std.proofs.Common.{◌≡◌, Bool, true, false, cond, List, [], ◌∷◌, ℕ, map, Option, Some, None, refl, ap}
 use Rattle.vk_base.specs.declared.activity.Outcome.TheVariants as outcomes
 use Rattle.vk_base.specs.declared.activity.Waiting.{Waiting}
 use Rattle.vk_base.specs.declared.answer.Refusal.TheVariants as refusals

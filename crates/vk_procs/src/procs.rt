@@ -167,22 +167,13 @@ impl Procs {
     }
 
     /// Hands out what the process has to collect, `None` where that is nothing. Then the process may call again.
+    #[tactic(auto, using(crate::proofs::Changes::changes))]
     pub fn collect(&mut self, pid: Pid) -> Option<Outcome>
         ensures outcome { result ≡ outcome_of (seat_in self.old pid) }
         ensures new { self.new ≡ change_first (is_seat pid) collected self.old }
     {
-        let outcome = self.outcome(pid);
-        self.make_ready(pid);
-        outcome
-    }
-
-    #[tactic(auto, using(crate::proofs::Changes::changes))]
-    fn make_ready(&mut self, pid: Pid)
-        ensures { self.new ≡ change_first (is_seat pid) collected self.old }
-    {
-        if let Some(at) = place_of(&self.seats, pid) {
-            self.seats[at].collect();
-        }
+        let at = place_of(&self.seats, pid)?;
+        self.seats[at].collect()
     }
 
     /// Writes into the memory of the process. Where the bytes do not all lie in it, nothing changes.

@@ -70,13 +70,16 @@ fn put_any(into: &mut Vec<u8>, n: u64) -> Result<(), NoMemory>
 }
 
 /// Appends a number of two digits or more. It stays a function of its own, since each call of what it were part of would pay
-/// for the buffers.
+/// for the buffers. Where there is room for any of the short ones, which is tested first, nothing is called behind the test.
 #[inline(never)]
 fn put_digits(into: &mut Vec<u8>, n: u64) -> Result<(), NoMemory>
     requires { 10 ≤ n }
     ensures ok { OnOk result (into.new.items ≡ into.old.items ++ decimal n) }
     ensures err { OnErr result (into.new.items ≡ into.old.items) }
 {
+    if into.capacity() - into.len() < 5 {
+        return put_any(into, n);
+    }
     if n < 100 {
         put_exact::<2>(into, n)
     } else if n < 1_000 {

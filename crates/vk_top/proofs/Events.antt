@@ -1,58 +1,65 @@
 -- What a cluster shows of the event that it had last, and its lines.
-use Rattle.std.proofs.Common.{◌≡◌, ℕ, ◌+◌, ◌<◌, ◌≤◌, List, [], ◌∷◌, ◌++◌, length, map, drop, Some, refl, sym, ap, subst, ◌∙◌, append_assoc, arith}
+use Rattle.std.proofs.Common.{◌≡◌, ℕ, ◌+◌, ◌≤◌, List, [], ◌∷◌, ◌++◌, length, map, drop, Some, refl, sym, ap, subst, ◌∙◌, append_assoc, arith}
 use Rattle.std.specs.Prelude.{slice_get}
 use Rattle.std.proofs.lemmas.List.{append-nil, drop_all, length-map}
-use Rattle.std.proofs.lemmas.Option.{none-some, same_Some}
+use Rattle.std.proofs.lemmas.Option.{same_Some}
 use Rattle.vk_base.specs.declared.event.EventAnswer.{EventAnswer}
 use Rattle.vk_base.specs.declared.limits.TheConstants.{FRAME_BYTES}
-use Rattle.vk_base.specs.Packets.{Packet}
+use Rattle.vk_base.specs.Packets.{Packet, Send, Reply, Pending, Negative, MoveData, MoveAck, MoveRequest, MoveBytes, MoveNegative, AskPid, TellPid}
 use Rattle.vk_base.specs.Settings.{Settings}
 use Rattle.vk_cluster.specs.declared.report.Advance.{Advance}
 use Rattle.vk_cluster.specs.declared.report.Advance.TheVariants as advances
-use Rattle.vk_cluster.specs.declared.report.ClusterAnswer.TheVariants as answers
 use Rattle.vk_cluster.specs.declared.report.StepReport.{StepReport}
 use Rattle.vk_cluster.specs.Shown.{HasAdvanced, HasReported, IsLast}
 use Rattle.vk_cluster.specs.Standing.{Tells, logs_of, report_by, report_of}
 use Rattle.vk_cluster.specs.Values.{ClusterValue}
-use Rattle.vk_cluster.proofs.Shown.{IsEntry, IsSent, last_is, lawful_entry, opened, reported_entry, reported_missing}
+use Rattle.vk_cluster.proofs.Shown.{IsEntry, IsSent, last_is, lawful_entry, reported_entry, reported_missing}
 use Rattle.vk_cluster.proofs.Told.{report_told}
 use Rattle.vk_event.specs.declared.event.Event.{Event}
-use Rattle.vk_event.specs.declared.event.Event.TheVariants as scheduled
 use Rattle.vk_frame.specs.declared.header.Header.{Header}
+use Rattle.vk_frame.specs.Law.{FramesAreSpelledOnce}
 use Rattle.vk_frame.specs.Reading.{frame_of}
 use Rattle.vk_host.specs.declared.response.Response.{Response}
 use Rattle.vk_host.specs.Responses.{answer_of}
 use Rattle.vk_host.specs.Sealed.{sealed}
 use Rattle.vk_host.specs.Values.{StationValue}
-use Rattle.vk_packet.specs.Reading.{packet_of}
+use Rattle.vk_packet.specs.Spelling.{packet_bytes}
 use Rattle.vk_report.specs.declared.entry.Counts.{Counts}
 use Rattle.vk_report.specs.declared.entry.Form.{Form}
 use Rattle.vk_report.specs.declared.entry.Form.TheVariants as forms
 use Rattle.vk_report.specs.declared.entry.Place.{Place}
 use Rattle.vk_report.specs.declared.frame.Emitted.{Emitted}
-use Rattle.vk_report.specs.declared.frame.PacketKind.{PacketKind}
 use Rattle.vk_report.specs.Histories.{frames_from, told_lines}
 use Rattle.vk_report.specs.Report.{entry_lines, frame_lines}
 use Rattle.vk_rules.specs.Entries.{Entry}
 use Rattle.vk_rules.specs.Frames.{Frame}
 use Rattle.vk_rules.specs.Histories.{At, Missing}
 unfoldable use Rattle.vk_rules.specs.Histories.{happened}
-use Rattle.vk_rules.specs.Laws.{FramesUnsealAgain}
 use Rattle.vk_rules.proofs.Lengths.{frames_fit}
 use Rattle.v_lawful.specs.Sending.{IsLawfulEntry, IsLawfulFrame}
 use Rattle.vk_top.specs.Playing.{IsTold, told_entry}
-use Rattle.vk_top.specs.Report.{emitted_of, kind_of, told_of}
+use Rattle.vk_top.specs.Report.{emitted_of, told_of}
 
-pub opened_told : FramesUnsealAgain → (f : Frame) (bytes : List ℕ) (h : Header) (rest : List ℕ) (p : Packet) (kind : PacketKind) →
-    IsLawfulFrame f → bytes ≡ sealed f → frame_of bytes ≡ Some (h, rest) → Some p ≡ packet_of rest → kind ≡ kind_of p →
-    record { destination = h.destination; kind = kind; length = length bytes } ≡ emitted_of f
-opened_told unseal f bytes h rest p kind lawful is found packet kind_is =
-    let o = opened unseal f bytes lawful is in
-    let pair : (h, rest) ≡ (f.header, o.rest) = same_Some (h, rest) (f.header, o.rest) (sym found ∙ o.found) in
-    let header : h ≡ f.header = ap (λ x. x.0) pair in
-    let behind : rest ≡ o.rest = ap (λ x. x.1) pair in
-    let same : p ≡ f.packet = same_Some p f.packet (packet ∙ ap packet_of behind ∙ o.packet) in
-    (λ i. record { destination = (header i).destination; kind = (kind_is ∙ ap kind_of same) i; length = length (is i) })
+some_bytes : (p : Packet) → 1 ≤ length (packet_bytes p)
+some_bytes (Send from to number message part) = omega arith
+some_bytes (Reply from to number message dest bytes) = omega arith
+some_bytes (Pending from to number) = omega arith
+some_bytes (Negative from to number) = omega arith
+some_bytes (MoveData from to number moving dest total offset bytes) = omega arith
+some_bytes (MoveAck from to number moving received) = omega arith
+some_bytes (MoveRequest from to number moving src total offset) = omega arith
+some_bytes (MoveBytes from to number moving total offset bytes) = omega arith
+some_bytes (MoveNegative from to number moving) = omega arith
+some_bytes (AskPid asker lookup logical) = omega arith
+some_bytes (TellPid found asker lookup) = omega arith
+
+-- what a lawful frame opens as
+pub opens : FramesAreSpelledOnce → (f : Frame) (bytes rest : List ℕ) (h : Header) → IsLawfulFrame f → bytes ≡ sealed f →
+    frame_of bytes ≡ Some (h, rest) → (h ≡ f.header) × (rest ≡ packet_bytes f.packet)
+opens once f bytes rest h lawful is found =
+    let pair = same_Some (h, rest) (f.header, packet_bytes f.packet)
+    (sym found ∙ ap frame_of is ∙ once.written f.header (packet_bytes f.packet) lawful.header (some_bytes f.packet)) in
+    (ap (λ x. x.0) pair, ap (λ x. x.1) pair)
 
 pub few_bytes : (f : Frame) (bytes : List ℕ) → IsLawfulFrame f → bytes ≡ sealed f → length bytes ≤ FRAME_BYTES
 few_bytes f bytes lawful is =

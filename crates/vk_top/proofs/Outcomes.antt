@@ -1,7 +1,7 @@
 -- From the answer to a text to that to an input.
-use Rattle.std.proofs.Common.{◌≡◌, ℕ, ◌<◌, ◌≤◌, List, [], ◌∷◌, length, take, Option, Some, None, inl, inr, refl, ap, subst, sym, ◌∙◌, ◌⊎◌, arith, length-append}
+use Rattle.std.proofs.Common.{◌≡◌, ℕ, ◌<◌, ◌≤◌, List, [], ◌∷◌, length, Option, Some, None, inl, inr, refl, ap, subst, sym, ◌∙◌, ◌⊎◌, arith, length-append}
 use Rattle.std.specs.Prelude.{IfSome}
-use Rattle.std.specs.Io.KnownBytes.{Appends, Consumes}
+use Rattle.std.specs.Io.KnownBytes.{Consumes}
 use Rattle.std.proofs.lemmas.Bool.{cond-true, lt-ltb}
 use Rattle.std.proofs.lemmas.List.{append-nil}
 use Rattle.vk_io.specs.Causes.{LosesFront, Rose}
@@ -9,7 +9,7 @@ use Rattle.vk_text.specs.Heads.{head_of}
 use Rattle.vk_text.specs.Lines.{lines_of}
 use Rattle.v_trace.specs.Traces.{behind_head}
 use Rattle.vk_top.proofs.Told.{nothing_more}
-use Rattle.vk_top.specs.Top.{IsDecided, IsEarly, IsOverLimit, OfInput, output_of, status_of, text_status}
+use Rattle.vk_top.specs.Top.{IsDecided, IsEarly, IsOverLimit, OfInput, status_of, text_status}
 use Rattle.vk_top.specs.Work.{IsAnswered, IsLate, IsOutcome, IsReadCount, IsRefusal, IsUnread, IsWriteCount, IsWritten, KeepsLines}
 use Rattle.vk_top.specs.declared.status.Status.{Status}
 use Rattle.vk_top.specs.declared.status.Status.TheVariants as status

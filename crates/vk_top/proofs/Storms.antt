@@ -1,5 +1,5 @@
 -- The answer to a storm.
-use Rattle.std.proofs.Common.{◌≡◌, ℕ, zero, suc, ◌+◌, ◌<◌, ◌≤◌, ◌⊎◌, true, false, List, [], ◌∷◌, ◌++◌, length, take, Option, refl, sym, ap, subst, ◌∙◌, inl, inr, arith}
+use Rattle.std.proofs.Common.{◌≡◌, ℕ, zero, suc, ◌+◌, ◌⊎◌, true, false, List, [], ◌∷◌, length, take, Option, refl, sym, subst, ◌∙◌, inl, inr, arith}
 use Rattle.std.specs.Io.KnownBytes.{Appends}
 use Rattle.std.proofs.lemmas.Bool.{cases_Bool, cond-true, cond-false}
 use Rattle.std.proofs.lemmas.List.{length-append}
@@ -11,7 +11,7 @@ use Rattle.vk_top.proofs.Fronts.{fits_all, full_before, refused_within}
 use Rattle.vk_top.proofs.Told.{nothing_more}
 use Rattle.vk_top.specs.declared.status.Status.{Status}
 use Rattle.vk_top.specs.declared.status.Status.TheVariants as status
-use Rattle.vk_top.specs.Jobs.{IsStormAnswered, IsStormDecided}
+use Rattle.vk_top.specs.Jobs.{IsStormAnswered}
 use Rattle.vk_top.specs.Report.{is_cut, taken_of}
 use Rattle.vk_top.specs.Storm.{storm_output, storm_status, summary_text}
 use Rattle.vk_top.specs.Work.{IsWritten}

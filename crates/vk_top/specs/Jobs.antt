@@ -1,5 +1,5 @@
 -- What the top call answers and writes, by what the words ask for: something of a text, or a storm, which reads nothing.
-use Rattle.std.specs.Prelude.{ℕ, ◌≡◌, ◌⊎◌, ◌≤◌, List, [], take, Option, Some, None, IfSome, IsSomeAnd}
+use Rattle.std.specs.Prelude.{ℕ, ◌≡◌, ◌⊎◌, List, [], take, Option, Some, None, IsSomeAnd}
 use Rattle.clap.specs.Walk.{Text}
 use Rattle.std.specs.Io.KnownBytes.{Appends}
 use Rattle.vk_drive.specs.Storms.{Fits, IsTooMuch, summary_of}

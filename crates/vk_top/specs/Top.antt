@@ -1,5 +1,5 @@
 -- What is answered to a text, and what is written of it.
-use Rattle.std.specs.Prelude.{ℕ, ◌≡◌, ◌<◌, ◌≤◌, ◌⊎◌, nat_lt, true, List, [], length, take, Option, Some, None, IfSome, Result, Ok, Err, if◌then◌else◌}
+use Rattle.std.specs.Prelude.{ℕ, ◌≡◌, ◌<◌, ◌≤◌, ◌⊎◌, nat_lt, true, List, [], length, take, Option, IfSome, Result, Ok, Err, if◌then◌else◌}
 use Rattle.std.specs.Io.KnownBytes.{Appends}
 use Rattle.vk_base.specs.declared.limits.TheConstants.{INPUT_BYTES}
 use Rattle.vk_io.specs.Causes.{LosesFront}
