@@ -8,7 +8,7 @@ use Rattle.std.proofs.lemmas.List.{drop-take, get_or-drop, get_or-take, length-d
 use Rattle.std.proofs.lemmas.List.Sums.{fails_before_first, passes_at_first, position_or_len_is, prefix_len-le-length, prefix_len_is, prefix_len_passes, prefix_len_stops}
 use Rattle.vk_base.specs.Options.{◌>>=◌}
 use Rattle.vk_base.specs.Pids.{pid_of_numbers}
-use Rattle.vk_text.proofs.Numerals.{in_range, one_more_digit}
+use Rattle.vk_text.proofs.Numerals.{one_more_digit}
 use Rattle.vk_text.proofs.Parts.{word_at}
 use Rattle.vk_text.proofs.PidWords.{bad_digits, bad_host, beyond_digits, ends_at, no_point, number_is, pid_read}
 use Rattle.vk_text.specs.Calls.{first_as}
@@ -34,18 +34,15 @@ point_is_no_space : (c : ℕ) → c ≡ 46 → (c == 32) ≡ false
 point_is_no_space c h = grind arith
 
 -- a digit with no other behind it is a number
-pub alone : (bs : List ℕ) (n : ℕ) → 0 < length bs → is_ascii_digit (get_or bs 0 0) ≡ true
-    → (1 < length bs → is_ascii_digit (get_or bs 1 0) ≡ false) → n ≡ get_or bs 0 0 - 48
-    → (digits bs ≡ 1) × (number_of 65535 (take 1 bs) ≡ Some n)
-alone [] n some digit ends value = absurd (omega arith)
-alone (b ∷ bs) n some digit ends value =
+pub alone : (most : ℕ) (bs : List ℕ) (n : ℕ) → 0 < length bs → is_ascii_digit (get_or bs 0 0) ≡ true
+    → (1 < length bs → is_ascii_digit (get_or bs 1 0) ≡ false) → n ≡ get_or bs 0 0 - 48 → n ≤ most
+    → (digits bs ≡ 1) × (number_of most (take 1 bs) ≡ Some n)
+alone most [] n some digit ends value small = absurd (omega arith)
+alone most (b ∷ bs) n some digit ends value small =
     let all : list_all is_ascii_digit (take 1 (b ∷ bs)) ≡ true =
     list_all_more is_ascii_digit (b ∷ bs) 0 0 some ∙ and_from _ _ refl digit in
     let worth = one_more_digit (b ∷ bs) 0 some digit in
-    let range = in_range b digit in (
-      sym (ends_at (b ∷ bs) 1 (omega arith) all ends),
-      number_is (take 1 (b ∷ bs)) n all refl (omega (arith, worth, value)) (omega (arith, value, range)),
-    )
+    (sym (ends_at (b ∷ bs) 1 (omega arith) all ends), number_is most (take 1 (b ∷ bs)) n all refl (omega (arith, worth, value)) small)
 
 len_is : (bs : List ℕ) → length (first_word bs) ≡ word_len bs
 len_is bs = length-take-le (word_len bs) bs (prefix_len-le-length _ bs)
@@ -93,21 +90,21 @@ all_digits bs i place ends =
     (λ k less. space_is_none (get_or bs k 0) (prefix_len_passes is_ascii_digit bs k 0 (omega (arith, place, less))))
     (λ less. ap (λ c. c == 32) (ends less))
 
-pub word_is_number : (bs : List ℕ) (i n : ℕ) → i ≡ digits bs → (i < length bs → get_or bs i 0 ≡ 32)
-    → number_of 65535 (take i bs) ≡ Some n → (i ≡ length (first_word bs)) × (number_of 65535 (first_word bs) ≡ Some n)
-word_is_number bs i n place ends number =
+pub word_is_number : (most : ℕ) (bs : List ℕ) (i n : ℕ) → i ≡ digits bs → (i < length bs → get_or bs i 0 ≡ 32)
+    → number_of most (take i bs) ≡ Some n → (i ≡ length (first_word bs)) × (number_of most (first_word bs) ≡ Some n)
+word_is_number most bs i n place ends number =
     let end = all_digits bs i place ends in
-    (sym (len_is bs ∙ end), ap (λ k. number_of 65535 (take k bs)) end ∙ number)
+    (sym (len_is bs ∙ end), ap (λ k. number_of most (take k bs)) end ∙ number)
 
-pub bad_number : (bs : List ℕ) → number_of 65535 (take (digits bs) bs) ≡ None → number_of 65535 (first_word bs) ≡ None
-bad_number bs none = bad_digits 65535 (first_word bs) (ap (number_of 65535) (same_front bs) ∙ none)
+pub bad_number : (most : ℕ) (bs : List ℕ) → number_of most (take (digits bs) bs) ≡ None → number_of most (first_word bs) ≡ None
+bad_number most bs none = bad_digits most (first_word bs) (ap (number_of most) (same_front bs) ∙ none)
 
-pub longer_word : (bs : List ℕ) (i : ℕ) → i ≡ digits bs → i < length bs → (get_or bs i 0 == 32) ≡ false
-    → number_of 65535 (first_word bs) ≡ None
-longer_word bs i place within other =
-    let most = digits_within bs in
-    let less = before_end bs i (omega (arith, place, most)) within other in
-    beyond_digits 65535 (first_word bs) (omega (arith, same_digits bs, place, len_is bs, less))
+pub longer_word : (most : ℕ) (bs : List ℕ) (i : ℕ) → i ≡ digits bs → i < length bs → (get_or bs i 0 == 32) ≡ false
+    → number_of most (first_word bs) ≡ None
+longer_word most bs i place within other =
+    let front = digits_within bs in
+    let less = before_end bs i (omega (arith, place, front)) within other in
+    beyond_digits most (first_word bs) (omega (arith, same_digits bs, place, len_is bs, less))
 
 -- the word behind some bytes of the word is the rest of it
 pub rest_of_word : (bs : List ℕ) (i : ℕ) → i ≤ word_len bs → first_word (drop i bs) ≡ drop i (first_word bs)

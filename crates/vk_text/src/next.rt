@@ -7,7 +7,7 @@ ghost use Rattle.vk_text.specs.Lines.{is_end, words_from};
 ghost use Rattle.vk_text.specs.Words.{number_of, positive_of, count_of, station_of, pid_of, message_of, bytes_of, scope_of};
 
 use crate::line::{next_long_word, next_word};
-use crate::word::{bytes, first_pid, message, number, positive, scope, station};
+use crate::word::{bytes, first_pid, message, number_word, scope};
 use vk_base::{Data, Message, Pid, Scope};
 
 /// Whether no word is left from `at` on. A trailing space leaves an empty one.
@@ -18,45 +18,50 @@ pub fn is_end(line: &[u8], at: usize) -> bool
 }
 
 /// The number, which is at most `most`.
-#[tactic(auto, using(crate::proofs::Firsts::no_number))]
 pub fn next_number(line: &[u8], at: usize, most: u64) -> Option<(u64, usize)>
     ensures word { MatchOption result (first_as (number_of most) (words_from line.now at) ≡ None)
         (λ r. first_as (number_of most) (words_from line.now at) ≡ Some (r.0, words_from line.now r.1)) }
     ensures within { IfSome result (λ r. r.0 ≤ most) }
 {
-    let (word, next) = next_word(line, at)?;
-    Some((number(word, most)?, next))
+    if at >= line.len() {
+        return None;
+    }
+    let (_, rest) = line.split_at(at);
+    let (number, len) = number_word(rest, most)?;
+    Some((number, at + len + 1))
 }
 
 /// The number, which is from 1 to `most`.
-#[tactic(auto, using(crate::proofs::Firsts::no_positive))]
+#[tactic(auto, using(crate::proofs::Firsts::positive_first))]
 pub fn next_positive(line: &[u8], at: usize, most: u64) -> Option<(u64, usize)>
     ensures word { MatchOption result (first_as (positive_of most) (words_from line.now at) ≡ None)
         (λ r. first_as (positive_of most) (words_from line.now at) ≡ Some (r.0, words_from line.now r.1)) }
     ensures within { IfSome result (λ r. r.0 ≤ most) }
 {
-    let (word, next) = next_word(line, at)?;
-    Some((positive(word, most)?, next))
+    let (number, next) = next_number(line, at, most)?;
+    if number > 0 {
+        Some((number, next))
+    } else {
+        None
+    }
 }
 
 /// The number of 32 bits.
-#[tactic(auto, using(crate::proofs::Firsts::no_count))]
 pub fn next_count(line: &[u8], at: usize) -> Option<(u32, usize)>
     ensures { MatchOption result (first_as count_of (words_from line.now at) ≡ None)
         (λ r. first_as count_of (words_from line.now at) ≡ Some (r.0, words_from line.now r.1)) }
 {
-    let (word, next) = next_word(line, at)?;
-    Some((number(word, u64::from(u32::MAX))? as u32, next))
+    let (number, next) = next_number(line, at, u64::from(u32::MAX))?;
+    Some((number as u32, next))
 }
 
 /// The station.
-#[tactic(auto, using(crate::proofs::Firsts::no_station))]
 pub fn next_station(line: &[u8], at: usize) -> Option<(u16, usize)>
     ensures { MatchOption result (first_as station_of (words_from line.now at) ≡ None)
         (λ r. first_as station_of (words_from line.now at) ≡ Some (r.0, words_from line.now r.1)) }
 {
-    let (word, next) = next_word(line, at)?;
-    Some((station(word)?, next))
+    let (number, next) = next_positive(line, at, 65534)?;
+    Some((number as u16, next))
 }
 
 /// The pid.

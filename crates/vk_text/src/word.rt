@@ -10,26 +10,30 @@ use crate::digits::byte;
 use vk_base::limits::DATA_BYTES;
 use vk_base::{Data, Message, Pid, Scope};
 
-/// The number with one more digit, where the byte is a digit and the number is below 2^64.
-fn with_digit(value: u64, byte: u8) -> Option<u64>
-    ensures { SomeIff result (IsTrue (is_ascii_digit byte) × (value * 10 + (byte - 48) < 2 ^ 64)) (value * 10 + (byte - 48)) }
+/// The number with one more digit, where it is below 2^64.
+fn with_digit(value: u64, digit: u8) -> Option<u64>
+    requires { IsTrue (is_ascii_digit digit) }
+    ensures { SomeIff result (value * 10 + (digit - 48) < 2 ^ 64) (value * 10 + (digit - 48)) }
 {
-    if !byte.is_ascii_digit() {
-        return None;
-    }
-    value.checked_mul(10)?.checked_add(u64::from(byte - b'0'))
+    value.checked_mul(10)?.checked_add(u64::from(digit - b'0'))
 }
 
-/// The number that decimal digits spell, where it is below 2^64. Leading zeros count.
-fn value(digits: &[u8]) -> Option<u64>
-    ensures { SomeIff result (IsTrue (list_all is_ascii_digit digits.now) × (digits_value 10 digits.now < 2 ^ 64))
-        (digits_value 10 digits.now) }
+/// The number of the digits that stand first, and how many they are. Leading zeros count. `None` only where the number is
+/// 2^64 or more.
+fn first_digits(bytes: &[u8]) -> Option<(u64, usize)>
+    ensures value { MatchOption result (2 ^ 64 ≤ digits_value 10 (take (prefix_len is_ascii_digit bytes.now) bytes.now))
+        (λ r. (r.1 ≡ prefix_len is_ascii_digit bytes.now) × (r.0 ≡ digits_value 10 (take r.1 bytes.now))) }
+    ensures digits { IfSome result (λ r. IsTrue (list_all is_ascii_digit (take r.1 bytes.now))) }
+    ensures within { IfSome result (λ r. r.1 ≤ length bytes.now) }
 {
     let mut value = 0u64;
-    for byte in digits {
+    for (len, byte) in bytes.iter().enumerate() {
+        if !byte.is_ascii_digit() {
+            return Some((value, len));
+        }
         value = with_digit(value, *byte)?;
     }
-    Some(value)
+    Some((value, bytes.len()))
 }
 
 /// Whether there is a byte, and no `0` before others.
@@ -39,17 +43,73 @@ fn starts_numeral(word: &[u8]) -> bool
     !word.is_empty() && (word.len() == 1 || word[0] != b'0')
 }
 
-/// The number that the word spells, where it is at most `most`: decimal, without a sign or a leading zero.
+/// The digit that stands first and alone, as most numbers are, where it is at most `most`.
+fn first_alone(bytes: &[u8], most: u64) -> Option<u64>
+    ensures number { IfSome result (λ n. (prefix_len is_ascii_digit bytes.now ≡ 1) × (number_of most (take 1 bytes.now) ≡ Some n)) }
+    ensures most { IfSome result (λ n. n ≤ most) }
+{
+    if bytes.is_empty() || !bytes[0].is_ascii_digit() {
+        return None;
+    }
+    if bytes.len() > 1 && bytes[1].is_ascii_digit() {
+        return None;
+    }
+    let digit = u64::from(bytes[0] - b'0');
+    if digit <= most { Some(digit) } else { None }
+}
+
+/// The number of at most `most` that all the digits spell that stand first, and how many they are.
 #[tactic(auto, unfolding(crate::specs::Words::number_of))]
+fn first_many(bytes: &[u8], most: u64) -> Option<(u64, usize)>
+    ensures number { MatchOption result (number_of most (take (prefix_len is_ascii_digit bytes.now) bytes.now) ≡ None)
+        (λ r. (r.1 ≡ prefix_len is_ascii_digit bytes.now) × (number_of most (take r.1 bytes.now) ≡ Some r.0)) }
+    ensures most { IfSome result (λ r. r.0 ≤ most) }
+    ensures within { IfSome result (λ r. r.1 ≤ length bytes.now) }
+{
+    let (value, len) = first_digits(bytes)?;
+    let (digits, _) = bytes.split_at(len);
+    if !starts_numeral(digits) || value > most {
+        return None;
+    }
+    Some((value, len))
+}
+
+/// The same, and soonest for one digit.
+fn first_number(bytes: &[u8], most: u64) -> Option<(u64, usize)>
+    ensures number { MatchOption result (number_of most (take (prefix_len is_ascii_digit bytes.now) bytes.now) ≡ None)
+        (λ r. (r.1 ≡ prefix_len is_ascii_digit bytes.now) × (number_of most (take r.1 bytes.now) ≡ Some r.0)) }
+    ensures most { IfSome result (λ r. r.0 ≤ most) }
+    ensures within { IfSome result (λ r. r.1 ≤ length bytes.now) }
+{
+    match first_alone(bytes, most) {
+        Some(number) => Some((number, 1)),
+        None => first_many(bytes, most),
+    }
+}
+
+/// The number of at most `most` that the first word spells, and how long the word is, which a space or the end ends.
+#[tactic(auto, using(crate::proofs::FirstWords::bad_number))]
+pub fn number_word(bytes: &[u8], most: u64) -> Option<(u64, usize)>
+    ensures number { MatchOption result (number_of most (before_first (λ b. b == 32) bytes.now) ≡ None)
+        (λ r. (r.1 ≡ length (before_first (λ b. b == 32) bytes.now))
+        × (number_of most (before_first (λ b. b == 32) bytes.now) ≡ Some r.0)) }
+    ensures most { IfSome result (λ r. r.0 ≤ most) }
+{
+    let (number, len) = first_number(bytes, most)?;
+    if len < bytes.len() && bytes[len] != b' ' {
+        return None;
+    }
+    Some((number, len))
+}
+
+/// The number that the word spells, where it is at most `most`: decimal, without a sign or a leading zero.
+#[tactic(auto, using(crate::proofs::PidWords::beyond_digits, crate::proofs::PidWords::digits_alone, crate::proofs::PidWords::bad_digits))]
 pub fn number(word: &[u8], most: u64) -> Option<u64>
     ensures gives { result ≡ number_of most word.now }
     ensures within { IfSome result (λ n. n ≤ most) }
 {
-    if !starts_numeral(word) {
-        return None;
-    }
-    let value = value(word)?;
-    if value <= most { Some(value) } else { None }
+    let (number, len) = first_number(word, most)?;
+    if len < word.len() { None } else { Some(number) }
 }
 
 /// The number from 1 to `most` that the word spells.
@@ -60,90 +120,6 @@ pub fn positive(word: &[u8], most: u64) -> Option<u64>
 {
     let n = number(word, most)?;
     if n > 0 { Some(n) } else { None }
-}
-
-/// The number of the digits that stand first, and how many they are. Leading zeros count. `None` only where the number is
-/// not of 16 bits.
-fn first_digits(bytes: &[u8]) -> Option<(u32, usize)>
-    ensures value { MatchOption result (2 ^ 16 ≤ digits_value 10 (take (prefix_len is_ascii_digit bytes.now) bytes.now))
-        (λ r. (r.1 ≡ prefix_len is_ascii_digit bytes.now) × (r.0 ≡ digits_value 10 (take r.1 bytes.now))) }
-    ensures digits { IfSome result (λ r. IsTrue (list_all is_ascii_digit (take r.1 bytes.now))) }
-    ensures within { IfSome result (λ r. r.1 ≤ length bytes.now) }
-{
-    let mut value = 0u32;
-    for (len, byte) in bytes.iter().enumerate() {
-        if !byte.is_ascii_digit() {
-            return Some((value, len));
-        }
-        if value > 6553 {
-            return None;
-        }
-        value = value * 10 + u32::from(*byte - b'0');
-    }
-    Some((value, bytes.len()))
-}
-
-/// The digit that stands first and alone, as most numbers of a pid are.
-fn first_alone(bytes: &[u8]) -> Option<u16>
-    ensures { IfSome result (λ n. (prefix_len is_ascii_digit bytes.now ≡ 1) × (number_of 65535 (take 1 bytes.now) ≡ Some n)) }
-{
-    if bytes.is_empty() || !bytes[0].is_ascii_digit() {
-        return None;
-    }
-    if bytes.len() > 1 && bytes[1].is_ascii_digit() {
-        return None;
-    }
-    Some(u16::from(bytes[0] - b'0'))
-}
-
-/// The number of 16 bits that all the digits spell that stand first, and how many they are.
-#[tactic(auto, unfolding(crate::specs::Words::number_of))]
-fn first_many(bytes: &[u8]) -> Option<(u16, usize)>
-    ensures number { MatchOption result (number_of 65535 (take (prefix_len is_ascii_digit bytes.now) bytes.now) ≡ None)
-        (λ r. (r.1 ≡ prefix_len is_ascii_digit bytes.now) × (number_of 65535 (take r.1 bytes.now) ≡ Some r.0)) }
-    ensures within { IfSome result (λ r. r.1 ≤ length bytes.now) }
-{
-    let (value, len) = first_digits(bytes)?;
-    let (digits, _) = bytes.split_at(len);
-    if !starts_numeral(digits) || value > 65535 {
-        return None;
-    }
-    Some((value as u16, len))
-}
-
-/// The same, and soonest for one digit.
-fn first_short(bytes: &[u8]) -> Option<(u16, usize)>
-    ensures number { MatchOption result (number_of 65535 (take (prefix_len is_ascii_digit bytes.now) bytes.now) ≡ None)
-        (λ r. (r.1 ≡ prefix_len is_ascii_digit bytes.now) × (number_of 65535 (take r.1 bytes.now) ≡ Some r.0)) }
-    ensures within { IfSome result (λ r. r.1 ≤ length bytes.now) }
-{
-    match first_alone(bytes) {
-        Some(number) => Some((number, 1)),
-        None => first_many(bytes),
-    }
-}
-
-/// The number of 16 bits that the first word spells, and how long the word is, which a space or the end ends.
-#[tactic(auto, using(crate::proofs::FirstWords::bad_number))]
-fn short_word(bytes: &[u8]) -> Option<(u16, usize)>
-    ensures { MatchOption result (number_of 65535 (before_first (λ b. b == 32) bytes.now) ≡ None)
-        (λ r. (r.1 ≡ length (before_first (λ b. b == 32) bytes.now))
-        × (number_of 65535 (before_first (λ b. b == 32) bytes.now) ≡ Some r.0)) }
-{
-    let (number, len) = first_short(bytes)?;
-    if len < bytes.len() && bytes[len] != b' ' {
-        return None;
-    }
-    Some((number, len))
-}
-
-/// The number of 16 bits that the word spells.
-#[tactic(auto, using(crate::proofs::PidWords::beyond_digits, crate::proofs::PidWords::digits_alone, crate::proofs::PidWords::bad_digits))]
-fn short(word: &[u8]) -> Option<u16>
-    ensures { result ≡ number_of 65535 word.now }
-{
-    let (number, len) = first_short(word)?;
-    if len < word.len() { None } else { Some(number) }
 }
 
 /// The station that the word spells: a number from 1 to 65,534.
@@ -158,13 +134,13 @@ pub fn station(word: &[u8]) -> Option<u16>
 pub fn pid(word: &[u8]) -> Option<Pid>
     ensures { result ≡ pid_of word.now }
 {
-    let (host, point) = first_short(word)?;
+    let (host, point) = first_number(word, 65535)?;
     if point >= word.len() || word[point] != b'.' {
         return None;
     }
     let (_, local) = word.split_at(point + 1);
-    let local = short(local)?;
-    Pid::new(host, local)
+    let local = number(local, 65535)?;
+    Pid::new(host as u16, local as u16)
 }
 
 /// The pid that the first word spells, and how long the word is, which a space or the end ends.
@@ -173,13 +149,13 @@ pub fn first_pid(bytes: &[u8]) -> Option<(Pid, usize)>
     ensures { MatchOption result (pid_of (before_first (λ b. b == 32) bytes.now) ≡ None)
         (λ r. (r.1 ≡ length (before_first (λ b. b == 32) bytes.now)) × (pid_of (before_first (λ b. b == 32) bytes.now) ≡ Some r.0)) }
 {
-    let (host, point) = first_short(bytes)?;
+    let (host, point) = first_number(bytes, 65535)?;
     if point >= bytes.len() || bytes[point] != b'.' {
         return None;
     }
     let (_, behind) = bytes.split_at(point + 1);
-    let (local, len) = short_word(behind)?;
-    let pid = Pid::new(host, local)?;
+    let (local, len) = number_word(behind, 65535)?;
+    let pid = Pid::new(host as u16, local as u16)?;
     Some((pid, point + 1 + len))
 }
 

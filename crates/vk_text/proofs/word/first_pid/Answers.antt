@@ -16,18 +16,18 @@ returns-in_err-local c =
     let number = c.in_ok-host.ensures.number in
     at_none _ _ _ c.from_residual-in_err-local.ensures
     (word_is_pid c.args.bytes.now _ c.in_ok-host.point c.in_ok-host.host None number.0 (omega arith) c.if-bytes-point-ne46.false number.1
-    c.split_at.ensures.back c.in_err-local.ensures).0
+    c.split_at.ensures.back c.in_err-local.ensures.number).0
 
 pub returns-in_err-pid : goal.returns-in_err-pid
 returns-in_err-pid c =
     let number = c.in_ok-host.ensures.number in
     let read = word_is_pid c.args.bytes.now _ c.in_ok-host.point c.in_ok-host.host (Some c.in_ok-local.local) number.0 (omega arith)
-    c.if-bytes-point-ne46.false number.1 c.split_at.ensures.back c.in_ok-local.ensures.1 in
+    c.if-bytes-point-ne46.false number.1 c.split_at.ensures.back c.in_ok-local.ensures.number.1 in
     at_none _ _ _ c.from_residual-in_err-pid.ensures (read.0 ∙ sym c.new.ensures ∙ c.in_err-pid.was)
 
 pub returns : goal.returns
 returns c =
     let number = c.in_ok-host.ensures.number in
     let read = word_is_pid c.args.bytes.now _ c.in_ok-host.point c.in_ok-host.host (Some c.in_ok-local.local) number.0 (omega arith)
-    c.if-bytes-point-ne46.false number.1 c.split_at.ensures.back c.in_ok-local.ensures.1 in
-    (ap (λ n. c.in_ok-host.point + 1 + n) c.in_ok-local.ensures.0 ∙ read.1, read.0 ∙ sym c.new.ensures ∙ c.in_ok-pid.was)
+    c.if-bytes-point-ne46.false number.1 c.split_at.ensures.back c.in_ok-local.ensures.number.1 in
+    (ap (λ n. c.in_ok-host.point + 1 + n) c.in_ok-local.ensures.number.0 ∙ read.1, read.0 ∙ sym c.new.ensures ∙ c.in_ok-pid.was)
