@@ -7,12 +7,15 @@ pub mod CallSteps
 pub mod Changes
 pub mod Coming
 pub mod Each
+pub mod Emptying
 pub mod Fits
 pub mod Grouping
 pub mod Holding
 pub mod Indexes
 pub mod KernelLemmas
 pub mod LatestLemmas
+pub mod LeanExchanges
+pub mod LeanSteps
 pub mod Leaving
 pub mod MoveCalls
 pub mod MoveLemmas
@@ -22,6 +25,11 @@ pub mod InitialLemmas
 pub mod Pieces
 pub mod PlaceLemmas
 pub mod SendLemmas
+pub mod Spent
+pub mod SpentCalls
+pub mod SpentKernels
+pub mod SpentSteps
+pub mod Standing
 pub mod StepLemmas
 pub mod Stores
 pub mod TableLemmas

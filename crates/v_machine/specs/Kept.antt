@@ -14,7 +14,7 @@ use Rattle.v_machine.specs.Latest.{latest_in}
 use Rattle.v_machine.specs.Places.{place_in, list_at}
 use Rattle.v_machine.specs.Tables.{Tables, kernel_by, exchanges_by}
 
--- the kernel that a store stands for
+-- the kernel that the tables of a store spell
 abbrev pub kernel_in : Store → Kernel
 kernel_in s = kernel_by s.places s.procs.items s.sends.items s.asked.items s.names.items s.arrived.items
 

@@ -3,6 +3,7 @@ pub mod Apply
 pub mod Initial
 pub mod Kept
 pub mod Latest
+pub mod Lean
 pub mod Leaving
 pub mod Lends
 pub mod Lists
@@ -11,4 +12,5 @@ pub mod Names
 pub mod Places
 pub mod Rules
 pub mod Sends
+pub mod Spent
 pub mod Tables

@@ -1,11 +1,12 @@
 -- Internal: no public contract rests on this file. What becomes of one Send of a process, which is an exchange of the kernel.
-use Rattle.std.specs.Prelude.{ℕ, ◌==◌, ◌&&◌, ◌||◌, nat_le, nat_lt, List, [], ◌∷◌, ◌++◌, Option, Some, None, if◌then◌else◌}
+use Rattle.std.specs.Prelude.{ℕ, ◌+◌, ◌==◌, ◌&&◌, ◌||◌, nat_le, nat_lt, List, [], ◌∷◌, ◌++◌, Option, Some, None, if◌then◌else◌}
 use Rattle.vk_base.specs.declared.kernel.Exchange.{Exchange}
 use Rattle.vk_base.specs.declared.kernel.Move.{Move}
 use Rattle.vk_base.specs.declared.kernel.Stage.{Stage}
 use Rattle.vk_base.specs.declared.kernel.Stage.TheVariants as stages
 use Rattle.vk_base.specs.Kernel.{is_posted, is_at_target}
 use Rattle.v_machine.specs.Lists.{change_numbered}
+use Rattle.v_machine.specs.Spent.{emptied}
 
 abbrev pub at_stage : Stage → Exchange → Exchange
 at_stage stage e = record e { stage = stage }
@@ -40,3 +41,15 @@ with_opened number noted e = record e { moves = noted_in number noted e.moves; o
 -- so many bytes of the open move were written
 abbrev pub with_written : ℕ → Exchange → Exchange
 with_written done e = record e { done = done }
+
+-- these moves, the first of which has this number, without the bytes of those that are spent, where their numbers are from one number on
+-- and below another
+abbrev pub emptied_between : (opened done from to number : ℕ) → List Move → List Move
+emptied_between opened done from to number [] = []
+emptied_between opened done from to number (m ∷ ms) =
+    (if nat_le from number && nat_lt number to then emptied opened done number m else m)
+    ∷ emptied_between opened done from to (number + 1) ms
+
+-- an exchange without the bytes of those of its moves from one number up to another, which is among them, that are spent
+abbrev pub given_back : ℕ → ℕ → Exchange → Exchange
+given_back from to e = record e { moves = emptied_between e.opened e.done from (to + 1) 1 e.moves }

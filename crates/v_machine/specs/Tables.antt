@@ -1,4 +1,4 @@
--- What a machine keeps, as contracts see it, and the kernel that it stands for.
+-- What a machine keeps, as contracts see it, and the kernel that its tables spell.
 use Rattle.std.specs.Prelude.{ℕ, ◌==◌, Bool, List, [], ◌∷◌, ◌++◌, filter, slice_get, Option, Some}
 use Rattle.vk_base.specs.declared.kernel.Exchange.{Exchange}
 use Rattle.vk_base.specs.declared.kernel.Lookup.{Lookup}
@@ -65,7 +65,7 @@ kernel_by pids procs sends asked names arrived = record {
   lookups = lookups_by pids asked;
 }
 
--- the kernel that the tables stand for
+-- the kernel that the tables spell
 abbrev pub kernel_of : Tables → Kernel
 kernel_of t = kernel_by t.pids t.procs t.sends t.asked t.names t.arrived
 

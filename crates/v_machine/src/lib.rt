@@ -1,5 +1,5 @@
 //! The one-machine kernel as fast code, proved equal to its definition: `Machine::apply` takes a step exactly where the
-//! kernel allows it (`specs/Apply.antt`).
+//! kernel allows it (`specs/Apply.antt`). It keeps no bytes of remote moves that are spent (`specs/Spent.antt`).
 //!
 //! Stands on the definition in `vk_base`, and on what `v_laws` says of every kernel that a run reaches.
 //!
@@ -8,7 +8,7 @@
 //! | `machine.rt` | the machine, which is all that callers see, with its errors in `refusal.rt` |
 //! | `tables.rt`, `tables/` | what is kept (`specs/Tables.antt`, `specs/Kept.antt`): a file for each table with what reads and changes it |
 //! | `calls.rt`, `calls/` | the step that is a call: a file for each kind; `access.rt`, `held.rt` where a partner is concerned |
-//! | `steps.rt`, `steps/` | the other steps: of messages, of remote moves, of lookups |
+//! | `steps.rt`, `steps/` | the other steps: of messages, of remote moves, of lookups; `spent.rt` gives bytes of moves back behind them |
 #![tactic(auto)]
 
 mod calls;

@@ -9,6 +9,7 @@ use crate::calls::call;
 use crate::refusal::ApplyRefusal;
 use crate::steps::messages::collect;
 use crate::steps::quiet_step;
+use crate::steps::spent::{give_back, opened_before};
 use crate::tables::Store;
 use crate::tables::initial::initial_store;
 use std::alloc::Global;
@@ -29,11 +30,12 @@ impl Model for Machine {
     ghost Value = { Tables };
 
     ghost use Rattle.v_machine.specs.Apply.{most};
-    ghost use Rattle.v_machine.specs.Kept.{tables_in, IsKept};
+    ghost use Rattle.v_machine.specs.Kept.{tables_in, kernel_in, IsKept};
+    ghost use Rattle.v_machine.specs.Lean.{AreLean};
 
     ghost view = { λ m. tables_in m.store m.noted };
 
-    ghost invariant = { λ m. IsKept m.store × (m.noted ≤ most) };
+    ghost invariant = { λ m. IsKept m.store × (m.noted ≤ most) × AreLean (kernel_in m.store).exchanges };
 }
 
 impl Machine {
@@ -49,11 +51,16 @@ impl Machine {
 
     /// Applies a step, and gives what a process sees of it. Where the step is refused nothing changes.
     ///
+    /// The bytes of a remote move are given back as soon as it is spent: a later move of its exchange was opened, or all its
+    /// bytes were written (`specs/Spent.antt`). So the clause speaks of every kernel whose tables, without such bytes, are the
+    /// machine's.
+    ///
     /// # Errors
     ///
     /// `NotAllowed` exactly where the kernel does not allow the step. Else `Limit` exactly where it would note bytes for a
     /// remote move and those noted so far with them would be more than 268,435,456: a `MoveTo` that is begun notes its
-    /// bytes, and so does an `OpenMove` of a move from the sender; nothing gives bytes back. `NoMemory` only where it is neither.
+    /// bytes, and so does an `OpenMove` of a move from the sender; what was noted stays noted, also once the bytes are
+    /// given back. `NoMemory` only where it is neither.
     pub fn apply(&mut self, alloc: Global, step: &Step) -> Result<Option<Observation>, ApplyRefusal>
         ensures { Applied step.now self.old self.new result }
     {
@@ -64,7 +71,9 @@ impl Machine {
             } => call(&mut self.store, &mut self.noted, alloc, pid, made),
             Step::Collect { pid } => collect(&mut self.store, pid),
             _ => {
+                let before = opened_before(&self.store, step);
                 quiet_step(&mut self.store, &mut self.noted, alloc, step)?;
+                give_back(&mut self.store, alloc, step, before);
                 Ok(None)
             }
         }

@@ -10,6 +10,7 @@ ghost use Rattle.v_machine.specs.Rules.{Answers, Counts, done_or_not, is_quiet, 
 pub mod arriving;
 pub mod lookups;
 pub mod messages;
+pub mod spent;
 pub mod transfers;
 
 use crate::refusal::ApplyRefusal;

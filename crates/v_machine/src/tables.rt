@@ -14,6 +14,7 @@ pub mod put;
 pub mod queue;
 pub mod queues;
 pub mod sends;
+pub mod spent;
 
 use crate::tables::latest::Latests;
 use crate::tables::numbered::Numbered;

@@ -1,14 +1,18 @@
 -- What the verdict on steps says of them.
-use Rattle.std.proofs.Common.{◌≡◌, ℕ, zero, ◌+◌, ◌-◌, ◌≤◌, ◌<◌, nat_lt, Bool, true, false, cond, List, [], ◌∷◌, ◌++◌, length, take, drop, get_or, suc, Option, Some, None, is_some, option_to_list, refl, ap, subst, sym, ◌∙◌, arith}
+use Rattle.std.proofs.Common.{◌≡◌, ℕ, zero, ◌+◌, ◌-◌, ◌≤◌, ◌<◌, nat_lt, Bool, true, false, cond, List, [], ◌∷◌, ◌++◌, length, take, drop, get_or, suc, Option, Some, None, Ok, Err, is_some, option_to_list, refl, ap, subst, sym, ◌∙◌, arith}
 use Rattle.std.specs.Option.{IsSome, option_map_or}
 use Rattle.std.proofs.lemmas.List.{drop_more}
 use Rattle.std.proofs.lemmas.Bool.{cond-true, cond-false, le-ltb, lt-ltb, ltb-true}
 use borrow.Author.Tests.{ltb-false}
+use Rattle.vk_base.specs.declared.kernel.Observation.{Observation}
 use Rattle.vk_base.specs.declared.step.Step.{Step}
 use Rattle.vk_base.specs.Calls.{Effect}
 use Rattle.vk_base.specs.Kernel.{◌>>=◌, Kernel, initial_kernel}
 use Rattle.vk_base.specs.Steps.{Run, effect, run}
-use Rattle.v_machine.specs.Apply.{most, notes}
+use Rattle.v_machine.specs.Apply.{Applied, StandsFor, most, notes}
+use Rattle.v_machine.specs.Tables.{Tables}
+use Rattle.v_machine.specs.declared.refusal.ApplyRefusal.TheVariants as refusals
+use Rattle.v_trace.specs.Remaining.{Remaining, behind}
 use Rattle.v_trace.specs.declared.trace.Trace.{Trace}
 use Rattle.vk_top.specs.Check.{IsRun, IsVerdict, VerdictsAreExact, noted_by, noted_from, verdict_from, verdict_of}
 use Rattle.vk_top.specs.declared.check.TraceVerdict.{TraceVerdict}
@@ -57,6 +61,48 @@ pub verdict-at : (k : Kernel) (n noted : ℕ) (steps : List Step) (i : ℕ) (s :
     verdict_from k n noted (drop i steps) ≡ verdict_from k n noted (s ∷ drop (i + 1) steps)
 verdict-at k n noted steps i s within is =
     ap (verdict_from k n noted) (drop_more steps i s within ∙ ap (λ x. x ∷ drop (i + 1) steps) (sym is))
+
+-- Behind n steps the machine stands for a kernel from which the steps that are left have the verdict of all steps from k.
+pub record IsAsFar (k : Kernel) (noted : ℕ) (steps : List Step) (machine : Tables) (n : ℕ) (left : List Step) : Type 0 where
+  pub kernel : Kernel
+  pub stands : StandsFor machine kernel
+  pub verdict : verdict_from k 0 noted steps ≡ verdict_from kernel n machine.noted left
+
+pub as_far_at_first : (k : Kernel) (steps : List Step) (machine : Tables) → StandsFor machine k →
+    IsAsFar k machine.noted steps machine 0 steps
+as_far_at_first k steps machine stands = record { kernel = k; stands = stands; verdict = refl }
+
+-- with the next step taken off
+pub next_far : (k : Kernel) (noted : ℕ) (steps : List Step) (machine : Tables) (n : ℕ) (old new : Remaining) (s : Step) →
+    old ≡ behind (s ∷ []) new → IsAsFar k noted steps machine n old.steps → IsAsFar k noted steps machine n (s ∷ new.steps)
+next_far k noted steps machine n old new s next far =
+    subst (IsAsFar k noted steps machine n) (ap (λ (r : Remaining). r.steps) next) far
+
+pub as_far_over : (k : Kernel) (noted : ℕ) (steps : List Step) (machine : Tables) (n : ℕ) (left : List Step) → left ≡ [] →
+    IsAsFar k noted steps machine n left → verdict_from k 0 noted steps ≡ verdicts.Run n
+as_far_over k noted steps machine n left none far = far.verdict ∙ verdict-end far.kernel n machine.noted left none
+
+module _ (k : Kernel) (noted : ℕ) (steps : List Step) (old new : Tables) (n : ℕ) (s : Step) (ss : List Step)
+    (far : IsAsFar k noted steps old n (s ∷ ss)) where
+  pub as_far_more : (seen : Option Observation) → Applied s old new (Ok seen) → IsAsFar k noted steps new (n + 1) ss
+  as_far_more seen applied =
+      let took = applied.1 far.kernel far.stands in
+      let few = took.few in
+      let more = took.noted in
+      record {
+        kernel = took.after;
+        stands = took.stands;
+        verdict = far.verdict ∙ verdict-more far.kernel n old.noted s ss _ took.is (omega arith)
+            ∙ ap (λ m. verdict_from took.after (n + 1) m ss) (sym more);
+      }
+
+  pub as_far_refused : Applied s old new (Err refusals.NotAllowed) → verdict_from k 0 noted steps ≡ verdicts.Refused (n + 1)
+  as_far_refused applied = far.verdict ∙ verdict-refused far.kernel n old.noted s ss (applied.1 far.kernel far.stands).0
+
+  pub as_far_too_much : Applied s old new (Err refusals.Limit) → verdict_from k 0 noted steps ≡ verdicts.TooMuch
+  as_far_too_much applied =
+      let limit = applied.1 far.kernel far.stands in
+      far.verdict ∙ verdict-too_much far.kernel n old.noted s ss limit.0 limit.1
 
 -- runs and what they note, by their first step
 

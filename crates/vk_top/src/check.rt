@@ -1,7 +1,8 @@
 //! The steps of a trace, checked against the one-machine kernel.
 
 ghost use Rattle.std.specs.Prelude.{◌≡◌, ◌<◌, ◌^◌, ◌++◌, ◌⊎◌, codes, decimal, length, Err, IfOk, IfErr, OnOk};
-ghost use Rattle.v_machine.specs.Tables.{kernel_of};
+ghost use Rattle.vk_base.specs.Kernel.{Kernel};
+ghost use Rattle.v_machine.specs.Apply.{StandsFor};
 ghost use Rattle.v_trace.specs.Traces.{trace_of};
 ghost use Rattle.vk_top.specs.Check.{IsVerdictOf, ending, verdict_from, verdict_of};
 ghost use Rattle.vk_top.specs.Work.{KeepsLines};
@@ -34,7 +35,7 @@ fn apply_steps(
     reader: &mut StepReader<'_>,
 ) -> Result<TraceVerdict, NoMemory>
     requires { length reader.old.steps < 2 ^ 63 }
-    ensures verdict { IfOk result (λ v. v ≡ verdict_from (kernel_of machine.old) 0 machine.old.noted reader.old.steps) }
+    ensures verdict { (k : Kernel) → StandsFor machine.old k → IfOk result (λ v. v ≡ verdict_from k 0 machine.old.noted reader.old.steps) }
     ensures ending { ending reader.new ≡ ending reader.old }
 {
     let mut number = 0u64;

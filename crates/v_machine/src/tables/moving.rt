@@ -12,11 +12,11 @@ ghost use Rattle.v_machine.specs.Kept.{IsIndexed, IsAt, kernel_in};
 ghost use Rattle.v_machine.specs.Moves.{Puts, with_moving};
 ghost use Rattle.v_machine.specs.Places.{place_in};
 ghost use Rattle.v_machine.specs.Rules.{Stays};
-ghost use Rattle.v_machine.specs.Sends.{with_begun, with_opened, with_written};
+ghost use Rattle.v_machine.specs.Sends.{given_back, with_begun, with_opened, with_written};
 
 use crate::tables::numbered::index_of;
 use crate::tables::put::{find, proc, sends_of};
-use crate::tables::{Store, sends};
+use crate::tables::{Store, sends, spent};
 use std::alloc::Global;
 use vk_base::{Activity, Exchange, List, Memory, Move, MoveName, Name, NoMemory, Range, Waiting};
 
@@ -52,6 +52,15 @@ pub fn put_done(store: &mut Store, at: usize, number: u64, done: u32)
     ensures { Puts (with_written done) at number store.old store.new }
 {
     sends::put_done(&mut store.sends[at], number, done);
+}
+
+/// Of the moves from one number up to another of a Send of the process of this place, the spent ones give their bytes back.
+pub fn put_emptied(store: &mut Store, alloc: Global, at: usize, number: u64, from: u64, to: u64)
+    requires low { at < length store.old.sends.items }
+    requires order { from ≤ to }
+    ensures { Puts (given_back from to) at number store.old store.new }
+{
+    spent::give_back(&mut store.sends[at], alloc, number, from, to);
 }
 
 /// The process of this place waits in a call for the end of a move.

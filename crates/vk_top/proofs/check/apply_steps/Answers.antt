@@ -1,32 +1,37 @@
-use Rattle.std.proofs.Common.{◌+◌, Err, length, ap, subst, sym, ◌∙◌, arith}
+use Rattle.std.proofs.Common.{Err, length, refl, ap, subst, sym, ◌∙◌, arith}
 use Rattle.v_machine.specs.Apply.{Applied}
-use Rattle.v_machine.specs.Tables.{kernel_of}
-use Rattle.vk_top.proofs.Nexts.{fewer_steps, next_step, no_step}
 use Rattle.v_trace.specs.Remaining.{Remaining}
-use Rattle.vk_top.proofs.Verdicts.{verdict-end, verdict-more, verdict-refused, verdict-too_much}
-use Rattle.vk_top.specs.Check.{ending, verdict_from}
+use Rattle.vk_top.proofs.Nexts.{fewer_steps, next_step, no_step}
+use Rattle.vk_top.proofs.Verdicts.{as_far_at_first, as_far_more, as_far_refused, as_far_too_much, as_far_over, next_far}
+use Rattle.vk_top.specs.Check.{ending}
 use Rattle.vk_top.proofs.check.apply_steps.Goals as goal
 
+pub loop-alloc-init : goal.loop-alloc-init
+loop-alloc-init c = record {
+  counted = omega arith;
+  ends = refl;
+  verdict = λ k stands. as_far_at_first k c.args.reader.now.steps c.args.machine.now stands;
+}
+
 pub returns-in-Err-NotAllowed-clause-verdict : goal.returns-in-Err-NotAllowed-clause-verdict
-returns-in-Err-NotAllowed-clause-verdict c =
+returns-in-Err-NotAllowed-clause-verdict c = λ k stands.
     let next = next_step _ _ _ _ c.loop-alloc-test.true c.next.ensures.next in
-    sym (c.loop-alloc.invariant.verdict
-    ∙ ap (λ (r : Remaining). verdict_from (kernel_of c.loop-alloc.machine) c.loop-alloc.number c.loop-alloc.machine.noted r.steps) next
-    ∙ verdict-refused _ _ _ _ _ (subst (λ why. Applied c.next.new.step c.loop-alloc.machine c.apply.new.self (Err why))
-    c.in-Err-NotAllowed.field-0-is c.in-Err-NotAllowed.ensures).0)
+    let far = next_far k _ _ _ _ _ _ _ next (c.loop-alloc.invariant.verdict k stands) in
+    let applied = subst (λ why. Applied c.next.new.step c.loop-alloc.machine c.apply.new.self (Err why)) c.in-Err-NotAllowed.field-0-is
+    c.in-Err-NotAllowed.ensures in
+    sym (as_far_refused k _ _ _ c.apply.new.self _ _ _ far applied)
 
 pub returns-in-Err-NotAllowed-clause-ending : goal.returns-in-Err-NotAllowed-clause-ending
 returns-in-Err-NotAllowed-clause-ending c =
     ap ending (sym (next_step _ _ _ _ c.loop-alloc-test.true c.next.ensures.next)) ∙ c.loop-alloc.invariant.ends
 
 pub returns-in-Err-Limit-clause-verdict : goal.returns-in-Err-Limit-clause-verdict
-returns-in-Err-Limit-clause-verdict c =
+returns-in-Err-Limit-clause-verdict c = λ k stands.
     let next = next_step _ _ _ _ c.loop-alloc-test.true c.next.ensures.next in
-    let limit = subst (λ why. Applied c.next.new.step c.loop-alloc.machine c.apply.new.self (Err why)) c.in-Err-Limit.field-0-is
+    let far = next_far k _ _ _ _ _ _ _ next (c.loop-alloc.invariant.verdict k stands) in
+    let applied = subst (λ why. Applied c.next.new.step c.loop-alloc.machine c.apply.new.self (Err why)) c.in-Err-Limit.field-0-is
     c.in-Err-Limit.ensures in
-    sym (c.loop-alloc.invariant.verdict
-    ∙ ap (λ (r : Remaining). verdict_from (kernel_of c.loop-alloc.machine) c.loop-alloc.number c.loop-alloc.machine.noted r.steps) next
-    ∙ verdict-too_much _ _ _ _ _ limit.0 limit.1)
+    sym (as_far_too_much k _ _ _ c.apply.new.self _ _ _ far applied)
 
 pub returns-in-Err-Limit-clause-ending : goal.returns-in-Err-Limit-clause-ending
 returns-in-Err-Limit-clause-ending c =
@@ -42,21 +47,18 @@ loop-alloc-preserved c =
     record {
       counted = omega (arith, c.loop-alloc.invariant.counted, ap (λ (r : Remaining). length r.steps) next);
       ends = ap ending (sym next) ∙ c.loop-alloc.invariant.ends;
-      verdict =
-          c.loop-alloc.invariant.verdict
-          ∙ ap (λ (r : Remaining). verdict_from (kernel_of c.loop-alloc.machine) c.loop-alloc.number c.loop-alloc.machine.noted r.steps) next
-          ∙ verdict-more _ _ _ _ _ _ c.in-Ok.ensures.0 (omega (arith, c.in-Ok.ensures.1, c.in-Ok.ensures.2))
-          ∙ ap (λ noted. verdict_from (kernel_of c.apply.new.self) (c.loop-alloc.number + 1) noted c.next.new.self.steps)
-          (sym c.in-Ok.ensures.1);
+      verdict = λ k stands.
+          let far = next_far k _ _ _ _ _ _ _ next (c.loop-alloc.invariant.verdict k stands) in
+          as_far_more k _ _ _ c.apply.new.self _ _ _ far _ c.in-Ok.ensures;
     }
 
 pub loop-alloc-smaller : goal.loop-alloc-smaller
 loop-alloc-smaller c = fewer_steps _ _ _ (next_step _ _ _ _ c.loop-alloc-test.true c.next.ensures.next)
 
 pub returns-clause-verdict : goal.returns-clause-verdict
-returns-clause-verdict c =
+returns-clause-verdict c = λ k stands.
     let end = no_step _ _ _ _ c.loop-alloc-test.false c.next.ensures.next in
-    sym (c.loop-alloc.invariant.verdict ∙ verdict-end _ _ _ _ end.0)
+    sym (as_far_over k _ _ _ _ _ end.0 (c.loop-alloc.invariant.verdict k stands))
 
 pub returns-clause-ending : goal.returns-clause-ending
 returns-clause-ending c =

@@ -1,0 +1,72 @@
+//! Bytes of remote moves that are given back after a step.
+
+ghost use Rattle.std.specs.Prelude.{◌≡◌, ◌≤◌};
+ghost use Rattle.v_machine.specs.Kept.{IsKept, kernel_in};
+ghost use Rattle.v_machine.specs.Lean.{GivesBack, GivesBackOf, IsAlike, opened_before};
+
+use crate::tables::Store;
+use crate::tables::moving::put_emptied;
+use crate::tables::put::{find, sent_of};
+use crate::tables::queues::named;
+use std::alloc::Global;
+use vk_base::{Name, Step};
+
+/// The number of the open move of the exchange in which a step opens another one; 0 for any other step.
+pub fn opened_before(store: &Store, step: &Step) -> u64
+    ensures { result ≡ opened_before (kernel_in store.now) step.now }
+{
+    let Step::OpenMove { sender, number, .. } = *step else {
+        return 0;
+    };
+    match named(&store.places, &store.sends, Name { sender, number }) {
+        Some(sent) => sent.opened,
+        None => 0,
+    }
+}
+
+/// After a step that opened a move, those from the one that was open before give their bytes back; after a step that wrote
+/// bytes of a move, this one, where they were its last.
+pub fn give_back(store: &mut Store, alloc: Global, step: &Step, before: u64)
+    requires { IsKept store.old }
+    ensures alike { IsAlike (kernel_in store.old) (kernel_in store.new) }
+    ensures kept { IsKept store.new }
+    ensures gives { GivesBack step.now before (kernel_in store.old) (kernel_in store.new) }
+{
+    match *step {
+        Step::OpenMove {
+            sender,
+            number,
+            moving,
+        } => give_back_of(
+            store,
+            alloc,
+            Name { sender, number },
+            before.min(moving),
+            moving,
+        ),
+        Step::Copy {
+            sender,
+            number,
+            moving,
+            ..
+        } => give_back_of(store, alloc, Name { sender, number }, moving, moving),
+        _ => {}
+    }
+}
+
+/// Of the moves from one number up to another of an exchange, the spent ones give their bytes back.
+fn give_back_of(store: &mut Store, alloc: Global, name: Name, from: u64, to: u64)
+    requires kept { IsKept store.old }
+    requires order { from ≤ to }
+    ensures alike { IsAlike (kernel_in store.old) (kernel_in store.new) }
+    ensures kept { IsKept store.new }
+    ensures gives { GivesBackOf name from to (kernel_in store.old) (kernel_in store.new) }
+{
+    let Some(at) = find(store, name.sender) else {
+        return;
+    };
+    let Some(_sent) = sent_of(store, at, name.number) else {
+        return;
+    };
+    put_emptied(store, alloc, at, name.number, from, to);
+}
