@@ -1,5 +1,5 @@
 -- Moves that give their bytes back, one after another, where they are spent.
-use Rattle.std.proofs.Common.{◌≡◌, ℕ, zero, suc, ◌+◌, ◌≤◌, ◌&&◌, nat_le, nat_lt, Bool, true, false, cond, List, [], ◌∷◌, All, length, Some, refl, sym, ap, ◌∙◌, inl, inr, arith}
+use Rattle.std.proofs.Common.{◌≡◌, ℕ, zero, suc, ◌+◌, ◌≤◌, ◌&&◌, nat_le, nat_lt, Bool, true, false, cond, List, [], ◌∷◌, All, Some, refl, sym, ap, ◌∙◌, inl, inr, arith}
 use Rattle.std.proofs.lemmas.Bool.{cases_Bool, ltb-true, lt-leb, le-leb, lt-ltb, le-ltb, and_from, and_left, and_right}
 use Rattle.std.proofs.lemmas.List.Elements.{All-cons, All-head, All-tail}
 use Rattle.vk_base.specs.declared.kernel.Exchange.{Exchange}
@@ -18,6 +18,7 @@ use Rattle.v_machine.specs.Moves.{with_exchange}
 use Rattle.v_machine.specs.Sends.{emptied_between, given_back}
 use Rattle.v_machine.specs.Lean.{IsAlike}
 use Rattle.v_machine.specs.Spent.{emptied, all_emptied, lean}
+use Rattle.v_machine.proofs.LeanExchanges.{length-given}
 use Rattle.v_machine.proofs.Spent.{absorbed}
 use Rattle.v_machine.proofs.SpentKernels.{alike_put}
 
@@ -88,10 +89,6 @@ pub lean_given_back : (from to : ℕ) (e : Exchange) → lean (given_back from t
 lean_given_back from to e =
     ap (λ (ms : List Move). record e { moves = ms }) (all_of_between e.opened e.done from (to + 1) 1 e.moves)
 
-length-between : (opened done from to number : ℕ) (ms : List Move) → length (emptied_between opened done from to number ms) ≡ length ms
-length-between opened done from to number [] = refl
-length-between opened done from to number (m ∷ ms) = ap suc (length-between opened done from to (number + 1) ms)
-
 fit_cond : (size : Pid → ℕ) (n : Name) (opened done number : ℕ) (m : Move) (b : Bool) → IsMoveFit size n m →
     IsMoveFit size n (cond b (emptied opened done number m) m)
 fit_cond size n opened done number m true fit = record { there = fit.there; here = fit.here }
@@ -115,7 +112,7 @@ module _ (k : Kernel) (name : Name) (e : Exchange) (from to : ℕ) (at : k.excha
         target = refl;
         message = refl;
         part = refl;
-        moves = omega (arith, length-between e.opened e.done from (to + 1) 1 e.moves);
+        moves = omega (arith, length-given e.opened e.done from (to + 1) 1 e.moves);
         stage = StageOn.same refl;
       })))
 

@@ -91,7 +91,7 @@ given_move : (from to : ℕ) (e : Exchange) (number : ℕ) → move_of (given_ba
 given_move from to e zero = refl
 given_move from to e (suc n) = between_get e.opened e.done from (to + 1) 1 e.moves n (suc n) (omega arith)
 
-length-given : (opened done from to number : ℕ) (ms : List Move) → length (emptied_between opened done from to number ms) ≡ length ms
+pub length-given : (opened done from to number : ℕ) (ms : List Move) → length (emptied_between opened done from to number ms) ≡ length ms
 length-given opened done from to number [] = refl
 length-given opened done from to number (m ∷ ms) = ap suc (length-given opened done from to (number + 1) ms)
 

@@ -79,10 +79,6 @@ pub holds_lean : (test : Exchange → Bool) → ((e : Exchange) → test (lean e
 holds_lean test each None = refl
 holds_lean test each (Some e) = each e
 
-pub exchange_lean : (k : Kernel) (n : Name) → (lean_kernel k).exchanges n ≡ option_map lean (k.exchanges n)
-unfolding lean_kernel
-exchange_lean k n = refl
-
 held_lean_up_to : (exchanges : Name → Option Exchange) (r sender : Pid) (n : ℕ) →
     held_up_to (λ m. option_map lean (exchanges m)) r sender n ≡ held_up_to exchanges r sender n
 unfolding held_up_to

@@ -1,6 +1,6 @@
 -- Steps do the same, and see the same, without the bytes of spent moves.
-use Rattle.std.proofs.Common.{◌≡◌, ℕ, ◌+◌, ◌-◌, ◌<◌, ◌==◌, true, not, ◌&&◌, nat_lt, nat_le, List, [], ◌∷◌, ◌++◌, option_map, Option, Some, None, is_none, refl, ap, ◌∙◌, arith}
-use Rattle.std.proofs.lemmas.Bool.{and_parts, eqb-true, leb-true, ltb-true}
+use Rattle.std.proofs.Common.{◌≡◌, ℕ, ◌+◌, ◌-◌, ◌<◌, ◌==◌, not, ◌&&◌, nat_lt, List, [], ◌∷◌, ◌++◌, option_map, Option, Some, None, is_none, refl, ap, ◌∙◌, arith}
+use Rattle.std.proofs.lemmas.Bool.{ltb-true}
 use Rattle.vk_base.specs.declared.answer.Answer.{Answer}
 use Rattle.vk_base.specs.declared.answer.Ending.{Ending}
 use Rattle.vk_base.specs.declared.answer.Ending.TheVariants as endings
@@ -24,6 +24,7 @@ use Rattle.vk_base.specs.Kernel.{◌>>=◌, Kernel, name_of, holds_of, is_live, 
 use Rattle.vk_base.specs.Pids.{same_host}
 use Rattle.vk_base.specs.Ranges.{range_of, bytes_in, with_bytes}
 use Rattle.vk_base.specs.Steps.{only_if, arriving, is_older, after_arrival, with_arrival, arrive_step, Taking, first_of, taking, received, with_part, taken, take_step, finishing, finish_step, failure, failing, fail_step, Opening, opening_move, noted_bytes, move_opened, open_step, written_process, Copying, is_next, copying, copied, copy_step, is_complete, move_ending, ending, end_step, hearing, hear_step, asking, finding, found_step, lost_step, collecting, collect_step, effect}
+use Rattle.v_laws.proofs.MoveLists.{next_is}
 use Rattle.v_laws.proofs.StepLemmas.{opening_is, IsCopying, copying_is}
 use Rattle.v_machine.specs.Spent.{emptied, lean, lean_kernel}
 use Rattle.v_machine.proofs.Spent.{put_absorbed, all_absorbed, lean_move, later_same, unspent, open_unspent, opening_stays, copying_stays}
@@ -172,37 +173,26 @@ copying_lean k name number offset count =
     ∙ bind_map (lean_copying number) (only_if (is_next e number m offset count) (written_process k name number m.mover m.direction)) _ _
     (λ w. refl)))
 
-next_parts : (e : Exchange) (number : ℕ) (m : Move) (offset count : ℕ) → is_next e number m offset count ≡ true →
-    (e.opened ≡ number) × (e.done < m.count)
-next_parts e number m offset count next =
-    let last = and_parts (e.opened == number && e.done == offset && nat_le 1 count) (nat_le (offset + count) m.count) next in
-    let some = and_parts (e.opened == number && e.done == offset) (nat_le 1 count) last.0 in
-    let first = and_parts (e.opened == number) (e.done == offset) some.0 in
-    let done = eqb-true e.done offset first.1 in
-    let more = leb-true 1 count some.1 in
-    let within = leb-true (offset + count) m.count last.1 in
-    (eqb-true e.opened number first.0, omega arith)
-
 copied_same : (k : Kernel) (name : Name) (number offset count : ℕ) (c : Copying) → IsCopying k name number offset count c →
     lean_kernel (copied (lean_kernel k) name offset count (lean_copying number c)) ≡ lean_kernel (copied k name offset count c)
 unfolding lean_kernel copied lean_copying
 copied_same k name number offset count c is =
     let e = c.exchange in
-    let next = next_parts e number c.move offset count is.next in
-    let left : e.done < c.move.count = omega (arith, next.1) in
+    let next = next_is e number c.move offset count is.next in
+    let left : e.done < c.move.count = omega arith in
     let bytes : List ℕ → Pid → Option Process =
     λ b. put_process k.procs c.pid
     (record c.process { memory = with_bytes c.process.memory (c.move.dest + offset) (bytes_in (range_of offset count) b) }) in
     let exchanges : Name → Option Exchange =
     put_exchange (λ n. option_map lean (k.exchanges n)) name (record (lean e) { done = e.done + count }) in
     ap (λ (m : Move). lean_kernel (record k { procs = bytes m.bytes; exchanges = exchanges }))
-    (unspent e.opened e.done number c.move (open_unspent e.opened e.done number c.move next.0 left))
+    (unspent e.opened e.done number c.move (open_unspent e.opened e.done number c.move next.opened left))
     ∙ kernels_alike (bytes c.move.bytes) exchanges _ k.arrived k.names k.lookups
     (put_alike (λ n. option_map lean (k.exchanges n)) k.exchanges name (record (lean e) { done = e.done + count })
     (record e { done = e.done + count }) (alike_twice k)
     (ap (λ (ms : List Move). record e { moves = ms; done = e.done + count })
     (all_absorbed e.opened e.done e.opened (e.done + count) 1 e.moves
-    (copying_stays e number (e.done + count) c.move is.move next.0 left))))
+    (copying_stays e number (e.done + count) c.move is.move next.opened left))))
 
 copy_same : (k : Kernel) (name : Name) (number offset count : ℕ) →
     Same (copy_step (lean_kernel k) name number offset count) (copy_step k name number offset count)

@@ -32,7 +32,8 @@ use crate::tables::Store;
 use crate::tables::put::{find, proc};
 use std::alloc::Global;
 use vk_base::limits::NOTED_BYTES;
-use vk_base::{Call, Observation, Pid, Registration};
+use vk_base::{Observation, Pid, Registration};
+use vk_brief::{BriefCall, CallView};
 
 /// Call, and how many bytes are noted with those that it notes.
 pub fn call(
@@ -40,7 +41,7 @@ pub fn call(
     noted: &mut u64,
     alloc: Global,
     pid: Pid,
-    call: &Call,
+    call: &CallView,
 ) -> Result<Option<Observation>, ApplyRefusal>
     requires kept { IsKept store.old }
     requires low { noted.old ≤ most }
@@ -54,7 +55,8 @@ pub fn call(
     if let Some(why) = caller_refusal(proc(store, at)) {
         return observation(pid, call, Response::Refused { why });
     }
-    if let Call::Load { start, count } = *call {
+    let (brief, _) = call.parts();
+    if let BriefCall::Load { start, count } = *brief {
         return load(store, at, pid, start, count);
     }
     let response = accept(store, NOTED_BYTES - *noted, alloc, at, pid, call)?;
@@ -73,22 +75,25 @@ fn accept(
     alloc: Global,
     at: usize,
     pid: Pid,
-    call: &Call,
+    call: &CallView,
 ) -> Result<Response, ApplyRefusal>
     requires kept { IsKept store.old }
     requires here { IsAt store.old pid at }
     requires no_load { is_load call.now ≡ false }
     ensures { Accepts pid call.now room store.old store.new result }
 {
-    match *call {
-        Call::Send { target, message } => send(store, alloc, at, pid, target, message),
-        Call::Receive => Ok(receive(store, at, pid)),
-        Call::ReceiveSegment { start, count } => Ok(receive_segment(store, at, pid, start, count)),
-        Call::Reply { message, to } => Ok(reply(store, alloc, pid, message, to)),
-        Call::ReplySegment { .. } | Call::MoveTo { .. } | Call::MoveFrom { .. } => {
+    let (brief, bytes) = call.parts();
+    match *brief {
+        BriefCall::Send { target, message } => send(store, alloc, at, pid, target, message),
+        BriefCall::Receive => Ok(receive(store, at, pid)),
+        BriefCall::ReceiveSegment { start, count } => Ok(receive_segment(
+            store, at, pid, start, count,
+        )),
+        BriefCall::Reply { message, to } => Ok(reply(store, alloc, pid, message, to)),
+        BriefCall::ReplySegment { .. } | BriefCall::MoveTo { .. } | BriefCall::MoveFrom { .. } => {
             accept_access(store, room, alloc, at, pid, call)
         }
-        Call::SetPid {
+        BriefCall::SetPid {
             logical,
             pid: named,
             scope,
@@ -100,10 +105,10 @@ fn accept(
             };
             set_pid(store, pid, name)
         }
-        Call::GetPid { logical, scope } => get_pid(store, alloc, at, pid, logical, scope),
-        Call::Store { start, ref bytes } => Ok(store_bytes(store, at, pid, start, bytes)),
-        Call::Exit => Ok(exit(store, at, pid)),
-        Call::Load { .. } => unreachable!(),
+        BriefCall::GetPid { logical, scope } => get_pid(store, alloc, at, pid, logical, scope),
+        BriefCall::Store { start } => Ok(store_bytes(store, at, pid, start, bytes)),
+        BriefCall::Exit => Ok(exit(store, at, pid)),
+        BriefCall::Load { .. } => unreachable!(),
     }
 }
 
@@ -114,15 +119,16 @@ fn accept_access(
     alloc: Global,
     at: usize,
     pid: Pid,
-    call: &Call,
+    call: &CallView,
 ) -> Result<Response, ApplyRefusal>
     requires kept { IsKept store.old }
     requires here { IsAt store.old pid at }
     requires access { is_access call.now ≡ true }
     ensures { Accepts pid call.now room store.old store.new result }
 {
-    match *call {
-        Call::ReplySegment {
+    let (brief, _) = call.parts();
+    match *brief {
+        BriefCall::ReplySegment {
             message,
             to,
             dest,
@@ -138,7 +144,7 @@ fn accept_access(
             };
             reply_segment(store, alloc, at, pid, reply)
         }
-        Call::MoveTo {
+        BriefCall::MoveTo {
             partner,
             dest,
             src,
@@ -147,7 +153,7 @@ fn accept_access(
             let asked = request(partner, dest, src, count);
             move_to(store, alloc, at, pid, asked, room)
         }
-        Call::MoveFrom {
+        BriefCall::MoveFrom {
             partner,
             dest,
             src,
@@ -172,11 +178,12 @@ fn request(partner: Pid, dest: u32, src: u32, count: u32) -> MoveRequest
 }
 
 /// How many bytes a call notes that is answered so.
-fn noted_by_call(call: &Call, response: Response) -> u64
+fn noted_by_call(call: &CallView, response: Response) -> u64
     ensures { (pid : Pid) (e : Effect) → e.seen ≡ seen_by pid call.now response → result ≡ noted_by_call call.now (Some e) }
 {
-    match (call, response) {
-        (Call::MoveTo { count, .. }, Response::Begun) => u64::from(*count),
+    let (brief, _) = call.parts();
+    match (brief, response) {
+        (BriefCall::MoveTo { count, .. }, Response::Begun) => u64::from(*count),
         _ => 0,
     }
 }

@@ -5,6 +5,7 @@ ghost use Rattle.vk_base.specs.Kernel.{initial_kernel};
 ghost use Rattle.v_machine.specs.Apply.{Applied};
 ghost use Rattle.v_machine.specs.Tables.{kernel_of};
 
+use crate::brief::brief_of;
 use crate::calls::call;
 use crate::refusal::ApplyRefusal;
 use crate::steps::messages::collect;
@@ -15,6 +16,7 @@ use crate::tables::initial::initial_store;
 use std::alloc::Global;
 use std::marker::Model;
 use vk_base::{Config, NoMemory, Observation, Step};
+use vk_brief::{BriefStep, CallView, StepView};
 
 /// The one-machine kernel.
 #[derive(Drop)]
@@ -61,15 +63,23 @@ impl Machine {
     /// remote move and those noted so far with them would be more than 268,435,456: a `MoveTo` that is begun notes its
     /// bytes, and so does an `OpenMove` of a move from the sender; what was noted stays noted, also once the bytes are
     /// given back. `NoMemory` only where it is neither.
-    pub fn apply(&mut self, alloc: Global, step: &Step) -> Result<Option<Observation>, ApplyRefusal>
+    pub fn advance(
+        &mut self,
+        alloc: Global,
+        step: &StepView,
+    ) -> Result<Option<Observation>, ApplyRefusal>
         ensures { Applied step.now self.old self.new result }
     {
-        match *step {
-            Step::Call {
+        let (brief, bytes) = step.parts();
+        match *brief {
+            BriefStep::Call {
                 pid,
                 call: ref made,
-            } => call(&mut self.store, &mut self.noted, alloc, pid, made),
-            Step::Collect { pid } => collect(&mut self.store, pid),
+            } => {
+                let view = CallView::new(made, bytes);
+                call(&mut self.store, &mut self.noted, alloc, pid, &view)
+            }
+            BriefStep::Collect { pid } => collect(&mut self.store, pid),
             _ => {
                 let before = opened_before(&self.store, step);
                 quiet_step(&mut self.store, &mut self.noted, alloc, step)?;
@@ -77,5 +87,17 @@ impl Machine {
                 Ok(None)
             }
         }
+    }
+
+    /// Applies a step that has its bytes in it, as [`Machine::advance`] does.
+    ///
+    /// # Errors
+    ///
+    /// Those of [`Machine::advance`].
+    pub fn apply(&mut self, alloc: Global, step: &Step) -> Result<Option<Observation>, ApplyRefusal>
+        ensures { Applied step.now self.old self.new result }
+    {
+        let (brief, bytes) = brief_of(step);
+        self.advance(alloc, &StepView::new(&brief, bytes))
     }
 }

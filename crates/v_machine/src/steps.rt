@@ -21,14 +21,15 @@ use crate::steps::transfers::{copy, end, open_move, opening_bytes};
 use crate::tables::Store;
 use std::alloc::Global;
 use vk_base::limits::NOTED_BYTES;
-use vk_base::{Name, Range, Step};
+use vk_base::{Name, Range};
+use vk_brief::{BriefStep, StepView};
 
 /// A step that no process sees, and how many bytes are noted with those that it notes.
 pub fn quiet_step(
     store: &mut Store,
     noted: &mut u64,
     alloc: Global,
-    step: &Step,
+    step: &StepView,
 ) -> Result<(), ApplyRefusal>
     requires kept { IsKept store.old }
     requires low { noted.old ≤ most }
@@ -37,17 +38,18 @@ pub fn quiet_step(
         store.old store.new (quiet result) }
     ensures counts { Counts (notes (kernel_in store.old) step.now) noted.old noted.new result }
 {
-    match *step {
-        Step::Arrive { sender, number } => arrive(store, sender, number),
-        Step::Take { pid } => done_or_not(take(store, pid)),
-        Step::Finish { pid } => done_or_not(finish(store, pid)),
-        Step::Fail { pid, why } => done_or_not(fail(store, pid, why)),
-        Step::OpenMove {
+    let (brief, _) = step.parts();
+    match *brief {
+        BriefStep::Arrive { sender, number } => arrive(store, sender, number),
+        BriefStep::Take { pid } => done_or_not(take(store, pid)),
+        BriefStep::Finish { pid } => done_or_not(finish(store, pid)),
+        BriefStep::Fail { pid, why } => done_or_not(fail(store, pid, why)),
+        BriefStep::OpenMove {
             sender,
             number,
             moving,
         } => open(store, noted, alloc, Name { sender, number }, moving),
-        Step::Copy {
+        BriefStep::Copy {
             sender,
             number,
             moving,
@@ -60,11 +62,11 @@ pub fn quiet_step(
             };
             done_or_not(copy(store, Name { sender, number }, moving, part))
         }
-        Step::End { pid, why } => done_or_not(end(store, pid, why)),
-        Step::Hear { asker, number, pid } => hear(store, asker, number, pid),
-        Step::Found { asker, pid } => done_or_not(found(store, asker, pid)),
-        Step::Lost { asker } => done_or_not(lost(store, asker)),
-        Step::Call { .. } | Step::Collect { .. } => unreachable!(),
+        BriefStep::End { pid, why } => done_or_not(end(store, pid, why)),
+        BriefStep::Hear { asker, number, pid } => hear(store, asker, number, pid),
+        BriefStep::Found { asker, pid } => done_or_not(found(store, asker, pid)),
+        BriefStep::Lost { asker } => done_or_not(lost(store, asker)),
+        BriefStep::Call { .. } | BriefStep::Collect { .. } => unreachable!(),
     }
 }
 

@@ -1,3 +1,4 @@
+pub mod Buffers
 pub mod Laws
 pub mod Remaining
 pub mod Steps

@@ -4,12 +4,12 @@ ghost use Rattle.std.specs.Prelude.{◌≡◌, ◌+◌, ◌≤◌, ◌⊎◌, tr
 ghost use Rattle.v_trace.specs.Remaining.{IsNext, whole};
 ghost use Rattle.v_trace.specs.Traces.{KeepsLines, has_actor, trace_of};
 
+use crate::buffer::StepBuffer;
 use crate::reading::read_step;
 use crate::trace::TraceRefusal;
 use std::alloc::Global;
 use std::marker::Model;
-use vk_base::{Config, Step};
-use vk_brief::CallBuffer;
+use vk_base::Config;
 use vk_text::{HeadRefusal, next_line, read_head};
 
 /// What is left to be read of a trace's text: the steps that are still to come, which [`StepReader::next`] gives one by one, and
@@ -22,8 +22,6 @@ pub struct StepReader<'a> {
     at: usize,
     /// How many steps were given.
     given: usize,
-    /// Where a call is read.
-    room: CallBuffer,
 }
 
 impl<'a> Model for StepReader<'a> {
@@ -53,7 +51,6 @@ impl<'a> StepReader<'a> {
                 text,
                 at: head.at,
                 given: 0,
-                room: CallBuffer::new(),
             }),
             Err(HeadRefusal::NoTitle) => Err(TraceRefusal::BadInput { line: 1 }),
             Err(HeadRefusal::NoMemory) => Err(TraceRefusal::NoMemory),
@@ -68,14 +65,14 @@ impl<'a> StepReader<'a> {
     }
 
     /// Writes the next step over this one, and tells whether there is one. Where there is none, any may be left in its place.
-    pub fn next(&mut self, step: &mut Step) -> bool
+    pub fn next(&mut self, step: &mut StepBuffer) -> bool
         ensures next { IsNext self.old self.new (if result then Some step.new else None) }
         ensures lawful { result ≡ true → has_actor self.old.config.specs step.new ≡ true }
     {
         let Some((line, next)) = next_line(self.text, self.at) else {
             return false;
         };
-        let Some(()) = read_step(&self.config, line, &mut self.room, step) else {
+        let Some(()) = read_step(&self.config, line, step) else {
             return false;
         };
         self.at = next;

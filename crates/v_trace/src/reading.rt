@@ -8,74 +8,75 @@ ghost use Rattle.v_trace.specs.Steps.{pid_step_of, call_step_of, arrive_of, fail
 ghost use Rattle.v_trace.specs.Remaining.{acting};
 ghost use Rattle.v_trace.specs.Traces.{has_actor};
 
+use crate::buffer::StepBuffer;
 use crate::word::{last_count, last_ending, last_failure, last_ordinal, last_pid, next_ordinal};
-use vk_base::{Config, Step};
-use vk_brief::CallBuffer;
+use vk_base::Config;
+use vk_brief::{BriefCall, BriefStep};
 use vk_text::{next_count, next_pid, next_word, take_call};
 
 /// `PID CALLTEXT`
 #[tactic(auto, unfolding(crate::specs::Steps::call_step_of))]
-fn read_call_step(line: &[u8], at: usize, room: &mut CallBuffer, into: &mut Step) -> Option<()>
+fn read_call_step(line: &[u8], at: usize, into: &mut StepBuffer) -> Option<()>
     ensures { option_map (λ _. into.new) result ≡ call_step_of (words_from line.now at) }
 {
     let (pid, at) = next_pid(line, at)?;
-    take_call(line, at, room)?;
-    *into = Step::Call {
+    take_call(line, at, &mut into.call)?;
+    into.step = BriefStep::Call {
         pid,
-        call: room.view().whole(),
+        call: BriefCall::Receive,
     };
     Some(())
 }
 
 /// `SENDER NUMBER`
 #[tactic(auto, unfolding(crate::specs::Steps::arrive_of))]
-fn read_arrive(line: &[u8], at: usize, into: &mut Step) -> Option<()>
+fn read_arrive(line: &[u8], at: usize, into: &mut StepBuffer) -> Option<()>
     ensures { option_map (λ _. into.new) result ≡ arrive_of (words_from line.now at) }
 {
     let (sender, at) = next_pid(line, at)?;
     let number = last_ordinal(line, at)?;
-    *into = Step::Arrive { sender, number };
+    into.step = BriefStep::Arrive { sender, number };
     Some(())
 }
 
 #[tactic(auto, unfolding(crate::specs::Steps::pid_step_of))]
-fn read_take(line: &[u8], at: usize, into: &mut Step) -> Option<()>
+fn read_take(line: &[u8], at: usize, into: &mut StepBuffer) -> Option<()>
     ensures { option_map (λ _. into.new) result ≡ pid_step_of steps.Take (words_from line.now at) }
 {
     let pid = last_pid(line, at)?;
-    *into = Step::Take { pid };
+    into.step = BriefStep::Take { pid };
     Some(())
 }
 
 #[tactic(auto, unfolding(crate::specs::Steps::pid_step_of))]
-fn read_finish(line: &[u8], at: usize, into: &mut Step) -> Option<()>
+fn read_finish(line: &[u8], at: usize, into: &mut StepBuffer) -> Option<()>
     ensures { option_map (λ _. into.new) result ≡ pid_step_of steps.Finish (words_from line.now at) }
 {
     let pid = last_pid(line, at)?;
-    *into = Step::Finish { pid };
+    into.step = BriefStep::Finish { pid };
     Some(())
 }
 
 /// `PID FAILURE`
 #[tactic(auto, unfolding(crate::specs::Steps::fail_of))]
-fn read_fail(line: &[u8], at: usize, into: &mut Step) -> Option<()>
+fn read_fail(line: &[u8], at: usize, into: &mut StepBuffer) -> Option<()>
     ensures { option_map (λ _. into.new) result ≡ fail_of (words_from line.now at) }
 {
     let (pid, at) = next_pid(line, at)?;
     let why = last_failure(line, at)?;
-    *into = Step::Fail { pid, why };
+    into.step = BriefStep::Fail { pid, why };
     Some(())
 }
 
 /// `SENDER NUMBER MOVE`
 #[tactic(auto, unfolding(crate::specs::Steps::open_of))]
-fn read_open(line: &[u8], at: usize, into: &mut Step) -> Option<()>
+fn read_open(line: &[u8], at: usize, into: &mut StepBuffer) -> Option<()>
     ensures { option_map (λ _. into.new) result ≡ open_of (words_from line.now at) }
 {
     let (sender, at) = next_pid(line, at)?;
     let (number, at) = next_ordinal(line, at)?;
     let moving = last_ordinal(line, at)?;
-    *into = Step::OpenMove {
+    into.step = BriefStep::OpenMove {
         sender,
         number,
         moving,
@@ -85,7 +86,7 @@ fn read_open(line: &[u8], at: usize, into: &mut Step) -> Option<()>
 
 /// `SENDER NUMBER MOVE OFFSET COUNT`
 #[tactic(auto, unfolding(crate::specs::Steps::copy_of))]
-fn read_copy(line: &[u8], at: usize, into: &mut Step) -> Option<()>
+fn read_copy(line: &[u8], at: usize, into: &mut StepBuffer) -> Option<()>
     ensures { option_map (λ _. into.new) result ≡ copy_of (words_from line.now at) }
 {
     let (sender, at) = next_pid(line, at)?;
@@ -93,7 +94,7 @@ fn read_copy(line: &[u8], at: usize, into: &mut Step) -> Option<()>
     let (moving, at) = next_ordinal(line, at)?;
     let (offset, at) = next_count(line, at)?;
     let count = last_count(line, at)?;
-    *into = Step::Copy {
+    into.step = BriefStep::Copy {
         sender,
         number,
         moving,
@@ -105,64 +106,64 @@ fn read_copy(line: &[u8], at: usize, into: &mut Step) -> Option<()>
 
 /// `PID ENDING`
 #[tactic(auto, unfolding(crate::specs::Steps::end_of))]
-fn read_end(line: &[u8], at: usize, into: &mut Step) -> Option<()>
+fn read_end(line: &[u8], at: usize, into: &mut StepBuffer) -> Option<()>
     ensures { option_map (λ _. into.new) result ≡ end_of (words_from line.now at) }
 {
     let (pid, at) = next_pid(line, at)?;
     let why = last_ending(line, at)?;
-    *into = Step::End { pid, why };
+    into.step = BriefStep::End { pid, why };
     Some(())
 }
 
 /// `ASKER LOOKUP PID`
 #[tactic(auto, unfolding(crate::specs::Steps::hear_of))]
-fn read_hear(line: &[u8], at: usize, into: &mut Step) -> Option<()>
+fn read_hear(line: &[u8], at: usize, into: &mut StepBuffer) -> Option<()>
     ensures { option_map (λ _. into.new) result ≡ hear_of (words_from line.now at) }
 {
     let (asker, at) = next_pid(line, at)?;
     let (number, at) = next_ordinal(line, at)?;
     let pid = last_pid(line, at)?;
-    *into = Step::Hear { asker, number, pid };
+    into.step = BriefStep::Hear { asker, number, pid };
     Some(())
 }
 
 /// `ASKER PID`
 #[tactic(auto, unfolding(crate::specs::Steps::found_of))]
-fn read_found(line: &[u8], at: usize, into: &mut Step) -> Option<()>
+fn read_found(line: &[u8], at: usize, into: &mut StepBuffer) -> Option<()>
     ensures { option_map (λ _. into.new) result ≡ found_of (words_from line.now at) }
 {
     let (asker, at) = next_pid(line, at)?;
     let pid = last_pid(line, at)?;
-    *into = Step::Found { asker, pid };
+    into.step = BriefStep::Found { asker, pid };
     Some(())
 }
 
 #[tactic(auto, unfolding(crate::specs::Steps::pid_step_of))]
-fn read_lost(line: &[u8], at: usize, into: &mut Step) -> Option<()>
+fn read_lost(line: &[u8], at: usize, into: &mut StepBuffer) -> Option<()>
     ensures { option_map (λ _. into.new) result ≡ pid_step_of steps.Lost (words_from line.now at) }
 {
     let asker = last_pid(line, at)?;
-    *into = Step::Lost { asker };
+    into.step = BriefStep::Lost { asker };
     Some(())
 }
 
 #[tactic(auto, unfolding(crate::specs::Steps::pid_step_of))]
-fn read_collect(line: &[u8], at: usize, into: &mut Step) -> Option<()>
+fn read_collect(line: &[u8], at: usize, into: &mut StepBuffer) -> Option<()>
     ensures { option_map (λ _. into.new) result ≡ pid_step_of steps.Collect (words_from line.now at) }
 {
     let pid = last_pid(line, at)?;
-    *into = Step::Collect { pid };
+    into.step = BriefStep::Collect { pid };
     Some(())
 }
 
 /// The step that the line spells.
 #[tactic(auto, using(crate::proofs::LastWords::no_step))]
-fn read_words(line: &[u8], room: &mut CallBuffer, into: &mut Step) -> Option<()>
+fn read_words(line: &[u8], into: &mut StepBuffer) -> Option<()>
     ensures { option_map (λ _. into.new) result ≡ step_of (words_from line.now 0) }
 {
     let (word, at) = next_word(line, 0)?;
     if word == b"call".as_slice() {
-        read_call_step(line, at, room, into)
+        read_call_step(line, at, into)
     } else if word == b"arrive".as_slice() {
         read_arrive(line, at, into)
     } else if word == b"take".as_slice() {
@@ -191,20 +192,20 @@ fn read_words(line: &[u8], room: &mut CallBuffer, into: &mut Step) -> Option<()>
 }
 
 /// Whether the process that calls or collects is in the configuration.
-fn has_actor(config: &Config, step: &Step) -> bool
+fn has_actor(config: &Config, step: &StepBuffer) -> bool
     ensures { result ≡ has_actor config.now.specs step.now }
 {
-    match step {
-        Step::Call { pid, .. } | Step::Collect { pid } => config.has_process(*pid),
+    match step.step {
+        BriefStep::Call { pid, .. } | BriefStep::Collect { pid } => config.has_process(pid),
         _ => true,
     }
 }
 
-/// The step that the line spells, where a trace of the configuration may have it. The room is for a call on its way.
-pub fn read_step(config: &Config, line: &[u8], room: &mut CallBuffer, into: &mut Step) -> Option<()>
+/// The step that the line spells, where a trace of the configuration may have it.
+pub fn read_step(config: &Config, line: &[u8], into: &mut StepBuffer) -> Option<()>
     ensures { option_map (λ _. into.new) result ≡ acting config.now.specs (step_of (words_from line.now 0)) }
 {
-    read_words(line, room, into)?;
+    read_words(line, into)?;
     if has_actor(config, into) {
         Some(())
     } else {

@@ -4,6 +4,7 @@ ghost use Rattle.std.specs.Prelude.{◌≡◌, ◌⊎◌, ◌<◌, length, Ok, E
 ghost use Rattle.v_trace.specs.Remaining.{whole};
 ghost use Rattle.v_trace.specs.Traces.{KeepsLines, trace_of};
 
+use crate::buffer::StepBuffer;
 use crate::reader::StepReader;
 use std::alloc::Global;
 use vk_base::{Config, List, Pid, Step};
@@ -33,11 +34,11 @@ fn collect(alloc: Global, mut reader: StepReader<'_>) -> Result<Trace, TraceRefu
 {
     let mut steps = List::empty(alloc);
     loop {
-        let mut step = Step::Take { pid: FIRST };
+        let mut step = StepBuffer::new(FIRST);
         if !reader.next(&mut step) {
             break;
         }
-        if steps.push(step).is_err() {
+        if steps.push(step.whole()).is_err() {
             return Err(TraceRefusal::NoMemory);
         }
     }

@@ -2,7 +2,7 @@
 
 ghost use Rattle.std.specs.Prelude.{◌≡◌, ◌<◌, ◌^◌, ◌++◌, ◌⊎◌, codes, decimal, length, Err, IfOk, IfErr, OnOk};
 ghost use Rattle.vk_base.specs.Kernel.{Kernel};
-ghost use Rattle.v_machine.specs.Apply.{StandsFor};
+ghost use Rattle.v_machine.specs.Apply.{Applied, StandsFor};
 ghost use Rattle.v_trace.specs.Traces.{trace_of};
 ghost use Rattle.vk_top.specs.Check.{IsVerdictOf, ending, verdict_from, verdict_of};
 ghost use Rattle.vk_top.specs.Work.{KeepsLines};
@@ -10,8 +10,9 @@ ghost use Rattle.vk_top.specs.declared.words.Asked.TheVariants as asked;
 
 use std::alloc::Global;
 use v_machine::{ApplyRefusal, Machine};
-use v_trace::{StepReader, TraceRefusal};
-use vk_base::{NoMemory, Pid, Step};
+use v_trace::{StepBuffer, StepReader, TraceRefusal};
+use vk_base::{NoMemory, Observation, Pid};
+use vk_brief::StepView;
 use vk_text::{put, put_number};
 
 /// Any pid.
@@ -28,6 +29,20 @@ pub(crate) enum TraceVerdict {
     TooMuch,
 }
 
+/// Applies the step that is in this room. It is put into its caller, so that what a process sees of it, which holds the bytes of a Load,
+/// is not moved.
+#[inline(always)]
+fn apply(
+    machine: &mut Machine,
+    alloc: Global,
+    step: &StepBuffer,
+) -> Result<Option<Observation>, ApplyRefusal>
+    ensures { Applied step.now machine.old machine.new result }
+{
+    let (brief, bytes) = step.parts();
+    machine.advance(alloc, &StepView::new(&brief, bytes))
+}
+
 /// Applies the steps that are left in the reader, in turn, up to the first that decides.
 fn apply_steps(
     alloc: Global,
@@ -39,10 +54,10 @@ fn apply_steps(
     ensures ending { ending reader.new ≡ ending reader.old }
 {
     let mut number = 0u64;
-    let mut step = Step::Take { pid: FIRST };
+    let mut step = StepBuffer::new(FIRST);
     while reader.next(&mut step) {
         number += 1;
-        match machine.apply(alloc, &step) {
+        match apply(machine, alloc, &step) {
             Ok(_) => {}
             Err(ApplyRefusal::NotAllowed) => return Ok(TraceVerdict::Refused { step: number }),
             Err(ApplyRefusal::Limit) => return Ok(TraceVerdict::TooMuch),
@@ -66,7 +81,7 @@ fn verdict_on(alloc: Global, reader: &mut StepReader<'_>) -> Result<TraceVerdict
 fn read_on(reader: &mut StepReader<'_>)
     ensures { reader.new ≡ ending reader.old }
 {
-    let mut step = Step::Take { pid: FIRST };
+    let mut step = StepBuffer::new(FIRST);
     while reader.next(&mut step) {}
 }
 

@@ -13,7 +13,7 @@ use crate::tables::Store;
 use crate::tables::bytes::lies_in;
 use crate::tables::proc::Proc;
 use crate::tables::put::{put_activity, put_bytes, size_of};
-use vk_base::{Activity, Call, Data, Pid, Refusal, Waiting};
+use vk_base::{Activity, Call, Pid, Refusal, Waiting};
 
 /// The process may make a call.
 fn is_ready(activity: &Activity) -> bool
@@ -64,12 +64,12 @@ pub fn receive_segment(store: &mut Store, at: usize, pid: Pid, start: u32, count
 }
 
 /// Store.
-pub fn store_bytes(store: &mut Store, at: usize, pid: Pid, start: u32, bytes: &Data) -> Response
+pub fn store_bytes(store: &mut Store, at: usize, pid: Pid, start: u32, bytes: &[u8]) -> Response
     requires kept { IsKept store.old }
     requires here { IsAt store.old pid at }
     ensures { Judges pid (Call.Store start bytes.now) store.old store.new (Ok result) }
 {
-    if put_bytes(store, at, start, bytes.as_slice()) {
+    if put_bytes(store, at, start, bytes) {
         Response::Ok
     } else {
         Response::Refused {

@@ -4,7 +4,8 @@ ghost use Rattle.std.specs.Prelude.{◌≡◌, Ok};
 ghost use Rattle.v_machine.specs.Rules.{seen_by};
 
 use crate::refusal::ApplyRefusal;
-use vk_base::{Answer, Call, Observation, Pid, Refusal};
+use vk_base::{Answer, Observation, Pid, Refusal};
+use vk_brief::CallView;
 
 /// What a call is answered when it is made, but for bytes.
 #[derive(Clone, Copy)]
@@ -18,7 +19,7 @@ pub enum Response {
 /// What the process sees of its call, as a step's result.
 pub fn observation(
     pid: Pid,
-    call: &Call,
+    call: &CallView,
     response: Response,
 ) -> Result<Option<Observation>, ApplyRefusal>
     ensures { result ≡ Ok (seen_by pid call.now response) }
@@ -31,7 +32,7 @@ pub fn observation(
     };
     Ok(Some(Observation {
         pid,
-        call: call.copy(),
+        call: call.whole(),
         answer,
     }))
 }

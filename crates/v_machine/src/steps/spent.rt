@@ -9,13 +9,15 @@ use crate::tables::moving::put_emptied;
 use crate::tables::put::{find, sent_of};
 use crate::tables::queues::named;
 use std::alloc::Global;
-use vk_base::{Name, Step};
+use vk_base::Name;
+use vk_brief::{BriefStep, StepView};
 
 /// The number of the open move of the exchange in which a step opens another one; 0 for any other step.
-pub fn opened_before(store: &Store, step: &Step) -> u64
+pub fn opened_before(store: &Store, step: &StepView) -> u64
     ensures { result ≡ opened_before (kernel_in store.now) step.now }
 {
-    let Step::OpenMove { sender, number, .. } = *step else {
+    let (brief, _) = step.parts();
+    let BriefStep::OpenMove { sender, number, .. } = *brief else {
         return 0;
     };
     match named(&store.places, &store.sends, Name { sender, number }) {
@@ -26,14 +28,15 @@ pub fn opened_before(store: &Store, step: &Step) -> u64
 
 /// After a step that opened a move, those from the one that was open before give their bytes back; after a step that wrote
 /// bytes of a move, this one, where they were its last.
-pub fn give_back(store: &mut Store, alloc: Global, step: &Step, before: u64)
+pub fn give_back(store: &mut Store, alloc: Global, step: &StepView, before: u64)
     requires { IsKept store.old }
     ensures alike { IsAlike (kernel_in store.old) (kernel_in store.new) }
     ensures kept { IsKept store.new }
     ensures gives { GivesBack step.now before (kernel_in store.old) (kernel_in store.new) }
 {
-    match *step {
-        Step::OpenMove {
+    let (brief, _) = step.parts();
+    match *brief {
+        BriefStep::OpenMove {
             sender,
             number,
             moving,
@@ -44,7 +47,7 @@ pub fn give_back(store: &mut Store, alloc: Global, step: &Step, before: u64)
             before.min(moving),
             moving,
         ),
-        Step::Copy {
+        BriefStep::Copy {
             sender,
             number,
             moving,

@@ -1,5 +1,6 @@
 use Rattle.std.proofs.Common.{◌+◌, ◌-◌, ◌≤◌, Ok, Err, refl, sym, ap, subst, ◌∙◌, arith}
 use Rattle.vk_base.specs.Calls.{call_step}
+use Rattle.vk_brief.specs.Brief.{call_with}
 use Rattle.v_machine.specs.declared.calls.response.Response.TheVariants as responses
 use Rattle.v_machine.specs.Apply.{most, noted_by_call}
 use Rattle.v_machine.specs.Kept.{kernel_in}
@@ -36,13 +37,15 @@ pub returns-in-Load-clause-answers : goal.returns-in-Load-clause-answers
 returns-in-Load-clause-answers c =
     let there = c.proc.ensures c.args.pid c.in-Some.ensures.here.place in
     let ready = sym c.caller_refusal.ensures ∙ none_if c.caller_refusal.result c.in_default-caller_refusal.not-Some in
+    let is = c.parts.ensures.call ∙ ap (call_with c.parts.result.1.now) c.in-Load.is in
     load_answers c.args.store.now c.args.pid _ c.args.call.now there c.in-Load.start c.in-Load.count (most - c.args.noted.now) c.load.result
-    c.in-Load.is ready (c.load.ensures _ there)
+    is ready (c.load.ensures _ there)
 
 pub returns-in-Load-clause-counts : goal.returns-in-Load-clause-counts
 returns-in-Load-clause-counts c =
     let there = c.proc.ensures c.args.pid c.in-Some.ensures.here.place in
-    let none = load_notes c.args.store.now c.args.pid _ c.args.call.now there c.in-Load.start c.in-Load.count c.in-Load.is in
+    let is = c.parts.ensures.call ∙ ap (call_with c.parts.result.1.now) c.in-Load.is in
+    let none = load_notes c.args.store.now c.args.pid _ c.args.call.now there c.in-Load.start c.in-Load.count is in
     subst (λ n. Counts n c.args.noted.now c.args.noted.now c.load.result) (sym none) (counts_none c.args.noted.now c.load.result)
 
 pub returns-in_err-response : goal.returns-in_err-response

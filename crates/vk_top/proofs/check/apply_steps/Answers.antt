@@ -17,9 +17,9 @@ pub returns-in-Err-NotAllowed-clause-verdict : goal.returns-in-Err-NotAllowed-cl
 returns-in-Err-NotAllowed-clause-verdict c = λ k stands.
     let next = next_step _ _ _ _ c.loop-alloc-test.true c.next.ensures.next in
     let far = next_far k _ _ _ _ _ _ _ next (c.loop-alloc.invariant.verdict k stands) in
-    let applied = subst (λ why. Applied c.next.new.step c.loop-alloc.machine c.apply.new.self (Err why)) c.in-Err-NotAllowed.field-0-is
+    let applied = subst (λ why. Applied c.next.new.step c.loop-alloc.machine c.apply.new.machine (Err why)) c.in-Err-NotAllowed.field-0-is
     c.in-Err-NotAllowed.ensures in
-    sym (as_far_refused k _ _ _ c.apply.new.self _ _ _ far applied)
+    sym (as_far_refused k _ _ _ c.apply.new.machine _ _ _ far applied)
 
 pub returns-in-Err-NotAllowed-clause-ending : goal.returns-in-Err-NotAllowed-clause-ending
 returns-in-Err-NotAllowed-clause-ending c =
@@ -29,9 +29,9 @@ pub returns-in-Err-Limit-clause-verdict : goal.returns-in-Err-Limit-clause-verdi
 returns-in-Err-Limit-clause-verdict c = λ k stands.
     let next = next_step _ _ _ _ c.loop-alloc-test.true c.next.ensures.next in
     let far = next_far k _ _ _ _ _ _ _ next (c.loop-alloc.invariant.verdict k stands) in
-    let applied = subst (λ why. Applied c.next.new.step c.loop-alloc.machine c.apply.new.self (Err why)) c.in-Err-Limit.field-0-is
+    let applied = subst (λ why. Applied c.next.new.step c.loop-alloc.machine c.apply.new.machine (Err why)) c.in-Err-Limit.field-0-is
     c.in-Err-Limit.ensures in
-    sym (as_far_too_much k _ _ _ c.apply.new.self _ _ _ far applied)
+    sym (as_far_too_much k _ _ _ c.apply.new.machine _ _ _ far applied)
 
 pub returns-in-Err-Limit-clause-ending : goal.returns-in-Err-Limit-clause-ending
 returns-in-Err-Limit-clause-ending c =
@@ -49,7 +49,7 @@ loop-alloc-preserved c =
       ends = ap ending (sym next) ∙ c.loop-alloc.invariant.ends;
       verdict = λ k stands.
           let far = next_far k _ _ _ _ _ _ _ next (c.loop-alloc.invariant.verdict k stands) in
-          as_far_more k _ _ _ c.apply.new.self _ _ _ far _ c.in-Ok.ensures;
+          as_far_more k _ _ _ c.apply.new.machine _ _ _ far _ c.in-Ok.ensures;
     }
 
 pub loop-alloc-smaller : goal.loop-alloc-smaller

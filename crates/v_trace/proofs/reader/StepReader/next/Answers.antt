@@ -11,7 +11,7 @@ pub returns-in_default-read_step-clause-next : goal.returns-in_default-read_step
 returns-in_default-read_step-clause-next c = (
   ap (λ (r : Remaining). r.steps)
       (sym c.self.view_is ∙ line_left _ _ _ _ _ None c.in-Some.ensures.line c.in_default-read_step.ensures),
-  c.self.view_is,
+  refl,
 )
 
 pub returns-clause-next : goal.returns-clause-next

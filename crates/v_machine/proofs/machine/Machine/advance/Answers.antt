@@ -1,17 +1,18 @@
-use Rattle.std.proofs.Common.{◌≡◌, ◌-◌, None, Ok, Err, sym, subst}
+use Rattle.std.proofs.Common.{◌≡◌, ◌-◌, None, Ok, Err, sym, ap, subst, ◌∙◌}
 use Rattle.vk_base.specs.declared.step.Step.TheVariants as steps
+use Rattle.vk_brief.specs.Brief.{step_with}
 use Rattle.v_machine.specs.Apply.{Applied, most}
 use Rattle.v_machine.specs.Kept.{tables_in}
 use Rattle.v_machine.proofs.Applying.{given_call, given_collect, applied, applied_ok, applied_err, given_back_from, kept_after, kept_goes, kept_ok, kept_err, counts_none}
 use Rattle.v_machine.proofs.Stores.{is_error}
-use Rattle.v_machine.proofs.machine.Machine.apply.Goals as goal
+use Rattle.v_machine.proofs.machine.Machine.advance.Goals as goal
 
 pub invariant_of-self : goal.invariant_of-self
 invariant_of-self c =
     let s = c.self.inside.store in
-    let step = steps.Call c.in-Call.pid c.in-Call.made in
+    let step = steps.Call c.in-Call.pid c.new-view.result in
     kept_after s c.call.new.store c.self.inside.noted c.call.new.noted step c.self.invariant.0 c.self.invariant.1 c.self.invariant.2
-    c.call.result (given_call c.in-Call.pid c.in-Call.made s c.call.new.store) c.call.ensures.answers c.call.ensures.counts
+    c.call.result (given_call c.in-Call.pid c.new-view.result s c.call.new.store) c.call.ensures.answers c.call.ensures.counts
 
 pub invariant_of-self-in-Collect : goal.invariant_of-self-in-Collect
 invariant_of-self-in-Collect c =
@@ -25,11 +26,12 @@ pub returns-in-Call : goal.returns-in-Call
 returns-in-Call c =
     let s = c.self.inside.store in
     let new = tables_in c.call.new.store c.call.new.noted in
-    let step = steps.Call c.in-Call.pid c.in-Call.made in
+    let step = steps.Call c.in-Call.pid c.new-view.result in
     let done = applied s c.call.new.store c.self.inside.noted c.call.new.noted step c.self.invariant.0 c.self.invariant.1
-    c.self.invariant.2 c.call.result (given_call c.in-Call.pid c.in-Call.made s c.call.new.store) c.call.ensures.answers
+    c.self.invariant.2 c.call.result (given_call c.in-Call.pid c.new-view.result s c.call.new.store) c.call.ensures.answers
     c.call.ensures.counts in
-    subst (λ s. Applied s c.args.self.now new c.call.result) (sym c.in-Call.is)
+    let is = c.parts.ensures.step ∙ ap (step_with c.parts.result.1.now) c.in-Call.is ∙ ap (steps.Call c.in-Call.pid) (sym c.new-view.ensures) in
+    subst (λ s. Applied s c.args.self.now new c.call.result) (sym is)
     (subst (λ old. Applied step old new c.call.result) c.self.view_is done)
 
 pub returns-in-Collect : goal.returns-in-Collect
@@ -40,7 +42,8 @@ returns-in-Collect c =
     let done = applied s c.collect.new.store c.self.inside.noted c.self.inside.noted step c.self.invariant.0 c.self.invariant.1
     c.self.invariant.2 c.collect.result (given_collect c.in-Collect.pid s c.collect.new.store)
     (c.collect.ensures (most - c.self.inside.noted)) (counts_none c.self.inside.noted c.collect.result) in
-    subst (λ s. Applied s c.args.self.now new c.collect.result) (sym c.in-Collect.is)
+    let is = c.parts.ensures.step ∙ ap (step_with c.parts.result.1.now) c.in-Collect.is in
+    subst (λ s. Applied s c.args.self.now new c.collect.result) (sym is)
     (subst (λ old. Applied step old new c.collect.result) c.self.view_is done)
 
 pub invariant_of-self-in_err-quiet_step-in_default : goal.invariant_of-self-in_err-quiet_step-in_default
