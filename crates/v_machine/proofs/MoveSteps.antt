@@ -25,9 +25,8 @@ use Rattle.v_machine.specs.Apply.{noted_at_opening}
 use Rattle.v_machine.specs.Kept.{IsIndexed, IsAt, kernel_in}
 use Rattle.v_machine.specs.Lists.{change_at}
 use Rattle.v_machine.specs.Moves.{IsWritten, Notes, noted_for, with_exchange, into_of}
-use Rattle.v_machine.specs.Sends.{with_opened}
 use Rattle.v_machine.specs.Rules.{Answers, Goes}
-use Rattle.v_machine.specs.Sends.{with_noted, noted_in}
+use Rattle.v_machine.specs.Sends.{where_moves, with_noted, noted_in, with_opened, with_written}
 use Rattle.v_machine.proofs.StepLemmas.{found}
 use Rattle.v_machine.proofs.Stores.{process_at, stays}
 
@@ -112,6 +111,26 @@ change_at_there f [] at x is = refl
 change_at_there f (y ∷ xs) zero x is = ap (λ z. f z ∷ xs) (same_Some y x is)
 change_at_there f (y ∷ xs) (suc at) x is = ap (λ ys. y ∷ ys) (change_at_there f xs at x is)
 
+-- where a move is there, what is said of one holds
+where_there : (e : Exchange) (number : ℕ) (m : Move) → move_of e number ≡ Some m → (n other : ℕ) → where_moves e.moves n other ≡ n
+where_there e zero m is n other = absurd (none-some m is)
+where_there e (suc number) m is n other = where_some e.moves number is
+  where
+    where_some : (ms : List Move) (at : ℕ) → slice_get ms at ≡ Some m → where_moves ms n other ≡ n
+    where_some [] at is = absurd (none-some m is)
+    where_some (y ∷ ys) at is = refl
+
+pub opened_is : (number : ℕ) (noted : Option (List ℕ)) (e : Exchange) (m : Move) → move_of e number ≡ Some m →
+    with_opened number noted e ≡ record e { moves = noted_in number noted e.moves; opened = number; done = 0 }
+opened_is number noted e m is = λ i. record e {
+  moves = noted_in number noted e.moves;
+  opened = where_there e number m is number e.opened i;
+  done = where_there e number m is 0 e.done i;
+}
+
+pub written_is : (number done : ℕ) (e : Exchange) (m : Move) → move_of e number ≡ Some m → with_written done e ≡ record e { done = done }
+written_is number done e m is = ap (λ d. record e { done = d }) (where_there e number m is done e.done)
+
 noted_is : (number : ℕ) (p : Process) (e : Exchange) (m : Move) (room : ℕ) (noted : Option (List ℕ)) → move_of e number ≡ Some m →
     Notes p m room (Ok noted) → noted_in number noted e.moves ≡ set e.moves (number - 1) (record m { bytes = noted_bytes m.direction p m })
 noted_is zero p e m room noted is notes = absurd (none-some m is)
@@ -160,7 +179,8 @@ module _ (s : Store) (name : Name) (moving room : ℕ) (p : Process) (e : Exchan
       let moves = noted_is moving p e m room noted there notes in (
         record {
           effect = open_is ∙ ap (λ k. Some (unseen k))
-              (sym (is ∙ ap (λ ms. with_exchange (kernel_in s) name (record e { moves = ms; opened = moving; done = 0 })) moves));
+              (sym (is ∙ ap (with_exchange (kernel_in s) name) (opened_is moving noted e m there)
+              ∙ ap (λ ms. with_exchange (kernel_in s) name (record e { moves = ms; opened = moving; done = 0 })) moves));
           indexed = indexed;
         },
         subst (λ n. n ≤ room) (sym noted_is_of) (has_room noted notes),

@@ -1,6 +1,7 @@
 -- What a step does where it is allowed, from what was found.
 use Rattle.std.proofs.Common.{◌≡◌, ℕ, Bool, true, false, not, List, [], ◌∷◌, Option, Some, None, is_none, nat_lt, refl, sym, ap, ◌∙◌}
 use Rattle.std.proofs.lemmas.Bool.{both_ways}
+use Rattle.std.proofs.lemmas.Option.{same_Some, none-some}
 use Rattle.vk_base.specs.declared.answer.Answer.{Answer}
 use Rattle.vk_base.specs.declared.answer.Answer.TheVariants as answers
 use Rattle.vk_base.specs.declared.answer.Ending.{Ending}
@@ -73,13 +74,15 @@ finish_not k pid p send e there blocked at none =
     Some (record { process = p; target = send.0; message = send.1; reply = reply.0; dest = reply.1; bytes = reply.2 })) none))) in
     ap (λ f. f >>= λ f. Some (unseen (finished k pid f))) o
 
-pub not_replied : (phase : Stage) → ((m : Message) (dest : ℕ) (bytes : List ℕ) → phase ≡ stages.Replied m dest bytes → ⊥) →
-    reply_of phase ≡ None
-not_replied stages.Posted none = refl
-not_replied stages.Queued none = refl
-not_replied stages.Taken none = refl
-not_replied (stages.Replied m dest bytes) none = absurd (none m dest bytes refl)
-not_replied stages.Dropped none = refl
+-- a stage that has a reply
+pub replied_is : (s : Stage) (m : Message) (dest : ℕ) (bytes : List ℕ) → reply_of s ≡ Some (m, dest, bytes) →
+    s ≡ stages.Replied m dest bytes
+replied_is stages.Posted m dest bytes is = absurd (none-some _ is)
+replied_is stages.Queued m dest bytes is = absurd (none-some _ is)
+replied_is stages.Taken m dest bytes is = absurd (none-some _ is)
+replied_is (stages.Replied m0 dest0 bytes0) m dest bytes is =
+    ap (λ (r : Message × ℕ × List ℕ). stages.Replied r.0 r.1 r.2) (same_Some (m0, dest0, bytes0) (m, dest, bytes) is)
+replied_is stages.Dropped m dest bytes is = absurd (none-some _ is)
 
 -- Replies.
 pub reply_allowed : (k after : Kernel) (pid to : Pid) (c : Call) (m : Message) (dest number : ℕ) (bytes : List ℕ) (e : Exchange) →

@@ -1,4 +1,5 @@
 pub mod Access
+pub mod Apart
 pub mod Apply
 pub mod Initial
 pub mod Kept
@@ -12,5 +13,6 @@ pub mod Names
 pub mod Places
 pub mod Rules
 pub mod Sends
+pub mod Sent
 pub mod Spent
 pub mod Tables

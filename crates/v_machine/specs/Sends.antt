@@ -34,13 +34,22 @@ abbrev pub noted_in : ℕ → Option (List ℕ) → List Move → List Move
 noted_in number None ms = ms
 noted_in number (Some bytes) ms = change_numbered number (with_noted bytes) ms
 
+-- the first number where there are moves, else the second
+abbrev pub where_moves : List Move → ℕ → ℕ → ℕ
+where_moves [] n other = other
+where_moves (m ∷ ms) n other = n
+
 -- the move of this number is the open one, with these bytes, where some are given
 abbrev pub with_opened : ℕ → Option (List ℕ) → Exchange → Exchange
-with_opened number noted e = record e { moves = noted_in number noted e.moves; opened = number; done = 0 }
+with_opened number noted e = record e {
+  moves = noted_in number noted e.moves;
+  opened = where_moves e.moves number e.opened;
+  done = where_moves e.moves 0 e.done;
+}
 
 -- so many bytes of the open move were written
 abbrev pub with_written : ℕ → Exchange → Exchange
-with_written done e = record e { done = done }
+with_written done e = record e { done = where_moves e.moves done e.done }
 
 -- these moves, the first of which has this number, without the bytes of those that are spent, where their numbers are from one number on
 -- and below another

@@ -36,6 +36,7 @@ use vk_base::{Observation, Pid, Registration};
 use vk_brief::{BriefCall, CallView};
 
 /// Call, and how many bytes are noted with those that it notes.
+#[inline(always)]
 pub fn call(
     store: &mut Store,
     noted: &mut u64,

@@ -63,6 +63,7 @@ impl Machine {
     /// remote move and those noted so far with them would be more than 268,435,456: a `MoveTo` that is begun notes its
     /// bytes, and so does an `OpenMove` of a move from the sender; what was noted stays noted, also once the bytes are
     /// given back. `NoMemory` only where it is neither.
+    #[inline(always)]
     pub fn advance(
         &mut self,
         alloc: Global,

@@ -1,5 +1,6 @@
 //! The tables of a machine. What the lists of processes have at a place is of the process that has this place.
 
+pub mod apart;
 pub mod arrivals;
 pub mod bytes;
 pub mod groups;
@@ -14,6 +15,7 @@ pub mod put;
 pub mod queue;
 pub mod queues;
 pub mod sends;
+pub mod sent;
 pub mod spent;
 
 use crate::tables::latest::Latests;
@@ -21,13 +23,14 @@ use crate::tables::numbered::Numbered;
 use crate::tables::places::Places;
 use crate::tables::proc::Proc;
 use crate::tables::queue::Queue;
-use vk_base::{Exchange, Lookup, Name, Registration};
+use crate::tables::sent::Sent;
+use vk_base::{Lookup, Name, Registration};
 
 #[derive(Drop)]
 pub struct Store {
     pub places: Places,
     pub procs: Vec<Proc>,
-    pub sends: Vec<Numbered<Exchange>>,
+    pub sends: Vec<Numbered<Sent>>,
     pub asked: Vec<Numbered<Lookup>>,
     pub names: Vec<Registration>,
     pub arrived: Vec<Name>,

@@ -1,4 +1,5 @@
 mod LastWords
+mod Leading
 mod RemainingSteps
 pub mod StepTexts
 pub mod StepWords

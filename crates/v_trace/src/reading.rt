@@ -12,7 +12,7 @@ use crate::buffer::StepBuffer;
 use crate::word::{last_count, last_ending, last_failure, last_ordinal, last_pid, next_ordinal};
 use vk_base::Config;
 use vk_brief::{BriefCall, BriefStep};
-use vk_text::{next_count, next_pid, next_word, take_call};
+use vk_text::{next_count, next_pid, take_call};
 
 /// `PID CALLTEXT`
 #[tactic(auto, unfolding(crate::specs::Steps::call_step_of))]
@@ -157,35 +157,33 @@ fn read_collect(line: &[u8], at: usize, into: &mut StepBuffer) -> Option<()>
 }
 
 /// The step that the line spells.
-#[tactic(auto, using(crate::proofs::LastWords::no_step))]
 fn read_words(line: &[u8], into: &mut StepBuffer) -> Option<()>
     ensures { option_map (λ _. into.new) result ≡ step_of (words_from line.now 0) }
 {
-    let (word, at) = next_word(line, 0)?;
-    if word == b"call".as_slice() {
-        read_call_step(line, at, into)
-    } else if word == b"arrive".as_slice() {
-        read_arrive(line, at, into)
-    } else if word == b"take".as_slice() {
-        read_take(line, at, into)
-    } else if word == b"finish".as_slice() {
-        read_finish(line, at, into)
-    } else if word == b"fail".as_slice() {
-        read_fail(line, at, into)
-    } else if word == b"open".as_slice() {
-        read_open(line, at, into)
-    } else if word == b"copy".as_slice() {
-        read_copy(line, at, into)
-    } else if word == b"end".as_slice() {
-        read_end(line, at, into)
-    } else if word == b"hear".as_slice() {
-        read_hear(line, at, into)
-    } else if word == b"found".as_slice() {
-        read_found(line, at, into)
-    } else if word == b"lost".as_slice() {
-        read_lost(line, at, into)
-    } else if word == b"collect".as_slice() {
-        read_collect(line, at, into)
+    if line.starts_with(b"call ") {
+        read_call_step(line, 5, into)
+    } else if line.starts_with(b"collect ") {
+        read_collect(line, 8, into)
+    } else if line.starts_with(b"take ") {
+        read_take(line, 5, into)
+    } else if line.starts_with(b"finish ") {
+        read_finish(line, 7, into)
+    } else if line.starts_with(b"copy ") {
+        read_copy(line, 5, into)
+    } else if line.starts_with(b"arrive ") {
+        read_arrive(line, 7, into)
+    } else if line.starts_with(b"end ") {
+        read_end(line, 4, into)
+    } else if line.starts_with(b"open ") {
+        read_open(line, 5, into)
+    } else if line.starts_with(b"fail ") {
+        read_fail(line, 5, into)
+    } else if line.starts_with(b"hear ") {
+        read_hear(line, 5, into)
+    } else if line.starts_with(b"found ") {
+        read_found(line, 6, into)
+    } else if line.starts_with(b"lost ") {
+        read_lost(line, 5, into)
     } else {
         None
     }

@@ -20,7 +20,8 @@ fn ending_word(why: Ending) -> &'static [u8]
     }
 }
 
-/// Appends `WORD PID`.
+/// Appends `WORD PID`. It is put into its callers, each of which gives a word of known length.
+#[inline(always)]
 fn write_of(alloc: Global, into: &mut Vec<u8>, word: &[u8], pid: Pid) -> Result<(), NoMemory>
     ensures ok { OnOk result (into.new.items ≡ into.old.items ++ spaced word.now (pid_text pid ∷ [])) }
     ensures front { OnErr result (Begins into.old.items into.new.items) }

@@ -57,6 +57,7 @@ pub fn last_count(line: &[u8], at: usize) -> Option<u32>
 }
 
 /// The pid, which is the last word.
+#[inline(always)]
 pub fn last_pid(line: &[u8], at: usize) -> Option<Pid>
     ensures { result ≡ last_as pid_of (words_from line.now at) }
 {

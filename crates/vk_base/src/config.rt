@@ -1,9 +1,10 @@
-ghost use Rattle.std.specs.Prelude.{◌≡◌, true, false, ◌≤◌, ◌<◌, ◌-◌, ◌++◌, ◌∷◌, ◌==◌, ◌⊎◌, [], ℕ, None, Some, length, count_by, slice_index, slice_get, IfOk, IfErr, OnOk, OnErr, MatchResult};
+ghost use Rattle.std.specs.Prelude.{◌≡◌, true, false, nat_le, ◌≤◌, ◌<◌, ◌-◌, ◌++◌, ◌∷◌, ◌==◌, ◌⊎◌, [], ℕ, None, Some, length, count_by, slice_index, slice_get, IfOk, IfErr, OnOk, OnErr, MatchResult};
 ghost use Rattle.std.specs.List.{list_any, AllWithin};
 ghost use Rattle.vk_base.specs.Settings.{Settings, AreKept, is_on, rises, is_too_many, stations_of, has_station, has_process, settings_refusal, fault_of, first_fault, refusal_of};
 ghost use Rattle.vk_base.specs.Pids.{is_below};
 ghost use Rattle.vk_base.specs.declared.config.ProcessSpec.{ProcessSpec};
 
+use crate::guesses::Guesses;
 use crate::limits::{
     INTERVAL, LIFE, MEMORY_BYTES, POOL, PROCESSES, STATION_PROCESSES, STATIONS, TRIES,
 };
@@ -52,6 +53,7 @@ pub struct Config {
     pool: u32,
     specs: Vec<ProcessSpec>,
     stations: ArrayVec<u16, STATIONS>,
+    guesses: Guesses,
 }
 
 impl Model for Config {
@@ -104,6 +106,7 @@ impl Config {
             pool,
             specs: Vec::new(alloc),
             stations: ArrayVec::new(),
+            guesses: Guesses::new(),
         })
     }
 
@@ -121,6 +124,7 @@ impl Config {
         if self.specs.push(spec).is_err() {
             return Err(ConfigRefusal::NoMemory);
         }
+        self.guesses.put(spec.pid, self.specs.len() - 1);
         let host = spec.pid.host;
         if !is_among(self.stations.as_slice(), host) {
             self.stations.push(host);
@@ -139,7 +143,7 @@ impl Config {
     pub fn has_process(&self, pid: Pid) -> bool
         ensures { result ≡ has_process self.now.specs pid }
     {
-        stands_among(&self.specs, pid)
+        stands_at(&self.specs, self.guesses.place(pid), pid) || stands_among(&self.specs, pid)
     }
 
     /// The processes, by rising pids, none of which has a fault.
@@ -189,7 +193,18 @@ impl Config {
             pool: self.pool,
             specs: Vec::from_slice(alloc, &self.specs)?,
             stations: self.stations.clone()?,
+            guesses: self.guesses,
         })
+    }
+}
+
+/// Whether the process at this place, if there is one, has this pid.
+fn stands_at(specs: &[ProcessSpec], at: usize, pid: Pid) -> bool
+    ensures { result ≡ true → has_process specs.now pid ≡ true }
+{
+    match spec_at(specs, at) {
+        Some(spec) => spec.pid == pid,
+        None => false,
     }
 }
 
@@ -219,13 +234,6 @@ fn first_not_below(specs: &[ProcessSpec], pid: Pid) -> usize
     specs.partition_point(|s| s.pid.is_below(pid))
 }
 
-/// How many processes a host has.
-fn processes_on(specs: &[ProcessSpec], host: u16) -> usize
-    ensures { result ≡ count_by (is_on host) specs.now }
-{
-    specs.iter().filter(|s| s.pid.host == host).count()
-}
-
 fn is_among(hosts: &[u16], host: u16) -> bool
     ensures { result ≡ list_any (λ h. h == host) hosts.now }
 {
@@ -242,14 +250,26 @@ fn rises(specs: &[ProcessSpec], pid: Pid) -> bool
     }
 }
 
-/// Whether these, whose stations are `hosts`, leave no room for one more process of the host.
-#[tactic(auto, using(crate::proofs::SettingsLemmas::stations_lemmas))]
-fn is_too_many(before: &[ProcessSpec], hosts: &[u16], host: u16) -> bool
-    requires { AreKept before.now hosts.now }
-    ensures { result ≡ is_too_many before.now host }
+/// Whether the host of this pid, which is above these, has as many processes as there can be of one. They are the last, since pids rise.
+#[tactic(auto, using(crate::proofs::Neighbours::counted_by_one))]
+fn is_full(before: &[ProcessSpec], pid: Pid) -> bool
+    requires lawful { first_fault [] before.now ≡ None }
+    requires above { rises (slice_get before.now (length before.now - 1)) pid ≡ true }
+    ensures { result ≡ nat_le STATION_PROCESSES (count_by (is_on pid.host) before.now) }
 {
-    (!is_among(hosts, host) && hosts.len() >= STATIONS)
-        || processes_on(before, host) >= STATION_PROCESSES
+    before.len() >= STATION_PROCESSES
+        && before[before.len() - STATION_PROCESSES].pid.host == pid.host
+}
+
+/// Whether these, whose stations are `hosts`, leave no room for the process of this pid, which is above them.
+#[tactic(auto, using(crate::proofs::SettingsLemmas::stations_lemmas))]
+fn is_too_many(before: &[ProcessSpec], hosts: &[u16], pid: Pid) -> bool
+    requires kept { AreKept before.now hosts.now }
+    requires above { rises (slice_get before.now (length before.now - 1)) pid ≡ true }
+    ensures { result ≡ is_too_many before.now pid.host }
+{
+    (!is_among(hosts, pid.host) && hosts.len() >= STATIONS)
+        || is_full(before, pid)
         || before.len() >= PROCESSES
 }
 
@@ -264,7 +284,7 @@ fn fault_of(before: &[ProcessSpec], hosts: &[u16], spec: ProcessSpec) -> Option<
         Some(ConfigRefusal::NotRising { index })
     } else if spec.size > MEMORY_BYTES {
         Some(ConfigRefusal::BadSize { index })
-    } else if is_too_many(before, hosts, spec.pid.host) {
+    } else if is_too_many(before, hosts, spec.pid) {
         Some(ConfigRefusal::TooMany { index })
     } else {
         None

@@ -12,6 +12,7 @@ mod config;
 mod data;
 mod event;
 mod frame_bytes;
+mod guesses;
 mod kernel;
 pub mod limits;
 mod list;

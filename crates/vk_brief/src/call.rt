@@ -157,7 +157,8 @@ impl<'a> CallView<'a> {
         CallView { call, bytes }
     }
 
-    /// The call itself.
+    /// The call itself. It is put into its callers, so that one that drops it makes nothing.
+    #[inline(always)]
     pub fn whole(&self) -> Call
         ensures { result ≡ self.now }
     {

@@ -332,11 +332,15 @@ fn acting(event: &EventView) -> u16
     }
 }
 
-/// The place of a station among those of the configuration, counted from 0.
+/// The place of a station among those of the configuration, counted from 0. Mostly they are the hosts 1, 2, 3 and so on.
 fn place_of(config: &Config, host: u16) -> usize
     requires { has_station config.now.specs host ≡ true }
     ensures { slice_get (stations_of config.now.specs) result ≡ Some host }
 {
+    let guess = u32::from(host).wrapping_sub(1);
+    if guess < config.station_count() && config.station(guess) == host {
+        return guess as usize;
+    }
     for at in 0..config.station_count() {
         if config.station(at) == host {
             return at as usize;

@@ -1,9 +1,9 @@
 //! The processes of a station, found by their names.
 
-ghost use Rattle.std.specs.Prelude.{◌≡◌, ◌≢◌, false, slice_set, slice_index_or, ◌==◌, ◌<◌, ◌++◌, ◌^◌, true, find, position, length, option_copied, option_map, map, slice_get, IfOk, IfSome};
+ghost use Rattle.std.specs.Prelude.{◌≡◌, ◌≢◌, false, slice_set, slice_index_or, ◌==◌, ◌<◌, ◌++◌, ◌^◌, true, position, length, option_copied, option_map, map, slice_get, IfOk, IfSome};
 ghost use Rattle.vk_base.specs.declared.limits.TheConstants.{STATION_PROCESSES};
 ghost use Rattle.vk_base.specs.declared.pid.Pid.{Pid as ThePid};
-ghost use Rattle.vk_base.specs.Kernel.{initial_kernel};
+ghost use Rattle.vk_base.specs.Kernel.{holds_of, initial_kernel};
 ghost use Rattle.vk_base.specs.Firsts.{change_first};
 ghost use Rattle.vk_base.specs.Pids.{same_pid};
 ghost use Rattle.vk_procs.specs.declared.seat.Seat.{Seat as TheSeat};
@@ -22,15 +22,15 @@ pub struct Procs {
 }
 
 impl Model for Procs {
-    ghost use Rattle.std.specs.Prelude.{List, length, ◌≤◌};
-    ghost use Rattle.vk_base.specs.declared.limits.TheConstants.{STATION_PROCESSES};
+    ghost use Rattle.std.specs.Prelude.{List};
     ghost use Rattle.vk_procs.specs.declared.seat.Seat.{Seat};
+    ghost use Rattle.vk_procs.specs.Kept.{AreKept};
 
     ghost Value = { List Seat };
 
     ghost view = { λ p. p.seats.items };
 
-    ghost invariant = { λ p. length p.seats.items ≤ STATION_PROCESSES };
+    ghost invariant = { λ p. AreKept p.seats.items };
 }
 
 impl Procs {
@@ -53,7 +53,8 @@ impl Procs {
     pub fn seat(&self, pid: Pid) -> Option<&Seat>
         ensures { option_copied result ≡ seat_in self.now pid }
     {
-        seat_of(&self.seats, pid)
+        let place = self.place(pid)?;
+        self.at(place)
     }
 
     /// Its place in the order of processes, from 0, `None` where the station does not have it.
@@ -61,7 +62,7 @@ impl Procs {
         ensures place { result ≡ position (is_seat pid) self.now }
         ensures low { IfSome result (λ at. at < STATION_PROCESSES) }
     {
-        let at = place_of(&self.seats, pid)?;
+        let at = self.place_of(pid)?;
         Some(at as u32)
     }
 
@@ -76,7 +77,7 @@ impl Procs {
     pub fn is_live(&self, pid: Pid) -> bool
         ensures { result ≡ is_live_in (seat_in self.now pid) }
     {
-        match seat_of(&self.seats, pid) {
+        match self.seat(pid) {
             Some(seat) => seat.alive,
             None => false,
         }
@@ -86,7 +87,7 @@ impl Procs {
     pub fn receiving(&self, pid: Pid) -> Option<Waiting>
         ensures { result ≡ receive_of (seat_in self.now pid) }
     {
-        let seat = seat_of(&self.seats, pid)?;
+        let seat = self.seat(pid)?;
         seat.doing.receiving()
     }
 
@@ -94,7 +95,7 @@ impl Procs {
     pub fn outcome(&self, pid: Pid) -> Option<Outcome>
         ensures { result ≡ outcome_of (seat_in self.now pid) }
     {
-        let seat = seat_of(&self.seats, pid)?;
+        let seat = self.seat(pid)?;
         seat.doing.outcome()
     }
 
@@ -103,7 +104,7 @@ impl Procs {
     pub fn wait(&mut self, pid: Pid, waiting: Waiting)
         ensures { self.new ≡ change_first (is_seat pid) (doing_now (Activity.Blocked waiting)) self.old }
     {
-        if let Some(at) = place_of(&self.seats, pid) {
+        if let Some(at) = self.place_of(pid) {
             self.seats[at].wait(waiting);
         }
     }
@@ -113,7 +114,7 @@ impl Procs {
     pub fn begin_send(&mut self, pid: Pid, target: Pid, message: &Message)
         ensures { self.new ≡ change_first (is_seat pid) (begun_send target message.now) self.old }
     {
-        if let Some(at) = place_of(&self.seats, pid) {
+        if let Some(at) = self.place_of(pid) {
             self.seats[at].begin_send(target, message);
         }
     }
@@ -123,7 +124,7 @@ impl Procs {
     pub fn mark_taken(&mut self, pid: Pid)
         ensures { self.new ≡ change_first (is_seat pid) marked_taken self.old }
     {
-        if let Some(at) = place_of(&self.seats, pid) {
+        if let Some(at) = self.place_of(pid) {
             self.seats[at].mark_taken();
         }
     }
@@ -140,7 +141,7 @@ impl Procs {
     pub fn begin_lookup(&mut self, pid: Pid, logical: u32, scope: Scope)
         ensures { self.new ≡ change_first (is_seat pid) (begun_lookup logical scope) self.old }
     {
-        if let Some(at) = place_of(&self.seats, pid) {
+        if let Some(at) = self.place_of(pid) {
             self.seats[at].begin_lookup(logical, scope);
         }
     }
@@ -151,7 +152,7 @@ impl Procs {
         requires { length part.now < 2 ^ 32 }
         ensures { self.new ≡ change_first (is_seat pid) (reached from message.now part.now) self.old }
     {
-        if let Some(at) = place_of(&self.seats, pid) {
+        if let Some(at) = self.place_of(pid) {
             self.seats[at].reach(from, message, part);
         }
     }
@@ -161,7 +162,7 @@ impl Procs {
     pub fn finish(&mut self, pid: Pid, outcome: Outcome)
         ensures { self.new ≡ change_first (is_seat pid) (finished outcome) self.old }
     {
-        if let Some(at) = place_of(&self.seats, pid) {
+        if let Some(at) = self.place_of(pid) {
             self.seats[at].finish(outcome);
         }
     }
@@ -172,7 +173,7 @@ impl Procs {
         ensures outcome { result ≡ outcome_of (seat_in self.old pid) }
         ensures new { self.new ≡ change_first (is_seat pid) collected self.old }
     {
-        let at = place_of(&self.seats, pid)?;
+        let at = self.place_of(pid)?;
         self.seats[at].collect()
     }
 
@@ -181,7 +182,7 @@ impl Procs {
     pub fn write(&mut self, pid: Pid, at: u32, bytes: &[u8])
         ensures { self.new ≡ change_first (is_seat pid) (written at bytes.now) self.old }
     {
-        if let Some(place) = place_of(&self.seats, pid) {
+        if let Some(place) = self.place_of(pid) {
             self.seats[place].write(at, bytes);
         }
     }
@@ -199,7 +200,7 @@ impl Procs {
         requires { same_pid from pid ≡ false }
         ensures { self.new ≡ passed_by (seat_in self.old from) pid what self.old }
     {
-        if let Some((giver, at)) = places_of(&self.seats, from, pid) {
+        if let Some((giver, at)) = self.places_of(from, pid) {
             give(&mut self.seats, giver, at, what);
         }
     }
@@ -209,7 +210,7 @@ impl Procs {
     pub fn set_note(&mut self, pid: Pid, note: ProcNote)
         ensures { self.new ≡ change_first (is_seat pid) (noting note) self.old }
     {
-        if let Some(at) = place_of(&self.seats, pid) {
+        if let Some(at) = self.place_of(pid) {
             self.seats[at].set_note(note);
         }
     }
@@ -219,19 +220,45 @@ impl Procs {
     pub fn kill(&mut self, pid: Pid)
         ensures { self.new ≡ change_first (is_seat pid) killed self.old }
     {
-        if let Some(at) = place_of(&self.seats, pid) {
+        if let Some(at) = self.place_of(pid) {
             self.seats[at].kill();
         }
     }
+
+    /// The place of its seat. Most stations number their processes from 1 on, so it looks first where the seat stands then.
+    fn place_of(&self, pid: Pid) -> Option<usize>
+        ensures place { result ≡ position (is_seat pid) self.now }
+        ensures low { IfSome result (λ at. at < STATION_PROCESSES) }
+    {
+        let guess = usize::from(pid.local) - 1;
+        if is_at(&self.seats, guess, pid) {
+            Some(guess)
+        } else {
+            search(&self.seats, pid)
+        }
+    }
+
+    /// The places of two processes.
+    fn places_of(&self, from: Pid, pid: Pid) -> Option<(usize, usize)>
+        ensures { result ≡ places_in self.now from pid }
+    {
+        let giver = self.place_of(from)?;
+        let at = self.place_of(pid)?;
+        Some((giver, at))
+    }
 }
 
-fn seat_of(seats: &[Seat], pid: Pid) -> Option<&Seat>
-    ensures { option_copied result ≡ find (is_seat pid) seats.now }
+/// Whether the seat in this place is that of the process.
+fn is_at(seats: &[Seat], at: usize, pid: Pid) -> bool
+    ensures { result ≡ holds_of (is_seat pid) (slice_get seats.now at) }
 {
-    seats.iter().find(|s| s.pid == pid)
+    match seats.get(at) {
+        Some(seat) => seat.pid == pid,
+        None => false,
+    }
 }
 
-fn place_of(seats: &[Seat], pid: Pid) -> Option<usize>
+fn search(seats: &[Seat], pid: Pid) -> Option<usize>
     ensures { result ≡ position (is_seat pid) seats.now }
 {
     seats.iter().position(|s| s.pid == pid)
@@ -244,15 +271,6 @@ fn leave(seats: &mut [Seat], target: Pid)
     for seat in seats.iter_mut() {
         seat.leave(target);
     }
-}
-
-/// The places of two processes.
-fn places_of(seats: &[Seat], from: Pid, pid: Pid) -> Option<(usize, usize)>
-    ensures { result ≡ places_in seats.now from pid }
-{
-    let giver = place_of(seats, from)?;
-    let at = place_of(seats, pid)?;
-    Some((giver, at))
 }
 
 /// The process in the place `at` gets this of the one in the place `giver`.

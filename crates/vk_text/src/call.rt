@@ -1,6 +1,6 @@
 //! Calls as words of a line.
 
-ghost use Rattle.std.specs.Prelude.{◌≡◌, ◌∷◌, false, codes, bytes_eq, option_map};
+ghost use Rattle.std.specs.Prelude.{◌≡◌, option_map};
 ghost use Rattle.vk_base.specs.declared.call.Call.TheVariants as calls;
 ghost use Rattle.vk_text.specs.Calls.{ended, range_of, places_of, send_of, reply_of, range_call_of, reply_segment_of, move_of, set_pid_of, get_pid_of, store_of, call_of};
 ghost use Rattle.vk_text.specs.Lines.{words_from};
@@ -187,16 +187,20 @@ fn read_exit(line: &[u8], at: usize, into: &mut CallBuffer) -> Option<()>
     Some(())
 }
 
-/// The call of this word, which is none of the three most frequent ones, and of the fields from `at` on. It stays a
-/// function of its own, so that these do not pay for its room.
+/// The call that any word begins, by a search of the word's end. It stays a function of its own, so that the frequent calls do
+/// not pay for its room.
 #[inline(never)]
-fn read_other(word: &[u8], line: &[u8], at: usize, into: &mut CallBuffer) -> Option<()>
-    requires send { bytes_eq word.now (codes "send") ≡ false }
-    requires receive { bytes_eq word.now (codes "receive") ≡ false }
-    requires reply { bytes_eq word.now (codes "reply") ≡ false }
-    ensures { option_map (λ _. into.new) result ≡ call_of (word.now ∷ words_from line.now at) }
+fn take_other(line: &[u8], at: usize, into: &mut CallBuffer) -> Option<()>
+    ensures { option_map (λ _. into.new) result ≡ call_of (words_from line.now at) }
 {
-    if word == b"receivesegment".as_slice() {
+    let (word, at) = next_word(line, at)?;
+    if word == b"send".as_slice() {
+        read_send(line, at, into)
+    } else if word == b"receive".as_slice() {
+        read_receive(line, at, into)
+    } else if word == b"reply".as_slice() {
+        read_reply(line, at, into)
+    } else if word == b"receivesegment".as_slice() {
         read_receive_segment(line, at, into)
     } else if word == b"replysegment".as_slice() {
         read_reply_segment(line, at, into)
@@ -224,12 +228,19 @@ fn read_other(word: &[u8], line: &[u8], at: usize, into: &mut CallBuffer) -> Opt
 pub fn take_call(line: &[u8], at: usize, into: &mut CallBuffer) -> Option<()>
     ensures { option_map (λ _. into.new) result ≡ call_of (words_from line.now at) }
 {
-    let (word, at) = next_word(line, at)?;
-    match word {
-        b"send" => read_send(line, at, into),
-        b"receive" => read_receive(line, at, into),
-        b"reply" => read_reply(line, at, into),
-        _ => read_other(word, line, at, into),
+    if at > line.len() {
+        return None;
+    }
+    let (_, rest) = line.split_at(at);
+    if rest.starts_with(b"send ") {
+        read_send(line, at + 5, into)
+    } else if rest == b"receive".as_slice() {
+        into.set(BriefCall::Receive);
+        Some(())
+    } else if rest.starts_with(b"reply ") {
+        read_reply(line, at + 6, into)
+    } else {
+        take_other(line, at, into)
     }
 }
 

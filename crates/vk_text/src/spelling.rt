@@ -94,6 +94,7 @@ fn put_digits(into: &mut Vec<u8>, n: u64) -> Result<(), NoMemory>
 }
 
 /// Appends the number in decimal.
+#[inline(always)]
 pub fn put_number(_alloc: Global, into: &mut Vec<u8>, n: u64) -> Result<(), NoMemory>
     ensures ok { OnOk result (into.new.items ≡ into.old.items ++ decimal n) }
     ensures err { OnErr result (into.new.items ≡ into.old.items) }

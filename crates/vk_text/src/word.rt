@@ -1,20 +1,28 @@
 //! Words and what they spell.
 
-ghost use Rattle.std.specs.Prelude.{◌≡◌, ◌==◌, ◌+◌, ◌-◌, ◌*◌, ◌/◌, ◌^◌, ◌<◌, ◌≤◌, ◌&&◌, ◌||◌, None, Some, not, IsTrue, slice_index, length, take, MatchOption, SomeIff, IfSome, option_map};
+ghost use Rattle.std.specs.Prelude.{◌≡◌, ◌==◌, ◌+◌, ◌-◌, ◌*◌, ◌/◌, ◌^◌, ◌<◌, ◌≤◌, ◌&&◌, ◌||◌, nat_le, None, Some, not, IsTrue, slice_index, length, take, drop, MatchOption, SomeIff, IfSome, option_map};
 ghost use Rattle.std.specs.Char.{is_ascii_digit};
 ghost use Rattle.std.specs.List.{list_all, prefix_len, before_first};
 ghost use Rattle.std.specs.Str.Parse.{digits_value};
+ghost use Rattle.hex.specs.Hex.{IsBytes};
 ghost use Rattle.vk_text.specs.Words.{number_of, positive_of, station_of, pid_of, lower_hex, IsReadTo, padded, message_of, bytes_of, scope_of};
 
 use crate::digits::byte;
+use crate::line::before;
 use vk_base::limits::DATA_BYTES;
 use vk_base::{Data, Message, Pid, Scope};
+
+/// No number up to this one overflows by one more digit.
+const ANY_DIGIT_FITS: u64 = (u64::MAX - 9) / 10;
 
 /// The number with one more digit, where it is below 2^64.
 fn with_digit(value: u64, digit: u8) -> Option<u64>
     requires { IsTrue (is_ascii_digit digit) }
     ensures { SomeIff result (value * 10 + (digit - 48) < 2 ^ 64) (value * 10 + (digit - 48)) }
 {
+    if value <= ANY_DIGIT_FITS {
+        return Some(value * 10 + u64::from(digit - b'0'));
+    }
     value.checked_mul(10)?.checked_add(u64::from(digit - b'0'))
 }
 
@@ -44,6 +52,7 @@ fn starts_numeral(word: &[u8]) -> bool
 }
 
 /// The digit that stands first and alone, as most numbers are, where it is at most `most`.
+#[inline(always)]
 fn first_alone(bytes: &[u8], most: u64) -> Option<u64>
     ensures number { IfSome result (λ n. (prefix_len is_ascii_digit bytes.now ≡ 1) × (number_of most (take 1 bytes.now) ≡ Some n)) }
     ensures most { IfSome result (λ n. n ≤ most) }
@@ -56,6 +65,39 @@ fn first_alone(bytes: &[u8], most: u64) -> Option<u64>
     }
     let digit = u64::from(bytes[0] - b'0');
     if digit <= most { Some(digit) } else { None }
+}
+
+/// The number of the two digits that stand first and alone, the first of them no `0`, where it is at most `most`.
+#[inline(always)]
+fn first_pair(bytes: &[u8], most: u64) -> Option<u64>
+    ensures number { IfSome result (λ n. (prefix_len is_ascii_digit bytes.now ≡ 2) × (number_of most (take 2 bytes.now) ≡ Some n)) }
+    ensures most { IfSome result (λ n. n ≤ most) }
+{
+    if bytes.len() < 2
+        || !bytes[0].is_ascii_digit()
+        || bytes[0] == b'0'
+        || !bytes[1].is_ascii_digit()
+    {
+        return None;
+    }
+    if bytes.len() > 2 && bytes[2].is_ascii_digit() {
+        return None;
+    }
+    let number = u64::from(bytes[0] - b'0') * 10 + u64::from(bytes[1] - b'0');
+    if number <= most { Some(number) } else { None }
+}
+
+/// The number of one or two digits, as most are, that all the digits spell that stand first, and how many they are.
+#[inline(always)]
+fn first_few(bytes: &[u8], most: u64) -> Option<(u64, usize)>
+    ensures number { IfSome result (λ r. (r.1 ≡ prefix_len is_ascii_digit bytes.now) × (number_of most (take r.1 bytes.now) ≡ Some r.0)) }
+    ensures most { IfSome result (λ r. r.0 ≤ most) }
+    ensures within { IfSome result (λ r. r.1 ≤ length bytes.now) }
+{
+    if let Some(number) = first_alone(bytes, most) {
+        return Some((number, 1));
+    }
+    Some((first_pair(bytes, most)?, 2))
 }
 
 /// The number of at most `most` that all the digits spell that stand first, and how many they are.
@@ -74,17 +116,25 @@ fn first_many(bytes: &[u8], most: u64) -> Option<(u64, usize)>
     Some((value, len))
 }
 
-/// The same, and soonest for one digit.
+/// The same, and soonest for one digit or two.
 fn first_number(bytes: &[u8], most: u64) -> Option<(u64, usize)>
     ensures number { MatchOption result (number_of most (take (prefix_len is_ascii_digit bytes.now) bytes.now) ≡ None)
         (λ r. (r.1 ≡ prefix_len is_ascii_digit bytes.now) × (number_of most (take r.1 bytes.now) ≡ Some r.0)) }
     ensures most { IfSome result (λ r. r.0 ≤ most) }
     ensures within { IfSome result (λ r. r.1 ≤ length bytes.now) }
 {
-    match first_alone(bytes, most) {
-        Some(number) => Some((number, 1)),
+    match first_few(bytes, most) {
+        Some(found) => Some(found),
         None => first_many(bytes, most),
     }
+}
+
+/// Whether a space or the end stands behind so many bytes.
+#[inline(always)]
+fn ends_word(bytes: &[u8], len: usize) -> bool
+    ensures { result ≡ nat_le (length bytes.now) len || (slice_index bytes.now len == 32) }
+{
+    len >= bytes.len() || bytes[len] == b' '
 }
 
 /// The number of at most `most` that the first word spells, and how long the word is, which a space or the end ends.
@@ -96,10 +146,26 @@ pub fn number_word(bytes: &[u8], most: u64) -> Option<(u64, usize)>
     ensures most { IfSome result (λ r. r.0 ≤ most) }
 {
     let (number, len) = first_number(bytes, most)?;
-    if len < bytes.len() && bytes[len] != b' ' {
-        return None;
+    if ends_word(bytes, len) {
+        Some((number, len))
+    } else {
+        None
     }
-    Some((number, len))
+}
+
+/// The same as [`number_word`], where the number has one or two digits, as most have.
+#[inline(always)]
+fn few_word(bytes: &[u8], most: u64) -> Option<(u64, usize)>
+    ensures number { IfSome result (λ r. (r.1 ≡ length (before_first (λ b. b == 32) bytes.now))
+        × (number_of most (before_first (λ b. b == 32) bytes.now) ≡ Some r.0)) }
+    ensures most { IfSome result (λ r. r.0 ≤ most) }
+{
+    let (number, len) = first_few(bytes, most)?;
+    if ends_word(bytes, len) {
+        Some((number, len))
+    } else {
+        None
+    }
 }
 
 /// The number that the word spells, where it is at most `most`: decimal, without a sign or a leading zero.
@@ -143,9 +209,26 @@ pub fn pid(word: &[u8]) -> Option<Pid>
     Pid::new(host as u16, local as u16)
 }
 
-/// The pid that the first word spells, and how long the word is, which a space or the end ends.
+/// The same as [`first_pid`], where both numbers have one or two digits, as most have.
+#[inline(always)]
+fn short_pid(bytes: &[u8]) -> Option<(Pid, usize)>
+    ensures { IfSome result (λ r. (r.1 ≡ length (before_first (λ b. b == 32) bytes.now))
+        × (pid_of (before_first (λ b. b == 32) bytes.now) ≡ Some r.0)) }
+{
+    let (host, point) = first_few(bytes, 65535)?;
+    if point >= bytes.len() || bytes[point] != b'.' {
+        return None;
+    }
+    let (_, behind) = bytes.split_at(point + 1);
+    let (local, len) = few_word(behind, 65535)?;
+    let pid = Pid::new(host as u16, local as u16)?;
+    Some((pid, point + 1 + len))
+}
+
+/// The same as [`first_pid`], whatever length the numbers have.
+#[inline(never)]
 #[tactic(auto, using(crate::proofs::FirstWords::no_host))]
-pub fn first_pid(bytes: &[u8]) -> Option<(Pid, usize)>
+fn any_pid(bytes: &[u8]) -> Option<(Pid, usize)>
     ensures { MatchOption result (pid_of (before_first (λ b. b == 32) bytes.now) ≡ None)
         (λ r. (r.1 ≡ length (before_first (λ b. b == 32) bytes.now)) × (pid_of (before_first (λ b. b == 32) bytes.now) ≡ Some r.0)) }
 {
@@ -157,6 +240,18 @@ pub fn first_pid(bytes: &[u8]) -> Option<(Pid, usize)>
     let (local, len) = number_word(behind, 65535)?;
     let pid = Pid::new(host as u16, local as u16)?;
     Some((pid, point + 1 + len))
+}
+
+/// The pid that the first word spells, and how long the word is, which a space or the end ends.
+#[inline(always)]
+pub fn first_pid(bytes: &[u8]) -> Option<(Pid, usize)>
+    ensures { MatchOption result (pid_of (before_first (λ b. b == 32) bytes.now) ≡ None)
+        (λ r. (r.1 ≡ length (before_first (λ b. b == 32) bytes.now)) × (pid_of (before_first (λ b. b == 32) bytes.now) ≡ Some r.0)) }
+{
+    match short_pid(bytes) {
+        Some(found) => Some(found),
+        None => any_pid(bytes),
+    }
 }
 
 /// Writes so many bytes more of this lower-case hexadecimal, or some of those before what is none.
@@ -228,6 +323,64 @@ pub fn message(word: &[u8]) -> Option<Message>
         Some(message)
     } else {
         None
+    }
+}
+
+/// How many bytes the pairs of digits that stand first spell, at most 32; they are written over the first of `into`.
+#[inline(always)]
+fn first_bytes(bytes: &[u8], into: &mut [u8; 32]) -> usize
+    requires { IsBytes into.old }
+    ensures read { IsReadTo bytes.now into.new result }
+    ensures most { result ≤ 32 }
+    ensures within { 2 * result ≤ length bytes.now }
+    ensures behind { drop result into.new ≡ drop result into.old }
+{
+    for at in 0..32 {
+        if 2 * at + 1 >= bytes.len() {
+            return at;
+        }
+        match byte(bytes[2 * at], bytes[2 * at + 1]) {
+            Some(read) => into[at] = read,
+            None => return at,
+        }
+    }
+    32
+}
+
+/// The same as [`first_message`], where the message is written by its bytes.
+#[inline(always)]
+fn short_message(bytes: &[u8]) -> Option<(Message, usize)>
+    ensures { IfSome result (λ r. (r.1 ≡ length (before_first (λ b. b == 32) bytes.now))
+        × (message_of (before_first (λ b. b == 32) bytes.now) ≡ Some r.0)) }
+{
+    let mut message = Message([0; 32]);
+    let count = first_bytes(bytes, &mut message.0);
+    if count > 0 && ends_word(bytes, 2 * count) && ends_filled(&message, count) {
+        Some((message, 2 * count))
+    } else {
+        None
+    }
+}
+
+/// The same as [`first_message`], whatever the word is.
+#[inline(never)]
+fn any_message(bytes: &[u8]) -> Option<(Message, usize)>
+    ensures { MatchOption result (message_of (before_first (λ b. b == 32) bytes.now) ≡ None)
+        (λ r. (r.1 ≡ length (before_first (λ b. b == 32) bytes.now)) × (message_of (before_first (λ b. b == 32) bytes.now) ≡ Some r.0)) }
+{
+    let word = before(bytes, b' ');
+    Some((message(word)?, word.len()))
+}
+
+/// The message that the first word spells, and how long the word is, which a space or the end ends.
+#[inline(always)]
+pub fn first_message(bytes: &[u8]) -> Option<(Message, usize)>
+    ensures { MatchOption result (message_of (before_first (λ b. b == 32) bytes.now) ≡ None)
+        (λ r. (r.1 ≡ length (before_first (λ b. b == 32) bytes.now)) × (message_of (before_first (λ b. b == 32) bytes.now) ≡ Some r.0)) }
+{
+    match short_message(bytes) {
+        Some(found) => Some(found),
+        None => any_message(bytes),
     }
 }
 

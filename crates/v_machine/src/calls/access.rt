@@ -67,7 +67,7 @@ fn granted(store: &Store, holding: Holding) -> Grants
         (kernel_in store.now).exchanges (name_of sender holding.number) ≡ Some e → result ≡ grants_of e.message }
 {
     match sent_of(store, holding.at, holding.number) {
-        Some(sent) => sent.message.grants(),
+        Some(sent) => sent.message().grants(),
         None => Grants {
             read: false,
             write: false,

@@ -8,7 +8,8 @@ ghost use Rattle.v_machine.specs.Places.{place_in};
 
 use crate::tables::Store;
 use crate::tables::put::{find, sent_of};
-use vk_base::{Exchange, Pid, Stage};
+use crate::tables::sent::Sent;
+use vk_base::Pid;
 
 /// The place of a sender that is held, and the number of its Send.
 #[derive(Clone, Copy)]
@@ -40,8 +41,8 @@ fn latest_of(store: &Store, at: usize, host: u16) -> u64
     store.latest[at].get(host)
 }
 
-fn is_held_by(sent: &Exchange, pid: Pid) -> bool
+fn is_held_by(sent: &Sent, pid: Pid) -> bool
     ensures { result ≡ is_held_by pid sent.now }
 {
-    sent.target == pid && matches!(sent.stage, Stage::Taken)
+    sent.target() == pid && sent.is_taken()
 }

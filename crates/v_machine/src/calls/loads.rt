@@ -15,6 +15,7 @@ use vk_base::limits::DATA_BYTES;
 use vk_base::{Answer, Call, Data, Memory, Observation, Pid, Refusal};
 
 /// Load, which changes nothing.
+#[inline(always)]
 pub fn load(
     store: &Store,
     at: usize,
@@ -54,7 +55,7 @@ fn load_refusal(start: u32, count: u32, size: u32) -> Option<Refusal>
 }
 
 /// The bytes of a range that lies in the memory.
-#[inline(never)]
+#[inline(always)]
 fn loaded(memory: &Memory, start: u32, count: u32) -> Answer
     requires few { count ≤ DATA_BYTES }
     requires lies { lies_in (range_of start count) (length memory.now) ≡ true }

@@ -176,7 +176,7 @@ fn begin_to(
         count,
     };
     let begun = new_move(pid, Direction::To, asked, bytes);
-    begin(store, at, holding, partner, waiting, begun)?;
+    begin(store, alloc, at, holding, partner, waiting, begun)?;
     Ok(Response::Begun)
 }
 
@@ -208,7 +208,7 @@ fn begin_from(
         count,
     };
     let begun = new_move(pid, Direction::From, asked, List::empty(alloc));
-    begin(store, at, holding, partner, waiting, begun)?;
+    begin(store, alloc, at, holding, partner, waiting, begun)?;
     Ok(Response::Begun)
 }
 
@@ -228,6 +228,7 @@ fn new_move(mover: Pid, direction: Direction, asked: MoveRequest, bytes: List<u8
 /// Begins a move of a Send that is held, and the process of this place waits for it.
 fn begin(
     store: &mut Store,
+    alloc: Global,
     at: usize,
     holding: Holding,
     partner: Pid,
@@ -241,7 +242,7 @@ fn begin(
     ensures err { OnErr result (Stays store.old store.new) }
 {
     let number = next_move(store, holding);
-    push_move(store, holding.at, holding.number, begun)?;
+    push_move(store, alloc, holding.at, holding.number, begun)?;
     let name = MoveName {
         exchange: Name {
             sender: partner,
@@ -260,7 +261,7 @@ fn next_move(store: &Store, holding: Holding) -> u64
         (kernel_in store.now).exchanges (name_of sender holding.number) ≡ Some e → result ≡ length e.moves + 1 }
 {
     match sent_of(store, holding.at, holding.number) {
-        Some(sent) => sent.moves.as_slice().len() as u64 + 1,
+        Some(sent) => sent.moves().len() as u64 + 1,
         None => 1,
     }
 }

@@ -10,10 +10,10 @@ use crate::calls::response::Response;
 use crate::refusal::ApplyRefusal;
 use crate::tables::Store;
 use crate::tables::bytes::own_bytes;
-use crate::tables::put::put_stage;
+use crate::tables::put::{put_answer, put_answer_with};
 use std::alloc::Global;
 use vk_base::limits::SEGMENT_BYTES;
-use vk_base::{Call, List, Message, Pid, Range, Refusal, Stage};
+use vk_base::{Call, Message, Pid, Range, Refusal};
 
 /// What a ReplySegment asks for.
 #[derive(Clone, Copy)]
@@ -35,12 +35,7 @@ pub fn reply(store: &mut Store, alloc: Global, pid: Pid, message: Message, to: P
             why: Refusal::NotAwaiting,
         };
     };
-    let stage = Stage::Replied {
-        message,
-        dest: 0,
-        bytes: List::empty(alloc),
-    };
-    put_stage(store, holding.at, holding.number, stage);
+    put_answer(store, alloc, holding.at, holding.number, message);
     Response::Ok
 }
 
@@ -74,11 +69,15 @@ pub fn reply_segment(
         Err(why) => return Ok(Response::Refused { why }),
     };
     let bytes = own_bytes(store, alloc, at, access.own)?;
-    let stage = Stage::Replied {
-        message: reply.message,
-        dest: reply.dest,
+    let SegmentReply { message, dest, .. } = reply;
+    put_answer_with(
+        store,
+        alloc,
+        holding.at,
+        holding.number,
+        message,
+        dest,
         bytes,
-    };
-    put_stage(store, holding.at, holding.number, stage);
+    )?;
     Ok(Response::Ok)
 }

@@ -16,7 +16,9 @@ pub enum Response {
     Refused { why: Refusal },
 }
 
-/// What the process sees of its call, as a step's result.
+/// What the process sees of its call, as a step's result. It is put into its callers, so that whoever drops what is seen does not
+/// pay for its making.
+#[inline(always)]
 pub fn observation(
     pid: Pid,
     call: &CallView,

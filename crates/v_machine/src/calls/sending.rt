@@ -11,6 +11,7 @@ ghost use Rattle.vk_base.specs.Ranges.{lies_in};
 ghost use Rattle.v_machine.specs.Kept.{IsKept, IsAt, kernel_in};
 ghost use Rattle.v_machine.specs.Places.{place_in};
 ghost use Rattle.v_machine.specs.Rules.{Judges, Fits, HasRoomFor, Posts, Stays};
+ghost use Rattle.v_machine.specs.Sent.{first_phase};
 
 use crate::calls::response::Response;
 use crate::refusal::ApplyRefusal;
@@ -19,11 +20,10 @@ use crate::tables::arrivals::{make_room, push_name};
 use crate::tables::bytes::{lies_in, own_bytes};
 use crate::tables::put::{find_live, put_activity, size_of};
 use crate::tables::sends::next_number;
+use crate::tables::sent::{Phase, Sent};
 use std::alloc::Global;
 use vk_base::limits::SEGMENT_BYTES;
-use vk_base::{
-    Activity, Call, Exchange, List, Message, Name, NoMemory, Pid, Range, Refusal, Stage, Waiting,
-};
+use vk_base::{Activity, Call, List, Message, Name, NoMemory, Pid, Range, Refusal, Waiting};
 
 /// Send.
 pub fn send(
@@ -92,7 +92,7 @@ fn send_with_room(
     requires room { HasRoomFor store.old at pid.host }
     ensures { Fits store.old pid message → Judges pid (Call.Send target message) store.old store.new result }
 {
-    let sent = new_sent(store, alloc, at, target, message, Stage::Queued)?;
+    let sent = new_sent(store, alloc, at, target, message, Phase::Queued)?;
     post_here(store, at, to, pid, sent)?;
     let waiting = Waiting::Send { target, message };
     put_activity(store, at, Activity::Blocked { waiting });
@@ -113,7 +113,7 @@ fn send_away(
     requires away { same_host pid target ≡ false }
     ensures { Fits store.old pid message → Judges pid (Call.Send target message) store.old store.new result }
 {
-    let sent = new_sent(store, alloc, at, target, message, Stage::Posted)?;
+    let sent = new_sent(store, alloc, at, target, message, Phase::Posted)?;
     store.sends[at].push(sent)?;
     let waiting = Waiting::Send { target, message };
     put_activity(store, at, Activity::Blocked { waiting });
@@ -122,13 +122,7 @@ fn send_away(
 
 /// One more Send of the process of the first place, to the process of the second, which has the same host. Where memory is
 /// wanting the tables stay.
-fn post_here(
-    store: &mut Store,
-    at: usize,
-    to: usize,
-    pid: Pid,
-    sent: Exchange,
-) -> Result<(), NoMemory>
+fn post_here(store: &mut Store, at: usize, to: usize, pid: Pid, sent: Sent) -> Result<(), NoMemory>
     requires kept { IsKept store.old }
     requires here { IsAt store.old pid at }
     requires there { IsAt store.old sent.target to }
@@ -157,39 +151,32 @@ fn post_here(
 }
 
 /// A Send of the process of this place, whose segment lies in its memory.
+#[inline(always)]
 fn new_sent(
     store: &Store,
     alloc: Global,
     at: usize,
     target: Pid,
     message: Message,
-    stage: Stage,
-) -> Result<Exchange, NoMemory>
+    phase: Phase,
+) -> Result<Sent, NoMemory>
     requires { at < length store.now.procs.items }
     ensures target { IfOk result (λ s. s.target ≡ target) }
-    ensures stage { IfOk result (λ s. s.stage ≡ stage) }
+    ensures stage { IfOk result (λ s. s.stage ≡ first_phase phase message) }
     ensures value { (pid : ThePid) (p : Process) → place_in store.now.places pid ≡ Some at → (kernel_in store.now).procs pid ≡ Some p →
         lies_in (segment_of message) (length p.memory) ≡ true →
         IfOk result (λ s. s ≡ record {
           target = target;
           message = message;
           part = first_part message p.memory;
-          stage = stage;
+          stage = first_phase phase message;
           moves = [];
           opened = 0;
           done = 0;
         }) }
 {
     let part = first_part(store, alloc, at, message)?;
-    Ok(Exchange {
-        target,
-        message,
-        part,
-        stage,
-        moves: List::empty(alloc),
-        opened: 0,
-        done: 0,
-    })
+    Sent::new(alloc, target, message, part, phase)
 }
 
 /// The first part of the granted segment, if it may be read.

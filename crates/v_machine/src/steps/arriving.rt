@@ -12,7 +12,7 @@ use crate::refusal::ApplyRefusal;
 use crate::tables::arrivals::{make_room, push_name};
 use crate::tables::put::{find, find_live, sent_of};
 use crate::tables::{Store, sends};
-use vk_base::{Name, Pid, Stage};
+use vk_base::{Name, Pid};
 
 /// Arrive.
 #[tactic(auto, unfolding(vk_base::specs::Steps::arriving))]
@@ -41,10 +41,10 @@ fn posted_target(store: &Store, at: usize, number: u64) -> Option<Pid>
         posted_to ((kernel_in store.now).exchanges (name_of sender number)) ≡ result }
 {
     let sent = sent_of(store, at, number)?;
-    match sent.stage {
-        Stage::Posted => Some(sent.target),
-        _ => None,
+    if !sent.is_posted() {
+        return None;
     }
+    Some(sent.target())
 }
 
 /// A Send of the process of the first place, which is posted, comes to the queue of its target at the second place.

@@ -11,10 +11,9 @@ ghost use Rattle.v_machine.specs.Rules.{Answers, GoesOrNot, Delivers, HasRoom};
 use crate::refusal::ApplyRefusal;
 use crate::tables::put::{find, is_live, proc, put_activity, sends_of, sent_of};
 use crate::tables::queues::front;
+use crate::tables::sent::Sent;
 use crate::tables::{Store, sends};
-use vk_base::{
-    Activity, Ending, Exchange, Memory, Name, Observation, Outcome, Pid, Refusal, Stage, Waiting,
-};
+use vk_base::{Activity, Ending, Memory, Name, Observation, Outcome, Pid, Refusal, Waiting};
 
 /// Take.
 #[tactic(auto, unfolding(vk_base::specs::Steps::taking))]
@@ -39,19 +38,19 @@ fn deliver(store: &mut Store, at: usize, from: usize, name: Name, waiting: Waiti
     let proc = &mut store.procs[at];
     let outcome = receive_into(&mut proc.memory, sent, waiting, name.sender);
     proc.activity = Activity::Done { waiting, outcome };
-    sends::put_stage(&mut store.sends[from], name.number, Stage::Taken);
+    sends::take(&mut store.sends[from], name.number);
     Some(())
 }
 
 /// What a receive gives, and the first bytes of the part into the memory, where they were asked for.
-fn receive_into(memory: &mut Memory, sent: &Exchange, waiting: Waiting, sender: Pid) -> Outcome
+fn receive_into(memory: &mut Memory, sent: &Sent, waiting: Waiting, sender: Pid) -> Outcome
     ensures answer { answer_of result ≡ received (call_of waiting) sender sent.now }
     ensures memory { HasRoom (call_of waiting) memory.old → memory.new ≡ with_part (call_of waiting) sent.now memory.old }
 {
-    let message = sent.message;
+    let message = *sent.message();
     match waiting {
         Waiting::ReceiveSegment { start, count } => {
-            let part = sent.part.as_slice();
+            let part = sent.part();
             let count = part_count(count, part);
             let _fits = memory.write(start, &part[..count as usize]);
             Outcome::ReceivedSegment {
@@ -88,22 +87,15 @@ pub fn finish(store: &mut Store, pid: Pid) -> Option<()>
     let send = proc(store, at).activity.sending()?;
     let number = sends_of(store, at);
     let sent = store.sends[at].get(number)?;
-    let Stage::Replied {
-        message,
-        dest,
-        bytes,
-    } = &sent.stage
-    else {
-        return None;
-    };
+    let reply = sent.replied()?;
     let proc = &mut store.procs[at];
-    let _fits = proc.memory.write(*dest, bytes.as_slice());
+    let _fits = proc.memory.write(reply.1, reply.2);
     proc.activity = Activity::Done {
         waiting: Waiting::Send {
             target: send.0,
             message: send.1,
         },
-        outcome: Outcome::Replied { message: *message },
+        outcome: Outcome::Replied { message: reply.0 },
     };
     Some(())
 }
@@ -118,7 +110,7 @@ pub fn fail(store: &mut Store, pid: Pid, why: Ending) -> Option<()>
     let activity = proc(store, at).activity;
     let _send = activity.sending()?;
     let sent = sent_of(store, at, sends_of(store, at))?;
-    let target = sent.target;
+    let target = sent.target();
     if target.host == pid.host {
         return None;
     }
@@ -139,6 +131,7 @@ fn failure(why: Ending, live: bool) -> Option<Refusal>
 }
 
 /// Collect.
+#[inline(always)]
 #[tactic(auto, unfolding(vk_base::specs::Steps::collecting))]
 pub fn collect(store: &mut Store, pid: Pid) -> Result<Option<Observation>, ApplyRefusal>
     requires { IsKept store.old }

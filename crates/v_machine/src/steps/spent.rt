@@ -21,7 +21,7 @@ pub fn opened_before(store: &Store, step: &StepView) -> u64
         return 0;
     };
     match named(&store.places, &store.sends, Name { sender, number }) {
-        Some(sent) => sent.opened,
+        Some(sent) => sent.opened(),
         None => 0,
     }
 }

@@ -20,10 +20,9 @@ use crate::tables::moving::{move_of, put_done, put_open, waiting_at, write_part}
 use crate::tables::proc::Proc;
 use crate::tables::put::{find, proc, put_activity, sent_of};
 use crate::tables::queues::named;
+use crate::tables::sent::Sent;
 use std::alloc::Global;
-use vk_base::{
-    Direction, Ending, Exchange, List, Move, MoveName, Name, Outcome, Pid, Range, Refusal,
-};
+use vk_base::{Direction, Ending, List, Move, MoveName, Name, Outcome, Pid, Range, Refusal};
 
 /// OpenMove, where at most so many more bytes may be noted.
 #[tactic(auto, unfolding(vk_base::specs::Steps::opening_move))]
@@ -72,10 +71,10 @@ pub fn opening_bytes(store: &Store, name: Name, moving: u64) -> u64
 }
 
 /// A move, if its number is above that of the open one.
-fn later_move(sent: &Exchange, moving: u64) -> Option<&Move>
+fn later_move(sent: &Sent, moving: u64) -> Option<&Move>
     ensures { option_copied result ≡ only_if (nat_lt sent.now.opened moving) (move_of sent.now moving) }
 {
-    if sent.opened >= moving {
+    if sent.opened() >= moving {
         return None;
     }
     move_of(sent, moving)
@@ -124,11 +123,11 @@ pub fn copy(store: &mut Store, name: Name, moving: u64, part: Range) -> Option<(
 }
 
 /// How many bytes of the open move, which has so many, are written after those of this range, if these are the next ones.
-fn done_after(sent: &Exchange, moving: u64, count: u32, part: Range) -> Option<u32>
+fn done_after(sent: &Sent, moving: u64, count: u32, part: Range) -> Option<u32>
     ensures next { (m : TheMove) → m.count ≡ count → is_next sent.now moving m part.start part.len ≡ is_some result }
     ensures done { IfSome result (λ done. done ≡ part.start + part.len) }
 {
-    if sent.opened != moving || sent.done != part.start || part.len == 0 {
+    if sent.opened() != moving || sent.done() != part.start || part.len == 0 {
         return None;
     }
     if u64::from(part.start) + u64::from(part.len) > u64::from(count) {
@@ -223,11 +222,11 @@ fn is_complete(store: &Store, name: MoveName) -> bool
 }
 
 /// Whether a move is the open one of its Send, and all its bytes were written.
-fn is_written(sent: &Exchange, moving: u64) -> bool
+fn is_written(sent: &Sent, moving: u64) -> bool
     ensures { result ≡ is_complete sent.now moving }
 {
     match move_of(sent, moving) {
-        Some(opened) => sent.opened == moving && sent.done == opened.count,
+        Some(opened) => sent.opened() == moving && sent.done() == opened.count,
         None => false,
     }
 }

@@ -22,7 +22,7 @@ pub fn lies_in(start: u32, count: u32, size: u32) -> bool
     u64::from(start) + u64::from(count) <= u64::from(size)
 }
 
-/// The bytes of a range, if it lies in the memory. They are read piece by piece, so that no list is cleared first.
+/// The bytes of a range, if it lies in the memory. They are read piece by piece.
 fn bytes_of(memory: &Memory, alloc: Global, start: u32, count: u32) -> Result<List<u8>, NoMemory>
     ensures { lies_in (range_of start count) (length memory.now) ≡ true →
         IfOk result (λ l. l ≡ bytes_in (range_of start count) memory.now) }
@@ -41,16 +41,11 @@ fn bytes_of(memory: &Memory, alloc: Global, start: u32, count: u32) -> Result<Li
     Ok(List::new(bytes))
 }
 
-/// Appends a range of the memory, which lies in it.
+/// Appends what there is of a range of the memory.
 fn append(memory: &Memory, bytes: &mut Vec<u8>, start: u32, count: u32) -> Result<(), NoMemory>
-    requires few { count ≤ PIECE }
-    requires lies { start + count ≤ length memory.now }
     ensures { OnOk result (bytes.new.items ≡ bytes.old.items ++ bytes_in (range_of start count) memory.now) }
 {
-    let mut buffer = [0u8; PIECE as usize];
-    let piece = &mut buffer[..count as usize];
-    let _lies = memory.read(start, piece);
-    bytes.extend_from_slice(piece)?;
+    bytes.extend_from_slice(memory.bytes(start, count))?;
     Ok(())
 }
 

@@ -16,19 +16,26 @@ ghost use Rattle.v_machine.specs.Sends.{given_back, with_begun, with_opened, wit
 
 use crate::tables::numbered::index_of;
 use crate::tables::put::{find, proc, sends_of};
+use crate::tables::sent::Sent;
 use crate::tables::{Store, sends, spent};
 use std::alloc::Global;
-use vk_base::{Activity, Exchange, List, Memory, Move, MoveName, Name, NoMemory, Range, Waiting};
+use vk_base::{Activity, List, Memory, Move, MoveName, Name, NoMemory, Range, Waiting};
 
 /// One more move of a Send of the process of this place. Where memory is wanting nothing changes.
-pub fn push_move(store: &mut Store, at: usize, number: u64, begun: Move) -> Result<(), NoMemory>
+pub fn push_move(
+    store: &mut Store,
+    alloc: Global,
+    at: usize,
+    number: u64,
+    begun: Move,
+) -> Result<(), NoMemory>
     requires { at < length store.old.sends.items }
     ensures ok { OnOk result (Puts (with_begun begun) at number store.old store.new) }
     ensures err { OnErr result (IsIndexed store.old → Stays store.old store.new) }
     ensures places { store.new.places ≡ store.old.places }
     ensures procs { store.new.procs ≡ store.old.procs }
 {
-    sends::push_move(&mut store.sends[at], number, begun)
+    sends::push_move(&mut store.sends[at], alloc, number, begun)
 }
 
 /// A move of a Send of the process of this place is the open one from now on, with these bytes, if some are given.
@@ -76,10 +83,10 @@ pub fn put_moving(store: &mut Store, at: usize, waiting: Waiting, name: MoveName
 }
 
 /// A move of a Send, by its number.
-pub fn move_of(sent: &Exchange, moving: u64) -> Option<&Move>
+pub fn move_of(sent: &Sent, moving: u64) -> Option<&Move>
     ensures { option_copied result ≡ move_of sent.now moving }
 {
-    sent.moves.as_slice().get(index_of(moving))
+    sent.moves().get(index_of(moving))
 }
 
 /// The place of the sender of an exchange, if it waits on it.

@@ -1,20 +1,24 @@
 //! Changes of one process.
 
-ghost use Rattle.std.specs.Prelude.{◌≡◌, ◌<◌, length, Some, None, IfSome, IfNone, is_some, option_copied};
+ghost use Rattle.std.specs.Prelude.{◌≡◌, ◌<◌, [], length, Some, None, IfSome, IfNone, is_some, option_copied, OnOk, OnErr};
 ghost use Rattle.std.specs.Bool.{OnTrue, OnFalse};
 ghost use Rattle.vk_base.specs.declared.kernel.Process.{Process};
 ghost use Rattle.vk_base.specs.declared.pid.Pid.{Pid as ThePid};
 ghost use Rattle.vk_base.specs.declared.kernel.Exchange.{Exchange as TheExchange};
+ghost use Rattle.vk_base.specs.declared.kernel.Stage.TheVariants as stages;
 ghost use Rattle.vk_base.specs.Kernel.{name_of, is_live, with_state, with_memory, with_stage};
 ghost use Rattle.vk_base.specs.Ranges.{with_bytes, range_of, lies_in};
 ghost use Rattle.vk_base.specs.Activities.{state_of};
 ghost use Rattle.v_machine.specs.Kept.{IsIndexed, IsAt, IsNoNearer, kernel_in};
 ghost use Rattle.v_machine.specs.Places.{place_in, count_at};
+ghost use Rattle.v_machine.specs.Rules.{Stays};
 ghost use Rattle.v_machine.specs.Tables.{process_of};
 
 use crate::tables::proc::Proc;
+use crate::tables::sent::Sent;
 use crate::tables::{Store, sends};
-use vk_base::{Activity, Exchange, Pid, Stage};
+use std::alloc::Global;
+use vk_base::{Activity, List, Message, NoMemory, Pid};
 
 /// The place of a process, if it is in the configuration.
 pub fn find(store: &Store, pid: Pid) -> Option<usize>
@@ -105,7 +109,7 @@ pub fn sends_of(store: &Store, at: usize) -> u64
 }
 
 /// A Send of the process of this place.
-pub fn sent_of(store: &Store, at: usize, number: u64) -> Option<&Exchange>
+pub fn sent_of(store: &Store, at: usize, number: u64) -> Option<&Sent>
     requires { at < length store.now.sends.items }
     ensures { (pid : ThePid) → place_in store.now.places pid ≡ Some at →
         (kernel_in store.now).exchanges (name_of pid number) ≡ option_copied result }
@@ -113,15 +117,37 @@ pub fn sent_of(store: &Store, at: usize, number: u64) -> Option<&Exchange>
     store.sends[at].get(number)
 }
 
-/// The Send of this number is so far from now on, and comes no nearer to its target by that.
-pub fn put_stage(store: &mut Store, at: usize, number: u64, stage: Stage)
+/// The Send of this number is replied to, by a message alone.
+pub fn put_answer(store: &mut Store, alloc: Global, at: usize, number: u64, message: Message)
     requires { at < length store.old.sends.items }
     ensures kernel { (pid : ThePid) (e : TheExchange) → place_in store.old.places pid ≡ Some at →
         (kernel_in store.old).exchanges (name_of pid number) ≡ Some e →
-        kernel_in store.new ≡ with_stage (kernel_in store.old) (name_of pid number) e stage }
+        kernel_in store.new ≡ with_stage (kernel_in store.old) (name_of pid number) e (stages.Replied message 0 []) }
     ensures indexed { (pid : ThePid) (e : TheExchange) → place_in store.old.places pid ≡ Some at →
         (kernel_in store.old).exchanges (name_of pid number) ≡ Some e →
-        IsNoNearer e.stage stage → IsIndexed store.old → IsIndexed store.new }
+        IsNoNearer e.stage (stages.Replied message 0 []) → IsIndexed store.old → IsIndexed store.new }
 {
-    sends::put_stage(&mut store.sends[at], number, stage);
+    sends::answer(&mut store.sends[at], alloc, number, message);
+}
+
+/// The Send of this number is replied to, with bytes for its sender's memory. Where memory is wanting nothing changes.
+pub fn put_answer_with(
+    store: &mut Store,
+    alloc: Global,
+    at: usize,
+    number: u64,
+    message: Message,
+    dest: u32,
+    bytes: List<u8>,
+) -> Result<(), NoMemory>
+    requires { at < length store.old.sends.items }
+    ensures kernel { OnOk result ((pid : ThePid) (e : TheExchange) → place_in store.old.places pid ≡ Some at →
+        (kernel_in store.old).exchanges (name_of pid number) ≡ Some e →
+        kernel_in store.new ≡ with_stage (kernel_in store.old) (name_of pid number) e (stages.Replied message dest bytes)) }
+    ensures indexed { OnOk result ((pid : ThePid) (e : TheExchange) → place_in store.old.places pid ≡ Some at →
+        (kernel_in store.old).exchanges (name_of pid number) ≡ Some e →
+        IsNoNearer e.stage (stages.Replied message dest bytes) → IsIndexed store.old → IsIndexed store.new) }
+    ensures err { OnErr result (IsIndexed store.old → Stays store.old store.new) }
+{
+    sends::answer_with(&mut store.sends[at], alloc, number, message, dest, bytes)
 }

@@ -12,26 +12,23 @@ use crate::tables::Store;
 use crate::tables::numbered::Numbered;
 use crate::tables::places::Places;
 use crate::tables::queue::Queue;
-use vk_base::{Exchange, Name, Pid, Stage};
+use crate::tables::sent::Sent;
+use vk_base::{Name, Pid};
 
 /// The Send of a name.
 #[tactic(auto, unfolding(crate::specs::Tables::exchanges_by, crate::specs::Places::at_place))]
-pub fn named<'a>(
-    places: &Places,
-    sends: &'a [Numbered<Exchange>],
-    name: Name,
-) -> Option<&'a Exchange>
+pub fn named<'a>(places: &Places, sends: &'a [Numbered<Sent>], name: Name) -> Option<&'a Sent>
     ensures { exchanges_by places.now sends.now name ≡ option_copied result }
 {
     let at = places.find(name.sender)?;
     sends.get(at)?.get(name.number)
 }
 
-fn is_queued(places: &Places, sends: &[Numbered<Exchange>], pid: Pid, name: Name) -> bool
+fn is_queued(places: &Places, sends: &[Numbered<Sent>], pid: Pid, name: Name) -> bool
     ensures { result ≡ queued_at (exchanges_by places.now sends.now) pid name }
 {
     match named(places, sends, name) {
-        Some(sent) => sent.target == pid && matches!(sent.stage, Stage::Queued),
+        Some(sent) => sent.target() == pid && sent.is_queued(),
         None => false,
     }
 }
@@ -39,7 +36,7 @@ fn is_queued(places: &Places, sends: &[Numbered<Exchange>], pid: Pid, name: Name
 /// The first name that is queued at the process. Those before it are taken away.
 fn first_queued(
     places: &Places,
-    sends: &[Numbered<Exchange>],
+    sends: &[Numbered<Sent>],
     queue: &mut Queue,
     pid: Pid,
 ) -> Option<Name>

@@ -6,41 +6,23 @@ ghost use Rattle.v_machine.specs.Sends.{emptied_between, given_back};
 ghost use Rattle.v_machine.specs.Spent.{emptied, is_spent};
 
 use crate::tables::numbered::Numbered;
+use crate::tables::sent::Sent;
 use std::alloc::Global;
-use std::mem;
-use vk_base::{Exchange, List, Move};
+use vk_base::{List, Move};
 
 /// Of the moves from one number up to another of the Send of a number, the spent ones give their bytes back.
 #[tactic(auto, using(crate::proofs::Changes::changes))]
-pub fn give_back(sends: &mut Numbered<Exchange>, alloc: Global, number: u64, from: u64, to: u64)
+pub fn give_back(sends: &mut Numbered<Sent>, alloc: Global, number: u64, from: u64, to: u64)
     requires { from ≤ to }
     ensures { sends.new ≡ change_numbered number (given_back from to) sends.old }
 {
-    if let Some(exchange) = sends.get_mut(number) {
-        empty_those(exchange, alloc, from, to);
+    if let Some(sent) = sends.get_mut(number) {
+        sent.give_back(alloc, from, to);
     }
 }
 
-fn empty_those(exchange: &mut Exchange, alloc: Global, from: u64, to: u64)
-    requires { from ≤ to }
-    ensures { exchange.new ≡ given_back from to exchange.old }
-{
-    let opened = exchange.opened;
-    let done = exchange.done;
-    empty_list(&mut exchange.moves, alloc, opened, done, from, to);
-}
-
-fn empty_list(list: &mut List<Move>, alloc: Global, opened: u64, done: u32, from: u64, to: u64)
-    requires { from ≤ to }
-    ensures { list.new ≡ emptied_between opened done from (to + 1) 1 list.old }
-{
-    let mut moves = Numbered::of(mem::replace(list, List::empty(alloc)).into_vec());
-    empty_moves(&mut moves, alloc, opened, done, from, to);
-    *list = List::new(moves.into_vec());
-}
-
 /// Each move from one number up to another gives its bytes back, if it is spent.
-fn empty_moves(
+pub fn empty_moves(
     moves: &mut Numbered<Move>,
     alloc: Global,
     opened: u64,

@@ -1,9 +1,8 @@
 use Rattle.std.proofs.Common.{◌≡◌, ℕ, [], ◌∷◌, Option, Some, is_none, sym, ap, ◌∙◌, lit≤}
 use Rattle.vk_base.specs.declared.answer.Refusal.TheVariants as refusals
 use Rattle.vk_base.specs.declared.call.Call.TheVariants as calls
-use Rattle.vk_base.specs.declared.kernel.Stage.TheVariants as stages
 use Rattle.vk_base.specs.Calls.{called, first_that_holds}
-use Rattle.vk_base.specs.Kernel.{held, name_of, with_stage}
+use Rattle.vk_base.specs.Kernel.{held}
 use Rattle.v_laws.proofs.Held.{holding_is}
 use Rattle.v_machine.specs.Kept.{kernel_in}
 use Rattle.v_machine.proofs.StepLemmas.{reply_allowed, replied_is_nearer}
@@ -21,11 +20,9 @@ returns c = λ p there ready.
             (first_that_holds ((is_none o, refusals.NotAwaiting) ∷ []))) holds
             ∙ reply_allowed k _ c.args.pid c.args.to (calls.Reply c.args.message c.args.to) c.args.message 0 c.in-Some.holding.number []
             x.exchange holds x.is
-            (c.put_stage.ensures.kernel c.args.to x.exchange here.place x.is
-            ∙ ap (λ b. with_stage k (name_of c.args.to c.in-Some.holding.number) x.exchange (stages.Replied c.args.message 0 b))
-            c.empty.ensures);
+            (c.put_answer.ensures.kernel c.args.to x.exchange here.place x.is);
         indexed =
-            c.put_stage.ensures.indexed c.args.to x.exchange here.place x.is (replied_is_nearer x.exchange.stage _ _ _) c.requires.indexed;
+            c.put_answer.ensures.indexed c.args.to x.exchange here.place x.is (replied_is_nearer x.exchange.stage _ _ _) c.requires.indexed;
       },
       lit≤ tt,
     )

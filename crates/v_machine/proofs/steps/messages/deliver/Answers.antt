@@ -48,15 +48,15 @@ returns c = λ pid p e place sender there at_name room queued indexed.
     (λ i. record (process_of x (count_at s.sends.items c.args.at) (count_at s.asked.items c.args.at))
     { memory = memory i; state = states.Done w (answer i) }) in
     let exchanges = kernel-exchange s.places _ s.sends.items s.asked.items s.names.items s.arrived.items (at_stage stages.Taken)
-    c.args.name.sender c.args.from c.args.name.number c.index_mut.result.now c.put_stage.new.sends e sender c.requires.from
-    c.index_mut.ensures.value at_name c.put_stage.ensures in
+    c.args.name.sender c.args.from c.args.name.number c.index_mut.result.now c.take.new.sends e sender c.requires.from
+    c.index_mut.ensures.value at_name c.take.ensures in
     let later = exchanges-change s.places s.procs.items s.sends.items s.asked.items (at_stage stages.Taken) c.args.name.sender c.args.from
-    c.args.name.number c.index_mut.result.now c.put_stage.new.sends e sender c.requires.from c.index_mut.ensures.value at_name
-    c.put_stage.ensures in (
+    c.args.name.number c.index_mut.result.now c.take.new.sends e sender c.requires.from c.index_mut.ensures.value at_name
+    c.take.ensures in (
       exchanges ∙ ap (λ (k : Kernel).
           record k { exchanges = put_exchange (exchanges_by s.places s.sends.items) c.args.name (at_stage stages.Taken e) }) processes,
-      indexed_later s _ refl (length-set s.procs.items c.args.at _) (length-set s.sends.items c.args.from c.put_stage.new.sends) refl refl
+      indexed_later s _ refl (length-set s.procs.items c.args.at _) (length-set s.sends.items c.args.from c.take.new.sends) refl refl
           refl refl (sends_even s.places s.procs.items s.sends.items s.asked.items (at_stage stages.Taken) c.args.from c.args.name.number
-          c.index_mut.result.now c.put_stage.new.sends c.requires.from c.index_mut.ensures.value c.put_stage.ensures)
+          c.index_mut.result.now c.take.new.sends c.requires.from c.index_mut.ensures.value c.take.ensures)
           (put_no_nearer _ _ _ e _ at_name later refl (taken_is_nearer e.stage queued)) indexed,
     )

@@ -1,6 +1,6 @@
 use Rattle.std.proofs.Common.{sym, ap, arith, ◌∙◌}
 use Rattle.std.proofs.lemmas.Grind.{common_steps}
-use Rattle.vk_base.specs.Kernel.{with_state}
+use Rattle.vk_base.specs.Kernel.{is_live, with_state}
 use Rattle.v_machine.specs.Kept.{kernel_in}
 use Rattle.v_machine.specs.Places.{count_at}
 use Rattle.v_machine.specs.Tables.{process_of}
@@ -19,7 +19,8 @@ returns c =
     record {
       effect = fail_allowed k _ c.args.pid p c.in_ok-_send._send e c.args.why c.in_ok-why.why there (grind arith)
           (grind (arith, common_steps)) (grind (arith, common_steps))
-          (sym (c.failure.ensures k e (sym c.is_live.ensures)) ∙ c.in_ok-why.was)
+          (sym (c.failure.ensures k e (sym (c.is_live.ensures ∙ ap (λ t. is_live (k.procs t)) c.target-target.ensures)))
+          ∙ c.in_ok-why.was)
           (c.put_activity.ensures.kernel c.args.pid p place there ∙ ap (with_state k c.args.pid p) c.ended.ensures.kernel);
       indexed = c.put_activity.ensures.indexed c.requires.indexed;
     }

@@ -1,10 +1,10 @@
-use Rattle.std.proofs.Common.{◌≡◌, length, Some, ap, refl, ◌∙◌, arith, length-set}
+use Rattle.std.proofs.Common.{◌≡◌, Some, refl, arith, length-set}
 use Rattle.std.proofs.lemmas.Grind.{common_steps}
 use Rattle.vk_base.specs.declared.answer.Answer.TheVariants as answers
 use Rattle.vk_base.specs.declared.call.Call.TheVariants as calls
 use Rattle.vk_base.specs.declared.kernel.Process.{Process}
 use Rattle.vk_base.specs.declared.kernel.State.TheVariants as states
-use Rattle.vk_base.specs.Kernel.{name_of, sending, reply_of}
+use Rattle.vk_base.specs.Kernel.{name_of, sending}
 use Rattle.vk_base.specs.Ranges.{with_bytes}
 use Rattle.vk_base.specs.Activities.{state_of}
 use Rattle.v_machine.specs.Kept.{kernel_in}
@@ -13,12 +13,12 @@ use Rattle.v_machine.specs.Tables.{exchanges_by, process_of}
 use Rattle.v_machine.proofs.Fits.{reply_room}
 use Rattle.v_machine.proofs.Indexes.{indexed_same}
 use Rattle.v_machine.proofs.KernelLemmas.{kernel-process, sent_there, memory_is}
-use Rattle.v_machine.proofs.StepLemmas.{finish_allowed, finish_not, not_replied}
+use Rattle.v_machine.proofs.StepLemmas.{finish_allowed, finish_not, replied_is}
 use Rattle.v_machine.proofs.Stores.{stays, no_error}
 use Rattle.v_machine.proofs.steps.messages.finish.Goals as goal
 
-pub returns-in_default : goal.returns-in_default
-returns-in_default c =
+pub returns-in_err-reply : goal.returns-in_err-reply
+returns-in_err-reply c =
     let s = c.args.store.now in
     let here = c.in_ok-at.ensures.here in
     let there = c.proc.ensures c.args.pid here.place in
@@ -26,15 +26,17 @@ returns-in_default c =
     let named = sent_there s.places s.procs.items s.sends.items s.asked.items c.args.pid c.in_ok-at.at c.index.result.now
     (count_at s.sends.items c.in_ok-at.at) here.place here.sends c.index.ensures in
     let at : exchanges_by s.places s.sends.items (name_of c.args.pid (count_at s.sends.items c.in_ok-at.at)) ≡ Some
-    (c.in_ok-sent.sent.now) = grind (arith, common_steps, named) in (
+    (c.in_ok-sent.sent.now) = grind (arith, common_steps, named) in rw c.from_residual-in_err-reply.ensures (
       finish_not (kernel_in s) c.args.pid _ c.in_ok-send.send _ there blocked at
-          (not_replied c.in_ok-sent.sent.now.stage c.in_default.not-Replied),
+          c.in_err-reply.ensures.none,
       stays s c.requires.indexed,
     )
 
 pub returns : goal.returns
 returns c =
     let s = c.args.store.now in
+    let reply = c.in_ok-reply.reply in
+    let replied = c.in_ok-reply.ensures.some in
     let x = c.index_mut-proc.result.now in
     let here = c.in_ok-at.ensures.here in
     let there = c.proc.ensures c.args.pid here.place in
@@ -44,26 +46,24 @@ returns c =
     let at : exchanges_by s.places s.sends.items (name_of c.args.pid (count_at s.sends.items c.in_ok-at.at)) ≡ Some
     (c.in_ok-sent.sent.now) = grind (arith, common_steps, named) in
     let into : Process → Process = λ q. record q {
-      memory = with_bytes q.memory c.in-Replied.dest c.in-Replied.bytes;
-      state = states.Done (calls.Send c.in_ok-send.send.0 c.in_ok-send.send.1) (answers.Replied c.in-Replied.message);
+      memory = with_bytes q.memory reply.1 reply.2.now;
+      state = states.Done (calls.Send c.in_ok-send.send.0 c.in_ok-send.send.1) (answers.Replied reply.0);
     } in
     let same_size = memory_is s.places s.procs.items s.sends.items s.asked.items c.args.pid c.in_ok-at.at x _ here.place here.procs
     c.index_mut-proc.ensures.value there in
-    let fits = reply_room c.requires.size (kernel_in s) c.args.pid _ (count_at s.sends.items c.in_ok-at.at) _ c.in-Replied.message
-    c.in-Replied.dest c.in-Replied.bytes c.requires.sized there at c.in-Replied.is in
-    let bytes : c.as_slice.result.now ≡ c.in-Replied.bytes = c.as_slice.ensures in
-    let written : c.write-fits.new.self ≡ with_bytes x.memory c.in-Replied.dest c.in-Replied.bytes =
+    let fits = reply_room c.requires.size (kernel_in s) c.args.pid _ (count_at s.sends.items c.in_ok-at.at) _ reply.0
+    reply.1 reply.2.now c.requires.sized there at (replied_is _ _ _ _ replied) in
+    let written : c.write-fits.new.self ≡ with_bytes x.memory reply.1 reply.2.now =
     (no_error c.write-fits.result _ _ c.write-fits.ensures.ok c.write-fits.ensures.err
-    (λ short. let few = short.0 in let many = ap length bytes in omega (arith, fits, same_size, few, many))).1
-    ∙ ap (with_bytes x.memory c.in-Replied.dest) bytes in
+    (λ short. let few = short.0 in omega (arith, fits, same_size, few))).1 in
     record {
-      effect = finish_allowed (kernel_in s) _ c.args.pid _ c.in_ok-send.send _ c.in-Replied.message c.in-Replied.dest c.in-Replied.bytes
-          there blocked at (ap (λ p. reply_of p) c.in-Replied.is)
+      effect = finish_allowed (kernel_in s) _ c.args.pid _ c.in_ok-send.send _ reply.0 reply.1 reply.2.now
+          there blocked at replied
           (kernel-process s.places s.procs.items s.sends.items s.asked.items s.names.items s.arrived.items into c.args.pid c.in_ok-at.at x _
           _ here.place here.procs c.index_mut-proc.ensures.value there
           (λ i. record (process_of x (count_at s.sends.items c.in_ok-at.at) (count_at s.asked.items c.in_ok-at.at)) {
             memory = written i;
-            state = states.Done (calls.Send c.in_ok-send.send.0 c.in_ok-send.send.1) (answers.Replied c.in-Replied.message);
+            state = states.Done (calls.Send c.in_ok-send.send.0 c.in_ok-send.send.1) (answers.Replied reply.0);
           }));
       indexed = indexed_same s _ refl (length-set s.procs.items c.in_ok-at.at _) refl refl refl refl refl c.requires.indexed;
     }

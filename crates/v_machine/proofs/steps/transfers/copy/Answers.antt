@@ -7,7 +7,7 @@ use Rattle.v_machine.specs.Moves.{into_of, with_exchange}
 use Rattle.v_machine.specs.Sends.{with_written}
 use Rattle.v_machine.specs.Places.{place_in}
 use Rattle.v_machine.proofs.Fits.{written_room}
-use Rattle.v_machine.proofs.MoveSteps.{copy_allowed, next_is}
+use Rattle.v_machine.proofs.MoveSteps.{copy_allowed, next_is, written_is}
 use Rattle.v_machine.proofs.steps.transfers.copy.Goals as goal
 
 pub returns : goal.returns
@@ -37,6 +37,7 @@ returns c =
     record {
       effect = copy_allowed k _ name c.args.moving part.start part.len e m who w.process at opened next w.is
           (second.0 ∙ ap (λ x. with_exchange x name (with_written c.in_ok-done.done e)) first
-          ∙ ap (λ d. with_exchange between name (with_written d e)) done);
+          ∙ ap (λ d. with_exchange between name (with_written d e)) done
+          ∙ ap (with_exchange between name) (written_is c.args.moving (e.done + part.len) e m opened));
       indexed = second.1 (c.write_part.ensures.indexed c.requires.indexed);
     }

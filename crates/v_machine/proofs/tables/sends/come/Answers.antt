@@ -17,10 +17,10 @@ loop-earlier-preserved c = record {
 pub returns-clause-value : goal.returns-clause-value
 returns-clause-value c =
     let last : c.loop-earlier.earlier ≡ c.args.number = omega arith in
-    come_is c.args.latest c.args.number c.args.host c.args.sends.now c.loop-earlier.sends c.put_stage.new.sends c.put_stage.ensures
+    come_is c.args.latest c.args.number c.args.host c.args.sends.now c.loop-earlier.sends c.queue.new.sends c.queue.ensures
     (λ n. c.loop-earlier.invariant.value n
     ∙ ap (λ high. option_map (dropped_between c.args.latest high c.args.host n) (numbered c.args.sends.now n)) last)
 
 pub returns-clause-count : goal.returns-clause-count
-returns-clause-count c = ap length c.put_stage.ensures ∙ length-change (at_stage stages.Queued) c.args.number c.loop-earlier.sends
+returns-clause-count c = ap length c.queue.ensures ∙ length-change (at_stage stages.Queued) c.args.number c.loop-earlier.sends
     ∙ c.loop-earlier.invariant.count

@@ -1,10 +1,8 @@
-use Rattle.std.proofs.Common.{ap}
 use Rattle.std.proofs.lemmas.Result.{on_err_weaker}
 use Rattle.v_machine.proofs.Changes.{set_numbered-same}
 use Rattle.v_machine.proofs.tables.sends.push_move.Goals as goal
 
 pub returns-in-Some-clause-err : goal.returns-in-Some-clause-err
-returns-in-Some-clause-err c = on_err_weaker c.push.result
-    (λ same. set_numbered-same c.args.number c.args.sends.now c.in-Some.exchange.now _ c.in-Some.ensures.value
-    (ap (λ xs. record c.in-Some.exchange.now { moves = xs }) same))
-    c.push.ensures.err
+returns-in-Some-clause-err c = on_err_weaker c.push_move.result
+    (λ same. set_numbered-same c.args.number c.args.sends.now c.in-Some.sent.now _ c.in-Some.ensures.value same)
+    c.push_move.ensures.err

@@ -1,0 +1,68 @@
+//! `plain replay`, `plain replay --trace` and `plain check`: a plain, fast program of the rules of `vkernel`, for measuring.
+
+mod calls;
+mod exchange;
+mod head;
+mod machine;
+mod packets;
+mod replay;
+mod report;
+mod station;
+mod telling;
+mod text;
+mod trace;
+mod values;
+mod wire;
+
+use std::io::{Read, Write};
+use std::process::ExitCode;
+
+const INPUT_BYTES: u64 = 16_777_216;
+
+/// How the work on a text ends.
+pub enum Ending {
+    Done,
+    NotARun(u64),
+    BadLine(usize),
+    Limit,
+}
+
+fn main() -> ExitCode {
+    let words: Vec<_> = std::env::args_os().skip(1).collect();
+    let words: Vec<_> = words.iter().map(|word| word.to_str().unwrap_or("")).collect();
+    let work: fn(&[u8]) -> (Vec<u8>, Ending) = match words[..] {
+        ["replay"] => |text| replay::replay(text, false),
+        ["replay", "--trace"] | ["--trace", "replay"] => |text| replay::replay(text, true),
+        ["check"] => trace::check,
+        _ => return fail(2, "usage: vkernel replay [--trace] | check | run | storm N"),
+    };
+    let mut text = Vec::new();
+    if std::io::stdin().lock().take(INPUT_BYTES + 1).read_to_end(&mut text).is_err() {
+        return fail(4, "reading failed");
+    }
+    if text.len() as u64 > INPUT_BYTES {
+        return fail(8, "limit reached");
+    }
+    if text.is_empty() {
+        return fail(3, "line 1 is not valid");
+    }
+    if !text.ends_with(b"\n") {
+        text.push(b'\n');
+    }
+    let (output, ending) = work(&text);
+    let mut standard = std::io::stdout().lock();
+    if standard.write_all(&output).and_then(|()| standard.flush()).is_err() {
+        return fail(5, "writing failed");
+    }
+    match ending {
+        Ending::Done => ExitCode::SUCCESS,
+        Ending::NotARun(step) => fail(1, &format!("step {step} is not allowed")),
+        Ending::BadLine(line) => fail(3, &format!("line {line} is not valid")),
+        Ending::Limit => fail(8, "limit reached"),
+    }
+}
+
+fn fail(status: u8, text: &str) -> ExitCode {
+    eprintln!("vkernel: {text}");
+    ExitCode::from(status)
+}

@@ -1,0 +1,34 @@
+-- Internal: no public contract rests on this file. What an exchange in few bytes stands for.
+use Rattle.std.specs.Prelude.{[]}
+use Rattle.vk_base.specs.declared.kernel.Exchange.{Exchange}
+use Rattle.vk_base.specs.declared.kernel.Stage.{Stage}
+use Rattle.vk_base.specs.declared.kernel.Stage.TheVariants as stages
+use Rattle.vk_base.specs.declared.message.Message.{Message}
+use Rattle.vk_base.specs.declared.pid.Pid.{Pid}
+use Rattle.v_machine.specs.Apart.{only_part}
+use Rattle.v_machine.specs.declared.tables.apart.Rare.{Rare}
+use Rattle.v_machine.specs.declared.tables.sent.Phase.{Phase}
+use Rattle.v_machine.specs.declared.tables.sent.Phase.TheVariants as phases
+
+-- how far an exchange is, with this reply, where there is one
+abbrev pub stage_by : Phase → Message → Rare → Stage
+stage_by phases.Posted m r = stages.Posted
+stage_by phases.Queued m r = stages.Queued
+stage_by phases.Taken m r = stages.Taken
+stage_by phases.Replied m r = stages.Replied m r.dest r.bytes
+stage_by phases.Dropped m r = stages.Dropped
+
+abbrev pub exchange_by : Pid → Message → Phase → Message → Rare → Exchange
+exchange_by target message phase reply r = record {
+  target = target;
+  message = message;
+  part = r.part;
+  stage = stage_by phase reply r;
+  moves = r.moves;
+  opened = r.opened;
+  done = r.done;
+}
+
+-- the stage of a Send to a process of its own station, or of another one
+abbrev pub first_phase : Phase → Message → Stage
+first_phase phase m = stage_by phase m (only_part [])

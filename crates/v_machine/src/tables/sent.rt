@@ -1,0 +1,212 @@
+//! One exchange of the kernel, in few bytes.
+
+ghost use Rattle.std.specs.Prelude.{◌≡◌, ◌≤◌, [], Some, None, IfSome, IfNone, OnOk, OnErr, IfOk};
+ghost use Rattle.vk_base.specs.declared.kernel.Stage.TheVariants as stages;
+ghost use Rattle.vk_base.specs.Kernel.{is_posted, is_queued, is_taken, reply_of};
+ghost use Rattle.v_machine.specs.Sends.{at_stage, with_begun, with_opened, with_written, given_back};
+ghost use Rattle.v_machine.specs.Sent.{first_phase};
+
+use crate::tables::apart::Apart;
+use std::alloc::Global;
+use std::marker::Model;
+use vk_base::{List, Message, Move, NoMemory, Pid};
+
+/// How far an exchange is.
+#[derive(Clone, Copy)]
+pub enum Phase {
+    Posted,
+    Queued,
+    Taken,
+    Replied,
+    Dropped,
+}
+
+/// An exchange of the kernel in few bytes. What most have not lies apart.
+#[derive(Drop)]
+pub struct Sent {
+    apart: Apart,
+    target: Pid,
+    message: Message,
+    /// The message of the reply, where there is one.
+    reply: Message,
+    phase: Phase,
+}
+
+impl Model for Sent {
+    ghost use Rattle.vk_base.specs.declared.kernel.Exchange.{Exchange};
+    ghost use Rattle.v_machine.specs.Sent.{exchange_by};
+
+    ghost Value = { Exchange };
+
+    ghost view = { λ s. exchange_by s.target s.message s.phase s.reply s.apart };
+}
+
+impl Sent {
+    /// A Send that has begun.
+    #[inline(always)]
+    pub fn new(
+        alloc: Global,
+        target: Pid,
+        message: Message,
+        part: List<u8>,
+        phase: Phase,
+    ) -> Result<Self, NoMemory>
+        ensures { IfOk result (λ s. s ≡ record {
+          target = target;
+          message = message;
+          part = part;
+          stage = first_phase phase message;
+          moves = [];
+          opened = 0;
+          done = 0;
+        }) }
+    {
+        let apart = Apart::new(alloc, part)?;
+        Ok(Sent {
+            apart,
+            target,
+            message,
+            reply: message,
+            phase,
+        })
+    }
+
+    pub fn target(&self) -> Pid
+        ensures { result ≡ self.now.target }
+    {
+        self.target
+    }
+
+    pub fn message(&self) -> &Message
+        ensures { result.now ≡ self.now.message }
+    {
+        &self.message
+    }
+
+    pub fn part(&self) -> &[u8]
+        ensures { result.now ≡ self.now.part }
+    {
+        self.apart.part()
+    }
+
+    pub fn moves(&self) -> &[Move]
+        ensures { result.now ≡ self.now.moves }
+    {
+        self.apart.moves()
+    }
+
+    pub fn opened(&self) -> u64
+        ensures { result ≡ self.now.opened }
+    {
+        self.apart.opened()
+    }
+
+    pub fn done(&self) -> u32
+        ensures { result ≡ self.now.done }
+    {
+        self.apart.done()
+    }
+
+    pub fn is_posted(&self) -> bool
+        ensures { result ≡ is_posted self.now.stage }
+    {
+        matches!(self.phase, Phase::Posted)
+    }
+
+    pub fn is_queued(&self) -> bool
+        ensures { result ≡ is_queued self.now.stage }
+    {
+        matches!(self.phase, Phase::Queued)
+    }
+
+    pub fn is_taken(&self) -> bool
+        ensures { result ≡ is_taken self.now.stage }
+    {
+        matches!(self.phase, Phase::Taken)
+    }
+
+    /// The message, the place and the bytes of the reply.
+    pub fn replied(&self) -> Option<(Message, u32, &[u8])>
+        ensures none { IfNone result (reply_of self.now.stage ≡ None) }
+        ensures some { IfSome result (λ r. reply_of self.now.stage ≡ Some (r.0, r.1, r.2.now)) }
+    {
+        match self.phase {
+            Phase::Replied => Some((self.reply, self.apart.dest(), self.apart.bytes())),
+            _ => None,
+        }
+    }
+
+    pub fn queue(&mut self)
+        ensures { self.new ≡ at_stage stages.Queued self.old }
+    {
+        self.phase = Phase::Queued;
+    }
+
+    pub fn take(&mut self)
+        ensures { self.new ≡ at_stage stages.Taken self.old }
+    {
+        self.phase = Phase::Taken;
+    }
+
+    pub fn drop_it(&mut self)
+        ensures { self.new ≡ at_stage stages.Dropped self.old }
+    {
+        self.phase = Phase::Dropped;
+    }
+
+    /// The reply is a message alone.
+    pub fn answer(&mut self, alloc: Global, message: Message)
+        ensures { self.new ≡ at_stage (stages.Replied message 0 []) self.old }
+    {
+        self.apart.clear_answer(alloc);
+        self.reply = message;
+        self.phase = Phase::Replied;
+    }
+
+    /// The reply has bytes for the sender's memory. Where memory is wanting nothing changes.
+    pub fn answer_with(
+        &mut self,
+        alloc: Global,
+        message: Message,
+        dest: u32,
+        bytes: List<u8>,
+    ) -> Result<(), NoMemory>
+        ensures ok { OnOk result (self.new ≡ at_stage (stages.Replied message dest bytes) self.old) }
+        ensures err { OnErr result (self.new ≡ self.old) }
+    {
+        self.apart.put_answer(alloc, dest, bytes)?;
+        self.reply = message;
+        self.phase = Phase::Replied;
+        Ok(())
+    }
+
+    /// One more move. Where memory is wanting nothing changes.
+    pub fn push_move(&mut self, alloc: Global, begun: Move) -> Result<(), NoMemory>
+        ensures ok { OnOk result (self.new ≡ with_begun begun self.old) }
+        ensures err { OnErr result (self.new ≡ self.old) }
+    {
+        self.apart.push_move(alloc, begun)
+    }
+
+    /// The move of a number is the open one from now on, with these bytes, if some are given.
+    pub fn open(&mut self, alloc: Global, moving: u64, noted: Option<List<u8>>)
+        ensures { self.new ≡ with_opened moving noted self.old }
+    {
+        self.apart.open(alloc, moving, noted);
+    }
+
+    /// So many bytes of the open move were written.
+    pub fn put_done(&mut self, done: u32)
+        ensures { self.new ≡ with_written done self.old }
+    {
+        self.apart.put_done(done);
+    }
+
+    /// Of the moves from one number up to another, the spent ones give their bytes back.
+    pub fn give_back(&mut self, alloc: Global, from: u64, to: u64)
+        requires { from ≤ to }
+        ensures { self.new ≡ given_back from to self.old }
+    {
+        self.apart.give_back(alloc, from, to);
+    }
+}
