@@ -24,8 +24,8 @@ pub struct Move {
     pub noted: Option<Vec<u8>>,
 }
 
-/// What became of a Send. It is kept as long as it is the last of its sender, or not yet replied to or dropped, or a process is
-/// blocked in a move of it.
+/// What became of a Send. It is kept as long as it is the last of its sender, or neither replied to nor dropped and its target in the
+/// configuration, or a process is blocked in a move of it.
 pub struct Exchange {
     pub sender: u32,
     pub number: u64,

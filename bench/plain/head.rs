@@ -7,11 +7,12 @@ const STATIONS: usize = 16;
 const STATION_PROCESSES: usize = 32;
 const MEMORY_BYTES: u64 = 131_072;
 
-/// Tables from hosts and locals to places in lists, one higher; 0 is none.
+/// The processes by rising pids, and the hosts of the stations.
 #[derive(Default)]
 pub struct Config {
     pub processes: Vec<(Pid, u32)>,
     pub hosts: Vec<u16>,
+    /// From hosts, and from stations with locals, to places in these lists, one higher; 0 is none.
     station_of: Vec<u8>,
     process_of: Vec<u16>,
 }

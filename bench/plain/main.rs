@@ -34,7 +34,7 @@ fn main() -> ExitCode {
         ["replay"] => |text| replay::replay(text, false),
         ["replay", "--trace"] | ["--trace", "replay"] => |text| replay::replay(text, true),
         ["check"] => trace::check,
-        _ => return fail(2, "usage: vkernel replay [--trace] | check | run | storm N"),
+        _ => return fail(2, "usage: plain replay [--trace] | check"),
     };
     let mut text = Vec::new();
     if std::io::stdin().lock().take(INPUT_BYTES + 1).read_to_end(&mut text).is_err() {
@@ -63,6 +63,6 @@ fn main() -> ExitCode {
 }
 
 fn fail(status: u8, text: &str) -> ExitCode {
-    eprintln!("vkernel: {text}");
+    eprintln!("plain: {text}");
     ExitCode::from(status)
 }

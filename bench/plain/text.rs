@@ -42,8 +42,8 @@ const fn decimal_pairs() -> [[u8; 2]; 100] {
     pairs
 }
 
-/// A place in a text whose last line has its line feed. Each reader gives nothing where no such word stands; no reader goes
-/// behind a line feed but `end`.
+/// A place in a text whose last line has its line feed. Each reader gives nothing where no such word stands; no reader of a
+/// single word goes behind a line feed: `end` and `call` do.
 pub struct Reader<'a> {
     text: &'a [u8],
     at: usize,
@@ -381,7 +381,7 @@ pub fn put_pid(text: &mut Vec<u8>, pid: Pid) {
     put_decimal(text, u64::from(pid.local()));
 }
 
-/// The 32 bytes of so many digits, where all are digits. The loops are such as the compiler makes 16 bytes at once of.
+/// The 32 bytes of 64 digits, where all are digits. The loops are such as the compiler makes 16 bytes at once of.
 fn block_of(digits: &[u8; 64]) -> Option<[u8; 32]> {
     let mut values = [0; 64];
     let mut all = 0;

@@ -16,6 +16,7 @@ rare_in (Some b) = b.value
 abbrev pub answer_in : ℕ → List ℕ → Rare → Rare
 answer_in dest bytes r = record r { dest = dest; bytes = bytes }
 
+-- `with_begun`, `with_opened`, `with_written` and `given_back` of Sends.antt, said of what lies apart
 abbrev pub begun_in : Move → Rare → Rare
 begun_in m r = record r { moves = r.moves ++ m ∷ [] }
 

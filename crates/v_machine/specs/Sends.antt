@@ -39,7 +39,7 @@ abbrev pub where_moves : List Move → ℕ → ℕ → ℕ
 where_moves [] n other = other
 where_moves (m ∷ ms) n other = n
 
--- the move of this number is the open one, with these bytes, where some are given
+-- where there are moves, the one of this number is the open one, with these bytes, where some are given
 abbrev pub with_opened : ℕ → Option (List ℕ) → Exchange → Exchange
 with_opened number noted e = record e {
   moves = noted_in number noted e.moves;
@@ -47,7 +47,7 @@ with_opened number noted e = record e {
   done = where_moves e.moves 0 e.done;
 }
 
--- so many bytes of the open move were written
+-- so many bytes of the open move were written, where there are moves
 abbrev pub with_written : ℕ → Exchange → Exchange
 with_written done e = record e { done = where_moves e.moves done e.done }
 

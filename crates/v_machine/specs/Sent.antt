@@ -29,6 +29,6 @@ exchange_by target message phase reply r = record {
   done = r.done;
 }
 
--- the stage of a Send to a process of its own station, or of another one
-abbrev pub first_phase : Phase → Message → Stage
-first_phase phase m = stage_by phase m (only_part [])
+-- the stage of a Send that begins: queued at its own station, or posted to another one
+abbrev pub first_stage : Phase → Message → Stage
+first_stage phase m = stage_by phase m (only_part [])

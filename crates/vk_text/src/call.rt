@@ -187,10 +187,10 @@ fn read_exit(line: &[u8], at: usize, into: &mut CallBuffer) -> Option<()>
     Some(())
 }
 
-/// The call that any word begins, by a search of the word's end. It stays a function of its own, so that the frequent calls do
-/// not pay for its room.
+/// The same as [`take_call`], whatever the word is. It stays a function of its own, so that the frequent calls do not pay for its
+/// room.
 #[inline(never)]
-fn take_other(line: &[u8], at: usize, into: &mut CallBuffer) -> Option<()>
+fn take_any(line: &[u8], at: usize, into: &mut CallBuffer) -> Option<()>
     ensures { option_map (λ _. into.new) result ≡ call_of (words_from line.now at) }
 {
     let (word, at) = next_word(line, at)?;
@@ -240,7 +240,7 @@ pub fn take_call(line: &[u8], at: usize, into: &mut CallBuffer) -> Option<()>
     } else if rest.starts_with(b"reply ") {
         read_reply(line, at + 6, into)
     } else {
-        take_other(line, at, into)
+        take_any(line, at, into)
     }
 }
 

@@ -87,7 +87,7 @@ fn first_pair(bytes: &[u8], most: u64) -> Option<u64>
     if number <= most { Some(number) } else { None }
 }
 
-/// The number of one or two digits, as most are, that all the digits spell that stand first, and how many they are.
+/// The number of one or two digits, as those of most pids are, that all the digits spell that stand first, and how many they are.
 #[inline(always)]
 fn first_few(bytes: &[u8], most: u64) -> Option<(u64, usize)>
     ensures number { IfSome result (λ r. (r.1 ≡ prefix_len is_ascii_digit bytes.now) × (number_of most (take r.1 bytes.now) ≡ Some r.0)) }
@@ -116,15 +116,15 @@ fn first_many(bytes: &[u8], most: u64) -> Option<(u64, usize)>
     Some((value, len))
 }
 
-/// The same, and soonest for one digit or two.
+/// The same, and soonest for one digit. Numbers of two digits are not looked for first, since longer ones would pay for it.
 fn first_number(bytes: &[u8], most: u64) -> Option<(u64, usize)>
     ensures number { MatchOption result (number_of most (take (prefix_len is_ascii_digit bytes.now) bytes.now) ≡ None)
         (λ r. (r.1 ≡ prefix_len is_ascii_digit bytes.now) × (number_of most (take r.1 bytes.now) ≡ Some r.0)) }
     ensures most { IfSome result (λ r. r.0 ≤ most) }
     ensures within { IfSome result (λ r. r.1 ≤ length bytes.now) }
 {
-    match first_few(bytes, most) {
-        Some(found) => Some(found),
+    match first_alone(bytes, most) {
+        Some(number) => Some((number, 1)),
         None => first_many(bytes, most),
     }
 }

@@ -61,6 +61,7 @@ pub fn write_pid(alloc: Global, into: &mut Vec<u8>, pid: Pid) -> Result<(), NoMe
 }
 
 /// Appends a space and the message. At a refusal a part may stand, and the front is as it was.
+#[inline(always)]
 pub fn write_message(alloc: Global, into: &mut Vec<u8>, message: &Message) -> Result<(), NoMemory>
     ensures ok { OnOk result (into.new.items ≡ into.old.items ++ 32 ∷ message_text message.now) }
     ensures front { OnErr result (Begins into.old.items into.new.items) }

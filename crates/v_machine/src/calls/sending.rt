@@ -11,7 +11,7 @@ ghost use Rattle.vk_base.specs.Ranges.{lies_in};
 ghost use Rattle.v_machine.specs.Kept.{IsKept, IsAt, kernel_in};
 ghost use Rattle.v_machine.specs.Places.{place_in};
 ghost use Rattle.v_machine.specs.Rules.{Judges, Fits, HasRoomFor, Posts, Stays};
-ghost use Rattle.v_machine.specs.Sent.{first_phase};
+ghost use Rattle.v_machine.specs.Sent.{first_stage};
 
 use crate::calls::response::Response;
 use crate::refusal::ApplyRefusal;
@@ -162,14 +162,14 @@ fn new_sent(
 ) -> Result<Sent, NoMemory>
     requires { at < length store.now.procs.items }
     ensures target { IfOk result (λ s. s.target ≡ target) }
-    ensures stage { IfOk result (λ s. s.stage ≡ first_phase phase message) }
+    ensures stage { IfOk result (λ s. s.stage ≡ first_stage phase message) }
     ensures value { (pid : ThePid) (p : Process) → place_in store.now.places pid ≡ Some at → (kernel_in store.now).procs pid ≡ Some p →
         lies_in (segment_of message) (length p.memory) ≡ true →
         IfOk result (λ s. s ≡ record {
           target = target;
           message = message;
           part = first_part message p.memory;
-          stage = first_phase phase message;
+          stage = first_stage phase message;
           moves = [];
           opened = 0;
           done = 0;

@@ -87,15 +87,15 @@ pub fn finish(store: &mut Store, pid: Pid) -> Option<()>
     let send = proc(store, at).activity.sending()?;
     let number = sends_of(store, at);
     let sent = store.sends[at].get(number)?;
-    let reply = sent.replied()?;
+    let (message, dest, bytes) = sent.replied()?;
     let proc = &mut store.procs[at];
-    let _fits = proc.memory.write(reply.1, reply.2);
+    let _fits = proc.memory.write(dest, bytes);
     proc.activity = Activity::Done {
         waiting: Waiting::Send {
             target: send.0,
             message: send.1,
         },
-        outcome: Outcome::Replied { message: reply.0 },
+        outcome: Outcome::Replied { message },
     };
     Some(())
 }

@@ -146,7 +146,8 @@ impl Apart {
         }
     }
 
-    /// The move of a number is the open one from now on, with these bytes, if some are given.
+    /// The move of a number is the open one from now on, with these bytes, if some are given. Where no move was begun
+    /// nothing changes.
     pub fn open(&mut self, alloc: Global, moving: u64, noted: Option<List<u8>>)
         ensures { self.new ≡ opened_in moving noted self.old }
     {
@@ -155,7 +156,7 @@ impl Apart {
         }
     }
 
-    /// So many bytes of the open move were written.
+    /// So many bytes of the open move were written. Where no move was begun nothing changes.
     pub fn put_done(&mut self, done: u32)
         ensures { self.new ≡ written_in done self.old }
     {
@@ -177,6 +178,7 @@ impl Apart {
     }
 }
 
+/// Where there is no move nothing changes, as where nothing lies apart.
 fn open(rare: &mut Rare, alloc: Global, moving: u64, noted: Option<List<u8>>)
     ensures { rare.new ≡ opened_in moving noted rare.old }
 {
@@ -190,6 +192,7 @@ fn open(rare: &mut Rare, alloc: Global, moving: u64, noted: Option<List<u8>>)
     rare.done = 0;
 }
 
+/// Where there is no move nothing changes, as where nothing lies apart.
 fn put_done(rare: &mut Rare, done: u32)
     ensures { rare.new ≡ written_in done rare.old }
 {

@@ -22,7 +22,8 @@ pub fn lies_in(start: u32, count: u32, size: u32) -> bool
     u64::from(start) + u64::from(count) <= u64::from(size)
 }
 
-/// The bytes of a range, if it lies in the memory. They are read piece by piece.
+/// The bytes of a range, if it lies in the memory. They are copied in pieces of a size that an instruction counter takes
+/// for the few instructions that it is, and not for one a byte (`docs/SPEED.md`).
 fn bytes_of(memory: &Memory, alloc: Global, start: u32, count: u32) -> Result<List<u8>, NoMemory>
     ensures { lies_in (range_of start count) (length memory.now) ≡ true →
         IfOk result (λ l. l ≡ bytes_in (range_of start count) memory.now) }

@@ -17,7 +17,7 @@ ghost use Rattle.v_machine.specs.Sends.{given_back, with_begun, with_opened, wit
 use crate::tables::numbered::index_of;
 use crate::tables::put::{find, proc, sends_of};
 use crate::tables::sent::Sent;
-use crate::tables::{Store, sends, spent};
+use crate::tables::{Store, sends};
 use std::alloc::Global;
 use vk_base::{Activity, List, Memory, Move, MoveName, Name, NoMemory, Range, Waiting};
 
@@ -39,6 +39,7 @@ pub fn push_move(
 }
 
 /// A move of a Send of the process of this place is the open one from now on, with these bytes, if some are given.
+/// Where no move was begun nothing changes.
 pub fn put_open(
     store: &mut Store,
     alloc: Global,
@@ -53,7 +54,8 @@ pub fn put_open(
     sends::open_move(&mut store.sends[at], alloc, number, moving, noted);
 }
 
-/// So many bytes of the open move of a Send of the process of this place were written.
+/// So many bytes of the open move of a Send of the process of this place were written. Where no move was begun nothing
+/// changes.
 pub fn put_done(store: &mut Store, at: usize, number: u64, done: u32)
     requires { at < length store.old.sends.items }
     ensures { Puts (with_written done) at number store.old store.new }
@@ -67,7 +69,7 @@ pub fn put_emptied(store: &mut Store, alloc: Global, at: usize, number: u64, fro
     requires order { from ≤ to }
     ensures { Puts (given_back from to) at number store.old store.new }
 {
-    spent::give_back(&mut store.sends[at], alloc, number, from, to);
+    sends::give_back(&mut store.sends[at], alloc, number, from, to);
 }
 
 /// The process of this place waits in a call for the end of a move.

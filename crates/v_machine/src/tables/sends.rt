@@ -6,7 +6,7 @@ ghost use Rattle.vk_base.specs.Kernel.{is_posted, is_at_target};
 ghost use Rattle.vk_base.specs.declared.kernel.Stage.TheVariants as stages;
 ghost use Rattle.v_machine.specs.Lists.{change_numbered};
 ghost use Rattle.v_machine.specs.Places.{numbered};
-ghost use Rattle.v_machine.specs.Sends.{at_stage, dropped_to, come_at, with_begun, with_opened, with_written};
+ghost use Rattle.v_machine.specs.Sends.{at_stage, dropped_to, come_at, with_begun, with_opened, with_written, given_back};
 
 use crate::tables::numbered::Numbered;
 use crate::tables::sent::Sent;
@@ -137,6 +137,7 @@ pub fn push_move(
 }
 
 /// The move of a number of the Send of a number is the open one from now on, with these bytes, if some are given.
+/// Where no move was begun nothing changes.
 #[tactic(auto, using(crate::proofs::Changes::changes))]
 pub fn open_move(
     sends: &mut Numbered<Sent>,
@@ -152,12 +153,23 @@ pub fn open_move(
     }
 }
 
-/// So many bytes of the open move of the Send of a number were written.
+/// So many bytes of the open move of the Send of a number were written. Where no move was begun nothing changes.
 #[tactic(auto, using(crate::proofs::Changes::changes))]
 pub fn put_done(sends: &mut Numbered<Sent>, number: u64, done: u32)
     ensures { sends.new ≡ change_numbered number (with_written done) sends.old }
 {
     if let Some(sent) = sends.get_mut(number) {
         sent.put_done(done);
+    }
+}
+
+/// Of the moves from one number up to another of the Send of a number, the spent ones give their bytes back.
+#[tactic(auto, using(crate::proofs::Changes::changes))]
+pub fn give_back(sends: &mut Numbered<Sent>, alloc: Global, number: u64, from: u64, to: u64)
+    requires { from ≤ to }
+    ensures { sends.new ≡ change_numbered number (given_back from to) sends.old }
+{
+    if let Some(sent) = sends.get_mut(number) {
+        sent.give_back(alloc, from, to);
     }
 }

@@ -4,7 +4,7 @@ ghost use Rattle.std.specs.Prelude.{◌≡◌, ◌≤◌, [], Some, None, IfSome
 ghost use Rattle.vk_base.specs.declared.kernel.Stage.TheVariants as stages;
 ghost use Rattle.vk_base.specs.Kernel.{is_posted, is_queued, is_taken, reply_of};
 ghost use Rattle.v_machine.specs.Sends.{at_stage, with_begun, with_opened, with_written, given_back};
-ghost use Rattle.v_machine.specs.Sent.{first_phase};
+ghost use Rattle.v_machine.specs.Sent.{first_stage};
 
 use crate::tables::apart::Apart;
 use std::alloc::Global;
@@ -55,7 +55,7 @@ impl Sent {
           target = target;
           message = message;
           part = part;
-          stage = first_phase phase message;
+          stage = first_stage phase message;
           moves = [];
           opened = 0;
           done = 0;
@@ -188,14 +188,15 @@ impl Sent {
         self.apart.push_move(alloc, begun)
     }
 
-    /// The move of a number is the open one from now on, with these bytes, if some are given.
+    /// The move of a number is the open one from now on, with these bytes, if some are given. Where no move was begun
+    /// nothing changes.
     pub fn open(&mut self, alloc: Global, moving: u64, noted: Option<List<u8>>)
         ensures { self.new ≡ with_opened moving noted self.old }
     {
         self.apart.open(alloc, moving, noted);
     }
 
-    /// So many bytes of the open move were written.
+    /// So many bytes of the open move were written. Where no move was begun nothing changes.
     pub fn put_done(&mut self, done: u32)
         ensures { self.new ≡ with_written done self.old }
     {

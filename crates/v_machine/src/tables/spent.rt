@@ -2,24 +2,12 @@
 
 ghost use Rattle.std.specs.Prelude.{◌≡◌, ◌≤◌, ◌+◌};
 ghost use Rattle.v_machine.specs.Lists.{change_numbered};
-ghost use Rattle.v_machine.specs.Sends.{emptied_between, given_back};
+ghost use Rattle.v_machine.specs.Sends.{emptied_between};
 ghost use Rattle.v_machine.specs.Spent.{emptied, is_spent};
 
 use crate::tables::numbered::Numbered;
-use crate::tables::sent::Sent;
 use std::alloc::Global;
 use vk_base::{List, Move};
-
-/// Of the moves from one number up to another of the Send of a number, the spent ones give their bytes back.
-#[tactic(auto, using(crate::proofs::Changes::changes))]
-pub fn give_back(sends: &mut Numbered<Sent>, alloc: Global, number: u64, from: u64, to: u64)
-    requires { from ≤ to }
-    ensures { sends.new ≡ change_numbered number (given_back from to) sends.old }
-{
-    if let Some(sent) = sends.get_mut(number) {
-        sent.give_back(alloc, from, to);
-    }
-}
 
 /// Each move from one number up to another gives its bytes back, if it is spent.
 pub fn empty_moves(
