@@ -9,6 +9,7 @@ pub mod Coming
 pub mod Each
 pub mod Emptying
 pub mod Fits
+pub mod Following
 pub mod Grouping
 pub mod Holding
 pub mod Indexes

@@ -19,6 +19,7 @@ use Rattle.vk_base.specs.Kernel.{Kernel, waiting_on, with_state, ended, is_movin
 use Rattle.vk_base.specs.Steps.{only_if, ending, end_step, move_ending, opening_move, move_opened, open_step, noted_bytes, copying, copied, copy_step, is_next, is_in_move, written_process}
 use Rattle.v_laws.proofs.StepLemmas.{only_if_is}
 use Rattle.v_machine.specs.declared.tables.Store.{Store}
+use Rattle.v_machine.specs.declared.tables.remote.Moving.{Moving}
 use Rattle.v_machine.specs.declared.refusal.ApplyRefusal.{ApplyRefusal}
 use Rattle.v_machine.specs.declared.refusal.ApplyRefusal.TheVariants as refused
 use Rattle.v_machine.specs.Apply.{noted_at_opening}
@@ -26,7 +27,7 @@ use Rattle.v_machine.specs.Kept.{IsIndexed, IsAt, kernel_in}
 use Rattle.v_machine.specs.Lists.{change_at}
 use Rattle.v_machine.specs.Moves.{IsWritten, Notes, noted_for, with_exchange, into_of}
 use Rattle.v_machine.specs.Rules.{Answers, Goes}
-use Rattle.v_machine.specs.Sends.{where_moves, with_noted, noted_in, with_opened, with_written}
+use Rattle.v_machine.specs.Sends.{with_noted, noted_in, where_moves, moving_of, with_moves, with_opened, with_written}
 use Rattle.v_machine.proofs.StepLemmas.{found}
 use Rattle.v_machine.proofs.Stores.{process_at, stays}
 
@@ -112,24 +113,23 @@ change_at_there f (y ∷ xs) zero x is = ap (λ z. f z ∷ xs) (same_Some y x is
 change_at_there f (y ∷ xs) (suc at) x is = ap (λ ys. y ∷ ys) (change_at_there f xs at x is)
 
 -- where a move is there, what is said of one holds
-where_there : (e : Exchange) (number : ℕ) (m : Move) → move_of e number ≡ Some m → (n other : ℕ) → where_moves e.moves n other ≡ n
-where_there e zero m is n other = absurd (none-some m is)
-where_there e (suc number) m is n other = where_some e.moves number is
+where_there : (e : Exchange) (number : ℕ) (m : Move) → move_of e number ≡ Some m → (f : Moving → Moving) →
+    with_moves (λ g. where_moves g.moves (f g) g) e ≡ with_moves f e
+where_there e zero m is f = absurd (none-some m is)
+where_there e (suc number) m is f = ap (λ g. with_moves (λ _. g) e) (where_some e.moves number is)
   where
-    where_some : (ms : List Move) (at : ℕ) → slice_get ms at ≡ Some m → where_moves ms n other ≡ n
+    where_some : (ms : List Move) (at : ℕ) → slice_get ms at ≡ Some m →
+        where_moves ms (f (moving_of e)) (moving_of e) ≡ f (moving_of e)
     where_some [] at is = absurd (none-some m is)
     where_some (y ∷ ys) at is = refl
 
 pub opened_is : (number : ℕ) (noted : Option (List ℕ)) (e : Exchange) (m : Move) → move_of e number ≡ Some m →
     with_opened number noted e ≡ record e { moves = noted_in number noted e.moves; opened = number; done = 0 }
-opened_is number noted e m is = λ i. record e {
-  moves = noted_in number noted e.moves;
-  opened = where_there e number m is number e.opened i;
-  done = where_there e number m is 0 e.done i;
-}
+opened_is number noted e m is = where_there e number m is
+    (λ g. record { moves = noted_in number noted g.moves; opened = number; done = 0 })
 
 pub written_is : (number done : ℕ) (e : Exchange) (m : Move) → move_of e number ≡ Some m → with_written done e ≡ record e { done = done }
-written_is number done e m is = ap (λ d. record e { done = d }) (where_there e number m is done e.done)
+written_is number done e m is = where_there e number m is (λ g. record g { done = done })
 
 noted_is : (number : ℕ) (p : Process) (e : Exchange) (m : Move) (room : ℕ) (noted : Option (List ℕ)) → move_of e number ≡ Some m →
     Notes p m room (Ok noted) → noted_in number noted e.moves ≡ set e.moves (number - 1) (record m { bytes = noted_bytes m.direction p m })

@@ -12,7 +12,8 @@ use Rattle.vk_base.specs.Calls.{Effect, call_step}
 use Rattle.vk_base.specs.Kernel.{◌>>=◌, Kernel, initial_kernel, name_of, move_of}
 use Rattle.vk_base.specs.Steps.{effect}
 use Rattle.v_laws.proofs.Options.{mapped_is, mapped_some}
-use Rattle.v_machine.specs.Apply.{StandsFor, noted_at_opening, noted_by_call, notes}
+use Rattle.v_machine.specs.Apply.{noted_at_opening, noted_by_call, notes}
+use Rattle.v_machine.specs.Follows.{StandsFor}
 use Rattle.v_machine.specs.Lean.{IsAlike}
 use Rattle.v_machine.specs.Spent.{emptied, lean, lean_kernel}
 use Rattle.v_machine.specs.Tables.{Tables, kernel_of}

@@ -14,11 +14,10 @@ use Rattle.vk_base.specs.Kernel.{◌>>=◌, Kernel, name_of, move_of}
 use Rattle.vk_base.specs.Steps.{effect}
 use Rattle.v_machine.specs.declared.refusal.ApplyRefusal.{ApplyRefusal}
 use Rattle.v_machine.specs.declared.refusal.ApplyRefusal.TheVariants.{NotAllowed, Limit, NoMemory}
-use Rattle.v_machine.specs.Spent.{lean_kernel}
 use Rattle.v_machine.specs.Tables.{Tables, kernel_of}
 
 -- Bytes that a step notes for a remote move: a MoveTo that is begun those of its caller, a MoveFrom that is opened those of
--- the sender. What was noted stays noted, also once the bytes are given back.
+-- the sender. No step lowers what was noted.
 abbrev pub is_begun : Option Effect → Bool
 is_begun None = false
 is_begun (Some e) = is_none e.seen
@@ -45,26 +44,15 @@ notes k s = 0
 abbrev pub most : ℕ
 most = NOTED_BYTES
 
--- A machine gives the bytes of spent moves back: it stands for a kernel where its tables are those of that kernel without them.
-abbrev pub StandsFor : Tables → Kernel → Type 0
-StandsFor t k = kernel_of t ≡ lean_kernel k
+-- when each refusal comes, of a step to a kernel in which so many bytes were noted
+abbrev pub IsRefused : Kernel → ℕ → Step → ApplyRefusal → Type 0
+IsRefused k noted s NotAllowed = effect k s ≡ None
+IsRefused k noted s Limit = IsSome (effect k s) × (most < noted + notes k s)
+IsRefused k noted s NoMemory = IsSome (effect k s) × (noted + notes k s ≤ most)
 
--- the kernel takes the step, this is seen of it, and the machine stands for the kernel after it
-pub record Takes (k : Kernel) (s : Step) (old new : Tables) (seen : Option Observation) : Type 0 where
-  pub after : Kernel
-  pub is : effect k s ≡ Some (record { after = after; seen = seen })
-  pub stands : StandsFor new after
-  pub noted : new.noted ≡ old.noted + notes k s
-  pub few : new.noted ≤ most
-
--- What applying a step gives, for a kernel that the machine stands for: that the step is taken; or that it is not allowed, that too
--- many bytes would be noted, or that memory is wanting, and then all stays as it was.
-abbrev pub AppliedTo : Kernel → Step → Tables → Tables → Result (Option Observation) ApplyRefusal → Type 0
-AppliedTo k s old new (Ok seen) = Takes k s old new seen
-AppliedTo k s old new (Err NotAllowed) = (effect k s ≡ None) × (new ≡ old)
-AppliedTo k s old new (Err Limit) = IsSome (effect k s) × (most < old.noted + notes k s) × (new ≡ old)
-AppliedTo k s old new (Err NoMemory) = IsSome (effect k s) × (old.noted + notes k s ≤ most) × (new ≡ old)
-
--- A machine stands for the kernel of its own tables, and that is so for each kernel that it stands for.
+-- What applying a step gives: what is seen of it; or that it is not allowed, that too many bytes would be noted, or that
+-- memory is wanting, and then all stays as it was.
 abbrev pub Applied : Step → Tables → Tables → Result (Option Observation) ApplyRefusal → Type 0
-Applied s old new r = StandsFor old (kernel_of old) × ((k : Kernel) → StandsFor old k → AppliedTo k s old new r)
+Applied s old new (Ok seen) = (effect (kernel_of old) s ≡ Some (record { after = kernel_of new; seen = seen })) ×
+    (new.noted ≡ old.noted + notes (kernel_of old) s) × (new.noted ≤ most)
+Applied s old new (Err why) = IsRefused (kernel_of old) old.noted s why × (new ≡ old)

@@ -1,6 +1,7 @@
 pub mod Access
 pub mod Apart
 pub mod Apply
+pub mod Follows
 pub mod Initial
 pub mod Kept
 pub mod Latest

@@ -24,9 +24,9 @@ exchange_by target message phase reply r = record {
   message = message;
   part = r.part;
   stage = stage_by phase reply r;
-  moves = r.moves;
-  opened = r.opened;
-  done = r.done;
+  moves = r.moving.moves;
+  opened = r.moving.opened;
+  done = r.moving.done;
 }
 
 -- the stage of a Send that begins: queued at its own station, or posted to another one

@@ -3,6 +3,7 @@
 ghost use Rattle.std.specs.Prelude.{◌≡◌, ◌≤◌, IfOk};
 ghost use Rattle.vk_base.specs.Kernel.{initial_kernel};
 ghost use Rattle.v_machine.specs.Apply.{Applied};
+ghost use Rattle.v_machine.specs.Lean.{GivesBack, IsAlike, opened_before};
 ghost use Rattle.v_machine.specs.Tables.{kernel_of};
 
 use crate::brief::brief_of;
@@ -32,12 +33,11 @@ impl Model for Machine {
     ghost Value = { Tables };
 
     ghost use Rattle.v_machine.specs.Apply.{most};
-    ghost use Rattle.v_machine.specs.Kept.{tables_in, kernel_in, IsKept};
-    ghost use Rattle.v_machine.specs.Lean.{AreLean};
+    ghost use Rattle.v_machine.specs.Kept.{tables_in, IsKept};
 
     ghost view = { λ m. tables_in m.store m.noted };
 
-    ghost invariant = { λ m. IsKept m.store × (m.noted ≤ most) × AreLean (kernel_in m.store).exchanges };
+    ghost invariant = { λ m. IsKept m.store × (m.noted ≤ most) };
 }
 
 impl Machine {
@@ -53,16 +53,24 @@ impl Machine {
 
     /// Applies a step, and gives what a process sees of it. Where the step is refused nothing changes.
     ///
-    /// The bytes of a remote move are given back as soon as it is spent: a later move of its exchange was opened, or all its
-    /// bytes were written (`specs/Spent.antt`). So the clause speaks of every kernel whose tables, without such bytes, are the
-    /// machine's.
-    ///
     /// # Errors
     ///
     /// `NotAllowed` exactly where the kernel does not allow the step. Else `Limit` exactly where it would note bytes for a
     /// remote move and those noted so far with them would be more than 268,435,456: a `MoveTo` that is begun notes its
-    /// bytes, and so does an `OpenMove` of a move from the sender; what was noted stays noted, also once the bytes are
-    /// given back. `NoMemory` only where it is neither.
+    /// bytes, and so does an `OpenMove` of a move from the sender; no step lowers what was noted. `NoMemory` only where it is
+    /// neither.
+    pub fn apply(&mut self, alloc: Global, step: &Step) -> Result<Option<Observation>, ApplyRefusal>
+        ensures { Applied step.now self.old self.new result }
+    {
+        let (brief, bytes) = brief_of(step);
+        self.advance(alloc, &StepView::new(&brief, bytes))
+    }
+
+    /// Applies a step whose bytes are lent, as [`Machine::apply`] does.
+    ///
+    /// # Errors
+    ///
+    /// Those of [`Machine::apply`].
     #[inline(always)]
     pub fn advance(
         &mut self,
@@ -82,23 +90,28 @@ impl Machine {
             }
             BriefStep::Collect { pid } => collect(&mut self.store, pid),
             _ => {
-                let before = opened_before(&self.store, step);
                 quiet_step(&mut self.store, &mut self.noted, alloc, step)?;
-                give_back(&mut self.store, alloc, step, before);
                 Ok(None)
             }
         }
     }
 
-    /// Applies a step that has its bytes in it, as [`Machine::advance`] does.
-    ///
-    /// # Errors
-    ///
-    /// Those of [`Machine::advance`].
-    pub fn apply(&mut self, alloc: Global, step: &Step) -> Result<Option<Observation>, ApplyRefusal>
-        ensures { Applied step.now self.old self.new result }
+    /// The number of the open move of the exchange in which a step opens another one; 0 for any other step.
+    #[inline(always)]
+    pub(crate) fn opened_before(&self, step: &StepView) -> u64
+        ensures { result ≡ opened_before (kernel_of self.now) step.now }
     {
-        let (brief, bytes) = brief_of(step);
-        self.advance(alloc, &StepView::new(&brief, bytes))
+        opened_before(&self.store, step)
+    }
+
+    /// After a step that opened a move, those from the one that was open before give their bytes back, where they are spent; after
+    /// one that wrote bytes of a move, this one.
+    #[inline(always)]
+    pub(crate) fn give_back(&mut self, alloc: Global, step: &StepView, before: u64)
+        ensures alike { IsAlike (kernel_of self.old) (kernel_of self.new) }
+        ensures gives { GivesBack step.now before (kernel_of self.old) (kernel_of self.new) }
+        ensures noted { self.new.noted ≡ self.old.noted }
+    {
+        give_back(&mut self.store, alloc, step, before);
     }
 }

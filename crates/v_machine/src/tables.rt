@@ -14,6 +14,7 @@ pub mod proc;
 pub mod put;
 pub mod queue;
 pub mod queues;
+pub mod remote;
 pub mod sends;
 pub mod sent;
 pub mod spent;

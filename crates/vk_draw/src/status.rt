@@ -1,10 +1,7 @@
-ghost use Rattle.std.specs.Prelude.{◌≡◌, ◌≤◌, ◌+◌, ◌++◌, length, codes, decimal};
+ghost use Rattle.std.specs.Prelude.{◌≡◌, ◌++◌, codes, decimal};
 
 use arrayvec::ArrayVec;
-use itoa::Buffer;
-
-/// The greatest number of bytes of a status's text.
-const MOST: usize = 96;
+use vk_top::{numbered_text, short_text};
 
 /// What a call of the program ended with.
 #[derive(Clone, Copy, Debug, PartialEq, Eq)]
@@ -52,45 +49,13 @@ impl Status {
     {
         match *self {
             Status::Done => ArrayVec::new(),
-            Status::Usage => words(b"vkdraw: usage: vkdraw"),
-            Status::BadInput { line } => numbered(b"vkdraw: line ", line, b" is not valid"),
-            Status::ReadFault => words(b"vkdraw: reading failed"),
-            Status::WriteFault => words(b"vkdraw: writing failed"),
-            Status::NoMemory => words(b"vkdraw: out of memory"),
-            Status::Limit => words(b"vkdraw: limit reached"),
-            Status::TooManyEvents => words(b"vkdraw: more than 500 events"),
+            Status::Usage => short_text(b"vkdraw: usage: vkdraw"),
+            Status::BadInput { line } => numbered_text(b"vkdraw: line ", line, b" is not valid"),
+            Status::ReadFault => short_text(b"vkdraw: reading failed"),
+            Status::WriteFault => short_text(b"vkdraw: writing failed"),
+            Status::NoMemory => short_text(b"vkdraw: out of memory"),
+            Status::Limit => short_text(b"vkdraw: limit reached"),
+            Status::TooManyEvents => short_text(b"vkdraw: more than 500 events"),
         }
     }
-}
-
-fn put(text: &mut ArrayVec<u8, MOST>, bytes: &[u8])
-    requires { length text.old.items + length bytes.now ≤ 96 }
-    ensures { text.new.items ≡ text.old.items ++ bytes.now }
-{
-    match text.try_extend_from_slice(bytes) {
-        Ok(()) => {}
-        Err(_) => unreachable!(),
-    }
-}
-
-/// A text of these bytes.
-fn words(bytes: &[u8]) -> ArrayVec<u8, MOST>
-    requires { length bytes.now ≤ 96 }
-    ensures { result.items ≡ bytes.now }
-{
-    let mut text = ArrayVec::new();
-    put(&mut text, bytes);
-    text
-}
-
-/// A text with a number in its midst.
-fn numbered(before: &[u8], number: u64, behind: &[u8]) -> ArrayVec<u8, MOST>
-    requires { length before.now + length behind.now ≤ 76 }
-    ensures { result.items ≡ before.now ++ decimal number ++ behind.now }
-{
-    let mut text = words(before);
-    let mut buffer = Buffer::new();
-    put(&mut text, buffer.format(number).as_bytes());
-    put(&mut text, behind);
-    text
 }

@@ -225,7 +225,8 @@ impl Procs {
         }
     }
 
-    /// The place of its seat. Most stations number their processes from 1 on, so it looks first where the seat stands then.
+    /// The place of its seat. It is looked for first where it stands if the station's processes are numbered from 1 on, as in most
+    /// configurations.
     fn place_of(&self, pid: Pid) -> Option<usize>
         ensures place { result ≡ position (is_seat pid) self.now }
         ensures low { IfSome result (λ at. at < STATION_PROCESSES) }

@@ -9,7 +9,8 @@ use Rattle.vk_base.specs.declared.step.Step.{Step}
 use Rattle.vk_base.specs.Calls.{Effect}
 use Rattle.vk_base.specs.Kernel.{◌>>=◌, Kernel, initial_kernel}
 use Rattle.vk_base.specs.Steps.{Run, effect, run}
-use Rattle.v_machine.specs.Apply.{Applied, StandsFor, most, notes}
+use Rattle.v_machine.specs.Apply.{most, notes}
+use Rattle.v_machine.specs.Follows.{Follows, StandsFor}
 use Rattle.v_machine.specs.Tables.{Tables}
 use Rattle.v_machine.specs.declared.refusal.ApplyRefusal.TheVariants as refusals
 use Rattle.v_trace.specs.Remaining.{Remaining, behind}
@@ -84,7 +85,7 @@ as_far_over k noted steps machine n left none far = far.verdict ∙ verdict-end 
 
 module _ (k : Kernel) (noted : ℕ) (steps : List Step) (old new : Tables) (n : ℕ) (s : Step) (ss : List Step)
     (far : IsAsFar k noted steps old n (s ∷ ss)) where
-  pub as_far_more : (seen : Option Observation) → Applied s old new (Ok seen) → IsAsFar k noted steps new (n + 1) ss
+  pub as_far_more : (seen : Option Observation) → Follows s old new (Ok seen) → IsAsFar k noted steps new (n + 1) ss
   as_far_more seen applied =
       let took = applied.1 far.kernel far.stands in
       let few = took.few in
@@ -96,12 +97,12 @@ module _ (k : Kernel) (noted : ℕ) (steps : List Step) (old new : Tables) (n : 
             ∙ ap (λ m. verdict_from took.after (n + 1) m ss) (sym more);
       }
 
-  pub as_far_refused : Applied s old new (Err refusals.NotAllowed) → verdict_from k 0 noted steps ≡ verdicts.Refused (n + 1)
+  pub as_far_refused : Follows s old new (Err refusals.NotAllowed) → verdict_from k 0 noted steps ≡ verdicts.Refused (n + 1)
   as_far_refused applied = far.verdict ∙ verdict-refused far.kernel n old.noted s ss (applied.1 far.kernel far.stands).0
 
-  pub as_far_too_much : Applied s old new (Err refusals.Limit) → verdict_from k 0 noted steps ≡ verdicts.TooMuch
+  pub as_far_too_much : Follows s old new (Err refusals.Limit) → verdict_from k 0 noted steps ≡ verdicts.TooMuch
   as_far_too_much applied =
-      let limit = applied.1 far.kernel far.stands in
+      let limit = (applied.1 far.kernel far.stands).0 in
       far.verdict ∙ verdict-too_much far.kernel n old.noted s ss limit.0 limit.1
 
 -- runs and what they note, by their first step

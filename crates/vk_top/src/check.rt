@@ -2,14 +2,14 @@
 
 ghost use Rattle.std.specs.Prelude.{◌≡◌, ◌<◌, ◌^◌, ◌++◌, ◌⊎◌, codes, decimal, length, Err, IfOk, IfErr, OnOk};
 ghost use Rattle.vk_base.specs.Kernel.{Kernel};
-ghost use Rattle.v_machine.specs.Apply.{Applied, StandsFor};
+ghost use Rattle.v_machine.specs.Follows.{Follows, StandsFor};
 ghost use Rattle.v_trace.specs.Traces.{trace_of};
 ghost use Rattle.vk_top.specs.Check.{IsVerdictOf, ending, verdict_from, verdict_of};
 ghost use Rattle.vk_top.specs.Work.{KeepsLines};
 ghost use Rattle.vk_top.specs.declared.words.Asked.TheVariants as asked;
 
 use std::alloc::Global;
-use v_machine::{ApplyRefusal, Machine};
+use v_machine::{ApplyRefusal, LeanMachine};
 use v_trace::{StepBuffer, StepReader, TraceRefusal};
 use vk_base::{NoMemory, Observation, Pid};
 use vk_brief::StepView;
@@ -33,11 +33,11 @@ pub(crate) enum TraceVerdict {
 /// is not moved.
 #[inline(always)]
 fn apply(
-    machine: &mut Machine,
+    machine: &mut LeanMachine,
     alloc: Global,
     step: &StepBuffer,
 ) -> Result<Option<Observation>, ApplyRefusal>
-    ensures { Applied step.now machine.old machine.new result }
+    ensures { Follows step.now machine.old machine.new result }
 {
     let (brief, bytes) = step.parts();
     machine.advance(alloc, &StepView::new(&brief, bytes))
@@ -46,7 +46,7 @@ fn apply(
 /// Applies the steps that are left in the reader, in turn, up to the first that decides.
 fn apply_steps(
     alloc: Global,
-    machine: &mut Machine,
+    machine: &mut LeanMachine,
     reader: &mut StepReader<'_>,
 ) -> Result<TraceVerdict, NoMemory>
     requires { length reader.old.steps < 2 ^ 63 }
@@ -73,7 +73,7 @@ fn verdict_on(alloc: Global, reader: &mut StepReader<'_>) -> Result<TraceVerdict
     ensures verdict { IfOk result (λ v. v ≡ verdict_of (record { config = reader.old.config; steps = reader.old.steps })) }
     ensures ending { ending reader.new ≡ ending reader.old }
 {
-    let mut machine = Machine::new(alloc, reader.config())?;
+    let mut machine = LeanMachine::new(alloc, reader.config())?;
     apply_steps(alloc, &mut machine, reader)
 }
 

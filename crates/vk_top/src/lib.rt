@@ -12,11 +12,13 @@ mod check;
 mod emitted;
 mod law;
 mod replay;
+mod short;
 mod status;
 mod storm;
 mod top;
 mod words;
 
 pub use law::verdicts_are_exact;
+pub use short::{numbered_text, short_text};
 pub use status::Status;
 pub use top::vkernel;

@@ -1,5 +1,5 @@
 use Rattle.std.proofs.Common.{Err, length, refl, ap, subst, sym, ◌∙◌, arith}
-use Rattle.v_machine.specs.Apply.{Applied}
+use Rattle.v_machine.specs.Follows.{Follows}
 use Rattle.v_trace.specs.Remaining.{Remaining}
 use Rattle.vk_top.proofs.Nexts.{fewer_steps, next_step, no_step}
 use Rattle.vk_top.proofs.Verdicts.{as_far_at_first, as_far_more, as_far_refused, as_far_too_much, as_far_over, next_far}
@@ -17,7 +17,7 @@ pub returns-in-Err-NotAllowed-clause-verdict : goal.returns-in-Err-NotAllowed-cl
 returns-in-Err-NotAllowed-clause-verdict c = λ k stands.
     let next = next_step _ _ _ _ c.loop-alloc-test.true c.next.ensures.next in
     let far = next_far k _ _ _ _ _ _ _ next (c.loop-alloc.invariant.verdict k stands) in
-    let applied = subst (λ why. Applied c.next.new.step c.loop-alloc.machine c.apply.new.machine (Err why)) c.in-Err-NotAllowed.field-0-is
+    let applied = subst (λ why. Follows c.next.new.step c.loop-alloc.machine c.apply.new.machine (Err why)) c.in-Err-NotAllowed.field-0-is
     c.in-Err-NotAllowed.ensures in
     sym (as_far_refused k _ _ _ c.apply.new.machine _ _ _ far applied)
 
@@ -29,7 +29,7 @@ pub returns-in-Err-Limit-clause-verdict : goal.returns-in-Err-Limit-clause-verdi
 returns-in-Err-Limit-clause-verdict c = λ k stands.
     let next = next_step _ _ _ _ c.loop-alloc-test.true c.next.ensures.next in
     let far = next_far k _ _ _ _ _ _ _ next (c.loop-alloc.invariant.verdict k stands) in
-    let applied = subst (λ why. Applied c.next.new.step c.loop-alloc.machine c.apply.new.machine (Err why)) c.in-Err-Limit.field-0-is
+    let applied = subst (λ why. Follows c.next.new.step c.loop-alloc.machine c.apply.new.machine (Err why)) c.in-Err-Limit.field-0-is
     c.in-Err-Limit.ensures in
     sym (as_far_too_much k _ _ _ c.apply.new.machine _ _ _ far applied)
 

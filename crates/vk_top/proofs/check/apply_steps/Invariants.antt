@@ -1,6 +1,6 @@
 use Rattle.std.proofs.Common.{◌≡◌, ◌+◌, length}
 use Rattle.vk_base.specs.Kernel.{Kernel}
-use Rattle.v_machine.specs.Apply.{StandsFor}
+use Rattle.v_machine.specs.Follows.{StandsFor}
 use Rattle.vk_top.specs.Check.{ending}
 use Rattle.vk_top.proofs.Verdicts.{IsAsFar}
 use Rattle.vk_top.proofs.check.apply_steps.Given as goal

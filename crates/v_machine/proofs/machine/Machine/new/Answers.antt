@@ -1,11 +1,9 @@
 use Rattle.std.proofs.Common.{lit≤, sym, ap, subst, ◌∙◌}
-use Rattle.std.proofs.lemmas.Option.{none-some}
-use Rattle.vk_base.specs.Kernel.{Kernel, initial_kernel}
+use Rattle.vk_base.specs.Kernel.{initial_kernel}
 use Rattle.v_laws.specs.Sizes.{IsSized, size_in}
 use Rattle.v_laws.specs.Sound.{IsSound}
 use Rattle.v_laws.proofs.SizeLemmas.{sized_initial}
 use Rattle.v_laws.proofs.SoundLemmas.{sound_initial}
-use Rattle.v_machine.specs.Lean.{AreLean}
 use Rattle.v_machine.proofs.machine.Machine.new.Goals as goal
 
 pub invariant_of-result : goal.invariant_of-result
@@ -19,5 +17,4 @@ invariant_of-result c =
         sized = subst (IsSized (size_in specs)) (sym is) (sized_initial specs);
       },
       lit≤ tt,
-      subst (λ (k : Kernel). AreLean k.exchanges) (sym is) (λ n e there. absurd (none-some e there)),
     )
