@@ -1,6 +1,6 @@
 -- The Sends of a process, where one comes to a queue and earlier ones are dropped.
 use Rattle.std.proofs.Common.{◌≡◌, ℕ, ◌+◌, ◌<◌, ◌≤◌, true, false, cond, ◌==◌, ◌&&◌, nat_le, nat_lt, List, Option, Some, None, option_map, refl, sym, ap, ◌∙◌, inl, inr, ◌⊎◌, arith}
-use Rattle.std.proofs.lemmas.Bool.{cases_Bool, both_ways, eqb-true, eq-eqb, le-leb, lt-ltb, le-ltb, leb-true, and_left, and_right, cond-true, cond-false}
+use Rattle.std.proofs.lemmas.Bool.{cases_Bool, both_ways, eqb-true, eq-eqb, le-leb, lt-ltb, le-ltb, and_right, cond-true, cond-false}
 use Rattle.std.proofs.lemmas.Bool.Decides.{nat_tests}
 use Rattle.vk_base.specs.declared.kernel.Exchange.{Exchange}
 use Rattle.vk_base.specs.declared.kernel.Stage.TheVariants as stages
@@ -80,18 +80,3 @@ come_is latest number host old before after changed dropped n = elim (cases_Bool
       ∙ map_same (dropped_between latest number host n) (come_at latest number host n) (numbered old n)
       (λ s. sym (cond-false (n == number) (at_stage stages.Queued s) (dropped_between latest number host n s) f))
 ]
-
-pub none_dropped : (low host : ℕ) (old : List Exchange) (n : ℕ) →
-    numbered old n ≡ option_map (dropped_between low low host n) (numbered old n)
-none_dropped low host old n = by_option (numbered old n)
-  where
-    same : (s : Exchange) → s ≡ dropped_between low low host n s
-    same s = sym (by_test s (cases_Bool (nat_le low n)))
-      where
-        by_test : (s : Exchange) → (nat_le low n ≡ true) ⊎ (nat_le low n ≡ false) → dropped_between low low host n s ≡ s
-        by_test s (inl t) = outside low low host n s (leb-true low n t)
-        by_test s (inr f) = cond-false (nat_le low n && nat_lt n low) (dropped_to host s) s (and_left (nat_le low n) (nat_lt n low) f)
-
-    by_option : (o : Option Exchange) → o ≡ option_map (dropped_between low low host n) o
-    by_option None = refl
-    by_option (Some s) = ap Some (same s)

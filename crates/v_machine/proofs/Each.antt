@@ -1,5 +1,5 @@
 -- Changes of a list place by place.
-use Rattle.std.proofs.Common.{◌≡◌, ℕ, ◌+◌, ◌<◌, ◌==◌, nat_lt, List, length, get_or, set, Some, refl, sym, ap, subst, ◌∙◌, inl, inr, arith}
+use Rattle.std.proofs.Common.{◌≡◌, ℕ, ◌+◌, ◌<◌, ◌==◌, nat_lt, List, length, get_or, set, Some, sym, ap, subst, ◌∙◌, inl, inr, arith}
 use Rattle.std.proofs.lemmas.Bool.{cases_Bool, both_ways, eq-eqb, eqb-true, ltb-true, ltb-false}
 use Rattle.std.proofs.lemmas.Option.{same_Some}
 use Rattle.std.specs.List.{slice_get}
@@ -8,9 +8,6 @@ use Rattle.v_machine.proofs.PlaceLemmas.{get_of_or, get-set_same, get-set_other}
 use Rattle.v_machine.proofs.TableLemmas.{get_low}
 
 module _ {X : Type 0} (Becomes : ℕ → X → X → Type 0) (xs : List X) where
-  pub each_none : (high : ℕ) → high ≡ 0 → Each (Until high Becomes) xs xs
-  each_none high none at x is = (x, is, (λ low. absurd (omega arith), λ far. refl))
-
   pub each_next : (ys : List X) (at : ℕ) (d new : X) → Each (Until at Becomes) xs ys → at < length ys → Becomes at (get_or ys at d) new →
       Each (Until (at + 1) Becomes) xs (set ys at new)
   each_next ys at d new each low becomes to x is = elim (cases_Bool (to == at)) [

@@ -1,6 +1,6 @@
 -- What lists have at the place of a process, and after a change at one place.
-use Rattle.std.proofs.Common.{◌≡◌, ℕ, zero, suc, ◌<◌, true, false, List, [], ◌∷◌, length, get_or, set, refl, ap, sym, subst, ◌∙◌, arith, Option, Some, None, inl, inr, if◌then◌else◌}
-use Rattle.std.proofs.lemmas.Bool.{cases_Bool, both_ways, cond-true, cond-false}
+use Rattle.std.proofs.Common.{◌≡◌, ℕ, zero, suc, ◌<◌, true, false, List, [], ◌∷◌, length, get_or, set, refl, ap, sym, subst, ◌∙◌, arith, Option, Some, None}
+use Rattle.std.proofs.lemmas.Bool.{both_ways}
 use Rattle.std.proofs.lemmas.List.Quantifiers.{position-Some}
 use Rattle.std.proofs.lemmas.Option.{same_Some}
 use Rattle.std.specs.List.{slice_get}
@@ -48,10 +48,6 @@ get-set_other (y ∷ xs) zero (suc to) x apart = refl
 get-set_other (y ∷ xs) (suc at) zero x apart = refl
 get-set_other (y ∷ xs) (suc at) (suc to) x apart = get-set_other xs at to x (λ e. apart (ap suc e))
 
--- a table with one entry put
-abbrev pub put_at : {X : Type 0} → (Pid → Option X) → Pid → X → Pid → Option X
-put_at t pid x q = if same_pid q pid then Some x else t q
-
 by_place : {X : Type 0} (pids : List Pid) (xs : List X) (p q : Pid) (at : ℕ) (x : X) (o : Option ℕ) → place_in pids p ≡ Some at →
     place_in pids q ≡ o → same_pid q p ≡ false → (o >>= slice_get (set xs at x)) ≡ (o >>= slice_get xs)
 by_place pids xs p q at x None is there apart = refl
@@ -66,14 +62,6 @@ pub at_place_other : {X : Type 0} (pids : List Pid) (xs : List X) (pid q : Pid) 
     same_pid q pid ≡ false → at_place pids (set xs at x) q ≡ at_place pids xs q
 unfolding at_place
 at_place_other pids xs pid q at x is apart = by_place pids xs pid q at x (place_in pids q) is refl apart
-
-pub at_place-set : {X : Type 0} (pids : List Pid) (xs : List X) (pid : Pid) (at : ℕ) (x : X) → place_in pids pid ≡ Some at →
-    at < length xs → (q : Pid) → at_place pids (set xs at x) q ≡ put_at (at_place pids xs) pid x q
-at_place-set pids xs pid at x is low q = elim (cases_Bool (same_pid q pid)) [
-  | inl t ↦ ap (at_place pids (set xs at x)) (same_pid_is q pid t) ∙ at_place_same pids xs pid at x is low
-      ∙ sym (cond-true (same_pid q pid) (Some x) (at_place pids xs q) t)
-  | inr f ↦ at_place_other pids xs pid q at x is f ∙ sym (cond-false (same_pid q pid) (Some x) (at_place pids xs q) f)
-]
 
 pub at_place_is : {X : Type 0} (pids : List Pid) (xs : List X) (pid : Pid) (at : ℕ) (x : X) → place_in pids pid ≡ Some at →
     slice_get xs at ≡ Some x → at_place pids xs pid ≡ Some x

@@ -1,4 +1,4 @@
--- What a machine does to each kernel that it stands for.
+-- What kernels do that are the same but for the bytes of spent moves.
 use Rattle.std.proofs.Common.{◌≡◌, ℕ, List, Option, Some, None, IsSome, is_some, option_map, refl, sym, ap, ◌∙◌, arith}
 use Rattle.std.proofs.lemmas.Option.{none-some}
 use Rattle.vk_base.specs.declared.call.Call.{Call}
@@ -86,7 +86,7 @@ notes_lean k (steps.Collect pid) = refl
 pub notes_alike : (k l : Kernel) (s : Step) → IsAlike k l → notes k s ≡ notes l s
 notes_alike k l s alike = sym (notes_lean k s) ∙ ap (λ z. notes z s) alike ∙ notes_lean l s
 
--- a machine of the initial kernel stands for it
+-- tables of the initial kernel stand for it
 pub stands_initial : (t : Tables) (specs : List ProcessSpec) → kernel_of t ≡ initial_kernel specs → StandsFor t (initial_kernel specs)
 unfolding lean_kernel
 stands_initial t specs is = is

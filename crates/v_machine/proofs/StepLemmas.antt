@@ -1,5 +1,5 @@
 -- What a step does where it is allowed, from what was found.
-use Rattle.std.proofs.Common.{◌≡◌, ℕ, Bool, true, false, not, List, [], ◌∷◌, Option, Some, None, is_none, nat_lt, refl, sym, ap, ◌∙◌}
+use Rattle.std.proofs.Common.{◌≡◌, ℕ, Bool, false, not, List, [], ◌∷◌, Option, Some, None, is_none, nat_lt, refl, sym, ap, ◌∙◌}
 use Rattle.std.proofs.lemmas.Bool.{both_ways}
 use Rattle.std.proofs.lemmas.Option.{same_Some, none-some}
 use Rattle.vk_base.specs.declared.answer.Answer.{Answer}
@@ -92,13 +92,6 @@ pub reply_allowed : (k after : Kernel) (pid to : Pid) (c : Call) (m : Message) (
 reply_allowed k after pid to c m dest number bytes e holds at is =
     found (held k pid to) number _ _ holds
     (found (k.exchanges (name_of to number)) e _ _ at (ap (λ z. Some (answered z pid c answers.Ok)) (sym is)))
-
--- where the first test does not hold the others decide
-pub not_first : (t : Bool) (why : Refusal) (ts : List (Bool × Refusal)) → t ≡ false → first_that_holds ((t, why) ∷ ts) ≡ first_that_holds ts
-not_first t why ts f = ap (λ b. first_that_holds ((b, why) ∷ ts)) f
-
-pub first_holds : (t : Bool) (why : Refusal) (ts : List (Bool × Refusal)) → t ≡ true → first_that_holds ((t, why) ∷ ts) ≡ Some why
-first_holds t why ts f = ap (λ b. first_that_holds ((b, why) ∷ ts)) f
 
 -- what replaces a stage with a reply is no nearer
 pub replied_is_nearer : (s : Stage) (m : Message) (dest : ℕ) (bytes : List ℕ) → IsNoNearer s (stages.Replied m dest bytes)

@@ -1,4 +1,4 @@
--- What a step of a machine answers that gives the bytes of spent moves back.
+-- What a machine that gives the bytes of spent moves back answers to a step.
 use Rattle.std.specs.Prelude.{◌≡◌, ◌+◌, ◌≤◌, Option, Some, Result, Ok, Err}
 use Rattle.vk_base.specs.declared.kernel.Observation.{Observation}
 use Rattle.vk_base.specs.declared.step.Step.{Step}

@@ -11,7 +11,8 @@ use Rattle.v_machine.specs.declared.tables.proc.Proc.{Proc}
 use Rattle.vk_base.specs.Activities.{state_of}
 use Rattle.v_machine.specs.Places.{place_in, at_place, count_at, numbered}
 
--- The value of a `Machine`. The second, third and fourth list have an entry for each process, in the order of the first.
+-- The value of a `Machine`, and of a `LeanMachine`. The second, third and fourth list have an entry for each process, in the
+-- order of the first.
 pub record Tables : Type 0 where
   -- the processes of the configuration
   pub pids : List Pid

@@ -14,7 +14,7 @@ use vk_brief::StepView;
 
 /// A [`Machine`] without the bytes of remote moves that are spent: a later move of the exchange was opened, or all bytes of this
 /// one were written. No step reads them again, so it follows each kernel whose tables, without them, are its own
-/// (`specs/Follows.antt`). Where remote moves are many, it takes a small part of the memory.
+/// (`specs/Follows.antt`). Where remote moves are many, it takes a small part of the memory of a [`Machine`].
 #[derive(Drop)]
 pub struct LeanMachine {
     machine: Machine,
@@ -35,6 +35,10 @@ impl Model for LeanMachine {
 
 impl LeanMachine {
     /// The initial kernel of a configuration.
+    ///
+    /// # Errors
+    ///
+    /// [`NoMemory`] where memory is wanting.
     pub fn new(alloc: Global, config: &Config) -> Result<LeanMachine, NoMemory>
         ensures { IfOk result (λ m. (kernel_of m ≡ initial_kernel config.now.specs) × (m.noted ≡ 0)) }
     {
@@ -43,11 +47,12 @@ impl LeanMachine {
         })
     }
 
-    /// Applies a step, and gives what a process sees of it. Where the step is refused nothing changes.
+    /// Applies a step whose bytes are lent, and gives what a process sees of it. Where the step is refused nothing changes.
     ///
     /// # Errors
     ///
-    /// Those of [`Machine::apply`]; what was noted stays noted, also once the bytes are given back.
+    /// Those of [`Machine::apply`], for each kernel that it stands for; what was noted stays noted, also once the bytes are
+    /// given back.
     #[inline(always)]
     pub fn advance(
         &mut self,

@@ -1,6 +1,6 @@
-//! The one-machine kernel as fast code, proved equal to its definition: `Machine::apply` takes a step exactly where the
-//! kernel allows it (`specs/Apply.antt`). `LeanMachine` does so too, and keeps no bytes of remote moves that are spent
-//! (`specs/Follows.antt`).
+//! The one-machine kernel as fast code, proved equal to its definition: `Machine::apply` answers NotAllowed exactly where the
+//! kernel does not allow the step (`specs/Apply.antt`). So does `LeanMachine`, for each kernel that it stands for; it keeps no
+//! bytes of remote moves that are spent (`specs/Follows.antt`).
 //!
 //! Stands on the definition in `vk_base`, on what `v_laws` says of every kernel that a run reaches, and on the steps in few
 //! bytes of `vk_brief`.

@@ -42,6 +42,10 @@ impl Model for Machine {
 
 impl Machine {
     /// The initial kernel of a configuration.
+    ///
+    /// # Errors
+    ///
+    /// [`NoMemory`] where memory is wanting.
     pub fn new(alloc: Global, config: &Config) -> Result<Machine, NoMemory>
         ensures { IfOk result (λ m. (kernel_of m ≡ initial_kernel config.now.specs) × (m.noted ≡ 0)) }
     {
@@ -104,8 +108,9 @@ impl Machine {
         opened_before(&self.store, step)
     }
 
-    /// After a step that opened a move, those from the one that was open before give their bytes back, where they are spent; after
-    /// one that wrote bytes of a move, this one.
+    /// Gives bytes back behind a step, where `before` is what [`Machine::opened_before`] gave before it. Behind a step that opened
+    /// a move those of the spent moves from number `before` up to the opened one; behind one that wrote bytes of a move those of
+    /// this move, where it is spent; behind any other step none.
     #[inline(always)]
     pub(crate) fn give_back(&mut self, alloc: Global, step: &StepView, before: u64)
         ensures alike { IsAlike (kernel_of self.old) (kernel_of self.new) }

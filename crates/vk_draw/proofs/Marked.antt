@@ -1,6 +1,5 @@
 -- What is drawn of frames.
-use Rattle.std.proofs.Common.{◌≡◌, ℕ, ◌+◌, ◌≤◌, List, [], ◌∷◌, ◌++◌, length, map, drop, Option, Some, sym, ap, ◌∙◌, append_assoc, append-nil}
-use Rattle.std.proofs.lemmas.List.{drop_all}
+use Rattle.std.proofs.Common.{◌≡◌, ℕ, ◌+◌, List, [], ◌∷◌, ◌++◌, map, drop, Option, Some, sym, ap, ◌∙◌, append_assoc}
 use Rattle.std.proofs.lemmas.Option.{same_Some}
 use Rattle.vk_base.specs.Packets.{Packet}
 use Rattle.vk_frame.specs.declared.header.Header.{Header}
@@ -36,9 +35,3 @@ marks_more fs at bytes marks more whole mark one is added so_far =
     ap (λ l. l ++ map frame_mark (drop (at + 1) fs)) (added ∙ ap (λ m. marks ++ m ∷ []) is)
     ∙ append_assoc marks (frame_mark one.frame ∷ []) (map frame_mark (drop (at + 1) fs))
     ∙ ap (λ l. marks ++ map frame_mark l) (sym one.left) ∙ so_far
-
--- all of them
-pub marks_all : (fs : List Frame) (at : ℕ) (marks whole : List FrameMark) → length fs ≤ at → marks ++ map frame_mark (drop at fs) ≡ whole →
-    marks ≡ whole
-marks_all fs at marks whole all so_far =
-    sym (append-nil marks) ∙ ap (λ l. marks ++ map frame_mark l) (sym (drop_all at fs all)) ∙ so_far

@@ -1,7 +1,7 @@
 -- What a cluster shows of the event that it had last, and its lines.
 use Rattle.std.proofs.Common.{◌≡◌, ℕ, ◌+◌, ◌≤◌, List, [], ◌∷◌, ◌++◌, length, map, drop, Some, refl, sym, ap, subst, ◌∙◌, append_assoc, arith}
 use Rattle.std.specs.Prelude.{slice_get}
-use Rattle.std.proofs.lemmas.List.{append-nil, drop_all, length-map}
+use Rattle.std.proofs.lemmas.List.{append-nil, length-map}
 use Rattle.std.proofs.lemmas.Option.{same_Some}
 use Rattle.vk_base.specs.declared.event.EventAnswer.{EventAnswer}
 use Rattle.vk_base.specs.declared.limits.TheConstants.{FRAME_BYTES}
@@ -75,13 +75,6 @@ frames_more form host own at fs bytes text whole one so_far =
     append_assoc text (frame_lines form host own (at + 1) (emitted_of one.frame))
     (frames_from form host own (at + 1) (map emitted_of (drop (at + 1) fs)))
     ∙ ap (λ l. text ++ frames_from form host own at (map emitted_of l)) (sym one.left) ∙ so_far
-
-pub frames_end : (form : Form) (host own at : ℕ) (fs : List Frame) (text whole : List ℕ) → length fs ≤ at →
-    text ++ frames_from form host own at (map emitted_of (drop at fs)) ≡ whole → text ≡ whole
-frames_end form host own at fs text whole all so_far =
-    sym (append-nil text)
-    ∙ ap (λ l. text ++ frames_from form host own at (map emitted_of l)) (sym (drop_all at fs all))
-    ∙ so_far
 
 -- a trace has no lines of frames
 no_frames : (host own before : ℕ) (frames : List Emitted) → frames_from forms.Trace host own before frames ≡ []

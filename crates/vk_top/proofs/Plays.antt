@@ -4,7 +4,7 @@ use Rattle.std.proofs.lemmas.Bool.{leb-true, or_parts}
 use Rattle.std.proofs.lemmas.List.{append-nil, length-take-le}
 use Rattle.vk_base.specs.declared.limits.TheConstants.{EVENTS, STEPS}
 use Rattle.vk_cluster.specs.declared.emitted.TheConstants.{EVENT_FRAMES, LAST_BYTES}
-use Rattle.vk_cluster.specs.Standing.{StandsFor, StandsSomewhere, emitted_bytes, logs_of}
+use Rattle.vk_cluster.specs.Standing.{StandsFor, emitted_bytes, logs_of}
 use Rattle.vk_cluster.specs.Values.{ClusterValue, is_full}
 use Rattle.vk_event.specs.declared.event.Event.{Event}
 use Rattle.vk_event.specs.declared.schedule.Schedule.{Schedule}
@@ -44,9 +44,6 @@ module _ (form : Form) (s : Schedule) (n : ℕ) (k : ClusterValue) (counts : Cou
     (played : HasPlayed form s n k counts text) where
   bytes_are : nat_lt LAST_BYTES (length k.pile.bytes) ≡ nat_lt LAST_BYTES (emitted_bytes (history_before n s))
   bytes_are = ap (nat_lt LAST_BYTES) played.stands.bytes
-
-  pub somewhere : StandsSomewhere k
-  somewhere = (s.config, take n s.events, played.stands)
 
   module _ (e : Event) (low : n < length s.events) (is : e ≡ get_or s.events n e) where
     so_many : length (take n s.events) ≡ n

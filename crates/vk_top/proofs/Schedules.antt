@@ -1,5 +1,5 @@
 -- What a lawful schedule gives the cluster that plays it, and that its steps are a run.
-use Rattle.std.proofs.Common.{◌≡◌, ℕ, zero, suc, ◌<◌, true, List, [], ◌∷◌, get_or, length, take, None, ap, ◌∙◌, arith}
+use Rattle.std.proofs.Common.{◌≡◌, ℕ, zero, suc, true, List, [], ◌∷◌, take, None, ap, ◌∙◌}
 use Rattle.std.proofs.lemmas.Bool.{and_parts}
 use Rattle.std.specs.List.{list_all}
 use Rattle.vk_base.specs.declared.config.ProcessSpec.{ProcessSpec}
@@ -42,16 +42,3 @@ faultless_by c specs is none = ap (λ (x : Settings). refusal_of x.times x.pool 
 
 pub faultless : (s : Schedule) → IsLawful s → refusal_of s.config.times s.config.pool s.config.specs ≡ None
 faultless s lawful = faultless_by s.config s.config.specs lawful.config lawful.faultless
-
--- each event is of a process or of stations of it
-actors_at : (specs : List ProcessSpec) (es : List Event) (n : ℕ) (e : Event) → n < length es → e ≡ get_or es n e →
-    list_all (has_actors specs) es ≡ true → has_actors specs e ≡ true
-actors_at specs [] n e low is h = absurd (omega (arith, low))
-actors_at specs (x ∷ xs) zero e low is h =
-    ap (has_actors specs) is ∙ (and_parts (has_actors specs x) (list_all (has_actors specs) xs) h).0
-actors_at specs (x ∷ xs) (suc n) e low is h =
-    actors_at specs xs n e (omega (arith, low)) is (and_parts (has_actors specs x) (list_all (has_actors specs) xs) h).1
-
-pub has_its_actors : (s : Schedule) (n : ℕ) (e : Event) → IsLawful s → n < length s.events → e ≡ get_or s.events n e →
-    has_actors s.config.specs e ≡ true
-has_its_actors s n e lawful low is = actors_at s.config.specs s.events n e low is lawful.events

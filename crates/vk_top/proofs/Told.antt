@@ -318,10 +318,6 @@ replay_wanted form text e is (inl h) line bad = h.1 line bad
 replay_wanted form text e is (inr h) line bad =
     let none : schedule_of text ≡ Err (schedules.BadInput line) = replay_bad (schedule_of text) line bad in cc
 
-pub played_wanted : (form : Form) (text : List ℕ) (s : Schedule) → schedule_of text ≡ Ok s → KeepsLines (asked.Replay form) text
-played_wanted form text s h line bad =
-    let none : schedule_of text ≡ Err (schedules.BadInput line) = replay_bad (schedule_of text) line bad in cc
-
 pub trace_wanted : (text : List ℕ) → trace_lines.KeepsLines text → KeepsLines asked.Check text
 trace_wanted text keeps line bad = bad_behind text line keeps (check_bad (trace_of text) line bad)
 
@@ -341,24 +337,6 @@ told_by text t v s is same (inl h) = subst (IsRefusal asked.Check text) (sym h.1
 told_by text t v s is same (inr h) =
     let limit : check_status (trace_of text) ≡ status.Limit = ap check_status is ∙ ap verdict_status (sym same ∙ h.0) in
     subst (IsRefusal asked.Check text) (sym h.1) (limit, inr (check_limit text (trace_of text) refl limit))
-
-late_by : (b : Bool) → IsLate (cond b status.Limit status.Done)
-late_by true = tt
-late_by false = tt
-
-limit_by : (b : Bool) → cond b status.Limit status.Done ≡ status.Limit → b ≡ true
-limit_by true is = refl
-limit_by false is = absurd (grind (arith, is))
-
--- what is written of a schedule, and the answer then
-pub replay_work : (form : Form) (text : List ℕ) (w : Work) (s : Schedule) (b : Bool) → schedule_of text ≡ Ok s → b ≡ is_cut s
-    → w.text.items ≡ written_text form s → w.status ≡ cond b status.Limit status.Done → IsWork (asked.Replay form) text w
-replay_work form text w s b is cut output told = record {
-  output = output ∙ ap (replay_output form) (sym is);
-  status = told ∙ ap (λ x. cond x status.Limit status.Done) cut ∙ ap replay_status (sym is);
-  late = subst IsLate (sym told) (late_by b);
-  limit = λ limit. record { schedule = s; text = is; cut = sym cut ∙ limit_by b (sym told ∙ limit) };
-}
 
 -- what is written of a trace, and the answer then
 told_late : (s : Status) → IsTold s → IsLate s × ¬ (s ≡ status.Limit)

@@ -1,7 +1,6 @@
 -- What the verdict on steps says of them.
-use Rattle.std.proofs.Common.{◌≡◌, ℕ, zero, ◌+◌, ◌-◌, ◌≤◌, ◌<◌, nat_lt, Bool, true, false, cond, List, [], ◌∷◌, ◌++◌, length, take, drop, get_or, suc, Option, Some, None, Ok, Err, is_some, option_to_list, refl, ap, subst, sym, ◌∙◌, arith}
+use Rattle.std.proofs.Common.{◌≡◌, ℕ, zero, ◌+◌, ◌-◌, ◌≤◌, ◌<◌, nat_lt, Bool, true, false, cond, List, [], ◌∷◌, ◌++◌, length, take, suc, Option, Some, None, Ok, Err, is_some, option_to_list, refl, ap, subst, sym, ◌∙◌, arith}
 use Rattle.std.specs.Option.{IsSome, option_map_or}
-use Rattle.std.proofs.lemmas.List.{drop_more}
 use Rattle.std.proofs.lemmas.Bool.{cond-true, cond-false, le-ltb, lt-ltb, ltb-true}
 use borrow.Author.Tests.{ltb-false}
 use Rattle.vk_base.specs.declared.kernel.Observation.{Observation}
@@ -56,12 +55,6 @@ verdict-too_much k n noted s ss some many = too_much_by k n noted s ss (effect k
 pub verdict-end : (k : Kernel) (n noted : ℕ) (ss : List Step) → ss ≡ [] → verdict_from k n noted ss ≡ verdicts.Run n
 unfolding verdict_from
 verdict-end k n noted ss none = ap (verdict_from k n noted) none
-
--- the steps that are left, by their first
-pub verdict-at : (k : Kernel) (n noted : ℕ) (steps : List Step) (i : ℕ) (s : Step) → i < length steps → s ≡ get_or steps i s →
-    verdict_from k n noted (drop i steps) ≡ verdict_from k n noted (s ∷ drop (i + 1) steps)
-verdict-at k n noted steps i s within is =
-    ap (verdict_from k n noted) (drop_more steps i s within ∙ ap (λ x. x ∷ drop (i + 1) steps) (sym is))
 
 -- Behind n steps the machine stands for a kernel from which the steps that are left have the verdict of all steps from k.
 pub record IsAsFar (k : Kernel) (noted : ℕ) (steps : List Step) (machine : Tables) (n : ℕ) (left : List Step) : Type 0 where

@@ -5,6 +5,7 @@ ghost use Rattle.std.specs.Prelude.{◌≡◌, ◌≤◌, ◌+◌, ◌++◌, len
 use arrayvec::ArrayVec;
 use itoa::Buffer;
 
+/// The most bytes of such a text.
 const MOST: usize = 96;
 
 fn put(text: &mut ArrayVec<u8, MOST>, bytes: &[u8])
@@ -27,7 +28,7 @@ pub fn short_text(bytes: &[u8]) -> ArrayVec<u8, MOST>
     text
 }
 
-/// A text with a number in its midst. The bytes around it are at most 76.
+/// A text with a number, of at most 20 digits, in its midst. The bytes around it are at most 76.
 pub fn numbered_text(before: &[u8], number: u64, behind: &[u8]) -> ArrayVec<u8, MOST>
     requires { length before.now + length behind.now ≤ 76 }
     ensures { result.items ≡ before.now ++ decimal number ++ behind.now }

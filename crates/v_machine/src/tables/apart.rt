@@ -143,11 +143,11 @@ impl Apart {
 
     /// The move of a number is the open one from now on, with these bytes, if some are given. Where no move was begun
     /// nothing changes.
-    pub fn open(&mut self, alloc: Global, moving: u64, noted: Option<List<u8>>)
-        ensures { self.new ≡ moves_in (opened_moving moving noted) self.old }
+    pub fn open(&mut self, alloc: Global, number: u64, noted: Option<List<u8>>)
+        ensures { self.new ≡ moves_in (opened_moving number noted) self.old }
     {
         if let Some(rare) = &mut self.rare {
-            rare.moving.open(alloc, moving, noted);
+            rare.moving.open(alloc, number, noted);
         }
     }
 

@@ -14,7 +14,7 @@ use crate::tables::queue::Queue;
 use std::alloc::Global;
 use vk_base::{Activity, Memory, NoMemory, ProcessSpec};
 
-/// The store that stands for the initial kernel of these processes.
+/// The store whose tables spell the initial kernel of these processes.
 pub fn initial_store(alloc: Global, specs: &[ProcessSpec]) -> Result<Store, NoMemory>
     ensures kernel { IfOk result (λ s. kernel_in s ≡ initial_kernel specs.now) }
     ensures indexed { IfOk result (λ s. IsIndexed s) }

@@ -1,4 +1,4 @@
-//! Changes of remote moves.
+//! Changes of the remote moves of a Send of the store; the moves themselves are `remote.rt`.
 
 ghost use Rattle.std.specs.Prelude.{◌≡◌, ◌<◌, ◌≤◌, ◌+◌, length, Some, None, IfSome, IfNone, OnOk, OnErr, option_copied};
 ghost use Rattle.vk_base.specs.declared.kernel.Process.{Process};
