@@ -1,6 +1,6 @@
 -- What an entry does to a process that is blocked in its work, and the law.
-use Rattle.std.proofs.Common.{◌≡◌, ℕ, Bool, true, false, cond, ◌&&◌, ◌||◌, option_map, List, [], ◌∷◌, ◌++◌, fold, Option, Some, None, is_some, refl, sym, ap, subst, ◌∙◌, inl, inr, ◌⊎◌}
-use Rattle.std.proofs.lemmas.Bool.{cases_Bool, both_ways, and_parts, cond_both}
+use Rattle.std.proofs.Common.{◌≡◌, ℕ, Bool, true, false, cond, option_map, List, [], ◌∷◌, ◌++◌, fold, Option, Some, None, refl, sym, ap, subst, ◌∙◌, inl, inr, ◌⊎◌}
+use Rattle.std.proofs.lemmas.Bool.{both_ways, cond_both}
 use Rattle.std.proofs.lemmas.Option.{same_Some, none-some}
 use Rattle.std.specs.List.{list_any}
 use Rattle.vk_base.specs.declared.answer.Refusal.{Refusal}
@@ -18,24 +18,22 @@ use Rattle.vk_base.specs.declared.step.Step.TheVariants as steps
 use Rattle.vk_base.specs.Brought.{brought, settled, sender_heard, found_dead}
 use Rattle.vk_base.specs.Calls.{Effect, accepted, called, call_refusal, call_step, sent, copied_at_once, begin_move, new_move, move_begun, is_at_once, get_pid, found_at_once, lookup_begun}
 use Rattle.vk_base.specs.Changes.{change_process}
-use Rattle.vk_base.specs.Kernel.{◌>>=◌, Kernel, name_of, holds_of, held, blocked_in, put_process}
+use Rattle.vk_base.specs.Kernel.{◌>>=◌, Kernel, name_of, held, put_process}
 use Rattle.vk_base.specs.Packets.{Packet, Send, Reply, Pending, Negative, MoveData, MoveAck, MoveRequest, MoveBytes, MoveNegative, AskPid, TellPid}
 use Rattle.vk_base.specs.Pids.{same_pid}
 use Rattle.vk_base.specs.Ranges.{range_of, bytes_in}
 use Rattle.vk_base.specs.Settings.{Settings}
-use Rattle.vk_base.specs.Steps.{effect, is_allowed, next, after_effect}
+use Rattle.vk_base.specs.Steps.{is_allowed, next, after_effect}
 use Rattle.vk_base.proofs.OptionLemmas.{bind_is}
 use Rattle.v_laws.proofs.Options.{of_either}
 use Rattle.v_laws.proofs.Tables.{same_pid_is, put_process_here}
 use Rattle.vk_rules.specs.CallOutcomes.{call_outcome, collect_outcome, tick_outcome, effect_answer, seen_answer, steps_behind}
 use Rattle.vk_rules.specs.Each.{Each}
-use Rattle.vk_rules.specs.Entries.{Entry, Input, Called, Collected, Ticked, Delivered, is_tick, is_delivery, is_begun, is_frame_taken, taken_in, taken_packet}
-use Rattle.vk_rules.specs.Frames.{Frame, sender_of}
-use Rattle.vk_rules.specs.Observed.{handed_out}
+use Rattle.vk_rules.specs.Entries.{Entry, Input, Called, Collected, Ticked, Delivered, is_tick, is_delivery, is_begun, is_frame_taken, taken_frame, taken_in, taken_packet}
+use Rattle.vk_rules.specs.Frames.{Frame, Unsealed, sender_of}
 use Rattle.vk_rules.specs.PacketOutcomes.{packet_outcome}
 use Rattle.vk_rules.specs.Readings.{Reading, reading, reading_after}
 use Rattle.vk_rules.specs.Right.{answer_to, entries_of, entry_of, right_entry}
-use Rattle.vk_rules.specs.Rounds.{list_if}
 use Rattle.vk_rules.specs.View.{after_steps}
 use Rattle.vk_rules.proofs.Lists.{each_if}
 use Rattle.vk_rules.proofs.Taken.{outcome_by, packet_taken}
@@ -43,9 +41,11 @@ use Rattle.v_ages.proofs.Outcomes.{mild_packet}
 use Rattle.v_ages.proofs.Quiet.{NoCall}
 use Rattle.v_whole.specs.EveryFrame.{AreOwnInputs}
 use Rattle.v_whole.proofs.AnyEntries.{view_entries}
-use Rattle.v_ended.specs.Ends.{IsEnded, IsNothingTo, NoTickEnds, WorksEndByFrames, begins_work, ends, is_blocked, is_work}
-use Rattle.v_ended.proofs.Calling.{IsSoundView, behind_spares, call_spares, take_spares}
-use Rattle.v_ended.proofs.Spared.{IsAtWork, Spares, state_of, doing, still, steps_spare, none_collected}
+use Rattle.v_ended.specs.Ends.{BeginsWork, IsEndedByFrame, NoTickEnds, StaysBlocked, WorksEndByFrames, blocked_behind, ends, finished_behind, is_work}
+use Rattle.v_ended.proofs.Calling.{IsSoundView, call_spares, take_spares}
+use Rattle.v_ended.proofs.Ended.{IsOver, LeftOrOver, steps_on}
+use Rattle.v_ended.proofs.Spared.{IsAtWork, Spares, blocked_doing, doing, doing_blocked, doing_over, state_of, steps_spare}
+use Rattle.v_ended.proofs.Uncollected.{NoCollect, packets_collect_none}
 
 -- What a packet brings in changes no state.
 heard_state : (number : ℕ) (o : Option Process) (s : State) → state_of o ≡ Some s → state_of (Some (sender_heard number o)) ≡ state_of o
@@ -97,24 +97,16 @@ settled_keeps before k r (MoveNegative from to number moving) = refl
 settled_keeps before k r (AskPid asker lookup logical) = refl
 settled_keeps before k r (TellPid found asker lookup) = refl
 
-after_frame : (k : Kernel) (r : Pid) (p : Packet) (ss : List Step) → Each (Spares r) ss → IsAtWork k r →
-    IsAtWork (after_steps k (Some p) ss) r
-after_frame k r p [] each at = at
-after_frame k r p (s ∷ ss) each at =
-    let after = fold next (brought k p) (s ∷ ss) in
-    still after (settled k p after) r (settled_keeps k after r p)
-    (steps_spare (brought k p) r (s ∷ ss) each (still k (brought k p) r (brought_keeps k r p at) at))
-
--- Steps none of which ends anything of it.
-all_spare : (r : Pid) (ss : List Step) → Each NoCall ss → list_any (ends r) ss ≡ false → Each (Spares r) ss
-all_spare r [] none others = tt
-all_spare r (s ∷ ss) none others =
-    let parts = or_false (ends r s) (list_any (ends r) ss) others in
-    (record { none = none.0; other = parts.0 }, all_spare r ss none.1 parts.1)
-  where
-    or_false : (a b : Bool) → (a || b) ≡ false → (a ≡ false) × (b ≡ false)
-    or_false true b is = absurd (both_ways true is refl)
-    or_false false b is = (refl, is)
+frame_on : (k : Kernel) (r : Pid) (p : Packet) (ss : List Step) → Each NoCall ss → Each NoCollect ss → (at : IsAtWork k r) →
+    LeftOrOver k (after_steps k (Some p) ss) r at.call ss
+frame_on k r p [] none left at = inl refl
+frame_on k r p (s ∷ ss) none left at =
+    let came = brought_keeps k r p at in
+    let goes = settled_keeps k (fold next (brought k p) (s ∷ ss)) r p in
+    elim (steps_on (brought k p) r at.call (s ∷ ss) at.work none left (came ∙ at.is)) [
+      | inl same ↦ inl (goes ∙ same ∙ came)
+      | inr over ↦ inr (over.0, (over.1.0, goes ∙ over.1.1))
+    ]
 
 -- An entry that takes no frame.
 pub no_frame : (i : Input) (a : EventAnswer) → is_delivery i ≡ false → taken_in i a ≡ None
@@ -135,85 +127,55 @@ no_frame Ticked a h = none_by (is_frame_taken a)
     none_by false = refl
 no_frame (Delivered u) a h = absurd (both_ways true h refl)
 
-without_frame : (k : Kernel) (r : Pid) (e : Entry) → is_delivery e.input ≡ false → IsAtWork (fold next k e.steps) r →
-    IsAtWork (after_steps k (taken_packet e) e.steps) r
-without_frame k r e h at =
-    subst (λ o. IsAtWork (after_steps k (packet_taken o) e.steps) r) (sym (no_frame e.input e.answer h)) at
+without_frame : (k : Kernel) (r : Pid) (e : Entry) (o : Option State) → is_delivery e.input ≡ false → doing (fold next k e.steps) r ≡ o →
+    doing (after_steps k (taken_packet e) e.steps) r ≡ o
+without_frame k r e o h is =
+    subst (λ f. doing (after_steps k (packet_taken f) e.steps) r ≡ o) (sym (no_frame e.input e.answer h)) is
 
--- What an entry comes to: a delivery that ended it, or it is at work as before, and was handed out nothing.
-abbrev EntryOn : Settings → Reading → Pid → Entry → Type 0
-EntryOn c rd r e =
-    ((is_delivery e.input ≡ true) × (list_any (ends r) e.steps ≡ true))
-    ⊎ (IsNothingTo r e × IsAtWork (reading_after c.times rd e).view r)
+-- What an entry comes to: it takes a frame and ends the work by a step, or the process does what it did.
+pub record Frees (c : Settings) (rd : Reading) (r : Pid) (call : Call) (e : Entry) : Type 0 where
+  pub frame : Frame
+  pub taken : taken_frame e ≡ Some frame
+  pub ended : list_any (ends r) e.steps ≡ true
+  pub over : IsOver (reading_after c.times rd e).view r call
 
-none_handed : (k : Kernel) (r pid : Pid) (o : Option Effect) → IsAtWork k r → effect k (steps.Collect pid) ≡ o →
-    (same_pid r pid && is_some (handed_out (effect_answer o))) ≡ false
-none_handed k r pid None at g = and_none (same_pid r pid)
-  where
-    and_none : (b : Bool) → (b && false) ≡ false
-    and_none true = refl
-    and_none false = refl
-none_handed k r pid (Some e) at g = elim (cases_Bool (same_pid r pid)) [
-  | inl t ↦ absurd (none_collected k r e at (ap (λ q. effect k (steps.Collect q)) (same_pid_is r pid t) ∙ g))
-  | inr f ↦ ap (λ b. b && is_some (handed_out (effect_answer (Some e)))) f
-]
+abbrev EntryOn : Settings → Reading → Pid → Call → Entry → Type 0
+EntryOn c rd r call e = Frees c rd r call e ⊎ (doing (reading_after c.times rd e).view r ≡ doing rd.view r)
 
-delivered_on : (host : ℕ) (rd : Reading) (r : Pid) (o : Option Frame) → IsAtWork rd.view r →
-    (list_any (ends r) (outcome_by host rd o).steps ≡ true)
-    ⊎ ((list_any (ends r) (outcome_by host rd o).steps ≡ false)
-    × IsAtWork (after_steps rd.view (packet_taken o) (outcome_by host rd o).steps) r)
-delivered_on host rd r None at = inr (refl, at)
-delivered_on host rd r (Some f) at =
-    let ss = (packet_outcome host rd f.packet).steps in
-    elim (cases_Bool (list_any (ends r) ss)) [
-      | inl t ↦ inl t
-      | inr n ↦ inr (
-        n,
-        after_frame rd.view r f.packet ss
-            (all_spare r ss (let m = mild_packet host rd f.packet (sender_of f.packet) 0 in m.steps) n) at,
-      )
+delivered_on : (c : Settings) (host : ℕ) (rd : Reading) (u : Unsealed) (r : Pid) (at : IsAtWork rd.view r) (o : Option Frame) →
+    taken_in (Delivered u) (answer_to c host rd (Delivered u)) ≡ o → EntryOn c rd r at.call (right_entry c host rd (Delivered u))
+unfolding reading_after right_entry
+delivered_on c host rd u r at None taken =
+    inr (ap (λ o. doing (after_steps rd.view (packet_taken o) (outcome_by host rd o).steps) r) taken)
+delivered_on c host rd u r at (Some f) taken =
+    let m = mild_packet host rd f.packet (sender_of f.packet) 0 in
+    let left = packets_collect_none host rd f.packet in
+    let steps_of = λ (o : Option Frame). (outcome_by host rd o).steps in
+    let behind = λ (o : Option Frame). after_steps rd.view (packet_taken o) (steps_of o) in
+    elim (frame_on rd.view r f.packet (packet_outcome host rd f.packet).steps m.steps left at) [
+      | inl same ↦ inr (ap (λ o. doing (behind o) r) taken ∙ same)
+      | inr over ↦ inl (record {
+        frame = f;
+        taken = taken;
+        ended = ap (λ o. list_any (ends r) (steps_of o)) taken ∙ over.0;
+        over = (over.1.0, ap (λ o. doing (behind o) r) taken ∙ over.1.1);
+      })
     ]
 
--- steps that spare it end nothing of it
-spared_none : (r : Pid) (ss : List Step) → Each (Spares r) ss → list_any (ends r) ss ≡ false
-spared_none r [] each = refl
-spared_none r (s ∷ ss) each = ap (λ b. b || list_any (ends r) ss) each.0.other ∙ spared_none r ss each.1
-
-entry_on : (c : Settings) (host : ℕ) (rd : Reading) (i : Input) (r : Pid) → IsSoundView rd.view → IsAtWork rd.view r →
-    (is_tick (right_entry c host rd i).input ≡ true → (right_entry c host rd i).steps ≡ []) → EntryOn c rd r (right_entry c host rd i)
+entry_on : (c : Settings) (host : ℕ) (rd : Reading) (i : Input) (r : Pid) → IsSoundView rd.view → (at : IsAtWork rd.view r) →
+    (is_tick (right_entry c host rd i).input ≡ true → (right_entry c host rd i).steps ≡ []) →
+    EntryOn c rd r at.call (right_entry c host rd i)
 unfolding reading_after right_entry call_outcome collect_outcome tick_outcome
 entry_on c host rd (Called pid call) r sound at none =
-    let l = next rd.view (steps.Call pid call) in
-    inr (
-      record {
-        uncollected = refl;
-        unended = spared_none r (steps_behind l pid call (effect_answer (call_step rd.view pid call)))
-            (behind_spares rd.view l r pid call sound at);
-      },
-      without_frame rd.view r (right_entry c host rd (Called pid call)) refl (call_spares rd.view r pid call sound at),
-    )
+    inr (without_frame rd.view r (right_entry c host rd (Called pid call)) _ refl (call_spares rd.view r pid call sound at))
 entry_on c host rd (Collected pid) r sound at none =
     let spared = each_if (Spares r) (is_allowed rd.view (steps.Collect pid)) (steps.Collect pid ∷ [])
     (λ t. (record { none = refl; other = refl }, tt)) in
-    let ss = list_if (is_allowed rd.view (steps.Collect pid)) (steps.Collect pid ∷ []) in
-    inr (
-      record {
-        uncollected = none_handed rd.view r pid (effect rd.view (steps.Collect pid)) at refl;
-        unended = spared_none r ss spared;
-      },
-      without_frame rd.view r (right_entry c host rd (Collected pid)) refl (steps_spare rd.view r ss spared at),
-    )
+    inr (without_frame rd.view r (right_entry c host rd (Collected pid)) _ refl (steps_spare rd.view r _ spared at))
 entry_on c host rd Ticked r sound at none =
-    inr (
-      record { uncollected = refl; unended = ap (list_any (ends r)) (none refl) },
-      without_frame rd.view r (right_entry c host rd Ticked) refl
-          (subst (λ ss. IsAtWork (fold next rd.view ss) r) (sym (none refl)) at),
-    )
+    inr (without_frame rd.view r (right_entry c host rd Ticked) _ refl (ap (λ ss. doing (fold next rd.view ss) r) (none refl)))
 entry_on c host rd (Delivered u) r sound at none =
-    elim (delivered_on host rd r (taken_in (Delivered u) (answer_to c host rd (Delivered u))) at) [
-      | inl ended ↦ inl (refl, ended)
-      | inr on ↦ inr (record { uncollected = refl; unended = on.0 }, on.1)
-    ]
+    delivered_on c host rd u r at (taken_in (Delivered u) (answer_to c host rd (Delivered u))) refl
 
 -- A work that is begun.
 put_blocked : (k : Kernel) (pid : Pid) (p : Process) → state_of (put_process k.procs pid p pid) ≡ Some p.state
@@ -279,11 +241,10 @@ called_begins k r pid p c None e w g = accepted_begins k r pid p c e w g
 called_begins k r pid p c (Some why) e w g = by_begun pid c _ e g (λ t. absurd (both_ways false refl t))
 
 call_begins : (k : Kernel) (r : Pid) (c : Call) (o : Option Effect) → is_work r c ≡ true → call_step k r c ≡ o →
-    is_begun (effect_answer o) ≡ true → IsAtWork (after_effect k o) r
+    is_begun (effect_answer o) ≡ true → doing (after_effect k o) r ≡ Some (states.Blocked c)
 call_begins k r c None w g t = absurd (both_ways false refl t)
 call_begins k r c (Some e) w g t =
-    let p = bind_is (k.procs r) _ e g in
-    record { call = c; is = called_begins k r r p.0 c (call_refusal k r p.0 c) e w p.2 t; work = w }
+    let p = bind_is (k.procs r) _ e g in called_begins k r r p.0 c (call_refusal k r p.0 c) e w p.2 t
 
 begun_spares : (l : Kernel) (r pid : Pid) (c : Call) (a : EventAnswer) → is_work r c ≡ true → Each (Spares r) (steps_behind l pid c a)
 begun_spares l r pid (calls.Send target m) a w = each_if (Spares r) _ _ (λ t. take_spares l r target)
@@ -299,27 +260,26 @@ begun_spares l r pid (calls.Load start count) a w = tt
 begun_spares l r pid (calls.Store start bytes) a w = tt
 begun_spares l r pid calls.Exit a w = tt
 
-work_entered : (k : Kernel) (r pid : Pid) (c : Call) → same_pid r pid ≡ true → is_work r c ≡ true →
-    is_begun (effect_answer (call_step k pid c)) ≡ true →
-    (let l = next k (steps.Call pid c) in IsAtWork (fold next l (steps_behind l pid c (effect_answer (call_step k pid c)))) r)
-work_entered k r pid c same w t =
-    let own = same_pid_is r pid same in
-    let l = next k (steps.Call pid c) in
-    let begun : IsAtWork l r = subst (λ (q : Pid). IsAtWork (next k (steps.Call q c)) r) own
-    (call_begins k r c (call_step k r c) w refl (ap (λ (q : Pid). is_begun (effect_answer (call_step k q c))) own ∙ t)) in
-    steps_spare l r (steps_behind l pid c (effect_answer (call_step k pid c)))
-    (begun_spares l r pid c (effect_answer (call_step k pid c)) w) begun
-
-entry_begins : (c : Settings) (host : ℕ) (rd : Reading) (i : Input) (r : Pid) → begins_work r (right_entry c host rd i) ≡ true →
-    IsAtWork (reading_after c.times rd (right_entry c host rd i)).view r
+call_entered : (c : Settings) (host : ℕ) (rd : Reading) (r : Pid) (call : Call) → is_work r call ≡ true →
+    is_begun (right_entry c host rd (Called r call)).answer ≡ true →
+    doing (reading_after c.times rd (right_entry c host rd (Called r call))).view r ≡ Some (states.Blocked call)
 unfolding reading_after right_entry call_outcome
-entry_begins c host rd (Called pid call) r begins =
-    let all = and_parts (same_pid r pid && is_work r call) (is_begun (effect_answer (call_step rd.view pid call))) begins in
-    let parts = and_parts (same_pid r pid) (is_work r call) all.0 in
-    without_frame rd.view r (right_entry c host rd (Called pid call)) refl (work_entered rd.view r pid call parts.0 parts.1 all.1)
-entry_begins c host rd (Collected pid) r begins = absurd (both_ways false refl begins)
-entry_begins c host rd Ticked r begins = absurd (both_ways false refl begins)
-entry_begins c host rd (Delivered u) r begins = absurd (both_ways false refl begins)
+call_entered c host rd r call work begun =
+    let e = right_entry c host rd (Called r call) in
+    let l = next rd.view (steps.Call r call) in
+    let behind = steps_behind l r call (effect_answer (call_step rd.view r call)) in
+    let called = call_begins rd.view r call (call_step rd.view r call) work refl begun in
+    let spared = begun_spares l r r call (effect_answer (call_step rd.view r call)) work in
+    let rest = steps_spare l r behind spared (record { call = call; is = called; work = work }) in
+    without_frame rd.view r e (Some (states.Blocked call)) refl (rest ∙ called)
+
+entry_begins : (c : Settings) (host : ℕ) (rd : Reading) (i : Input) (r : Pid) (call : Call) → BeginsWork r call (right_entry c host rd i) →
+    doing (reading_after c.times rd (right_entry c host rd i)).view r ≡ Some (states.Blocked call)
+unfolding right_entry
+entry_begins c host rd i r call begins =
+    subst (λ (j : Input). is_begun (right_entry c host rd j).answer ≡ true →
+    doing (reading_after c.times rd (right_entry c host rd j)).view r ≡ Some (states.Blocked call)) (sym begins.called)
+    (call_entered c host rd r call begins.work) begins.begun
 
 -- All entries.
 abbrev first_or : Entry → List Entry → Entry
@@ -337,70 +297,88 @@ some_entry x xs is = both_ways true (ap has_some is) refl
     has_some [] = true
     has_some (y ∷ ys) = false
 
-abbrev Since : Settings → ℕ → List Input → Pid → List Entry → Type 0
-Since c host is r later =
-    (IsEnded r later)
-    ⊎ (IsAtWork (reading c host (entries_of c host is)).view r × Each (IsNothingTo r) later)
+-- ended, or not yet
+abbrev pub Since : Settings → ℕ → Pid → Call → List Entry → List Entry → Type 0
+Since c host r call begun later = IsEndedByFrame c host r call begun later ⊎ StaysBlocked c host r call begun later
 
-longer : (r : Pid) (x : Entry) (xs : List Entry) → IsEnded r xs → IsEnded r (x ∷ xs)
-longer r x xs e = record {
+longer : (c : Settings) (host : ℕ) (r : Pid) (call : Call) (begun : List Entry) (x : Entry) (xs : List Entry) →
+    IsEndedByFrame c host r call begun xs → IsEndedByFrame c host r call begun (x ∷ xs)
+longer c host r call begun x xs e = record {
   after = x ∷ e.after;
   last = e.last;
   before = e.before;
   is = ap (λ ys. x ∷ ys) e.is;
-  delivered = e.delivered;
+  blocked = e.blocked;
+  frame = e.frame;
+  taken = e.taken;
   ended = e.ended;
-  nothing = e.nothing;
+  answer = e.answer;
+  over = e.over;
 }
 
-one_more : (c : Settings) (host : ℕ) (i : Input) (is : List Input) (r : Pid) (xs : List Entry) →
-    IsSoundView (reading c host (entries_of c host is)).view →
-    (is_tick (entry_of c host (entries_of c host is) i).input ≡ true → (entry_of c host (entries_of c host is) i).steps ≡ []) →
-    Since c host is r xs → Since c host (i ∷ is) r (entry_of c host (entries_of c host is) i ∷ xs)
+stays_now : (c : Settings) (host : ℕ) (r : Pid) (call : Call) (begun later : List Entry) → StaysBlocked c host r call begun later →
+    blocked_behind c host (later ++ begun) r ≡ Some call
+stays_now c host r call begun [] stays = stays
+stays_now c host r call begun (x ∷ xs) stays = stays.0
+
+-- one entry more, behind those in which it stays blocked
+one_more : (c : Settings) (host : ℕ) (es : List Entry) (i : Input) (r : Pid) (call : Call) → IsSoundView (reading c host es).view →
+    (is_tick (entry_of c host es i).input ≡ true → (entry_of c host es i).steps ≡ []) → is_work r call ≡ true → (begun xs : List Entry) →
+    es ≡ xs ++ begun → StaysBlocked c host r call begun xs → Since c host r call begun (entry_of c host es i ∷ xs)
 unfolding reading
-one_more c host i is r xs sound none (inl ended) = inl (longer r (entry_of c host (entries_of c host is) i) xs ended)
-one_more c host i is r xs sound none (inr on) =
-    let x = entry_of c host (entries_of c host is) i in
-    elim (entry_on c host (reading c host (entries_of c host is)) i r sound on.0 none) [
-      | inl ended ↦ inl (record {
+one_more c host es i r call sound none work begun xs same stays =
+    let x = entry_of c host es i in
+    let k = (reading c host es).view in
+    let is = blocked_doing (k.procs r) call (ap (λ l. blocked_behind c host l r) same ∙ stays_now c host r call begun xs stays) in
+    elim (entry_on c host (reading c host es) i r sound (record { call = call; is = is; work = work }) none) [
+      | inl frees ↦ inl (record {
         after = [];
         last = x;
         before = xs;
         is = refl;
-        delivered = ended.0;
-        ended = ended.1;
-        nothing = on.1;
+        blocked = stays;
+        frame = frees.frame;
+        taken = frees.taken;
+        ended = frees.ended;
+        answer = frees.over.0;
+        over = ap (λ l. finished_behind c host (x ∷ l) r) (sym same)
+            ∙ doing_over ((reading c host (x ∷ es)).view.procs r) call frees.over.0 frees.over.1;
       })
-      | inr at ↦ inr (at.1, (at.0, on.1))
+      | inr on ↦
+          let now = doing_blocked ((reading c host (x ∷ es)).view.procs r) call (on ∙ is) in
+          inr (ap (λ l. blocked_behind c host (x ∷ l) r) (sym same) ∙ now, stays)
     ]
 
-since : (c : Settings) (host : ℕ) (is : List Input) (r : Pid) → AreOwnInputs host is → NoTickEnds (entries_of c host is) →
-    (later : List Entry) (e : Entry) (earlier : List Entry) → entries_of c host is ≡ later ++ e ∷ earlier → begins_work r e ≡ true →
-    Since c host is r later
+since : (c : Settings) (host : ℕ) (is : List Input) (r : Pid) (call : Call) → AreOwnInputs host is → NoTickEnds (entries_of c host is) →
+    (later : List Entry) (e : Entry) (earlier : List Entry) → entries_of c host is ≡ later ++ e ∷ earlier → BeginsWork r call e →
+    Since c host r call (e ∷ earlier) later
 unfolding reading
-since c host [] r own none [] e earlier is begins = absurd (some_entry e earlier is)
-since c host [] r own none (x ∷ xs) e earlier is begins = absurd (some_entry x (xs ++ e ∷ earlier) is)
-since c host (i ∷ is) r own none [] e earlier same begins =
-    let x = entry_of c host (entries_of c host is) i in
-    let first : x ≡ e = ap (first_or x) same in
-    inr (entry_begins c host (reading c host (entries_of c host is)) i r (ap (begins_work r) first ∙ begins), tt)
-since c host (i ∷ is) r own none (y ∷ ys) e earlier same begins =
-    let x = entry_of c host (entries_of c host is) i in
+since c host [] r call own none [] e earlier same begins = absurd (some_entry e earlier same)
+since c host [] r call own none (x ∷ xs) e earlier same begins = absurd (some_entry x (xs ++ e ∷ earlier) same)
+since c host (i ∷ is) r call own none [] e earlier same begins =
+    let es = entries_of c host is in
+    let x = entry_of c host es i in
+    let first : e ≡ x = sym (ap (first_or x) same) in
+    let now = entry_begins c host (reading c host es) i r call (subst (BeginsWork r call) first begins) in
+    inr (ap (λ l. blocked_behind c host l r) (sym same) ∙ doing_blocked ((reading c host (x ∷ es)).view.procs r) call now)
+since c host (i ∷ is) r call own none (y ∷ ys) e earlier same begins =
+    let es = entries_of c host is in
+    let x = entry_of c host es i in
     let first : x ≡ y = ap (first_or x) same in
-    let view = view_entries c host is own.1 in
-    subst (λ z. Since c host (i ∷ is) r (z ∷ ys)) first
-    (one_more c host i is r ys view.sound none.0 (since c host is r own.1 none.1 ys e earlier (ap rest_of same) begins))
-
-work_blocks : (o : Option Process) (c : Call) → state_of o ≡ Some (states.Blocked c) →
-    holds_of (λ (p : Process). is_some (blocked_in p.state)) o ≡ true
-work_blocks None c is = absurd (none-some (states.Blocked c) is)
-work_blocks (Some p) c is = ap (λ s. is_some (blocked_in s)) (same_Some p.state (states.Blocked c) is)
+    let rest : es ≡ ys ++ e ∷ earlier = ap rest_of same in
+    elim (since c host is r call own.1 none.1 ys e earlier rest begins) [
+      | inl ended ↦ inl (longer c host r call (e ∷ earlier) y ys ended)
+      | inr stays ↦
+          let view = view_entries c host is own.1 in
+          subst (λ z. Since c host r call (e ∷ earlier) (z ∷ ys)) first
+          (one_more c host es i r call view.sound none.0 begins.work (e ∷ earlier) ys rest stays)
+    ]
 
 pub works_end_by_frames : WorksEndByFrames
-works_end_by_frames c host is r own none free later e earlier same begins =
-    elim (since c host is r own none later e earlier same begins) [
+works_end_by_frames c host is r own none free later e earlier call same begins =
+    elim (since c host is r call own none later e earlier same begins) [
       | inl ended ↦ ended
-      | inr on ↦
-          let k = (reading c host (entries_of c host is)).view in
-          absurd (both_ways (is_blocked k r) free (work_blocks (k.procs r) on.0.call on.0.is))
+      | inr stays ↦
+          absurd (none-some call (sym free ∙ ap (λ l. blocked_behind c host l r) same
+          ∙ stays_now c host r call (e ∷ earlier) later stays))
     ]
