@@ -11,25 +11,25 @@ use Rattle.vk_base.specs.declared.kernel.Direction.TheVariants as directions
 use Rattle.vk_base.specs.declared.kernel.Move.{Move}
 use Rattle.vk_base.specs.declared.kernel.Process.{Process}
 use Rattle.vk_base.specs.declared.kernel.State.{State}
+use Rattle.vk_base.specs.declared.kernel.State.TheVariants as states
 use Rattle.vk_base.specs.declared.message.Message.{Message}
 use Rattle.vk_base.specs.declared.pid.Pid.{Pid}
 use Rattle.vk_base.specs.declared.step.Step.{Step}
 use Rattle.vk_base.specs.declared.step.Step.TheVariants as steps
 use Rattle.vk_base.specs.Calls.{Effect, unseen, accepted, called, call_refusal, call_step, sent, replied, copied_at_once, begin_move, new_move, move_begun, is_at_once, get_pid, found_at_once, lookup_begun, exited, released, is_bereft}
-use Rattle.vk_base.specs.Kernel.{◌>>=◌, Kernel, name_of, holds_of, held, is_ready, ended, put_process}
+use Rattle.vk_base.specs.Kernel.{◌>>=◌, Kernel, name_of, holds_of, held, is_ready, receiving, sending, is_moving, is_asking, finished_call, ended, put_process}
 use Rattle.vk_base.specs.Pids.{same_pid}
 use Rattle.vk_base.specs.Ranges.{range_of, bytes_in}
-use Rattle.vk_base.specs.Steps.{effect, next, after_effect, with_arrival, arriving, taking, taken, finishing, failing, opening_move, move_opened, copying, copied, ending, hearing, asking, finding, collecting}
+use Rattle.vk_base.specs.Steps.{effect, next, after_effect}
 use Rattle.vk_base.proofs.OptionLemmas.{bind_is}
 use Rattle.v_laws.proofs.Options.{of_either}
-use Rattle.v_laws.proofs.States.{sending_not_ready, receiving_not_ready, moving_not_ready, asking_not_ready, finished_not_ready, ended_ready}
-use Rattle.v_laws.proofs.StepLemmas.{taking_is, finishing_is, failing_is, copying_is, ending_is, asking_is, finding_is, collecting_is}
+use Rattle.v_laws.proofs.States.{ended_ready}
 use Rattle.v_laws.proofs.Tables.{same_pid_is}
 use Rattle.vk_rules.specs.CallOutcomes.{effect_answer, seen_answer}
 use Rattle.vk_rules.specs.Each.{Each}
 use Rattle.vk_rules.specs.Entries.{is_begun}
 use Rattle.v_ages.proofs.Quiet.{NoCall}
-use Rattle.v_ended.proofs.Spared.{state_of, doing, put_other, put_same}
+use Rattle.v_ended.proofs.Spared.{Passes, after_leaves, doing, put_other, put_same, state_of}
 
 abbrev pub is_busy : State → Bool
 is_busy s = not (is_ready s)
@@ -44,70 +44,43 @@ NoMore r k l = waits l r ≡ true → waits k r ≡ true
 same_more : (r : Pid) (k l : Kernel) → doing l r ≡ doing k r → NoMore r k l
 same_more r k l same t = ap (holds_of is_busy) (sym same) ∙ t
 
-put_more : (r : Pid) (k : Kernel) (pid : Pid) (p after : Process) → k.procs pid ≡ Some p → is_ready p.state ≡ false →
-    holds_of is_busy (state_of (put_process k.procs pid after r)) ≡ true → waits k r ≡ true
-put_more r k pid p after at busy t = elim (cases_Bool (same_pid r pid)) [
-  | inl same ↦
-      ap (λ (q : Pid). holds_of is_busy (state_of (k.procs q))) (same_pid_is r pid same)
-      ∙ ap (λ o. holds_of is_busy (state_of o)) at ∙ ap not busy
-  | inr other ↦ ap (holds_of is_busy) (sym (put_other k.procs pid after r other)) ∙ t
+-- Steps that are no calls: a process that waits for nothing cannot take one.
+idle_some : {A : Type 0} (x : Option State) (f : State → Option A) → holds_of is_busy x ≡ false → f states.Ready ≡ None → (x >>= f) ≡ None
+idle_some None f idle none = refl
+idle_some (Some states.Ready) f idle none = none
+idle_some (Some (states.Blocked c)) f idle none = absurd (both_ways true idle refl)
+idle_some (Some (states.Done c a)) f idle none = absurd (both_ways true idle refl)
+
+idle_true : (x : Option State) (f : State → Bool) → holds_of is_busy x ≡ false → f states.Ready ≡ false → holds_of f x ≡ false
+idle_true None f idle none = refl
+idle_true (Some states.Ready) f idle none = none
+idle_true (Some (states.Blocked c)) f idle none = absurd (both_ways true idle refl)
+idle_true (Some (states.Done c a)) f idle none = absurd (both_ways true idle refl)
+
+idle_passes : (r : Pid) (x : Option State) (s : Step) → holds_of is_busy x ≡ false → NoCall s → Passes r x s
+idle_passes r x (steps.Call pid d) idle none = both_ways true none refl
+idle_passes r x (steps.Arrive sender number) idle none = tt
+idle_passes r x (steps.Take q) idle none = λ same. idle_some x receiving idle refl
+idle_passes r x (steps.Finish q) idle none = λ same. idle_some x sending idle refl
+idle_passes r x (steps.Fail q why) idle none = λ same. idle_some x sending idle refl
+idle_passes r x (steps.OpenMove sender number moving) idle none = tt
+idle_passes r x (steps.Copy sender number moving offset count) idle none = tt
+idle_passes r x (steps.End q why) idle none = λ same. idle_true x is_moving idle refl
+idle_passes r x (steps.Hear asker number pid) idle none = tt
+idle_passes r x (steps.Found q pid) idle none = λ same. idle_true x is_asking idle refl
+idle_passes r x (steps.Lost q) idle none = λ same. idle_true x is_asking idle refl
+idle_passes r x (steps.Collect q) idle none = λ same. idle_some x finished_call idle refl
+
+after_more : (k : Kernel) (r : Pid) (s : Step) → NoCall s → NoMore r k (next k s)
+after_more k r s none t = elim (cases_Bool (waits k r)) [
+  | inl busy ↦ busy
+  | inr idle ↦
+      let same = after_leaves k r s (effect k s) refl (idle_passes r (doing k r) s idle none) in same_more r k (next k s) same t
 ]
-
-by_more : (r : Pid) (k : Kernel) (f e : Effect) → Some f ≡ Some e → NoMore r k f.after → NoMore r k e.after
-by_more r k f e g on = subst (λ (x : Effect). NoMore r k x.after) (same_Some f e g) on
-
--- Steps that are no calls.
-step_more : (k : Kernel) (r : Pid) (s : Step) (e : Effect) → NoCall s → effect k s ≡ Some e → NoMore r k e.after
-unfolding with_arrival taken move_opened copied
-step_more k r (steps.Call pid c) e none g = absurd (both_ways true none refl)
-step_more k r (steps.Arrive sender number) e none g =
-    let x = bind_is (arriving k (name_of sender number)) _ e g in by_more r k _ e x.2 (λ t. t)
-step_more k r (steps.Take q) e none g =
-    let t = bind_is (taking k q) _ e g in
-    let i = taking_is k q t.0 t.1 in
-    by_more r k _ e t.2 (put_more r k q t.0.process _ i.process (receiving_not_ready t.0.process.state t.0.call i.call))
-step_more k r (steps.Finish s) e none g =
-    let f = bind_is (finishing k s) _ e g in
-    let i = finishing_is k s f.0 f.1 in
-    by_more r k _ e f.2 (put_more r k s f.0.process _ i.process (sending_not_ready f.0.process.state (f.0.target, f.0.message) i.send))
-step_more k r (steps.Fail s why) e none g =
-    let f = bind_is (failing k s why) _ e g in
-    let i = failing_is k s why f.0 f.1 in
-    by_more r k _ e f.2 (put_more r k s f.0.0 _ i.process (sending_not_ready f.0.0.state i.send i.sends))
-step_more k r (steps.OpenMove sender number moving) e none g =
-    let o = bind_is (opening_move k (name_of sender number) moving) _ e g in by_more r k _ e o.2 (λ t. t)
-step_more k r (steps.Copy sender number moving offset count) e none g =
-    let c = bind_is (copying k (name_of sender number) moving offset count) _ e g in
-    let i = copying_is k (name_of sender number) moving offset count c.0 c.1 in
-    by_more r k _ e c.2 (same_more r k (copied k (name_of sender number) offset count c.0)
-    (put_same k.procs c.0.pid c.0.process _ r i.process refl))
-step_more k r (steps.End s why) e none g =
-    let f = bind_is (ending k s why) _ e g in
-    let i = ending_is k s why f.0 f.1 in
-    by_more r k _ e f.2 (put_more r k s f.0.0 _ i.process (moving_not_ready f.0.0.state i.moves))
-step_more k r (steps.Hear asker number pid) e none g =
-    let f = bind_is (hearing k asker number pid) _ e g in by_more r k _ e f.2 (λ t. t)
-step_more k r (steps.Found asker pid) e none g =
-    let f = bind_is (finding k asker pid) _ e g in
-    let i = finding_is k asker pid f.0 f.1 in
-    let a = i.asks in
-    by_more r k _ e f.2 (put_more r k asker f.0 _ a.process (asking_not_ready f.0.state a.asks))
-step_more k r (steps.Lost asker) e none g =
-    let f = bind_is (asking k asker) _ e g in
-    let a = asking_is k asker f.0 f.1 in
-    by_more r k _ e f.2 (put_more r k asker f.0 _ a.process (asking_not_ready f.0.state a.asks))
-step_more k r (steps.Collect pid) e none g =
-    let d = bind_is (collecting k pid) _ e g in
-    let i = collecting_is k pid d.0 d.1 in
-    by_more r k _ e d.2 (put_more r k pid d.0.process _ i.process (finished_not_ready d.0.process.state (d.0.call, d.0.answer) i.done))
-
-after_more : (k : Kernel) (r : Pid) (s : Step) (o : Option Effect) → effect k s ≡ o → NoCall s → NoMore r k (after_effect k o)
-after_more k r s None g none = λ t. t
-after_more k r s (Some e) g none = step_more k r s e none g
 
 pub steps_more : (k : Kernel) (r : Pid) (ss : List Step) → Each NoCall ss → NoMore r k (fold next k ss)
 steps_more k r [] none = λ t. t
-steps_more k r (s ∷ ss) none = λ t. after_more k r s (effect k s) refl none.0 (steps_more (next k s) r ss none.1 t)
+steps_more k r (s ∷ ss) none = λ t. after_more k r s none.0 (steps_more (next k s) r ss none.1 t)
 
 -- Calls: it waits afterwards where it waited, or where it is its own call that is begun.
 abbrev Waiting : Pid → Kernel → Pid → Effect → Type 0

@@ -25,7 +25,7 @@ use Rattle.v_laws.proofs.Tables.{put_process_at}
 use Rattle.vk_rules.specs.Each.{Each}
 use Rattle.v_ages.proofs.Quiet.{NoCall}
 use Rattle.v_ended.specs.Ends.{ends, is_work}
-use Rattle.v_ended.proofs.Spared.{after_leaves, doing, over_passes, same_blocked, state_at, state_of, work_passes}
+use Rattle.v_ended.proofs.Spared.{Passes, after_leaves, doing, over_passes, same_blocked, state_at, state_of, work_passes}
 use Rattle.v_ended.proofs.Uncollected.{NoCollect}
 
 -- the call is over
@@ -92,7 +92,7 @@ step_on : (k : Kernel) (r : Pid) (call : Call) (s : Step) (o : Option Effect) �
 step_on k r call s None g w none at = inl refl
 step_on k r call s (Some e) g w none at = elim (cases_Bool (ends r s)) [
   | inl t ↦ inr (t, step_ends k r call s e at t g)
-  | inr f ↦ inl (after_leaves k r (states.Blocked call) s (Some e) g at (work_passes r call s w none f))
+  | inr f ↦ inl (after_leaves k r s (Some e) g (subst (λ x. Passes r x s) (sym at) (work_passes r call s w none f)))
 ]
 
 stays_over : (k : Kernel) (r : Pid) (call : Call) (ss : List Step) → Each NoCall ss → Each NoCollect ss → IsOver k r call →
@@ -100,7 +100,7 @@ stays_over : (k : Kernel) (r : Pid) (call : Call) (ss : List Step) → Each NoCa
 stays_over k r call [] none left over = over
 stays_over k r call (s ∷ ss) none left over =
     let passes = over_passes r call over.0 s none.0 left.0 in
-    let same = after_leaves k r (states.Done call over.0) s (effect k s) refl over.1 passes in
+    let same = after_leaves k r s (effect k s) refl (subst (λ x. Passes r x s) (sym over.1) passes) in
     stays_over (next k s) r call ss none.1 left.1 (over.0, same ∙ over.1)
 
 behind_one : (k l m : Kernel) (r : Pid) (call : Call) (s : Step) (ss : List Step) → doing l r ≡ doing k r → LeftOrOver l m r call ss →

@@ -12,7 +12,7 @@ use Rattle.vk_base.specs.declared.pid.Pid.{Pid}
 use Rattle.vk_base.specs.declared.step.Step.{Step}
 use Rattle.vk_base.specs.declared.step.Step.TheVariants as steps
 use Rattle.vk_base.specs.Calls.{Effect}
-use Rattle.vk_base.specs.Kernel.{◌>>=◌, Kernel, name_of, blocked_in, receiving, as_receive, sending, is_moving, is_asking, finished_call, put_process}
+use Rattle.vk_base.specs.Kernel.{◌>>=◌, Kernel, name_of, blocked_in, holds_of, receiving, as_receive, sending, is_moving, is_asking, finished_call, put_process}
 use Rattle.vk_base.specs.Pids.{same_pid}
 use Rattle.vk_base.specs.Steps.{effect, next, after_effect, with_arrival, arriving, taking, taken, finishing, failing, opening_move, move_opened, copying, copied, ending, hearing, asking, finding, collecting}
 use Rattle.vk_base.proofs.OptionLemmas.{bind_is}
@@ -41,9 +41,12 @@ pub still : (k l : Kernel) (r : Pid) → doing l r ≡ doing k r → IsAtWork k 
 still k l r same at = record { call = at.call; is = same ∙ at.is; work = at.work }
 
 -- its state, by the process
+state_there : (k : Kernel) (r q : Pid) (p : Process) → k.procs q ≡ Some p → same_pid r q ≡ true → doing k r ≡ Some p.state
+state_there k r q p is same = ap state_of (ap k.procs (same_pid_is r q same) ∙ is)
+
 pub state_at : (k : Kernel) (r q : Pid) (x : State) (p : Process) → doing k r ≡ Some x → k.procs q ≡ Some p → same_pid r q ≡ true →
     p.state ≡ x
-state_at k r q x p at is same = same_Some p.state x (sym (ap state_of (ap k.procs (same_pid_is r q same) ∙ is)) ∙ at)
+state_at k r q x p at is same = same_Some p.state x (sym (state_there k r q p is same) ∙ at)
 
 pub state_is : (k : Kernel) (r : Pid) (p : Process) (at : IsAtWork k r) → k.procs r ≡ Some p → p.state ≡ states.Blocked at.call
 state_is k r p at is = same_Some p.state (states.Blocked at.call) (sym (ap state_of is) ∙ at.is)
@@ -101,77 +104,78 @@ work_receives r (calls.Load start count) w = refl
 work_receives r (calls.Store start bytes) w = refl
 work_receives r calls.Exit w = refl
 
--- A step that is of another process, or that a process in this state cannot take.
-abbrev pub Passes : Pid → State → Step → Type 0
+-- A step that is of another process, or that a process which does this cannot take.
+abbrev pub Passes : Pid → Option State → Step → Type 0
 Passes r x (steps.Call pid c) = ⊥
-Passes r x (steps.Take q) = same_pid r q ≡ true → receiving x ≡ None
-Passes r x (steps.Finish q) = same_pid r q ≡ true → sending x ≡ None
-Passes r x (steps.Fail q why) = same_pid r q ≡ true → sending x ≡ None
-Passes r x (steps.End q why) = same_pid r q ≡ true → is_moving x ≡ false
-Passes r x (steps.Found q pid) = same_pid r q ≡ true → is_asking x ≡ false
-Passes r x (steps.Lost q) = same_pid r q ≡ true → is_asking x ≡ false
-Passes r x (steps.Collect q) = same_pid r q ≡ true → finished_call x ≡ None
+Passes r x (steps.Take q) = same_pid r q ≡ true → (x >>= receiving) ≡ None
+Passes r x (steps.Finish q) = same_pid r q ≡ true → (x >>= sending) ≡ None
+Passes r x (steps.Fail q why) = same_pid r q ≡ true → (x >>= sending) ≡ None
+Passes r x (steps.End q why) = same_pid r q ≡ true → holds_of is_moving x ≡ false
+Passes r x (steps.Found q pid) = same_pid r q ≡ true → holds_of is_asking x ≡ false
+Passes r x (steps.Lost q) = same_pid r q ≡ true → holds_of is_asking x ≡ false
+Passes r x (steps.Collect q) = same_pid r q ≡ true → (x >>= finished_call) ≡ None
 Passes r x s = Unit {0}
 
-never_some : {A : Type 0} (k : Kernel) (r q : Pid) (x : State) (p : Process) (f : State → Option A) (y : A) → doing k r ≡ Some x →
-    (same_pid r q ≡ true → f x ≡ None) → k.procs q ≡ Some p → f p.state ≡ Some y → same_pid r q ≡ true → ⊥
-never_some k r q x p f y at none is there same = none-some y (sym (ap f (state_at k r q x p at is same) ∙ none same) ∙ there)
+never_some : {A : Type 0} (k : Kernel) (r q : Pid) (p : Process) (f : State → Option A) (y : A) →
+    (same_pid r q ≡ true → (doing k r >>= f) ≡ None) → k.procs q ≡ Some p → f p.state ≡ Some y → same_pid r q ≡ true → ⊥
+never_some k r q p f y none is there same =
+    none-some y (sym (none same) ∙ ap (λ x. x >>= f) (state_there k r q p is same) ∙ there)
 
-never_true : (k : Kernel) (r q : Pid) (x : State) (p : Process) (f : State → Bool) → doing k r ≡ Some x →
-    (same_pid r q ≡ true → f x ≡ false) → k.procs q ≡ Some p → f p.state ≡ true → same_pid r q ≡ true → ⊥
-never_true k r q x p f at none is holds same = both_ways (f p.state) (ap f (state_at k r q x p at is same) ∙ none same) holds
+never_true : (k : Kernel) (r q : Pid) (p : Process) (f : State → Bool) → (same_pid r q ≡ true → holds_of f (doing k r) ≡ false) →
+    k.procs q ≡ Some p → f p.state ≡ true → same_pid r q ≡ true → ⊥
+never_true k r q p f none is holds same =
+    both_ways (f p.state) (sym (ap (holds_of f) (state_there k r q p is same)) ∙ none same) holds
 
 pub by_effect : (k : Kernel) (r : Pid) (f e : Effect) → Some f ≡ Some e → doing f.after r ≡ doing k r → doing e.after r ≡ doing k r
 by_effect k r f e g on = subst (λ (x : Effect). doing x.after r ≡ doing k r) (same_Some f e g) on
 
-step_leaves : (k : Kernel) (r : Pid) (x : State) (s : Step) (e : Effect) → doing k r ≡ Some x → Passes r x s → effect k s ≡ Some e →
-    doing e.after r ≡ doing k r
+step_leaves : (k : Kernel) (r : Pid) (s : Step) (e : Effect) → Passes r (doing k r) s → effect k s ≡ Some e → doing e.after r ≡ doing k r
 unfolding with_arrival taken move_opened copied
-step_leaves k r x (steps.Call pid c) e at passes g = absurd passes
-step_leaves k r x (steps.Arrive sender number) e at passes g =
+step_leaves k r (steps.Call pid c) e passes g = absurd passes
+step_leaves k r (steps.Arrive sender number) e passes g =
     let f = bind_is (arriving k (name_of sender number)) _ e g in by_effect k r _ e f.2 refl
-step_leaves k r x (steps.Take q) e at passes g =
+step_leaves k r (steps.Take q) e passes g =
     let f = bind_is (taking k q) _ e g in
     let i = taking_is k q f.0 f.1 in
-    by_effect k r _ e f.2 (put_never k.procs q _ r (never_some k r q x f.0.process receiving f.0.call at passes i.process i.call))
-step_leaves k r x (steps.Finish q) e at passes g =
+    by_effect k r _ e f.2 (put_never k.procs q _ r (never_some k r q f.0.process receiving f.0.call passes i.process i.call))
+step_leaves k r (steps.Finish q) e passes g =
     let f = bind_is (finishing k q) _ e g in
     let i = finishing_is k q f.0 f.1 in
     by_effect k r _ e f.2
-    (put_never k.procs q _ r (never_some k r q x f.0.process sending (f.0.target, f.0.message) at passes i.process i.send))
-step_leaves k r x (steps.Fail q why) e at passes g =
+    (put_never k.procs q _ r (never_some k r q f.0.process sending (f.0.target, f.0.message) passes i.process i.send))
+step_leaves k r (steps.Fail q why) e passes g =
     let f = bind_is (failing k q why) _ e g in
     let i = failing_is k q why f.0 f.1 in
-    by_effect k r _ e f.2 (put_never k.procs q _ r (never_some k r q x f.0.0 sending i.send at passes i.process i.sends))
-step_leaves k r x (steps.OpenMove sender number moving) e at passes g =
+    by_effect k r _ e f.2 (put_never k.procs q _ r (never_some k r q f.0.0 sending i.send passes i.process i.sends))
+step_leaves k r (steps.OpenMove sender number moving) e passes g =
     let f = bind_is (opening_move k (name_of sender number) moving) _ e g in by_effect k r _ e f.2 refl
-step_leaves k r x (steps.Copy sender number moving offset count) e at passes g =
+step_leaves k r (steps.Copy sender number moving offset count) e passes g =
     let f = bind_is (copying k (name_of sender number) moving offset count) _ e g in
     let i = copying_is k (name_of sender number) moving offset count f.0 f.1 in
     by_effect k r _ e f.2 (put_same k.procs f.0.pid f.0.process _ r i.process refl)
-step_leaves k r x (steps.End q why) e at passes g =
+step_leaves k r (steps.End q why) e passes g =
     let f = bind_is (ending k q why) _ e g in
     let i = ending_is k q why f.0 f.1 in
-    by_effect k r _ e f.2 (put_never k.procs q _ r (never_true k r q x f.0.0 is_moving at passes i.process i.moves))
-step_leaves k r x (steps.Hear asker number pid) e at passes g =
+    by_effect k r _ e f.2 (put_never k.procs q _ r (never_true k r q f.0.0 is_moving passes i.process i.moves))
+step_leaves k r (steps.Hear asker number pid) e passes g =
     let f = bind_is (hearing k asker number pid) _ e g in by_effect k r _ e f.2 refl
-step_leaves k r x (steps.Found q pid) e at passes g =
+step_leaves k r (steps.Found q pid) e passes g =
     let f = bind_is (finding k q pid) _ e g in
     let i = finding_is k q pid f.0 f.1 in
     let a = i.asks in
-    by_effect k r _ e f.2 (put_never k.procs q _ r (never_true k r q x f.0 is_asking at passes a.process a.asks))
-step_leaves k r x (steps.Lost q) e at passes g =
+    by_effect k r _ e f.2 (put_never k.procs q _ r (never_true k r q f.0 is_asking passes a.process a.asks))
+step_leaves k r (steps.Lost q) e passes g =
     let f = bind_is (asking k q) _ e g in
     let a = asking_is k q f.0 f.1 in
-    by_effect k r _ e f.2 (put_never k.procs q _ r (never_true k r q x f.0 is_asking at passes a.process a.asks))
-step_leaves k r x (steps.Collect q) e at passes g =
+    by_effect k r _ e f.2 (put_never k.procs q _ r (never_true k r q f.0 is_asking passes a.process a.asks))
+step_leaves k r (steps.Collect q) e passes g =
     let f = bind_is (collecting k q) _ e g in
     let i = collecting_is k q f.0 f.1 in
     by_effect k r _ e f.2
-    (put_never k.procs q _ r (never_some k r q x f.0.process finished_call (f.0.call, f.0.answer) at passes i.process i.done))
+    (put_never k.procs q _ r (never_some k r q f.0.process finished_call (f.0.call, f.0.answer) passes i.process i.done))
 
 -- A work is passed by what does not end it, and a call that is over by what does not collect.
-pub work_passes : (r : Pid) (c : Call) (s : Step) → is_work r c ≡ true → NoCall s → ends r s ≡ false → Passes r (states.Blocked c) s
+pub work_passes : (r : Pid) (c : Call) (s : Step) → is_work r c ≡ true → NoCall s → ends r s ≡ false → Passes r (Some (states.Blocked c)) s
 work_passes r c (steps.Call pid d) w none other = both_ways true none refl
 work_passes r c (steps.Arrive sender number) w none other = tt
 work_passes r c (steps.Take q) w none other = λ same. work_receives r c w
@@ -185,7 +189,7 @@ work_passes r c (steps.Found q pid) w none other = λ same. absurd (both_ways (s
 work_passes r c (steps.Lost q) w none other = λ same. absurd (both_ways (same_pid r q) other same)
 work_passes r c (steps.Collect q) w none other = λ same. refl
 
-pub over_passes : (r : Pid) (c : Call) (a : Answer) (s : Step) → NoCall s → NoCollect s → Passes r (states.Done c a) s
+pub over_passes : (r : Pid) (c : Call) (a : Answer) (s : Step) → NoCall s → NoCollect s → Passes r (Some (states.Done c a)) s
 over_passes r c a (steps.Call pid d) none left = both_ways true none refl
 over_passes r c a (steps.Arrive sender number) none left = tt
 over_passes r c a (steps.Take q) none left = λ same. refl
@@ -204,14 +208,14 @@ pub record Spares (r : Pid) (s : Step) : Type 0 where
   pub none : NoCall s
   pub other : ends r s ≡ false
 
-pub after_leaves : (k : Kernel) (r : Pid) (x : State) (s : Step) (o : Option Effect) → effect k s ≡ o → doing k r ≡ Some x → Passes r x s →
+pub after_leaves : (k : Kernel) (r : Pid) (s : Step) (o : Option Effect) → effect k s ≡ o → Passes r (doing k r) s →
     doing (after_effect k o) r ≡ doing k r
-after_leaves k r x s None g at passes = refl
-after_leaves k r x s (Some e) g at passes = step_leaves k r x s e at passes g
+after_leaves k r s None g passes = refl
+after_leaves k r s (Some e) g passes = step_leaves k r s e passes g
 
 pub steps_spare : (k : Kernel) (r : Pid) (ss : List Step) → Each (Spares r) ss → IsAtWork k r → doing (fold next k ss) r ≡ doing k r
 steps_spare k r [] each at = refl
 steps_spare k r (s ∷ ss) each at =
     let passes = work_passes r at.call s at.work each.0.none each.0.other in
-    let same = after_leaves k r (states.Blocked at.call) s (effect k s) refl at.is passes in
+    let same = after_leaves k r s (effect k s) refl (subst (λ x. Passes r x s) (sym at.is) passes) in
     steps_spare (next k s) r ss each.1 (still k (next k s) r same at) ∙ same
