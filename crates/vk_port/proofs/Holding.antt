@@ -22,7 +22,6 @@ use Rattle.vk_rules.specs.Each.{Each}
 use Rattle.vk_rules.specs.Entries.{Called, Collected, Delivered, Entry, Input, Ticked}
 use Rattle.vk_rules.specs.Frames.{Frame}
 use Rattle.vk_rules.specs.Readings.{reading}
-use Rattle.vk_rules.specs.Right.{entry_of}
 use Rattle.vk_rules.proofs.Lengths.{frames_fit}
 use Rattle.vk_rules.proofs.Lists.{each_append}
 use Rattle.vk_rules.proofs.Rising.{events_are}
@@ -32,12 +31,11 @@ use Rattle.v_lawful.proofs.Entries.{IsSentLog, none_sent, one_more}
 use Rattle.v_lawful.proofs.Faultless.{configs_are_faultless}
 use Rattle.vk_host.specs.Sealed.{sealed}
 use Rattle.vk_host.specs.Standing.{IsAt, IsEvent, Shows}
-use Rattle.vk_host.specs.Standing as standing
 use Rattle.vk_host.specs.Values.{StationValue, has, input_of, most_before}
 use Rattle.vk_host.specs.Values as values
 use Rattle.vk_port.specs.declared.station.TheConstants.{EMITTED_BYTES, EVENT_BYTES}
 use Rattle.vk_port.specs.Kept.{IsHeld, IsKept, IsShort, first_of}
-use Rattle.vk_port.specs.Stations.{Given, IsLawfulHistory, StationHistory, brings_last_number, bytes_of, emitted_bytes, entries_at, entry_at, is_full, is_own, is_process_of, is_ready, is_used_up_by, most_frames, shown}
+use Rattle.vk_port.specs.Stations.{Given, StationHistory, brings_last_number, bytes_of, emitted_bytes, entries_at, entry_at, is_full, is_own, is_process_of, is_ready, is_used_up_by, most_frames, shown}
 use Rattle.vk_port.proofs.Fronts.{grown}
 use Rattle.vk_port.proofs.Histories.{emitted_more, entries_more, entries_size}
 use Rattle.vk_port.proofs.Owners.{has_is, own_is}

@@ -1,18 +1,15 @@
 -- Frames that are posted one after the other.
-use Rattle.std.proofs.Common.{◌≡◌, ℕ, ◌+◌, List, [], ◌∷◌, ◌++◌, length, map, take, Some, refl, sym, ap, subst, ◌∙◌, append_assoc, arith}
+use Rattle.std.proofs.Common.{◌≡◌, ℕ, ◌+◌, List, [], ◌∷◌, ◌++◌, map, take, Some, refl, sym, ap, subst, ◌∙◌, append_assoc}
 use mathlib.Core.List.{IsPrefix}
 use Rattle.std.specs.Prelude.{slice_get}
-use Rattle.std.proofs.lemmas.List.{append-nil, map-append, take_all, take_more}
+use Rattle.std.proofs.lemmas.List.{map-append, take_more}
 use Rattle.std.proofs.lemmas.Option.{get_or_from_slice_get, slice_get_within}
-use Rattle.turn_cell.specs.Rooms.{is_full as is_room_full}
-use Rattle.turn_cell.specs.Seats.{HasEntered, HasLooked, IsSameSeat, Sitting}
-use Rattle.turn_cell.specs.declared.replay.Room.{Room}
-use Rattle.turn_cell.proofs.Histories.{prefix_self}
+use Rattle.turn_cell.specs.Seats.{HasEntered, IsSameSeat, Sitting}
 use Rattle.vk_hub.specs.declared.event.HubEvent.{HubEvent}
 use Rattle.vk_hub.specs.declared.event.HubEvent.TheVariants as hub_events
-use Rattle.vk_hub.specs.Hubs.{HubLog, is_at_limit}
+use Rattle.vk_hub.specs.Hubs.{HubLog}
 use Rattle.vk_hub.specs.Links.{Frame}
-use Rattle.vk_port.specs.Turns.{HasPosted, HasStopped}
+use Rattle.vk_port.specs.Turns.{HasPosted}
 use Rattle.vk_port.proofs.Fronts.{prefix_over}
 
 module _ (f g h : Sitting HubLog HubEvent) (frames : List Frame) (at : ℕ) (posted : HasPosted f g (take at frames)) where

@@ -23,7 +23,7 @@ use Rattle.vk_rules.specs.Each.{Each}
 use Rattle.vk_rules.proofs.Lists.{each_append}
 use Rattle.vk_port.specs.Ports.{Action, AtHub, AtStation, Delivers, Does, Drops, Enters, HasDelivered, HasHeard, HasMade, Hears, IsCutEvent, IsCutPump, IsLog, IsMet, IsPumping, IsRefused, Met, PortValue, berth_of, fetched_at, stand_of}
 use Rattle.vk_port.specs.Stations.{Given, StationHistory, entry_at, frames_at, is_full, is_own, is_ready, most_frames, shown}
-use Rattle.vk_port.specs.Turns.{HasFetched, HasPosted, HasStopped, IsAnswered, IsCallAnswer, IsTicked, is_collect, room_of}
+use Rattle.vk_port.specs.Turns.{HasFetched, HasPosted, HasStopped, IsAnswered, IsCallAnswer, IsTicked, room_of}
 use Rattle.vk_port.proofs.Answers.{call_answer, collect_answer, tick_answer}
 use Rattle.vk_port.proofs.Logs.{berth_same, does_more, same_over}
 
