@@ -58,7 +58,7 @@ known_by ns n xs all others k none = by (cases_lt k n)
     by : (k < n) ⊎ (n ≤ k) → events_of k xs ≡ []
     by (inl low) =
         let any : list_any (λ m. m == k) ns ≡ list_any (λ m. m == k) (range_with_len 0 n) =
-            list_any-IsPermutation (λ m. m == k) ns (range_with_len 0 n) all in
+        list_any-IsPermutation (λ m. m == k) ns (range_with_len 0 n) all in
         let there : list_any (λ m. m == k) (range_with_len 0 n) ≡ true = in_range k 0 n (omega arith) (omega arith) in
         absurd (cc (none, any, there))
     by (inr high) = others k high

@@ -70,7 +70,7 @@ module _ {E : Type 0} where
       let rest = by_seats w ns more xs once.1 in
       let one = once.0 (w acc x.1) in
       let split = added_same (λ k. weight w (places k acc (x ∷ xs))) (λ k. cond (x.0 == k) (w acc x.1) 0 + weight w (places k more xs)) ns
-          (λ k. weight_by w (acc, x.1) (places k more xs) (x.0 == k)) in
+      (λ k. weight_by w (acc, x.1) (places k more xs) (x.0 == k)) in
       let sum = added_sum (λ k. cond (x.0 == k) (w acc x.1) 0) (λ k. weight w (places k more xs)) ns in
       omega arith
 
@@ -84,7 +84,7 @@ module _ {E : Type 0} where
   places_append n acc (x ∷ xs) ys =
       let more = acc ++ x ∷ [] in
       let rest : places n more (xs ++ ys) ≡ places n more xs ++ places n (acc ++ (x ∷ xs)) ys =
-          places_append n more xs ys ∙ ap (λ l. places n more xs ++ places n l ys) (append_assoc acc (x ∷ []) xs) in
+      places_append n more xs ys ∙ ap (λ l. places n more xs ++ places n l ys) (append_assoc acc (x ∷ []) xs) in
       ap (λ l. cond (x.0 == n) ((acc, x.1) ∷ l) l) rest ∙ places_by (x.0 == n) (acc, x.1) (places n more xs) (places n (acc ++ (x ∷ xs)) ys)
 
   -- where a number has no events it has no places
