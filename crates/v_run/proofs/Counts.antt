@@ -36,9 +36,6 @@ traffic_more plan n k e t [] = refl
 traffic_more plan n k e t (x ∷ xs) = traffic_more plan n k e (changed plan n t x.1) xs
 
 module _ (o : HubLog) where
-  gets_weight : (Frame → Bool) → ℕ → List (ℕ × HubEvent) → HubEvent → ℕ
-  gets_weight test h before e = gets test h o.programs (traffic_of o before) e
-
   pub gets_of_fetches : (test : Frame → Bool) (h : ℕ) → IsOfFetches (λ before e. gets test h o.programs (traffic_of o before) e)
   gets_of_fetches test h = record { post = λ before f. refl; finished = λ before. refl; halt = λ before. refl }
 

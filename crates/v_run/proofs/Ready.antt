@@ -1,4 +1,4 @@
--- Each entry of a station was ready and had room where it was made.
+-- Each entry of a station was ready where it was made: each collect came in time.
 use Rattle.std.proofs.Common.{◌≡◌, ℕ, ◌==◌, ◌&&◌, not, eqb-true, Bool, true, false, List, [], ◌∷◌, ◌++◌, cond, refl, sym, ap, ◌∙◌, subst, arith, append_assoc, append-nil}
 use Rattle.vk_base.specs.declared.event.StationEvent.{StationEvent}
 use Rattle.vk_base.specs.declared.event.StationEvent.TheVariants as events
@@ -86,13 +86,6 @@ in_time_all o acc (x ∷ xs) none so =
     subst (λ l. ComeInTime o.config o.host (entries_at o l)) (append_assoc acc (x ∷ []) xs) (in_time_all o (acc ++ x ∷ []) xs (omega
     arith) next)
 
--- Fullness. No entry was made where the history had no room.
-abbrev crowded : StationHistory → List (ℕ × StationEvent) → StationEvent → ℕ
-crowded o before e = cond (is_full o before e) 1 0
-
-crowded_none : (o : StationHistory) → IsLight (crowded o) o
-crowded_none o before e own ready room = ap (λ (b : Bool). cond {A = ℕ} b 1 0) room
-
 module _ (c : Settings) (o : HubLog) (histories : ℕ → List (ℕ × StationEvent)) (heard : List (ℕ × HubEvent)) (gs : List Passage)
     (k : AreClosed c o histories heard gs) (h : ℕ) (there : has_station c.specs h ≡ true) where
   -- what is nothing at each entry of this station alone
@@ -117,7 +110,3 @@ module _ (c : Settings) (o : HubLog) (histories : ℕ → List (ℕ × StationEv
 
   pub in_time : ComeInTime c h (entries_at (fresh_station c h) (histories h))
   in_time = in_time_all (fresh_station c h) [] (histories h) (light_here early early_none) tt
-
-  -- each entry had room
-  pub had_room : total (λ before e. cond (is_full (fresh_station c h) before e) 1 0) [] (histories h) ≡ 0
-  had_room = light_here crowded crowded_none

@@ -53,10 +53,6 @@ bytes_grow o xs (y ∷ ys) =
     ap emitted_bytes (entries_more o xs y) ∙ sum_by-cons bytes_of (entry_at o xs y.1) (entries_at o xs) in
     subst (λ l. emitted_bytes (entries_at o xs) ≤ emitted_bytes (entries_at o l)) (append_assoc xs (y ∷ []) ys) (omega arith)
 
-used_by : (a b : Bool) (m n : ℕ) → (a ≡ true → m ≡ n) → a || b ≡ true → (a ≡ true) ⊎ (b ≡ true)
-used_by true b m n same used = inl refl
-used_by false b m n same used = inr used
-
 or_by : (a b : Bool) → (a || b) ≡ true → (a ≡ true) ⊎ (b ≡ true)
 or_by true b used = inl refl
 or_by false b used = inr used

@@ -1,5 +1,5 @@
 -- Sums over the entries of a history, each weighed with what stands before it, and the same by the numbers of its seats.
-use Rattle.std.proofs.Common.{◌≡◌, ℕ, ◌+◌, ◌≤◌, ◌==◌, Bool, true, false, List, [], ◌∷◌, ◌++◌, map, cond, refl, sym, ap, ◌∙◌, arith, append_assoc, append-nil}
+use Rattle.std.proofs.Common.{◌≡◌, ℕ, ◌+◌, ◌==◌, Bool, true, false, List, [], ◌∷◌, ◌++◌, map, cond, refl, sym, ap, ◌∙◌, arith, append_assoc, append-nil}
 use Rattle.turn_cell.specs.History.{events_of}
 
 -- added up over a list
@@ -10,10 +10,6 @@ added f (x ∷ xs) = f x + added f xs
 pub added_same : {A : Type 0} (f g : A → ℕ) (xs : List A) → ((x : A) → f x ≡ g x) → added f xs ≡ added g xs
 added_same f g [] same = refl
 added_same f g (x ∷ xs) same = let h = same x in let t = added_same f g xs same in omega arith
-
-pub added_most : {A : Type 0} (f g : A → ℕ) (xs : List A) → ((x : A) → f x ≤ g x) → added f xs ≤ added g xs
-added_most f g [] most = omega arith
-added_most f g (x ∷ xs) most = let h = most x in let t = added_most f g xs most in omega arith
 
 pub added_sum : {A : Type 0} (f g : A → ℕ) (xs : List A) → added (λ x. f x + g x) xs ≡ added f xs + added g xs
 added_sum f g [] = refl
