@@ -5,7 +5,7 @@ use mathlib.Core.List.{IsPrefix}
 use lib.ListN.{get_elem?}
 use Rattle.atomic_table.specs.Table.{State, Final, Seen}
 use Rattle.turn_cell.specs.declared.rule.Standing.{Standing}
-use Rattle.turn_cell.specs.Accounts.{AreAccountsOf, IsAccountOf, IsNumberOf}
+use Rattle.turn_cell.specs.Accounts.{AreAccountsOf, AreDifferent, IsAccountOf, IsNumberOf}
 use Rattle.turn_cell.specs.History.{events_of}
 use Rattle.turn_cell.specs.Standings.{Knows, Owns}
 use Rattle.turn_cell.specs.Turns.{Turn, free, taken, IsFree, IsTaken, IsPlaced, Kept}
@@ -16,21 +16,27 @@ module _ {S E : Type 0} (history : S → List (ℕ × E)) (origin : S → S) (st
   abbrev V : Type 0
   V = Standing S E
 
-  -- the state x has the origin, all accounts of the seat are true of its history, and no number past the seats' has entered anything
+  -- The state x has the origin, all accounts of the seat are true of its history, and no number past the seats' has entered anything.
+  -- Its accounts have different numbers below the count of seats
   pub record Closes (v : V) (x : S) : Type 0 where
     pub same : origin x ≡ start
     pub mine : IsAccountOf (history x) v.account
     pub ended : AreAccountsOf (history x) v.ended
     pub known : (k : ℕ) → seats ≤ k → events_of k (history x) ≡ []
+    pub low : (k : ℕ) → IsNumberOf k (v.account ∷ v.ended) → k < seats
+    pub different : AreDifferent (v.account ∷ v.ended)
+
+  are_low : (log : List (ℕ × E)) (v : V) → Knows start seats log v → v.account.number < v.limit
+      → (k : ℕ) → IsNumberOf k (v.account ∷ v.ended) → k < seats
+  are_low log v knows some_number k among =
+      let few : v.limit ≤ seats = knows.few in ⊎_elim (λ (is : v.account.number ≡ k). omega arith) (knows.ended_few k) among
 
   all_owned : (log : List (ℕ × E)) (v : V) → Knows start seats log v → v.account.number < v.limit → length v.ended + 1 ≡ seats
       → (k : ℕ) → k < seats → Owns v k
   all_owned log v knows some_number count k under =
       let few : v.limit ≤ seats = knows.few in
-      let low : (j : ℕ) → IsNumberOf j (v.account ∷ v.ended) → j < seats =
-      λ j among. ⊎_elim (λ (is : v.account.number ≡ j). omega arith) (knows.ended_few j) among in
       ⊎_elim (λ (is : v.account.number ≡ k). inl (let le : v.account.number ≤ k = omega arith in le, omega arith)) (λ among. inr among)
-      (all_numbers seats (v.account ∷ v.ended) knows.different low (omega arith) k under)
+      (all_numbers seats (v.account ∷ v.ended) knows.different (are_low log v knows some_number) (omega arith) k under)
 
   module _ (s : State S V) (k : Kept history origin start seats s) (id : ℕ) (v : V) (at : get_elem? s.views id ≡ some v)
       (idle : v.holds ≡ false) (some_number : v.account.number < v.limit) (count : length v.ended + 1 ≡ seats) where
@@ -45,6 +51,8 @@ module _ {S E : Type 0} (history : S → List (ℕ × E)) (origin : S → S) (st
           );
           ended = subst (λ l. AreAccountsOf l v.ended) (sym placed.history_is) mine.ended;
           known = λ n past. ap (events_of n) placed.history_is ∙ k.known n past;
+          low = are_low k.log v mine some_number;
+          different = mine.different;
         }
 
     -- another seat that has the turn would have a number of its own

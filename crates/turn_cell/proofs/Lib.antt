@@ -1,6 +1,7 @@
 pub mod Closing
 pub mod Gathering
 pub mod Giving
+pub mod Handed
 pub mod Histories
 pub mod Joining
 pub mod Numbers
@@ -8,3 +9,4 @@ pub mod Splitting
 pub mod Taking
 pub mod Turning
 pub mod Views
+pub mod Whole

@@ -6,17 +6,22 @@ use Rattle.turn_cell.specs.declared.rule.Account.{Account}
 use Rattle.turn_cell.specs.Accounts.{AreDifferent, IsNumberOf}
 
 module _ {E : Type 0} where
-  abbrev numbers : List (Account E) → List ℕ
+  abbrev pub numbers : List (Account E) → List ℕ
   numbers accounts = map (λ a. a.number) accounts
 
   distinct_one : (x : ℕ) (accounts : List (Account E)) → ¬ IsNumberOf x accounts → AllByRecursion (λ y. eqb x y ≡ false) (numbers accounts)
   distinct_one x [] none = tt
   distinct_one x (a ∷ others) none = (ne_eqb x a.number (λ is. none (inl (sym is))), distinct_one x others (λ among. none (inr among)))
 
-  distinct : (accounts : List (Account E)) → AreDifferent accounts → IsDistinct eqb (numbers accounts)
+  pub distinct : (accounts : List (Account E)) → AreDifferent accounts → IsDistinct eqb (numbers accounts)
   unfolding IsDistinct
   distinct [] d = tt
   distinct (a ∷ others) d = (distinct_one a.number others d.0, distinct others d.1)
+
+  pub all_below : (n : ℕ) (accounts : List (Account E)) → ((k : ℕ) → IsNumberOf k accounts → k < n)
+      → AllByRecursion (λ k. k < n) (numbers accounts)
+  all_below n [] low = tt
+  all_below n (a ∷ others) low = (low a.number (inl refl), all_below n others (λ k among. low k (inr among)))
 
   among_step : (q : ℕ) (a : Account E) (others : List (Account E)) → (list_any (eqb q) (numbers others) ≡ true → IsNumberOf q others)
       → (b : Bool) → eqb q a.number ≡ b → (b || list_any (eqb q) (numbers others)) ≡ true → IsNumberOf q (a ∷ others)

@@ -23,10 +23,6 @@ module _ {E : Type 0} where
   AreDifferent [] = Unit {0}
   AreDifferent (a ∷ others) = (¬ IsNumberOf a.number others) × AreDifferent others
 
-  abbrev pub IsOneOf : Account E → List (Account E) → Type 0
-  IsOneOf a [] = ⊥
-  IsOneOf a (b ∷ others) = (b ≡ a) ⊎ IsOneOf a others
-
   -- the history that was seen, or one with one more event of its number
   abbrev pub IsNext : Account E → List (ℕ × E) → Type 0
   IsNext a log = (log ≡ a.seen) ⊎ ((e : E) × (log ≡ a.seen ++ (a.number, e) ∷ []))

@@ -1,5 +1,5 @@
 -- A cell and a seat of it, as callers see them.
-use Rattle.std.specs.Prelude.{◌≡◌, ℕ, Option, Some, List, [], ◌∷◌, ◌++◌}
+use Rattle.std.specs.Prelude.{◌≡◌, ℕ, Option, Some, List, [], ◌∷◌, ◌++◌, map}
 use mathlib.Core.List.{IsPrefix}
 use Rattle.atomic_table.specs.Seated.{TableId}
 use Rattle.turn_cell.specs.History.{events_of}
@@ -30,6 +30,9 @@ module _ {S E : Type 0} where
 
   abbrev pub IsSameSeat : Sitting S E → Sitting S E → Type 0
   IsSameSeat old new = (new.table ≡ old.table) × (new.origin ≡ old.origin) × (new.number ≡ old.number)
+
+  abbrev pub numbers_of : List (Sitting S E) → List ℕ
+  numbers_of seats = map (λ seat. seat.number) seats
 
   -- its own events are all that what it has seen has of its number
   abbrev pub IsComplete : Sitting S E → Type 0

@@ -1,7 +1,7 @@
 -- What a seat knows at the table, and what each step makes of that.
 use Rattle.std.specs.Prelude.{◌≡◌, ℕ, ◌+◌, ◌<◌, ◌≤◌, ◌⊎◌, true, false, Some, None, List, [], ◌∷◌, ◌++◌}
 use mathlib.Core.List.{IsPrefix}
-use Rattle.turn_cell.specs.Accounts.{AreAccountsOf, AreDifferent, IsNumberOf, IsOneOf}
+use Rattle.turn_cell.specs.Accounts.{AreAccountsOf, AreDifferent, IsNumberOf}
 use Rattle.turn_cell.specs.History.{events_of}
 use Rattle.turn_cell.specs.declared.rule.Account.{Account}
 use Rattle.turn_cell.specs.declared.rule.Standing.{Standing}
@@ -88,9 +88,9 @@ module _ {S E : Type 0} where
   abbrev pub Owns : Standing S E → ℕ → Type 0
   Owns v k = ((v.account.number ≤ k) × (k < v.limit)) ⊎ IsNumberOf k v.ended
 
-  -- it has this account, as its own or as that of an ended seat
-  abbrev pub HasAccount : Standing S E → Account E → Type 0
-  HasAccount v a = IsOneOf a (v.account ∷ v.ended)
+  -- the accounts that it has: those of ended seats, and its own behind them
+  abbrev pub accounts_in : Standing S E → List (Account E)
+  accounts_in v = v.ended ++ v.account ∷ []
 
   -- what it knows is true of this history, which began with this state at a cell with so many seats
   pub record Knows (origin : S) (seats : ℕ) (log : List (ℕ × E)) (v : Standing S E) : Type 0 where

@@ -1,10 +1,12 @@
-ghost use Rattle.std.specs.Prelude.{◌≡◌, ℕ, ◌+◌, ◌<◌, ◌≤◌, true, false, [], ◌∷◌, length, IsOk, IfOk, IfErr, OnOk, OnErr, Some, slice_get, All, vec_len, vec_capacity};
+ghost use Rattle.std.specs.Prelude.{◌≡◌, ℕ, ◌+◌, ◌<◌, ◌≤◌, true, false, [], ◌∷◌, IsOk, IfOk, IfErr, OnOk, OnErr, Some, slice_get, All, eqb, map, vec_len, vec_capacity};
+ghost use Rattle.std.specs.List.{IsDistinct, range_with_len};
+ghost use Rattle.std.specs.List.Sorted.{IsPermutation};
 ghost use mathlib.Core.List.{IsPrefix};
 ghost use Rattle.turn_cell.specs.Held.{IsWhole, account_of};
 ghost use Rattle.turn_cell.specs.History.{events_of};
 ghost use Rattle.turn_cell.specs.Rooms.{is_full};
-ghost use Rattle.turn_cell.specs.Seats.{HasEntered, HasLooked, IsComplete, IsSameSeat, IsSeatOf, fresh};
-ghost use Rattle.turn_cell.specs.Standings.{HasAccount, unsplit};
+ghost use Rattle.turn_cell.specs.Seats.{HasEntered, HasLooked, IsComplete, IsSameSeat, IsSeatOf, fresh, numbers_of};
+ghost use Rattle.turn_cell.specs.Standings.{accounts_in, unsplit};
 
 use crate::replay::{Replay, Room};
 use crate::rule::{CellRule, First, Keep, Setup, Standing};
@@ -150,8 +152,8 @@ impl<S: Replay> TurnCell<S> {
         }
     }
 
-    /// The state, once all seats have come back. Its history begins with what each seat has seen, and has just the events of these
-    /// seats, those of each once and in order. It takes no memory.
+    /// The state, once all seats have come back: their numbers are those below the count of seats, each once. Its history begins
+    /// with what each seat has seen, and has just the events of these seats, those of each once and in order. It takes no memory.
     pub fn close(self, seats: Vec<TurnSeat<S>>) -> S
         requires seats { All (λ s. IsSeatOf self s) seats.items }
         requires all { vec_len seats ≡ self.seats }
@@ -159,6 +161,9 @@ impl<S: Replay> TurnCell<S> {
         ensures seen { All (λ s. IsPrefix s.seen (S.history result)) seats.items }
         ensures mine { All (λ s. events_of s.number (S.history result) ≡ s.mine) seats.items }
         ensures others { (k : ℕ) → self.seats ≤ k → events_of k (S.history result) ≡ [] }
+        ensures below { All (λ s. s.number < self.seats) seats.items }
+        ensures different { IsDistinct eqb (numbers_of seats.items) }
+        ensures numbers { IsPermutation (numbers_of seats.items) (range_with_len 0 self.seats) }
     {
         let TurnCell { table } = self;
         let place = gather(&table.shared, seats);
@@ -190,14 +195,13 @@ fn deal<S: Replay>(board: &Board<S>, mut place: Place<S>, seats: u32, dealt: &mu
     });
 }
 
-// Joins all seats into one place at the table, which keeps their accounts.
+// Joins all seats into one place at the table, which keeps the account of each in their order.
 fn gather<S: Replay>(board: &Board<S>, mut seats: Vec<TurnSeat<S>>) -> Place<S>
     requires board { board.now.table_id.words ≡ 1 }
     requires seats { All (λ s. s.table ≡ board.now.table_id) seats.items }
     requires some { 0 < vec_len seats }
     ensures place { (result.table_id ≡ board.now.table_id) × IsWhole result.me }
-    ensures all { All (λ s. HasAccount result.me.0 (account_of s)) seats.items }
-    ensures count { length result.me.0.ended + 1 ≡ vec_len seats }
+    ensures accounts { accounts_in result.me.0 ≡ map account_of seats.items }
 {
     let mut place = match seats.pop() {
         Some(seat) => seat.into_place(),

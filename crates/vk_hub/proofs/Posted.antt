@@ -2,7 +2,7 @@
 use Rattle.std.proofs.Common.{◌≡◌, ℕ, zero, suc, ◌+◌, ◌*◌, ◌≤◌, ◌&&◌, ◌⊎◌, eqb-true, eq-eqb, Bool, true, false, List, [], ◌∷◌, ◌++◌, cond, nat_eq, bytes_eq, refl, sym, ap, ◌∙◌, subst, arith, inl, inr}
 use Rattle.turn_cell.specs.Seats.{HasEntered, Sitting}
 use Rattle.vk_hub.specs.Links.{Frame, header_of, is_addressed}
-use Rattle.vk_hub.specs.Hubs.{HubLog, Traffic, changed, fetched_from, first_traffic, traffic_after, traffic_of}
+use Rattle.vk_hub.specs.Hubs.{HubLog, Traffic, changed, fetched_from, first_traffic, is_at_limit, traffic_after, traffic_of}
 use Rattle.vk_hub.specs.Counting.{all_gets, all_posts, copies, gets, hits, posts}
 use Rattle.vk_hub.specs.Posts.{IsFromPost, IsPostOf, WasPosted}
 use Rattle.vk_event.specs.declared.scenario.LinkPlan.{LinkPlan}
@@ -80,6 +80,7 @@ from_post_by o host n before fetched.Nothing is = tt
 
 -- what was fetched by an entry of the seat
 pub from_post : (o : HubLog) (host : ℕ) (old new : Sitting HubLog HubEvent) (f : Fetched)
-    → HasEntered (λ before. f ≡ fetched_from o.programs (traffic_of o before) host) old new (Fetch host) → IsFromPost f host new.seen
+    → HasEntered (λ before. (is_at_limit before (Fetch host) ≡ false) × (f ≡ fetched_from o.programs (traffic_of o before) host)) old new
+    (Fetch host) → IsFromPost f host new.seen
 from_post o host old new f entered =
-    subst (IsFromPost f host) (sym entered.seen) (from_post_by o host old.number entered.before f (sym entered.gives))
+    subst (IsFromPost f host) (sym entered.seen) (from_post_by o host old.number entered.before f (sym entered.gives.1))

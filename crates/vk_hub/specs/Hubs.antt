@@ -33,9 +33,9 @@ nothing_for station = record { station = station; ring = []; held = None }
 abbrev pub first_traffic : LinkPlan → List ℕ → Traffic
 first_traffic plan stations = record { x = plan.seed; waiting = map nothing_for stations; finished = 0; halted = false }
 
--- it is halted, or all programs have finished
+-- it is halted, or at least so many programs have finished; it stays so
 abbrev pub is_stopped : ℕ → Traffic → Bool
-is_stopped programs t = t.halted || (t.finished == programs)
+is_stopped programs t = t.halted || nat_le programs t.finished
 
 -- the frame that a fetch of the station would give
 abbrev pub first_for : ℕ → List Waiting → Option Frame

@@ -3,3 +3,4 @@ pub mod Hubs
 pub mod Kept
 pub mod Counting
 pub mod Posts
+pub mod Stops

@@ -20,7 +20,7 @@ pub enum HubEvent {
 #[derive(Drop)]
 pub enum Fetched {
     Frame { frame: FrameBytes },
-    /// The hub is halted, or all programs have finished. It comes before a frame that waits.
+    /// The hub is halted, or all programs have finished, for good. It comes before a frame that waits.
     Stopped,
     /// No frame waits for the station.
     Nothing,

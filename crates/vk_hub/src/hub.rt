@@ -1,10 +1,12 @@
-ghost use Rattle.std.specs.Prelude.{◌≡◌, ◌≢◌, ℕ, ◌+◌, ◌≤◌, ◌<◌, ◌⊎◌, ◌++◌, ◌∷◌, [], true, false, Some, slice_get, vec_len, IfOk, IfErr, OnOk, OnErr, All};
+ghost use Rattle.std.specs.Prelude.{◌≡◌, ◌≢◌, ℕ, ◌+◌, ◌≤◌, ◌<◌, ◌⊎◌, ◌++◌, ◌∷◌, [], true, false, Some, slice_get, vec_len, IfOk, IfErr, OnOk, OnErr, All, eqb, length};
+ghost use Rattle.std.specs.List.{IsDistinct, range_with_len};
+ghost use Rattle.std.specs.List.Sorted.{IsPermutation};
 ghost use mathlib.Core.List.{IsPrefix};
 ghost use Rattle.turn_cell.specs.History.{events_of};
 ghost use Rattle.turn_cell.specs.Rooms.{is_full};
-ghost use Rattle.turn_cell.specs.Seats.{HasEntered, HasLooked, IsComplete, IsSameSeat, IsSeatOf, fresh};
+ghost use Rattle.turn_cell.specs.Seats.{HasEntered, HasLooked, IsComplete, IsSameSeat, IsSeatOf, fresh, numbers_of};
 ghost use Rattle.vk_base.specs.Settings.{stations_of};
-ghost use Rattle.vk_hub.specs.Hubs.{fetched_from, has_halt, is_at_limit, is_ready, traffic_of};
+ghost use Rattle.vk_hub.specs.Hubs.{fetched_from, has_halt, is_at_limit, is_ready, others, traffic_of};
 ghost use Rattle.vk_hub.specs.Posts.{IsFromPost};
 
 use crate::event::{Fetched, HubEvent, HubOut};
@@ -80,7 +82,7 @@ impl Hub {
         self.cell.step(rt, alloc, seat, &event, &mut out)
     }
 
-    /// The oldest frame that waits for the station, or that the hub has ended. Both are entries. Where neither is due it is `Nothing`,
+    /// The oldest frame that waits for the station, or that the hub has ended. Both are entries, for which there was room. Where neither is due it is `Nothing`,
     /// and nothing is entered. A frame that it gives was posted for the station.
     pub fn fetch<R: Wait>(
         &self,
@@ -96,7 +98,8 @@ impl Hub {
         ensures nothing { IfOk result (λ f. f ≡ Fetched.Nothing → HasLooked seat.old seat.new
             × (fetched_from self.now.origin.programs (traffic_of self.now.origin seat.new.seen) host ≡ Fetched.Nothing)) }
         ensures fetched { IfOk result (λ f. f ≢ Fetched.Nothing → HasEntered (λ before.
-            f ≡ fetched_from self.now.origin.programs (traffic_of self.now.origin before) host)
+            (is_at_limit before (HubEvent.Fetch host) ≡ false)
+            × (f ≡ fetched_from self.now.origin.programs (traffic_of self.now.origin before) host))
             seat.old seat.new (HubEvent.Fetch host)) }
         ensures posted { IfOk result (λ f. IsFromPost f host seat.new.seen) }
         ensures err { OnErr result (HasLooked seat.old seat.new
@@ -135,7 +138,7 @@ impl Hub {
             .step(rt, alloc, seat, &HubEvent::Finished, &mut out)
     }
 
-    /// Halts the hub, unless it is halted already. It takes no memory, and is never refused.
+    /// Halts the hub, unless it is halted already: then it enters nothing. It takes no memory, and is never refused.
     pub fn stop<R: Wait>(&self, rt: &R, seat: &mut TurnSeat<HubState>)
         requires { IsSeatOf self.now seat.old }
         ensures same { IsSameSeat seat.old seat.new }
@@ -144,6 +147,7 @@ impl Hub {
         ensures later { IsPrefix seat.old.seen seat.new.seen }
         ensures halted { has_halt seat.new.seen ≡ true }
         ensures mine { (seat.new.mine ≡ seat.old.mine) ⊎ (seat.new.mine ≡ seat.old.mine ++ HubEvent.Halt ∷ []) }
+        ensures once { HasEntered (λ before. has_halt before ≡ false) seat.old seat.new HubEvent.Halt ⊎ HasLooked seat.old seat.new }
     {
         let mut out = HubOut { fetched: None };
         match self
@@ -155,8 +159,9 @@ impl Hub {
         }
     }
 
-    /// The state, once all seats have come back. Its history begins with what each seat has seen, and has just the events of these
-    /// seats, those of each once and in order. It takes no memory.
+    /// The state, once all seats have come back: their numbers are those below the count of seats, each once. Its history begins
+    /// with what each seat has seen, and has just the events of these seats, those of each once and in order: at most one halt, and
+    /// beside it at most 200,000. It takes no memory.
     pub fn close(self, seats: Vec<TurnSeat<HubState>>) -> HubState
         requires seats { All (λ s. IsSeatOf self s) seats.items }
         requires all { vec_len seats ≡ self.seats }
@@ -166,8 +171,15 @@ impl Hub {
         ensures seen { All (λ s. IsPrefix s.seen result.history) seats.items }
         ensures mine { All (λ s. events_of s.number result.history ≡ s.mine) seats.items }
         ensures others { (k : ℕ) → self.seats ≤ k → events_of k result.history ≡ [] }
+        ensures below { All (λ s. s.number < self.seats) seats.items }
+        ensures different { IsDistinct eqb (numbers_of seats.items) }
+        ensures numbers { IsPermutation (numbers_of seats.items) (range_with_len 0 self.seats) }
+        ensures one_halt { length result.history ≤ others result.history + 1 }
+        ensures few { others result.history ≤ 200000 }
     {
         let Hub { cell, alloc: _ } = self;
-        cell.close(seats)
+        let state = cell.close(seats);
+        let _few = state.entry_count();
+        state
     }
 }

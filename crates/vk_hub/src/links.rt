@@ -123,7 +123,7 @@ impl Links {
     pub fn is_stopped(&self, programs: u32) -> bool
         ensures { result ≡ is_stopped programs self.now }
     {
-        self.halted || self.finished == u64::from(programs)
+        self.halted || self.finished >= u64::from(programs)
     }
 
     pub fn is_ready(&self, programs: u32, event: &HubEvent) -> bool

@@ -1,6 +1,6 @@
 ghost use Rattle.std.specs.Prelude.{◌≡◌, ◌+◌, ◌≤◌, false, [], length, map, slice_index, IfOk, vec_len};
 ghost use Rattle.vk_base.specs.Settings.{stations_of};
-ghost use Rattle.vk_hub.specs.Hubs.{answered, has_halt, is_at_limit, is_halt, is_ready, nothing_for, origin_of, traffic_of};
+ghost use Rattle.vk_hub.specs.Hubs.{answered, has_halt, is_at_limit, is_halt, is_ready, nothing_for, origin_of, others, traffic_of};
 ghost use Rattle.vk_hub.specs.Kept.{room_for};
 
 use crate::event::{HubEvent, HubOut};
@@ -91,6 +91,15 @@ impl HubState {
             history,
             links: Links::new(plan.seed, inboxes),
         })
+    }
+
+    /// How many entries its history has: at most one halt, and beside it at most 200,000.
+    pub fn entry_count(&self) -> usize
+        ensures count { result ≡ length self.now.history }
+        ensures one_halt { length self.now.history ≤ others self.now.history + 1 }
+        ensures few { others self.now.history ≤ 200000 }
+    {
+        self.history.len()
     }
 }
 

@@ -1,0 +1,11 @@
+pub mod Fronts
+pub mod Owners
+pub mod Opening
+pub mod Loops
+pub mod Histories
+pub mod Holding
+pub mod Answers
+pub mod Logs
+pub mod Posting
+pub mod Turning
+pub mod Crossing

@@ -1,0 +1,64 @@
+-- Internal. What a station keeps: its host stands for the entries of its history, and these are within its share.
+use Rattle.std.specs.Prelude.{ℕ, ◌≡◌, ◌≤◌, ◌/◌, true, List, [], ◌∷◌, length, None}
+use Rattle.vk_base.specs.declared.config.ProcessSpec.{ProcessSpec}
+use Rattle.vk_base.specs.declared.event.StationEvent.{StationEvent}
+use Rattle.vk_base.specs.declared.event.StationEvent.TheVariants as events
+use Rattle.vk_base.specs.declared.limits.TheConstants.{EVENTS, FRAME_BYTES, STATIONS}
+use Rattle.vk_base.specs.Pids.{IsPid}
+use Rattle.vk_base.specs.Settings.{Settings, has_station, refusal_of, stations_of}
+use Rattle.vk_host.specs.Standing.{IsAt}
+use Rattle.vk_host.specs.Values.{StationValue}
+use Rattle.vk_rules.specs.Each.{Each}
+use Rattle.vk_rules.specs.Frames.{unsealed_of}
+use Rattle.vk_rules.specs.Readings.{reading}
+use Rattle.vk_text.specs.Laws.{IsReadable}
+use Rattle.v_lawful.specs.Fitting.{IsFitting}
+use Rattle.v_lawful.specs.Sending.{IsSentEntry, IsUnsealed}
+use Rattle.vk_port.specs.declared.station.TheConstants.{EMITTED_BYTES}
+use Rattle.vk_port.specs.Stations.{HadRoom, StationHistory, emitted_bytes, entries_at, is_own}
+
+-- what is seen of the entries that a station keeps: the events with their callers, and the room for more
+pub record EntryList : Type 0 where
+  pub items : List (ℕ × StationEvent)
+  pub spare : ℕ
+
+-- the events, each with its caller
+abbrev pub with_callers : List ℕ → List StationEvent → List (ℕ × StationEvent)
+with_callers (k ∷ ks) (e ∷ es) = (k, e) ∷ with_callers ks es
+with_callers ks es = []
+
+-- an event that code can hold: numbers, pids, messages and bytes are such
+abbrev pub IsHeld : StationEvent → Type 0
+IsHeld (events.Call pid call) = IsPid pid × IsReadable call
+IsHeld (events.Collect pid) = Unit {0}
+IsHeld events.Tick = Unit {0}
+IsHeld (events.Deliver frame) = IsUnsealed (unsealed_of frame)
+
+-- What callers see of a station with this configuration and host: with these entries, and before the first.
+abbrev pub history_of : Settings → ℕ → EntryList → StationHistory
+history_of c host list = record { config = c; host = host; history = list.items; spare = list.spare }
+
+abbrev pub first_of : Settings → ℕ → StationHistory
+first_of c host = record { config = c; host = host; history = []; spare = 0 }
+
+-- The host stands for the entries that these events make. So many stations share, and so many bytes were emitted here.
+pub record IsKept (c : Settings) (host : ℕ) (items : List (ℕ × StationEvent)) (s : StationValue) (stations bytes : ℕ) : Type 0 where
+  pub same : s.host ≡ host
+  pub lawful : refusal_of c.times c.pool c.specs ≡ None
+  pub pids : Each (λ (p : ProcessSpec). IsPid p.pid) c.specs
+  pub station : has_station c.specs host ≡ true
+  pub count : stations ≡ length (stations_of c.specs)
+  pub few_stations : stations ≤ STATIONS
+  pub some_station : 1 ≤ stations
+  pub stands : IsAt c (entries_at (first_of c host) items) s
+  pub sent : Each IsSentEntry (entries_at (first_of c host) items)
+  pub fitting : IsFitting c host (reading c host (entries_at (first_of c host) items))
+  pub emitted : bytes ≡ emitted_bytes (entries_at (first_of c host) items)
+  pub low : bytes ≤ EMITTED_BYTES / stations
+  pub few : length items ≤ EVENTS / stations
+  pub own : Each (λ (x : ℕ × StationEvent). is_own (first_of c host) x.1 ≡ true) items
+  pub had_room : HadRoom (first_of c host) items
+
+-- a frame that code can hold
+abbrev pub IsShort : List ℕ → Type 0
+IsShort bytes = length bytes ≤ FRAME_BYTES

@@ -1,0 +1,415 @@
+//! A caller's access to a station and to the links.
+
+ghost use Rattle.std.specs.Prelude.{◌≡◌, ◌≢◌, ◌≤◌, ◌<◌, [], true, false, IfOk, IfErr, IfNone, IfSome, IsSome, OnOk, Some};
+ghost use Rattle.turn_cell.specs.Seats.{IsComplete, IsSameSeat, IsSeatOf};
+ghost use Rattle.vk_hub.specs.declared.event.HubEvent.TheVariants as hub_events;
+ghost use Rattle.vk_port.specs.Ports.{AtHub, Does, HasPumped, HasMade, HasWaited, IsCutEvent, IsCutPump, IsMet, IsRefused, IsWaitRefused, answer_as};
+ghost use Rattle.vk_port.specs.Stations.{is_own, is_process_of, is_ready, most_frames};
+ghost use Rattle.vk_port.specs.Turns.{HasFetched, HasPosted, HasStopped, IsAnswered, IsCallAnswer, IsTicked, is_collect, room_of};
+
+use crate::patience::Patience;
+use crate::station::Station;
+use crate::station_out::StationOut;
+use std::alloc::Global;
+use std::marker::Model;
+use std::sync::Wait;
+use std::time::Clock;
+use turn_cell::{Ready, Room, TurnCell, TurnSeat};
+use vk_base::{Answer, Call, CallOutcome, EventAnswer, FrameBytes, Pid, StationEvent};
+use vk_hub::{Fetched, Hub, HubState};
+
+/// The most frames that a tick has.
+const TICK_FRAMES: u32 = 2_048;
+
+/// The most frames that any other event has.
+const FRAMES: u32 = 64;
+
+/// Microseconds of the longest sleep of a thread that waits for an answer. Deliveries do not wait for it where another thread pumps.
+const LONGEST_SLEEP: u32 = 20_000;
+
+/// There was no memory for a port: both seats come back.
+#[derive(Drop)]
+pub struct PortNoMemory {
+    pub seat: TurnSeat<Station>,
+    pub hub_seat: TurnSeat<HubState>,
+}
+
+/// What a wait for an answer gives.
+#[derive(Drop)]
+pub enum Collected {
+    Answered { answer: Answer },
+    /// The hub has ended.
+    Stopped,
+}
+
+/// What a pump does.
+#[derive(Drop)]
+pub enum Pumped {
+    /// It delivered a frame to the station, which answered this.
+    Delivered { answer: EventAnswer },
+    /// No frame waited.
+    Nothing,
+    /// The hub has ended.
+    Stopped,
+}
+
+/// One caller's access to a station and to the links, by a seat at each. Contracts see the station's number, its cell and the hub, the
+/// seats, and whether it may tick.
+#[derive(Drop)]
+pub struct Port<'a> {
+    host: u16,
+    station: &'a TurnCell<Station>,
+    seat: TurnSeat<Station>,
+    hub: &'a Hub,
+    hub_seat: TurnSeat<HubState>,
+    ticks: bool,
+    out: StationOut,
+}
+
+impl<'a> Model for Port<'a> {
+    ghost use Rattle.std.specs.Prelude.{◌≡◌, ◌≤◌};
+    ghost use Rattle.turn_cell.specs.Seats.{IsComplete, IsSeatOf};
+    ghost use Rattle.vk_port.specs.Ports.{PortValue};
+    ghost use Rattle.vk_port.specs.Turns.{room_of};
+
+    ghost Value = { PortValue };
+
+    ghost view = { λ p. record {
+      host = p.host;
+      station = p.station.now;
+      hub = p.hub.now;
+      seat = p.seat;
+      hub_seat = p.hub_seat;
+      ticks = p.ticks;
+    } };
+
+    ghost invariant = { λ p. (p.station.now.origin.host ≡ p.host) × IsSeatOf p.station.now p.seat × IsSeatOf p.hub.now p.hub_seat
+        × IsComplete p.seat × IsComplete p.hub_seat × (room_of p.ticks ≤ p.out.room) };
+}
+
+impl<'a> Port<'a> {
+    /// A port with these two seats. It makes its place for the frames of an event: of a tick where it may tick.
+    ///
+    /// # Errors
+    ///
+    /// [`PortNoMemory`] where memory is wanting: it hands both seats back.
+    pub fn new(
+        alloc: Global,
+        host: u16,
+        station: &'a TurnCell<Station>,
+        seat: TurnSeat<Station>,
+        hub: &'a Hub,
+        hub_seat: TurnSeat<HubState>,
+        ticks: bool,
+    ) -> Result<Port<'a>, PortNoMemory>
+        requires host { station.now.origin.host ≡ host }
+        requires seat { IsSeatOf station.now seat }
+        requires hub_seat { IsSeatOf hub.now hub_seat }
+        requires complete { IsComplete seat }
+        requires hub_complete { IsComplete hub_seat }
+        ensures ok { IfOk result (λ p. p ≡ record {
+          host = host;
+          station = station.now;
+          hub = hub.now;
+          seat = seat;
+          hub_seat = hub_seat;
+          ticks = ticks;
+        }) }
+        ensures seat { IfErr result (λ e. e.seat ≡ seat) }
+        ensures hub_seat { IfErr result (λ e. e.hub_seat ≡ hub_seat) }
+    {
+        match StationOut::new(alloc, if ticks { TICK_FRAMES } else { FRAMES }) {
+            Ok(out) => Ok(Port {
+                host,
+                station,
+                seat,
+                hub,
+                hub_seat,
+                ticks,
+                out,
+            }),
+            Err(_) => Err(PortNoMemory { seat, hub_seat }),
+        }
+    }
+
+    /// The event that the process makes the call; then its frames are posted in order.
+    ///
+    /// # Errors
+    ///
+    /// A [`Room`] where the station or the hub has no room. Where a post was refused, the event stays, and its further frames are lost.
+    pub fn call<R: Wait>(
+        &mut self,
+        rt: &R,
+        alloc: Global,
+        pid: Pid,
+        call: &Call,
+    ) -> Result<CallOutcome, Room>
+        requires { is_process_of self.old.station.origin pid ≡ true }
+        ensures ok { IfOk result (λ o. HasMade self.old self.new [] (StationEvent.Call pid call.now) (answer_as o)) }
+        ensures err { IfErr result (λ why. IsRefused self.old self.new why []
+            (IsCutEvent self.old.station.origin (StationEvent.Call pid call.now))) }
+    {
+        let event = StationEvent::Call {
+            pid,
+            call: call.copy(),
+        };
+        match self.enter(rt, alloc, &event) {
+            Ok(answer) => Ok(outcome_of(answer)),
+            Err(why) => Err(why),
+        }
+    }
+
+    /// Waits until the process is done, and collects its answer. Between two tries it pumps once; where a pump hears that the hub has
+    /// ended, it waits no longer. Where nothing was there it waits by a [`Patience`], with sleeps of at most 20 milliseconds.
+    ///
+    /// # Errors
+    ///
+    /// As [`Port::call`] and [`Port::pump`].
+    pub fn collect_waiting<R: Wait + Clock>(
+        &mut self,
+        rt: &R,
+        alloc: Global,
+        pid: Pid,
+    ) -> Result<Collected, Room>
+        requires { is_process_of self.old.station.origin pid ≡ true }
+        ensures ok { IfOk result (HasWaited self.old self.new pid) }
+        ensures err { IfErr result (IsWaitRefused self.old self.new pid) }
+    {
+        let event = StationEvent::Collect { pid };
+        let mut patience = Patience::new(LONGEST_SLEEP);
+        for _ in rt.forever() {
+            match self.enter_when_ready(rt, alloc, &event) {
+                Ok(Some(answer)) => {
+                    return Ok(Collected::Answered {
+                        answer: answer_in(answer),
+                    });
+                }
+                Ok(None) => {}
+                Err(why) => return Err(why),
+            }
+            match self.pump(rt, alloc) {
+                Ok(Pumped::Delivered { .. }) => patience.renew(),
+                Ok(Pumped::Nothing) => patience.wait(rt),
+                Ok(Pumped::Stopped) => return Ok(Collected::Stopped),
+                Err(why) => return Err(why),
+            }
+        }
+        unreachable!()
+    }
+
+    /// Fetches once, and delivers what it fetched to the station.
+    ///
+    /// # Errors
+    ///
+    /// A [`Room`] where the hub or the station has no room. A frame that the station refuses is lost.
+    pub fn pump<R: Wait>(&mut self, rt: &R, alloc: Global) -> Result<Pumped, Room>
+        ensures ok { IfOk result (HasPumped self.old self.new) }
+        ensures err { IfErr result (λ why. IsRefused self.old self.new why [] (IsCutPump self.old.station.origin self.old.host)) }
+    {
+        match self.fetch(rt, alloc) {
+            Ok(Fetched::Frame { frame }) => {
+                let event = StationEvent::Deliver { frame };
+                match self.enter(rt, alloc, &event) {
+                    Ok(answer) => Ok(Pumped::Delivered { answer }),
+                    Err(why) => Err(why),
+                }
+            }
+            Ok(Fetched::Stopped) => Ok(Pumped::Stopped),
+            Ok(Fetched::Nothing) => Ok(Pumped::Nothing),
+            Err(why) => Err(why),
+        }
+    }
+
+    /// The event that the station's clock ticks; then its frames are posted in order.
+    ///
+    /// # Errors
+    ///
+    /// As [`Port::call`].
+    pub fn tick<R: Wait>(&mut self, rt: &R, alloc: Global) -> Result<u64, Room>
+        requires { self.old.ticks ≡ true }
+        ensures ok { IfOk result (λ now. HasMade self.old self.new [] StationEvent.Tick (EventAnswer.Ticked now)) }
+        ensures err { IfErr result (λ why. IsRefused self.old self.new why [] (IsCutEvent self.old.station.origin StationEvent.Tick)) }
+    {
+        match self.enter(rt, alloc, &StationEvent::Tick) {
+            Ok(answer) => Ok(tick_in(answer)),
+            Err(why) => Err(why),
+        }
+    }
+
+    /// The event that this frame comes, from wherever it was; then its frames are posted in order.
+    ///
+    /// # Errors
+    ///
+    /// As [`Port::call`].
+    pub fn deliver<R: Wait>(
+        &mut self,
+        rt: &R,
+        alloc: Global,
+        frame: &FrameBytes,
+    ) -> Result<EventAnswer, Room>
+        ensures ok { IfOk result (HasMade self.old self.new [] (StationEvent.Deliver frame.now)) }
+        ensures err { IfErr result (λ why. IsRefused self.old self.new why []
+            (IsCutEvent self.old.station.origin (StationEvent.Deliver frame.now))) }
+    {
+        let event = StationEvent::Deliver {
+            frame: frame.copy(),
+        };
+        self.enter(rt, alloc, &event)
+    }
+
+    /// Hands both seats back.
+    pub fn end(self) -> (TurnSeat<Station>, TurnSeat<HubState>)
+        ensures seat { result.0 ≡ self.entry.seat }
+        ensures hub_seat { result.1 ≡ self.entry.hub_seat }
+        ensures station { IsSeatOf self.entry.station result.0 }
+        ensures hub { IsSeatOf self.entry.hub result.1 }
+        ensures complete { IsComplete result.0 }
+        ensures hub_complete { IsComplete result.1 }
+    {
+        let Port { seat, hub_seat, .. } = self;
+        (seat, hub_seat)
+    }
+
+    /// Fetches once.
+    fn fetch<R: Wait>(&mut self, rt: &R, alloc: Global) -> Result<Fetched, Room>
+        ensures fetched { IfOk result (λ f. f ≢ Fetched.Nothing → HasFetched self.old self.new f) }
+        ensures nothing { IfOk result (λ f. f ≡ Fetched.Nothing → HasPumped self.old self.new Pumped.Nothing) }
+        ensures err { IfErr result (λ why. Does self.old self.new [] × IsMet self.new why (AtHub (hub_events.Fetch self.old.host))) }
+    {
+        self.hub.fetch(rt, alloc, &mut self.hub_seat, self.host)
+    }
+
+    /// Enters the event, which is ready at any time, posts its frames in order, and gives its answer.
+    fn enter<R: Wait>(
+        &mut self,
+        rt: &R,
+        alloc: Global,
+        event: &StationEvent,
+    ) -> Result<EventAnswer, Room>
+        requires own { is_own self.old.station.origin event.now ≡ true }
+        requires no_collect { is_collect event.now ≡ false }
+        requires room { most_frames event.now ≤ room_of self.old.ticks }
+        ensures ok { IfOk result (HasMade self.old self.new [] event.now) }
+        ensures err { IfErr result (λ why. IsRefused self.old self.new why [] (IsCutEvent self.old.station.origin event.now)) }
+    {
+        match self.enter_when_ready(rt, alloc, event) {
+            Ok(Some(answer)) => Ok(answer),
+            Ok(None) => unreachable!(),
+            Err(why) => Err(why),
+        }
+    }
+
+    /// Enters the event if it is ready, posts its frames in order, and gives its answer; `None` where it is not ready.
+    fn enter_when_ready<R: Wait>(
+        &mut self,
+        rt: &R,
+        alloc: Global,
+        event: &StationEvent,
+    ) -> Result<Option<EventAnswer>, Room>
+        requires own { is_own self.old.station.origin event.now ≡ true }
+        requires room { most_frames event.now ≤ room_of self.old.ticks }
+        ensures ok { IfOk result (λ given. IfSome given (HasMade self.old self.new [] event.now)) }
+        ensures not_yet { IfOk result (λ given. IfNone given (Does self.old self.new []
+            × (is_ready self.old.station.origin self.new.seat.seen event.now ≡ false))) }
+        ensures err { IfErr result (λ why. IsRefused self.old self.new why [] (IsCutEvent self.old.station.origin event.now)) }
+    {
+        match self
+            .station
+            .step_when_ready(rt, alloc, &mut self.seat, event, &mut self.out)
+        {
+            Ok(Ready::Done) => {
+                match post_all(rt, alloc, self.hub, &mut self.hub_seat, &mut self.out) {
+                    Ok(answer) => Ok(Some(answer)),
+                    Err(why) => Err(why),
+                }
+            }
+            Ok(Ready::NotYet) => Ok(None),
+            Err(why) => Err(why),
+        }
+    }
+}
+
+/// Posts the frames of the station's last event in order, and takes its answer.
+fn post_all<R: Wait>(
+    rt: &R,
+    alloc: Global,
+    hub: &Hub,
+    seat: &mut TurnSeat<HubState>,
+    out: &mut StationOut,
+) -> Result<EventAnswer, Room>
+    requires seat { IsSeatOf hub.now seat.old }
+    requires complete { IsComplete seat.old }
+    requires some { IsSome out.old.answer }
+    ensures same { IsSameSeat seat.old seat.new }
+    ensures complete { IsComplete seat.new }
+    ensures room { out.new.room ≡ out.old.room }
+    ensures answer { IfOk result (λ given. out.old.answer ≡ Some given) }
+    ensures ok { OnOk result (HasPosted seat.old seat.new out.old.frames) }
+    ensures err { IfErr result (HasStopped seat.old seat.new out.old.frames) }
+{
+    match post_frames(rt, alloc, hub, seat, out) {
+        Ok(()) => match out.take_answer() {
+            Some(answer) => Ok(answer),
+            None => unreachable!(),
+        },
+        Err(why) => Err(why),
+    }
+}
+
+/// Posts these frames in order.
+fn post_frames<R: Wait>(
+    rt: &R,
+    alloc: Global,
+    hub: &Hub,
+    seat: &mut TurnSeat<HubState>,
+    out: &StationOut,
+) -> Result<(), Room>
+    requires seat { IsSeatOf hub.now seat.old }
+    requires complete { IsComplete seat.old }
+    ensures same { IsSameSeat seat.old seat.new }
+    ensures complete { IsComplete seat.new }
+    ensures ok { OnOk result (HasPosted seat.old seat.new out.now.frames) }
+    ensures err { IfErr result (HasStopped seat.old seat.new out.now.frames) }
+{
+    for at in 0..out.frame_count() {
+        match hub.post(rt, alloc, seat, out.frame(at)) {
+            Ok(()) => {}
+            Err(why) => return Err(why),
+        }
+    }
+    Ok(())
+}
+
+/// What a call is answered.
+fn outcome_of(answer: EventAnswer) -> CallOutcome
+    requires { IsCallAnswer answer }
+    ensures { answer_as result ≡ answer }
+{
+    match answer {
+        EventAnswer::Begun => CallOutcome::Begun,
+        EventAnswer::Answered { answer } => CallOutcome::Now { answer },
+        _ => unreachable!(),
+    }
+}
+
+/// What was collected.
+fn answer_in(answer: EventAnswer) -> Answer
+    requires { IsAnswered answer }
+    ensures { EventAnswer.Answered result ≡ answer }
+{
+    match answer {
+        EventAnswer::Answered { answer } => answer,
+        _ => unreachable!(),
+    }
+}
+
+/// The new tick.
+fn tick_in(answer: EventAnswer) -> u64
+    requires { IsTicked answer }
+    ensures { EventAnswer.Ticked result ≡ answer }
+{
+    match answer {
+        EventAnswer::Ticked { now } => now,
+        _ => unreachable!(),
+    }
+}
