@@ -1,0 +1,52 @@
+-- The laws: of closed histories, of their logs, and of the schedules that these are joined to.
+use Rattle.std.specs.Prelude.{ℕ, ◌≡◌, Bool, true, false, Some, None, List, map}
+use Rattle.turn_cell.specs.declared.replay.Room.TheVariants as rooms
+use Rattle.vk_base.specs.declared.event.StationEvent.{StationEvent}
+use Rattle.vk_base.specs.Settings.{Settings, has_station, refusal_of, stations_of}
+use Rattle.vk_event.specs.declared.schedule.Schedule.{Schedule}
+use Rattle.vk_hub.specs.declared.event.HubEvent.{HubEvent}
+use Rattle.vk_hub.specs.Hubs.{HubLog}
+use Rattle.vk_join.specs.declared.log.StationLog.{StationLog}
+use Rattle.vk_join.specs.Joined.{IsJoined}
+use Rattle.vk_join.specs.Laws.{AreGiven}
+use Rattle.vk_join.specs.Logs.{AreLogs, events_at}
+use Rattle.vk_join.specs.Stray.{join_refusal}
+use Rattle.vk_port.specs.Stations.{IsLawfulHistory, StationHistory, event_of}
+use Rattle.vk_rules.specs.Each.{Each}
+use Rattle.v_run.specs.Closed.{AreClosed}
+use Rattle.v_run.specs.Jobs.{JobEnd, OneOf}
+use Rattle.v_run.specs.Ran.{IsRun}
+use Rattle.v_run.specs.Runs.{AreJobs, passages_of, tasks_of}
+
+-- a station with its whole history
+abbrev pub closed_station : Settings → ℕ → List (ℕ × StationEvent) → StationHistory
+closed_station c h history = record { config = c; host = h; history = history; spare = 0 }
+
+abbrev pub host_in : StationLog → ℕ
+host_in l = l.host
+
+-- The logs of these histories: one for each station, in their order, with just the events of its history. All histories are lawful.
+pub record AreLogsOf (c : Settings) (histories : ℕ → List (ℕ × StationEvent)) (logs : List StationLog) : Type 0 where
+  pub hosts : map host_in logs ≡ stations_of c.specs
+  pub events : (h : ℕ) → events_at logs h ≡ map event_of (histories h)
+  pub lawful : (h : ℕ) → has_station c.specs h ≡ true → IsLawfulHistory (closed_station c h (histories h))
+
+-- Such logs are as a join asks of them.
+abbrev pub LogsMayBeJoined : Type 0
+LogsMayBeJoined = (c : Settings) (histories : ℕ → List (ℕ × StationEvent)) (logs : List StationLog) →
+    refusal_of c.times c.pool c.specs ≡ None → AreLogsOf c histories logs → AreLogs c logs
+
+-- The logs of closed histories are joined: they keep to the limits, and each delivery brings what a station emitted for this one.
+abbrev pub ClosedRunsAreJoined : Type 0
+ClosedRunsAreJoined = (c : Settings) (o : HubLog) (histories : ℕ → List (ℕ × StationEvent)) (heard : List (ℕ × HubEvent))
+    (js : List JobEnd) (logs : List StationLog) → AreClosed c o histories heard (passages_of js) → AreLogsOf c histories logs →
+    AreGiven c logs → join_refusal c logs ≡ None
+
+-- A schedule that says what they say is a run of the jobs. It is limited only where a job met a full Room, and not limited only where
+-- none met any.
+abbrev pub JoinedRunsAreRuns : Type 0
+JoinedRunsAreRuns = (c : Settings) (o : HubLog) (rounds : ℕ) (histories : ℕ → List (ℕ × StationEvent)) (heard : List (ℕ × HubEvent))
+    (js : List JobEnd) (logs : List StationLog) (s : Schedule) (limited : Bool) → AreClosed c o histories heard (passages_of js) →
+    AreJobs c o rounds js → AreLogsOf c histories logs → AreGiven c logs → IsJoined c logs s →
+    (limited ≡ false → Each (λ (j : JobEnd). j.met ≡ None) js) → (limited ≡ true → OneOf (λ (j : JobEnd). j.met ≡ Some rooms.Full) js) →
+    IsRun c o.plan rounds (tasks_of (passages_of js)) limited s

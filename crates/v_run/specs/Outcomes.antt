@@ -1,0 +1,108 @@
+-- What a run comes to, said of the entries that its stations have in the end, of which the newest comes first.
+use Rattle.std.specs.Prelude.{ℕ, ◌≡◌, ◌≤◌, ◌<◌, ◌+◌, ◌*◌, ◌==◌, ◌&&◌, ◌⊎◌, Bool, true, false, Option, List, [], ◌∷◌, length, cond}
+use Rattle.vk_base.specs.declared.answer.Answer.{Answer}
+use Rattle.vk_base.specs.declared.call.Call.{Call}
+use Rattle.vk_base.specs.declared.pid.Pid.{Pid}
+use Rattle.vk_base.specs.Pids.{same_pid}
+use Rattle.vk_base.specs.Settings.{Settings, has_station, stations_of}
+use Rattle.vk_frame.specs.declared.header.Header.{Header}
+use Rattle.vk_hub.specs.Counting.{copies}
+use Rattle.vk_event.specs.declared.scenario.LinkPlan.{LinkPlan}
+use Rattle.vk_port.specs.Stations.{emitted_bytes, is_used_up_by}
+use Rattle.vk_rules.specs.Each.{Each}
+use Rattle.vk_rules.specs.Entries.{Entry, Input, Called, Collected, Delivered, is_tick, is_delivery}
+use Rattle.vk_rules.specs.Frames.{Unsealed, Noise, Headed, Framed}
+use Rattle.vk_rules.specs.Histories.{Logs}
+use Rattle.v_ended.specs.Answered.{ComeInTime, answers_of, calls_of}
+use Rattle.v_ended.specs.Ends.{EachWorkIsEndedByFrame, NoTickEnds}
+use Rattle.v_pages.specs.Followed.{IsNextCall}
+use Rattle.v_run.specs.Passages.{IsAtEnd}
+
+-- How often a station ticks, and how often it takes the output with these numbers.
+abbrev pub ticks_in : List Entry → ℕ
+ticks_in [] = 0
+ticks_in (e ∷ es) = cond (is_tick e.input) 1 0 + ticks_in es
+
+abbrev pub has_numbers : (from event output : ℕ) → Header → Bool
+has_numbers from event output h = h.source == from && h.event == event && h.output == output
+
+abbrev pub opens_with : (from event output : ℕ) → Unsealed → Bool
+opens_with from event output Noise = false
+opens_with from event output (Headed h) = has_numbers from event output h
+opens_with from event output (Framed h p) = has_numbers from event output h
+
+abbrev pub brings : (from event output : ℕ) → Input → Bool
+brings from event output (Delivered u) = opens_with from event output u
+brings from event output i = false
+
+abbrev pub times_taken : (from event output : ℕ) → List Entry → ℕ
+times_taken from event output [] = 0
+times_taken from event output (e ∷ es) = cond (brings from event output e.input) 1 0 + times_taken from event output es
+
+-- How many frames a station emitted, and how many were delivered to it.
+abbrev pub frames_in : List Entry → ℕ
+frames_in [] = 0
+frames_in (e ∷ es) = length e.frames + frames_in es
+
+abbrev pub deliveries_in : List Entry → ℕ
+deliveries_in [] = 0
+deliveries_in (e ∷ es) = cond (is_delivery e.input) 1 0 + deliveries_in es
+
+-- the same of all stations
+abbrev pub over : (ℕ → ℕ) → List ℕ → ℕ
+over f [] = 0
+over f (h ∷ hs) = f h + over f hs
+
+-- each call of the process is its task's next one, after the calls and answers before it
+abbrev pub IsNextOf : (List Answer → Option Call) → Pid → List Entry → Input → Type 0
+IsNextOf task r es (Called pid c) = same_pid pid r ≡ true → IsNextCall task (calls_of r es) (answers_of r es) c
+IsNextOf task r es i = Unit {0}
+
+abbrev pub FollowsTask : (List Answer → Option Call) → Pid → List Entry → Type 0
+FollowsTask task r [] = Unit {0}
+FollowsTask task r (e ∷ es) = IsNextOf task r es e.input × FollowsTask task r es
+
+-- the process makes no call and no collect
+abbrev pub is_doing_of : Pid → Input → Bool
+is_doing_of r (Called pid c) = same_pid pid r
+is_doing_of r (Collected pid) = same_pid pid r
+is_doing_of r i = false
+
+abbrev pub DoesNothing : Pid → List Entry → Type 0
+DoesNothing r es = Each (λ e. is_doing_of r e.input ≡ false) es
+
+-- a process with its task
+pub record Assignment : Type 0 where
+  pub pid : Pid
+  pub task : List Answer → Option Call
+
+-- A station has used up its share of events or of emitted bytes.
+abbrev pub HasUsedUp : Settings → Logs → Type 0
+HasUsedUp c logs =
+    (h : ℕ) × (has_station c.specs h ≡ true)
+    × (is_used_up_by (length (logs h)) (emitted_bytes (logs h)) (length (stations_of c.specs)) ≡ true)
+
+-- The frames that were emitted and the deliveries are together near the limit of the links.
+abbrev pub AreBusy : Settings → Logs → Type 0
+AreBusy c logs = 198000 ≤ over (λ h. frames_in (logs h)) (stations_of c.specs) + over (λ h. deliveries_in (logs h)) (stations_of c.specs)
+
+-- WHAT A RUN COMES TO.
+pub record IsOutcome (c : Settings) (plan : LinkPlan) (rounds : ℕ) (tasks : List Assignment) (was_limited : Bool) (logs : Logs) : Type 0 where
+  -- each collect comes in time
+  pub collected : (h : ℕ) → has_station c.specs h ≡ true → ComeInTime c h (logs h)
+  -- no output is taken by one station more often than the links double
+  pub seldom : (h from event output : ℕ) → has_station c.specs h ≡ true → times_taken from event output (logs h) ≤ copies plan
+  -- each station ticks at most so often, and no two differ by more than one tick
+  pub few_ticks : (h : ℕ) → has_station c.specs h ≡ true → ticks_in (logs h) ≤ rounds
+  pub even : (g h : ℕ) → has_station c.specs g ≡ true → has_station c.specs h ≡ true → ticks_in (logs g) ≤ ticks_in (logs h) + 1
+  -- each process follows its task, where it was not limited to the end; the others do nothing
+  pub follows : Each (λ (a : Assignment). FollowsTask a.task a.pid (logs a.pid.host)) tasks
+  pub ended : was_limited ≡ false → Each (λ (a : Assignment). IsAtEnd a.task (calls_of a.pid (logs a.pid.host)) (answers_of a.pid (logs a.pid.host))) tasks
+  pub idle : (r : Pid) → Each (λ (a : Assignment). same_pid a.pid r ≡ false) tasks → has_station c.specs r.host ≡ true → DoesNothing r (logs r.host)
+  -- it was limited only for one of these reasons
+  pub limited : was_limited ≡ true → HasUsedUp c logs ⊎ AreBusy c logs
+  -- with fewer rounds than a work has patience for none ends by a tick; each that a task began, a remote Send or move or a lookup,
+  -- was then ended by a frame
+  pub early : rounds < c.times.tries * c.times.interval → (h : ℕ) → has_station c.specs h ≡ true → NoTickEnds (logs h)
+  pub by_frames : was_limited ≡ false → rounds < c.times.tries * c.times.interval
+      → Each (λ (a : Assignment). EachWorkIsEndedByFrame c a.pid.host a.pid (logs a.pid.host)) tasks
