@@ -57,23 +57,22 @@ collect_seen k pid t is =
     })) t is in
     ap (λ (x : Run). length x.seen) (sym (same_Some _ t (sym (run_step k (steps.Collect pid) e.0 e.1) ∙ is))) ∙ seen_once k pid e.0 e.1
 
--- What processes see of one event more.
-record SeesMore (last : Pid → Option Call) (hs : List Happened) (host event : ℕ) (e : Entry) : Type 0 where
-  then_last : Pid → Option Call
-  is : observed last (hs ++ At host event e ∷ []) ≡ observed last hs ++ option_to_list (seen_of then_last e.input e.answer)
+-- What processes see of one event more, where they began these calls last.
+abbrev pub last_behind : (Pid → Option Call) → List Happened → Pid → Option Call
+last_behind last [] = last
+last_behind last (At host event e ∷ hs) = last_behind (begun_after last e.input e.answer) hs
+last_behind last (Missing host ∷ hs) = last_behind last hs
 
-sees_more : (last : Pid → Option Call) (hs : List Happened) (host event : ℕ) (e : Entry) → SeesMore last hs host event e
+pub sees_more : (last : Pid → Option Call) (hs : List Happened) (host event : ℕ) (e : Entry)
+    → observed last (hs ++ At host event e ∷ []) ≡ observed last hs ++ option_to_list (seen_of (last_behind last hs) e.input e.answer)
 unfolding observed
-sees_more last [] host event e = record { then_last = last; is = append-nil (option_to_list (seen_of last e.input e.answer)) }
-sees_more last (Missing at ∷ hs) host event e = let it = sees_more last hs host event e in record { then_last = it.then_last; is = it.is }
+sees_more last [] host event e = append-nil (option_to_list (seen_of last e.input e.answer))
+sees_more last (Missing at ∷ hs) host event e = sees_more last hs host event e
 sees_more last (At at number x ∷ hs) host event e =
-    let it = sees_more (begun_after last x.input x.answer) hs host event e in
-    record {
-      then_last = it.then_last;
-      is = ap (λ l. option_to_list (seen_of last x.input x.answer) ++ l) it.is
-          ∙ sym (append_assoc (option_to_list (seen_of last x.input x.answer)) (observed (begun_after last x.input x.answer) hs)
-          (option_to_list (seen_of it.then_last e.input e.answer)));
-    }
+    let next = begun_after last x.input x.answer in
+    ap (λ l. option_to_list (seen_of last x.input x.answer) ++ l) (sees_more next hs host event e)
+    ∙ sym (append_assoc (option_to_list (seen_of last x.input x.answer)) (observed next hs)
+    (option_to_list (seen_of (last_behind next hs) e.input e.answer)))
 
 abbrev sees_by : (Pid → Option Call) → Pid → Answer → Option Observation
 sees_by last pid x = last pid >>= λ c. Some (record { pid = pid; call = c; answer = x })
@@ -91,16 +90,16 @@ steps_of_collect : (c : Settings) (h : ℕ) (es : List Entry) (pid : Pid) → is
 unfolding right_entry collect_outcome
 steps_of_collect c h es pid allowed = ap (λ (b : Bool). cond b (steps.Collect pid ∷ []) []) allowed
 
-input_of_collect : (c : Settings) (h : ℕ) (es : List Entry) (i : Input) → (entry_of c h es i).input ≡ i
+pub input_of_entry : (c : Settings) (h : ℕ) (es : List Entry) (i : Input) → (entry_of c h es i).input ≡ i
 unfolding right_entry
-input_of_collect c h es i = refl
+input_of_entry c h es i = refl
 
 -- Callers of a schedule's front.
 of_front : (specs : List ProcessSpec) (xs ys : List Event) → AreOfProcesses specs (xs ++ ys) → AreOfProcesses specs xs
 of_front specs [] ys of = tt
 of_front specs (x ∷ xs) ys of = (of.0, of_front specs xs ys of.1)
 
-of_actors : (specs : List ProcessSpec) (es : List Event) → list_all (has_actors specs) es ≡ true → AreOfProcesses specs es
+pub of_actors : (specs : List ProcessSpec) (es : List Event) → list_all (has_actors specs) es ≡ true → AreOfProcesses specs es
 of_actors specs [] all = tt
 of_actors specs (e ∷ es) all =
     let parts = and_parts (has_actors specs e) (list_all (has_actors specs) es) all in (one e parts.0, of_actors specs es parts.1)
@@ -140,8 +139,12 @@ module _ (c : Settings) (xs : List Event) (pid : Pid) (distinct : AreDistinct c.
       ∙ (flat_map-append steps_in (history_of c xs) (happens ∷ [])
       ∙ ap (λ l. S ++ l) (append-nil entry.steps ∙ steps_of_collect c pid.host es_before pid allowed))
 
-  pub collect_answered : is_allowed (reading c pid.host es_before).view (steps.Collect pid) ≡ true → is_some (handed_out entry.answer) ≡ true
-  collect_answered allowed =
+  abbrev last : Pid → Option Call
+  last = last_behind no_call (history_of c xs)
+
+  pub collect_sees : is_allowed (reading c pid.host es_before).view (steps.Collect pid) ≡ true
+      → length (option_to_list (seen_of last (Collected pid) entry.answer)) ≡ 1
+  collect_sees allowed =
       let first = schedules_run c xs distinct (of_front c.specs xs (scheduled.Collect pid ∷ []) of) in
       let second = schedules_run c (xs ++ scheduled.Collect pid ∷ []) distinct of in
       let k0 = initial_kernel c.specs in
@@ -156,17 +159,14 @@ module _ (c : Settings) (xs : List Event) (pid : Pid) (distinct : AreDistinct c.
           (sym goes ∙ (ap (run k0) (sym (steps_are allowed)) ∙ second.run)) in
       let t = parts.0 in
       let one = collect_seen first.last pid t parts.1 in
-      let seen : r.seen ++ t.seen ≡ observed no_call (history_of c (xs ++ scheduled.Collect pid ∷ [])) =
-          ap (λ (x : Run). x.seen) (same_Some _ _ parts.2) in
-      let sees = sees_more no_call (history_of c xs) pid.host (length es_before + 1) entry in
-      let same : r.seen ++ t.seen ≡ r.seen ++ option_to_list (seen_of sees.then_last entry.input entry.answer) =
-          seen ∙ (ap (observed no_call) whole_is ∙ sees.is) in
-      let count : length r.seen + length t.seen ≡ length r.seen + length (option_to_list (seen_of sees.then_last entry.input entry.answer)) =
-          sym (length-append r.seen t.seen) ∙ (ap length same
-          ∙ length-append r.seen (option_to_list (seen_of sees.then_last entry.input entry.answer))) in
-      let last : length (option_to_list (seen_of sees.then_last entry.input entry.answer)) ≡ 1 = omega arith in
-      some_of sees.then_last pid entry.answer
-      (ap (λ i. length (option_to_list (seen_of sees.then_last i entry.answer))) (sym (input_of_collect c pid.host es_before (Collected pid))) ∙ last)
+      let told : List Observation = option_to_list (seen_of last entry.input entry.answer) in
+      let same : r.seen ++ t.seen ≡ r.seen ++ told =
+          ap (λ (x : Run). x.seen) (same_Some _ _ parts.2)
+          ∙ (ap (observed no_call) whole_is ∙ sees_more no_call (history_of c xs) pid.host (length es_before + 1) entry) in
+      let count : length r.seen + length t.seen ≡ length r.seen + length told =
+          sym (length-append r.seen t.seen) ∙ (ap length same ∙ length-append r.seen told) in
+      let all : length told ≡ 1 = omega arith in
+      ap (λ i. length (option_to_list (seen_of last i entry.answer))) (sym (input_of_entry c pid.host es_before (Collected pid))) ∙ all
 
 -- the newest of some entries came in time
 came : (c : Settings) (h : ℕ) (later : List Entry) (x : Entry) (es : List Entry) → ComeInTime c h (later ++ x ∷ es) → IsInTime c h es x.input
@@ -201,7 +201,18 @@ module _ (c : Settings) (es : List Event) (distinct : AreDistinct c.specs) (acto
           (λ i. ((ap (logs_of c) is ∙ logs_cut c no_entries xs (scheduled.Collect pid ∷ ys)) i) h)
           ∙ (rest.1 ∙ ap (λ l. rest.0 ++ l) (with_here (logs_of c xs) h x)) in
       let it : IsInTime c h (logs_of c xs h) x.input = came c h rest.0 x (logs_of c xs h) (subst (ComeInTime c h) all (collected h there)) in
-      subst (IsInTime c h (logs_of c xs h)) (input_of_collect c h (logs_of c xs h) (Collected pid)) it
+      subst (IsInTime c h (logs_of c xs h)) (input_of_entry c h (logs_of c xs h) (Collected pid)) it
+
+  pub sees_at : (xs : List Event) (pid : Pid) (ys : List Event) → es ≡ xs ++ scheduled.Collect pid ∷ ys
+      → length (option_to_list (seen_of (last_behind no_call (history_of c xs)) (Collected pid)
+      (entry_of c pid.host (logs_of c xs pid.host) (Collected pid)).answer)) ≡ 1
+  sees_at xs pid ys is =
+      let of = of_actors c.specs es actors in
+      let station = actor_of c.specs es actors xs (scheduled.Collect pid) ys is in
+      let front : AreOfProcesses c.specs (xs ++ scheduled.Collect pid ∷ []) =
+          of_front c.specs (xs ++ scheduled.Collect pid ∷ []) ys
+          (subst (AreOfProcesses c.specs) (is ∙ sym (append_assoc xs (scheduled.Collect pid ∷ []) ys)) of) in
+      collect_sees c xs pid distinct front (allowed_at xs pid ys is station)
 
   answered_delivered : (logs : Logs) (to : ℕ) (o : Option Frame) → IsAnswered (delivered c logs to o)
   unfolding right_entry
@@ -212,12 +223,7 @@ module _ (c : Settings) (es : List Event) (distinct : AreDistinct c.specs) (acto
   unfolding happened right_entry
   answered_at xs (scheduled.Call pid call) ys is = tt
   answered_at xs (scheduled.Collect pid) ys is =
-      let of = of_actors c.specs es actors in
-      let station = actor_of c.specs es actors xs (scheduled.Collect pid) ys is in
-      let front : AreOfProcesses c.specs (xs ++ scheduled.Collect pid ∷ []) =
-          of_front c.specs (xs ++ scheduled.Collect pid ∷ []) ys
-          (subst (AreOfProcesses c.specs) (is ∙ sym (append_assoc xs (scheduled.Collect pid ∷ []) ys)) of) in
-      collect_answered c xs pid distinct front (allowed_at xs pid ys is station)
+      some_of (last_behind no_call (history_of c xs)) pid (entry_of c pid.host (logs_of c xs pid.host) (Collected pid)).answer (sees_at xs pid ys is)
   answered_at xs (scheduled.Tick host) ys is = tt
   answered_at xs (scheduled.Deliver to from event output) ys is =
       answered_delivered (logs_of c xs) to (handed_over (logs_of c xs) to from event output)

@@ -28,3 +28,4 @@ pub mod Few
 pub mod Room
 pub mod Answered
 pub mod Ran
+pub mod Followed

@@ -12,6 +12,7 @@ use Rattle.vk_base.specs.Packets.{Packet}
 use Rattle.vk_base.specs.Settings.{Settings, has_station, stations_of}
 use Rattle.vk_cluster.proofs.Handed.{opens_again}
 use Rattle.vk_cluster.proofs.Pieces.{each_at}
+use Rattle.vk_cluster.specs.Found as found
 use Rattle.vk_frame.specs.declared.header.Header.{Header}
 use Rattle.vk_frame.specs.Reading.{frame_of}
 use Rattle.vk_host.specs.Sealed.{sealed}
@@ -203,7 +204,8 @@ module _ (unseal : FramesUnsealAgain) (c : Settings) (o : HubLog) (histories : â
         let f = it.1 in
         let lawful : IsLawfulFrame f = each_at IsLawfulFrame (emitted es) it.0 f (each_emitted es (sound q).lawful) it.2 in
         let most : IsBounded f = each_at IsBounded (emitted es) it.0 f (bounded q es (sound q).rise) it.2 in
-        let tests = and_parts (is_frame bytes (sealed f)) (links.is_addressed (header_of (sealed f)) h) (is_true _ it.3) in
+        let tests = and_parts (is_frame bytes (sealed f)) (links.is_addressed (header_of (sealed f)) h)
+            (is_true (is_frame bytes (sealed f) && links.is_addressed (header_of (sealed f)) h) it.3) in
         let bytes_are : sealed f â‰¡ bytes = same_bytes bytes (sealed f) tests.0 in
         record {
           frame = f;

@@ -3,6 +3,8 @@ use Rattle.std.specs.Prelude.{ℕ, ◌≡◌, Bool, true, false, Some, None, Lis
 use Rattle.turn_cell.specs.declared.replay.Room.TheVariants as rooms
 use Rattle.vk_base.specs.declared.event.StationEvent.{StationEvent}
 use Rattle.vk_base.specs.Settings.{Settings, has_station, refusal_of, stations_of}
+use Rattle.vk_event.specs.declared.event.Event.{Event}
+use Rattle.vk_event.specs.declared.scenario.LinkPlan.{LinkPlan}
 use Rattle.vk_event.specs.declared.schedule.Schedule.{Schedule}
 use Rattle.vk_hub.specs.declared.event.HubEvent.{HubEvent}
 use Rattle.vk_hub.specs.Hubs.{HubLog}
@@ -13,8 +15,11 @@ use Rattle.vk_join.specs.Logs.{AreLogs, events_at}
 use Rattle.vk_join.specs.Stray.{join_refusal}
 use Rattle.vk_port.specs.Stations.{IsLawfulHistory, StationHistory, event_of}
 use Rattle.vk_rules.specs.Each.{Each}
+use Rattle.v_pages.specs.Scheduled.{FollowsIn}
+use Rattle.v_whole.specs.HistoryLaws.{IsSchedule}
 use Rattle.v_run.specs.Closed.{AreClosed}
 use Rattle.v_run.specs.Jobs.{JobEnd, OneOf}
+use Rattle.v_run.specs.Outcomes.{Assignment}
 use Rattle.v_run.specs.Ran.{IsRun}
 use Rattle.v_run.specs.Runs.{AreJobs, passages_of, tasks_of}
 
@@ -50,3 +55,13 @@ JoinedRunsAreRuns = (c : Settings) (o : HubLog) (rounds : ℕ) (histories : ℕ 
     AreJobs c o rounds js → AreLogsOf c histories logs → AreGiven c logs → IsJoined c logs s →
     (limited ≡ false → Each (λ (j : JobEnd). j.met ≡ None) js) → (limited ≡ true → OneOf (λ (j : JobEnd). j.met ≡ Some rooms.Full) js) →
     IsRun c o.plan rounds (tasks_of (passages_of js)) limited s
+
+-- WHAT THE LAWS OF PAGE SERVERS ASK of a history: its steps are a run, and each of these processes follows its task there.
+pub record FollowTasks (c : Settings) (tasks : List Assignment) (es : List Event) : Type 0 where
+  pub schedule : IsSchedule c es
+  pub follows : Each (λ (a : Assignment). FollowsIn a.task c es a.pid) tasks
+
+-- It is so in every run.
+abbrev pub RunsFollowTasks : Type 0
+RunsFollowTasks = (c : Settings) (plan : LinkPlan) (rounds : ℕ) (tasks : List Assignment) (limited : Bool) (s : Schedule) →
+    refusal_of c.times c.pool c.specs ≡ None → IsRun c plan rounds tasks limited s → FollowTasks c tasks s.events

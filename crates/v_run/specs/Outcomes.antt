@@ -84,7 +84,8 @@ HasUsedUp c logs =
 
 -- The frames that were emitted and the deliveries are together near the limit of the links.
 abbrev pub AreBusy : Settings → Logs → Type 0
-AreBusy c logs = 198000 ≤ over (λ h. frames_in (logs h)) (stations_of c.specs) + over (λ h. deliveries_in (logs h)) (stations_of c.specs)
+AreBusy c logs =
+    198000 ≤ over (λ h. frames_in (logs h)) (stations_of c.specs) + over (λ h. deliveries_in (logs h)) (stations_of c.specs)
 
 -- WHAT A RUN COMES TO.
 pub record IsOutcome (c : Settings) (plan : LinkPlan) (rounds : ℕ) (tasks : List Assignment) (was_limited : Bool) (logs : Logs) : Type 0 where
@@ -97,8 +98,10 @@ pub record IsOutcome (c : Settings) (plan : LinkPlan) (rounds : ℕ) (tasks : Li
   pub even : (g h : ℕ) → has_station c.specs g ≡ true → has_station c.specs h ≡ true → ticks_in (logs g) ≤ ticks_in (logs h) + 1
   -- each process follows its task, where it was not limited to the end; the others do nothing
   pub follows : Each (λ (a : Assignment). FollowsTask a.task a.pid (logs a.pid.host)) tasks
-  pub ended : was_limited ≡ false → Each (λ (a : Assignment). IsAtEnd a.task (calls_of a.pid (logs a.pid.host)) (answers_of a.pid (logs a.pid.host))) tasks
-  pub idle : (r : Pid) → Each (λ (a : Assignment). same_pid a.pid r ≡ false) tasks → has_station c.specs r.host ≡ true → DoesNothing r (logs r.host)
+  pub ended : was_limited ≡ false
+      → Each (λ (a : Assignment). IsAtEnd a.task (calls_of a.pid (logs a.pid.host)) (answers_of a.pid (logs a.pid.host))) tasks
+  pub idle : (r : Pid) → Each (λ (a : Assignment). same_pid a.pid r ≡ false) tasks → has_station c.specs r.host ≡ true
+      → DoesNothing r (logs r.host)
   -- it was limited only for one of these reasons
   pub limited : was_limited ≡ true → HasUsedUp c logs ⊎ AreBusy c logs
   -- with fewer rounds than a work has patience for none ends by a tick; each that a task began, a remote Send or move or a lookup,

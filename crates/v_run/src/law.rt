@@ -1,5 +1,5 @@
 //! The laws of closed histories.
-ghost use Rattle.v_run.specs.Laws.{ClosedRunsAreJoined, JoinedRunsAreRuns, LogsMayBeJoined};
+ghost use Rattle.v_run.specs.Laws.{ClosedRunsAreJoined, JoinedRunsAreRuns, LogsMayBeJoined, RunsFollowTasks};
 
 use v_ended::answered_works_end_by_frames;
 use vk_frame::frames_are_spelled_once;
@@ -29,3 +29,8 @@ pub fn joined_runs_are_runs()
     bytes_are_of_stations();
     answered_works_end_by_frames();
 }
+
+/// In the history of a run each process follows its task as the laws of page servers ask, so that these hold of runs.
+pub fn runs_follow_tasks()
+    ensures { RunsFollowTasks }
+{}

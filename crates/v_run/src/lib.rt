@@ -13,4 +13,4 @@
 
 mod law;
 
-pub use law::{closed_runs_are_joined, joined_runs_are_runs};
+pub use law::{closed_runs_are_joined, joined_runs_are_runs, runs_follow_tasks};
