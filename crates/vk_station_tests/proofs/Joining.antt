@@ -1,6 +1,6 @@
 -- Logs that are such as can be joined, and the schedule that they are joined to.
-use Rattle.std.proofs.Common.{◌≡◌, ℕ, ◌+◌, ◌<◌, ◌≤◌, Bool, true, false, cond, ◌&&◌, ◌||◌, nat_lt, List, [], ◌∷◌, ◌++◌, get_or, length, take, Option, Some, None, refl, sym, ap, subst, ◌∙◌, arith}
-use Rattle.std.proofs.lemmas.Bool.{and_parts, ltb-false, or_parts}
+use Rattle.std.proofs.Common.{◌≡◌, ℕ, ◌+◌, ◌<◌, ◌≤◌, Bool, true, false, cond, ◌||◌, nat_lt, List, [], ◌∷◌, ◌++◌, get_or, length, take, Option, Some, None, refl, sym, ap, subst, ◌∙◌, arith}
+use Rattle.std.proofs.lemmas.Bool.{ltb-false, or_parts}
 use Rattle.std.proofs.lemmas.List.{take_all, take_more}
 use Rattle.std.proofs.lemmas.Option.{none-some}
 use Rattle.std.specs.List.{list_all, AllByRecursion}
@@ -15,8 +15,8 @@ use Rattle.vk_join.specs.declared.log.JoinRefusal.{JoinRefusal}
 use Rattle.vk_join.specs.declared.log.JoinRefusal.TheVariants as refusals
 use Rattle.vk_join.specs.declared.log.StationLog.{StationLog}
 use Rattle.vk_join.specs.Joined.{IsJoined}
-use Rattle.vk_join.specs.Logs.{AreLogs, HostsRise, IsOfStation, byte_count, entries_at, event_count}
-use Rattle.vk_join.specs.Stray.{first_stray, is_over_limit, join_refusal}
+use Rattle.vk_join.specs.Logs.{AreLogs, HostsRise, byte_count, entries_at, event_count}
+use Rattle.vk_join.specs.Stray.{first_stray, join_refusal}
 use Rattle.vk_rules.specs.Each.{Each}
 use Rattle.vk_rules.proofs.Lists.{each_append, each_weaker}
 use Rattle.vk_text.specs.Heads.{settings_of}

@@ -1,5 +1,4 @@
-use Rattle.std.proofs.Common.{refl}
-use Rattle.vk_station_tests.proofs.Joining.{faultless, joined_lawful}
+use Rattle.vk_station_tests.proofs.Joining.{faultless}
 use Rattle.vk_station_tests.proofs.logs.tell.Goals as goal
 
 pub join_stations-requires-clause-lawful : goal.join_stations-requires-clause-lawful
