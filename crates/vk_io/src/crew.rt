@@ -26,8 +26,8 @@ pub trait Halt {
 }
 
 /// Waits for a while. It promises nothing.
-pub trait Pacer: Send {
-    fn wait<R: Wait + Threads + Clock + Sync>(&mut self, rt: &R);
+pub trait Pacer {
+    fn wait<R: Wait + Clock>(&mut self, rt: &R);
 }
 
 /// Why a crew ran its jobs to no end.
