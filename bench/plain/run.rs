@@ -21,6 +21,12 @@ const EMITTED_BYTES: usize = 268_435_456;
 /// The most that the frames of one event have.
 const EVENT_BYTES: usize = 2_359_296;
 const PACE: Duration = Duration::from_millis(1);
+/// How a thread waits that finds nothing to do: it lets others have its processor so many times, and then sleeps, each time twice as long,
+/// up to the longest sleep of those that wait for an answer, and of those that wait for frames.
+const YIELDS: u32 = 8;
+const FIRST_SLEEP: Duration = Duration::from_micros(50);
+const ANSWER_SLEEP: Duration = Duration::from_millis(20);
+const FRAME_SLEEP: Duration = Duration::from_millis(1);
 
 /// What a station did, as lines of a schedule, and the Lamport number and the end of each.
 #[derive(Default)]
@@ -49,6 +55,27 @@ struct Port<'a> {
     station: usize,
     out: Telling,
     line: Vec<u8>,
+}
+
+/// How a thread waits that found nothing to do.
+struct Patience {
+    longest: Duration,
+    waits: u32,
+}
+
+impl Patience {
+    fn new(longest: Duration) -> Patience {
+        Patience { longest, waits: 0 }
+    }
+
+    fn wait(&mut self) {
+        if self.waits < YIELDS {
+            yield_now();
+        } else {
+            sleep((FIRST_SLEEP * (1 << (self.waits - YIELDS).min(16))).min(self.longest));
+        }
+        self.waits += 1;
+    }
 }
 
 enum Pumped {
@@ -109,6 +136,7 @@ impl Port<'_> {
 
     /// Waits until the process is done, and collects. Nothing where the hub has stopped before.
     fn collect_waiting(&mut self, process: usize, pid: Pid) -> Result<Option<Answer>, Full> {
+        let mut patience = Patience::new(ANSWER_SLEEP);
         loop {
             self.line.clear();
             self.line.extend_from_slice(b"collect ");
@@ -126,8 +154,8 @@ impl Port<'_> {
                 return Ok(collected);
             }
             match self.pump()? {
-                Pumped::Delivered => {}
-                Pumped::Nothing => yield_now(),
+                Pumped::Delivered => patience.waits = 0,
+                Pumped::Nothing => patience.wait(),
                 Pumped::Stopped => return Ok(None),
             }
         }
@@ -205,10 +233,11 @@ fn play(place: &Workplace, process: usize, mut program: Program) -> Result<(), F
 
 fn pump_on(place: &Workplace, station: usize) -> Result<(), Full> {
     let mut port = place.port(station);
+    let mut patience = Patience::new(FRAME_SLEEP);
     loop {
         match port.pump()? {
-            Pumped::Delivered => {}
-            Pumped::Nothing => yield_now(),
+            Pumped::Delivered => patience.waits = 0,
+            Pumped::Nothing => patience.wait(),
             Pumped::Stopped => return Ok(()),
         }
     }
