@@ -30,6 +30,7 @@ unfolding no_frames
 first_at c hosts are = record {
   order = are.order;
   at = are.at;
+  newest = λ place s is. tt;
   kept = none_within (length (stations_of c.specs));
   emitted = none_shown [] (stations_of c.specs);
   sent = λ host. tt;

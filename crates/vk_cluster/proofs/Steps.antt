@@ -24,7 +24,7 @@ use Rattle.vk_cluster.specs.declared.report.ClusterAnswer.TheVariants as answers
 use Rattle.vk_cluster.specs.Found.{events_in, sent_of}
 use Rattle.vk_cluster.specs.Blocks.{IsFrame}
 use Rattle.vk_cluster.specs.Piles.{AreFrames, IsAdded, Pile, piece, shown, with_event}
-use Rattle.vk_cluster.specs.Standing.{AreAt, ShowsLast, StandsFor, bytes_of, logs_of, report_of}
+use Rattle.vk_cluster.specs.Standing.{AreAt, ShowsLast, ShowsNewest, StandsFor, bytes_of, logs_of, report_of}
 use Rattle.vk_cluster.specs.Values.{ClusterValue}
 use Rattle.vk_cluster.proofs.Handed.{sealed_frames, sealed_size}
 use Rattle.vk_cluster.proofs.Logs.{bytes_next, get_set_other, get_set_same, logs_next, processes_more, with_here, with_other}
@@ -145,6 +145,26 @@ module _ (c : Settings) (logs : Logs) (hosts : List StationValue) (before : Pile
         subst (λ l. IsAt c l u) (sym (with_other logs s.host (entry_of c s.host (logs s.host) i) u.host apart)) (all.at q u was)
   ]
 
+  -- it shows the new entry, and each other station its newest one
+  new_shown : (q : ℕ) (u : StationValue) → slice_get (set hosts place t) q ≡ Some u →
+      ShowsNewest (with_entry logs s.host (entry_of c s.host (logs s.host) i) u.host) u
+  new_shown q u there = elim (cases_eq q place) [
+    | inl same ↦
+        let is : t ≡ u =
+        same_Some t u (sym (get_set_same hosts place t s found) ∙ ap (slice_get (set hosts place t)) (sym same) ∙ there) in
+        let e = entry_of c s.host (logs s.host) i in
+        let log_is : with_entry logs s.host e t.host ≡ e ∷ logs s.host = ap (with_entry logs s.host e) event.host ∙ with_here logs s.host e in
+        let shown = event.shows c (logs s.host) here in
+        let P : StationValue → Type 0 = λ v. ShowsNewest (with_entry logs s.host e v.host) v in
+        subst P is (subst (λ l. ShowsNewest l t) (sym log_is) (subst (λ a. Shows t a e) shown.answer shown))
+    | inr other ↦
+        let was : slice_get hosts q ≡ Some u = sym (get_set_other hosts place q t other) ∙ there in
+        let apart : u.host ≢ s.host =
+        λ e. other (same_place (stations_of c.specs) q place s.host (stations_apart c.specs)
+        (place_host c logs hosts before q u all was ∙ ap Some e) (place_host c logs hosts before place s all found)) in
+        subst (λ l. ShowsNewest l u) (sym (with_other logs s.host (entry_of c s.host (logs s.host) i) u.host apart)) (all.newest q u was)
+  ]
+
   new_log : (host : ℕ) → IsSentLog c host (with_entry logs s.host (entry_of c s.host (logs s.host) i) host)
   new_log host = elim (cases_eq host s.host) [
     | inl same ↦
@@ -164,6 +184,7 @@ module _ (c : Settings) (logs : Logs) (hosts : List StationValue) (before : Pile
         (event.host ∙ ap (λ (v : StationValue). v.host) (sym (get_or_from_slice_get hosts place s s found)))
         ∙ all.order;
     at = new_at;
+    newest = new_shown;
     kept = added.kept;
     emitted =
         added.shown

@@ -1,5 +1,5 @@
 -- What a step asks before the station acts, and what is left to do once it has.
-use Rattle.std.proofs.Common.{◌≡◌, ℕ, ◌+◌, ◌<◌, ◌≤◌, Bool, true, false, cond, nat_le, nat_lt, ◌==◌, ◌||◌, List, [], ◌∷◌, map, Option, Some, None, refl, ap, ◌∙◌, subst, inl, inr}
+use Rattle.std.proofs.Common.{◌≡◌, ℕ, ◌+◌, ◌<◌, ◌≤◌, Bool, true, false, cond, nat_le, nat_lt, ◌==◌, ◌||◌, List, [], ◌∷◌, map, Option, Some, None, refl, ap, ◌∙◌, subst, inl, inr, arith}
 use Rattle.std.specs.Prelude.{slice_get}
 use Rattle.std.specs.List.{concat}
 use Rattle.std.proofs.lemmas.Bool.{and_parts, leb-false, ltb-false, or_cases, or_left, or_parts, or_right}
@@ -17,11 +17,11 @@ use Rattle.vk_host.specs.Standing.{IsAt}
 use Rattle.vk_host.specs.Values.{StationValue}
 use Rattle.vk_cluster.specs.declared.cluster.Cluster.{Cluster}
 use Rattle.vk_cluster.specs.declared.emitted.Emitted.{Emitted}
-use Rattle.vk_cluster.specs.declared.emitted.TheConstants.{LAST_BYTES}
+use Rattle.vk_cluster.specs.declared.emitted.TheConstants.{EVENT_BYTES, EVENT_FRAMES, LAST_BYTES}
 use Rattle.vk_cluster.specs.Clusters.{value_of}
 use Rattle.vk_cluster.specs.Found.{if_for, opens_for}
-use Rattle.vk_cluster.specs.Piles.{IsAdded, Pile, items_of, pile_of}
-use Rattle.vk_cluster.specs.Standing.{IsFinished, StandsFor, logs_of}
+use Rattle.vk_cluster.specs.Piles.{HasRoom, IsAdded, Pile, items_of, pile_of}
+use Rattle.vk_cluster.specs.Standing.{IsFinished, ShowsNewest, StandsFor, logs_of}
 use Rattle.vk_cluster.specs.Values.{ClusterValue}
 
 -- who acts has a station in the configuration
@@ -60,6 +60,11 @@ pub station_at : (c : Settings) (es : List Event) (v : ClusterValue) (place host
     slice_get v.hosts place ≡ Some s → s.host ≡ host → IsAt c (logs_of c es host) s
 station_at c es v place host s st found same = subst (λ h. IsAt c (logs_of c es h) s) same (st.stands.at place s found)
 
+-- and shows the newest one
+pub newest_at : (c : Settings) (es : List Event) (v : ClusterValue) (place host : ℕ) (s : StationValue) → StandsFor c es v →
+    slice_get v.hosts place ≡ Some s → s.host ≡ host → ShowsNewest (logs_of c es host) s
+newest_at c es v place host s st found same = subst (λ h. ShowsNewest (logs_of c es h) s) same (st.stands.newest place s found)
+
 -- what is left to do once the station at a place has had its event
 pub finished : (mid : ClusterValue) (pile : Pile) (place : ℕ) (t : StationValue) → IsAdded mid.pile pile place t.frames →
     IsFinished mid (record mid { pile = pile; events = mid.events + 1 }) place t
@@ -73,3 +78,12 @@ handed_if to bytes o found is = ap (λ p. p >>= if_for to) found ∙ ap (λ b. c
 pub refused_if : (to : ℕ) (bytes : List ℕ) (o : Option (List ℕ)) → o ≡ Some bytes → opens_for to (frame_of bytes) ≡ false →
     (o >>= if_for to) ≡ None
 refused_if to bytes o found is = ap (λ p. p >>= if_for to) found ∙ ap (λ b. cond b (Some bytes) None) is
+
+-- room for more is room for less
+pub room_for : (e : Emitted) (place bytes frames : ℕ) → bytes ≤ EVENT_BYTES → frames ≤ EVENT_FRAMES →
+    HasRoom e place EVENT_BYTES EVENT_FRAMES → HasRoom e place bytes frames
+room_for e place bytes frames low few room =
+    let for_bytes = room.for_bytes in
+    let for_frames = room.for_frames in
+    let for_all = room.for_all in
+    record { for_bytes = omega arith; for_frames = omega arith; for_all = omega arith; for_event = room.for_event }

@@ -6,6 +6,7 @@ use Rattle.vk_base.specs.Pids.{IsPid}
 use Rattle.vk_base.specs.Settings.{Settings, refusal_of, stations_of}
 use Rattle.vk_event.specs.declared.event.Event.{Event}
 use Rattle.vk_rules.specs.Each.{Each}
+use Rattle.vk_rules.specs.Entries.{Entry}
 use Rattle.vk_rules.specs.Histories.{At, Happened, Logs, Missing, happened, history_of, logs_from, no_entries}
 use Rattle.vk_rules.specs.Readings.{reading}
 use Rattle.v_lawful.specs.Fitting.{IsFitting}
@@ -38,11 +39,17 @@ bytes_of (Missing host) = 0
 abbrev pub emitted_bytes : List Happened → ℕ
 emitted_bytes hs = sum_by bytes_of hs
 
--- The stations are those of the configuration, each stands for its entries, and what is kept are the frames of these. Whatever comes of
--- an event of a process, each entry sends lawful packets.
+-- a station shows its newest entry, if it has any, with the steps and the frames of that event
+abbrev pub ShowsNewest : List Entry → StationValue → Type 0
+ShowsNewest [] s = Unit {0}
+ShowsNewest (e ∷ es) s = Shows s e.answer e
+
+-- The stations are those of the configuration, each stands for its entries and shows the newest one, and what is kept are the frames of
+-- all. Whatever comes of an event of a process, each entry sends lawful packets.
 pub record AreAt (c : Settings) (logs : Logs) (hosts : List StationValue) (pile : Pile) : Type 0 where
   pub order : map (λ (s : StationValue). s.host) hosts ≡ stations_of c.specs
   pub at : (place : ℕ) (s : StationValue) → slice_get hosts place ≡ Some s → IsAt c (logs s.host) s
+  pub newest : (place : ℕ) (s : StationValue) → slice_get hosts place ≡ Some s → ShowsNewest (logs s.host) s
   pub kept : IsKept pile
   pub emitted : shown pile ≡ map (λ host. sent_of (logs host)) (stations_of c.specs)
   pub sent : (host : ℕ) → Each IsSentEntry (logs host)

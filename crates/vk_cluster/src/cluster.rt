@@ -14,7 +14,7 @@ ghost use Rattle.vk_base.specs.declared.config.ProcessSpec.{ProcessSpec as ThePr
 ghost use Rattle.vk_cluster.specs.declared.report.StepReport.{StepReport as TheReport};
 ghost use Rattle.vk_cluster.specs.Found.{bytes_for, is_addressed, opens_for};
 ghost use Rattle.vk_cluster.specs.Piles.{AreFrames, HasRoom, IsAdded, IsKept, pile_of, shown};
-ghost use Rattle.vk_cluster.specs.Standing.{AreHosts, IsAdvance, IsFinished, IsStep, StandsFor, StandsSomewhere, Tells, is_limit, logs_of};
+ghost use Rattle.vk_cluster.specs.Standing.{AreHosts, IsAdvance, IsFinished, IsStep, ShowsNewest, StandsFor, StandsSomewhere, Tells, is_limit, logs_of};
 ghost use Rattle.vk_cluster.specs.Clusters.{value_of};
 ghost use Rattle.vk_cluster.specs.Values.{is_full};
 
@@ -100,7 +100,8 @@ impl Cluster {
             return Err(ClusterRefusal::Limit);
         }
         let place = place_of(&self.config, acting(event));
-        self.emitted.make_room(alloc, place)?;
+        self.emitted
+            .make_room(alloc, place, EVENT_BYTES, EVENT_FRAMES)?;
         Ok(self.play(place, event))
     }
 
@@ -128,7 +129,8 @@ impl Cluster {
         }
     }
 
-    /// The station in this place among those of the configuration, counted from 0, with the steps and frames of its last event.
+    /// The station in this place among those of the configuration, counted from 0, with the steps and frames of its last event,
+    /// whichever station acted since.
     pub fn station(&self, place: usize) -> &Host
         requires { place < length self.now.hosts.items }
         ensures { slice_get self.now.hosts.items place ≡ Some result.now }
@@ -136,13 +138,16 @@ impl Cluster {
         &self.hosts[place]
     }
 
-    /// The station of this host, which is one of the configuration, with the steps and frames of its last event.
+    /// The station of this host, which is one of the configuration, with the steps and frames of its last event, whichever station
+    /// acted since.
     pub fn host(&self, host: u16) -> &Host
         requires somewhere { StandsSomewhere (value_of self.now) }
         requires station { has_station self.now.config.specs host ≡ true }
         ensures host { result.now.host ≡ host }
         ensures found { (place : ℕ) × (slice_get self.now.hosts.items place ≡ Some result.now) }
         ensures at { (c : Settings) (es : List TheEvent) → StandsFor c es (value_of self.now) → IsAt c (logs_of c es host) result.now }
+        ensures newest { (c : Settings) (es : List TheEvent) → StandsFor c es (value_of self.now) →
+            ShowsNewest (logs_of c es host) result.now }
     {
         &self.hosts[place_of(&self.config, host)]
     }
@@ -263,12 +268,11 @@ impl Cluster {
 
 /// Keeps the frames of the last event of the station at this place.
 #[inline(always)]
-fn keep(emitted: &mut Emitted, host: &Host, place: usize)
+pub fn keep(emitted: &mut Emitted, host: &Host, place: usize)
     requires kept { IsKept (pile_of emitted.old) }
     requires place { place < length emitted.old.events.items }
-    requires room { HasRoom emitted.old place EVENT_BYTES EVENT_FRAMES }
+    requires room { HasRoom emitted.old place (sum_by length host.now.frames) (length host.now.frames) }
     requires few { AreFrames host.now.frames }
-    requires bytes { sum_by length host.now.frames ≤ EVENT_BYTES }
     ensures { IsAdded (pile_of emitted.old) (pile_of emitted.new) place host.now.frames }
 {
     let first = emitted.frames.len();
@@ -280,7 +284,7 @@ fn keep(emitted: &mut Emitted, host: &Host, place: usize)
 
 /// The bytes that a delivery hands over to this station: the frame with this output number of the event with this number of the station
 /// at the place, where it is addressed to it.
-fn handed_over<'a>(
+pub fn handed_over<'a>(
     emitted: &'a Emitted,
     to: u16,
     place: usize,
@@ -333,7 +337,7 @@ fn acting(event: &EventView) -> u16
 }
 
 /// The place of a station among those of the configuration, counted from 0. Mostly they are the hosts 1, 2, 3 and so on.
-fn place_of(config: &Config, host: u16) -> usize
+pub fn place_of(config: &Config, host: u16) -> usize
     requires { has_station config.now.specs host ≡ true }
     ensures { slice_get (stations_of config.now.specs) result ≡ Some host }
 {
@@ -350,7 +354,7 @@ fn place_of(config: &Config, host: u16) -> usize
 }
 
 /// The stations of the configuration, none of which had an event.
-fn new_hosts(alloc: Global, config: &Config) -> Result<Vec<Host>, NoMemory>
+pub fn new_hosts(alloc: Global, config: &Config) -> Result<Vec<Host>, NoMemory>
     requires { refusal_of config.now.times config.now.pool config.now.specs ≡ None }
     ensures { IfOk result (λ hosts. AreHosts config.now hosts.items (stations_of config.now.specs)) }
 {
@@ -362,7 +366,7 @@ fn new_hosts(alloc: Global, config: &Config) -> Result<Vec<Host>, NoMemory>
 }
 
 /// The numbers of these pids have 16 bits. Changes nothing.
-fn pids_are(specs: &[ProcessSpec])
+pub fn pids_are(specs: &[ProcessSpec])
     ensures { Each (λ (s : TheProcessSpec). IsPid s.pid) specs.now }
 {
     for spec in specs {

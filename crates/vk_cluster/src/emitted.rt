@@ -48,20 +48,27 @@ impl Emitted {
         })
     }
 
-    /// Makes room for one event of the station at this place, however many frames it has. Changes nothing else.
+    /// Makes room for an event of the station at this place, of so many bytes and frames. Changes nothing else.
     ///
     /// # Errors
     ///
     /// [`NoMemory`] where memory is wanting.
     #[inline(always)]
-    pub fn make_room(&mut self, alloc: Global, place: usize) -> Result<(), NoMemory>
+    pub fn make_room(
+        &mut self,
+        alloc: Global,
+        place: usize,
+        bytes: usize,
+        frames: usize,
+    ) -> Result<(), NoMemory>
         requires place { place < length self.old.events.items }
-        requires few { length (pile_of self.old).bytes ≤ LAST_BYTES }
+        requires small { bytes ≤ EVENT_BYTES }
+        requires few { length (pile_of self.old).bytes + bytes ≤ MOST_BYTES }
         ensures frames { self.new.frames.items ≡ self.old.frames.items }
         ensures events { map items_of self.new.events.items ≡ map items_of self.old.events.items }
-        ensures room { OnOk result (HasRoom self.new place EVENT_BYTES EVENT_FRAMES) }
+        ensures room { OnOk result (HasRoom self.new place bytes frames) }
     {
-        self.frames.make_room(alloc, EVENT_BYTES, EVENT_FRAMES)?;
+        self.frames.make_room(alloc, bytes, frames)?;
         room_for_event(&mut self.events, place)
     }
 

@@ -6,9 +6,11 @@ mod Counting
 mod Delivering
 mod Entries
 mod Events
+mod FewFrames
 mod Happening
 mod Hearing
 mod InOrder
+mod Limits
 mod Naming
 mod Receiving
 mod Remembering

@@ -1,16 +1,18 @@
 //! A station: its events.
 
 ghost use Rattle.std.specs.Prelude.{◌≡◌, ◌<◌, ◌≤◌, ◌+◌, ◌-◌, ◌^◌, List, [], length, max, min, slice_get, true, None, Some, IfOk};
-ghost use Rattle.vk_base.specs.declared.limits.TheConstants.{DATA_BYTES};
+ghost use Rattle.v_lawful.specs.Sending.{most_packets};
+ghost use Rattle.vk_base.specs.declared.limits.TheConstants.{DATA_BYTES, STEPS};
 ghost use Rattle.vk_base.specs.Settings.{Settings, refusal_of};
 ghost use Rattle.vk_base.specs.Steps.{is_allowed};
+ghost use Rattle.vk_packet.specs.Posts.{framed};
 ghost use Rattle.vk_rules.specs.Entries.{Called, Collected, Delivered, Entry, Ticked};
 ghost use Rattle.vk_rules.specs.Frames.{number_in, unsealed_of};
 ghost use Rattle.vk_rules.specs.Readings.{reading};
 ghost use Rattle.vk_host.specs.Opened.{unsealed_as};
 ghost use Rattle.vk_host.specs.Responses.{answer_of, loaded};
 ghost use Rattle.vk_host.specs.Standing.{IsAt, IsEvent, StandsSomewhere};
-ghost use Rattle.vk_host.specs.Values.{has, input_of, is_own};
+ghost use Rattle.vk_host.specs.Values.{has, input_of, is_own, most_before};
 
 use crate::desk::Desk;
 use crate::frames::seal;
@@ -65,9 +67,11 @@ impl Host {
     /// memory.
     pub fn event(&mut self, event: &StationEvent) -> EventAnswer
         requires somewhere { StandsSomewhere self.old }
-        requires few { self.old.events + 1 < 2 ^ 48 }
+        requires few { self.old.events < most_before event.now }
         requires own { is_own self.old event.now ≡ true }
-        ensures { IsEvent self.old self.new (input_of event.now) result }
+        ensures event { IsEvent self.old self.new (input_of event.now) result }
+        ensures frames { length self.new.frames ≤ most_packets (input_of event.now) }
+        ensures steps { length self.new.doing.steps ≤ STEPS }
     {
         let response = self.respond(event);
         self.answer(response)
@@ -90,9 +94,11 @@ impl Host {
 
     fn respond(&mut self, event: &StationEvent) -> Response
         requires somewhere { StandsSomewhere self.old }
-        requires few { self.old.events + 1 < 2 ^ 48 }
+        requires few { self.old.events < most_before event.now }
         requires own { is_own self.old event.now ≡ true }
-        ensures { IsEvent self.old self.new (input_of event.now) (answer_of self.new result) }
+        ensures event { IsEvent self.old self.new (input_of event.now) (answer_of self.new result) }
+        ensures frames { length self.new.frames ≤ most_packets (input_of event.now) }
+        ensures steps { length self.new.doing.steps ≤ STEPS }
     {
         match event {
             StationEvent::Call { pid, call } => self.make(*pid, call),
@@ -106,7 +112,9 @@ impl Host {
         requires somewhere { StandsSomewhere self.old }
         requires few { self.old.events < 2 ^ 48 }
         requires own { has self.old pid ≡ true }
-        ensures { IsEvent self.old self.new (Called pid call.now) (answer_of self.new result) }
+        ensures event { IsEvent self.old self.new (Called pid call.now) (answer_of self.new result) }
+        ensures frames { length self.new.frames ≤ most_packets (Called pid call.now) }
+        ensures steps { length self.new.doing.steps ≤ STEPS }
     {
         let (call, bytes) = BriefCall::of(call);
         self.call(pid, &CallView::new(&call, bytes))
@@ -117,7 +125,9 @@ impl Host {
         requires somewhere { StandsSomewhere self.old }
         requires few { self.old.events < 2 ^ 48 }
         requires own { has self.old pid ≡ true }
-        ensures { IsEvent self.old self.new (Called pid call.now) (answer_of self.new result) }
+        ensures event { IsEvent self.old self.new (Called pid call.now) (answer_of self.new result) }
+        ensures frames { length self.new.frames ≤ most_packets (Called pid call.now) }
+        ensures steps { length self.new.doing.steps ≤ STEPS }
     {
         count(&mut self.events, &mut self.number);
         let response = calls::call(&mut self.desk, pid, call);
@@ -128,6 +138,7 @@ impl Host {
             self.number,
             self.events,
         );
+        are_few(&self.desk.steps, &self.desk.out);
         response
     }
 
@@ -136,10 +147,14 @@ impl Host {
         requires somewhere { StandsSomewhere self.old }
         requires few { self.old.events < 2 ^ 48 }
         requires own { has self.old pid ≡ true }
-        ensures { IsEvent self.old self.new (Collected pid) (answer_of self.new result) }
+        ensures event { IsEvent self.old self.new (Collected pid) (answer_of self.new result) }
+        ensures frames { length self.new.frames ≤ most_packets (Collected pid) }
+        ensures steps { length self.new.doing.steps ≤ STEPS }
     {
         count(&mut self.events, &mut self.number);
-        match calls::collect(&mut self.desk, pid) {
+        let outcome = calls::collect(&mut self.desk, pid);
+        are_few(&self.desk.steps, &self.desk.out);
+        match outcome {
             Some(outcome) => Response::Given { outcome },
             None => Response::Given {
                 outcome: Outcome::Refused {
@@ -153,7 +168,9 @@ impl Host {
     pub fn tick(&mut self) -> Response
         requires somewhere { StandsSomewhere self.old }
         requires few { self.old.events + 1 < 2 ^ 48 }
-        ensures { IsEvent self.old self.new Ticked (answer_of self.new result) }
+        ensures event { IsEvent self.old self.new Ticked (answer_of self.new result) }
+        ensures frames { length self.new.frames ≤ most_packets Ticked }
+        ensures steps { length self.new.doing.steps ≤ STEPS }
     {
         count(&mut self.events, &mut self.number);
         let now = ticks::tick(&mut self.desk);
@@ -164,6 +181,7 @@ impl Host {
             self.number,
             self.events,
         );
+        are_few(&self.desk.steps, &self.desk.out);
         Response::Ticked { now }
     }
 
@@ -171,7 +189,9 @@ impl Host {
     pub fn deliver(&mut self, bytes: &[u8]) -> Response
         requires somewhere { StandsSomewhere self.old }
         requires few { self.old.events < 2 ^ 48 }
-        ensures { IsEvent self.old self.new (Delivered (unsealed_of bytes.now)) (answer_of self.new result) }
+        ensures event { IsEvent self.old self.new (Delivered (unsealed_of bytes.now)) (answer_of self.new result) }
+        ensures frames { length self.new.frames ≤ most_packets (Delivered (unsealed_of bytes.now)) }
+        ensures steps { length self.new.doing.steps ≤ STEPS }
     {
         let opened = open_frame(bytes);
         count_frame(&mut self.events, &mut self.number, &opened);
@@ -183,6 +203,7 @@ impl Host {
             self.number,
             self.events,
         );
+        are_few(&self.desk.steps, &self.desk.out);
         judged.response()
     }
 
@@ -258,6 +279,16 @@ impl Host {
     {
         self.desk.procs.outcome(pid).is_some()
     }
+}
+
+/// An event has no more steps and packets than there is room for. Changes nothing.
+#[inline(always)]
+fn are_few(steps: &Steps, out: &Outbox)
+    ensures steps { length steps.now ≤ STEPS }
+    ensures frames { length (framed out.now) ≤ out.now.room }
+{
+    let _steps = steps.len();
+    let _packets = out.len();
 }
 
 /// Counts an event with which no Lamport number came.

@@ -23,7 +23,6 @@ pub put-requires : goal.put-requires
 put-requires c =
     let next = sum_next c.args.host.now.frames c.loop-at.at c.frame.result.now c.frame.ensures in
     let bytes = c.loop-at.invariant.adding.bytes in
-    let few = c.requires.bytes in
     let count = c.requires.few.few in
     let room = c.requires.room in
     let kept = c.loop-at.invariant in

@@ -1,4 +1,4 @@
-use Rattle.std.proofs.Common.{◌≡◌, ◌≤◌, ◌||◌, false, nat_le, nat_lt, Some, refl, sym, ap, subst, ◌∙◌, arith}
+use Rattle.std.proofs.Common.{◌≡◌, ◌≤◌, ◌||◌, false, length, nat_le, nat_lt, Some, refl, sym, ap, subst, ◌∙◌, arith}
 use Rattle.std.proofs.lemmas.List.{length-map}
 use Rattle.std.proofs.lemmas.Result.{err_from_is_err_and}
 use Rattle.vk_base.specs.declared.limits.TheConstants.{EVENTS}
@@ -24,7 +24,11 @@ make_room-requires c =
     let below : (nat_le EVENTS v.events || nat_lt LAST_BYTES c.size.result) ≡ false = sym c.is_full.ensures ∙ c.if-is_full.false in
     record {
       place = omega (arith, length-map c.args.self.now.emitted.events.items items_of);
-      few = subst (λ n. n ≤ LAST_BYTES) c.size.ensures (few_bytes (nat_le EVENTS v.events) c.size.result below);
+      small = omega arith;
+      few =
+          let few : length v.pile.bytes ≤ 266076160 =
+          subst (λ n. n ≤ LAST_BYTES) c.size.ensures (few_bytes (nat_le EVENTS v.events) c.size.result below) in
+          omega arith;
     }
 
 pub play-requires : goal.play-requires

@@ -39,7 +39,7 @@ finish-requires c =
     call_input s.host c.args.pid c.args.call.now host c.pid_is.ensures c.are_in_range.ensures in
     let fit =
     fit_at v some c.args.place c.args.pid.host c.requires.place s t (Called c.args.pid c.args.call.now) (answer_of t c.call-response.result) found input
-    c.call-response.ensures in
+    c.call-response.ensures.event in
     record {
       count = c.requires.few;
       place =
@@ -65,6 +65,6 @@ returns c =
     let input : IsInput s.host (Called c.args.pid c.args.call.now) =
     call_input s.host c.args.pid c.args.call.now host c.pid_is.ensures c.are_in_range.ensures in
     station_step v (value_of c.finish.new.self) c.args.place s t (Called c.args.pid c.args.call.now) c.call-response.result
-    (scheduled.Call c.args.pid c.args.call.now) found c.call-response.ensures input c.requires.few c.requires.process
+    (scheduled.Call c.args.pid c.args.call.now) found c.call-response.ensures.event input c.requires.few c.requires.process
     (λ d es st. call_happens d es s.host c.args.pid c.args.call.now host)
     (c.finish.ensures t (get_set_same v.hosts c.args.place t s found))

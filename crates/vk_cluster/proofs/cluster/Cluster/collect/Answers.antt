@@ -37,7 +37,7 @@ finish-requires c =
     let input : IsInput s.host (Collected c.args.pid) = tt in
     let fit =
     fit_at v some c.args.place c.args.pid.host c.requires.place s t (Collected c.args.pid) (answer_of t c.collect-response.result) found input
-    c.collect-response.ensures in
+    c.collect-response.ensures.event in
     record {
       count = c.requires.few;
       place =
@@ -62,6 +62,6 @@ returns c =
     let host = host_is v some c.args.place c.args.pid.host c.requires.place s found in
     let input : IsInput s.host (Collected c.args.pid) = tt in
     station_step v (value_of c.finish.new.self) c.args.place s t (Collected c.args.pid) c.collect-response.result
-    (scheduled.Collect c.args.pid) found c.collect-response.ensures input c.requires.few tt
+    (scheduled.Collect c.args.pid) found c.collect-response.ensures.event input c.requires.few tt
     (λ d es st. collect_happens d es s.host c.args.pid host)
     (c.finish.ensures t (get_set_same v.hosts c.args.place t s found))

@@ -42,7 +42,7 @@ finish-requires c =
     c.in-Some.bytes.now some c.place_of-source.ensures c.in-Some.ensures in
     let fit =
     fit_at v some c.args.place c.args.to c.requires.place s t (Delivered (unsealed_of c.in-Some.bytes.now)) (answer_of t c.deliver-response.result) found input
-    c.deliver-response.ensures in
+    c.deliver-response.ensures.event in
     record {
       count = c.requires.few;
       place =
@@ -69,7 +69,7 @@ returns-in-Some c =
     delivered_input c.frames_unseal_again.ensures v c.place_of-source.result c.args.to c.args.from c.args.event c.args.output s.host
     c.in-Some.bytes.now some c.place_of-source.ensures c.in-Some.ensures in
     station_step v (value_of c.finish.new.self) c.args.place s t (Delivered (unsealed_of c.in-Some.bytes.now)) c.deliver-response.result
-    (scheduled.Deliver c.args.to c.args.from c.args.event c.args.output) found c.deliver-response.ensures input c.requires.few tt
+    (scheduled.Deliver c.args.to c.args.from c.args.event c.args.output) found c.deliver-response.ensures.event input c.requires.few tt
     (λ d es st. delivered_happens c.frames_unseal_again.ensures d es v c.place_of-source.result s.host c.args.to c.args.from c.args.event
     c.args.output c.in-Some.bytes.now st c.place_of-source.ensures c.in-Some.ensures host)
     (c.finish.ensures t (get_set_same v.hosts c.args.place t s found))

@@ -1,10 +1,11 @@
-use Rattle.std.proofs.Common.{◌≡◌, sym, subst, ◌∙◌}
+use Rattle.std.proofs.Common.{◌≡◌, length, sym, subst, ◌∙◌}
+use Rattle.std.specs.Prelude.{sum_by}
 use Rattle.std.proofs.lemmas.Option.{same_Some}
 use Rattle.vk_host.specs.Values.{StationValue}
 use Rattle.vk_cluster.specs.Clusters.{value_of}
 use Rattle.vk_cluster.specs.Piles.{IsAdded, pile_of}
 use Rattle.vk_cluster.proofs.Arms.{found_at}
-use Rattle.vk_cluster.proofs.Taking.{finished}
+use Rattle.vk_cluster.proofs.Taking.{finished, room_for}
 use Rattle.vk_cluster.proofs.cluster.Cluster.finish.Goals as goal
 
 pub keep-requires : goal.keep-requires
@@ -14,9 +15,10 @@ keep-requires c =
     record {
       kept = c.requires.kept;
       place = c.requires.events;
-      room = c.requires.room;
+      room =
+          room_for c.args.self.now.emitted c.args.place (sum_by length s.frames) (length s.frames) (c.requires.bytes s found)
+          (c.requires.few s found).few c.requires.room;
       few = c.requires.few s found;
-      bytes = c.requires.bytes s found;
     }
 
 pub returns : goal.returns

@@ -1,7 +1,7 @@
 use Rattle.std.proofs.Common.{arith}
 use Rattle.vk_cluster.specs.Clusters.{value_of}
 use Rattle.vk_cluster.proofs.Arms.{found_at, host_is, place_low}
-use Rattle.vk_cluster.proofs.Taking.{station_at}
+use Rattle.vk_cluster.proofs.Taking.{newest_at, station_at}
 use Rattle.vk_cluster.proofs.cluster.Cluster.host.Goals as goal
 
 pub index-requires : goal.index-requires
@@ -20,4 +20,5 @@ returns c =
       host = host;
       found = (c.place_of.result, found);
       at = λ d es st. station_at d es v c.place_of.result c.args.host s st found host;
+      newest = λ d es st. newest_at d es v c.place_of.result c.args.host s st found host;
     }

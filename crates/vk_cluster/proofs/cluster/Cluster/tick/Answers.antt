@@ -36,7 +36,7 @@ finish-requires c =
     let input : IsInput s.host Ticked = tt in
     let fit =
     fit_at v some c.args.place c.args.host c.requires.place s t Ticked (answer_of t c.tick-response.result) found input
-    c.tick-response.ensures in
+    c.tick-response.ensures.event in
     record {
       count = c.requires.few;
       place =
@@ -61,6 +61,6 @@ returns c =
     let host = host_is v some c.args.place c.args.host c.requires.place s found in
     let input : IsInput s.host Ticked = tt in
     station_step v (value_of c.finish.new.self) c.args.place s t Ticked c.tick-response.result
-    (scheduled.Tick c.args.host) found c.tick-response.ensures input c.requires.few tt
+    (scheduled.Tick c.args.host) found c.tick-response.ensures.event input c.requires.few tt
     (λ d es st. tick_happens d es s.host c.args.host host)
     (c.finish.ensures t (get_set_same v.hosts c.args.place t s found))

@@ -1,6 +1,7 @@
 use Rattle.vk_base.specs.declared.event.EventAnswer.TheVariants as events_answered
 use Rattle.vk_rules.specs.Entries.{Ticked}
 use Rattle.vk_host.proofs.Events.{can_seal, event_is, tick_happens}
+use Rattle.vk_host.proofs.Limits.{few_ticked}
 use Rattle.vk_host.proofs.Rooms.{can_tick, few_before, few_yet}
 use Rattle.vk_host.proofs.host.Host.tick.Goals as goal
 
@@ -24,11 +25,21 @@ seal-requires c =
     c.count.ensures.events c.tick-now.ensures.same c.count.ensures.number c.tick-now.ensures.played) c.requires.somewhere
     (few_before c.args.self.now.events c.requires.few)
 
-pub returns : goal.returns
-returns c =
+pub returns-clause-event : goal.returns-clause-event
+returns-clause-event c =
     let s = c.self.inside in
     let n = c.count.new in
     let d = c.tick-now.new.desk in
     event_is c.args.self.now Ticked (events_answered.Ticked c.tick-now.result) d n.number n.events
     (tick_happens c.args.self.now s.desk d s.number s.events c.self.view_is (events_answered.Ticked c.tick-now.result) n.number n.events
     c.count.ensures.events c.tick-now.ensures.same c.count.ensures.number c.tick-now.ensures.played) c.seal.new.out c.seal.ensures
+
+pub returns-clause-frames : goal.returns-clause-frames
+returns-clause-frames c =
+    let s = c.self.inside in
+    let n = c.count.new in
+    let d = c.tick-now.new.desk in
+    few_ticked c.args.self.now Ticked (events_answered.Ticked c.tick-now.result) d n.number n.events
+    (tick_happens c.args.self.now s.desk d s.number s.events c.self.view_is (events_answered.Ticked c.tick-now.result) n.number n.events
+    c.count.ensures.events c.tick-now.ensures.same c.count.ensures.number c.tick-now.ensures.played) c.seal.new.out c.seal.ensures
+    c.requires.somewhere c.are_few.ensures.frames
