@@ -116,7 +116,7 @@ pub record IsRunWork (text : List ℕ) (before now : ℕ) (w : Work) : Type 0 wh
 abbrev pub IsRunRefusal : List ℕ → Status → Type 0
 IsRunRefusal text (status.BadInput line) = scenario_of text ≡ Err (texts.BadInput line)
 IsRunRefusal text status.NoMemory = 0 < length text
-IsRunRefusal text status.CrewFault = Unit {0}
+IsRunRefusal text status.CrewFault = 0 < length text
 IsRunRefusal text s = ⊥
 
 -- what the answer to a text says, which was read whole

@@ -17,3 +17,6 @@ returns-in-Ok-run_stations-clause-refused g c =
 
 pub returns-in-Err-NoMemory-clause-refused : goal.returns-in-Err-NoMemory-clause-refused
 returns-in-Err-NoMemory-clause-refused g c = some_scenario c.args.text.now c.in-Ok.scenario c.in-Ok.ensures.scenario
+
+pub returns-in-Err-CrewFault-clause-refused : goal.returns-in-Err-CrewFault-clause-refused
+returns-in-Err-CrewFault-clause-refused g c = some_scenario c.args.text.now c.in-Ok.scenario c.in-Ok.ensures.scenario
