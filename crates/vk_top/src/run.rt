@@ -51,7 +51,7 @@ fn written(alloc: Global, schedule: &Schedule, limited: bool) -> Result<Work, St
 }
 
 /// `run`: the schedule of what happened where the stations of the scenario ran.
-fn run_text<C: Crew, P: Pacer, R: Wait + Threads + Clock + Sync>(
+fn run_text<C: Crew, P: Pacer + Send, R: Wait + Threads + Clock + Sync>(
     rt: &R,
     alloc: Global,
     text: &[u8],
@@ -76,7 +76,7 @@ fn run_text<C: Crew, P: Pacer, R: Wait + Threads + Clock + Sync>(
 }
 
 /// The whole work on the text of a scenario that was read.
-fn answer_run<K: Sink, C: Crew, P: Pacer, R: Wait + Threads + Clock + Sync>(
+fn answer_run<K: Sink, C: Crew, P: Pacer + Send, R: Wait + Threads + Clock + Sync>(
     rt: &R,
     alloc: Global,
     text: &[u8],
@@ -98,7 +98,7 @@ fn answer_run<K: Sink, C: Crew, P: Pacer, R: Wait + Threads + Clock + Sync>(
 }
 
 /// The whole work of `run`.
-fn run<S: Source, K: Sink, C: Crew, P: Pacer, R: Wait + Threads + Clock + Sync>(
+fn run<S: Source, K: Sink, C: Crew, P: Pacer + Send, R: Wait + Threads + Clock + Sync>(
     rt: &R,
     alloc: Global,
     input: &mut S,
@@ -128,7 +128,7 @@ fn run<S: Source, K: Sink, C: Crew, P: Pacer, R: Wait + Threads + Clock + Sync>(
 /// `CrewFault` comes where the crew failed. The pacer waits between the ticks of the stations' clocks.
 ///
 /// `run` may wait for its jobs. Where the source does not tell what is left, the clauses speak of some input that it may have had.
-pub fn vkernel<S: Source, K: Sink, C: Crew, P: Pacer, R: Wait + Threads + Clock + Sync>(
+pub fn vkernel<S: Source, K: Sink, C: Crew, P: Pacer + Send, R: Wait + Threads + Clock + Sync>(
     rt: &R,
     alloc: Global,
     words: &[String],
