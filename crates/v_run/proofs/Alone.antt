@@ -37,15 +37,18 @@ module _ (r : Pid) where
   is_not true none = absurd (cc none)
   is_not false none = refl
 
-  not_next : (task : List Answer → Option Call) (q : Pid) (calls : List Call) (answers : List Answer) (e : StationEvent) → same_pid q r ≡ false
+  not_next : (task : List Answer → Option Call) (q : Pid) (calls : List Call) (answers : List Answer) (e : StationEvent)
+      → same_pid q r ≡ false
       → IsNext task q calls answers e → doing e ≡ 0
   not_next task q calls answers (events.Call pid c) apart next =
       is_not (same_pid pid r) (subst (λ p. same_pid p r ≡ false) (sym next.0) apart)
-  not_next task q calls answers (events.Collect pid) apart next = is_not (same_pid pid r) (subst (λ p. same_pid p r ≡ false) (sym next) apart)
+  not_next task q calls answers (events.Collect pid) apart next =
+      is_not (same_pid pid r) (subst (λ p. same_pid p r ≡ false) (sym next) apart)
   not_next task q calls answers events.Tick apart next = refl
   not_next task q calls answers (events.Deliver f) apart next = refl
 
-  plays_none : (task : List Answer → Option Call) (q : Pid) (o : StationHistory) (calls : List Call) (answers : List Answer) (acts : List Action)
+  plays_none : (task : List Answer
+      → Option Call) (q : Pid) (o : StationHistory) (calls : List Call) (answers : List Answer) (acts : List Action)
       → same_pid q r ≡ false → Plays task q o calls answers acts → doings acts ≡ 0
   plays_none task q o calls answers [] apart plays = refl
   plays_none task q o calls answers (Enters before e posted ∷ acts) apart plays =
@@ -130,7 +133,7 @@ module _ (r : Pid) where
           let number : j ≡ number_of g = eqb-true j (number_of g) is in
           let place : places (number_of g) [] (histories (host_of g)) ≡ entered_places g.actions = placed_whole c o histories heard g d.0 in
           let not_it : runs_pid r g.role ≡ true → ⊥ =
-              λ runs. absurd (cc (other, eq-eqb j n (number ∙ d.1 host runs))) in
+          λ runs. absurd (cc (other, eq-eqb j n (number ∙ d.1 host runs))) in
           let P : ℕ × ℕ → Type 0 = λ x. weight w (places x.0 [] (histories x.1)) ≡ 0 in
           subst P (λ i. (sym number i, host i))
           (ap (weight w) place ∙ role_none g.role (fresh_station c (host_of g)) g.actions d.0.0.role (is_false (runs_pid r g.role) not_it))
@@ -147,12 +150,13 @@ module _ (r : Pid) where
           sym (once m)
           ∙ (added_at (λ i. cond (j == i) m 0) h gs
           ∙ (added_same_each D (λ g. cond (host_of g == h) (cond (j == number_of g) m 0) 0) (λ g. 0) gs
-              (λ g d. passage_none j other g d (host_of g == h) (j == number_of g) refl refl)
-              (each_both (IsDone c o histories heard) (λ g. host_of g ≡ h → runs_pid r g.role ≡ true → number_of g ≡ n) gs
-                  (all_done c o histories heard gs k) own)
+          (λ g d. passage_none j other g d (host_of g == h) (j == number_of g) refl refl)
+          (each_both (IsDone c o histories heard) (λ g. host_of g ≡ h → runs_pid r g.role ≡ true → number_of g ≡ n) gs
+          (all_done c o histories heard gs k) own)
           ∙ added_none (λ (g : Passage). 0) gs (λ g. refl)))
 
-      pub alone : (task : List Answer → Option Call) (same : same_pid r r ≡ true) → NotOthers task r same (fresh_station c h) n (histories h)
+      pub alone : (task : List Answer → Option Call) (same : same_pid r r ≡ true)
+          → NotOthers task r same (fresh_station c h) n (histories h)
       alone task same =
           not_others task same (fresh_station c h) n (numbers_at h gs) [] (histories h)
           (all_once (numbers_at h gs) (histories h) (k.numbers h there) (k.known h there)) number_none
@@ -163,10 +167,10 @@ module _ (r : Pid) where
       none_at =
           at_station c o histories heard gs k w h there
           ∙ (added_same_each (λ g. IsDone c o histories heard g × (runs_pid r g.role ≡ false))
-              (λ g. cond (host_of g == h) (weight w (entered_places g.actions)) 0) (λ g. 0) gs
-              (λ g d. zero_by (host_of g == h) (weight w (entered_places g.actions))
-                  (role_none g.role (fresh_station c (host_of g)) g.actions d.0.0.role d.1))
-              (each_both (IsDone c o histories heard) (λ g. runs_pid r g.role ≡ false) gs (all_done c o histories heard gs k) none)
+          (λ g. cond (host_of g == h) (weight w (entered_places g.actions)) 0) (λ g. 0) gs
+          (λ g d. zero_by (host_of g == h) (weight w (entered_places g.actions))
+          (role_none g.role (fresh_station c (host_of g)) g.actions d.0.0.role d.1))
+          (each_both (IsDone c o histories heard) (λ g. runs_pid r g.role ≡ false) gs (all_done c o histories heard gs k) none)
           ∙ added_none (λ (g : Passage). 0) gs (λ g. refl))
         where
           zero_by : (b : Bool) (m : ℕ) → m ≡ 0 → cond b m 0 ≡ 0
@@ -182,5 +186,5 @@ module _ (r : Pid) where
           nothing_in (entries_at (fresh_station c h) (histories h))
           (sym (by_entries c h (histories h) (λ e. cond (is_doing_of r e.input) 1 0))
           ∙ (total_same (λ before e. cond (is_doing_of r (entry_at (fresh_station c h) before e).input) 1 0) w [] (histories h)
-              (λ before e. ap (λ i. cond (is_doing_of r i) 1 0) (input_is (fresh_station c h) before e))
+          (λ before e. ap (λ i. cond (is_doing_of r i) 1 0) (input_is (fresh_station c h) before e))
           ∙ none_at))

@@ -154,22 +154,27 @@ module _ (c : Settings) (xs : List Event) (pid : Pid) (distinct : AreDistinct c.
         seen = x.seen ++ t.seen;
       }) in
       let goes : run k0 (S ++ steps.Collect pid ∷ []) ≡ more r =
-          run-append k0 S (steps.Collect pid ∷ []) ∙ ap (λ (o : Option Run). o >>= more) first.run in
-      let parts = bind_is (run first.last (steps.Collect pid ∷ [])) (λ (t : Run). Some (record { after = t.after; seen = r.seen ++ t.seen })) _
-          (sym goes ∙ (ap (run k0) (sym (steps_are allowed)) ∙ second.run)) in
+      run-append k0 S (steps.Collect pid ∷ []) ∙ ap (λ (o : Option Run). o >>= more) first.run in
+      let parts = bind_is (run first.last (steps.Collect pid ∷ [])) (λ (t : Run). Some (record {
+        after = t.after;
+        seen =
+            r.seen ++ t.seen;
+      })) _
+      (sym goes ∙ (ap (run k0) (sym (steps_are allowed)) ∙ second.run)) in
       let t = parts.0 in
       let one = collect_seen first.last pid t parts.1 in
       let told : List Observation = option_to_list (seen_of last entry.input entry.answer) in
       let same : r.seen ++ t.seen ≡ r.seen ++ told =
-          ap (λ (x : Run). x.seen) (same_Some _ _ parts.2)
-          ∙ (ap (observed no_call) whole_is ∙ sees_more no_call (history_of c xs) pid.host (length es_before + 1) entry) in
+      ap (λ (x : Run). x.seen) (same_Some _ _ parts.2)
+      ∙ (ap (observed no_call) whole_is ∙ sees_more no_call (history_of c xs) pid.host (length es_before + 1) entry) in
       let count : length r.seen + length t.seen ≡ length r.seen + length told =
-          sym (length-append r.seen t.seen) ∙ (ap length same ∙ length-append r.seen told) in
+      sym (length-append r.seen t.seen) ∙ (ap length same ∙ length-append r.seen told) in
       let all : length told ≡ 1 = omega arith in
       ap (λ i. length (option_to_list (seen_of last i entry.answer))) (sym (input_of_entry c pid.host es_before (Collected pid))) ∙ all
 
 -- the newest of some entries came in time
-came : (c : Settings) (h : ℕ) (later : List Entry) (x : Entry) (es : List Entry) → ComeInTime c h (later ++ x ∷ es) → IsInTime c h es x.input
+came : (c : Settings) (h : ℕ) (later : List Entry) (x : Entry) (es : List Entry) → ComeInTime c h (later ++ x ∷ es)
+    → IsInTime c h es x.input
 came c h [] x es all = all.0
 came c h (y ∷ later) x es all = came c h later x es all.1
 
@@ -182,8 +187,7 @@ each_front c P before [] all = tt
 each_front c P before (e ∷ es) all =
     let more = before ++ e ∷ [] in
     let same : more ++ es ≡ before ++ (e ∷ es) = append_assoc before (e ∷ []) es in
-    let next : logs_of c more ≡ logs_after (logs_of c before) (happened c (logs_of c before) e) = logs_next c before e in
-    (
+    let next : logs_of c more ≡ logs_after (logs_of c before) (happened c (logs_of c before) e) = logs_next c before e in (
       all before e es refl,
       subst (λ (l : Logs). Each P (history c l es)) next (each_front c P more es (λ xs x ys is. all xs x ys (sym same ∙ is))),
     )
@@ -198,9 +202,10 @@ module _ (c : Settings) (es : List Event) (distinct : AreDistinct c.specs) (acto
       let x = entry_of c h (logs_of c xs h) (Collected pid) in
       let rest = grows c (logs_after (logs_of c xs) (At h (length (logs_of c xs h) + 1) x)) ys h in
       let all : logs_of c es h ≡ rest.0 ++ x ∷ logs_of c xs h =
-          (λ i. ((ap (logs_of c) is ∙ logs_cut c no_entries xs (scheduled.Collect pid ∷ ys)) i) h)
-          ∙ (rest.1 ∙ ap (λ l. rest.0 ++ l) (with_here (logs_of c xs) h x)) in
-      let it : IsInTime c h (logs_of c xs h) x.input = came c h rest.0 x (logs_of c xs h) (subst (ComeInTime c h) all (collected h there)) in
+      (λ i. ((ap (logs_of c) is ∙ logs_cut c no_entries xs (scheduled.Collect pid ∷ ys)) i) h)
+      ∙ (rest.1 ∙ ap (λ l. rest.0 ++ l) (with_here (logs_of c xs) h x)) in
+      let it : IsInTime c h (logs_of c xs h) x.input =
+      came c h rest.0 x (logs_of c xs h) (subst (ComeInTime c h) all (collected h there)) in
       subst (IsInTime c h (logs_of c xs h)) (input_of_entry c h (logs_of c xs h) (Collected pid)) it
 
   pub sees_at : (xs : List Event) (pid : Pid) (ys : List Event) → es ≡ xs ++ scheduled.Collect pid ∷ ys
@@ -210,8 +215,8 @@ module _ (c : Settings) (es : List Event) (distinct : AreDistinct c.specs) (acto
       let of = of_actors c.specs es actors in
       let station = actor_of c.specs es actors xs (scheduled.Collect pid) ys is in
       let front : AreOfProcesses c.specs (xs ++ scheduled.Collect pid ∷ []) =
-          of_front c.specs (xs ++ scheduled.Collect pid ∷ []) ys
-          (subst (AreOfProcesses c.specs) (is ∙ sym (append_assoc xs (scheduled.Collect pid ∷ []) ys)) of) in
+      of_front c.specs (xs ++ scheduled.Collect pid ∷ []) ys
+      (subst (AreOfProcesses c.specs) (is ∙ sym (append_assoc xs (scheduled.Collect pid ∷ []) ys)) of) in
       collect_sees c xs pid distinct front (allowed_at xs pid ys is station)
 
   answered_delivered : (logs : Logs) (to : ℕ) (o : Option Frame) → IsAnswered (delivered c logs to o)
@@ -223,7 +228,8 @@ module _ (c : Settings) (es : List Event) (distinct : AreDistinct c.specs) (acto
   unfolding happened right_entry
   answered_at xs (scheduled.Call pid call) ys is = tt
   answered_at xs (scheduled.Collect pid) ys is =
-      some_of (last_behind no_call (history_of c xs)) pid (entry_of c pid.host (logs_of c xs pid.host) (Collected pid)).answer (sees_at xs pid ys is)
+      some_of (last_behind no_call (history_of c xs)) pid (entry_of c pid.host (logs_of c xs pid.host) (Collected pid)).answer (sees_at
+      xs pid ys is)
   answered_at xs (scheduled.Tick host) ys is = tt
   answered_at xs (scheduled.Deliver to from event output) ys is =
       answered_delivered (logs_of c xs) to (handed_over (logs_of c xs) to from event output)

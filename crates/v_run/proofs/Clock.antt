@@ -31,7 +31,8 @@ no_tick_next task r calls answers (events.Collect pid) next = refl
 no_tick_next task r calls answers events.Tick next = absurd next
 no_tick_next task r calls answers (events.Deliver f) next = absurd next
 
-plays_no_tick : (task : List Answer → Option Call) (r : Pid) (o : StationHistory) (calls : List Call) (answers : List Answer) (acts : List Action)
+plays_no_tick : (task : List Answer
+    → Option Call) (r : Pid) (o : StationHistory) (calls : List Call) (answers : List Answer) (acts : List Action)
     → Plays task r o calls answers acts → ticks_by acts ≡ 0
 plays_no_tick task r o calls answers [] plays = refl
 plays_no_tick task r o calls answers (Enters before e posted ∷ acts) plays =
@@ -109,15 +110,18 @@ module _ (c : Settings) (o : HubLog) (histories : ℕ → List (ℕ × StationEv
 
     pub at_least : n ≤ ticks_in (entries_at (fresh_station c h) (histories h))
     at_least =
-        let low = added_most_each D (λ g. cond (host_of g == h) (is_clock g.role * n) 0) (λ g. cond (host_of g == h) (ticks_by g.actions) 0) gs
-            (λ g d. under_test (host_of g == h) (is_clock g.role * n) (ticks_by g.actions) (ticks_low n rounds g g.role _ d.0.0.role d.1)) both in
+        let low =
+        added_most_each D (λ g. cond (host_of g == h) (is_clock g.role * n) 0) (λ g. cond (host_of g == h) (ticks_by g.actions) 0) gs
+        (λ g d. under_test (host_of g == h) (is_clock g.role * n) (ticks_by g.actions) (ticks_low n rounds g g.role _ d.0.0.role
+        d.1)) both in
         let sum = scaled n h gs in let it = single n in let at = ticks_at in omega arith
 
     at_most_by : (m : ℕ) → ((g : Passage) → D g → ticks_by g.actions ≤ is_clock g.role * m)
         → ticks_in (entries_at (fresh_station c h) (histories h)) ≤ m
     at_most_by m most =
-        let high = added_most_each D (λ g. cond (host_of g == h) (ticks_by g.actions) 0) (λ g. cond (host_of g == h) (is_clock g.role * m) 0) gs
-            (λ g d. under_test (host_of g == h) (ticks_by g.actions) (is_clock g.role * m) (most g d)) both in
+        let high =
+        added_most_each D (λ g. cond (host_of g == h) (ticks_by g.actions) 0) (λ g. cond (host_of g == h) (is_clock g.role * m) 0) gs
+        (λ g d. under_test (host_of g == h) (ticks_by g.actions) (is_clock g.role * m) (most g d)) both in
         let sum = scaled m h gs in let it = single m in let at = ticks_at in omega arith
 
     pub at_most : ticks_in (entries_at (fresh_station c h) (histories h)) ≤ n + 1

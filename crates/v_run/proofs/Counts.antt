@@ -36,9 +36,6 @@ traffic_more plan n k e t [] = refl
 traffic_more plan n k e t (x ∷ xs) = traffic_more plan n k e (changed plan n t x.1) xs
 
 module _ (o : HubLog) where
-  gets_weight : (Frame → Bool) → ℕ → List (ℕ × HubEvent) → HubEvent → ℕ
-  gets_weight test h before e = gets test h o.programs (traffic_of o before) e
-
   pub gets_of_fetches : (test : Frame → Bool) (h : ℕ) → IsOfFetches (λ before e. gets test h o.programs (traffic_of o before) e)
   gets_of_fetches test h = record { post = λ before f. refl; finished = λ before. refl; halt = λ before. refl }
 
@@ -49,9 +46,10 @@ module _ (o : HubLog) where
       let rest = gets_are test h (acc ++ x ∷ []) xs in
       ap (λ n. gets test h o.programs (traffic_of o acc) x.1 + n)
       (rest ∙ ap (λ (t : Traffic). all_gets test h o.plan o.programs t xs)
-          (traffic_more o.plan o.programs x.0 x.1 (first_traffic o.plan o.stations) acc))
+      (traffic_more o.plan o.programs x.0 x.1 (first_traffic o.plan o.stations) acc))
 
-pub posts_are : (test : Frame → Bool) (h : ℕ) (acc xs : List (ℕ × HubEvent)) → total (λ before e. counting.posts test h e) acc xs ≡ all_posts test h xs
+pub posts_are : (test : Frame → Bool) (h : ℕ) (acc xs : List (ℕ × HubEvent))
+    → total (λ before e. counting.posts test h e) acc xs ≡ all_posts test h xs
 posts_are test h acc [] = refl
 posts_are test h acc (x ∷ xs) = ap (λ n. counting.posts test h x.1 + n) (posts_are test h (acc ++ x ∷ []) xs)
 
@@ -149,7 +147,8 @@ module _ (u : HubEvent → ℕ) (v : Frame → ℕ) (same : (f : Frame) → u (h
       let more = one_more (fetch_count acts) (u (hub_events.Fetch host)) in
       omega arith
 
-pub fetches_counted : (acts : List Action) → EntersOwn acts → fetch_count acts ≡ weight (λ before e. delivers (λ f. true) e) (entered_places acts) + lost_count acts
+pub fetches_counted : (acts : List Action) → EntersOwn acts → fetch_count acts
+    ≡ weight (λ before e. delivers (λ f. true) e) (entered_places acts) + lost_count acts
 fetches_counted [] own = refl
 fetches_counted (Enters before e posted ∷ acts) own =
     let rest = fetches_counted acts own.1 in let none = not_own (λ f. true) e own.0 in omega arith

@@ -62,7 +62,8 @@ module _ (plan : LinkPlan) (n : ℕ) where
   finished_after : (t : Traffic) (xs : List (ℕ × HubEvent)) → (traffic_after plan n t xs).finished ≡ t.finished + summed finishes xs
   finished_after t [] = omega arith
   finished_after t (x ∷ xs) =
-      finished_step x.1 t ((traffic_after plan n (changed plan n t x.1) xs).finished) (summed finishes xs) (finished_after (changed plan n t x.1) xs)
+      finished_step x.1 t ((traffic_after plan n (changed plan n t x.1) xs).finished) (summed finishes xs) (finished_after (changed plan
+      n t x.1) xs)
 
   halted_step : (e : HubEvent) (t : Traffic) (s : ℕ) → halts e + s ≡ 0 → ((changed plan n t e).halted ≡ t.halted) × (s ≡ 0)
   halted_step (hub_events.Post f) t s none = (refl, omega arith)
@@ -95,8 +96,7 @@ heard_where p (Delivers heard frame before posted ∷ acts) s t log has =
 heard_where p (Drops heard frame ∷ acts) s t log has = heard_where p acts (fetched_at p s heard) t log.1 has
 heard_where p (Hears heard ∷ acts) s t log has =
     let later = log_is_later p acts (fetched_at p s heard) t log.1 in
-    let traffic = traffic_of p.hub heard in
-    (
+    let traffic = traffic_of p.hub heard in (
       heard,
       prefix_front heard ((p.hub_number, hub_events.Fetch p.host) ∷ []) t.heard later.1,
       stopped_by p.hub.programs p.host traffic (is_stopped p.hub.programs traffic) refl log.0.answered,
@@ -131,12 +131,14 @@ no_sends u post fetch o host acts =
     let few = sends_few u (λ f. 0) post o host acts in
     let none = weight_none (entered_places acts) in
     let nothing = fetch host in
-    at_most (added u (sends o host acts)) (weight (λ before e. added (λ (f : Frame). 0) (frames_at o before e)) (entered_places acts)) (u (hub_events.Fetch host))
+    at_most (added u (sends o host acts)) (weight (λ before e. added (λ (f : Frame). 0) (frames_at o before e)) (entered_places acts))
+    (u (hub_events.Fetch host))
     (fetch_count acts) few none nothing
   where
     weight_none : (ps : List (Place StationEvent)) → weight (λ before e. added (λ (f : Frame). 0) (frames_at o before e)) ps ≡ 0
     weight_none ps = added_none (λ (p : Place StationEvent). added (λ (f : Frame). 0) (frames_at o p.0 p.1)) ps
         (λ p. added_none (λ (f : Frame). 0) (frames_at o p.0 p.1) (λ f. refl))
+
     at_most : (n w z k : ℕ) → n ≤ w + k * z → w ≡ 0 → z ≡ 0 → n ≡ 0
     at_most n w z k few none nothing = let gone : k * z ≡ k * 0 = ap (λ m. k * m) nothing in omega arith
 
@@ -198,10 +200,11 @@ module _ (c : Settings) (o : HubLog) (histories : ℕ → List (ℕ × StationEv
   halts_none =
       sym (summed_is halts [] heard) ∙ (events_at_hub c o histories heard gs k halts
       ∙ (added_same_each (λ g. D g × (g.last ≢ hub_events.Halt ∷ []))
-          (λ g. added halts (sends (fresh_station c (host_of g)) (host_of g) g.actions) + added halts g.last) (λ g. 0) gs
-          (λ g d. both (added halts (sends (fresh_station c (host_of g)) (host_of g) g.actions)) (added halts g.last)
-              (no_sends halts (λ f. refl) (λ h. refl) (fresh_station c (host_of g)) (host_of g) g.actions) (no_halt_last g.last d.0.0.last d.1))
-          (each_both D (λ g. g.last ≢ hub_events.Halt ∷ []) gs (all_done c o histories heard gs k) no_halts)
+      (λ g. added halts (sends (fresh_station c (host_of g)) (host_of g) g.actions) + added halts g.last) (λ g. 0) gs
+      (λ g d. both (added halts (sends (fresh_station c (host_of g)) (host_of g) g.actions)) (added halts g.last)
+      (no_sends halts (λ f. refl) (λ h. refl) (fresh_station c (host_of g)) (host_of g) g.actions) (no_halt_last g.last
+      d.0.0.last d.1))
+      (each_both D (λ g. g.last ≢ hub_events.Halt ∷ []) gs (all_done c o histories heard gs k) no_halts)
       ∙ added_none (λ (g : Passage). 0) gs (λ g. refl)))
     where
       both : (a b : ℕ) → a ≡ 0 → b ≡ 0 → a + b ≡ 0
@@ -211,10 +214,10 @@ module _ (c : Settings) (o : HubLog) (histories : ℕ → List (ℕ × StationEv
   finished_are =
       sym (summed_is finishes [] heard) ∙ (events_at_hub c o histories heard gs k finishes
       ∙ added_same_each D (λ g. added finishes (sends (fresh_station c (host_of g)) (host_of g) g.actions) + added finishes g.last)
-          (λ g. added finishes g.last) gs
-          (λ g d. second (added finishes (sends (fresh_station c (host_of g)) (host_of g) g.actions)) (added finishes g.last)
-              (no_sends finishes (λ f. refl) (λ h. refl) (fresh_station c (host_of g)) (host_of g) g.actions))
-          (all_done c o histories heard gs k))
+      (λ g. added finishes g.last) gs
+      (λ g d. second (added finishes (sends (fresh_station c (host_of g)) (host_of g) g.actions)) (added finishes g.last)
+      (no_sends finishes (λ f. refl) (λ h. refl) (fresh_station c (host_of g)) (host_of g) g.actions))
+      (all_done c o histories heard gs k))
     where
       second : (a b : ℕ) → a ≡ 0 → a + b ≡ b
       second a b none = omega arith
@@ -231,7 +234,7 @@ module _ (c : Settings) (o : HubLog) (histories : ℕ → List (ℕ × StationEv
       let pre : IsPrefix before heard = prefix_over before g.left.heard heard at.1 d.1.heard in
       let t : Traffic = traffic_of o before in
       let stop : is_stopped o.programs t ≡ true =
-          subst (λ (h : HubLog). is_stopped h.programs (traffic_of h before) ≡ true) d.0.hub at.2 in
+      subst (λ (h : HubLog). is_stopped h.programs (traffic_of h before) ≡ true) d.0.hub at.2 in
       let few_halts = summed_prefix halts before heard pre in
       let no_halt : summed halts before ≡ 0 = let all = halts_none in omega arith in
       let going : t.halted ≡ false = halted_after o.plan o.programs (first_traffic o.plan o.stations) before no_halt in
@@ -240,7 +243,8 @@ module _ (c : Settings) (o : HubLog) (histories : ℕ → List (ℕ × StationEv
       let so_many = finished_after o.plan o.programs (first_traffic o.plan o.stations) before in
       let few = summed_prefix finishes before heard pre in
       let all = finished_are in
-      let less = added_less (λ (h : Passage). added finishes h.last) (λ (h : Passage). is_program h.role) gs g few_each among (omega arith) in
+      let less =
+      added_less (λ (h : Passage). added finishes h.last) (λ (h : Passage). is_program h.role) gs g few_each among (omega arith) in
       omega arith
 
   pub all_ended : Each (λ (g : Passage). HasEnded c g g.role) gs

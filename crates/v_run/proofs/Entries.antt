@@ -51,9 +51,9 @@ sums_are f o acc (x ∷ xs) =
     let rest = sums_are f o more xs in
     let one : added f (entries_at o more) ≡ f (entry_at o acc x.1) + added f (entries_at o acc) = ap (added f) (entries_more o acc x) in
     let whole : added f (entries_at o (more ++ xs)) ≡ added f (entries_at o (acc ++ (x ∷ xs))) =
-        ap (λ l. added f (entries_at o l)) (append_assoc acc (x ∷ []) xs) in
+    ap (λ l. added f (entries_at o l)) (append_assoc acc (x ∷ []) xs) in
     let sum : (f (entry_at o acc x.1) + total (λ before e. f (entry_at o before e)) more xs) + added f (entries_at o acc)
-        ≡ added f (entries_at o (more ++ xs)) = omega arith in
+    ≡ added f (entries_at o (more ++ xs)) = omega arith in
     sum ∙ whole
 
 -- Ticks, deliveries and frames, of a history and of its entries.
@@ -76,7 +76,8 @@ delivery_is (events.Deliver f) = refl
 abbrev pub is_named : (from event output : ℕ) → Frame → Bool
 is_named from event output f = holds_of (has_numbers from event output) (header_of f)
 
-behind_is : (from event output : ℕ) (h : Header) (p : Option Packet) → has_numbers from event output h ≡ opens_with from event output (unsealed_behind h p)
+behind_is : (from event output : ℕ) (h : Header) (p : Option Packet)
+    → has_numbers from event output h ≡ opens_with from event output (unsealed_behind h p)
 behind_is from event output h None = refl
 behind_is from event output h (Some p) = refl
 
@@ -85,13 +86,15 @@ opened_is : (from event output : ℕ) (o : Option (Header × List ℕ))
 opened_is from event output None = refl
 opened_is from event output (Some f) = behind_is from event output f.0 (packet_of f.1)
 
-named_is : (from event output : ℕ) (e : StationEvent) → delivers (is_named from event output) e ≡ cond (brings from event output (input_of e)) 1 0
+named_is : (from event output : ℕ) (e : StationEvent) → delivers (is_named from event output) e
+    ≡ cond (brings from event output (input_of e)) 1 0
 named_is from event output (events.Call pid call) = refl
 named_is from event output (events.Collect pid) = refl
 named_is from event output events.Tick = refl
 named_is from event output (events.Deliver f) = ap (λ (b : Bool). cond {A = ℕ} b 1 0) (opened_is from event output (frame_of f))
 
-pub total_same : {E : Type 0} (w v : List (ℕ × E) → E → ℕ) (acc xs : List (ℕ × E)) → ((before : List (ℕ × E)) (e : E) → w before e ≡ v before e)
+pub total_same : {E : Type 0} (w v : List (ℕ × E) → E → ℕ) (acc xs : List (ℕ × E))
+    → ((before : List (ℕ × E)) (e : E) → w before e ≡ v before e)
     → total w acc xs ≡ total v acc xs
 total_same w v acc [] same = refl
 total_same w v acc (x ∷ xs) same =
@@ -105,7 +108,8 @@ deliveries_sum : (es : List Entry) → deliveries_in es ≡ added (λ e. cond (i
 deliveries_sum [] = refl
 deliveries_sum (e ∷ es) = ap (λ n. cond (is_delivery e.input) 1 0 + n) (deliveries_sum es)
 
-times_sum : (from event output : ℕ) (es : List Entry) → times_taken from event output es ≡ added (λ e. cond (brings from event output e.input) 1 0) es
+times_sum : (from event output : ℕ) (es : List Entry) → times_taken from event output es
+    ≡ added (λ e. cond (brings from event output e.input) 1 0) es
 times_sum from event output [] = refl
 times_sum from event output (e ∷ es) = ap (λ n. cond (brings from event output e.input) 1 0 + n) (times_sum from event output es)
 
@@ -139,7 +143,8 @@ module _ (c : Settings) (h : ℕ) (history : List (ℕ × StationEvent)) where
   pub times_are : (from event output : ℕ) → total (λ before e. delivers (is_named from event output) e) [] history
       ≡ times_taken from event output (entries_at O history)
   times_are from event output =
-      total_same (λ before e. delivers (is_named from event output) e) (λ before e. cond (brings from event output (entry_at O before e).input) 1 0)
+      total_same (λ before e. delivers (is_named from event output) e) (λ before e. cond (brings from event output (entry_at O before
+      e).input) 1 0)
       [] history
       (λ before e. named_is from event output e ∙ ap (λ i. cond (brings from event output i) 1 0) (sym (input_is O before e)))
       ∙ (by_entries (λ e. cond (brings from event output e.input) 1 0) ∙ sym (times_sum from event output (entries_at O history)))

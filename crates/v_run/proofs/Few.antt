@@ -65,7 +65,8 @@ unfolding logs_from
 few_from c n logs [] few = λ q. few_later n (n + 0) (logs q) (omega arith) (few q)
 few_from c n logs (e ∷ es) few =
     let rest = few_from c (n + 1) (logs_after logs (happened c logs e)) es (few_step c n logs e few) in
-    λ q. few_later ((n + 1) + length es) (n + suc (length es)) (logs_from c (logs_after logs (happened c logs e)) es q) (omega arith) (rest q)
+    λ q. few_later ((n + 1) + length es) (n + suc (length es)) (logs_from c (logs_after logs (happened c logs e)) es q) (omega arith)
+    (rest q)
 
 pub schedule_few : (c : Settings) (es : List Event) (h : ℕ) → IsFew (length es) (logs_of c es h)
 schedule_few c es h =

@@ -1,6 +1,6 @@
 -- In the history of a run each process follows its task, as the laws of page servers ask: what a station's entries tell of a process is
 -- what the schedule tells.
-use Rattle.std.proofs.Common.{◌≡◌, ◌≢◌, ℕ, zero, suc, ◌+◌, ◌<◌, ◌==◌, ◌&&◌, eqb-true, eq-eqb, Bool, true, false, Option, Some, None, is_some, List, [], ◌∷◌, ◌++◌, length, take, cond, option_to_list, refl, sym, ap, ◌∙◌, subst, append_assoc, append-nil, inl, inr}
+use Rattle.std.proofs.Common.{◌≡◌, ◌≢◌, ℕ, zero, suc, ◌+◌, ◌==◌, eqb-true, eq-eqb, Bool, true, false, Option, Some, None, List, [], ◌∷◌, ◌++◌, length, take, cond, option_to_list, refl, sym, ap, ◌∙◌, subst, append_assoc, append-nil, inl, inr}
 use Rattle.std.specs.List.{cons_option, filter_map, list_all}
 use Rattle.std.specs.Prelude.{slice_get}
 use Rattle.std.proofs.lemmas.Bool.{cases_Bool}
@@ -12,20 +12,18 @@ use Rattle.vk_base.specs.declared.kernel.Observation.{Observation}
 use Rattle.vk_base.specs.declared.pid.Pid.{Pid}
 use Rattle.vk_base.specs.Kernel.{◌>>=◌}
 use Rattle.vk_base.specs.Pids.{same_pid}
-use Rattle.vk_base.specs.Settings.{Settings, has_station, refusal_of}
+use Rattle.vk_base.specs.Settings.{Settings, has_station}
 use Rattle.vk_base.specs.Steps.{only_if}
 use Rattle.vk_base.proofs.OptionLemmas.{bind_is}
 use Rattle.vk_cluster.proofs.Logs.{history_more, logs_next, with_here, with_other}
 use Rattle.vk_cluster.specs.Standing.{logs_of}
 use Rattle.vk_event.specs.declared.event.Event.{Event}
 use Rattle.vk_event.specs.declared.event.Event.TheVariants as scheduled
-use Rattle.vk_event.specs.declared.scenario.LinkPlan.{LinkPlan}
-use Rattle.vk_event.specs.declared.schedule.Schedule.{Schedule}
 use Rattle.vk_event.specs.Lawful.{has_actors}
 use Rattle.vk_rules.specs.CallOutcomes.{given}
 use Rattle.vk_rules.specs.Each.{Each}
-use Rattle.vk_rules.specs.Entries.{Called, Collected, Delivered, Entry, Input, Ticked}
-use Rattle.vk_rules.specs.Frames.{Frame, Framed}
+use Rattle.vk_rules.specs.Entries.{Called, Collected, Entry, Input}
+use Rattle.vk_rules.specs.Frames.{Frame}
 use Rattle.vk_rules.specs.Histories.{At, Happened, Logs, Missing, delivered, handed_over, history_of, logs_after, no_entries}
 unfoldable use Rattle.vk_rules.specs.Histories.{happened, history, logs_from, with_entry}
 use Rattle.vk_rules.specs.Observed.{begun_after, handed_out, is_not_yet, no_call, seen_of}
@@ -38,7 +36,6 @@ use Rattle.v_pages.specs.Followed.{IsNextCall, answer_in}
 use Rattle.v_pages.specs.Scheduled.{FollowsIn, answers_in, call_of, calls_in}
 use Rattle.v_run.specs.Outcomes.{Assignment, FollowsTask, IsNextOf}
 use Rattle.v_run.specs.Laws.{RunsFollowTasks}
-use Rattle.v_run.specs.Ran.{IsRun}
 use Rattle.v_run.proofs.Stations.{faultless}
 use Rattle.v_whole.proofs.Distinct.{lawful_distinct}
 use Rattle.v_whole.specs.Schedules.{AreDistinct}
@@ -97,19 +94,21 @@ module _ (r : Pid) where
   ]
 
   -- What the newest entry tells of it.
-  module _ {A : Type 0} (of : List Entry → List A) (by : Entry → List A) (more : (x : Entry) (es : List Entry) → of (x ∷ es) ≡ of es ++ by x)
-      where
-    told_more : (logs : Logs) (host : ℕ) (x : Entry) (l : List A) → (r.host ≡ host → by x ≡ l) → (r.host ≢ host → l ≡ [])
-        → of (with_entry logs host x r.host) ≡ of (logs r.host) ++ l
-    told_more logs host x l here there = elim (cases_Bool (r.host == host)) [
-      | inl t ↦
-          let same : r.host ≡ host = eqb-true r.host host t in
-          ap of (ap (with_entry logs host x) same ∙ with_here logs host x)
-          ∙ (more x (logs host) ∙ ((λ i. of (logs (sym same i)) ++ here same i)))
-      | inr f ↦
-          let apart : r.host ≢ host = λ same. cc (f, eq-eqb r.host host same) in
-          ap of (with_other logs host x r.host apart) ∙ (sym (append-nil (of (logs r.host))) ∙ ap (λ m. of (logs r.host) ++ m) (sym (there apart)))
-    ]
+  module _ {A : Type 0} (of : List Entry → List A) (by : Entry → List A) (more : (x : Entry) (es : List Entry)
+      → of (x ∷ es) ≡ of es ++ by x)
+    where
+      told_more : (logs : Logs) (host : ℕ) (x : Entry) (l : List A) → (r.host ≡ host → by x ≡ l) → (r.host ≢ host → l ≡ [])
+          → of (with_entry logs host x r.host) ≡ of (logs r.host) ++ l
+      told_more logs host x l here there = elim (cases_Bool (r.host == host)) [
+        | inl t ↦
+            let same : r.host ≡ host = eqb-true r.host host t in
+            ap of (ap (with_entry logs host x) same ∙ with_here logs host x)
+            ∙ (more x (logs host) ∙ ((λ i. of (logs (sym same i)) ++ here same i)))
+        | inr f ↦
+            let apart : r.host ≢ host = λ same. cc (f, eq-eqb r.host host same) in
+            ap of (with_other logs host x r.host apart) ∙ (sym (append-nil (of (logs r.host)))
+            ∙ ap (λ m. of (logs r.host) ++ m) (sym (there apart)))
+      ]
 
   call_list : (b : Bool) (call : Call) → option_to_list (only_if b (Some call)) ≡ cond b (call ∷ []) []
   call_list true call = refl
@@ -127,7 +126,8 @@ module _ (r : Pid) where
       → calls_of r (logs_after logs (happened c logs e) r.host) ≡ calls_of r (logs r.host) ++ option_to_list (call_of r e)
   unfolding happened right_entry
   calls_after c logs (scheduled.Call pid call) =
-      told_more (calls_of r) (λ x. called_by r x.input) (λ x es. refl) logs pid.host _ (option_to_list (only_if (same_pid pid r) (Some call)))
+      told_more (calls_of r) (λ x. called_by r x.input) (λ x es. refl) logs pid.host _ (option_to_list (only_if (same_pid pid r) (Some
+      call)))
       (λ same. sym (call_list (same_pid pid r) call))
       (λ apart. call_list (same_pid pid r) call ∙ ap (λ (b : Bool). cond b (call ∷ []) []) (elsewhere pid apart))
   calls_after c logs (scheduled.Collect pid) =
@@ -179,7 +179,8 @@ module _ (r : Pid) where
     seen_at last (Missing host) = []
 
     in_more : (last : Pid → Option Call) (hs : List Happened) (x : Happened)
-        → filter_map (answer_in r) (observed last (hs ++ x ∷ [])) ≡ filter_map (answer_in r) (observed last hs) ++ seen_at (last_behind last hs) x
+        → filter_map (answer_in r) (observed last (hs ++ x ∷ []))
+        ≡ filter_map (answer_in r) (observed last hs) ++ seen_at (last_behind last hs) x
     in_more last hs (At host event e) =
         ap (filter_map (answer_in r)) (sees_more last hs host event e)
         ∙ mapped_append (answer_in r) (observed last hs) (option_to_list (seen_of (last_behind last hs) e.input e.answer))
@@ -218,7 +219,8 @@ module _ (r : Pid) where
         answers_delivered last logs to (handed_over logs to from event output)
 
     -- what holds of no events, and of one more, holds of each front
-    front : (P : List Event → Type 0) (es : List Event) → ((xs : List Event) (e : Event) (ys : List Event) → es ≡ xs ++ e ∷ ys → P xs → P (xs ++ e ∷ []))
+    front : (P : List Event → Type 0) (es : List Event) → ((xs : List Event) (e : Event) (ys : List Event) → es ≡ xs ++ e ∷ ys → P xs
+        → P (xs ++ e ∷ []))
         → (before mid ys : List Event) → es ≡ before ++ (mid ++ ys) → P before → P (before ++ mid)
     front P es more before [] ys is p = subst P (sym (append-nil before)) p
     front P es more before (e ∷ mid) ys is p =
@@ -231,23 +233,25 @@ module _ (r : Pid) where
       unfolding logs_from
       calls_are xs ys is =
           front (λ zs. calls_of r (logs_of c zs r.host) ≡ calls_in r zs) es (λ zs e rest at same.
-              ap (λ (l : Logs). calls_of r (l r.host)) (logs_next c zs e)
-              ∙ (calls_after c (logs_of c zs) e
-              ∙ (ap (λ l. l ++ option_to_list (call_of r e)) same
-              ∙ (ap (λ l. calls_in r zs ++ l) (sym (mapped_one (call_of r) e)) ∙ sym (mapped_append (call_of r) zs (e ∷ [])))))) [] xs ys is refl
+          ap (λ (l : Logs). calls_of r (l r.host)) (logs_next c zs e)
+          ∙ (calls_after c (logs_of c zs) e
+          ∙ (ap (λ l. l ++ option_to_list (call_of r e)) same
+          ∙ (ap (λ l. calls_in r zs ++ l) (sym (mapped_one (call_of r) e))
+          ∙ sym (mapped_append (call_of r) zs (e ∷ [])))))) [] xs ys is refl
 
       answers_are : (xs ys : List Event) → es ≡ xs ++ ys → answers_of r (logs_of c xs r.host) ≡ answers_in c r xs
       unfolding logs_from history observed
       answers_are xs ys is =
           front (λ zs. answers_of r (logs_of c zs r.host) ≡ answers_in c r zs) es (λ zs e rest at same.
-              let last = last_behind no_call (history_of c zs) in
-              ap (λ (l : Logs). answers_of r (l r.host)) (logs_next c zs e)
-              ∙ (answers_after last (logs_of c zs) e (seen zs e rest at)
-              ∙ (ap (λ l. l ++ seen_at last (happened c (logs_of c zs) e)) same
-              ∙ (sym (in_more no_call (history_of c zs) (happened c (logs_of c zs) e))
-              ∙ ap (λ hs. filter_map (answer_in r) (observed no_call hs)) (sym (history_more c zs no_entries e)))))) [] xs ys is refl
+          let last = last_behind no_call (history_of c zs) in
+          ap (λ (l : Logs). answers_of r (l r.host)) (logs_next c zs e)
+          ∙ (answers_after last (logs_of c zs) e (seen zs e rest at)
+          ∙ (ap (λ l. l ++ seen_at last (happened c (logs_of c zs) e)) same
+          ∙ (sym (in_more no_call (history_of c zs) (happened c (logs_of c zs) e))
+          ∙ ap (λ hs. filter_map (answer_in r) (observed no_call hs)) (sym (history_more c zs no_entries e)))))) [] xs ys is refl
 
-      follows_at : (task : List Answer → Option Call) (later : List Entry) (x : Entry) (ls : List Entry) → FollowsTask task r (later ++ x ∷ ls)
+      follows_at : (task : List Answer → Option Call) (later : List Entry) (x : Entry) (ls : List Entry)
+          → FollowsTask task r (later ++ x ∷ ls)
           → IsNextOf task r ls x.input
       follows_at task [] x ls follows = follows.0
       follows_at task (y ∷ later) x ls follows = follows_at task later x ls follows.1
@@ -262,13 +266,13 @@ module _ (r : Pid) where
           let x = entry_of c h (logs_of c xs h) (Called pid call) in
           let rest = grows c (logs_after (logs_of c xs) (At h (length (logs_of c xs h) + 1) x)) ys h in
           let all : logs_of c es h ≡ rest.0 ++ x ∷ logs_of c xs h =
-              (λ i. ((ap (logs_of c) is ∙ logs_cut c no_entries xs (scheduled.Call pid call ∷ ys)) i) h)
-              ∙ (rest.1 ∙ ap (λ l. rest.0 ++ l) (with_here (logs_of c xs) h x)) in
+          (λ i. ((ap (logs_of c) is ∙ logs_cut c no_entries xs (scheduled.Call pid call ∷ ys)) i) h)
+          ∙ (rest.1 ∙ ap (λ l. rest.0 ++ l) (with_here (logs_of c xs) h x)) in
           let at : FollowsTask task r (rest.0 ++ x ∷ logs_of c xs h) =
-              subst (FollowsTask task r) all (subst (λ q. FollowsTask task r (logs_of c es q)) (sym home) follows) in
+          subst (FollowsTask task r) all (subst (λ q. FollowsTask task r (logs_of c es q)) (sym home) follows) in
           let next : IsNextOf task r (logs_of c xs h) (Called pid call) =
-              subst (IsNextOf task r (logs_of c xs h)) (input_of_entry c h (logs_of c xs h) (Called pid call))
-              (follows_at task rest.0 x (logs_of c xs h) at) in
+          subst (IsNextOf task r (logs_of c xs h)) (input_of_entry c h (logs_of c xs h) (Called pid call))
+          (follows_at task rest.0 x (logs_of c xs h) at) in
           subst (λ (p : List Call × List Answer). IsNextCall task p.0 p.1 call)
           (λ i. (
             (ap (λ q. calls_of r (logs_of c xs q)) home ∙ calls_are xs (scheduled.Call pid call ∷ ys) is) i,
@@ -280,7 +284,8 @@ event_at [] i e is = absurd (none-some e is)
 event_at (x ∷ xs) zero e is = (xs, ap (λ y. y ∷ xs) (same_Some x e is))
 event_at (x ∷ xs) (suc i) e is = let it = event_at xs i e is in (it.0, ap (λ l. x ∷ l) it.1)
 
-made_by : (r : Pid) (e : Event) (call : Call) → call_of r e ≡ Some call → (pid : Pid) × (e ≡ scheduled.Call pid call) × (same_pid pid r ≡ true)
+made_by : (r : Pid) (e : Event) (call : Call) → call_of r e ≡ Some call
+    → (pid : Pid) × (e ≡ scheduled.Call pid call) × (same_pid pid r ≡ true)
 made_by r (scheduled.Call pid c) call is =
     let parts = only_if_is (same_pid pid r) (Some c) call is in (pid, ap (scheduled.Call pid) (same_Some c call parts.1), parts.0)
 made_by r (scheduled.Collect pid) call is = absurd (none-some call is)
@@ -303,13 +308,16 @@ runs_follow_tasks c plan rounds tasks limited s lawful run = record {
   where
     distinct : AreDistinct c.specs
     distinct = lawful_distinct c.specs (faultless c lawful)
+
     one : (a : Assignment) → FollowsTask a.task a.pid (logs_of c s.events a.pid.host) → FollowsIn a.task c s.events a.pid
     one a follows i call is =
         let e = bind_is (slice_get s.events i) (call_of a.pid) call is in
         let cut = event_at s.events i e.0 e.1 in
         let made = made_by a.pid e.0 call e.2 in
-        next_call a.pid c s.events (seen_in a.pid c s.events distinct run.actors run.outcome.collected) a.task (take i s.events) made.0 call cut.0
+        next_call a.pid c s.events (seen_in a.pid c s.events distinct run.actors run.outcome.collected) a.task (take i s.events) made.0
+        call cut.0
         (cut.1 ∙ ap (λ x. take i s.events ++ x ∷ cut.0) made.1) made.2 follows
+
     each : (xs : List Assignment) → Each (λ (a : Assignment). FollowsTask a.task a.pid (logs_of c s.events a.pid.host)) xs
         → Each (λ (a : Assignment). FollowsIn a.task c s.events a.pid) xs
     each [] all = tt

@@ -30,20 +30,17 @@ log_is_later p (Enters before e posted ∷ acts) s t log =
     let rest = log_is_later p acts (entered_at p s before e posted) t log.1 in
     (prefix_over s.seen before t.seen log.0.later (prefix_front before ((p.number, e) ∷ []) t.seen rest.0), rest.1)
 log_is_later p (Delivers heard frame before posted ∷ acts) s t log =
-    let rest = log_is_later p acts (entered_at p (fetched_at p s heard) before (events.Deliver frame) posted) t log.1 in
-    (
+    let rest = log_is_later p acts (entered_at p (fetched_at p s heard) before (events.Deliver frame) posted) t log.1 in (
       prefix_over s.seen before t.seen log.0.1.later (prefix_front before ((p.number, events.Deliver frame) ∷ []) t.seen rest.0),
       prefix_over s.heard heard t.heard log.0.0.later (prefix_front heard ((p.hub_number, hub_events.Fetch p.host) ∷ []) t.heard rest.1),
     )
 log_is_later p (Drops heard frame ∷ acts) s t log =
-    let rest = log_is_later p acts (fetched_at p s heard) t log.1 in
-    (
+    let rest = log_is_later p acts (fetched_at p s heard) t log.1 in (
       rest.0,
       prefix_over s.heard heard t.heard log.0.later (prefix_front heard ((p.hub_number, hub_events.Fetch p.host) ∷ []) t.heard rest.1),
     )
 log_is_later p (Hears heard ∷ acts) s t log =
-    let rest = log_is_later p acts (fetched_at p s heard) t log.1 in
-    (
+    let rest = log_is_later p acts (fetched_at p s heard) t log.1 in (
       rest.0,
       prefix_over s.heard heard t.heard log.0.later (prefix_front heard ((p.hub_number, hub_events.Fetch p.host) ∷ []) t.heard rest.1),
     )
@@ -83,19 +80,20 @@ module _ (w : List (ℕ × HubEvent) → HubEvent → ℕ) (of : IsOfFetches w) 
   light_between n xs ys more pre is none =
       let rest = pre.0 in
       let same : events_of n rest ≡ more =
-          append_same (events_of n xs) (events_of n rest) more (sym (events_append n xs rest) ∙ (ap (events_of n) pre.1 ∙ is)) in
+      append_same (events_of n xs) (events_of n rest) more (sym (events_append n xs rest) ∙ (ap (events_of n) pre.1 ∙ is)) in
       let zero : weight w (places n xs rest) ≡ 0 =
-          light (places n xs rest) (subst (Each IsNoFetch) (sym (events_at_places n xs rest ∙ same)) none) in
+      light (places n xs rest) (subst (Each IsNoFetch) (sym (events_at_places n xs rest ∙ same)) none) in
       let sum : weight w (places n [] xs ++ places n xs rest) ≡ weight w (places n [] xs) + weight w (places n xs rest) =
-          added_append (λ (p : Place HubEvent). w p.0 p.1) (places n [] xs) (places n xs rest) in
+      added_append (λ (p : Place HubEvent). w p.0 p.1) (places n [] xs) (places n xs rest) in
       let whole : weight w (places n [] ys) ≡ weight w (places n [] xs ++ places n xs rest) =
-          ap (λ l. weight w (places n [] l)) (sym pre.1) ∙ ap (weight w) (places_append n [] xs rest) in
+      ap (λ l. weight w (places n [] l)) (sym pre.1) ∙ ap (weight w) (places_append n [] xs rest) in
       whole ∙ (sum ∙ ap (λ k. weight w (places n [] xs) + k) zero ∙ plus_none (weight w (places n [] xs)))
     where
       plus_none : (k : ℕ) → k + 0 ≡ k
       plus_none k = omega arith
 
-  heavy_last : (n : ℕ) (xs : List (ℕ × HubEvent)) (e : HubEvent) → weight w (places n [] (xs ++ (n, e) ∷ [])) ≡ weight w (places n [] xs) + w xs e
+  heavy_last : (n : ℕ) (xs : List (ℕ × HubEvent)) (e : HubEvent)
+      → weight w (places n [] (xs ++ (n, e) ∷ [])) ≡ weight w (places n [] xs) + w xs e
   heavy_last n xs e =
       ap (weight w) (placed_last n xs e)
       ∙ (added_append (λ (p : Place HubEvent). w p.0 p.1) (places n [] xs) ((xs, e) ∷ []) ∙ plus (weight w (places n [] xs)) (w xs e))
@@ -112,7 +110,8 @@ module _ (w : List (ℕ × HubEvent) → HubEvent → ℕ) (of : IsOfFetches w) 
         → events_of p.hub_number heard ≡ s.sent
         → (s.sent ++ hub_events.Fetch p.host ∷ []) ++ posted
         ≡ events_of p.hub_number (heard ++ (p.hub_number, hub_events.Fetch p.host) ∷ []) ++ posted
-    after_fetch s heard posted none mine = ap (λ l. l ++ posted) (sym (events_last p.hub_number heard (hub_events.Fetch p.host) s.sent mine))
+    after_fetch s heard posted none mine =
+        ap (λ l. l ++ posted) (sym (events_last p.hub_number heard (hub_events.Fetch p.host) s.sent mine))
 
     step : (s : Stand) (heard : List (ℕ × HubEvent)) (b : Behind p.hub_number s) → IsPrefix s.heard heard
         → events_of p.hub_number heard ≡ s.sent
@@ -132,7 +131,7 @@ module _ (w : List (ℕ × HubEvent) → HubEvent → ℕ) (of : IsOfFetches w) 
         let n = p.hub_number in
         let more : List HubEvent = b.0 ++ last in
         let is : events_of n history ≡ events_of n s.heard ++ more =
-            whole ∙ (ap (λ l. l ++ last) (log.3 ∙ b.1) ∙ append_assoc (events_of n s.heard) b.0 last) in
+        whole ∙ (ap (λ l. l ++ last) (log.3 ∙ b.1) ∙ append_assoc (events_of n s.heard) b.0 last) in
         light_between n s.heard history more (prefix_over s.heard t.heard history log.1 pre) is (each_append IsNoFetch b.0 last b.2 none)
         ∙ plus_none (weight w (places n [] s.heard))
       where
@@ -160,7 +159,7 @@ module _ (w : List (ℕ × HubEvent) → HubEvent → ℕ) (of : IsOfFetches w) 
         let n = p.hub_number in
         let at = log.0 in
         let behind : Behind n (fetched_at p s heard) =
-            ([], sym (append-nil (s.sent ++ hub_events.Fetch p.host ∷ [])) ∙ after_fetch s heard [] tt at.mine, tt) in
+        ([], sym (append-nil (s.sent ++ hub_events.Fetch p.host ∷ [])) ∙ after_fetch s heard [] tt at.mine, tt) in
         let rest = fetched history last acts (fetched_at p s heard) t log.1 behind pre whole none in
         let one = step s heard b at.later at.mine in
         omega arith
@@ -168,7 +167,7 @@ module _ (w : List (ℕ × HubEvent) → HubEvent → ℕ) (of : IsOfFetches w) 
         let n = p.hub_number in
         let at = log.0 in
         let behind : Behind n (fetched_at p s heard) =
-            ([], sym (append-nil (s.sent ++ hub_events.Fetch p.host ∷ [])) ∙ after_fetch s heard [] tt at.mine, tt) in
+        ([], sym (append-nil (s.sent ++ hub_events.Fetch p.host ∷ [])) ∙ after_fetch s heard [] tt at.mine, tt) in
         let rest = fetched history last acts (fetched_at p s heard) t log.1 behind pre whole none in
         let one = step s heard b at.later at.mine in
         omega arith
@@ -200,5 +199,6 @@ sent_is p (Hears heard ∷ acts) s t log =
     sent_is p acts (fetched_at p s heard) t log.1 ∙ append_assoc s.sent (hub_events.Fetch p.host ∷ []) (sends p.station p.host acts)
 
 -- what the hub's history has of it, each event by itself
-pub weight_of_events : {E : Type 0} (u : E → ℕ) (n : ℕ) (xs : List (ℕ × E)) → weight (λ before e. u e) (places n [] xs) ≡ added u (events_of n xs)
+pub weight_of_events : {E : Type 0} (u : E → ℕ) (n : ℕ) (xs : List (ℕ × E))
+    → weight (λ before e. u e) (places n [] xs) ≡ added u (events_of n xs)
 weight_of_events {E} u n xs = sym (added_map u (λ (p : Place E). p.1) (places n [] xs)) ∙ ap (added u) (events_at_places n [] xs)

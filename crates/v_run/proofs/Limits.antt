@@ -30,7 +30,8 @@ lasts_are : (gs : List Passage) → last_entries gs ≡ added (λ g. length g.la
 lasts_are [] = refl
 lasts_are (g ∷ gs) = ap (λ n. length g.last + n) (lasts_are gs)
 
-pub few_losses : (c : Settings) (js : List JobEnd) → Each (IsJobEnd c) js → added (λ g. lost_count g.actions) (passages_of js) ≤ 2 * length js
+pub few_losses : (c : Settings) (js : List JobEnd) → Each (IsJobEnd c) js
+    → added (λ g. lost_count g.actions) (passages_of js) ≤ 2 * length js
 few_losses c [] ends = omega arith
 few_losses c (j ∷ js) ends =
     let rest = few_losses c js ends.1 in
@@ -39,7 +40,8 @@ few_losses c (j ∷ js) ends =
     let sum = added_append (λ (g : Passage). lost_count g.actions) j.passages (passages_of js) in
     omega arith
 
-pub few_lasts : (c : Settings) (js : List JobEnd) → Each (IsJobEnd c) js → added (λ (g : Passage). length g.last) (passages_of js) ≤ length js
+pub few_lasts : (c : Settings) (js : List JobEnd) → Each (IsJobEnd c) js
+    → added (λ (g : Passage). length g.last) (passages_of js) ≤ length js
 few_lasts c [] ends = omega arith
 few_lasts c (j ∷ js) ends =
     let rest = few_lasts c js ends.1 in
@@ -103,10 +105,11 @@ module _ (c : Settings) (o : HubLog) (histories : ℕ → List (ℕ × StationEv
       → added (λ g. weight (w (host_of g)) (entered_places g.actions)) gs ≡ added (λ q. total (w q) [] (histories q)) (stations_of c.specs)
   by_stations w =
       let parts = by_hosts host_of (λ g. weight (w (host_of g)) (entered_places g.actions)) (stations_of c.specs) gs
-          (all_once c gs k.stations) in
+      (all_once c gs k.stations) in
       let each = added_same_each (λ q. has_station c.specs q ≡ true)
-          (λ q. added (λ g. cond (host_of g == q) (weight (w (host_of g)) (entered_places g.actions)) 0) gs)
-          (λ q. total (w q) [] (histories q)) (stations_of c.specs) (one_total w) (each_station (λ q. has_station c.specs q ≡ true) c (λ q there. there)) in
+      (λ q. added (λ g. cond (host_of g == q) (weight (w (host_of g)) (entered_places g.actions)) 0) gs)
+      (λ q. total (w q) [] (histories q)) (stations_of c.specs) (one_total w) (each_station (λ q. has_station c.specs q
+      ≡ true) c (λ q there. there)) in
       sym parts ∙ each
 
   frames_are : (q : ℕ) → total (made q) [] (histories q) ≡ frames_in (entries_at (fresh_station c q) (histories q))
@@ -125,19 +128,21 @@ module _ (c : Settings) (o : HubLog) (histories : ℕ → List (ℕ × StationEv
       let all = others_are [] heard in
       let hub = events_at_hub c o histories heard gs k other in
       let most = added_most_each D
-          (λ g. added other (sends (fresh_station c (host_of g)) (host_of g) g.actions) + added other g.last)
-          (λ g. (weight (made (host_of g)) (entered_places g.actions) + weight took (entered_places g.actions))
-              + (lost_count g.actions + length g.last)) gs sent_by (all_done c o histories heard gs k) in
+      (λ g. added other (sends (fresh_station c (host_of g)) (host_of g) g.actions) + added other g.last)
+      (λ g. (weight (made (host_of g)) (entered_places g.actions) + weight took (entered_places g.actions))
+      + (lost_count g.actions + length g.last)) gs sent_by (all_done c o histories heard gs k) in
       let one = added_sum (λ g. weight (made (host_of g)) (entered_places g.actions) + weight took (entered_places g.actions))
-          (λ g. lost_count g.actions + length g.last) gs in
+      (λ g. lost_count g.actions + length g.last) gs in
       let two = added_sum (λ g. weight (made (host_of g)) (entered_places g.actions)) (λ g. weight took (entered_places g.actions)) gs in
       let three = added_sum (λ (g : Passage). lost_count g.actions) (λ (g : Passage). length g.last) gs in
       let frames = by_stations made in
       let taken = by_stations (λ q. took) in
-      let f = added_same (λ q. total (made q) [] (histories q)) (λ q. frames_in (entries_at (fresh_station c q) (histories q))) (stations_of c.specs)
-          frames_are in
-      let d = added_same (λ q. total took [] (histories q)) (λ q. deliveries_in (entries_at (fresh_station c q) (histories q))) (stations_of c.specs)
-          (λ q. deliveries_are c q (histories q)) in
+      let f = added_same (λ q. total (made q) [] (histories q)) (λ q. frames_in (entries_at (fresh_station c q) (histories q)))
+      (stations_of c.specs)
+      frames_are in
+      let d = added_same (λ q. total took [] (histories q)) (λ q. deliveries_in (entries_at (fresh_station c q) (histories q)))
+      (stations_of c.specs)
+      (λ q. deliveries_are c q (histories q)) in
       let g = added_over (λ q. frames_in (entries_at (fresh_station c q) (histories q))) (stations_of c.specs) in
       let h = added_over (λ q. deliveries_in (entries_at (fresh_station c q) (histories q))) (stations_of c.specs) in
       omega arith
@@ -147,7 +152,8 @@ others_append : (xs ys : List (ℕ × HubEvent)) → others xs ≤ others (xs ++
 others_append [] ys = omega arith
 others_append (x ∷ xs) ys = by (is_halt x.1) (others_append xs ys)
   where
-    by : (b : Bool) → others xs ≤ others (xs ++ ys) → cond b (others xs) (others xs + 1) ≤ cond b (others (xs ++ ys)) (others (xs ++ ys) + 1)
+    by : (b : Bool) → others xs ≤ others (xs ++ ys) → cond b (others xs) (others xs + 1)
+        ≤ cond b (others (xs ++ ys)) (others (xs ++ ys) + 1)
     by true rest = rest
     by false rest = omega arith
 

@@ -56,7 +56,8 @@ both P Q R [] joins one two = tt
 both P Q R (x ∷ xs) joins one two = (joins x one.0 two.0, both P Q R xs joins one.1 two.1)
 
 -- The same entries.
-behind_is : (c : Settings) (h : ℕ) (es : List Entry) (xs : List StationEvent) → entries_behind c h es (map input_of xs) ≡ entries_from c h es xs
+behind_is : (c : Settings) (h : ℕ) (es : List Entry) (xs : List StationEvent)
+    → entries_behind c h es (map input_of xs) ≡ entries_from c h es xs
 behind_is c h es [] = refl
 behind_is c h es (x ∷ xs) = behind_is c h (entry_of c h es (input_of x) ∷ es) xs
 
@@ -96,26 +97,29 @@ module _ (c : Settings) (histories : ℕ → List (ℕ × StationEvent)) (logs :
           (λ (l : StationLog). l.events ≡ events_at logs l.host) (λ (l : StationLog). Each (IsOfStation c.specs l.host) l.events) logs
           (λ l all same. subst (Each (IsOfStation c.specs l.host)) (sym same) all)
           (of_stations (λ h. Each (IsOfStation c.specs h) (events_at logs h))
-              (λ h there. subst (Each (IsOfStation c.specs h)) (sym (are.events h))
-                  (all_of_station (closed_station c h (histories h)) (histories h) (are.lawful h there).own)))
+          (λ h there. subst (Each (IsOfStation c.specs h)) (sym (are.events h))
+          (all_of_station (closed_station c h (histories h)) (histories h) (are.lawful h there).own)))
           (own_events logs rise);
     }
 
     -- Limits: each station has its share, and all shares together are no more than there may be.
-    shares : (f : StationLog → ℕ) (most : ℕ) (ls : List StationLog) → Each (λ (l : StationLog). f l ≤ most) ls → sum_by f ls ≤ length ls * most
+    shares : (f : StationLog → ℕ) (most : ℕ) (ls : List StationLog) → Each (λ (l : StationLog). f l ≤ most) ls
+        → sum_by f ls ≤ length ls * most
     shares f most [] each = omega arith
     shares f most (l ∷ ls) each =
         let one = each.0 in
         let rest = shares f most ls each.1 in
         omega (arith, sum_by-cons f l ls, add-mul 1 (length ls) most, one-mul most)
 
-    all_shares : (f : StationLog → ℕ) (all : ℕ) → Each (λ (l : StationLog). f l ≤ all / length (stations_of c.specs)) logs → sum_by f logs ≤ all
+    all_shares : (f : StationLog → ℕ) (all : ℕ) → Each (λ (l : StationLog). f l ≤ all / length (stations_of c.specs)) logs
+        → sum_by f logs ≤ all
     all_shares f all each =
         let count : length logs ≡ length (stations_of c.specs) = sym (length-map logs host_in) ∙ ap length are.hosts in
         let few = shares f (all / length (stations_of c.specs)) logs each in
         let most = mul-div-le all (length (stations_of c.specs)) in
-        let same : length logs * (all / length (stations_of c.specs)) ≡ length (stations_of c.specs) * (all / length (stations_of c.specs)) =
-            ap (λ n. n * (all / length (stations_of c.specs))) count in
+        let same : length logs * (all / length (stations_of c.specs))
+        ≡ length (stations_of c.specs) * (all / length (stations_of c.specs)) =
+        ap (λ n. n * (all / length (stations_of c.specs))) count in
         omega arith
 
     pub few_events : event_count logs ≤ EVENTS
@@ -125,10 +129,10 @@ module _ (c : Settings) (histories : ℕ → List (ℕ × StationEvent)) (logs :
         (λ (l : StationLog). length l.events ≤ most_entries c) logs
         (λ l few same. subst (λ (es : List StationEvent). length es ≤ most_entries c) (sym same) few)
         (of_stations (λ h. length (events_at logs h) ≤ most_entries c)
-            (λ h there.
-            let size : length (events_at logs h) ≡ length (histories h) = ap length (are.events h) ∙ length-map (histories h) event_of in
-            let few = (are.lawful h there).entries in
-            subst (λ n. n ≤ most_entries c) (sym size) few))
+        (λ h there.
+        let size : length (events_at logs h) ≡ length (histories h) = ap length (are.events h) ∙ length-map (histories h) event_of in
+        let few = (are.lawful h there).entries in
+        subst (λ n. n ≤ most_entries c) (sym size) few))
         (own_events logs rise))
 
     pub few_bytes : byte_count c logs ≤ MOST_BYTES
@@ -139,9 +143,10 @@ module _ (c : Settings) (histories : ℕ → List (ℕ × StationEvent)) (logs :
         (λ (l : StationLog). bytes_in (entries_for c l.host l.events) ≤ share_of_bytes c) logs
         (λ l few same. subst (λ (es : List StationEvent). bytes_in (entries_for c l.host es) ≤ share_of_bytes c) (sym same) few)
         (of_stations (λ h. bytes_in (entries_for c h (events_at logs h)) ≤ share_of_bytes c)
-            (λ h there.
-            let few : emitted_bytes (entries_at (closed_station c h (histories h)) (histories h)) ≤ share_of_bytes c = (are.lawful h there).bytes in
-            subst (λ (es : List Entry). bytes_in es ≤ share_of_bytes c) (sym (entries_are h)) few))
+        (λ h there.
+        let few : emitted_bytes (entries_at (closed_station c h (histories h)) (histories h)) ≤ share_of_bytes c =
+        (are.lawful h there).bytes in
+        subst (λ (es : List Entry). bytes_in es ≤ share_of_bytes c) (sym (entries_are h)) few))
         (own_events logs rise))
 
 pub logs_may_be_joined : LogsMayBeJoined

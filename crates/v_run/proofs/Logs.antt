@@ -40,8 +40,8 @@ module _ {E : Type 0} where
       let rest = pre.0 in
       let whole : xs ++ rest ≡ ys = pre.1 in
       let none : events_of n rest ≡ [] =
-          append_none (events_of n xs) (events_of n rest)
-          (sym (events_append n xs rest) ∙ (ap (events_of n) whole ∙ (there ∙ sym here))) in
+      append_none (events_of n xs) (events_of n rest)
+      (sym (events_append n xs rest) ∙ (ap (events_of n) whole ∙ (there ∙ sym here))) in
       ap (places n []) (sym whole)
       ∙ (places_append n [] xs rest ∙ (ap (λ l. places n [] xs ++ l) (no_places n xs rest none) ∙ append-nil (places n [] xs)))
 
@@ -63,7 +63,6 @@ module _ {E : Type 0} where
       events_append n xs ((n, e) ∷ []) ∙ (ap (λ l. l ++ events_of n ((n, e) ∷ [])) is
       ∙ ap (λ l. mine ++ l) (one_event_by (n == n) e (eq-eqb n n refl)))
 
-
 -- at the station
 pub placed : (p : Berth) (history : List (ℕ × StationEvent)) (acts : List Action) (s t : Stand) → IsLog p s acts t
     → events_of p.number s.seen ≡ s.mine → IsPrefix t.seen history → events_of p.number history ≡ t.mine
@@ -83,7 +82,7 @@ placed p history (Enters before e posted ∷ acts) s t log mine pre whole =
     let rest = placed p history acts next t log.1 (events_last n before e s.mine at.mine) pre whole in
     snoc_rest (places n [] s.seen) (before, e) (entered_places acts) (entered_places acts) (places n [] history)
     (rest ∙ ap (λ l. l ++ entered_places acts)
-        (placed_last n before e ∙ ap (λ l. l ++ (before, e) ∷ []) (none_between n s.seen before s.mine at.later mine at.mine))) refl
+    (placed_last n before e ∙ ap (λ l. l ++ (before, e) ∷ []) (none_between n s.seen before s.mine at.later mine at.mine))) refl
 placed p history (Delivers heard frame before posted ∷ acts) s t log mine pre whole =
     let n = p.number in
     let at = log.0.1 in
@@ -92,6 +91,6 @@ placed p history (Delivers heard frame before posted ∷ acts) s t log mine pre 
     let rest = placed p history acts next t log.1 (events_last n before e s.mine at.mine) pre whole in
     snoc_rest (places n [] s.seen) (before, e) (entered_places acts) (entered_places acts) (places n [] history)
     (rest ∙ ap (λ l. l ++ entered_places acts)
-        (placed_last n before e ∙ ap (λ l. l ++ (before, e) ∷ []) (none_between n s.seen before s.mine at.later mine at.mine))) refl
+    (placed_last n before e ∙ ap (λ l. l ++ (before, e) ∷ []) (none_between n s.seen before s.mine at.later mine at.mine))) refl
 placed p history (Drops heard frame ∷ acts) s t log mine pre whole = placed p history acts (fetched_at p s heard) t log.1 mine pre whole
 placed p history (Hears heard ∷ acts) s t log mine pre whole = placed p history acts (fetched_at p s heard) t log.1 mine pre whole

@@ -74,7 +74,8 @@ are_open unseal (e ∷ es) lawful = (all_open unseal e.frames lawful.0.frames, a
 abbrev IsBounded : Frame → Type 0
 IsBounded f = f.header.number ≤ LAST_NUMBER
 
-bounded_frames : (host stamp number event output : ℕ) (fs : List Frame) → number ≤ LAST_NUMBER → HaveHeaders host stamp number event output fs
+bounded_frames : (host stamp number event output : ℕ) (fs : List Frame) → number ≤ LAST_NUMBER
+    → HaveHeaders host stamp number event output fs
     → Each IsBounded fs
 bounded_frames host stamp number event output [] low have = tt
 bounded_frames host stamp number event output (f ∷ fs) low have =
@@ -124,7 +125,8 @@ added_emitted f (e ∷ es) =
     let sum = added_append f e.frames (emitted es) in
     omega arith
 
-weighs : (w : StationEvent → ℕ) (acc xs : List (ℕ × StationEvent)) (x : ℕ × StationEvent) → Among x xs → w x.1 ≤ total (λ before e. w e) acc xs
+weighs : (w : StationEvent → ℕ) (acc xs : List (ℕ × StationEvent)) (x : ℕ × StationEvent) → Among x xs
+    → w x.1 ≤ total (λ before e. w e) acc xs
 weighs w acc [] x among = absurd among
 weighs w acc (y ∷ ys) x (inl is) = let one = ap (λ (z : ℕ × StationEvent). w z.1) is in omega arith
 weighs w acc (y ∷ ys) x (inr among) = let rest = weighs w (acc ++ y ∷ []) ys x among in omega arith
@@ -155,7 +157,7 @@ early_by : FramesUnsealAgain → (f : Frame) → IsLawfulFrame f → (bytes : Li
     → brings_last_number (events.Deliver bytes) ≡ false → f.header.number < 2 ^ 63 - 1
 early_by unseal f lawful bytes is most below =
     let number : number_in (unsealed_of bytes) ≡ f.header.number =
-        ap (λ b. number_in (unsealed_of b)) (sym is) ∙ ap number_in (opens_again unseal f lawful) in
+    ap (λ b. number_in (unsealed_of b)) (sym is) ∙ ap number_in (opens_again unseal f lawful) in
     below_last f.header.number most (ap (λ n. n == LAST_NUMBER) (sym number) ∙ below)
 
 module _ (unseal : FramesUnsealAgain) (c : Settings) (o : HubLog) (histories : ℕ → List (ℕ × StationEvent)) (heard : List (ℕ × HubEvent))
@@ -172,7 +174,7 @@ module _ (unseal : FramesUnsealAgain) (c : Settings) (o : HubLog) (histories : �
     some_made : (x : ℕ × StationEvent) → Among x (histories h) → x.1 ≡ events.Deliver bytes → 1 ≤ added made (stations_of c.specs)
     some_made x among is =
         let one : ◌≡◌ {A = ℕ} (delivers (is_frame bytes) x.1) 1 =
-            ap (delivers (is_frame bytes)) is ∙ ap (λ (b : Bool). cond {A = ℕ} b 1 0) (itself bytes) in
+        ap (delivers (is_frame bytes)) is ∙ ap (λ (b : Bool). cond {A = ℕ} b 1 0) (itself bytes) in
         let all = weighs (delivers (is_frame bytes)) [] (histories h) x among in
         let few = taken_was_made c o histories heard gs k (is_frame bytes) h there in
         by (added made (stations_of c.specs)) refl few (omega arith)
@@ -184,7 +186,8 @@ module _ (unseal : FramesUnsealAgain) (c : Settings) (o : HubLog) (histories : �
         by (suc n) is few some = omega arith
 
     -- and it is this output
-    pub is_output : (x : ℕ × StationEvent) → Among x (histories h) → x.1 ≡ events.Deliver bytes → brings_last_number (events.Deliver bytes) ≡ false
+    pub is_output : (x : ℕ × StationEvent) → Among x (histories h) → x.1 ≡ events.Deliver bytes
+        → brings_last_number (events.Deliver bytes) ≡ false
         → IsOutput (joined.entries_at c logs) h bytes
     is_output x among is below =
         let at = some_added made (stations_of c.specs) (some_made x among is) in
@@ -193,19 +196,19 @@ module _ (unseal : FramesUnsealAgain) (c : Settings) (o : HubLog) (histories : �
         let same : entries_at (fresh_station c q) (histories q) ≡ es = sym (entries_are c histories logs are q) in
         let g : Frame → ℕ = λ f. meant (sealed f) in
         let sum : made q ≡ added (λ (e : Entry). added meant (map sealed e.frames)) (entries_at (fresh_station c q) (histories q)) =
-            by_entries c q (histories q) (λ (e : Entry). added meant (map sealed e.frames)) in
+        by_entries c q (histories q) (λ (e : Entry). added meant (map sealed e.frames)) in
         let whole : made q ≡ added g (emitted es) =
-            sum ∙ (ap (added (λ (e : Entry). added meant (map sealed e.frames))) same
-            ∙ (added_by (λ (e : Entry). added meant (map sealed e.frames)) (λ (e : Entry). added g e.frames) es
-                (λ e. added_over_map meant sealed e.frames)
-            ∙ added_emitted g es)) in
+        sum ∙ (ap (added (λ (e : Entry). added meant (map sealed e.frames))) same
+        ∙ (added_by (λ (e : Entry). added meant (map sealed e.frames)) (λ (e : Entry). added g e.frames) es
+        (λ e. added_over_map meant sealed e.frames)
+        ∙ added_emitted g es)) in
         let some = at.2 in
         let it = some_placed g (emitted es) (omega arith) in
         let f = it.1 in
         let lawful : IsLawfulFrame f = each_at IsLawfulFrame (emitted es) it.0 f (each_emitted es (sound q).lawful) it.2 in
         let most : IsBounded f = each_at IsBounded (emitted es) it.0 f (bounded q es (sound q).rise) it.2 in
         let tests = and_parts (is_frame bytes (sealed f)) (links.is_addressed (header_of (sealed f)) h)
-            (is_true (is_frame bytes (sealed f) && links.is_addressed (header_of (sealed f)) h) it.3) in
+        (is_true (is_frame bytes (sealed f) && links.is_addressed (header_of (sealed f)) h) it.3) in
         let bytes_are : sealed f ≡ bytes = same_bytes bytes (sealed f) tests.0 in
         record {
           frame = f;
@@ -231,14 +234,15 @@ module _ (unseal : FramesUnsealAgain) (c : Settings) (o : HubLog) (histories : �
       let at = split_at x (histories h) among in
       let room = (are.lawful h there).had_room at.0 at.1 x at.2 in
       let low : brings_last_number x.1 ≡ false =
-          (or_parts (is_used_up (closed_station c h (histories h)) at.0) (brings_last_number x.1) room).1 in
+      (or_parts (is_used_up (closed_station c h (histories h)) at.0) (brings_last_number x.1) room).1 in
       is_output h there frame x among is (ap brings_last_number (sym is) ∙ low)
 
   all_bring : (h : ℕ) → has_station c.specs h ≡ true → Each (BringsOutput (joined.entries_at c logs) h) (events_at logs h)
   all_bring h there =
       subst (Each (BringsOutput (joined.entries_at c logs) h)) (sym (are.events h))
       (events_of (histories h)
-      (each_of (λ (x : ℕ × StationEvent). BringsOutput (joined.entries_at c logs) h x.1) (histories h) (λ x among. brings h there x among x.1 refl)))
+      (each_of (λ (x : ℕ
+      × StationEvent). BringsOutput (joined.entries_at c logs) h x.1) (histories h) (λ x among. brings h there x among x.1 refl)))
     where
       events_of : (xs : List (ℕ × StationEvent)) → Each (λ (x : ℕ × StationEvent). BringsOutput (joined.entries_at c logs) h x.1) xs
           → Each (BringsOutput (joined.entries_at c logs) h) (map event_of xs)

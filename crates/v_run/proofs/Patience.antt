@@ -66,11 +66,14 @@ numbers_after : (interval rounds since now tick : ℕ) (b h : Bool) → now ≤ 
     → rounds * interval ≤ since + interval → since ≤ now
     → (((if b then 0 else rounds) + (if h then 1 else 0)) * interval ≤ (if b || h then tick else since) + interval)
     × ((if b || h then tick else since) ≤ tick)
-numbers_after interval rounds since now tick true true later due few low = (omega (arith, add-mul 0 1 interval, zero-mul interval, one-mul interval), omega arith)
-numbers_after interval rounds since now tick true false later due few low = (omega (arith, add-mul 0 0 interval, zero-mul interval), omega arith)
+numbers_after interval rounds since now tick true true later due few low =
+    (omega (arith, add-mul 0 1 interval, zero-mul interval, one-mul interval), omega arith)
+numbers_after interval rounds since now tick true false later due few low =
+    (omega (arith, add-mul 0 0 interval, zero-mul interval), omega arith)
 numbers_after interval rounds since now tick false true later due few low =
     let is = due refl refl in (omega (arith, add-mul rounds 1 interval, one-mul interval), omega arith)
-numbers_after interval rounds since now tick false false later due few low = (omega (arith, add-mul rounds 0 interval, zero-mul interval), omega arith)
+numbers_after interval rounds since now tick false false later due few low =
+    (omega (arith, add-mul rounds 0 interval, zero-mul interval), omega arith)
 
 module _ (c : Settings) (host : ℕ) (r : Reading) (pid : Pid) where
   base_of : (e : Entry) → begins pid e ≡ true → is_base r.view pid e (r.work pid) ≡ true
@@ -107,14 +110,15 @@ module _ (c : Settings) (host : ℕ) (r : Reading) (pid : Pid) where
       let a = answer_to c host r (Called q call) in
       let after = next r.view (steps.Call q call) in
       let it = any_shows (is_of_round pid) ((is_begun a ≡ true) × (same_pid q pid ≡ true)) (packets_of r.view after r.slots q call a)
-          (each_weaker (OfCall after q pid 0 (is_begun a)) _ _ (call_packets r.view after r.slots q call a pid 0)
-              (λ p x is. of_call q after (is_begun a) p x is)) any in
+      (each_weaker (OfCall after q pid 0 (is_begun a)) _ _ (call_packets r.view after r.slots q call a pid 0)
+      (λ p x is. of_call q after (is_begun a) p x is)) any in
       absurd (contradicts _ no_base (base_of (E (Called q call)) (begins_so q a it)))
   due_round (Collected q) no_base any = absurd (cc any)
   due_round Ticked no_base any =
       let it = any_shows (is_of_round pid) ((is_due c.times (r.now + 1) (r.work pid) && not (is_unanswered c.times (r.work pid))) ≡ true)
-          (flat_map (sent_again c.times (r.now + 1) r) (own_pids c host))
-          (each_weaker (OfTick c.times (r.now + 1) r pid 0) _ _ (tick_packets c.times (r.now + 1) r (own_pids c host) pid 0) (λ p x. x.of)) any in
+      (flat_map (sent_again c.times (r.now + 1) r) (own_pids c host))
+      (each_weaker (OfTick c.times (r.now + 1) r pid 0) _ _ (tick_packets c.times (r.now + 1) r (own_pids c host) pid 0) (λ p x.
+      x.of)) any in
       let parts = and_parts (is_due c.times (r.now + 1) (r.work pid)) (not (is_unanswered c.times (r.work pid))) it in
       eqb-true (r.now + 1) ((r.work pid).since + c.times.interval) parts.0
   due_round (Delivered u) no_base any =
@@ -136,7 +140,8 @@ module _ (c : Settings) (host : ℕ) (r : Reading) (pid : Pid) where
       (λ no_base has. due_round i no_base (sym (round_is c host r i pid) ∙ has)) patient.0 patient.1
 
 -- no work is unanswered so early
-early_by : (t : Times) (now : ℕ) (w : Work) → IsPatient t now w → now + 1 < t.tries * t.interval → (is_due t (now + 1) w && is_unanswered t w) ≡ true → ⊥
+early_by : (t : Times) (now : ℕ) (w : Work) → IsPatient t now w → now + 1 < t.tries * t.interval
+    → (is_due t (now + 1) w && is_unanswered t w) ≡ true → ⊥
 early_by t now w patient early both =
     let parts = and_parts (is_due t (now + 1) w) (is_unanswered t w) both in
     let due : now + 1 ≡ w.since + t.interval = eqb-true (now + 1) (w.since + t.interval) parts.0 in
@@ -157,8 +162,9 @@ none_failed : (c : Settings) (r : Reading) (pids : List Pid) → ((pid : Pid) �
 none_failed c r [] patient early = refl
 none_failed c r (pid ∷ pids) patient early =
     let no_fail : failed c.times (r.now + 1) r pid ≡ None =
-        ap (λ b. only_if b (failing_step r.view pid))
-        (not_both (is_due c.times (r.now + 1) (r.work pid) && is_unanswered c.times (r.work pid)) (early_by c.times r.now (r.work pid) (patient pid) early)) in
+    ap (λ b. only_if b (failing_step r.view pid))
+    (not_both (is_due c.times (r.now + 1) (r.work pid) && is_unanswered c.times (r.work pid)) (early_by c.times r.now (r.work pid)
+    (patient pid) early)) in
     filter_none (failed c.times (r.now + 1) r) pid pids no_fail ∙ none_failed c r pids patient early
   where
     filter_none : (f : Pid → Option Step) (x : Pid) (xs : List Pid) → f x ≡ None → filter_map f (x ∷ xs) ≡ filter_map f xs
@@ -200,11 +206,13 @@ now_is c host [] built = refl
 now_is c host (e ∷ es) built =
     let rest = now_is c host es built.1 in
     let one : e.tick ≡ cond (is_tick e.input) 1 0 + (reading c host es).now =
-        subst (λ (x : Entry). x.tick ≡ cond (is_tick x.input) 1 0 + (reading c host es).now) (sym built.0.1) (tick_more c host (reading c host es) built.0.0) in
+    subst (λ (x : Entry). x.tick
+    ≡ cond (is_tick x.input) 1 0 + (reading c host es).now) (sym built.0.1) (tick_more c host (reading c host es) built.0.0) in
     omega arith
 
 -- Where a station ticks less often than a work has patience for, no tick lists a step.
-early_entry : (c : Settings) (host : ℕ) (es : List Entry) → IsBuilt c host es → ticks_in es + 1 < c.times.tries * c.times.interval → (i : Input)
+early_entry : (c : Settings) (host : ℕ) (es : List Entry) → IsBuilt c host es → ticks_in es + 1 < c.times.tries * c.times.interval
+    → (i : Input)
     → is_tick i ≡ true → (entry_of c host es i).steps ≡ []
 early_entry c host es built early (Called q call) tick = absurd (cc tick)
 early_entry c host es built early (Collected q) tick = absurd (cc tick)
@@ -215,7 +223,8 @@ early_entry c host es built early (Delivered u) tick = absurd (cc tick)
 
 ticks_parts : (c : Settings) (host : ℕ) (e : Entry) (es : List Entry) (i : Input) → e ≡ entry_of c host es i → is_tick e.input ≡ true
     → ticks_in (e ∷ es) ≡ ticks_in es + 1
-ticks_parts c host e es i is tick = let one : ◌≡◌ {A = ℕ} (cond (is_tick e.input) 1 0) 1 = ap (λ (b : Bool). cond {A = ℕ} b 1 0) tick in omega arith
+ticks_parts c host e es i is tick = let one : ◌≡◌ {A = ℕ} (cond (is_tick e.input) 1 0) 1 = ap (λ (b : Bool). cond {A = ℕ} b 1 0) tick in
+    omega arith
 
 input_of_entry : (c : Settings) (host : ℕ) (es : List Entry) (i : Input) → (entry_of c host es i).input ≡ i
 unfolding right_entry
@@ -230,7 +239,8 @@ one_early c host e es built early tick =
     ap (λ (x : Entry). x.steps) built.0.1
     ∙ early_entry c host es built.1 (omega arith) i (ap is_tick (sym input) ∙ tick)
 
-pub no_tick_ends : (c : Settings) (host : ℕ) (es : List Entry) → IsBuilt c host es → ticks_in es < c.times.tries * c.times.interval → NoTickEnds es
+pub no_tick_ends : (c : Settings) (host : ℕ) (es : List Entry) → IsBuilt c host es → ticks_in es < c.times.tries * c.times.interval
+    → NoTickEnds es
 no_tick_ends c host [] built early = tt
 no_tick_ends c host (e ∷ es) built early =
     (one_early c host e es built early, no_tick_ends c host es built.1 (omega arith))
@@ -241,7 +251,7 @@ built_more : (o : StationHistory) (acc xs : List (ℕ × StationEvent)) → IsBu
 built_more o acc [] built = subst (λ l. IsBuilt o.config o.host (entries_at o l)) (sym (append-nil acc)) built
 built_more o acc (x ∷ xs) built =
     let next : IsBuilt o.config o.host (entries_at o (acc ++ x ∷ [])) =
-        subst (IsBuilt o.config o.host) (sym (entries_more o acc x)) ((input_of x.1, refl), built) in
+    subst (IsBuilt o.config o.host) (sym (entries_more o acc x)) ((input_of x.1, refl), built) in
     subst (λ l. IsBuilt o.config o.host (entries_at o l)) (append_assoc acc (x ∷ []) xs) (built_more o (acc ++ x ∷ []) xs next)
 
 pub built_at : (c : Settings) (host : ℕ) (history : List (ℕ × StationEvent)) → IsBuilt c host (entries_at (fresh_station c host) history)

@@ -90,7 +90,8 @@ module _ (task : List Answer → Option Call) (r : Pid) (same : same_pid r r ≡
   cond_not true xs ys is = absurd (cc is)
   cond_not false xs ys is = refl
 
-  called_own : (calls : List Call) (answers : List Answer) (e : StationEvent) → IsTurn calls answers e → called_by r (input_of e) ≡ call_in e
+  called_own : (calls : List Call) (answers : List Answer) (e : StationEvent) → IsTurn calls answers e
+      → called_by r (input_of e) ≡ call_in e
   called_own calls answers (events.Call pid c) turn = cond_is (same_pid pid r) (c ∷ []) [] (pid_test pid turn.0)
   called_own calls answers (events.Collect pid) turn = refl
   called_own calls answers events.Tick turn = refl
@@ -168,32 +169,40 @@ module _ (task : List Answer → Option Call) (r : Pid) (same : same_pid r r ≡
       where
         more : List (ℕ × StationEvent)
         more = acc ++ x ∷ []
+
         rest : List (Place StationEvent)
         rest = places n (acc ++ x ∷ []) xs
+
         Last : List (ℕ × StationEvent) × List Call × List Answer → Type 0
         Last y = Stands y.0 y.1 y.2
+
         own_now : IsTurn calls answers x.1 → Stands (acc ++ x ∷ []) (calls ++ call_in x.1) (answers ++ answer_in o acc x.1)
         own_now turn =
             let here : IsTurn (Calls acc) (Answers acc) x.1 =
-                subst (λ (y : List Call × List Answer). IsTurn y.0 y.1 x.1) (λ i. (sym now.calls i, sym now.answers i)) turn in
+            subst (λ (y : List Call × List Answer). IsTurn y.0 y.1 x.1) (λ i. (sym now.calls i, sym now.answers i)) turn in
             record {
               follows = follows_more acc x now.follows (next_own (entries_at o acc) x.1 here);
-              calls = calls_more acc x ∙ (ap (λ l. l ++ called_by r (input_of x.1)) now.calls ∙ ap (λ l. calls ++ l) (called_own calls answers x.1 turn));
+              calls = calls_more acc x ∙ (ap (λ l. l ++ called_by r (input_of x.1)) now.calls
+                  ∙ ap (λ l. calls ++ l) (called_own calls answers x.1 turn));
               answers = answers_more acc x
                   ∙ (ap (λ l. l ++ told_to r (input_of x.1) (entry_at o acc x.1).answer) now.answers
                   ∙ ap (λ l. answers ++ l) (told_own calls answers acc x.1 turn));
             }
+
         other_now : is_doing_of r (input_of x.1) ≡ false → Stands (acc ++ x ∷ []) calls answers
         other_now none = record {
           follows = follows_more acc x now.follows (next_other (entries_at o acc) (input_of x.1) none);
           calls = calls_more acc x ∙ (ap (λ l. Calls acc ++ l) (called_other (input_of x.1) none) ∙ (append-nil (Calls acc) ∙ now.calls));
           answers = answers_more acc x
-              ∙ (ap (λ l. Answers acc ++ l) (told_other (input_of x.1) (entry_at o acc x.1).answer none) ∙ (append-nil (Answers acc) ∙ now.answers));
+              ∙ (ap (λ l. Answers acc ++ l) (told_other (input_of x.1) (entry_at o acc x.1).answer none)
+              ∙ (append-nil (Answers acc) ∙ now.answers));
         }
+
         by : (b : Bool) → (x.0 == n) ≡ b → PlaysAt calls answers (cond b ((acc, x.1) ∷ rest) rest)
             → ((cs : List Call) (acts : List Answer) → Stands (acc ++ x ∷ []) cs acts → PlaysAt cs acts rest → NotOthers n xs
-                → Stands ((acc ++ x ∷ []) ++ xs) (cs ++ calls_at rest) (acts ++ answers_at rest))
-            → Stands (acc ++ (x ∷ xs)) (calls ++ calls_at (cond b ((acc, x.1) ∷ rest) rest)) (answers ++ answers_at (cond b ((acc, x.1) ∷ rest) rest))
+            → Stands ((acc ++ x ∷ []) ++ xs) (cs ++ calls_at rest) (acts ++ answers_at rest))
+            → Stands (acc ++ (x ∷ xs)) (calls ++ calls_at (cond b ((acc, x.1) ∷ rest) rest)) (answers ++ answers_at (cond b ((acc, x.1)
+            ∷ rest) rest))
         by true is plays goes =
             let it = goes (calls ++ call_in x.1) (answers ++ answer_in o acc x.1) (own_now plays.0) plays.1 others.1 in
             subst Last (λ i. (
@@ -206,7 +215,8 @@ module _ (task : List Answer → Option Call) (r : Pid) (same : same_pid r r ≡
             subst Last (λ i. (append_assoc acc (x ∷ []) xs i, calls ++ calls_at rest, answers ++ answers_at rest)) it
 
   -- the whole history
-  pub whole : (n : ℕ) (acts : List Action) (history : List (ℕ × StationEvent)) → Plays task r o [] [] acts → places n [] history ≡ entered_places acts
+  pub whole : (n : ℕ) (acts : List Action) (history : List (ℕ × StationEvent)) → Plays task r o [] [] acts
+      → places n [] history ≡ entered_places acts
       → NotOthers n history → Stands history (calls_by acts) (answers_by o acts)
   whole n acts history plays placed others =
       let none : Stands [] [] [] = record { follows = tt; calls = refl; answers = refl } in

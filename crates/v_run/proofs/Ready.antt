@@ -1,4 +1,4 @@
--- Each entry of a station was ready and had room where it was made.
+-- Each entry of a station was ready where it was made: each collect came in time.
 use Rattle.std.proofs.Common.{◌≡◌, ℕ, ◌==◌, ◌&&◌, not, eqb-true, Bool, true, false, List, [], ◌∷◌, ◌++◌, cond, refl, sym, ap, ◌∙◌, subst, arith, append_assoc, append-nil}
 use Rattle.vk_base.specs.declared.event.StationEvent.{StationEvent}
 use Rattle.vk_base.specs.declared.event.StationEvent.TheVariants as events
@@ -22,7 +22,8 @@ use Rattle.v_run.proofs.Entries.{entries_more, input_is}
 -- weights that are nothing where the entry was the station's own, ready, and had room
 module _ (w : List (ℕ × StationEvent) → StationEvent → ℕ) where
   abbrev pub IsLight : StationHistory → Type 0
-  IsLight o = (before : List (ℕ × StationEvent)) (e : StationEvent) → is_own o e ≡ true → is_ready o before e ≡ true → is_full o before e ≡ false
+  IsLight o = (before : List (ℕ × StationEvent)) (e : StationEvent) → is_own o e ≡ true → is_ready o before e ≡ true
+      → is_full o before e ≡ false
       → w before e ≡ 0
 
   light_log : (b : Berth) → IsLight b.station → (acts : List Action) (s t : Stand) → IsLog b s acts t → weight w (entered_places acts) ≡ 0
@@ -73,22 +74,17 @@ in_time_one o before (events.Collect pid) none = allowed_by _ none
 in_time_one o before events.Tick none = tt
 in_time_one o before (events.Deliver f) none = tt
 
-in_time_all : (o : StationHistory) (acc xs : List (ℕ × StationEvent)) → total (early o) acc xs ≡ 0 → ComeInTime o.config o.host (entries_at o acc)
+in_time_all : (o : StationHistory) (acc xs : List (ℕ × StationEvent)) → total (early o) acc xs ≡ 0
+    → ComeInTime o.config o.host (entries_at o acc)
     → ComeInTime o.config o.host (entries_at o (acc ++ xs))
 in_time_all o acc [] none so = subst (λ l. ComeInTime o.config o.host (entries_at o l)) (sym (append-nil acc)) so
 in_time_all o acc (x ∷ xs) none so =
     let one = in_time_one o acc x.1 (omega arith) in
     let next : ComeInTime o.config o.host (entries_at o (acc ++ x ∷ [])) =
-        subst (ComeInTime o.config o.host) (sym (entries_more o acc x))
-        (subst (IsInTime o.config o.host (entries_at o acc)) (sym (input_is o acc x.1)) one, so) in
-    subst (λ l. ComeInTime o.config o.host (entries_at o l)) (append_assoc acc (x ∷ []) xs) (in_time_all o (acc ++ x ∷ []) xs (omega arith) next)
-
--- Fullness. No entry was made where the history had no room.
-abbrev crowded : StationHistory → List (ℕ × StationEvent) → StationEvent → ℕ
-crowded o before e = cond (is_full o before e) 1 0
-
-crowded_none : (o : StationHistory) → IsLight (crowded o) o
-crowded_none o before e own ready room = ap (λ (b : Bool). cond {A = ℕ} b 1 0) room
+    subst (ComeInTime o.config o.host) (sym (entries_more o acc x))
+    (subst (IsInTime o.config o.host (entries_at o acc)) (sym (input_is o acc x.1)) one, so) in
+    subst (λ l. ComeInTime o.config o.host (entries_at o l)) (append_assoc acc (x ∷ []) xs) (in_time_all o (acc ++ x ∷ []) xs (omega
+    arith) next)
 
 module _ (c : Settings) (o : HubLog) (histories : ℕ → List (ℕ × StationEvent)) (heard : List (ℕ × HubEvent)) (gs : List Passage)
     (k : AreClosed c o histories heard gs) (h : ℕ) (there : has_station c.specs h ≡ true) where
@@ -97,22 +93,20 @@ module _ (c : Settings) (o : HubLog) (histories : ℕ → List (ℕ × StationEv
       → total (w (fresh_station c h)) [] (histories h) ≡ 0
   light_here w light =
       at_station c o histories heard gs k (w (fresh_station c h)) h there
-      ∙ (added_same_each (IsDone c o histories heard) (λ g. cond (host_of g == h) (weight (w (fresh_station c h)) (entered_places g.actions)) 0) (λ g. 0)
-          gs (λ g d. by g d (host_of g == h) refl) (all_done c o histories heard gs k)
+      ∙ (added_same_each (IsDone c o histories heard) (λ g. cond (host_of g == h) (weight (w (fresh_station c h)) (entered_places
+      g.actions)) 0) (λ g. 0)
+      gs (λ g d. by g d (host_of g == h) refl) (all_done c o histories heard gs k)
       ∙ added_none (λ (g : Passage). 0) gs (λ g. refl))
     where
       by : (g : Passage) → IsDone c o histories heard g → (b : Bool) → (host_of g == h) ≡ b
           → cond b (weight (w (fresh_station c h)) (entered_places g.actions)) 0 ≡ 0
       by g d true is =
           let here : g.berth.station ≡ fresh_station c h =
-              d.0.station ∙ ap (fresh_station c) (eqb-true (host_of g) h is) in
-          light_log (w (fresh_station c h)) g.berth (subst (IsLight (w (fresh_station c h))) (sym here) (light (fresh_station c h))) g.actions nowhere
+          d.0.station ∙ ap (fresh_station c) (eqb-true (host_of g) h is) in
+          light_log (w (fresh_station c h)) g.berth (subst (IsLight (w (fresh_station c h))) (sym here) (light (fresh_station c h)))
+          g.actions nowhere
           g.left d.0.log
       by g d false is = refl
 
   pub in_time : ComeInTime c h (entries_at (fresh_station c h) (histories h))
   in_time = in_time_all (fresh_station c h) [] (histories h) (light_here early early_none) tt
-
-  -- each entry had room
-  pub had_room : total (λ before e. cond (is_full (fresh_station c h) before e) 1 0) [] (histories h) ≡ 0
-  had_room = light_here crowded crowded_none

@@ -43,18 +43,15 @@ use Rattle.v_run.proofs.Seldom.{each_station, posted_most}
 use Rattle.v_run.proofs.Unique.{added_over_map}
 
 -- A history that is used up stays so.
-bytes_grow : (o : StationHistory) (xs ys : List (ℕ × StationEvent)) → emitted_bytes (entries_at o xs) ≤ emitted_bytes (entries_at o (xs ++ ys))
+bytes_grow : (o : StationHistory) (xs ys : List (ℕ × StationEvent))
+    → emitted_bytes (entries_at o xs) ≤ emitted_bytes (entries_at o (xs ++ ys))
 bytes_grow o xs [] = subst (λ l. emitted_bytes (entries_at o xs) ≤ emitted_bytes (entries_at o l)) (sym (append-nil xs)) (omega arith)
 bytes_grow o xs (y ∷ ys) =
     let more = xs ++ y ∷ [] in
     let rest = bytes_grow o more ys in
     let one : emitted_bytes (entries_at o more) ≡ bytes_of (entry_at o xs y.1) + emitted_bytes (entries_at o xs) =
-        ap emitted_bytes (entries_more o xs y) ∙ sum_by-cons bytes_of (entry_at o xs y.1) (entries_at o xs) in
+    ap emitted_bytes (entries_more o xs y) ∙ sum_by-cons bytes_of (entry_at o xs y.1) (entries_at o xs) in
     subst (λ l. emitted_bytes (entries_at o xs) ≤ emitted_bytes (entries_at o l)) (append_assoc xs (y ∷ []) ys) (omega arith)
-
-used_by : (a b : Bool) (m n : ℕ) → (a ≡ true → m ≡ n) → a || b ≡ true → (a ≡ true) ⊎ (b ≡ true)
-used_by true b m n same used = inl refl
-used_by false b m n same used = inr used
 
 or_by : (a b : Bool) → (a || b) ≡ true → (a ≡ true) ⊎ (b ≡ true)
 or_by true b used = inl refl
@@ -83,7 +80,8 @@ used_more_by entries bytes more_entries more_bytes stations le less used = by (o
     by (inl is) = left_or _ _ (le_more (EVENTS / stations) entries more_entries le is)
     by (inr is) = right_or _ _ (lt_more (EMITTED_BYTES / stations - EVENT_BYTES) bytes more_bytes less is)
 
-entries_size : (o : StationHistory) (acc xs : List (ℕ × StationEvent)) → length (entries_at o (acc ++ xs)) ≡ length (entries_at o acc) + length xs
+entries_size : (o : StationHistory) (acc xs : List (ℕ × StationEvent))
+    → length (entries_at o (acc ++ xs)) ≡ length (entries_at o acc) + length xs
 entries_size o acc [] = ap (λ l. length (entries_at o l)) (append-nil acc) ∙ plus (length (entries_at o acc))
   where
     plus : (n : ℕ) → n ≡ n + 0
@@ -93,7 +91,7 @@ entries_size o acc (x ∷ xs) =
     let rest = entries_size o more xs in
     let one : length (entries_at o more) ≡ suc (length (entries_at o acc)) = ap length (entries_more o acc x) in
     let whole : length (entries_at o (more ++ xs)) ≡ length (entries_at o (acc ++ (x ∷ xs))) =
-        ap (λ l. length (entries_at o l)) (append_assoc acc (x ∷ []) xs) in
+    ap (λ l. length (entries_at o l)) (append_assoc acc (x ∷ []) xs) in
     omega arith
 
 used_more : (o : StationHistory) (xs history : List (ℕ × StationEvent)) → IsPrefix xs history → is_used_up o xs ≡ true
@@ -102,7 +100,7 @@ used_more o xs history pre used =
     let size = entries_size o [] history in
     let whole : length (xs ++ pre.0) ≡ length history = ap length pre.1 in
     let bytes : emitted_bytes (entries_at o xs) ≤ emitted_bytes (entries_at o history) =
-        subst (λ l. emitted_bytes (entries_at o xs) ≤ emitted_bytes (entries_at o l)) pre.1 (bytes_grow o xs pre.0) in
+    subst (λ l. emitted_bytes (entries_at o xs) ≤ emitted_bytes (entries_at o l)) pre.1 (bytes_grow o xs pre.0) in
     used_more_by (length xs) (emitted_bytes (entries_at o xs)) (length (entries_at o history)) (emitted_bytes (entries_at o history))
     (length (stations_of o.config.specs)) (let n = length-append xs pre.0 in omega arith) bytes used
 
@@ -120,7 +118,8 @@ opened_number None h is = absurd (cc is)
 opened_number (Some x) h is =
     behind_number x.0 (packet_of x.1) ∙ ap (λ (y : Header). y.number) (same_Some x.0 h is)
 
-not_last : (f : rules.Frame) (n : ℕ) → header_of (sealed f) ≡ Some f.header → f.header.number ≡ n → n < LAST_NUMBER → last_number (sealed f) ≡ false
+not_last : (f : rules.Frame) (n : ℕ) → header_of (sealed f) ≡ Some f.header → f.header.number ≡ n → n < LAST_NUMBER
+    → last_number (sealed f) ≡ false
 not_last f n opens is low =
     let same : rules.number_in (rules.unsealed_of (sealed f)) ≡ n = opened_number (frame_of (sealed f)) f.header opens ∙ is in
     grind (arith, nat_tests, same, low)
@@ -138,7 +137,7 @@ module _ (to : ℕ) where
   frames_none host stamp number event output [] have opens low = refl
   frames_none host stamp number event output (f ∷ fs) have opens low =
       let one = meant_none (last_number (sealed f)) (is_addressed (header_of (sealed f)) to)
-          (not_last f number opens.0 (ap (λ (h : Header). h.number) have.0) low) in
+      (not_last f number opens.0 (ap (λ (h : Header). h.number) have.0) low) in
       let rest = frames_none host stamp number event (output + 1) fs have.1 opens.1 low in
       omega arith
 
@@ -152,16 +151,19 @@ module _ (to : ℕ) where
       omega arith
 
 -- what was refused was fetched
-dropped_weight : (test : Frame → Bool) (f : Frame) → test f ≡ true → (b : Berth) (acts : List Action) (s t : Stand) → IsLog b s acts t → HasDropped f acts
+dropped_weight : (test : Frame → Bool) (f : Frame) → test f ≡ true → (b : Berth) (acts : List Action) (s t : Stand) → IsLog b s acts t
+    → HasDropped f acts
     → 1 ≤ weight (λ before e. gets test b.host b.hub.programs (traffic_of b.hub before) e) (fetched_places b.host acts)
 dropped_weight test f is b [] s t log has = absurd has
-dropped_weight test f is b (Enters before e posted ∷ acts) s t log has = dropped_weight test f is b acts (entered_at b s before e posted) t log.1 has
+dropped_weight test f is b (Enters before e posted ∷ acts) s t log has =
+    dropped_weight test f is b acts (entered_at b s before e posted) t log.1 has
 dropped_weight test f is b (Delivers heard frame before posted ∷ acts) s t log has =
-    let rest = dropped_weight test f is b acts (entered_at b (fetched_at b s heard) before (events.Deliver frame) posted) t log.1 has in omega arith
+    let rest = dropped_weight test f is b acts (entered_at b (fetched_at b s heard) before (events.Deliver frame) posted) t log.1 has in
+    omega arith
 dropped_weight test f is b (Drops heard frame ∷ acts) s t log (inl same) =
     let one = got test b heard _ log.0.answered in
     let hit : ◌≡◌ {A = ℕ} (cond (test frame) 1 0) 1 =
-        ap (λ (x : Frame). cond {A = ℕ} (test x) 1 0) same ∙ ap (λ (x : Bool). cond {A = ℕ} x 1 0) is in
+    ap (λ (x : Frame). cond {A = ℕ} (test x) 1 0) same ∙ ap (λ (x : Bool). cond {A = ℕ} x 1 0) is in
     omega arith
 dropped_weight test f is b (Drops heard frame ∷ acts) s t log (inr has) =
     let rest = dropped_weight test f is b acts (fetched_at b s heard) t log.1 has in omega arith
@@ -177,20 +179,23 @@ module _ (c : Settings) (o : HubLog) (histories : ℕ → List (ℕ × StationEv
     (k : AreClosed c o histories heard gs)
     (rises : (q : ℕ) → has_station c.specs q ≡ true → AllRise q (entries_at (fresh_station c q) (histories q)))
     (opens : (q : ℕ) → has_station c.specs q ≡ true → AreOpen (entries_at (fresh_station c q) (histories q)))
-    (low : (q : ℕ) → has_station c.specs q ≡ true → Each (λ (e : Entry). e.number < LAST_NUMBER) (entries_at (fresh_station c q) (histories q))) where
+    (low : (q : ℕ) → has_station c.specs q ≡ true
+    → Each (λ (e : Entry). e.number < LAST_NUMBER) (entries_at (fresh_station c q) (histories q))) where
   abbrev logs : ℕ → List Entry
   logs q = entries_at (fresh_station c q) (histories q)
 
   no_last_posts : (to : ℕ) → all_posts last_number to heard ≡ 0
   no_last_posts to =
       let few = posted_most c o histories heard gs k last_number to in
-      let each : added (λ q. total (λ before e. added (meant to) (frames_at (fresh_station c q) before e)) [] (histories q)) (stations_of c.specs)
-          ≡ added (λ q. 0) (stations_of c.specs) =
-          added_same_each (λ q. has_station c.specs q ≡ true)
-          (λ q. total (λ before e. added (meant to) (frames_at (fresh_station c q) before e)) [] (histories q)) (λ q. 0) (stations_of c.specs)
-          (λ q there. by_entries c q (histories q) (λ (e : Entry). added (meant to) (map sealed e.frames))
-              ∙ entries_none to q (logs q) (rises q there) (opens q there) (low q there))
-          (each_station (λ q. has_station c.specs q ≡ true) c (λ q is. is)) in
+      let each : added (λ q. total (λ before e. added (meant to) (frames_at (fresh_station c q) before e)) [] (histories q))
+      (stations_of c.specs)
+      ≡ added (λ q. 0) (stations_of c.specs) =
+      added_same_each (λ q. has_station c.specs q ≡ true)
+      (λ q. total (λ before e. added (meant to) (frames_at (fresh_station c q) before e)) [] (histories q)) (λ q. 0) (stations_of
+      c.specs)
+      (λ q there. by_entries c q (histories q) (λ (e : Entry). added (meant to) (map sealed e.frames))
+      ∙ entries_none to q (logs q) (rises q there) (opens q there) (low q there))
+      (each_station (λ q. has_station c.specs q ≡ true) c (λ q is. is)) in
       let none = added_none (λ (q : ℕ). 0) (stations_of c.specs) (λ q. refl) in
       omega arith
 
@@ -205,9 +210,11 @@ module _ (c : Settings) (o : HubLog) (histories : ℕ → List (ℕ × StationEv
   not_dropped g among f has is =
       let d = of_each (IsDone c o histories heard) gs g (all_done c o histories heard gs k) among in
       let w : List (ℕ × HubEvent) → HubEvent → ℕ = λ before e. gets last_number (host_of g) o.programs (traffic_of o before) e in
-      let P : HubLog → Type 0 = λ x. 1 ≤ weight (λ before e. gets last_number (host_of g) x.programs (traffic_of x before) e) (fetched_places (host_of g) g.actions) in
+      let P : HubLog → Type 0 =
+      λ x. 1 ≤ weight (λ before e. gets last_number (host_of g) x.programs (traffic_of x before) e) (fetched_places (host_of g)
+      g.actions) in
       let one : 1 ≤ weight w (fetched_places (host_of g) g.actions) =
-          subst P d.0.hub (dropped_weight last_number f is g.berth g.actions nowhere g.left d.0.log has) in
+      subst P d.0.hub (dropped_weight last_number f is g.berth g.actions nowhere g.left d.0.log has) in
       let all = at_least (λ (x : Passage). weight w (fetched_places (host_of x) x.actions)) gs g among in
       let sum = fetches_at_hub c o histories heard gs k w (gets_of_fetches o last_number (host_of g)) in
       let are = gets_are o last_number (host_of g) [] heard in
@@ -215,20 +222,26 @@ module _ (c : Settings) (o : HubLog) (histories : ℕ → List (ℕ × StationEv
       omega arith
 
   -- what a passage met is the reason
-  pub reason : (js : List JobEnd) → gs ≡ passages_of js → Each (IsJobEnd c) js → 3 * length js ≤ 2000 → (g : Passage) → Among g gs → MetFull c g
+  pub reason : (js : List JobEnd) → gs ≡ passages_of js → Each (IsJobEnd c) js → 3 * length js ≤ 2000 → (g : Passage) → Among g gs
+      → MetFull c g
       → HasUsedUp c logs ⊎ AreBusy c logs
   reason js whole ends few g among (inl used) =
       let d = of_each (IsDone c o histories heard) gs g (all_done c o histories heard gs k) among in
-      inl (host_of g, of_each _ gs g k.stations among, used_more (fresh_station c (host_of g)) g.left.seen (histories (host_of g)) d.1.seen used)
+      inl (
+        host_of g,
+        of_each _ gs g k.stations among,
+        used_more (fresh_station c (host_of g)) g.left.seen (histories (host_of g))
+            d.1.seen used,
+      )
   reason js whole ends few g among (inr (inl dropped)) = absurd (not_dropped g among dropped.0 dropped.1 dropped.2)
   reason js whole ends few g among (inr (inr full)) =
       let d = of_each (IsDone c o histories heard) gs g (all_done c o histories heard gs k) among in
       let more = others_prefix g.left.heard heard d.1.heard in
       let most = others_most c o histories heard gs k in
       let lost : added (λ (x : Passage). lost_count x.actions) gs ≡ added (λ (x : Passage). lost_count x.actions) (passages_of js) =
-          ap (added (λ (x : Passage). lost_count x.actions)) whole in
+      ap (added (λ (x : Passage). lost_count x.actions)) whole in
       let lasts : added (λ (x : Passage). length x.last) gs ≡ added (λ (x : Passage). length x.last) (passages_of js) =
-          ap (added (λ (x : Passage). length x.last)) whole in
+      ap (added (λ (x : Passage). length x.last)) whole in
       let losses = few_losses c js ends in
       let last = few_lasts c js ends in
       inr (omega arith)

@@ -16,7 +16,8 @@ own_next task r calls answers (events.Collect pid) next = tt
 own_next task r calls answers events.Tick next = absurd next
 own_next task r calls answers (events.Deliver f) next = absurd next
 
-own_plays : (task : List Answer → Option Call) (r : Pid) (o : StationHistory) (calls : List Call) (answers : List Answer) (acts : List Action)
+own_plays : (task : List Answer
+    → Option Call) (r : Pid) (o : StationHistory) (calls : List Call) (answers : List Answer) (acts : List Action)
     → Plays task r o calls answers acts → EntersOwn acts
 own_plays task r o calls answers [] plays = tt
 own_plays task r o calls answers (Enters before e posted ∷ acts) plays =

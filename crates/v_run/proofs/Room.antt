@@ -41,7 +41,8 @@ HadBytes most [] = Unit {0}
 HadBytes most (e ∷ es) = (bytes_in es ≤ most) × HadBytes most es
 
 had_more : (o : StationHistory) (most : ℕ) (acc xs : List (ℕ × StationEvent))
-    → ((before rest : List (ℕ × StationEvent)) (x : ℕ × StationEvent) → acc ++ xs ≡ before ++ x ∷ rest → emitted_bytes (entries_at o before) ≤ most)
+    → ((before rest : List (ℕ × StationEvent)) (x : ℕ × StationEvent) → acc ++ xs ≡ before ++ x ∷ rest
+    → emitted_bytes (entries_at o before) ≤ most)
     → HadBytes most (entries_at o acc) → HadBytes most (entries_at o (acc ++ xs))
 had_more o most acc [] room had = subst (λ l. HadBytes most (entries_at o l)) (sym (append-nil acc)) had
 had_more o most acc (x ∷ xs) room had =
@@ -64,7 +65,7 @@ pub had_bytes : (o : StationHistory) (history : List (ℕ × StationEvent)) → 
 had_bytes o history room =
     had_more o (share_of_bytes o.config - EVENT_BYTES) [] history
     (λ before rest x is. room_by (length before) (emitted_bytes (entries_at o before)) (length (stations_of o.config.specs))
-        (brings_last_number x.1) (room before rest x is)) tt
+    (brings_last_number x.1) (room before rest x is)) tt
 
 had_at : (most : ℕ) (later : List Entry) (e : Entry) (es : List Entry) → HadBytes most (later ++ e ∷ es) → bytes_in es ≤ most
 had_at most [] e es had = had.0
@@ -72,7 +73,6 @@ had_at most (x ∷ later) e es had = had_at most later e es had.1
 
 fewer_bytes : (later es : List Entry) → bytes_in es ≤ bytes_in (later ++ es)
 fewer_bytes later es = omega (arith, sum_by-append (λ (e : Entry). sum_by length (map sealed e.frames)) later es)
-
 
 -- Logs grow.
 after_grows : (logs : Logs) (x : Happened) (h : ℕ) → (l : List Entry) × (logs_after logs x h ≡ l ++ logs h)
@@ -148,7 +148,8 @@ shares f share (h ∷ hs) each =
     let rest = shares f share hs each.1 in
     omega (arith, sum_by-cons f h hs, add-mul 1 (length hs) share, one-mul share)
 
-one_less : (f : ℕ → ℕ) (share event g : ℕ) (hs : List ℕ) → list_any (λ k. k == g) hs ≡ true → Each (λ h. f h ≤ share) hs → f g + event ≤ share
+one_less : (f : ℕ → ℕ) (share event g : ℕ) (hs : List ℕ) → list_any (λ k. k == g) hs ≡ true → Each (λ h. f h ≤ share) hs
+    → f g + event ≤ share
     → sum_by f hs + event ≤ length hs * share
 one_less f share event g [] any each less = absurd (cc any)
 one_less f share event g (h ∷ hs) any each less = by (h == g) refl any (one_less f share event g hs)
@@ -203,7 +204,8 @@ module _ (law : BytesAreOfStations) (c : Settings) (lawful : refusal_of c.times 
         let one = acts c before e (there_cut c no_entries xs e ys (subst (λ l. Each IsThere (history_of c l)) is there)) in
         let rest = grows c (logs_after before (happened c before e)) ys h in
         let all : logs_of c es h ≡ rest.0 ++ one.0 ∷ before h = whole h ∙ (rest.1 ∙ ap (λ l. rest.0 ++ l) one.1) in
-        had_at (share_of_bytes c - EVENT_BYTES) rest.0 one.0 (before h) (subst (HadBytes (share_of_bytes c - EVENT_BYTES)) all (had h actor))
+        had_at (share_of_bytes c - EVENT_BYTES) rest.0 one.0 (before h) (subst (HadBytes (share_of_bytes c - EVENT_BYTES)) all (had h
+        actor))
 
     pub low_at : sum_by (λ h. bytes_in (before h)) (stations_of c.specs) ≤ LAST_BYTES
     low_at =
@@ -215,7 +217,7 @@ module _ (law : BytesAreOfStations) (c : Settings) (lawful : refusal_of c.times 
         let large : EVENT_BYTES ≤ share = (le-div_iff_mul-le some).1 (omega arith) in
         let free = room in
         let sum = one_less (λ h. bytes_in (before h)) share EVENT_BYTES (station_of e) hs any
-            (each_station (λ h. bytes_in (before h) ≤ share) c less) (omega arith) in
+        (each_station (λ h. bytes_in (before h) ≤ share) c less) (omega arith) in
         let all = mul-div-le EMITTED_BYTES (length hs) in
         omega arith
 

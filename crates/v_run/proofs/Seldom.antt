@@ -66,18 +66,19 @@ module _ (c : Settings) (o : HubLog) (histories : ℕ → List (ℕ × StationEv
         let same : host_of g ≡ h = eqb-true (host_of g) h is in
         let it = delivered_was_fetched test g.berth g.actions _ g.left d.0.log (own g d) in
         let P : ℕ × HubLog → Type 0 = λ x.
-            weight (λ before e. delivers test e) (entered_places g.actions)
-            ≤ weight (λ before e. gets test x.0 x.1.programs (traffic_of x.1 before) e) (fetched_places (host_of g) g.actions) in
+        weight (λ before e. delivers test e) (entered_places g.actions)
+        ≤ weight (λ before e. gets test x.0 x.1.programs (traffic_of x.1 before) e) (fetched_places (host_of g) g.actions) in
         subst P (λ i. (same i, d.0.hub i)) it
     taken_by g d false is = omega arith
 
-    taken_most : has_station c.specs h ≡ true → total (λ before e. delivers test e) [] (histories h) ≤ copies o.plan * all_posts test h heard
+    taken_most : has_station c.specs h ≡ true → total (λ before e. delivers test e) [] (histories h)
+        ≤ copies o.plan * all_posts test h heard
     taken_most there =
         let w : List (ℕ × HubEvent) → HubEvent → ℕ = λ before e. gets test h o.programs (traffic_of o before) e in
         let here = at_station c o histories heard gs k (λ before e. delivers test e) h there in
         let most = added_most_each D (λ g. cond (host_of g == h) (weight (λ before e. delivers test e) (entered_places g.actions)) 0)
-            (λ g. weight w (fetched_places (host_of g) g.actions)) gs (λ g d. taken_by g d (host_of g == h) refl)
-            (all_done c o histories heard gs k) in
+        (λ g. weight w (fetched_places (host_of g) g.actions)) gs (λ g d. taken_by g d (host_of g == h) refl)
+        (all_done c o histories heard gs k) in
         let hub = fetches_at_hub c o histories heard gs k w (gets_of_fetches o test h) in
         let all = gets_are o test h [] heard in
         let law = counted o heard test h in
@@ -120,17 +121,19 @@ module _ (c : Settings) (o : HubLog) (histories : ℕ → List (ℕ × StationEv
         let all = posts_are test h [] heard in
         let hub = events_at_hub c o histories heard gs k (counting.posts test h) in
         let most = added_most_each D
-            (λ g. added (counting.posts test h) (sends (fresh_station c (host_of g)) (host_of g) g.actions) + added (counting.posts test h) g.last)
-            (λ g. weight (made (host_of g)) (entered_places g.actions)) gs posted_by (all_done c o histories heard gs k) in
+        (λ g. added (counting.posts test h) (sends (fresh_station c (host_of g)) (host_of g) g.actions) + added (counting.posts test
+        h) g.last)
+        (λ g. weight (made (host_of g)) (entered_places g.actions)) gs posted_by (all_done c o histories heard gs k) in
         let parts = by_hosts host_of (λ g. weight (made (host_of g)) (entered_places g.actions)) (stations_of c.specs) gs
-            (all_once c gs k.stations) in
+        (all_once c gs k.stations) in
         let each = added_same_each (λ q. has_station c.specs q ≡ true)
-            (λ q. added (λ g. cond (host_of g == q) (weight (made (host_of g)) (entered_places g.actions)) 0) gs)
-            (λ q. total (made q) [] (histories q)) (stations_of c.specs) made_total (each_station _ c (λ q there. there)) in
+        (λ q. added (λ g. cond (host_of g == q) (weight (made (host_of g)) (entered_places g.actions)) 0) gs)
+        (λ q. total (made q) [] (histories q)) (stations_of c.specs) made_total (each_station _ c (λ q there. there)) in
         omega arith
 
     pub taken_was_made : has_station c.specs h ≡ true
-        → total (λ before e. delivers test e) [] (histories h) ≤ copies o.plan * added (λ q. total (made q) [] (histories q)) (stations_of c.specs)
+        → total (λ before e. delivers test e) [] (histories h)
+        ≤ copies o.plan * added (λ q. total (made q) [] (histories q)) (stations_of c.specs)
     taken_was_made there =
         times_most (o.plan.double == 0) (all_posts test h heard) (added (λ q. total (made q) [] (histories q)) (stations_of c.specs))
         (total (λ before e. delivers test e) [] (histories h)) posted_most (taken_most there)

@@ -2,11 +2,11 @@
 use Rattle.std.proofs.Common.{◌≡◌, ℕ, ◌==◌, List, [], ◌∷◌, cond, refl, sym, ◌∙◌, arith}
 use Rattle.v_run.proofs.Totals.{IsOnce, added, added_sum, added_none}
 
-pub added_swap : {A B : Type 0} (f : A → B → ℕ) (xs : List A) (ys : List B) → added (λ x. added (f x) ys) xs ≡ added (λ y. added (λ x. f x y) xs) ys
+pub added_swap : {A B : Type 0} (f : A → B → ℕ) (xs : List A) (ys : List B)
+    → added (λ x. added (f x) ys) xs ≡ added (λ y. added (λ x. f x y) xs) ys
 added_swap f [] ys = sym (added_none (λ y. 0) ys (λ y. refl))
 added_swap f (x ∷ xs) ys =
     let t = added_swap f xs ys in let s = added_sum (λ y. f x y) (λ y. added (λ z. f z y) xs) ys in omega arith
-
 
 abbrev pub AllStandOnce : {G : Type 0} → (G → ℕ) → List ℕ → List G → Type 0
 AllStandOnce host hs [] = Unit {0}

@@ -12,12 +12,14 @@ use Rattle.v_run.proofs.Dealt.{all_once}
 use Rattle.v_run.proofs.Heard.{IsNoFetch, IsOfFetches, fetched, sends, sent_is, weight_of_events}
 use Rattle.v_run.proofs.Logs.{entered_places, fetched_places, placed}
 
-pub added_same_each : {A : Type 0} (P : A → Type 0) (f g : A → ℕ) (xs : List A) → ((x : A) → P x → f x ≡ g x) → Each P xs → added f xs ≡ added g xs
+pub added_same_each : {A : Type 0} (P : A → Type 0) (f g : A → ℕ) (xs : List A) → ((x : A) → P x → f x ≡ g x) → Each P xs
+    → added f xs ≡ added g xs
 added_same_each P f g [] same each = refl
 added_same_each P f g (x ∷ xs) same each =
     let h = same x each.0 in let t = added_same_each P f g xs same each.1 in omega arith
 
-pub added_most_each : {A : Type 0} (P : A → Type 0) (f g : A → ℕ) (xs : List A) → ((x : A) → P x → f x ≤ g x) → Each P xs → added f xs ≤ added g xs
+pub added_most_each : {A : Type 0} (P : A → Type 0) (f g : A → ℕ) (xs : List A) → ((x : A) → P x → f x ≤ g x) → Each P xs
+    → added f xs ≤ added g xs
 added_most_each P f g [] same each = omega arith
 added_most_each P f g (x ∷ xs) same each =
     let h = same x each.0 in let t = added_most_each P f g xs same each.1 in omega arith
@@ -30,7 +32,8 @@ spread_by : (f : ℕ → ℕ) (b : Bool) (n : ℕ) (ns : List ℕ) → added f (
 spread_by f true n ns = refl
 spread_by f false n ns = omega arith
 
-pub added_at : (f : ℕ → ℕ) (h : ℕ) (gs : List Passage) → added f (numbers_at h gs) ≡ added (λ g. cond (host_of g == h) (f (number_of g)) 0) gs
+pub added_at : (f : ℕ → ℕ) (h : ℕ) (gs : List Passage) → added f (numbers_at h gs)
+    ≡ added (λ g. cond (host_of g == h) (f (number_of g)) 0) gs
 added_at f h [] = refl
 added_at f h (g ∷ gs) =
     spread_by f (host_of g == h) (number_of g) (numbers_at h gs) ∙ ap (λ n. cond (host_of g == h) (f (number_of g)) 0 + n) (added_at f h gs)
@@ -68,10 +71,11 @@ module _ (c : Settings) (o : HubLog) (histories : ℕ → List (ℕ × StationEv
 
   -- all that it sent
   pub sent_whole : (u : HubEvent → ℕ) (g : Passage) → IsDone g
-      → weight (λ before e. u e) (places (hub_number_of g) [] heard) ≡ added u (sends (fresh_station c (host_of g)) (host_of g) g.actions) + added u g.last
+      → weight (λ before e. u e) (places (hub_number_of g) [] heard)
+      ≡ added u (sends (fresh_station c (host_of g)) (host_of g) g.actions) + added u g.last
   sent_whole u g done =
       let sent : g.left.sent ≡ sends (fresh_station c (host_of g)) (host_of g) g.actions =
-          sent_is g.berth g.actions nowhere g.left done.0.log ∙ ap (λ s. sends s (host_of g) g.actions) done.0.station in
+      sent_is g.berth g.actions nowhere g.left done.0.log ∙ ap (λ s. sends s (host_of g) g.actions) done.0.station in
       weight_of_events u (hub_number_of g) heard ∙ (ap (added u) (done.1.sent ∙ ap (λ l. l ++ g.last) sent)
       ∙ added_append u (sends (fresh_station c (host_of g)) (host_of g) g.actions) g.last)
 
@@ -85,8 +89,8 @@ module _ (c : Settings) (o : HubLog) (histories : ℕ → List (ℕ × StationEv
         by_seats w (numbers_at h gs) [] (histories h) (all_once (numbers_at h gs) (histories h) (k.numbers h there) (k.known h there))
         ∙ (added_at (λ j. weight w (places j [] (histories h))) h gs
         ∙ added_same_each IsDone (λ g. cond (host_of g == h) (weight w (places (number_of g) [] (histories h))) 0)
-            (λ g. cond (host_of g == h) (weight w (entered_places g.actions)) 0) gs (λ g done. here_by w h g done (host_of g == h) refl)
-            all_done)
+        (λ g. cond (host_of g == h) (weight w (entered_places g.actions)) 0) gs (λ g done. here_by w h g done (host_of g == h) refl)
+        all_done)
 
     at_hub : (w : List (ℕ × HubEvent) → HubEvent → ℕ) → total w [] heard ≡ added (λ g. weight w (places (hub_number_of g) [] heard)) gs
     at_hub w =

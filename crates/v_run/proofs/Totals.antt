@@ -1,5 +1,5 @@
 -- Sums over the entries of a history, each weighed with what stands before it, and the same by the numbers of its seats.
-use Rattle.std.proofs.Common.{◌≡◌, ℕ, ◌+◌, ◌≤◌, ◌==◌, Bool, true, false, List, [], ◌∷◌, ◌++◌, map, cond, refl, sym, ap, ◌∙◌, arith, append_assoc, append-nil}
+use Rattle.std.proofs.Common.{◌≡◌, ℕ, ◌+◌, ◌==◌, Bool, true, false, List, [], ◌∷◌, ◌++◌, map, cond, refl, sym, ap, ◌∙◌, arith, append_assoc, append-nil}
 use Rattle.turn_cell.specs.History.{events_of}
 
 -- added up over a list
@@ -10,10 +10,6 @@ added f (x ∷ xs) = f x + added f xs
 pub added_same : {A : Type 0} (f g : A → ℕ) (xs : List A) → ((x : A) → f x ≡ g x) → added f xs ≡ added g xs
 added_same f g [] same = refl
 added_same f g (x ∷ xs) same = let h = same x in let t = added_same f g xs same in omega arith
-
-pub added_most : {A : Type 0} (f g : A → ℕ) (xs : List A) → ((x : A) → f x ≤ g x) → added f xs ≤ added g xs
-added_most f g [] most = omega arith
-added_most f g (x ∷ xs) most = let h = most x in let t = added_most f g xs most in omega arith
 
 pub added_sum : {A : Type 0} (f g : A → ℕ) (xs : List A) → added (λ x. f x + g x) xs ≡ added f xs + added g xs
 added_sum f g [] = refl
@@ -70,7 +66,7 @@ module _ {E : Type 0} where
       let rest = by_seats w ns more xs once.1 in
       let one = once.0 (w acc x.1) in
       let split = added_same (λ k. weight w (places k acc (x ∷ xs))) (λ k. cond (x.0 == k) (w acc x.1) 0 + weight w (places k more xs)) ns
-          (λ k. weight_by w (acc, x.1) (places k more xs) (x.0 == k)) in
+      (λ k. weight_by w (acc, x.1) (places k more xs) (x.0 == k)) in
       let sum = added_sum (λ k. cond (x.0 == k) (w acc x.1) 0) (λ k. weight w (places k more xs)) ns in
       omega arith
 
@@ -84,7 +80,7 @@ module _ {E : Type 0} where
   places_append n acc (x ∷ xs) ys =
       let more = acc ++ x ∷ [] in
       let rest : places n more (xs ++ ys) ≡ places n more xs ++ places n (acc ++ (x ∷ xs)) ys =
-          places_append n more xs ys ∙ ap (λ l. places n more xs ++ places n l ys) (append_assoc acc (x ∷ []) xs) in
+      places_append n more xs ys ∙ ap (λ l. places n more xs ++ places n l ys) (append_assoc acc (x ∷ []) xs) in
       ap (λ l. cond (x.0 == n) ((acc, x.1) ∷ l) l) rest ∙ places_by (x.0 == n) (acc, x.1) (places n more xs) (places n (acc ++ (x ∷ xs)) ys)
 
   -- where a number has no events it has no places

@@ -44,12 +44,20 @@ module _ (from event output : ℕ) (to : ℕ) where
   at host e o = cond (host == from && e == event && o == output) 1 0
 
   one_few : (f : rules.Frame) (host stamp number e o : ℕ) → header_of (sealed f) ≡ Some f.header
-      → f.header ≡ record { source = host; destination = rules.destination_of f.packet; stamp = stamp; number = number; event = e; output = o }
+      → f.header ≡ record {
+        source = host;
+        destination = rules.destination_of f.packet;
+        stamp = stamp;
+        number = number;
+        event =
+            e;
+        output = o;
+      }
       → meant (sealed f) ≤ at host e o
   one_few f host stamp number e o opens is =
       let few = and_few (is_named from event output (sealed f)) (is_addressed (header_of (sealed f)) to) in
       let same : ◌≡◌ {A = ℕ} (cond (is_named from event output (sealed f)) 1 0) (cond (host == from && e == event && o == output) 1 0) =
-          ap (λ (h : Option Header). cond {A = ℕ} (holds_of (has_numbers from event output) h) 1 0) (opens ∙ ap Some is) in
+      ap (λ (h : Option Header). cond {A = ℕ} (holds_of (has_numbers from event output) h) 1 0) (opens ∙ ap Some is) in
       omega arith
 
   -- of outputs from this one on
@@ -60,7 +68,8 @@ module _ (from event output : ℕ) (to : ℕ) where
       ≤ cond (a && b && nat_le o output) 1 0
   past_step true true o = by (o == output) (nat_le (o + 1) output) (nat_le o output) refl refl refl
     where
-      by : (x y z : Bool) → (o == output) ≡ x → nat_le (o + 1) output ≡ y → nat_le o output ≡ z → cond {A = ℕ} x 1 0 + cond y 1 0 ≤ cond z 1 0
+      by : (x y z : Bool) → (o == output) ≡ x → nat_le (o + 1) output ≡ y → nat_le o output ≡ z
+          → cond {A = ℕ} x 1 0 + cond y 1 0 ≤ cond z 1 0
       by true true z is more all = absurd (grind (arith, nat_tests, is, more))
       by true false true is more all = omega arith
       by true false false is more all = absurd (grind (arith, nat_tests, is, all))
@@ -103,7 +112,8 @@ module _ (from event output : ℕ) (to : ℕ) where
   one_more : (n : ℕ) → suc n ≡ n + 1
   one_more n = omega arith
 
-  entries_few : (host : ℕ) (es : List Entry) → AllRise host es → AreOpen es → added (λ (e : Entry). added meant (map sealed e.frames)) es ≤ among host (length es)
+  entries_few : (host : ℕ) (es : List Entry) → AllRise host es → AreOpen es
+      → added (λ (e : Entry). added meant (map sealed e.frames)) es ≤ among host (length es)
   entries_few host [] rise opens = omega arith
   entries_few host (e ∷ es) rise opens =
       let same = added_over_map meant sealed e.frames in
@@ -111,10 +121,11 @@ module _ (from event output : ℕ) (to : ℕ) where
       let rest = entries_few host es rise.1 opens.1 in
       let step = among_step (host == from) (length es) in
       let size : among host (length (e ∷ es)) ≡ cond (host == from && nat_le event (length es + 1)) 1 0 =
-          ap (λ n. cond {A = ℕ} (host == from && nat_le event n) 1 0) (one_more (length es)) in
+      ap (λ n. cond {A = ℕ} (host == from && nat_le event n) 1 0) (one_more (length es)) in
       omega arith
 
-  among_few : (host n : ℕ) (a : Bool) → (host == from) ≡ a → (b : Bool) → (from == host) ≡ b → cond {A = ℕ} (a && nat_le event n) 1 0 ≤ cond b 1 0
+  among_few : (host n : ℕ) (a : Bool) → (host == from) ≡ a → (b : Bool) → (from == host) ≡ b
+      → cond {A = ℕ} (a && nat_le event n) 1 0 ≤ cond b 1 0
   among_few host n true is true so = at_most_one (nat_le event n)
     where
       at_most_one : (b : Bool) → cond {A = ℕ} b 1 0 ≤ 1
@@ -136,17 +147,18 @@ module _ (from event output : ℕ) (to : ℕ) where
         let one = among_few q (length es) (q == from) refl (from == q) refl in
         omega arith
 
-    pub seldom : has_station c.specs to ≡ true → times_taken from event output (entries_at (fresh_station c to) (histories to)) ≤ copies o.plan
+    pub seldom : has_station c.specs to ≡ true → times_taken from event output (entries_at (fresh_station c to) (histories to))
+        ≤ copies o.plan
     seldom there =
         let taken = taken_was_made c o histories heard gs k (is_named from event output) to there in
         let each = added_most_each (λ q. has_station c.specs q ≡ true)
-            (λ q. total (λ before e. added meant (frames_at (fresh_station c q) before e)) [] (histories q)) (λ q. cond (from == q) 1 0)
-            (stations_of c.specs) made_at (each_station (λ q. has_station c.specs q ≡ true) c (λ q is. is)) in
+        (λ q. total (λ before e. added meant (frames_at (fresh_station c q) before e)) [] (histories q)) (λ q. cond (from == q) 1 0)
+        (stations_of c.specs) made_at (each_station (λ q. has_station c.specs q ≡ true) c (λ q is. is)) in
         let once = stands_at_most_once c.specs from 1 in
         let times = times_are c to (histories to) from event output in
         let all = times_most (o.plan.double == 0)
-            (added (λ q. total (λ before e. added meant (frames_at (fresh_station c q) before e)) [] (histories q)) (stations_of c.specs)) 1
-            (total (λ before e. delivers (is_named from event output) e) [] (histories to)) (omega arith) taken in
+        (added (λ q. total (λ before e. added meant (frames_at (fresh_station c q) before e)) [] (histories q)) (stations_of c.specs)) 1
+        (total (λ before e. delivers (is_named from event output) e) [] (histories to)) (omega arith) taken in
         single (copies o.plan) (times_taken from event output (entries_at (fresh_station c to) (histories to))) (omega arith)
       where
         single : (n m : ℕ) → m ≤ n * 1 → m ≤ n

@@ -97,19 +97,18 @@ run_by : (r : Pid) (task : List Answer → Option Call) (gs : List Passage) → 
 run_by r task [] apart g among is self = absurd among
 run_by r task (x ∷ gs) apart g (inl same) is self =
     let role : x.role ≡ Runs r task = ap (λ (y : Passage). y.role) same ∙ is in
-    let rest : Each (λ (y : Passage). runs_pid r y.role ≡ false) gs = subst (λ (y : Role). IsApart y gs) role apart.0 in
-    (
+    let rest : Each (λ (y : Passage). runs_pid r y.role ≡ false) gs = subst (λ (y : Role). IsApart y gs) role apart.0 in (
       (λ host runs. ap number_of same),
       each_of _ gs (λ y among. λ host runs. no_runs r y (number_of g) (of_each _ gs y rest among) runs),
     )
-run_by r task (x ∷ gs) apart g (inr among) is self =
-    (
-      (λ host runs. absurd (twice x.role apart.0 runs)),
-      run_by r task gs apart.1 g among is self,
-    )
+run_by r task (x ∷ gs) apart g (inr among) is self = (
+  (λ host runs. absurd (twice x.role apart.0 runs)),
+  run_by r task gs apart.1 g among is self,
+)
   where
     same_of : (q : Pid) → same_pid q r ≡ true → q ≡ r
     same_of q is = same_pid_is q r is
+
     twice : (role : Role) → IsApart role gs → runs_pid r role ≡ true → ⊥
     twice (Runs q other) apart runs =
         let none : runs_pid q g.role ≡ false = of_each (λ (y : Passage). runs_pid q y.role ≡ false) gs g apart among in
@@ -136,11 +135,11 @@ module _ (c : Settings) (o : HubLog) (rounds : ℕ) (histories : ℕ → List (�
   stands_one g among r task is =
       let d = of_each (IsDone c o histories heard) gs g (all_done c o histories heard gs k) among in
       let role : IsRole (Runs r task) (fresh_station c (host_of g)) g.actions =
-          subst (λ (x : Role). IsRole x (fresh_station c (host_of g)) g.actions) is d.0.role in
+      subst (λ (x : Role). IsRole x (fresh_station c (host_of g)) g.actions) is d.0.role in
       whole task r (same_self r) (fresh_station c (host_of g)) (number_of g) g.actions (histories (host_of g)) role.1
       (placed_whole c o histories heard g d)
       (alone.alone r c o histories heard gs k (number_of g) (host_of g) (of_each _ gs g k.stations among)
-          (run_by r task gs jobs.apart g among is (same_self r)) task (same_self r))
+      (run_by r task gs jobs.apart g among is (same_self r)) task (same_self r))
 
   home : (g : Passage) → Among g gs → (r : Pid) (task : List Answer → Option Call) → g.role ≡ Runs r task → r.host ≡ host_of g
   home g among r task is =
@@ -164,7 +163,7 @@ module _ (c : Settings) (o : HubLog) (rounds : ℕ) (histories : ℕ → List (�
       let at : IsAtEnd task (calls_by g.actions) (answers_by (fresh_station c (host_of g)) g.actions) = subst (HasEnded c g) is ended in
       let stands = stands_one g among r task is in
       let here : IsAtEnd task (calls_of r (logs (host_of g))) (answers_of r (logs (host_of g))) =
-          subst (λ (x : List Call × List Answer). IsAtEnd task x.0 x.1) (λ i. (sym stands.calls i, sym stands.answers i)) at in
+      subst (λ (x : List Call × List Answer). IsAtEnd task x.0 x.1) (λ i. (sym stands.calls i, sym stands.answers i)) at in
       (subst (λ h. IsAtEnd task (calls_of r (logs h)) (answers_of r (logs h))) (sym (home g among r task is)) here, tt)
   ends_by g among ended Pumps is = tt
   ends_by g among ended Ticks is = tt
@@ -196,14 +195,17 @@ module _ (c : Settings) (o : HubLog) (rounds : ℕ) (histories : ℕ → List (�
       let stands = stands_one g among r task is in
       let at : IsAtEnd task (calls_by g.actions) (answers_by (fresh_station c (host_of g)) g.actions) = subst (HasEnded c g) is is_ended in
       let same : length (answers_of r (logs (host_of g))) ≡ length (calls_of r (logs (host_of g))) =
-          ap length stands.answers ∙ (at.answered ∙ ap length (sym stands.calls)) in
-      (subst (λ h. EachWorkIsEndedByFrame c h r (logs h)) (sym (home g among r task is))
-          (framed works_end c (host_of g) r (histories (host_of g)) (own (host_of g) there) (early_at short (host_of g) there)
-              (in_time_at (host_of g) there) same), tt)
+      ap length stands.answers ∙ (at.answered ∙ ap length (sym stands.calls)) in (
+        subst (λ h. EachWorkIsEndedByFrame c h r (logs h)) (sym (home g among r task is))
+            (framed works_end c (host_of g) r (histories (host_of g)) (own (host_of g) there) (early_at short (host_of g) there)
+            (in_time_at (host_of g) there) same),
+        tt,
+      )
   frames_by short g among is_ended Pumps is = tt
   frames_by short g among is_ended Ticks is = tt
 
-  none_runs : (r : Pid) → Each (λ (a : Assignment). same_pid a.pid r ≡ false) (tasks_of gs) → Each (λ (g : Passage). runs_pid r g.role ≡ false) gs
+  none_runs : (r : Pid) → Each (λ (a : Assignment). same_pid a.pid r ≡ false) (tasks_of gs)
+      → Each (λ (g : Passage). runs_pid r g.role ≡ false) gs
   none_runs r none = by gs none
     where
       by_role : (role : Role) → (rest : List Assignment) → Each (λ (a : Assignment). same_pid a.pid r ≡ false) (task_in role ++ rest)
@@ -211,7 +213,9 @@ module _ (c : Settings) (o : HubLog) (rounds : ℕ) (histories : ℕ → List (�
       by_role (Runs q task) rest none = (none.0, none.1)
       by_role Pumps rest none = (refl, none)
       by_role Ticks rest none = (refl, none)
-      by : (xs : List Passage) → Each (λ (a : Assignment). same_pid a.pid r ≡ false) (tasks_of xs) → Each (λ (g : Passage). runs_pid r g.role ≡ false) xs
+
+      by : (xs : List Passage) → Each (λ (a : Assignment). same_pid a.pid r ≡ false) (tasks_of xs)
+          → Each (λ (g : Passage). runs_pid r g.role ≡ false) xs
       by [] none = tt
       by (x ∷ xs) none = let parts = by_role x.role (tasks_of xs) none in (parts.0, by xs parts.1)
 
@@ -220,7 +224,8 @@ module _ (c : Settings) (o : HubLog) (rounds : ℕ) (histories : ℕ → List (�
       let job = one_among (λ (j : JobEnd). j.met ≡ Some rooms.Full) js one in
       let end = of_each (IsJobEnd c) js job.0 jobs.ends job.1 in
       let met = one_among (MetFull c) job.0.passages (end.full job.2) in
-      reason c o histories heard gs k sound.rise sound.opens sound.low js refl jobs.ends jobs.few met.0 (among_jobs met.0 job.0 js job.1 met.1) met.2
+      reason c o histories heard gs k sound.rise sound.opens sound.low js refl jobs.ends jobs.few met.0 (among_jobs met.0 job.0 js job.1
+      met.1) met.2
 
   pub come_to : (limited : Bool) → (limited ≡ false → Each (λ (j : JobEnd). j.met ≡ None) js)
       → (limited ≡ true → OneOf (λ (j : JobEnd). j.met ≡ Some rooms.Full) js) → IsOutcome c o.plan rounds (tasks_of gs) limited logs

@@ -88,24 +88,25 @@ AreBusy c logs =
     198000 ≤ over (λ h. frames_in (logs h)) (stations_of c.specs) + over (λ h. deliveries_in (logs h)) (stations_of c.specs)
 
 -- WHAT A RUN COMES TO.
-pub record IsOutcome (c : Settings) (plan : LinkPlan) (rounds : ℕ) (tasks : List Assignment) (was_limited : Bool) (logs : Logs) : Type 0 where
-  -- each collect comes in time
-  pub collected : (h : ℕ) → has_station c.specs h ≡ true → ComeInTime c h (logs h)
-  -- no output is taken by one station more often than the links double
-  pub seldom : (h from event output : ℕ) → has_station c.specs h ≡ true → times_taken from event output (logs h) ≤ copies plan
-  -- each station ticks at most so often, and no two differ by more than one tick
-  pub few_ticks : (h : ℕ) → has_station c.specs h ≡ true → ticks_in (logs h) ≤ rounds
-  pub even : (g h : ℕ) → has_station c.specs g ≡ true → has_station c.specs h ≡ true → ticks_in (logs g) ≤ ticks_in (logs h) + 1
-  -- each process follows its task, where it was not limited to the end; the others do nothing
-  pub follows : Each (λ (a : Assignment). FollowsTask a.task a.pid (logs a.pid.host)) tasks
-  pub ended : was_limited ≡ false
-      → Each (λ (a : Assignment). IsAtEnd a.task (calls_of a.pid (logs a.pid.host)) (answers_of a.pid (logs a.pid.host))) tasks
-  pub idle : (r : Pid) → Each (λ (a : Assignment). same_pid a.pid r ≡ false) tasks → has_station c.specs r.host ≡ true
-      → DoesNothing r (logs r.host)
-  -- it was limited only for one of these reasons
-  pub limited : was_limited ≡ true → HasUsedUp c logs ⊎ AreBusy c logs
-  -- with fewer rounds than a work has patience for none ends by a tick; each that a task began, a remote Send or move or a lookup,
-  -- was then ended by a frame
-  pub early : rounds < c.times.tries * c.times.interval → (h : ℕ) → has_station c.specs h ≡ true → NoTickEnds (logs h)
-  pub by_frames : was_limited ≡ false → rounds < c.times.tries * c.times.interval
-      → Each (λ (a : Assignment). EachWorkIsEndedByFrame c a.pid.host a.pid (logs a.pid.host)) tasks
+pub record IsOutcome (c : Settings) (plan : LinkPlan) (rounds : ℕ) (tasks : List Assignment) (was_limited : Bool) (logs : Logs) : Type 0
+  where
+    -- each collect is of a process that has an answer
+    pub collected : (h : ℕ) → has_station c.specs h ≡ true → ComeInTime c h (logs h)
+    -- no frame is delivered to one station more than twice, and where the links double none, more than once
+    pub seldom : (h from event output : ℕ) → has_station c.specs h ≡ true → times_taken from event output (logs h) ≤ copies plan
+    -- each station ticks at most once a round, and no two differ by more than one tick
+    pub few_ticks : (h : ℕ) → has_station c.specs h ≡ true → ticks_in (logs h) ≤ rounds
+    pub even : (g h : ℕ) → has_station c.specs g ≡ true → has_station c.specs h ≡ true → ticks_in (logs g) ≤ ticks_in (logs h) + 1
+    -- each process makes just the calls of its task, where the run was not limited all of them; a process without a task does nothing
+    pub follows : Each (λ (a : Assignment). FollowsTask a.task a.pid (logs a.pid.host)) tasks
+    pub ended : was_limited ≡ false
+        → Each (λ (a : Assignment). IsAtEnd a.task (calls_of a.pid (logs a.pid.host)) (answers_of a.pid (logs a.pid.host))) tasks
+    pub idle : (r : Pid) → Each (λ (a : Assignment). same_pid a.pid r ≡ false) tasks → has_station c.specs r.host ≡ true
+        → DoesNothing r (logs r.host)
+    -- it was limited only where a station used up its share, or the links were near their limit
+    pub limited : was_limited ≡ true → HasUsedUp c logs ⊎ AreBusy c logs
+    -- With fewer rounds than a work waits in all, none ends by a tick. Then each that a task began, a remote Send or move or a lookup,
+    -- was ended by a frame, where the run was not limited.
+    pub early : rounds < c.times.tries * c.times.interval → (h : ℕ) → has_station c.specs h ≡ true → NoTickEnds (logs h)
+    pub by_frames : was_limited ≡ false → rounds < c.times.tries * c.times.interval
+        → Each (λ (a : Assignment). EachWorkIsEndedByFrame c a.pid.host a.pid (logs a.pid.host)) tasks

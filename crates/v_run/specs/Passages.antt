@@ -87,7 +87,8 @@ answers_by o (Delivers heard frame before posted ∷ acts) = answers_by o acts
 answers_by o (Drops heard frame ∷ acts) = answers_by o acts
 answers_by o (Hears heard ∷ acts) = answers_by o acts
 
--- Whatever it does of its own accord, it does for this process: it makes the task's next call after these calls and answers, or it collects.
+-- Whatever it does of its own accord, it does for this process: it makes the task's next call after these calls and answers, or
+-- it collects.
 abbrev pub IsNext : (List Answer → Option Call) → Pid → List Call → List Answer → StationEvent → Type 0
 IsNext task r calls answers (events.Call pid c) = (pid ≡ r) × IsNextCall task calls answers c
 IsNext task r calls answers (events.Collect pid) = pid ≡ r

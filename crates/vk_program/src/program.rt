@@ -8,7 +8,7 @@ use vk_base::{Answer, Call};
 
 /// The program of a process. It stands for a task, which is a function: what is called next after these answers, one to each
 /// call before, or nothing more. And it stands for the answers that it was given so far.
-pub trait Program: Send + Drop {
+pub trait Program: Drop {
     /// What is called next after these answers.
     ghost task: { Self → List TheAnswer → Option TheCall };
 

@@ -2,15 +2,17 @@
 //! name, with every byte, and of events with what the station must tell of each: its Lamport number, itself and its count, the
 //! answer, the steps, and the names of its frames. The frames that come are those of the file too, so they may be bad, old or forged.
 //! `src/transcript.rt` says how such a text is read. Each file of `data/clusters/` is a schedule over stations with so many places for
-//! aliens as it says, which the text of a schedule cannot, with what they must tell of each event (`src/schedule.rt`). A text more is its
+//! aliens as it says, which the text of a schedule cannot, with what they must tell of each event (`src/schedule.rt`). Each file of
+//! `data/logs/` has logs of stations, with frames of the file's own, and what they are joined to (`src/logs.rt`). A text more is its
 //! file, and one more in the number of the file `stdout`.
 //!
-//! Stands on the station (`vk_host`), on all stations (`vk_cluster`) and on the texts of calls, schedules and reports (`vk_text`,
-//! `vk_event`, `vk_report`).
+//! Stands on the station (`vk_host`), on all stations (`vk_cluster`), on joined logs (`vk_join`) and on the texts of calls, schedules and
+//! reports (`vk_text`, `vk_event`, `vk_report`).
 #![tactic(auto)]
 
 mod cluster;
 mod frames;
+mod logs;
 mod schedule;
 mod station;
 mod transcript;
@@ -19,10 +21,12 @@ use std::alloc::Global;
 use std::rt::Files;
 use std::{fs, io, str};
 
-/// The folders of the texts of stations, and of all stations.
+/// The folders of the texts of stations, of all stations, and of logs.
 const STATIONS: &str = "stations";
 
 const CLUSTERS: &str = "clusters";
+
+const LOGS: &str = "logs";
 
 /// The texts of a folder, sorted.
 fn names(rt: &HostRuntime, folder: &str) -> io::Result<Vec<String>> {
@@ -41,6 +45,8 @@ fn names(rt: &HostRuntime, folder: &str) -> io::Result<Vec<String>> {
 fn told_of(alloc: Global, name: &str, text: &str) -> io::Result<Vec<u8>> {
     if name.starts_with(CLUSTERS) {
         schedule::transcript(alloc, text)
+    } else if name.starts_with(LOGS) {
+        logs::transcript(alloc, text)
     } else {
         transcript::transcript(alloc, text)
     }
@@ -71,6 +77,9 @@ fn agreeing_in(rt: &HostRuntime, folder: &str) -> io::Result<u64> {
 }
 
 fn main(rt: HostRuntime) -> io::Result<()> {
-    let agreeing = agreeing_in(&rt, STATIONS)?.saturating_add(agreeing_in(&rt, CLUSTERS)?);
+    let mut agreeing = 0u64;
+    for folder in [STATIONS, CLUSTERS, LOGS] {
+        agreeing = agreeing.saturating_add(agreeing_in(&rt, folder)?);
+    }
     println!(rt; "{agreeing} texts agree")
 }

@@ -1,0 +1,91 @@
+-- Logs that are such as can be joined, and the schedule that they are joined to.
+use Rattle.std.proofs.Common.{◌≡◌, ℕ, ◌+◌, ◌<◌, ◌≤◌, Bool, true, false, cond, ◌||◌, nat_lt, List, [], ◌∷◌, ◌++◌, get_or, length, take, Option, Some, None, refl, sym, ap, subst, ◌∙◌, arith}
+use Rattle.std.proofs.lemmas.Bool.{ltb-false, or_parts}
+use Rattle.std.proofs.lemmas.List.{take_all, take_more}
+use Rattle.std.proofs.lemmas.Option.{none-some}
+use Rattle.std.specs.List.{list_all, AllByRecursion}
+use Rattle.vk_base.specs.declared.config.ProcessSpec.{ProcessSpec}
+use Rattle.vk_base.specs.declared.limits.TheConstants.{EVENTS}
+use Rattle.vk_base.specs.Pids.{IsPid}
+use Rattle.vk_base.specs.Settings.{Settings, first_fault, refusal_of}
+use Rattle.vk_cluster.specs.declared.frames.TheConstants.{MOST_BYTES}
+use Rattle.vk_event.specs.declared.schedule.Schedule.{Schedule}
+use Rattle.vk_event.specs.Lawful.{IsLawful, has_actors}
+use Rattle.vk_join.specs.declared.log.JoinRefusal.{JoinRefusal}
+use Rattle.vk_join.specs.declared.log.JoinRefusal.TheVariants as refusals
+use Rattle.vk_join.specs.declared.log.StationLog.{StationLog}
+use Rattle.vk_join.specs.Joined.{IsJoined}
+use Rattle.vk_join.specs.Logs.{AreLogs, HostsRise, byte_count, entries_at, event_count}
+use Rattle.vk_join.specs.Stray.{first_stray, join_refusal}
+use Rattle.vk_rules.specs.Each.{Each}
+use Rattle.vk_rules.proofs.Lists.{each_append, each_weaker}
+use Rattle.vk_text.specs.Heads.{settings_of}
+use Rattle.vk_station_tests.specs.Logs.{IsLogOf}
+
+-- One more of a list.
+pub each_more : {A : Type 0} (P : A → Type 0) (xs : List A) (n : ℕ) (x : A) → n < length xs → x ≡ get_or xs n x → P x →
+    Each P (take n xs) → Each P (take (n + 1) xs)
+each_more P xs n x low is one before =
+    subst (Each P) (sym (take_more xs n x low ∙ ap (λ y. take n xs ++ y ∷ []) (sym is))) (each_append P (take n xs) (x ∷ []) before (one, tt))
+
+rise_behind : (ls : List StationLog) (l : StationLog) → HostsRise ls → Each (λ (m : StationLog). m.host < l.host) ls → HostsRise (ls ++ l ∷ [])
+rise_behind [] l rise below = (tt, tt)
+rise_behind (m ∷ ms) l rise below =
+    (each_append (λ (x : StationLog). m.host < x.host) ms (l ∷ []) rise.0 (below.0, tt), rise_behind ms l rise.1 below.1)
+
+-- These logs are such as can be joined, and none has a greater number than this.
+pub record AreLogsTo (specs : List ProcessSpec) (ls : List StationLog) (last : ℕ) : Type 0 where
+  pub rise : HostsRise ls
+  pub below : Each (λ (l : StationLog). l.host ≤ last) ls
+  pub each : Each (IsLogOf specs) ls
+
+pub log_more : (specs : List ProcessSpec) (ls : List StationLog) (n last : ℕ) (l : StationLog) → n < length ls → l ≡ get_or ls n l →
+    last < l.host → IsLogOf specs l → AreLogsTo specs (take n ls) last → AreLogsTo specs (take (n + 1) ls) l.host
+log_more specs ls n last l low is above one are =
+    let next : take (n + 1) ls ≡ take n ls ++ l ∷ [] = take_more ls n l low ∙ ap (λ y. take n ls ++ y ∷ []) (sym is) in
+    subst (λ xs. AreLogsTo specs xs l.host) (sym next) (record {
+      rise = rise_behind (take n ls) l are.rise
+          (each_weaker (λ (m : StationLog). m.host ≤ last) (λ (m : StationLog). m.host < l.host) (take n ls) are.below (λ m b. omega arith));
+      below = each_append (λ (m : StationLog). m.host ≤ l.host) (take n ls) (l ∷ [])
+          (each_weaker (λ (m : StationLog). m.host ≤ last) (λ (m : StationLog). m.host ≤ l.host) (take n ls) are.below (λ m b. omega arith))
+          (omega arith, tt);
+      each = each_append (IsLogOf specs) (take n ls) (l ∷ []) are.each (one, tt);
+    })
+
+pub logs_are : (c : Settings) (ls : List StationLog) (n last : ℕ) → length ls ≤ n → AreLogsTo c.specs (take n ls) last → AreLogs c ls
+logs_are c ls n last all are =
+    let whole : AreLogsTo c.specs ls last = subst (λ xs. AreLogsTo c.specs xs last) (take_all n ls all) are in
+    record {
+      rise = whole.rise;
+      stations = each_weaker (IsLogOf c.specs) _ ls whole.each (λ l is. is.station);
+      own = each_weaker (IsLogOf c.specs) _ ls whole.each (λ l is. is.own);
+    }
+
+-- A configuration of a text's schedule is without a fault.
+pub faultless : (s : Schedule) → IsLawful s → refusal_of s.config.times s.config.pool s.config.specs ≡ None
+faultless s lawful =
+    ap (λ (x : Settings). refusal_of x.times x.pool x.specs) lawful.config ∙ lawful.faultless
+
+-- What is joined over it can be written.
+within : (most n bytes : ℕ) (first : Option JoinRefusal) → cond (nat_lt most n || nat_lt MOST_BYTES bytes) (Some refusals.Limit) first ≡ None →
+    n ≤ most
+within most n bytes first is = by (nat_lt most n || nat_lt MOST_BYTES bytes) refl is where
+  by : (b : Bool) → (nat_lt most n || nat_lt MOST_BYTES bytes) ≡ b → cond b (Some refusals.Limit) first ≡ None → n ≤ most
+  by true e is = absurd (none-some refusals.Limit (sym is))
+  by false e is = ltb-false most n (or_parts (nat_lt most n) (nat_lt MOST_BYTES bytes) e).0
+
+pub joined_lawful : (c : Settings) (front s : Schedule) (logs : List StationLog) → IsLawful front → c ≡ front.config → IsJoined c logs s →
+    join_refusal c logs ≡ None → IsLawful s
+joined_lawful c front s logs lawful same joined possible =
+    let config : s.config ≡ front.config = joined.config ∙ same in
+    record {
+      config = config ∙ lawful.config ∙ ap (λ (x : Settings). settings_of x.specs) (sym config);
+      pids = subst (λ (x : Settings). AllByRecursion (λ (p : ProcessSpec). IsPid p.pid) x.specs) (sym config) lawful.pids;
+      faultless = subst (λ (x : Settings). first_fault [] x.specs ≡ None) (sym config) lawful.faultless;
+      ranges = joined.ranges;
+      events = subst (λ (x : Settings). list_all (has_actors x.specs) s.events ≡ true) (sym joined.config) joined.actors;
+      few =
+          let few = within EVENTS (event_count logs) (byte_count c logs) (first_stray (entries_at c logs) logs) possible in
+          let count = joined.count in
+          omega arith;
+    }
