@@ -74,11 +74,10 @@ pub trait Crew {
         ensures threads { result ≡ Way.Threads → may_fail self.new }
         ensures else_same { result ≢ Way.Refused → fault_count self.new ≡ fault_count self.old };
 
-    /// Counts a fault.
+    /// Counts a fault, where the crew may meet one.
     fn note_fault(&mut self)
-        requires { may_fail self.old }
         ensures jobs { job_count self.new ≡ job_count self.old }
-        ensures faults { fault_count self.new ≡ next_count (fault_count self.old) };
+        ensures faults { may_fail self.old → fault_count self.new ≡ next_count (fault_count self.old) };
 
     /// Counts the jobs of a call that went well.
     fn note_jobs(&mut self, count: usize)
