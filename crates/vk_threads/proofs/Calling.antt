@@ -34,8 +34,7 @@ pub called_now : (old new : PortValue) (pid : Pid) (call : Call) (a : Answer)
     → HasMade old new [] (events.Call pid call) (answered.Answered a) → HasCalled old new pid call (Some a)
 called_now old new pid call a made =
     let o = old.station.origin in
-    let acts = first_of o made.before pid call in
-    (
+    let acts = first_of o made.before pid call in (
       acts,
       record { does = made.does; plays = first_plays o made.before pid call (length (frames_at o made.before (events.Call pid call))) },
       refl,
@@ -78,9 +77,8 @@ module _ (old mid new : PortValue) (pid : Pid) (call : Call) (made : HasMade old
       let more = first ++ last in
       let quiet = pumping_quiet O first pumping in
       let told : answers_by O last ≡ a ∷ [] =
-          append-nil (answer_in O it.before (events.Collect pid))
-          ∙ ap (λ x. option_to_list (given x)) (subst (λ o. (entry_at o it.before (events.Collect pid)).answer ≡ answered.Answered a) same (sym it.answer)) in
-      (
+      append-nil (answer_in O it.before (events.Collect pid))
+      ∙ ap (λ x. option_to_list (given x)) (subst (λ o. (entry_at o it.before (events.Collect pid)).answer ≡ answered.Answered a) same (sym it.answer)) in (
         acts ++ more,
         record {
           does = does_more old mid new acts more made.does it.does;
@@ -102,8 +100,7 @@ module _ (old mid new : PortValue) (pid : Pid) (call : Call) (made : HasMade old
       let it = waited.2 in
       let last = Hears it.heard ∷ [] in
       let more = first ++ last in
-      let quiet = pumping_quiet O first pumping in
-      (
+      let quiet = pumping_quiet O first pumping in (
         acts ++ more,
         record {
           does = does_more old mid new acts more made.does it.does;
@@ -121,7 +118,7 @@ module _ (old mid new : PortValue) (pid : Pid) (call : Call) (made : HasMade old
   cut_collect o [] m cut = ((λ task calls answers. tt), omega arith)
   cut_collect o (Enters before x posted ∷ []) (AtHub (hub_events.Post f)) cut =
       let P : StationEvent → Type 0 = λ y. (task : List Answer → Option Call) (calls : List Call) (answers : List Answer)
-          → Plays task pid O calls answers (Enters before y posted ∷ []) in
+      → Plays task pid O calls answers (Enters before y posted ∷ []) in
       (subst P (sym cut.0) (λ task calls answers. (refl, tt)), omega arith)
   cut_collect o (Enters before x posted ∷ []) (AtHub (hub_events.Fetch h)) cut = absurd cut
   cut_collect o (Enters before x posted ∷ []) (AtHub hub_events.Finished) cut = absurd cut
@@ -160,8 +157,7 @@ module _ (old mid new : PortValue) (pid : Pid) (call : Call) (made : HasMade old
       let it = refused.2 in
       let more = first ++ it.last in
       let quiet = pumping_quiet O first pumping in
-      let cut = cut_either it.last it.met it.cut in
-      (
+      let cut = cut_either it.last it.met it.cut in (
         acts ++ more,
         record {
           does = does_more old mid new acts more made.does it.does;
@@ -174,11 +170,11 @@ module _ (old mid new : PortValue) (pid : Pid) (call : Call) (made : HasMade old
 -- a call that met a Room itself
 own_plays : (old : PortValue) (pid : Pid) (call : Call) (o : StationHistory) (last : List Action) (m : Met) → IsCutEvent o (events.Call pid call) last m
     → ((task : List Answer → Option Call) (calls : List Call) (answers : List Answer) → IsNextCall task calls answers call
-        → Plays task pid old.station.origin calls answers last) × (lost_count last ≤ 1)
+    → Plays task pid old.station.origin calls answers last) × (lost_count last ≤ 1)
 own_plays old pid call o [] m cut = ((λ task calls answers next. tt), omega arith)
 own_plays old pid call o (Enters before x posted ∷ []) (AtHub (hub_events.Post f)) cut =
     let P : StationEvent → Type 0 = λ y. (task : List Answer → Option Call) (calls : List Call) (answers : List Answer)
-        → IsNextCall task calls answers call → Plays task pid old.station.origin calls answers (Enters before y posted ∷ []) in
+    → IsNextCall task calls answers call → Plays task pid old.station.origin calls answers (Enters before y posted ∷ []) in
     (subst P (sym cut.0) (λ task calls answers next. ((refl, next), tt)), omega arith)
 own_plays old pid call o (Enters before x posted ∷ []) (AtHub (hub_events.Fetch h)) cut = absurd cut
 own_plays old pid call o (Enters before x posted ∷ []) (AtHub hub_events.Finished) cut = absurd cut
@@ -192,8 +188,7 @@ own_plays old pid call o (Hears heard ∷ xs) m cut = absurd cut
 pub called_cut : (old new : PortValue) (pid : Pid) (call : Call) (why : Room)
     → IsRefused old new why [] (IsCutEvent old.station.origin (events.Call pid call)) → HasCalledCut old new pid call why
 called_cut old new pid call why it =
-    let own = own_plays old pid call old.station.origin it.last it.met it.cut in
-    (
+    let own = own_plays old pid call old.station.origin it.last it.met it.cut in (
       it.last,
       record { does = it.does; plays = own.0 },
       own.1,
@@ -226,8 +221,8 @@ module _ (old mid new : PortValue) (pid : Pid) (task : List Answer → Option Ca
       → Does old new (so.acts ++ more) × Plays task pid old.station.origin [] [] (so.acts ++ more)
   on call is more by =
       let goes : Plays task pid old.station.origin (calls_by so.acts) (answers_by old.station.origin so.acts) more =
-          subst (λ o. Plays task pid o (calls_by so.acts) (answers_by old.station.origin so.acts) more) here
-          (by.plays task (calls_by so.acts) (answers_by old.station.origin so.acts) (next_is call is)) in
+      subst (λ o. Plays task pid o (calls_by so.acts) (answers_by old.station.origin so.acts) more) here
+      (by.plays task (calls_by so.acts) (answers_by old.station.origin so.acts) (next_is call is)) in
       (does_more old mid new so.acts more so.does by.does, plays_append task pid old.station.origin [] [] so.acts more so.plays goes)
 
   pub play_ended : None ≡ task answers → HasPlayed old mid pid task true
@@ -263,8 +258,7 @@ module _ (old mid new : PortValue) (pid : Pid) (task : List Answer → Option Ca
   pub play_stopped : (call : Call) → Some call ≡ task answers → HasCalled mid new pid call None → HasPlayed old new pid task false
   play_stopped call is called =
       let more = called.0 in
-      let it = on call is more called.1 in
-      (
+      let it = on call is more called.1 in (
         so.acts ++ more,
         it.0,
         it.1,
@@ -275,8 +269,7 @@ module _ (old mid new : PortValue) (pid : Pid) (task : List Answer → Option Ca
   pub play_cut : (call : Call) (why : Room) → Some call ≡ task answers → HasCalledCut mid new pid call why → HasPlayedCut old new pid task why
   play_cut call why is called =
       let more = called.0 in
-      let it = on call is more called.1 in
-      (
+      let it = on call is more called.1 in (
         so.acts ++ more,
         it.0,
         it.1,

@@ -13,7 +13,7 @@ use Rattle.vk_port.specs.Ports.{PortValue, stand_of}
 use Rattle.vk_port.specs.Stations.{StationHistory}
 use Rattle.vk_rules.specs.Each.{Each}
 use Rattle.vk_rules.proofs.Lists.{each_append}
-use Rattle.v_run.specs.Passages.{Role, nowhere}
+use Rattle.v_run.specs.Passages.{Role, Runs, nowhere}
 use Rattle.vk_threads.specs.declared.opening.Site.{Site}
 use Rattle.vk_threads.specs.declared.opening.Spare.{Spare}
 use Rattle.vk_threads.specs.declared.work.Work.{Work}
@@ -27,7 +27,7 @@ use Rattle.vk_pages.specs.declared.any.AnyProgram.{AnyProgram}
 use Rattle.vk_threads.specs.Assigned.{ArePrograms, assignment_of, assignments_of, pid_of, program_task}
 use Rattle.vk_threads.specs.Clocks.{may_tick}
 use Rattle.vk_threads.specs.Dealt.{AreDealt, AreJobsAt, ArePorts, HasSite, IsJobAt, IsNewAt, IsPort, IsSpare, IsStocked, IsTaken, pumps_at, runs_by, spare_host}
-use Rattle.vk_threads.specs.Duties.{ClockDuty}
+use Rattle.vk_threads.specs.Duties.{ClockDuty, ProcessDuty}
 use Rattle.vk_threads.specs.Ends.{IsAt, port_host}
 use Rattle.vk_threads.specs.Ended.{cell_at}
 use Rattle.vk_threads.specs.Opened.{count_of, spare_at}
@@ -113,7 +113,7 @@ count_more hosts i host count new b low is same grown =
     let x = get_or hosts i 0 in
     let one : count_of host (x ∷ []) ≡ cond b 1 0 + 0 = ap (λ t. cond t 1 0 + 0) same in
     let all : count_of host (take (i + 1) hosts) ≡ count_of host (take i hosts) + count_of host (x ∷ []) =
-        ap (count_of host) (taken_on hosts i 0 low) ∙ count_append host (take i hosts) (x ∷ []) in
+    ap (count_of host) (taken_on hosts i 0 low) ∙ count_append host (take i hosts) (x ∷ []) in
     omega arith
 
 split_at : {A : Type 0} (xs : List A) (i : ℕ) (x : A) → slice_get xs i ≡ Some x → xs ≡ take i xs ++ x ∷ drop (suc i) xs
@@ -225,9 +225,10 @@ module _ (sites : List Site) (hub : Cell HubLog) where
       → cell_at sites host ≡ Some cell → (cell.origin.host ≡ host) × IsSeatOf cell seat
   spare_cell host seat cell spare found =
       let is : spare.cell ≡ cell = same_Some spare.cell cell (sym spare.there ∙ found) in
-      let same : seat ≡ fresh cell spare.number = spare.seat ∙ ap (λ x. fresh x spare.number) is in
-      (ap (λ (x : Cell StationHistory). x.origin.host) (sym is) ∙ spare.of,
-      (ap (λ (s : Sitting StationHistory StationEvent). s.table) same, ap (λ (s : Sitting StationHistory StationEvent). s.origin) same))
+      let same : seat ≡ fresh cell spare.number = spare.seat ∙ ap (λ x. fresh x spare.number) is in (
+        ap (λ (x : Cell StationHistory). x.origin.host) (sym is) ∙ spare.of,
+        (ap (λ (s : Sitting StationHistory StationEvent). s.table) same, ap (λ (s : Sitting StationHistory StationEvent). s.origin) same),
+      )
 
   pub new_seat : (seat : Sitting HubLog HubEvent) → IsNewAt hub seat → IsSeatOf hub seat
   new_seat seat new = (ap (λ (s : Sitting HubLog HubEvent). s.table) new.1, ap (λ (s : Sitting HubLog HubEvent). s.origin) new.1)
@@ -279,6 +280,77 @@ module _ {G P : Type 0} (task : G → List Answer → Option Call) where
     ports = subst (ArePorts sites hub true stations) (sym (ap (λ (d : ClockDuty). d.ports) is)) are;
     so_many = ap (λ (d : ClockDuty). d.rounds) is;
   }
+
+-- one port more, and one station's seats less
+pub ports_more : (sites sites2 : List Site) (hub hub2 : Cell HubLog) (hosts : List ℕ) (i : ℕ) (ports new : List PortValue) (p : PortValue)
+    → sites2 ≡ sites → hub2 ≡ hub → i < length hosts → new ≡ ports ++ p ∷ [] → ArePorts sites hub true (take i hosts) ports
+    → IsPort sites2 hub2 true (get_or hosts i 0) p → ArePorts sites hub true (take (i + 1) hosts) new
+ports_more sites sites2 hub hub2 hosts i ports new p one two low is are port =
+    subst (λ l. ArePorts sites hub true l new) (sym (taken_on hosts i 0 low))
+    (subst (ArePorts sites hub true (take i hosts ++ get_or hosts i 0 ∷ [])) (sym is)
+    (port_push sites hub true (take i hosts) ports (get_or hosts i 0) p are
+    (subst (λ l. IsPort l hub true (get_or hosts i 0) p) one (subst (λ h. IsPort sites2 h true (get_or hosts i 0) p) two port))))
+
+pub stock_more : (sites sites2 : List Site) (hub hub2 : Cell HubLog) (old new : List Spare) (before after : List (Sitting HubLog HubEvent))
+    (hosts rest : List ℕ) (i : ℕ) → sites2 ≡ sites → hub2 ≡ hub → i < length hosts → IsStocked sites hub old before (drop i hosts ++ rest)
+    → ((r : List ℕ) → IsStocked sites2 hub2 old before (get_or hosts i 0 ∷ r) → IsStocked sites2 hub2 new after r)
+    → IsStocked sites hub new after (drop (i + 1) hosts ++ rest)
+stock_more sites sites2 hub hub2 old new before after hosts rest i one two low stock goes =
+    let more = drop (i + 1) hosts ++ rest in
+    let first = subst (λ l. IsStocked sites hub old before (l ++ rest)) (dropped_on hosts i 0 low) stock in
+    let there = subst (λ l. IsStocked l hub2 old before (get_or hosts i 0 ∷ more)) (sym one)
+    (subst (λ h. IsStocked sites h old before (get_or hosts i 0 ∷ more)) (sym two) first) in
+    subst (λ l. IsStocked l hub new after more) one (subst (λ h. IsStocked sites2 h new after more) two (goes more there))
+
+pub port_as : (sites sites2 : List Site) (hub hub2 : Cell HubLog) (h : ℕ) (p : PortValue) → sites2 ≡ sites → hub2 ≡ hub
+    → IsPort sites2 hub2 false h p → IsPort sites hub false h p
+port_as sites sites2 hub hub2 h p one two port = subst (λ l. IsPort l hub false h p) one (subst (λ x. IsPort sites2 x false h p) two port)
+
+-- the next of these stations, where there are seats for them in turn
+pub stock_next : (sites sites2 : List Site) (hub hub2 : Cell HubLog) (old new : List Spare) (before after : List (Sitting HubLog HubEvent))
+    (h : ℕ) (more all : List ℕ) → sites2 ≡ sites → hub2 ≡ hub → all ≡ h ∷ more → IsStocked sites hub old before all
+    → ((r : List ℕ) → IsStocked sites2 hub2 old before (h ∷ r) → IsStocked sites2 hub2 new after r) → IsStocked sites hub new after more
+stock_next sites sites2 hub hub2 old new before after h more all one two is stock goes =
+    let first = subst (IsStocked sites hub old before) is stock in
+    let there = subst (λ l. IsStocked l hub2 old before (h ∷ more)) (sym one) (subst (λ x. IsStocked sites x old before (h ∷ more)) (sym two) first) in
+    subst (λ l. IsStocked l hub new after more) one (subst (λ x. IsStocked sites2 x new after more) two (goes more there))
+
+-- one job more
+module _ {G P : Type 0} (task : G → List Answer → Option Call) (sites sites2 : List Site) (hub hub2 : Cell HubLog) (ds : List (ℕ × Role))
+    (jobs new : List (Work G P)) (port : PortValue) (one : sites2 ≡ sites) (two : hub2 ≡ hub) where
+  pub program_job : (yielded : List (Assigned G)) (a : Assigned G) (duty : ProcessDuty G) → duty ≡ record { port = port; pid = a.pid; program = a.program }
+      → new ≡ jobs ++ works.Process duty ∷ [] → IsPort sites2 hub2 false a.pid.host port
+      → AreJobsAt task sites hub (ds ++ map (runs_by task) yielded) jobs → AreJobsAt task sites hub (ds ++ map (runs_by task) (yielded ++ a ∷ [])) new
+  program_job yielded a duty is grown here are =
+      let job : IsJobAt {G = G} {P = P} task sites hub (runs_by task a) (works.Process duty) = record {
+        port = port;
+        ports = ap (λ (d : ProcessDuty G). d.port ∷ []) is;
+        roles = ap (λ (d : ProcessDuty G). Runs d.pid (task d.program) ∷ []) is;
+        is = port_as sites sites2 hub hub2 a.pid.host port one two here;
+      } in
+      let same : (ds ++ map (runs_by task) yielded) ++ runs_by task a ∷ [] ≡ ds ++ map (runs_by task) (yielded ++ a ∷ []) =
+      append_assoc ds (map (runs_by task) yielded) (runs_by task a ∷ []) ∙ ap (λ l. ds ++ l) (sym (map_append (runs_by task) yielded (a ∷ []))) in
+      subst (λ l. AreJobsAt task sites hub l new) same
+      (subst (AreJobsAt task sites hub ((ds ++ map (runs_by task) yielded) ++ runs_by task a ∷ [])) (sym grown)
+      (job_push sites hub task (ds ++ map (runs_by task) yielded) jobs (runs_by task a) (works.Process duty) are job))
+
+  pub pump_job : (stations : List ℕ) (i : ℕ) (w : PortValue) → i < length stations → w ≡ port → new ≡ jobs ++ works.Pump w ∷ []
+      → IsPort sites2 hub2 false (get_or stations i 0) port → AreJobsAt task sites hub (ds ++ map pumps_at (take i stations)) jobs
+      → AreJobsAt task sites hub (ds ++ map pumps_at (take (i + 1) stations)) new
+  pump_job stations i w low is grown here are =
+      let h = get_or stations i 0 in
+      let job : IsJobAt {G = G} {P = P} task sites hub (pumps_at h) (works.Pump w) = record {
+        port = port;
+        ports = ap (λ q. q ∷ []) is;
+        roles = refl;
+        is = port_as sites sites2 hub hub2 h port one two here;
+      } in
+      let same : (ds ++ map pumps_at (take i stations)) ++ pumps_at h ∷ [] ≡ ds ++ map pumps_at (take (i + 1) stations) =
+      append_assoc ds (map pumps_at (take i stations)) (pumps_at h ∷ [])
+      ∙ ap (λ l. ds ++ l) (sym (map_append pumps_at (take i stations) (h ∷ [])) ∙ ap (map pumps_at) (sym (taken_on stations i 0 low))) in
+      subst (λ l. AreJobsAt task sites hub l new) same
+      (subst (AreJobsAt task sites hub ((ds ++ map pumps_at (take i stations)) ++ pumps_at h ∷ [])) (sym grown)
+      (job_push sites hub task (ds ++ map pumps_at (take i stations)) jobs (pumps_at h) (works.Pump w) are job))
 
 abbrev pub task_pid : Task → Pid
 task_pid t = t.pid

@@ -215,18 +215,21 @@ module _ (sites : List Site) (hub : Cell HubLog) where
   -- one passage through one port
   pub left_by : (p : PortValue) (s : Seats) (g : Passage) → IsOwn p → IsThrough p s g
       → (cell : Cell StationHistory) × (cell_at sites (host_of g) ≡ Some cell) × AreLeft cell hub s g
-  left_by p s g is t =
-      (p.station, ap (λ (b : Berth). cell_at sites b.host) t.berth ∙ is.cell, record {
-        host = t.host ∙ sym (ap (λ (b : Berth). b.host) t.berth);
-        seat = (t.seat.0 ∙ is.seat.0, t.seat.1 ∙ is.seat.1);
-        number = t.seat.2 ∙ sym (ap (λ (b : Berth). b.number) t.berth);
-        seen = t.seen;
-        mine = t.mine;
-        hub_seat = (t.hub_seat.0 ∙ is.hub_seat.0, t.hub_seat.1 ∙ is.hub_seat.1);
-        hub_number = t.hub_seat.2 ∙ sym (ap (λ (b : Berth). b.hub_number) t.berth);
-        heard = t.heard;
-        sent = t.sent;
-      })
+  left_by p s g is t = (
+    p.station,
+    ap (λ (b : Berth). cell_at sites b.host) t.berth ∙ is.cell,
+    record {
+      host = t.host ∙ sym (ap (λ (b : Berth). b.host) t.berth);
+      seat = (t.seat.0 ∙ is.seat.0, t.seat.1 ∙ is.seat.1);
+      number = t.seat.2 ∙ sym (ap (λ (b : Berth). b.number) t.berth);
+      seen = t.seen;
+      mine = t.mine;
+      hub_seat = (t.hub_seat.0 ∙ is.hub_seat.0, t.hub_seat.1 ∙ is.hub_seat.1);
+      hub_number = t.hub_seat.2 ∙ sym (ap (λ (b : Berth). b.hub_number) t.berth);
+      heard = t.heard;
+      sent = t.sent;
+    },
+  )
 
   pub all_left : (ps : List PortValue) (ss : List Seats) (gs : List Passage) → Each IsOwn ps → AreThrough ps ss gs → AllLeft sites hub ss gs
   all_left [] [] [] own t = tt

@@ -24,9 +24,10 @@ use Rattle.vk_threads.proofs.Dealing.{count_append}
 pub fresh_spares : (cell : Cell StationHistory) (host : ℕ) (seats : List (Sitting StationHistory StationEvent)) (from : ℕ)
     → ((k : ℕ) → k < length seats → slice_get seats k ≡ Some (fresh cell (from + k))) → Each (IsFresh cell host) (map (spare_at host) seats)
 fresh_spares cell host [] from each = tt
-fresh_spares cell host (s ∷ ss) from each =
-    (record { at = refl; number = from + 0; seat = same_Some s (fresh cell (from + 0)) (each 0 (omega arith)) },
-    fresh_spares cell host ss (suc from) (λ k low. subst (λ (n : ℕ). slice_get ss k ≡ Some (fresh cell n)) (omega arith) (each (suc k) (omega arith))))
+fresh_spares cell host (s ∷ ss) from each = (
+  record { at = refl; number = from + 0; seat = same_Some s (fresh cell (from + 0)) (each 0 (omega arith)) },
+  fresh_spares cell host ss (suc from) (λ k low. subst (λ (n : ℕ). slice_get ss k ≡ Some (fresh cell n)) (omega arith) (each (suc k) (omega arith))),
+)
 
 pub origin_fresh : (s : StationHistory) (c : Settings) (h : ℕ) → s.config ≡ c → s.host ≡ h → origin_of s ≡ fresh_station c h
 origin_fresh s c h config host =
@@ -35,14 +36,17 @@ origin_fresh s c h config host =
 pub opened_one : (c : Settings) (host count : ℕ) (cell : Cell StationHistory) (seats : List (Sitting StationHistory StationEvent)) (before after : List Spare)
     → cell.origin ≡ fresh_station c host → cell.seats ≡ count → length seats ≡ count
     → ((k : ℕ) → k < count → slice_get seats k ≡ Some (fresh cell k)) → after ≡ before ++ map (spare_at host) seats → HasOpened c host count cell before after
-opened_one c host count cell seats before after origin so_many all each is =
-    (map (spare_at host) seats, record {
-      origin = origin;
-      seats = so_many;
-      each = fresh_spares cell host seats 0 (λ k low. let same : k ≡ 0 + k = omega arith in
-          subst (λ (n : ℕ). slice_get seats k ≡ Some (fresh cell n)) same (each k (omega (arith, all))));
-      all = length-map seats (spare_at host) ∙ all;
-    }, is)
+opened_one c host count cell seats before after origin so_many all each is = (
+  map (spare_at host) seats,
+  record {
+    origin = origin;
+    seats = so_many;
+    each = fresh_spares cell host seats 0 (λ k low. let same : k ≡ 0 + k = omega arith in
+        subst (λ (n : ℕ). slice_get seats k ≡ Some (fresh cell n)) same (each k (omega (arith, all))));
+    all = length-map seats (spare_at host) ∙ all;
+  },
+  is,
+)
 
 -- one more station with its cell
 pub opened_more : (c : Settings) (hosts stations now later : List ℕ) (sites grown : List Site) (before after : List Spare) (h count : ℕ)
@@ -54,7 +58,7 @@ opened_more c hosts stations now later sites grown before after h count cell goe
     let site : Site = record { host = h; cell = cell } in
     let all : IsOpened c h (count_of h hosts) cell opened.0 = subst (λ n. IsOpened c h n cell opened.0) counted opened.1 in
     let one : AreOpened c hosts now (site ∷ ss) (opened.0 ++ sp) =
-        subst (λ l. AreOpened c hosts l (site ∷ ss) (opened.0 ++ sp)) (sym is) (opened.0, sp, refl, all, refl, are) in
+    subst (λ l. AreOpened c hosts l (site ∷ ss) (opened.0 ++ sp)) (sym is) (opened.0, sp, refl, all, refl, are) in
     subst (λ l. AreOpened c hosts stations l (after ++ sp)) (sym (append_assoc sites (site ∷ []) ss) ∙ ap (λ l. l ++ ss) (sym more))
     (subst (AreOpened c hosts stations (sites ++ site ∷ ss)) (sym (append_assoc before opened.0 sp) ∙ ap (λ l. l ++ sp) (sym opened.2))
     (goes (site ∷ ss) (opened.0 ++ sp) one))

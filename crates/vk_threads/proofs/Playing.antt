@@ -72,8 +72,7 @@ module _ (task : List Answer → Option Call) (r : Pid) (o : StationHistory) whe
       let P : List Call × List Answer → Type 0 = λ x. Plays task r o x.0 x.1 ys in
       subst P (λ i. (append-nil calls i, append-nil answers i)) two
   plays_append calls answers (Enters before e posted ∷ xs) ys one two =
-      let P : List Call × List Answer → Type 0 = λ x. Plays task r o x.0 x.1 ys in
-      (
+      let P : List Call × List Answer → Type 0 = λ x. Plays task r o x.0 x.1 ys in (
         one.0,
         plays_append (calls ++ call_in e) (answers ++ answer_in o before e) xs ys one.1
             (subst P (λ i. (sym (append_assoc calls (call_in e) (calls_by xs)) i, sym (append_assoc answers (answer_in o before e) (answers_by o xs)) i)) two),
@@ -195,8 +194,7 @@ cut_pump_only o host (Hears heard ∷ xs) m cut = absurd cut
 pub pumps_cut : (old mid new : PortValue) (why : Room) → PumpsSoFar old mid → IsRefused mid new why [] (IsCutPump mid.station.origin mid.host)
     → HasPumpedCut old new why
 pumps_cut old mid new why so it =
-    let only = cut_pump_only mid.station.origin mid.host it.last it.met it.cut in
-    (
+    let only = cut_pump_only mid.station.origin mid.host it.last it.met it.cut in (
       so.0 ++ it.last,
       does_more old mid new so.0 it.last so.1 it.does,
       only_append so.0 it.last so.2 only.0,

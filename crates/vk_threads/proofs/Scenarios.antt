@@ -61,9 +61,10 @@ all_have s ss (p ∷ ps) each = (still_has p s ss each.0, all_have s ss ps each.
 
 pub specs_have : (specs : List ProcessSpec) → Each (λ (p : Pid). has_process specs p ≡ true) (map spec_pid specs)
 specs_have [] = tt
-specs_have (s ∷ ss) =
-    (ap (λ b. b || has_process ss s.pid) (and_from (s.pid.host == s.pid.host) (s.pid.local == s.pid.local) (eq-eqb s.pid.host s.pid.host refl) (eq-eqb s.pid.local s.pid.local refl)),
-    all_have s ss (map spec_pid ss) (specs_have ss))
+specs_have (s ∷ ss) = (
+  ap (λ b. b || has_process ss s.pid) (and_from (s.pid.host == s.pid.host) (s.pid.local == s.pid.local) (eq-eqb s.pid.host s.pid.host refl) (eq-eqb s.pid.local s.pid.local refl)),
+  all_have s ss (map spec_pid ss) (specs_have ss),
+)
 
 -- the programs of a lawful scenario's tasks
 each_assigned : {G : Type 0} (specs : List ProcessSpec) (programs : List (Assigned G)) → Each (λ (p : Pid). has_process specs p ≡ true) (map pid_of programs)

@@ -74,7 +74,6 @@ are_sites c sites programs stations spares is opened = record {
 
 module _ {G P : Type 0} (task : G → List Answer → Option Call) (c : Settings) (sites : List Site) (hub : Cell HubLog) (programs : List (Assigned G))
     (stations : List ℕ) (rounds : ℕ) (ends : List End) (halt : Sitting HubLog HubEvent) (spares : List Spare) where
-
   pub have_ended : stations ≡ stations_of c.specs → AreOpened c (hosts_for programs stations) stations sites spares
       → hub.origin.programs ≡ length programs → hub.seats ≡ length (hosts_for programs stations) + 1 → length programs ≤ 512 → length stations ≤ 16
       → AreDifferent (map pid_of programs) → HasRunJobs G P task sites hub programs stations rounds ends halt
@@ -89,19 +88,19 @@ module _ {G P : Type 0} (task : G → List Answer → Option Call) (c : Settings
       let gs = passages_of js in
       let roles : map role_of gs ≡ map parts.duty_role ds ++ ticking d.clock.ports = parts.all_roles sites hub task d.clock ds d.first ends m d.each in
       let places : map host_of gs ≡ hosts =
-          parts.all_hosts sites hub task d.clock ds d.first ends m d.each
-          ∙ ap (λ l. l ++ map port_host d.clock.ports) (parts.duty_hosts task programs stations)
-          ∙ ap (λ l. (map program_host programs ++ stations) ++ l) (parts.clock_hosts sites hub stations d.clock.ports d.ports) in
+      parts.all_hosts sites hub task d.clock ds d.first ends m d.each
+      ∙ ap (λ l. l ++ map port_host d.clock.ports) (parts.duty_hosts task programs stations)
+      ∙ ap (λ l. (map program_host programs ++ stations) ++ l) (parts.clock_hosts sites hub stations d.clock.ports d.ports) in
       let own = parts.all_own sites hub task d.clock ds d.first d.each (parts.own_ports sites hub stations d.clock.ports d.ports) in
       let of : Each (λ (w : Work G P). Each (IsOf c) (ports_of w)) ws =
-          each_weaker (λ (w : Work G P). Each (parts.IsOwn sites hub) (ports_of w)) (λ (w : Work G P). Each (IsOf c) (ports_of w)) ws own
-          (λ w each. each_weaker (parts.IsOwn sites hub) (IsOf c) (ports_of w) each
-          (λ p mine. (opened_cell c hosts stations sites spares p.host p.station opened mine.cell).origin)) in
+      each_weaker (λ (w : Work G P). Each (parts.IsOwn sites hub) (ports_of w)) (λ (w : Work G P). Each (IsOf c) (ports_of w)) ws own
+      (λ w each. each_weaker (parts.IsOwn sites hub) (IsOf c) (ports_of w) each
+      (λ p mine. (opened_cell c hosts stations sites spares p.host p.station opened mine.cell).origin)) in
       let tasks : tasks_of gs ≡ map (program_task task) programs =
-          parts.tasks_by_roles gs ∙ ap parts.tasks_by roles ∙ parts.duty_tasks task programs stations d.clock.ports in
+      parts.tasks_by_roles gs ∙ ap parts.tasks_by roles ∙ parts.duty_tasks task programs stations d.clock.ports in
       let so_many : length js ≡ length programs + length stations + 1 =
-          parts.end_count sites hub task ws ends m ∙ length-append d.first (works.Clock d.clock ∷ [])
-          ∙ ap (λ n. n + 1) (parts.job_count sites hub task d.clock ds d.first d.each ∙ parts.duty_count task programs stations) in
+      parts.end_count sites hub task ws ends m ∙ length-append d.first (works.Clock d.clock ∷ [])
+      ∙ ap (λ n. n + 1) (parts.job_count sites hub task d.clock ds d.first d.each ∙ parts.duty_count task programs stations) in
       record {
         jobs = js;
         each_end = parts.are_ends sites hub task ws ends m own;
@@ -139,9 +138,10 @@ among_own h hs (g ∷ gs) = ap (λ b. (g == h) || b) (among_own h hs gs) ∙ or_
 
 each_among : (front hs : List ℕ) → Each (λ (h : ℕ). list_any (λ x. x == h) (front ++ hs) ≡ true) hs
 each_among front [] = tt
-each_among front (h ∷ hs) =
-    (among_own h hs front,
-    subst (λ l. Each (λ (n : ℕ). list_any (λ x. x == n) l ≡ true) hs) (append_assoc front (h ∷ []) hs) (each_among (front ++ h ∷ []) hs))
+each_among front (h ∷ hs) = (
+  among_own h hs front,
+  subst (λ l. Each (λ (n : ℕ). list_any (λ x. x == n) l ≡ true) hs) (append_assoc front (h ∷ []) hs) (each_among (front ++ h ∷ []) hs),
+)
 
 pub each_station : (c : Settings) (hs : List ℕ) → hs ≡ stations_of c.specs → Each (λ (h : ℕ). has_station c.specs h ≡ true) hs
 each_station c hs is =
@@ -183,11 +183,12 @@ pub own_programs : {G : Type 0} (c : Settings) (sites : List Site) (programs : L
     (spares : List Spare) → AreOpened c (hosts_for all stations) stations sites spares
     → Each (λ (a : Assigned G). has_process c.specs a.pid ≡ true) programs → Each (IsOwnAt sites) programs
 own_programs c sites [] all stations spares opened has = tt
-own_programs c sites (a ∷ others) all stations spares opened has =
-    (λ cell found. let is = (opened_cell c (hosts_for all stations) stations sites spares a.pid.host cell opened found).origin in
-        subst (λ (o : StationHistory). is_process_of o a.pid ≡ true) (sym is)
-        (and_from (has_process c.specs a.pid) (a.pid.host == a.pid.host) has.0 (eq-eqb a.pid.host a.pid.host refl)),
-    own_programs c sites others all stations spares opened has.1)
+own_programs c sites (a ∷ others) all stations spares opened has = (
+  λ cell found. let is = (opened_cell c (hosts_for all stations) stations sites spares a.pid.host cell opened found).origin in
+      subst (λ (o : StationHistory). is_process_of o a.pid ≡ true) (sym is)
+      (and_from (has_process c.specs a.pid) (a.pid.host == a.pid.host) has.0 (eq-eqb a.pid.host a.pid.host refl)),
+  own_programs c sites others all stations spares opened has.1,
+)
 
 count_absent : {G : Type 0} (c : Settings) (h : ℕ) (programs : List (Assigned G)) → Each (λ (a : Assigned G). has_process c.specs a.pid ≡ true) programs
     → has_station c.specs h ≡ false → count_of h (map program_host programs) ≡ 0
@@ -223,16 +224,17 @@ stocked c sites hub programs stations spares seats is opened has at_hub all = re
 new_seats : (hub : Cell HubLog) (seats : List (Sitting HubLog HubEvent)) (from : ℕ)
     → ((k : ℕ) → k < length seats → slice_get seats k ≡ Some (fresh hub (from + k))) → Each (IsNewAt hub) seats
 new_seats hub [] from each = tt
-new_seats hub (s ∷ ss) from each =
-    ((from + 0, same_Some s (fresh hub (from + 0)) (each 0 (omega arith))),
-    new_seats hub ss (suc from) (λ k low. let next : from + suc k ≡ suc from + k = omega arith in
-        subst (λ (n : ℕ). slice_get ss k ≡ Some (fresh hub n)) next (each (suc k) (omega arith))))
+new_seats hub (s ∷ ss) from each = (
+  (from + 0, same_Some s (fresh hub (from + 0)) (each 0 (omega arith))),
+  new_seats hub ss (suc from) (λ k low. let next : from + suc k ≡ suc from + k = omega arith in
+      subst (λ (n : ℕ). slice_get ss k ≡ Some (fresh hub n)) next (each (suc k) (omega arith))),
+)
 
 pub hub_seats_new : (hub : Cell HubLog) (count : ℕ) (seats left : List (Sitting HubLog HubEvent)) (last : Sitting HubLog HubEvent) → length seats ≡ count
     → ((k : ℕ) → k < count → slice_get seats k ≡ Some (fresh hub k)) → seats ≡ left ++ last ∷ [] → Each (IsNewAt hub) left × IsNewAt hub last
 hub_seats_new hub count seats left last all each is =
     let new = new_seats hub seats 0 (λ k low. let same : k ≡ 0 + k = omega arith in
-        subst (λ (n : ℕ). slice_get seats k ≡ Some (fresh hub n)) same (each k (omega (arith, all)))) in
+    subst (λ (n : ℕ). slice_get seats k ≡ Some (fresh hub n)) same (each k (omega (arith, all)))) in
     let parted = subst (Each (IsNewAt hub)) is new in
     (each_front (IsNewAt hub) left (last ∷ []) parted, (each_behind (IsNewAt hub) left (last ∷ []) parted).0)
 

@@ -71,10 +71,7 @@ impl<'a, 'p, P: Pacer> ClockWork<'a, 'p, P> {
 }
 
 /// Does the work.
-pub(crate) fn clock_end<P: Pacer, R: Wait + Clock>(
-    rt: &R,
-    work: ClockWork<P>,
-) -> End
+pub(crate) fn clock_end<P: Pacer, R: Wait + Clock>(rt: &R, work: ClockWork<P>) -> End
     ensures { MayEnd work.entry.ports (ticking work.entry.ports) work.entry.rounds result.seats.items result.met }
 {
     let ClockWork {

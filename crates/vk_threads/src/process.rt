@@ -98,7 +98,13 @@ pub(crate) fn process_end<G: Program, R: Wait + Clock>(rt: &R, work: ProcessWork
 }
 
 /// Makes a call and waits for its answer. There is none where the hub ended before it came.
-fn make<R: Wait + Clock>(rt: &R, alloc: Global, port: &mut Port, pid: Pid, call: &Call) -> Result<Option<Answer>, Room>
+fn make<R: Wait + Clock>(
+    rt: &R,
+    alloc: Global,
+    port: &mut Port,
+    pid: Pid,
+    call: &Call,
+) -> Result<Option<Answer>, Room>
     requires { is_process_of port.old.station.origin pid ≡ true }
     ensures made { IfOk result (HasCalled port.old port.new pid call.now) }
     ensures cut { IfErr result (λ why. HasCalledCut port.old port.new pid call.now why) }

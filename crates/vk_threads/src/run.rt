@@ -133,7 +133,8 @@ pub fn run_programs<G: Program + Send, C: Crew, P: Pacer + Send, R: Wait + Threa
     let Ok((sites, spares)) = open_all(alloc, &config, &stations, &hosts) else {
         return Err(RunRefusal::NoMemory);
     };
-    let Ok((hub, mut hub_seats)) = Hub::new(alloc, &config, plan, count, hosts.len() as u32 + 1) else {
+    let Ok((hub, mut hub_seats)) = Hub::new(alloc, &config, plan, count, hosts.len() as u32 + 1)
+    else {
         return Err(RunRefusal::NoMemory);
     };
     let halt = take_hub_seat(&mut hub_seats);
@@ -152,14 +153,21 @@ pub fn run_programs<G: Program + Send, C: Crew, P: Pacer + Send, R: Wait + Threa
 }
 
 /// The programs of these tasks.
-fn programs_of(alloc: Global, config: &Config, tasks: &[Task]) -> Result<Vec<Assigned<AnyProgram>>, NoMemory>
+fn programs_of(
+    alloc: Global,
+    config: &Config,
+    tasks: &[Task],
+) -> Result<Vec<Assigned<AnyProgram>>, NoMemory>
     requires { Each (IsTaskOf config.now.specs) tasks.now }
     ensures { IfOk result (λ programs. ArePrograms tasks.now programs.items) }
 {
     let mut programs = Vec::new(alloc);
     for task in tasks {
         let program = AnyProgram::new(alloc, config, task)?;
-        programs.push(Assigned { pid: task.pid, program })?;
+        programs.push(Assigned {
+            pid: task.pid,
+            program,
+        })?;
     }
     Ok(programs)
 }

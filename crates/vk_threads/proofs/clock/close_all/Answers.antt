@@ -41,6 +41,6 @@ loop-port-preserved g c =
 pub returns : goal.returns
 returns g c =
     let done : c.loop-port.port-iterator.rest.items ≡ [] =
-        empty c.loop-port.port-iterator.rest.items (omega (arith, c.in-None.ensures.steps.0, c.loop-port.port-iterator.rest.ok.0)) in
+    empty c.loop-port.port-iterator.rest.items (omega (arith, c.in-None.ensures.steps.0, c.loop-port.port-iterator.rest.ok.0)) in
     subst (λ l. HaveClosed c.args.ports.items l c.args.met) (append-nil c.loop-port.seats.items)
     (c.loop-port.invariant.closed [] (subst (λ l. HaveClosed l [] c.loop-port.left) (sym done) tt))

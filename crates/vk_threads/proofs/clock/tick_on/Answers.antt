@@ -14,7 +14,7 @@ returns-in-Err-clause-cut g c =
 pub returns-in-Ok-true-clause-ticked : goal.returns-in-Ok-true-clause-ticked
 returns-in-Ok-true-clause-ticked g c =
     let last = subst (λ b. HaveTicked 0 0 (if b then 1 else 0) c.tick_each.new.ports c.has_ended.new.ports) c.in-Ok-true.field-0-test
-        c.in-Ok-true.ensures.ended in
+    c.in-Ok-true.ensures.ended in
     rounds_end c.loop.counter c.args.rounds c.args.ports.now c.loop.ports c.tick_each.new.ports c.has_ended.new.ports (omega arith)
     c.loop.invariant.so_far c.in-Ok.ensures.ticked last
 
@@ -26,7 +26,7 @@ returns-in-Err-has_ended-clause-cut g c =
 pub loop-preserved : goal.loop-preserved
 loop-preserved g c =
     let last = subst (λ b. HaveTicked 0 0 (if b then 1 else 0) c.tick_each.new.ports c.has_ended.new.ports) c.in-Ok-false.field-0-test
-        c.in-Ok-false.ensures.ended in
+    c.in-Ok-false.ensures.ended in
     record {
       so_far = rounds_more c.loop.counter c.args.ports.now c.loop.ports c.tick_each.new.ports c.has_ended.new.ports c.loop.invariant.so_far
           c.in-Ok.ensures.ticked last;

@@ -13,12 +13,12 @@ loop-h-preserved c =
     let low = c.loop-h-test.true in
     let few = c.loop-h.invariant.few in
     elim c.if-h-host.branch [
-    | then-h-host w ↦ record {
+      | then-h-host w ↦ record {
         count = count_more hosts i c.args.host c.loop-h.count c.if-h-host.count true low c.loop-h.invariant.count
             (eq-eqb (get_or hosts i 0) c.args.host w.if-h-host.true) w.count-is;
         few = let is = w.count-is in omega arith;
       }
-    | else-h-host w ↦ record {
+      | else-h-host w ↦ record {
         count = let is = w.count-is in count_more hosts i c.args.host c.loop-h.count c.if-h-host.count false low c.loop-h.invariant.count
             (not_equal (get_or hosts i 0) c.args.host w.if-h-host.false) (omega arith);
         few = let is = w.count-is in omega arith;

@@ -36,7 +36,7 @@ pub returns-clause-jobs : goal.returns-clause-jobs
 returns-clause-jobs g c =
     let s = c.args.scenario in
     subst (λ n. OnOk c.run_programs.result (g.C.Crew.job_count c.run_programs.new.crew
-        ≡ min (g.C.Crew.job_count c.args.crew.now + (n + length (stations_of s.config.specs) + 1)) 18446744073709551615))
+    ≡ min (g.C.Crew.job_count c.args.crew.now + (n + length (stations_of s.config.specs) + 1)) 18446744073709551615))
     (programs_count s.tasks c.in-Ok.programs.items (subst (λ l. ArePrograms l c.in-Ok.programs.items) c.as_slice.ensures c.in-Ok.ensures))
     c.run_programs.ensures.jobs
 
@@ -44,7 +44,7 @@ pub returns-clause-no_jobs : goal.returns-clause-no_jobs
 returns-clause-no_jobs g c =
     let s = c.args.scenario in
     subst (λ n. IfErr c.run_programs.result (LeavesJobs (g.C.Crew.job_count c.args.crew.now)
-        (min (g.C.Crew.job_count c.args.crew.now + (n + length (stations_of s.config.specs) + 1)) 18446744073709551615)
-        (g.C.Crew.job_count c.run_programs.new.crew)))
+    (min (g.C.Crew.job_count c.args.crew.now + (n + length (stations_of s.config.specs) + 1)) 18446744073709551615)
+    (g.C.Crew.job_count c.run_programs.new.crew)))
     (programs_count s.tasks c.in-Ok.programs.items (subst (λ l. ArePrograms l c.in-Ok.programs.items) c.as_slice.ensures c.in-Ok.ensures))
     c.run_programs.ensures.no_jobs
