@@ -81,15 +81,15 @@ fn is_of(line: &str, pid: &str) -> bool {
 }
 
 /// What the process is answered in the report, in order, and how many calls and collects are answered at all.
-fn answers<'a>(alloc: Global, report: &'a str, pid: &str) -> Result<Vec<&'a str>, AllocError> {
+fn answers<'a>(alloc: Global, report: &'a str, pid: &str) -> Result<Vec<&'a [u8]>, AllocError> {
     let mut answers = Vec::new(alloc);
-    let mut answer = "";
+    let mut answer = b"".as_slice();
     for line in report.lines() {
         if is_of(line, pid) {
             answers.push(answer)?;
         } else if let Some((_, behind)) = line.split_once(" ") {
             if let Some((_, told)) = behind.split_once(" ") {
-                answer = told;
+                answer = told.as_bytes();
             }
         }
     }
@@ -105,23 +105,30 @@ fn a_page_is_written_and_read(rt: HostRuntime) -> Result<(), Fail> {
     assert_eq!(rt; client.len(), 6);
     assert_eq!(rt;
         &client[..5],
-        ["ok", "begun", "ok -", "begun", "ok -"].as_slice()
+        [
+            b"ok".as_slice(),
+            b"begun".as_slice(),
+            b"ok -".as_slice(),
+            b"begun".as_slice(),
+            b"ok -".as_slice()
+        ]
+        .as_slice()
     );
-    let mut page = String::from_str(alloc, "ok ")?;
+    let mut page = Vec::from_slice(alloc, b"ok ")?;
     for _ in 0..512 {
-        page.push_str("02")?;
+        page.extend_from_slice(b"02")?;
     }
-    assert_eq!(rt; client[5], page.as_str());
+    assert_eq!(rt; client[5], page.as_slice());
     let server = answers(alloc, report, "1.1")?;
     let mut requests = Vec::new(alloc);
     for answer in &server {
-        if answer.starts_with("ok 2.1 ") {
+        if answer.starts_with(b"ok 2.1 ") {
             requests.push(*answer)?;
         }
     }
     assert_eq!(rt; requests.len(), 2);
-    assert!(rt; requests[0].ends_with(" 512"));
-    assert!(rt; requests[1].ends_with(" 0"));
+    assert!(rt; requests[0].ends_with(b" 512"));
+    assert!(rt; requests[1].ends_with(b" 0"));
     Ok(())
 }
 
@@ -132,8 +139,8 @@ fn a_send_over_a_dead_link_ends(rt: HostRuntime) -> Result<(), Fail> {
     let report = str::from_utf8(sink.written()).unwrap_or("");
     let told = answers(alloc, report, "2.1")?;
     assert_eq!(rt; told.len(), 2);
-    assert_eq!(rt; told[0], "begun");
-    assert!(rt; told[1] == "noprocess" || told[1] == "timedout");
+    assert_eq!(rt; told[0], b"begun".as_slice());
+    assert!(rt; told[1] == b"noprocess".as_slice() || told[1] == b"timedout".as_slice());
     Ok(())
 }
 
