@@ -1,12 +1,16 @@
-//! `plain replay`, `plain replay --trace` and `plain check`: a plain, fast program of the rules of `vkernel`, for measuring.
+//! `plain replay`, `plain replay --trace`, `plain check` and `plain run`: a plain, fast program of the rules of `vkernel`, for measuring.
 
 mod calls;
 mod exchange;
 mod head;
+mod hub;
 mod machine;
 mod packets;
+mod programs;
 mod replay;
 mod report;
+mod run;
+mod scenario;
 mod station;
 mod telling;
 mod text;
@@ -34,7 +38,8 @@ fn main() -> ExitCode {
         ["replay"] => |text| replay::replay(text, false),
         ["replay", "--trace"] | ["--trace", "replay"] => |text| replay::replay(text, true),
         ["check"] => trace::check,
-        _ => return fail(2, "usage: plain replay [--trace] | check"),
+        ["run"] => run::run,
+        _ => return fail(2, "usage: plain replay [--trace] | check | run"),
     };
     let mut text = Vec::new();
     if std::io::stdin().lock().take(INPUT_BYTES + 1).read_to_end(&mut text).is_err() {

@@ -141,6 +141,17 @@ impl<'a> Reader<'a> {
         }
     }
 
+    /// A number of 64 bits, which may have a twentieth digit.
+    pub fn long(&mut self) -> Option<u64> {
+        let value = self.number(u64::MAX)?;
+        let digit = self.peek().wrapping_sub(b'0');
+        if digit > 9 {
+            return Some(value);
+        }
+        self.at += 1;
+        value.checked_mul(10).filter(|&value| value > 0)?.checked_add(u64::from(digit))
+    }
+
     #[inline(always)]
     pub fn positive(&mut self, most: u64) -> Option<u64> {
         self.number(most).filter(|&value| value > 0)

@@ -29,7 +29,7 @@ pub struct Message(pub [u8; 32]);
 impl Message {
     pub const ZERO: Message = Message([0; 32]);
 
-    fn word(&self, at: usize) -> u32 {
+    pub fn word(&self, at: usize) -> u32 {
         u32::from_be_bytes([self.0[at], self.0[at + 1], self.0[at + 2], self.0[at + 3]])
     }
 

@@ -236,6 +236,17 @@ impl Outbox {
         self.ends.len()
     }
 
+    pub fn clear(&mut self) {
+        self.bytes.clear();
+        self.ends.clear();
+    }
+
+    /// Puts a frame behind the others.
+    pub fn push(&mut self, frame: &[u8]) {
+        self.bytes.extend_from_slice(frame);
+        self.ends.push(self.bytes.len() as u32);
+    }
+
     /// Where a frame stands.
     #[inline]
     pub fn range(&self, frame: usize) -> Range<usize> {

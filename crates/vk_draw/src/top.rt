@@ -133,7 +133,7 @@ pub fn vkdraw<S: Source, K: Sink>(
     ensures write_count { IsWriteCount result (K.fault_count output.old) (K.fault_count output.new) }
 
     // NoMemory comes before anything is read, where the words take it, or where some of the input was read, and not a byte too many.
-    ensures memory { result ≡ Status.NoMemory → IsWanting input.old input.new (S.left input.old) (S.left input.new) }
+    ensures memory { result ≡ Status.NoMemory → IsWanting (input.new ≡ input.old) (S.left input.old) (S.left input.new) }
 
     // But at Done and WriteFault nothing is written. At WriteFault a front of the picture may be.
     ensures nothing { IsEarly result → output.new ≡ output.old }

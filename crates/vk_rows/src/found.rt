@@ -6,7 +6,7 @@ use std::io;
 use v_machine::Machine;
 use v_trace::{Trace, put_answer, read_trace};
 use vk_io::{MemorySink, MemorySource};
-use vk_top::{Status, vkernel};
+use vk_top::{Status, vkernel_alone};
 
 /// The most bytes that one read gives, and that one write takes.
 const READ_MOST: usize = 7;
@@ -54,12 +54,14 @@ fn answers_of(alloc: Global, text: &[u8]) -> io::Result<Vec<u8>> {
     }
 }
 
-/// Runs the top call over the row's input, a few bytes at a time.
+/// Runs the top call over the row's input, a few bytes at a time. No row has the words of `run`, whose output is another each time.
 pub fn found_of(alloc: Global, row: &Row) -> io::Result<Found> {
     let input = Vec::from_slice(alloc, &row.input)?;
     let mut source = MemorySource::new(input, Vec::new(alloc), READ_MOST);
     let mut sink = MemorySink::new(alloc, Vec::new(alloc), WRITE_MOST);
-    let answered = vkernel(alloc, &row.words, &mut source, &mut sink);
+    let Some(answered) = vkernel_alone(alloc, &row.words, &mut source, &mut sink) else {
+        return Err(io::Error::from(io::ErrorKind::Unsupported));
+    };
     let (number, status) = status_texts(alloc, &answered)?;
     let answers = match row.answers {
         Some(_) => answers_of(alloc, &row.input)?,

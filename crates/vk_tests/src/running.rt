@@ -2,9 +2,10 @@
 
 use std::alloc::{AllocError, Global};
 use vk_io::{MemorySink, MemorySource};
-use vk_top::{Status, vkernel};
+use vk_top::{Status, vkernel_alone};
 
-/// Calls the top call over the source, with at most 5 bytes a write, of which those of these numbers fail.
+/// Calls the top call over the source, with at most 5 bytes a write, of which those of these numbers fail. The word is not `run`, which
+/// alone has no answer.
 pub fn run_over(
     alloc: Global,
     word: &str,
@@ -14,7 +15,7 @@ pub fn run_over(
     let mut words = Vec::new(alloc);
     words.push(String::from_str(alloc, word)?)?;
     let mut sink = MemorySink::new(alloc, Vec::from_slice(alloc, failing_writes)?, 5);
-    let status = vkernel(alloc, &words, &mut source, &mut sink);
+    let status = vkernel_alone(alloc, &words, &mut source, &mut sink).unwrap_or(Status::CrewFault);
     Ok((status, sink))
 }
 

@@ -1,7 +1,9 @@
-//! Tests of the turn cell and of the links between stations, by threads: what no contract of theirs says.
+//! Tests of the turn cell, of the links between stations, and of ports, by threads: what no contract of theirs says.
 #![tactic(auto)]
 
 #[cfg(test)]
 mod links;
+#[cfg(test)]
+mod ports;
 #[cfg(test)]
 mod turns;

@@ -1,26 +1,31 @@
 -- From the answer to an input or to a storm to the words.
-use Rattle.std.proofs.Common.{◌≡◌, ℕ, List, take, Option, Some, None, subst}
+use Rattle.std.proofs.Common.{◌≡◌, ℕ, ◌⊎◌, List, take, Option, Some, None, inl, inr, refl, subst, arith}
 use Rattle.std.specs.Prelude.{IsSomeAnd}
 use Rattle.std.specs.Io.KnownBytes.{Appends}
 use Rattle.clap.specs.Walk.{Text}
 use Rattle.vk_top.proofs.Outcomes.{some_input}
+use Rattle.vk_top.proofs.Storms.{no_other}
 use Rattle.vk_top.proofs.Told.{nothing_more}
 use Rattle.vk_top.specs.declared.status.Status.{Status}
+use Rattle.vk_top.specs.declared.status.Status.TheVariants as status
+use Rattle.vk_top.specs.declared.words.Asked.{Asked}
 use Rattle.vk_top.specs.declared.words.Job.{Job}
-use Rattle.vk_top.specs.Jobs.{Asks, IsFront, IsJobDecided, job_output}
-use Rattle.vk_top.specs.Top.{OfInput}
+use Rattle.vk_top.specs.declared.words.Job.TheVariants as jobs
+use Rattle.vk_top.specs.Jobs.{Asks, IsAloneAnswer, IsFront, IsJobBadAt, IsJobCutShort, IsJobDecided, IsJobDone, IsJobNotARun, IsJobOverLimit, IsJobToWrite, IsStormAnswered, job_output}
+use Rattle.vk_top.specs.Top.{IsEarly, OfInput}
+use Rattle.vk_top.specs.Work.{IsOutcome}
 use Rattle.vk_top.specs.Words.{job_of}
 
-pub asks : (words : List Text) (j : Job) (told : Option (List ℕ)) (Holds : Job → List ℕ → Type 0) → Some j ≡ job_of words
+asks : (words : List Text) (j : Job) (told : Option (List ℕ)) (Holds : Job → List ℕ → Type 0) → Some j ≡ job_of words
     → OfInput told (Holds j) → Asks words told Holds
 asks words j told Holds is given = subst (λ (o : Option Job). IsSomeAnd o (λ k. OfInput told (Holds k))) is given
 
 -- whatever the input is
-pub asks_anyhow : (words : List Text) (j : Job) (told : Option (List ℕ)) (Holds : Job → List ℕ → Type 0) → Some j ≡ job_of words
+asks_anyhow : (words : List Text) (j : Job) (told : Option (List ℕ)) (Holds : Job → List ℕ → Type 0) → Some j ≡ job_of words
     → ((i : List ℕ) → Holds j i) → Asks words told Holds
 asks_anyhow words j told Holds is given = asks words j told Holds is (some_input told (Holds j) given)
 
-pub front_is : (words : List Text) (j : Job) (told old new : Option (List ℕ)) → Some j ≡ job_of words
+front_is : (words : List Text) (j : Job) (told old new : Option (List ℕ)) → Some j ≡ job_of words
     → OfInput told (λ i. (n : ℕ) × Appends old new (take n (job_output (Some j) i))) → OfInput told (λ i. IsFront words i old new)
 front_is words j told old new is given = record {
   input = given.input;
@@ -31,19 +36,120 @@ front_is words j told old new is given = record {
   };
 }
 
-pub nothing_written : (words : List Text) (told old : Option (List ℕ)) → OfInput told (λ i. IsFront words i old old)
+nothing_written : (words : List Text) (told old : Option (List ℕ)) → OfInput told (λ i. IsFront words i old old)
 nothing_written words told old = some_input told _ (λ i. record { count = 0; written = nothing_more old })
 
-pub clash : {A B : Type 0} (a : A) (o : Option A) → Some a ≡ o → o ≡ None → B
+clash : {A B : Type 0} (a : A) (o : Option A) → Some a ≡ o → o ≡ None → B
 clash a o is none = cc
 
 -- two jobs of the same words are one
-pub differ : {B : Type 0} (j k : Job) (o : Option Job) → Some j ≡ o → o ≡ Some k → (j ≡ k → B) → B
+differ : {B : Type 0} (j k : Job) (o : Option Job) → Some j ≡ o → o ≡ Some k → (j ≡ k → B) → B
 differ j k o is same follows = let e : j ≡ k = cc in follows e
 
-pub decided_for : (j k : Job) (o : Option Job) (told : Option (List ℕ)) (s : Status) → Some k ≡ o → o ≡ Some j → IsJobDecided k told s
+decided_for : (j k : Job) (o : Option Job) (told : Option (List ℕ)) (s : Status) → Some k ≡ o → o ≡ Some j → IsJobDecided k told s
     → IsJobDecided j told s
 decided_for j k o told s is same given =
     let P : Job → Type 0 = λ x. IsJobDecided x told s in
     let e : k ≡ j = cc in
     subst P e given
+
+-- The answer to a text.
+pub text_answer : (Unread Unwritten : Type 0) (words : List Text) (a : Asked) (left rest old new : Option (List ℕ)) (s : Status) →
+    Some (jobs.OfText a) ≡ job_of words → IsOutcome Unwritten a left rest old new s → (IsEarly s → Unwritten) →
+    IsAloneAnswer Unread Unwritten words left rest old new s
+text_answer Unread Unwritten words a left rest old new s job outcome nothing = record {
+  usage = λ is. absurd (outcome.kinds.0 is);
+  useless = λ none. clash (jobs.OfText a) (job_of words) job none;
+  done = λ is. asks words (jobs.OfText a) left (λ j i. IsJobDone j i old new) job (outcome.done is);
+  not_a_run = λ step is. asks words (jobs.OfText a) left (λ j i. IsJobNotARun j i step old new) job (outcome.no step is);
+  whole = λ b same told. outcome.whole told;
+  alone = λ n same. differ (jobs.OfText a) (jobs.Storm n) (job_of words) job same (λ e. absurd (cc));
+  bad = λ line is. asks words (jobs.OfText a) left (λ j i. IsJobBadAt j i line) job (outcome.bad line is);
+  limit = λ is.
+      asks words (jobs.OfText a) left (λ j i. (IsJobOverLimit j i × Unwritten) ⊎ IsJobCutShort j i old new) job (outcome.limit is);
+  limit_whole = λ is. outcome.read is;
+  memory = λ is. inr (outcome.memory is);
+  complete = λ j same. decided_for j (jobs.OfText a) (job_of words) left s job same outcome.complete;
+  writing = λ is. asks words (jobs.OfText a) left IsJobToWrite job (outcome.writing is);
+  crew = outcome.kinds.1;
+  nothing = nothing;
+  front = front_is words (jobs.OfText a) left old new job outcome.front;
+}
+
+-- The answer to a storm, of which nothing was read.
+pub storm_answer : (Unread Unwritten : Type 0) (words : List Text) (n : ℕ) (left old new : Option (List ℕ)) (s : Status) →
+    Some (jobs.Storm n) ≡ job_of words → Unread → IsStormAnswered Unwritten n old new s → (IsEarly s → Unwritten) →
+    IsAloneAnswer Unread Unwritten words left left old new s
+storm_answer Unread Unwritten words n left old new s job unread answered nothing =
+    let j : Job = jobs.Storm n in
+    record {
+      usage = λ is. no_other s status.Usage answered.kinds is (λ e. grind (arith, e)) (λ e. grind (arith, e)) (λ e. grind (arith, e)) (λ e. grind (arith, e));
+      useless = λ none. clash j (job_of words) job none;
+      done = λ is. asks_anyhow words j left (λ k i. IsJobDone k i old new) job (λ i. answered.done is);
+      not_a_run = λ step is.
+          no_other s (status.NotARun step) answered.kinds is (λ e. grind (arith, e)) (λ e. grind (arith, e)) (λ e. grind (arith, e)) (λ e. grind (arith, e));
+      whole = λ a same told. differ j (jobs.OfText a) (job_of words) job same (λ e. absurd (cc));
+      alone = λ m same. unread;
+      bad = λ line is.
+          no_other s (status.BadInput line) answered.kinds is (λ e. grind (arith, e)) (λ e. grind (arith, e)) (λ e. grind (arith, e)) (λ e. grind (arith, e));
+      limit = λ is. asks_anyhow words j left (λ k i. (IsJobOverLimit k i × Unwritten) ⊎ IsJobCutShort k i old new) job
+          (λ i. inl (answered.limit is));
+      limit_whole = λ is. inl (answered.limit is).1;
+      memory = λ is. inl unread;
+      complete = λ k same. decided_for k j (job_of words) left s job same answered.complete;
+      writing = λ is. asks_anyhow words j left IsJobToWrite job (λ i. answered.writing is);
+      crew = λ is. no_other s status.CrewFault answered.kinds is (λ e. grind (arith, e)) (λ e. grind (arith, e)) (λ e. grind (arith, e)) (λ e. grind (arith, e));
+      nothing = nothing;
+      front = front_is words j left old new job (some_input left _ (λ i. answered.front));
+    }
+
+-- The answer to words that ask for nothing that the program does.
+pub useless_answer : (Unread Unwritten : Type 0) (words : List Text) (left old : Option (List ℕ)) → job_of words ≡ None → Unread →
+    Unwritten → IsAloneAnswer Unread Unwritten words left left old old status.Usage
+useless_answer Unread Unwritten words left old none unread unwritten = record {
+  usage = λ is. none;
+  useless = λ is. (inl refl, unread, unwritten);
+  done = λ is. absurd (grind (arith, is));
+  not_a_run = λ step is. absurd (grind (arith, is));
+  whole = λ a same told. absurd told;
+  alone = λ n same. unread;
+  bad = λ line is. absurd (grind (arith, is));
+  limit = λ is. absurd (grind (arith, is));
+  limit_whole = λ is. absurd (grind (arith, is));
+  memory = λ is. absurd (grind (arith, is));
+  complete = λ j same. absurd (cc);
+  writing = λ is. absurd (grind (arith, is));
+  crew = λ is. grind (arith, is);
+  nothing = λ early. unwritten;
+  front = nothing_written words left old;
+}
+
+wanted : (j : Job) (told : Option (List ℕ)) → IsJobDecided j told status.NoMemory
+wanted (jobs.OfText a) told = tt
+wanted jobs.Run told = refl
+wanted (jobs.Storm n) told = tt
+
+-- The answer where memory is wanting to read the words.
+pub wanting_answer : (Unread Unwritten : Type 0) (words : List Text) (left old : Option (List ℕ)) → Unread → Unwritten →
+    IsAloneAnswer Unread Unwritten words left left old old status.NoMemory
+wanting_answer Unread Unwritten words left old unread unwritten = record {
+  usage = λ is. absurd (grind (arith, is));
+  useless = λ is. (inr refl, unread, unwritten);
+  done = λ is. absurd (grind (arith, is));
+  not_a_run = λ step is. absurd (grind (arith, is));
+  whole = λ a same told. absurd told;
+  alone = λ n same. unread;
+  bad = λ line is. absurd (grind (arith, is));
+  limit = λ is. absurd (grind (arith, is));
+  limit_whole = λ is. absurd (grind (arith, is));
+  memory = λ is. inl unread;
+  complete = λ j same. wanted j left;
+  writing = λ is. absurd (grind (arith, is));
+  crew = λ is. grind (arith, is);
+  nothing = λ early. unwritten;
+  front = nothing_written words left old;
+}
+
+-- No text and no storm is asked for where the words are those of a run.
+pub not_run : {B : Type 0} (j : Job) (o : Option Job) → Some j ≡ o → o ≡ Some jobs.Run → ¬ (j ≡ jobs.Run) → B
+not_run j o is same other = let e : j ≡ jobs.Run = cc in absurd (other e)

@@ -6,6 +6,7 @@ pub mod Lefts
 pub mod Nexts
 pub mod Outcomes
 pub mod Plays
+pub mod Runs
 pub mod Schedules
 pub mod Storms
 pub mod Told

@@ -9,7 +9,7 @@ use Rattle.vk_text.specs.Heads.{head_of}
 use Rattle.vk_text.specs.Lines.{lines_of}
 use Rattle.v_trace.specs.Traces.{behind_head}
 use Rattle.vk_top.proofs.Told.{nothing_more}
-use Rattle.vk_top.specs.Top.{IsDecided, IsEarly, IsOverLimit, OfInput, status_of, text_status}
+use Rattle.vk_top.specs.Top.{IsDecided, IsEarly, IsOverLimit, OfInput, TellsFaults, status_of, text_status}
 use Rattle.vk_top.specs.Work.{IsAnswered, IsLate, IsOutcome, IsReadCount, IsRefusal, IsUnread, IsWriteCount, IsWritten, KeepsLines}
 use Rattle.vk_top.specs.declared.status.Status.{Status}
 use Rattle.vk_top.specs.declared.status.Status.TheVariants as status
@@ -18,7 +18,7 @@ use Rattle.vk_top.specs.declared.words.Asked.TheVariants as asked
 
 -- counts of faults
 
-pub read_told : (s : Status) (before now : ℕ) → IsReadCount s before now → before < now → s ≡ status.ReadFault
+read_told : (s : Status) (before now : ℕ) → IsReadCount s before now → before < now → s ≡ status.ReadFault
 read_told status.ReadFault before now count more = refl
 read_told status.Done before now count more = absurd (omega (arith, count, more))
 read_told (status.NotARun step) before now count more = absurd (omega (arith, count, more))
@@ -26,9 +26,10 @@ read_told status.Usage before now count more = absurd (omega (arith, count, more
 read_told (status.BadInput line) before now count more = absurd (omega (arith, count, more))
 read_told status.WriteFault before now count more = absurd (omega (arith, count, more))
 read_told status.NoMemory before now count more = absurd (omega (arith, count, more))
+read_told status.CrewFault before now count more = absurd (omega (arith, count, more))
 read_told status.Limit before now count more = absurd (omega (arith, count, more))
 
-pub write_told : (s : Status) (before now : ℕ) → IsWriteCount s before now → before < now → s ≡ status.WriteFault
+write_told : (s : Status) (before now : ℕ) → IsWriteCount s before now → before < now → s ≡ status.WriteFault
 write_told status.WriteFault before now count more = refl
 write_told status.Done before now count more = absurd (omega (arith, count, more))
 write_told (status.NotARun step) before now count more = absurd (omega (arith, count, more))
@@ -36,12 +37,13 @@ write_told status.Usage before now count more = absurd (omega (arith, count, mor
 write_told (status.BadInput line) before now count more = absurd (omega (arith, count, more))
 write_told status.ReadFault before now count more = absurd (omega (arith, count, more))
 write_told status.NoMemory before now count more = absurd (omega (arith, count, more))
+write_told status.CrewFault before now count more = absurd (omega (arith, count, more))
 write_told status.Limit before now count more = absurd (omega (arith, count, more))
 
-pub read_fault : (s : Status) (before now : ℕ) → IsReadCount s before now → s ≡ status.ReadFault → Rose before now
+read_fault : (s : Status) (before now : ℕ) → IsReadCount s before now → s ≡ status.ReadFault → Rose before now
 read_fault s before now count is = let P : Status → Type 0 = λ t. IsReadCount t before now in subst P is count
 
-pub write_fault : (s : Status) (before now : ℕ) → IsWriteCount s before now → s ≡ status.WriteFault → Rose before now
+write_fault : (s : Status) (before now : ℕ) → IsWriteCount s before now → s ≡ status.WriteFault → Rose before now
 write_fault s before now count is = let P : Status → Type 0 = λ t. IsWriteCount t before now in subst P is count
 
 pub read_kept : (s : Status) (before now : ℕ) → ¬ (s ≡ status.ReadFault) → now ≡ before → IsReadCount s before now
@@ -52,6 +54,7 @@ read_kept status.Usage before now other same = same
 read_kept (status.BadInput line) before now other same = same
 read_kept status.WriteFault before now other same = same
 read_kept status.NoMemory before now other same = same
+read_kept status.CrewFault before now other same = same
 read_kept status.Limit before now other same = same
 
 pub late_count : (s : Status) (before now : ℕ) → IsLate s → now ≡ before → IsWriteCount s before now
@@ -63,6 +66,7 @@ late_count (status.BadInput line) before now late same = absurd late
 late_count status.ReadFault before now late same = absurd late
 late_count status.WriteFault before now late same = absurd late
 late_count status.NoMemory before now late same = absurd late
+late_count status.CrewFault before now late same = absurd late
 
 pub refusal_count : (a : Asked) (text : List ℕ) (s : Status) (before : ℕ) → IsRefusal a text s → IsWriteCount s before before
 refusal_count a text (status.BadInput line) before why = refl
@@ -72,6 +76,7 @@ refusal_count a text status.Done before why = absurd why
 refusal_count a text (status.NotARun step) before why = absurd why
 refusal_count a text status.Usage before why = absurd why
 refusal_count a text status.ReadFault before why = absurd why
+refusal_count a text status.CrewFault before why = absurd why
 refusal_count a text status.WriteFault before why = absurd why
 
 pub unread_count : (left rest : Option (List ℕ)) (s : Status) (before : ℕ) → IsUnread left rest s → IsWriteCount s before before
@@ -83,6 +88,7 @@ unread_count left rest (status.NotARun step) before why = absurd why
 unread_count left rest status.Usage before why = absurd why
 unread_count left rest (status.BadInput line) before why = absurd why
 unread_count left rest status.WriteFault before why = absurd why
+unread_count left rest status.CrewFault before why = absurd why
 
 -- an answer behind a write is none at which nothing is written
 
@@ -95,6 +101,7 @@ late_not_early (status.BadInput line) late early = late
 late_not_early status.ReadFault late early = late
 late_not_early status.WriteFault late early = late
 late_not_early status.NoMemory late early = late
+late_not_early status.CrewFault late early = late
 
 pub written_late : (text : List ℕ) (told : Status) (old new : Option (List ℕ)) (s : Status) → IsLate told → IsWritten text told old new s
     → IsEarly s → ⊥
@@ -103,31 +110,43 @@ written_late text told old new s late (inr failed) early = subst IsEarly failed 
 
 -- the input
 
-told_input : (left rest : Option (List ℕ)) (text : List ℕ) → IfSome left (λ i. (text ≡ i) × (rest ≡ Some []))
+pub told_input : (left rest : Option (List ℕ)) (text : List ℕ) → IfSome left (λ i. (text ≡ i) × (rest ≡ Some []))
     → IfSome left (λ bytes. bytes ≡ text)
 told_input None rest text h = tt
 told_input (Some i) rest text h = sym h.0
 
-told_whole : (left rest : Option (List ℕ)) (text : List ℕ) → IfSome left (λ i. (text ≡ i) × (rest ≡ Some []))
+pub told_whole : (left rest : Option (List ℕ)) (text : List ℕ) → IfSome left (λ i. (text ≡ i) × (rest ≡ Some []))
     → IfSome left (λ i. rest ≡ Some [])
 told_whole None rest text h = tt
 told_whole (Some i) rest text h = h.1
 
-all_taken : (left rest : Option (List ℕ)) (text : List ℕ) → IfSome left (λ i. (text ≡ i) × (rest ≡ Some [])) → Consumes left rest text
+pub all_taken : (left rest : Option (List ℕ)) (text : List ℕ) → IfSome left (λ i. (text ≡ i) × (rest ≡ Some [])) → Consumes left rest text
 all_taken None rest text h = tt
 all_taken (Some i) rest text h = subst (λ r. Consumes (Some i) r text) (sym h.1) (sym h.0 ∙ sym (append-nil text))
 
-too_many : (left rest : Option (List ℕ)) → LosesFront left rest (λ n. 16777216 < n) → OfInput left (λ i. 16777216 < length i)
+pub too_many : (left rest : Option (List ℕ)) → LosesFront left rest (λ n. 16777216 < n) → OfInput left (λ i. 16777216 < length i)
 too_many None rest lost = record { input = lost.bytes; all = tt; holds = lost.count }
 too_many (Some i) None lost = absurd lost.front
 too_many (Some i) (Some ys) lost =
     record { input = i; all = refl; holds = omega (arith, lost.count, ap length lost.front, length-append lost.bytes ys) }
 
+-- what is told of them
+
+pub tells_read : (s : Status) (before now : ℕ) → IsReadCount s before now → TellsFaults status.ReadFault s before now
+tells_read s before now count = record { answered = read_fault s before now count; told = read_told s before now count }
+
+pub tells_write : (s : Status) (before now : ℕ) → IsWriteCount s before now → TellsFaults status.WriteFault s before now
+tells_write s before now count = record { answered = write_fault s before now count; told = write_told s before now count }
+
+-- another answer where none was counted
+pub tells_none : (why s : Status) (before now : ℕ) → ¬ (s ≡ why) → now ≡ before → TellsFaults why s before now
+tells_none why s before now other same = record { answered = λ is. absurd (other is); told = λ more. absurd (omega (arith, more, same)) }
+
 pub some_input : (told : Option (List ℕ)) (Holds : List ℕ → Type 0) → ((i : List ℕ) → Holds i) → OfInput told Holds
 some_input None Holds holds = record { input = []; all = tt; holds = holds [] }
 some_input (Some i) Holds holds = record { input = i; all = refl; holds = holds i }
 
-weaker : (told : Option (List ℕ)) (P Q : List ℕ → Type 0) → ((i : List ℕ) → P i → Q i) → OfInput told P → OfInput told Q
+pub weaker : (told : Option (List ℕ)) (P Q : List ℕ → Type 0) → ((i : List ℕ) → P i → Q i) → OfInput told P → OfInput told Q
 weaker told P Q follows given = record { input = given.input; all = given.all; holds = follows given.input given.holds }
 
 -- the empty text is bad in its first line
@@ -151,6 +170,7 @@ decided a told (status.BadInput line) given = given
 decided a told status.ReadFault given = tt
 decided a told status.WriteFault given = tt
 decided a told status.NoMemory given = tt
+decided a told status.CrewFault given = given
 decided a told status.Limit given = given
 
 by_text : (a : Asked) (left : Option (List ℕ)) (text : List ℕ) (s : Status) → IfSome left (λ bytes. bytes ≡ text)
@@ -164,7 +184,7 @@ answered_is : (Unchanged : Type 0) (a : Asked) (left rest old new : Option (List
 answered_is Unchanged a left rest old new text s small read answered =
     let all = told_input left rest text read in
     record {
-      kinds = answered.kinds.0;
+      kinds = (answered.kinds.0, answered.kinds.2);
       done = λ is. record { input = text; all = all; holds = answered.done is };
       no = λ step is. record { input = text; all = all; holds = answered.no step is };
       whole = λ is. told_whole left rest text read;
@@ -195,7 +215,7 @@ limit_status a i many = sym (cond-true _ _ _ (lt-ltb 16777216 (length i) many))
 pub unread_is : (Unchanged : Type 0) (a : Asked) (left rest old : Option (List ℕ)) (s : Status) → Unchanged → IsUnread left rest s
     → IsOutcome Unchanged a left rest old old s
 unread_is Unchanged a left rest old status.ReadFault same why = record {
-  kinds = λ is. grind (arith, is);
+  kinds = (λ is. grind (arith, is), λ is. grind (arith, is));
   done = λ is. absurd (grind (arith, is));
   no = λ step is. absurd (grind (arith, is));
   whole = λ told. absurd told;
@@ -208,7 +228,7 @@ unread_is Unchanged a left rest old status.ReadFault same why = record {
   front = some_input left _ (λ i. (0, nothing_more old));
 }
 unread_is Unchanged a left rest old status.Limit same why = record {
-  kinds = λ is. grind (arith, is);
+  kinds = (λ is. grind (arith, is), λ is. grind (arith, is));
   done = λ is. absurd (grind (arith, is));
   no = λ step is. absurd (grind (arith, is));
   whole = λ told. absurd told;
@@ -221,7 +241,7 @@ unread_is Unchanged a left rest old status.Limit same why = record {
   front = some_input left _ (λ i. (0, nothing_more old));
 }
 unread_is Unchanged a left rest old status.NoMemory same why = record {
-  kinds = λ is. grind (arith, is);
+  kinds = (λ is. grind (arith, is), λ is. grind (arith, is));
   done = λ is. absurd (grind (arith, is));
   no = λ step is. absurd (grind (arith, is));
   whole = λ told. absurd told;
@@ -238,3 +258,4 @@ unread_is Unchanged a left rest old (status.NotARun step) same why = absurd why
 unread_is Unchanged a left rest old status.Usage same why = absurd why
 unread_is Unchanged a left rest old (status.BadInput line) same why = absurd why
 unread_is Unchanged a left rest old status.WriteFault same why = absurd why
+unread_is Unchanged a left rest old status.CrewFault same why = absurd why

@@ -189,7 +189,7 @@ nothing_more (Some xs) = sym (append-nil xs)
 pub refused_is : (a : Asked) (text : List ℕ) (old : Option (List ℕ)) (Unchanged : Type 0) (s : Status) → Unchanged → length text ≤ 16777216
     → IsRefusal a text s → IsAnswered Unchanged a text old old s
 refused_is a text old Unchanged (status.BadInput line) same small why = record {
-  kinds = (λ is. grind (arith, is), λ is. grind (arith, is));
+  kinds = (λ is. grind (arith, is), λ is. grind (arith, is), λ is. grind (arith, is));
   done = λ is. absurd (grind (arith, is));
   no = λ step is. absurd (grind (arith, is));
   bad = λ n is. bad_is a text n small (why ∙ is);
@@ -200,7 +200,7 @@ refused_is a text old Unchanged (status.BadInput line) same small why = record {
   front = (0, nothing_more old);
 }
 refused_is a text old Unchanged status.Limit same small why = record {
-  kinds = (λ is. grind (arith, is), λ is. grind (arith, is));
+  kinds = (λ is. grind (arith, is), λ is. grind (arith, is), λ is. grind (arith, is));
   done = λ is. absurd (grind (arith, is));
   no = λ step is. absurd (grind (arith, is));
   bad = λ n is. absurd (grind (arith, is));
@@ -211,7 +211,7 @@ refused_is a text old Unchanged status.Limit same small why = record {
   front = (0, nothing_more old);
 }
 refused_is a text old Unchanged status.NoMemory same small why = record {
-  kinds = (λ is. grind (arith, is), λ is. grind (arith, is));
+  kinds = (λ is. grind (arith, is), λ is. grind (arith, is), λ is. grind (arith, is));
   done = λ is. absurd (grind (arith, is));
   no = λ step is. absurd (grind (arith, is));
   bad = λ n is. absurd (grind (arith, is));
@@ -226,22 +226,24 @@ refused_is a text old Unchanged (status.NotARun step) same small why = absurd wh
 refused_is a text old Unchanged status.Usage same small why = absurd why
 refused_is a text old Unchanged status.ReadFault same small why = absurd why
 refused_is a text old Unchanged status.WriteFault same small why = absurd why
+refused_is a text old Unchanged status.CrewFault same small why = absurd why
 
 -- an answer behind a write is that of the work
 late_kinds : (s : Status) → IsLate s
     → ¬ (s ≡ status.Usage) × ¬ (s ≡ status.ReadFault) × ¬ (s ≡ status.WriteFault)
-    × ((line : ℕ) → ¬ (s ≡ status.BadInput line)) × ¬ (s ≡ status.NoMemory)
+    × ((line : ℕ) → ¬ (s ≡ status.BadInput line)) × ¬ (s ≡ status.NoMemory) × ¬ (s ≡ status.CrewFault)
 late_kinds status.Done late =
-    (λ is. grind (arith, is), λ is. grind (arith, is), λ is. grind (arith, is), λ line is. grind (arith, is), λ is. grind (arith, is))
+    (λ is. grind (arith, is), λ is. grind (arith, is), λ is. grind (arith, is), λ line is. grind (arith, is), λ is. grind (arith, is), λ is. grind (arith, is))
 late_kinds (status.NotARun step) late =
-    (λ is. grind (arith, is), λ is. grind (arith, is), λ is. grind (arith, is), λ line is. grind (arith, is), λ is. grind (arith, is))
+    (λ is. grind (arith, is), λ is. grind (arith, is), λ is. grind (arith, is), λ line is. grind (arith, is), λ is. grind (arith, is), λ is. grind (arith, is))
 late_kinds status.Limit late =
-    (λ is. grind (arith, is), λ is. grind (arith, is), λ is. grind (arith, is), λ line is. grind (arith, is), λ is. grind (arith, is))
+    (λ is. grind (arith, is), λ is. grind (arith, is), λ is. grind (arith, is), λ line is. grind (arith, is), λ is. grind (arith, is), λ is. grind (arith, is))
 late_kinds status.Usage late = absurd late
 late_kinds (status.BadInput line) late = absurd late
 late_kinds status.ReadFault late = absurd late
 late_kinds status.WriteFault late = absurd late
 late_kinds status.NoMemory late = absurd late
+late_kinds status.CrewFault late = absurd late
 
 late_is : (a : Asked) (text : List ℕ) (s : Status) → length text ≤ 16777216 → IsLate s → (s ≡ status.Limit → IsRefusedLate a text)
     → s ≡ status_of a text → IsToWrite a text
@@ -253,6 +255,7 @@ late_is a text (status.BadInput line) small late limit is = absurd late
 late_is a text status.ReadFault small late limit is = absurd late
 late_is a text status.WriteFault small late limit is = absurd late
 late_is a text status.NoMemory small late limit is = absurd late
+late_is a text status.CrewFault small late limit is = absurd late
 
 all_written : (Unchanged : Type 0) (a : Asked) (text : List ℕ) (old new : Option (List ℕ)) (s : Status) → length text ≤ 16777216
     → s ≡ text_status a text → IsLate s → (s ≡ status.Limit → IsRefusedLate a text) → Appends old new (text_output a text)
@@ -260,7 +263,7 @@ all_written : (Unchanged : Type 0) (a : Asked) (text : List ℕ) (old new : Opti
 all_written Unchanged a text old new s small same late limit written front =
     let other = late_kinds s late in
     record {
-      kinds = (other.0, other.1);
+      kinds = (other.0, other.1, other.5);
       done = λ is. done_is a text old new small (sym same ∙ is) written;
       no = λ step is. no_is a text old new step small (sym same ∙ is) written;
       bad = λ line is. absurd (other.3 line is);
@@ -274,7 +277,7 @@ all_written Unchanged a text old new s small same late limit written front =
 failed_is : (Unchanged : Type 0) (a : Asked) (text : List ℕ) (old new : Option (List ℕ)) → IsToWrite a text
     → (n : ℕ) × Appends old new (take n (output_of a text)) → IsAnswered Unchanged a text old new status.WriteFault
 failed_is Unchanged a text old new late front = record {
-  kinds = (λ is. grind (arith, is), λ is. grind (arith, is));
+  kinds = (λ is. grind (arith, is), λ is. grind (arith, is), λ is. grind (arith, is));
   done = λ is. absurd (grind (arith, is));
   no = λ step is. absurd (grind (arith, is));
   bad = λ line is. absurd (grind (arith, is));
@@ -347,6 +350,7 @@ told_late (status.BadInput line) told = absurd told
 told_late status.ReadFault told = absurd told
 told_late status.WriteFault told = absurd told
 told_late status.NoMemory told = absurd told
+told_late status.CrewFault told = absurd told
 told_late status.Limit told = absurd told
 
 pub check_work : (text : List ℕ) (w : Work) (t : Trace) (v : TraceVerdict) → trace_of text ≡ Ok t → v ≡ verdict_of t

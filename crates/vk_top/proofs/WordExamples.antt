@@ -129,9 +129,29 @@ version-short : job_of (codes "-V" ∷ []) ≡ None
 unfolding clap_on_literals
 version-short = refl
 
-run : job_of (codes "run" ∷ []) ≡ None
+run : job_of (codes "run" ∷ []) ≡ Some jobs.Run
 unfolding clap_on_literals
 run = refl
+
+run-ended_before : job_of (codes "--" ∷ codes "run" ∷ []) ≡ Some jobs.Run
+unfolding clap_on_literals
+run-ended_before = refl
+
+run-ended_after : job_of (codes "run" ∷ codes "--" ∷ []) ≡ Some jobs.Run
+unfolding clap_on_literals
+run-ended_after = refl
+
+run-trace : job_of (codes "run" ∷ codes "--trace" ∷ []) ≡ None
+unfolding clap_on_literals
+run-trace = refl
+
+run-number : job_of (codes "run" ∷ codes "5" ∷ []) ≡ None
+unfolding clap_on_literals
+run-number = refl
+
+run-twice : job_of (codes "run" ∷ codes "run" ∷ []) ≡ None
+unfolding clap_on_literals
+run-twice = refl
 
 storm : job_of (codes "storm" ∷ []) ≡ None
 unfolding clap_on_literals

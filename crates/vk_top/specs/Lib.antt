@@ -2,6 +2,7 @@ pub mod Check
 pub mod Jobs
 pub mod Playing
 pub mod Report
+pub mod Runs
 pub mod Statuses
 pub mod Storm
 pub mod Top

@@ -11,6 +11,7 @@ number_of (status.BadInput line) = 3
 number_of status.ReadFault = 4
 number_of status.WriteFault = 5
 number_of status.NoMemory = 6
+number_of status.CrewFault = 7
 number_of status.Limit = 8
 
 abbrev pub text_of : Status → List ℕ
@@ -21,4 +22,5 @@ text_of (status.BadInput line) = codes "vkernel: line " ++ decimal line ++ codes
 text_of status.ReadFault = codes "vkernel: reading failed"
 text_of status.WriteFault = codes "vkernel: writing failed"
 text_of status.NoMemory = codes "vkernel: out of memory"
+text_of status.CrewFault = codes "vkernel: the crew failed"
 text_of status.Limit = codes "vkernel: limit reached"

@@ -2,7 +2,7 @@
 use Rattle.std.specs.Prelude.{ℕ, ◌≡◌, ◌<◌, ◌≤◌, ◌⊎◌, nat_lt, true, List, [], length, take, Option, IfSome, Result, Ok, Err, if◌then◌else◌}
 use Rattle.std.specs.Io.KnownBytes.{Appends}
 use Rattle.vk_base.specs.declared.limits.TheConstants.{INPUT_BYTES}
-use Rattle.vk_io.specs.Causes.{LosesFront}
+use Rattle.vk_io.specs.Causes.{LosesFront, Rose}
 use Rattle.v_trace.specs.Traces.{trace_of}
 use Rattle.v_trace.specs.declared.trace.Trace.{Trace}
 use Rattle.v_trace.specs.declared.trace.TraceRefusal.{TraceRefusal}
@@ -131,6 +131,7 @@ IsTold (status.BadInput line) = ⊥
 IsTold status.ReadFault = ⊥
 IsTold status.WriteFault = ⊥
 IsTold status.NoMemory = ⊥
+IsTold status.CrewFault = ⊥
 IsTold status.Limit = ⊥
 
 -- the input is the text of a schedule of which an event is refused
@@ -148,8 +149,13 @@ abbrev pub IsToWrite : Asked → List ℕ → Type 0
 IsToWrite a input = IsTold (status_of a input) ⊎ ((length input ≤ INPUT_BYTES) × IsRefusedLate a input)
 
 -- memory was wanted for the words, and then nothing was read; or some of the input was read, but no byte too many
-abbrev pub IsWanting : {S : Type 0} → S → S → Option (List ℕ) → Option (List ℕ) → Type 0
-IsWanting old new left rest = (new ≡ old) ⊎ LosesFront left rest (λ n. (0 < n) × (n ≤ INPUT_BYTES))
+abbrev pub IsWanting : Type 0 → Option (List ℕ) → Option (List ℕ) → Type 0
+IsWanting Unread left rest = Unread ⊎ LosesFront left rest (λ n. (0 < n) × (n ≤ INPUT_BYTES))
+
+-- the status tells of faults that were counted, and is that one wherever some were
+pub record TellsFaults (why s : Status) (before now : ℕ) : Type 0 where
+  pub answered : s ≡ why → Rose before now
+  pub told : before < now → s ≡ why
 
 -- the input and memory decide the answer, unless a fault is told
 abbrev pub IsDecided : Asked → Option (List ℕ) → Status → Type 0
@@ -164,6 +170,7 @@ IsEarly status.Usage = Unit {0}
 IsEarly (status.BadInput line) = Unit {0}
 IsEarly status.ReadFault = Unit {0}
 IsEarly status.NoMemory = Unit {0}
+IsEarly status.CrewFault = Unit {0}
 IsEarly status.Limit = ⊥
 IsEarly status.Done = ⊥
 IsEarly (status.NotARun step) = ⊥

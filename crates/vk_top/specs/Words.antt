@@ -41,6 +41,7 @@ abbrev pub job_for : Option Text → Bool → Option Text → Option Job
 job_for (Some word) has_trace None =
     if bytes_eq word (codes "replay") then Some (jobs.OfText (asked.Replay (if has_trace then forms.Trace else forms.Report)))
     else if bytes_eq word (codes "check") && not has_trace then Some (jobs.OfText asked.Check)
+    else if bytes_eq word (codes "run") && not has_trace then Some jobs.Run
     else None
 job_for (Some word) has_trace (Some n) = if bytes_eq word (codes "storm") && not has_trace then storm_of n else None
 job_for None has_trace n = None
@@ -60,6 +61,7 @@ job_of words = if is_empty (fault_of the_app words) then job_by (matches_of the_
 -- a storm has at most 100,000 events
 abbrev pub IsFew : Job → Type 0
 IsFew (jobs.OfText a) = Unit {0}
+IsFew jobs.Run = Unit {0}
 IsFew (jobs.Storm n) = n ≤ EVENTS
 
 abbrev pub AreFewIn : Option Job → Type 0

@@ -60,7 +60,7 @@ IsLimit Unchanged a input old new = (IsOverLimit a input × Unchanged) ⊎ IsCut
 
 -- what the answer to a text says, which was read whole
 pub record IsAnswered (Unchanged : Type 0) (a : Asked) (text : List ℕ) (old new : Option (List ℕ)) (s : Status) : Type 0 where
-  pub kinds : ¬ (s ≡ status.Usage) × ¬ (s ≡ status.ReadFault)
+  pub kinds : ¬ (s ≡ status.Usage) × ¬ (s ≡ status.ReadFault) × ¬ (s ≡ status.CrewFault)
   pub done : s ≡ status.Done → IsDone a text old new
   pub no : (step : ℕ) → s ≡ status.NotARun step → IsNotARun a text step old new
   pub bad : (line : ℕ) → s ≡ status.BadInput line → IsBadAt a text line
@@ -72,7 +72,7 @@ pub record IsAnswered (Unchanged : Type 0) (a : Asked) (text : List ℕ) (old ne
 
 -- what the answer to an input says, which has these bytes left and then those
 pub record IsOutcome (Unchanged : Type 0) (a : Asked) (left rest old new : Option (List ℕ)) (s : Status) : Type 0 where
-  pub kinds : ¬ (s ≡ status.Usage)
+  pub kinds : ¬ (s ≡ status.Usage) × ¬ (s ≡ status.CrewFault)
   pub done : s ≡ status.Done → OfInput left (λ i. IsDone a i old new)
   pub no : (step : ℕ) → s ≡ status.NotARun step → OfInput left (λ i. IsNotARun a i step old new)
   pub whole : IsTold s → IfSome left (λ i. rest ≡ Some [])

@@ -20,14 +20,16 @@ pub enum Status {
     WriteFault,
     /// There was no memory for the work.
     NoMemory,
-    /// The input has too many bytes or events, or notes too many bytes for remote moves.
+    /// The crew that was to run the stations failed.
+    CrewFault,
+    /// The input has too many bytes or events, or notes too many bytes for remote moves; or a run was ended by a limit.
     Limit,
 }
 
 impl Status {
     ghost use Rattle.vk_top.specs.Statuses.{number_of, text_of};
 
-    /// The status with which the program exits: 0 for `Done`, else 1 to 6 or 8.
+    /// The status with which the program exits: 0 for `Done`, else 1 to 8.
     pub fn number(&self) -> u8
         ensures { result ≡ number_of self.now }
     {
@@ -39,6 +41,7 @@ impl Status {
             Status::ReadFault => 4,
             Status::WriteFault => 5,
             Status::NoMemory => 6,
+            Status::CrewFault => 7,
             Status::Limit => 8,
         }
     }
@@ -57,6 +60,7 @@ impl Status {
             Status::ReadFault => short_text(b"vkernel: reading failed"),
             Status::WriteFault => short_text(b"vkernel: writing failed"),
             Status::NoMemory => short_text(b"vkernel: out of memory"),
+            Status::CrewFault => short_text(b"vkernel: the crew failed"),
             Status::Limit => short_text(b"vkernel: limit reached"),
         }
     }

@@ -26,6 +26,8 @@ pub(crate) enum Asked {
 pub(crate) enum Job {
     /// The input is read, and this is asked of its text.
     OfText { asked: Asked },
+    /// `run`: a scenario is read, its stations are run beside each other, and the schedule of what happened is written.
+    Run,
     /// `storm N`: nothing is read, and what happens in the storm of this number, at most 100,000, is written.
     Storm { n: u32 },
 }
@@ -66,6 +68,7 @@ fn job_for(command: Option<&str>, has_trace: bool, number: Option<&str>) -> Opti
         (Some("replay"), None) if has_trace => Asked::Replay { form: Form::Trace },
         (Some("replay"), None) => Asked::Replay { form: Form::Report },
         (Some("check"), None) if !has_trace => Asked::Check,
+        (Some("run"), None) if !has_trace => return Some(Job::Run),
         (Some("storm"), Some(word)) if !has_trace => return storm_of(word),
         _ => return None,
     };

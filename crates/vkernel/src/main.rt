@@ -1,11 +1,13 @@
 //! The program: it hands the words, standard input and standard output to the top call, tells on standard error how that
-//! ended where it did not end well, and exits with the status's number. Stands on vk_top; no rule stands here.
+//! ended where it did not end well, and exits with the status's number. For `run` it makes a crew of threads and the pace of a real clock
+//! (`vk_threads`). Stands on vk_top; no rule stands here.
 #![tactic(auto)]
 
 use std::process::ExitCode;
 use std::rt::Env;
 use std::{env, io, str};
 use vk_io::{StdSink, StdSource};
+use vk_threads::{SleepPacer, ThreadCrew};
 use vk_top::{Status, vkernel};
 
 /// The arguments behind the program's own name.
@@ -24,25 +26,34 @@ fn words<R: Env + AllocGlobal>(rt: &R) -> Result<Vec<String>, Status> {
     Ok(words)
 }
 
-/// Reads standard input and writes standard output.
-fn run(rt: &HostRuntime) -> Status {
-    let words = match words(rt) {
-        Ok(words) => words,
-        Err(status) => return status,
-    };
-    let mut input = StdSource::new(rt.stdin());
-    let mut output = StdSink::new(rt.stdout());
-    vkernel(rt.alloc(), &words, &mut input, &mut output)
+/// Tells on standard error how the work ended.
+fn tell(rt: &HostRuntime, status: Status) {
+    let text = status.text();
+    if let Ok(text) = str::from_utf8(text.as_slice()) {
+        // Nothing is left to tell it to where this fails too.
+        let _ = eprintln!(rt; "{text}");
+    }
 }
 
 fn main(rt: HostRuntime) -> ExitCode {
-    let status = run(&rt);
+    let mut input = StdSource::new(rt.stdin());
+    let mut output = StdSink::new(rt.stdout());
+    let mut crew = ThreadCrew::new();
+    let mut pacer = SleepPacer::new();
+    let status = match words(&rt) {
+        Ok(words) => vkernel(
+            &rt,
+            rt.alloc(),
+            &words,
+            &mut input,
+            &mut output,
+            &mut crew,
+            &mut pacer,
+        ),
+        Err(status) => status,
+    };
     if status != Status::Done {
-        let text = status.text();
-        if let Ok(text) = str::from_utf8(text.as_slice()) {
-            // Nothing is left to tell it to where this fails too.
-            let _ = eprintln!(rt; "{text}");
-        }
+        tell(&rt, status);
     }
     ExitCode::from(status.number())
 }

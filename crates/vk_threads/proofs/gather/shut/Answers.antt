@@ -1,0 +1,20 @@
+use denote.Param.Send.{sendable}
+use Rattle.std.proofs.Common.{refl}
+use Rattle.std.proofs.Crossing.{crosses}
+use Rattle.vk_port.proofs.Crossing.{station_send}
+use Rattle.vk_threads.proofs.gather.shut.Goals as goal
+
+pub returns : goal.returns
+returns c =
+    let closed = c.close-station.ensures in
+    record {
+      closed = c.close-station.result;
+      host = refl;
+      events = c.into_events.ensures;
+      lawful = c.event_count-count.ensures.lawful;
+      origin = closed.origin;
+      back = record { seen = closed.seen; mine = closed.mine; others = closed.others; different = closed.different; numbers = closed.numbers };
+    }
+
+pub close-station-requires-send-S : goal.close-station-requires-send-S
+close-station-requires-send-S c κs = search (sendable, crosses, station_send) depth 20

@@ -1,0 +1,61 @@
+-- What the clock does with its ports, one at each station.
+use Rattle.std.specs.Prelude.{ℕ, ◌≡◌, ◌≤◌, ◌+◌, ◌⊎◌, true, List, [], ◌∷◌}
+use Rattle.turn_cell.specs.declared.replay.Room.{Room}
+use Rattle.turn_cell.specs.declared.replay.Room.TheVariants as rooms
+use Rattle.vk_port.specs.Ports.{Action, Does, PortValue}
+use Rattle.v_run.specs.Passages.{OnlyTicks, lost_count, tick_count}
+use Rattle.vk_threads.specs.Works.{FindsFull}
+
+-- each port did these actions, none but ticks of its own accord
+abbrev pub AreTicked : List PortValue → List PortValue → List (List Action) → Type 0
+AreTicked [] [] [] = Unit {0}
+AreTicked (p ∷ ps) (q ∷ qs) (acts ∷ all) = Does p q acts × OnlyTicks acts × AreTicked ps qs all
+AreTicked ps qs all = ⊥
+
+-- each ticked at least so often, and at most so often
+abbrev pub TickBetween : ℕ → ℕ → List (List Action) → Type 0
+TickBetween low high [] = Unit {0}
+TickBetween low high (acts ∷ all) = (low ≤ tick_count acts) × (tick_count acts ≤ high) × TickBetween low high all
+
+-- the fetches of all by which no frame was delivered
+abbrev pub all_lost : List (List Action) → ℕ
+all_lost [] = 0
+all_lost (acts ∷ all) = lost_count acts + all_lost all
+
+-- one of these ports finds no room
+abbrev pub OneFindsFull : List PortValue → List (List Action) → Type 0
+OneFindsFull [] all = ⊥
+OneFindsFull (p ∷ ps) [] = ⊥
+OneFindsFull (p ∷ ps) (acts ∷ all) = FindsFull p acts ⊎ OneFindsFull ps all
+
+-- Each port ticked between so often and so often, and together they lost at most so many fetches.
+pub record HaveTicked (low high lost : ℕ) (old new : List PortValue) : Type 0 where
+  pub acts : List (List Action)
+  pub does : AreTicked old new acts
+  pub ticks : TickBetween low high acts
+  pub few : all_lost acts ≤ lost
+
+-- The same, until one of them met this Room.
+pub record HaveTickedCut (low high lost : ℕ) (old new : List PortValue) (why : Room) : Type 0 where
+  pub acts : List (List Action)
+  pub does : AreTicked old new acts
+  pub ticks : TickBetween low high acts
+  pub few : all_lost acts ≤ lost
+  pub full : why ≡ rooms.Full → OneFindsFull new acts
+
+-- The clock went so many rounds, and where it met a Room, a part of one more.
+pub record HaveRounds (rounds : ℕ) (old new : List PortValue) : Type 0 where
+  pub done : ℕ
+  pub few : done ≤ rounds
+  pub ticked : HaveTicked done done 1 old new
+
+pub record HaveRoundsCut (rounds : ℕ) (old new : List PortValue) (why : Room) : Type 0 where
+  pub done : ℕ
+  pub high : ℕ
+  pub near : high ≤ done + 1
+  pub few : high ≤ rounds
+  pub ticked : HaveTickedCut done high 1 old new why
+
+-- the port may tick
+abbrev pub may_tick : PortValue → Type 0
+may_tick p = p.ticks ≡ true

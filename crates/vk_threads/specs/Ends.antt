@@ -1,0 +1,69 @@
+-- What the end of a job may be.
+use Rattle.std.specs.Prelude.{ℕ, ◌≡◌, List, [], ◌∷◌, ◌++◌, Option, Some, None, map}
+use mathlib.Core.List.{IsPrefix}
+use Rattle.turn_cell.specs.Seats.{Cell, IsSameSeat}
+use Rattle.vk_hub.specs.Hubs.{HubLog}
+use Rattle.turn_cell.specs.declared.replay.Room.{Room}
+use Rattle.vk_base.specs.declared.answer.Answer.{Answer}
+use Rattle.vk_base.specs.declared.call.Call.{Call}
+use Rattle.vk_base.specs.Settings.{Settings}
+use Rattle.vk_port.specs.Ports.{IsLog, PortValue, berth_of, stand_of}
+use Rattle.vk_rules.specs.Each.{Each}
+use Rattle.v_run.specs.Jobs.{IsJobEnd, JobEnd, KeepsTime}
+use Rattle.v_run.specs.Passages.{IsLast, IsRole, Passage, Pumps, Role, Runs, Ticks, fresh_station}
+use Rattle.vk_threads.specs.declared.end.Seats.{Seats}
+use Rattle.vk_threads.specs.Works.{HasClosed}
+
+-- This passage was through this port, and these are its seats.
+pub record IsThrough (p : PortValue) (s : Seats) (g : Passage) : Type 0 where
+  pub host : s.host ≡ p.host
+  pub berth : g.berth ≡ berth_of p
+  pub log : IsLog (berth_of p) (stand_of p) g.actions g.left
+  pub role : IsRole g.role p.station.origin g.actions
+  pub last : IsLast g.last
+  pub seat : IsSameSeat p.seat s.seat
+  pub seen : s.seat.seen ≡ g.left.seen
+  pub mine : s.seat.mine ≡ g.left.mine
+  pub hub_seat : IsSameSeat p.hub_seat s.hub_seat
+  pub heard : IsPrefix g.left.heard s.hub_seat.seen
+  pub sent : s.hub_seat.mine ≡ g.left.sent ++ g.last
+
+-- one passage through each port, with its seats
+abbrev pub AreThrough : List PortValue → List Seats → List Passage → Type 0
+AreThrough [] [] [] = Unit {0}
+AreThrough (p ∷ ps) (s ∷ ss) (g ∷ gs) = IsThrough p s g × AreThrough ps ss gs
+AreThrough ps ss gs = ⊥
+
+abbrev pub role_of : Passage → Role
+role_of g = g.role
+
+-- the port is one of a station of this configuration
+abbrev pub IsOf : Settings → PortValue → Type 0
+IsOf c p = p.station.origin ≡ fresh_station c p.host
+
+-- A job with these ports, in these roles, may hand back these seats with this Room.
+pub record MayEnd (ports : List PortValue) (roles : List Role) (rounds : ℕ) (seats : List Seats) (met : Option Room) : Type 0 where
+  pub passages : List Passage
+  pub through : AreThrough ports seats passages
+  pub each : map role_of passages ≡ roles
+  pub done : ℕ
+  pub time : Each (λ (g : Passage). KeepsTime done rounds g g.role) passages
+  pub job : (c : Settings) → Each (IsOf c) ports → IsJobEnd c (record { passages = passages; met = met })
+
+-- the clock's roles: one for each station
+abbrev pub ticking : List PortValue → List Role
+ticking [] = []
+ticking (p ∷ ps) = Ticks ∷ ticking ps
+
+-- the port is one at this hub
+abbrev pub IsAt : Cell HubLog → PortValue → Type 0
+IsAt hub p = p.hub ≡ hub
+
+abbrev pub port_host : PortValue → ℕ
+port_host p = p.host
+
+-- Each port was closed; the first halted the hub where this Room was met.
+abbrev pub HaveClosed : List PortValue → List Seats → Option Room → Type 0
+HaveClosed [] [] met = Unit {0}
+HaveClosed (p ∷ ps) (s ∷ ss) met = (s.host ≡ p.host) × HasClosed p s.seat s.hub_seat met × HaveClosed ps ss None
+HaveClosed ps ss met = ⊥

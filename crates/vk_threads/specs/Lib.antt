@@ -1,0 +1,10 @@
+pub mod Works
+pub mod Clocks
+pub mod Ends
+pub mod Duties
+pub mod Jobs
+pub mod Opened
+pub mod Ended
+pub mod Gathered
+pub mod Dealt
+pub mod Assigned

@@ -1,0 +1,185 @@
+//! The job that ticks all stations.
+ghost use Rattle.std.specs.Prelude.{◌≡◌, ◌≤◌, [], ◌++◌, map, length, IfOk, IfErr, if◌then◌else◌, vec_len, vec_capacity};
+ghost use Rattle.vk_rules.specs.Each.{Each};
+ghost use Rattle.vk_threads.specs.Clocks.{HaveRounds, HaveRoundsCut, HaveTicked, HaveTickedCut, may_tick};
+ghost use Rattle.vk_threads.specs.Ends.{HaveClosed, IsAt, MayEnd, port_host, ticking};
+
+use crate::end::{End, Seats, close_port};
+use std::alloc::Global;
+use std::marker::Model;
+use std::sync::{Mutex, Wait};
+use std::time::Clock;
+use turn_cell::Room;
+use vk_base::NoMemory;
+use vk_hub::Hub;
+use vk_io::Pacer;
+use vk_port::{Port, Pumped};
+
+/// Ticks all stations, so many rounds or until the hub has ended. There is room for the seats of its ports.
+#[derive(Drop)]
+pub struct ClockWork<'a, 'p, P: Pacer> {
+    alloc: Global,
+    hub: &'a Hub,
+    hosts: Vec<u16>,
+    ports: Vec<Port<'a>>,
+    rounds: u32,
+    pacer: &'a Mutex<&'p mut P>,
+    seats: Vec<Seats>,
+}
+
+impl<'a, 'p, P: Pacer> Model for ClockWork<'a, 'p, P> {
+    ghost use Rattle.std.specs.Prelude.{◌≡◌, ◌≤◌, [], map, vec_len, vec_capacity};
+    ghost use Rattle.vk_rules.specs.Each.{Each};
+    ghost use Rattle.vk_threads.specs.Clocks.{may_tick};
+    ghost use Rattle.vk_threads.specs.Duties.{ClockDuty};
+    ghost use Rattle.vk_threads.specs.Ends.{IsAt, port_host};
+
+    ghost Value = { ClockDuty };
+
+    ghost view = { λ w. record { ports = w.ports.items; rounds = w.rounds } };
+
+    ghost invariant = { λ w. Each (IsAt w.hub.now) w.ports.items × (map port_host w.ports.items ≡ w.hosts.items) × Each may_tick w.ports.items
+        × (w.seats.items ≡ []) × (vec_len w.ports ≤ vec_capacity w.seats) };
+}
+
+impl<'a, 'p, P: Pacer> ClockWork<'a, 'p, P> {
+    /// The clock of these stations, with its ports.
+    pub(crate) fn new(
+        alloc: Global,
+        hub: &'a Hub,
+        hosts: Vec<u16>,
+        ports: Vec<Port<'a>>,
+        rounds: u32,
+        pacer: &'a Mutex<&'p mut P>,
+    ) -> Result<ClockWork<'a, 'p, P>, NoMemory>
+        requires hub { Each (IsAt hub.now) ports.items }
+        requires hosts { map port_host ports.items ≡ hosts.items }
+        requires may { Each may_tick ports.items }
+        ensures { IfOk result (λ w. w ≡ record { ports = ports.entry.items; rounds = rounds }) }
+    {
+        let seats = Vec::with_capacity(alloc, ports.len())?;
+        Ok(ClockWork {
+            alloc,
+            hub,
+            hosts,
+            ports,
+            rounds,
+            pacer,
+            seats,
+        })
+    }
+}
+
+/// Does the work.
+pub(crate) fn clock_end<P: Pacer, R: Wait + Clock>(rt: &R, work: ClockWork<P>) -> End
+    ensures { MayEnd work.entry.ports (ticking work.entry.ports) work.entry.rounds result.seats.items result.met }
+{
+    let ClockWork {
+        alloc,
+        hub,
+        hosts,
+        mut ports,
+        rounds,
+        pacer,
+        mut seats,
+    } = work;
+    match tick_on(rt, alloc, ports.as_mut_slice(), rounds, pacer) {
+        Ok(()) => {
+            close_all(rt, ports, &hosts, hub, None, &mut seats);
+            End { seats, met: None }
+        }
+        Err(why) => {
+            let met = Some(why);
+            close_all(rt, ports, &hosts, hub, met, &mut seats);
+            End { seats, met }
+        }
+    }
+}
+
+/// Takes the seats of all ports back, and halts the hub by the first of them where a `Room` was met.
+fn close_all<R: Wait>(
+    rt: &R,
+    ports: Vec<Port>,
+    hosts: &[u16],
+    hub: &Hub,
+    met: Option<Room>,
+    seats: &mut Vec<Seats>,
+)
+    requires at_hub { Each (IsAt hub.now) ports.items }
+    requires at_hosts { map port_host ports.items ≡ hosts.now }
+    requires empty { seats.old.items ≡ [] }
+    requires room { vec_len ports ≤ vec_capacity seats.old }
+    ensures { HaveClosed ports.entry.items seats.new.items met }
+{
+    let mut left = met;
+    let mut at = 0;
+    for port in ports {
+        seats.push_reserved(close_port(rt, port, hub, hosts[at], left));
+        left = None;
+        at += 1;
+    }
+}
+
+/// Ticks each station once.
+fn tick_each<R: Wait>(rt: &R, alloc: Global, ports: &mut [Port]) -> Result<(), Room>
+    requires { Each may_tick ports.old }
+    ensures ticked { IfOk result (λ _. HaveTicked 1 1 0 ports.old ports.new) }
+    ensures cut { IfErr result (HaveTickedCut 0 1 0 ports.old ports.new) }
+{
+    for port in ports.iter_mut() {
+        match port.tick(rt, alloc) {
+            Ok(_) => {}
+            Err(why) => return Err(why),
+        }
+    }
+    Ok(())
+}
+
+/// Whether the first port hears that the hub has ended.
+fn has_ended<R: Wait>(rt: &R, alloc: Global, ports: &mut [Port]) -> Result<bool, Room>
+    ensures ended { IfOk result (λ ended. HaveTicked 0 0 (if ended then 1 else 0) ports.old ports.new) }
+    ensures cut { IfErr result (HaveTickedCut 0 0 1 ports.old ports.new) }
+{
+    if ports.is_empty() {
+        return Ok(false);
+    }
+    match ports[0].pump(rt, alloc) {
+        Ok(Pumped::Stopped) => Ok(true),
+        Ok(Pumped::Delivered { .. }) => Ok(false),
+        Ok(Pumped::Nothing) => Ok(false),
+        Err(why) => Err(why),
+    }
+}
+
+/// Waits once.
+fn wait_once<P: Pacer, R: Wait + Clock>(rt: &R, pacer: &Mutex<&mut P>) {
+    let mut held = pacer.lock(rt);
+    held.wait(rt);
+}
+
+/// Waits and ticks all stations, so many times, or until the hub has ended.
+pub(crate) fn tick_on<P: Pacer, R: Wait + Clock>(
+    rt: &R,
+    alloc: Global,
+    ports: &mut [Port],
+    rounds: u32,
+    pacer: &Mutex<&mut P>,
+) -> Result<(), Room>
+    requires { Each may_tick ports.old }
+    ensures ticked { IfOk result (λ _. HaveRounds rounds ports.old ports.new) }
+    ensures cut { IfErr result (HaveRoundsCut rounds ports.old ports.new) }
+{
+    for _ in 0..rounds {
+        wait_once(rt, pacer);
+        match tick_each(rt, alloc, ports) {
+            Ok(()) => {}
+            Err(why) => return Err(why),
+        }
+        match has_ended(rt, alloc, ports) {
+            Ok(true) => return Ok(()),
+            Ok(false) => {}
+            Err(why) => return Err(why),
+        }
+    }
+    Ok(())
+}

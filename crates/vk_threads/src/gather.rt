@@ -1,0 +1,152 @@
+//! What comes back from jobs, and the histories that it closes.
+ghost use Rattle.std.specs.Prelude.{◌≡◌, ℕ, ◌++◌, ◌∷◌, [], All, length, map, vec_len, filter, flat_map, IfOk, OnOk, not};
+ghost use Rattle.std.specs.List.{list_any};
+ghost use Rattle.turn_cell.specs.Seats.{IsSeatOf};
+ghost use Rattle.vk_threads.specs.Gathered.{AreReady, AreShut, HasGathered, HasShut, HaveClosed, all_spares, with_halt, hub_seat_in, is_at, is_elsewhere, met_full, met_no_memory, seat_in, seats_at, spare_of};
+
+use crate::end::{End, Seats};
+use crate::opening::{Site, Spare};
+use std::alloc::Global;
+use turn_cell::{Room, TurnSeat};
+use vk_base::NoMemory;
+use vk_hub::{Hub, HubState};
+use vk_join::StationLog;
+use vk_port::Station;
+
+/// All seats that came back, in order.
+#[derive(Drop)]
+struct Gathered {
+    seats: Vec<Spare>,
+    hub_seats: Vec<TurnSeat<HubState>>,
+}
+
+/// Whether a job met a history that may not grow.
+pub fn has_met_full(ends: &[End]) -> bool
+    ensures { result ≡ list_any met_full ends.now }
+{
+    ends.iter().any(|end| matches!(end.met, Some(Room::Full)))
+}
+
+/// Whether a job was without memory.
+pub fn has_met_no_memory(ends: &[End]) -> bool
+    ensures { result ≡ list_any met_no_memory ends.now }
+{
+    ends.iter()
+        .any(|end| matches!(end.met, Some(Room::NoMemory)))
+}
+
+/// The seats of all jobs, in order.
+fn gather_all(alloc: Global, ends: Vec<End>) -> Result<Gathered, NoMemory>
+    ensures { IfOk result (HasGathered ends.items) }
+{
+    let mut all = Gathered {
+        seats: Vec::new(alloc),
+        hub_seats: Vec::new(alloc),
+    };
+    for end in ends {
+        let End { seats, met: _ } = end;
+        match add_seats(&mut all.seats, &mut all.hub_seats, seats) {
+            Ok(()) => {}
+            Err(refused) => return Err(refused),
+        }
+    }
+    Ok(all)
+}
+
+fn add_seats(
+    spares: &mut Vec<Spare>,
+    hub_seats: &mut Vec<TurnSeat<HubState>>,
+    seats: Vec<Seats>,
+) -> Result<(), NoMemory>
+    ensures spares { OnOk result (spares.new.items ≡ spares.old.items ++ map spare_of seats.items) }
+    ensures hub_seats { OnOk result (hub_seats.new.items ≡ hub_seats.old.items ++ map hub_seat_in seats.items) }
+{
+    for two in seats {
+        let Seats {
+            host,
+            seat,
+            hub_seat,
+        } = two;
+        spares.push(Spare { host, seat })?;
+        hub_seats.push(hub_seat)?;
+    }
+    Ok(())
+}
+
+/// The seats of the station, and the others.
+fn parted(
+    alloc: Global,
+    seats: Vec<Spare>,
+    host: u16,
+) -> Result<(Vec<TurnSeat<Station>>, Vec<Spare>), NoMemory>
+    ensures own { IfOk result (λ r. r.0.items ≡ seats_at host seats.items) }
+    ensures others { IfOk result (λ r. r.1.items ≡ filter (is_elsewhere host) seats.items) }
+{
+    let mut own = Vec::new(alloc);
+    let mut others = Vec::new(alloc);
+    for spare in seats {
+        if spare.host == host {
+            let Spare { host: _, seat } = spare;
+            own.push(seat)?;
+        } else {
+            others.push(spare)?;
+        }
+    }
+    Ok((own, others))
+}
+
+/// The log of a station, all of whose seats have come back.
+fn shut(site: Site, own: Vec<TurnSeat<Station>>) -> StationLog
+    requires seats { All (λ s. IsSeatOf site.cell s) own.items }
+    requires all { vec_len own ≡ site.cell.seats }
+    ensures { HasShut site own.items result }
+{
+    let Site { host, cell } = site;
+    let station = cell.close(own);
+    let _count = station.event_count();
+    StationLog {
+        host,
+        events: station.into_events(),
+    }
+}
+
+/// The logs of all stations, whose seats have come back.
+fn close_all(
+    alloc: Global,
+    sites: Vec<Site>,
+    seats: Vec<Spare>,
+) -> Result<Vec<StationLog>, NoMemory>
+    requires { AreReady sites.items seats.items }
+    ensures { IfOk result (λ logs. AreShut sites.items seats.items logs.items) }
+{
+    let mut logs = Vec::new(alloc);
+    let mut left = seats;
+    for site in sites {
+        let (own, others) = parted(alloc, left, site.host)?;
+        left = others;
+        logs.push(shut(site, own))?;
+    }
+    Ok(logs)
+}
+
+/// Closes all stations and the hub, once all jobs have ended. Gives the stations' logs.
+pub fn close_run(
+    alloc: Global,
+    sites: Vec<Site>,
+    hub: Hub,
+    ends: Vec<End>,
+    halt: TurnSeat<HubState>,
+) -> Result<Vec<StationLog>, NoMemory>
+    requires ready { AreReady sites.items (all_spares ends.items) }
+    requires seats { All (λ s. IsSeatOf hub s) (with_halt ends.items halt) }
+    requires all { length (with_halt ends.items halt) ≡ hub.seats }
+    ensures { IfOk result (λ logs. HaveClosed sites.items hub ends.items halt logs.items) }
+{
+    let Gathered {
+        seats,
+        mut hub_seats,
+    } = gather_all(alloc, ends)?;
+    hub_seats.push(halt)?;
+    let _closed = hub.close(hub_seats);
+    close_all(alloc, sites, seats)
+}

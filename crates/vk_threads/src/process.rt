@@ -1,0 +1,149 @@
+//! The job that runs a process with its program.
+ghost use Rattle.std.specs.Prelude.{◌≡◌, [], ◌∷◌, true, IfOk, IfErr};
+ghost use Rattle.v_run.specs.Passages.{Runs};
+ghost use Rattle.vk_port.specs.Stations.{is_process_of};
+ghost use Rattle.vk_threads.specs.Ends.{MayEnd};
+ghost use Rattle.vk_threads.specs.Works.{HasCalled, HasCalledCut, HasPlayed, HasPlayedCut};
+
+use crate::end::{End, Seats, close_port, finish_port};
+use std::alloc::Global;
+use std::marker::Model;
+use std::sync::Wait;
+use std::time::Clock;
+use turn_cell::Room;
+use vk_base::{Answer, Call, CallOutcome, NoMemory, Pid};
+use vk_hub::Hub;
+use vk_port::{Collected, Port};
+use vk_program::Program;
+
+/// Runs a process with its program, to the program's end or until the hub has ended. There is room for the seats of its port.
+#[derive(Drop)]
+pub struct ProcessWork<'a, G: Program> {
+    alloc: Global,
+    hub: &'a Hub,
+    port: Port<'a>,
+    pid: Pid,
+    program: G,
+    seats: Vec<Seats>,
+}
+
+impl<'a, G: Program> Model for ProcessWork<'a, G> {
+    ghost use Rattle.std.specs.Prelude.{◌≡◌, ◌≤◌, [], true, vec_capacity};
+    ghost use Rattle.vk_port.specs.Stations.{is_process_of};
+    ghost use Rattle.vk_threads.specs.Duties.{ProcessDuty};
+
+    ghost Value = { ProcessDuty G };
+
+    ghost view = { λ w. record { port = w.port; pid = w.pid; program = w.program } };
+
+    ghost invariant = { λ w. (w.port.hub ≡ w.hub.now) × (is_process_of w.port.station.origin w.pid ≡ true) × (w.pid.host ≡ w.port.host)
+        × G.is_after w.program [] × (w.seats.items ≡ []) × (1 ≤ vec_capacity w.seats) };
+}
+
+impl<'a, G: Program> ProcessWork<'a, G> {
+    /// The job of this process.
+    pub(crate) fn new(
+        alloc: Global,
+        hub: &'a Hub,
+        port: Port<'a>,
+        pid: Pid,
+        program: G,
+    ) -> Result<ProcessWork<'a, G>, NoMemory>
+        requires hub { port.hub ≡ hub.now }
+        requires process { is_process_of port.station.origin pid ≡ true }
+        requires host { pid.host ≡ port.host }
+        requires fresh { G.is_after program [] }
+        ensures { IfOk result (λ w. w ≡ record { port = port.entry; pid = pid; program = program }) }
+    {
+        let seats = Vec::with_capacity(alloc, 1)?;
+        Ok(ProcessWork {
+            alloc,
+            hub,
+            port,
+            pid,
+            program,
+            seats,
+        })
+    }
+}
+
+/// Does the work.
+pub(crate) fn process_end<G: Program, R: Wait + Clock>(rt: &R, work: ProcessWork<G>) -> End
+    ensures { MayEnd (work.entry.port ∷ []) (Runs work.entry.pid (G.task work.entry.program) ∷ []) 0 result.seats.items result.met }
+{
+    let ProcessWork {
+        alloc,
+        hub,
+        mut port,
+        pid,
+        mut program,
+        mut seats,
+    } = work;
+    match play(rt, alloc, &mut port, pid, &mut program) {
+        Ok(true) => {
+            let (closed, met) = finish_port(rt, alloc, port, hub, pid.host);
+            seats.push_reserved(closed);
+            End { seats, met }
+        }
+        Ok(false) => {
+            seats.push_reserved(close_port(rt, port, hub, pid.host, None));
+            End { seats, met: None }
+        }
+        Err(why) => {
+            let met = Some(why);
+            seats.push_reserved(close_port(rt, port, hub, pid.host, met));
+            End { seats, met }
+        }
+    }
+}
+
+/// Makes a call and waits for its answer. There is none where the hub ended before it came.
+fn make<R: Wait + Clock>(
+    rt: &R,
+    alloc: Global,
+    port: &mut Port,
+    pid: Pid,
+    call: &Call,
+) -> Result<Option<Answer>, Room>
+    requires { is_process_of port.old.station.origin pid ≡ true }
+    ensures made { IfOk result (HasCalled port.old port.new pid call.now) }
+    ensures cut { IfErr result (λ why. HasCalledCut port.old port.new pid call.now why) }
+{
+    match port.call(rt, alloc, pid, call) {
+        Ok(CallOutcome::Now { answer }) => Ok(Some(answer)),
+        Ok(CallOutcome::Begun) => match port.collect_waiting(rt, alloc, pid) {
+            Ok(Collected::Answered { answer }) => Ok(Some(answer)),
+            Ok(Collected::Stopped) => Ok(None),
+            Err(why) => Err(why),
+        },
+        Err(why) => Err(why),
+    }
+}
+
+/// Makes the program's calls one after the other, each after the answer to the one before. True where the program came to its end,
+/// false where the hub ended before.
+pub(crate) fn play<G: Program, R: Wait + Clock>(
+    rt: &R,
+    alloc: Global,
+    port: &mut Port,
+    pid: Pid,
+    program: &mut G,
+) -> Result<bool, Room>
+    requires process { is_process_of port.old.station.origin pid ≡ true }
+    requires fresh { G.is_after program.old [] }
+    ensures played { IfOk result (λ ended. HasPlayed port.old port.new pid (G.task program.old) ended) }
+    ensures cut { IfErr result (λ why. HasPlayedCut port.old port.new pid (G.task program.old) why) }
+{
+    let mut last = None;
+    for _ in rt.forever() {
+        let Some(call) = program.next(last.as_ref()) else {
+            return Ok(true);
+        };
+        match make(rt, alloc, port, pid, &call) {
+            Ok(Some(answer)) => last = Some(answer),
+            Ok(None) => return Ok(false),
+            Err(why) => return Err(why),
+        }
+    }
+    unreachable!()
+}

@@ -1,0 +1,103 @@
+//! The job that delivers what comes for a station.
+ghost use Rattle.std.specs.Prelude.{◌≡◌, [], ◌∷◌, IfOk, IfErr};
+ghost use Rattle.v_run.specs.Passages.{Pumps};
+ghost use Rattle.vk_threads.specs.Ends.{MayEnd};
+ghost use Rattle.vk_threads.specs.Works.{HasPumped, HasPumpedCut};
+
+use crate::end::{End, Seats, close_port};
+use std::alloc::Global;
+use std::marker::Model;
+use std::sync::Wait;
+use std::time::Clock;
+use turn_cell::Room;
+use vk_base::NoMemory;
+use vk_hub::Hub;
+use vk_port::{Patience, Port, Pumped};
+
+/// Microseconds of the longest sleep of a thread that waits for frames.
+const LONGEST_SLEEP: u32 = 1_000;
+
+/// Delivers what comes for a station, until the hub has ended. There is room for the seats of its port.
+#[derive(Drop)]
+pub struct PumpWork<'a> {
+    alloc: Global,
+    hub: &'a Hub,
+    host: u16,
+    port: Port<'a>,
+    seats: Vec<Seats>,
+}
+
+impl<'a> Model for PumpWork<'a> {
+    ghost use Rattle.std.specs.Prelude.{◌≡◌, ◌≤◌, [], vec_capacity};
+    ghost use Rattle.vk_port.specs.Ports.{PortValue};
+
+    ghost Value = { PortValue };
+
+    ghost view = { λ w. w.port };
+
+    ghost invariant = { λ w. (w.port.hub ≡ w.hub.now) × (w.host ≡ w.port.host) × (w.seats.items ≡ []) × (1 ≤ vec_capacity w.seats) };
+}
+
+impl<'a> PumpWork<'a> {
+    /// The job that delivers at this station.
+    pub(crate) fn new(
+        alloc: Global,
+        hub: &'a Hub,
+        host: u16,
+        port: Port<'a>,
+    ) -> Result<PumpWork<'a>, NoMemory>
+        requires hub { port.hub ≡ hub.now }
+        requires host { host ≡ port.host }
+        ensures { IfOk result (λ w. w ≡ port.entry) }
+    {
+        let seats = Vec::with_capacity(alloc, 1)?;
+        Ok(PumpWork {
+            alloc,
+            hub,
+            host,
+            port,
+            seats,
+        })
+    }
+}
+
+/// Does the work.
+pub(crate) fn pump_end<R: Wait + Clock>(rt: &R, work: PumpWork) -> End
+    ensures { MayEnd (work.entry ∷ []) (Pumps ∷ []) 0 result.seats.items result.met }
+{
+    let PumpWork {
+        alloc,
+        hub,
+        host,
+        mut port,
+        mut seats,
+    } = work;
+    match pump_on(rt, alloc, &mut port) {
+        Ok(()) => {
+            seats.push_reserved(close_port(rt, port, hub, host, None));
+            End { seats, met: None }
+        }
+        Err(why) => {
+            let met = Some(why);
+            seats.push_reserved(close_port(rt, port, hub, host, met));
+            End { seats, met }
+        }
+    }
+}
+
+/// Delivers frame after frame, until the hub has ended.
+pub(crate) fn pump_on<R: Wait + Clock>(rt: &R, alloc: Global, port: &mut Port) -> Result<(), Room>
+    ensures stopped { IfOk result (λ _. HasPumped port.old port.new) }
+    ensures cut { IfErr result (λ why. HasPumpedCut port.old port.new why) }
+{
+    let mut patience = Patience::new(LONGEST_SLEEP);
+    for _ in rt.forever() {
+        match port.pump(rt, alloc) {
+            Ok(Pumped::Delivered { .. }) => patience.renew(),
+            Ok(Pumped::Nothing) => patience.wait(rt),
+            Ok(Pumped::Stopped) => return Ok(()),
+            Err(why) => return Err(why),
+        }
+    }
+    unreachable!()
+}
