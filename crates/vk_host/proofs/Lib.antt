@@ -7,9 +7,11 @@ mod Delivering
 mod Entries
 mod Events
 mod FewFrames
+mod Followed
 mod Happening
 mod Hearing
 mod InOrder
+mod InTurn
 mod Limits
 mod Naming
 mod Receiving

@@ -15,15 +15,18 @@ ghost use Rattle.vk_host.specs.Standing.{IsAt, IsEvent, StandsSomewhere};
 ghost use Rattle.vk_host.specs.Values.{has, input_of, is_own, most_before};
 
 use crate::desk::Desk;
+use crate::following::due_places;
 use crate::frames::seal;
 use crate::opening::{Opened, next_number, number_after, open_frame};
 use crate::response::{Response, loaded};
 use crate::{calls, deliveries, ticks};
 use std::alloc::Global;
 use std::marker::Model;
+use vk_base::limits::STATION_PROCESSES;
 use vk_base::{Call, Config, EventAnswer, NoMemory, Outcome, Pid, Refusal, StationEvent, Step};
 use vk_brief::{BriefCall, CallView, Steps};
 use vk_packet::Outbox;
+use vk_timer::Wheel;
 
 /// One station with its kernel: its tables and counts, and the steps of its last event and its packets, each in its frame.
 #[derive(Drop)]
@@ -31,15 +34,21 @@ pub struct Host {
     number: u64,
     events: u64,
     desk: Desk,
+    wheel: Wheel,
+    /// Whether something happened since the wheel was told what the processes wait for.
+    stale: bool,
 }
 
 impl Model for Host {
     ghost use Rattle.vk_host.specs.Desks.{value_in};
+    ghost use Rattle.vk_host.specs.Following.{IsFollowed};
     ghost use Rattle.vk_host.specs.Values.{StationValue};
 
     ghost Value = { StationValue };
 
     ghost view = { λ h. value_in h.desk h.number h.events };
+
+    ghost invariant = { λ h. IsFollowed h.stale h.desk.now h.desk.procs h.wheel };
 }
 
 impl Host {
@@ -60,6 +69,8 @@ impl Host {
             number: 0,
             events: 0,
             desk: Desk::new(alloc, config, host)?,
+            wheel: Wheel::new(alloc, STATION_PROCESSES as u32)?,
+            stale: true,
         })
     }
 
@@ -130,6 +141,7 @@ impl Host {
         ensures steps { length self.new.doing.steps ≤ STEPS }
     {
         count(&mut self.events, &mut self.number);
+        self.stale = true;
         let response = calls::call(&mut self.desk, pid, call);
         seal(
             &mut self.desk.out,
@@ -152,6 +164,7 @@ impl Host {
         ensures steps { length self.new.doing.steps ≤ STEPS }
     {
         count(&mut self.events, &mut self.number);
+        self.stale = true;
         let outcome = calls::collect(&mut self.desk, pid);
         are_few(&self.desk.steps, &self.desk.out);
         match outcome {
@@ -173,7 +186,9 @@ impl Host {
         ensures steps { length self.new.doing.steps ≤ STEPS }
     {
         count(&mut self.events, &mut self.number);
-        let now = ticks::tick(&mut self.desk);
+        let due = due_places(&mut self.wheel, self.stale, &self.desk.procs, self.desk.now);
+        self.stale = due != 0;
+        let now = ticks::tick(&mut self.desk, due);
         seal(
             &mut self.desk.out,
             self.desk.host,
@@ -195,6 +210,7 @@ impl Host {
     {
         let opened = open_frame(bytes);
         count_frame(&mut self.events, &mut self.number, &opened);
+        self.stale = true;
         let judged = deliveries::deliver(&mut self.desk, &opened);
         seal(
             &mut self.desk.out,

@@ -14,3 +14,5 @@ mod pages;
 mod reports;
 #[cfg(test)]
 mod sources_and_sinks;
+#[cfg(test)]
+mod tables;

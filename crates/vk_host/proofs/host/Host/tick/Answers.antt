@@ -1,6 +1,7 @@
 use Rattle.vk_base.specs.declared.event.EventAnswer.TheVariants as events_answered
 use Rattle.vk_rules.specs.Entries.{Ticked}
 use Rattle.vk_host.proofs.Events.{can_seal, event_is, tick_happens}
+use Rattle.vk_host.proofs.Followed.{followed_tick}
 use Rattle.vk_host.proofs.Limits.{few_ticked}
 use Rattle.vk_host.proofs.Rooms.{can_tick, few_before, few_yet}
 use Rattle.vk_host.proofs.host.Host.tick.Goals as goal
@@ -13,7 +14,19 @@ count-requires c =
 pub tick-now-requires : goal.tick-now-requires
 tick-now-requires c =
     let s = c.self.inside in
-    record { can = can_tick c.args.self.now s.desk s.number s.events c.self.view_is c.requires.somewhere c.requires.few }
+    record {
+      can = can_tick c.args.self.now s.desk s.number s.events c.self.view_is c.requires.somewhere c.requires.few;
+      rest = c.due_places-due.ensures.rest s.desk.times;
+    }
+
+pub invariant_of-self : goal.invariant_of-self
+invariant_of-self c =
+    let s = c.self.inside in
+    let due = c.due_places-due in
+    let can = can_tick c.args.self.now s.desk s.number s.events c.self.view_is c.requires.somewhere c.requires.few in
+    followed_tick s.desk.times s.desk.now due.result c.tick-now.new.desk.now s.desk.procs c.tick-now.new.desk.procs due.new.wheel
+    due.ensures.many due.ensures.ahead due.ensures.none (due.ensures.rest s.desk.times) can.fit.few c.tick-now.ensures.same.now
+    c.tick-now.ensures.seats
 
 pub seal-requires : goal.seal-requires
 seal-requires c =
