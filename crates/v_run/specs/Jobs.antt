@@ -8,7 +8,8 @@ use Rattle.vk_base.specs.Pids.{same_pid}
 use Rattle.vk_base.specs.Settings.{Settings}
 use Rattle.vk_hub.specs.declared.event.HubEvent.TheVariants as hub_events
 use Rattle.vk_hub.specs.Hubs.{others}
-use Rattle.vk_port.specs.Stations.{brings_last_number, is_used_up}
+use Rattle.vk_port.specs.Ports.{Action, Stand}
+use Rattle.vk_port.specs.Stations.{StationHistory, brings_last_number, is_used_up}
 use Rattle.vk_rules.specs.Each.{Each}
 use Rattle.v_run.specs.Passages.{HasDropped, HasHeard, IsAtEnd, Passage, Pumps, Runs, Role, Ticks, answers_by, calls_by, fresh_station, host_of, lost_count, tick_count}
 
@@ -26,13 +27,16 @@ abbrev pub last_entries : List Passage → ℕ
 last_entries [] = 0
 last_entries (g ∷ gs) = length g.last + last_entries gs
 
--- What this passage has seen has no room: its station's history is used up; or the station refused a frame with the last Lamport number;
--- or the hub's history is at its limit.
+-- What the seats have seen, which stand so after these actions, has no room: the history of their station is used up; or the station
+-- refused a frame with the last Lamport number; or the hub's history is at its limit.
+abbrev pub SeesFull : StationHistory → Stand → List Action → Type 0
+SeesFull o s acts =
+    (is_used_up o s.seen ≡ true)
+    ⊎ ((f : List ℕ) × HasDropped f acts × (brings_last_number (events.Deliver f) ≡ true))
+    ⊎ (200000 ≤ others s.heard)
+
 abbrev pub MetFull : Settings → Passage → Type 0
-MetFull c g =
-    (is_used_up (fresh_station c (host_of g)) g.left.seen ≡ true)
-    ⊎ ((f : List ℕ) × HasDropped f g.actions × (brings_last_number (events.Deliver f) ≡ true))
-    ⊎ (200000 ≤ others g.left.heard)
+MetFull c g = SeesFull (fresh_station c (host_of g)) g.left g.actions
 
 abbrev pub OneOf : {A : Type 0} → (A → Type 0) → List A → Type 0
 OneOf P [] = ⊥

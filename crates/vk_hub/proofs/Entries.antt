@@ -28,10 +28,6 @@ pub halts_more : (k : ℕ) (e : HubEvent) (xs : List (ℕ × HubEvent)) → has_
 halts_more k e [] = or_false (is_halt e)
 halts_more k e (x ∷ xs) = or_more (is_halt x.1) (has_halt xs) (is_halt e) (has_halt (xs ++ (k, e) ∷ [])) (halts_more k e xs)
 
-one_other : (b : Bool) → ◌≡◌ {A = ℕ} (cond b 0 (0 + 1)) (cond b 0 1)
-one_other true = refl
-one_other false = refl
-
 others_step : (a : Bool) (b c d : ℕ) → d ≡ b + c → cond a d (d + 1) ≡ cond a b (b + 1) + c
 others_step true b c d is = is
 others_step false b c d is = omega arith

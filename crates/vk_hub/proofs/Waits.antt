@@ -1,26 +1,7 @@
 -- The first of a station among what waits, place by place.
-use Rattle.std.proofs.Common.{◌≡◌, ℕ, zero, suc, ◌<◌, ◌==◌, true, false, List, [], ◌∷◌, ◌++◌, length, get_or, take, drop, set, sym, ap, ◌∙◌, arith, cond}
-use Rattle.std.proofs.Math.Seq.{drop-cons}
-use Rattle.vk_hub.specs.Links.{Waiting, first_of, rest_of}
-use Rattle.vk_hub.specs.Hubs.{first_for, without_first}
-
--- one of another station is passed over
-first_past : (host : ℕ) (w : Waiting) (ws : List Waiting) → (w.station == host) ≡ false → first_for host (w ∷ ws) ≡ first_for host ws
-first_past host w ws e = ap (λ b. cond b (first_of w.ring w.held) (first_for host ws)) e
-
-first_here : (host : ℕ) (w : Waiting) (ws : List Waiting) → (w.station == host) ≡ true → first_for host (w ∷ ws) ≡ first_of w.ring w.held
-first_here host w ws e = ap (λ b. cond b (first_of w.ring w.held) (first_for host ws)) e
-
-split_at : (ws : List Waiting) (i : ℕ) (w : Waiting) → i < length ws → w ≡ get_or ws i w → drop i ws ≡ w ∷ drop (suc i) ws
-split_at ws i w inside is = drop-cons ws i w inside ∙ ap (λ v. v ∷ drop (suc i) ws) (sym is)
-
-pub first_past_at : (host : ℕ) (ws : List Waiting) (i : ℕ) (w : Waiting) → i < length ws → w ≡ get_or ws i w → (w.station == host) ≡ false
-    → first_for host (drop i ws) ≡ first_for host (drop (suc i) ws)
-first_past_at host ws i w inside is other = ap (first_for host) (split_at ws i w inside is) ∙ first_past host w (drop (suc i) ws) other
-
-pub first_here_at : (host : ℕ) (ws : List Waiting) (i : ℕ) (w : Waiting) → i < length ws → w ≡ get_or ws i w → (w.station == host) ≡ true
-    → first_for host (drop i ws) ≡ first_of w.ring w.held
-first_here_at host ws i w inside is here = ap (first_for host) (split_at ws i w inside is) ∙ first_here host w (drop (suc i) ws) here
+use Rattle.std.proofs.Common.{◌≡◌, ℕ, zero, suc, ◌<◌, ◌==◌, true, List, [], ◌∷◌, ◌++◌, length, get_or, take, drop, set, sym, ap, ◌∙◌, arith, cond}
+use Rattle.vk_hub.specs.Links.{Waiting, rest_of}
+use Rattle.vk_hub.specs.Hubs.{without_first}
 
 without_here : (host : ℕ) (w : Waiting) (ws : List Waiting) → (w.station == host) ≡ true
     → without_first host (w ∷ ws) ≡ rest_of w.station w.ring w.held ∷ ws

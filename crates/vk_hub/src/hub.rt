@@ -82,8 +82,8 @@ impl Hub {
         self.cell.step(rt, alloc, seat, &event, &mut out)
     }
 
-    /// The oldest frame that waits for the station, or that the hub has ended. Both are entries, for which there was room. Where neither is due it is `Nothing`,
-    /// and nothing is entered. A frame that it gives was posted for the station.
+    /// The oldest frame that waits for the station, or that the hub has ended. Both are entries, for which there was room. Where neither is
+    /// due it is `Nothing`, and nothing is entered. A frame that it gives was posted for the station.
     pub fn fetch<R: Wait>(
         &self,
         rt: &R,

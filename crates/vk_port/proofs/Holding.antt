@@ -1,5 +1,5 @@
 -- A station keeps what it keeps: at the beginning, and with one more entry.
-use Rattle.std.proofs.Common.{◌≡◌, ℕ, ◌+◌, ◌-◌, ◌*◌, ◌/◌, ◌^◌, ◌<◌, ◌≤◌, Bool, true, false, ◌&&◌, ◌==◌, nat_le, nat_lt, Some, List, [], ◌∷◌, ◌++◌, length, map, None, refl, sym, ap, subst, ◌∙◌, inl, inr, arith}
+use Rattle.std.proofs.Common.{◌≡◌, ℕ, ◌+◌, ◌-◌, ◌*◌, ◌/◌, ◌^◌, ◌<◌, ◌≤◌, Bool, true, false, ◌&&◌, ◌==◌, nat_le, nat_lt, List, [], ◌∷◌, ◌++◌, length, map, None, refl, sym, ap, subst, ◌∙◌, inl, inr, arith}
 use Rattle.std.specs.Prelude.{sum_by}
 use Rattle.std.specs.List.{list_any}
 use Rattle.std.proofs.Math.Nat.{div-le_self}
@@ -35,7 +35,7 @@ use Rattle.vk_host.specs.Values.{StationValue, has, input_of, most_before}
 use Rattle.vk_host.specs.Values as values
 use Rattle.vk_port.specs.declared.station.TheConstants.{EMITTED_BYTES, EVENT_BYTES}
 use Rattle.vk_port.specs.Kept.{IsHeld, IsKept, IsShort, first_of}
-use Rattle.vk_port.specs.Stations.{Given, StationHistory, brings_last_number, bytes_of, emitted_bytes, entries_at, entry_at, is_full, is_own, is_process_of, is_ready, is_used_up_by, most_frames, shown}
+use Rattle.vk_port.specs.Stations.{StationHistory, brings_last_number, bytes_of, emitted_bytes, entries_at, entry_at, is_full, is_own, is_process_of, is_ready, is_used_up_by, most_frames}
 use Rattle.vk_port.proofs.Fronts.{grown}
 use Rattle.vk_port.proofs.Histories.{emitted_more, entries_more, entries_size}
 use Rattle.vk_port.proofs.Owners.{has_is, own_is}
@@ -179,10 +179,6 @@ module _ (c : Settings) (items : List (ℕ × StationEvent)) (s : StationValue) 
         let most : most_frames e ≤ 2048 = most_is (input_of e) in
         let bytes = short_bytes t.frames short in
         omega arith
-
-    -- and what is shown of it
-    pub is_shown : (old new : Given) → new ≡ record { answer = Some given; frames = t.frames; room = old.room } → new ≡ shown old.room entry
-    is_shown old new is = is ∙ (λ i. record { answer = Some (shows.answer i); frames = shows.frames i; room = old.room })
 
     module _ (room : is_full o items e ≡ false) where
       under : is_used_up_by (length items) (emitted_bytes es) (length (stations_of c.specs)) ≡ false

@@ -1,16 +1,13 @@
 -- The log of a port: none, one behind another, and what its seats have entered.
-use Rattle.std.proofs.Common.{◌≡◌, ℕ, List, [], ◌∷◌, ◌++◌, refl, sym, ap, subst, ◌∙◌, append_assoc}
+use Rattle.std.proofs.Common.{◌≡◌, ℕ, List, [], ◌∷◌, ◌++◌, refl, ap, subst, ◌∙◌}
 use mathlib.Core.List.{IsPrefix}
-use Rattle.std.specs.List.{flat_map}
-use Rattle.std.proofs.lemmas.List.{append-nil}
-use Rattle.std.proofs.lemmas.List.Concat.{flat_map-cons}
 use Rattle.turn_cell.proofs.Histories.{prefix_self}
 use Rattle.vk_base.specs.declared.event.StationEvent.{StationEvent}
 use Rattle.vk_base.specs.declared.event.StationEvent.TheVariants as events
 use Rattle.vk_hub.specs.declared.event.Fetched.{Fetched}
 use Rattle.vk_hub.specs.declared.event.HubEvent.{HubEvent}
 use Rattle.vk_hub.specs.declared.event.HubEvent.TheVariants as hub_events
-use Rattle.vk_port.specs.Ports.{Action, Berth, Delivers, Does, Drops, Enters, EntersAt, FetchesAt, Hears, IsLog, IsRight, IsSamePort, PortValue, Stand, after, berth_of, entered, entered_at, fetched_at, posts, sent_by, stand_of}
+use Rattle.vk_port.specs.Ports.{Action, Berth, Delivers, Does, Drops, Enters, EntersAt, FetchesAt, Hears, IsLog, IsRight, IsSamePort, PortValue, Stand, after, berth_of, entered_at, fetched_at, posts, stand_of}
 use Rattle.vk_port.proofs.Fronts.{prefix_over}
 
 -- the second has seen as much or more, and entered the same
@@ -89,36 +86,6 @@ module _ (b : Berth) where
   log_append s t u [] cs log more =
       log_before s t u cs (record { seen = log.0; heard = log.1; mine = log.2; sent = log.3 }) more
   log_append s t u (a ∷ acts) cs log more = (log.0, log_append (after b s a) t u acts cs log.1 more)
-
-  -- what the seats have entered
-  mine_after : (s : Stand) (a : Action) → (after b s a).mine ≡ s.mine ++ entered a
-  mine_after s (Enters before e posted) = refl
-  mine_after s (Delivers heard frame before posted) = refl
-  mine_after s (Drops heard frame) = sym (append-nil s.mine)
-  mine_after s (Hears heard) = sym (append-nil s.mine)
-
-  sent_after : (s : Stand) (a : Action) → (after b s a).sent ≡ s.sent ++ sent_by b.station b.host a
-  sent_after s (Enters before e posted) = refl
-  sent_after s (Delivers heard frame before posted) =
-      append_assoc s.sent (hub_events.Fetch b.host ∷ []) (posts b.station before (events.Deliver frame) posted)
-  sent_after s (Drops heard frame) = refl
-  sent_after s (Hears heard) = refl
-
-  pub mine_is : (s t : Stand) (acts : List Action) → IsLog b s acts t → t.mine ≡ s.mine ++ flat_map entered acts
-  mine_is s t [] log = log.2 ∙ sym (append-nil s.mine)
-  mine_is s t (a ∷ acts) log =
-      mine_is (after b s a) t acts log.1
-      ∙ ap (λ l. l ++ flat_map entered acts) (mine_after s a)
-      ∙ append_assoc s.mine (entered a) (flat_map entered acts)
-      ∙ ap (λ l. s.mine ++ l) (sym (flat_map-cons entered a acts))
-
-  pub sent_is : (s t : Stand) (acts : List Action) → IsLog b s acts t → t.sent ≡ s.sent ++ flat_map (sent_by b.station b.host) acts
-  sent_is s t [] log = log.3 ∙ sym (append-nil s.sent)
-  sent_is s t (a ∷ acts) log =
-      sent_is (after b s a) t acts log.1
-      ∙ ap (λ l. l ++ flat_map (sent_by b.station b.host) acts) (sent_after s a)
-      ∙ append_assoc s.sent (sent_by b.station b.host a) (flat_map (sent_by b.station b.host) acts)
-      ∙ ap (λ l. s.sent ++ l) (sym (flat_map-cons (sent_by b.station b.host) a acts))
 
 -- Ports.
 pub same_port : (p : PortValue) → IsSamePort p p

@@ -41,6 +41,8 @@ pub bytes_low : (frames : List (List ℕ)) (n : ℕ) → sum_by length (take n f
 bytes_low frames n =
     subst (λ l. sum_by length (take n frames) ≤ sum_by length l) (take-append-drop n frames) (sum_low (take n frames) (drop n frames))
 
+pub ruleset copied = (frame_more, bytes_more, bytes_low, short_at)
+
 or_rest : (a b : Bool) → (a || b) ≡ true → a ≡ false → b ≡ true
 or_rest true b h k = cc
 or_rest false b h k = h

@@ -22,8 +22,8 @@ use Rattle.vk_hub.specs.Links.{Frame}
 use Rattle.vk_rules.specs.Each.{Each}
 use Rattle.vk_rules.proofs.Lists.{each_append}
 use Rattle.vk_port.specs.Ports.{Action, AtHub, AtStation, Delivers, Does, Drops, Enters, HasDelivered, HasHeard, HasMade, Hears, IsCutEvent, IsCutPump, IsLog, IsMet, IsPumping, IsRefused, Met, PortValue, berth_of, fetched_at, stand_of}
-use Rattle.vk_port.specs.Stations.{Given, StationHistory, entry_at, frames_at, is_full, is_own, is_ready, most_frames, shown}
-use Rattle.vk_port.specs.Turns.{HasFetched, HasPosted, HasStopped, IsAnswered, IsCallAnswer, IsTicked, room_of}
+use Rattle.vk_port.specs.Stations.{Given, StationHistory, entry_at, frames_at, is_full, is_own, is_ready, shown}
+use Rattle.vk_port.specs.Turns.{HasFetched, HasPosted, HasStopped, IsAnswered, IsCallAnswer, IsTicked}
 use Rattle.vk_port.proofs.Answers.{call_answer, collect_answer, tick_answer}
 use Rattle.vk_port.proofs.Logs.{berth_same, does_more, same_over}
 
@@ -158,18 +158,6 @@ module _ (p q : PortValue) (frame : Frame) (got : HasFetched p q (fetched.Frame 
       (subst (λ b. IsLog b (stand_of q) (Enters before e count ∷ []) (stand_of r)) berth does.log) in
       record { same = same_over p q r got.same does.same; log = ((got.at, entry.0), entry.1) }
 
-  pub delivered : (r : PortValue) (given : EventAnswer) → HasMade q r [] e given → HasDelivered p r given
-  delivered r given made =
-      let P : Cell StationHistory → Type 0 = λ c. Does q r (Enters made.before e (length (frames_at c.origin made.before e)) ∷ []) in
-      record {
-        heard = got.heard;
-        frame = frame;
-        before = made.before;
-        does = on r made.before (length (frames_at p.station.origin made.before e)) (subst P got.same.station made.does);
-        seen = made.seen ∙ ap (λ n. made.before ++ (n, e) ∷ []) got.same.seat.2;
-        answer = subst (λ (c : Cell StationHistory). given ≡ (entry_at c.origin made.before e).answer) got.same.station made.answer;
-      }
-
   dropped_does : (r : PortValue) → Does q r [] → Does p r (Drops got.heard frame ∷ [])
   dropped_does r does =
       let none : IsLog (berth_of p) (fetched_at (berth_of p) (stand_of p) got.heard) [] (stand_of r) =
@@ -194,17 +182,6 @@ module _ (p q : PortValue) (frame : Frame) (got : HasFetched p q (fetched.Frame 
   pub undelivered : (r : PortValue) (why : Room) → IsRefused q r why [] (IsCutEvent q.station.origin e) →
       IsRefused p r why [] (IsCutPump p.station.origin p.host)
   undelivered r why refused = cut_short r why refused.last refused.met refused.does refused.cut refused.is_met
-
-pub heard_stop : (p q : PortValue) → HasFetched p q fetched.Stopped → HasHeard p q []
-heard_stop p q got = record {
-  heard = got.heard;
-  does = record {
-    same = got.same;
-    log =
-        let none : IsLog (berth_of p) (stand_of q) [] (stand_of q) = (prefix_self q.seat.seen, prefix_self q.hub_seat.seen, refl, refl) in
-        (got.at, subst (λ s. IsLog (berth_of p) s [] (stand_of q)) got.stand none);
-  };
-}
 
 -- After what a port did before.
 module _ (p q r : PortValue) (first : List Action) (does : Does p q first) where
@@ -266,12 +243,6 @@ made_tick p q first given made = subst IsTicked (sym made.answer) (tick_answer p
 pub made_collect : (p q : PortValue) (pid : Pid) (given : EventAnswer) → HasMade p q [] (events.Collect pid) given → IsAnswered given
 made_collect p q pid given made =
     subst IsAnswered (sym made.answer) (collect_answer p.station.origin made.before pid made.does.log.0.ready)
-
--- The place for frames keeps its room.
-pub room_kept : (ticks : Bool) (old new : ℕ) → ((other : StationEvent) → most_frames other ≤ old → most_frames other ≤ new) → room_of ticks ≤ old →
-    room_of ticks ≤ new
-room_kept true old new keeps room = keeps events.Tick room
-room_kept false old new keeps room = keeps (events.Deliver []) room
 
 pub got_frame : (p q : PortValue) (f : Fetched) (frame : Frame) → f ≡ fetched.Frame frame → (f ≢ fetched.Nothing → HasFetched p q f) →
     HasFetched p q (fetched.Frame frame)

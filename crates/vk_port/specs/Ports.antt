@@ -77,20 +77,6 @@ stand_of p = record { seen = p.seat.seen; mine = p.seat.mine; heard = p.hub_seat
 abbrev pub posts : StationHistory → List (ℕ × StationEvent) → StationEvent → ℕ → List HubEvent
 posts o before e posted = map hub_events.Post (take posted (frames_at o before e))
 
--- what an action enters at the station
-abbrev pub entered : Action → List StationEvent
-entered (Enters before e posted) = e ∷ []
-entered (Delivers heard frame before posted) = events.Deliver frame ∷ []
-entered (Drops heard frame) = []
-entered (Hears heard) = []
-
--- what it enters at the hub: posts and fetches, and nothing else
-abbrev pub sent_by : StationHistory → ℕ → Action → List HubEvent
-sent_by o host (Enters before e posted) = posts o before e posted
-sent_by o host (Delivers heard frame before posted) = hub_events.Fetch host ∷ posts o before (events.Deliver frame) posted
-sent_by o host (Drops heard frame) = hub_events.Fetch host ∷ []
-sent_by o host (Hears heard) = hub_events.Fetch host ∷ []
-
 module _ (b : Berth) where
   -- It enters the event behind this history, which begins with what the station's seat has seen, and in which that seat's own events are
   -- just those so far. The event is one of the station, was ready, and there was room; of its frames so many are posted.

@@ -115,8 +115,8 @@ abbrev pub HadRoom : StationHistory → List (ℕ × StationEvent) → Type 0
 HadRoom o history =
     (before rest : List (ℕ × StationEvent)) (x : ℕ × StationEvent) → history ≡ before ++ x ∷ rest → is_full o before x.1 ≡ false
 
--- What is true of every history of a station: its configuration has no fault, and has the station; the events are the station's own; each was
--- entered where there was room, and all are within the station's share.
+-- What is true of every history of a station: its configuration has no fault, and has the station; the events are the station's own; each
+-- was entered where there was room, and all are within the station's share.
 pub record IsLawfulHistory (o : StationHistory) : Type 0 where
   pub lawful : refusal_of o.config.times o.config.pool o.config.specs ≡ None
   pub station : has_station o.config.specs o.host ≡ true

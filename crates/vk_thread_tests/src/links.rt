@@ -1,31 +1,17 @@
 ghost use Rattle.std.specs.Prelude.{◌≡◌, ◌≤◌, ◌<◌, IfSome, OnOk, length};
 ghost use Rattle.turn_cell.specs.Seats.{IsSeatOf};
 
+use crate::ports::{config_of, process};
 use std::alloc::Global;
 use std::test::Fail;
-use vk_base::{Config, FrameBytes, Pid, ProcessSpec, Times};
+use vk_base::{Config, FrameBytes};
 use vk_event::LinkPlan;
 use vk_frame::{Header, seal};
 use vk_hub::{Fetched, Hub};
 
 // Two stations with a process each.
 fn config(alloc: Global) -> Option<Config> {
-    let times = Times {
-        tries: 4,
-        interval: 4,
-        life: 16,
-    };
-    let specs = [
-        ProcessSpec {
-            pid: Pid { host: 1, local: 1 },
-            size: 0,
-        },
-        ProcessSpec {
-            pid: Pid { host: 2, local: 1 },
-            size: 0,
-        },
-    ];
-    Config::new(alloc, times, 2, &specs).ok()
+    config_of(alloc, &[process(1, 1), process(2, 1)])
 }
 
 // A frame from station 2 to station 1.

@@ -21,7 +21,7 @@ const TIMES: Times = Times {
     life: 8,
 };
 
-fn config_of(alloc: Global, specs: &[ProcessSpec]) -> Option<Config>
+pub fn config_of(alloc: Global, specs: &[ProcessSpec]) -> Option<Config>
     ensures { IfSome result (λ c. refusal_of c.times c.pool c.specs ≡ None) }
 {
     match Config::new(alloc, TIMES, 16, specs) {
@@ -30,7 +30,7 @@ fn config_of(alloc: Global, specs: &[ProcessSpec]) -> Option<Config>
     }
 }
 
-fn process(host: u16, local: u16) -> ProcessSpec
+pub fn process(host: u16, local: u16) -> ProcessSpec
     requires { (0 < host) × (host < 65535) × (0 < local) }
 {
     ProcessSpec {

@@ -60,7 +60,7 @@ impl Tally {
     }
 }
 
-fn is_up(gate: &AtomicBool) -> bool {
+pub fn is_up(gate: &AtomicBool) -> bool {
     for _ in 0..10_000_000 {
         if gate.load(SeqCst) {
             return true;

@@ -20,7 +20,8 @@ use Rattle.vk_rules.specs.Each.{Each}
 use Rattle.v_run.specs.Passages.{HasHeard, IsAtEnd, IsNext, IsNextCall, Plays, answer_in, answers_by, call_in, calls_by, lost_count}
 use Rattle.vk_threads.specs.Works.{FindsFull, HasCalled, HasCalledBy, HasCalledCut, HasPlayed, HasPlayedCut}
 use Rattle.vk_port.proofs.Logs.{does_more, does_nothing}
-use Rattle.vk_threads.proofs.Playing.{IsQuiet, answers_append, calls_append, dropped_append, heard_append, lost_append, met_own, met_pump, plays_append, pumping_plays, pumping_quiet}
+use Rattle.vk_threads.proofs.Full.{full_after}
+use Rattle.vk_threads.proofs.Playing.{IsQuiet, answers_append, calls_append, heard_append, lost_append, met_own, met_pump, plays_append, pumping_plays, pumping_quiet}
 
 -- the call itself
 abbrev first_of : (o : StationHistory) → (before : List (ℕ × StationEvent)) → Pid → Call → List Action
@@ -29,18 +30,6 @@ first_of o before pid call = Enters before (events.Call pid call) (length (frame
 first_plays : (o : StationHistory) (before : List (ℕ × StationEvent)) (pid : Pid) (call : Call) (n : ℕ) (task : List Answer → Option Call)
     (calls : List Call) (answers : List Answer) → IsNextCall task calls answers call → Plays task pid o calls answers (Enters before (events.Call pid call) n ∷ [])
 first_plays o before pid call n task calls answers next = ((refl, next), tt)
-
-pub called_now : (old new : PortValue) (pid : Pid) (call : Call) (a : Answer)
-    → HasMade old new [] (events.Call pid call) (answered.Answered a) → HasCalled old new pid call (Some a)
-called_now old new pid call a made =
-    let o = old.station.origin in
-    let acts = first_of o made.before pid call in (
-      acts,
-      record { does = made.does; plays = first_plays o made.before pid call (length (frames_at o made.before (events.Call pid call))) },
-      refl,
-      append-nil (answer_in o made.before (events.Call pid call)) ∙ ap (λ x. option_to_list (given x)) (sym made.answer),
-      refl,
-    )
 
 -- behind a call that was begun
 module _ (old mid new : PortValue) (pid : Pid) (call : Call) (made : HasMade old mid [] (events.Call pid call) answered.Begun) where
@@ -167,34 +156,6 @@ module _ (old mid new : PortValue) (pid : Pid) (call : Call) (made : HasMade old
         (λ full. full_either first it.last it.met it.cut (subst (λ (w : Room). IsMet new w it.met) full it.is_met)),
       )
 
--- a call that met a Room itself
-own_plays : (old : PortValue) (pid : Pid) (call : Call) (o : StationHistory) (last : List Action) (m : Met) → IsCutEvent o (events.Call pid call) last m
-    → ((task : List Answer → Option Call) (calls : List Call) (answers : List Answer) → IsNextCall task calls answers call
-    → Plays task pid old.station.origin calls answers last) × (lost_count last ≤ 1)
-own_plays old pid call o [] m cut = ((λ task calls answers next. tt), omega arith)
-own_plays old pid call o (Enters before x posted ∷ []) (AtHub (hub_events.Post f)) cut =
-    let P : StationEvent → Type 0 = λ y. (task : List Answer → Option Call) (calls : List Call) (answers : List Answer)
-    → IsNextCall task calls answers call → Plays task pid old.station.origin calls answers (Enters before y posted ∷ []) in
-    (subst P (sym cut.0) (λ task calls answers next. ((refl, next), tt)), omega arith)
-own_plays old pid call o (Enters before x posted ∷ []) (AtHub (hub_events.Fetch h)) cut = absurd cut
-own_plays old pid call o (Enters before x posted ∷ []) (AtHub hub_events.Finished) cut = absurd cut
-own_plays old pid call o (Enters before x posted ∷ []) (AtHub hub_events.Halt) cut = absurd cut
-own_plays old pid call o (Enters before x posted ∷ []) (AtStation y) cut = absurd cut
-own_plays old pid call o (Enters before x posted ∷ (y ∷ ys)) m cut = absurd cut
-own_plays old pid call o (Delivers heard frame before posted ∷ xs) m cut = absurd cut
-own_plays old pid call o (Drops heard frame ∷ xs) m cut = absurd cut
-own_plays old pid call o (Hears heard ∷ xs) m cut = absurd cut
-
-pub called_cut : (old new : PortValue) (pid : Pid) (call : Call) (why : Room)
-    → IsRefused old new why [] (IsCutEvent old.station.origin (events.Call pid call)) → HasCalledCut old new pid call why
-called_cut old new pid call why it =
-    let own = own_plays old pid call old.station.origin it.last it.met it.cut in (
-      it.last,
-      record { does = it.does; plays = own.0 },
-      own.1,
-      (λ full. met_own new it.last old.station.origin (events.Call pid call) refl it.last it.met it.cut (subst (λ (w : Room). IsMet new w it.met) full it.is_met)),
-    )
-
 -- A process so far: it got these answers, one to each call, and lost nothing.
 pub record PlaysSoFar (old now : PortValue) (pid : Pid) (task : List Answer → Option Call) (answers : List Answer) : Type 0 where
   pub acts : List Action
@@ -274,10 +235,5 @@ module _ (old mid new : PortValue) (pid : Pid) (task : List Answer → Option Ca
         it.0,
         it.1,
         (let sum = lost_append so.acts more in let was = so.lost in let few = called.2 in omega arith),
-        (λ full. full_after so.acts more (called.3 full)),
+        (λ full. full_after new so.acts more (called.3 full)),
       )
-    where
-      full_after : (xs ys : List Action) → FindsFull new ys → FindsFull new (xs ++ ys)
-      full_after xs ys (inl used) = inl used
-      full_after xs ys (inr (inl dropped)) = inr (inl (dropped.0, dropped_append dropped.0 xs ys dropped.1, dropped.2))
-      full_after xs ys (inr (inr full)) = inr (inr full)

@@ -341,13 +341,6 @@ rounds_end n rounds ps qs rs ts low one two three =
     let e : n + 1 + 0 ≡ n + 1 = omega arith in
     record { done = n + 1; few = low; ticked = subst (λ m. HaveTicked m m 1 ps ts) e sum }
 
-pub rounds_all : (n rounds : ℕ) (ps qs : List PortValue) → n ≤ rounds → HaveTicked n n 0 ps qs → HaveRounds rounds ps qs
-rounds_all n rounds ps qs low it = record {
-  done = n;
-  few = low;
-  ticked = record { acts = it.acts; does = it.does; ticks = it.ticks; few = (let none = it.few in omega arith) };
-}
-
 pub rounds_cut : (n rounds : ℕ) (ps qs rs : List PortValue) (why : Room) → n + 1 ≤ rounds → HaveTicked n n 0 ps qs → HaveTickedCut 0 1 0 qs rs why
     → HaveRoundsCut rounds ps rs why
 rounds_cut n rounds ps qs rs why low one two =

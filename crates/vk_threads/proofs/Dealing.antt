@@ -1,5 +1,5 @@
 -- Seats that are dealt: counts of stations, and what is left.
-use Rattle.std.proofs.Common.{◌≡◌, ◌≤◌, ◌<◌, ℕ, zero, suc, ◌+◌, ◌==◌, eqb-true, eq-eqb, Bool, true, false, cond, Option, Some, None, List, [], ◌∷◌, ◌++◌, append_assoc, append-nil, length, map, take, drop, get_or, refl, sym, ap, ◌∙◌, subst, arith}
+use Rattle.std.proofs.Common.{◌≡◌, ◌≤◌, ◌<◌, ℕ, zero, suc, ◌+◌, ◌==◌, eqb-true, Bool, true, false, cond, Option, Some, None, List, [], ◌∷◌, ◌++◌, append_assoc, append-nil, length, map, take, drop, get_or, refl, sym, ap, ◌∙◌, subst, arith}
 use Rattle.std.specs.Prelude.{slice_get}
 use Rattle.std.proofs.lemmas.List.{length-append}
 use Rattle.std.proofs.lemmas.Option.{none-some, same_Some}
@@ -35,17 +35,6 @@ use Rattle.vk_threads.specs.Opened.{count_of, spare_at}
 pub count_append : (h : ℕ) (xs ys : List ℕ) → count_of h (xs ++ ys) ≡ count_of h xs + count_of h ys
 count_append h [] ys = omega arith
 count_append h (x ∷ xs) ys = let rest = count_append h xs ys in omega arith
-
-pub count_few : (h : ℕ) (xs : List ℕ) → count_of h xs ≤ length xs
-count_few h [] = omega arith
-count_few h (x ∷ xs) = few (x == h) (count_few h xs)
-  where
-    few : (b : Bool) → count_of h xs ≤ length xs → cond b 1 0 + count_of h xs ≤ length (x ∷ xs)
-    few true rest = omega arith
-    few false rest = omega arith
-
-pub count_own : (h : ℕ) (xs : List ℕ) → count_of h (h ∷ xs) ≡ 1 + count_of h xs
-count_own h xs = ap (λ b. cond b 1 0 + count_of h xs) (eq-eqb h h refl)
 
 -- elements in their order
 pub take_get : {A : Type 0} (xs : List A) (i : ℕ) (x : A) → slice_get xs i ≡ Some x → take (suc i) xs ≡ take i xs ++ x ∷ []
@@ -157,11 +146,6 @@ module _ (sites : List Site) (hub : Cell HubLog) where
       → before ≡ after ++ hub_seat ∷ [] → IsStocked sites hub old before rest → IsNewAt hub hub_seat
   taken_hub_seat rest old before after hub_seat is stock =
       (each_behind (IsNewAt hub) after (hub_seat ∷ []) (subst (Each (IsNewAt hub)) is stock.at_hub)).0
-
-  pub stock_has : (host : ℕ) (rest : List ℕ) (old : List Spare) (before : List (Sitting HubLog HubEvent)) → IsStocked sites hub old before (host ∷ rest)
-      → (1 ≤ count_of host (map spare_host old)) × (0 < length before)
-  stock_has host rest old before stock =
-      let n = stock.counts host ∙ count_own host rest in let m : length before ≡ suc (length rest) = stock.all in (omega arith, omega arith)
 
   -- a port that was made of such seats
   pub port_made : (host : ℕ) (ticks : Bool) (seat : Sitting StationHistory StationEvent) (hub_seat : Sitting HubLog HubEvent) (cell : Cell StationHistory)

@@ -24,7 +24,7 @@ use Rattle.vk_rules.specs.CallOutcomes.{given}
 use Rattle.vk_rules.specs.Each.{Each}
 use Rattle.v_run.specs.Passages.{HasDropped, HasHeard, IsNext, IsNextCall, OnlyPumps, Plays, answer_in, answers_by, call_in, calls_by, lost_count}
 use Rattle.vk_threads.specs.Works.{FindsFull, HasCalled, HasCalledBy, HasCalledCut, HasPumped, HasPumpedCut}
-use Rattle.vk_port.proofs.Logs.{does_more, does_nothing}
+use Rattle.vk_port.proofs.Logs.{does_more}
 
 -- One behind the other.
 pub calls_append : (xs ys : List Action) → calls_by (xs ++ ys) ≡ calls_by xs ++ calls_by ys
@@ -164,9 +164,6 @@ only_append (Hears heard ∷ xs) ys one two = only_append xs ys one two
 -- so far it only pumped, and lost nothing
 abbrev pub PumpsSoFar : PortValue → PortValue → Type 0
 PumpsSoFar old now = (acts : List Action) × Does old now acts × OnlyPumps acts × (lost_count acts ≡ 0)
-
-pub pumps_none : (p : PortValue) → PumpsSoFar p p
-pumps_none p = ([], does_nothing p, tt, refl)
 
 pub pumps_delivered : (old mid new : PortValue) (a : EventAnswer) → PumpsSoFar old mid → HasDelivered mid new a → PumpsSoFar old new
 pumps_delivered old mid new a so it =

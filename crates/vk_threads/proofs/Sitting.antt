@@ -1,5 +1,5 @@
 -- The seats of one station among all, and the histories of the stations that they close.
-use Rattle.std.proofs.Common.{◌≡◌, ℕ, ◌≤◌, ◌==◌, not, eqb, eqb-true, eq-eqb, Bool, true, false, cond, Option, Some, None, All, List, [], ◌∷◌, ◌++◌, append_assoc, ◌||◌, filter, length, map, refl, sym, ap, ◌∙◌, subst, arith}
+use Rattle.std.proofs.Common.{◌≡◌, ℕ, ◌≤◌, ◌==◌, not, eqb, eqb-true, eq-eqb, Bool, true, false, cond, Option, Some, None, All, List, [], ◌∷◌, ◌||◌, filter, length, map, refl, sym, ap, ◌∙◌, subst, arith}
 use Rattle.std.specs.List.{list_any}
 use Rattle.std.proofs.lemmas.Bool.{or_parts}
 use Rattle.std.proofs.lemmas.Option.{none-some, same_Some}
@@ -152,14 +152,6 @@ logs_of_sites (s ∷ ss) spares [] are = absurd are
 logs_of_sites (s ∷ ss) spares (l ∷ ls) are =
     let rest = logs_of_sites ss (filter (is_elsewhere s.host) spares) ls are.1 in
     ap (λ n. n ∷ map host_in ls) are.0.host ∙ ap (λ l. s.host ∷ l) rest
-
--- Stations that were closed go on one behind the other: what is done, and how the rest may go on.
-pub shut_more : (sites : List Site) (spares : List Spare) (s : Site) (ss : List Site) (left : List Spare) (done : List StationLog) (l : StationLog)
-    → ((ls : List StationLog) → AreShut (s ∷ ss) left ls → AreShut sites spares (done ++ ls))
-    → HasShut s (seats_at s.host left) l
-    → (ls : List StationLog) → AreShut ss (filter (is_elsewhere s.host) left) ls → AreShut sites spares ((done ++ l ∷ []) ++ ls)
-shut_more sites spares s ss left done l goes is ls are =
-    subst (AreShut sites spares) (sym (append_assoc done (l ∷ []) ls)) (goes (l ∷ ls) (is, are))
 
 pub empty : {X : Type 0} (xs : List X) → length xs ≡ 0 → xs ≡ []
 empty [] none = refl

@@ -15,7 +15,7 @@ use Rattle.v_run.specs.Jobs.{EndsRole, GoesOn, IsJobEnd, KeepsTime, MetFull, One
 use Rattle.v_run.specs.Passages.{OnlyTicks, Passage, Role, Ticks, tick_count}
 use Rattle.vk_threads.specs.declared.end.Seats.{Seats}
 use Rattle.vk_threads.specs.Clocks.{AreTicked, HaveRounds, HaveRoundsCut, HaveTicked, HaveTickedCut, OneFindsFull, TickBetween, all_lost}
-use Rattle.vk_threads.specs.Ends.{AreThrough, HaveClosed, IsAt, IsOf, MayEnd, port_host, role_of, ticking}
+use Rattle.vk_threads.specs.Ends.{AreThrough, ArePortsClosed, IsAt, IsOf, MayEnd, port_host, role_of, ticking}
 use Rattle.vk_threads.specs.Works.{HasClosed}
 use Rattle.vk_threads.proofs.Ending.{Behind, closed_behind, halt_finished, halted_behind, is_through, last_halt, last_none, met_full, none_finished, none_halt, passage_of}
 
@@ -29,14 +29,8 @@ quiet (p ∷ ps) (q ∷ qs) (a ∷ all) = passage_of p q a Ticks [] q.hub_seat.s
 abbrev pub AreHalted : List HubEvent → Type 0
 AreHalted last = (last ≡ []) ⊎ (last ≡ hub_events.Halt ∷ [])
 
-abbrev pub first_halts : List HubEvent → List PortValue → List PortValue → List (List Action) → List Passage
-first_halts last [] qs all = []
-first_halts last (p ∷ ps) [] all = []
-first_halts last (p ∷ ps) (q ∷ qs) [] = []
-first_halts last (p ∷ ps) (q ∷ qs) (a ∷ all) = passage_of p q a Ticks last q.hub_seat.seen ∷ quiet ps qs all
-
 -- What does not depend on how the first was closed.
-quiet_through : (ps qs : List PortValue) (all : List (List Action)) (ss : List Seats) → AreTicked ps qs all → HaveClosed qs ss None
+quiet_through : (ps qs : List PortValue) (all : List (List Action)) (ss : List Seats) → AreTicked ps qs all → ArePortsClosed qs ss None
     → AreThrough ps ss (quiet ps qs all)
 quiet_through [] [] [] [] does closed = tt
 quiet_through [] [] [] (s ∷ ss) does closed = absurd closed
@@ -121,7 +115,7 @@ quiet_full c (p ∷ ps) [] all does of full = absurd does
 quiet_full c (p ∷ ps) (x ∷ qs) [] does of full = absurd does
 
 -- No Room was met.
-pub clock_done : (rounds : ℕ) (ps qs : List PortValue) (ss : List Seats) → HaveRounds rounds ps qs → HaveClosed qs ss None
+pub clock_done : (rounds : ℕ) (ps qs : List PortValue) (ss : List Seats) → HaveRounds rounds ps qs → ArePortsClosed qs ss None
     → MayEnd ps (ticking ps) rounds ss None
 clock_done rounds ps qs ss it closed =
     let t = it.ticked in
@@ -146,7 +140,7 @@ some_is x y is = cc is
 
 -- A Room was met: the first port halted the hub, or found it halted.
 halted_through : (p q : PortValue) (ps qs : List PortValue) (a : List Action) (all : List (List Action)) (s : Seats) (ss : List Seats) (last : List HubEvent)
-    → AreHalted last → AreTicked (p ∷ ps) (q ∷ qs) (a ∷ all) → Behind q s last q.hub_seat.seen → s.host ≡ q.host → HaveClosed qs ss None
+    → AreHalted last → AreTicked (p ∷ ps) (q ∷ qs) (a ∷ all) → Behind q s last q.hub_seat.seen → s.host ≡ q.host → ArePortsClosed qs ss None
     → AreThrough (p ∷ ps) (s ∷ ss) (passage_of p q a Ticks last q.hub_seat.seen ∷ quiet ps qs all)
 halted_through p q ps qs a all s ss last (inl is) does behind host closed = (
   is_through p q a Ticks s last q.hub_seat.seen does.0 behind (host ∙ does.0.same.host) does.1 (inl is),
@@ -174,7 +168,7 @@ halted_full c p q ps qs a all last does of (inr full) = inr (quiet_full c ps qs 
 first_end : (rounds done high : ℕ) (p q : PortValue) (ps qs : List PortValue) (a : List Action) (all : List (List Action)) (s : Seats) (ss : List Seats)
     (why : Room) (last : List HubEvent) → AreHalted last → high ≤ done + 1 → high ≤ rounds → AreTicked (p ∷ ps) (q ∷ qs) (a ∷ all)
     → TickBetween done high (a ∷ all) → all_lost (a ∷ all) ≤ 1 → (why ≡ rooms.Full → OneFindsFull (q ∷ qs) (a ∷ all))
-    → Behind q s last q.hub_seat.seen → s.host ≡ q.host → HaveClosed qs ss None
+    → Behind q s last q.hub_seat.seen → s.host ≡ q.host → ArePortsClosed qs ss None
     → MayEnd (p ∷ ps) (ticking (p ∷ ps)) rounds (s ∷ ss) (Some why)
 first_end rounds done high p q ps qs a all s ss why last ends near few does ticks lost full behind host closed = record {
   passages = passage_of p q a Ticks last q.hub_seat.seen ∷ quiet ps qs all;
@@ -193,7 +187,7 @@ first_end rounds done high p q ps qs a all s ss why last ends near few does tick
 }
 
 cut_end : (rounds done high : ℕ) (ps qs : List PortValue) (all : List (List Action)) (ss : List Seats) (why : Room) → high ≤ done + 1 → high ≤ rounds
-    → AreTicked ps qs all → TickBetween done high all → all_lost all ≤ 1 → (why ≡ rooms.Full → OneFindsFull qs all) → HaveClosed qs ss (Some why)
+    → AreTicked ps qs all → TickBetween done high all → all_lost all ≤ 1 → (why ≡ rooms.Full → OneFindsFull qs all) → ArePortsClosed qs ss (Some why)
     → MayEnd ps (ticking ps) rounds ss (Some why)
 cut_end rounds done high [] [] [] [] why near few does ticks lost full closed = record {
   passages = [];
@@ -226,7 +220,7 @@ cut_end rounds done high [] [] (a ∷ all) ss why near few does ticks lost full 
 cut_end rounds done high (p ∷ ps) [] all ss why near few does ticks lost full closed = absurd does
 cut_end rounds done high (p ∷ ps) (x ∷ qs) [] ss why near few does ticks lost full closed = absurd does
 
-pub clock_cut : (rounds : ℕ) (ps qs : List PortValue) (ss : List Seats) (why : Room) → HaveRoundsCut rounds ps qs why → HaveClosed qs ss (Some why)
+pub clock_cut : (rounds : ℕ) (ps qs : List PortValue) (ss : List Seats) (why : Room) → HaveRoundsCut rounds ps qs why → ArePortsClosed qs ss (Some why)
     → MayEnd ps (ticking ps) rounds ss (Some why)
 clock_cut rounds ps qs ss why it closed =
     let t = it.ticked in
@@ -234,7 +228,7 @@ clock_cut rounds ps qs ss why it closed =
 
 -- THE PORTS ARE CLOSED, one behind the other.
 pub closed_first : (p : PortValue) (ps : List PortValue) (s : Seats) (ss : List Seats) (met : Option Room) → s.host ≡ p.host
-    → HasClosed p s.seat s.hub_seat met → HaveClosed ps ss None → HaveClosed (p ∷ ps) (s ∷ ss) met
+    → HasClosed p s.seat s.hub_seat met → ArePortsClosed ps ss None → ArePortsClosed (p ∷ ps) (s ∷ ss) met
 closed_first p ps s ss met host one others = (host, one, others)
 
 drop_next : (xs : List ℕ) (n y : ℕ) (ys : List ℕ) → y ∷ ys ≡ drop n xs → (get_or xs n 0 ≡ y) × (ys ≡ drop (suc n) xs)
@@ -286,14 +280,14 @@ module _ (ps shown qs : List PortValue) (n : ℕ) (value : shown ≡ ps) (count 
   closing_hosts hosts told all does are is =
       ap (map port_host) whole ∙ still_hosts shown qs all does ∙ ap (map port_host) value ∙ are ∙ sym is
 
-  pub closing_done : (rounds : ℕ) (ss : List Seats) → HaveRounds rounds shown qs → HaveClosed (take n (qs ++ drop (length qs) ps)) ss None
+  pub closing_done : (rounds : ℕ) (ss : List Seats) → HaveRounds rounds shown qs → ArePortsClosed (take n (qs ++ drop (length qs) ps)) ss None
       → MayEnd ps (ticking ps) rounds ss None
   closing_done rounds ss it closed =
       subst (λ l. MayEnd l (ticking l) rounds ss None) value
-      (clock_done rounds shown qs ss it (subst (λ l. HaveClosed l ss None) whole closed))
+      (clock_done rounds shown qs ss it (subst (λ l. ArePortsClosed l ss None) whole closed))
 
   pub closing_cut : (rounds : ℕ) (ss : List Seats) (why : Room) → HaveRoundsCut rounds shown qs why
-      → HaveClosed (take n (qs ++ drop (length qs) ps)) ss (Some why) → MayEnd ps (ticking ps) rounds ss (Some why)
+      → ArePortsClosed (take n (qs ++ drop (length qs) ps)) ss (Some why) → MayEnd ps (ticking ps) rounds ss (Some why)
   closing_cut rounds ss why it closed =
       subst (λ l. MayEnd l (ticking l) rounds ss (Some why)) value
-      (clock_cut rounds shown qs ss why it (subst (λ l. HaveClosed l ss (Some why)) whole closed))
+      (clock_cut rounds shown qs ss why it (subst (λ l. ArePortsClosed l ss (Some why)) whole closed))

@@ -161,13 +161,6 @@ each_some programs hs =
     each_weaker (λ (h : ℕ). list_any (λ x. x == h) hs ≡ true) (λ (h : ℕ). 1 ≤ count_of h (hosts_for programs hs)) hs (each_among [] hs)
     (λ h there. let some = some_count h hs there in let all = count_append h (map program_host programs ++ hs) hs in omega arith)
 
-pub host_count : {G : Type 0} (programs : List (Assigned G)) (hs : List ℕ) → length (hosts_for programs hs) ≡ length programs + length hs + length hs
-host_count programs hs =
-    let one = length-append (map program_host programs ++ hs) hs in
-    let two = length-append (map program_host programs) hs in
-    let three = length-map programs program_host in
-    omega arith
-
 -- a process of the configuration is one of its station
 pub process_station : (specs : List ProcessSpec) (p : Pid) → has_process specs p ≡ true → has_station specs p.host ≡ true
 process_station [] p has = absurd (cc has)

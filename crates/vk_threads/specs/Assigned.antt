@@ -11,7 +11,6 @@ use Rattle.vk_pages.specs.declared.any.AnyProgram.{AnyProgram}
 use Rattle.vk_pages.specs.Programs.{task_call}
 use Rattle.vk_rules.specs.Each.{Each}
 use Rattle.v_run.specs.Outcomes.{Assignment}
-use Rattle.vk_threads.specs.declared.record.RunRecord.{RunRecord}
 use Rattle.vk_threads.specs.declared.record.RunRefusal.{RunRefusal}
 use Rattle.vk_threads.specs.declared.record.RunRefusal.TheVariants as refusals
 use Rattle.vk_threads.specs.declared.run.Assigned.{Assigned}
@@ -42,12 +41,13 @@ ArePrograms (t ∷ ts) (a ∷ others) = (a.pid ≡ t.pid) × (call_by a.program 
 ArePrograms ts others = ⊥
 
 -- the count of faults rose where the crew failed, and at every other answer it is as it was
-abbrev pub TellsRunFault : ℕ → ℕ → Result RunRecord RunRefusal → Type 0
+abbrev pub TellsRunFault : {T : Type 0} → ℕ → ℕ → Result T RunRefusal → Type 0
 TellsRunFault before now (Ok r) = now ≡ before
 TellsRunFault before now (Err refusals.CrewFault) = Rose before now
 TellsRunFault before now (Err refusals.NoMemory) = now ≡ before
 
--- Where there is no record, the count of jobs is as it was where the crew failed. Memory may be wanting before the crew's call, or behind it.
+-- Where there is no record, the count of jobs is as it was where the crew failed. Memory may be wanting before the crew's call, or
+-- behind it.
 abbrev pub LeavesJobs : (before grown now : ℕ) → RunRefusal → Type 0
 LeavesJobs before grown now refusals.CrewFault = now ≡ before
 LeavesJobs before grown now refusals.NoMemory = (now ≡ before) ⊎ (now ≡ grown)

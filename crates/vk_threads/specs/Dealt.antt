@@ -19,7 +19,6 @@ use Rattle.vk_threads.specs.declared.work.Work.TheVariants as works
 use Rattle.vk_threads.specs.Duties.{ClockDuty}
 use Rattle.vk_threads.specs.Ended.{cell_at}
 use Rattle.vk_threads.specs.Jobs.{ends_as, ports_of, roles_of}
-use Rattle.vk_io.specs.Causes.{Rose}
 use Rattle.vk_io.specs.Crews.{AllEnd}
 use Rattle.vk_threads.specs.declared.end.End.{End}
 use Rattle.vk_threads.specs.declared.record.RunRefusal.{RunRefusal}
@@ -77,14 +76,15 @@ ArePorts sites hub may_tick (h ∷ hs) (p ∷ ps) = IsPort sites hub may_tick h 
 ArePorts sites hub may_tick hs ps = ⊥
 
 -- A job with one port, at this station and in this role.
-pub record IsJobAt {G P : Type 0} (task : G → List Answer → Option Call) (sites : List Site) (hub : Cell HubLog) (duty : ℕ × Role) (w : Work G P)
-    : Type 0 where
+pub record IsJobAt {G P : Type 0} (task : G → List Answer → Option Call) (sites : List Site) (hub : Cell HubLog) (duty : ℕ × Role)
+    (w : Work G P) : Type 0 where
   pub port : PortValue
   pub ports : ports_of w ≡ port ∷ []
   pub roles : roles_of task w ≡ duty.1 ∷ []
   pub is : IsPort sites hub false duty.0 port
 
-abbrev pub AreJobsAt : {G P : Type 0} → (G → List Answer → Option Call) → List Site → Cell HubLog → List (ℕ × Role) → List (Work G P) → Type 0
+abbrev pub AreJobsAt : {G P : Type 0} → (G → List Answer → Option Call) → List Site → Cell HubLog → List (ℕ × Role) → List (Work G P)
+    → Type 0
 AreJobsAt task sites hub [] [] = Unit {0}
 AreJobsAt task sites hub (d ∷ ds) (w ∷ ws) = IsJobAt task sites hub d w × AreJobsAt task sites hub ds ws
 AreJobsAt task sites hub ds ws = ⊥
@@ -108,8 +108,8 @@ abbrev pub hosts_for : {G : Type 0} → List (Assigned G) → List ℕ → List 
 hosts_for programs stations = map host_of programs ++ stations ++ stations
 
 -- THE JOBS OF A RUN: one for each program, one for each station that delivers there, and the clock.
-pub record AreDealt {G P : Type 0} (task : G → List Answer → Option Call) (sites : List Site) (hub : Cell HubLog) (programs : List (Assigned G))
-    (stations : List ℕ) (rounds : ℕ) (jobs : List (Work G P)) : Type 0 where
+pub record AreDealt {G P : Type 0} (task : G → List Answer → Option Call) (sites : List Site) (hub : Cell HubLog)
+    (programs : List (Assigned G)) (stations : List ℕ) (rounds : ℕ) (jobs : List (Work G P)) : Type 0 where
   pub first : List (Work G P)
   pub clock : ClockDuty
   pub all : jobs ≡ first ++ works.Clock clock ∷ []
@@ -118,20 +118,15 @@ pub record AreDealt {G P : Type 0} (task : G → List Answer → Option Call) (s
   pub so_many : clock.rounds ≡ rounds
 
 -- All jobs were run, and ended so; the seat of the halt is as it was.
-pub record HasRunJobs (G P : Type 0) (task : G → List Answer → Option Call) (sites : List Site) (hub : Cell HubLog) (programs : List (Assigned G))
-    (stations : List ℕ) (rounds : ℕ) (ends : List End) (halt : Sitting HubLog HubEvent) : Type 0 where
+pub record HasRunJobs (G P : Type 0) (task : G → List Answer → Option Call) (sites : List Site) (hub : Cell HubLog)
+    (programs : List (Assigned G)) (stations : List ℕ) (rounds : ℕ) (ends : List End) (halt : Sitting HubLog HubEvent) : Type 0 where
   pub jobs : List (Work G P)
   pub dealt : AreDealt task sites hub programs stations rounds jobs
   pub each_end : AllEnd (ends_as task) jobs ends
   pub seat : IsSeatOf hub halt
   pub unhalted : halt.mine ≡ []
 
--- what the call of the crew does to its counts
-abbrev pub TellsFault : {T : Type 0} → ℕ → ℕ → Result T RunRefusal → Type 0
-TellsFault before now (Ok r) = now ≡ before
-TellsFault before now (Err refusals.CrewFault) = Rose before now
-TellsFault before now (Err refusals.NoMemory) = now ≡ before
-
+-- what the call of the crew does to its count of jobs
 abbrev pub TellsJobs : {T : Type 0} → (before grown now : ℕ) → Result T RunRefusal → Type 0
 TellsJobs before grown now (Ok r) = now ≡ grown
 TellsJobs before grown now (Err refusals.CrewFault) = now ≡ before

@@ -63,7 +63,7 @@ abbrev pub port_host : PortValue → ℕ
 port_host p = p.host
 
 -- Each port was closed; the first halted the hub where this Room was met.
-abbrev pub HaveClosed : List PortValue → List Seats → Option Room → Type 0
-HaveClosed [] [] met = Unit {0}
-HaveClosed (p ∷ ps) (s ∷ ss) met = (s.host ≡ p.host) × HasClosed p s.seat s.hub_seat met × HaveClosed ps ss None
-HaveClosed ps ss met = ⊥
+abbrev pub ArePortsClosed : List PortValue → List Seats → Option Room → Type 0
+ArePortsClosed [] [] met = Unit {0}
+ArePortsClosed (p ∷ ps) (s ∷ ss) met = (s.host ≡ p.host) × HasClosed p s.seat s.hub_seat met × ArePortsClosed ps ss None
+ArePortsClosed ps ss met = ⊥

@@ -38,5 +38,6 @@ HasOpened c host count cell before after = (own : List Spare) × IsOpened c host
 abbrev pub AreOpened : Settings → List ℕ → List ℕ → List Site → List Spare → Type 0
 AreOpened c hosts [] [] spares = spares ≡ []
 AreOpened c hosts (h ∷ hs) (s ∷ ss) spares =
-    (own rest : List Spare) × (s.host ≡ h) × IsOpened c h (count_of h hosts) s.cell own × (spares ≡ own ++ rest) × AreOpened c hosts hs ss rest
+    (own rest : List Spare) × (s.host ≡ h) × IsOpened c h (count_of h hosts) s.cell own × (spares ≡ own ++ rest)
+    × AreOpened c hosts hs ss rest
 AreOpened c hosts hs ss spares = ⊥

@@ -1,5 +1,5 @@
 -- What jobs do with their ports, and what their ends may be.
-use Rattle.std.specs.Prelude.{ℕ, ◌≡◌, ◌≢◌, ◌≤◌, ◌+◌, ◌⊎◌, Bool, true, false, Option, Some, None, List, [], ◌∷◌, ◌++◌, length}
+use Rattle.std.specs.Prelude.{ℕ, ◌≡◌, ◌≤◌, ◌⊎◌, Bool, true, false, Option, Some, None, List, [], ◌∷◌, ◌++◌}
 use mathlib.Core.List.{IsPrefix}
 use Rattle.turn_cell.specs.Seats.{IsSameSeat, Sitting}
 use Rattle.turn_cell.specs.declared.replay.Room.{Room}
@@ -7,28 +7,23 @@ use Rattle.turn_cell.specs.declared.replay.Room.TheVariants as rooms
 use Rattle.vk_base.specs.declared.answer.Answer.{Answer}
 use Rattle.vk_base.specs.declared.call.Call.{Call}
 use Rattle.vk_base.specs.declared.event.StationEvent.{StationEvent}
-use Rattle.vk_base.specs.declared.event.StationEvent.TheVariants as events
 use Rattle.vk_base.specs.declared.pid.Pid.{Pid}
 use Rattle.vk_hub.specs.declared.event.HubEvent.{HubEvent}
 use Rattle.vk_hub.specs.declared.event.HubEvent.TheVariants as hub_events
 use Rattle.vk_hub.specs.Hubs.{HubLog, others}
-use Rattle.vk_port.specs.Ports.{Action, Does, PortValue}
-use Rattle.vk_port.specs.Stations.{StationHistory, brings_last_number, is_used_up}
-use Rattle.v_run.specs.Passages.{IsNextCall}
-use Rattle.v_run.specs.Passages.{HasDropped, HasHeard, IsAtEnd, OnlyPumps, Plays, answers_by, calls_by, lost_count}
+use Rattle.vk_port.specs.Ports.{Action, Does, PortValue, stand_of}
+use Rattle.vk_port.specs.Stations.{StationHistory}
+use Rattle.v_run.specs.Jobs.{SeesFull}
+use Rattle.v_run.specs.Passages.{HasHeard, IsAtEnd, IsNextCall, OnlyPumps, Plays, answers_by, calls_by, lost_count}
 
 -- the counts of a crew of threads
 pub record Counted : Type 0 where
   pub jobs : ℕ
   pub faults : ℕ
 
--- What the port's seats have now seen has no room, after these actions: its station's history is used up, or the station refused a frame
--- with the last Lamport number, or the hub's history is at its limit.
+-- what the port's seats have now seen has no room, after these actions
 abbrev pub FindsFull : PortValue → List Action → Type 0
-FindsFull p acts =
-    (is_used_up p.station.origin p.seat.seen ≡ true)
-    ⊎ ((f : List ℕ) × HasDropped f acts × (brings_last_number (events.Deliver f) ≡ true))
-    ⊎ (200000 ≤ others p.hub_seat.seen)
+FindsFull p acts = SeesFull p.station.origin (stand_of p) acts
 
 -- A call and the way to its answer, by these actions.
 pub record HasCalledBy (old new : PortValue) (pid : Pid) (call : Call) (acts : List Action) : Type 0 where

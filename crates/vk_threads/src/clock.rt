@@ -2,7 +2,7 @@
 ghost use Rattle.std.specs.Prelude.{◌≡◌, ◌≤◌, [], ◌++◌, map, length, IfOk, IfErr, if◌then◌else◌, vec_len, vec_capacity};
 ghost use Rattle.vk_rules.specs.Each.{Each};
 ghost use Rattle.vk_threads.specs.Clocks.{HaveRounds, HaveRoundsCut, HaveTicked, HaveTickedCut, may_tick};
-ghost use Rattle.vk_threads.specs.Ends.{HaveClosed, IsAt, MayEnd, port_host, ticking};
+ghost use Rattle.vk_threads.specs.Ends.{ArePortsClosed, IsAt, MayEnd, port_host, ticking};
 
 use crate::end::{End, Seats, close_port};
 use std::alloc::Global;
@@ -38,8 +38,8 @@ impl<'a, 'p, P: Pacer> Model for ClockWork<'a, 'p, P> {
 
     ghost view = { λ w. record { ports = w.ports.items; rounds = w.rounds } };
 
-    ghost invariant = { λ w. Each (IsAt w.hub.now) w.ports.items × (map port_host w.ports.items ≡ w.hosts.items) × Each may_tick w.ports.items
-        × (w.seats.items ≡ []) × (vec_len w.ports ≤ vec_capacity w.seats) };
+    ghost invariant = { λ w. Each (IsAt w.hub.now) w.ports.items × (map port_host w.ports.items ≡ w.hosts.items)
+        × Each may_tick w.ports.items × (w.seats.items ≡ []) × (vec_len w.ports ≤ vec_capacity w.seats) };
 }
 
 impl<'a, 'p, P: Pacer> ClockWork<'a, 'p, P> {
@@ -109,7 +109,7 @@ fn close_all<R: Wait>(
     requires at_hosts { map port_host ports.items ≡ hosts.now }
     requires empty { seats.old.items ≡ [] }
     requires room { vec_len ports ≤ vec_capacity seats.old }
-    ensures { HaveClosed ports.entry.items seats.new.items met }
+    ensures { ArePortsClosed ports.entry.items seats.new.items met }
 {
     let mut left = met;
     let mut at = 0;

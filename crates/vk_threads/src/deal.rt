@@ -128,7 +128,8 @@ impl<'a> Stock<'a> {
         ensures jobs { IfOk result (λ _. (ds : List (ℕ × Role)) → AreJobsAt G.task self.old.sites.now self.old.hub.now ds jobs.old.items →
             AreJobsAt G.task self.old.sites.now self.old.hub.now (ds ++ map (runs_by G.task) programs.items) jobs.new.items) }
         ensures left { IfOk result (λ _. (rest : List ℕ) →
-            IsStocked self.old.sites.now self.old.hub.now self.old.spares.items self.old.hub_seats.items (map host_of programs.items ++ rest) →
+            IsStocked self.old.sites.now self.old.hub.now self.old.spares.items self.old.hub_seats.items
+            (map host_of programs.items ++ rest) →
             IsStocked self.old.sites.now self.old.hub.now self.new.spares.items self.new.hub_seats.items rest) }
     {
         for assigned in programs {
@@ -171,10 +172,12 @@ pub fn jobs_of<'a, 'p, G: Program, P: Pacer>(
     rounds: u32,
     pacer: &'a Mutex<&'p mut P>,
 ) -> Result<Vec<Work<'a, 'p, G, P>>, NoMemory>
-    requires stock { IsStocked stock.sites.now stock.hub.now stock.spares.items stock.hub_seats.items (hosts_for programs.items stations.items) }
+    requires stock { IsStocked stock.sites.now stock.hub.now stock.spares.items stock.hub_seats.items
+        (hosts_for programs.items stations.items) }
     requires processes { Each (IsOwnAt stock.sites.now) programs.items }
     requires fresh { Each (λ (a : Assigned G). G.is_after a.program []) programs.items }
-    ensures { IfOk result (λ jobs. AreDealt G.task stock.entry.sites.now stock.entry.hub.now programs.items stations.items rounds jobs.items) }
+    ensures { IfOk result (λ jobs. AreDealt G.task stock.entry.sites.now stock.entry.hub.now programs.items stations.items rounds
+        jobs.items) }
 {
     let mut stock = stock;
     let (alloc, hub) = (stock.alloc, stock.hub);

@@ -7,7 +7,7 @@ ghost use Rattle.vk_base.specs.Settings.{has_process, refusal_of, stations_of};
 ghost use Rattle.vk_event.specs.ScenarioLaws.{IsLawfulScenario};
 ghost use Rattle.vk_rules.specs.Each.{Each};
 ghost use Rattle.vk_threads.specs.Assigned.{AreDifferent, LeavesJobs, TellsRunFault, ArePrograms, assignments_of, pid_of, program_task};
-ghost use Rattle.vk_threads.specs.Dealt.{HasRunJobs, IsOwnAt, IsStocked, TellsFault, TellsJobs, hosts_for};
+ghost use Rattle.vk_threads.specs.Dealt.{HasRunJobs, IsOwnAt, IsStocked, TellsJobs, hosts_for};
 ghost use Rattle.vk_pages.specs.Any.{IsTaskOf};
 ghost use Rattle.vk_threads.specs.declared.run.Assigned.{Assigned};
 
@@ -48,13 +48,15 @@ fn run_jobs<'a, 'p, G: Program + Send, C: Crew, P: Pacer + Send, R: Wait + Threa
 ) -> Result<(Vec<End>, TurnSeat<HubState>), RunRefusal>
     requires halt { IsSeatOf stock.hub.now halt }
     requires unhalted { halt.mine ≡ [] }
-    requires stock { IsStocked stock.sites.now stock.hub.now stock.spares.items stock.hub_seats.items (hosts_for programs.items stations.items) }
+    requires stock { IsStocked stock.sites.now stock.hub.now stock.spares.items stock.hub_seats.items
+        (hosts_for programs.items stations.items) }
     requires processes { Each (IsOwnAt stock.sites.now) programs.items }
     requires fresh { Each (λ (a : Assigned G). G.is_after a.program []) programs.items }
-    ensures ended { IfOk result (λ r. HasRunJobs G P G.task stock.entry.sites.now stock.entry.hub.now programs.items stations.items rounds r.0.items r.1) }
+    ensures ended { IfOk result (λ r. HasRunJobs G P G.task stock.entry.sites.now stock.entry.hub.now programs.items stations.items rounds
+        r.0.items r.1) }
     ensures jobs { TellsJobs (C.job_count crew.old)
         (min (C.job_count crew.old + (length programs.items + length stations.items + 1)) (2 ^ 64 - 1)) (C.job_count crew.new) result }
-    ensures fault { TellsFault (C.fault_count crew.old) (C.fault_count crew.new) result }
+    ensures fault { TellsRunFault (C.fault_count crew.old) (C.fault_count crew.new) result }
 {
     let (alloc, hub) = (stock.alloc, stock.hub);
     let mut halt = HubHalt::new(hub, halt);
@@ -120,7 +122,8 @@ pub fn run_programs<G: Program + Send, C: Crew, P: Pacer + Send, R: Wait + Threa
     ensures jobs { OnOk result (C.job_count crew.new
         ≡ min (C.job_count crew.old + (length programs.items + length (stations_of config.specs) + 1)) (2 ^ 64 - 1)) }
     ensures no_jobs { IfErr result (LeavesJobs (C.job_count crew.old)
-        (min (C.job_count crew.old + (length programs.items + length (stations_of config.specs) + 1)) (2 ^ 64 - 1)) (C.job_count crew.new)) }
+        (min (C.job_count crew.old + (length programs.items + length (stations_of config.specs) + 1)) (2 ^ 64 - 1))
+        (C.job_count crew.new)) }
     ensures fault { TellsRunFault (C.fault_count crew.old) (C.fault_count crew.new) result }
 {
     let count = count_of(&config, &programs);
@@ -185,11 +188,13 @@ pub fn run_stations<C: Crew, P: Pacer + Send, R: Wait + Threads + Clock + Sync>(
     pacer: &mut P,
 ) -> Result<RunRecord, RunRefusal>
     requires { IsLawfulScenario scenario }
-    ensures ran { IfOk result (λ r. IsRun scenario.config scenario.plan scenario.rounds (assignments_of scenario.tasks) r.limited r.schedule) }
+    ensures ran { IfOk result (λ r. IsRun scenario.config scenario.plan scenario.rounds (assignments_of scenario.tasks) r.limited
+        r.schedule) }
     ensures jobs { OnOk result (C.job_count crew.new
         ≡ min (C.job_count crew.old + (length scenario.tasks + length (stations_of scenario.config.specs) + 1)) (2 ^ 64 - 1)) }
     ensures no_jobs { IfErr result (LeavesJobs (C.job_count crew.old)
-        (min (C.job_count crew.old + (length scenario.tasks + length (stations_of scenario.config.specs) + 1)) (2 ^ 64 - 1)) (C.job_count crew.new)) }
+        (min (C.job_count crew.old + (length scenario.tasks + length (stations_of scenario.config.specs) + 1)) (2 ^ 64 - 1))
+        (C.job_count crew.new)) }
     ensures fault { TellsRunFault (C.fault_count crew.old) (C.fault_count crew.new) result }
 {
     let Scenario {

@@ -1,12 +1,9 @@
 -- The answer to a scenario.
-use Rattle.std.proofs.Common.{◌≡◌, ℕ, ◌+◌, ◌-◌, ◌^◌, ◌<◌, ◌≤◌, min, Bool, true, false, List, [], ◌∷◌, length, map, take, Option, Some, None, Result, Ok, Err, codes, ◌⊎◌, inl, inr, refl, ap, subst, sym, ◌∙◌, arith}
+use Rattle.std.proofs.Common.{◌≡◌, ℕ, ◌+◌, ◌<◌, ◌≤◌, Bool, true, false, List, [], ◌∷◌, length, map, take, Option, Some, None, Result, Ok, Err, codes, ◌⊎◌, inl, inr, refl, ap, subst, sym, ◌∙◌, arith}
 use Rattle.std.specs.Prelude.{IfSome}
 use Rattle.std.specs.Option.{option_map_or}
-use Rattle.std.specs.List.{AllByRecursion, list_all}
 use Rattle.std.specs.Io.KnownBytes.{Appends}
 use Rattle.std.proofs.lemmas.Bool.{cond-false, cond-true, le-ltb, lt-ltb}
-use Rattle.vk_base.specs.Pids.{IsPid}
-use Rattle.vk_base.specs.Settings.{Settings, first_fault}
 use Rattle.vk_base.specs.declared.config.ProcessSpec.{ProcessSpec}
 use Rattle.vk_event.specs.declared.scenario.Scenario.{Scenario}
 use Rattle.vk_event.specs.declared.schedule.Schedule.{Schedule}
@@ -14,42 +11,21 @@ use Rattle.vk_event.specs.declared.schedule.TextRefusal.{TextRefusal}
 use Rattle.vk_event.specs.declared.schedule.TextRefusal.TheVariants as texts
 use Rattle.vk_event.specs.declared.task.Task.{Task}
 use Rattle.vk_event.specs.Endings.{ending_from}
-use Rattle.vk_event.specs.Lawful.{IsLawful, IsReadableEvent, has_actors}
 use Rattle.vk_event.specs.Scenario.{HasScenarioProcess, idle, most_rounds, scenario_by, scenario_from, scenario_of, scenario_with}
-use Rattle.vk_event.specs.ScenarioLaws.{IsLawfulScenario}
-use Rattle.vk_event.specs.Schedule.{schedule_of}
 use Rattle.vk_event.specs.Spelling.{schedule_text}
 use Rattle.vk_event.specs.Tasks.{with_task_line}
 use Rattle.vk_io.specs.Causes.{LosesFront}
-use Rattle.vk_rules.specs.Each.{Each}
-use Rattle.vk_text.specs.Heads.{head_of, settings_of}
+use Rattle.vk_text.specs.Heads.{head_of}
 use Rattle.vk_text.specs.Lines.{lines_of}
-use Rattle.vk_threads.specs.Assigned.{assignments_of}
-use Rattle.v_run.specs.Ran.{IsRun}
 use Rattle.vk_top.proofs.Outcomes.{all_taken, tells_none, told_input, told_whole, too_many, weaker, written_late}
 use Rattle.vk_top.specs.declared.status.Status.{Status}
 use Rattle.vk_top.specs.declared.status.Status.TheVariants as status
 use Rattle.vk_top.specs.declared.top.Work.{Work}
-use Rattle.vk_top.specs.Runs.{HasRun, IsRanInPart, IsRunAnswer, IsRunAnswered, IsRunDecided, IsRunRefusal, IsRunWork, ended, jobs_of, refused, run_status, scenario_status}
+use Rattle.vk_top.specs.Runs.{HasRun, IsRanInPart, IsRunAnswer, IsRunAnswered, IsRunDecided, IsRunRefusal, IsRunWork, ended, refused, run_status, scenario_status}
 use Rattle.vk_top.specs.Top.{IsEarly, OfInput, TellsFaults}
 use Rattle.vk_top.specs.Work.{IsLate, IsUnread, IsWriteCount, IsWritten}
 
 -- The schedule of a run is lawful.
-
-each_in_turn : {A : Type 0} (P : A → Type 0) (xs : List A) → Each P xs → AllByRecursion P xs
-each_in_turn P [] each = tt
-each_in_turn P (x ∷ xs) each = (each.0, each_in_turn P xs each.1)
-
-pub run_lawful : (scenario : Scenario) (limited : Bool) (s : Schedule) → IsLawfulScenario scenario →
-    IsRun scenario.config scenario.plan scenario.rounds (assignments_of scenario.tasks) limited s → IsLawful s
-run_lawful scenario limited s lawful ran = record {
-  config = subst (λ (c : Settings). c ≡ settings_of c.specs) (sym ran.config) lawful.config;
-  pids = subst (λ (c : Settings). AllByRecursion (λ (p : ProcessSpec). IsPid p.pid) c.specs) (sym ran.config) lawful.pids;
-  faultless = subst (λ (c : Settings). first_fault [] c.specs ≡ None) (sym ran.config) lawful.faultless;
-  ranges = each_in_turn IsReadableEvent s.events ran.ranges;
-  events = subst (λ (c : Settings). list_all (has_actors c.specs) s.events ≡ true) (sym ran.config) ran.actors;
-  few = ran.few;
-}
 
 -- A text that is no scenario has a bad line, and is not refused for anything else.
 
@@ -110,24 +86,7 @@ refused_text text texts.Limit (inr bad) = absurd (subst IsBadText bad (bad_text 
 refused_text text texts.NoMemory (inl wanted) = some_process text wanted.1
 refused_text text texts.NoMemory (inr bad) = absurd (subst IsBadText bad (bad_text text))
 
-pub refused_tells : (e : TextRefusal) (before : ℕ) → TellsFaults status.CrewFault (refused e) before before
-refused_tells (texts.BadInput line) before = tells_none status.CrewFault (status.BadInput line) before before (λ is. grind (arith, is)) refl
-refused_tells texts.Limit before = tells_none status.CrewFault status.Limit before before (λ is. grind (arith, is)) refl
-refused_tells texts.NoMemory before = tells_none status.CrewFault status.NoMemory before before (λ is. grind (arith, is)) refl
-
 -- The answer to a text that was read whole.
-
-pub run_work : (text : List ℕ) (before now : ℕ) (scenario : Scenario) (limited : Bool) (s : Schedule) (w : Work) → length text ≤ 16777216 →
-    scenario_of text ≡ Ok scenario →
-    IsRun scenario.config scenario.plan scenario.rounds (assignments_of scenario.tasks) limited s → now ≡ min (before + jobs_of scenario) (2 ^ 64 - 1) →
-    schedule_of (schedule_text s) ≡ Ok s → (w.text.items ≡ schedule_text s) × (w.status ≡ ended limited) → IsRunWork text before now w
-run_work text before now scenario limited s w small is ran jobs read work = record {
-  limited = limited;
-  schedule = s;
-  ran = record { small = small; scenario = scenario; text = is; ran = ran; jobs = jobs; read = read };
-  lines = work.0;
-  status = work.1;
-}
 
 ended_late : (limited : Bool) → IsLate (ended limited)
 ended_late true = tt

@@ -1,15 +1,13 @@
 -- What a lawful schedule gives the cluster that plays it, and that its steps are a run.
-use Rattle.std.proofs.Common.{◌≡◌, ℕ, zero, suc, true, List, [], ◌∷◌, take, None, ap, ◌∙◌}
+use Rattle.std.proofs.Common.{◌≡◌, ℕ, zero, suc, true, List, [], ◌∷◌, take}
 use Rattle.std.proofs.lemmas.Bool.{and_parts}
 use Rattle.std.specs.List.{list_all}
 use Rattle.vk_base.specs.declared.config.ProcessSpec.{ProcessSpec}
-use Rattle.vk_base.specs.Settings.{Settings, first_fault, refusal_of}
 use Rattle.vk_event.specs.declared.event.Event.{Event}
 use Rattle.vk_event.specs.declared.event.Event.TheVariants as scheduled
 use Rattle.vk_event.specs.declared.schedule.Schedule.{Schedule}
 use Rattle.vk_event.specs.Lawful.{IsLawful, has_actors}
 use Rattle.vk_rules.specs.Observed.{IsRunOf}
-use Rattle.vk_text.specs.Heads.{settings_of}
 use Rattle.v_whole.proofs.Distinct.{lawful_distinct}
 use Rattle.v_whole.proofs.Histories.{schedules_run}
 use Rattle.v_whole.specs.Schedules.{AreOfProcesses, IsOfProcess}
@@ -34,11 +32,3 @@ pub front_is_run : (s : Schedule) (n : ℕ) → IsLawful s → IsRunOf s.config 
 front_is_run s n lawful =
     schedules_run s.config (take n s.events) (lawful_distinct s.config.specs lawful.faultless)
     (of_processes s.config.specs s.events n lawful.events)
-
--- nothing is wrong with its configuration
-faultless_by : (c : Settings) (specs : List ProcessSpec) → c ≡ settings_of specs → first_fault [] specs ≡ None →
-    refusal_of c.times c.pool c.specs ≡ None
-faultless_by c specs is none = ap (λ (x : Settings). refusal_of x.times x.pool x.specs) is ∙ none
-
-pub faultless : (s : Schedule) → IsLawful s → refusal_of s.config.times s.config.pool s.config.specs ≡ None
-faultless s lawful = faultless_by s.config s.config.specs lawful.config lawful.faultless

@@ -1,7 +1,7 @@
 use Rattle.std.proofs.Common.{rules, ◌≡◌, ◌∙◌, ◌++◌, ◌∷◌, [], None, ap, append-nil, append_assoc, arith, length, map, subst, sym}
 use Rattle.std.proofs.lemmas.List.{length-map}
 use Rattle.vk_rules.specs.Each.{Each}
-use Rattle.vk_threads.specs.Ends.{HaveClosed, IsAt, port_host}
+use Rattle.vk_threads.specs.Ends.{ArePortsClosed, IsAt, port_host}
 use Rattle.vk_threads.proofs.Sitting.{empty}
 use Rattle.vk_threads.proofs.Ticking.{closed_first, host_next}
 use Rattle.vk_threads.proofs.clock.close_all.Goals as goal
@@ -32,9 +32,9 @@ loop-port-preserved g c =
       count = omega (arith, was.count, steps.1);
       room = omega (arith, was.room, steps.1, c.push_reserved.ensures.len, c.push_reserved.ensures.capacity);
       closed = λ ss others.
-          subst (λ l. HaveClosed c.args.ports.items (l ++ ss) c.args.met) (sym c.push_reserved.ensures.items)
-          (subst (λ l. HaveClosed c.args.ports.items l c.args.met) (sym (append_assoc c.loop-port.seats.items (s ∷ []) ss))
-          (was.closed (s ∷ ss) (subst (λ l. HaveClosed l (s ∷ ss) c.loop-port.left) (sym steps.0)
+          subst (λ l. ArePortsClosed c.args.ports.items (l ++ ss) c.args.met) (sym c.push_reserved.ensures.items)
+          (subst (λ l. ArePortsClosed c.args.ports.items l c.args.met) (sym (append_assoc c.loop-port.seats.items (s ∷ []) ss))
+          (was.closed (s ∷ ss) (subst (λ l. ArePortsClosed l (s ∷ ss) c.loop-port.left) (sym steps.0)
           (closed_first p left s ss c.loop-port.left (c.close_port.ensures.host ∙ next.0) c.close_port.ensures.closed others))));
     }
 
@@ -42,5 +42,5 @@ pub returns : goal.returns
 returns g c =
     let done : c.loop-port.port-iterator.rest.items ≡ [] =
     empty c.loop-port.port-iterator.rest.items (omega (arith, c.in-None.ensures.steps.0, c.loop-port.port-iterator.rest.ok.0)) in
-    subst (λ l. HaveClosed c.args.ports.items l c.args.met) (append-nil c.loop-port.seats.items)
-    (c.loop-port.invariant.closed [] (subst (λ l. HaveClosed l [] c.loop-port.left) (sym done) tt))
+    subst (λ l. ArePortsClosed c.args.ports.items l c.args.met) (append-nil c.loop-port.seats.items)
+    (c.loop-port.invariant.closed [] (subst (λ l. ArePortsClosed l [] c.loop-port.left) (sym done) tt))

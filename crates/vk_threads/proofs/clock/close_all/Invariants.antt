@@ -1,7 +1,7 @@
 use Rattle.std.proofs.Common.{List, ◌≡◌, ◌≤◌, ◌+◌, ◌++◌, drop, length, map, vec_capacity, vec_len}
 use Rattle.vk_rules.specs.Each.{Each}
 use Rattle.vk_threads.specs.declared.end.Seats.{Seats}
-use Rattle.vk_threads.specs.Ends.{HaveClosed, IsAt, port_host}
+use Rattle.vk_threads.specs.Ends.{ArePortsClosed, IsAt, port_host}
 use Rattle.vk_threads.proofs.clock.close_all.Given as goal
 
 abbrev pub invariant-loop-port : goal.invariant-loop-port
@@ -10,5 +10,5 @@ invariant-loop-port g l = record {
   hosts : map port_host l.port-iterator.rest.items ≡ drop l.at l.fn.hosts;
   count : l.at + l.port-iterator.rest.len ≡ length l.fn.hosts;
   room : vec_len l.seats + l.port-iterator.rest.len ≤ vec_capacity l.seats;
-  closed : (ss : List Seats) → HaveClosed l.port-iterator.rest.items ss l.left → HaveClosed l.fn.ports.items (l.seats.items ++ ss) l.fn.met;
+  closed : (ss : List Seats) → ArePortsClosed l.port-iterator.rest.items ss l.left → ArePortsClosed l.fn.ports.items (l.seats.items ++ ss) l.fn.met;
 }
