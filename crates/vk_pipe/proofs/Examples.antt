@@ -1,5 +1,5 @@
 -- The definitions, tried: what a server calls, answer by answer.
-use Rattle.std.proofs.Common.{◌≡◌, ℕ, List, [], ◌∷◌, ◌++◌, Option, Some, None, replicate, refl, lit<}
+use Rattle.std.proofs.Common.{◌≡◌, ℕ, List, [], ◌∷◌, ◌++◌, Option, Some, replicate, refl, lit<}
 use Rattle.std.specs.Int.{w32, to_be_bytes}
 use Rattle.vk_base.specs.declared.answer.Answer.{Answer}
 use Rattle.vk_base.specs.declared.answer.Answer.TheVariants as answers
@@ -63,8 +63,8 @@ writing_calls = receives ∷ Some (calls.Load 0 512) ∷ replies writer 0 512 �
 
 a_write_waits :
     calls_from (new_server 9)
-        (writing 1 ++ writing 2 ++ writing 3 ++ writing 4
-        ++ (writes 512 ∷ answers.Loaded (page 5) ∷ reads 0 512 ∷ answers.Ok ∷ answers.Ok ∷ []))
+    (writing 1 ++ writing 2 ++ writing 3 ++ writing 4
+    ++ (writes 512 ∷ answers.Loaded (page 5) ∷ reads 0 512 ∷ answers.Ok ∷ answers.Ok ∷ []))
     ≡ writing_calls ++ writing_calls ++ writing_calls ++ writing_calls
     ++ (receives ∷ Some (calls.Load 0 512) ∷ receives ∷ Some (calls.Store 0 (page 1)) ∷ gives 512 ∷ replies writer 0 512 ∷ [])
 unfolding calls_from reader writer asked reads writes receives replies gives page writing writing_calls
@@ -74,10 +74,10 @@ a_write_waits = refl
 -- too late
 bytes_stay_until_they_are_had :
     calls_from (new_server 9)
-        (writes 3 ∷ answers.Loaded (1 ∷ 2 ∷ 3 ∷ []) ∷ answers.Ok
-        ∷ reads 0 512 ∷ answers.Ok ∷ answers.Refused refusals.NotAwaiting
-        ∷ reads 0 512 ∷ answers.Ok ∷ answers.Ok
-        ∷ closes ∷ answers.Ok ∷ reads 0 512 ∷ answers.Ok ∷ writes 3 ∷ [])
+    (writes 3 ∷ answers.Loaded (1 ∷ 2 ∷ 3 ∷ []) ∷ answers.Ok
+    ∷ reads 0 512 ∷ answers.Ok ∷ answers.Refused refusals.NotAwaiting
+    ∷ reads 0 512 ∷ answers.Ok ∷ answers.Ok
+    ∷ closes ∷ answers.Ok ∷ reads 0 512 ∷ answers.Ok ∷ writes 3 ∷ [])
     ≡ receives ∷ Some (calls.Load 0 3) ∷ replies writer 0 3
     ∷ receives ∷ Some (calls.Store 0 (1 ∷ 2 ∷ 3 ∷ [])) ∷ gives 3
     ∷ receives ∷ Some (calls.Store 0 (1 ∷ 2 ∷ 3 ∷ [])) ∷ gives 3

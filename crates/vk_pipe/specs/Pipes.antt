@@ -99,8 +99,10 @@ pub data Rule : Type 0 where
   Serves : (r : Read) → Rule
   Ends : (r : Read) → Rule
 
-abbrev pub fits : Pipe → Write → Bool
-fits p w = nat_le (length p.bytes + length w.bytes) PIPE_BYTES
+-- the first write, where its bytes fit behind so many
+abbrev pub fitting : ℕ → Option Write → Option Write
+fitting held None = None
+fitting held (Some w) = if nat_le (held + length w.bytes) PIPE_BYTES then Some w else None
 
 abbrev pub is_empty : Pipe → Bool
 is_empty p = length p.bytes == 0
@@ -113,14 +115,14 @@ read_rule p (Some r) =
     else if p.closed && length p.writes == 0 then Ends r
     else Calls stages.Receive
 
--- of the first write, and else of the first read
+-- of a write that fits, and else of the first read
 abbrev pub write_rule : Pipe → Option Write → Rule
+write_rule p (Some w) = Puts w
 write_rule p None = read_rule p (slice_get p.reads 0)
-write_rule p (Some w) = if fits p w then Puts w else read_rule p (slice_get p.reads 0)
 
 -- the first that can be done, where replies are left
 abbrev pub settled : Pipe → Rule
-settled p = if p.left == 0 then Calls stages.Exit else write_rule p (slice_get p.writes 0)
+settled p = if p.left == 0 then Calls stages.Exit else write_rule p (fitting (length p.bytes) (slice_get p.writes 0))
 
 abbrev pub rule_for : Pipe → News → Rule
 rule_for p (brings.Due stage) = Calls stage

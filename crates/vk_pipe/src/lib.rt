@@ -6,12 +6,21 @@
 //! Stands on `vk_base`, on `vk_program` and on `circular_buffer`.
 #![tactic(auto)]
 
+mod bytes;
+mod law;
 mod limits;
+mod message;
 mod news;
+mod queue;
+mod server;
 mod serving;
 mod waiting;
 
+pub use law::pipes_keep_their_bytes;
 pub use limits::{PIPE_BYTES, WAITING_REQUESTS};
-pub use news::News;
+pub use server::PipeServer;
 pub use serving::{Serving, Verdict};
 pub use waiting::{Read, Write};
+
+#[cfg(test)]
+mod tests;
