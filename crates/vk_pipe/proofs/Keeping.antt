@@ -1,5 +1,5 @@
 -- That a pipe keeps its bytes.
-use Rattle.std.proofs.Common.{◌≡◌, ℕ, ◌==◌, Bool, true, false, List, [], ◌∷◌, ◌++◌, map, Option, Some, refl, ap, arith, sym, ◌∙◌}
+use Rattle.std.proofs.Common.{◌≡◌, ℕ, ◌==◌, Bool, true, false, List, [], ◌∷◌, ◌++◌, map, Option, Some, refl, ap, arith, sym, ◌∙◌, append-nil}
 use Rattle.std.specs.List.{flat_map}
 use Rattle.std.proofs.lemmas.Bool.{eq-eqb, false≢true}
 use Rattle.std.proofs.lemmas.Option.{none-some}
@@ -87,6 +87,12 @@ bytes_are requests given =
     ∙ ap (λ (l : List ℕ). l ++ (pipe_after requests given).bytes)
     (sym (flat_along (λ (x : Piece). x.bytes) (λ s a. piece_in s.pipe (news_at s a)) (new_server requests) given))
 
+all_had : (requests : ℕ) (given : List Answer) → IsAtEnd (pipe_after requests given)
+    → bytes_put requests given ≡ bytes_had requests given
+all_had requests given over =
+    bytes_are requests given ∙ ap (λ (l : List ℕ). bytes_had requests given ++ l) over.no_bytes
+    ∙ append-nil (bytes_had requests given)
+
 written_are : (requests : ℕ) (given : List Answer) → written_calls requests given ≡ map reply_to_write (writes_put requests given)
 written_are requests given =
     sym (map_along reply_to_write (λ s a. put_by (rule_at s a)) (new_server requests) given
@@ -128,7 +134,8 @@ unfolding is_receive
 rest_is p stages.Receive right h = right
 rest_is p stage right h = absurd (false≢true h)
 
-replied : (c : Option Call) (m : Message) (to : Pid) (code : ℕ) → c ≡ Some (calls.Reply m to) → code_of m ≡ code → is_reply code c ≡ true
+replied : (c : Option Call) (m : Message) (to : Pid) (code : ℕ) → c ≡ Some (calls.Reply m to) → code_of m ≡ code
+    → is_reply code c ≡ true
 unfolding is_reply
 replied c m to code is coded = ap (is_reply code) is ∙ eq-eqb (code_of m) code coded
 
@@ -147,7 +154,9 @@ keeps requests given =
       reads = reads_are requests given;
       written = written_are requests given;
       served = replies_are requests given;
-      ended = λ m to is code. end_is s.pipe s.stage right (replied (stage_call s.pipe s.stage) m to 6 is code);
+      ended = λ m to is code.
+          let over : IsAtEnd s.pipe = end_is s.pipe s.stage right (replied (stage_call s.pipe s.stage) m to 6 is code) in
+          (over, all_had requests given over);
       full = λ m to is code. full_is s.pipe s.stage right (replied (stage_call s.pipe s.stage) m to 5 is code);
       rests = λ is. rest_is s.pipe s.stage right (received (stage_call s.pipe s.stage) 0 SEGMENT_BYTES is);
       within = record { bytes = room.small; requests = omega (arith, room.few) };

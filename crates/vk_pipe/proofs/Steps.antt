@@ -164,7 +164,9 @@ step_by p stage a same quiet =
       writes = news_writes p n ∙ does.writes;
       reads = news_reads p n ∙ does.reads;
       bytes =
-          ap (λ (l : List ℕ). l ++ new) (news_bytes p n) ∙ append_assoc had q.bytes new ∙ ap (λ (l : List ℕ). had ++ l) does.bytes;
+          ap (λ (l : List ℕ). l ++ new) (news_bytes p n)
+          ∙ append_assoc had q.bytes new
+          ∙ ap (λ (l : List ℕ). had ++ l) does.bytes;
       written = does.written;
       served =
           ap (λ (l : List Pid). l ++ map (λ (r : Read). r.from) (served_by rule)) same

@@ -47,9 +47,9 @@ pub record KeepsItsBytes (requests : ℕ) (given : List Answer) : Type 0 where
   -- each write that was put in is told so, once and in this order, and no other is; each read that was served is replied to so
   pub written : written_calls requests given ≡ map reply_to_write (writes_put requests given)
   pub served : read_replies requests given ≡ map (λ (r : Read). r.from) (reads_served requests given)
-  -- the end is told of a pipe at its end, and that it is full where sixteen requests wait
-  pub ended : (m : Message) (to : Pid) →
-      pipe_call requests given ≡ Some (calls.Reply m to) → code_of m ≡ 6 → IsAtEnd (pipe_after requests given)
+  -- the end is told where the pipe is at its end and reads have all that was put in, and that it is full where sixteen requests wait
+  pub ended : (m : Message) (to : Pid) → pipe_call requests given ≡ Some (calls.Reply m to) → code_of m ≡ 6 →
+      IsAtEnd (pipe_after requests given) × (bytes_put requests given ≡ bytes_had requests given)
   pub full : (m : Message) (to : Pid) →
       pipe_call requests given ≡ Some (calls.Reply m to) → code_of m ≡ 5 → waiting (pipe_after requests given) ≡ WAITING_REQUESTS
   -- it waits for a request only where nothing can be settled
