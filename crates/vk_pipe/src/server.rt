@@ -25,10 +25,27 @@ pub struct PipeServer {
     writes: Queue<Write>,
     reads: Queue<Read>,
     closed: bool,
-    /// How many replies are left to be made, of so many.
+    /// How many replies are left to be made.
     left: u32,
+    /// How many it makes in all.
     requests: u32,
     stage: Serving,
+}
+
+/// This process is told so.
+fn refused(to: Pid, verdict: Verdict) -> News
+    ensures { result ≡ News.Due (Serving.Reply to verdict) }
+{
+    let stage = Serving::Reply { to, verdict };
+    News::Due { stage }
+}
+
+/// The server is at its end.
+fn ended() -> News
+    ensures { result ≡ News.Due Serving.Ended }
+{
+    let stage = Serving::Ended;
+    News::Due { stage }
 }
 
 /// The write of this process, once so many bytes were loaded.
@@ -36,21 +53,14 @@ fn loaded(from: Pid, count: u32, answer: &Answer) -> News
     ensures { result ≡ loaded from count answer.now }
 {
     let Answer::Loaded { bytes } = answer else {
-        return News::Due {
-            stage: Serving::Ended,
-        };
+        return ended();
     };
     if bytes.as_slice().len() != count as usize {
-        return News::Due {
-            stage: Serving::Ended,
-        };
+        return ended();
     }
-    News::WriteWaits {
-        write: Write {
-            from,
-            bytes: bytes.copy(),
-        },
-    }
+    let bytes = bytes.copy();
+    let write = Write { from, bytes };
+    News::WriteWaits { write }
 }
 
 /// What becomes of a read whose bytes were replied with.
@@ -110,25 +120,20 @@ impl PipeServer {
     fn judge(&self, from: Pid, message: &Message, count: u32) -> News
         ensures { result ≡ judged (pipe_of self.now) from message.now count }
     {
-        let verdict = if !is_request(message) {
-            Verdict::Bad
+        if !is_request(message) {
+            refused(from, Verdict::Bad)
         } else if is_close(message) {
-            return News::Close { from };
+            News::Close { from }
         } else if is_write(message) && self.closed {
-            Verdict::Shut
+            refused(from, Verdict::Shut)
         } else if self.writes.len() + self.reads.len() == WAITING_REQUESTS {
-            Verdict::Full
+            refused(from, Verdict::Full)
         } else if is_write(message) {
-            return News::Due {
-                stage: Serving::Load { from, count },
-            };
+            let stage = Serving::Load { from, count };
+            News::Due { stage }
         } else {
-            return News::ReadWaits {
-                read: read_of(from, message),
-            };
-        };
-        News::Due {
-            stage: Serving::Reply { to: from, verdict },
+            let read = read_of(from, message);
+            News::ReadWaits { read }
         }
     }
 
@@ -142,9 +147,7 @@ impl PipeServer {
                 message,
                 count,
             } => self.judge(*from, message, *count),
-            _ => News::Due {
-                stage: Serving::Ended,
-            },
+            _ => ended(),
         }
     }
 
@@ -160,12 +163,8 @@ impl PipeServer {
             },
             Serving::ReplyBytes { read } => delivered(read, answer),
             Serving::Reply { .. } => News::Replied,
-            Serving::Exit => News::Due {
-                stage: Serving::Ended,
-            },
-            Serving::Ended => News::Due {
-                stage: Serving::Ended,
-            },
+            Serving::Exit => ended(),
+            Serving::Ended => ended(),
         }
     }
 
