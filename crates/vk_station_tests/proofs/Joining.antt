@@ -1,25 +1,14 @@
 -- Logs that are such as can be joined, and the schedule that they are joined to.
-use Rattle.std.proofs.Common.{◌≡◌, ℕ, ◌+◌, ◌<◌, ◌≤◌, Bool, true, false, cond, ◌||◌, nat_lt, List, [], ◌∷◌, ◌++◌, get_or, length, take, Option, Some, None, refl, sym, ap, subst, ◌∙◌, arith}
-use Rattle.std.proofs.lemmas.Bool.{ltb-false, or_parts}
+use Rattle.std.proofs.Common.{◌≡◌, ℕ, ◌+◌, ◌<◌, ◌≤◌, List, [], ◌∷◌, ◌++◌, get_or, length, take, None, sym, ap, subst, ◌∙◌, arith}
 use Rattle.std.proofs.lemmas.List.{take_all, take_more}
-use Rattle.std.proofs.lemmas.Option.{none-some}
-use Rattle.std.specs.List.{list_all, AllByRecursion}
 use Rattle.vk_base.specs.declared.config.ProcessSpec.{ProcessSpec}
-use Rattle.vk_base.specs.declared.limits.TheConstants.{EVENTS}
-use Rattle.vk_base.specs.Pids.{IsPid}
-use Rattle.vk_base.specs.Settings.{Settings, first_fault, refusal_of}
-use Rattle.vk_cluster.specs.declared.frames.TheConstants.{MOST_BYTES}
+use Rattle.vk_base.specs.Settings.{Settings, refusal_of}
 use Rattle.vk_event.specs.declared.schedule.Schedule.{Schedule}
-use Rattle.vk_event.specs.Lawful.{IsLawful, has_actors}
-use Rattle.vk_join.specs.declared.log.JoinRefusal.{JoinRefusal}
-use Rattle.vk_join.specs.declared.log.JoinRefusal.TheVariants as refusals
+use Rattle.vk_event.specs.Lawful.{IsLawful}
 use Rattle.vk_join.specs.declared.log.StationLog.{StationLog}
-use Rattle.vk_join.specs.Joined.{IsJoined}
-use Rattle.vk_join.specs.Logs.{AreLogs, HostsRise, byte_count, entries_at, event_count}
-use Rattle.vk_join.specs.Stray.{first_stray, join_refusal}
+use Rattle.vk_join.specs.Logs.{AreLogs, HostsRise}
 use Rattle.vk_rules.specs.Each.{Each}
 use Rattle.vk_rules.proofs.Lists.{each_append, each_weaker}
-use Rattle.vk_text.specs.Heads.{settings_of}
 use Rattle.vk_station_tests.specs.Logs.{IsLogOf}
 
 -- One more of a list.
@@ -65,27 +54,3 @@ logs_are c ls n last all are =
 pub faultless : (s : Schedule) → IsLawful s → refusal_of s.config.times s.config.pool s.config.specs ≡ None
 faultless s lawful =
     ap (λ (x : Settings). refusal_of x.times x.pool x.specs) lawful.config ∙ lawful.faultless
-
--- What is joined over it can be written.
-within : (most n bytes : ℕ) (first : Option JoinRefusal) → cond (nat_lt most n || nat_lt MOST_BYTES bytes) (Some refusals.Limit) first ≡ None →
-    n ≤ most
-within most n bytes first is = by (nat_lt most n || nat_lt MOST_BYTES bytes) refl is where
-  by : (b : Bool) → (nat_lt most n || nat_lt MOST_BYTES bytes) ≡ b → cond b (Some refusals.Limit) first ≡ None → n ≤ most
-  by true e is = absurd (none-some refusals.Limit (sym is))
-  by false e is = ltb-false most n (or_parts (nat_lt most n) (nat_lt MOST_BYTES bytes) e).0
-
-pub joined_lawful : (c : Settings) (front s : Schedule) (logs : List StationLog) → IsLawful front → c ≡ front.config → IsJoined c logs s →
-    join_refusal c logs ≡ None → IsLawful s
-joined_lawful c front s logs lawful same joined possible =
-    let config : s.config ≡ front.config = joined.config ∙ same in
-    record {
-      config = config ∙ lawful.config ∙ ap (λ (x : Settings). settings_of x.specs) (sym config);
-      pids = subst (λ (x : Settings). AllByRecursion (λ (p : ProcessSpec). IsPid p.pid) x.specs) (sym config) lawful.pids;
-      faultless = subst (λ (x : Settings). first_fault [] x.specs ≡ None) (sym config) lawful.faultless;
-      ranges = joined.ranges;
-      events = subst (λ (x : Settings). list_all (has_actors x.specs) s.events ≡ true) (sym joined.config) joined.actors;
-      few =
-          let few = within EVENTS (event_count logs) (byte_count c logs) (first_stray (entries_at c logs) logs) possible in
-          let count = joined.count in
-          omega arith;
-    }
