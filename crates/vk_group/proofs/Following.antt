@@ -1,0 +1,70 @@
+-- A coordinator and a helper after one answer more.
+use Rattle.std.proofs.Common.{◌≡◌, ℕ, ◌≤◌, List, [], ◌∷◌, ◌++◌, length, map, refl, ap, sym, subst, ◌∙◌, append-nil, length-map}
+use Rattle.vk_base.specs.declared.answer.Answer.{Answer}
+use Rattle.vk_group.specs.declared.group.Group.{Group}
+use Rattle.vk_group.specs.declared.helping.Helping.{Helping}
+use Rattle.vk_group.specs.declared.helping.Helping.TheVariants as helpings
+use Rattle.vk_group.specs.declared.member.Member.{Member}
+use Rattle.vk_group.specs.declared.pair.HelperPair.{HelperPair}
+use Rattle.vk_group.specs.declared.pair.TheConstants.{GROUP_MEMBERS}
+use Rattle.vk_group.specs.Coordinators.{IsCoordinatorAfter}
+use Rattle.vk_group.specs.Groups.{HasRoom, answered, answered_all, coordinator_call, group_after, new_group, stage_call}
+use Rattle.vk_group.specs.Helpers.{IsHelperAfter, helped, helped_all}
+use Rattle.vk_group.specs.Members.{pair_of, pairs_of}
+use Rattle.vk_group.proofs.Constant.{pairs_new}
+use Rattle.vk_group.proofs.Told.{room_after}
+
+one_answer_more : (g : Group) (given : List Answer) (a : Answer) → answered_all g (given ++ a ∷ []) ≡ answered (answered_all g given) a
+one_answer_more g [] a = refl
+one_answer_more g (b ∷ rest) a = one_answer_more (answered g b) rest a
+
+same_count : (ms ns : List Member) → pairs_of ms ≡ pairs_of ns → length ms ≡ length ns
+same_count ms ns same = sym (length-map ms pair_of) ∙ ap length same ∙ length-map ns pair_of
+
+-- there is room for its next answer
+room : (requests : ℕ) (g : Group) (given : List Answer) → IsCoordinatorAfter requests g given → HasRoom g
+room requests g given is =
+    subst HasRoom is.state
+    (room_after (pairs_of g.members) requests given (subst (λ n. n ≤ GROUP_MEMBERS) (sym (length-map g.members pair_of)) is.few))
+
+-- as the code writes it
+pub after_last : (requests left : ℕ) (g new : Group) (a : Answer) (told given : List Answer) → left ≡ requests → told ≡ a ∷ [] →
+    pairs_of new.members ≡ pairs_of g.members → (HasRoom g → new ≡ answered g a) → IsCoordinatorAfter requests g given →
+    IsCoordinatorAfter left new (given ++ told)
+after_last requests left g new a told given kept one same step is =
+    rw (kept, one) (record {
+      state =
+          ap (λ ps. group_after ps requests (given ++ a ∷ [])) same ∙ one_answer_more (new_group (pairs_of g.members) requests) given a
+          ∙ ap (λ (s : Group). answered s a) is.state ∙ sym (step (room requests g given is));
+      few = subst (λ n. n ≤ GROUP_MEMBERS) (sym (same_count new.members g.members same)) is.few;
+    })
+
+pub after_none : (requests : ℕ) (g : Group) (given : List Answer) → IsCoordinatorAfter requests g given →
+    IsCoordinatorAfter requests g (given ++ [])
+after_none requests g given is = rw (append-nil given) is
+
+-- what it calls then
+pub called_after : (requests : ℕ) (g : Group) (given : List Answer) → IsCoordinatorAfter requests g given →
+    stage_call g.stage ≡ coordinator_call (pairs_of g.members) requests given
+called_after requests g given is = ap (λ (s : Group). stage_call s.stage) (sym is.state)
+
+-- before its first answer
+pub after_new : (pairs : List HelperPair) (requests : ℕ) (g : Group) → g ≡ new_group pairs requests → length pairs ≤ GROUP_MEMBERS →
+    IsCoordinatorAfter requests g []
+after_new pairs requests g new few =
+    let same : pairs_of g.members ≡ pairs = ap (λ (s : Group). pairs_of s.members) new ∙ pairs_new pairs in
+    record {
+      state = ap (λ ps. new_group ps requests) same ∙ sym new;
+      few = subst (λ n. n ≤ GROUP_MEMBERS) (sym (ap length same) ∙ length-map g.members pair_of) few;
+    }
+
+-- a helper
+
+pub helped_more : (stage : Helping) (given : List Answer) (a : Answer) → helped_all stage (given ++ a ∷ []) ≡ helped (helped_all stage given) a
+helped_more stage [] a = refl
+helped_more stage (b ∷ rest) a = helped_more (helped stage b) rest a
+
+pub helper_after : (stage next : Helping) (a : Answer) (told given : List Answer) → told ≡ a ∷ [] → next ≡ helped stage a →
+    IsHelperAfter stage given → IsHelperAfter next (given ++ told)
+helper_after stage next a told given one step is =
+    rw one (helped_more helpings.Ready given a ∙ ap (λ s. helped s a) is ∙ sym step)
