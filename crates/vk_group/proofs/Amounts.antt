@@ -1,6 +1,6 @@
 -- Which numbers stand in a list, and which members they are of.
 use Rattle.std.proofs.Common.{◌≡◌, ◌≢◌, ℕ, ◌<◌, Bool, true, false, ◌||◌, eqb, List, [], ◌∷◌, ◌++◌, length, get_or, Option, refl, ap, sym, subst, ◌∙◌, arith, length-append, inl, inr}
-use Rattle.std.specs.List.{IsDistinct, list_any}
+use Rattle.std.specs.List.{IsDistinct}
 use Rattle.std.specs.Cmp.{nat_eq_equiv}
 use Rattle.std.proofs.lemmas.Bool.{eqb-true, eqb-false, eq-eqb, or_cases, or_left, or_right}
 use Rattle.std.proofs.lemmas.List.{get_or_append_left}
@@ -69,6 +69,6 @@ still was ns n ms new alike same those i = still_by was ns n i ms new (eqb i n) 
 pub more_among : (P : ℕ → Type 0) (ns : List ℕ) (n q : ℕ) → ((k : ℕ) → is_among ns k ≡ true → P k) → P n → is_among (ns ++ n ∷ []) q ≡ true → P q
 more_among P ns n q each last e =
     elim (or_cases (is_among ns q) (eqb q n) (sym (among_more ns n q) ∙ e)) [
-      inl before ↦ each q before
-    | inr same ↦ subst P (sym (eqb-true q n same)) last
+      | inl before ↦ each q before
+      | inr same ↦ subst P (sym (eqb-true q n same)) last
     ]

@@ -1,8 +1,7 @@
 -- What an account and the members have in common, and that every answer keeps it.
-use Rattle.std.proofs.Common.{◌≡◌, ℕ, zero, suc, Bool, true, false, eqb, List, [], ◌∷◌, ◌++◌, map, drop, Option, Some, None, refl, ap, sym, subst, ◌∙◌, cond, append-nil, append_assoc}
+use Rattle.std.proofs.Common.{◌≡◌, ℕ, zero, suc, Bool, true, false, eqb, List, [], ◌∷◌, ◌++◌, map, drop, Option, Some, None, refl, ap, sym, subst, ◌∙◌, append-nil, append_assoc}
 use Rattle.std.specs.Prelude.{IfSome, option_map, slice_get}
-use Rattle.std.specs.List.{IsDistinct, filter_map, position}
-use Rattle.std.specs.Option.{is_some}
+use Rattle.std.specs.List.{IsDistinct, filter_map}
 use Rattle.std.proofs.lemmas.Bool.{cond_both}
 use Rattle.std.proofs.lemmas.List.{map_push}
 use Rattle.std.proofs.lemmas.List.Elements.{filter_map-append}
@@ -20,16 +19,13 @@ use Rattle.vk_group.specs.declared.notes.Note.{Note}
 use Rattle.vk_group.specs.declared.pair.HelperPair.{HelperPair}
 use Rattle.vk_group.specs.declared.request.Request.{Request}
 use Rattle.vk_group.specs.declared.request.Request.TheVariants as requests
-use Rattle.vk_group.specs.declared.stage.Job.{Job}
 use Rattle.vk_group.specs.declared.stage.Stage.{Stage}
 use Rattle.vk_group.specs.declared.stage.Stage.TheVariants as stages
-use Rattle.vk_group.specs.declared.stage.Wait.{Wait}
-use Rattle.vk_group.specs.Accounts.{Account, Report, accounted, account_from, account_after, began, deed_at, deed_of, hands, loaded, note_in, note_member, nothing, replies, reply_if, report_member, report_of, reporters}
-use Rattle.vk_group.specs.Groups.{answered, answered_all, answered_at, begun_by, group_after, heard, is_client, is_ending, left_after, loaded_result, loaded_send, new_group, noted, notes_after, number_of, ready_from, refused, refused_as, rest, result_from, taken, verdict, wait_over}
-use Rattle.vk_group.specs.Laws.{is_among}
-use Rattle.vk_group.specs.Members.{given, has_job, holds_job, is_given, made_ready, new_member, reported, restarted, told, work_of}
+use Rattle.vk_group.specs.Accounts.{Account, Report, accounted, account_from, account_after, began, deed_at, deed_of, hands, loaded, note_in, note_member, nothing, report_member, report_of}
+use Rattle.vk_group.specs.Groups.{answered, answered_all, answered_at, begun_by, group_after, heard, is_ending, left_after, loaded_result, loaded_send, new_group, notes_after, number_of, ready_from, refused, refused_as, rest, result_from, taken, verdict, wait_over}
+use Rattle.vk_group.specs.Members.{given, holds_job, is_given, made_ready, new_member, reported, restarted, told}
 use Rattle.vk_group.specs.Messages.{message_in, request_in}
-use Rattle.vk_group.proofs.Amounts.{AreThose, one_more, push_distinct, still}
+use Rattle.vk_group.proofs.Amounts.{AreAlike, AreThose, one_more, push_distinct, still}
 use Rattle.vk_group.proofs.Staged.{IsStaged, IsTold, next_staged, verdict_staged}
 use Rattle.vk_group.proofs.Works.{none_done, none_given, none_replied, others_given, others_reported, was_done, was_given, was_replied, work_at, work_given, work_in, work_made_ready, work_reported, work_told}
 
@@ -100,7 +96,7 @@ books_replied ms notes h n m is b =
     let report : Report = record { member = n; reply = Some m } in
     let new = reported n true ms in
     let now = work_reported ms n true is in
-    let others = λ i. others_reported ms n i true in
+    let others : AreAlike ms new n = λ i. others_reported ms n i true in
     let reports = map_push report_member h.reports report in
     let more : h.handed_over ++ (notes ++ note ∷ []) ≡ h.handed_over ++ notes ++ note ∷ [] = sym (append_assoc h.handed_over notes (note ∷ [])) in
     let numbers = ap (map note_member) more ∙ map_push note_member (h.handed_over ++ notes) note in
@@ -129,7 +125,7 @@ books_failed ms notes h n is b =
     let report : Report = record { member = n; reply = None } in
     let new = reported n false ms in
     let now = work_reported ms n false is in
-    let others = λ i. others_reported ms n i false in
+    let others : AreAlike ms new n = λ i. others_reported ms n i false in
     let reports = map_push report_member h.reports report in
     record {
       jobs_apart = b.jobs_apart;
@@ -153,7 +149,7 @@ books_handed : (ms : List Member) (notes : List Note) (h : Account) (n : Note) �
     Books ms (drop 1 notes) (record h { handed_over = h.handed_over ++ n ∷ [] })
 books_handed ms notes h n is b =
     let same : (h.handed_over ++ n ∷ []) ++ drop 1 notes ≡ h.handed_over ++ notes =
-        append_assoc h.handed_over (n ∷ []) (drop 1 notes) ∙ ap (λ ns. h.handed_over ++ ns) (sym is) in
+    append_assoc h.handed_over (n ∷ []) (drop 1 notes) ∙ ap (λ ns. h.handed_over ++ ns) (sym is) in
     record {
       jobs_apart = b.jobs_apart;
       jobs_are = b.jobs_are;

@@ -1,5 +1,5 @@
 -- No answer changes the pairs of a group.
-use Rattle.std.proofs.Common.{◌≡◌, ℕ, Bool, true, false, List, [], ◌∷◌, map, Option, Some, None, refl, ap, ◌∙◌}
+use Rattle.std.proofs.Common.{◌≡◌, ℕ, Bool, true, List, [], ◌∷◌, map, Option, Some, None, refl, ap, ◌∙◌}
 use Rattle.std.specs.Prelude.{slice_get}
 use Rattle.std.proofs.lemmas.Bool.{cond_both}
 use Rattle.vk_base.specs.declared.answer.Answer.{Answer}
@@ -17,7 +17,7 @@ use Rattle.vk_group.specs.declared.request.Request.TheVariants as requests
 use Rattle.vk_group.specs.declared.stage.Stage.{Stage}
 use Rattle.vk_group.specs.declared.stage.Stage.TheVariants as stages
 use Rattle.vk_group.specs.Groups.{answered, answered_all, answered_at, begun_by, heard, is_ending, loaded_result, loaded_send, number_of, ready_from, refused, refused_as, rest, result_from, taken, verdict}
-use Rattle.vk_group.specs.Members.{given, holds_job, made_ready, new_member, pairs_of, reported, told, work_of}
+use Rattle.vk_group.specs.Members.{given, holds_job, new_member, pairs_of, reported, told, work_of}
 use Rattle.vk_group.specs.Messages.{message_in, request_in}
 use Rattle.vk_group.proofs.Works.{pairs_changed, pairs_restarted}
 

@@ -1,5 +1,7 @@
 -- A coordinator and a helper after one answer more.
-use Rattle.std.proofs.Common.{◌≡◌, ℕ, ◌≤◌, List, [], ◌∷◌, ◌++◌, length, map, refl, ap, sym, subst, ◌∙◌, append-nil, length-map}
+use Rattle.std.proofs.Common.{◌≡◌, ℕ, ◌≤◌, Bool, true, ◌==◌, ◌&&◌, not, nat_le, List, [], ◌∷◌, ◌++◌, length, refl, ap, sym, subst, ◌∙◌, append-nil}
+use Rattle.std.proofs.lemmas.Bool.{and_parts, leb-true}
+use Rattle.std.proofs.lemmas.List.{length-map}
 use Rattle.vk_base.specs.declared.answer.Answer.{Answer}
 use Rattle.vk_group.specs.declared.group.Group.{Group}
 use Rattle.vk_group.specs.declared.helping.Helping.{Helping}
@@ -11,6 +13,7 @@ use Rattle.vk_group.specs.Coordinators.{IsCoordinatorAfter}
 use Rattle.vk_group.specs.Groups.{HasRoom, answered, answered_all, coordinator_call, group_after, new_group, stage_call}
 use Rattle.vk_group.specs.Helpers.{IsHelperAfter, helped, helped_all}
 use Rattle.vk_group.specs.Members.{pair_of, pairs_of}
+use Rattle.vk_group.specs.Pairs.{are_different, are_pairs}
 use Rattle.vk_group.proofs.Constant.{pairs_new}
 use Rattle.vk_group.proofs.Told.{room_after}
 
@@ -68,3 +71,9 @@ pub helper_after : (stage next : Helping) (a : Answer) (told given : List Answer
     IsHelperAfter stage given → IsHelperAfter next (given ++ told)
 helper_after stage next a told given one step is =
     rw one (helped_more helpings.Ready given a ∙ ap (λ s. helped s a) is ∙ sym step)
+
+-- the pairs of a group are few
+pub few_pairs : (pairs : List HelperPair) (told : Bool) → told ≡ are_pairs pairs → told ≡ true → length pairs ≤ GROUP_MEMBERS
+few_pairs pairs told is yes_they_are =
+    let parts = and_parts (not (length pairs == 0) && nat_le (length pairs) GROUP_MEMBERS) (are_different pairs) (sym is ∙ yes_they_are) in
+    leb-true (length pairs) GROUP_MEMBERS (and_parts (not (length pairs == 0)) (nat_le (length pairs) GROUP_MEMBERS) parts.0).1

@@ -1,5 +1,5 @@
 -- What holds where a coordinator chose what to do.
-use Rattle.std.proofs.Common.{◌≡◌, ℕ, ◌<◌, Bool, true, false, not, ◌&&◌, List, [], ◌∷◌, length, drop, get_or, Option, Some, None, refl, ap, sym, subst, ◌∙◌, cond}
+use Rattle.std.proofs.Common.{◌≡◌, ℕ, true, false, not, List, [], ◌∷◌, drop, Option, Some, None, refl, ap, sym, ◌∙◌, cond}
 use Rattle.std.specs.Prelude.{IfSome, option_map, slice_get}
 use Rattle.std.specs.List.{list_any, list_all, position}
 use Rattle.std.specs.Option.{is_some}
@@ -7,7 +7,6 @@ use Rattle.std.proofs.lemmas.Bool.{and_parts, cond_both, not-true}
 use Rattle.std.proofs.lemmas.List.Quantifiers.{position-Some}
 use Rattle.std.proofs.lemmas.Option.{get_or_from_slice_get, none-some, same_Some}
 use Rattle.vk_base.specs.declared.message.Message.{Message}
-use Rattle.vk_base.specs.Messages.{grants_read, grants_write}
 use Rattle.vk_base.specs.Options.{◌>>=◌}
 use Rattle.vk_group.specs.declared.code.Code.{Code}
 use Rattle.vk_group.specs.declared.code.Code.TheVariants as codes
@@ -64,7 +63,7 @@ open_is works.Failed e = cc
 due_is : (ms : List Member) (n : ℕ) (m : Member) → position is_due ms ≡ Some n → slice_get ms n ≡ Some m → work_at ms n ≡ Some works.Open
 due_is ms n m at is =
     let passes : is_due m ≡ true =
-        ap is_due (sym (get_or_from_slice_get ms n m m is)) ∙ (position-Some is_due ms n m at).1 in
+    ap is_due (sym (get_or_from_slice_get ms n m m is)) ∙ (position-Some is_due ms n m at).1 in
     ap (option_map work_in) is ∙ ap Some (open_is m.work (and_parts (is_some m.ready) (is_open m.work) passes).1)
 
 job_staged : (g : Group) → IfSome (job_due g) (λ (j : Job). work_at g.members j.member ≡ Some works.Open)

@@ -1,9 +1,9 @@
 -- What a coordinator keeps to.
-use Rattle.std.proofs.Common.{◌≡◌, ◌≢◌, ℕ, zero, suc, ◌<◌, ◌≤◌, ◌+◌, Bool, true, false, eqb, List, [], ◌∷◌, ◌++◌, length, map, Option, Some, None, refl, ap, sym, subst, ◌∙◌, arith, append-nil, length-append, length-map, lit<, inl, inr, ◌⊎◌}
-use Rattle.std.specs.Prelude.{option_map, slice_get, slice_index}
-use Rattle.std.specs.List.{IsDistinct, filter_map, list_all, list_any}
-use Rattle.std.proofs.lemmas.Bool.{and_cases, and_parts, eqb-true, false≢true, or_cases, or_parts}
-use Rattle.std.proofs.lemmas.List.{map-append}
+use Rattle.std.proofs.Common.{◌≡◌, ℕ, zero, suc, ◌<◌, ◌≤◌, true, false, eqb, List, [], ◌∷◌, ◌++◌, length, map, Option, Some, None, refl, ap, sym, subst, ◌∙◌, arith, append-nil, length-append, lit<, inl, inr, ◌⊎◌}
+use Rattle.std.specs.Prelude.{slice_index}
+use Rattle.std.specs.List.{IsDistinct, list_all, list_any}
+use Rattle.std.proofs.lemmas.Bool.{and_cases, and_parts, false≢true, or_cases, or_parts}
+use Rattle.std.proofs.lemmas.List.{length-map, map-append}
 use Rattle.std.proofs.lemmas.Map.Steps.{length-le_from_distinct_below}
 use Rattle.std.proofs.lemmas.Option.{none-some, same_Some}
 use Rattle.vk_base.specs.declared.answer.Answer.{Answer}
@@ -12,7 +12,6 @@ use Rattle.vk_base.specs.declared.call.Call.TheVariants as calls
 use Rattle.vk_base.specs.declared.pid.Pid.{Pid}
 use Rattle.vk_group.specs.declared.code.Code.{Code}
 use Rattle.vk_group.specs.declared.code.Code.TheVariants as codes
-use Rattle.vk_group.specs.declared.group.Group.{Group}
 use Rattle.vk_group.specs.declared.member.Member.{Member}
 use Rattle.vk_group.specs.declared.member.Work.TheVariants as works
 use Rattle.vk_group.specs.declared.member.Work.{Work}
@@ -21,17 +20,17 @@ use Rattle.vk_group.specs.declared.pair.HelperPair.{HelperPair}
 use Rattle.vk_group.specs.declared.pair.TheConstants.{GROUP_MEMBERS}
 use Rattle.vk_group.specs.declared.stage.Stage.{Stage}
 use Rattle.vk_group.specs.declared.stage.Stage.TheVariants as stages
-use Rattle.vk_group.specs.Accounts.{Account, account_after, note_in, note_member, replies, report_member, reporters}
+use Rattle.vk_group.specs.Accounts.{Account, account_after, note_member}
 use Rattle.vk_group.specs.Codes.{number_of}
 use Rattle.vk_group.specs.Groups.{HasRoom, HasRoomAt, group_after, new_group, stage_call}
-use Rattle.vk_group.specs.Laws.{AllReported, BusyIsTrue, IsGivenOnce, IsHandedOverOnce, JobsAreGivenOnce, NobodyIsTrue, NoMoreIsTrue, RepliesAreHandedOverOnce, is_among}
-use Rattle.vk_group.specs.Members.{has_replied, has_reported, is_done, is_replied, new_member, pair_of, pairs_of}
+use Rattle.vk_group.specs.Laws.{AllReported, BusyIsTrue, JobsAreGivenOnce, NobodyIsTrue, NoMoreIsTrue, RepliesAreHandedOverOnce, is_among}
+use Rattle.vk_group.specs.Members.{has_replied, has_reported, pair_of}
 use Rattle.vk_group.specs.Messages.{reply_of}
 use Rattle.vk_group.proofs.Amounts.{among_self, front_distinct, more_among, push_distinct}
-use Rattle.vk_group.proofs.Books.{Books, IsKept, kept}
+use Rattle.vk_group.proofs.Books.{Books, kept}
 use Rattle.vk_group.proofs.Constant.{constant_all, pairs_new}
 use Rattle.vk_group.proofs.Staged.{IsStaged, IsTold}
-use Rattle.vk_group.proofs.Works.{was_done, was_given, was_replied, work_at, work_in}
+use Rattle.vk_group.proofs.Works.{was_done, was_given, was_replied, work_at}
 
 -- handed over, given and reported
 
@@ -204,9 +203,10 @@ nobody_is_true pairs requests given to is =
     let g = group_after pairs requests given in
     let h = account_after pairs requests given in
     let b = (kept pairs requests given).books in
-    let facts = told codes.Nobody only_nobody (lit< tt) pairs requests given to is in
-    (all_reported pairs requests given facts.0,
-    sym b.whole ∙ no_replies (h.handed_over ++ g.notes) (λ n. b.replies_are n ∙ unreplied g.members n facts.1))
+    let facts = told codes.Nobody only_nobody (lit< tt) pairs requests given to is in (
+      all_reported pairs requests given facts.0,
+      sym b.whole ∙ no_replies (h.handed_over ++ g.notes) (λ n. b.replies_are n ∙ unreplied g.members n facts.1),
+    )
 
 pub no_more_is_true : NoMoreIsTrue
 no_more_is_true pairs requests given to is =
@@ -216,16 +216,20 @@ no_more_is_true pairs requests given to is =
     let facts = told codes.NoMore only_no_more (lit< tt) pairs requests given to is in
     let one = replied_one g.members facts.2 in
     let nothing_left : h.handed_over ++ g.notes ≡ h.handed_over =
-        ap (λ ns. h.handed_over ++ ns) facts.1 ∙ append-nil h.handed_over in
-    (all_reported pairs requests given facts.0, sym nothing_left ∙ b.whole,
-    λ none. false≢true (ap (λ ns. is_among (map note_member ns) one.0) (sym (nothing_left ∙ none)) ∙ b.replies_are one.0 ∙ one.1))
+    ap (λ ns. h.handed_over ++ ns) facts.1 ∙ append-nil h.handed_over in (
+      all_reported pairs requests given facts.0,
+      sym nothing_left ∙ b.whole,
+      λ none. false≢true (ap (λ ns. is_among (map note_member ns) one.0) (sym (nothing_left ∙ none)) ∙ b.replies_are one.0 ∙ one.1),
+    )
 
 pub busy_is_true : BusyIsTrue
 busy_is_true pairs requests given to is =
     let g = group_after pairs requests given in
-    let found = unreported g.members (told codes.Busy only_busy (lit< tt) pairs requests given to is) in
-    (found.0, subst (λ k. found.0 < k) (count_after pairs requests given) found.1,
-    (kept pairs requests given).books.reports_are found.0 ∙ found.2)
+    let found = unreported g.members (told codes.Busy only_busy (lit< tt) pairs requests given to is) in (
+      found.0,
+      subst (λ k. found.0 < k) (count_after pairs requests given) found.1,
+      (kept pairs requests given).books.reports_are found.0 ∙ found.2,
+    )
 
 -- There is room for one reply more where one is loaded.
 
@@ -246,8 +250,8 @@ room_for : (ms : List Member) (ns : List ℕ) (n : ℕ) → IsDistinct eqb ns �
 room_for ms ns n apart are is =
     let more = push_distinct ns n apart (are n ∙ ap was_replied is) in
     let low : (q : ℕ) → is_among (ns ++ n ∷ []) q ≡ true → q < length ms =
-        λ q e. within ms q (more_among (λ k. was_given (work_at ms k) ≡ true) ns n q
-        (λ k among. given_if_replied (work_at ms k) (sym (are k) ∙ among)) (ap was_given is) e) in
+    λ q e. within ms q (more_among (λ k. was_given (work_at ms k) ≡ true) ns n q
+    (λ k among. given_if_replied (work_at ms k) (sym (are k) ∙ among)) (ap was_given is) e) in
     let most = length-le_from_distinct_below (ns ++ n ∷ []) (length ms) more low in
     omega (arith, most, length-append ns (n ∷ []))
 

@@ -1,10 +1,10 @@
 -- How far each member is, after a change of one of them.
-use Rattle.std.proofs.Common.{◌≡◌, ◌≢◌, ℕ, zero, suc, ◌<◌, Bool, true, false, List, [], ◌∷◌, length, map, Option, Some, None, refl, ap, sym, ◌∙◌}
-use Rattle.std.specs.Prelude.{option_map, slice_get, slice_set}
+use Rattle.std.proofs.Common.{◌≡◌, ◌≢◌, ℕ, zero, suc, Bool, true, false, List, [], ◌∷◌, Option, Some, None, refl, ap, ◌∙◌}
+use Rattle.std.specs.Prelude.{option_map, slice_get}
 use Rattle.vk_group.specs.declared.member.Member.{Member}
 use Rattle.vk_group.specs.declared.member.Work.TheVariants as works
 use Rattle.vk_group.specs.declared.member.Work.{Work}
-use Rattle.vk_group.specs.Members.{change, changed, given, is_done, is_replied, made_ready, pair_of, pairs_of, reopened, reported, restarted, told, work_of}
+use Rattle.vk_group.specs.Members.{change, changed, given, is_done, is_replied, made_ready, pairs_of, reported, restarted, told, work_of}
 
 abbrev pub work_in : Member → Work
 work_in m = m.work

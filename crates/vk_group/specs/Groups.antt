@@ -1,5 +1,5 @@
 -- A coordinator: what it knows of its group, and what it does.
-use Rattle.std.specs.Prelude.{ℕ, Bool, true, false, ◌-◌, ◌==◌, ◌&&◌, ◌||◌, ◌<◌, not, ◌++◌, List, [], ◌∷◌, length, map, drop, slice_get, Option, Some, None, if◌then◌else◌}
+use Rattle.std.specs.Prelude.{ℕ, Bool, true, false, ◌-◌, ◌==◌, ◌&&◌, ◌||◌, ◌<◌, not, List, [], ◌∷◌, length, map, drop, slice_get, Option, Some, None, if◌then◌else◌}
 use Rattle.std.specs.List.{list_any, list_all, position}
 use Rattle.std.specs.Option.{is_some}
 use Rattle.vk_base.specs.declared.answer.Answer.{Answer}
@@ -27,6 +27,7 @@ use Rattle.vk_group.specs.declared.stage.Stage.TheVariants as stages
 use Rattle.vk_group.specs.declared.stage.Wait.{Wait}
 use Rattle.vk_group.specs.Members.{given, has_job, holds_job, has_replied, has_reported, is_due, is_helper, is_ready, made_ready, new_member, reported, restarted, told, was_told}
 use Rattle.vk_group.specs.Messages.{message_in, reply_of, request_in}
+use Rattle.vk_group.specs.Notes.{noted}
 
 -- all members reported on the current group Send; there is one, and not all did
 abbrev pub all_reported : Group → Bool
@@ -153,10 +154,6 @@ loaded_send g client dest None = ended g
 loaded_send g client dest (Some m) = begun_by g client dest m (verdict g m)
 
 -- what a member replied was loaded
-abbrev pub noted : Bool → Note → List Note → List Note
-noted true n notes = notes ++ n ∷ []
-noted false n notes = notes
-
 abbrev pub loaded_result : Group → ℕ → Pid → Bool → Option Message → Group
 loaded_result g number helper replied None = ended g
 loaded_result g number helper replied (Some m) = record g {

@@ -1,5 +1,5 @@
 -- A helper: it asks for a job, sends the job's message to its member, and reports.
-use Rattle.std.specs.Prelude.{◌≡◌, ℕ, Bool, true, false, ◌==◌, List, [], ◌∷◌, slice_index, Option, Some, None, if◌then◌else◌}
+use Rattle.std.specs.Prelude.{◌≡◌, Bool, true, false, ◌==◌, List, [], ◌∷◌, slice_index, Option, Some, None, if◌then◌else◌}
 use Rattle.vk_base.specs.declared.answer.Answer.{Answer}
 use Rattle.vk_base.specs.declared.answer.Answer.TheVariants as answers
 use Rattle.vk_base.specs.declared.call.Call.{Call}
@@ -9,7 +9,7 @@ use Rattle.vk_base.specs.declared.message.Message.{Message}
 use Rattle.vk_base.specs.declared.pid.Pid.{Pid}
 use Rattle.vk_group.specs.declared.helping.Helping.{Helping}
 use Rattle.vk_group.specs.declared.helping.Helping.TheVariants as stages
-use Rattle.vk_group.specs.Messages.{kind_of, message_in, ready_message, result_message}
+use Rattle.vk_group.specs.Messages.{message_in, ready_message, result_message}
 
 -- it was given a job
 abbrev pub is_job : Answer → Bool

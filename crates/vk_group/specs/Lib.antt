@@ -6,4 +6,5 @@ pub mod Helpers
 pub mod Laws
 pub mod Members
 pub mod Messages
+pub mod Notes
 pub mod Pairs

@@ -13,7 +13,10 @@ helps_once ps pid = count_by (λ q. same_pid q.helper pid) ps == 1
 abbrev pub belongs_once : List HelperPair → Pid → Bool
 belongs_once ps pid = count_by (λ q. same_pid q.member pid) ps == 1
 
--- there is a pair, and there are not too many; no two helpers are equal, and no two members
+-- no two helpers are equal, and no two members
+abbrev pub are_different : List HelperPair → Bool
+are_different ps = list_all (λ p. helps_once ps p.helper && belongs_once ps p.member) ps
+
+-- there is a pair, and there are not too many
 abbrev pub are_pairs : List HelperPair → Bool
-are_pairs ps =
-    not (length ps == 0) && nat_le (length ps) GROUP_MEMBERS && list_all (λ p. helps_once ps p.helper && belongs_once ps p.member) ps
+are_pairs ps = not (length ps == 0) && nat_le (length ps) GROUP_MEMBERS && are_different ps

@@ -1,5 +1,8 @@
 //! A group between two calls of its coordinator.
 
+ghost use Rattle.std.specs.Prelude.{◌≡◌};
+ghost use Rattle.vk_group.specs.Groups.{left_after};
+
 use crate::code::Code;
 use crate::members::Members;
 use crate::message::{bringing, message_in, replying, storing};
@@ -23,6 +26,13 @@ pub struct Group {
     /// How many replies to clients are left.
     pub left: u32,
     pub stage: Stage,
+}
+
+/// How many replies to clients are left, after one that counts or does not.
+fn left_after(counts: bool, left: u32) -> u32
+    ensures { result ≡ left_after counts left }
+{
+    if counts { left.saturating_sub(1) } else { left }
 }
 
 impl Group {
@@ -318,9 +328,7 @@ impl Group {
         match loaded {
             Some(message) => {
                 self.members.report(member, replied);
-                if replied {
-                    self.notes.push(Note { member, message });
-                }
+                self.notes.note(replied, Note { member, message });
                 self.stage = Stage::Thank { helper };
             }
             None => self.end(),
@@ -331,9 +339,7 @@ impl Group {
     fn count_reply(&mut self, counts: bool)
         ensures { self.new ≡ rest (record self.old { left = left_after counts self.old.left }) }
     {
-        if counts {
-            self.left = self.left.saturating_sub(1);
-        }
+        self.left = left_after(counts, self.left);
         self.rest();
     }
 

@@ -1,6 +1,7 @@
 //! Replies that were reported and not handed over.
 
-ghost use Rattle.std.specs.Prelude.{◌≡◌, ◌<◌, ◌++◌, ◌∷◌, [], drop, length, slice_get};
+ghost use Rattle.std.specs.Prelude.{◌≡◌, ◌<◌, [], drop, length, slice_get};
+ghost use Rattle.vk_group.specs.Notes.{noted};
 ghost use Rattle.vk_group.specs.declared.pair.TheConstants.{GROUP_MEMBERS as MOST};
 
 use crate::pair::GROUP_MEMBERS;
@@ -58,11 +59,13 @@ impl Notes {
         self.list.as_slice().first().copied()
     }
 
-    /// Adds one behind the others. Of more than 16 it would be left out; there are never more.
-    pub fn push(&mut self, note: Note)
-        ensures { length self.old < MOST → self.new ≡ self.old ++ note ∷ [] }
+    /// Adds one behind the others where there is one. Of more than 16 the last would be left out; there are never more.
+    pub fn note(&mut self, replied: bool, note: Note)
+        ensures { length self.old < MOST → self.new ≡ noted replied note self.old }
     {
-        let _room = self.list.try_push(note);
+        if replied {
+            let _room = self.list.try_push(note);
+        }
     }
 
     /// Takes the earliest away.

@@ -1,7 +1,7 @@
 //! Helpers and their members.
 
 ghost use Rattle.std.specs.Prelude.{◌≡◌};
-ghost use Rattle.vk_group.specs.Pairs.{are_pairs, belongs_once, helps_once};
+ghost use Rattle.vk_group.specs.Pairs.{are_different, are_pairs, belongs_once, helps_once};
 
 use vk_base::Pid;
 
@@ -29,13 +29,16 @@ fn belongs_once(pairs: &[HelperPair], pid: Pid) -> bool
     pairs.iter().filter(|pair| pair.member == pid).count() == 1
 }
 
+/// Whether no two helpers are equal, and no two members.
+fn are_different(pairs: &[HelperPair]) -> bool
+    ensures { result ≡ are_different pairs.now }
+{
+    pairs.iter().all(|pair| helps_once(pairs, pair.helper) && belongs_once(pairs, pair.member))
+}
+
 /// Whether these are the pairs of a group: 1 to 16, no two helpers equal and no two members.
 pub fn are_pairs(pairs: &[HelperPair]) -> bool
     ensures { result ≡ are_pairs pairs.now }
 {
-    !pairs.is_empty()
-        && pairs.len() <= GROUP_MEMBERS
-        && pairs
-            .iter()
-            .all(|pair| helps_once(pairs, pair.helper) && belongs_once(pairs, pair.member))
+    !pairs.is_empty() && pairs.len() <= GROUP_MEMBERS && are_different(pairs)
 }

@@ -33,7 +33,10 @@ pub enum Stage {
     /// Waits for a request.
     Receive,
     /// Loads the message of a group Send.
-    LoadSend { client: Pid, dest: u32 },
+    LoadSend {
+        client: Pid,
+        dest: u32,
+    },
     /// Loads what a member replied.
     LoadResult {
         member: u32,
@@ -41,21 +44,43 @@ pub enum Stage {
         replied: bool,
     },
     /// Refuses a request, which may count as a reply to a client.
-    Refuse { to: Pid, code: Code, counts: bool },
+    Refuse {
+        to: Pid,
+        code: Code,
+        counts: bool,
+    },
     /// Tells a helper that its report was noted.
-    Thank { helper: Pid },
+    Thank {
+        helper: Pid,
+    },
     /// Puts the message of a job at the beginning of its memory.
-    StoreJob { job: Job },
+    StoreJob {
+        job: Job,
+    },
     /// Gives the job that stands there.
-    GiveJob { job: Job },
+    GiveJob {
+        job: Job,
+    },
     /// Puts a reply at the beginning of its memory.
-    StoreReply { wait: Wait, note: Note },
+    StoreReply {
+        wait: Wait,
+        note: Note,
+    },
     /// Hands over the reply that stands there.
-    HandOver { wait: Wait, note: Note },
+    HandOver {
+        wait: Wait,
+        note: Note,
+    },
     /// Ends the wait of a client without a reply of a member.
-    EndWait { client: Pid, code: Code },
+    EndWait {
+        client: Pid,
+        code: Code,
+    },
     /// Tells a helper that there are no jobs any more.
-    Tell { member: u32, helper: Pid },
+    Tell {
+        member: u32,
+        helper: Pid,
+    },
     Exit,
     /// Nothing more.
     Ended,
