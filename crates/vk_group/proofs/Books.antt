@@ -19,9 +19,10 @@ use Rattle.vk_group.specs.declared.notes.Note.{Note}
 use Rattle.vk_group.specs.declared.pair.HelperPair.{HelperPair}
 use Rattle.vk_group.specs.declared.request.Request.{Request}
 use Rattle.vk_group.specs.declared.request.Request.TheVariants as requests
+use Rattle.vk_group.specs.declared.stage.Asked.{Asked}
 use Rattle.vk_group.specs.declared.stage.Stage.{Stage}
 use Rattle.vk_group.specs.declared.stage.Stage.TheVariants as stages
-use Rattle.vk_group.specs.Accounts.{Account, Report, accounted, account_from, account_after, began, deed_at, deed_of, hands, loaded, note_in, note_member, nothing, report_member, report_of}
+use Rattle.vk_group.specs.Accounts.{Account, Report, accounted, account_from, account_after, began, deed_at, deed_of, hands, loaded, note_in, note_member, nothing_for, report_member, report_of}
 use Rattle.vk_group.specs.Groups.{answered, answered_all, answered_at, begun_by, group_after, heard, is_ending, left_after, loaded_result, loaded_send, new_group, notes_after, number_of, ready_from, refused, refused_as, rest, result_from, taken, verdict, wait_over}
 use Rattle.vk_group.specs.Members.{given, holds_job, is_given, made_ready, new_member, reported, restarted, told}
 use Rattle.vk_group.specs.Messages.{message_in, request_in}
@@ -41,10 +42,10 @@ pub record Books (ms : List Member) (notes : List Note) (h : Account) : Type 0 w
   pub whole : h.handed_over ++ notes ≡ filter_map note_in h.reports
 
 -- nothing was done yet
-books_none : (ms : List Member) → ((i : ℕ) → was_given (work_at ms i) ≡ false) → ((i : ℕ) → was_done (work_at ms i) ≡ false) →
-    ((i : ℕ) → was_replied (work_at ms i) ≡ false) → Books ms [] nothing
+books_none : (o : Option Asked) (ms : List Member) → ((i : ℕ) → was_given (work_at ms i) ≡ false) → ((i : ℕ) → was_done (work_at ms i) ≡ false) →
+    ((i : ℕ) → was_replied (work_at ms i) ≡ false) → Books ms [] (nothing_for o)
 unfolding IsDistinct
-books_none ms given done replied = record {
+books_none o ms given done replied = record {
   jobs_apart = tt;
   jobs_are = λ i. sym (given i);
   reports_apart = tt;
@@ -222,7 +223,8 @@ kept_begun g h client dest m None is b =
       asked = Some (record { client = client; message = m });
       notes = [];
       waiting = Some (record { client = client; dest = dest });
-    }) nothing (books_none (restarted g.members) (none_given g.members) (none_done g.members) (none_replied g.members))
+    }) (nothing_for (Some (record { client = client; message = m })))
+    (books_none (Some (record { client = client; message = m })) (restarted g.members) (none_given g.members) (none_done g.members) (none_replied g.members))
 kept_begun g h client dest m (Some code) is b = kept_refused g h client code true b is
 
 kept_send : (g : Group) (h : Account) (client : Pid) (dest : ℕ) (o : Option Message) → Books g.members g.notes h →
@@ -288,7 +290,7 @@ new_replied (p ∷ ps) (suc i) = new_replied ps i
 -- of every coordinator, after all its answers
 pub kept : (pairs : List HelperPair) (requests : ℕ) (given : List Answer) → IsKept (account_after pairs requests given) (group_after pairs requests given)
 kept pairs requests given =
-    kept_from (new_group pairs requests) nothing given
+    kept_from (new_group pairs requests) (nothing_for None) given
     (kept_rest (record {
       members = map new_member pairs;
       asked = None;
@@ -296,4 +298,4 @@ kept pairs requests given =
       waiting = None;
       left = requests;
       stage = stages.Receive;
-    }) nothing (books_none (map new_member pairs) (new_given pairs) (new_done pairs) (new_replied pairs)))
+    }) (nothing_for None) (books_none None (map new_member pairs) (new_given pairs) (new_done pairs) (new_replied pairs)))

@@ -14,12 +14,9 @@ use Rattle.vk_group.specs.Groups.{HasRoom, answered, answered_all, coordinator_c
 use Rattle.vk_group.specs.Helpers.{IsHelperAfter, helped, helped_all}
 use Rattle.vk_group.specs.Members.{pair_of, pairs_of}
 use Rattle.vk_group.specs.Pairs.{are_different, are_pairs}
+use Rattle.vk_group.proofs.Answering.{one_answer_more}
 use Rattle.vk_group.proofs.Constant.{pairs_new}
 use Rattle.vk_group.proofs.Told.{room_after}
-
-one_answer_more : (g : Group) (given : List Answer) (a : Answer) → answered_all g (given ++ a ∷ []) ≡ answered (answered_all g given) a
-one_answer_more g [] a = refl
-one_answer_more g (b ∷ rest) a = one_answer_more (answered g b) rest a
 
 same_count : (ms ns : List Member) → pairs_of ms ≡ pairs_of ns → length ms ≡ length ns
 same_count ms ns same = sym (length-map ms pair_of) ∙ ap length same ∙ length-map ns pair_of

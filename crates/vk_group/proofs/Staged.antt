@@ -49,7 +49,7 @@ IsStaged ms notes stages.Exit = Unit {0}
 IsStaged ms notes stages.Ended = Unit {0}
 
 -- a chain of options
-if_bound : {A B : Type 0} (o : Option A) (f : A → Option B) (P : B → Type 0) → ((a : A) → o ≡ Some a → IfSome (f a) P) → IfSome (o >>= f) P
+pub if_bound : {A B : Type 0} (o : Option A) (f : A → Option B) (P : B → Type 0) → ((a : A) → o ≡ Some a → IfSome (f a) P) → IfSome (o >>= f) P
 if_bound None f P holds = tt
 if_bound (Some a) f P holds = holds a refl
 

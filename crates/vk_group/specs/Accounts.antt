@@ -59,19 +59,20 @@ deed_at _ g a = None
 abbrev pub deed_of : Group → Answer → Option Deed
 deed_of g a = deed_at g.stage g a
 
--- What was done for the current group Send: which members' helpers were given the job, what helpers reported, and which replies were
--- handed over, each in order.
+-- The current group Send, and what was done for it: which members' helpers were given the job, what helpers reported, and which replies
+-- were handed over, each in order.
 pub record Account : Type 0 where
+  pub asked : Option Asked
   pub jobs : List ℕ
   pub reports : List Report
   pub handed_over : List Note
 
 -- nothing yet
-abbrev pub nothing : Account
-nothing = record { jobs = []; reports = []; handed_over = [] }
+abbrev pub nothing_for : Option Asked → Account
+nothing_for asked = record { asked = asked; jobs = []; reports = []; handed_over = [] }
 
 abbrev pub after_deed : Account → Deed → Account
-after_deed h (Began a) = nothing
+after_deed h (Began a) = nothing_for (Some a)
 after_deed h (Gave number) = record h { jobs = h.jobs ++ number ∷ [] }
 after_deed h (Heard r) = record h { reports = h.reports ++ r ∷ [] }
 after_deed h (Handed n) = record h { handed_over = h.handed_over ++ n ∷ [] }
@@ -86,7 +87,7 @@ account_from g h [] = h
 account_from g h (a ∷ rest) = account_from (answered g a) (accounted h (deed_of g a)) rest
 
 abbrev pub account_after : List HelperPair → ℕ → List Answer → Account
-account_after pairs requests given = account_from (new_group pairs requests) nothing given
+account_after pairs requests given = account_from (new_group pairs requests) (nothing_for None) given
 
 -- the members whose helper reported, and the replies among the reports
 

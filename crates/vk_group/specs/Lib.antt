@@ -1,6 +1,7 @@
 pub mod Accounts
 pub mod Codes
 pub mod Coordinators
+pub mod Deeds
 pub mod Groups
 pub mod Helpers
 pub mod Laws

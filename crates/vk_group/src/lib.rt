@@ -23,5 +23,5 @@ mod stage;
 
 pub use coordinator::Coordinator;
 pub use helper::Helper;
-pub use laws::{codes_are_true, jobs_are_given_once, replies_are_handed_over_once};
+pub use laws::{codes_are_true, deeds_are_done, jobs_are_given_once, replies_are_handed_over_once};
 pub use pair::{GROUP_MEMBERS, HelperPair, are_pairs};

@@ -44,40 +44,11 @@ pub fn result_message(replied: bool) -> Message
 pub fn reply_of(code: Code, member: u32) -> Message
     ensures { result ≡ reply_of code member }
 {
+    let code = code.number();
     let m = member.to_be_bytes();
     Message([
-        0,
-        code.number(),
-        0,
-        0,
-        m[0],
-        m[1],
-        m[2],
-        m[3],
-        0,
-        0,
-        0,
-        0,
-        0,
-        0,
-        0,
-        0,
-        0,
-        0,
-        0,
-        0,
-        0,
-        0,
-        0,
-        0,
-        0,
-        0,
-        0,
-        0,
-        0,
-        0,
-        0,
-        0,
+        0, code, 0, 0, m[0], m[1], m[2], m[3], 0, 0, 0, 0, 0, 0, 0, 0, 0, 0, 0, 0, 0, 0, 0, 0, 0,
+        0, 0, 0, 0, 0, 0, 0,
     ])
 }
 
