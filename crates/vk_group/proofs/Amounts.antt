@@ -66,7 +66,8 @@ pub still : (was : Option Work → Bool) (ns : List ℕ) (n : ℕ) (ms new : Lis
 still was ns n ms new alike same those i = still_by was ns n i ms new (eqb i n) refl alike same those
 
 -- what holds of each number, and of one more
-pub more_among : (P : ℕ → Type 0) (ns : List ℕ) (n q : ℕ) → ((k : ℕ) → is_among ns k ≡ true → P k) → P n → is_among (ns ++ n ∷ []) q ≡ true → P q
+pub more_among : (P : ℕ → Type 0) (ns : List ℕ) (n q : ℕ) → ((k : ℕ) → is_among ns k ≡ true → P k) → P n →
+    is_among (ns ++ n ∷ []) q ≡ true → P q
 more_among P ns n q each last e =
     elim (or_cases (is_among ns q) (eqb q n) (sym (among_more ns n q) ∙ e)) [
       | inl before ↦ each q before

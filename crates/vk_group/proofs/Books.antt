@@ -42,8 +42,8 @@ pub record Books (ms : List Member) (notes : List Note) (h : Account) : Type 0 w
   pub whole : h.handed_over ++ notes ≡ filter_map note_in h.reports
 
 -- nothing was done yet
-books_none : (o : Option Asked) (ms : List Member) → ((i : ℕ) → was_given (work_at ms i) ≡ false) → ((i : ℕ) → was_done (work_at ms i) ≡ false) →
-    ((i : ℕ) → was_replied (work_at ms i) ≡ false) → Books ms [] (nothing_for o)
+books_none : (o : Option Asked) (ms : List Member) → ((i : ℕ) → was_given (work_at ms i) ≡ false) →
+    ((i : ℕ) → was_done (work_at ms i) ≡ false) → ((i : ℕ) → was_replied (work_at ms i) ≡ false) → Books ms [] (nothing_for o)
 unfolding IsDistinct
 books_none o ms given done replied = record {
   jobs_apart = tt;
@@ -99,7 +99,8 @@ books_replied ms notes h n m is b =
     let now = work_reported ms n true is in
     let others : AreAlike ms new n = λ i. others_reported ms n i true in
     let reports = map_push report_member h.reports report in
-    let more : h.handed_over ++ (notes ++ note ∷ []) ≡ h.handed_over ++ notes ++ note ∷ [] = sym (append_assoc h.handed_over notes (note ∷ [])) in
+    let more : h.handed_over ++ (notes ++ note ∷ []) ≡ h.handed_over ++ notes ++ note ∷ [] =
+    sym (append_assoc h.handed_over notes (note ∷ [])) in
     let numbers = ap (map note_member) more ∙ map_push note_member (h.handed_over ++ notes) note in
     record {
       jobs_apart = b.jobs_apart;
@@ -175,7 +176,8 @@ kept_refused g h to code counts b is = record { books = b; staged = is }
 
 -- a request
 
-kept_ready : (g : Group) (h : Account) (from : Pid) (dest : ℕ) (o : Option ℕ) → Books g.members g.notes h → IsKept h (ready_from g from dest o)
+kept_ready : (g : Group) (h : Account) (from : Pid) (dest : ℕ) (o : Option ℕ) → Books g.members g.notes h →
+    IsKept h (ready_from g from dest o)
 kept_ready g h from dest None b = record { books = b; staged = tt }
 kept_ready g h from dest (Some n) b =
     kept_rest (record g { members = made_ready n dest g.members }) h
@@ -195,8 +197,8 @@ kept_result : (g : Group) (h : Account) (from : Pid) (replied : Bool) (o : Optio
     IsKept h (result_from g from replied o)
 kept_result g h from replied None b = record { books = b; staged = tt }
 kept_result g h from replied (Some n) b =
-    cond_both (holds_job (slice_get g.members n)) (record g { stage = stages.LoadResult n from replied }) (refused_as g from (Some n)) (IsKept h)
-    (λ e. record { books = b; staged = holds_is (slice_get g.members n) e }) (λ f. record { books = b; staged = tt })
+    cond_both (holds_job (slice_get g.members n)) (record g { stage = stages.LoadResult n from replied }) (refused_as g from (Some n))
+    (IsKept h) (λ e. record { books = b; staged = holds_is (slice_get g.members n) e }) (λ f. record { books = b; staged = tt })
 
 kept_taken : (g : Group) (h : Account) (from : Pid) (request : Request) → Books g.members g.notes h → IsKept h (taken g from request)
 kept_taken g h from (requests.GroupSend dest) b =
@@ -224,7 +226,8 @@ kept_begun g h client dest m None is b =
       notes = [];
       waiting = Some (record { client = client; dest = dest });
     }) (nothing_for (Some (record { client = client; message = m })))
-    (books_none (Some (record { client = client; message = m })) (restarted g.members) (none_given g.members) (none_done g.members) (none_replied g.members))
+    (books_none (Some (record { client = client; message = m })) (restarted g.members) (none_given g.members)
+    (none_done g.members) (none_replied g.members))
 kept_begun g h client dest m (Some code) is b = kept_refused g h client code true b is
 
 kept_send : (g : Group) (h : Account) (client : Pid) (dest : ℕ) (o : Option Message) → Books g.members g.notes h →
@@ -232,8 +235,9 @@ kept_send : (g : Group) (h : Account) (client : Pid) (dest : ℕ) (o : Option Me
 kept_send g h client dest None b = record { books = b; staged = tt }
 kept_send g h client dest (Some m) b = kept_begun g h client dest m (verdict g m) (verdict_staged g m) b
 
-kept_report : (g : Group) (h : Account) (n : ℕ) (helper : Pid) (replied : Bool) (o : Option Message) → work_at g.members n ≡ Some works.Given →
-    Books g.members g.notes h → IsKept (accounted h (option_map (report_of n replied) o)) (loaded_result g n helper replied o)
+kept_report : (g : Group) (h : Account) (n : ℕ) (helper : Pid) (replied : Bool) (o : Option Message) →
+    work_at g.members n ≡ Some works.Given → Books g.members g.notes h →
+    IsKept (accounted h (option_map (report_of n replied) o)) (loaded_result g n helper replied o)
 kept_report g h n helper replied None is b = record { books = b; staged = tt }
 kept_report g h n helper true (Some m) is b = record { books = books_replied g.members g.notes h n m is b; staged = tt }
 kept_report g h n helper false (Some m) is b = record { books = books_failed g.members g.notes h n is b; staged = tt }
@@ -288,7 +292,8 @@ new_replied (p ∷ ps) zero = refl
 new_replied (p ∷ ps) (suc i) = new_replied ps i
 
 -- of every coordinator, after all its answers
-pub kept : (pairs : List HelperPair) (requests : ℕ) (given : List Answer) → IsKept (account_after pairs requests given) (group_after pairs requests given)
+pub kept : (pairs : List HelperPair) (requests : ℕ) (given : List Answer) →
+    IsKept (account_after pairs requests given) (group_after pairs requests given)
 kept pairs requests given =
     kept_from (new_group pairs requests) (nothing_for None) given
     (kept_rest (record {

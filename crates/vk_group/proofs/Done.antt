@@ -65,8 +65,8 @@ module _ (pairs : List HelperPair) (replies : ℕ) (before : List Answer) (a : A
   }
 
   given_is : (asked : Option Asked) (j : Job) → (account_after pairs replies before).asked ≡ asked →
-      coordinator_call pairs replies before ≡ stage_call (stages.GiveJob j) → IsJobFor pairs asked j → IsStored pairs replies before j.message →
-      IsTrue (Gave j.member)
+      coordinator_call pairs replies before ≡ stage_call (stages.GiveJob j) → IsJobFor pairs asked j →
+      IsStored pairs replies before j.message → IsTrue (Gave j.member)
   given_is asked j is called job stored = record {
     asked = job.current;
     current = is ∙ job.is;
@@ -92,7 +92,8 @@ module _ (pairs : List HelperPair) (replies : ℕ) (before : List Answer) (a : A
   handed_is asked w n _ same is called client stored = tt
 
   done_at : (stage : Stage) (g : Group) (asked : Option Asked) → (account_after pairs replies before).asked ≡ asked →
-      coordinator_call pairs replies before ≡ stage_call stage → IsDueTo pairs replies before asked stage → IfSome (deed_at stage g a) IsTrue
+      coordinator_call pairs replies before ≡ stage_call stage → IsDueTo pairs replies before asked stage →
+      IfSome (deed_at stage g a) IsTrue
   done_at stages.Receive g asked is called due = tt
   done_at (stages.LoadSend client dest) g asked is called due = begun_is g client dest (message_in a) refl called due
   done_at (stages.LoadResult number helper replied) g asked is called due = reported_is number helper replied (message_in a) refl called due

@@ -103,7 +103,8 @@ two_replies : calls_from (new_group pairs 3) (
     ++ reports first_helper (bytes 11)
     ++ answers.Ok ∷ answers.Ok ∷ get_reply ∷ []
     ++ reports second_helper (bytes 13)
-    ++ answers.Ok ∷ answers.Ok ∷ get_reply ∷ answers.Ok ∷ ready first_helper ∷ answers.Ok ∷ ready second_helper ∷ answers.Ok ∷ answers.Ok ∷ []
+    ++ answers.Ok ∷ answers.Ok ∷ get_reply ∷ answers.Ok ∷ ready first_helper ∷ answers.Ok ∷ []
+    ++ ready second_helper ∷ answers.Ok ∷ answers.Ok ∷ []
     ) ≡ receives
     ∷ receives
     ∷ receives

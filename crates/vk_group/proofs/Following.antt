@@ -1,5 +1,5 @@
 -- A coordinator and a helper after one answer more.
-use Rattle.std.proofs.Common.{◌≡◌, ℕ, ◌≤◌, Bool, true, ◌==◌, ◌&&◌, not, nat_le, List, [], ◌∷◌, ◌++◌, length, refl, ap, sym, subst, ◌∙◌, append-nil}
+use Rattle.std.proofs.Common.{◌≡◌, ℕ, ◌≤◌, Bool, true, ◌==◌, ◌&&◌, not, nat_le, List, [], ◌∷◌, ◌++◌, length, refl, ap, sym, subst, ◌∙◌}
 use Rattle.std.proofs.lemmas.Bool.{and_parts, leb-true}
 use Rattle.std.proofs.lemmas.List.{length-map}
 use Rattle.vk_base.specs.declared.answer.Answer.{Answer}
@@ -10,7 +10,7 @@ use Rattle.vk_group.specs.declared.member.Member.{Member}
 use Rattle.vk_group.specs.declared.pair.HelperPair.{HelperPair}
 use Rattle.vk_group.specs.declared.pair.TheConstants.{GROUP_MEMBERS}
 use Rattle.vk_group.specs.Coordinators.{IsCoordinatorAfter}
-use Rattle.vk_group.specs.Groups.{HasRoom, answered, answered_all, coordinator_call, group_after, new_group, stage_call}
+use Rattle.vk_group.specs.Groups.{HasRoom, answered, group_after, new_group}
 use Rattle.vk_group.specs.Helpers.{IsHelperAfter, helped, helped_all}
 use Rattle.vk_group.specs.Members.{pair_of, pairs_of}
 use Rattle.vk_group.specs.Pairs.{are_different, are_pairs}
@@ -39,15 +39,6 @@ after_last requests left g new a told given kept one same step is =
       few = subst (λ n. n ≤ GROUP_MEMBERS) (sym (same_count new.members g.members same)) is.few;
     })
 
-pub after_none : (requests : ℕ) (g : Group) (given : List Answer) → IsCoordinatorAfter requests g given →
-    IsCoordinatorAfter requests g (given ++ [])
-after_none requests g given is = rw (append-nil given) is
-
--- what it calls then
-pub called_after : (requests : ℕ) (g : Group) (given : List Answer) → IsCoordinatorAfter requests g given →
-    stage_call g.stage ≡ coordinator_call (pairs_of g.members) requests given
-called_after requests g given is = ap (λ (s : Group). stage_call s.stage) (sym is.state)
-
 -- before its first answer
 pub after_new : (pairs : List HelperPair) (requests : ℕ) (g : Group) → g ≡ new_group pairs requests → length pairs ≤ GROUP_MEMBERS →
     IsCoordinatorAfter requests g []
@@ -60,7 +51,8 @@ after_new pairs requests g new few =
 
 -- a helper
 
-pub helped_more : (stage : Helping) (given : List Answer) (a : Answer) → helped_all stage (given ++ a ∷ []) ≡ helped (helped_all stage given) a
+pub helped_more : (stage : Helping) (given : List Answer) (a : Answer) →
+    helped_all stage (given ++ a ∷ []) ≡ helped (helped_all stage given) a
 helped_more stage [] a = refl
 helped_more stage (b ∷ rest) a = helped_more (helped stage b) rest a
 

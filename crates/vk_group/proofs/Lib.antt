@@ -3,7 +3,7 @@ pub mod Answering
 pub mod Books
 pub mod Constant
 pub mod Done
-mod Examples
+pub mod Examples
 pub mod Following
 pub mod Staged
 pub mod Told

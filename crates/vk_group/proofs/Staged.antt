@@ -49,7 +49,8 @@ IsStaged ms notes stages.Exit = Unit {0}
 IsStaged ms notes stages.Ended = Unit {0}
 
 -- a chain of options
-pub if_bound : {A B : Type 0} (o : Option A) (f : A → Option B) (P : B → Type 0) → ((a : A) → o ≡ Some a → IfSome (f a) P) → IfSome (o >>= f) P
+pub if_bound : {A B : Type 0} (o : Option A) (f : A → Option B) (P : B → Type 0) → ((a : A) → o ≡ Some a → IfSome (f a) P) →
+    IfSome (o >>= f) P
 if_bound None f P holds = tt
 if_bound (Some a) f P holds = holds a refl
 
@@ -120,5 +121,6 @@ pub verdict_staged : (g : Group) (m : Message) → IfSome (verdict g m) (IsTold 
 verdict_staged g m =
     let P : Option Code → Type 0 = λ o. IfSome o (IsTold g.members g.notes) in
     cond_both _ (Some codes.Bad) (cond (is_busy g) (Some codes.Busy) None) P (λ t. tt)
-    (λ f. cond_both (is_busy g) (Some codes.Busy) None P (λ busy. not-true (all_reported g) (and_parts (is_some g.asked) (not (all_reported g)) busy).1)
+    (λ f. cond_both (is_busy g) (Some codes.Busy) None P
+    (λ busy. not-true (all_reported g) (and_parts (is_some g.asked) (not (all_reported g)) busy).1)
     (λ free. tt))

@@ -192,7 +192,8 @@ count_after pairs requests given =
     ∙ ap length (constant_all (new_group pairs requests) given ∙ pairs_new pairs)
 
 all_reported : (pairs : List HelperPair) (requests : ℕ) (given : List Answer) →
-    list_all has_reported (group_after pairs requests given).members ≡ true → AllReported (length pairs) (account_after pairs requests given)
+    list_all has_reported (group_after pairs requests given).members ≡ true →
+    AllReported (length pairs) (account_after pairs requests given)
 all_reported pairs requests given all n low =
     let g = group_after pairs requests given in
     let within : n < length g.members = subst (λ k. n < k) (sym (count_after pairs requests given)) low in

@@ -186,15 +186,16 @@ module _ (pairs : List HelperPair) (replies : ℕ) where
             IsTracked (after last) h (result_from g from replied o)
         tracked_result replied None at is = staged_as last g (stages.Refuse from codes.Bad true) asked waits same tt
         tracked_result replied (Some n) at is =
-            cond_both (holds_job (slice_get g.members n)) (record g { stage = stages.LoadResult n from replied }) (refused_as g from (Some n))
+            cond_both (holds_job (slice_get g.members n)) (record g { stage = stages.LoadResult n from replied })
+            (refused_as g from (Some n))
             (IsTracked (after last) h)
             (λ t. staged_as last g (stages.LoadResult n from replied) asked waits same (report_is replied n is at))
             (λ f. staged_as last g (stages.Refuse from codes.Bad false) asked waits same tt)
 
         tracked_taken : (r : Request) → request_in m count ≡ r → IsTracked (after last) h (taken g from r)
         tracked_taken (requests.GroupSend dest) is =
-            cond_both (is_ending g) (refused g from codes.Bad true) (record g { stage = stages.LoadSend from dest }) (IsTracked (after last) h)
-            (λ t. staged_as last g (stages.Refuse from codes.Bad true) asked waits same tt)
+            cond_both (is_ending g) (refused g from codes.Bad true) (record g { stage = stages.LoadSend from dest })
+            (IsTracked (after last) h) (λ t. staged_as last g (stages.Refuse from codes.Bad true) asked waits same tt)
             (λ f. staged_as last g (stages.LoadSend from dest) asked waits same (asked_by (requests.GroupSend dest) is))
         tracked_taken (requests.GetReply dest) is =
             cond_both (is_ending g || not (is_client g.asked from)) (refused g from codes.Bad true)
@@ -225,7 +226,8 @@ module _ (pairs : List HelperPair) (replies : ℕ) where
             asked = Some (record { client = client; message = m });
             notes = [];
             waiting = Some (record { client = client; dest = dest });
-          }) refl (and_from _ _ (eq-eqb client.host client.host refl) (eq-eqb client.local client.local refl)) (pairs_restarted g.members ∙ same)
+          }) refl (and_from _ _ (eq-eqb client.host client.host refl) (eq-eqb client.local client.local refl))
+          (pairs_restarted g.members ∙ same)
 
       tracked_send : (a : Answer) (client : Pid) (dest : ℕ) (o : Option Message) →
           IsTracked (after a) (accounted h (loaded g client o)) (loaded_send g client dest o)
@@ -241,7 +243,8 @@ module _ (pairs : List HelperPair) (replies : ℕ) where
       tracked_handed : (a : Answer) (n : Note) →
           IsTracked (after a) (accounted h (hands n a)) (rest (wait_over (record g { notes = notes_after a g.notes })))
       tracked_handed answers.Ok n =
-          tracked_rest (after answers.Ok) (accounted h (hands n answers.Ok)) (wait_over (record g { notes = notes_after answers.Ok g.notes })) asked tt same
+          tracked_rest (after answers.Ok) (accounted h (hands n answers.Ok))
+          (wait_over (record g { notes = notes_after answers.Ok g.notes })) asked tt same
       tracked_handed (answers.Replied m) n = tracked_rest (after (answers.Replied m)) h (wait_over g) asked tt same
       tracked_handed (answers.Received from m) n = tracked_rest (after (answers.Received from m)) h (wait_over g) asked tt same
       tracked_handed (answers.ReceivedSegment from m count) n =
@@ -264,8 +267,8 @@ module _ (pairs : List HelperPair) (replies : ℕ) where
       tracked_at (stages.StoreJob j) a called due =
           staged_as a g (stages.GiveJob j) asked waits same (due, stored_now a j.message called)
       tracked_at (stages.GiveJob j) a called due =
-          tracked_rest (after a) (accounted h (deed_at (stages.GiveJob j) g a)) (record g { members = given j.member g.members }) asked waits
-          (pairs_given g.members j.member ∙ same)
+          tracked_rest (after a) (accounted h (deed_at (stages.GiveJob j) g a)) (record g { members = given j.member g.members })
+          asked waits (pairs_given g.members j.member ∙ same)
       tracked_at (stages.StoreReply w n) a called due =
           staged_as a g (stages.HandOver w n) asked waits same (due, stored_now a n.message called)
       tracked_at (stages.HandOver w n) a called due = tracked_handed a n

@@ -84,7 +84,8 @@ pub work_here : (f : Member → Member) (k : Work → Work) → ((m : Member) �
 work_here f k is ms n = ap (option_map work_in) (changed_here f ms n) ∙ work_by f k is (slice_get ms n)
 
 -- a change that is none of the work
-same_by : (f : Member → Member) → ((m : Member) → (f m).work ≡ m.work) → (ms : List Member) (n i : ℕ) → work_at (change n f ms) i ≡ work_at ms i
+same_by : (f : Member → Member) → ((m : Member) → (f m).work ≡ m.work) → (ms : List Member) (n i : ℕ) →
+    work_at (change n f ms) i ≡ work_at ms i
 same_by f is [] n i = refl
 same_by f is (m ∷ ms) zero zero = ap Some (is m)
 same_by f is (m ∷ ms) zero (suc i) = refl
@@ -100,7 +101,8 @@ work_told ms n i = same_by (λ m. record m { ready = None; told = true }) (λ m.
 -- a job is given
 pub work_given : (ms : List Member) (n : ℕ) → work_at ms n ≡ Some works.Open → work_at (given n ms) n ≡ Some works.Given
 work_given ms n is =
-    work_here (λ m. record m { ready = None; work = works.Given }) (λ w. works.Given) (λ m. refl) ms n ∙ ap (option_map (λ w. works.Given)) is
+    work_here (λ m. record m { ready = None; work = works.Given }) (λ w. works.Given) (λ m. refl) ms n
+    ∙ ap (option_map (λ w. works.Given)) is
 
 pub others_given : (ms : List Member) (n i : ℕ) → i ≢ n → work_at (given n ms) i ≡ work_at ms i
 others_given ms n i apart = work_elsewhere (λ m. record m { ready = None; work = works.Given }) ms n i apart

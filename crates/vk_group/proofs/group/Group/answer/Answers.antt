@@ -9,7 +9,8 @@ returns-in-Receive-clause-pairs c = ap (λ (g : Group). pairs_of g.members) c.he
 
 pub returns-in-LoadSend-clause-pairs : goal.returns-in-LoadSend-clause-pairs
 returns-in-LoadSend-clause-pairs c =
-    ap (λ (g : Group). pairs_of g.members) c.load_send.ensures ∙ constant_send c.args.self.now c.in-LoadSend.client c.in-LoadSend.dest c.message_in.result
+    ap (λ (g : Group). pairs_of g.members) c.load_send.ensures
+    ∙ constant_send c.args.self.now c.in-LoadSend.client c.in-LoadSend.dest c.message_in.result
 
 pub returns-in-GiveJob-clause-pairs : goal.returns-in-GiveJob-clause-pairs
 returns-in-GiveJob-clause-pairs c =
