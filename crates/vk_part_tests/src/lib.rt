@@ -7,6 +7,8 @@ mod crews;
 #[cfg(test)]
 mod events;
 #[cfg(test)]
+mod groups;
+#[cfg(test)]
 mod lines;
 #[cfg(test)]
 mod pages;

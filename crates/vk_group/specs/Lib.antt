@@ -1,0 +1,11 @@
+pub mod Accounts
+pub mod Codes
+pub mod Coordinators
+pub mod Deeds
+pub mod Groups
+pub mod Helpers
+pub mod Laws
+pub mod Members
+pub mod Messages
+pub mod Notes
+pub mod Pairs
