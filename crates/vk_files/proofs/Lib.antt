@@ -1,0 +1,5 @@
+pub mod Answering
+pub mod Choices
+pub mod Directories
+mod Examples
+pub mod Placing
