@@ -3,3 +3,4 @@ pub mod Choices
 pub mod Directories
 mod Examples
 pub mod Placing
+pub mod Stepping

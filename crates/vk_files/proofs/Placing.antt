@@ -1,5 +1,5 @@
 -- What a server of a lawful directory asks for lies on its disk; and it replies that the disk failed only where the disk did.
-use Rattle.std.proofs.Common.{◌≡◌, ℕ, zero, suc, ◌+◌, ◌<◌, ◌≤◌, ◌==◌, ◌&&◌, ◌||◌, not, Bool, true, false, cond, nat_lt, nat_le, List, [], ◌∷◌, ◌++◌, slice_get, slice_index, option_and_then, Option, Some, None, refl, ap, sym, ◌∙◌, subst, arith, ltb-true, leb-true, leb-false, eqb-true}
+use Rattle.std.proofs.Common.{◌≡◌, ℕ, zero, suc, ◌+◌, ◌<◌, ◌≤◌, ◌==◌, ◌&&◌, ◌||◌, not, Bool, true, false, cond, nat_lt, nat_le, List, [], ◌∷◌, ◌++◌, slice_get, slice_index, option_and_then, Option, Some, None, refl, ap, sym, ◌∙◌, subst, arith, ltb-true, leb-true, leb-false, eqb-true, ne_eqb, length-set}
 use Rattle.vk_base.specs.Messages.{grants_of}
 use Rattle.vk_base.specs.declared.answer.Answer.{Answer}
 use Rattle.vk_base.specs.declared.answer.Answer.TheVariants as answers
@@ -13,7 +13,7 @@ use Rattle.vk_files.specs.Ahead.{IsCalledIf, calls_disk, is_ahead}
 use Rattle.vk_files.specs.Disks.{DiskState, block_at, fetched}
 use Rattle.vk_files.specs.Messages.{code_of, file_of, name_of, page_of, reply_of}
 use Rattle.vk_files.specs.Placed.{AreOnDisk, IsInReach, IsOnDisk, IsPageOn, IsPlaced}
-use Rattle.vk_files.specs.Servers.{answered_write, asked_to_load, asked_to_read, asked_to_write, between, gathered, loaded, moved, one_more, opened, page_in, put_there, received, refused, stage_after, stage_call, stored, taken, turn_at, went_on, work_of}
+use Rattle.vk_files.specs.Servers.{answered_write, asked_to_load, asked_to_read, asked_to_write, between, gathered, is_failure, loaded, moved, one_more, opened, page_in, put_there, received, refused, stage_after, stage_call, stored, taken, turn_at, went_on, work_of}
 use Rattle.vk_files.specs.Volumes.{are_zeros, blocks_for, ends_in_zeros, file_at, file_from, file_named, first_bad, first_bad_behind, has_name, is_free, is_lawful, is_taken, lies_on}
 use Rattle.vk_files.specs.declared.disk.Telling.{Telling}
 use Rattle.vk_files.specs.declared.disk.Telling.TheVariants.{Done, Lost, Landed}
@@ -24,18 +24,6 @@ use Rattle.vk_files.specs.declared.serving.Serving.{Serving}
 use Rattle.vk_files.specs.declared.serving.Serving.TheVariants as stages
 use Rattle.vk_files.specs.declared.serving.Turn.{Turn}
 use Rattle.vk_files.specs.declared.serving.Turn.TheVariants as turns
-
--- a reply that the disk failed
-abbrev pub is_failure : Serving → Bool
-is_failure (stages.Reply from code file number) = code == 3
-is_failure stages.Receive = false
-is_failure (stages.Load from f page) = false
-is_failure (stages.Store from f page dest bytes) = false
-is_failure (stages.ReplyPage from f page dest) = false
-is_failure (stages.Gather from f at dest bytes) = false
-is_failure (stages.Move from f dest) = false
-is_failure stages.Exit = false
-is_failure stages.Ended = false
 
 -- no turn says so by itself
 abbrev pub IsCalm : Turn → Type 0
@@ -218,9 +206,9 @@ few_blocks : (blocks length : ℕ) → blocks ≡ blocks_for length → length �
 few_blocks blocks length h few = omega arith
 
 lies_there : (start blocks count page : ℕ) → (blocks == 0 || nat_le (start + blocks) count) ≡ true → page < blocks → start + page < count
-lies_there start zero count page h within = absurd (omega arith)
-lies_there start (suc n) count page h within =
-    let ends : start + suc n ≤ count = leb-true (start + suc n) count h in
+lies_there start blocks count page h within =
+    let some : (blocks == 0) ≡ false = ne_eqb blocks 0 (λ none. omega arith) in
+    let ends : start + blocks ≤ count = leb-true (start + blocks) count (second (blocks == 0) (nat_le (start + blocks) count) h some) in
     omega arith
 
 -- a lawful entry

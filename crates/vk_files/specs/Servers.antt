@@ -1,5 +1,5 @@
 -- The file server: one step of it, from its state, the last answer, and what the disk tells at that moment.
-use Rattle.std.specs.Prelude.{ℕ, ◌+◌, ◌*◌, ◌==◌, ◌&&◌, min, nat_lt, nat_le, List, [], ◌∷◌, length, Option, Some, None, if◌then◌else◌}
+use Rattle.std.specs.Prelude.{ℕ, ◌+◌, ◌*◌, Bool, false, ◌==◌, ◌&&◌, min, nat_lt, nat_le, List, [], ◌∷◌, length, Option, Some, None, if◌then◌else◌}
 use Rattle.vk_base.specs.Messages.{grants_of}
 use Rattle.vk_base.specs.declared.answer.Answer.{Answer}
 use Rattle.vk_base.specs.declared.answer.Answer.TheVariants as answers
@@ -174,6 +174,18 @@ answered files requests s t a =
       replies = replies_after requests s.stage s.replies;
       stage = stage_after turn t s.blocks;
     }
+
+-- a reply that the disk failed
+abbrev pub is_failure : Serving → Bool
+is_failure (stages.Reply from code file number) = code == 3
+is_failure stages.Receive = false
+is_failure (stages.Load from f page) = false
+is_failure (stages.Store from f page dest bytes) = false
+is_failure (stages.ReplyPage from f page dest) = false
+is_failure (stages.Gather from f at dest bytes) = false
+is_failure (stages.Move from f dest) = false
+is_failure stages.Exit = false
+is_failure stages.Ended = false
 
 -- what it calls
 abbrev pub stage_call : Serving → Option Call

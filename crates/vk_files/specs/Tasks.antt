@@ -1,10 +1,11 @@
 -- The task of a file server, and when the server may have been given these answers.
-use Rattle.std.specs.Prelude.{◌≡◌, ℕ, ◌+◌, List, [], ◌∷◌, ◌++◌, drop, Option, Some, None, if◌then◌else◌}
+use Rattle.std.specs.Prelude.{◌≡◌, ℕ, ◌+◌, true, List, [], ◌∷◌, ◌++◌, drop, Option, Some, None, if◌then◌else◌}
 use Rattle.vk_base.specs.declared.answer.Answer.{Answer}
 use Rattle.vk_base.specs.declared.call.Call.{Call}
+use Rattle.vk_io.specs.Causes.{Rose}
 use Rattle.vk_files.specs.Ahead.{Reading, Works, ahead_after, calls_disk}
 use Rattle.vk_files.specs.Disks.{DiskState, told_at}
-use Rattle.vk_files.specs.Servers.{Server, Work, answered, new_server, stage_after, stage_call, turn_at, work_of}
+use Rattle.vk_files.specs.Servers.{Server, Work, answered, is_failure, new_server, stage_after, stage_call, turn_at, work_of}
 use Rattle.vk_files.specs.Volumes.{files_of}
 use Rattle.vk_files.specs.declared.disk.Telling.{Telling}
 use Rattle.vk_files.specs.declared.disk.Telling.TheVariants.{Done}
@@ -97,6 +98,8 @@ pub record IsStep (a : Answer) (old new : FileState) : Type 0 where
   pub told : Telling
   pub works : Works (work_of (turn_at (files_of old.first.blocks) old.requests old.replies old.stage a)) told old.reading new.reading
   pub server : server_of new ≡ answered (files_of old.first.blocks) old.requests (server_of old) told a
+  -- a reply that the disk failed comes only where its count of faults rose now
+  pub failed : is_failure new.stage ≡ true → Rose old.reading.disk.faults new.reading.disk.faults
   pub first : new.first ≡ old.first
   pub requests : new.requests ≡ old.requests
 

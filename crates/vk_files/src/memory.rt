@@ -209,6 +209,7 @@ impl Disk for MemoryDisk {
     }
 
     fn read(&mut self, block: u32, into: &mut [u8; BLOCK_BYTES]) -> Result<(), Failed>
+        requires { block < length self.old.blocks }
         ensures told { IsRead block (memory_state self.old) (memory_state self.new) result into.new }
 
         // the call is recorded, where there is room
@@ -220,6 +221,7 @@ impl Disk for MemoryDisk {
     }
 
     fn write(&mut self, block: u32, bytes: &[u8; BLOCK_BYTES]) -> Result<(), Failed>
+        requires { block < length self.old.blocks }
         ensures told { IsWritten block bytes.now (memory_state self.old) (memory_state self.new) result }
 
         // the call is recorded, where there is room
