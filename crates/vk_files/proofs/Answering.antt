@@ -1,12 +1,10 @@
 -- A file server after one answer more.
-use Rattle.std.proofs.Common.{◌≡◌, ℕ, zero, ◌+◌, Bool, true, false, cond, List, [], ◌∷◌, ◌++◌, drop, get_or, Option, Some, None, refl, ap, sym, subst, ◌∙◌, append_assoc, append-nil, add-zero, get_or-drop, drop-drop}
+use Rattle.std.proofs.Common.{◌≡◌, ℕ, ◌+◌, Bool, true, false, cond, List, [], ◌∷◌, ◌++◌, drop, Option, Some, refl, ap, sym, subst, ◌∙◌, append_assoc, append-nil, add-zero, get_or-drop, drop-drop}
 use Rattle.vk_base.specs.declared.answer.Answer.{Answer}
-use Rattle.vk_base.specs.declared.call.Call.{Call}
 use Rattle.vk_files.specs.Ahead.{IsCalledIf, Reading, Works, ahead_after, calls_disk}
 use Rattle.vk_files.specs.Disks.{DiskState, IsForetold, told_at}
-use Rattle.vk_files.specs.Opened.{IsOpened}
-use Rattle.vk_files.specs.Servers.{Server, Work, answered, between, new_server, stage_call, turn_at, work_of}
-use Rattle.vk_files.specs.Tasks.{Course, FileState, IsAfter, IsStep, answered_all, course_of, file_task, new_course, server_of, stepped, stepped_all, telling_of, told_by_disk}
+use Rattle.vk_files.specs.Servers.{Server, answered, new_server, stage_call, turn_at, work_of}
+use Rattle.vk_files.specs.Tasks.{Course, FileState, IsAfter, IsStep, answered_all, course_of, file_task, new_course, server_of, stepped, stepped_all, telling_of}
 use Rattle.vk_files.specs.Volumes.{files_of}
 use Rattle.vk_files.specs.declared.disk.Telling.{Telling}
 use Rattle.vk_files.specs.declared.disk.Telling.TheVariants.{Done}
@@ -102,20 +100,3 @@ after_step old new given a step is =
 pub after_none : (old new : FileState) (given : List Answer) → new ≡ old → IsAfter old given → IsAfter new (given ++ [])
 after_none old new given same is =
     subst (λ (g : List Answer). IsAfter new g) (sym (append-nil given)) (subst (λ (s : FileState). IsAfter s given) (sym same) is)
-
--- before its first answer
-pub after_opened : (disk : DiskState) (requests : ℕ) (s : FileState) (coming : List Telling) → IsOpened disk requests s
-    → disk.coming ≡ Some coming → IsAfter s []
-after_opened disk requests s coming is foretold =
-    let parts = subst (λ (o : Option (List Telling)). IsForetold Done o s.reading.disk.coming) foretold is.called.foretold in
-    record {
-      coming = coming;
-      foretold = ap (λ (d : DiskState). d.coming) is.first ∙ foretold;
-      left = parts.1;
-      server = λ i. record {
-        blocks = (ap (λ (d : DiskState). d.blocks) is.first ∙ sym is.blocks) i;
-        replies = sym is.replies i;
-        stage = (ap (λ (n : ℕ). between n 0) is.requests ∙ sym is.stage) i;
-      };
-      ahead = sym is.ahead;
-    }

@@ -1,5 +1,5 @@
 -- The definitions, tried: directories, a page that is read ahead of a disk that fails, and a file that is loaded.
-use Rattle.std.proofs.Common.{◌≡◌, ℕ, List, [], ◌∷◌, ◌++◌, Option, Some, None, replicate, refl, lit<}
+use Rattle.std.proofs.Common.{◌≡◌, ℕ, zero, suc, List, [], ◌∷◌, ◌++◌, Option, Some, None, replicate, refl, lit<}
 use Rattle.std.specs.Int.{w32, to_be_bytes}
 use Rattle.vk_base.specs.declared.answer.Answer.{Answer}
 use Rattle.vk_base.specs.declared.answer.Answer.TheVariants as answers
@@ -8,7 +8,7 @@ use Rattle.vk_base.specs.declared.call.Call.{Call}
 use Rattle.vk_base.specs.declared.call.Call.TheVariants as calls
 use Rattle.vk_base.specs.declared.message.Message.{Message}
 use Rattle.vk_base.specs.declared.pid.Pid.{Pid}
-use Rattle.vk_files.specs.Loaders.{loader_calls, loader_name}
+use Rattle.vk_files.specs.Loaders.{loader_name}
 use Rattle.vk_files.specs.Messages.{load_of, open_of, page_request, reply_of}
 use Rattle.vk_files.specs.Tasks.{file_call, telling_of}
 use Rattle.vk_files.specs.Volumes.{entries_in, files_of, first_bad}
@@ -176,3 +176,26 @@ last_name = refl
 
 whole : (reply_of 0 0 65536).0 ≡ replicate 9 0 ++ 1 ∷ replicate 22 0
 whole = refl
+
+-- A file of 65,536 bytes behind its directory, block k all of k: its last two blocks are stored, and all of it is moved.
+unfoldable numbered : ℕ → List (List ℕ)
+numbered zero = []
+numbered (suc k) = numbered k ++ replicate 512 k ∷ []
+
+unfoldable image : List (List ℕ)
+image = (102 ∷ 48 ∷ replicate 18 0 ++ to_be_bytes w32 1 ++ to_be_bytes w32 128 ++ to_be_bytes w32 65536 ++ replicate 480 0) ∷ numbered 128
+
+unfoldable calls_of_image : List Answer → Option Call
+calls_of_image given = file_call image 2 (telling_of image 2 None) (asked (load_of 0 0 65536) ∷ given)
+
+last_but_one : calls_of_image (replicate 126 answers.Ok) ≡ Some (calls.Store 64512 (replicate 512 126))
+unfolding asked calls_of_image client entries_in image numbered
+last_but_one = refl
+
+last : calls_of_image (replicate 127 answers.Ok) ≡ Some (calls.Store 65024 (replicate 512 127))
+unfolding asked calls_of_image client entries_in image numbered
+last = refl
+
+all_of_it : calls_of_image (replicate 128 answers.Ok) ≡ Some (calls.MoveTo client 0 0 65536)
+unfolding asked calls_of_image client entries_in image numbered
+all_of_it = refl

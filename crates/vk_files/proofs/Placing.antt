@@ -1,20 +1,19 @@
 -- What a server of a lawful directory asks for lies on its disk; and it replies that the disk failed only where the disk did.
-use Rattle.std.proofs.Common.{◌≡◌, ℕ, zero, suc, ◌+◌, ◌<◌, ◌≤◌, ◌==◌, ◌&&◌, ◌||◌, not, Bool, true, false, cond, nat_lt, nat_le, List, [], ◌∷◌, ◌++◌, slice_get, slice_index, option_and_then, Option, Some, None, refl, ap, sym, ◌∙◌, subst, arith, ltb-true, leb-true, leb-false, eqb-true, ne_eqb, length-set}
+use Rattle.std.proofs.Common.{◌≡◌, ℕ, zero, suc, ◌+◌, ◌<◌, ◌≤◌, ◌==◌, ◌&&◌, ◌||◌, not, Bool, true, false, cond, nat_lt, nat_le, List, [], ◌∷◌, ◌++◌, slice_get, slice_index, option_and_then, Option, Some, None, refl, ap, subst, arith, ltb-true, leb-true, leb-false, eqb-true, ne_eqb}
 use Rattle.vk_base.specs.Messages.{grants_of}
 use Rattle.vk_base.specs.declared.answer.Answer.{Answer}
 use Rattle.vk_base.specs.declared.answer.Answer.TheVariants as answers
-use Rattle.vk_base.specs.declared.call.Call.{Call}
 use Rattle.vk_base.specs.declared.call.Call.TheVariants as calls
 use Rattle.vk_base.specs.declared.message.Message.{Message}
 use Rattle.vk_base.specs.declared.pid.Pid.{Pid}
 use Rattle.vk_io.specs.Causes.{Rose}
 use Rattle.vk_files.proofs.Choices.{either, both, second, found_first, found_second}
 use Rattle.vk_files.specs.Ahead.{IsCalledIf, calls_disk, is_ahead}
-use Rattle.vk_files.specs.Disks.{DiskState, block_at, fetched}
+use Rattle.vk_files.specs.Disks.{DiskState}
 use Rattle.vk_files.specs.Messages.{code_of, file_of, name_of, page_of, reply_of}
 use Rattle.vk_files.specs.Placed.{AreOnDisk, IsInReach, IsOnDisk, IsPageOn, IsPlaced}
-use Rattle.vk_files.specs.Servers.{answered_write, asked_to_load, asked_to_read, asked_to_write, between, gathered, is_failure, loaded, moved, one_more, opened, page_in, put_there, received, refused, stage_after, stage_call, stored, taken, turn_at, went_on, work_of}
-use Rattle.vk_files.specs.Volumes.{are_zeros, blocks_for, ends_in_zeros, file_at, file_from, file_named, first_bad, first_bad_behind, has_name, is_free, is_lawful, is_taken, lies_on}
+use Rattle.vk_files.specs.Servers.{asked_to_load, asked_to_read, asked_to_write, between, gathered, is_failure, loaded, moved, one_more, opened, page_in, received, refused, stage_after, stage_call, taken, turn_at, went_on, work_of}
+use Rattle.vk_files.specs.Volumes.{are_zeros, blocks_for, ends_in_zeros, file_at, file_from, file_named, first_bad, first_bad_behind, is_free, is_lawful, is_taken, lies_on}
 use Rattle.vk_files.specs.declared.disk.Telling.{Telling}
 use Rattle.vk_files.specs.declared.disk.Telling.TheVariants.{Done, Lost, Landed}
 use Rattle.vk_files.specs.declared.entry.Entry.{Entry}

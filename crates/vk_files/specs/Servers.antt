@@ -1,5 +1,5 @@
 -- The file server: one step of it, from its state, the last answer, and what the disk tells at that moment.
-use Rattle.std.specs.Prelude.{ℕ, ◌+◌, ◌*◌, Bool, false, ◌==◌, ◌&&◌, min, nat_lt, nat_le, List, [], ◌∷◌, length, Option, Some, None, if◌then◌else◌}
+use Rattle.std.specs.Prelude.{ℕ, ◌+◌, ◌*◌, Bool, false, ◌==◌, ◌&&◌, min, nat_lt, nat_le, List, length, Option, Some, None, if◌then◌else◌}
 use Rattle.vk_base.specs.Messages.{grants_of}
 use Rattle.vk_base.specs.declared.answer.Answer.{Answer}
 use Rattle.vk_base.specs.declared.answer.Answer.TheVariants as answers

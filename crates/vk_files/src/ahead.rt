@@ -39,6 +39,13 @@ impl<D: Disk> ReadAhead<D> {
         }
     }
 
+    /// The disk.
+    pub fn disk(&self) -> &D
+        ensures { D.state result.now ≡ self.now.disk }
+    {
+        &self.disk
+    }
+
     /// The bytes of a block, which are those that were read ahead, where it is that one. `None` where the disk failed.
     pub fn fetch(&mut self, block: u32) -> Option<[u8; BLOCK_BYTES]>
         requires { block < length self.old.disk.blocks }

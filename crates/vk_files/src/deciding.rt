@@ -1,6 +1,6 @@
 //! What a file server does with an answer, before the disk is asked.
 
-ghost use Rattle.std.specs.Prelude.{◌≡◌, ℕ, ◌<◌, ◌≤◌, Some, length};
+ghost use Rattle.std.specs.Prelude.{◌≡◌, ℕ, ◌<◌, ◌≤◌, Some, length, nat_le};
 ghost use Rattle.vk_files.specs.Placed.{IsPlaced};
 ghost use Rattle.vk_files.specs.Servers.{asked_to_load, asked_to_read, asked_to_write, between, gathered, loaded, moved, one_more, opened, page_in, received, refused, replies_after, stage_call, taken, turn_at, went_on};
 
@@ -49,6 +49,13 @@ fn opened(from: Pid, file: Option<File>) -> Turn
     }
 }
 
+/// Whether the file has no such page.
+fn is_beyond(file: File, page: u32) -> bool
+    ensures { result ≡ nat_le file.blocks page }
+{
+    page >= file.blocks
+}
+
 /// To read a page of it.
 fn asked_to_read(from: Pid, message: &Message, file: Option<File>) -> Turn
     ensures { result ≡ asked_to_read from message.now file }
@@ -58,7 +65,7 @@ fn asked_to_read(from: Pid, message: &Message, file: Option<File>) -> Turn
     };
     let page = page_of(message);
     let grants = message.grants();
-    if page >= file.blocks {
+    if is_beyond(file, page) {
         refused(from, 1)
     } else if grants.write && grants.range.len >= BLOCK_BYTES as u32 {
         let dest = grants.range.start;
@@ -82,7 +89,7 @@ fn asked_to_write(from: Pid, message: &Message, file: Option<File>) -> Turn
     };
     let page = page_of(message);
     let grants = message.grants();
-    if page >= file.blocks {
+    if is_beyond(file, page) {
         refused(from, 1)
     } else if grants.read && grants.range.len == BLOCK_BYTES as u32 {
         Turn::Goes {

@@ -194,6 +194,13 @@ impl<D: Disk> FileServer<D> {
         })
     }
 
+    /// Its disk.
+    pub fn disk(&self) -> &D
+        ensures { D.state result.now ≡ self.now.reading.disk }
+    {
+        self.reading.disk()
+    }
+
     /// After its last call was answered so.
     fn answer(&mut self, answer: &Answer)
         ensures { IsStep answer.now self.old self.new }

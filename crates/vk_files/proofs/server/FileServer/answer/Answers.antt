@@ -1,4 +1,4 @@
-use Rattle.std.proofs.Common.{◌≡◌, subst, ◌∙◌}
+use Rattle.std.proofs.Common.{subst, ◌∙◌}
 use Rattle.vk_files.proofs.Directories.{few_entries}
 use Rattle.vk_files.proofs.Stepping.{serving_fine, step_made, still_serving}
 use Rattle.vk_files.specs.Disks.{block_at}
