@@ -20,7 +20,7 @@ stepped_more files requests coming c (b ∷ rest) a = stepped_more files request
 -- The server of a course is the one that its disk's tellings make.
 same_behind : (files : List Entry) (requests : ℕ) (coming : List Telling) (c : Course) (behind given : List Answer)
     → answered_all files requests (λ (g : List Answer). (stepped_all files requests coming c g).told)
-      (stepped_all files requests coming c behind).server behind given
+    (stepped_all files requests coming c behind).server behind given
     ≡ (stepped_all files requests coming c (behind ++ given)).server
 same_behind files requests coming c behind [] =
     ap (λ (g : List Answer). (stepped_all files requests coming c g).server) (sym (append-nil behind))
@@ -29,7 +29,7 @@ same_behind files requests coming c behind (a ∷ rest) =
     let telling = λ (g : List Answer). (all g).told in
     let more = stepped_more files requests coming c behind a in
     let next : answered files requests (all behind).server (telling (behind ++ a ∷ [])) a ≡ (all (behind ++ a ∷ [])).server =
-        ap (λ (d : Course). answered files requests (all behind).server d.told a) more ∙ ap (λ (d : Course). d.server) (sym more) in
+    ap (λ (d : Course). answered files requests (all behind).server d.told a) more ∙ ap (λ (d : Course). d.server) (sym more) in
     ap (λ (s : Server). answered_all files requests telling s (behind ++ a ∷ []) rest) next
     ∙ same_behind files requests coming c (behind ++ a ∷ []) rest
     ∙ ap (λ (g : List Answer). (all g).server) (append_assoc behind (a ∷ []) rest)
@@ -39,9 +39,9 @@ pub called_after : (s : FileState) (given : List Answer) → IsAfter s given →
 called_after s given is =
     ap (λ (v : Server). stage_call v.stage) (sym is.server)
     ∙ ap (λ (v : Server). stage_call v.stage)
-      (sym (same_behind (files_of s.first.blocks) s.requests is.coming (new_course s.first.blocks s.requests) [] given))
+    (sym (same_behind (files_of s.first.blocks) s.requests is.coming (new_course s.first.blocks s.requests) [] given))
     ∙ ap (λ (o : Option (List Telling)). stage_call (answered_all (files_of s.first.blocks) s.requests
-      (telling_of s.first.blocks s.requests o) (new_server s.first.blocks s.requests) [] given).stage) (sym is.foretold)
+    (telling_of s.first.blocks s.requests o) (new_server s.first.blocks s.requests) [] given).stage) (sym is.foretold)
 
 -- What the disk told is what was foretold, and so is what is left of it.
 record IsAsForetold (called : Bool) (coming : List Telling) (made : ℕ) (t : Telling) (new : Option (List Telling)) : Type 0 where
@@ -65,8 +65,8 @@ step_parts : (first : DiskState) (requests : ℕ) (given : List Answer) (a : Ans
     → IsAfter (record { first = first; requests = requests; replies = replies; stage = stage; reading = reading }) given
     → Works (work_of (turn_at (files_of first.blocks) requests replies stage a)) t reading now
     → server_of (record { first = first; requests = requests; replies = more; stage = next; reading = now })
-      ≡ answered (files_of first.blocks) requests
-        (server_of (record { first = first; requests = requests; replies = replies; stage = stage; reading = reading })) t a
+    ≡ answered (files_of first.blocks) requests
+    (server_of (record { first = first; requests = requests; replies = replies; stage = stage; reading = reading })) t a
     → IsAfter (record { first = first; requests = requests; replies = more; stage = next; reading = now }) (given ++ a ∷ [])
 step_parts first requests given a t replies more stage next reading now is works step =
     let files = files_of first.blocks in
@@ -75,7 +75,8 @@ step_parts first requests given a t replies more stage next reading now is works
     let seen : Course = record { server = server_of old; ahead = reading.ahead; made = c.made; told = c.told } in
     let same : c ≡ seen = λ i. record { server = is.server i; ahead = is.ahead i; made = c.made; told = c.told } in
     let more_is : course_of first.blocks requests is.coming (given ++ a ∷ []) ≡ stepped files requests is.coming seen a =
-        stepped_more files requests is.coming (new_course first.blocks requests) given a ∙ ap (λ (d : Course). stepped files requests is.coming d a) same in
+    stepped_more files requests is.coming (new_course first.blocks requests) given a
+    ∙ ap (λ (d : Course). stepped files requests is.coming d a) same in
     let w = work_of (turn_at files requests replies stage a) in
     let foretold = as_foretold (calls_disk reading.ahead w) is.coming c.made t reading.disk now.disk is.left works.called in
     record {
@@ -89,12 +90,17 @@ step_parts first requests given a t replies more stage next reading now is works
     }
 
 -- the same, with the disk and the requests of the new state, which are the old ones
-pub after_step : (old new : FileState) (given : List Answer) (a : Answer) → IsStep a old new → IsAfter old given → IsAfter new (given ++ a ∷ [])
+pub after_step : (old new : FileState) (given : List Answer) (a : Answer) → IsStep a old new → IsAfter old given
+    → IsAfter new (given ++ a ∷ [])
 after_step old new given a step is =
     let made = step_parts old.first old.requests given a step.told old.replies new.replies old.stage new.stage old.reading new.reading is
-        step.works step.server in
+    step.works step.server in
     subst (λ (s : FileState). IsAfter s (given ++ a ∷ [])) (λ i. record {
-      first = sym step.first i; requests = sym step.requests i; replies = new.replies; stage = new.stage; reading = new.reading;
+      first = sym step.first i;
+      requests = sym step.requests i;
+      replies = new.replies;
+      stage = new.stage;
+      reading = new.reading;
     }) made
 
 pub after_none : (old new : FileState) (given : List Answer) → new ≡ old → IsAfter old given → IsAfter new (given ++ [])

@@ -113,7 +113,8 @@ unfolding asked calls_after client directory disk entries_in plan read
 page_1 = refl
 
 -- where the third call is done, page 1 wants no fourth
-from_ahead : calls_after (Done ∷ Done ∷ Done ∷ Lost ∷ []) (read 0 ∷ answers.Ok ∷ answers.Ok ∷ read 1 ∷ []) ≡ Some (calls.Store 0 (replicate 512 6))
+from_ahead : calls_after (Done ∷ Done ∷ Done ∷ Lost ∷ []) (read 0 ∷ answers.Ok ∷ answers.Ok ∷ read 1 ∷ [])
+    ≡ Some (calls.Store 0 (replicate 512 6))
 unfolding asked calls_after client directory disk entries_in read
 from_ahead = refl
 

@@ -9,7 +9,7 @@ use Rattle.vk_base.specs.declared.pid.Pid.{Pid}
 use Rattle.vk_io.specs.Causes.{Rose}
 use Rattle.vk_files.proofs.Choices.{either, both, second, found_first, found_second}
 use Rattle.vk_files.specs.Ahead.{IsCalledIf, calls_disk, is_ahead}
-use Rattle.vk_files.specs.Disks.{DiskState}
+use Rattle.vk_files.specs.Disks.{DiskState, is_done}
 use Rattle.vk_files.specs.Messages.{code_of, file_of, name_of, page_of, reply_of}
 use Rattle.vk_files.specs.Placed.{AreOnDisk, IsInReach, IsOnDisk, IsPageOn, IsPlaced}
 use Rattle.vk_files.specs.Servers.{asked_to_load, asked_to_read, asked_to_write, between, gathered, is_failure, loaded, moved, one_more, opened, page_in, received, refused, stage_after, stage_call, taken, turn_at, went_on, work_of}
@@ -47,39 +47,41 @@ read_fine : (count : ℕ) (from : Pid) (m : Message) (o : Option File) → ((f :
 read_fine count from m None on = record { reach = tt; calm = refl }
 read_fine count from m (Some f) on =
     either (IsFine count) (nat_le f.blocks (page_of m)) (refused from 1)
-      (cond ((grants_of m).write && nat_le BLOCK_BYTES (grants_of m).range.len) (turns.FetchPage from f (page_of m) (grants_of m).range.start) (refused from 2))
-      (λ _. record { reach = tt; calm = refl })
-      (λ within. either (IsFine count) ((grants_of m).write && nat_le BLOCK_BYTES (grants_of m).range.len)
-        (turns.FetchPage from f (page_of m) (grants_of m).range.start) (refused from 2)
-        (λ _. record { reach = record { file = on f refl; within = leb-false f.blocks (page_of m) within }; calm = tt })
-        (λ _. record { reach = tt; calm = refl }))
+    (cond ((grants_of m).write && nat_le BLOCK_BYTES (grants_of m).range.len)
+    (turns.FetchPage from f (page_of m) (grants_of m).range.start) (refused from 2))
+    (λ _. record { reach = tt; calm = refl })
+    (λ within. either (IsFine count) ((grants_of m).write && nat_le BLOCK_BYTES (grants_of m).range.len)
+    (turns.FetchPage from f (page_of m) (grants_of m).range.start) (refused from 2)
+    (λ _. record { reach = record { file = on f refl; within = leb-false f.blocks (page_of m) within }; calm = tt })
+    (λ _. record { reach = tt; calm = refl }))
 
 write_fine : (count : ℕ) (from : Pid) (m : Message) (o : Option File) → ((f : File) → o ≡ Some f → IsOnDisk count f)
     → IsFine count (asked_to_write from m o)
 write_fine count from m None on = record { reach = tt; calm = refl }
 write_fine count from m (Some f) on =
     either (IsFine count) (nat_le f.blocks (page_of m)) (refused from 1)
-      (cond ((grants_of m).read && (grants_of m).range.len == BLOCK_BYTES) (turns.Goes (stages.Load from f (page_of m))) (refused from 2))
-      (λ _. record { reach = tt; calm = refl })
-      (λ within. either (IsFine count) ((grants_of m).read && (grants_of m).range.len == BLOCK_BYTES)
-        (turns.Goes (stages.Load from f (page_of m))) (refused from 2)
-        (λ _. record { reach = record { file = on f refl; within = leb-false f.blocks (page_of m) within }; calm = refl })
-        (λ _. record { reach = tt; calm = refl }))
+    (cond ((grants_of m).read && (grants_of m).range.len == BLOCK_BYTES) (turns.Goes (stages.Load from f (page_of m)))
+    (refused from 2))
+    (λ _. record { reach = tt; calm = refl })
+    (λ within. either (IsFine count) ((grants_of m).read && (grants_of m).range.len == BLOCK_BYTES)
+    (turns.Goes (stages.Load from f (page_of m))) (refused from 2)
+    (λ _. record { reach = record { file = on f refl; within = leb-false f.blocks (page_of m) within }; calm = refl })
+    (λ _. record { reach = tt; calm = refl }))
 
 gathered_fine : (count : ℕ) (from : Pid) (f : File) (at dest : ℕ) → IsOnDisk count f → IsFine count (gathered from f at dest)
 gathered_fine count from f at dest on =
     either (IsFine count) (nat_lt at f.blocks) (turns.FetchPart from f at dest) (turns.Goes (stages.Move from f dest))
-      (λ within. record { reach = record { file = on; within = ltb-true at f.blocks within }; calm = tt })
-      (λ _. record { reach = tt; calm = refl })
+    (λ within. record { reach = record { file = on; within = ltb-true at f.blocks within }; calm = tt })
+    (λ _. record { reach = tt; calm = refl })
 
 load_fine : (count : ℕ) (from : Pid) (m : Message) (o : Option File) → ((f : File) → o ≡ Some f → IsOnDisk count f)
     → IsFine count (asked_to_load from m o)
 load_fine count from m None on = record { reach = tt; calm = refl }
 load_fine count from m (Some f) on =
     either (IsFine count) ((grants_of m).write && nat_le f.length (grants_of m).range.len)
-      (gathered from f 0 (grants_of m).range.start) (refused from 2)
-      (λ _. gathered_fine count from f 0 (grants_of m).range.start (on f refl))
-      (λ _. record { reach = tt; calm = refl })
+    (gathered from f 0 (grants_of m).range.start) (refused from 2)
+    (λ _. gathered_fine count from f 0 (grants_of m).range.start (on f refl))
+    (λ _. record { reach = tt; calm = refl })
 
 taken_fine : (count : ℕ) (files : List Entry) (from : Pid) (m : Message) → AreOnDisk count files → IsFine count (taken files from m)
 taken_fine count files from m on =
@@ -89,20 +91,21 @@ taken_fine count files from m on =
     let write = cond (code_of m == 5) (asked_to_write from m f) load in
     let read = cond (code_of m == 4) (asked_to_read from m f) write in
     either (IsFine count) (code_of m == 3) (opened from (file_named files (name_of m))) read
-      (λ _. opened_fine count from (file_named files (name_of m)))
-      (λ _. either (IsFine count) (code_of m == 4) (asked_to_read from m f) write
-        (λ _. read_fine count from m f (on (file_of m)))
-        (λ _. either (IsFine count) (code_of m == 5) (asked_to_write from m f) load
-          (λ _. write_fine count from m f (on (file_of m)))
-          (λ _. either (IsFine count) (code_of m == 6) (asked_to_load from m f) bad
-            (λ _. load_fine count from m f (on (file_of m)))
-            (λ _. record { reach = tt; calm = refl }))))
+    (λ _. opened_fine count from (file_named files (name_of m)))
+    (λ _. either (IsFine count) (code_of m == 4) (asked_to_read from m f) write
+    (λ _. read_fine count from m f (on (file_of m)))
+    (λ _. either (IsFine count) (code_of m == 5) (asked_to_write from m f) load
+    (λ _. write_fine count from m f (on (file_of m)))
+    (λ _. either (IsFine count) (code_of m == 6) (asked_to_load from m f) bad
+    (λ _. load_fine count from m f (on (file_of m)))
+    (λ _. record { reach = tt; calm = refl }))))
 
 received_fine : (count : ℕ) (files : List Entry) (a : Answer) → AreOnDisk count files → IsFine count (received files a)
 received_fine count files (answers.ReceivedSegment from m n) on = taken_fine count files from m on
 received_fine count files _ on = record { reach = tt; calm = refl }
 
-loaded_fine : (count : ℕ) (from : Pid) (f : File) (page : ℕ) (o : Option (List ℕ)) → IsPageOn count f page → IsFine count (loaded from f page o)
+loaded_fine : (count : ℕ) (from : Pid) (f : File) (page : ℕ) (o : Option (List ℕ)) → IsPageOn count f page
+    → IsFine count (loaded from f page o)
 loaded_fine count from f page None on = record { reach = tt; calm = refl }
 loaded_fine count from f page (Some bytes) on = record { reach = on; calm = tt }
 
@@ -118,15 +121,16 @@ between_calm : (requests replies : ℕ) → is_failure (between requests replies
 between_calm requests replies =
     either (λ (s : Serving). is_failure s ≡ false) (replies == requests) stages.Exit stages.Receive (λ _. refl) (λ _. refl)
 
-went_on_fine : (count : ℕ) (f : File) (page requests replies : ℕ) → IsOnDisk count f → IsFine count (went_on f page (between requests replies))
+went_on_fine : (count : ℕ) (f : File) (page requests replies : ℕ) → IsOnDisk count f
+    → IsFine count (went_on f page (between requests replies))
 went_on_fine count f page requests replies on =
     let next = between requests replies in
     either (IsFine count) (nat_lt (page + 1) f.blocks) (turns.GoesAhead f (page + 1) next) (turns.Goes next)
-      (λ within. record {
-        reach = (record { file = on; within = ltb-true (page + 1) f.blocks within }, between_placed count requests replies);
-        calm = between_calm requests replies;
-      })
-      (λ _. record { reach = between_placed count requests replies; calm = between_calm requests replies })
+    (λ within. record {
+      reach = (record { file = on; within = ltb-true (page + 1) f.blocks within }, between_placed count requests replies);
+      calm = between_calm requests replies;
+    })
+    (λ _. record { reach = between_placed count requests replies; calm = between_calm requests replies })
 
 pub turn_fine : (count : ℕ) (files : List Entry) (requests replies : ℕ) (stage : Serving) (a : Answer) → AreOnDisk count files
     → IsPlaced count stage → IsFine count (turn_at files requests replies stage a)
@@ -135,7 +139,8 @@ turn_fine count files requests replies (stages.Load from f page) a on placed = l
 turn_fine count files requests replies (stages.Store from f page dest bytes) a on placed = record { reach = placed; calm = refl }
 turn_fine count files requests replies (stages.ReplyPage from f page dest) a on placed =
     went_on_fine count f page requests (one_more requests replies) placed.file
-turn_fine count files requests replies (stages.Gather from f at dest bytes) a on placed = gathered_fine count from f (at + 1) dest placed.file
+turn_fine count files requests replies (stages.Gather from f at dest bytes) a on placed =
+    gathered_fine count from f (at + 1) dest placed.file
 turn_fine count files requests replies (stages.Move from f dest) a on placed = moved_fine count from f a
 turn_fine count files requests replies (stages.Reply from code file number) a on placed =
     record { reach = between_placed count requests (one_more requests replies); calm = between_calm requests (one_more requests replies) }
@@ -159,30 +164,34 @@ after_placed count (turns.WritePage from f page bytes) Landed blocks on = tt
 
 -- A reply that the disk failed: the disk was called, and its count rose.
 
-lost_rose : (b : Bool) (old new : DiskState) → IsCalledIf b Lost old new → Rose old.faults new.faults
-lost_rose true old new called = called.counted.1
-lost_rose false old new called = absurd (cc (called.0))
-
-landed_rose : (b : Bool) (old new : DiskState) → IsCalledIf b Landed old new → Rose old.faults new.faults
-landed_rose true old new called = called.counted.1
-landed_rose false old new called = absurd (cc (called.0))
+told_rose : (b : Bool) (t : Telling) (old new : DiskState) → is_done t ≡ false → IsCalledIf b t old new → Rose old.faults new.faults
+told_rose b Done old new failed called = absurd (cc)
+told_rose true Lost old new failed called = called.counted.1
+told_rose true Landed old new failed called = called.counted.1
+told_rose false Lost old new failed called = absurd (cc (called.0))
+told_rose false Landed old new failed called = absurd (cc (called.0))
 
 pub failure_rose : (turn : Turn) (t : Telling) (blocks : List (List ℕ)) (ahead : Option ℕ) (old new : DiskState) → IsCalm turn
     → IsCalledIf (calls_disk ahead (work_of turn)) t old new → is_failure (stage_after turn t blocks) ≡ true → Rose old.faults new.faults
 failure_rose (turns.Goes next) t blocks ahead old new calm called is = absurd (cc)
 failure_rose (turns.GoesAhead f page next) t blocks ahead old new calm called is = absurd (cc)
 failure_rose (turns.FetchPage from f page dest) Done blocks ahead old new calm called is = absurd (cc)
-failure_rose (turns.FetchPage from f page dest) Lost blocks ahead old new calm called is = lost_rose (not (is_ahead ahead (f.start + page))) old new called
-failure_rose (turns.FetchPage from f page dest) Landed blocks ahead old new calm called is = landed_rose (not (is_ahead ahead (f.start + page))) old new called
+failure_rose (turns.FetchPage from f page dest) Lost blocks ahead old new calm called is =
+    told_rose (not (is_ahead ahead (f.start + page))) Lost old new refl called
+failure_rose (turns.FetchPage from f page dest) Landed blocks ahead old new calm called is =
+    told_rose (not (is_ahead ahead (f.start + page))) Landed old new refl called
 failure_rose (turns.FetchPart from f at dest) Done blocks ahead old new calm called is = absurd (cc)
-failure_rose (turns.FetchPart from f at dest) Lost blocks ahead old new calm called is = lost_rose (not (is_ahead ahead (f.start + at))) old new called
-failure_rose (turns.FetchPart from f at dest) Landed blocks ahead old new calm called is = landed_rose (not (is_ahead ahead (f.start + at))) old new called
+failure_rose (turns.FetchPart from f at dest) Lost blocks ahead old new calm called is =
+    told_rose (not (is_ahead ahead (f.start + at))) Lost old new refl called
+failure_rose (turns.FetchPart from f at dest) Landed blocks ahead old new calm called is =
+    told_rose (not (is_ahead ahead (f.start + at))) Landed old new refl called
 failure_rose (turns.WritePage from f page bytes) Done blocks ahead old new calm called is = absurd (cc)
-failure_rose (turns.WritePage from f page bytes) Lost blocks ahead old new calm called is = lost_rose true old new called
-failure_rose (turns.WritePage from f page bytes) Landed blocks ahead old new calm called is = landed_rose true old new called
+failure_rose (turns.WritePage from f page bytes) Lost blocks ahead old new calm called is = told_rose true Lost old new refl called
+failure_rose (turns.WritePage from f page bytes) Landed blocks ahead old new calm called is = told_rose true Landed old new refl called
 
 -- the second byte of a reply is its code
-code_is : (code file number : ℕ) (from to : Pid) → Some (calls.Reply (reply_of code file number) from) ≡ Some (calls.Reply (reply_of 3 0 0) to)
+code_is : (code file number : ℕ) (from to : Pid)
+    → Some (calls.Reply (reply_of code file number) from) ≡ Some (calls.Reply (reply_of 3 0 0) to)
     → code ≡ 3
 code_is code file number from to h =
     let same : reply_of code file number ≡ reply_of 3 0 0 = cc in

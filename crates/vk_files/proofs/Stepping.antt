@@ -61,11 +61,11 @@ pub step_made : (first : DiskState) (files seen : List Entry) (requests replies 
     (a : Answer) (turn : Turn) → IsServing first files stage reading → seen ≡ files → turn ≡ turn_at seen requests replies stage a
     → more ≡ replies_after requests stage replies → IsActed turn reading now next
     → IsStep a (record { first = first; requests = requests; replies = replies; stage = stage; reading = reading })
-      (record { first = first; requests = requests; replies = more; stage = next; reading = now })
+    (record { first = first; requests = requests; replies = more; stage = next; reading = now })
 step_made first files seen requests replies more stage next reading now a turn is same made counted acted =
     let blocks = reading.disk.blocks in
     let turn_is : turn ≡ turn_at (files_of first.blocks) requests replies stage a =
-        made ∙ ap (λ (l : List Entry). turn_at l requests replies stage a) (same ∙ is.files) in
+    made ∙ ap (λ (l : List Entry). turn_at l requests replies stage a) (same ∙ is.files) in
     let works = subst (λ (u : Turn). Works (work_of u) acted.told reading now) turn_is acted.works in
     let fine = serving_fine first files seen requests replies stage reading a turn is same made in
     record {

@@ -11,8 +11,8 @@ use Rattle.vk_files.specs.declared.memory.DiskCall.TheVariants as disk_calls
 abbrev pub sure_state : List (List ℕ) → DiskState
 sure_state blocks = record { blocks = blocks; faults = 0; coming = Some [] }
 
--- One some of whose calls fail: its blocks, what its calls to come tell, how many failed, the first of those that were made, and how many of
--- these it keeps.
+-- One some of whose calls fail: its blocks, what its calls to come tell, how many failed, the first of those that were made, and how many
+-- of these it keeps.
 pub record MemoryState : Type 0 where
   pub blocks : List (List ℕ)
   pub coming : List Telling

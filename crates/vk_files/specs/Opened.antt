@@ -35,7 +35,8 @@ pub record IsOpened (disk : DiskState) (asked : ℕ) (s : FileState) : Type 0 wh
 -- why it was not made: the count of the disk's faults rose, or this is the first entry at fault
 abbrev pub IsCause : VolumeFault → DiskState → DiskState → Type 0
 IsCause faults.Failed disk now = Rose disk.faults now.faults
-IsCause (faults.BadVolume entry) disk now = (first_bad (length disk.blocks) (files_of disk.blocks) ≡ Some entry) × (now.faults ≡ disk.faults)
+IsCause (faults.BadVolume entry) disk now =
+    (first_bad (length disk.blocks) (files_of disk.blocks) ≡ Some entry) × (now.faults ≡ disk.faults)
 IsCause faults.NoMemory disk now = now.faults ≡ disk.faults
 
 -- the disk comes back with the same blocks

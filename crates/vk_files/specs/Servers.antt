@@ -41,7 +41,8 @@ abbrev pub asked_to_read : Pid → Message → Option File → Turn
 asked_to_read from m None = refused from 1
 asked_to_read from m (Some f) =
     if nat_le f.blocks (page_of m) then refused from 1
-    else if (grants_of m).write && nat_le BLOCK_BYTES (grants_of m).range.len then turns.FetchPage from f (page_of m) (grants_of m).range.start
+    else if (grants_of m).write && nat_le BLOCK_BYTES (grants_of m).range.len
+    then turns.FetchPage from f (page_of m) (grants_of m).range.start
     else refused from 2
 
 -- to write one

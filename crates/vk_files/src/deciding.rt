@@ -1,6 +1,7 @@
 //! What a file server does with an answer, before the disk is asked.
 
 ghost use Rattle.std.specs.Prelude.{◌≡◌, ℕ, ◌<◌, ◌≤◌, Some, length, nat_le};
+ghost use Rattle.vk_files.specs.Messages.{reply_of};
 ghost use Rattle.vk_files.specs.Placed.{IsPlaced};
 ghost use Rattle.vk_files.specs.Servers.{asked_to_load, asked_to_read, asked_to_write, between, gathered, loaded, moved, one_more, opened, page_in, received, refused, replies_after, stage_call, taken, turn_at, went_on};
 
@@ -234,13 +235,7 @@ fn went_on(file: File, page: u32, next: Serving) -> Turn
 }
 
 /// What a server of these files does after its last call was answered so, where it is to make so many replies and has made so many.
-pub fn turn(
-    files: &[Entry],
-    requests: u32,
-    replies: u32,
-    stage: &Serving,
-    answer: &Answer,
-) -> Turn
+pub fn turn(files: &[Entry], requests: u32, replies: u32, stage: &Serving, answer: &Answer) -> Turn
     requires files { length files.now ≤ FILES }
     requires placed { (count : ℕ) × IsPlaced count stage.now }
     ensures { result ≡ turn_at files.now requests replies stage.now answer.now }
@@ -302,6 +297,27 @@ fn data_of(block: &[u8; BLOCK_BYTES]) -> Data
     }
 }
 
+/// To put a block at this place of its memory.
+fn store(start: u32, block: &[u8; BLOCK_BYTES]) -> Option<Call>
+    ensures { result ≡ Some (Call.Store start block.now) }
+{
+    let bytes = data_of(block);
+    Some(Call::Store { start, bytes })
+}
+
+/// To reply with the page that stands at the beginning of its memory.
+fn reply_page(from: Pid, file: File, page: u32, dest: u32) -> Option<Call>
+    ensures { result ≡ Some (Call.ReplySegment (reply_of 0 file.number page) from dest 0 BLOCK_BYTES) }
+{
+    Some(Call::ReplySegment {
+        message: reply_of(0, file.number, page),
+        to: from,
+        dest,
+        src: 0,
+        count: BLOCK_BYTES as u32,
+    })
+}
+
 /// What it calls.
 pub fn call_of(stage: &Serving) -> Option<Call>
     requires { (count : ℕ) × IsPlaced count stage.now }
@@ -316,26 +332,14 @@ pub fn call_of(stage: &Serving) -> Option<Call>
             start: 0,
             count: BLOCK_BYTES as u32,
         }),
-        Serving::Store { ref bytes, .. } => Some(Call::Store {
-            start: 0,
-            bytes: data_of(bytes),
-        }),
+        Serving::Store { ref bytes, .. } => store(0, bytes),
         Serving::ReplyPage {
             from,
             file,
             page,
             dest,
-        } => Some(Call::ReplySegment {
-            message: reply_of(0, file.number, page),
-            to: from,
-            dest,
-            src: 0,
-            count: BLOCK_BYTES as u32,
-        }),
-        Serving::Gather { at, ref bytes, .. } => Some(Call::Store {
-            start: BLOCK_BYTES as u32 * at,
-            bytes: data_of(bytes),
-        }),
+        } => reply_page(from, file, page, dest),
+        Serving::Gather { at, ref bytes, .. } => store(BLOCK_BYTES as u32 * at, bytes),
         Serving::Move { from, file, dest } => Some(Call::MoveTo {
             partner: from,
             dest,

@@ -102,7 +102,11 @@ impl Model for MemoryDisk {
     ghost Value = { MemoryState };
 
     ghost view = { λ d. record {
-      blocks = d.disk; coming = drop d.made d.plan.items; faults = d.faults; calls = d.calls.items; room = d.room;
+      blocks = d.disk;
+      coming = drop d.made d.plan.items;
+      faults = d.faults;
+      calls = d.calls.items;
+      room = d.room;
     } };
 
     ghost invariant = { λ d. d.room ≤ vec_capacity d.calls };

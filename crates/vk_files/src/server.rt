@@ -47,7 +47,11 @@ impl<D: Disk> Model for FileServer<D> {
     ghost Value = { FileState };
 
     ghost view = { λ s. record {
-      first = D.state s.first.value; requests = s.requests; replies = s.replies; stage = s.stage; reading = s.reading;
+      first = D.state s.first.value;
+      requests = s.requests;
+      replies = s.replies;
+      stage = s.stage;
+      reading = s.reading;
     } };
 
     ghost invariant = { λ s. IsServing (D.state s.first.value) s.files s.stage s.reading };
@@ -66,13 +70,7 @@ fn failed(from: Pid) -> Serving
 }
 
 /// A page that was fetched.
-fn stored(
-    from: Pid,
-    file: File,
-    page: u32,
-    dest: u32,
-    bytes: Option<[u8; BLOCK_BYTES]>,
-) -> Serving
+fn stored(from: Pid, file: File, page: u32, dest: u32, bytes: Option<[u8; BLOCK_BYTES]>) -> Serving
     ensures { result ≡ stored from file page dest bytes }
 {
     match bytes {
@@ -88,13 +86,7 @@ fn stored(
 }
 
 /// A block of a file that is loaded.
-fn put_there(
-    from: Pid,
-    file: File,
-    at: u32,
-    dest: u32,
-    bytes: Option<[u8; BLOCK_BYTES]>,
-) -> Serving
+fn put_there(from: Pid, file: File, at: u32, dest: u32, bytes: Option<[u8; BLOCK_BYTES]>) -> Serving
     ensures { result ≡ put_there from file at dest bytes }
 {
     match bytes {

@@ -10,7 +10,11 @@ pub enum Serving {
     /// Waits for a request.
     Receive,
     /// Loads the bytes of a page that is to be written.
-    Load { from: Pid, file: File, page: u32 },
+    Load {
+        from: Pid,
+        file: File,
+        page: u32,
+    },
     /// Puts a page, which is to be read, at the beginning of its memory.
     Store {
         from: Pid,
@@ -35,7 +39,11 @@ pub enum Serving {
         bytes: [u8; BLOCK_BYTES],
     },
     /// Moves the file that stands in its memory.
-    Move { from: Pid, file: File, dest: u32 },
+    Move {
+        from: Pid,
+        file: File,
+        dest: u32,
+    },
     /// Replies without a page: with this code, this file and this number.
     Reply {
         from: Pid,
@@ -52,7 +60,9 @@ pub enum Serving {
 #[derive(Clone, Copy)]
 pub enum Turn {
     /// It asks nothing, and this is next.
-    Goes { next: Serving },
+    Goes {
+        next: Serving,
+    },
     /// It fetches a page of a file ahead, and this is next whatever the disk tells.
     GoesAhead {
         file: File,

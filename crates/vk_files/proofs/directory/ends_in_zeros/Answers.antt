@@ -5,8 +5,10 @@ use Rattle.vk_files.proofs.directory.ends_in_zeros.Goals.{then-byte-eq0, else-by
 
 pub loop-byte-preserved : goal.loop-byte-preserved
 loop-byte-preserved c = elim c.if-byte-eq0.branch [
-  then-byte-eq0 w ↦ rw w.ended-is (met_zero c.loop-byte.ended c.args.bytes.now c.loop-byte.byte-index _ c.loop-byte-test.true w.if-byte-eq0.true c.loop-byte.invariant)
-  | else-byte-eq0+else-ended w ↦ rw w.ended-is (met_other c.loop-byte.ended c.args.bytes.now c.loop-byte.byte-index _ c.loop-byte-test.true w.if-byte-eq0.false w.if-ended.false c.loop-byte.invariant)
+  | then-byte-eq0 w ↦ rw w.ended-is (met_zero c.loop-byte.ended c.args.bytes.now c.loop-byte.byte-index _ c.loop-byte-test.true
+      w.if-byte-eq0.true c.loop-byte.invariant)
+  | else-byte-eq0+else-ended w ↦ rw w.ended-is (met_other c.loop-byte.ended c.args.bytes.now c.loop-byte.byte-index _
+      c.loop-byte-test.true w.if-byte-eq0.false w.if-ended.false c.loop-byte.invariant)
 ]
 
 pub returns-then-ended : goal.returns-then-ended

@@ -12,14 +12,14 @@ turn-turn-requires-clause-files g c =
 pub act-self-inside-requires-clause-reach : goal.act-self-inside-requires-clause-reach
 act-self-inside-requires-clause-reach g c =
     (serving_fine (g.D.Disk.state c.self.inside.first.value) c.self.inside.files c.as_slice.result.now c.self.inside.requests
-      c.self.inside.replies c.self.inside.stage c.self.inside.reading c.args.answer.now c.turn-turn.result c.self.invariant
-      c.as_slice.ensures c.turn-turn.ensures).reach
+    c.self.inside.replies c.self.inside.stage c.self.inside.reading c.args.answer.now c.turn-turn.result c.self.invariant
+    c.as_slice.ensures c.turn-turn.ensures).reach
 
 pub invariant_of-self : goal.invariant_of-self
 invariant_of-self g c =
     let first = g.D.Disk.state c.self.inside.first.value in
     let fine = serving_fine first c.self.inside.files c.as_slice.result.now c.self.inside.requests c.self.inside.replies c.self.inside.stage
-        c.self.inside.reading c.args.answer.now c.turn-turn.result c.self.invariant c.as_slice.ensures c.turn-turn.ensures in
+    c.self.inside.reading c.args.answer.now c.turn-turn.result c.self.invariant c.as_slice.ensures c.turn-turn.ensures in
     still_serving first c.self.inside.files c.self.inside.stage c.act-self-inside.result c.self.inside.reading
     c.act-self-inside.new.reading c.turn-turn.result c.self.invariant fine c.act-self-inside.ensures
 
@@ -35,6 +35,6 @@ returns g c =
     } in
     subst (λ (s : FileState). IsStep c.args.answer.now s new) c.self.view_is
     (step_made first c.self.inside.files c.as_slice.result.now c.self.inside.requests c.self.inside.replies
-      c.replies_after-self-inside.result c.self.inside.stage c.act-self-inside.result c.self.inside.reading c.act-self-inside.new.reading
-      c.args.answer.now c.turn-turn.result c.self.invariant c.as_slice.ensures c.turn-turn.ensures c.replies_after-self-inside.ensures
-      c.act-self-inside.ensures)
+    c.replies_after-self-inside.result c.self.inside.stage c.act-self-inside.result c.self.inside.reading c.act-self-inside.new.reading
+    c.args.answer.now c.turn-turn.result c.self.invariant c.as_slice.ensures c.turn-turn.ensures c.replies_after-self-inside.ensures
+    c.act-self-inside.ensures)
