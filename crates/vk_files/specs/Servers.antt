@@ -30,8 +30,7 @@ pub record Server : Type 0 where
 abbrev pub refused : Pid → ℕ → Turn
 refused from code = turns.Goes (stages.Reply from code 0 0)
 
--- what it does with a request: to open a file
-
+-- what it does with a request to open a file
 abbrev pub opened : Pid → Option File → Turn
 opened from None = refused from 1
 opened from (Some f) = turns.Goes (stages.Reply from 0 f.number f.length)
@@ -57,13 +56,14 @@ asked_to_write from m (Some f) =
 abbrev pub gathered : Pid → File → ℕ → ℕ → Turn
 gathered from f at dest = if nat_lt at f.blocks then turns.FetchPart from f at dest else turns.Goes (stages.Move from f dest)
 
--- to load all of it
+-- to load it
 abbrev pub asked_to_load : Pid → Message → Option File → Turn
 asked_to_load from m None = refused from 1
 asked_to_load from m (Some f) =
     if (grants_of m).write && nat_le f.length (grants_of m).range.len then gathered from f 0 (grants_of m).range.start
     else refused from 2
 
+-- with any request, where these are the entries of the directory
 abbrev pub taken : List Entry → Pid → Message → Turn
 taken files from m =
     if code_of m == 3 then opened from (file_named files (name_of m))

@@ -19,10 +19,13 @@ answered_all files requests telling s behind [] = s
 answered_all files requests telling s behind (a ∷ rest) =
     answered_all files requests telling (answered files requests s (telling (behind ++ a ∷ [])) a) (behind ++ a ∷ []) rest
 
--- what a server of a disk with these blocks, and so many requests, calls after these answers, where the disk tells this
+-- a server of a disk with these blocks, and so many requests, after these answers, where the disk tells this
+abbrev pub server_after : List (List ℕ) → ℕ → (List Answer → Telling) → List Answer → Server
+server_after blocks requests telling given = answered_all (files_of blocks) requests telling (new_server blocks requests) [] given
+
+-- and what it calls
 abbrev pub file_call : List (List ℕ) → ℕ → (List Answer → Telling) → List Answer → Option Call
-file_call blocks requests telling given =
-    stage_call (answered_all (files_of blocks) requests telling (new_server blocks requests) [] given).stage
+file_call blocks requests telling given = stage_call (server_after blocks requests telling given).stage
 
 -- What the disk tells behind each list of answers, where it is foretold what its calls to come will tell.
 

@@ -27,7 +27,7 @@ fn refused(from: Pid, code: u8) -> Turn
 }
 
 /// A reply with a file's length.
-fn told(from: Pid, file: File) -> Turn
+fn with_length(from: Pid, file: File) -> Turn
     ensures { result ≡ opened from (Some file) }
 {
     Turn::Goes {
@@ -46,7 +46,7 @@ fn opened(from: Pid, file: Option<File>) -> Turn
 {
     match file {
         None => refused(from, 1),
-        Some(file) => told(from, file),
+        Some(file) => with_length(from, file),
     }
 }
 
@@ -198,7 +198,7 @@ fn moved(from: Pid, file: File, answer: &Answer) -> Turn
     ensures { result ≡ moved from file answer.now }
 {
     match answer {
-        Answer::Ok => told(from, file),
+        Answer::Ok => with_length(from, file),
         _ => refused(from, 4),
     }
 }

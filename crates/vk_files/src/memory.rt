@@ -1,7 +1,7 @@
 //! Disks in memory.
 
-ghost use Rattle.std.specs.Prelude.{◌≡◌, ◌<◌, ◌≤◌, ◌+◌, ◌^◌, min, max, drop, length, slice_set, is_ok, IfOk};
-ghost use Rattle.vk_files.specs.Disks.{Counts, IsRead, IsWritten, block_at, is_done, told_at};
+ghost use Rattle.std.specs.Prelude.{◌≡◌, ◌<◌, ◌≤◌, ◌+◌, ◌^◌, min, max, drop, length, slice_set, IfOk};
+ghost use Rattle.vk_files.specs.Disks.{Counts, IsRead, IsWritten, block_at, told_at};
 ghost use Rattle.vk_files.specs.MemoryDisks.{after_write, begun, faults_after, memory_state, new_memory, sure_state};
 
 use crate::disk::{Disk, Telling};
@@ -122,16 +122,6 @@ fn planned(plan: &[Telling], made: usize) -> Telling
     }
 }
 
-/// What a call answers that tells this.
-fn answer_of(told: Telling) -> Result<(), Failed>
-    ensures { is_ok result ≡ is_done told }
-{
-    match told {
-        Telling::Done => Ok(()),
-        Telling::Lost | Telling::Landed => Err(Failed),
-    }
-}
-
 /// One call more, of at most as many as there are.
 fn one_more(made: usize, count: usize) -> usize
     ensures { result ≡ min (made + 1) (max made count) }
@@ -219,9 +209,13 @@ impl Disk for MemoryDisk {
         // the call is recorded, where there is room
         ensures now { self.new ≡ begun self.old (DiskCall.Read block) }
     {
-        let told = self.begin(DiskCall::Read { block });
-        *into = self.disk.block(block);
-        answer_of(told)
+        match self.begin(DiskCall::Read { block }) {
+            Telling::Done => {
+                *into = self.disk.block(block);
+                Ok(())
+            }
+            Telling::Lost | Telling::Landed => Err(Failed),
+        }
     }
 
     fn write(&mut self, block: u32, bytes: &[u8; BLOCK_BYTES]) -> Result<(), Failed>
@@ -231,11 +225,16 @@ impl Disk for MemoryDisk {
         // the call is recorded, where there is room
         ensures now { self.new ≡ after_write self.old block bytes.now }
     {
-        let told = self.begin(DiskCall::Write { block });
-        match told {
-            Telling::Lost => {}
-            Telling::Done | Telling::Landed => self.disk.set_block(block, bytes),
+        match self.begin(DiskCall::Write { block }) {
+            Telling::Done => {
+                self.disk.set_block(block, bytes);
+                Ok(())
+            }
+            Telling::Lost => Err(Failed),
+            Telling::Landed => {
+                self.disk.set_block(block, bytes);
+                Err(Failed)
+            }
         }
-        answer_of(told)
     }
 }
