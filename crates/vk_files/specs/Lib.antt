@@ -1,0 +1,10 @@
+pub mod Ahead
+pub mod Disks
+pub mod Loaders
+pub mod MemoryDisks
+pub mod Messages
+pub mod Opened
+pub mod Placed
+pub mod Servers
+pub mod Tasks
+pub mod Volumes
