@@ -6,7 +6,7 @@ use Rattle.vk_pipe.specs.declared.news.News.{News}
 use Rattle.vk_pipe.proofs.Room.{IsRoomy, news_room, places_in, room_after}
 use Rattle.vk_pipe.specs.Pipes.{Server, after_news, answered, answered_all, new_server, news_of, server_after, waiting, with_news}
 
-one_more_answer : (s : Server) (given : List Answer) (a : Answer)
+pub one_more_answer : (s : Server) (given : List Answer) (a : Answer)
     → answered_all s (given ++ a ∷ []) ≡ answered (answered_all s given) a
 one_more_answer s [] a = refl
 one_more_answer s (b ∷ rest) a = one_more_answer (answered s b) rest a

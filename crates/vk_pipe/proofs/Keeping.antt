@@ -1,14 +1,11 @@
 -- That a pipe keeps its bytes.
-use Rattle.std.proofs.Common.{◌≡◌, ℕ, ◌==◌, Bool, true, false, List, [], ◌∷◌, ◌++◌, map, Option, Some, refl, ap, arith, sym, ◌∙◌, append-nil}
+use Rattle.std.proofs.Common.{◌≡◌, ℕ, ◌==◌, true, List, [], ◌∷◌, ◌++◌, map, refl, ap, arith, sym, ◌∙◌, append-nil}
 use Rattle.std.specs.List.{flat_map}
-use Rattle.std.proofs.lemmas.Bool.{eq-eqb, false≢true}
+use Rattle.std.proofs.lemmas.Bool.{false≢true}
 use Rattle.std.proofs.lemmas.Option.{none-some}
 use Rattle.vk_base.specs.declared.answer.Answer.{Answer}
 use Rattle.vk_base.specs.declared.call.Call.{Call}
-use Rattle.vk_base.specs.declared.call.Call.TheVariants as calls
 use Rattle.vk_base.specs.declared.limits.TheConstants.{SEGMENT_BYTES}
-use Rattle.vk_base.specs.declared.message.Message.{Message}
-use Rattle.vk_base.specs.declared.pid.Pid.{Pid}
 use Rattle.vk_pipe.specs.declared.limits.TheConstants.{WAITING_REQUESTS}
 use Rattle.vk_pipe.specs.declared.serving.Serving.{Serving}
 use Rattle.vk_pipe.specs.declared.serving.Serving.TheVariants as stages
@@ -16,12 +13,13 @@ use Rattle.vk_pipe.specs.declared.serving.Verdict.TheVariants as verdicts
 use Rattle.vk_pipe.specs.declared.waiting.Read.{Read}
 use Rattle.vk_pipe.specs.declared.waiting.Write.{Write}
 use Rattle.vk_pipe.proofs.Along.{flat_along, kept_along, map_along}
+use Rattle.vk_pipe.proofs.Done.{done_after}
+use Rattle.vk_pipe.proofs.Replies.{is_receive, is_reply, received, replied}
 use Rattle.vk_pipe.proofs.Room.{IsRoomy, room_after}
 use Rattle.vk_pipe.proofs.Rules.{either_way}
 use Rattle.vk_pipe.proofs.Steps.{IsRight, IsStep, step}
 use Rattle.vk_pipe.specs.Kept.{IsAtEnd, IsAtRest, KeepsItsBytes, pipe_after, reply_to_write}
 use Rattle.vk_pipe.specs.Pipes.{Calls, Pipe, Rule, Server, answered, answered_all, by_rule, empty_pipe, new_server, server_after, stage_call, waiting}
-use Rattle.vk_pipe.specs.Requests.{code_of}
 use Rattle.vk_pipe.specs.Told.{Piece, bytes_had, bytes_put, news_at, piece_in, put_by, read_due, read_in, read_replies, read_reply, reads_served, reads_taken, rule_at, served_by, write_in, writes_put, writes_taken, written_call, written_calls}
 
 -- Before the first answer.
@@ -110,38 +108,17 @@ replies_are requests given =
 
 -- What its call tells of the pipe.
 
--- whether it is a reply with this code, and whether it waits for a request
-is_reply : ℕ → Option Call → Bool
-is_reply code (Some (calls.Reply m to)) = code_of m == code
-is_reply code c = false
-
-is_receive : Option Call → Bool
-is_receive (Some (calls.ReceiveSegment start count)) = true
-is_receive c = false
-
 end_is : (p : Pipe) (stage : Serving) → IsRight p stage → is_reply 6 (stage_call p stage) ≡ true → IsAtEnd p
-unfolding is_reply
 end_is p (stages.Reply to verdicts.End) right h = right
 end_is p stage right h = absurd (false≢true h)
 
 full_is : (p : Pipe) (stage : Serving) → IsRight p stage → is_reply 5 (stage_call p stage) ≡ true → waiting p ≡ WAITING_REQUESTS
-unfolding is_reply
 full_is p (stages.Reply to verdicts.Full) right h = right
 full_is p stage right h = absurd (false≢true h)
 
 rest_is : (p : Pipe) (stage : Serving) → IsRight p stage → is_receive (stage_call p stage) ≡ true → IsAtRest p
-unfolding is_receive
 rest_is p stages.Receive right h = right
 rest_is p stage right h = absurd (false≢true h)
-
-replied : (c : Option Call) (m : Message) (to : Pid) (code : ℕ) → c ≡ Some (calls.Reply m to) → code_of m ≡ code
-    → is_reply code c ≡ true
-unfolding is_reply
-replied c m to code is coded = ap (is_reply code) is ∙ eq-eqb (code_of m) code coded
-
-received : (c : Option Call) (start count : ℕ) → c ≡ Some (calls.ReceiveSegment start count) → is_receive c ≡ true
-unfolding is_receive
-received c start count is = ap is_receive is
 
 pub keeps : (requests : ℕ) (given : List Answer) → KeepsItsBytes requests given
 keeps requests given =
@@ -154,6 +131,7 @@ keeps requests given =
       reads = reads_are requests given;
       written = written_are requests given;
       served = replies_are requests given;
+      done = done_after requests given;
       ended = λ m to is code.
           let over : IsAtEnd s.pipe = end_is s.pipe s.stage right (replied (stage_call s.pipe s.stage) m to 6 is code) in
           (over, all_had requests given over);

@@ -1,8 +1,10 @@
 pub mod Along
 pub mod Copying
+pub mod Done
 pub mod Examples
 pub mod Hearing
 pub mod Keeping
+pub mod Replies
 pub mod Room
 pub mod Rules
 pub mod Steps

@@ -35,7 +35,7 @@ LeavesRoom p n = waiting (with_news p n) + places_in n ≤ WAITING_REQUESTS
 
 judged_room : (p : Pipe) (from : Pid) (m : Message) (count : ℕ) → waiting p ≤ 16 → LeavesRoom p (judged p from m count)
 judged_room p from m count few =
-    judged_goes (LeavesRoom p) p from m count (omega (arith, few)) (omega (arith, few)) (omega (arith, few))
+    judged_goes (LeavesRoom p) p from m count (omega (arith, few)) (λ e. omega (arith, few)) (omega (arith, few))
     (λ full. omega (arith, few)) (λ more. omega (arith, few, more))
     (λ more. let r : Read = read_of from m in
     let longer : length (p.reads ++ r ∷ []) ≡ length p.reads + 1 = length-append p.reads (r ∷ []) in

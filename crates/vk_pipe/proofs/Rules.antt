@@ -92,7 +92,7 @@ settled_goes P p exits rests puts serves ends =
 
 pub judged_goes : (P : News → Type 0) (p : Pipe) (from : Pid) (m : Message) (count : ℕ)
     → P (brings.Due (stages.Reply from verdicts.Bad))
-    → P (brings.Close from)
+    → (is_close m ≡ true → P (brings.Close from))
     → P (brings.Due (stages.Reply from verdicts.Shut))
     → (waiting p ≡ WAITING_REQUESTS → P (brings.Due (stages.Reply from verdicts.Full)))
     → ((waiting p ≡ WAITING_REQUESTS → ⊥) → P (brings.Due (stages.Load from count)))
@@ -100,7 +100,7 @@ pub judged_goes : (P : News → Type 0) (p : Pipe) (from : Pid) (m : Message) (c
     → P (judged p from m count)
 judged_goes P p from m count bad closes shut full loads reads =
     either_way P (not (is_request m)) _ _ (λ e. bad) (λ e.
-    either_way P (is_close m) _ _ (λ e. closes) (λ e.
+    either_way P (is_close m) _ _ closes (λ e.
     either_way P (is_write m && p.closed) _ _ (λ e. shut) (λ e.
     either_way P (waiting p == WAITING_REQUESTS) _ _ (λ t. full (eqb-true (waiting p) WAITING_REQUESTS t)) (λ f.
     either_way P (is_write m) _ _ (λ e. loads (eqb-false (waiting p) WAITING_REQUESTS f))

@@ -103,7 +103,7 @@ IsQuietNews p n = Unit {0}
 
 judged_is : (p : Pipe) (from : Pid) (m : Message) (count : ℕ) → IsQuietNews p (judged p from m count)
 judged_is p from m count =
-    judged_goes (IsQuietNews p) p from m count (record { no_write = refl; no_read = refl; right = tt }) tt
+    judged_goes (IsQuietNews p) p from m count (record { no_write = refl; no_read = refl; right = tt }) (λ e. tt)
     (record { no_write = refl; no_read = refl; right = tt }) (λ full. record { no_write = refl; no_read = refl; right = full })
     (λ few. record { no_write = refl; no_read = refl; right = tt }) (λ few. tt)
 

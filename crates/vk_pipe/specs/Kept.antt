@@ -1,6 +1,7 @@
 -- That a pipe keeps its bytes: none is lost, doubled or out of order, whatever the server is answered.
-use Rattle.std.specs.Prelude.{ℕ, ◌≡◌, ◌+◌, ◌<◌, ◌≤◌, true, List, [], ◌++◌, length, map, slice_get, Some}
+use Rattle.std.specs.Prelude.{ℕ, ◌≡◌, ◌+◌, ◌<◌, ◌≤◌, ◌⊎◌, true, List, [], ◌∷◌, ◌++◌, length, map, slice_get, Some}
 use Rattle.vk_base.specs.declared.answer.Answer.{Answer}
+use Rattle.vk_base.specs.declared.answer.Answer.TheVariants as answers
 use Rattle.vk_base.specs.declared.call.Call.{Call}
 use Rattle.vk_base.specs.declared.call.Call.TheVariants as calls
 use Rattle.vk_base.specs.declared.limits.TheConstants.{SEGMENT_BYTES}
@@ -10,7 +11,7 @@ use Rattle.vk_pipe.specs.declared.limits.TheConstants.{PIPE_BYTES, WAITING_REQUE
 use Rattle.vk_pipe.specs.declared.waiting.Read.{Read}
 use Rattle.vk_pipe.specs.declared.waiting.Write.{Write}
 use Rattle.vk_pipe.specs.Pipes.{Pipe, pipe_call, server_after, waiting}
-use Rattle.vk_pipe.specs.Requests.{code_of, reply_of}
+use Rattle.vk_pipe.specs.Requests.{code_of, is_close, reply_of}
 use Rattle.vk_pipe.specs.Told.{bytes_had, bytes_put, read_replies, reads_served, reads_taken, writes_put, writes_taken, written_calls}
 
 -- the reply to a write whose bytes are in the pipe
@@ -19,6 +20,23 @@ reply_to_write w = calls.Reply (reply_of 0 (length w.bytes)) w.from
 
 abbrev pub pipe_after : ℕ → List Answer → Pipe
 pipe_after requests given = (server_after requests given).pipe
+
+-- this reply is the one to the write that was put in last
+pub record TellsWrite (requests : ℕ) (given : List Answer) (reply : Call) : Type 0 where
+  pub earlier : List Write
+  pub write : Write
+  pub put : writes_put requests given ≡ earlier ++ write ∷ []
+  pub is : reply ≡ reply_to_write write
+
+-- it is the one to a close that was taken last
+pub record TellsClose (given : List Answer) (reply : Call) : Type 0 where
+  pub earlier : List Answer
+  pub from : Pid
+  pub asked : Message
+  pub count : ℕ
+  pub taken : given ≡ earlier ++ answers.ReceivedSegment from asked count ∷ []
+  pub closes : is_close asked ≡ true
+  pub is : reply ≡ calls.Reply (reply_of 0 0) from
 
 -- nothing more will come out of it
 pub record IsAtEnd (p : Pipe) : Type 0 where
@@ -47,6 +65,9 @@ pub record KeepsItsBytes (requests : ℕ) (given : List Answer) : Type 0 where
   -- each write that was put in is told so, once and in this order, and no other is; each read that was served is replied to so
   pub written : written_calls requests given ≡ map reply_to_write (writes_put requests given)
   pub served : read_replies requests given ≡ map (λ (r : Read). r.from) (reads_served requests given)
+  -- a reply without bytes and of code 0 is the one to the write that was put in last, or to a close that was taken last
+  pub done : (m : Message) (to : Pid) → pipe_call requests given ≡ Some (calls.Reply m to) → code_of m ≡ 0 →
+      TellsWrite requests given (calls.Reply m to) ⊎ TellsClose given (calls.Reply m to)
   -- the end is told where the pipe is at its end and reads have all that was put in, and that it is full where sixteen requests wait
   pub ended : (m : Message) (to : Pid) → pipe_call requests given ≡ Some (calls.Reply m to) → code_of m ≡ 6 →
       IsAtEnd (pipe_after requests given) × (bytes_put requests given ≡ bytes_had requests given)
