@@ -15,6 +15,8 @@ mod lines;
 #[cfg(test)]
 mod pages;
 #[cfg(test)]
+mod pipes;
+#[cfg(test)]
 mod reports;
 #[cfg(test)]
 mod sources_and_sinks;

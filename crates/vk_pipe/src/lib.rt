@@ -24,5 +24,3 @@ pub use server::PipeServer;
 pub use serving::{Serving, Verdict};
 pub use waiting::{Read, Write};
 
-#[cfg(test)]
-mod tests;

@@ -1,8 +1,8 @@
 //! A read that waits, a write that waits, a read that was given up, and the end of a pipe, call by call.
 
-use crate::server::PipeServer;
 use std::test::Fail;
 use vk_base::{Answer, Call, Data, Message, Pid, Refusal};
+use vk_pipe::PipeServer;
 use vk_program::Program;
 
 /// A message of these two first bytes, and a segment of so many bytes from 0 on.
@@ -47,6 +47,11 @@ fn loaded(bytes: &[u8]) -> Answer {
         Some(bytes) => Answer::Loaded { bytes },
         None => Answer::Ok,
     }
+}
+
+/// The call behind this answer.
+fn after(server: &mut PipeServer, answer: Answer) -> Option<Call> {
+    server.next(Some(&answer))
 }
 
 fn receives(call: &Option<Call>) -> bool {
@@ -110,13 +115,13 @@ fn a_read_waits_for_bytes(rt: HostRuntime) -> Result<(), Fail> {
         return Ok(());
     };
     assert!(rt; receives(&server.next(None)));
-    assert!(rt; receives(&server.next(Some(&reads(reader)))));
-    assert!(rt; loads(&server.next(Some(&writes(writer, 3))), 3));
-    assert!(rt; replies(&server.next(Some(&loaded(&[1, 2, 3]))), writer, 0, 3));
-    assert!(rt; stores(&server.next(Some(&Answer::Ok)), &[1, 2, 3]));
-    assert!(rt; gives(&server.next(Some(&Answer::Ok)), reader, 3));
-    assert!(rt; matches!(server.next(Some(&Answer::Ok)), Some(Call::Exit)));
-    assert!(rt; server.next(Some(&Answer::Ok)).is_none());
+    assert!(rt; receives(&after(&mut server, reads(reader))));
+    assert!(rt; loads(&after(&mut server, writes(writer, 3)), 3));
+    assert!(rt; replies(&after(&mut server, loaded(&[1, 2, 3])), writer, 0, 3));
+    assert!(rt; stores(&after(&mut server, Answer::Ok), &[1, 2, 3]));
+    assert!(rt; gives(&after(&mut server, Answer::Ok), reader, 3));
+    assert!(rt; matches!(after(&mut server, Answer::Ok), Some(Call::Exit)));
+    assert!(rt; after(&mut server, Answer::Ok).is_none());
     Ok(())
 }
 
@@ -130,15 +135,15 @@ fn a_write_waits_for_room(rt: HostRuntime) -> Result<(), Fail> {
     };
     let _receive = server.next(None);
     for byte in 0..4 {
-        let _load = server.next(Some(&writes(writer, 512)));
-        assert!(rt; replies(&server.next(Some(&loaded(&[byte; 512]))), writer, 0, 512));
-        assert!(rt; receives(&server.next(Some(&Answer::Ok))));
+        let _load = after(&mut server, writes(writer, 512));
+        assert!(rt; replies(&after(&mut server, loaded(&[byte; 512])), writer, 0, 512));
+        assert!(rt; receives(&after(&mut server, Answer::Ok)));
     }
-    let _load = server.next(Some(&writes(writer, 512)));
-    assert!(rt; receives(&server.next(Some(&loaded(&[4; 512])))));
-    assert!(rt; stores(&server.next(Some(&reads(reader))), &[0; 512]));
-    assert!(rt; gives(&server.next(Some(&Answer::Ok)), reader, 512));
-    assert!(rt; replies(&server.next(Some(&Answer::Ok)), writer, 0, 512));
+    let _load = after(&mut server, writes(writer, 512));
+    assert!(rt; receives(&after(&mut server, loaded(&[4; 512]))));
+    assert!(rt; stores(&after(&mut server, reads(reader)), &[0; 512]));
+    assert!(rt; gives(&after(&mut server, Answer::Ok), reader, 512));
+    assert!(rt; replies(&after(&mut server, Answer::Ok), writer, 0, 512));
     Ok(())
 }
 
@@ -154,19 +159,19 @@ fn bytes_stay_until_they_are_had(rt: HostRuntime) -> Result<(), Fail> {
         why: Refusal::NotAwaiting,
     };
     let _receive = server.next(None);
-    let _load = server.next(Some(&writes(writer, 3)));
-    let _reply = server.next(Some(&loaded(&[1, 2, 3])));
-    assert!(rt; receives(&server.next(Some(&Answer::Ok))));
-    assert!(rt; stores(&server.next(Some(&reads(reader))), &[1, 2, 3]));
-    assert!(rt; gives(&server.next(Some(&Answer::Ok)), reader, 3));
-    assert!(rt; receives(&server.next(Some(&gone))));
-    assert!(rt; stores(&server.next(Some(&reads(reader))), &[1, 2, 3]));
-    assert!(rt; gives(&server.next(Some(&Answer::Ok)), reader, 3));
-    assert!(rt; receives(&server.next(Some(&Answer::Ok))));
-    assert!(rt; replies(&server.next(Some(&closes(writer))), writer, 0, 0));
-    assert!(rt; receives(&server.next(Some(&Answer::Ok))));
-    assert!(rt; replies(&server.next(Some(&reads(reader))), reader, 6, 0));
-    assert!(rt; receives(&server.next(Some(&Answer::Ok))));
-    assert!(rt; replies(&server.next(Some(&writes(writer, 3))), writer, 7, 0));
+    let _load = after(&mut server, writes(writer, 3));
+    let _reply = after(&mut server, loaded(&[1, 2, 3]));
+    assert!(rt; receives(&after(&mut server, Answer::Ok)));
+    assert!(rt; stores(&after(&mut server, reads(reader)), &[1, 2, 3]));
+    assert!(rt; gives(&after(&mut server, Answer::Ok), reader, 3));
+    assert!(rt; receives(&after(&mut server, gone)));
+    assert!(rt; stores(&after(&mut server, reads(reader)), &[1, 2, 3]));
+    assert!(rt; gives(&after(&mut server, Answer::Ok), reader, 3));
+    assert!(rt; receives(&after(&mut server, Answer::Ok)));
+    assert!(rt; replies(&after(&mut server, closes(writer)), writer, 0, 0));
+    assert!(rt; receives(&after(&mut server, Answer::Ok)));
+    assert!(rt; replies(&after(&mut server, reads(reader)), reader, 6, 0));
+    assert!(rt; receives(&after(&mut server, Answer::Ok)));
+    assert!(rt; replies(&after(&mut server, writes(writer, 3)), writer, 7, 0));
     Ok(())
 }
