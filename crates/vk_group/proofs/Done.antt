@@ -1,5 +1,5 @@
 -- Each deed of an account was called for and answered.
-use Rattle.std.proofs.Common.{◌≡◌, ℕ, Bool, true, List, Option, Some, None, refl, ap, sym, subst, ◌∙◌}
+use Rattle.std.proofs.Common.{◌≡◌, ℕ, Bool, true, List, Option, Some, None, refl, ap, subst, ◌∙◌}
 use Rattle.std.specs.Prelude.{IfSome, option_map}
 use Rattle.vk_base.specs.declared.answer.Answer.{Answer}
 use Rattle.vk_base.specs.declared.answer.Answer.TheVariants as answers
@@ -19,7 +19,7 @@ use Rattle.vk_group.specs.declared.stage.Stage.{Stage}
 use Rattle.vk_group.specs.declared.stage.Stage.TheVariants as stages
 use Rattle.vk_group.specs.declared.stage.Wait.{Wait}
 use Rattle.vk_group.specs.Accounts.{Deed, Gave, account_after, began, deed_at, hands, loaded, report_of}
-use Rattle.vk_group.specs.Deeds.{DeedsAreDone, IsAfterCall, IsBrought, IsDone}
+use Rattle.vk_group.specs.Deeds.{DeedsAreDone, IsAfterCall, IsDone}
 use Rattle.vk_group.specs.Groups.{coordinator_call, group_after, is_client, stage_call, verdict}
 use Rattle.vk_group.specs.Messages.{message_in, reply_of}
 use Rattle.vk_group.proofs.Tracked.{IsAskedBy, IsDueTo, IsJobFor, IsReportOf, IsStored, tracked}

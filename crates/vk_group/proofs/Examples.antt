@@ -12,6 +12,7 @@ use Rattle.vk_group.specs.declared.group.Group.{Group}
 use Rattle.vk_group.specs.declared.helping.Helping.{Helping}
 use Rattle.vk_group.specs.declared.helping.Helping.TheVariants as helpings
 use Rattle.vk_group.specs.declared.pair.HelperPair.{HelperPair}
+use Rattle.vk_group.specs.Accounts.{account_after}
 use Rattle.vk_group.specs.Groups.{answered, new_group, stage_call}
 use Rattle.vk_group.specs.Helpers.{helped, helping_call}
 use Rattle.vk_group.specs.Messages.{ready_message, reply_of, result_message}
@@ -136,6 +137,16 @@ two_replies : calls_from (new_group pairs 3) (
 unfolding calls_from given_jobs reports fails ready group_send get_reply receives loads stores brings says pairs first_helper second_helper
     client first_member second_member bytes plain asking
 two_replies = refl
+
+-- What the account tells behind the first reply of two, which was handed over.
+told : account_after pairs 3 (given_jobs ++ reports first_helper (bytes 11) ++ answers.Ok ∷ answers.Ok ∷ []) ≡ record {
+  asked = Some (record { client = client; message = plain 12 });
+  jobs = 0 ∷ 1 ∷ [];
+  reports = record { member = 0; reply = Some (plain 11) } ∷ [];
+  handed_over = record { member = 0; message = plain 11 } ∷ [];
+}
+unfolding given_jobs reports ready group_send pairs first_helper second_helper client first_member second_member bytes plain asking
+told = refl
 
 -- No member replies: once both were reported on the client is told so.
 nobody_replies : calls_from (new_group pairs 1) (given_jobs ++ fails second_helper ++ fails first_helper ++ answers.Ok ∷ []) ≡

@@ -27,8 +27,8 @@ use Rattle.vk_group.specs.declared.stage.Stage.TheVariants as stages
 use Rattle.vk_group.specs.declared.stage.Wait.{Wait}
 use Rattle.vk_group.specs.Accounts.{Account, accounted, account_from, account_after, began, deed_at, deed_of, hands, loaded, nothing_for, report_of}
 use Rattle.vk_group.specs.Deeds.{IsAfterCall}
-use Rattle.vk_group.specs.Groups.{all_reported, answered, answered_all, answered_at, begun_by, by_job, by_waiting, coordinator_call, group_after, heard, helper_due, is_client, is_ending, job_due, left_after, loaded_result, loaded_send, new_group, next_stage, notes_after, number_of, ready_from, refused, refused_as, rest, result_from, settled, stage_call, taken, told_next, verdict, wait_over}
-use Rattle.vk_group.specs.Members.{given, has_replied, holds_job, is_due, is_helper, made_ready, new_member, pair_of, pairs_of, reported, restarted, told, was_told}
+use Rattle.vk_group.specs.Groups.{all_reported, answered, answered_all, answered_at, begun_by, by_job, by_waiting, coordinator_call, group_after, heard, helper_due, is_client, is_ending, job_due, left_after, loaded_result, loaded_send, new_group, notes_after, number_of, ready_from, refused, refused_as, rest, result_from, settled, stage_call, taken, told_next, verdict, wait_over}
+use Rattle.vk_group.specs.Members.{given, has_replied, holds_job, is_due, is_helper, made_ready, new_member, pair_of, pairs_of, restarted, told, was_told}
 use Rattle.vk_group.specs.Messages.{message_in, request_in}
 use Rattle.vk_group.proofs.Constant.{pairs_given, pairs_new, pairs_reported, pairs_told}
 use Rattle.vk_group.proofs.Answering.{one_answer_more}
