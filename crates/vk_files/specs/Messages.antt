@@ -32,7 +32,8 @@ open_of name = record { 0 = 0 ∷ 3 ∷ 0 ∷ 0 ∷ name ++ replicate 8 0 }
 -- a request to read or write a page, which grants this access to this segment
 abbrev pub page_request : ℕ → ℕ → ℕ → ℕ → ℕ → ℕ → Message
 page_request grants code file page start len = record {
-  0 = grants ∷ code ∷ 0 ∷ 0 ∷ to_be_bytes w32 file ++ to_be_bytes w32 page ++ replicate 12 0 ++ to_be_bytes w32 start ++ to_be_bytes w32 len;
+  0 = grants ∷ code ∷ 0 ∷ 0 ∷ to_be_bytes w32 file ++ to_be_bytes w32 page ++ replicate 12 0
+      ++ to_be_bytes w32 start ++ to_be_bytes w32 len;
 }
 
 -- a request to load a file to this segment
