@@ -27,7 +27,11 @@ fn directory(start: u8) -> [u8; BLOCK] {
 
 /// The blocks of a disk: a directory, and blocks of 5, 6 and 7.
 fn blocks(alloc: Global, start: u8) -> Option<Vec<[u8; BLOCK]>> {
-    Vec::from_array(alloc, [directory(start), [5; BLOCK], [6; BLOCK], [7; BLOCK]]).ok()
+    Vec::from_array(
+        alloc,
+        [directory(start), [5; BLOCK], [6; BLOCK], [7; BLOCK]],
+    )
+    .ok()
 }
 
 /// A disk of these blocks that tells this, with the file b from this block on.

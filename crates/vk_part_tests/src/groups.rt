@@ -108,13 +108,15 @@ fn stores(call: &Option<Call>, first: u8) -> bool {
 /// Whether it replies to this process with what stands in the memory, of this member.
 fn brings(call: &Option<Call>, process: Pid, member: u8) -> bool {
     match call {
-        Some(Call::ReplySegment {
-            message,
-            to,
-            dest: 0,
-            src: 0,
-            count: 32,
-        }) => *message == coded(0, member) && *to == process,
+        Some(
+            Call::ReplySegment {
+                message,
+                to,
+                dest: 0,
+                src: 0,
+                count: 32,
+            },
+        ) => *message == coded(0, member) && *to == process,
         _ => false,
     }
 }
@@ -169,11 +171,29 @@ fn two_replies(rt: HostRuntime) -> Result<(), Fail> {
     assert!(rt; stores(&group.next(Some(&Answer::Ok)), 11));
     assert!(rt; brings(&group.next(Some(&Answer::Ok)), client, 0));
     assert!(rt; receives(&group.next(Some(&Answer::Ok))));
-    assert!(rt; says(&group.next(Some(&came(client, asked(2, 11, 0), 0))), client, 9));
+    assert!(rt;
+        says(
+            &group.next(Some(&came(client, asked(2, 11, 0), 0))),
+            client,
+            9
+        )
+    );
     assert!(rt; receives(&group.next(Some(&Answer::Ok))));
-    assert!(rt; says(&group.next(Some(&came(first, asked(2, 12, 0), 0))), first, 1));
+    assert!(rt;
+        says(
+            &group.next(Some(&came(first, asked(2, 12, 0), 0))),
+            first,
+            1
+        )
+    );
     assert!(rt; receives(&group.next(Some(&Answer::Ok))));
-    assert!(rt; says(&group.next(Some(&came(second, asked(2, 12, 0), 0))), second, 1));
+    assert!(rt;
+        says(
+            &group.next(Some(&came(second, asked(2, 12, 0), 0))),
+            second,
+            1
+        )
+    );
     assert!(rt; matches!(group.next(Some(&Answer::Ok)), Some(Call::Exit)));
     assert!(rt; group.next(Some(&Answer::Ok)).is_none());
     Ok(())
@@ -199,7 +219,13 @@ fn a_message_that_grants(rt: HostRuntime) -> Result<(), Fail> {
     assert!(rt; loads(&group.next(Some(&came(client, asked(3, 10, 0), 32)))));
     assert!(rt; says(&group.next(Some(&loaded(1))), client, 2));
     assert!(rt; receives(&group.next(Some(&Answer::Ok))));
-    assert!(rt; says(&group.next(Some(&came(client, asked(3, 10, 0), 32))), client, 2));
+    assert!(rt;
+        says(
+            &group.next(Some(&came(client, asked(3, 10, 0), 32))),
+            client,
+            2
+        )
+    );
     Ok(())
 }
 
@@ -234,12 +260,24 @@ fn jobs_of_a_helper(rt: HostRuntime) {
     assert!(rt; sends(&helper.next(Some(&loaded(12))), member, plain(12)));
     let reply = Answer::Replied { message: plain(11) };
     assert!(rt; stores(&helper.next(Some(&reply)), 11));
-    assert!(rt; sends(&helper.next(Some(&Answer::Ok)), coordinator, asked(1, 13, 0)));
+    assert!(rt;
+        sends(
+            &helper.next(Some(&Answer::Ok)),
+            coordinator,
+            asked(1, 13, 0)
+        )
+    );
     assert!(rt; sends(&helper.next(Some(&job)), coordinator, asked(2, 12, 0)));
     assert!(rt; loads(&helper.next(Some(&job))));
     assert!(rt; sends(&helper.next(Some(&loaded(13))), member, plain(13)));
     let why = Refusal::NoProcess;
-    assert!(rt; sends(&helper.next(Some(&Answer::Refused { why })), coordinator, asked(1, 13, 1)));
+    assert!(rt;
+        sends(
+            &helper.next(Some(&Answer::Refused { why })),
+            coordinator,
+            asked(1, 13, 1)
+        )
+    );
     assert!(rt; sends(&helper.next(Some(&job)), coordinator, asked(2, 12, 0)));
     let end = Answer::Replied {
         message: coded(1, 0),

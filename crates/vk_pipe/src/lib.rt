@@ -23,4 +23,3 @@ pub use limits::{PIPE_BYTES, WAITING_REQUESTS};
 pub use server::PipeServer;
 pub use serving::{Serving, Verdict};
 pub use waiting::{Read, Write};
-
