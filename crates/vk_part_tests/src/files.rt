@@ -3,9 +3,7 @@
 use std::alloc::Global;
 use std::test::Fail;
 use vk_base::{Answer, Call, Data, Message, Pid};
-use vk_files::{
-    Disk, DiskCall, FileServer, Loader, MemoryDisk, SureDisk, Telling, VolumeFault, VolumeRefusal,
-};
+use vk_files::{Disk, DiskCall, FileServer, Loader, MemoryDisk, SureDisk, Telling, VolumeFault};
 use vk_program::Program;
 
 const BLOCK: usize = 512;
@@ -27,7 +25,11 @@ fn directory(start: u8) -> [u8; BLOCK] {
 
 /// The blocks of a disk: a directory, and blocks of 5, 6 and 7.
 fn blocks(alloc: Global, start: u8) -> Option<Vec<[u8; BLOCK]>> {
-    Vec::from_array(alloc, [directory(start), [5; BLOCK], [6; BLOCK], [7; BLOCK]]).ok()
+    Vec::from_array(
+        alloc,
+        [directory(start), [5; BLOCK], [6; BLOCK], [7; BLOCK]],
+    )
+    .ok()
 }
 
 /// A disk of these blocks that tells this, with the file b from this block on.
@@ -178,13 +180,12 @@ fn the_directory_fails(rt: HostRuntime) -> Result<(), Fail> {
     let Some(disk) = disk(alloc, 3, [Telling::Lost]) else {
         return Ok(());
     };
-    match FileServer::new(alloc, disk, 9) {
-        Ok(_) => assert!(rt; false),
-        Err(VolumeRefusal { disk, why }) => {
-            assert_eq!(rt; why, VolumeFault::Failed);
-            assert_eq!(rt; disk.faults(), 1);
-        }
-    }
+    let Err(refusal) = FileServer::new(alloc, disk, 9) else {
+        assert!(rt; false);
+        return Ok(());
+    };
+    assert_eq!(rt; refusal.why, VolumeFault::Failed);
+    assert_eq!(rt; refusal.disk.faults(), 1);
     Ok(())
 }
 
@@ -194,13 +195,12 @@ fn an_entry_meets_another(rt: HostRuntime) -> Result<(), Fail> {
     let Some(disk) = disk(alloc, 2, []) else {
         return Ok(());
     };
-    match FileServer::new(alloc, disk, 9) {
-        Ok(_) => assert!(rt; false),
-        Err(VolumeRefusal { disk, why }) => {
-            assert_eq!(rt; why, VolumeFault::BadVolume { entry: 1 });
-            assert_eq!(rt; disk.blocks(), 4);
-        }
-    }
+    let Err(refusal) = FileServer::new(alloc, disk, 9) else {
+        assert!(rt; false);
+        return Ok(());
+    };
+    assert_eq!(rt; refusal.why, VolumeFault::BadVolume { entry: 1 });
+    assert_eq!(rt; refusal.disk.blocks(), 4);
     Ok(())
 }
 
