@@ -3,9 +3,7 @@
 use std::alloc::Global;
 use std::test::Fail;
 use vk_base::{Answer, Call, Data, Message, Pid};
-use vk_files::{
-    Disk, DiskCall, FileServer, Loader, MemoryDisk, SureDisk, Telling, VolumeFault, VolumeRefusal,
-};
+use vk_files::{Disk, DiskCall, FileServer, Loader, MemoryDisk, SureDisk, Telling, VolumeFault};
 use vk_program::Program;
 
 const BLOCK: usize = 512;
@@ -182,13 +180,12 @@ fn the_directory_fails(rt: HostRuntime) -> Result<(), Fail> {
     let Some(disk) = disk(alloc, 3, [Telling::Lost]) else {
         return Ok(());
     };
-    match FileServer::new(alloc, disk, 9) {
-        Ok(_) => assert!(rt; false),
-        Err(VolumeRefusal { disk, why }) => {
-            assert_eq!(rt; why, VolumeFault::Failed);
-            assert_eq!(rt; disk.faults(), 1);
-        }
-    }
+    let Err(refusal) = FileServer::new(alloc, disk, 9) else {
+        assert!(rt; false);
+        return Ok(());
+    };
+    assert_eq!(rt; refusal.why, VolumeFault::Failed);
+    assert_eq!(rt; refusal.disk.faults(), 1);
     Ok(())
 }
 
@@ -198,13 +195,12 @@ fn an_entry_meets_another(rt: HostRuntime) -> Result<(), Fail> {
     let Some(disk) = disk(alloc, 2, []) else {
         return Ok(());
     };
-    match FileServer::new(alloc, disk, 9) {
-        Ok(_) => assert!(rt; false),
-        Err(VolumeRefusal { disk, why }) => {
-            assert_eq!(rt; why, VolumeFault::BadVolume { entry: 1 });
-            assert_eq!(rt; disk.blocks(), 4);
-        }
-    }
+    let Err(refusal) = FileServer::new(alloc, disk, 9) else {
+        assert!(rt; false);
+        return Ok(());
+    };
+    assert_eq!(rt; refusal.why, VolumeFault::BadVolume { entry: 1 });
+    assert_eq!(rt; refusal.disk.blocks(), 4);
     Ok(())
 }
 
