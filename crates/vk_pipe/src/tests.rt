@@ -41,6 +41,13 @@ fn closes(from: Pid) -> Answer {
     }
 }
 
+/// The answer to a reply whose process waits no more.
+fn given_up() -> Answer {
+    Answer::Refused {
+        why: Refusal::NotAwaiting,
+    }
+}
+
 /// The answer to a load.
 fn loaded(bytes: &[u8]) -> Answer {
     match Data::new(bytes) {
@@ -150,16 +157,13 @@ fn bytes_stay_until_they_are_had(rt: HostRuntime) -> Result<(), Fail> {
     let Ok(mut server) = PipeServer::new(rt.alloc(), 9) else {
         return Ok(());
     };
-    let gone = Answer::Refused {
-        why: Refusal::NotAwaiting,
-    };
     let _receive = server.next(None);
     let _load = server.next(Some(&writes(writer, 3)));
     let _reply = server.next(Some(&loaded(&[1, 2, 3])));
     assert!(rt; receives(&server.next(Some(&Answer::Ok))));
     assert!(rt; stores(&server.next(Some(&reads(reader))), &[1, 2, 3]));
     assert!(rt; gives(&server.next(Some(&Answer::Ok)), reader, 3));
-    assert!(rt; receives(&server.next(Some(&gone))));
+    assert!(rt; receives(&server.next(Some(&given_up()))));
     assert!(rt; stores(&server.next(Some(&reads(reader))), &[1, 2, 3]));
     assert!(rt; gives(&server.next(Some(&Answer::Ok)), reader, 3));
     assert!(rt; receives(&server.next(Some(&Answer::Ok))));
