@@ -3,7 +3,7 @@
 ghost use Rattle.std.specs.Prelude.{◌≡◌, ◌≤◌, ◌+◌, List, [], ◌++◌, length, drop, slice_get, is_some, option_copied, IfOk, if◌then◌else◌};
 ghost use Rattle.vk_base.specs.declared.answer.Answer.{Answer as TheAnswer};
 ghost use Rattle.vk_program.specs.Tasks.{told_by};
-ghost use Rattle.vk_pipe.specs.Pipes.{after_news, answered, at, by_rule, delivered, fitting, judged, loaded, news_of, piece_len, pipe_call, read_rule, received, settled, stage_call, waiting, with_news};
+ghost use Rattle.vk_pipe.specs.Pipes.{after_news, by_rule, delivered, fitting, judged, loaded, news_of, piece_len, pipe_call, read_rule, received, settled, stage_call, waiting, with_news};
 ghost use Rattle.vk_pipe.specs.Standing.{IsPipeAfter, pipe_of, server_of};
 
 use crate::bytes::PipeBytes;
