@@ -281,14 +281,18 @@ fn a_loader(rt: HostRuntime) -> Result<(), Fail> {
         return Ok(());
     };
     let mut loader = Loader::new(server, 12);
+    let opening = Message([
+        0, 3, 0, 0, b'f', b'1', b'2', 0, 0, 0, 0, 0, 0, 0, 0, 0, 0, 0, 0, 0, 0, 0, 0, 0, 0, 0, 0,
+        0, 0, 0, 0, 0,
+    ]);
+    let loading = Message([
+        2, 6, 0, 0, 0, 0, 0, 12, 0, 0, 0, 0, 0, 0, 0, 0, 0, 0, 0, 0, 0, 0, 0, 0, 0, 0, 0, 0, 0, 1,
+        0, 0,
+    ]);
     let open = loader.next(None);
-    assert!(rt;
-        matches!(open, Some(Call::Send { message, .. }) if message.0[..8] == [0, 3, 0, 0, b'f', b'1', b'2', 0])
-    );
+    assert!(rt; matches!(open, Some(Call::Send { message, .. }) if message == opening));
     let load = loader.next(Some(&Answer::Ok));
-    assert!(rt;
-        matches!(load, Some(Call::Send { message, .. }) if message.0[..8] == [2, 6, 0, 0, 0, 0, 0, 12])
-    );
+    assert!(rt; matches!(load, Some(Call::Send { message, .. }) if message == loading));
     assert!(rt;
         matches!(
             loader.next(Some(&Answer::Ok)),
