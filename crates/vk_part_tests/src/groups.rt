@@ -136,24 +136,34 @@ fn sends(call: &Option<Call>, process: Pid, asked: Message) -> bool {
     }
 }
 
+/// The answer to a Send.
+fn replied(message: Message) -> Answer {
+    Answer::Replied { message }
+}
+
+/// What the program calls after this answer.
+fn after<P: Program>(program: &mut P, answer: Answer) -> Option<Call> {
+    program.next(Some(&answer))
+}
+
 /// Both helpers are ready, the client sends to the group, and both get the job.
 fn give_jobs(rt: &impl Abort, group: &mut Coordinator) {
     let [first, second] = PROCESSES.helpers;
     assert!(rt; receives(&group.next(None)));
-    assert!(rt; receives(&group.next(Some(&came(first, asked(2, 12, 0), 0)))));
-    assert!(rt; receives(&group.next(Some(&came(second, asked(2, 12, 0), 0)))));
-    assert!(rt; loads(&group.next(Some(&came(PROCESSES.client, asked(3, 10, 0), 32)))));
-    assert!(rt; stores(&group.next(Some(&loaded(12))), 12));
-    assert!(rt; brings(&group.next(Some(&Answer::Ok)), first, 0));
-    assert!(rt; stores(&group.next(Some(&Answer::Ok)), 12));
-    assert!(rt; brings(&group.next(Some(&Answer::Ok)), second, 0));
-    assert!(rt; receives(&group.next(Some(&Answer::Ok))));
+    assert!(rt; receives(&after(group, came(first, asked(2, 12, 0), 0))));
+    assert!(rt; receives(&after(group, came(second, asked(2, 12, 0), 0))));
+    assert!(rt; loads(&after(group, came(PROCESSES.client, asked(3, 10, 0), 32))));
+    assert!(rt; stores(&after(group, loaded(12)), 12));
+    assert!(rt; brings(&after(group, Answer::Ok), first, 0));
+    assert!(rt; stores(&after(group, Answer::Ok), 12));
+    assert!(rt; brings(&after(group, Answer::Ok), second, 0));
+    assert!(rt; receives(&after(group, Answer::Ok)));
 }
 
 /// A helper reports.
 fn report(rt: &impl Abort, group: &mut Coordinator, helper: Pid, outcome: u8, first: u8) {
-    assert!(rt; loads(&group.next(Some(&came(helper, asked(1, 13, outcome), 32)))));
-    assert!(rt; says(&group.next(Some(&loaded(first))), helper, 0));
+    assert!(rt; loads(&after(group, came(helper, asked(1, 13, outcome), 32))));
+    assert!(rt; says(&after(group, loaded(first)), helper, 0));
 }
 
 #[test]
@@ -163,39 +173,39 @@ fn two_replies(rt: HostRuntime) -> Result<(), Fail> {
     let mut group = Coordinator::new(&pairs(), 3).ok_or("no group")?;
     give_jobs(&rt, &mut group);
     report(&rt, &mut group, second, 0, 13);
-    assert!(rt; stores(&group.next(Some(&Answer::Ok)), 13));
-    assert!(rt; brings(&group.next(Some(&Answer::Ok)), client, 1));
-    assert!(rt; receives(&group.next(Some(&Answer::Ok))));
-    assert!(rt; receives(&group.next(Some(&came(client, asked(2, 11, 0), 0)))));
+    assert!(rt; stores(&after(&mut group, Answer::Ok), 13));
+    assert!(rt; brings(&after(&mut group, Answer::Ok), client, 1));
+    assert!(rt; receives(&after(&mut group, Answer::Ok)));
+    assert!(rt; receives(&after(&mut group, came(client, asked(2, 11, 0), 0))));
     report(&rt, &mut group, first, 0, 11);
-    assert!(rt; stores(&group.next(Some(&Answer::Ok)), 11));
-    assert!(rt; brings(&group.next(Some(&Answer::Ok)), client, 0));
-    assert!(rt; receives(&group.next(Some(&Answer::Ok))));
+    assert!(rt; stores(&after(&mut group, Answer::Ok), 11));
+    assert!(rt; brings(&after(&mut group, Answer::Ok), client, 0));
+    assert!(rt; receives(&after(&mut group, Answer::Ok)));
     assert!(rt;
         says(
-            &group.next(Some(&came(client, asked(2, 11, 0), 0))),
+            &after(&mut group, came(client, asked(2, 11, 0), 0)),
             client,
             9
         )
     );
-    assert!(rt; receives(&group.next(Some(&Answer::Ok))));
+    assert!(rt; receives(&after(&mut group, Answer::Ok)));
     assert!(rt;
         says(
-            &group.next(Some(&came(first, asked(2, 12, 0), 0))),
+            &after(&mut group, came(first, asked(2, 12, 0), 0)),
             first,
             1
         )
     );
-    assert!(rt; receives(&group.next(Some(&Answer::Ok))));
+    assert!(rt; receives(&after(&mut group, Answer::Ok)));
     assert!(rt;
         says(
-            &group.next(Some(&came(second, asked(2, 12, 0), 0))),
+            &after(&mut group, came(second, asked(2, 12, 0), 0)),
             second,
             1
         )
     );
-    assert!(rt; matches!(group.next(Some(&Answer::Ok)), Some(Call::Exit)));
-    assert!(rt; group.next(Some(&Answer::Ok)).is_none());
+    assert!(rt; matches!(after(&mut group, Answer::Ok), Some(Call::Exit)));
+    assert!(rt; after(&mut group, Answer::Ok).is_none());
     Ok(())
 }
 
@@ -205,9 +215,9 @@ fn nobody_replies(rt: HostRuntime) -> Result<(), Fail> {
     let mut group = Coordinator::new(&pairs(), 1).ok_or("no group")?;
     give_jobs(&rt, &mut group);
     report(&rt, &mut group, first, 1, 0);
-    assert!(rt; receives(&group.next(Some(&Answer::Ok))));
+    assert!(rt; receives(&after(&mut group, Answer::Ok)));
     report(&rt, &mut group, second, 1, 0);
-    assert!(rt; says(&group.next(Some(&Answer::Ok)), PROCESSES.client, 8));
+    assert!(rt; says(&after(&mut group, Answer::Ok), PROCESSES.client, 8));
     Ok(())
 }
 
@@ -216,12 +226,12 @@ fn a_message_that_grants(rt: HostRuntime) -> Result<(), Fail> {
     let client = PROCESSES.client;
     let mut group = Coordinator::new(&pairs(), 1).ok_or("no group")?;
     assert!(rt; receives(&group.next(None)));
-    assert!(rt; loads(&group.next(Some(&came(client, asked(3, 10, 0), 32)))));
-    assert!(rt; says(&group.next(Some(&loaded(1))), client, 2));
-    assert!(rt; receives(&group.next(Some(&Answer::Ok))));
+    assert!(rt; loads(&after(&mut group, came(client, asked(3, 10, 0), 32))));
+    assert!(rt; says(&after(&mut group, loaded(1)), client, 2));
+    assert!(rt; receives(&after(&mut group, Answer::Ok)));
     assert!(rt;
         says(
-            &group.next(Some(&came(client, asked(3, 10, 0), 32))),
+            &after(&mut group, came(client, asked(3, 10, 0), 32)),
             client,
             2
         )
@@ -253,35 +263,40 @@ fn jobs_of_a_helper(rt: HostRuntime) {
     let [member, _other] = PROCESSES.members;
     let mut helper = Helper::new(coordinator, member);
     assert!(rt; sends(&helper.next(None), coordinator, asked(2, 12, 0)));
-    let job = Answer::Replied {
-        message: coded(0, 0),
-    };
-    assert!(rt; loads(&helper.next(Some(&job))));
-    assert!(rt; sends(&helper.next(Some(&loaded(12))), member, plain(12)));
-    let reply = Answer::Replied { message: plain(11) };
-    assert!(rt; stores(&helper.next(Some(&reply)), 11));
+    assert!(rt; loads(&after(&mut helper, replied(coded(0, 0)))));
+    assert!(rt; sends(&after(&mut helper, loaded(12)), member, plain(12)));
+    assert!(rt; stores(&after(&mut helper, replied(plain(11))), 11));
     assert!(rt;
         sends(
-            &helper.next(Some(&Answer::Ok)),
+            &after(&mut helper, Answer::Ok),
             coordinator,
             asked(1, 13, 0)
         )
     );
-    assert!(rt; sends(&helper.next(Some(&job)), coordinator, asked(2, 12, 0)));
-    assert!(rt; loads(&helper.next(Some(&job))));
-    assert!(rt; sends(&helper.next(Some(&loaded(13))), member, plain(13)));
+    assert!(rt;
+        sends(
+            &after(&mut helper, replied(coded(0, 0))),
+            coordinator,
+            asked(2, 12, 0)
+        )
+    );
+    assert!(rt; loads(&after(&mut helper, replied(coded(0, 0)))));
+    assert!(rt; sends(&after(&mut helper, loaded(13)), member, plain(13)));
     let why = Refusal::NoProcess;
     assert!(rt;
         sends(
-            &helper.next(Some(&Answer::Refused { why })),
+            &after(&mut helper, Answer::Refused { why }),
             coordinator,
             asked(1, 13, 1)
         )
     );
-    assert!(rt; sends(&helper.next(Some(&job)), coordinator, asked(2, 12, 0)));
-    let end = Answer::Replied {
-        message: coded(1, 0),
-    };
-    assert!(rt; matches!(helper.next(Some(&end)), Some(Call::Exit)));
-    assert!(rt; helper.next(Some(&Answer::Ok)).is_none());
+    assert!(rt;
+        sends(
+            &after(&mut helper, replied(coded(0, 0))),
+            coordinator,
+            asked(2, 12, 0)
+        )
+    );
+    assert!(rt; matches!(after(&mut helper, replied(coded(1, 0))), Some(Call::Exit)));
+    assert!(rt; after(&mut helper, Answer::Ok).is_none());
 }
