@@ -2,24 +2,27 @@
 ghost use Rattle.std.specs.Prelude.{None};
 
 use crate::ports::{config_of, process};
-use crate::turns::is_up;
 use std::alloc::Global;
 use std::sync::Arc;
-use std::sync::atomic::AtomicBool;
+use std::sync::atomic::AtomicU32;
 use std::sync::atomic::Ordering::SeqCst;
 use std::test::Fail;
+use std::thread::yield_now;
 use vk_base::{Answer, Call, Pid};
 use vk_event::LinkPlan;
 use vk_io::Crew;
 use vk_program::Program;
 use vk_threads::{Assigned, SleepPacer, ThreadCrew, run_programs};
 
-/// A program without calls. It raises its flag and waits for that of the other; then it raises `met`. It gives up after a long while.
+/// What each program adds when it comes, and when it has seen that the other came.
+const COMES: u32 = 1;
+
+const MEETS: u32 = 10;
+
+/// A program without calls. It comes, waits for the other, and tells that it met it. It gives up after a long while.
 #[derive(Drop)]
 struct Meeting {
-    own: Arc<AtomicBool, Global>,
-    other: Arc<AtomicBool, Global>,
-    met: Arc<AtomicBool, Global>,
+    seen: Arc<AtomicU32, Global>,
 }
 
 impl Program for Meeting {
@@ -28,46 +31,23 @@ impl Program for Meeting {
     ghost is_after = { λ p answers. Unit {0} };
 
     fn next(&mut self, _last: Option<&Answer>) -> Option<Call> {
-        self.own.store(true, SeqCst);
-        if is_up(&self.other) {
-            self.met.store(true, SeqCst);
+        self.seen.fetch_add(COMES, SeqCst);
+        if came(&self.seen) {
+            self.seen.fetch_add(MEETS, SeqCst);
         }
         None
     }
 }
 
-/// The two programs, and what each raises where they met.
-#[derive(Drop)]
-struct Both {
-    one: Meeting,
-    two: Meeting,
-    one_met: Arc<AtomicBool, Global>,
-    two_met: Arc<AtomicBool, Global>,
-}
-
-fn flag(alloc: Global) -> Option<Arc<AtomicBool, Global>> {
-    Arc::new(alloc, AtomicBool::new(false)).ok()
-}
-
-fn meetings(alloc: Global) -> Option<Both> {
-    let one = flag(alloc)?;
-    let two = flag(alloc)?;
-    let one_met = flag(alloc)?;
-    let two_met = flag(alloc)?;
-    Some(Both {
-        one: Meeting {
-            own: Arc::try_clone(&one).ok()?,
-            other: Arc::try_clone(&two).ok()?,
-            met: Arc::try_clone(&one_met).ok()?,
-        },
-        two: Meeting {
-            own: two,
-            other: one,
-            met: Arc::try_clone(&two_met).ok()?,
-        },
-        one_met,
-        two_met,
-    })
+/// Whether both come, within a long while.
+fn came(seen: &AtomicU32) -> bool {
+    for _ in 0..10_000_000 {
+        if seen.load(SeqCst) % MEETS >= 2 * COMES {
+            return true;
+        }
+        yield_now();
+    }
+    false
 }
 
 // Both programs are under way at once: one of them alone would not come to its end.
@@ -75,14 +55,18 @@ fn meetings(alloc: Global) -> Option<Both> {
 fn programs_go_on_beside_each_other(rt: HostRuntime) -> Result<(), Fail> {
     let alloc = rt.alloc();
     let config = config_of(alloc, &[process(1, 1), process(2, 1)]).expect(&rt, "a configuration");
-    let both = meetings(alloc).expect(&rt, "flags");
+    let seen = Arc::new(alloc, AtomicU32::new(0)).expect(&rt, "memory");
     let one = Assigned {
         pid: Pid { host: 1, local: 1 },
-        program: both.one,
+        program: Meeting {
+            seen: Arc::try_clone(&seen).expect(&rt, "a share"),
+        },
     };
     let two = Assigned {
         pid: Pid { host: 2, local: 1 },
-        program: both.two,
+        program: Meeting {
+            seen: Arc::try_clone(&seen).expect(&rt, "a share"),
+        },
     };
     assert!(rt; config.has_process(one.pid) && config.has_process(two.pid));
     let plan = LinkPlan {
@@ -98,6 +82,6 @@ fn programs_go_on_beside_each_other(rt: HostRuntime) -> Result<(), Fail> {
     programs.push_reserved(two);
     let record = run_programs(&rt, alloc, config, programs, plan, 0, &mut crew, &mut pacer);
     assert!(rt; record.is_ok() && crew.jobs() == 5);
-    assert!(rt; both.one_met.load(SeqCst) && both.two_met.load(SeqCst));
+    assert!(rt; seen.load(SeqCst) == 2 * (COMES + MEETS));
     Ok(())
 }
