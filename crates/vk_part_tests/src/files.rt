@@ -1,9 +1,9 @@
-//! File servers over disks that fail, driven by hand; what is read ahead, on the disk's record; and a loader.
+//! File servers over disks that fail, driven by hand, and what is read ahead, on the disk's record.
 
 use std::alloc::Global;
 use std::test::Fail;
 use vk_base::{Answer, Call, Data, Message, Pid};
-use vk_files::{Disk, DiskCall, FileServer, Loader, MemoryDisk, SureDisk, Telling, VolumeFault};
+use vk_files::{Disk, DiskCall, FileServer, MemoryDisk, Telling, VolumeFault};
 use vk_program::Program;
 
 const BLOCK: usize = 512;
@@ -201,107 +201,5 @@ fn an_entry_meets_another(rt: HostRuntime) -> Result<(), Fail> {
     };
     assert_eq!(rt; refusal.why, VolumeFault::BadVolume { entry: 1 });
     assert_eq!(rt; refusal.disk.blocks(), 4);
-    Ok(())
-}
-
-#[test]
-fn what_is_not_there(rt: HostRuntime) -> Result<(), Fail> {
-    let alloc = rt.alloc();
-    let Some(blocks) = blocks(alloc, 3) else {
-        return Ok(());
-    };
-    if blocks.len() != 4 {
-        return Ok(());
-    }
-    let Ok(mut server) = FileServer::new(alloc, SureDisk::new(blocks), 7) else {
-        return Ok(());
-    };
-    let _receive = server.next(None);
-    // page 2 of two, the third file of two, a segment that is too short, and a code that asks for nothing
-    assert_eq!(rt; outcome(&mut server, read(2)), Some((1, 0)));
-    assert_eq!(rt; outcome(&mut server, asked(2, 6, 2, 0, 4)), Some((1, 0)));
-    assert_eq!(rt; outcome(&mut server, asked(2, 4, 0, 0, 1)), Some((2, 0)));
-    assert_eq!(rt; outcome(&mut server, asked(2, 7, 0, 0, 4)), Some((2, 0)));
-    // the other file, of 7 bytes
-    assert_eq!(rt; outcome(&mut server, asked(2, 6, 1, 0, 1)), Some((0, 7)));
-    assert_eq!(rt; outcome(&mut server, write(2)), Some((1, 0)));
-    assert_eq!(rt; outcome(&mut server, write(1)), Some((0, 0)));
-    // the last of its seven replies
-    assert!(rt; matches!(server.next(None), Some(Call::Exit)));
-    assert!(rt; server.next(Some(&Answer::Ok)).is_none());
-    Ok(())
-}
-
-#[test]
-fn a_move_fails(rt: HostRuntime) -> Result<(), Fail> {
-    let alloc = rt.alloc();
-    let Some(blocks) = blocks(alloc, 3) else {
-        return Ok(());
-    };
-    if blocks.len() != 4 {
-        return Ok(());
-    }
-    let Ok(mut server) = FileServer::new(alloc, SureDisk::new(blocks), 7) else {
-        return Ok(());
-    };
-    let Some(from) = Pid::new(2, 1) else {
-        return Ok(());
-    };
-    let _receive = server.next(None);
-    let came = Answer::ReceivedSegment {
-        from,
-        message: load(),
-        count: 0,
-    };
-    let _first = server.next(Some(&came));
-    let _second = server.next(Some(&Answer::Ok));
-    let call = server.next(Some(&Answer::Ok));
-    assert!(rt;
-        matches!(
-            call,
-            Some(Call::MoveTo {
-                dest: 7,
-                src: 0,
-                count: 1000,
-                ..
-            })
-        )
-    );
-    let gone = Answer::Refused {
-        why: vk_base::Refusal::Gone,
-    };
-    let call = server.next(Some(&gone));
-    assert!(rt; matches!(call, Some(Call::Reply { message, .. }) if message.0[1] == 4));
-    Ok(())
-}
-
-#[test]
-fn a_loader(rt: HostRuntime) -> Result<(), Fail> {
-    let Some(server) = Pid::new(1, 1) else {
-        return Ok(());
-    };
-    let mut loader = Loader::new(server, 12);
-    let opening = Message([
-        0, 3, 0, 0, b'f', b'1', b'2', 0, 0, 0, 0, 0, 0, 0, 0, 0, 0, 0, 0, 0, 0, 0, 0, 0, 0, 0, 0,
-        0, 0, 0, 0, 0,
-    ]);
-    let loading = Message([
-        2, 6, 0, 0, 0, 0, 0, 12, 0, 0, 0, 0, 0, 0, 0, 0, 0, 0, 0, 0, 0, 0, 0, 0, 0, 0, 0, 0, 0, 1,
-        0, 0,
-    ]);
-    let open = loader.next(None);
-    assert!(rt; matches!(open, Some(Call::Send { message, .. }) if message == opening));
-    let load = loader.next(Some(&Answer::Ok));
-    assert!(rt; matches!(load, Some(Call::Send { message, .. }) if message == loading));
-    assert!(rt;
-        matches!(
-            loader.next(Some(&Answer::Ok)),
-            Some(Call::Load {
-                start: 64_512,
-                count: 1_024
-            })
-        )
-    );
-    assert!(rt; loader.next(Some(&Answer::Ok)).is_none());
     Ok(())
 }

@@ -9,8 +9,6 @@ mod events;
 #[cfg(test)]
 mod files;
 #[cfg(test)]
-mod groups;
-#[cfg(test)]
 mod lines;
 #[cfg(test)]
 mod pages;

@@ -1,4 +1,4 @@
-//! A read that waits, a write that waits, a read that was given up, and the end of a pipe, call by call.
+//! A read that was given up, and the end of a pipe, call by call.
 
 use std::test::Fail;
 use vk_base::{Answer, Call, Data, Message, Pid, Refusal};
@@ -64,10 +64,6 @@ fn receives(call: &Option<Call>) -> bool {
     )
 }
 
-fn loads(call: &Option<Call>, wanted: u32) -> bool {
-    matches!(call, Some(Call::Load { start: 0, count }) if *count == wanted)
-}
-
 fn stores(call: &Option<Call>, wanted: &[u8]) -> bool {
     matches!(call, Some(Call::Store { start: 0, bytes }) if bytes.as_slice() == wanted)
 }
@@ -102,49 +98,6 @@ fn gives(call: &Option<Call>, target: Pid, number: u16) -> bool {
         ) => *to == target && *count == u32::from(number) && says(*message, 0, number),
         _ => false,
     }
-}
-
-#[test]
-fn a_read_waits_for_bytes(rt: HostRuntime) -> Result<(), Fail> {
-    let (Some(reader), Some(writer)) = (Pid::new(2, 1), Pid::new(3, 1)) else {
-        return Ok(());
-    };
-    let made = PipeServer::new(rt.alloc(), 2);
-    assert!(rt; made.is_ok());
-    let Ok(mut server) = made else {
-        return Ok(());
-    };
-    assert!(rt; receives(&server.next(None)));
-    assert!(rt; receives(&after(&mut server, reads(reader))));
-    assert!(rt; loads(&after(&mut server, writes(writer, 3)), 3));
-    assert!(rt; replies(&after(&mut server, loaded(&[1, 2, 3])), writer, 0, 3));
-    assert!(rt; stores(&after(&mut server, Answer::Ok), &[1, 2, 3]));
-    assert!(rt; gives(&after(&mut server, Answer::Ok), reader, 3));
-    assert!(rt; matches!(after(&mut server, Answer::Ok), Some(Call::Exit)));
-    assert!(rt; after(&mut server, Answer::Ok).is_none());
-    Ok(())
-}
-
-#[test]
-fn a_write_waits_for_room(rt: HostRuntime) -> Result<(), Fail> {
-    let (Some(reader), Some(writer)) = (Pid::new(2, 1), Pid::new(3, 1)) else {
-        return Ok(());
-    };
-    let Ok(mut server) = PipeServer::new(rt.alloc(), 9) else {
-        return Ok(());
-    };
-    let _receive = server.next(None);
-    for byte in 0..4 {
-        let _load = after(&mut server, writes(writer, 512));
-        assert!(rt; replies(&after(&mut server, loaded(&[byte; 512])), writer, 0, 512));
-        assert!(rt; receives(&after(&mut server, Answer::Ok)));
-    }
-    let _load = after(&mut server, writes(writer, 512));
-    assert!(rt; receives(&after(&mut server, loaded(&[4; 512]))));
-    assert!(rt; stores(&after(&mut server, reads(reader)), &[0; 512]));
-    assert!(rt; gives(&after(&mut server, Answer::Ok), reader, 512));
-    assert!(rt; replies(&after(&mut server, Answer::Ok), writer, 0, 512));
-    Ok(())
 }
 
 #[test]
