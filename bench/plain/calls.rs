@@ -1,7 +1,7 @@
 //! What calls do at their station.
 
 use crate::head::Config;
-use crate::station::{Moving, Stage, State, Station, Work};
+use crate::station::{Moving, Stage, State, Station, Work, OWN_SENDERS};
 use crate::telling::Telling;
 use crate::values::{lies_in, Answer, Call, Message, Pid, Places, Registration, Scope, DATA_BYTES, MOVE_BYTES, SEGMENT_BYTES};
 
@@ -16,13 +16,13 @@ impl Station {
         if sender.host() == self.host {
             let place = self.own(config, sender)?;
             match self.processes[place].state {
-                State::SendingHere { target, is_taken: true } if usize::from(target) == holder => Some(Held::Own(place)),
+                State::SendingHere { at, is_taken: true } if usize::from(at) == holder => Some(Held::Own(place)),
                 _ => None,
             }
         } else {
             let slot = self.slot_of(sender)?;
             let alien = &self.aliens[slot];
-            if alien.stage == Stage::Taken && usize::from(alien.target) == holder {
+            if alien.stage == Stage::Taken && usize::from(alien.at) == holder {
                 Some(Held::Alien(slot))
             } else {
                 None
@@ -86,6 +86,7 @@ impl Station {
                     Ok(held) => self.reply(caller, &held, message, places, line, out),
                 }
             }
+            Call::Forward { message, from, to } => self.forward(config, caller, message, *from, *to, line, out),
             Call::MoveTo { partner, places } => {
                 let granted = self.granted(config, caller, *partner, MOVE_BYTES, places.count, |message| {
                     (message.grants_write(), message.grants(places.dest, places.count))
@@ -121,7 +122,7 @@ impl Station {
                 }
             }
             Call::SetPid { logical, pid, scope } => {
-                if !self.own(config, *pid).is_some_and(|place| self.processes[place].is_alive) {
+                if self.live(config, *pid).is_none() {
                     out.called(b"noprocess\n", line);
                 } else if self.names.is_full_for(*logical) {
                     out.called(b"namesfull\n", line);
@@ -174,13 +175,14 @@ impl Station {
             return out.called(b"badsegment\n", line);
         }
         let is_here = target.host() == self.host;
-        let place = if is_here { self.own(config, target).filter(|&place| self.processes[place].is_alive) } else { None };
+        let place = self.live(config, target);
         if is_here && place.is_none() {
             return out.called(b"noprocess\n", line);
         }
         let process = &mut self.processes[caller];
         process.sends += 1;
         process.message = *message;
+        process.shown = *message;
         process.part.clear();
         let (start, behind) = message.part();
         if start < behind {
@@ -188,7 +190,7 @@ impl Station {
         }
         out.called(b"begun\n", line);
         if let Some(place) = place {
-            process.state = State::SendingHere { target: place as u8, is_taken: false };
+            process.state = State::SendingHere { at: place as u8, is_taken: false };
             self.enqueue(place, caller);
             self.take(place, out);
         } else {
@@ -226,9 +228,33 @@ impl Station {
                     let bytes = &process.memory[places.src as usize..(places.src + places.count) as usize];
                     alien.reply_bytes.extend_from_slice(bytes);
                 }
-                alien.tell(process.pid, out);
+                alien.tell(out);
             }
         }
+    }
+
+    /// Hands a message that is held on to another process of the station.
+    #[allow(clippy::too_many_arguments)]
+    fn forward(&mut self, config: &Config, caller: usize, message: &Message, from: Pid, to: Pid, line: &[u8], out: &mut Telling) {
+        let Some(held) = self.held(config, caller, from) else { return out.called(b"notawaiting\n", line) };
+        let Some(to) = self.live(config, to) else { return out.called(b"noprocess\n", line) };
+        out.called(b"ok\n", line);
+        let sender = match held {
+            Held::Own(sender) => {
+                self.processes[sender].state = State::SendingHere { at: to as u8, is_taken: false };
+                self.processes[sender].shown = *message;
+                sender
+            }
+            Held::Alien(slot) => {
+                let alien = &mut self.aliens[slot];
+                alien.stage = Stage::Queued;
+                alien.at = to as u8;
+                alien.shown = *message;
+                OWN_SENDERS + slot
+            }
+        };
+        self.enqueue(to, sender);
+        self.take(to, out);
     }
 
     /// The message that the caller holds of this sender, where it grants what is asked for.
@@ -279,7 +305,7 @@ impl Station {
         self.processes[caller].is_alive = false;
         self.drop_queue(caller);
         for process in &mut self.processes {
-            if matches!(process.state, State::SendingHere { target, .. } if usize::from(target) == caller) {
+            if matches!(process.state, State::SendingHere { at, .. } if usize::from(at) == caller) {
                 process.state = State::Done(Answer::Refused("noprocess"));
             }
         }
@@ -288,7 +314,7 @@ impl Station {
             if alien.is_at(caller) {
                 alien.stage = Stage::Dropped;
                 alien.closed = Some(self.now);
-                alien.tell(pid, out);
+                alien.tell(out);
             }
         }
     }

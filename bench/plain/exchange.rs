@@ -30,10 +30,12 @@ pub struct Exchange {
     pub sender: u32,
     pub number: u64,
     pub target: Pid,
-    /// The place of its target, where that is in the configuration.
-    pub target_place: u32,
     pub message: Message,
     pub part: Vec<u8>,
+    /// The place of the process in whose queue it waits or that took it last, and the message that this one is shown: the target, where that
+    /// is in the configuration, and the message of the Send, until a Forward.
+    pub at: u32,
+    pub shown: Message,
     pub stage: Stage,
     pub reply: Message,
     pub reply_dest: u32,
@@ -59,9 +61,10 @@ impl Exchange {
             sender,
             number: 0,
             target: Pid(0),
-            target_place: NONE,
             message: Message::ZERO,
             part: Vec::new(),
+            at: NONE,
+            shown: Message::ZERO,
             stage: Stage::Dropped,
             reply: Message::ZERO,
             reply_dest: 0,

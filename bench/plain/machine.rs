@@ -104,8 +104,9 @@ impl<'a> Machine<'a> {
 
     // Words for the state.
 
-    fn find(&self, pid: Pid) -> Option<&Process> {
-        self.config.process(pid).map(|place| &self.processes[place])
+    /// The place of a live process of this station.
+    fn live_there(&self, station: usize, pid: Pid) -> Option<usize> {
+        self.config.process(pid).filter(|&place| self.processes[place].station == station && self.processes[place].is_alive)
     }
 
     /// The exchange of this name, where it is kept.
@@ -141,7 +142,7 @@ impl<'a> Machine<'a> {
             if matches!(kept.stage, Stage::Replied | Stage::Dropped) && kept.mover == NONE {
                 return last;
             }
-            if kept.stage == Stage::Posted && kept.target_place == NONE {
+            if kept.stage == Stage::Posted && kept.at == NONE {
                 return last;
             }
             self.others.insert((sender as u32, kept.number), last);
@@ -171,7 +172,7 @@ impl<'a> Machine<'a> {
         let kept = &mut self.exchanges[exchange as usize];
         kept.next = NONE;
         kept.stage = Stage::Queued;
-        let target = &mut self.processes[kept.target_place as usize];
+        let target = &mut self.processes[kept.at as usize];
         self.arrived[kept.sender as usize * STATIONS + target.station] = exchange;
         let before = target.queue_last;
         target.queue_last = exchange;
@@ -184,7 +185,7 @@ impl<'a> Machine<'a> {
 
     fn dequeue(&mut self, exchange: u32) {
         let next = self.exchanges[exchange as usize].next;
-        let target = self.exchanges[exchange as usize].target_place as usize;
+        let target = self.exchanges[exchange as usize].at as usize;
         let mut before = NONE;
         let mut at = self.processes[target].queue_first;
         while at != exchange {
@@ -208,7 +209,7 @@ impl<'a> Machine<'a> {
         let sender = self.config.process(sender)?;
         let exchange = self.arrived[sender * STATIONS + self.processes[holder].station];
         let kept = self.exchanges.get(exchange as usize)?;
-        if kept.stage == Stage::Taken && kept.target_place as usize == holder {
+        if kept.stage == Stage::Taken && kept.at as usize == holder {
             Some(exchange)
         } else {
             None
@@ -255,6 +256,7 @@ impl<'a> Machine<'a> {
                 Err(why) => refused(why),
                 Ok(exchange) => self.reply(caller, exchange, message, places),
             },
+            Call::Forward { message, from, to } => self.forward(caller, message, *from, *to),
             Call::MoveTo { partner, places } => match self.granted(caller, *partner, MOVE_BYTES, places, false) {
                 Err(why) => refused(why),
                 Ok(exchange) => self.begin_move(caller, exchange, places, false),
@@ -265,7 +267,7 @@ impl<'a> Machine<'a> {
             },
             Call::SetPid { logical, pid, scope } => {
                 let station = process.station;
-                let is_there = pid.host() == process.pid.host() && self.find(*pid).is_some_and(|named| named.is_alive);
+                let is_there = self.live_there(station, *pid).is_some();
                 let names = &mut self.names[station];
                 if !is_there {
                     refused("noprocess")
@@ -332,8 +334,9 @@ impl<'a> Machine<'a> {
         kept.sender = caller as u32;
         kept.number = process.sends;
         kept.target = target;
-        kept.target_place = target_place.map_or(NONE, |place| place as u32);
         kept.message = *message;
+        kept.at = target_place.map_or(NONE, |place| place as u32);
+        kept.shown = *message;
         kept.part.clear();
         let (start, behind) = message.part();
         if start < behind {
@@ -377,6 +380,17 @@ impl<'a> Machine<'a> {
             kept.reply_bytes.extend_from_slice(&process.memory[places.src as usize..(places.src + places.count) as usize]);
         }
         self.give_up(exchange);
+        Ok(Some(Answer::Ok))
+    }
+
+    /// Hands a message that is held on to another process of the station.
+    fn forward(&mut self, caller: usize, message: &Message, from: Pid, to: Pid) -> Applied {
+        let Some(exchange) = self.held(caller, from) else { return refused("notawaiting") };
+        let Some(to) = self.live_there(self.processes[caller].station, to) else { return refused("noprocess") };
+        let kept = &mut self.exchanges[exchange as usize];
+        kept.at = to as u32;
+        kept.shown = *message;
+        self.enqueue(exchange);
         Ok(Some(Answer::Ok))
     }
 
@@ -443,7 +457,7 @@ impl<'a> Machine<'a> {
         let station = self.processes[caller].station;
         for sender in 0..self.processes.len() {
             let exchange = self.arrived[sender * STATIONS + station];
-            if exchange == NONE || self.exchanges[exchange as usize].target_place as usize != caller {
+            if exchange == NONE || self.exchanges[exchange as usize].at as usize != caller {
                 continue;
             }
             self.arrived[sender * STATIONS + station] = NONE;
@@ -469,7 +483,7 @@ impl<'a> Machine<'a> {
         let Some(sender) = self.config.process(sender) else { return NOT_ALLOWED };
         let Some(exchange) = self.exchange(sender, number) else { return NOT_ALLOWED };
         let kept = &self.exchanges[exchange as usize];
-        let Some(target) = self.processes.get(kept.target_place as usize) else { return NOT_ALLOWED };
+        let Some(target) = self.processes.get(kept.at as usize) else { return NOT_ALLOWED };
         if kept.stage != Stage::Posted || !target.is_alive {
             return NOT_ALLOWED;
         }
@@ -506,11 +520,11 @@ impl<'a> Machine<'a> {
         let Some(kept) = self.exchanges.get_mut(process.queue_first as usize) else { return NOT_ALLOWED };
         let sender = self.config.processes[kept.sender as usize].0;
         let answer = match process.state {
-            State::Receiving => Answer::Received(sender, kept.message),
+            State::Receiving => Answer::Received(sender, kept.shown),
             State::ReceivingSegment { start, count } => {
                 let count = (count as usize).min(kept.part.len());
                 process.memory[start as usize..start as usize + count].copy_from_slice(&kept.part[..count]);
-                Answer::ReceivedSegment(sender, kept.message, count as u32)
+                Answer::ReceivedSegment(sender, kept.shown, count as u32)
             }
             _ => return NOT_ALLOWED,
         };
@@ -539,7 +553,7 @@ impl<'a> Machine<'a> {
         UNSEEN
     }
 
-    /// A Send fails: it timed out, or else its target is not alive.
+    /// A Send fails: it timed out, or else the process that has its message is not alive.
     pub fn fail(&mut self, sender: Pid, is_timed_out: bool) -> Applied {
         let Some(sender) = self.config.process(sender) else { return NOT_ALLOWED };
         let process = &self.processes[sender];
@@ -547,8 +561,8 @@ impl<'a> Machine<'a> {
             return NOT_ALLOWED;
         }
         let kept = &mut self.exchanges[process.last as usize];
-        let is_target_alive = self.processes.get(kept.target_place as usize).is_some_and(|target| target.is_alive);
-        if process.pid.host() == kept.target.host() || !is_timed_out && is_target_alive {
+        let is_holder_alive = self.processes.get(kept.at as usize).is_some_and(|holder| holder.is_alive);
+        if process.pid.host() == kept.target.host() || !is_timed_out && is_holder_alive {
             return NOT_ALLOWED;
         }
         // the bytes of an open move from this sender are noted before its memory can change
@@ -599,7 +613,7 @@ impl<'a> Machine<'a> {
         if u64::from(offset) + u64::from(count) > u64::from(total) {
             return NOT_ALLOWED;
         }
-        let mover = kept.target_place as usize;
+        let mover = kept.mover as usize;
         let is_mover_in = kept.mover != NONE && self.processes[mover].moving == moving;
         let (from, into) = if open.is_from { (sender, mover) } else { (mover, sender) };
         let is_allowed = if open.is_from {

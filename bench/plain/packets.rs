@@ -1,7 +1,7 @@
 //! What the packets that come amount to at a station.
 
 use crate::head::Config;
-use crate::station::{State, Station, Work, LIFE};
+use crate::station::{State, Station, Work};
 use crate::telling::Telling;
 use crate::values::{Answer, Message, Pid, Places, DATA_BYTES};
 use crate::wire::{decode, open, Packet, EVERY_STATION, HEADER_BYTES};
@@ -19,7 +19,7 @@ impl Station {
             return self.end(out);
         };
         let is_for = (header.destination == self.host || header.destination == EVERY_STATION) && header.source != self.host;
-        let is_young = self.now <= header.stamp + LIFE;
+        let is_young = self.now <= header.stamp + self.times.life;
         let packet = if is_for && is_young { decode(&bytes[HEADER_BYTES..], end, &header) } else { None };
         self.begin(header.number, out);
         if let Some(packet) = packet {
@@ -65,7 +65,7 @@ impl Station {
             Packet::MoveData { from, to, number, moving, dest, total, offset, bytes } => {
                 let Some(place) = self.own(config, to) else { return };
                 let process = &mut self.processes[place];
-                if !process.awaits(from, number) {
+                if !process.awaits_station(from.host(), number) {
                     if number <= process.sends {
                         out.move_negative(to, from, number, moving);
                     }
@@ -93,7 +93,7 @@ impl Station {
             Packet::MoveRequest { from, to, number, moving, src, total, offset } => {
                 let Some(place) = self.own(config, to) else { return };
                 let process = &mut self.processes[place];
-                if !process.awaits(from, number) {
+                if !process.awaits_station(from.host(), number) {
                     if number <= process.sends {
                         out.move_negative(to, from, number, moving);
                     }
@@ -189,11 +189,10 @@ impl Station {
             }
             if alien.number == number {
                 alien.newest = alien.newest.max(stamp);
-                let target = self.processes[usize::from(alien.target)].pid;
-                return alien.tell(target, out);
+                return alien.tell(out);
             }
         }
-        let Some(target) = self.own(config, to).filter(|&place| self.processes[place].is_alive) else {
+        let Some(target) = self.live(config, to) else {
             return out.negative(to, from, number);
         };
         let Some(slot) = slot.or_else(|| self.free_slot()) else {

@@ -110,7 +110,7 @@ impl Program {
     }
 }
 
-/// Calls in order, each as its line in a schedule without the line feed.
+/// Calls in order, each as its line in a schedule.
 #[derive(Default)]
 pub struct Script {
     lines: Vec<Vec<u8>>,
@@ -130,7 +130,7 @@ impl Script {
         let Some(line) = self.lines.get(self.at) else { return false };
         self.at += 1;
         made.line.clear();
-        made.line.extend_from_slice(line);
+        made.line.extend_from_slice(&line[..line.len() - 1]);
         let mut reader = Reader::new(line);
         let call = reader.skip(b"call ").and_then(|()| reader.pid()).and_then(|_| reader.space()).and_then(|()| reader.call());
         made.call = call.unwrap_or(Call::Exit);

@@ -1,13 +1,11 @@
 //! The schedule and its report.
 
-use crate::head::{read_head, Config};
+use crate::head::{read_opening, Config};
 use crate::station::Station;
 use crate::telling::Telling;
 use crate::text::Reader;
 use crate::values::Call;
 use crate::Ending;
-
-const TITLE: &[u8] = b"vkernel 1\n";
 
 const EVENTS: usize = 100_000;
 /// An event is refused behind more bytes of frames.
@@ -54,12 +52,13 @@ fn read_event(reader: &mut Reader, config: &Config) -> Option<Event> {
 /// The report or the trace of a schedule, as far as it goes.
 pub fn replay(text: &[u8], is_trace: bool) -> (Vec<u8>, Ending) {
     let mut reader = Reader::new(text);
-    let Some(config) = read_head(&mut reader, TITLE) else {
-        return (Vec::new(), Ending::BadLine(1));
+    let config = match read_opening(&mut reader, b"vkernel ") {
+        Ok(config) => config,
+        Err(line) => return (Vec::new(), Ending::BadLine(line)),
     };
     let mut out = Telling::new(is_trace);
     if is_trace {
-        out.report.text.extend_from_slice(reader.since(TITLE.len()));
+        out.report.text.extend_from_slice(&text[config.listed.clone()]);
     }
     let mut stations: Vec<Station> = config.hosts.iter().map(|&host| Station::new(&config, host)).collect();
     let mut events = 0;
@@ -68,7 +67,7 @@ pub fn replay(text: &[u8], is_trace: bool) -> (Vec<u8>, Ending) {
         let start = reader.place();
         let event = read_event(&mut reader, &config);
         let Some(event) = event else {
-            return (Vec::new(), Ending::BadLine(config.processes.len() + events + 2));
+            return (Vec::new(), Ending::BadLine(config.lines + events + 1));
         };
         if events == EVENTS {
             return (Vec::new(), Ending::Limit);

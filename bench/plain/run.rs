@@ -5,7 +5,7 @@ use std::sync::Mutex;
 use std::thread::{sleep, yield_now};
 use std::time::Duration;
 
-use crate::head::Config;
+use crate::head::{Config, USUAL_POOL};
 use crate::hub::{locked, Fetched, Full, Hub};
 use crate::programs::{Last, Made, Program};
 use crate::scenario::{read_scenario, Scenario};
@@ -302,19 +302,42 @@ fn schedule(place: &Workplace) -> Vec<u8> {
         keys.extend(log.lines.iter().enumerate().map(|(line, &(number, _))| (number, station, line)));
     }
     keys.sort_unstable();
-    let mut text = b"vkernel 1\n".to_vec();
-    text.reserve(logs.iter().map(|log| log.text.len()).sum::<usize>() + 24 * place.config.processes.len());
-    for &(pid, size) in &place.config.processes {
+    let mut text = opening(&place.config);
+    text.reserve(logs.iter().map(|log| log.text.len()).sum());
+    for (_, station, line) in keys {
+        let log = logs[station];
+        let start = if line == 0 { 0 } else { log.lines[line - 1].1 };
+        text.extend_from_slice(&log.text[start..log.lines[line].1]);
+    }
+    text
+}
+
+/// The lines of a configuration, in format 1 where that tells all of it.
+fn opening(config: &Config) -> Vec<u8> {
+    let is_usual = config.is_usual();
+    let mut text = if is_usual { b"vkernel 1\n".to_vec() } else { b"vkernel 2\ntimes".to_vec() };
+    if !is_usual {
+        for number in [u64::from(config.times.tries), config.times.interval, config.times.life] {
+            text.push(b' ');
+            put_decimal(&mut text, number);
+        }
+        text.push(b'\n');
+    }
+    for &(pid, size) in &config.processes {
         text.extend_from_slice(b"process ");
         put_pid(&mut text, pid);
         text.push(b' ');
         put_decimal(&mut text, u64::from(size));
         text.push(b'\n');
     }
-    for (_, station, line) in keys {
-        let log = logs[station];
-        let start = if line == 0 { 0 } else { log.lines[line - 1].1 };
-        text.extend_from_slice(&log.text[start..log.lines[line].1]);
+    for (&host, &pool) in config.hosts.iter().zip(&config.pools) {
+        if pool != USUAL_POOL {
+            text.extend_from_slice(b"pool ");
+            put_decimal(&mut text, u64::from(host));
+            text.push(b' ');
+            put_decimal(&mut text, u64::from(pool));
+            text.push(b'\n');
+        }
     }
     text
 }

@@ -1,11 +1,10 @@
 //! Scenarios: what the processes of a configuration do, the links between stations, and the rounds of the clock.
 
-use crate::head::{read_head, Config};
+use crate::head::{read_opening, Config};
 use crate::programs::{Client, Program, Script, Server, PAGE_BYTES};
 use crate::text::Reader;
 use crate::values::Pid;
 
-const TITLE: &[u8] = b"vkernel scenario 1\n";
 const PAGES: u64 = 4_096;
 const TICKS: u64 = 50_000;
 
@@ -28,8 +27,8 @@ pub struct Scenario {
 /// The scenario of a text, or its first bad line.
 pub fn read_scenario(text: &[u8]) -> Result<Scenario, usize> {
     let mut reader = Reader::new(text);
-    let config = read_head(&mut reader, TITLE).ok_or(1_usize)?;
-    let mut line = config.processes.len() + 2;
+    let config = read_opening(&mut reader, b"vkernel scenario ")?;
+    let mut line = config.lines + 1;
     if config.processes.is_empty() {
         return Err(line);
     }
@@ -80,7 +79,7 @@ fn task_line(reader: &mut Reader, config: &Config, programs: &mut [Program]) -> 
         reader.call()?;
         let line = reader.since(start);
         let Program::Script(script) = &mut programs[config.process(pid)?] else { return None };
-        script.push([b"call ", &line[..line.len() - 1]].concat());
+        script.push([b"call ", line].concat());
         Some(())
     } else {
         reader.skip(b"program ")?;

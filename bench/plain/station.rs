@@ -1,19 +1,13 @@
 //! A station: its processes, its aliens and its clock; and what collects, ticks and arrivals do. Its calls are in `calls`, what
 //! packets do in `packets`.
 
-use crate::head::Config;
+use crate::head::{Config, Times, POOL};
 use crate::telling::Telling;
 use crate::values::{Answer, Message, Names, Pid, Places};
 use crate::wire::{Header, Outputs, EVERY_STATION};
 
-const TRIES: u32 = 5;
-const INTERVAL: u64 = 4;
-pub const LIFE: u64 = 8;
-const POOL: usize = 16;
-/// So many ticks behind its closing and its newest copy an alien is kept.
-const SPAN: u64 = TRIES as u64 * INTERVAL + 2 * LIFE;
 /// A sender in a queue is one of the processes, or behind these an alien.
-const OWN_SENDERS: usize = 32;
+pub const OWN_SENDERS: usize = 32;
 const NOBODY: u8 = 255;
 
 pub enum State {
@@ -23,9 +17,9 @@ pub enum State {
         start: u32,
         count: u32,
     },
-    /// Blocked in a Send to a process of the station, by its place.
+    /// Blocked in a Send to a process of the station. Its message waits at the process with this place, or was taken by it last.
     SendingHere {
-        target: u8,
+        at: u8,
         is_taken: bool,
     },
     /// Blocked in a Send to a process of another station.
@@ -75,10 +69,12 @@ pub struct Process {
     pub state: State,
     pub sends: u64,
     pub lookups: u64,
-    /// Of its last Send: target, message and first part, the open move and how many bytes of it are done.
+    /// Of its last Send: target, message and first part, the message that a process of the station is shown, the open move and how many
+    /// bytes of it are done.
     pub target: Pid,
     pub message: Message,
     pub part: Vec<u8>,
+    pub shown: Message,
     pub opened: u64,
     pub done: u32,
     pub moving: Moving,
@@ -100,6 +96,7 @@ impl Process {
             target: pid,
             message: Message::ZERO,
             part: Vec::new(),
+            shown: Message::ZERO,
             opened: 0,
             done: 0,
             moving: Moving { partner: pid, number: 0, moving: 0 },
@@ -113,6 +110,12 @@ impl Process {
     #[inline]
     pub fn awaits(&self, target: Pid, number: u64) -> bool {
         matches!(self.state, State::SendingThere) && self.sends == number && self.target == target
+    }
+
+    /// It is blocked in its remote Send of this number to a process of this station, where its message may have been handed on.
+    #[inline]
+    pub fn awaits_station(&self, host: u16, number: u64) -> bool {
+        matches!(self.state, State::SendingThere) && self.sends == number && self.target.host() == host
     }
 
     /// The remote move in which it is blocked is this one.
@@ -142,10 +145,13 @@ pub struct Alien {
     pub newest: u64,
     pub closed: Option<u64>,
     pub stage: Stage,
-    /// Its target's place.
-    pub target: u8,
+    /// Target, message and first part of the Send.
+    pub target: Pid,
     pub message: Message,
     pub part: Vec<u8>,
+    /// The place of the process at which it waits or that took it last, and the message that this one is shown.
+    pub at: u8,
+    pub shown: Message,
     /// The remote moves that were begun.
     pub moves: u64,
     pub reply: Message,
@@ -161,9 +167,11 @@ impl Alien {
             newest: 0,
             closed: None,
             stage: Stage::Dropped,
-            target: 0,
+            target: Pid(0),
             message: Message::ZERO,
             part: Vec::new(),
+            at: 0,
+            shown: Message::ZERO,
             moves: 0,
             reply: Message::ZERO,
             reply_dest: 0,
@@ -172,12 +180,13 @@ impl Alien {
     }
 
     pub fn is_at(&self, process: usize) -> bool {
-        self.sender.is_some() && usize::from(self.target) == process && matches!(self.stage, Stage::Queued | Stage::Taken)
+        self.sender.is_some() && usize::from(self.at) == process && matches!(self.stage, Stage::Queued | Stage::Taken)
     }
 }
 
 pub struct Station {
     pub host: u16,
+    pub times: Times,
     pub now: u64,
     number: u64,
     events: u64,
@@ -194,14 +203,16 @@ pub struct Station {
 impl Station {
     pub fn new(config: &Config, host: u16) -> Station {
         let is_own = |(pid, _): &(Pid, u32)| pid.host() == host;
+        let pool = config.station(host).map_or(0, |station| config.pools[station]);
         Station {
             host,
+            times: config.times,
             now: 0,
             number: 0,
             events: 0,
             first: config.processes.iter().position(is_own).unwrap_or(0),
             processes: config.processes.iter().filter(|own| is_own(own)).map(|&(pid, size)| Process::new(pid, size)).collect(),
-            aliens: (0..POOL).map(|_| Alien::free()).collect(),
+            aliens: (0..pool).map(|_| Alien::free()).collect(),
             names: Names::default(),
             next: [NOBODY; OWN_SENDERS + POOL],
             outputs: Vec::new(),
@@ -216,6 +227,12 @@ impl Station {
         } else {
             None
         }
+    }
+
+    /// The place of a live process of this station.
+    #[inline]
+    pub fn live(&self, config: &Config, pid: Pid) -> Option<usize> {
+        self.own(config, pid).filter(|&place| self.processes[place].is_alive)
     }
 
     /// The place here of a process that is told by its place among all processes.
@@ -312,13 +329,13 @@ impl Station {
         self.processes[taker].queue_first = self.next[first];
         if first < OWN_SENDERS {
             let Ok([process, sender]) = self.processes.get_disjoint_mut([taker, first]) else { return };
-            sender.state = State::SendingHere { target: taker as u8, is_taken: true };
-            taken(process, sender.pid, &sender.message, &sender.part);
+            sender.state = State::SendingHere { at: taker as u8, is_taken: true };
+            taken(process, sender.pid, &sender.shown, &sender.part);
         } else {
             let alien = &mut self.aliens[first - OWN_SENDERS];
             alien.stage = Stage::Taken;
             let Some(sender) = alien.sender else { return };
-            taken(&mut self.processes[taker], sender, &alien.message, &alien.part);
+            taken(&mut self.processes[taker], sender, &alien.shown, &alien.part);
         }
         out.report.step_of(b"take ", self.processes[taker].pid);
     }
@@ -344,16 +361,17 @@ impl Station {
 
     pub fn tick(&mut self, out: &mut Telling) {
         let now = self.now;
+        let span = self.times.span();
         out.report.answer_tick(now);
         let mut due = [0; OWN_SENDERS];
         let mut count = 0;
         for (place, process) in self.processes.iter_mut().enumerate() {
             let is_work =
                 matches!(process.state, State::SendingThere | State::MovingTo(_) | State::MovingFrom(_) | State::Asking { .. });
-            if !is_work || now != process.work.since + INTERVAL {
+            if !is_work || now != process.work.since + self.times.interval {
                 continue;
             }
-            if process.work.rounds < TRIES {
+            if process.work.rounds < self.times.tries {
                 due[count] = place;
                 count += 1;
                 continue;
@@ -382,7 +400,7 @@ impl Station {
             process.work.is_fresh = false;
         }
         for alien in &mut self.aliens {
-            if alien.closed.is_some_and(|closed| closed.max(alien.newest) + SPAN < now) {
+            if alien.closed.is_some_and(|closed| closed.max(alien.newest) + span < now) {
                 alien.sender = None;
                 alien.closed = None;
             }
@@ -416,7 +434,7 @@ impl Station {
     ) {
         out.report.step_numbers(b"arrive ", sender, &[number]);
         if self.aliens[slot].sender.is_some() && self.aliens[slot].stage == Stage::Queued {
-            self.dequeue(usize::from(self.aliens[slot].target), OWN_SENDERS + slot);
+            self.dequeue(usize::from(self.aliens[slot].at), OWN_SENDERS + slot);
         }
         let alien = &mut self.aliens[slot];
         alien.sender = Some(sender);
@@ -424,8 +442,10 @@ impl Station {
         alien.newest = stamp;
         alien.closed = None;
         alien.stage = Stage::Queued;
-        alien.target = target as u8;
+        alien.target = self.processes[target].pid;
         alien.message = *message;
+        alien.at = target as u8;
+        alien.shown = *message;
         alien.part.clear();
         if !part.is_empty() {
             alien.part.extend_from_slice(part);
@@ -437,13 +457,13 @@ impl Station {
 }
 
 impl Alien {
-    /// What its sender is told, of which its target has this pid.
-    pub fn tell(&self, target: Pid, out: &mut Telling) {
+    /// What its sender is told, in the name of its target, whoever has the message.
+    pub fn tell(&self, out: &mut Telling) {
         let Some(sender) = self.sender else { return };
         match self.stage {
-            Stage::Queued | Stage::Taken => out.pending(target, sender, self.number),
-            Stage::Replied => out.reply(target, sender, self.number, &self.reply, self.reply_dest, &self.reply_bytes),
-            Stage::Dropped => out.negative(target, sender, self.number),
+            Stage::Queued | Stage::Taken => out.pending(self.target, sender, self.number),
+            Stage::Replied => out.reply(self.target, sender, self.number, &self.reply, self.reply_dest, &self.reply_bytes),
+            Stage::Dropped => out.negative(self.target, sender, self.number),
         }
     }
 }

@@ -311,6 +311,12 @@ impl<'a> Reader<'a> {
             self.space()?;
             let to = self.pid()?;
             Some(Call::ReplySegment { message, to, places: self.places()? })
+        } else if self.skip(b"forward ").is_some() {
+            let message = self.message()?;
+            self.space()?;
+            let from = self.pid()?;
+            self.space()?;
+            Some(Call::Forward { message, from, to: self.pid()? })
         } else if self.skip(b"moveto ").is_some() {
             let partner = self.pid()?;
             Some(Call::MoveTo { partner, places: self.places()? })

@@ -128,7 +128,7 @@ pub fn check(text: &[u8]) -> (Vec<u8>, Ending) {
     let mut verdict = None;
     while !reader.is_at_end() {
         let Some(step) = read_step(&mut reader, &config) else {
-            return (Vec::new(), Ending::BadLine(config.processes.len() + steps as usize + 2));
+            return (Vec::new(), Ending::BadLine(config.lines + steps as usize + 1));
         };
         steps += 1;
         if verdict.is_none() {

@@ -127,6 +127,7 @@ pub enum Call {
     ReceiveSegment { start: u32, count: u32 },
     Reply { message: Message, to: Pid },
     ReplySegment { message: Message, to: Pid, places: Places },
+    Forward { message: Message, from: Pid, to: Pid },
     MoveTo { partner: Pid, places: Places },
     MoveFrom { partner: Pid, places: Places },
     SetPid { logical: u32, pid: Pid, scope: Scope },

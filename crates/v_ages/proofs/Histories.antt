@@ -7,19 +7,21 @@ use Rattle.std.specs.Option.{option_map_or}
 use Rattle.vk_base.specs.declared.config.ProcessSpec.{ProcessSpec}
 use Rattle.vk_base.specs.declared.kernel.Name.{Name}
 use Rattle.vk_base.specs.declared.kernel.Process.{Process}
+use Rattle.vk_base.specs.declared.message.Message.{Message}
 use Rattle.vk_base.specs.declared.pid.Pid.{Pid}
 use Rattle.vk_base.specs.declared.step.Step.{Step}
 use Rattle.vk_base.specs.declared.step.Step.TheVariants as steps
 use Rattle.vk_base.specs.Kernel.{name_of, ◌>>=◌, initial_process, blocked_in}
+use Rattle.vk_base.specs.Packets.{Send}
 use Rattle.vk_base.specs.Pids.{same_pid}
-use Rattle.vk_base.specs.Settings.{Settings, is_process}
+use Rattle.vk_base.specs.Settings.{Settings, is_process, pool_of}
 use Rattle.vk_base.specs.Steps.{only_if, first_of}
 use Rattle.v_laws.proofs.Tables.{same_pid_is, same_pid_self}
 use Rattle.vk_frame.specs.declared.header.Header.{Header}
 use Rattle.vk_event.specs.declared.event.Event.{Event}
 use Rattle.vk_event.specs.declared.event.Event.TheVariants as events
 use Rattle.vk_rules.specs.Aliens.{as_arrival, Alien, is_alien_of, alien_of, arrival_in, slots_after}
-use Rattle.vk_rules.specs.Entries.{Entry, Input, Called, Collected, Ticked, Delivered}
+use Rattle.vk_rules.specs.Entries.{Entry, Input, Called, Collected, Ticked, Delivered, taken_packet}
 use Rattle.vk_rules.specs.Frames.{Frame, Framed}
 use Rattle.vk_rules.specs.Histories.{Logs, no_entries, with_entry, is_output, emitted, handed_over, Happened, At, Missing, delivered, happened, logs_after, history, logs_from}
 use Rattle.vk_rules.specs.Readings.{reading, reading_after, first_reading}
@@ -33,8 +35,8 @@ use Rattle.v_ages.specs.Arrivals.{Rising}
 use Rattle.v_ages.proofs.Numbers.{number_in, arrival_at, numbers, arrivals_are, IsOne, one_entry, One, NoneComes, OneComes}
 use Rattle.v_ages.proofs.Aged.{AgedAt, CameBelow, calling, remote_target}
 use Rattle.v_ages.proofs.Ages.{Ages}
-use Rattle.v_ages.proofs.FarEntry.{far_entry}
-use Rattle.v_ages.proofs.FarStep.{far_step, arrives_above}
+use Rattle.v_ages.proofs.FarEntry.{far_entry, taken_copy}
+use Rattle.v_ages.proofs.FarStep.{far_step, copy_above, arrives_above}
 use Rattle.v_ages.proofs.HomeEntry.{home_entry}
 use Rattle.v_ages.proofs.HomeStep.{home_step}
 use Rattle.v_ages.proofs.Keen.{IsKeen, IsOwn, keen_step, keeps_entry, Came, New, Old, came_from}
@@ -205,8 +207,8 @@ start_aged c s q = record {
   work = λ target h at_q. absurd (none-some _ (sym (start_calls c s) ∙ h));
   heard = le_refl 0;
   slots = record {
-    each = λ i a h of. absurd (none-some _ (sym (at_replicate c.pool i) ∙ h));
-    once = λ i j h g. absurd (both_ways _ (ap (is_alien_of s) (at_replicate c.pool i)) h);
+    each = λ i a h of. absurd (none-some _ (sym (at_replicate (pool_of c q) i) ∙ h));
+    once = λ i j h g. absurd (both_ways _ (ap (is_alien_of s) (at_replicate (pool_of c q) i)) h);
     freed = λ none some. absurd (omega arith);
   };
   came = tt;
@@ -216,13 +218,13 @@ pub aged_start : (c : Settings) → IsAged c no_entries
 unfolding reading
 aged_start c = record {
   keen = λ host. record {
-    shut = λ i a k h closed. absurd (none-some _ (sym (at_replicate c.pool i) ∙ h));
-    once = λ s i j h g. absurd (both_ways _ (ap (is_alien_of s) (at_replicate c.pool i)) h);
-    remote = λ i a h. absurd (none-some _ (sym (at_replicate c.pool i) ∙ h));
+    shut = λ i a k h closed. absurd (none-some _ (sym (at_replicate (pool_of c host) i) ∙ h));
+    once = λ s i j h g. absurd (both_ways _ (ap (is_alien_of s) (at_replicate (pool_of c host) i)) h);
+    remote = λ i a h. absurd (none-some _ (sym (at_replicate (pool_of c host) i) ∙ h));
   };
   sources = λ host. tt;
   aged = λ s q apart. start_aged c s q;
-  kept = λ host i a h. absurd (none-some _ (sym (at_replicate c.pool i) ∙ h));
+  kept = λ host i a h. absurd (none-some _ (sym (at_replicate (pool_of c host) i) ∙ h));
   ones = λ host. tt;
 }
 
@@ -296,7 +298,7 @@ above_all c logs q i name own sent k h =
     (λ h p e at_s. subst (λ n. In (record { header = h; packet = p }) (emitted (logs n))) at_s (sent h p e)) in
     let x = f.arrival name h (same_pid_self s) in
     let lt = arrives_above c.times s q (reading c s.host (logs s.host)) r (emitted (logs s.host)) (emitted (logs q)) (logs q)
-    (entry_of c q (logs q) i) name a x (alien_of r.slots s) refl in
+    (entry_of c q (logs q) i) name a x in
     each_weaker (CameBelow a.w s) (BelowIn s name.number) (logs q) a.came (λ d below m g of. let y = below m g of in omega arith)
 
 abbrev AllBelow : Pid → ℕ → List Entry → Type 0
@@ -452,6 +454,41 @@ event_above c logs h q k e aged (Entered host event i g own sent) f s n arrives 
 
 pub arrivals_are_new : arrivals.ArrivalsAreNew
 arrivals_are_new c es event q k e h = event_above c (logs_from c no_entries es) (happened c (logs_from c no_entries es) event) q k e
+    (aged_from c es no_entries (aged_start c)) (does c (logs_from c no_entries es) event (aged_from c es no_entries (aged_start c))) h
+
+-- A copy of a Send that is taken, and is above the alien.
+taken_above : (c : Settings) (logs : Logs) (q : ℕ) (i : Input) → IsSent logs i → IsAged c logs → (s to : Pid) (n : ℕ)
+    (message : Message) (part : List ℕ) → taken_packet (entry_of c q (logs q) i) ≡ Some (Send s to n message part)
+    → ((a : Alien) → alien_of (reading c q (logs q)).slots s ≡ Some a → a.name.number < n) → (d : Entry) → In d (logs q) → (m : ℕ) →
+    In (steps.Arrive s m) d.steps → m < n
+taken_above c logs q i sent k s to n message part taken beyond d old m arrived =
+    let r = reading c q (logs q) in
+    let x = taken_copy c s to q n message part r (emitted (logs s.host)) i
+    (λ h p e at_s. subst (λ n. In (record { header = h; packet = p }) (emitted (logs n))) at_s (sent h p e)) taken in
+    let a = k.aged s q x.1 in
+    let lt = copy_above c.times s q (reading c s.host (logs s.host)) r (emitted (logs s.host)) (emitted (logs q)) (logs q)
+    (entry_of c q (logs q) i) n a x.0 beyond (alien_of r.slots s) refl in
+    let below = each_in (CameBelow a.w s) (logs q) d old a.came in
+    let last = below (name_of s m) (arrive_by s m d.steps (each_in (λ (d : Entry). One d.steps) (logs q) d old (k.ones q)) arrived)
+    (same_pid_self s) in
+    omega arith
+
+taken_new : (c : Settings) (logs : Logs) (h : Happened) (q k : ℕ) (e : Entry) → IsAged c logs → Does c logs h → h ≡ At q k e →
+    (s to : Pid) (n : ℕ) (message : Message) (part : List ℕ) → taken_packet e ≡ Some (Send s to n message part)
+    → ((a : Alien) → alien_of (reading c q (logs q)).slots s ≡ Some a → a.name.number < n) → (d : Entry) → In d (logs q) → (m : ℕ) →
+    In (steps.Arrive s m) d.steps → m < n
+taken_new c logs h q k e aged (Nought host g) f s to n message part taken beyond d old m arrived =
+    absurd (let x : Missing host ≡ At q k e = sym g ∙ f in cc)
+taken_new c logs h q k e aged (Entered host event i g own sent) f s to n message part taken beyond d old m arrived =
+    let x : At host event (entry_of c host (logs host) i) ≡ At q k e = sym g ∙ f in
+    let at : host ≡ q = cc in
+    let is : entry_of c host (logs host) i ≡ e = cc in
+    taken_above c logs host i sent aged s to n message part (ap taken_packet is ∙ taken)
+    (λ a found. beyond a (sym (ap (λ q. alien_of (reading c q (logs q)).slots s) at) ∙ found)) d
+    (subst (λ q. In d (logs q)) (sym at) old) m arrived
+
+pub taken_are_new : arrivals.TakenAreNew
+taken_are_new c es event q k e h = taken_new c (logs_from c no_entries es) (happened c (logs_from c no_entries es) event) q k e
     (aged_from c es no_entries (aged_start c)) (does c (logs_from c no_entries es) event (aged_from c es no_entries (aged_start c))) h
 
 pub aliens_are_apart : AliensAreApart

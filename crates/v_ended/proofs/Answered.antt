@@ -16,7 +16,7 @@ use Rattle.vk_base.specs.declared.message.Message.{Message}
 use Rattle.vk_base.specs.declared.pid.Pid.{Pid}
 use Rattle.vk_base.specs.declared.step.Step.{Step}
 use Rattle.vk_base.specs.declared.step.Step.TheVariants as steps
-use Rattle.vk_base.specs.Calls.{Effect, unseen, accepted, called, call_refusal, call_step, sent, replied, copied_at_once, begin_move, new_move, move_begun, is_at_once, get_pid, found_at_once, lookup_begun, exited, released, is_bereft}
+use Rattle.vk_base.specs.Calls.{Effect, accepted, begin_move, call_refusal, call_step, called, copied_at_once, exited, forward, forwarded, found_at_once, get_pid, is_at_once, is_bereft, lookup_begun, move_begun, new_move, released, replied, sent, unseen}
 use Rattle.vk_base.specs.Kernel.{◌>>=◌, Kernel, name_of, holds_of, held, is_ready, receiving, sending, is_moving, is_asking, finished_call, ended, put_process}
 use Rattle.vk_base.specs.Pids.{same_pid}
 use Rattle.vk_base.specs.Ranges.{range_of, bytes_in}
@@ -123,6 +123,14 @@ reply_waits k r pid c to m dest bytes e g =
     let x = bind_is (k.exchanges (name_of to number.0)) _ e number.2 in
     not_begun r k pid _ e x.2 refl
 
+forward_waits : (k : Kernel) (r pid : Pid) (c : Call) (m : Message) (from to : Pid) (e : Effect) → forward k pid c m from to ≡ Some e →
+    Waiting r k pid e
+unfolding forwarded
+forward_waits k r pid c m from to e g =
+    let number = bind_is (held k pid from) _ e g in
+    let x = bind_is (k.exchanges (name_of from number.0)) _ e number.2 in
+    not_begun r k pid _ e x.2 refl
+
 once_waits : (k : Kernel) (r pid : Pid) (c : Call) (into : Pid) (dest : ℕ) (bytes : List ℕ) (e : Effect) →
     copied_at_once k pid c into dest bytes ≡ Some e → Waiting r k pid e
 unfolding copied_at_once
@@ -153,6 +161,7 @@ accepted_waits k r pid p (calls.ReceiveSegment start count) e at g = put_begun r
 accepted_waits k r pid p (calls.Reply m to) e at g = reply_waits k r pid (calls.Reply m to) to m 0 [] e g
 accepted_waits k r pid p (calls.ReplySegment m to dest src count) e at g =
     reply_waits k r pid (calls.ReplySegment m to dest src count) to m dest (bytes_in (range_of src count) p.memory) e g
+accepted_waits k r pid p (calls.Forward m from to) e at g = forward_waits k r pid (calls.Forward m from to) m from to e g
 accepted_waits k r pid p (calls.MoveTo partner dest src count) e at g =
     let c : Call = calls.MoveTo partner dest src count in
     let bytes = bytes_in (range_of src count) p.memory in

@@ -96,6 +96,7 @@ work_receives r calls.Receive w = absurd (both_ways false refl w)
 work_receives r (calls.ReceiveSegment start count) w = absurd (both_ways false refl w)
 work_receives r (calls.Reply m to) w = refl
 work_receives r (calls.ReplySegment m to dest src count) w = refl
+work_receives r (calls.Forward m from to) w = refl
 work_receives r (calls.MoveTo partner dest src count) w = refl
 work_receives r (calls.MoveFrom partner dest src count) w = refl
 work_receives r (calls.SetPid logical q scope) w = refl

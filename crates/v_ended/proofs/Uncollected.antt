@@ -12,7 +12,7 @@ use Rattle.vk_base.specs.Packets.{Packet, Send, Reply, Pending, Negative, MoveDa
 use Rattle.vk_base.specs.Steps.{is_in_move}
 use Rattle.vk_rules.specs.Aliens.{alien_of, place_for}
 use Rattle.vk_rules.specs.Each.{Each}
-use Rattle.vk_rules.specs.PacketOutcomes.{packet_outcome, send_outcome, is_later, is_same, far_sender, takes_reply, may_be_written, may_be_read, data_outcome, opens_move, is_next_piece, ack_outcome, bytes_outcome, running_to, running_from, told_asker, found_there, asks}
+use Rattle.vk_rules.specs.PacketOutcomes.{packet_outcome, send_outcome, is_later, is_same, far_partner, far_sender, takes_reply, may_be_written, may_be_read, data_outcome, opens_move, is_next_piece, ack_outcome, bytes_outcome, running_to, running_from, told_asker, found_there, asks}
 use Rattle.vk_rules.specs.Readings.{Reading}
 use Rattle.vk_rules.specs.Rounds.{Outcome, list_if}
 use Rattle.vk_rules.specs.Works.{Work, is_last, move_count}
@@ -64,14 +64,14 @@ packets_collect_none host r (Pending from to number) = tt
 packets_collect_none host r (Negative from to number) =
     where_none (is_some (far_sender r.view (name_of to number) from)) (steps.Fail to endings.NoProcess) refl
 packets_collect_none host r (MoveData from to number moving dest total offset bytes) =
-    outcome_or NoneCollects _ (far_sender r.view (name_of to number) from) _ (λ w is.
+    outcome_or NoneCollects _ (far_partner r.view (name_of to number) from) _ (λ w is.
     outcome_if NoneCollects (may_be_written dest total w) _ _
     (λ t. data_none (name_of to number) from moving total offset bytes w.exchange) (λ t. tt)) tt
 packets_collect_none host r (MoveAck from to number moving got) =
     outcome_or NoneCollects _ (running_to r.view to (name_of from number) moving) _
     (λ p is. acks_none r.view (r.work to) to got p) tt
 packets_collect_none host r (MoveRequest from to number moving src total offset) =
-    outcome_or NoneCollects _ (far_sender r.view (name_of to number) from) _ (λ w is.
+    outcome_or NoneCollects _ (far_partner r.view (name_of to number) from) _ (λ w is.
     outcome_if NoneCollects (may_be_read src total w) _ _ (λ t. where_none (nat_lt w.exchange.opened moving) _ refl) (λ t. tt)) tt
 packets_collect_none host r (MoveBytes from to number moving total offset bytes) =
     outcome_or NoneCollects _ (running_from r.view to (name_of from number) moving total) _

@@ -1,29 +1,35 @@
 -- A message arrives once and is taken once, and one of a sender is open at a station.
-use Rattle.std.proofs.Common.{◌≡◌, ℕ, suc, ◌<◌, ◌≤◌, true, List, Some, IsSome, option_map, is_some, slice_get, refl, sym, ap, subst, ◌∙◌, inl, inr, arith}
+use Rattle.std.proofs.Common.{◌≡◌, ℕ, suc, ◌<◌, ◌≤◌, Bool, true, false, is_none, List, Some, IsSome, option_map, is_some, slice_get, refl, sym, ap, subst, ◌∙◌, inl, inr, arith}
 use Rattle.std.proofs.lemmas.Bool.{both_ways, cases_order, cond-true, eq-eqb, eqb-true}
 use Rattle.std.proofs.lemmas.Option.{same_Some, none-some}
+use Rattle.vk_base.specs.declared.answer.Answer.TheVariants as answers
+use Rattle.vk_base.specs.declared.call.Call.{Call}
+use Rattle.vk_base.specs.declared.call.Call.TheVariants as calls
 use Rattle.vk_base.specs.declared.config.ProcessSpec.{ProcessSpec}
 use Rattle.vk_base.specs.declared.kernel.Exchange.{Exchange}
 use Rattle.vk_base.specs.declared.kernel.Name.{Name}
+use Rattle.vk_base.specs.declared.kernel.Process.{Process}
+use Rattle.vk_base.specs.declared.kernel.Stage.{Stage}
 use Rattle.vk_base.specs.declared.kernel.Stage.TheVariants as stages
+use Rattle.vk_base.specs.declared.message.Message.{Message}
 use Rattle.vk_base.specs.declared.pid.Pid.{Pid}
 use Rattle.vk_base.specs.declared.step.Step.{Step}
 use Rattle.vk_base.specs.declared.step.Step.TheVariants as steps
-use Rattle.vk_base.specs.Calls.{Effect, unseen}
-use Rattle.vk_base.specs.Kernel.{◌>>=◌, Kernel, initial_kernel, name_of, same_name, is_at_target}
+use Rattle.vk_base.specs.Calls.{Effect, unseen, call_refusal, called, forward}
+use Rattle.vk_base.specs.Kernel.{◌>>=◌, Kernel, initial_kernel, name_of, same_name, holds_of, is_posted, is_queued, is_at_target, held}
 use Rattle.vk_base.specs.Pids.{same_host}
-use Rattle.vk_base.specs.Steps.{Run, Taking, run, arriving, with_arrival, taking, taken}
+use Rattle.vk_base.specs.Steps.{Run, Taking, effect, only_if, run, arriving, with_arrival, taking, taken}
 use Rattle.vk_base.proofs.OptionLemmas.{bind_is}
-use Rattle.v_laws.specs.Places.{before, taken_by, taken_at}
-use Rattle.v_laws.specs.Reached.{IsReached}
+use Rattle.v_laws.specs.Places.{IsForwardedBetween, before, brought_by, taken_by, taken_at}
+use Rattle.v_laws.specs.Reached.{IsReached, saw}
 use Rattle.v_laws.specs.Sound.{IsSound, is_settled}
-use Rattle.v_laws.proofs.Changes.{at_target_not_posted, at_target_not_settled}
-use Rattle.v_laws.proofs.Later.{ExchangesGoOn, rank, posted_rank, queued_rank, exchange_later, becomes_later, later_self, later_on, after_arrived}
-use Rattle.v_laws.proofs.PlaceLemmas.{at_place, before_after, step_at, onward}
+use Rattle.v_laws.proofs.Changes.{StageOn, at_target_not_posted, at_target_not_settled}
+use Rattle.v_laws.proofs.Later.{Becomes, ExchangesGoOn, rank, posted_rank, queued_rank, exchange_later, becomes_later, later_self, later_on, after_arrived}
+use Rattle.v_laws.proofs.PlaceLemmas.{at_place, before_after, before_sound, step_at, onward, turn_between}
 use Rattle.v_laws.proofs.Queues.{taken_was_queued}
 use Rattle.v_laws.proofs.ReachedLemmas.{reached_sound}
 use Rattle.v_laws.proofs.SoundLemmas.{step_is}
-use Rattle.v_laws.proofs.StepLemmas.{arriving_is, taking_is}
+use Rattle.v_laws.proofs.StepLemmas.{IsFit, fit_refusal, arriving_is, taking_is}
 use Rattle.v_laws.proofs.Tables.{same_name_self, put_exchange_here}
 use Rattle.v_laws.proofs.Options.{mapped_is}
 
@@ -125,27 +131,108 @@ taken_over specs ss i n t =
       there = ap after.exchanges (sym t.name) ∙ taken_there t.kernel t.receiver t.take;
     }
 
-taken_again : (specs : List ProcessSpec) (ss : List Step) (i j : ℕ) (n : Name) → taken_at specs ss i ≡ Some n →
-    taken_at specs ss j ≡ Some n → i < j → ⊥
-taken_again specs ss i j n e f less =
+-- What makes a message queued that has come to a queue before is a Forward.
+queued_by : (k : Kernel) (s : Step) (n : Name) (x y : Exchange) → is_posted x.stage ≡ false → is_queued x.stage ≡ false →
+    is_queued y.stage ≡ true → StageOn k s n x y → ⊥
+queued_by k s n x y away was now (StageOn.same e) = both_ways (is_queued x.stage) was (sym (ap is_queued e) ∙ now)
+queued_by k s n x y away was now (StageOn.taken t is takes name queued e) = both_ways (is_queued x.stage) was queued
+queued_by k s n x y away was now (StageOn.replied m is t e) = both_ways (is_queued y.stage) (ap is_queued e) now
+queued_by k s n x y away was now (StageOn.replied_segment m dest src count p is at t e) =
+    both_ways (is_queued y.stage) (ap is_queued e) now
+queued_by k s n x y away was now (StageOn.dropped is t e) = both_ways (is_queued y.stage) (ap is_queued e) now
+
+pub forward_brings : (k : Kernel) (s : Step) (n : Name) (x : Exchange) (p : Process) (m : Message) (to : Pid) →
+    s ≡ steps.Call x.at (calls.Forward m n.sender to) → k.procs x.at ≡ Some p → IsFit k x.at p (calls.Forward m n.sender to) →
+    held k x.at n.sender ≡ Some n.number → brought_by k s ≡ Some n
+forward_brings k s n x p m to is at fit holds =
+    ap (brought_by k) is
+    ∙ ap (λ o. o >>= λ q. held k x.at n.sender >>= λ number. only_if (is_none (call_refusal k x.at q (calls.Forward m n.sender to)))
+    (Some (name_of n.sender number))) at
+    ∙ ap (λ o. o >>= λ number. only_if (is_none (call_refusal k x.at p (calls.Forward m n.sender to))) (Some (name_of n.sender number)))
+    holds
+    ∙ ap (λ o. only_if (is_none o) (Some n)) (fit_refusal k x.at p (calls.Forward m n.sender to) fit)
+
+-- The step is a Forward of the process that holds the message, and is answered ok.
+record IsHandedOn (k : Kernel) (s : Step) (e : Effect) (n : Name) : Type 0 where
+  holder : Pid
+  holds : held k holder n.sender ≡ Some n.number
+  message : Message
+  to : Pid
+  is : s ≡ steps.Call holder (calls.Forward message n.sender to)
+  answered : e.seen ≡ saw holder (calls.Forward message n.sender to) answers.Ok
+
+forward_ok : (k : Kernel) (pid : Pid) (c : Call) (m : Message) (from to : Pid) (e : Effect) → forward k pid c m from to ≡ Some e →
+    e.seen ≡ saw pid c answers.Ok
+forward_ok k pid c m from to e g =
+    let number = bind_is (held k pid from) _ e g in
+    let x = bind_is (k.exchanges (name_of from number.0)) _ e number.2 in
+    ap (λ (y : Effect). y.seen) (sym (same_Some _ e x.2))
+
+forward_answers : (k : Kernel) (s : Step) (e : Effect) (pid : Pid) (p : Process) (m : Message) (from to : Pid) →
+    s ≡ steps.Call pid (calls.Forward m from to) → k.procs pid ≡ Some p → IsFit k pid p (calls.Forward m from to) →
+    effect k s ≡ Some e → e.seen ≡ saw pid (calls.Forward m from to) answers.Ok
+forward_answers k s e pid p m from to is at fit does =
+    let c : Call = calls.Forward m from to in
+    forward_ok k pid c m from to e
+    (ap (called k pid p c) (sym (fit_refusal k pid p c fit))
+    ∙ ap (λ o. o >>= λ q. called k pid q c (call_refusal k pid q c)) (sym at) ∙ ap (effect k) (sym is) ∙ does)
+
+became_queued : (k : Kernel) (s : Step) (e : Effect) (n : Name) (x y : Exchange) → is_posted x.stage ≡ false →
+    is_queued x.stage ≡ false → is_queued y.stage ≡ true → effect k s ≡ Some e → Becomes k s n x y → IsHandedOn k s e n
+became_queued k s e n x y away was now does (Becomes.goes on) = absurd (queued_by k s n x y away was now on.stage)
+became_queued k s e n x y away was now does (Becomes.arrives is posted after) = absurd (both_ways (is_posted x.stage) away posted)
+became_queued k s e n x y away was now does (Becomes.overtaken number is less live after) =
+    absurd (both_ways (is_queued y.stage) (ap (λ (z : Exchange). is_queued z.stage) after) now)
+became_queued k s e n x y away was now does (Becomes.forwards p m to is at fit f after) = record {
+  holder = x.at;
+  holds = f.holds;
+  message = m;
+  to = to;
+  is = is;
+  answered = forward_answers k s e x.at p m n.sender to is at fit does;
+}
+
+abbrev queued_one : Name → Kernel → Bool
+queued_one n k = holds_of (λ (e : Exchange). is_queued e.stage) (k.exchanges n)
+
+ranked_away : (s : Stage) → 1 ≤ rank s → is_posted s ≡ false
+ranked_away stages.Posted up = absurd (omega arith)
+ranked_away stages.Queued up = refl
+ranked_away stages.Taken up = refl
+ranked_away (stages.Replied m d b) up = refl
+ranked_away stages.Dropped up = refl
+
+-- between two Takes of one message who holds it hands it on
+pub taken_between : (specs : List ProcessSpec) (ss : List Step) (i j : ℕ) (n : Name) → taken_at specs ss i ≡ Some n →
+    taken_at specs ss j ≡ Some n → i < j → IsForwardedBetween specs ss i j n
+taken_between specs ss i j n e f less =
     let a = taken_at_is specs ss i n e in
     let b = taken_at_is specs ss j n f in
     let x = taken_over specs ss i n a in
     let y = taken_over specs ss j n b in
-    let up = never_back specs ss (suc i) j x.after b.kernel n (record a.take.exchange { stage = stages.Taken }) b.take.exchange
-    (omega arith) x.at b.at x.there y.queued in
-    let low = y.low in
-    absurd (omega arith)
-
-pub taken_once : (specs : List ProcessSpec) (ss : List Step) (i j : ℕ) (n : Name) → taken_at specs ss i ≡ Some n →
-    taken_at specs ss j ≡ Some n → i ≡ j
-taken_once specs ss i j n e f = elim (cases_order i j) [
-  | inl same ↦ same
-  | inr other ↦ elim other [
-    | inl less ↦ absurd (taken_again specs ss i j n e f less)
-    | inr more ↦ absurd (taken_again specs ss j i n f e more)
-  ]
-]
+    let taken : Exchange = record a.take.exchange { stage = stages.Taken } in
+    let t = turn_between specs ss (queued_one n) (suc i) x.after x.at (ap (holds_of (λ (z : Exchange). is_queued z.stage)) x.there) j
+    (omega arith) b.kernel b.at
+    (ap (holds_of (λ (z : Exchange). is_queued z.stage)) y.queued ∙ (taken_was_queued b.kernel b.receiver b.take b.takes).1) in
+    let low = t.behind in
+    let z = go_on specs ss (suc i) t.place x.after t.kernel low x.at t.at n taken x.there in
+    let up = z.2.rank in
+    let sound = before_sound specs ss t.place t.kernel t.at in
+    let w = exchange_later t.step t.kernel t.did.after n z.0 sound (step_is t.kernel t.step t.did sound t.does) z.1 in
+    let h = became_queued t.kernel t.step t.did n z.0 w.0 (ranked_away z.0.stage up)
+    (sym (ap (holds_of (λ (v : Exchange). is_queued v.stage)) z.1) ∙ t.was)
+    (sym (ap (holds_of (λ (v : Exchange). is_queued v.stage)) w.1) ∙ t.now) t.does w.2 in
+    record {
+      place = t.place;
+      behind = omega arith;
+      earlier = t.earlier;
+      holder = h.holder;
+      holds = ap (λ o. o >>= λ k. held k h.holder n.sender) t.at ∙ h.holds;
+      message = h.message;
+      to = h.to;
+      is = t.is ∙ ap (λ (v : Step). Some v) h.is;
+      answered = ap (λ o. o >>= λ e. e.seen) (at_place effect specs ss t.place t.kernel t.step t.at t.is ∙ t.does) ∙ h.answered;
+    }
 
 -- each Take takes an exchange
 pub takes_one : (specs : List ProcessSpec) (ss : List Step) (r : Run) (i : ℕ) (pid : Pid) → run (initial_kernel specs) ss ≡ Some r →

@@ -1,7 +1,7 @@
-//! Laws of messages: each arrives once, is taken once, and no two of a sender are at one station. Places are those of the
-//! list of steps.
+//! Laws of messages: each arrives once and is taken once, and once more for each Forward, and no two of a sender are at one station.
+//! Places are those of the list of steps.
 
-ghost use Rattle.std.specs.Prelude.{◌≡◌, ℕ, IsSome, List, Some, slice_get, true};
+ghost use Rattle.std.specs.Prelude.{◌≡◌, ◌<◌, ℕ, IsSome, List, Some, slice_get, true};
 ghost use Rattle.vk_base.specs.declared.config.ProcessSpec.{ProcessSpec};
 ghost use Rattle.vk_base.specs.declared.kernel.Exchange.{Exchange};
 ghost use Rattle.vk_base.specs.declared.kernel.Name.{Name};
@@ -11,7 +11,7 @@ ghost use Rattle.vk_base.specs.declared.step.Step.TheVariants as steps;
 ghost use Rattle.vk_base.specs.Kernel.{Kernel, is_at_target, name_of, initial_kernel};
 ghost use Rattle.vk_base.specs.Pids.{same_host};
 ghost use Rattle.vk_base.specs.Steps.{Run, run};
-ghost use Rattle.v_laws.specs.Places.{taken_at};
+ghost use Rattle.v_laws.specs.Places.{IsForwardedBetween, taken_at};
 ghost use Rattle.v_laws.specs.Reached.{IsReached};
 
 /// The message of a Send arrives at most once: two places of a run with the same arrival are one.
@@ -21,12 +21,13 @@ pub fn messages_arrive_once()
         slice_get ss j ≡ Some (steps.Arrive sender number) → i ≡ j }
 {}
 
-/// A message is taken at most once: each Take of a run takes one, and two places that take the same are one.
+/// No message is taken twice, but by a Forward of the process that holds it: each Take of a run takes a message, and between two
+/// that take the same there is such a Forward, answered ok.
 pub fn messages_are_taken_once()
     ensures some { (specs : List ProcessSpec) (ss : List Step) (r : Run) (i : ℕ) (pid : Pid) → run (initial_kernel specs) ss ≡ Some r →
         slice_get ss i ≡ Some (steps.Take pid) → IsSome (taken_at specs ss i) }
     ensures once { (specs : List ProcessSpec) (ss : List Step) (i j : ℕ) (n : Name) → taken_at specs ss i ≡ Some n →
-        taken_at specs ss j ≡ Some n → i ≡ j }
+        taken_at specs ss j ≡ Some n → i < j → IsForwardedBetween specs ss i j n }
 {}
 
 /// In every kernel that a run reaches at most one message of a sender is queued or taken at targets of one host.

@@ -15,7 +15,7 @@ use Rattle.vk_base.specs.Steps.{after_arrival, is_older, arriving, with_arrival,
 use Rattle.v_laws.proofs.Tables.{same_pid_is, same_pid_self, same_name_self}
 use Rattle.v_laws.proofs.Options.{mapped_is}
 use Rattle.v_machine.specs.declared.tables.Store.{Store}
-use Rattle.v_machine.specs.Kept.{IsKept, IsAt, IsLatest, IsNoNearer, kernel_in, latest_by}
+use Rattle.v_machine.specs.Kept.{IsKept, IsAt, IsLatest, IsNoNearer, arrived_in, kernel_in, latest_by}
 use Rattle.v_machine.specs.Places.{place_in, numbered}
 use Rattle.v_machine.specs.Rules.{IsPostedTo, posted_to}
 use Rattle.v_machine.specs.Sends.{dropped_between, come_at}
@@ -147,6 +147,15 @@ target_after name e n x = by_both (same_name n name) (is_older name e n x)
     by_both false true = refl
     by_both false false = refl
 
+at_after : (name : Name) (e : Exchange) (n : Name) (x : Exchange) → (after_arrival name e n x).at ≡ x.at
+at_after name e n x = by_both (same_name n name) (is_older name e n x)
+  where
+    by_both : (a b : Bool) →
+        (cond a (record x { stage = stages.Queued }) (cond b (record x { stage = stages.Dropped }) x)).at ≡ x.at
+    by_both true b = refl
+    by_both false true = refl
+    by_both false false = refl
+
 dropped_is_nearer : (s : Stage) → IsNoNearer s stages.Dropped
 dropped_is_nearer s = record {
   queued = λ t. absurd (both_ways false refl t);
@@ -176,9 +185,10 @@ module _ (s : Store) (name : Name) (at to : ℕ) (e : Exchange) (kept : IsKept s
         x.1,
         ap (λ (z : Exchange). z.target) (sym x.2) ∙ target_after name e n x.0,
         subst (λ (z : Exchange). IsNoNearer x.0.stage z.stage) x.2 (nearer_after name e n x.0 f),
+        ap (λ (z : Exchange). z.at) (sym x.2) ∙ at_after name e n x.0,
       )
 
-  pub arrive_new : list_any (same_name name) s.arrived.items ≡ false
+  pub arrive_new : list_any (same_name name) (arrived_in s) ≡ false
   arrive_new = (kept.sound.posted name e at_name posted).away
 
   pub arrive_at : option_map (after_arrival name e name) (exchanges_by s.places s.sends.items name) ≡ Some

@@ -48,6 +48,7 @@ nothing_seen calls.Receive e seen is = refl
 nothing_seen (calls.ReceiveSegment start count) e seen is = refl
 nothing_seen (calls.Reply m to) e seen is = refl
 nothing_seen (calls.ReplySegment m to dest src count) e seen is = refl
+nothing_seen (calls.Forward m from to) e seen is = refl
 nothing_seen (calls.MoveTo partner dest src count) e seen is = ap (λ o. if is_none o then count else 0) is
 nothing_seen (calls.MoveFrom partner dest src count) e seen is = refl
 nothing_seen (calls.SetPid logical q scope) e seen is = refl

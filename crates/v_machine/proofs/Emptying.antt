@@ -112,6 +112,8 @@ module _ (k : Kernel) (name : Name) (e : Exchange) (from to : ℕ) (at : k.excha
         target = refl;
         message = refl;
         part = refl;
+        at = refl;
+        shown = refl;
         moves = omega (arith, length-given e.opened e.done from (to + 1) 1 e.moves);
         stage = StageOn.same refl;
       })))

@@ -1,6 +1,6 @@
 -- Whom a process holds, by the latest that came to its host.
 use Rattle.std.proofs.Common.{◌≡◌, ℕ, zero, suc, ◌<◌, ◌≤◌, Bool, true, false, cond, Option, Some, None, refl, sym, ap, subst, ◌∙◌, inl, inr, arith}
-use Rattle.std.proofs.lemmas.Bool.{cases_Bool, both_ways, and_parts, or_right, cond-true, cond-false, false_from_ne_true}
+use Rattle.std.proofs.lemmas.Bool.{cases_Bool, both_ways, and_parts, or_right, eqb-true, cond-true, cond-false, false_from_ne_true}
 use Rattle.std.proofs.lemmas.Option.{same_Some}
 use Rattle.vk_base.specs.declared.kernel.Exchange.{Exchange}
 use Rattle.vk_base.specs.declared.kernel.Name.{Name}
@@ -45,9 +45,10 @@ module _ (s : Store) (pid sender : Pid) (latest : ℕ) (kept : IsKept s)
   only : (m : ℕ) → holds_at (kernel_in s).exchanges pid sender m ≡ true → m ≡ latest
   only m t =
       let e = some_that_holds (is_held_by pid) ((kernel_in s).exchanges (name_of sender m)) t in
-      let parts = and_parts (same_pid e.0.target pid) (is_taken e.0.stage) e.2 in
+      let parts = and_parts (same_pid e.0.at pid) (is_taken e.0.stage) e.2 in
       (kept.indexed.open_last (name_of sender m) e.0 e.1).live (or_right (is_queued e.0.stage) (is_taken e.0.stage) parts.1)
-      ∙ ap (λ (p : Pid). latest_by s.places s.latest.items sender p.host) (same_pid_is e.0.target pid parts.0)
+      ∙ ap (latest_by s.places s.latest.items sender) (eqb-true e.0.target.host e.0.at.host (kept.sound.near (name_of sender m) e.0 e.1)
+      ∙ ap (λ (p : Pid). p.host) (same_pid_is e.0.at pid parts.0))
       ∙ sym is
 
   pub held_nowhere : (kernel_in s).procs sender ≡ None → held (kernel_in s) pid sender ≡ None

@@ -12,7 +12,7 @@ use Rattle.vk_base.specs.Pids.{same_pid}
 use Rattle.vk_base.specs.Steps.{first_of}
 use Rattle.v_laws.proofs.Tables.{same_pid_is, same_name_is, put_exchange_at, put_exchange_other}
 use Rattle.v_machine.specs.declared.tables.Store.{Store}
-use Rattle.v_machine.specs.Kept.{IsIndexed, IsAt, IsWaiting, IsNoNearer, queued_at, latest_by, kernel_in}
+use Rattle.v_machine.specs.Kept.{IsIndexed, IsAt, IsWaiting, IsNoNearer, queued_at, latest_by, arrived_in, kernel_in}
 use Rattle.v_machine.specs.Places.{place_in, list_at}
 use Rattle.v_machine.specs.Tables.{exchanges_by}
 use Rattle.v_machine.proofs.PlaceLemmas.{get_of_or, at_place_same, at_place_other, at_place_is}
@@ -36,23 +36,23 @@ pub alike_narrower : {X : Type 0} (f g : X → Bool) → ((x : X) → g x ≡ tr
     filter g xs ≡ filter g ys
 alike_narrower f g implies xs ys alike = sym (filter_narrower f g implies xs) ∙ ap (filter g) alike ∙ filter_narrower f g implies ys
 
--- the exchanges later, each of which was there before, for the same target, and is no nearer to it
+-- the exchanges later, each of which was there before, for the same target and at the same process, and is no nearer to it
 abbrev pub AreNoNearer : (Name → Option Exchange) → (Name → Option Exchange) → Type 0
 AreNoNearer before after = (n : Name) (y : Exchange) → after n ≡ Some y →
-    (x : Exchange) × (before n ≡ Some x) × (y.target ≡ x.target) × IsNoNearer x.stage y.stage
+    (x : Exchange) × (before n ≡ Some x) × (y.target ≡ x.target) × IsNoNearer x.stage y.stage × (y.at ≡ x.at)
 
 queued_before : (before after : Name → Option Exchange) (r : Pid) → AreNoNearer before after → (n : Name) (o : Option Exchange) →
     after n ≡ o → holds_of (is_queued_at r) o ≡ true → queued_at before r n ≡ true
 queued_before before after r less n None is t = absurd (both_ways false refl t)
 queued_before before after r less n (Some y) is t =
     let old = less n y is in
-    let parts = and_parts (same_pid y.target r) (is_queued y.stage) t in
+    let parts = and_parts (same_pid y.at r) (is_queued y.stage) t in
     ap (holds_of (is_queued_at r)) old.1
-    ∙ and_from (same_pid old.0.target r) (is_queued old.0.stage) (subst (λ z. same_pid z r ≡ true) old.2 parts.0) (old.3.queued parts.1)
+    ∙ and_from (same_pid old.0.at r) (is_queued old.0.stage) (subst (λ z. same_pid z r ≡ true) old.4 parts.0) (old.3.queued parts.1)
 
 pub indexed_later : (s t : Store) → t.places ≡ s.places → length t.procs.items ≡ length s.procs.items →
     length t.sends.items ≡ length s.sends.items → length t.asked.items ≡ length s.asked.items →
-    t.arrived.items ≡ s.arrived.items → t.queues.items ≡ s.queues.items → t.latest.items ≡ s.latest.items →
+    arrived_in t ≡ arrived_in s → t.queues.items ≡ s.queues.items → t.latest.items ≡ s.latest.items →
     ((pid : Pid) → length (list_at s.places s.sends.items pid) ≤ length (list_at t.places t.sends.items pid)) →
     AreNoNearer (exchanges_by s.places s.sends.items) (exchanges_by t.places t.sends.items) → IsIndexed s → IsIndexed t
 indexed_later s t places procs sends asked arrived queues latest more less old =
@@ -70,7 +70,7 @@ indexed_later s t places procs sends asked arrived queues latest more less old =
           record {
             queue = ap (filter (queued_at after r)) names
                 ∙ alike_narrower (queued_at before r) (queued_at after r) (λ n. queued_before before after r less n (after n) refl)
-                (list_at s.places s.queues.items r) s.arrived.items was.queue
+                (list_at s.places s.queues.items r) (arrived_in s) was.queue
                 ∙ ap (filter (queued_at after r)) (sym arrived);
             came = λ n among. subst (λ ns. list_any (same_name n) ns ≡ true) (sym arrived)
                 (was.came n (subst (λ ns. list_any (same_name n) ns ≡ true) names among));
@@ -96,18 +96,19 @@ indexed_later s t places procs sends asked arrived queues latest more less old =
 pub same_stage : (s : Stage) → IsNoNearer s s
 same_stage s = record { queued = λ t. t; live = λ t. t; posted = λ t. t }
 
--- one exchange is put that is for the same target and no nearer
+-- one exchange is put that is for the same target, at the same process, and no nearer
 pub put_no_nearer : (before after : Name → Option Exchange) (name : Name) (x y : Exchange) → before name ≡ Some x →
-    after ≡ put_exchange before name y → y.target ≡ x.target → IsNoNearer x.stage y.stage → AreNoNearer before after
-put_no_nearer before after name x y at is target less n z there = elim (cases_Bool (same_name n name)) [
+    after ≡ put_exchange before name y → y.target ≡ x.target → y.at ≡ x.at → IsNoNearer x.stage y.stage → AreNoNearer before after
+put_no_nearer before after name x y at is target place less n z there = elim (cases_Bool (same_name n name)) [
   | inl t ↦
       let same : y ≡ z = same_Some y z (sym (put_exchange_at before name y n t) ∙ ap (λ f. f n) (sym is) ∙ there) in (
         x,
         ap before (same_name_is n name t) ∙ at,
         ap (λ (e : Exchange). e.target) (sym same) ∙ target,
         subst (λ (e : Exchange). IsNoNearer x.stage e.stage) same less,
+        ap (λ (e : Exchange). e.at) (sym same) ∙ place,
       )
-  | inr f ↦ (z, sym (put_exchange_other before name y n f) ∙ ap (λ g. g n) (sym is) ∙ there, refl, same_stage z.stage)
+  | inr f ↦ (z, sym (put_exchange_other before name y n f) ∙ ap (λ g. g n) (sym is) ∙ there, refl, same_stage z.stage, refl)
 ]
 
 -- what a list of lists has for processes after one list is put
@@ -134,7 +135,7 @@ waiting_same ex ex' arrived arrived' r names names' e a n was =
 pub indexed_cleaned : (s t : Store) (pid : Pid) (at : ℕ) (names left : List Name) → IsAt s pid at → names ≡ get_or s.queues.items at names →
     t.places ≡ s.places → length t.procs.items ≡ length s.procs.items → t.sends.items ≡ s.sends.items →
     length t.asked.items ≡ length s.asked.items →
-    t.arrived.items ≡ s.arrived.items → t.queues.items ≡ set s.queues.items at left → t.latest.items ≡ s.latest.items →
+    arrived_in t ≡ arrived_in s → t.queues.items ≡ set s.queues.items at left → t.latest.items ≡ s.latest.items →
     filter (queued_at (exchanges_by s.places s.sends.items) pid) left ≡ filter (queued_at (exchanges_by s.places s.sends.items) pid) names →
     ((n : Name) → list_any (same_name n) left ≡ true → list_any (same_name n) names ≡ true) → IsIndexed s → IsIndexed t
 indexed_cleaned s t pid at names left here is places procs sends asked arrived queues latest alike among old =
@@ -165,19 +166,19 @@ indexed_cleaned s t pid at names left here is places procs sends asked arrived q
     }
   where
     waits : (r : Pid) → IsSome (place_in s.places r) → (same_pid r pid ≡ true) ⊎ (same_pid r pid ≡ false) →
-        IsWaiting (exchanges_by s.places s.sends.items) s.arrived.items r (list_at s.places (set s.queues.items at left) r)
+        IsWaiting (exchanges_by s.places s.sends.items) (arrived_in s) r (list_at s.places (set s.queues.items at left) r)
     waits r there (inl u) =
         let same = same_pid_is r pid u in
         let was = old.waiting pid (subst (λ q. IsSome (place_in s.places q)) same there) in
         let now = list_at-set_same s.places s.queues.items pid at left here.place here.queues in
         let before = list_at_is s.places s.queues.items pid at names here.place here.queues is in
-        subst (λ q. IsWaiting (exchanges_by s.places s.sends.items) s.arrived.items q (list_at s.places (set s.queues.items at left) q))
+        subst (λ q. IsWaiting (exchanges_by s.places s.sends.items) (arrived_in s) q (list_at s.places (set s.queues.items at left) q))
         (sym same)
-        (subst (IsWaiting (exchanges_by s.places s.sends.items) s.arrived.items pid) (sym now) (record {
+        (subst (IsWaiting (exchanges_by s.places s.sends.items) (arrived_in s) pid) (sym now) (record {
           queue = alike ∙ ap (filter (queued_at (exchanges_by s.places s.sends.items) pid)) (sym before) ∙ was.queue;
           came = λ n u. was.came n (subst (λ ns. list_any (same_name n) ns ≡ true) (sym before) (among n u));
         }))
-    waits r there (inr f) = subst (IsWaiting (exchanges_by s.places s.sends.items) s.arrived.items r)
+    waits r there (inr f) = subst (IsWaiting (exchanges_by s.places s.sends.items) (arrived_in s) r)
         (sym (list_at-set_other s.places s.queues.items pid r at left here.place f)) (old.waiting r there)
 
 -- the first of what passes, where the first passes
@@ -205,8 +206,8 @@ queue_first s pid at names found indexed here is first =
 -- where the Sends and the indexes stay
 pub indexed_same : (s t : Store) → t.places ≡ s.places → length t.procs.items ≡ length s.procs.items → t.sends.items ≡ s.sends.items →
     length t.asked.items ≡ length s.asked.items →
-    t.arrived.items ≡ s.arrived.items → t.queues.items ≡ s.queues.items → t.latest.items ≡ s.latest.items → IsIndexed s → IsIndexed t
+    arrived_in t ≡ arrived_in s → t.queues.items ≡ s.queues.items → t.latest.items ≡ s.latest.items → IsIndexed s → IsIndexed t
 indexed_same s t places procs sends asked arrived queues latest old =
     indexed_later s t places procs (ap length sends) asked arrived queues latest
     (λ pid. let same = ap (λ (ss : List Exchange). length ss) (λ i. list_at (places i) (sends i) pid) in omega arith)
-    (λ n y there. (y, (λ i. exchanges_by (sym places i) (sym sends i) n) ∙ there, refl, same_stage y.stage)) old
+    (λ n y there. (y, (λ i. exchanges_by (sym places i) (sym sends i) n) ∙ there, refl, same_stage y.stage, refl)) old

@@ -8,13 +8,15 @@ use Rattle.vk_base.specs.declared.kernel.Exchange.{Exchange}
 use Rattle.vk_base.specs.declared.kernel.Move.{Move}
 use Rattle.vk_base.specs.declared.kernel.Name.{Name}
 use Rattle.vk_base.specs.declared.kernel.Stage.{Stage}
+use Rattle.vk_base.specs.declared.message.Message.{Message}
+use Rattle.vk_base.specs.declared.pid.Pid.{Pid}
 use Rattle.vk_base.specs.Kernel.{Kernel, same_name, move_of, put_exchange}
 use Rattle.v_laws.proofs.MoveLists.{no_move, move_within, pushed_cases, opened_other}
 use Rattle.v_laws.proofs.MoveSteps.{opened_with}
 use Rattle.v_laws.proofs.Options.{mapped_is}
 use Rattle.v_laws.proofs.Tables.{put_exchange_at, put_exchange_other}
 use Rattle.v_machine.specs.Lean.{IsLean, AreLean}
-use Rattle.v_machine.specs.Sends.{emptied_between, given_back}
+use Rattle.v_machine.specs.Sends.{emptied_between, given_back, handed_on}
 use Rattle.v_machine.specs.Spent.{is_spent, emptied, all_emptied, lean, lean_kernel}
 use Rattle.v_machine.proofs.Spent.{spent_low}
 
@@ -56,6 +58,13 @@ pub lean_stage : (e : Exchange) (s : Stage) → IsLean e → IsLean (record e { 
 lean_stage e s l = record { within = l.within; empty = λ number m at t. l.empty number m (same number ∙ at) t }
   where
     same : (number : ℕ) → move_of e number ≡ move_of (record e { stage = s }) number
+    same zero = refl
+    same (suc n) = refl
+
+pub lean_handed : (e : Exchange) (m : Message) (to : Pid) → IsLean e → IsLean (handed_on m to e)
+lean_handed e m to l = record { within = l.within; empty = λ number x at t. l.empty number x (same number ∙ at) t }
+  where
+    same : (number : ℕ) → move_of e number ≡ move_of (handed_on m to e) number
     same zero = refl
     same (suc n) = refl
 

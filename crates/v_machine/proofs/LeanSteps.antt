@@ -15,7 +15,7 @@ use Rattle.vk_base.specs.declared.message.Message.{Message}
 use Rattle.vk_base.specs.declared.pid.Pid.{Pid}
 use Rattle.vk_base.specs.declared.step.Step.{Step}
 use Rattle.vk_base.specs.declared.step.Step.TheVariants as steps
-use Rattle.vk_base.specs.Calls.{Effect, sent_exchange, sent, replied, is_at_once, copied_at_once, new_move, move_begun, begin_move, is_message_at, dropped_at, get_pid, lookup_begun, found_at_once, exited, accepted, called, call_refusal}
+use Rattle.vk_base.specs.Calls.{Effect, sent_exchange, sent, replied, forward, forwarded, is_at_once, copied_at_once, new_move, move_begun, begin_move, is_message_at, dropped_at, get_pid, lookup_begun, found_at_once, exited, accepted, called, call_refusal}
 use Rattle.vk_base.specs.Kernel.{◌>>=◌, Kernel, name_of, same_name, held, put_exchange}
 use Rattle.vk_base.specs.Ranges.{range_of, bytes_in}
 use Rattle.vk_base.specs.Steps.{arriving, is_older, after_arrival, with_arrival, taking, taken, Taking, finishing, failing, Opening, opening_move, move_opened, Copying, copying, copied, ending, hearing, finding, asking, collecting, effect}
@@ -27,8 +27,8 @@ use Rattle.v_laws.proofs.StepLemmas.{taking_is, opening_is, copying_is}
 use Rattle.v_laws.proofs.Tables.{put_exchange_here}
 use Rattle.v_machine.specs.Lean.{IsLean, AreLean, opened_in, opened_before, GivesBackOf, GivesBack}
 use Rattle.v_machine.specs.Moves.{with_exchange}
-use Rattle.v_machine.specs.Sends.{given_back}
-use Rattle.v_machine.proofs.LeanExchanges.{lean_stage, lean_new, lean_pushed, lean_opened, lean_copied, lean_put, lean_put_over, lean_map}
+use Rattle.v_machine.specs.Sends.{given_back, handed_on}
+use Rattle.v_machine.proofs.LeanExchanges.{lean_stage, lean_handed, lean_new, lean_pushed, lean_opened, lean_copied, lean_put, lean_put_over, lean_map}
 
 as_lean : (e f : Effect) → Some e ≡ Some f → AreLean e.after.exchanges → AreLean f.after.exchanges
 as_lean e f g lean = subst (λ (x : Effect). AreLean x.after.exchanges) (same_Some e f g) lean
@@ -41,6 +41,15 @@ lean_replied k pid c to m dest bytes e lean g =
     let x = bind_is (k.exchanges (name_of to number.0)) _ e number.2 in
     as_lean _ e x.2 (lean_put k.exchanges (name_of to number.0) (record x.0 { stage = stages.Replied m dest bytes }) lean
     (lean_stage x.0 (stages.Replied m dest bytes) (lean (name_of to number.0) x.0 x.1)))
+
+lean_forward : (k : Kernel) (pid : Pid) (c : Call) (m : Message) (from to : Pid) (e : Effect) → AreLean k.exchanges →
+    forward k pid c m from to ≡ Some e → AreLean e.after.exchanges
+unfolding forwarded
+lean_forward k pid c m from to e lean g =
+    let number = bind_is (held k pid from) _ e g in
+    let x = bind_is (k.exchanges (name_of from number.0)) _ e number.2 in
+    as_lean _ e x.2 (lean_put k.exchanges (name_of from number.0) (handed_on m to x.0) lean
+    (lean_handed x.0 m to (lean (name_of from number.0) x.0 x.1)))
 
 lean_at_once : (k : Kernel) (pid : Pid) (c : Call) (into : Pid) (dest : ℕ) (bytes : List ℕ) (e : Effect) → AreLean k.exchanges →
     copied_at_once k pid c into dest bytes ≡ Some e → AreLean e.after.exchanges
@@ -81,6 +90,7 @@ lean_accepted k pid p (calls.ReceiveSegment start count) e lean g = as_lean _ e 
 lean_accepted k pid p (calls.Reply m to) e lean g = lean_replied k pid (calls.Reply m to) to m 0 [] e lean g
 lean_accepted k pid p (calls.ReplySegment m to dest src count) e lean g =
     lean_replied k pid (calls.ReplySegment m to dest src count) to m dest (bytes_in (range_of src count) p.memory) e lean g
+lean_accepted k pid p (calls.Forward m from to) e lean g = lean_forward k pid (calls.Forward m from to) m from to e lean g
 lean_accepted k pid p (calls.MoveTo partner dest src count) e lean g =
     let c : Call = calls.MoveTo partner dest src count in
     let bytes = bytes_in (range_of src count) p.memory in

@@ -23,7 +23,7 @@ use Rattle.v_laws.proofs.Tables.{same_pid_is, put_process_at, put_process_other}
 use Rattle.v_machine.specs.declared.tables.latest.Latest.{Latest}
 use Rattle.v_machine.specs.declared.tables.proc.Proc.{Proc}
 use Rattle.v_machine.specs.declared.tables.Store.{Store}
-use Rattle.v_machine.specs.Kept.{IsIndexed, IsAt, IsLatest, IsNoNearer, kernel_in, latest_by}
+use Rattle.v_machine.specs.Kept.{IsKept, IsAt, IsLatest, IsNoNearer, arrived_in, kernel_in, latest_by}
 use Rattle.v_machine.specs.Latest.{latest_in}
 use Rattle.v_machine.specs.Leaving.{left, is_left, Leaves, Drops}
 use Rattle.v_machine.specs.Lists.{Each, change_numbered}
@@ -48,6 +48,11 @@ beyond : {X Y : Type 0} (xs : List X) (ys : List Y) (at : ℕ) → length ys ≡
 beyond xs ys at even none = absent_too xs ys at even none (slice_get ys at) refl
 
 -- Exchanges.
+
+-- it is the latest of its sender to its target's host, where its message stays
+abbrev pub IsFound : List (List Latest) → List Pid → Name → Exchange → Type 0
+IsFound latest pids n e = IsLatest (latest_by pids latest n.sender e.target.host) n e × (same_host e.target e.at ≡ true)
+
 module _ (pids : List Pid) (sends later : List (List Exchange)) (latest : List (List Latest)) (gone : Pid)
     (each : Each (Drops gone latest) sends later) (even : length later ≡ length sends) where
   number_at : ℕ → ℕ
@@ -75,21 +80,21 @@ module _ (pids : List Pid) (sends later : List (List Exchange)) (latest : List (
         ∙ other_stays number m (numbered ss m) apart only
   ]
 
-  only_latest : ((n : Name) (e : Exchange) → exchanges_by pids sends n ≡ Some e →
-      IsLatest (latest_by pids latest n.sender e.target.host) n e) → (n : Name) (at : ℕ) (ss : List Exchange) →
-      place_in pids n.sender ≡ Some at → slice_get sends at ≡ Some ss →
+  only_latest : ((n : Name) (e : Exchange) → exchanges_by pids sends n ≡ Some e → IsFound latest pids n e) →
+      (n : Name) (at : ℕ) (ss : List Exchange) → place_in pids n.sender ≡ Some at → slice_get sends at ≡ Some ss →
       (s : Exchange) → numbered ss n.number ≡ Some s → is_message_at gone s ≡ true → n.number ≡ number_at at
   unfolding at_place number_at
   only_latest was n at ss place there s is t =
-      let parts = and_parts (same_pid s.target gone) (is_at_target s.stage) t in
-      let one = same_pid_is s.target gone parts.0 in
+      let parts = and_parts (same_pid s.at gone) (is_at_target s.stage) t in
       let is_there = exchanges_is pids sends n ss (at_place_is pids sends n.sender at ss place there) ∙ is in
-      (was n s is_there).live parts.1
-      ∙ ap (λ (p : Pid). latest_by pids latest n.sender p.host) one
+      let found = was n s is_there in
+      let one = eqb-true s.target.host s.at.host found.1 ∙ ap (λ (p : Pid). p.host) (same_pid_is s.at gone parts.0) in
+      found.0.live parts.1
+      ∙ ap (latest_by pids latest n.sender) one
       ∙ ap (λ o. latest_in (unwrap_or (o >>= slice_get latest) []) gone.host) place
 
-  by_sends : ((n : Name) (e : Exchange) → exchanges_by pids sends n ≡ Some e →
-      IsLatest (latest_by pids latest n.sender e.target.host) n e) → (n : Name) (at : ℕ) → place_in pids n.sender ≡ Some at →
+  by_sends : ((n : Name) (e : Exchange) → exchanges_by pids sends n ≡ Some e → IsFound latest pids n e) →
+      (n : Name) (at : ℕ) → place_in pids n.sender ≡ Some at →
       (o : Option (List Exchange)) → slice_get sends at ≡ o →
       exchanges_by pids later n ≡ option_map (dropped_at gone) (exchanges_by pids sends n)
   unfolding at_place number_at
@@ -102,15 +107,14 @@ module _ (pids : List Pid) (sends later : List (List Exchange)) (latest : List (
       ∙ by_number ss now.0 (number_at at) n.number now.2 (only_latest was n at ss place there)
       ∙ sym (ap (option_map (dropped_at gone)) (exchanges_is pids sends n ss (at_place_is pids sends n.sender at ss place there)))
 
-  by_place : ((n : Name) (e : Exchange) → exchanges_by pids sends n ≡ Some e →
-      IsLatest (latest_by pids latest n.sender e.target.host) n e) → (n : Name) (o : Option ℕ) → place_in pids n.sender ≡ o →
+  by_place : ((n : Name) (e : Exchange) → exchanges_by pids sends n ≡ Some e → IsFound latest pids n e) →
+      (n : Name) (o : Option ℕ) → place_in pids n.sender ≡ o →
       exchanges_by pids later n ≡ option_map (dropped_at gone) (exchanges_by pids sends n)
   by_place was n None is = exchanges_nowhere pids later n (nowhere pids later n.sender is)
       ∙ sym (ap (option_map (dropped_at gone)) (exchanges_nowhere pids sends n (nowhere pids sends n.sender is)))
   by_place was n (Some at) is = by_sends was n at is (slice_get sends at) refl
 
-  pub exchanges_left : ((n : Name) (e : Exchange) → exchanges_by pids sends n ≡ Some e →
-      IsLatest (latest_by pids latest n.sender e.target.host) n e) →
+  pub exchanges_left : ((n : Name) (e : Exchange) → exchanges_by pids sends n ≡ Some e → IsFound latest pids n e) →
       exchanges_by pids later ≡ (λ n. option_map (dropped_at gone) (exchanges_by pids sends n))
   exchanges_left was = λ i n. by_place was n (place_in pids n.sender) refl i
 
@@ -132,12 +136,16 @@ dropped_no_nearer true e = record {
 }
 dropped_no_nearer false e = same_stage e.stage
 
+same_at : (b : Bool) (e : Exchange) → (cond b (record e { stage = stages.Dropped }) e).at ≡ e.at
+same_at true e = refl
+same_at false e = refl
+
 same_target : (b : Bool) (e : Exchange) → (cond b (record e { stage = stages.Dropped }) e).target ≡ e.target
 same_target true e = refl
 same_target false e = refl
 
 left_no_nearer : (gone : Pid) (o : Option Exchange) (y : Exchange) → option_map (dropped_at gone) o ≡ Some y →
-    (x : Exchange) × (o ≡ Some x) × (y.target ≡ x.target) × IsNoNearer x.stage y.stage
+    (x : Exchange) × (o ≡ Some x) × (y.target ≡ x.target) × IsNoNearer x.stage y.stage × (y.at ≡ x.at)
 left_no_nearer gone None y is = absurd (none-some y is)
 left_no_nearer gone (Some x) y is =
     let same : dropped_at gone x ≡ y = same_Some (dropped_at gone x) y is in (
@@ -145,6 +153,7 @@ left_no_nearer gone (Some x) y is =
       refl,
       ap (λ (z : Exchange). z.target) (sym same) ∙ same_target (is_message_at gone x) x,
       subst (λ (z : Exchange). IsNoNearer x.stage z.stage) same (dropped_no_nearer (is_message_at gone x) x),
+      ap (λ (z : Exchange). z.at) (sym same) ∙ same_at (is_message_at gone x) x,
     )
 
 -- Processes.
@@ -254,17 +263,18 @@ names_left names gone = λ i host. (
     ∙ sym (filter_again (is_of host) (λ (r : Registration). not (same_pid r.pid gone)) names)) i
 
 -- The step.
-module _ (s t : Store) (pid : Pid) (at : ℕ) (p : Process) (procs : List Proc) (x : Proc) (indexed : IsIndexed s) (here : IsAt s pid at)
+module _ (s t : Store) (pid : Pid) (at : ℕ) (p : Process) (procs : List Proc) (x : Proc) (kept : IsKept s) (here : IsAt s pid at)
     (there : (kernel_in s).procs pid ≡ Some p) (ready : is_ready p.state ≡ true)
     (each : Each (Leaves pid s.places s.sends.items) s.procs.items procs) (even : length procs ≡ length s.procs.items)
     (drops : Each (Drops pid s.latest.items) s.sends.items t.sends.items) (sends : length t.sends.items ≡ length s.sends.items)
     (is : x ≡ get_or procs at x) (put : t.procs.items ≡ set procs at (record x { alive = false }))
     (names : t.names.items ≡ filter (λ r. not (same_pid r.pid pid)) s.names.items) (places : t.places ≡ s.places)
-    (asked : t.asked.items ≡ s.asked.items) (arrived : t.arrived.items ≡ s.arrived.items) (queues : t.queues.items ≡ s.queues.items)
+    (asked : t.asked.items ≡ s.asked.items) (arrived : arrived_in t ≡ arrived_in s) (queues : t.queues.items ≡ s.queues.items)
     (latest : t.latest.items ≡ s.latest.items) where
   exchanges_are : exchanges_by t.places t.sends.items ≡ (λ n. option_map (dropped_at pid) (exchanges_by s.places s.sends.items n))
   exchanges_are = ap (λ ps. exchanges_by ps t.sends.items) places
-      ∙ exchanges_left s.places s.sends.items t.sends.items s.latest.items pid drops sends indexed.open_last
+      ∙ exchanges_left s.places s.sends.items t.sends.items s.latest.items pid drops sends
+      (λ n e is. (kept.indexed.open_last n e is, kept.sound.near n e is))
 
   procs_are : procs_by t.places t.procs.items t.sends.items
       t.asked.items ≡ (λ q. if same_pid q pid then Some (record p { alive = false })
@@ -272,7 +282,7 @@ module _ (s t : Store) (pid : Pid) (at : ℕ) (p : Process) (procs : List Proc) 
   procs_are =
       let low : at < length procs = let l = here.procs in omega arith in
       (λ i. procs_by (places i) (put i) t.sends.items (asked i))
-      ∙ procs_left (kernel_in s) s.places s.procs.items procs s.sends.items s.asked.items pid each even indexed.sends refl refl
+      ∙ procs_left (kernel_in s) s.places s.procs.items procs s.sends.items s.asked.items pid each even kept.indexed.sends refl refl
       t.sends.items at p x (counts_left s.places s.sends.items t.sends.items s.latest.items pid drops sends) here.place there ready is
       low
 
@@ -292,5 +302,6 @@ module _ (s t : Store) (pid : Pid) (at : ℕ) (p : Process) (procs : List Proc) 
         (λ q. let same = length-even s.places t.sends.items s.sends.items q
         (counts_left s.places s.sends.items t.sends.items s.latest.items pid drops sends) in
         let moved = ap (λ ps. length (unwrap_or (at_place ps t.sends.items q) [])) places in omega arith)
-        (λ n y after. left_no_nearer pid (exchanges_by s.places s.sends.items n) y (ap (λ f. f n) (sym exchanges_are) ∙ after)) indexed;
+        (λ n y after. left_no_nearer pid (exchanges_by s.places s.sends.items n) y (ap (λ f. f n) (sym exchanges_are) ∙ after))
+        kept.indexed;
   }

@@ -9,6 +9,7 @@ pub mod Coming
 pub mod Each
 pub mod Emptying
 pub mod Fits
+pub mod Forwarding
 pub mod Following
 pub mod Grouping
 pub mod Holding
@@ -22,6 +23,7 @@ pub mod MoveCalls
 pub mod MoveLemmas
 pub mod MoveSteps
 pub mod Naming
+pub mod Newest
 pub mod InitialLemmas
 pub mod Pieces
 pub mod PlaceLemmas

@@ -4,25 +4,26 @@ use Rattle.std.proofs.lemmas.List.{set-get_or}
 use Rattle.std.specs.Vec.{with_item}
 use Rattle.vk_base.specs.declared.kernel.Exchange.{Exchange}
 use Rattle.v_machine.specs.declared.tables.Store.{Store}
-use Rattle.v_machine.specs.Kept.{IsIndexed, IsNoNearer, tables_in}
+use Rattle.v_machine.specs.Kept.{IsIndexed, IsNoNearer, tables_in, arrived_in}
 use Rattle.v_machine.specs.Lists.{change_numbered}
 use Rattle.v_machine.specs.Moves.{Puts}
 use Rattle.v_machine.specs.Rules.{Stays}
 use Rattle.v_machine.proofs.Indexes.{indexed_later, indexed_same, put_no_nearer, same_stage}
 use Rattle.v_machine.proofs.KernelLemmas.{kernel-exchange, exchanges-change, sends_even}
 
--- a Send that is changed, but for its target and its stage
+-- a Send that is changed, but for its target, its place and its stage
 pub puts : (s : Store) (f : Exchange → Exchange) (at number : ℕ) (x x' : List Exchange) → ((e : Exchange) → (f e).target ≡ e.target) →
+    ((e : Exchange) → (f e).at ≡ e.at) →
     ((e : Exchange) → (f e).stage ≡ e.stage) →
     at < length s.sends.items → x ≡ get_or s.sends.items at x → x' ≡ change_numbered number f x →
     Puts f at number s (record s { sends = with_item s.sends at x' })
-puts s f at number x x' target stage low there changed = λ pid e place at_name. (
-  kernel-exchange s.places s.procs.items s.sends.items s.asked.items s.names.items s.arrived.items f pid at number x x' e place low there
+puts s f at number x x' target held stage low there changed = λ pid e place at_name. (
+  kernel-exchange s.places s.procs.items s.sends.items s.asked.items s.names.items (arrived_in s) f pid at number x x' e place low there
       at_name changed,
   λ old. indexed_later s _ refl refl (length-set s.sends.items at x') refl refl refl refl
       (sends_even s.places s.procs.items s.sends.items s.asked.items f at number x x' low there changed)
       (put_no_nearer _ _ _ e (f e) at_name (exchanges-change s.places s.procs.items s.sends.items s.asked.items f pid at number x x' e place
-      low there at_name changed) (target e) (subst (IsNoNearer e.stage) (sym (stage e)) (same_stage e.stage))) old,
+      low there at_name changed) (target e) (held e) (subst (IsNoNearer e.stage) (sym (stage e)) (same_stage e.stage))) old,
 )
 
 -- the Sends of a place that stay as they were

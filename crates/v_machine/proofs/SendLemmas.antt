@@ -23,22 +23,23 @@ use Rattle.vk_base.specs.Pids.{same_pid, same_host}
 use Rattle.vk_base.specs.Ranges.{lies_in}
 use Rattle.v_laws.specs.Sound.{IsSound}
 use Rattle.v_laws.proofs.Tables.{same_pid_is, same_name_is, put_exchange_at, put_exchange_other, put_process_here, same_name_self}
+use Rattle.v_laws.proofs.Without.{without_none}
 use Rattle.v_machine.specs.declared.tables.latest.Latest.{Latest}
 use Rattle.v_machine.specs.declared.tables.Store.{Store}
 use Rattle.v_machine.specs.declared.refusal.ApplyRefusal.{ApplyRefusal}
 use Rattle.v_machine.specs.declared.refusal.ApplyRefusal.TheVariants as refused
 use Rattle.v_machine.specs.declared.calls.response.Response.{Response}
 use Rattle.v_laws.specs.Sizes.{IsSized}
-use Rattle.v_machine.specs.Kept.{IsKept, IsIndexed, IsAt, IsWaiting, IsLatest, kernel_in, latest_by, queued_at}
+use Rattle.v_machine.specs.Kept.{IsKept, IsIndexed, IsAt, IsWaiting, IsLatest, arrived_in, kernel_in, latest_by, queued_at}
 use Rattle.v_machine.specs.Latest.{latest_in}
 use Rattle.v_machine.specs.Places.{place_in, at_place, list_at}
 use Rattle.v_machine.specs.Rules.{Stays, posted, Answers, Judges, judged, seen_result}
 use Rattle.v_machine.specs.Tables.{Tables, kernel_of, exchanges_by}
-use Rattle.v_machine.proofs.Arrivals.{Others, indexed_arrived}
+use Rattle.v_machine.proofs.Arrivals.{Others, not_waiting, indexed_arrived}
 use Rattle.v_machine.proofs.KernelLemmas.{set_self}
 use Rattle.v_machine.proofs.PlaceLemmas.{get_of_or, get-set_same, get-set_other}
 use Rattle.v_machine.proofs.Stores.{is_at}
-use Rattle.v_machine.proofs.Indexes.{alike_narrower, same_stage, waiting_same, list_at-set_same, list_at-set_other}
+use Rattle.v_machine.proofs.Indexes.{alike_narrower, same_stage, waiting_same, list_at-set_same, list_at-set_other, list_at_is}
 
 -- the numbers of hosts after numbers of one place are put that are the same
 by_place : (latest : List (List Latest)) (at : ℕ) (old new : List Latest) (o : Option ℕ) → at < length latest → old ≡ get_or latest at old →
@@ -76,7 +77,7 @@ kept_stays s t st kept =
 pub at_stays : (s t : Store) (pid : Pid) (at : ℕ) → Stays s t → IsAt s pid at → IsAt t pid at
 at_stays s t pid at st here = is_at t pid at st.indexed (ap (λ (x : Tables). place_in x.pids pid) (st.tables 0) ∙ here.place)
 
-stays_on : (s t u : Store) → Stays s t → Stays t u → Stays s u
+pub stays_on : (s t u : Store) → Stays s t → Stays t u → Stays s u
 stays_on s t u first second = record { tables = λ noted. second.tables noted ∙ first.tables noted; indexed = second.indexed }
 
 pub answers_on : (o : Option Effect) (noted room : ℕ) (s t u : Store) (r : Result (Option Observation) ApplyRefusal) → Stays s t →
@@ -96,7 +97,7 @@ judges_on pid c s t u r st judges = λ p there ready.
 
 -- a store whose numbers of hosts are the same stands for the same tables
 pub stays_alike : (s t : Store) → t.places ≡ s.places → t.procs.items ≡ s.procs.items → t.sends.items ≡ s.sends.items →
-    t.asked.items ≡ s.asked.items → t.names.items ≡ s.names.items → t.arrived.items ≡ s.arrived.items → t.queues.items ≡ s.queues.items →
+    t.asked.items ≡ s.asked.items → t.names.items ≡ s.names.items → arrived_in t ≡ arrived_in s → t.queues.items ≡ s.queues.items →
     length t.latest.items ≡ length s.latest.items →
     ((q : Pid) (h : ℕ) → latest_by t.places t.latest.items q h ≡ latest_by s.places s.latest.items q h) → IsIndexed s → Stays s t
 stays_alike s t places procs sends asked names arrived queues latest numbers old =
@@ -120,9 +121,9 @@ stays_alike s t places procs sends asked names arrived queues latest numbers old
         waiting = λ r there.
             let was = old.waiting r (subst (λ ps. IsSome (place_in ps r)) places there) in
             let names : list_at t.places t.queues.items r ≡ list_at s.places s.queues.items r = λ i. list_at (places i) (queues i) r in
-            subst (λ ns. IsWaiting (exchanges_by t.places t.sends.items) t.arrived.items r ns) (sym names)
+            subst (λ ns. IsWaiting (exchanges_by t.places t.sends.items) (arrived_in t) r ns) (sym names)
             (subst (λ a. IsWaiting (exchanges_by t.places t.sends.items) a r (list_at s.places s.queues.items r)) (sym arrived)
-            (subst (λ f. IsWaiting f s.arrived.items r (list_at s.places s.queues.items r)) (sym exchanges) was));
+            (subst (λ f. IsWaiting f (arrived_in s) r (list_at s.places s.queues.items r)) (sym exchanges) was));
         low = λ sender host.
             let was = old.low sender host in
             let number = numbers sender host in
@@ -140,7 +141,7 @@ ready_is_not_blocked s c t is = both_ways false refl (ap is_ready (sym is) ∙ t
 
 -- A Send to a process of the same host.
 module _ (s : Store) (pid : Pid) (at to : ℕ) (p : Process) (x : Exchange) (kept : IsKept s) (here : IsAt s pid at)
-    (there : IsAt s x.target to) (local : same_host pid x.target ≡ true) (queued : is_queued x.stage ≡ true)
+    (there : IsAt s x.at to) (local : same_host pid x.target ≡ true) (queued : is_queued x.stage ≡ true)
     (at_pid : (kernel_in s).procs pid ≡ Some p) (ready : is_ready p.state ≡ true) where
   fresh : (kernel_in s).exchanges (name_of pid (p.sends + 1)) ≡ None
   fresh = by_option ((kernel_in s).exchanges (name_of pid (p.sends + 1))) refl
@@ -153,17 +154,27 @@ module _ (s : Store) (pid : Pid) (at to : ℕ) (p : Process) (x : Exchange) (kep
           subst (λ (b : Process). p.sends + 1 ≤ b.sends) (same_Some begun.process p (sym begun.is ∙ at_pid)) begun.last in
           absurd (omega arith)
 
-  new : list_any (same_name (name_of pid (p.sends + 1))) s.arrived.items ≡ false
-  new = false_from_ne_true (list_any (same_name (name_of pid (p.sends + 1))) s.arrived.items)
+  pub new : list_any (same_name (name_of pid (p.sends + 1))) (arrived_in s) ≡ false
+  new = false_from_ne_true (list_any (same_name (name_of pid (p.sends + 1))) (arrived_in s))
       (λ t. is_there (kernel_in s).exchanges (kept.sound.known (name_of pid (p.sends + 1)) t))
     where
       is_there : (exchanges : Name → Option Exchange) → IsSome ((kernel_in s).exchanges (name_of pid (p.sends + 1))) → ⊥
       is_there exchanges t = both_ways false refl (ap is_some (sym fresh) ∙ t)
 
+  -- the names that are kept for the target's queue
+  absent : (names : List Name) → names ≡ get_or s.queues.items to names →
+      list_any (same_name (name_of pid (p.sends + 1))) names ≡ false
+  absent names waits =
+      not_waiting (exchanges_by s.places s.sends.items) (arrived_in s) (name_of pid (p.sends + 1)) x.at names new
+      (subst (IsWaiting (exchanges_by s.places s.sends.items) (arrived_in s) x.at)
+      (list_at_is s.places s.queues.items x.at to names there.place there.queues waits)
+      (kept.indexed.waiting x.at (ap is_some there.place)))
+
   others : Others (exchanges_by s.places s.sends.items) (put_exchange (exchanges_by s.places s.sends.items) (name_of pid (p.sends + 1)) x)
       (name_of pid (p.sends + 1))
   others n y f is =
-      (y, sym (put_exchange_other (exchanges_by s.places s.sends.items) (name_of pid (p.sends + 1)) x n f) ∙ is, refl, same_stage y.stage)
+      let was = sym (put_exchange_other (exchanges_by s.places s.sends.items) (name_of pid (p.sends + 1)) x n f) ∙ is in
+      (y, was, refl, same_stage y.stage, refl)
 
   -- no other exchange with its host is open or posted
   rest : (n : Name) (y : Exchange) → same_name n (name_of pid (p.sends + 1)) ≡ false →
@@ -189,7 +200,7 @@ module _ (s : Store) (pid : Pid) (at to : ℕ) (p : Process) (x : Exchange) (kep
       t.sends.items ≡ set s.sends.items at s' → length s' ≡ p.sends + 1 → length (list_at s.places s.sends.items pid) ≤ length s' →
       exchanges_by s.places (set s.sends.items at s') ≡ put_exchange (exchanges_by s.places s.sends.items) (name_of pid (p.sends + 1))
       x →
-      t.arrived.items ≡ s.arrived.items ++ name_of pid (p.sends + 1) ∷ [] →
+      arrived_in t ≡ arrived_in s ++ name_of pid (p.sends + 1) ∷ [] →
       names ≡ get_or s.queues.items to names → t.queues.items ≡ set s.queues.items to (names ++ name_of pid (p.sends + 1) ∷ []) →
       l0 ≡ get_or s.latest.items at l0 → t.latest.items ≡ set s.latest.items at l2 →
       ((h : ℕ) → latest_in l2 h ≡ (if h == pid.host then p.sends + 1 else latest_in l0 h)) →
@@ -198,8 +209,10 @@ module _ (s : Store) (pid : Pid) (at to : ℕ) (p : Process) (x : Exchange) (kep
       indexed_arrived s t pid at to (p.sends + 1) x (put_exchange (exchanges_by s.places s.sends.items) (name_of pid (p.sends + 1)) x) here
       there kept.indexed
       (put_exchange_at (exchanges_by s.places s.sends.items) (name_of pid (p.sends + 1)) x (name_of pid (p.sends + 1))
-      (same_name_self (name_of pid (p.sends + 1)))) queued others new rest
-      s' names l0 l2 places procs asked sends (omega arith) longer exchanges arrived waits queues old_number latest
+      (same_name_self (name_of pid (p.sends + 1)))) queued others rest
+      s' names l0 l2 places procs asked sends (omega arith) longer exchanges
+      (arrived ∙ ap (λ ns. ns ++ name_of pid (p.sends + 1) ∷ []) (sym (without_none (name_of pid (p.sends + 1)) (arrived_in s) new)))
+      (absent names waits) waits queues old_number latest
       (λ h. number h ∙ ap (λ z. if h == z then p.sends + 1 else latest_in l0 h) (eqb-true pid.host x.target.host local))
 
 -- a name that was pushed behind a queue is taken away again
@@ -261,7 +274,7 @@ module _ (s : Store) (pid : Pid) (at : ℕ) (p : Process) (x : Exchange) (kept :
   no_queue r n true t u =
       let none : queued_at (put_exchange (exchanges_by s.places s.sends.items) (name_of pid (p.sends + 1)) x) r n ≡ false =
       ap (holds_of (is_queued_at r)) (put_exchange_at (exchanges_by s.places s.sends.items) (name_of pid (p.sends + 1)) x n t)
-      ∙ and_right (same_pid x.target r) (is_queued x.stage) (ap is_queued on_way) in
+      ∙ and_right (same_pid x.at r) (is_queued x.stage) (ap is_queued on_way) in
       absurd (both_ways (queued_at (put_exchange (exchanges_by s.places s.sends.items) (name_of pid (p.sends + 1)) x) r n) none u)
   no_queue r n false f u =
       sym (ap (holds_of (is_queued_at r)) (put_exchange_other (exchanges_by s.places s.sends.items) (name_of pid (p.sends + 1)) x n f)) ∙ u
@@ -271,7 +284,7 @@ module _ (s : Store) (pid : Pid) (at : ℕ) (p : Process) (x : Exchange) (kept :
       t.sends.items ≡ set s.sends.items at s' → length s' ≡ p.sends + 1 → length (list_at s.places s.sends.items pid) ≤ p.sends + 1 →
       exchanges_by s.places (set s.sends.items at s') ≡ put_exchange (exchanges_by s.places s.sends.items) (name_of pid (p.sends + 1))
       x →
-      t.arrived.items ≡ s.arrived.items → t.queues.items ≡ s.queues.items → t.latest.items ≡ s.latest.items → IsIndexed t
+      arrived_in t ≡ arrived_in s → t.queues.items ≡ s.queues.items → t.latest.items ≡ s.latest.items → IsIndexed t
   indexed_away t s' places procs asked sends grown longer exchanges arrived queues latest =
       let all : exchanges_by t.places t.sends.items ≡ put_exchange (exchanges_by s.places s.sends.items) (name_of pid (p.sends + 1)) x =
       (λ i. exchanges_by (places i) (sends i)) ∙ exchanges in
@@ -286,7 +299,7 @@ module _ (s : Store) (pid : Pid) (at : ℕ) (p : Process) (x : Exchange) (kept :
             waiting_same _ _ _ _ r _ _ all arrived (λ i. list_at (places i) (queues i) r) (record {
               queue = alike_narrower (queued_at (exchanges_by s.places s.sends.items) r)
                   (queued_at (put_exchange (exchanges_by s.places s.sends.items) (name_of pid (p.sends + 1)) x) r)
-                  (λ n. no_queue r n (same_name n (name_of pid (p.sends + 1))) refl) (list_at s.places s.queues.items r) s.arrived.items
+                  (λ n. no_queue r n (same_name n (name_of pid (p.sends + 1))) refl) (list_at s.places s.queues.items r) (arrived_in s)
                   was.queue;
               came = was.came;
             });

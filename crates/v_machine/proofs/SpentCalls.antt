@@ -19,13 +19,14 @@ use Rattle.vk_base.specs.declared.kernel.State.TheVariants as states
 use Rattle.vk_base.specs.declared.limits.TheConstants.{MOVE_BYTES, SEGMENT_BYTES}
 use Rattle.vk_base.specs.declared.message.Message.{Message}
 use Rattle.vk_base.specs.declared.pid.Pid.{Pid}
-use Rattle.vk_base.specs.Calls.{first_that_holds, may_read, may_write, is_granted, is_own, is_local_scope, tests_of, call_refusal, sent_exchange, sent, replied, is_at_once, copied_at_once, new_move, move_begun, begin_move, move_to, move_from, lookup_begun, get_pid, found_at_once, is_message_at, dropped_at, released, exited, accepted, called, call_step}
-use Rattle.vk_base.specs.Kernel.{Kernel, name_of, is_ready, sending, ended, held, held_exchange, put_process, put_exchange, with_state, with_memory}
+use Rattle.vk_base.specs.Calls.{first_that_holds, may_read, may_write, is_granted, is_own, is_local_scope, tests_of, call_refusal, sent_exchange, sent, replied, forward, forwarded, is_at_once, copied_at_once, new_move, move_begun, begin_move, move_to, move_from, lookup_begun, get_pid, found_at_once, is_message_at, dropped_at, released, exited, accepted, called, call_step}
+use Rattle.vk_base.specs.Kernel.{Kernel, name_of, is_live, is_ready, without, sending, ended, held, held_exchange, put_process, put_exchange, with_state, with_memory}
 use Rattle.vk_base.specs.Pids.{same_pid, same_host}
 use Rattle.vk_base.specs.Ranges.{range_of, bytes_in, with_bytes}
+use Rattle.v_machine.specs.Sends.{handed_on}
 use Rattle.v_machine.specs.Spent.{lean, lean_kernel}
 use Rattle.v_machine.proofs.Spent.{push_absorbed, length-emptied}
-use Rattle.v_machine.proofs.SpentKernels.{Same, lean_effect, bind_same, bind_same_at, unseen_same, answered_same, others_alike, lean_kernel_again, cond_alike, stage_again, stage_alike, mapped_same, cond_same, holds_lean, held_lean, held_exchange_lean, alike_twice, kernels_alike, put_alike, lean_again, map_alike}
+use Rattle.v_machine.proofs.SpentKernels.{Same, lean_effect, bind_same, bind_same_at, unseen_same, answered_same, others_alike, lean_kernel_again, cond_alike, stage_again, handed_again, stage_alike, mapped_same, cond_same, holds_lean, held_lean, held_exchange_lean, alike_twice, kernels_alike, put_alike, lean_again, map_alike}
 
 -- The refusals.
 
@@ -76,6 +77,9 @@ tests_lean k pid p (calls.ReceiveSegment start count) = refl
 tests_lean k pid p (calls.Reply m to) = ap (λ o. first_that_holds ((is_none o, refusals.NotAwaiting) ∷ [])) (held_lean k pid to)
 tests_lean k pid p (calls.ReplySegment m to dest src count) =
     access_lean k pid to may_write SEGMENT_BYTES count dest (is_own p src count) may_write_lean
+tests_lean k pid p (calls.Forward m from to) =
+    ap (λ o. first_that_holds ((is_none o, refusals.NotAwaiting)
+    ∷ (not (same_host pid to && is_live (k.procs to)), refusals.NoProcess) ∷ [])) (held_lean k pid from)
 tests_lean k pid p (calls.MoveTo partner dest src count) =
     access_lean k pid partner may_write MOVE_BYTES count dest (is_own p src count) may_write_lean
 tests_lean k pid p (calls.MoveFrom partner dest src count) =
@@ -117,6 +121,21 @@ replied_same k pid c to m dest bytes =
     bind_same_at (held (lean_kernel k) pid to) (held k pid to) _ _ (held_lean k pid to) (λ number holds.
     mapped_same lean (k.exchanges (name_of to number)) _ _ (λ e at.
     answered_same _ _ pid c answers.Ok (stage_alike k (name_of to number) e (stages.Replied m dest bytes))))
+
+forwarded_same : (k : Kernel) (name : Name) (e : Exchange) (m : Message) (to : Pid) →
+    lean_kernel (forwarded (lean_kernel k) name (lean e) m to) ≡ lean_kernel (forwarded k name e m to)
+unfolding lean_kernel forwarded
+forwarded_same k name e m to = kernels_alike k.procs _ _ (without name k.arrived ++ name ∷ []) k.names k.lookups
+    (put_alike (λ n. option_map lean (k.exchanges n)) k.exchanges name (handed_on m to (lean e)) (handed_on m to e) (alike_twice k)
+    (handed_again e m to))
+
+forward_same : (k : Kernel) (pid : Pid) (c : Call) (m : Message) (from to : Pid) →
+    Same (forward (lean_kernel k) pid c m from to) (forward k pid c m from to)
+unfolding lean_kernel
+forward_same k pid c m from to =
+    bind_same_at (held (lean_kernel k) pid from) (held k pid from) _ _ (held_lean k pid from) (λ number holds.
+    mapped_same lean (k.exchanges (name_of from number)) _ _ (λ e at.
+    answered_same _ _ pid c answers.Ok (forwarded_same k (name_of from number) e m to)))
 
 at_once_same : (k : Kernel) (pid : Pid) (c : Call) (into : Pid) (dest : ℕ) (bytes : List ℕ) →
     Same (copied_at_once (lean_kernel k) pid c into dest bytes) (copied_at_once k pid c into dest bytes)
@@ -198,6 +217,7 @@ accepted_same k pid p (calls.ReceiveSegment start count) =
 accepted_same k pid p (calls.Reply m to) = replied_same k pid (calls.Reply m to) to m 0 []
 accepted_same k pid p (calls.ReplySegment m to dest src count) =
     replied_same k pid (calls.ReplySegment m to dest src count) to m dest (bytes_in (range_of src count) p.memory)
+accepted_same k pid p (calls.Forward m from to) = forward_same k pid (calls.Forward m from to) m from to
 accepted_same k pid p (calls.MoveTo partner dest src count) =
     move_to_same k pid p (calls.MoveTo partner dest src count) partner dest src count
 accepted_same k pid p (calls.MoveFrom partner dest src count) =

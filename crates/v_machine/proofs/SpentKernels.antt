@@ -9,11 +9,13 @@ use Rattle.vk_base.specs.declared.kernel.Name.{Name}
 use Rattle.vk_base.specs.declared.kernel.Process.{Process}
 use Rattle.vk_base.specs.declared.kernel.Registration.{Registration}
 use Rattle.vk_base.specs.declared.kernel.Stage.{Stage}
+use Rattle.vk_base.specs.declared.message.Message.{Message}
 use Rattle.vk_base.specs.declared.pid.Pid.{Pid}
 use Rattle.vk_base.specs.Calls.{Effect, unseen, answered}
 use Rattle.vk_base.specs.Kernel.{◌>>=◌, Kernel, name_of, same_name, holds_of, is_held_by, held_up_to, held, held_exchange, is_queued_at, queue_of, put_exchange, waiting_on, with_stage}
 use Rattle.vk_base.specs.Steps.{only_if}
 use Rattle.v_laws.proofs.Tables.{same_name_is, put_exchange_at, put_exchange_other}
+use Rattle.v_machine.specs.Sends.{handed_on}
 use Rattle.v_machine.specs.Spent.{lean, lean_kernel}
 use Rattle.v_machine.proofs.Spent.{lean_twice}
 
@@ -167,6 +169,9 @@ lean_again e = ap (λ (o : Option Exchange). from o) (lean_twice (Some e))
 
 pub stage_again : (e : Exchange) (s : Stage) → lean (record (lean e) { stage = s }) ≡ lean (record e { stage = s })
 stage_again e s = ap (λ (x : Exchange). record x { stage = s }) (lean_again e)
+
+pub handed_again : (e : Exchange) (m : Message) (to : Pid) → lean (handed_on m to (lean e)) ≡ lean (handed_on m to e)
+handed_again e m to = ap (handed_on m to) (lean_again e)
 
 pub cond_alike : (b : Bool) (x y z w : Exchange) → lean x ≡ lean z → lean y ≡ lean w → lean (cond b x y) ≡ lean (cond b z w)
 cond_alike true x y z w one other = one

@@ -1,5 +1,5 @@
 -- What a step does where it is allowed, from what was found.
-use Rattle.std.proofs.Common.{◌≡◌, ℕ, Bool, false, not, List, [], ◌∷◌, Option, Some, None, is_none, nat_lt, refl, sym, ap, ◌∙◌}
+use Rattle.std.proofs.Common.{◌≡◌, ℕ, Bool, true, false, ◌&&◌, not, List, [], ◌∷◌, Option, Some, None, is_none, nat_lt, refl, sym, ap, ◌∙◌}
 use Rattle.std.proofs.lemmas.Bool.{both_ways}
 use Rattle.std.proofs.lemmas.Option.{same_Some, none-some}
 use Rattle.vk_base.specs.declared.answer.Answer.{Answer}
@@ -16,12 +16,13 @@ use Rattle.vk_base.specs.declared.kernel.Stage.TheVariants as stages
 use Rattle.vk_base.specs.declared.kernel.State.TheVariants as states
 use Rattle.vk_base.specs.declared.message.Message.{Message}
 use Rattle.vk_base.specs.declared.pid.Pid.{Pid}
-use Rattle.vk_base.specs.Calls.{answered, unseen, first_that_holds, replied}
-use Rattle.vk_base.specs.Kernel.{◌>>=◌, Kernel, held, held_exchange, with_stage, name_of, with_state, put_process, sending, reply_of, finished_call, ended}
+use Rattle.vk_base.specs.Calls.{answered, unseen, called, first_that_holds, replied, forwarded}
+use Rattle.vk_base.specs.Kernel.{◌>>=◌, Kernel, is_live, held, held_exchange, with_stage, name_of, with_state, put_process, sending, reply_of, finished_call, ended}
 use Rattle.vk_base.specs.Pids.{same_host}
 use Rattle.vk_base.specs.Ranges.{with_bytes}
-use Rattle.v_machine.specs.Kept.{IsNoNearer}
 use Rattle.vk_base.specs.Steps.{collecting, collect_step, failing, failure, fail_step, finishing, finish_step, finished, only_if}
+use Rattle.v_machine.specs.Kept.{IsNoNearer}
+use Rattle.v_machine.specs.Rules.{judged}
 
 -- one more thing that was found
 pub found : {A B : Type 0} (o : Option A) (a : A) (f : A → Option B) (r : Option B) → o ≡ Some a → f a ≡ r → (o >>= f) ≡ r
@@ -92,6 +93,24 @@ pub reply_allowed : (k after : Kernel) (pid to : Pid) (c : Call) (m : Message) (
 reply_allowed k after pid to c m dest number bytes e holds at is =
     found (held k pid to) number _ _ holds
     (found (k.exchanges (name_of to number)) e _ _ at (ap (λ z. Some (answered z pid c answers.Ok)) (sym is)))
+
+-- Forward, of a process that is alive and ready.
+pub forward_allowed : (k after : Kernel) (pid : Pid) (p : Process) (m : Message) (from to : Pid) (number : ℕ) (e : Exchange) →
+    held k pid from ≡ Some number → (same_host pid to && is_live (k.procs to)) ≡ true → k.exchanges (name_of from number) ≡ Some e →
+    after ≡ forwarded k (name_of from number) e m to →
+    judged k pid p (calls.Forward m from to) ≡ Some (answered after pid (calls.Forward m from to) answers.Ok)
+forward_allowed k after pid p m from to number e holds near at is =
+    let c : Call = calls.Forward m from to in
+    (λ i. called k pid p c (first_that_holds ((is_none (holds i), refusals.NotAwaiting) ∷ (not (near i), refusals.NoProcess) ∷ [])))
+    ∙ found (held k pid from) number _ _ holds
+    (found (k.exchanges (name_of from number)) e _ _ at (ap (λ z. Some (answered z pid c answers.Ok)) (sym is)))
+
+pub forward_nowhere : (k : Kernel) (pid : Pid) (p : Process) (m : Message) (from to : Pid) (number : ℕ) →
+    held k pid from ≡ Some number → (same_host pid to && is_live (k.procs to)) ≡ false →
+    judged k pid p (calls.Forward m from to) ≡ Some (answered k pid (calls.Forward m from to) (answers.Refused refusals.NoProcess))
+forward_nowhere k pid p m from to number holds far =
+    let c : Call = calls.Forward m from to in
+    λ i. called k pid p c (first_that_holds ((is_none (holds i), refusals.NotAwaiting) ∷ (not (far i), refusals.NoProcess) ∷ []))
 
 -- what replaces a stage with a reply is no nearer
 pub replied_is_nearer : (s : Stage) (m : Message) (dest : ℕ) (bytes : List ℕ) → IsNoNearer s (stages.Replied m dest bytes)

@@ -44,7 +44,7 @@ first_is_queued k pid name is =
     let first = first_is (queue_of k pid) name is in
     let passes = first_passes (λ n. holds_of (is_queued_at pid) (k.exchanges n)) k.arrived name first.0 first.1 in
     let e = some_that_holds (is_queued_at pid) (k.exchanges name) passes in
-    (e.0, e.1, (and_parts (same_pid e.0.target pid) (is_queued e.0.stage) e.2).1)
+    (e.0, e.1, (and_parts (same_pid e.0.at pid) (is_queued e.0.stage) e.2).1)
 
 -- what is queued may be taken
 pub taken_is_nearer : (s : Stage) → is_queued s ≡ true → IsNoNearer s stages.Taken

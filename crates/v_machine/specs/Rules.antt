@@ -1,5 +1,6 @@
 -- Internal: no public contract rests on this file. What the steps of a store answer.
 use Rattle.std.specs.Prelude.{ℕ, ◌≡◌, ◌≤◌, ◌<◌, ◌+◌, List, [], ◌∷◌, ◌++◌, length, vec_len, slice_index_or, if◌then◌else◌, Bool, true, false, Option, Some, None, IsSome, Result, Ok, Err}
+use Rattle.std.specs.List.{list_any}
 use Rattle.std.specs.Vec.{vec_capacity}
 use Rattle.vk_base.specs.declared.answer.Answer.TheVariants as answers
 use Rattle.vk_base.specs.declared.call.Call.{Call}
@@ -10,8 +11,8 @@ use Rattle.vk_base.specs.declared.kernel.Observation.{Observation}
 use Rattle.vk_base.specs.declared.kernel.Process.{Process}
 use Rattle.vk_base.specs.declared.message.Message.{Message}
 use Rattle.vk_base.specs.declared.pid.Pid.{Pid}
-use Rattle.vk_base.specs.Calls.{Effect, called, first_that_holds, tests_of}
-use Rattle.vk_base.specs.Kernel.{Kernel, name_of, is_ready, is_queued, is_posted, put_process, put_exchange}
+use Rattle.vk_base.specs.Calls.{Effect, called, first_that_holds, forwarded, tests_of}
+use Rattle.vk_base.specs.Kernel.{Kernel, name_of, same_name, is_ready, is_queued, is_posted, is_taken, put_process, put_exchange}
 use Rattle.vk_base.specs.Messages.{segment_of}
 use Rattle.vk_base.specs.Pids.{same_host}
 use Rattle.vk_base.specs.Ranges.{lies_in}
@@ -101,6 +102,22 @@ posted k pid p x = record k {
 pub record HasRoomFor (s : Store) (at host : ℕ) : Type 0 where
   pub arrived : vec_len s.arrived < vec_capacity s.arrived
   pub latest : (ls : List Latest) → ls ≡ slice_index_or s.latest.items at ls → has_host ls host ≡ true
+
+-- there is room for one more name, and this one is not among those that are kept for the queue of this place
+pub record HasWay (s : Store) (to : ℕ) (name : Name) : Type 0 where
+  pub arrived : vec_len s.arrived < vec_capacity s.arrived
+  pub absent : (ns : List Name) → ns ≡ slice_index_or s.queues.items to ns → list_any (same_name name) ns ≡ false
+
+-- a process has taken the message of this exchange, and it is not replied to
+pub record IsTaken (k : Kernel) (name : Name) : Type 0 where
+  pub exchange : Exchange
+  pub is : k.exchanges name ≡ Some exchange
+  pub taken : is_taken exchange.stage ≡ true
+
+-- the message of this exchange is handed on to a process, which is shown this one
+abbrev pub HandsOn : Name → Message → Pid → Store → Store → Type 0
+HandsOn name m to old new = (e : Exchange) → (kernel_in old).exchanges name ≡ Some e →
+    (kernel_in new ≡ forwarded (kernel_in old) name e m to) × IsIndexed new
 
 -- the store has one more Send of a process that was ready
 abbrev pub Posts : Pid → Exchange → Store → Store → Type 0

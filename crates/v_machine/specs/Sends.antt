@@ -4,6 +4,8 @@ use Rattle.vk_base.specs.declared.kernel.Exchange.{Exchange}
 use Rattle.vk_base.specs.declared.kernel.Move.{Move}
 use Rattle.vk_base.specs.declared.kernel.Stage.{Stage}
 use Rattle.vk_base.specs.declared.kernel.Stage.TheVariants as stages
+use Rattle.vk_base.specs.declared.message.Message.{Message}
+use Rattle.vk_base.specs.declared.pid.Pid.{Pid}
 use Rattle.vk_base.specs.Kernel.{is_posted, is_at_target}
 use Rattle.v_machine.specs.declared.tables.remote.Moving.{Moving}
 use Rattle.v_machine.specs.Lists.{change_numbered}
@@ -11,6 +13,10 @@ use Rattle.v_machine.specs.Spent.{emptied}
 
 abbrev pub at_stage : Stage → Exchange → Exchange
 at_stage stage e = record e { stage = stage }
+
+-- handed on to another process, which is shown this message
+abbrev pub handed_on : Message → Pid → Exchange → Exchange
+handed_on m to e = record e { at = to; shown = m; stage = stages.Queued }
 
 -- a Send to this host is dropped, where it is neither replied to nor dropped
 abbrev pub dropped_to : ℕ → Exchange → Exchange

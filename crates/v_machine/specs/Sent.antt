@@ -1,5 +1,5 @@
 -- Internal: no public contract rests on this file. What an exchange in few bytes stands for.
-use Rattle.std.specs.Prelude.{[]}
+use Rattle.std.specs.Prelude.{Bool, true, [], Option, Some}
 use Rattle.vk_base.specs.declared.kernel.Exchange.{Exchange}
 use Rattle.vk_base.specs.declared.kernel.Stage.{Stage}
 use Rattle.vk_base.specs.declared.kernel.Stage.TheVariants as stages
@@ -7,6 +7,7 @@ use Rattle.vk_base.specs.declared.message.Message.{Message}
 use Rattle.vk_base.specs.declared.pid.Pid.{Pid}
 use Rattle.v_machine.specs.Apart.{only_part}
 use Rattle.v_machine.specs.declared.tables.apart.Rare.{Rare}
+use Rattle.v_machine.specs.declared.tables.handed.Handing.{Handing}
 use Rattle.v_machine.specs.declared.tables.sent.Phase.{Phase}
 use Rattle.v_machine.specs.declared.tables.sent.Phase.TheVariants as phases
 
@@ -18,11 +19,18 @@ stage_by phases.Taken m r = stages.Taken
 stage_by phases.Replied m r = stages.Replied m r.dest r.bytes
 stage_by phases.Dropped m r = stages.Dropped
 
-abbrev pub exchange_by : Pid → Message → Phase → Message → Rare → Exchange
-exchange_by target message phase reply r = record {
+-- where a message is and what is shown there: its target and itself, where it was not handed on
+abbrev pub handing_by : Bool → Option Handing → Pid → Message → Handing
+handing_by true (Some h) target message = h
+handing_by is_handed h target message = record { at = target; shown = message }
+
+abbrev pub exchange_by : Pid → Message → Phase → Message → Bool → Rare → Exchange
+exchange_by target message phase reply is_handed r = record {
   target = target;
   message = message;
   part = r.part;
+  at = (handing_by is_handed r.handed target message).at;
+  shown = (handing_by is_handed r.handed target message).shown;
   stage = stage_by phase reply r;
   moves = r.moving.moves;
   opened = r.moving.opened;

@@ -23,7 +23,7 @@ pub record Tables : Type 0 where
   pub asked : List (List Lookup)
   -- what was registered, at all stations
   pub names : List Registration
-  -- the names of what came to queues
+  -- the names of what came to queues, in the order in which they came there last
   pub arrived : List Name
   -- how many bytes were noted for remote moves
   pub noted : ℕ

@@ -8,6 +8,7 @@ ghost use Rattle.v_machine.specs.Rules.{Accepts, Answers, Counts, is_access, is_
 
 pub mod access;
 pub mod exiting;
+pub mod forwarding;
 pub mod held;
 pub mod loads;
 pub mod lookups;
@@ -19,6 +20,7 @@ pub mod response;
 pub mod sending;
 
 use crate::calls::exiting::exit;
+use crate::calls::forwarding::forward;
 use crate::calls::loads::load;
 use crate::calls::lookups::get_pid;
 use crate::calls::moves::{MoveRequest, move_from, move_to};
@@ -91,6 +93,7 @@ fn accept(
             store, at, pid, start, count,
         )),
         BriefCall::Reply { message, to } => Ok(reply(store, alloc, pid, message, to)),
+        BriefCall::Forward { message, from, to } => forward(store, alloc, pid, message, from, to),
         BriefCall::ReplySegment { .. } | BriefCall::MoveTo { .. } | BriefCall::MoveFrom { .. } => {
             accept_access(store, room, alloc, at, pid, call)
         }

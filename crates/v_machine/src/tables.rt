@@ -4,6 +4,7 @@ pub mod apart;
 pub mod arrivals;
 pub mod bytes;
 pub mod groups;
+pub mod handed;
 pub mod initial;
 pub mod latest;
 pub mod lookups;
@@ -34,6 +35,7 @@ pub struct Store {
     pub sends: Vec<Numbered<Sent>>,
     pub asked: Vec<Numbered<Lookup>>,
     pub names: Vec<Registration>,
+    /// What came to queues, in order. A name that came there anew stands here again: its last place counts.
     pub arrived: Vec<Name>,
     /// For each process what came to its queue, and may still be queued.
     pub queues: Vec<Queue>,

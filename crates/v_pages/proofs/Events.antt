@@ -45,9 +45,9 @@ use Rattle.v_pages.specs.Requests.{Request, request_at}
 use Rattle.v_pages.specs.Written.{IsSentBefore}
 use Rattle.v_pages.proofs.Sent.{writes_sent}
 use Rattle.v_pages.specs.Scheduled.{FollowsIn, answers_in, call_of, calls_in}
-use Rattle.v_pages.specs.Served.{IsServed}
+use Rattle.v_pages.specs.Served.{IsServed, IsServedAlone, RepliesToLast}
 use Rattle.v_pages.proofs.Seen.{answers_seen, one_mapped, up_to_mapped}
-use Rattle.v_pages.proofs.Senders.{senders_served}
+use Rattle.v_pages.proofs.Senders.{requests_served, senders_served}
 
 -- The steps of an event: those of a call begin with it, and no other step is a call.
 pub data EventSteps (e : Event) (ss : List Step) : Type 0 where
@@ -231,10 +231,19 @@ follows_on task c es r schedule follows i call is =
     answers_seen c.specs (steps_of c es) r i _ (ap (run (initial_kernel c.specs)) m.front ∙ whole.run) in
     record { answered = ap length answers ∙ next.answered ∙ ap length (sym calls); told = ap task answers ∙ next.told }
 
+pub requests_served_in : (c : Settings) (es : List Event) (r : Pid) (pages requests i j : ℕ) (s target : Pid) (message reply : Message) →
+    IsSchedule c es → FollowsIn (server_call pages requests) c es r → slice_get (steps_of c es) i ≡ Some (steps.Collect s) →
+    seen_at c.specs (steps_of c es) i ≡ saw s (calls.Send target message) (answers.Replied reply) →
+    RepliesToLast c.specs (steps_of c es) i j s r → IsServed c.specs (steps_of c es) i j s r pages reply
+requests_served_in c es r pages requests i j s target message reply schedule follows =
+    let whole = schedules_run c es schedule.distinct schedule.callers in
+    requests_served c.specs (steps_of c es) _ r pages requests i j s target message reply whole.run
+    (follows_on (server_call pages requests) c es r schedule follows)
+
 pub senders_served_in : (c : Settings) (es : List Event) (r : Pid) (pages requests i : ℕ) (s : Pid) (message reply : Message) →
     IsSchedule c es → FollowsIn (server_call pages requests) c es r → slice_get (steps_of c es) i ≡ Some (steps.Collect s) →
     seen_at c.specs (steps_of c es) i ≡ saw s (calls.Send r message) (answers.Replied reply) →
-    IsServed c.specs (steps_of c es) i s r pages message reply
+    IsServedAlone c.specs (steps_of c es) i s r pages message reply
 senders_served_in c es r pages requests i s message reply schedule follows is sees =
     let whole = schedules_run c es schedule.distinct schedule.callers in
     senders_served c.specs (steps_of c es) _ r pages requests i s message reply whole.run

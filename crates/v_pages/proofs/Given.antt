@@ -146,7 +146,7 @@ given_to pages requests specs ss r s i j number reply dest bytes follows rep tak
     let standing = (subst (Doing pages at.kept all rep.caller at.stage made (length given)) ready at.doing).1 in
     let g = gives_on pages at.kept at.stage all s reply dest bytes rep.caller rep.call standing
     (called_after at.kept pages requests at.replies at.stage given at.is ∙ next.told) rep.gives in
-    let l = last_taken specs ss r s i j number k.0 g.earlier g.request takes is less k.1 holds g.last g.sender in
+    let l = last_taken pages requests specs ss r s i j number k.0 g.earlier g.request follows takes is less k.1 holds g.last g.sender in
     record {
       request = g.request;
       takes = l.is;

@@ -7,10 +7,12 @@ mod Given
 mod Lists
 mod Own
 mod Places
+mod Replied
 mod Seen
 mod Senders
 mod Sent
 mod Standing
+mod Staying
 mod Taken
 mod Touched
 mod Turns

@@ -14,7 +14,7 @@ use Rattle.vk_base.specs.declared.message.Message.{Message}
 use Rattle.vk_base.specs.declared.pid.Pid.{Pid}
 use Rattle.vk_base.specs.declared.step.Step.{Step}
 use Rattle.vk_base.specs.declared.step.Step.TheVariants as steps
-use Rattle.vk_base.specs.Calls.{Effect, accepted, called, call_refusal, replied, copied_at_once, begin_move, new_move, is_at_once, get_pid, found_at_once}
+use Rattle.vk_base.specs.Calls.{Effect, accepted, called, call_refusal, replied, forward, copied_at_once, begin_move, new_move, is_at_once, get_pid, found_at_once}
 use Rattle.vk_base.specs.Kernel.{◌>>=◌, Kernel, name_of, held}
 use Rattle.vk_base.specs.Pids.{same_pid}
 use Rattle.vk_base.specs.Ranges.{range_of, bytes_in}
@@ -41,6 +41,13 @@ replied_seen k pid c to m dest bytes e g =
     let x = bind_is (k.exchanges (name_of to number.0)) _ e number.2 in
     by_effect pid c _ e x.2 (inr (answers.Ok, refl))
 
+forwarded_seen : (k : Kernel) (pid : Pid) (c : Call) (m : Message) (from to : Pid) (e : Effect) → forward k pid c m from to ≡ Some e →
+    SeenBy pid c e
+forwarded_seen k pid c m from to e g =
+    let number = bind_is (held k pid from) _ e g in
+    let x = bind_is (k.exchanges (name_of from number.0)) _ e number.2 in
+    by_effect pid c _ e x.2 (inr (answers.Ok, refl))
+
 at_once_seen : (k : Kernel) (pid : Pid) (c : Call) (into : Pid) (dest : ℕ) (bytes : List ℕ) (e : Effect) →
     copied_at_once k pid c into dest bytes ≡ Some e → SeenBy pid c e
 unfolding copied_at_once
@@ -64,6 +71,7 @@ accepted_seen k pid p (calls.ReceiveSegment start count) e g = by_effect pid (ca
 accepted_seen k pid p (calls.Reply m to) e g = replied_seen k pid (calls.Reply m to) to m 0 [] e g
 accepted_seen k pid p (calls.ReplySegment m to dest src count) e g =
     replied_seen k pid (calls.ReplySegment m to dest src count) to m dest (bytes_in (range_of src count) p.memory) e g
+accepted_seen k pid p (calls.Forward m from to) e g = forwarded_seen k pid (calls.Forward m from to) m from to e g
 accepted_seen k pid p (calls.MoveTo partner dest src count) e g =
     let c : Call = calls.MoveTo partner dest src count in
     let bytes = bytes_in (range_of src count) p.memory in

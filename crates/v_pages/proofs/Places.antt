@@ -40,16 +40,16 @@ answer_here specs ss r i k s e at is does =
 
 asked_of : Pid → Option Process → Taking → Option Request
 asked_of r o t = o >>= λ (p : Process).
-    Some (record { name = t.name; message = t.exchange.message; bytes = bytes_in (range_of 0 PAGE_BYTES) p.memory })
+    Some (record { name = t.name; message = t.exchange.shown; bytes = bytes_in (range_of 0 PAGE_BYTES) p.memory })
 
 pub request_here : (specs : List ProcessSpec) (ss : List Step) (r : Pid) (i : ℕ) (k : Kernel) (s : Step) (e : Effect) →
     before specs ss i ≡ Some k →
     slice_get ss i ≡ Some s → effect k s ≡ Some e → request_at specs ss r i ≡ request_by r k s e
 request_here specs ss r i k s e at is does =
     at_place (λ k s. taking_by r k s >>= λ t. process_after specs ss i r >>= λ p.
-    Some (record { name = t.name; message = t.exchange.message; bytes = bytes_in (range_of 0 PAGE_BYTES) p.memory })) specs ss i k s at is
+    Some (record { name = t.name; message = t.exchange.shown; bytes = bytes_in (range_of 0 PAGE_BYTES) p.memory })) specs ss i k s at is
     ∙ ap (λ (o : Option Process). taking_by r k s >>= λ t. o >>= λ p.
-    Some (record { name = t.name; message = t.exchange.message; bytes = bytes_in (range_of 0 PAGE_BYTES) p.memory }))
+    Some (record { name = t.name; message = t.exchange.shown; bytes = bytes_in (range_of 0 PAGE_BYTES) p.memory }))
     (left_at specs ss i k s e r at is does)
 
 -- One step more.
@@ -89,9 +89,9 @@ none_there pages requests specs ss r i k p at none is =
     no_request : before specs ss i ≡ Some k → request_at specs ss r i ≡ None
     no_request at =
         ap (λ o. o >>= λ k. slice_get ss i >>= λ s. taking_by r k s >>= λ t. process_after specs ss i r >>= λ p.
-        Some (record { name = t.name; message = t.exchange.message; bytes = bytes_in (range_of 0 PAGE_BYTES) p.memory })) at
+        Some (record { name = t.name; message = t.exchange.shown; bytes = bytes_in (range_of 0 PAGE_BYTES) p.memory })) at
         ∙ ap (λ o. o >>= λ s. taking_by r k s >>= λ t. process_after specs ss i r >>= λ p.
-        Some (record { name = t.name; message = t.exchange.message; bytes = bytes_in (range_of 0 PAGE_BYTES) p.memory })) none
+        Some (record { name = t.name; message = t.exchange.shown; bytes = bytes_in (range_of 0 PAGE_BYTES) p.memory })) none
 
 step_there : (pages requests : ℕ) (specs : List ProcessSpec) (ss : List Step) (r : Pid) (i : ℕ) (k : Kernel) (s : Step) (e : Effect)
     (p y : Process) → Follows (server_call pages requests) specs ss r → before specs ss i ≡ Some k → slice_get ss i ≡ Some s →

@@ -1,6 +1,6 @@
 -- A lawful write has the bytes of its sender as they were at the Send.
-use Rattle.std.proofs.Common.{◌≡◌, ℕ, suc, ◌+◌, ◌<◌, Bool, true, ◌==◌, ◌&&◌, min, not, nat_lt, List, [], ◌∷◌, length, take, slice_get, Option, Some, is_some, refl, sym, ap, subst, ◌∙◌, inl, inr, arith}
-use Rattle.std.proofs.lemmas.Bool.{and_parts, both_ways, cond-true, eqb-true, not-false}
+use Rattle.std.proofs.Common.{◌≡◌, ℕ, suc, ◌+◌, ◌<◌, Bool, true, ◌&&◌, min, not, List, [], ◌∷◌, length, take, slice_get, Option, Some, is_some, refl, sym, ap, subst, ◌∙◌, inl, inr, arith}
+use Rattle.std.proofs.lemmas.Bool.{both_ways, cond-true, not-false}
 use Rattle.std.proofs.lemmas.List.{append-nil}
 use Rattle.std.proofs.lemmas.Option.{same_Some}
 use Rattle.std.proofs.Math.Seq.{take-append_seam}
@@ -22,7 +22,6 @@ use Rattle.vk_base.specs.Pids.{same_host}
 use Rattle.vk_base.specs.Ranges.{range_of, lies_in, bytes_in, with_bytes}
 use Rattle.vk_base.specs.Steps.{taken, with_part}
 use Rattle.vk_event.specs.declared.task.TheConstants.{PAGE_BYTES}
-use Rattle.vk_pages.specs.Messages.{code_of, page_of}
 use Rattle.vk_pages.specs.Servers.{server_call}
 use Rattle.v_laws.specs.Places.{before, process_at}
 use Rattle.v_laws.proofs.Later.{IsLater, IsNew, exchange_before}
@@ -41,6 +40,7 @@ use Rattle.v_pages.specs.Written.{IsSentBefore}
 use Rattle.v_pages.proofs.Collected.{left_at}
 use Rattle.v_pages.proofs.Lists.{read_back}
 use Rattle.v_pages.proofs.Places.{server_before}
+use Rattle.v_pages.proofs.Staying.{as_sent}
 use Rattle.v_pages.proofs.Taken.{request_is}
 use Rattle.v_pages.proofs.Turns.{after_take, waiting_when}
 
@@ -90,13 +90,7 @@ made_by specs ss i n k e at there t =
       | inr new ↦ made_new specs ss i n t y.0 e new (subst (IsLater y.0) (same_Some on.0 e (sym on.1 ∙ there)) on.2)
     ]
 
--- The part of a lawful write is all of its segment.
-write_is : (pages : ℕ) (m : Message) → is_lawful_write pages m ≡ true → (grants_read m ≡ true) × ((segment_of m).len ≡ PAGE_BYTES)
-write_is pages m lawful =
-    let all = and_parts (code_of m == 2 && nat_lt (page_of m) pages && grants_read m) ((segment_of m).len == PAGE_BYTES) lawful in
-    let three = and_parts (code_of m == 2 && nat_lt (page_of m) pages) (grants_read m) all.0 in
-    (three.1, eqb-true (segment_of m).len PAGE_BYTES all.1)
-
+-- The part of a Send that lets be read as many bytes as a page has is all of its segment.
 whole_part : (m : Message) (memory : List ℕ) → grants_read m ≡ true → (segment_of m).len ≡ PAGE_BYTES →
     first_part m memory ≡ bytes_in (segment_of m) memory
 whole_part m memory reads size =
@@ -132,26 +126,30 @@ writes_sent specs ss r pages requests i q follows takes lawful =
     let there : a.kernel.exchanges q.name ≡ Some t.exchange = ap a.kernel.exchanges a.name ∙ is.exchange in
     let m = made_by specs ss i q.name a.kernel t.exchange a.at there
     (turn specs ss (is_there q.name) refl i a.kernel a.at (ap is_some there)) in
-    let target = same_pid_is t.exchange.target r (taken_was_queued a.kernel r t a.takes).0 in
+    let sound = before_sound specs ss i a.kernel a.at in
+    let here = same_pid_is t.exchange.at r (taken_was_queued a.kernel r t a.takes).0 in
     let server = server_before pages requests specs ss r follows i a.kernel t.process a.at is.process in
     let w = waiting_when pages server.kept (requests_before specs ss r i) t.process server.stage (length (calls_before ss r i))
     (length (answers_before specs ss r i)) t.process.state t.call server.doing is.call in
     let left = sym (left_at specs ss i a.kernel (steps.Take r) (unseen (taken a.kernel r t)) r a.at a.is
     (ap (λ o. o >>= λ x. Some (unseen (taken a.kernel r x))) a.takes)) ∙ a.left in
     let memory = ap (λ (z : Process). z.memory) (after_take a.kernel r t a.after left) in
-    let write = write_is pages q.message lawful in
-    let part : t.exchange.part ≡ bytes_in (segment_of q.message) m.caller.memory =
-    m.part ∙ ap (λ x. first_part x m.caller.memory) (sym a.message) ∙ whole_part q.message m.caller.memory write.0 write.1 in
-    let room = ap (λ x. lies_in (segment_of x) (length m.caller.memory)) a.message ∙ m.room in
-    let size = ap length part ∙ part_size q.message m.caller.memory write.1 room in
     record {
       place = m.place;
       earlier = m.earlier;
-      is = m.is ∙ (λ j. Some (steps.Call q.name.sender (calls.Send (target j) (sym a.message j))));
+      target = t.exchange.target;
+      near = ap (same_host t.exchange.target) (sym here) ∙ sound.near q.name t.exchange there;
+      message = t.exchange.message;
+      is = m.is;
       caller = m.caller;
       at = m.at;
       number = m.number;
-      bytes = a.bytes ∙ ap (bytes_in (range_of 0 PAGE_BYTES)) (sym memory)
+      own = λ to. sym (as_sent pages requests specs ss r follows i a.kernel a.at q.name t.exchange there to).shown ∙ sym a.message;
+      bytes = λ reads size.
+          let part : t.exchange.part ≡ bytes_in (segment_of t.exchange.message) m.caller.memory =
+          m.part ∙ whole_part t.exchange.message m.caller.memory reads size in
+          let all = ap length part ∙ part_size t.exchange.message m.caller.memory size m.room in
+          a.bytes ∙ ap (bytes_in (range_of 0 PAGE_BYTES)) (sym memory)
           ∙ ap (λ c. bytes_in (range_of 0 PAGE_BYTES) (with_part c t.exchange t.process.memory)) w.call
-          ∙ read_whole t.process.memory t.exchange.part size ∙ part;
+          ∙ read_whole t.process.memory t.exchange.part all ∙ part;
     }

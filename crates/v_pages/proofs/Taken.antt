@@ -1,6 +1,6 @@
 -- The request that a server took last is the one that it holds.
 use Rattle.std.proofs.Common.{◌≡◌, ℕ, suc, ◌<◌, ◌≤◌, true, false, List, [], ◌∷◌, ◌++◌, slice_get, Some, None, option_map, refl, sym, ap, ◌∙◌, inl, inr, arith, take}
-use Rattle.std.proofs.lemmas.Bool.{both_ways, cases_order, cond-true, eq-eqb}
+use Rattle.std.proofs.lemmas.Bool.{both_ways, cases_order, cond-true, eq-eqb, eqb-true}
 use Rattle.std.proofs.lemmas.Option.{same_Some, none-some}
 use Rattle.vk_base.specs.declared.config.ProcessSpec.{ProcessSpec}
 use Rattle.vk_base.specs.declared.kernel.Exchange.{Exchange}
@@ -14,25 +14,27 @@ use Rattle.vk_base.specs.declared.step.Step.{Step}
 use Rattle.vk_base.specs.declared.step.Step.TheVariants as steps
 use Rattle.vk_base.specs.Calls.{unseen}
 use Rattle.vk_base.specs.Kernel.{◌>>=◌, Kernel, initial_kernel, held, is_taken, name_of}
-use Rattle.vk_base.specs.Pids.{same_pid}
+use Rattle.vk_base.specs.Pids.{same_host, same_pid}
 use Rattle.vk_base.specs.Ranges.{range_of, bytes_in}
 use Rattle.vk_base.specs.Steps.{Run, Taking, run, taking, taken, received, with_part}
 use Rattle.vk_base.proofs.OptionLemmas.{bind_is}
 use Rattle.vk_event.specs.declared.task.TheConstants.{PAGE_BYTES}
+use Rattle.vk_pages.specs.Servers.{server_call}
 use Rattle.v_laws.specs.Places.{before, process_after, taken_at, taken_by}
 use Rattle.v_laws.specs.Reached.{IsReached}
 use Rattle.v_laws.proofs.Changes.{taken_is_at_target}
 use Rattle.v_laws.proofs.Held.{holding_is}
-use Rattle.v_laws.proofs.Later.{rank}
-use Rattle.v_laws.proofs.OnceLemmas.{go_on, one_open, taken_at_is, taken_once, taken_over}
+use Rattle.v_laws.proofs.OnceLemmas.{IsTakenAt, one_open, taken_at_is, taken_over}
 use Rattle.v_laws.proofs.Options.{mapped_is}
-use Rattle.v_laws.proofs.PlaceLemmas.{at_place}
+use Rattle.v_laws.proofs.PlaceLemmas.{at_place, before_sound}
 use Rattle.v_laws.proofs.Queues.{taken_was_queued}
 use Rattle.v_laws.proofs.StepLemmas.{only_if_is}
 use Rattle.v_laws.proofs.Tables.{same_pid_is, same_pid_self, put_process_here}
+use Rattle.v_pages.specs.Followed.{Follows}
 use Rattle.v_pages.specs.Requests.{Request, request_at, requests_before, taking_by}
 use Rattle.v_pages.proofs.Lists.{IsLastAt, last_at}
 use Rattle.v_pages.proofs.Places.{request_here}
+use Rattle.v_pages.proofs.Staying.{queued_reach, reach, stays_with}
 
 -- A request that was taken at a place.
 pub record IsRequestAt (specs : List ProcessSpec) (ss : List Step) (r : Pid) (i : ℕ) (q : Request) : Type 0 where
@@ -42,7 +44,7 @@ pub record IsRequestAt (specs : List ProcessSpec) (ss : List Step) (r : Pid) (i 
   pub take : Taking
   pub takes : taking kernel r ≡ Some take
   pub name : q.name ≡ take.name
-  pub message : q.message ≡ take.exchange.message
+  pub message : q.message ≡ take.exchange.shown
   pub after : Process
   pub left : process_after specs ss i r ≡ Some after
   pub bytes : q.bytes ≡ bytes_in (range_of 0 PAGE_BYTES) after.memory
@@ -101,14 +103,14 @@ pub request_of : (specs : List ProcessSpec) (ss : List Step) (r : Pid) (i : ℕ)
 request_of specs ss r i k t at is takes =
     let e = unseen (taken k r t) in
     let y = taken_leaves k r t in
-    let q : Request = record { name = t.name; message = t.exchange.message; bytes = bytes_in (range_of 0 PAGE_BYTES) y.0.memory } in (
+    let q : Request = record { name = t.name; message = t.exchange.shown; bytes = bytes_in (range_of 0 PAGE_BYTES) y.0.memory } in (
       q,
       request_here specs ss r i k (steps.Take r) e at is (ap (λ o. o >>= λ t. Some (unseen (taken k r t))) takes)
           ∙ ap (λ o. o >>= λ (t : Taking). e.after.procs r >>= λ (p : Process).
-          Some (record { name = t.name; message = t.exchange.message; bytes = bytes_in (range_of 0 PAGE_BYTES) p.memory }))
+          Some (record { name = t.name; message = t.exchange.shown; bytes = bytes_in (range_of 0 PAGE_BYTES) p.memory }))
           (cond-true (same_pid r r) (taking k r) None (same_pid_self r) ∙ takes)
           ∙ ap (λ o. o >>= λ (p : Process).
-          Some (record { name = t.name; message = t.exchange.message; bytes = bytes_in (range_of 0 PAGE_BYTES) p.memory })) y.1,
+          Some (record { name = t.name; message = t.exchange.shown; bytes = bytes_in (range_of 0 PAGE_BYTES) p.memory })) y.1,
     )
 
 -- Two that are taken at the same time are one.
@@ -122,65 +124,91 @@ reached_before specs ss i k at =
       is = r.1 ∙ (λ j. Some (record { after = r.2 j; seen = r.0.seen }));
     }
 
-rank_two : (s : Stage) → 2 ≤ rank s → rank s ≤ 2 → is_taken s ≡ true
-rank_two stages.Posted a b = absurd (omega arith)
-rank_two stages.Queued a b = absurd (omega arith)
-rank_two stages.Taken a b = refl
-rank_two (stages.Replied m d bytes) a b = absurd (omega arith)
-rank_two stages.Dropped a b = absurd (omega arith)
+past_taken : (s : Stage) → 2 ≤ reach s → reach s ≤ 2 → is_taken s ≡ true
+past_taken stages.Posted a b = absurd (omega arith)
+past_taken stages.Queued a b = absurd (omega arith)
+past_taken stages.Taken a b = refl
+past_taken (stages.Replied m d bytes) a b = absurd (omega arith)
+past_taken stages.Dropped a b = absurd (omega arith)
 
-taken_rank : (s : Stage) → is_taken s ≡ true → rank s ≡ 2
-taken_rank stages.Posted t = absurd (both_ways false refl t)
-taken_rank stages.Queued t = absurd (both_ways false refl t)
-taken_rank stages.Taken t = refl
-taken_rank (stages.Replied m d bytes) t = absurd (both_ways false refl t)
-taken_rank stages.Dropped t = absurd (both_ways false refl t)
+taken_reach : (s : Stage) → is_taken s ≡ true → reach s ≡ 2
+taken_reach stages.Posted t = absurd (both_ways false refl t)
+taken_reach stages.Queued t = absurd (both_ways false refl t)
+taken_reach stages.Taken t = refl
+taken_reach (stages.Replied m d bytes) t = absurd (both_ways false refl t)
+taken_reach stages.Dropped t = absurd (both_ways false refl t)
 
--- what is held at a place was held from its Take on
-held_since : (specs : List ProcessSpec) (ss : List Step) (i l j : ℕ) (r s : Pid) (number : ℕ) (m k : Kernel) →
-    taken_at specs ss i ≡ Some (name_of s number) → i < l → l ≤ j → before specs ss l ≡ Some m → before specs ss j ≡ Some k →
+take_same : (p q : Pid) → steps.Take p ≡ steps.Take q → p ≡ q
+take_same p q e = cc
+
+-- what a process takes is at that process
+taker : (specs : List ProcessSpec) (ss : List Step) (i : ℕ) (n : Name) (r : Pid) (a : IsTakenAt specs ss i n) →
+    slice_get ss i ≡ Some (steps.Take r) → a.take.exchange.at ≡ r
+taker specs ss i n r a is = same_pid_is a.take.exchange.at a.receiver (taken_was_queued a.kernel a.receiver a.take a.takes).0
+    ∙ take_same a.receiver r (same_Some (steps.Take a.receiver) (steps.Take r) (sym a.is ∙ is))
+
+-- what the server took it takes no second time
+pub not_again : (pages requests : ℕ) (specs : List ProcessSpec) (ss : List Step) (i l : ℕ) (r : Pid) (n : Name) →
+    Follows (server_call pages requests) specs ss r → taken_at specs ss i ≡ Some n → slice_get ss i ≡ Some (steps.Take r) →
+    taken_at specs ss l ≡ Some n → i < l → ⊥
+not_again pages requests specs ss i l r n follows first is second less =
+    let a = taken_at_is specs ss i n first in
+    let b = taken_at_is specs ss l n second in
+    let o = taken_over specs ss i n a in
+    let p = taken_over specs ss l n b in
+    let x = stays_with pages requests specs ss r follows (suc i) l o.after b.kernel (omega arith) o.at b.at n
+    (record a.take.exchange { stage = stages.Taken }) o.there (taker specs ss i n r a is) in
+    let far = x.2.far in
+    let low : reach x.0.stage ≡ 1 = ap (λ (z : Exchange). reach z.stage) (same_Some x.0 b.take.exchange (sym x.1 ∙ p.queued))
+    ∙ queued_reach b.take.exchange.stage (taken_was_queued b.kernel b.receiver b.take b.takes).1 in
+    absurd (omega arith)
+
+-- what it holds at a place it held from its Take on
+held_since : (pages requests : ℕ) (specs : List ProcessSpec) (ss : List Step) (i l j : ℕ) (r s : Pid) (number : ℕ) (m k : Kernel) →
+    Follows (server_call pages requests) specs ss r → taken_at specs ss i ≡ Some (name_of s number) →
+    slice_get ss i ≡ Some (steps.Take r) → i < l → l ≤ j → before specs ss l ≡ Some m → before specs ss j ≡ Some k →
     held k r s ≡ Some number →
-    (x : Exchange) × (m.exchanges (name_of s number) ≡ Some x) × (is_taken x.stage ≡ true) × (x.target ≡ r)
-held_since specs ss i l j r s number m k takes less up at_l at_j holds =
+    (x : Exchange) × (m.exchanges (name_of s number) ≡ Some x) × (is_taken x.stage ≡ true) × (x.at ≡ r)
+held_since pages requests specs ss i l j r s number m k follows takes is less up at_l at_j holds =
     let n = name_of s number in
     let a = taken_at_is specs ss i n takes in
     let o = taken_over specs ss i n a in
     let h = holding_is k r s number holds in
-    let x = go_on specs ss (suc i) l o.after m (omega arith) o.at at_l n (record a.take.exchange { stage = stages.Taken }) o.there in
-    let y = go_on specs ss l j m k up at_l at_j n x.0 x.1 in
+    let x = stays_with pages requests specs ss r follows (suc i) l o.after m (omega arith) o.at at_l n
+    (record a.take.exchange { stage = stages.Taken }) o.there (taker specs ss i n r a is) in
+    let y = stays_with pages requests specs ss r follows l j m k up at_l at_j n x.0 x.1 x.2.at in
     let same : y.0 ≡ h.exchange = same_Some y.0 h.exchange (sym y.1 ∙ h.is) in
-    let low = x.2.rank in
-    let high = y.2.rank in
-    let last : rank y.0.stage ≡ 2 = ap (λ (z : Exchange). rank z.stage) same ∙ taken_rank h.exchange.stage h.taken in (
-      x.0,
-      x.1,
-      rank_two x.0.stage low (omega arith),
-      sym y.2.target ∙ ap (λ (z : Exchange). z.target) same ∙ same_pid_is h.exchange.target r h.target,
-    )
+    let low = x.2.far in
+    let high = y.2.far in
+    let last : reach y.0.stage ≡ 2 = ap (λ (z : Exchange). reach z.stage) same ∙ taken_reach h.exchange.stage h.taken in
+    (x.0, x.1, past_taken x.0.stage low (omega arith), x.2.at)
 
 -- so of two Takes of one sender by a server the second is the one that it holds
-never_both : (specs : List ProcessSpec) (ss : List Step) (i l j : ℕ) (r s : Pid) (number : ℕ) (k : Kernel) (q : Request) →
-    taken_at specs ss i ≡ Some (name_of s number) → request_at specs ss r l ≡ Some q → q.name.sender ≡ s → i < l → l < j →
+never_both : (pages requests : ℕ) (specs : List ProcessSpec) (ss : List Step) (i l j : ℕ) (r s : Pid) (number : ℕ) (k : Kernel)
+    (q : Request) → Follows (server_call pages requests) specs ss r → taken_at specs ss i ≡ Some (name_of s number) →
+    slice_get ss i ≡ Some (steps.Take r) → request_at specs ss r l ≡ Some q → q.name.sender ≡ s → i < l → l < j →
     before specs ss j ≡ Some k → held k r s ≡ Some number → ⊥
-never_both specs ss i l j r s number k q takes asked sender less up at holds =
+never_both pages requests specs ss i l j r s number k q follows takes is asked sender less up at holds =
     let a = request_is specs ss r l q asked in
     let b = taken_at_is specs ss l q.name (request_taken specs ss r l q a) in
     let o = taken_over specs ss l q.name b in
-    let x = held_since specs ss i (suc l) j r s number o.after k takes (omega arith) (omega arith) o.at at holds in
+    let x = held_since pages requests specs ss i (suc l) j r s number o.after k follows takes is (omega arith) (omega arith) o.at at
+    holds in
     let y : Exchange = record b.take.exchange { stage = stages.Taken } in
     let name : name_of s q.name.number ≡ q.name = ap (λ z. name_of z q.name.number) (sym sender) in
     let there : o.after.exchanges (name_of s q.name.number) ≡ Some y = ap o.after.exchanges name ∙ o.there in
-    let receiver : steps.Take b.receiver ≡ steps.Take r = same_Some (steps.Take b.receiver) (steps.Take r) (sym b.is ∙ a.is) in
-    let target : y.target ≡ r = same_pid_is b.take.exchange.target b.receiver (taken_was_queued b.kernel b.receiver b.take b.takes).0
-    ∙ take_same b.receiver r receiver in
+    let sound = before_sound specs ss (suc l) o.after o.at in
     let one = one_open o.after s number q.name.number x.0 y (reached_before specs ss (suc l) o.after o.at) x.1 there
-    (taken_is_at_target x.0.stage x.2) refl (eq-eqb x.0.target.host y.target.host (ap (λ (p : Pid). p.host) (x.3 ∙ sym target))) in
-    let same = taken_once specs ss i l q.name (takes ∙ ap (λ n. Some (name_of s n)) one ∙ ap (λ (z : Name). Some z) name)
-    (request_taken specs ss r l q a) in
-    absurd (omega arith)
+    (taken_is_at_target x.0.stage x.2) refl
+    (one_host x.0 y (x.3 ∙ sym (taker specs ss l q.name r b a.is)) (sound.near (name_of s number) x.0 x.1)
+    (sound.near (name_of s q.name.number) y there)) in
+    not_again pages requests specs ss i l r q.name follows
+    (takes ∙ ap (λ n. Some (name_of s n)) one ∙ ap (λ (z : Name). Some z) name) is (request_taken specs ss r l q a) less
   where
-    take_same : (p q : Pid) → steps.Take p ≡ steps.Take q → p ≡ q
-    take_same p q e = cc
+    one_host : (x y : Exchange) → x.at ≡ y.at → same_host x.target x.at ≡ true → same_host y.target y.at ≡ true →
+        same_host x.target y.target ≡ true
+    one_host x y same first second = eq-eqb x.target.host y.target.host
+        (eqb-true x.target.host x.at.host first ∙ ap (λ (p : Pid). p.host) same ∙ sym (eqb-true y.target.host y.at.host second))
 
 -- The request that it took last is the one that it replies to.
 pub record IsLastTaken (specs : List ProcessSpec) (ss : List Step) (r : Pid) (i : ℕ) (earlier : List Request) (q : Request) (n : Name) :
@@ -189,17 +217,14 @@ pub record IsLastTaken (specs : List ProcessSpec) (ss : List Step) (r : Pid) (i 
   pub name : q.name ≡ n
   pub front : requests_before specs ss r i ≡ earlier
 
-pub last_taken : (specs : List ProcessSpec) (ss : List Step) (r s : Pid) (i j number : ℕ) (k : Kernel) (earlier : List Request)
-    (q : Request) →
+pub last_taken : (pages requests : ℕ) (specs : List ProcessSpec) (ss : List Step) (r s : Pid) (i j number : ℕ) (k : Kernel)
+    (earlier : List Request) (q : Request) → Follows (server_call pages requests) specs ss r →
     taken_at specs ss i ≡ Some (name_of s number) → slice_get ss i ≡ Some (steps.Take r) → i < j → before specs ss j ≡ Some k →
     held k r s ≡ Some number → requests_before specs ss r j ≡ earlier ++ q ∷ [] → q.name.sender ≡ s →
     IsLastTaken specs ss r i earlier q (name_of s number)
-last_taken specs ss r s i j number k earlier q takes is less at holds all sender = by_place (last_at
+last_taken pages requests specs ss r s i j number k earlier q follows takes is less at holds all sender = by_place (last_at
     (request_at specs ss r) j earlier q all)
   where
-    take_same : (p q : Pid) → steps.Take p ≡ steps.Take q → p ≡ q
-    take_same p q e = cc
-
     other : request_at specs ss r i ≡ None → ⊥
     other none =
         let a = taken_at_is specs ss i (name_of s number) takes in
@@ -223,6 +248,7 @@ last_taken specs ss r s i j number k earlier q takes is less at holds all sender
       | inl same ↦ here l.place l.is l.front same
       | inr apart ↦ elim apart [
         | inl below ↦ absurd (other (l.none i below less))
-        | inr above ↦ absurd (never_both specs ss i l.place j r s number k q takes l.is sender above l.earlier at holds)
+        | inr above ↦ absurd (never_both pages requests specs ss i l.place j r s number k q follows takes is l.is sender above l.earlier at
+            holds)
       ]
     ]

@@ -24,7 +24,7 @@ use Rattle.vk_base.specs.declared.message.Message.{Message}
 use Rattle.vk_base.specs.declared.pid.Pid.{Pid}
 use Rattle.vk_base.specs.declared.step.Step.{Step}
 use Rattle.vk_base.specs.declared.step.Step.TheVariants as steps
-use Rattle.vk_base.specs.Calls.{Effect, accepted, called, call_refusal, sent, replied, copied_at_once, begin_move, new_move, move_begun, is_at_once, get_pid, found_at_once, lookup_begun, exited, released, is_bereft, is_message_at, may_write, is_granted, is_own}
+use Rattle.vk_base.specs.Calls.{Effect, accepted, called, call_refusal, sent, replied, forward, forwarded, copied_at_once, begin_move, new_move, move_begun, is_at_once, get_pid, found_at_once, lookup_begun, exited, released, is_bereft, is_message_at, may_write, is_granted, is_own}
 use Rattle.vk_base.specs.Kernel.{◌>>=◌, Kernel, name_of, holds_of, is_moving, is_asking, is_ready, ended, sending, held, held_exchange, put_process, waiting_on, receiving, finished_call}
 use Rattle.vk_base.specs.Pids.{same_pid, same_host}
 use Rattle.vk_base.specs.Ranges.{range_of, bytes_in, with_bytes}
@@ -32,7 +32,7 @@ use Rattle.vk_base.specs.Steps.{effect, only_if, Taking, taking, taken, received
 use Rattle.vk_base.proofs.OptionLemmas.{bind_is}
 use Rattle.v_laws.specs.Sound.{IsSound}
 use Rattle.v_laws.proofs.Changes.{taken_is_at_target}
-use Rattle.v_laws.proofs.Held.{holding_is}
+use Rattle.v_laws.proofs.Held.{IsHolding, holding_is}
 use Rattle.v_laws.proofs.Options.{of_either, mapped_is, some_not_none}
 use Rattle.v_laws.proofs.StepLemmas.{IsFit, fit_is, four_tests, only_if_is, taking_is, finishing_is, failing_is, copying_is, ending_is, asking_is, finding_is, collecting_is, waiting_is}
 use Rattle.v_laws.proofs.Tables.{same_pid_is, put_process_at, put_process_other}
@@ -158,16 +158,29 @@ replied_touched k s pid c to x dest bytes e g =
     let a = bind_is (k.exchanges (name_of to number.0)) _ e number.2 in
     self_effect k s _ e a.2 (λ q. refl)
 
+forwarded_touched : (k : Kernel) (s : Step) (pid : Pid) (c : Call) (x : Message) (from to : Pid) (e : Effect) →
+    forward k pid c x from to ≡ Some e → AllTouched k s e.after
+unfolding forwarded
+forwarded_touched k s pid c x from to e g =
+    let number = bind_is (held k pid from) _ e g in
+    let a = bind_is (k.exchanges (name_of from number.0)) _ e number.2 in
+    self_effect k s _ e a.2 (λ q. refl)
+
 -- a local partner waits on a local exchange
+pub near_target : (k : Kernel) (s pid : Pid) (number : ℕ) (h : IsHolding k pid s number) → IsSound k → same_host pid s ≡ true →
+    same_host s h.exchange.target ≡ true
+near_target k s pid number h sound near =
+    eq-eqb s.host h.exchange.target.host (sym (eqb-true pid.host s.host near)
+    ∙ ap (λ (z : Pid). z.host) (sym (same_pid_is h.exchange.at pid h.at))
+    ∙ sym (eqb-true h.exchange.target.host h.exchange.at.host (sound.near (name_of s number) h.exchange h.is)))
+
 near_on : (k : Kernel) (s : Step) (pid partner : Pid) (number dest src count : ℕ) (q after : Process) →
     s ≡ steps.Call pid (calls.MoveTo partner dest src count) → IsSound k → held k pid partner ≡ Some number →
     same_host pid partner ≡ true → k.procs partner ≡ Some q → after.state ≡ q.state → Touched k s partner q after
 near_on k s pid partner number dest src count q after step sound holds near at state =
     let h = holding_is k pid partner number holds in
-    let target = same_pid_is h.exchange.target pid h.target in
-    let local : same_host partner h.exchange.target ≡ true =
-    eq-eqb partner.host h.exchange.target.host (sym (eqb-true pid.host partner.host near) ∙ ap (λ (z : Pid). z.host) (sym target)) in
-    let w = sound.awaited (name_of partner number) h.exchange h.is local (taken_is_at_target h.exchange.stage h.taken) in
+    let w = sound.awaited (name_of partner number) h.exchange h.is (near_target k partner pid number h sound near)
+    (taken_is_at_target h.exchange.stage h.taken) in
     let blocked : q.state ≡ states.Blocked (calls.Send h.exchange.target h.exchange.message) =
     ap (λ (z : Process). z.state) (same_Some q w.process (sym at ∙ w.is)) ∙ w.blocked in
     Touched.waits (ap is_waiting blocked) (ap has_reply (state ∙ blocked))
@@ -287,6 +300,8 @@ accepted_touched k pid p (calls.Reply x to) e sound at fit g = replied_touched k
 accepted_touched k pid p (calls.ReplySegment x to dest src count) e sound at fit g =
     replied_touched k (steps.Call pid (calls.ReplySegment x to dest src count)) pid (calls.ReplySegment x to dest src count) to x dest
     (bytes_in (range_of src count) p.memory) e g
+accepted_touched k pid p (calls.Forward x from to) e sound at fit g =
+    forwarded_touched k (steps.Call pid (calls.Forward x from to)) pid (calls.Forward x from to) x from to e g
 accepted_touched k pid p (calls.MoveTo partner dest src count) e sound at fit g = moved_to k pid p partner dest src count e sound at fit g
 accepted_touched k pid p (calls.MoveFrom partner dest src count) e sound at fit g =
     moved_from k pid p partner dest src count e at fit.ready g

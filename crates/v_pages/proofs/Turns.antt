@@ -41,7 +41,7 @@ abbrev pub request_by : Pid → Kernel → Step → Effect → Option Request
 request_by r k s e = do
   t ← taking_by r k s
   p ← e.after.procs r
-  Some (record { name = t.name; message = t.exchange.message; bytes = bytes_in (range_of 0 PAGE_BYTES) p.memory })
+  Some (record { name = t.name; message = t.exchange.shown; bytes = bytes_in (range_of 0 PAGE_BYTES) p.memory })
 
 -- after so many calls more, these answers and these requests
 abbrev pub ServerNext : ℕ → ℕ → ℕ → List Answer → List Request → Option Call → Option Answer → Option Request → Process → Type 0
@@ -170,7 +170,7 @@ take_next pages requests made given all k r e p y at there later does =
       memory = with_bytes p.memory 0 (take PAGE_BYTES t.exchange.part);
       state =
           states.Done (calls.ReceiveSegment 0 PAGE_BYTES)
-          (answers.ReceivedSegment t.name.sender t.exchange.message (min PAGE_BYTES (length t.exchange.part)));
+          (answers.ReceivedSegment t.name.sender t.exchange.shown (min PAGE_BYTES (length t.exchange.part)));
     } ≡ y
     after = (λ i. record (sym own i) {
       memory = with_part (sym waits.call i) t.exchange (sym own i).memory;
@@ -178,18 +178,18 @@ take_next pages requests made given all k r e p y at there later does =
     }) ∙ now
 
     state : y.state ≡ states.Done (calls.ReceiveSegment 0 PAGE_BYTES)
-        (answers.ReceivedSegment t.name.sender t.exchange.message (min PAGE_BYTES (length t.exchange.part)))
+        (answers.ReceivedSegment t.name.sender t.exchange.shown (min PAGE_BYTES (length t.exchange.part)))
     state = ap (λ (z : Process). z.state) (sym after)
 
     q : Request
-    q = record { name = t.name; message = t.exchange.message; bytes = bytes_in (range_of 0 PAGE_BYTES) y.memory }
+    q = record { name = t.name; message = t.exchange.shown; bytes = bytes_in (range_of 0 PAGE_BYTES) y.memory }
 
     asks : request_by r k (steps.Take r) e ≡ Some q
     asks = ap (λ o. o >>= λ (t : Taking). e.after.procs r >>= λ (p : Process).
-        Some (record { name = t.name; message = t.exchange.message; bytes = bytes_in (range_of 0 PAGE_BYTES) p.memory }))
+        Some (record { name = t.name; message = t.exchange.shown; bytes = bytes_in (range_of 0 PAGE_BYTES) p.memory }))
         (cond-true (same_pid r r) (taking k r) None (same_pid_self r) ∙ found.1)
         ∙ ap (λ o. o >>= λ (p : Process).
-        Some (record { name = t.name; message = t.exchange.message; bytes = bytes_in (range_of 0 PAGE_BYTES) p.memory })) later
+        Some (record { name = t.name; message = t.exchange.shown; bytes = bytes_in (range_of 0 PAGE_BYTES) p.memory })) later
 
     unseen_here : told r e ≡ None
     unseen_here = ap (told r) (sym (same_Some _ e found.2))
@@ -317,7 +317,7 @@ next_step pages requests made given all k r s e p y (OwnStep.others other) sound
     next_by pages requests made given all (call_by r s) None (told r e) None (request_by r k s e) None y
     (other_call r s other) (other_told r k s e other does)
     (ap (λ o. o >>= λ (t : Taking). e.after.procs r >>= λ (p : Process).
-    Some (record { name = t.name; message = t.exchange.message; bytes = bytes_in (range_of 0 PAGE_BYTES) p.memory }))
+    Some (record { name = t.name; message = t.exchange.shown; bytes = bytes_in (range_of 0 PAGE_BYTES) p.memory }))
     (other_take r k s other))
     (others_next pages requests made given all p y at
     (left_alone k r s e p y other idle there does (touched k s e sound does r p y there later)))

@@ -1,9 +1,8 @@
 -- While a sender waits for a page server nothing writes into its memory.
-use Rattle.std.proofs.Common.{◌≡◌, ℕ, zero, suc, ◌+◌, ◌<◌, true, false, List, [], slice_get, Option, Some, None, option_map, refl, sym, ap, subst, ◌∙◌, inl, inr, arith}
+use Rattle.std.proofs.Common.{◌≡◌, ℕ, zero, suc, ◌+◌, ◌<◌, true, List, [], slice_get, Option, Some, None, option_map, refl, sym, ap, subst, ◌∙◌, inl, inr, arith}
 use Rattle.std.specs.Prelude.{find}
-use Rattle.std.proofs.lemmas.Bool.{and_parts, both_ways, cases_Bool, cond-true, eq-eqb, eqb-true}
+use Rattle.std.proofs.lemmas.Bool.{and_parts, both_ways, cases_Bool, eqb-true}
 use Rattle.std.proofs.lemmas.Option.{same_Some, none-some}
-use Rattle.vk_base.specs.declared.call.Call.{Call}
 use Rattle.vk_base.specs.declared.call.Call.TheVariants as calls
 use Rattle.vk_base.specs.declared.config.ProcessSpec.{ProcessSpec}
 use Rattle.vk_base.specs.declared.kernel.Direction.{Direction}
@@ -16,15 +15,13 @@ use Rattle.vk_base.specs.declared.message.Message.{Message}
 use Rattle.vk_base.specs.declared.pid.Pid.{Pid}
 use Rattle.vk_base.specs.declared.step.Step.{Step}
 use Rattle.vk_base.specs.declared.step.Step.TheVariants as steps
-use Rattle.vk_base.specs.Calls.{Effect, sent}
-use Rattle.vk_base.specs.Kernel.{◌>>=◌, Kernel, held, holds_of, is_move, is_moving, move_of, name_of, put_process, sending, waiting_on}
+use Rattle.vk_base.specs.Calls.{Effect, forwarded, sent}
+use Rattle.vk_base.specs.Kernel.{Kernel, held, holds_of, is_moving, move_of, name_of, put_process, sending, waiting_on}
 use Rattle.vk_base.specs.Pids.{same_host, same_pid}
 use Rattle.vk_base.specs.Settings.{is_process}
 use Rattle.vk_base.specs.Steps.{Copying, effect, is_in_move, same_move, with_arrival, written_process}
 use Rattle.vk_base.proofs.OptionLemmas.{bind_is}
-use Rattle.vk_pages.specs.Servers.{answered_all, new_server, server_call, stage_call}
-use Rattle.vk_pages.specs.declared.serving.Serving.{Serving}
-use Rattle.vk_pages.specs.declared.serving.Serving.TheVariants as stages
+use Rattle.vk_pages.specs.Servers.{server_call}
 use Rattle.v_laws.specs.Moves.{move_call}
 use Rattle.v_laws.specs.Places.{before}
 use Rattle.v_laws.specs.Sound.{IsSound}
@@ -38,89 +35,54 @@ use Rattle.v_laws.proofs.SoundCalls.{IsStep}
 use Rattle.v_laws.proofs.SoundLemmas.{initial_ready, step_is}
 use Rattle.v_laws.proofs.States.{moving_sends_none}
 use Rattle.v_laws.proofs.StepLemmas.{copying_is, only_if_is, opening_is, waiting_is}
-use Rattle.v_laws.proofs.Tables.{same_pid_is, same_pid_self, put_process_at, put_process_other}
-use Rattle.v_pages.specs.Followed.{Follows, answers_before, call_at, call_by}
+use Rattle.v_laws.proofs.Tables.{same_pid_is, put_process_at, put_process_other}
+use Rattle.v_pages.specs.Followed.{Follows}
 use Rattle.v_pages.proofs.Collected.{was_there}
-use Rattle.v_pages.proofs.Touched.{Kept, Touched, is_waiting, sending_waits, touched}
+use Rattle.v_pages.proofs.Staying.{AllAsSent, KeepsAll, as_sent, everywhere, gives_away, keeps_all}
+use Rattle.v_pages.proofs.Touched.{Kept, Touched, is_waiting, near_target, sending_waits, touched}
 
--- A page server calls for no move.
-stored_no_move : (o : Option (List ℕ)) (c : Call) → option_map (λ bytes. calls.Store 0 bytes) o ≡ Some c → is_move c ≡ false
-stored_no_move None c e = absurd (none-some c e)
-stored_no_move (Some bytes) c e = ap is_move (sym (same_Some (calls.Store 0 bytes) c e))
-
-never_moves : (kept : List (List ℕ)) (stage : Serving) (c : Call) → stage_call kept stage ≡ Some c → is_move c ≡ false
-never_moves kept stages.Receive c e = ap is_move (sym (same_Some _ c e))
-never_moves kept (stages.Load from page) c e = ap is_move (sym (same_Some _ c e))
-never_moves kept (stages.Store from page dest) c e = stored_no_move _ c e
-never_moves kept (stages.ReplyPage from page dest) c e = ap is_move (sym (same_Some _ c e))
-never_moves kept (stages.Reply from page code) c e = ap is_move (sym (same_Some _ c e))
-never_moves kept stages.Exit c e = ap is_move (sym (same_Some _ c e))
-never_moves kept stages.Ended c e = absurd (none-some c e)
-
--- no step is a call of r for a move
-abbrev MovesNot : Pid → Step → Type 0
-MovesNot r s = (c : Call) → s ≡ steps.Call r c → is_move c ≡ false
-
-moves_not : (pages requests : ℕ) (specs : List ProcessSpec) (ss : List Step) (r : Pid) (i : ℕ) (s : Step) →
-    Follows (server_call pages requests) specs ss r → slice_get ss i ≡ Some s → MovesNot r s
-moves_not pages requests specs ss r i s follows is c same =
-    let call : call_at ss r i ≡ Some c = ap (λ o. o >>= call_by r) is ∙ ap (call_by r) same
-    ∙ cond-true (same_pid r r) (Some c) None (same_pid_self r) in
-    let server = answered_all requests (new_server pages requests) (answers_before specs ss r i) in
-    never_moves server.pages server.stage c (follows i c call).told
-
--- So no exchange with it has a move.
+-- No exchange with a page server has a move.
 abbrev NoMoves : Kernel → Pid → Type 0
 NoMoves k r = (n : Name) (e : Exchange) → k.exchanges n ≡ Some e → e.target ≡ r → e.moves ≡ []
 
-call_moves : (d : Direction) (partner : Pid) (dest src count : ℕ) → is_move (move_call d partner dest src count) ≡ true
+call_moves : (d : Direction) (partner : Pid) (dest src count : ℕ) → gives_away (move_call d partner dest src count) ≡ true
 call_moves directions.To partner dest src count = refl
 call_moves directions.From partner dest src count = refl
 
-none_after : (k l : Kernel) (s : Step) (r : Pid) (n : Name) (y : Exchange) → MovesNot r s → NoMoves k r → (o p : Option Exchange) →
-    k.exchanges n ≡ o → p ≡ Some y → y.target ≡ r → MoveOn k s l n o p → y.moves ≡ []
-none_after k l s r n y not none None p at now target (MoveOn.stays same alone) =
+none_after : (k l : Kernel) (s : Step) (r : Pid) (n : Name) (y : Exchange) → KeepsAll r s → AllAsSent k r → NoMoves k r →
+    (o p : Option Exchange) → k.exchanges n ≡ o → p ≡ Some y → y.target ≡ r → MoveOn k s l n o p → y.moves ≡ []
+none_after k l s r n y not own none None p at now target (MoveOn.stays same alone place) =
     absurd (none-some (unstaged y) (sym same ∙ ap (option_map unstaged) now))
-none_after k l s r n y not none (Some x) p at now target (MoveOn.stays same alone) =
+none_after k l s r n y not own none (Some x) p at now target (MoveOn.stays same alone place) =
     let one : unstaged y ≡ unstaged x = same_Some (unstaged y) (unstaged x) (ap (option_map unstaged) (sym now) ∙ same) in
     ap (λ (z : Exchange). z.moves) one ∙ none n x at (ap (λ (z : Exchange). z.target) (sym one) ∙ target)
-none_after k l s r n y not none o p at now target (MoveOn.begins z was is first opened alone) =
+none_after k l s r n y not own none o p at now target (MoveOn.begins z was is first opened alone) =
     ap (λ (w : Exchange). w.moves) (same_Some y z (sym now ∙ is)) ∙ first
-none_after k l s r n y not none o p at now target (MoveOn.pushes x m was call is moved) =
+none_after k l s r n y not own none o p at now target (MoveOn.pushes x m was call is moved) =
     let one : y ≡ pushed x m = same_Some y (pushed x m) (sym now ∙ is) in
-    let mover : m.mover ≡ r = sym call.target ∙ ap (λ (w : Exchange). w.target) (sym one) ∙ target in
+    let here = own n x (at ∙ was) (ap (λ (w : Exchange). w.target) (sym one) ∙ target) in
     let c = move_call m.direction n.sender m.dest m.src m.count in
-    absurd (both_ways (is_move c) (not c (call.is ∙ ap (λ q. steps.Call q c) mover)) (call_moves m.direction n.sender m.dest m.src m.count))
-none_after k l s r n y not none o p at now target (MoveOn.opens number a step g was is) =
+    absurd (both_ways (gives_away c) (not c (call.is ∙ ap (λ q. steps.Call q c) (sym call.holds ∙ here.at)))
+    (call_moves m.direction n.sender m.dest m.src m.count))
+none_after k l s r n y not own none o p at now target (MoveOn.opens number a step g was is) =
     let one = same_Some y _ (sym now ∙ is) in
     let first = none n a.exchange (at ∙ was) (ap (λ (w : Exchange). w.target) (sym one) ∙ target) in
     absurd (none-some a.move (sym (no_move a.exchange number first) ∙ (opening_is k n number a g).move))
-none_after k l s r n y not none o p at now target (MoveOn.copies number offset count c step g was is memory) =
+none_after k l s r n y not own none o p at now target (MoveOn.copies number offset count c step g was is memory) =
     let one = same_Some y _ (sym now ∙ is) in
     let first = none n c.exchange (at ∙ was) (ap (λ (w : Exchange). w.target) (sym one) ∙ target) in
     absurd (none-some c.move (sym (no_move c.exchange number first) ∙ (copying_is k n number offset count c g).move))
 
-moves_step : (k : Kernel) (s : Step) (e : Effect) (r : Pid) → IsSound k → effect k s ≡ Some e → MovesNot r s → NoMoves k r →
-    NoMoves e.after r
-moves_step k s e r sound does not none n y at target =
-    none_after k e.after s r n y not none (k.exchanges n) (e.after.exchanges n) refl at target (all_moves k s e sound does n)
-
-moves_next : (pages requests : ℕ) (specs : List ProcessSpec) (ss : List Step) (r : Pid) (i : ℕ) (l : Kernel) →
-    Follows (server_call pages requests) specs ss r → IsNext specs ss i l → ((k : Kernel) → before specs ss i ≡ Some k → NoMoves k r) →
-    NoMoves l r
-moves_next pages requests specs ss r i l follows n so_far = elim n.how [
-  | inl h ↦ subst (λ (z : Kernel). NoMoves z r) h.4
-      (moves_step n.kernel h.0 h.1 r (before_sound specs ss i n.kernel n.at) h.3 (moves_not pages requests specs ss r i h.0 follows h.2)
-      (so_far n.kernel n.at))
-  | inr h ↦ subst (λ (z : Kernel). NoMoves z r) h.1 (so_far n.kernel n.at)
-]
+moves_step : (k : Kernel) (s : Step) (e : Effect) (r : Pid) → IsSound k → effect k s ≡ Some e → KeepsAll r s → AllAsSent k r →
+    NoMoves k r → NoMoves e.after r
+moves_step k s e r sound does not own none n y at target =
+    none_after k e.after s r n y not own none (k.exchanges n) (e.after.exchanges n) refl at target (all_moves k s e sound does n)
 
 no_moves : (pages requests : ℕ) (specs : List ProcessSpec) (ss : List Step) (r : Pid) → Follows (server_call pages requests) specs ss r →
     (i : ℕ) (k : Kernel) → before specs ss i ≡ Some k → NoMoves k r
-no_moves pages requests specs ss r follows zero k at =
-    λ n e is target. absurd (none-some e (ap (λ (z : Kernel). z.exchanges n) (before_first specs ss k at) ∙ is))
-no_moves pages requests specs ss r follows (suc i) k at = moves_next pages requests specs ss r i k follows (before_next specs ss i k at)
-    (λ m at_m. no_moves pages requests specs ss r follows i m at_m)
+no_moves pages requests specs ss r follows = everywhere specs ss (λ k. NoMoves k r) (λ n e is target. absurd (none-some e is))
+    (λ i k s e is at sound does none. moves_step k s e r sound does (keeps_all pages requests specs ss r i s follows is)
+    (as_sent pages requests specs ss r follows i k at) none)
 
 -- What is written into a process that waits for the server.
 to_other : (k : Kernel) (r s : Pid) (m : Message) (x : Process) (n : Name) (number : ℕ) (c : Copying) → IsSound k → NoMoves k r →
@@ -151,29 +113,28 @@ written_not k r s m x n number c directions.From sound none at sends is move g m
     let process : p.0 ≡ x = ap (λ (z : Pid × Process). z.1) (same_Some (c.move.mover, p.0) (c.pid, c.process) test.1) ∙ who in
     none-some (r, m) (sym (moving_sends_none p.0.state moves) ∙ ap (λ (z : Process). sending z.state) process ∙ sends)
 
-moved_not : (k : Kernel) (t : Step) (r s pid : Pid) (m : Message) (x : Process) (dest src count number : ℕ) → IsSound k → MovesNot r t →
-    k.procs s ≡ Some x → sending x.state ≡ Some (r, m) → t ≡ steps.Call pid (calls.MoveTo s dest src count) →
+moved_not : (k : Kernel) (t : Step) (r s pid : Pid) (m : Message) (x : Process) (dest src count number : ℕ) → IsSound k → KeepsAll r t →
+    AllAsSent k r → k.procs s ≡ Some x → sending x.state ≡ Some (r, m) → t ≡ steps.Call pid (calls.MoveTo s dest src count) →
     held k pid s ≡ Some number → same_host pid s ≡ true → ⊥
-moved_not k t r s pid m x dest src count number sound not at sends step holds near =
+moved_not k t r s pid m x dest src count number sound not own at sends step holds near =
     let h = holding_is k pid s number holds in
-    let target = same_pid_is h.exchange.target pid h.target in
-    let local : same_host s h.exchange.target ≡ true =
-    eq-eqb s.host h.exchange.target.host (sym (eqb-true pid.host s.host near) ∙ ap (λ (z : Pid). z.host) (sym target)) in
-    let w = sound.awaited (name_of s number) h.exchange h.is local (taken_is_at_target h.exchange.stage h.taken) in
+    let w = sound.awaited (name_of s number) h.exchange h.is (near_target k s pid number h sound near)
+    (taken_is_at_target h.exchange.stage h.taken) in
     let blocked : x.state ≡ states.Blocked (calls.Send h.exchange.target h.exchange.message) =
     ap (λ (z : Process). z.state) (same_Some x w.process (sym at ∙ w.is)) ∙ w.blocked in
     let same = same_Some (h.exchange.target, h.exchange.message) (r, m) (ap sending (sym blocked) ∙ sends) in
-    let who : pid ≡ r = sym target ∙ ap (λ (z : Pid × Message). z.0) same in
+    let here = own (name_of s number) h.exchange h.is (ap (λ (z : Pid × Message). z.0) same) in
+    let who : pid ≡ r = sym (same_pid_is h.exchange.at pid h.at) ∙ here.at in
     both_ways true (not (calls.MoveTo s dest src count) (step ∙ ap (λ q. steps.Call q (calls.MoveTo s dest src count)) who)) refl
 
-kept_memory : (k : Kernel) (t : Step) (r s : Pid) (m : Message) (x p : Process) → IsSound k → MovesNot r t → NoMoves k r →
+kept_memory : (k : Kernel) (t : Step) (r s : Pid) (m : Message) (x p : Process) → IsSound k → KeepsAll r t → AllAsSent k r → NoMoves k r →
     k.procs s ≡ Some x → sending x.state ≡ Some (r, m) → Kept k t s x p → p.memory ≡ x.memory
-kept_memory k t r s m x p sound not none at sends (Kept.stays same) = same
-kept_memory k t r s m x p sound not none at sends (Kept.copied_to n number offset count c g mine who) =
+kept_memory k t r s m x p sound not own none at sends (Kept.stays same) = same
+kept_memory k t r s m x p sound not own none at sends (Kept.copied_to n number offset count c g mine who) =
     let is = copying_is k n number offset count c g in
     absurd (written_not k r s m x n number c c.move.direction sound none at sends is.exchange is.move is.written mine who)
-kept_memory k t r s m x p sound not none at sends (Kept.moved pid dest src count number step holds near) =
-    absurd (moved_not k t r s pid m x dest src count number sound not at sends step holds near)
+kept_memory k t r s m x p sound not own none at sends (Kept.moved pid dest src count number step holds near) =
+    absurd (moved_not k t r s pid m x dest src count number sound not own at sends step holds near)
 
 -- One step back from a sender that waits for r.
 data Back (t : Step) (s r : Pid) (m : Message) (x p : Process) : Type 0 where
@@ -185,18 +146,19 @@ same_back t s r m x p same sends =
     Back.waited (ap (λ (z : Process). sending z.state) same ∙ sends) (ap (λ (z : Process). z.sends) (sym same))
     (ap (λ (z : Process). z.memory) (sym same))
 
-touched_memory : (k : Kernel) (t : Step) (r s : Pid) (m : Message) (x p : Process) → IsSound k → MovesNot r t → NoMoves k r →
-    k.procs s ≡ Some x → sending x.state ≡ Some (r, m) → sending p.state ≡ Some (r, m) → Touched k t s x p → p.memory ≡ x.memory
-touched_memory k t r s m x p sound not none at sends now (Touched.rests same) = ap (λ (z : Process). z.memory) same
-touched_memory k t r s m x p sound not none at sends now (Touched.makes c step idle reply) =
+touched_memory : (k : Kernel) (t : Step) (r s : Pid) (m : Message) (x p : Process) → IsSound k → KeepsAll r t → AllAsSent k r →
+    NoMoves k r → k.procs s ≡ Some x → sending x.state ≡ Some (r, m) → sending p.state ≡ Some (r, m) → Touched k t s x p →
+    p.memory ≡ x.memory
+touched_memory k t r s m x p sound not own none at sends now (Touched.rests same) = ap (λ (z : Process). z.memory) same
+touched_memory k t r s m x p sound not own none at sends now (Touched.makes c step idle reply) =
     absurd (both_ways (is_waiting x.state) idle (sending_waits x.state (r, m) sends))
-touched_memory k t r s m x p sound not none at sends now (Touched.takes step idle reply) =
+touched_memory k t r s m x p sound not own none at sends now (Touched.takes step idle reply) =
     absurd (both_ways (is_waiting x.state) idle (sending_waits x.state (r, m) sends))
-touched_memory k t r s m x p sound not none at sends now (Touched.collects step idle reply) =
+touched_memory k t r s m x p sound not own none at sends now (Touched.collects step idle reply) =
     absurd (both_ways (is_waiting x.state) idle (sending_waits x.state (r, m) sends))
-touched_memory k t r s m x p sound not none at sends now (Touched.finishes step over) = absurd (none-some (r, m) (sym over ∙ now))
-touched_memory k t r s m x p sound not none at sends now (Touched.waits w reply kept) =
-    kept_memory k t r s m x p sound not none at sends kept
+touched_memory k t r s m x p sound not own none at sends now (Touched.finishes step over) = absurd (none-some (r, m) (sym over ∙ now))
+touched_memory k t r s m x p sound not own none at sends now (Touched.waits w reply kept) =
+    kept_memory k t r s m x p sound not own none at sends kept
 
 sent_procs : (k : Kernel) (pid : Pid) (p : Process) (target : Pid) (m : Message) (q : Pid) →
     (sent k pid p target m).procs q ≡
@@ -207,6 +169,10 @@ sent_procs k pid p target m q = refl
 arrived_procs : (k : Kernel) (n : Name) (e : Exchange) (q : Pid) → (with_arrival k n e).procs q ≡ k.procs q
 unfolding with_arrival
 arrived_procs k n e q = refl
+
+forwarded_procs : (k : Kernel) (n : Name) (e : Exchange) (m : Message) (to q : Pid) → (forwarded k n e m to).procs q ≡ k.procs q
+unfolding forwarded
+forwarded_procs k n e m to q = refl
 
 sent_back : (k : Kernel) (t : Step) (l : Kernel) (s r : Pid) (m : Message) (x p : Process) (pid : Pid) (y : Process) (target : Pid)
     (n : Message) → k.procs s ≡ Some x → l.procs s ≡ Some p → sending p.state ≡ Some (r, m) → t ≡ steps.Call pid (calls.Send target n) →
@@ -230,18 +196,23 @@ sent_back k t l s r m x p pid y target n at now sends step there after = elim (c
     procs : put_process k.procs pid (record y { state = states.Blocked (calls.Send target n); sends = y.sends + 1 }) s ≡ l.procs s
     procs = sym (sent_procs k pid y target n s) ∙ ap (λ (z : Kernel). z.procs s) (sym after)
 
-step_back : (k : Kernel) (t : Step) (l : Kernel) (r s : Pid) (m : Message) (x p : Process) → IsSound k → MovesNot r t → NoMoves k r →
-    k.procs s ≡ Some x → l.procs s ≡ Some p → sending p.state ≡ Some (r, m) → Touched k t s x p → IsStep t k l → Back t s r m x p
-step_back k t l r s m x p sound not none at now sends touch (IsStep.goes on) =
+step_back : (k : Kernel) (t : Step) (l : Kernel) (r s : Pid) (m : Message) (x p : Process) → IsSound k → KeepsAll r t →
+    AllAsSent k r → NoMoves k r → k.procs s ≡ Some x → l.procs s ≡ Some p → sending p.state ≡ Some (r, m) → Touched k t s x p →
+    IsStep t k l → Back t s r m x p
+step_back k t l r s m x p sound not own none at now sends touch (IsStep.goes on) =
     let y = related_after (ProcessOn t s) (k.procs s) (l.procs s) x (on.processes s) at in
-    let own : ProcessOn t s x p = subst (ProcessOn t s x) (same_Some y.0 p (sym y.1 ∙ now)) y.2 in
-    let before = own.sent (r, m) sends in
-    Back.waited before own.sends (touched_memory k t r s m x p sound not none at before sends touch)
-step_back k t l r s m x p sound not none at now sends touch (IsStep.sends pid y target n is there fit after) =
+    let later : ProcessOn t s x p = subst (ProcessOn t s x) (same_Some y.0 p (sym y.1 ∙ now)) y.2 in
+    let before = later.sent (r, m) sends in
+    Back.waited before later.sends (touched_memory k t r s m x p sound not own none at before sends touch)
+step_back k t l r s m x p sound not own none at now sends touch (IsStep.sends pid y target n is there fit after) =
     sent_back k t l s r m x p pid y target n at now sends is there after
-step_back k t l r s m x p sound not none at now sends touch (IsStep.arrives n e is g after) =
+step_back k t l r s m x p sound not own none at now sends touch (IsStep.arrives n e is g after) =
     same_back t s r m x p
     (same_Some x p (sym at ∙ sym (arrived_procs k n e s) ∙ ap (λ (z : Kernel). z.procs s) (sym after) ∙ now)) sends
+step_back k t l r s m x p sound not own none at now sends touch (IsStep.forwards pid y n from to is f) =
+    same_back t s r m x p
+    (same_Some x p (sym at ∙ sym (forwarded_procs k (name_of from f.number) f.exchange n to s)
+    ∙ ap (λ (z : Kernel). z.procs s) (sym f.after) ∙ now)) sends
 
 -- Where the Send was called, and that the memory is as it was there.
 pub record IsCalled (specs : List ProcessSpec) (ss : List Step) (i : ℕ) (s r : Pid) (m : Message) (p : Process) : Type 0 where
@@ -300,8 +271,9 @@ call_by_next pages requests specs ss i s r m l p follows n now sends again = eli
       let later : h.1.after.procs s ≡ Some p = ap (λ (z : Kernel). z.procs s) h.4 ∙ now in
       let x = was_there k h.0 h.1 s p sound h.3 later in
       call_by_back specs ss i k h.0 s r m x.0 p n.at h.2 x.1
-      (step_back k h.0 h.1.after r s m x.0 p sound (moves_not pages requests specs ss r i h.0 follows h.2)
-      (no_moves pages requests specs ss r follows i k n.at) x.1 later sends (touched k h.0 h.1 sound h.3 s x.0 p x.1 later)
+      (step_back k h.0 h.1.after r s m x.0 p sound (keeps_all pages requests specs ss r i h.0 follows h.2)
+      (as_sent pages requests specs ss r follows i k n.at) (no_moves pages requests specs ss r follows i k n.at) x.1 later sends
+      (touched k h.0 h.1 sound h.3 s x.0 p x.1 later)
       (step_is k h.0 h.1 sound h.3)) (again k x.0 n.at x.1)
   | inr h ↦ later_call specs ss i s r m p p refl refl
       (again n.kernel p n.at (ap (λ (z : Kernel). z.procs s) h.1 ∙ now) sends)

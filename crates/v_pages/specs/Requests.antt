@@ -14,8 +14,8 @@ use Rattle.vk_event.specs.declared.task.TheConstants.{PAGE_BYTES}
 use Rattle.v_laws.specs.Places.{before, process_after}
 use Rattle.v_pages.specs.Followed.{up_to}
 
--- A request that was taken: of which Send, its message, and the bytes of a page that stand from address 0 on in the server's
--- memory after the Take.
+-- A request that was taken: of which Send, the message that the server was shown, which is the one that was sent unless another
+-- process handed it on, and the bytes of a page that stand from address 0 on in the server's memory after the Take.
 pub record Request : Type 0 where
   pub name : Name
   pub message : Message
@@ -33,7 +33,7 @@ request_at specs ss r i = do
   s ← slice_get ss i
   t ← taking_by r k s
   p ← process_after specs ss i r
-  Some (record { name = t.name; message = t.exchange.message; bytes = bytes_in (range_of 0 PAGE_BYTES) p.memory })
+  Some (record { name = t.name; message = t.exchange.shown; bytes = bytes_in (range_of 0 PAGE_BYTES) p.memory })
 
 -- those that it took before a place, in the order in which it took them
 abbrev pub requests_before : List ProcessSpec → List Step → Pid → ℕ → List Request

@@ -23,7 +23,7 @@ use Rattle.v_whole.specs.HistoryLaws.{IsSchedule, steps_of}
 use Rattle.v_pages.specs.Followed.{IsNextCall, answer_in}
 use Rattle.v_pages.specs.PageMap.{is_lawful_write}
 use Rattle.v_pages.specs.Requests.{Request, request_at}
-use Rattle.v_pages.specs.Served.{IsServed}
+use Rattle.v_pages.specs.Served.{IsServed, IsServedAlone, RepliesToLast}
 use Rattle.v_pages.specs.Written.{IsSentBefore}
 
 -- the call that a process makes by an event
@@ -43,13 +43,20 @@ abbrev pub FollowsIn : (List Answer → Option Call) → Settings → List Event
 FollowsIn task c es r = (i : ℕ) (call : Call) → (slice_get es i >>= call_of r) ≡ Some call →
     IsNextCall task (calls_in r (take i es)) (answers_in c r (take i es)) call
 
--- In each history in which r follows the task of a page server, each sender that collects a reply of r is served so, in the steps
--- of that history.
+-- In each history in which r follows the task of a page server, each sender that collects a reply is served so, in the steps of that
+-- history, where r replied to its Send.
+abbrev pub RequestsAreServedIn : Type 0
+RequestsAreServedIn = (c : Settings) (es : List Event) (r : Pid) (pages requests i j : ℕ) (s target : Pid) (message reply : Message) →
+    IsSchedule c es → FollowsIn (server_call pages requests) c es r → slice_get (steps_of c es) i ≡ Some (steps.Collect s) →
+    seen_at c.specs (steps_of c es) i ≡ saw s (calls.Send target message) (answers.Replied reply) →
+    RepliesToLast c.specs (steps_of c es) i j s r → IsServed c.specs (steps_of c es) i j s r pages reply
+
+-- who sent to r, and collects a reply, was served by r alone
 abbrev pub SendersAreServedIn : Type 0
 SendersAreServedIn = (c : Settings) (es : List Event) (r : Pid) (pages requests i : ℕ) (s : Pid) (message reply : Message) →
     IsSchedule c es → FollowsIn (server_call pages requests) c es r → slice_get (steps_of c es) i ≡ Some (steps.Collect s) →
     seen_at c.specs (steps_of c es) i ≡ saw s (calls.Send r message) (answers.Replied reply) →
-    IsServed c.specs (steps_of c es) i s r pages message reply
+    IsServedAlone c.specs (steps_of c es) i s r pages message reply
 
 -- and each lawful write that r took has the bytes of its sender as they were at the Send
 abbrev pub WritesAreSentIn : Type 0

@@ -36,7 +36,6 @@ use Rattle.v_pages.specs.Followed.{IsNextCall, answer_in}
 use Rattle.v_pages.specs.Scheduled.{FollowsIn, answers_in, call_of, calls_in}
 use Rattle.v_run.specs.Outcomes.{Assignment, FollowsTask, IsNextOf}
 use Rattle.v_run.specs.Laws.{RunsFollowTasks}
-use Rattle.v_run.proofs.Stations.{faultless}
 use Rattle.v_whole.proofs.Distinct.{lawful_distinct}
 use Rattle.v_whole.specs.Schedules.{AreDistinct}
 use Rattle.v_laws.proofs.StepLemmas.{only_if_is}
@@ -307,7 +306,7 @@ runs_follow_tasks c plan rounds tasks limited s lawful run = record {
 }
   where
     distinct : AreDistinct c.specs
-    distinct = lawful_distinct c.specs (faultless c lawful)
+    distinct = lawful_distinct c.specs lawful.processes
 
     one : (a : Assignment) → FollowsTask a.task a.pid (logs_of c s.events a.pid.host) → FollowsIn a.task c s.events a.pid
     one a follows i call is =

@@ -10,7 +10,7 @@ use Rattle.vk_base.specs.declared.event.StationEvent.{StationEvent}
 use Rattle.vk_base.specs.declared.event.StationEvent.TheVariants as events
 use Rattle.vk_base.specs.declared.limits.TheConstants.{EVENTS}
 use Rattle.vk_base.specs.declared.pid.Pid.{Pid}
-use Rattle.vk_base.specs.Settings.{Settings, has_process, has_station, refusal_of, stations_of}
+use Rattle.vk_base.specs.Settings.{AreLawful, Settings, has_process, has_station, stations_of}
 use Rattle.vk_cluster.specs.declared.frames.TheConstants.{MOST_BYTES}
 use Rattle.vk_host.specs.Values.{input_of}
 use Rattle.vk_join.specs.declared.log.StationLog.{StationLog}
@@ -85,7 +85,7 @@ module _ (c : Settings) (histories : ℕ → List (ℕ × StationEvent)) (logs :
   all_of_station o [] own = tt
   all_of_station o (x ∷ xs) own = (of_station o x.1 own.0, all_of_station o xs own.1)
 
-  module _ (lawful : refusal_of c.times c.pool c.specs ≡ None) where
+  module _ (lawful : AreLawful c) where
     rise : HostsRise logs
     rise = hosts_rise logs (subst Ascend (sym are.hosts) (stations_rise c lawful))
 

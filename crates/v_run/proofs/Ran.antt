@@ -25,7 +25,6 @@ use Rattle.v_run.specs.Passages.{fresh_station}
 use Rattle.v_run.specs.Runs.{logs_in, passages_of, tasks_of}
 use Rattle.v_whole.proofs.Distinct.{lawful_distinct}
 use Rattle.v_run.proofs.Answered.{all_answered}
-use Rattle.v_run.proofs.Stations.{faultless}
 use Rattle.v_run.proofs.Few.{all_low, schedule_few}
 use Rattle.v_run.proofs.Logged.{entries_are, few_events}
 use Rattle.v_run.proofs.Outputs.{are_joined, are_open}
@@ -92,7 +91,7 @@ joined_runs_are_runs unseal frames packets bytes works c o rounds histories hear
       config = j.config;
       there = j.there;
       rising = j.rising;
-      answered = all_answered c s.events (lawful_distinct c.specs (faultless c given.lawful)) j.actors outcome.collected;
+      answered = all_answered c s.events (lawful_distinct c.specs given.lawful.processes) j.actors outcome.collected;
       run = j.run;
       outcome = outcome;
       few = few_at frames packets c histories logs are given unseal s j;

@@ -8,7 +8,7 @@ use Rattle.std.proofs.lemmas.List.Sums.{sum_by-append, sum_by-cons}
 use native.Mathlib.Nat.{add-mul, one-mul}
 use Rattle.vk_base.specs.declared.config.ProcessSpec.{ProcessSpec}
 use Rattle.vk_base.specs.declared.event.StationEvent.{StationEvent}
-use Rattle.vk_base.specs.Settings.{Settings, has_station, refusal_of, stations_of}
+use Rattle.vk_base.specs.Settings.{AreLawful, Settings, has_station, stations_of}
 use Rattle.vk_base.specs.declared.limits.TheConstants.{EVENTS}
 use Rattle.vk_base.proofs.SettingsLemmas.{among_stations}
 use Rattle.vk_cluster.proofs.Logs.{with_here, with_other}
@@ -171,7 +171,7 @@ some_length g [] any = absurd (cc any)
 some_length g (h ∷ hs) any = omega arith
 
 -- all stations together
-module _ (law : BytesAreOfStations) (c : Settings) (lawful : refusal_of c.times c.pool c.specs ≡ None) (es : List Event)
+module _ (law : BytesAreOfStations) (c : Settings) (lawful : AreLawful c) (es : List Event)
     (actors : list_all (has_actors c.specs) es ≡ true) (there : Each IsThere (history_of c es))
     (few : (h : ℕ) → has_station c.specs h ≡ true → bytes_in (logs_of c es h) ≤ share_of_bytes c)
     (had : (h : ℕ) → has_station c.specs h ≡ true → HadBytes (share_of_bytes c - EVENT_BYTES) (logs_of c es h)) where

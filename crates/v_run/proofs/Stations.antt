@@ -10,7 +10,7 @@ use Rattle.vk_base.specs.declared.config.ProcessSpec.{ProcessSpec}
 use Rattle.vk_base.specs.declared.pid.Pid.{Pid}
 use Rattle.vk_base.specs.Pids.{is_below}
 unfoldable use Rattle.vk_base.specs.Settings.{fault_of}
-use Rattle.vk_base.specs.Settings.{Settings, first_fault, is_too_many, or_else, refusal_of, rises, settings_refusal, stations_of}
+use Rattle.vk_base.specs.Settings.{AreLawful, Settings, first_fault, is_too_many, or_else, rises, stations_of}
 use Rattle.vk_base.proofs.SettingsLemmas.{room_of_stations, stations_of-append}
 use Rattle.vk_join.specs.declared.log.StationLog.{StationLog}
 use Rattle.vk_join.specs.Logs.{HostsRise}
@@ -135,18 +135,14 @@ fine_on before (s ∷ ss) fine none =
     let parts = or_none (fault_of before s) (first_fault (before ++ s ∷ []) ss) none in
     subst AreFine (append_assoc before (s ∷ []) ss) (fine_on (before ++ s ∷ []) ss (fine_more before s fine parts.0) parts.1)
 
--- the processes have no fault
-pub faultless : (c : Settings) → refusal_of c.times c.pool c.specs ≡ None → first_fault [] c.specs ≡ None
-faultless c lawful = (or_none (settings_refusal c.times c.pool) (first_fault [] c.specs) lawful).1
-
-all_fine : (c : Settings) → refusal_of c.times c.pool c.specs ≡ None → AreFine c.specs
+all_fine : (c : Settings) → AreLawful c → AreFine c.specs
 all_fine c lawful =
-    fine_on [] c.specs (record { ascend = tt; up = refl; few = omega arith }) (faultless c lawful)
+    fine_on [] c.specs (record { ascend = tt; up = refl; few = omega arith }) lawful.processes
 
-pub stations_rise : (c : Settings) → refusal_of c.times c.pool c.specs ≡ None → Ascend (stations_of c.specs)
+pub stations_rise : (c : Settings) → AreLawful c → Ascend (stations_of c.specs)
 stations_rise c lawful = (all_fine c lawful).ascend
 
-pub few_stations : (c : Settings) → refusal_of c.times c.pool c.specs ≡ None → length (stations_of c.specs) ≤ 16
+pub few_stations : (c : Settings) → AreLawful c → length (stations_of c.specs) ≤ 16
 few_stations c lawful = (all_fine c lawful).few
 
 -- logs with rising hosts

@@ -2,7 +2,7 @@
 use Rattle.std.specs.Prelude.{ℕ, ◌≡◌, Bool, true, false, Some, None, List, map}
 use Rattle.turn_cell.specs.declared.replay.Room.TheVariants as rooms
 use Rattle.vk_base.specs.declared.event.StationEvent.{StationEvent}
-use Rattle.vk_base.specs.Settings.{Settings, has_station, refusal_of, stations_of}
+use Rattle.vk_base.specs.Settings.{AreLawful, Settings, has_station, stations_of}
 use Rattle.vk_event.specs.declared.event.Event.{Event}
 use Rattle.vk_event.specs.declared.scenario.LinkPlan.{LinkPlan}
 use Rattle.vk_event.specs.declared.schedule.Schedule.{Schedule}
@@ -39,7 +39,7 @@ pub record AreLogsOf (c : Settings) (histories : ℕ → List (ℕ × StationEve
 -- Such logs are as a join asks of them.
 abbrev pub LogsMayBeJoined : Type 0
 LogsMayBeJoined = (c : Settings) (histories : ℕ → List (ℕ × StationEvent)) (logs : List StationLog) →
-    refusal_of c.times c.pool c.specs ≡ None → AreLogsOf c histories logs → AreLogs c logs
+    AreLawful c → AreLogsOf c histories logs → AreLogs c logs
 
 -- The logs of closed histories are joined: they keep to the limits, and each delivery brings what a station emitted for this one.
 abbrev pub ClosedRunsAreJoined : Type 0
@@ -64,4 +64,4 @@ pub record FollowTasks (c : Settings) (tasks : List Assignment) (es : List Event
 -- It is so in every run.
 abbrev pub RunsFollowTasks : Type 0
 RunsFollowTasks = (c : Settings) (plan : LinkPlan) (rounds : ℕ) (tasks : List Assignment) (limited : Bool) (s : Schedule) →
-    refusal_of c.times c.pool c.specs ≡ None → IsRun c plan rounds tasks limited s → FollowTasks c tasks s.events
+    AreLawful c → IsRun c plan rounds tasks limited s → FollowTasks c tasks s.events

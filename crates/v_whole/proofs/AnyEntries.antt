@@ -20,14 +20,14 @@ use Rattle.vk_base.specs.Calls.{Effect}
 use Rattle.vk_base.specs.Kernel.{Kernel, name_of, holds_of, is_live, blocked_in}
 use Rattle.vk_base.specs.Packets.{Packet, Send, Reply, Pending, Negative, MoveData, MoveAck, MoveRequest, MoveBytes, MoveNegative, AskPid, TellPid}
 use Rattle.vk_base.specs.Pids.{same_host}
-use Rattle.vk_base.specs.Settings.{Settings}
+use Rattle.vk_base.specs.Settings.{Settings, pool_of}
 use Rattle.vk_base.specs.Steps.{after_effect, effect, first_of, is_allowed, next}
 use Rattle.vk_base.proofs.OptionLemmas.{bind_is}
 use Rattle.v_laws.proofs.Options.{some_that_holds}
 use Rattle.v_laws.proofs.StepLemmas.{only_if_is}
 use Rattle.vk_packet.specs.Rules.{is_number}
 use Rattle.v_sim.specs.AnyView.{Comes, IsView}
-use Rattle.v_sim.specs.Frames.{target_of}
+use Rattle.v_sim.specs.Agreement.{target_of}
 use Rattle.v_sim.proofs.AnyLeft.{view_settled}
 use Rattle.v_sim.proofs.AnyStep.{IsOwnStep, view_initial, view_own}
 use Rattle.v_sim.proofs.AnyView.{view_brought}
@@ -35,7 +35,7 @@ use Rattle.vk_rules.specs.Aliens.{Alien, alien_of, arrival_in, as_arrival, place
 use Rattle.vk_rules.specs.CallOutcomes.{call_outcome, collect_outcome, failed, steps_behind, take_where, tick_outcome, is_ok, work_failure}
 use Rattle.vk_rules.specs.Entries.{Input, Called, Collected, Ticked, Delivered, is_frame_taken, taken_packet}
 use Rattle.vk_rules.specs.Frames.{Frame, Framed, Headed, Noise, sender_of}
-use Rattle.vk_rules.specs.PacketOutcomes.{FarSender, ack_outcome, bytes_outcome, data_outcome, far_sender, found_there, is_later, is_next_piece, is_same, may_be_read, may_be_written, no_sender, opens_move, packet_outcome, request_outcome, restarts_at, running_from, running_to, send_outcome, takes_reply, told_asker}
+use Rattle.vk_rules.specs.PacketOutcomes.{FarSender, ack_outcome, bytes_outcome, data_outcome, far_sender, far_partner, found_there, is_later, is_next_piece, is_same, may_be_read, may_be_written, no_sender, opens_move, packet_outcome, request_outcome, restarts_at, running_from, running_to, send_outcome, takes_reply, told_asker}
 use Rattle.vk_rules.specs.Readings.{Reading, reading, reading_after}
 use Rattle.vk_rules.specs.Right.{entries_of, answer_to, own_pids, right_entry}
 use Rattle.vk_rules.specs.Rounds.{Outcome, list_if, nothing, only_packets, only_steps, round}
@@ -153,7 +153,7 @@ packet_view h r (MoveData from to number moving dest total offset bytes) taken v
     outcome_or (ViewOf h r.view p)
     (λ (w : FarSender).
     if may_be_written dest total w then data_outcome (name_of to number) from moving total offset bytes w.exchange else nothing)
-    (far_sender r.view (name_of to number) from) (no_sender r.view (name_of to number) from moving)
+    (far_partner r.view (name_of to number) from) (no_sender r.view (name_of to number) from moving)
     (λ w e. outcome_if (ViewOf h r.view p) (may_be_written dest total w)
     (data_outcome (name_of to number) from moving total offset bytes w.exchange) nothing
     (λ t.
@@ -168,7 +168,7 @@ packet_view h r (MoveRequest from to number moving src total offset) taken view 
     outcome_or (ViewOf h r.view p)
     (λ (w : FarSender).
     if may_be_read src total w then request_outcome (name_of to number) from moving src total offset w else nothing)
-    (far_sender r.view (name_of to number) from) (no_sender r.view (name_of to number) from moving)
+    (far_partner r.view (name_of to number) from) (no_sender r.view (name_of to number) from moving)
     (λ w e. outcome_if (ViewOf h r.view p) (may_be_read src total w)
     (request_outcome (name_of to number) from moving src total offset w) nothing
     (λ t. view_steps h r.view p (opens_move w.exchange (name_of to number) moving)
@@ -197,6 +197,7 @@ own_behind h k pid (calls.Reply m to) a here =
 own_behind h k pid (calls.ReplySegment m to dest src count) a here =
     each_if (IsOwnStep h) (is_ok a && same_host pid to) (steps.Finish to ∷ [])
     (λ t. (sym (eqb-true pid.host to.host (and_parts (is_ok a) (same_host pid to) t).1) ∙ here, tt))
+own_behind h k pid (calls.Forward m from to) a here = each_if (IsOwnStep h) _ _ (λ t. own_take h k to)
 own_behind h k pid (calls.MoveTo partner dest src count) a here = tt
 own_behind h k pid (calls.MoveFrom partner dest src count) a here = tt
 own_behind h k pid (calls.SetPid logical q scope) a here = tt
@@ -217,6 +218,7 @@ failure_own h pid calls.Receive s here e = absurd (none-some s e)
 failure_own h pid (calls.ReceiveSegment start count) s here e = absurd (none-some s e)
 failure_own h pid (calls.Reply m q) s here e = absurd (none-some s e)
 failure_own h pid (calls.ReplySegment m q dest src count) s here e = absurd (none-some s e)
+failure_own h pid (calls.Forward m one q) s here e = absurd (none-some s e)
 failure_own h pid (calls.SetPid logical q scope) s here e = absurd (none-some s e)
 failure_own h pid (calls.Load start count) s here e = absurd (none-some s e)
 failure_own h pid (calls.Store start bytes) s here e = absurd (none-some s e)
@@ -368,6 +370,6 @@ kept_entry c h r i own view all place b at =
 
 pub kept_entries : (c : Settings) (h : ℕ) (is : List Input) → AreOwnInputs h is → AllKept h (reading c h (entries_of c h is))
 unfolding reading
-kept_entries c h [] own = λ i a at. absurd (none-some a (sym (at_replicate c.pool i) ∙ at))
+kept_entries c h [] own = λ i a at. absurd (none-some a (sym (at_replicate (pool_of c h) i) ∙ at))
 kept_entries c h (i ∷ is) own =
     kept_entry c h (reading c h (entries_of c h is)) i own.0 (view_entries c h is own.1) (kept_entries c h is own.1)

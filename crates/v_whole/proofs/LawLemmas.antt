@@ -1,5 +1,5 @@
 -- The laws of the one-machine kernel behind histories.
-use Rattle.std.proofs.Common.{◌≡◌, ℕ, false, not, List, Option, Some, None, IsSome, slice_get, sym, ap, ◌∙◌}
+use Rattle.std.proofs.Common.{◌≡◌, ◌<◌, ℕ, false, not, List, Option, Some, None, IsSome, slice_get, sym, ap, ◌∙◌}
 use Rattle.std.proofs.lemmas.Bool.{not-true}
 use Rattle.std.proofs.lemmas.Option.{same_Some}
 use Rattle.vk_base.specs.declared.answer.Ending.TheVariants as endings
@@ -19,9 +19,9 @@ use Rattle.vk_base.proofs.OptionLemmas.{bind_is}
 use Rattle.vk_event.specs.declared.event.Event.{Event}
 use Rattle.vk_event.specs.declared.event.Event.TheVariants as events
 use Rattle.v_laws.specs.Moves.{HasMoved}
-use Rattle.v_laws.specs.Places.{HasOwnReply, taken_at}
+use Rattle.v_laws.specs.Places.{HasOwnReply, IsForwardedBetween, taken_at}
 use Rattle.v_laws.proofs.MoveLemmas.{moved_whole}
-use Rattle.v_laws.proofs.OnceLemmas.{takes_one, taken_once}
+use Rattle.v_laws.proofs.OnceLemmas.{takes_one, taken_between}
 use Rattle.v_laws.proofs.PlaceLemmas.{before_sound, step_at}
 use Rattle.v_laws.proofs.ReplyLemmas.{own_reply}
 use Rattle.v_laws.proofs.States.{sending_is}
@@ -44,8 +44,8 @@ pub takes_one_each : (c : Settings) (es : List Event) (i : ℕ) (pid : Pid) → 
 takes_one_each c es i pid schedule at = let r = run_of c es schedule in takes_one c.specs (steps_of c es) r.0 i pid r.1 at
 
 pub taken_one_time : (c : Settings) (es : List Event) (i j : ℕ) (n : Name) → taken_at c.specs (steps_of c es) i ≡ Some n →
-    taken_at c.specs (steps_of c es) j ≡ Some n → i ≡ j
-taken_one_time c es i j n first second = taken_once c.specs (steps_of c es) i j n first second
+    taken_at c.specs (steps_of c es) j ≡ Some n → i < j → IsForwardedBetween c.specs (steps_of c es) i j n
+taken_one_time c es i j n first second = taken_between c.specs (steps_of c es) i j n first second
 
 pub replies_own : (c : Settings) (es : List Event) (i : ℕ) (s : Pid) → IsSchedule c es →
     slice_get (steps_of c es) i ≡ Some (steps.Finish s) → HasOwnReply c.specs (steps_of c es) i s
@@ -64,7 +64,7 @@ record IsWithout (k : Kernel) (s : Pid) : Type 0 where
   sends : sending process.state ≡ Some (target, message)
   exchange : Exchange
   at : k.exchanges (name_of s process.sends) ≡ Some exchange
-  dead : is_live (k.procs exchange.target) ≡ false
+  dead : is_live (k.procs exchange.at) ≡ false
 
 without_is : (k : Kernel) (s : Pid) (f : Process × Refusal) → failing k s endings.NoProcess ≡ Some f → IsWithout k s
 unfolding failing
@@ -74,7 +74,7 @@ without_is k s f g =
     let m = bind_is (sending p.0.state) _ e.0 e.1 in
     let r = bind_is (only_if (not (same_host s e.0.target)) (failure k e.0 endings.NoProcess)) _ f e.2 in
     let far = only_if_is (not (same_host s e.0.target)) (failure k e.0 endings.NoProcess) r.0 r.1 in
-    let gone = only_if_is (not (is_live (k.procs e.0.target))) (Some refusals.NoProcess) r.0 far.1 in
+    let gone = only_if_is (not (is_live (k.procs e.0.at))) (Some refusals.NoProcess) r.0 far.1 in
     record {
       process = p.0;
       is = p.1;
@@ -84,7 +84,7 @@ without_is k s f g =
       exchange = e.0;
       at = m.2;
       dead =
-          not-true (is_live (k.procs e.0.target)) gone.0;
+          not-true (is_live (k.procs e.0.at)) gone.0;
     }
 
 pub dead_targets : (c : Settings) (es : List Event) (i : ℕ) (s : Pid) → IsSchedule c es →
@@ -105,7 +105,10 @@ dead_targets c es i s schedule is =
       target = w.target;
       message = w.message;
       waits = sending_is w.process.state w.target w.message w.sends;
-      dead = ap (λ q. is_live (a.kernel.procs q)) (sym target) ∙ w.dead;
+      exchange = w.exchange;
+      has = w.at;
+      of = target;
+      dead = w.dead;
     }
 
 -- Sends that fail.

@@ -2,13 +2,14 @@
 
 ghost use Rattle.v_whole.specs.HistoryLaws.{DeadTargets, MovesWhole, RepliesOwn, SendsFailInTurn, TakenOnce, TakesOne};
 
-/// In every history no message is received twice: each Take takes one, and no other place takes the same.
+/// In every history no message is received twice, but by a Forward of the process that holds it: each Take takes a message, and
+/// between two that take the same there is such a Forward, answered ok.
 pub fn no_message_is_received_twice()
     ensures some { TakesOne }
     ensures once { TakenOnce }
 {}
 
-/// In every history what a sender gets is the reply to its own Send, given by the process that took it.
+/// In every history what a sender gets is the reply to its own Send, given by a process of its target's station that took it.
 pub fn each_reply_answers_its_own_send()
     ensures { RepliesOwn }
 {}
@@ -18,7 +19,7 @@ pub fn a_successful_move_copies_its_bytes()
     ensures { MovesWhole }
 {}
 
-/// In every history a Send fails as without a process only where its target is not alive.
+/// In every history a Send fails as without a process only where the process that has its message is not alive.
 pub fn targets_are_dead_where_told()
     ensures { DeadTargets }
 {}

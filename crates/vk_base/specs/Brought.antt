@@ -1,6 +1,6 @@
 -- What a packet that a station takes brings into the kernel as the station sees it: what happened elsewhere, and shows there
 -- by nothing else.
-use Rattle.std.specs.Prelude.{ℕ, zero, suc, Bool, false, max, not, nat_lt, List, [], ◌∷◌, ◌++◌, length, take, filter, replicate, Option, Some, None, if◌then◌else◌}
+use Rattle.std.specs.Prelude.{ℕ, zero, suc, Bool, false, max, nat_lt, List, [], ◌∷◌, ◌++◌, length, take, replicate, Option, Some, None, if◌then◌else◌}
 use Rattle.std.specs.Option.{option_map_or}
 use Rattle.vk_base.specs.declared.call.Call.{Call}
 use Rattle.vk_base.specs.declared.call.Call.TheVariants as calls
@@ -16,7 +16,7 @@ use Rattle.vk_base.specs.declared.message.Message.{Message}
 use Rattle.vk_base.specs.declared.pid.Pid.{Pid}
 use Rattle.vk_base.specs.Calls.{new_move}
 use Rattle.vk_base.specs.Changes.{change_process, change_exchange, change_lookup}
-use Rattle.vk_base.specs.Kernel.{◌>>=◌, Kernel, name_of, same_name, holds_of, blocked_in, move_of, put_process, put_exchange, put_lookup}
+use Rattle.vk_base.specs.Kernel.{◌>>=◌, Kernel, name_of, without, holds_of, blocked_in, move_of, put_process, put_exchange, put_lookup}
 use Rattle.vk_base.specs.Packets.{Packet, Send, Reply, Pending, Negative, MoveData, MoveAck, MoveRequest, MoveBytes, MoveNegative, AskPid, TellPid}
 use Rattle.vk_base.specs.Pids.{same_pid}
 use Rattle.vk_base.specs.Ranges.{range_of, bytes_in}
@@ -40,11 +40,17 @@ found_dead p = record p { alive = false }
 -- a message that is on its way
 abbrev pub posted : Pid → Message → List ℕ → Exchange
 posted target message part =
-    record { target = target; message = message; part = part; stage = stages.Posted; moves = []; opened = 0; done = 0 }
-
--- A name that comes anew loses its earlier place, which only a forged Send brings about.
-abbrev pub without : Name → List Name → List Name
-without name = filter (λ n. not (same_name n name))
+    record {
+      target = target;
+      message = message;
+      part = part;
+      at = target;
+      shown = message;
+      stage = stages.Posted;
+      moves = [];
+      opened = 0;
+      done = 0;
+    }
 
 abbrev pub answered_by : Message → ℕ → List ℕ → Exchange → Exchange
 answered_by message dest bytes e = record e { stage = stages.Replied message dest bytes }

@@ -31,7 +31,6 @@ use Rattle.vk_host.specs.declared.response.Response.{Response}
 use Rattle.vk_host.specs.Responses.{answer_of}
 use Rattle.vk_host.specs.Sealed.{sealed}
 use Rattle.vk_host.specs.Standing.{IsAt, IsEvent}
-use Rattle.vk_host.specs.Standing as station
 use Rattle.vk_host.specs.Values.{StationValue, has}
 use Rattle.vk_cluster.specs.declared.emitted.TheConstants.{EVENT_BYTES}
 use Rattle.vk_cluster.specs.declared.report.Advance.{Advance}
@@ -109,9 +108,6 @@ module _ (v : ClusterValue) (some : StandsSomewhere v) (place host : ℕ) (there
 
     pub host_is : (s : StationValue) → slice_get v.hosts place ≡ Some s → s.host ≡ host
     host_is s found = host_at some.0 (logs_of some.0 some.1) v.hosts v.pile place host s some.2.stands found at_place
-
-    pub somewhere_at : (s : StationValue) → slice_get v.hosts place ≡ Some s → station.StandsSomewhere s
-    somewhere_at s found = (some.0, logs_of some.0 some.1 s.host, some.2.stands.at place s found)
 
     pub few_at : (s : StationValue) → slice_get v.hosts place ≡ Some s → s.events + 1 < 2 ^ 48
     few_at s found =

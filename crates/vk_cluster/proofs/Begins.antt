@@ -1,8 +1,8 @@
 -- A cluster before the first event.
-use Rattle.std.proofs.Common.{◌≡◌, ℕ, zero, suc, List, [], ◌∷◌, length, map, replicate, None, refl, sym, ap, subst, ◌∙◌, lit≤}
+use Rattle.std.proofs.Common.{◌≡◌, ℕ, zero, suc, List, [], ◌∷◌, length, map, replicate, refl, sym, ap, subst, ◌∙◌, lit≤}
 use Rattle.vk_base.specs.declared.config.ProcessSpec.{ProcessSpec}
 use Rattle.vk_base.specs.Pids.{IsPid}
-use Rattle.vk_base.specs.Settings.{Settings, refusal_of, stations_of}
+use Rattle.vk_base.specs.Settings.{AreLawful, Settings, stations_of}
 use Rattle.vk_rules.specs.Each.{Each}
 use Rattle.vk_rules.specs.Histories.{no_entries}
 unfoldable use Rattle.vk_rules.specs.Histories.{history, logs_from}
@@ -38,7 +38,7 @@ first_at c hosts are = record {
 }
 
 pub begins : (c copy : Settings) (hosts : List StationValue) (pile : Pile) (n : ℕ) → copy ≡ c →
-    refusal_of c.times c.pool c.specs ≡ None →
+    AreLawful c →
     Each (λ (s : ProcessSpec). IsPid s.pid) c.specs → AreHosts c hosts (stations_of c.specs) → n ≡ length (stations_of c.specs) →
     pile ≡ record { bytes = []; frames = []; events = replicate n [] } →
     StandsFor c [] (record { config = copy; hosts = hosts; pile = pile; events = 0 })

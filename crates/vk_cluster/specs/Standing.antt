@@ -1,9 +1,9 @@
 -- When a cluster stands for the events so far, and what a step does.
-use Rattle.std.specs.Prelude.{ℕ, Bool, true, false, ◌≡◌, ◌+◌, ◌≤◌, List, [], ◌∷◌, ◌++◌, length, map, slice_get, sum_by, Some, None}
+use Rattle.std.specs.Prelude.{ℕ, Bool, true, false, ◌≡◌, ◌+◌, ◌≤◌, List, [], ◌∷◌, ◌++◌, length, map, slice_get, sum_by, Some}
 use Rattle.vk_base.specs.declared.config.ProcessSpec.{ProcessSpec}
 use Rattle.vk_base.specs.declared.limits.TheConstants.{EVENTS}
 use Rattle.vk_base.specs.Pids.{IsPid}
-use Rattle.vk_base.specs.Settings.{Settings, refusal_of, stations_of}
+use Rattle.vk_base.specs.Settings.{AreLawful, Settings, stations_of}
 use Rattle.vk_event.specs.declared.event.Event.{Event}
 use Rattle.vk_rules.specs.Each.{Each}
 use Rattle.vk_rules.specs.Entries.{Entry}
@@ -58,7 +58,7 @@ pub record AreAt (c : Settings) (logs : Logs) (hosts : List StationValue) (pile 
 -- The cluster stands for these events.
 pub record StandsFor (c : Settings) (es : List Event) (k : ClusterValue) : Type 0 where
   pub config : k.config ≡ c
-  pub lawful : refusal_of c.times c.pool c.specs ≡ None
+  pub lawful : AreLawful c
   pub pids : Each (λ (s : ProcessSpec). IsPid s.pid) c.specs
   pub stands : AreAt c (logs_of c es) k.hosts k.pile
   pub bytes : length k.pile.bytes ≡ emitted_bytes (history_of c es)

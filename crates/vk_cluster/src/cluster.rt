@@ -2,7 +2,7 @@
 
 ghost use Rattle.std.specs.Prelude.{◌≡◌, ◌≤◌, ◌<◌, ◌+◌, ◌||◌, ℕ, List, [], true, false, None, Some, length, map, sum_by, nat_le, nat_lt, slice_get, slice_index, IfOk, IfErr, OnErr, MatchOption};
 ghost use Rattle.vk_base.specs.Pids.{IsPid};
-ghost use Rattle.vk_base.specs.Settings.{Settings, has_process, has_station, refusal_of, stations_of};
+ghost use Rattle.vk_base.specs.Settings.{Settings, has_process, has_station, stations_of};
 ghost use Rattle.vk_event.specs.declared.event.Event.{Event as TheEvent};
 ghost use Rattle.vk_event.specs.Lawful.{has_actors};
 ghost use Rattle.vk_frame.specs.Reading.{frame_of};
@@ -19,7 +19,6 @@ ghost use Rattle.vk_cluster.specs.Clusters.{value_of};
 ghost use Rattle.vk_cluster.specs.Values.{is_full};
 
 use crate::emitted::{EVENT_BYTES, EVENT_FRAMES, Emitted, LAST_BYTES};
-use crate::fields::{are_in_range, pid_is};
 use crate::report::{Advance, ClusterAnswer, ClusterRefusal, StepReport};
 use std::alloc::Global;
 use vk_base::limits::EVENTS;
@@ -27,7 +26,7 @@ use vk_base::{Config, NoMemory, Pid, ProcessSpec};
 use vk_brief::CallView;
 use vk_event::{Event, EventKind, EventView};
 use vk_frame::{Header, unseal};
-use vk_host::Host;
+use vk_host::{Host, are_in_range, pid_is};
 use vk_rules::frames_unseal_again;
 
 /// The destination of a frame for every station.
@@ -49,9 +48,9 @@ impl Cluster {
     ///
     /// [`NoMemory`] where memory is wanting.
     pub fn new(alloc: Global, config: &Config) -> Result<Self, NoMemory>
-        requires { refusal_of config.now.times config.now.pool config.now.specs ≡ None }
         ensures { IfOk result (λ k. StandsFor config.now [] (value_of k)) }
     {
+        let _lawful = config.times();
         pids_are(config.specs());
         Ok(Cluster {
             config: config.copy(alloc)?,
@@ -355,7 +354,6 @@ pub fn place_of(config: &Config, host: u16) -> usize
 
 /// The stations of the configuration, none of which had an event.
 pub fn new_hosts(alloc: Global, config: &Config) -> Result<Vec<Host>, NoMemory>
-    requires { refusal_of config.now.times config.now.pool config.now.specs ≡ None }
     ensures { IfOk result (λ hosts. AreHosts config.now hosts.items (stations_of config.now.specs)) }
 {
     let mut hosts = Vec::with_capacity(alloc, config.station_count() as usize)?;

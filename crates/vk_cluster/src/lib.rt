@@ -10,14 +10,12 @@
 
 mod cluster;
 mod emitted;
-mod fields;
 mod frames;
 mod law;
 mod report;
 
 pub use cluster::{Cluster, handed_over, keep, new_hosts, pids_are, place_of};
 pub use emitted::Emitted;
-pub use fields::{are_in_range, pid_is};
 pub use frames::MOST_BYTES;
 pub use law::clusters_run;
 pub use report::{Advance, ClusterAnswer, ClusterRefusal, StepReport};

@@ -9,8 +9,8 @@ use Rattle.vk_event.specs.declared.schedule.TextRefusal.{TextRefusal}
 use Rattle.vk_event.specs.declared.schedule.TextRefusal.TheVariants as schedules
 use Rattle.vk_event.specs.Schedule.{HasProcess, schedule_of}
 use Rattle.vk_io.specs.Causes.{LosesFront}
-use Rattle.vk_text.specs.Heads.{head_of}
 use Rattle.vk_text.specs.Lines.{lines_of}
+use Rattle.vk_text.specs.Openings.{opening_of}
 use Rattle.vk_top.specs.Top.{OfInput}
 use Rattle.vk_picture.specs.declared.picture.Column.{Column}
 use Rattle.vk_picture.specs.Places.{columns_of, place_behind, station_column}
@@ -37,11 +37,11 @@ few_columns last place (s ∷ ss) =
 -- the empty text spells no schedule, and has no process
 
 empty_bad : schedule_of [] ≡ Err (schedules.BadInput 1)
-unfolding lines_of head_of
+unfolding lines_of opening_of
 empty_bad = refl
 
 empty_bare : HasProcess [] → ⊥
-unfolding lines_of head_of
+unfolding lines_of opening_of
 empty_bare some = absurd (omega (arith, some))
 
 pub spelled_some : (text : List ℕ) (s : Schedule) → schedule_of text ≡ Ok s → 0 < length text

@@ -35,6 +35,7 @@ call_kind calls.Receive = kinds.Receive
 call_kind (calls.ReceiveSegment start count) = kinds.ReceiveSegment
 call_kind (calls.Reply message to) = kinds.Reply
 call_kind (calls.ReplySegment message to dest src count) = kinds.ReplySegment
+call_kind (calls.Forward message from to) = kinds.Forward from
 call_kind (calls.MoveTo partner dest src count) = kinds.MoveTo
 call_kind (calls.MoveFrom partner dest src count) = kinds.MoveFrom
 call_kind (calls.SetPid logical pid scope) = kinds.SetPid
@@ -43,11 +44,12 @@ call_kind (calls.Load start count) = kinds.Load
 call_kind (calls.Store start bytes) = kinds.Store
 call_kind calls.Exit = kinds.Exit
 
--- the process that a call names
+-- the process that a call names; of a Forward, the one that gets the message
 abbrev pub partner_of : Call → Option Pid
 partner_of (calls.Send target message) = Some target
 partner_of (calls.Reply message to) = Some to
 partner_of (calls.ReplySegment message to dest src count) = Some to
+partner_of (calls.Forward message from to) = Some to
 partner_of (calls.MoveTo partner dest src count) = Some partner
 partner_of (calls.MoveFrom partner dest src count) = Some partner
 partner_of (calls.SetPid logical pid scope) = Some pid

@@ -18,6 +18,7 @@ fn call_kind(call: &Call) -> CallKind
         Call::ReceiveSegment { .. } => CallKind::ReceiveSegment,
         Call::Reply { .. } => CallKind::Reply,
         Call::ReplySegment { .. } => CallKind::ReplySegment,
+        Call::Forward { from, .. } => CallKind::Forward { from: *from },
         Call::MoveTo { .. } => CallKind::MoveTo,
         Call::MoveFrom { .. } => CallKind::MoveFrom,
         Call::SetPid { .. } => CallKind::SetPid,
@@ -28,13 +29,15 @@ fn call_kind(call: &Call) -> CallKind
     }
 }
 
-/// The process that a call names.
+/// The process that a call names; of a Forward, the one that gets the message.
 fn partner_of(call: &Call) -> Option<Pid>
     ensures { result ≡ partner_of call.now }
 {
     match call {
         Call::Send { target, .. } => Some(*target),
-        Call::Reply { to, .. } | Call::ReplySegment { to, .. } => Some(*to),
+        Call::Reply { to, .. } | Call::ReplySegment { to, .. } | Call::Forward { to, .. } => {
+            Some(*to)
+        }
         Call::MoveTo { partner, .. } | Call::MoveFrom { partner, .. } => Some(*partner),
         Call::SetPid { pid, .. } => Some(*pid),
         Call::Receive

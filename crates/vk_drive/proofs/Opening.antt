@@ -1,7 +1,5 @@
 -- Before the first event.
-use Rattle.std.proofs.Common.{◌≡◌, ℕ, zero, suc, ◌<◌, List, [], get_or, None, refl, sym, ap, subst, ◌∙◌, arith}
-use Rattle.vk_base.specs.Settings.{Settings, refusal_of}
-unfoldable use Rattle.vk_base.specs.Settings.{fault_of}
+use Rattle.std.proofs.Common.{◌≡◌, ℕ, zero, suc, ◌<◌, List, [], get_or, refl, sym, ap, subst, arith}
 use Rattle.circular_buffer.specs.Buffer.{buffer}
 use Rattle.vk_cluster.specs.Clusters.{value_of}
 use Rattle.vk_cluster.specs.Standing.{StandsFor}
@@ -15,13 +13,6 @@ use Rattle.vk_rules.specs.Histories.{history_of}
 use Rattle.vk_drive.specs.declared.counts.Counts.{Counts}
 use Rattle.vk_drive.specs.Driving.{AreActors, IsCourse, IsNoted}
 use Rattle.vk_drive.specs.Tasks.{settings, specs, tasks}
-
-lawful : refusal_of settings.times settings.pool settings.specs ≡ None
-unfolding fault_of
-lawful = refl
-
-pub lawful_settings : (c : Settings) → c ≡ settings → refusal_of c.times c.pool c.specs ≡ None
-lawful_settings c is = ap (λ (d : Settings). refusal_of d.times d.pool d.specs) is ∙ lawful
 
 pub course_first : (c : Course) → StandsFor settings [] (value_of c.cluster) → c.recent ≡ buffer [] 32 →
     c.counts ≡ record { frames = 0; taken = 0; late = 0; answers = 0; timedout = 0 } → c.events ≡ [] → IsCourse c

@@ -6,7 +6,7 @@ ghost use Rattle.vk_drive.specs.Tasks.{client, server, settings, tasks};
 use std::alloc::Global;
 use vk_base::{Config, NoMemory, Pid, ProcessSpec};
 use vk_event::{Task, TaskKind};
-use vk_text::empty_config;
+use vk_text::{USUAL_POOL, empty_config};
 
 /// The page server's process.
 const SERVER: Pid = Pid { host: 1, local: 1 };
@@ -68,7 +68,7 @@ pub fn settings(alloc: Global) -> Result<Config, NoMemory>
     for task in &tasks {
         let size = MEMORY;
         let pid = task.pid;
-        match config.add(ProcessSpec { pid, size }) {
+        match config.add(ProcessSpec { pid, size }, USUAL_POOL) {
             Ok(()) => {}
             Err(_) => return Err(NoMemory),
         }

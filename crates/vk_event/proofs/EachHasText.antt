@@ -16,7 +16,8 @@ use Rattle.vk_event.specs.declared.task.Task.{Task}
 use Rattle.vk_event.specs.declared.task.TaskKind.{TaskKind}
 use Rattle.vk_event.specs.declared.task.TaskKind.TheVariants as kinds
 use Rattle.vk_event.specs.declared.task_line.TaskLine.{TaskLine}
-use Rattle.vk_event.specs.Scenario.{idle}
+use Rattle.vk_text.proofs.OpeningLaws.{openings_written}
+use Rattle.vk_event.specs.Scenario.{idle, plain_title, timed_title}
 use Rattle.vk_event.specs.ScenarioLaws.{IsReadableKind, IsReadableLine, LawfulScenariosHaveTexts, with_all_given}
 use Rattle.vk_event.specs.Tasks.{given_kind, given_to, has_memory, memory_for, memory_of, with_given}
 
@@ -213,7 +214,10 @@ pids_of (p ∷ ps) (t ∷ ts) is h = (subst IsPid (sym is.0) h.0, pids_of ps ts 
 pub have_texts : LawfulScenariosHaveTexts
 have_texts s is =
     let of = are_of s.config.specs s.tasks is.tasks in (
-      all_lines s.tasks,
-      lines_ranges s.tasks (pids_of s.config.specs s.tasks of is.pids) is.ranges,
-      all_given s.config.specs s.config.specs s.tasks of (lawful_rise s.config.specs is.faultless) is.memory,
+      openings_written plain_title timed_title s.config is.told.lawful,
+      (
+        all_lines s.tasks,
+        lines_ranges s.tasks (pids_of s.config.specs s.tasks of is.told.pids) is.ranges,
+        all_given s.config.specs s.config.specs s.tasks of (lawful_rise s.config.specs is.told.lawful.processes) is.memory,
+      ),
     )

@@ -1,22 +1,22 @@
 -- What a text spells is lawful.
-use Rattle.std.proofs.Common.{◌≡◌, ◌<◌, ℕ, ◌&&◌, ◌++◌, nat_lt, Bool, true, false, List, [], ◌∷◌, length, codes, bytes_eq, cond, Option, Some, None, Ok, Err, refl, sym, subst, ◌∙◌, arith, lit≤}
+use Rattle.std.proofs.Common.{◌≡◌, ◌<◌, ℕ, ◌+◌, ◌&&◌, ◌++◌, nat_lt, Bool, true, false, List, [], ◌∷◌, length, codes, bytes_eq, cond, Option, Some, None, Result, Ok, Err, refl, sym, subst, ◌∙◌, arith, lit≤}
 use Rattle.std.specs.List.{list_all, AllByRecursion}
 use Rattle.std.proofs.lemmas.Bool.{and_from, ltb-true}
 use Rattle.std.proofs.lemmas.Grind.{common_steps}
 use Rattle.std.proofs.lemmas.List.Folds.{list_all-append}
 use Rattle.std.proofs.lemmas.Option.{cond_some}
 use Rattle.vk_base.specs.Pids.{IsPid}
-use Rattle.vk_base.specs.Settings.{first_fault}
-use Rattle.vk_base.specs.declared.config.ProcessSpec.{ProcessSpec}
+use Rattle.vk_base.specs.Settings.{Settings}
+use Rattle.vk_base.proofs.Pools.{uniform_lawful}
 use Rattle.vk_base.proofs.OptionLemmas.{bind_is}
 use Rattle.vk_text.specs.Calls.{call_of}
-use Rattle.vk_text.specs.Heads.{head_of}
+use Rattle.vk_text.specs.Heads.{settings_of, usual_pool, usual_times}
 use Rattle.vk_text.specs.Laws.{IsOrdinal}
 use Rattle.vk_text.specs.Lines.{lines_of, words_from}
+use Rattle.vk_text.specs.Openings.{IsTold, line_number}
 use Rattle.vk_text.specs.Words.{positive_of, station_of, pid_of}
 use Rattle.vk_text.proofs.Firsts.{first_holds, ended_is}
-use Rattle.vk_text.proofs.HeadRanges.{head_fits}
-use Rattle.vk_text.proofs.HeadReading.{Parts}
+use Rattle.vk_text.proofs.OpeningLaws.{openings_spelled}
 use Rattle.vk_text.proofs.Ranges.{pid_fits, call_fits}
 use Rattle.vk_text.proofs.Spelled.{either_word, positive_spelled, station_spelled}
 use Rattle.vk_event.specs.declared.event.Event.{Event}
@@ -27,7 +27,7 @@ use Rattle.vk_event.specs.declared.schedule.TextRefusal.{TextRefusal}
 use Rattle.vk_event.specs.declared.schedule.TextRefusal.TheVariants as refusals
 use Rattle.vk_event.specs.Lawful.{has_actors, IsStation, IsOutput, IsReadableEvent, IsLawful}
 use Rattle.vk_event.specs.Laws.{OnlyLawfulAreRead}
-use Rattle.vk_event.specs.Schedule.{call_event_of, collect_event_of, tick_event_of, deliver_event_of, event_of, acting, more, with_event, or_end, front_from, without_events, front_by, front_of, whole}
+use Rattle.vk_event.specs.Schedule.{call_event_of, collect_event_of, tick_event_of, deliver_event_of, event_of, acting, more, with_event, or_end, front_from, without_events, front_by, front_of, opened, plain_title, timed_title, whole}
 
 station_fits : (host : ℕ) (word : List ℕ) → station_of word ≡ Some host → IsStation host
 station_fits host word h = let read = station_spelled host word h in (read.1, read.2)
@@ -97,9 +97,7 @@ ranges_more (x ∷ xs) e h one = (h.0, ranges_more xs e h.1 one)
 more_lawful : (s : Schedule) (e : Event) → IsLawful s → IsReadableEvent e → has_actors s.config.specs e ≡ true → length s.events < 100000
     → IsLawful (more s e)
 more_lawful s e is fits acts room = record {
-  config = is.config;
-  pids = is.pids;
-  faultless = is.faultless;
+  told = is.told;
   ranges = ranges_more s.events e is.ranges fits;
   events = all_more (has_actors s.config.specs) s.events e is.events acts;
   few = grind (arith, common_steps);
@@ -109,45 +107,45 @@ more_lawful s e is fits acts room = record {
 abbrev IsLawfulBy : Schedule → Event → (Schedule → Front) → Bool → Type 0
 IsLawfulBy s e rest room = IsLawful (or_end s (Some e) (cond room (Ok (more s e)) (Err refusals.Limit)) rest).schedule
 
-by_room : (s : Schedule) (e : Event) (b : Bool) (rest : Schedule → Front) → nat_lt (length s.events) 100000 ≡ b
+by_room : (n : ℕ) (s : Schedule) (e : Event) (b : Bool) (rest : Schedule → Front) → nat_lt (length s.events) 100000 ≡ b
     → ((t : Schedule) → IsLawful t → IsLawful (rest t).schedule) → IsLawful s → IsReadableEvent e → has_actors s.config.specs e ≡ true
-    → IsLawful (or_end s (Some e) (with_event s (Some e)) rest).schedule
-by_room s e true rest room after is fits acts =
+    → IsLawful (or_end s (Some e) (with_event n s (Some e)) rest).schedule
+by_room n s e true rest room after is fits acts =
     let longer = more_lawful s e is fits acts (ltb-true (length s.events) 100000 room) in
     subst (IsLawfulBy s e rest) (sym room) (after (more s e) longer)
-by_room s e false rest room after is fits acts = subst (IsLawfulBy s e rest) (sym room) is
+by_room n s e false rest room after is fits acts = subst (IsLawfulBy s e rest) (sym room) is
 
-by_actors : (s : Schedule) (e : Event) (b : Bool) (rest : Schedule → Front) → has_actors s.config.specs e ≡ b
+by_actors : (n : ℕ) (s : Schedule) (e : Event) (b : Bool) (rest : Schedule → Front) → has_actors s.config.specs e ≡ b
     → ((t : Schedule) → IsLawful t → IsLawful (rest t).schedule) → IsLawful s → IsReadableEvent e
-    → IsLawful (or_end s (cond b (Some e) None) (with_event s (cond b (Some e) None)) rest).schedule
-by_actors s e true rest acts after is fits = by_room s e (nat_lt (length s.events) 100000) rest refl after is fits acts
-by_actors s e false rest acts after is fits = is
+    → IsLawful (or_end s (cond b (Some e) None) (with_event n s (cond b (Some e) None)) rest).schedule
+by_actors n s e true rest acts after is fits = by_room n s e (nat_lt (length s.events) 100000) rest refl after is fits acts
+by_actors n s e false rest acts after is fits = is
 
-by_event : (s : Schedule) (o : Option Event) (rest : Schedule → Front) → ((e : Event) → o ≡ Some e → IsReadableEvent e)
+by_event : (n : ℕ) (s : Schedule) (o : Option Event) (rest : Schedule → Front) → ((e : Event) → o ≡ Some e → IsReadableEvent e)
     → ((t : Schedule) → IsLawful t → IsLawful (rest t).schedule) → IsLawful s
-    → IsLawful (or_end s (acting s.config.specs o) (with_event s (acting s.config.specs o)) rest).schedule
-by_event s None rest fits after is = is
-by_event s (Some e) rest fits after is = by_actors s e (has_actors s.config.specs e) rest refl after is (fits e refl)
+    → IsLawful (or_end s (acting s.config.specs o) (with_event n s (acting s.config.specs o)) rest).schedule
+by_event n s None rest fits after is = is
+by_event n s (Some e) rest fits after is = by_actors n s e (has_actors s.config.specs e) rest refl after is (fits e refl)
 
-from_lawful : (s : Schedule) (lines : List (List ℕ)) → IsLawful s → IsLawful (front_from s lines).schedule
+from_lawful : (n : ℕ) (s : Schedule) (lines : List (List ℕ)) → IsLawful s → IsLawful (front_from n s lines).schedule
 unfolding front_from
-from_lawful s [] is = is
-from_lawful s (l ∷ ls) is =
-    by_event s (event_of (words_from l 0)) (λ t. front_from t ls) (event_fits (words_from l 0)) (λ t lawful. from_lawful t ls lawful) is
+from_lawful n s [] is = is
+from_lawful n s (l ∷ ls) is =
+    by_event n s (event_of (words_from l 0)) (λ t. front_from (n + 1) t ls) (event_fits (words_from l 0))
+    (λ t lawful. from_lawful (n + 1) t ls lawful) is
 
-without_events_lawful : (specs : List ProcessSpec) → AllByRecursion (λ p. IsPid p.pid) specs → first_fault [] specs ≡ None
-    → IsLawful (without_events specs)
-without_events_lawful specs pids faultless =
-    record { config = refl; pids = pids; faultless = faultless; ranges = tt; events = refl; few = lit≤ tt }
+without_events_lawful : (c : Settings) → IsTold c → IsLawful (without_events c)
+without_events_lawful c told = record { told = told; ranges = tt; events = refl; few = lit≤ tt }
 
-by_head : (lines : List (List ℕ)) (head : Option Parts) → head_of (codes "vkernel 1") lines ≡ head → IsLawful (front_by head).schedule
-by_head lines None h = without_events_lawful [] tt refl
-by_head lines (Some head) h =
-    let fits = head_fits (codes "vkernel 1") lines head h in
-    from_lawful (without_events head.0) head.1 (without_events_lawful head.0 fits.0 fits.1)
+by_opening : (lines : List (List ℕ)) (o : Result (Settings × List (List ℕ)) ℕ) → opened lines ≡ o → IsLawful (front_by lines o).schedule
+by_opening lines (Err n) h =
+    without_events_lawful (settings_of []) (record { lawful = uniform_lawful usual_times usual_pool [] refl; pids = tt })
+by_opening lines (Ok found) h =
+    let front = openings_spelled plain_title timed_title lines found.1 found.0 h in
+    from_lawful (line_number lines found.1) (without_events found.0) found.1 (without_events_lawful found.0 front.0)
 
 pub front_is_lawful : (text : List ℕ) → IsLawful (front_of text).schedule
-front_is_lawful text = by_head (lines_of text) (head_of (codes "vkernel 1") (lines_of text)) refl
+front_is_lawful text = by_opening (lines_of text) (opened (lines_of text)) refl
 
 pub whole_is : (s t : Schedule) (o : Option TextRefusal) → whole s o ≡ Ok t → (s ≡ t) × (o ≡ None)
 whole_is s t None h = (cc, refl)

@@ -1,14 +1,17 @@
 -- What is written of a lawful schedule is read again.
 use Rattle.std.proofs.Common.{◌≡◌, ℕ, ◌+◌, ◌<◌, ◌≤◌, true, cond, List, [], ◌∷◌, ◌++◌, length, map, decimal, codes, Some, None, Ok, Err, refl, arith, ap, sym, ◌∙◌, subst, append_assoc, append-nil}
-use Rattle.std.specs.List.{AllByRecursion, list_all}
+use Rattle.std.specs.List.{AllByRecursion, flat_map, list_all}
 use Rattle.std.proofs.lemmas.Bool.{and_parts, lt-ltb}
 use Rattle.std.proofs.lemmas.Grind.{common_steps}
-use Rattle.vk_base.specs.Settings.{Settings}
-use Rattle.vk_text.specs.Heads.{process_of, HasNoFeed, BeginsWithNoProcess}
+use Rattle.std.proofs.lemmas.List.{map-id}
+use Rattle.std.proofs.lemmas.List.Concat.{flat_map-append}
+use Rattle.std.proofs.lemmas.List.Folds.{flat_map-map}
+use Rattle.vk_text.specs.Heads.{process_of, HasNoFeed, line_text}
 use Rattle.vk_text.specs.Lines.{lines_of, words_from}
-use Rattle.vk_text.proofs.Bodies.{body_text, body_read, title_plain}
+use Rattle.vk_text.specs.Openings.{BeginsNoHead, line_number, opening_lines, pool_line_of}
+use Rattle.vk_text.proofs.Bodies.{body_read, title_plain}
 use Rattle.vk_text.proofs.CallWords.{call_read}
-use Rattle.vk_text.proofs.HeadTexts.{heads_back}
+use Rattle.vk_text.proofs.OpeningLaws.{openings_back, openings_no_feed, openings_written}
 use Rattle.vk_text.proofs.PlainWords.{IsPlain, letters, number_plain, ordinal_plain, pid_plain, call_plain, no_spaces, no_feeds, joined_no_feed}
 use Rattle.vk_text.proofs.ReadBack.{joined_words}
 use Rattle.vk_text.specs.Words.{positive_of}
@@ -18,10 +21,10 @@ use Rattle.vk_event.specs.declared.event.Event.TheVariants as events
 use Rattle.vk_event.specs.declared.schedule.Front.{Front}
 use Rattle.vk_event.specs.declared.schedule.Schedule.{Schedule}
 use Rattle.vk_event.specs.declared.schedule.TextRefusal.TheVariants as refusals
-use Rattle.vk_event.specs.Lawful.{has_actors, IsStation, IsOutput, IsReadableEvent}
+use Rattle.vk_event.specs.Lawful.{has_actors, IsLawful, IsStation, IsOutput, IsReadableEvent}
 use Rattle.vk_event.specs.Laws.{SchedulesReadBack}
-use Rattle.vk_event.specs.Schedule.{call_event_of, collect_event_of, tick_event_of, deliver_event_of, event_of, acting, more, with_event, or_end, next_event, front_from, without_events, front_by, whole}
-use Rattle.vk_event.specs.Spelling.{event_words, event_text}
+use Rattle.vk_event.specs.Schedule.{call_event_of, collect_event_of, tick_event_of, deliver_event_of, event_of, acting, more, with_event, or_end, next_event, front_from, without_events, front_by, opened, plain_title, schedule_of, timed_title, whole}
+use Rattle.vk_event.specs.Spelling.{IsFront, event_words, event_text, schedule_lines, schedule_text, text_of}
 
 station_plain : (host : ℕ) → IsStation host → IsPlain (decimal host)
 station_plain host h = let most = h.1 in number_plain host (omega (arith, most))
@@ -77,26 +80,32 @@ other_word (events.Collect pid) = refl
 other_word (events.Tick host) = refl
 other_word (events.Deliver to from event output) = refl
 
--- the line of an event names no process
-no_process : (e : Event) → IsReadableEvent e → process_of (words_from (event_text e) 0) ≡ None
-no_process e h = ap process_of (event_parts e h) ∙ other_word e
+no_pool_word : (e : Event) → pool_line_of (event_words e) ≡ None
+unfolding pool_line_of
+no_pool_word (events.Call pid call) = refl
+no_pool_word (events.Collect pid) = refl
+no_pool_word (events.Tick host) = refl
+no_pool_word (events.Deliver to from event output) = refl
 
-no_feed_in : (es : List Event) → AllByRecursion IsReadableEvent es → AllByRecursion (λ e. HasNoFeed (event_text e)) es
+-- the line of an event tells of no process and of no pool
+first_is_event : (es : List Event) → AllByRecursion IsReadableEvent es → BeginsNoHead (map event_text es)
+first_is_event [] h = tt
+first_is_event (e ∷ es) h =
+    (ap process_of (event_parts e h.0) ∙ other_word e, ap pool_line_of (event_parts e h.0) ∙ no_pool_word e)
+
+no_feed_in : (es : List Event) → AllByRecursion IsReadableEvent es → AllByRecursion HasNoFeed (map event_text es)
 no_feed_in [] h = tt
 no_feed_in (e ∷ es) h = (event_no_feed e h.0, no_feed_in es h.1)
 
-events_lines : (es : List Event) → AllByRecursion IsReadableEvent es → lines_of (body_text event_text es) ≡ map event_text es
-events_lines es h = body_read event_text es (no_feed_in es h)
+pub both_plain : (a b : List (List ℕ)) → AllByRecursion HasNoFeed a → AllByRecursion HasNoFeed b → AllByRecursion HasNoFeed (a ++ b)
+both_plain [] b h k = k
+both_plain (l ∷ ls) b h k = (h.0, both_plain ls b h.1 k)
 
-first_is_event : (es : List Event) → AllByRecursion IsReadableEvent es → BeginsWithNoProcess (map event_text es)
-first_is_event [] h = tt
-first_is_event (e ∷ es) h = no_process e h.0
-
-taken : (s : Schedule) (e : Event) → IsReadableEvent e → has_actors s.config.specs e ≡ true → length s.events < 100000
-    → with_event s (next_event s (event_text e)) ≡ Ok (more s e)
-taken s e h acts room =
-    ap (λ o. with_event s (acting s.config.specs o)) (event_back e h)
-    ∙ ap (λ b. with_event s (cond b (Some e) None)) acts
+taken : (n : ℕ) (s : Schedule) (e : Event) → IsReadableEvent e → has_actors s.config.specs e ≡ true → length s.events < 100000
+    → with_event n s (next_event s (event_text e)) ≡ Ok (more s e)
+taken n s e h acts room =
+    ap (λ o. with_event n s (acting s.config.specs o)) (event_back e h)
+    ∙ ap (λ b. with_event n s (cond b (Some e) None)) acts
     ∙ ap (λ b. cond b (Ok (more s e)) (Err refusals.Limit)) (lt-ltb (length s.events) 100000 room)
 
 -- the schedule with these events behind its own
@@ -107,28 +116,45 @@ still_few : (s : Schedule) (e : Event) (n : ℕ) → length s.events + (n + 1) �
 still_few s e n h = grind (arith, common_steps)
 
 -- lines of events are taken one after another
-events_read : (s : Schedule) (es : List Event) → AllByRecursion IsReadableEvent es → list_all (has_actors s.config.specs) es ≡ true
-    → length s.events + length es ≤ 100000 → front_from s (map event_text es) ≡ then_all s (s.events ++ es)
+events_read : (n : ℕ) (s : Schedule) (es : List Event) → AllByRecursion IsReadableEvent es
+    → list_all (has_actors s.config.specs) es ≡ true → length s.events + length es ≤ 100000
+    → front_from n s (map event_text es) ≡ then_all s (s.events ++ es)
 unfolding front_from then_all
-events_read s [] h acts few = ap (then_all s) (sym (append-nil s.events))
-events_read s (e ∷ es) h acts few =
+events_read n s [] h acts few = ap (then_all s) (sym (append-nil s.events))
+events_read n s (e ∷ es) h acts few =
     let both = and_parts (has_actors s.config.specs e) (list_all (has_actors s.config.specs) es) acts in
-    ap (λ r. or_end s (next_event s (event_text e)) r (λ t. front_from t (map event_text es)))
-    (taken s e h.0 both.0 (omega (arith, few)))
-    ∙ events_read (more s e) es h.1 both.1 (still_few s e (length es) (omega (arith, few)))
+    ap (λ r. or_end s (next_event s (event_text e)) r (λ t. front_from (n + 1) t (map event_text es)))
+    (taken n s e h.0 both.0 (omega (arith, few)))
+    ∙ events_read (n + 1) (more s e) es h.1 both.1 (still_few s e (length es) (omega (arith, few)))
     ∙ ap (then_all s) (append_assoc s.events (e ∷ []) es)
 
-pub schedules_back : SchedulesReadBack
+-- lines without line feeds are those of their text
+pub lines_back : (lines : List (List ℕ)) → AllByRecursion HasNoFeed lines → lines_of (flat_map line_text lines) ≡ lines
+lines_back lines h = body_read (λ l. l) lines h ∙ map-id lines
+
+back_by : (s : Schedule) (opening : List (List ℕ)) → IsLawful s → IsFront s.config opening → schedule_of (text_of (schedule_lines opening s)) ≡ Ok s
 unfolding then_all
-schedules_back s is =
-    let specs = s.config.specs in
+back_by s opening is front =
     let few = is.few in
-    let lines = events_lines s.events is.ranges in
-    let begins = subst BeginsWithNoProcess (sym lines) (first_is_event s.events is.ranges) in
-    let head = heads_back (codes "vkernel 1") specs (body_text event_text s.events)
-    (title_plain (codes "vkernel 1") refl) is.pids is.faultless begins in
-    let body =
-    ap (front_from (without_events specs)) lines
-    ∙ events_read (without_events specs) s.events is.ranges is.events (omega (arith, few)) in
-    ap (λ (f : Front). whole f.schedule f.refused) (ap front_by head ∙ body)
-    ∙ ap (λ (c : Settings). let t : Schedule = record { config = c; events = s.events } in Ok t) (sym is.config)
+    let body : List (List ℕ) = map event_text s.events in
+    let feeds = both_plain opening body
+    (openings_no_feed plain_title timed_title s.config opening (title_plain plain_title refl) (title_plain timed_title refl) is.told front)
+    (no_feed_in s.events is.ranges) in
+    let lines : lines_of (text_of (opening ++ body)) ≡ opening ++ body = lines_back (opening ++ body) feeds in
+    let found = openings_back plain_title timed_title s.config opening body refl is.told front (first_is_event s.events is.ranges) in
+    let read = events_read (line_number (opening ++ body) body) (without_events s.config) s.events is.ranges is.events (omega (arith, few)) in
+    ap (λ ls. whole (front_by ls (opened ls)).schedule (front_by ls (opened ls)).refused) lines
+    ∙ ap (λ o. whole (front_by (opening ++ body) o).schedule (front_by (opening ++ body) o).refused) found
+    ∙ ap (λ (f : Front). whole f.schedule f.refused) read
+
+pub schedules_back : SchedulesReadBack
+schedules_back = back_by
+
+-- what is written is read again
+pub written_back : (s : Schedule) → IsLawful s → schedule_of (schedule_text s) ≡ Ok s
+written_back s is =
+    let opening : List (List ℕ) = opening_lines plain_title timed_title s.config in
+    ap schedule_of
+    (ap (λ l. flat_map line_text opening ++ l) (sym (flat_map-map line_text event_text s.events))
+    ∙ sym (flat_map-append line_text opening (map event_text s.events)))
+    ∙ back_by s opening is (openings_written plain_title timed_title s.config is.told.lawful)

@@ -4,10 +4,8 @@ use Rattle.std.proofs.lemmas.Bool.{le-ltb, lt-ltb}
 use Rattle.std.proofs.lemmas.Option.{cond_some}
 use Rattle.vk_base.specs.Settings.{Settings}
 use Rattle.vk_base.specs.declared.config.ProcessSpec.{ProcessSpec}
-use Rattle.vk_text.specs.Heads.{HasProcess, settings_of, head_of}
 use Rattle.vk_text.specs.Lines.{lines_of, words_from}
-use Rattle.vk_text.specs.declared.heads.HeadRefusal.{HeadRefusal}
-use Rattle.vk_text.specs.declared.heads.HeadRefusal.TheVariants as heads
+use Rattle.vk_text.specs.Openings.{line_number}
 use Rattle.vk_event.specs.declared.event.Event.{Event}
 use Rattle.vk_event.specs.declared.schedule.Front.{Front}
 use Rattle.vk_event.specs.declared.schedule.Schedule.{Schedule}
@@ -16,8 +14,7 @@ use Rattle.vk_event.specs.declared.schedule.TextRefusal.TheVariants as refusals
 use Rattle.vk_base.specs.declared.no_memory.NoMemory.{NoMemory}
 use Rattle.vk_event.specs.Lawful.{IsLawful, IsReadableEvent, has_actors}
 use Rattle.vk_event.specs.Remaining.{IsNext, behind, end_of, left_by, front_left}
-use Rattle.vk_event.specs.Schedule as has
-use Rattle.vk_event.specs.Schedule.{acting, event_of, more, or_end, with_event, next_event, front_from, without_events, front_by, front_of}
+use Rattle.vk_event.specs.Schedule.{acting, event_of, more, or_end, with_event, next_event, front_from, without_events, front_by, front_of, opened}
 use Rattle.vk_event.proofs.Lawfulness.{event_fits}
 use Rattle.vk_event.proofs.Wanted.{some_actor}
 
@@ -38,36 +35,28 @@ from_room : (s : Schedule) (e : Event) (b : Bool) (rest : Schedule → Front) (l
 from_room s e true rest left after = after ∙ behind_both s.events (e ∷ []) left
 from_room s e false rest left after = sym (ending (end_of s.config (Some refusals.Limit) (Some e)) s.events refl)
 
-from_event : (s : Schedule) (o : Option Event) (rest : Schedule → Front) (left : Front)
+from_event : (n : ℕ) (s : Schedule) (o : Option Event) (rest : Schedule → Front) (left : Front)
     → ((e : Event) → rest (more s e) ≡ behind (s.events ++ e ∷ []) left)
-    → or_end s o (with_event s o) rest ≡ behind s.events (left_by s.config (length s.events) o left)
-from_event s None rest left after =
-    sym (ending (end_of s.config (Some (refusals.BadInput (length s.config.specs + length s.events + 2))) None) s.events refl)
-from_event s (Some e) rest left after = from_room s e (nat_lt (length s.events) 100000) rest left (after e)
+    → or_end s o (with_event n s o) rest ≡ behind s.events (left_by s.config (length s.events) n o left)
+from_event n s None rest left after = sym (ending (end_of s.config (Some (refusals.BadInput n)) None) s.events refl)
+from_event n s (Some e) rest left after = from_room s e (nat_lt (length s.events) 100000) rest left (after e)
 
 -- what is left stands behind what was taken
-from_left : (s : Schedule) (lines : List (List ℕ)) → front_from s lines ≡ behind s.events (front_left s.config (length s.events) lines)
+from_left : (n : ℕ) (s : Schedule) (lines : List (List ℕ)) → front_from n s lines ≡ behind s.events (front_left s.config (length s.events) n lines)
 unfolding front_from front_left
-from_left s [] = sym (ending (end_of s.config None None) s.events refl)
-from_left s (l ∷ ls) =
-    from_event s (next_event s l) (λ t. front_from t ls) (front_left s.config (length s.events + 1) ls)
-    (λ e. from_left (more s e) ls
-    ∙ ap (λ n. behind (s.events ++ e ∷ []) (front_left s.config n ls)) (length-append s.events (e ∷ [])))
+from_left n s [] = sym (ending (end_of s.config None None) s.events refl)
+from_left n s (l ∷ ls) =
+    from_event n s (next_event s l) (λ t. front_from (n + 1) t ls) (front_left s.config (length s.events + 1) (n + 1) ls)
+    (λ e. from_left (n + 1) (more s e) ls
+    ∙ ap (λ k. behind (s.events ++ e ∷ []) (front_left s.config k (n + 1) ls)) (length-append s.events (e ∷ [])))
 
--- all is left behind the head
-pub all_left : (text : List ℕ) (c : Settings) (at : ℕ)
-    → head_of (codes "vkernel 1") (lines_of text) ≡ Some (c.specs, lines_of (drop at text)) → c ≡ settings_of c.specs
-    → front_left c 0 (lines_of (drop at text)) ≡ front_of text
-all_left text c at head config =
-    ap (λ (x : Settings). front_left x 0 (lines_of (drop at text))) config
-    ∙ sym (ap front_by head ∙ from_left (without_events c.specs) (lines_of (drop at text)))
-
-pub no_title : (text : List ℕ) (e : HeadRefusal) → e ≡ heads.NoTitle
-    → ((e ≡ heads.NoMemory) × HasProcess (codes "vkernel 1") text)
-    ⊎ ((e ≡ heads.NoTitle) × (head_of (codes "vkernel 1") (lines_of text) ≡ None))
-    → front_of text ≡ front_by None
-no_title text e is (inl h) = absurd (let clash : heads.NoTitle ≡ heads.NoMemory = sym is ∙ h.0 in cc)
-no_title text e is (inr h) = ap front_by h.1
+-- all is left behind the opening
+pub all_left : (text : List ℕ) (c : Settings) (at line : ℕ) → opened (lines_of text) ≡ Ok (c, lines_of (drop at text))
+    → line ≡ line_number (lines_of text) (lines_of (drop at text)) → front_left c 0 line (lines_of (drop at text)) ≡ front_of text
+all_left text c at line found number =
+    ap (λ n. front_left c 0 n (lines_of (drop at text))) number
+    ∙ sym (ap (front_by (lines_of text)) found
+    ∙ from_left (line_number (lines_of text) (lines_of (drop at text))) (without_events c) (lines_of (drop at text)))
 
 -- the configuration is that of the reader
 
@@ -76,51 +65,52 @@ config_by_room : (c : Settings) (e : Event) (b : Bool) (rest : Front) → rest.s
 config_by_room c e true rest after = after
 config_by_room c e false rest after = refl
 
-config_by : (c : Settings) (given : ℕ) (o : Option Event) (rest : Front) → rest.schedule.config ≡ c
-    → (left_by c given o rest).schedule.config ≡ c
-config_by c given None rest after = refl
-config_by c given (Some e) rest after = config_by_room c e (nat_lt given 100000) rest after
+config_by : (c : Settings) (given n : ℕ) (o : Option Event) (rest : Front) → rest.schedule.config ≡ c
+    → (left_by c given n o rest).schedule.config ≡ c
+config_by c given n None rest after = refl
+config_by c given n (Some e) rest after = config_by_room c e (nat_lt given 100000) rest after
 
-pub config_left : (c : Settings) (given : ℕ) (lines : List (List ℕ)) → (front_left c given lines).schedule.config ≡ c
+pub config_left : (c : Settings) (given n : ℕ) (lines : List (List ℕ)) → (front_left c given n lines).schedule.config ≡ c
 unfolding front_left
-config_left c given [] = refl
-config_left c given (l ∷ ls) =
-    config_by c given (acting c.specs (event_of (words_from l 0))) (front_left c (given + 1) ls) (config_left c (given + 1) ls)
+config_left c given n [] = refl
+config_left c given n (l ∷ ls) =
+    config_by c given n (acting c.specs (event_of (words_from l 0))) (front_left c (given + 1) (n + 1) ls)
+    (config_left c (given + 1) (n + 1) ls)
 
 -- the next line
 
-pub nothing_left : (c : Settings) (given : ℕ) (lines : List (List ℕ)) → lines ≡ [] → front_left c given lines ≡ end_of c None None
+pub nothing_left : (c : Settings) (given n : ℕ) (lines : List (List ℕ)) → lines ≡ [] → front_left c given n lines ≡ end_of c None None
 unfolding front_left
-nothing_left c given lines none = ap (front_left c given) none
+nothing_left c given n lines none = ap (front_left c given n) none
 
-pub line_left : (c : Settings) (given : ℕ) (lines ls : List (List ℕ)) (l : List ℕ) (o : Option Event) → lines ≡ l ∷ ls
-    → o ≡ acting c.specs (event_of (words_from l 0)) → front_left c given lines ≡ left_by c given o (front_left c (given + 1) ls)
+pub line_left : (c : Settings) (given n : ℕ) (lines ls : List (List ℕ)) (l : List ℕ) (o : Option Event) → lines ≡ l ∷ ls
+    → o ≡ acting c.specs (event_of (words_from l 0)) → front_left c given n lines ≡ left_by c given n o (front_left c (given + 1) (n + 1) ls)
 unfolding front_left
-line_left c given lines ls l o here is =
-    ap (front_left c given) here ∙ ap (λ (x : Option Event). left_by c given x (front_left c (given + 1) ls)) (sym is)
+line_left c given n lines ls l o here is =
+    ap (front_left c given n) here ∙ ap (λ (x : Option Event). left_by c given n x (front_left c (given + 1) (n + 1) ls)) (sym is)
 
 -- an event that there is room for is the next
-pub event_next : (c : Settings) (given : ℕ) (lines ls : List (List ℕ)) (l : List ℕ) (e : Event) → lines ≡ l ∷ ls
+pub event_next : (c : Settings) (given n : ℕ) (lines ls : List (List ℕ)) (l : List ℕ) (e : Event) → lines ≡ l ∷ ls
     → Some e ≡ acting c.specs (event_of (words_from l 0)) → given < 100000
-    → front_left c given lines ≡ behind (e ∷ []) (front_left c (given + 1) ls)
-event_next c given lines ls l e here is room =
-    let rest : Front = front_left c (given + 1) ls in
-    line_left c given lines ls l (Some e) here is
+    → front_left c given n lines ≡ behind (e ∷ []) (front_left c (given + 1) (n + 1) ls)
+event_next c given n lines ls l e here is room =
+    let rest : Front = front_left c (given + 1) (n + 1) ls in
+    line_left c given n lines ls l (Some e) here is
     ∙ ap (λ b. cond b (behind (e ∷ []) rest) (end_of c (Some refusals.Limit) (Some e))) (lt-ltb given 100000 room)
 
 -- none is left where no event stands in the line, or none has room
-none_full : (c : Settings) (given : ℕ) (o : Option Event) (rest : Front) → nat_lt given 100000 ≡ false
-    → (left_by c given o rest).schedule.events ≡ []
-none_full c given None rest full = refl
-none_full c given (Some e) rest full =
+none_full : (c : Settings) (given n : ℕ) (o : Option Event) (rest : Front) → nat_lt given 100000 ≡ false
+    → (left_by c given n o rest).schedule.events ≡ []
+none_full c given n None rest full = refl
+none_full c given n (Some e) rest full =
     ap (λ b. (cond b (behind (e ∷ []) rest) (end_of c (Some refusals.Limit) (Some e))).schedule.events) full
 
-pub none_at_limit : (c : Settings) (given : ℕ) (lines ls : List (List ℕ)) (l : List ℕ) → lines ≡ l ∷ ls → 100000 ≤ given
-    → (front_left c given lines).schedule.events ≡ []
-none_at_limit c given lines ls l here full =
+pub none_at_limit : (c : Settings) (given n : ℕ) (lines ls : List (List ℕ)) (l : List ℕ) → lines ≡ l ∷ ls → 100000 ≤ given
+    → (front_left c given n lines).schedule.events ≡ []
+none_at_limit c given n lines ls l here full =
     ap (λ (f : Front). f.schedule.events)
-    (line_left c given lines ls l (acting c.specs (event_of (words_from l 0))) here refl)
-    ∙ none_full c given (acting c.specs (event_of (words_from l 0))) (front_left c (given + 1) ls) (le-ltb given 100000 full)
+    (line_left c given n lines ls l (acting c.specs (event_of (words_from l 0))) here refl)
+    ∙ none_full c given n (acting c.specs (event_of (words_from l 0))) (front_left c (given + 1) (n + 1) ls) (le-ltb given 100000 full)
 
 -- the end, where an event stands in the line
 
@@ -130,12 +120,12 @@ full_by : (c : Settings) (e : Event) (b : Bool) (rest : Front)
 full_by c e true rest none = cc
 full_by c e false rest none = refl
 
-pub one_too_many : (c : Settings) (given : ℕ) (lines ls : List (List ℕ)) (l : List ℕ) (e : Event) → lines ≡ l ∷ ls
-    → Some e ≡ acting c.specs (event_of (words_from l 0)) → (front_left c given lines).schedule.events ≡ []
-    → front_left c given lines ≡ end_of c (Some refusals.Limit) (Some e)
-one_too_many c given lines ls l e here is none =
-    let rest : Front = front_left c (given + 1) ls in
-    let left = line_left c given lines ls l (Some e) here is in
+pub one_too_many : (c : Settings) (given n : ℕ) (lines ls : List (List ℕ)) (l : List ℕ) (e : Event) → lines ≡ l ∷ ls
+    → Some e ≡ acting c.specs (event_of (words_from l 0)) → (front_left c given n lines).schedule.events ≡ []
+    → front_left c given n lines ≡ end_of c (Some refusals.Limit) (Some e)
+one_too_many c given n lines ls l e here is none =
+    let rest : Front = front_left c (given + 1) (n + 1) ls in
+    let left = line_left c given n lines ls l (Some e) here is in
     left ∙ full_by c e (nat_lt given 100000) rest (sym (ap (λ (f : Front). f.schedule.events) left) ∙ none)
 
 -- what is known of an event that is given
@@ -153,11 +143,11 @@ fits specs l e is =
     let got = acting_some specs (event_of (words_from l 0)) e (sym is) in
     (event_fits (words_from l 0) e got.0, got.1)
 
-pub given_fits : (f : Front) (c : Settings) (given : ℕ) (lines : List (List ℕ)) (l : List ℕ) (e : Event)
-    → front_left c given lines ≡ f → Some e ≡ acting c.specs (event_of (words_from l 0))
+pub given_fits : (f : Front) (c : Settings) (given n : ℕ) (lines : List (List ℕ)) (l : List ℕ) (e : Event)
+    → front_left c given n lines ≡ f → Some e ≡ acting c.specs (event_of (words_from l 0))
     → IsReadableEvent e × (has_actors f.schedule.config.specs e ≡ true)
-given_fits f c given lines l e left is =
-    let same : c ≡ f.schedule.config = sym (config_left c given lines) ∙ ap (λ (x : Front). x.schedule.config) left in
+given_fits f c given n lines l e left is =
+    let same : c ≡ f.schedule.config = sym (config_left c given n lines) ∙ ap (λ (x : Front). x.schedule.config) left in
     subst (λ (d : Settings). IsReadableEvent e × (has_actors d.specs e ≡ true)) same (fits c.specs l e is)
 
 -- a loop over what is left
@@ -197,9 +187,3 @@ all_given all left es so none = so ∙ ending left es none
 pub lawful_result : (r : Result Front NoMemory) (f : Front) → IfOk r (λ g. g ≡ f) → IsLawful f.schedule → IfOk r (λ g. IsLawful g.schedule)
 lawful_result (Ok g) f is lawful = subst (λ (x : Front). IsLawful x.schedule) (sym is) lawful
 lawful_result (Err e) f is lawful = tt
-
-pub without_title : (text : List ℕ) (e : TextRefusal) → (e ≡ refusals.NoMemory → ⊥)
-    → ((e ≡ refusals.NoMemory) × has.HasProcess text) ⊎ ((e ≡ refusals.BadInput 1) × (front_of text ≡ front_by None))
-    → front_of text ≡ front_by None
-without_title text e other (inl h) = absurd (other h.0)
-without_title text e other (inr h) = h.1

@@ -1,56 +1,54 @@
--- The head of a scenario.
-use Rattle.std.proofs.Common.{◌≡◌, ℕ, ◌+◌, ◌<◌, List, [], ◌∷◌, length, map, codes, Some, None, Result, Ok, Err, IfOk, IfErr, ◌⊎◌, inl, inr, refl, ap, sym, ◌∙◌, arith}
+-- The opening of a scenario.
+use Rattle.std.proofs.Common.{◌≡◌, ℕ, ◌+◌, ◌<◌, List, [], ◌∷◌, length, map, Result, Ok, Err, IfOk, IfErr, ◌⊎◌, inl, inr, refl, ap, sym, subst, ◌∙◌, arith}
+use Rattle.vk_base.specs.Settings.{Settings}
 use Rattle.vk_base.specs.declared.config.ProcessSpec.{ProcessSpec}
-use Rattle.vk_text.specs.Heads.{HasProcess, head_of}
 use Rattle.vk_text.specs.Lines.{lines_of}
-use Rattle.vk_text.specs.declared.heads.HeadRefusal.{HeadRefusal}
-use Rattle.vk_text.specs.declared.heads.HeadRefusal.TheVariants as heads
+use Rattle.vk_text.specs.Openings.{HasProcesses, line_number}
+use Rattle.vk_text.specs.declared.opening.OpeningRefusal.{OpeningRefusal}
+use Rattle.vk_text.specs.declared.opening.OpeningRefusal.TheVariants as openings
 use Rattle.vk_event.specs.declared.scenario.Scenario.{Scenario}
 use Rattle.vk_event.specs.declared.schedule.TextRefusal.{TextRefusal}
 use Rattle.vk_event.specs.declared.schedule.TextRefusal.TheVariants as refusals
-use Rattle.vk_event.specs.Scenario.{HasScenarioProcess, idle, scenario_from, scenario_by, scenario_of}
+use Rattle.vk_event.specs.Schedule.{as_text}
+use Rattle.vk_event.specs.Scenario.{HasScenarioProcess, idle, opened, scenario_from, scenario_by, scenario_of, scenario_on}
 
--- why there is no head
-abbrev IsCause : List ℕ → HeadRefusal → Type 0
+-- why there is no opening
+abbrev IsCause : List ℕ → OpeningRefusal → Type 0
 IsCause text e =
-    ((e ≡ heads.NoMemory) × HasProcess (codes "vkernel scenario 1") text)
-    ⊎ ((e ≡ heads.NoTitle) × (head_of (codes "vkernel scenario 1") (lines_of text) ≡ None))
+    ((e ≡ openings.NoMemory) × HasProcesses (opened (lines_of text)))
+    ⊎ ((line : ℕ) × (e ≡ openings.Bad line) × (opened (lines_of text) ≡ Err line))
 
-pub no_title : (text : List ℕ) (e : HeadRefusal) → e ≡ heads.NoTitle → IsCause text e → scenario_of text ≡ Err (refusals.BadInput 1)
+pub refused_as : (text : List ℕ) (e : OpeningRefusal) (r : TextRefusal) → r ≡ as_text e → IsCause text e →
+    ((r ≡ refusals.NoMemory) × HasScenarioProcess text) ⊎ (scenario_of text ≡ Err r)
 unfolding scenario_by
-no_title text e is (inl h) = absurd (let clash : heads.NoTitle ≡ heads.NoMemory = sym is ∙ h.0 in cc)
-no_title text e is (inr h) = ap scenario_by h.1
+refused_as text e r is (inl h) = inl (is ∙ ap as_text h.0, h.1)
+refused_as text e r is (inr h) = inr (ap (scenario_by (lines_of text)) h.2 ∙ ap Err (sym (is ∙ ap as_text h.1)))
 
-pub process_wanted : (text : List ℕ) (e : HeadRefusal) → e ≡ heads.NoMemory → IsCause text e → HasScenarioProcess text
-process_wanted text e is (inl h) = h.1
-process_wanted text e is (inr h) = absurd (let clash : heads.NoTitle ≡ heads.NoMemory = sym h.0 ∙ is in cc)
+on_none : (n : ℕ) (c : Settings) (specs : List ProcessSpec) (body : List (List ℕ)) → length specs ≡ 0 →
+    scenario_on n c specs body ≡ Err (refusals.BadInput n)
+unfolding scenario_on
+on_none n c [] body none = refl
+on_none n c (s ∷ ss) body none = absurd (omega (arith, none))
 
-by_none : (specs : List ProcessSpec) (body : List (List ℕ)) → length specs ≡ 0 → scenario_by (Some (specs, body))
-    ≡ Err (refusals.BadInput 2)
-unfolding scenario_by
-by_none [] body none = refl
-by_none (s ∷ ss) body none = absurd (omega (arith, none))
+pub on_some : (n : ℕ) (c : Settings) (specs : List ProcessSpec) (body : List (List ℕ)) → 0 < length specs →
+    scenario_on n c specs body ≡ scenario_from c (map idle specs) n body
+unfolding scenario_on
+on_some n c [] body some = absurd (omega arith)
+on_some n c (s ∷ ss) body some = refl
 
-pub no_process : (text : List ℕ) (specs : List ProcessSpec) (body : List (List ℕ))
-    → head_of (codes "vkernel scenario 1") (lines_of text) ≡ Some (specs, body) → length specs ≡ 0
-    → scenario_of text ≡ Err (refusals.BadInput 2)
-no_process text specs body head none = ap scenario_by head ∙ by_none specs body none
+module _ (text : List ℕ) (c : Settings) (n : ℕ) (body : List (List ℕ)) (found : opened (lines_of text) ≡ Ok (c, body)) where
+  by_opening : n ≡ line_number (lines_of text) body → scenario_of text ≡ scenario_on n c c.specs body
+  unfolding scenario_by
+  by_opening at = ap (scenario_by (lines_of text)) found ∙ ap (λ k. scenario_on k c c.specs body) (sym at)
 
-pub by_some : (specs : List ProcessSpec) (body : List (List ℕ)) → 0 < length specs
-    → scenario_by (Some (specs, body)) ≡ scenario_from specs (map idle specs) (length specs + 2) body
-unfolding scenario_by
-by_some [] body some = absurd (omega arith)
-by_some (s ∷ ss) body some = refl
+  pub no_process : n ≡ line_number (lines_of text) body → length c.specs ≡ 0 → scenario_of text ≡ Err (refusals.BadInput n)
+  no_process at none = by_opening at ∙ on_none n c c.specs body none
 
-pub with_body : (text : List ℕ) (specs : List ProcessSpec) (n : ℕ) (body : List (List ℕ))
-    → head_of (codes "vkernel scenario 1") (lines_of text) ≡ Some (specs, body) → 0 < length specs → n ≡ length specs + 2
-    → scenario_of text ≡ scenario_from specs (map idle specs) n body
-with_body text specs n body head some at =
-    ap scenario_by head ∙ by_some specs body some ∙ ap (λ (k : ℕ). scenario_from specs (map idle specs) k body) (sym at)
+  pub with_body : n ≡ line_number (lines_of text) body → 0 < length c.specs → scenario_of text ≡ scenario_from c (map idle c.specs) n body
+  with_body at some = by_opening at ∙ on_some n c c.specs body some
 
-pub has_process : (text : List ℕ) (specs : List ProcessSpec) (body : List (List ℕ))
-    → head_of (codes "vkernel scenario 1") (lines_of text) ≡ Some (specs, body) → 0 < length specs → HasScenarioProcess text
-has_process text specs body head some = rw head some
+  pub has_process : 0 < length c.specs → HasScenarioProcess text
+  has_process some = subst HasProcesses (sym found) some
 
 pub ok_of : (all body : Result Scenario TextRefusal) (r : Result Scenario TextRefusal) → all ≡ body → IfOk r (λ s. body ≡ Ok s)
     → IfOk r (λ s. all ≡ Ok s)

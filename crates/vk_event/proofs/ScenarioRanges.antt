@@ -5,15 +5,15 @@ use Rattle.std.specs.Option.{option_map}
 use Rattle.std.proofs.lemmas.Bool.{and_from, and_parts, eq-eqb, eqb-true, le-leb}
 use Rattle.std.proofs.lemmas.Option.{cond_some}
 use Rattle.vk_base.specs.Pids.{IsPid, same_pid}
-use Rattle.vk_base.specs.Settings.{Settings, is_process, first_fault}
+use Rattle.vk_base.specs.Settings.{Settings, is_process}
 use Rattle.vk_base.specs.declared.call.Call.{Call}
 use Rattle.vk_base.specs.declared.config.ProcessSpec.{ProcessSpec}
 use Rattle.vk_base.specs.declared.pid.Pid.{Pid}
 use Rattle.vk_base.proofs.OptionLemmas.{bind_is}
-use Rattle.vk_text.specs.Heads.{settings_of}
 use Rattle.vk_text.specs.Laws.{IsReadable}
 use Rattle.vk_text.specs.Lines.{lines_of}
-use Rattle.vk_text.proofs.HeadRanges.{head_fits}
+use Rattle.vk_text.specs.Openings.{IsTold}
+use Rattle.vk_text.proofs.OpeningLaws.{openings_spelled}
 use Rattle.vk_event.specs.declared.scenario.Scenario.{Scenario}
 use Rattle.vk_event.specs.declared.schedule.TextRefusal.{TextRefusal}
 use Rattle.vk_event.specs.declared.task.Given.{Given}
@@ -22,7 +22,7 @@ use Rattle.vk_event.specs.declared.task.Task.{Task}
 use Rattle.vk_event.specs.declared.task.TaskKind.{TaskKind}
 use Rattle.vk_event.specs.declared.task.TaskKind.TheVariants as kinds
 use Rattle.vk_event.specs.declared.task_line.TaskLine.{TaskLine}
-use Rattle.vk_event.specs.Scenario.{idle, most_rounds, scenario_of}
+use Rattle.vk_event.specs.Scenario.{idle, most_rounds, plain_title, scenario_of, timed_title}
 use Rattle.vk_event.specs.ScenarioLaws.{IsLawfulScenario, IsReadableGiven, IsReadableKind, IsReadableLine, OnlyLawfulScenariosAreRead, with_all_given}
 use Rattle.vk_event.specs.Tasks.{given_kind, given_to, has_memory, is_idle, memory_for, memory_of, with_given}
 use Rattle.vk_event.proofs.ScenarioTexts.{whole_is}
@@ -178,22 +178,20 @@ idle_memory before (s ∷ ss) =
 pub only_lawful : OnlyLawfulScenariosAreRead
 only_lawful text s h =
     let w = whole_is text s h in
-    let start : Keeps w.specs (map idle w.specs) (map idle w.specs) =
-    record { pids = refl; ranges = idle_ranges w.specs; memory = idle_memory [] w.specs } in
-    let tasks = all_keep w.specs (map idle w.specs) w.told.given s.tasks w.told.ranges w.told.gives start in
-    let fits = head_fits (codes "vkernel scenario 1") (lines_of text) (w.specs, w.body) w.head in
-    let specs : w.specs ≡ s.config.specs = ap (λ (c : Settings). c.specs) (sym w.told.config) in
+    let specs = w.config.specs in
+    let start : Keeps specs (map idle specs) (map idle specs) =
+    record { pids = refl; ranges = idle_ranges specs; memory = idle_memory [] specs } in
+    let tasks = all_keep specs (map idle specs) w.told.given s.tasks w.told.ranges w.told.gives start in
+    let front = openings_spelled plain_title timed_title (lines_of text) w.body w.config w.found in
+    let same : w.config ≡ s.config = sym w.told.config in
     record {
-      config = w.told.config ∙ ap settings_of specs;
-      pids = subst (λ (ps : List ProcessSpec). AllByRecursion (λ p. IsPid p.pid) ps) specs fits.0;
-      faultless = subst (λ (ps : List ProcessSpec). first_fault [] ps ≡ None) specs fits.1;
-      some = subst (λ (ps : List ProcessSpec). 0 < length ps) specs w.some;
-      tasks = tasks.pids ∙ idle_pids w.specs ∙ ap (map (λ (p : ProcessSpec). p.pid)) specs;
+      told = subst IsTold same front.0;
+      some = subst (λ (c : Settings). 0 < length c.specs) same w.some;
+      tasks = tasks.pids ∙ idle_pids specs ∙ ap (λ (c : Settings). map (λ (p : ProcessSpec). p.pid) c.specs) same;
       ranges = tasks.ranges;
-      memory = subst (λ (ps : List ProcessSpec). list_all (λ (t : Task). has_memory ps t.pid (memory_of t.kind)) s.tasks
-          ≡ true) specs tasks.memory;
+      memory = subst (λ (c : Settings). list_all (λ (t : Task). has_memory c.specs t.pid (memory_of t.kind)) s.tasks ≡ true) same tasks.memory;
       plan = w.told.plan;
-      rounds = subst (λ (ps : List ProcessSpec). s.rounds ≤ most_rounds ps) specs w.told.rounds;
+      rounds = subst (λ (c : Settings). s.rounds ≤ most_rounds c.specs) same w.told.rounds;
     }
 
 pub read_lawful : (text : List ℕ) (r : Result Scenario TextRefusal) → IfOk r (λ s. scenario_of text ≡ Ok s) → IfOk r IsLawfulScenario

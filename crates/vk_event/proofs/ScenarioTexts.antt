@@ -1,19 +1,18 @@
 -- The lines of a scenario's text, and that each text of a scenario reads as it.
 use Rattle.std.proofs.Common.{◌≡◌, ℕ, ◌+◌, ◌<◌, ◌≤◌, ◌^◌, List, [], ◌∷◌, ◌++◌, length, map, codes, Option, Some, None, Result, Ok, Err, refl, ap, sym, ◌∙◌, subst, arith}
 use Rattle.std.proofs.Math.Nat.{div-le_self}
-use Rattle.std.proofs.lemmas.List.{map-id}
 use Rattle.std.specs.List.{AllByRecursion, flat_map}
 use Rattle.std.specs.Option.{option_map_or}
 use Rattle.vk_base.specs.Settings.{Settings, stations_of}
 use Rattle.vk_base.specs.declared.config.ProcessSpec.{ProcessSpec}
 use Rattle.vk_base.specs.declared.pid.Pid.{Pid}
 use Rattle.vk_base.proofs.OptionLemmas.{bind_is}
-use Rattle.vk_text.specs.Heads.{BeginsWithNoProcess, HasNoFeed, settings_of, process_of, process_text, head_of, head_text, line_text}
+use Rattle.vk_text.specs.Heads.{HasNoFeed, process_of}
 use Rattle.vk_text.specs.Lines.{lines_of, words_from}
+use Rattle.vk_text.specs.Openings.{BeginsNoHead, line_number, pool_line_of}
 use Rattle.vk_text.specs.Spelling.{joined}
-use Rattle.vk_text.proofs.Bodies.{body_read, lines_text, text_spelled, title_plain}
-use Rattle.vk_text.proofs.HeadReading.{Parts}
-use Rattle.vk_text.proofs.HeadTexts.{head_spelled, heads_back}
+use Rattle.vk_text.proofs.Bodies.{text_spelled, title_plain}
+use Rattle.vk_text.proofs.OpeningLaws.{openings_back, openings_no_feed, openings_spelled}
 use Rattle.vk_text.proofs.PlainWords.{no_spaces, no_feeds, joined_no_feed}
 use Rattle.vk_text.proofs.ReadBack.{joined_words, line_joined}
 use Rattle.vk_event.specs.declared.scenario.Ending.{Ending}
@@ -25,10 +24,11 @@ use Rattle.vk_event.specs.declared.task.Task.{Task}
 use Rattle.vk_event.specs.declared.task.TaskKind.TheVariants as kinds
 use Rattle.vk_event.specs.declared.task_line.TaskLine.{TaskLine}
 use Rattle.vk_event.specs.Endings.{at_last, plan_of, rounds_of, rounds_from, ending_from}
-use Rattle.vk_event.specs.Scenario.{idle, most_rounds, scenario_with, scenario_from, scenario_by, scenario_of}
-use Rattle.vk_event.specs.ScenarioLaws.{IsPlan, IsReadableLine, ScenariosAreSpelled, ScenariosReadBack, body_lines, given_words, plan_words, rounds_words, scenario_text, task_text, task_words, with_all_given}
+use Rattle.vk_event.specs.Scenario.{idle, most_rounds, opened, plain_title, scenario_with, scenario_from, scenario_by, scenario_of, scenario_on, timed_title}
+use Rattle.vk_event.specs.ScenarioLaws.{GiveTasks, IsFront, IsLawfulScenario, IsPlan, IsReadableLine, ScenariosAreSpelled, ScenariosReadBack, body_lines, given_words, plan_words, rounds_words, scenario_text, task_text, task_words, with_all_given}
 use Rattle.vk_event.specs.Tasks.{task_line_of, with_given, with_task_line}
-use Rattle.vk_event.proofs.ScenarioHeads.{by_some}
+use Rattle.vk_event.proofs.ReadAgain.{both_plain, lines_back}
+use Rattle.vk_event.proofs.ScenarioHeads.{on_some}
 use Rattle.vk_event.proofs.TaskLines.{task_line_is, task_line_read, task_line_plain, plan_is, plan_read, plan_plain, plan_no_task, rounds_is, rounds_read, rounds_plain}
 
 pub few_rounds : (specs : List ProcessSpec) → most_rounds specs < 2 ^ 64
@@ -88,21 +88,21 @@ ending_told most n [] e m h = cc
 ending_told most n (l ∷ ls) e m h = plan_by most n l ls (plan_of (words_from l 0)) e m refl h
 
 -- what the lines from here on tell of a scenario
-pub record Told (specs : List ProcessSpec) (tasks : List Task) (lines : List (List ℕ)) (s : Scenario) : Type 0 where
+pub record Told (c : Settings) (tasks : List Task) (lines : List (List ℕ)) (s : Scenario) : Type 0 where
   pub given : List TaskLine
   pub ranges : AllByRecursion IsReadableLine given
-  pub gives : with_all_given specs tasks given ≡ Some s.tasks
+  pub gives : with_all_given c.specs tasks given ≡ Some s.tasks
   pub body : lines ≡ body_lines s given
-  pub config : s.config ≡ settings_of specs
+  pub config : s.config ≡ c
   pub plan : IsPlan s.plan
-  pub rounds : s.rounds ≤ most_rounds specs
+  pub rounds : s.rounds ≤ most_rounds c.specs
 
-told_ending : (specs : List ProcessSpec) (tasks : List Task) (n : ℕ) (lines : List (List ℕ)) (r : Result Ending ℕ) (s : Scenario)
-    → ending_from (most_rounds specs) n lines ≡ r → scenario_with specs tasks r ≡ Ok s → Told specs tasks lines s
-told_ending specs tasks n lines (Err k) s is h = cc
-told_ending specs tasks n lines (Ok e) s is h =
-    let tells = ending_told (most_rounds specs) n lines e (few_rounds specs) is in
-    let made : Scenario = record { config = settings_of specs; tasks = tasks; plan = e.plan; rounds = e.rounds } in
+told_ending : (c : Settings) (tasks : List Task) (n : ℕ) (lines : List (List ℕ)) (r : Result Ending ℕ) (s : Scenario)
+    → ending_from (most_rounds c.specs) n lines ≡ r → scenario_with c tasks r ≡ Ok s → Told c tasks lines s
+told_ending c tasks n lines (Err k) s is h = cc
+told_ending c tasks n lines (Ok e) s is h =
+    let tells = ending_told (most_rounds c.specs) n lines e (few_rounds c.specs) is in
+    let made : Scenario = record { config = c; tasks = tasks; plan = e.plan; rounds = e.rounds } in
     let same : made ≡ s = cc in
     record {
       given = [];
@@ -111,7 +111,7 @@ told_ending specs tasks n lines (Ok e) s is h =
       body = tells.lines ∙ ap (λ (x : Scenario). joined (plan_words x.plan) ∷ joined (rounds_words x.rounds) ∷ []) same;
       config = ap (λ (x : Scenario). x.config) (sym same);
       plan = subst (λ (x : Scenario). IsPlan x.plan) same tells.plan;
-      rounds = subst (λ (x : Scenario). x.rounds ≤ most_rounds specs) same tells.rounds;
+      rounds = subst (λ (x : Scenario). x.rounds ≤ most_rounds c.specs) same tells.rounds;
     }
 
 some_given : (specs : List ProcessSpec) (tasks more : List Task) (o : Option TaskLine) → with_given specs tasks o ≡ Some more
@@ -119,10 +119,10 @@ some_given : (specs : List ProcessSpec) (tasks more : List Task) (o : Option Tas
 some_given specs tasks more None h = cc
 some_given specs tasks more (Some t) h = (t, refl, h)
 
-told_line : (specs : List ProcessSpec) (tasks more : List Task) (l : List ℕ) (ls : List (List ℕ)) (s : Scenario)
-    → with_task_line specs tasks l ≡ Some more → Told specs more ls s → Told specs tasks (l ∷ ls) s
-told_line specs tasks more l ls s is rest =
-    let found = some_given specs tasks more (task_line_of (words_from l 0)) is in
+told_line : (c : Settings) (tasks more : List Task) (l : List ℕ) (ls : List (List ℕ)) (s : Scenario)
+    → with_task_line c.specs tasks l ≡ Some more → Told c more ls s → Told c tasks (l ∷ ls) s
+told_line c tasks more l ls s is rest =
+    let found = some_given c.specs tasks more (task_line_of (words_from l 0)) is in
     let line = task_line_is (words_from l 0) found.0 found.1 in
     record {
       given = found.0 ∷ rest.given;
@@ -134,56 +134,58 @@ told_line specs tasks more l ls s is rest =
       rounds = rest.rounds;
     }
 
-told_by : (specs : List ProcessSpec) (tasks : List Task) (n : ℕ) (l : List ℕ) (ls : List (List ℕ)) (s : Scenario) (o : Option (List Task))
-    → with_task_line specs tasks l ≡ o → ((more : List Task) → scenario_from specs more (n + 1) ls ≡ Ok s → Told specs more ls s)
-    → option_map_or (λ more. scenario_from specs more (n + 1) ls) o
-    (scenario_with specs tasks (ending_from (most_rounds specs) n (l ∷ ls))) ≡ Ok s → Told specs tasks (l ∷ ls) s
-told_by specs tasks n l ls s None is after h = told_ending specs tasks n (l ∷ ls) (ending_from (most_rounds specs) n (l ∷ ls)) s refl h
-told_by specs tasks n l ls s (Some more) is after h = told_line specs tasks more l ls s is (after more h)
+told_by : (c : Settings) (tasks : List Task) (n : ℕ) (l : List ℕ) (ls : List (List ℕ)) (s : Scenario) (o : Option (List Task))
+    → with_task_line c.specs tasks l ≡ o → ((more : List Task) → scenario_from c more (n + 1) ls ≡ Ok s → Told c more ls s)
+    → option_map_or (λ more. scenario_from c more (n + 1) ls) o
+    (scenario_with c tasks (ending_from (most_rounds c.specs) n (l ∷ ls))) ≡ Ok s → Told c tasks (l ∷ ls) s
+told_by c tasks n l ls s None is after h = told_ending c tasks n (l ∷ ls) (ending_from (most_rounds c.specs) n (l ∷ ls)) s refl h
+told_by c tasks n l ls s (Some more) is after h = told_line c tasks more l ls s is (after more h)
 
-pub told_from : (specs : List ProcessSpec) (tasks : List Task) (n : ℕ) (lines : List (List ℕ)) (s : Scenario)
-    → scenario_from specs tasks n lines ≡ Ok s → Told specs tasks lines s
+pub told_from : (c : Settings) (tasks : List Task) (n : ℕ) (lines : List (List ℕ)) (s : Scenario)
+    → scenario_from c tasks n lines ≡ Ok s → Told c tasks lines s
 unfolding scenario_from
-told_from specs tasks n [] s h = cc
-told_from specs tasks n (l ∷ ls) s h =
-    told_by specs tasks n l ls s (with_task_line specs tasks l) refl (λ more e. told_from specs more (n + 1) ls s e) h
+told_from c tasks n [] s h = cc
+told_from c tasks n (l ∷ ls) s h =
+    told_by c tasks n l ls s (with_task_line c.specs tasks l) refl (λ more e. told_from c more (n + 1) ls s e) h
 
 -- what a text tells of the scenario that it reads as
 pub record Whole (text : List ℕ) (s : Scenario) : Type 0 where
-  pub specs : List ProcessSpec
+  pub config : Settings
   pub body : List (List ℕ)
-  pub head : head_of (codes "vkernel scenario 1") (lines_of text) ≡ Some (specs, body)
-  pub some : 0 < length specs
-  pub told : Told specs (map idle specs) body s
+  pub found : opened (lines_of text) ≡ Ok (config, body)
+  pub some : 0 < length config.specs
+  pub told : Told config (map idle config.specs) body s
 
-whole_by : (text : List ℕ) (o : Option Parts) (s : Scenario) → head_of (codes "vkernel scenario 1") (lines_of text) ≡ o
-    → scenario_by o ≡ Ok s → Whole text s
+on_specs : (c : Settings) (specs : List ProcessSpec) (n : ℕ) (body : List (List ℕ)) (s : Scenario) → c.specs ≡ specs →
+    scenario_on n c specs body ≡ Ok s → (0 < length c.specs) × Told c (map idle c.specs) body s
+unfolding scenario_on
+on_specs c [] n body s is h = cc
+on_specs c (p ∷ ps) n body s is h =
+    (omega (arith, ap length is), told_from c (map idle c.specs) n body s (ap (λ ss. scenario_from c (map idle ss) n body) is ∙ h))
+
+whole_by : (text : List ℕ) (o : Result (Settings × List (List ℕ)) ℕ) (s : Scenario) → opened (lines_of text) ≡ o
+    → scenario_by (lines_of text) o ≡ Ok s → Whole text s
 unfolding scenario_by
-whole_by text None s is h = cc
-whole_by text (Some ([], body)) s is h = cc
-whole_by text (Some (p ∷ ps, body)) s is h = record {
-  specs = p ∷ ps;
-  body = body;
-  head = is;
-  some = omega arith;
-  told = told_from (p ∷ ps) (map idle (p ∷ ps)) (length (p ∷ ps) + 2) body s h;
-}
+whole_by text (Err n) s is h = cc
+whole_by text (Ok found) s is h =
+    let on = on_specs found.0 found.0.specs (line_number (lines_of text) found.1) found.1 s refl h in
+    record { config = found.0; body = found.1; found = is; some = on.0; told = on.1 }
 
 pub whole_is : (text : List ℕ) (s : Scenario) → scenario_of text ≡ Ok s → Whole text s
-whole_is text s h = whole_by text (head_of (codes "vkernel scenario 1") (lines_of text)) s refl h
+whole_is text s h = whole_by text (opened (lines_of text)) s refl h
 
 pub scenarios_spelled : ScenariosAreSpelled
 scenarios_spelled text s h =
     let w = whole_is text s h in
-    let specs : s.config.specs ≡ w.specs = ap (λ (c : Settings). c.specs) w.told.config in
-    let lines : lines_of text ≡ codes "vkernel scenario 1" ∷ (map process_text s.config.specs ++ body_lines s w.told.given) =
-    head_spelled (codes "vkernel scenario 1") (lines_of text) (w.specs, w.body) w.head
-    ∙ ap (λ k. codes "vkernel scenario 1" ∷ (map process_text w.specs ++ k)) w.told.body
-    ∙ ap (λ ps. codes "vkernel scenario 1" ∷ (map process_text ps ++ body_lines s w.told.given)) (sym specs) in (
-      w.told.given,
-      subst (λ (ps : List ProcessSpec). with_all_given ps (map idle ps) w.told.given ≡ Some s.tasks) (sym specs) w.told.gives,
-      text_spelled text (scenario_text s w.told.given)
-          (codes "vkernel scenario 1" ∷ (map process_text s.config.specs ++ body_lines s w.told.given)) lines refl,
+    let front = openings_spelled plain_title timed_title (lines_of text) w.body w.config w.found in
+    let lines : lines_of text ≡ front.1.0 ++ body_lines s w.told.given = front.1.2 ∙ ap (λ k. front.1.0 ++ k) w.told.body in (
+      front.1.0,
+      subst (λ (c : Settings). IsFront c front.1.0) (sym w.told.config) front.1.1,
+      (
+        w.told.given,
+        subst (λ (c : Settings). with_all_given c.specs (map idle c.specs) w.told.given ≡ Some s.tasks) (sym w.told.config) w.told.gives,
+        text_spelled text (scenario_text s front.1.0 w.told.given) (front.1.0 ++ body_lines s w.told.given) lines refl,
+      ),
     )
 
 -- from the lines to a text
@@ -212,25 +214,25 @@ ending_read most n p rounds m plan few =
     ap (rounds_of most) (rounds_parts rounds (omega arith)) ∙ rounds_read most rounds m few in
     rw (first, second) refl
 
-body_of : (specs : List ProcessSpec) (tasks : List Task) (n : ℕ) (s : Scenario) (given : List TaskLine)
+body_of : (c : Settings) (tasks : List Task) (n : ℕ) (s : Scenario) (given : List TaskLine)
     → AllByRecursion IsReadableLine given
-    → with_all_given specs tasks given ≡ Some s.tasks → s.config ≡ settings_of specs → IsPlan s.plan → s.rounds ≤ most_rounds specs
-    → scenario_from specs tasks n (body_lines s given) ≡ Ok s
+    → with_all_given c.specs tasks given ≡ Some s.tasks → s.config ≡ c → IsPlan s.plan → s.rounds ≤ most_rounds c.specs
+    → scenario_from c tasks n (body_lines s given) ≡ Ok s
 unfolding scenario_from
-body_of specs tasks n s [] ranges gives config plan few =
-    let no : with_task_line specs tasks (joined (plan_words s.plan)) ≡ None =
-    ap (λ ws. with_given specs tasks (task_line_of ws)) (plan_parts s.plan plan) ∙ ap (with_given specs tasks) (plan_no_task s.plan) in
-    let end = ending_read (most_rounds specs) n s.plan s.rounds (few_rounds specs) plan few in
+body_of c tasks n s [] ranges gives config plan few =
+    let no : with_task_line c.specs tasks (joined (plan_words s.plan)) ≡ None =
+    ap (λ ws. with_given c.specs tasks (task_line_of ws)) (plan_parts s.plan plan) ∙ ap (with_given c.specs tasks) (plan_no_task s.plan) in
+    let end = ending_read (most_rounds c.specs) n s.plan s.rounds (few_rounds c.specs) plan few in
     let same : tasks ≡ s.tasks = cc in
     rw (no, end)
-    (ap (λ ts. let made : Scenario = record { config = settings_of specs; tasks = ts; plan = s.plan; rounds = s.rounds } in Ok made)
+    (ap (λ ts. let made : Scenario = record { config = c; tasks = ts; plan = s.plan; rounds = s.rounds } in Ok made)
     same ∙ ap (λ c. let made : Scenario = record { config = c; tasks = s.tasks; plan = s.plan; rounds = s.rounds } in Ok made) (sym config))
-body_of specs tasks n s (t ∷ ts) ranges gives config plan few =
-    let step = bind_is (with_given specs tasks (Some t)) (λ more. with_all_given specs more ts) s.tasks gives in
-    let line : with_task_line specs tasks (task_text t) ≡ Some step.0 =
-    ap (λ ws. with_given specs tasks (task_line_of ws)) (task_parts t ranges.0)
-    ∙ ap (with_given specs tasks) (task_line_read t ranges.0) ∙ step.1 in
-    rw line (body_of specs step.0 (n + 1) s ts ranges.1 step.2 config plan few)
+body_of c tasks n s (t ∷ ts) ranges gives config plan few =
+    let step = bind_is (with_given c.specs tasks (Some t)) (λ more. with_all_given c.specs more ts) s.tasks gives in
+    let line : with_task_line c.specs tasks (task_text t) ≡ Some step.0 =
+    ap (λ ws. with_given c.specs tasks (task_line_of ws)) (task_parts t ranges.0)
+    ∙ ap (with_given c.specs tasks) (task_line_read t ranges.0) ∙ step.1 in
+    rw line (body_of c step.0 (n + 1) s ts ranges.1 step.2 config plan few)
 
 task_feeds : (given : List TaskLine) → AllByRecursion IsReadableLine given → (rest : List (List ℕ)) → AllByRecursion HasNoFeed rest
     → AllByRecursion HasNoFeed (map task_text given ++ rest)
@@ -245,31 +247,35 @@ no_feed_in s given h plan few =
       (joined_no_feed (rounds_words s.rounds) (no_feeds (rounds_words s.rounds) (rounds_plain s.rounds few)), tt),
     )
 
-no_process_word : (pid : Pid) (given : Given) → process_of (given_words pid given) ≡ None
-unfolding process_of
-no_process_word pid (givens.Call call) = refl
-no_process_word pid (givens.Program (kinds.Script calls)) = refl
-no_process_word pid (givens.Program (kinds.PageServer pages requests)) = refl
-no_process_word pid (givens.Program (kinds.PageClient server pages rounds)) = refl
+no_head_word : (pid : Pid) (given : Given) → (process_of (given_words pid given) ≡ None) × (pool_line_of (given_words pid given) ≡ None)
+unfolding process_of pool_line_of
+no_head_word pid (givens.Call call) = (refl, refl)
+no_head_word pid (givens.Program (kinds.Script calls)) = (refl, refl)
+no_head_word pid (givens.Program (kinds.PageServer pages requests)) = (refl, refl)
+no_head_word pid (givens.Program (kinds.PageClient server pages rounds)) = (refl, refl)
 
-first_is_none : (s : Scenario) (given : List TaskLine) → AllByRecursion IsReadableLine given → IsPlan s.plan
-    → BeginsWithNoProcess (body_lines s given)
-unfolding process_of
-first_is_none s [] h plan = ap process_of (plan_parts s.plan plan)
-first_is_none s (t ∷ ts) h plan = ap process_of (task_parts t h.0) ∙ no_process_word t.pid t.given
+first_is_none : (s : Scenario) (given : List TaskLine) → AllByRecursion IsReadableLine given → IsPlan s.plan → BeginsNoHead (body_lines s given)
+unfolding process_of pool_line_of
+first_is_none s [] h plan = (ap process_of (plan_parts s.plan plan), ap pool_line_of (plan_parts s.plan plan))
+first_is_none s (t ∷ ts) h plan =
+    let word = no_head_word t.pid t.given in
+    (ap process_of (task_parts t h.0) ∙ word.0, ap pool_line_of (task_parts t h.0) ∙ word.1)
 
-pub scenarios_back : ScenariosReadBack
-scenarios_back s given is ranges gives =
+back_by : (s : Scenario) (opening : List (List ℕ)) (given : List TaskLine) → IsLawfulScenario s → IsFront s.config opening →
+    AllByRecursion IsReadableLine given → GiveTasks s given → scenario_of (scenario_text s opening given) ≡ Ok s
+unfolding scenario_by
+back_by s opening given is front ranges gives =
     let few : s.rounds < 2 ^ 64 = let least = is.rounds in omega (arith, least, few_rounds s.config.specs) in
     let body : List (List ℕ) = body_lines s given in
-    let lines : lines_of (flat_map line_text body) ≡ body =
-    body_read (λ l. l) body (no_feed_in s given ranges is.plan few) ∙ map-id body in
-    let text : scenario_text s given ≡ head_text (codes "vkernel scenario 1") s.config.specs ++ flat_map line_text body =
-    ap (λ k. flat_map line_text (codes "vkernel scenario 1" ∷ (map process_text s.config.specs ++ k))) (sym (map-id body))
-    ∙ lines_text (codes "vkernel scenario 1") (λ l. l) s.config.specs body in
-    let begins = subst BeginsWithNoProcess (sym lines) (first_is_none s given ranges is.plan) in
-    let head = heads_back (codes "vkernel scenario 1") s.config.specs (flat_map line_text body)
-    (title_plain (codes "vkernel scenario 1") refl) is.pids is.faultless begins in
-    ap scenario_of text ∙ ap scenario_by (head ∙ ap (λ k. Some (s.config.specs, k)) lines)
-    ∙ by_some s.config.specs body is.some
-    ∙ body_of s.config.specs (map idle s.config.specs) (length s.config.specs + 2) s given ranges gives is.config is.plan is.rounds
+    let feeds = both_plain opening body
+    (openings_no_feed plain_title timed_title s.config opening (title_plain plain_title refl) (title_plain timed_title refl) is.told front)
+    (no_feed_in s given ranges is.plan few) in
+    let lines : lines_of (scenario_text s opening given) ≡ opening ++ body = lines_back (opening ++ body) feeds in
+    let found = openings_back plain_title timed_title s.config opening body refl is.told front (first_is_none s given ranges is.plan) in
+    let number = line_number (opening ++ body) body in
+    ap (λ ls. scenario_by ls (opened ls)) lines ∙ ap (scenario_by (opening ++ body)) found
+    ∙ on_some number s.config s.config.specs body is.some
+    ∙ body_of s.config (map idle s.config.specs) number s given ranges gives refl is.plan is.rounds
+
+pub scenarios_back : ScenariosReadBack
+scenarios_back = back_by

@@ -1,12 +1,12 @@
 -- Lawful schedules: those that a text spells.
-use Rattle.std.specs.Prelude.{◌≡◌, ℕ, ◌<◌, ◌^◌, ◌≤◌, ◌&&◌, Bool, true, List, [], length, None}
+use Rattle.std.specs.Prelude.{◌≡◌, ℕ, ◌<◌, ◌^◌, ◌≤◌, ◌&&◌, Bool, true, List, length}
 use Rattle.std.specs.List.{list_all, AllByRecursion}
 use Rattle.vk_base.specs.declared.limits.TheConstants.{EVENTS}
 use Rattle.vk_base.specs.Pids.{IsPid}
-use Rattle.vk_base.specs.Settings.{has_process, has_station, first_fault}
+use Rattle.vk_base.specs.Settings.{has_process, has_station}
 use Rattle.vk_base.specs.declared.config.ProcessSpec.{ProcessSpec}
-use Rattle.vk_text.specs.Heads.{settings_of}
 use Rattle.vk_text.specs.Laws.{IsOrdinal, IsReadable}
+use Rattle.vk_text.specs.Openings.{IsTold}
 use Rattle.vk_event.specs.declared.event.Event.{Event}
 use Rattle.vk_event.specs.declared.event.Event.TheVariants as events
 use Rattle.vk_event.specs.declared.schedule.Schedule.{Schedule}
@@ -32,12 +32,9 @@ IsReadableEvent (events.Collect pid) = IsPid pid
 IsReadableEvent (events.Tick host) = IsStation host
 IsReadableEvent (events.Deliver to from event output) = IsStation to × IsStation from × IsOrdinal event × IsOutput output
 
--- the processes are those of a configuration, whose times and pool are those of a text; each event is of them; there are
--- not too many
+-- the configuration is one that a text can tell; each event is of its processes and stations; there are not too many
 pub record IsLawful (s : Schedule) : Type 0 where
-  pub config : s.config ≡ settings_of s.config.specs
-  pub pids : AllByRecursion (λ p. IsPid p.pid) s.config.specs
-  pub faultless : first_fault [] s.config.specs ≡ None
+  pub told : IsTold s.config
   pub ranges : AllByRecursion IsReadableEvent s.events
   pub events : list_all (has_actors s.config.specs) s.events ≡ true
   pub few : length s.events ≤ EVENTS

@@ -1,7 +1,7 @@
 -- What is left of a front when its first events were read.
-use Rattle.std.specs.Prelude.{◌≡◌, ℕ, ◌+◌, nat_lt, List, [], ◌∷◌, ◌++◌, length, Option, Some, None, if◌then◌else◌}
+use Rattle.std.specs.Prelude.{◌≡◌, ℕ, ◌+◌, ◌≤◌, nat_lt, List, [], ◌∷◌, ◌++◌, Option, Some, None, if◌then◌else◌}
 use Rattle.vk_base.specs.Settings.{Settings}
-use Rattle.vk_base.specs.declared.limits.TheConstants.{EVENTS}
+use Rattle.vk_base.specs.declared.limits.TheConstants.{EVENTS, PROCESSES, STATIONS}
 use Rattle.vk_text.specs.Lines.{words_from}
 use Rattle.vk_event.specs.declared.event.Event.{Event}
 use Rattle.vk_event.specs.declared.schedule.Front.{Front}
@@ -24,12 +24,17 @@ IsNext old new (Some e) = old ≡ behind (e ∷ []) new
 abbrev pub end_of : Settings → Option TextRefusal → Option Event → Front
 end_of c refused beyond = record { schedule = record { config = c; events = [] }; refused = refused; beyond = beyond }
 
--- what is left behind so many events, where the next line has this event or none
-abbrev pub left_by : Settings → ℕ → Option Event → Front → Front
-left_by c given None rest = end_of c (Some (refusals.BadInput (length c.specs + given + 2))) None
-left_by c given (Some e) rest = if nat_lt given EVENTS then behind (e ∷ []) rest else end_of c (Some refusals.Limit) (Some e)
+-- there are not too many events, and few lines stand before the first
+pub record IsWithin (given line : ℕ) : Type 0 where
+  pub events : given ≤ EVENTS
+  pub lines : line ≤ given + (PROCESSES + STATIONS + 3)
 
--- what is left behind so many events, where these lines are left
-unfoldable pub front_left : Settings → ℕ → List (List ℕ) → Front
-front_left c given [] = end_of c None None
-front_left c given (l ∷ ls) = left_by c given (acting c.specs (event_of (words_from l 0))) (front_left c (given + 1) ls)
+-- what is left behind so many events, where the next line, which has this number, has this event or none
+abbrev pub left_by : Settings → ℕ → ℕ → Option Event → Front → Front
+left_by c given n None rest = end_of c (Some (refusals.BadInput n)) None
+left_by c given n (Some e) rest = if nat_lt given EVENTS then behind (e ∷ []) rest else end_of c (Some refusals.Limit) (Some e)
+
+-- what is left behind so many events, where these lines are left, of which the first has this number
+unfoldable pub front_left : Settings → ℕ → ℕ → List (List ℕ) → Front
+front_left c given n [] = end_of c None None
+front_left c given n (l ∷ ls) = left_by c given n (acting c.specs (event_of (words_from l 0))) (front_left c (given + 1) (n + 1) ls)

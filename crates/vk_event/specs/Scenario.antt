@@ -1,11 +1,10 @@
 -- The scenario of a text.
-use Rattle.std.specs.Prelude.{ℕ, ◌+◌, ◌/◌, List, [], ◌∷◌, length, map, codes, Option, Some, None, Result, Ok, Err}
+use Rattle.std.specs.Prelude.{ℕ, ◌+◌, ◌/◌, List, [], ◌∷◌, length, map, codes, Result, Ok, Err}
 use Rattle.std.specs.Option.{option_map_or}
-use Rattle.vk_base.specs.Settings.{stations_of}
+use Rattle.vk_base.specs.Settings.{Settings, stations_of}
 use Rattle.vk_base.specs.declared.config.ProcessSpec.{ProcessSpec}
-use Rattle.vk_text.specs.Heads as heads
-use Rattle.vk_text.specs.Heads.{settings_of, head_of}
 use Rattle.vk_text.specs.Lines.{lines_of}
+use Rattle.vk_text.specs.Openings.{HasProcesses, line_number, opening_of}
 use Rattle.vk_event.specs.declared.scenario.Ending.{Ending}
 use Rattle.vk_event.specs.declared.scenario.Scenario.{Scenario}
 use Rattle.vk_event.specs.declared.scenario.TheConstants.{TICKS}
@@ -24,27 +23,40 @@ idle s = record { pid = s.pid; kind = kinds.Script [] }
 abbrev pub most_rounds : List ProcessSpec → ℕ
 most_rounds specs = TICKS / length (stations_of specs)
 
-abbrev pub scenario_with : List ProcessSpec → List Task → Result Ending ℕ → Result Scenario TextRefusal
-scenario_with specs tasks (Ok e) = Ok (record { config = settings_of specs; tasks = tasks; plan = e.plan; rounds = e.rounds })
-scenario_with specs tasks (Err n) = Err (refusals.BadInput n)
+abbrev pub scenario_with : Settings → List Task → Result Ending ℕ → Result Scenario TextRefusal
+scenario_with c tasks (Ok e) = Ok (record { config = c; tasks = tasks; plan = e.plan; rounds = e.rounds })
+scenario_with c tasks (Err n) = Err (refusals.BadInput n)
 
--- the scenario of these processes and tasks, and of the lines from line n on
-unfoldable pub scenario_from : List ProcessSpec → List Task → ℕ → List (List ℕ) → Result Scenario TextRefusal
-scenario_from specs tasks n [] = Err (refusals.BadInput n)
-scenario_from specs tasks n (l ∷ ls) =
-    option_map_or (λ more. scenario_from specs more (n + 1) ls) (with_task_line specs tasks l)
-    (scenario_with specs tasks (ending_from (most_rounds specs) n (l ∷ ls)))
+-- the scenario of this configuration and of these tasks, and of the lines from line n on
+unfoldable pub scenario_from : Settings → List Task → ℕ → List (List ℕ) → Result Scenario TextRefusal
+scenario_from c tasks n [] = Err (refusals.BadInput n)
+scenario_from c tasks n (l ∷ ls) =
+    option_map_or (λ more. scenario_from c more (n + 1) ls) (with_task_line c.specs tasks l)
+    (scenario_with c tasks (ending_from (most_rounds c.specs) n (l ∷ ls)))
 
--- there is a title and at least one process
-unfoldable pub scenario_by : Option (List ProcessSpec × List (List ℕ)) → Result Scenario TextRefusal
-scenario_by None = Err (refusals.BadInput 1)
-scenario_by (Some ([], body)) = Err (refusals.BadInput 2)
-scenario_by (Some (s ∷ ss, body)) = scenario_from (s ∷ ss) (map idle (s ∷ ss)) (length (s ∷ ss) + 2) body
+-- there is at least one process, else the line behind the opening is bad
+unfoldable pub scenario_on : ℕ → Settings → List ProcessSpec → List (List ℕ) → Result Scenario TextRefusal
+scenario_on n c [] body = Err (refusals.BadInput n)
+scenario_on n c (s ∷ ss) body = scenario_from c (map idle (s ∷ ss)) n body
+
+unfoldable pub scenario_by : List (List ℕ) → Result (Settings × List (List ℕ)) ℕ → Result Scenario TextRefusal
+scenario_by lines (Err n) = Err (refusals.BadInput n)
+scenario_by lines (Ok found) = scenario_on (line_number lines found.1) found.0 found.0.specs found.1
+
+-- the titles of the two formats
+abbrev pub plain_title : List ℕ
+plain_title = codes "vkernel scenario 1"
+
+abbrev pub timed_title : List ℕ
+timed_title = codes "vkernel scenario 2"
+
+abbrev pub opened : List (List ℕ) → Result (Settings × List (List ℕ)) ℕ
+opened lines = opening_of plain_title timed_title lines
 
 -- the scenario that the text spells, or the first bad line
 abbrev pub scenario_of : List ℕ → Result Scenario TextRefusal
-scenario_of text = scenario_by (head_of (codes "vkernel scenario 1") (lines_of text))
+scenario_of text = scenario_by (lines_of text) (opened (lines_of text))
 
--- the text has the title, and the line behind it is that of a process
+-- the text opens with a process
 abbrev pub HasScenarioProcess : List ℕ → Type 0
-HasScenarioProcess text = heads.HasProcess (codes "vkernel scenario 1") text
+HasScenarioProcess text = HasProcesses (opened (lines_of text))

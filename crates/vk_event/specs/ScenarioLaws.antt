@@ -1,13 +1,14 @@
 -- Scenarios as texts: which there are, how they are spelled, and that reading is the inverse of spelling.
-use Rattle.std.specs.Prelude.{◌≡◌, ℕ, ◌<◌, ◌≤◌, ◌^◌, ◌⊎◌, true, List, [], ◌∷◌, ◌++◌, length, map, flat_map, decimal, codes, Option, Some, None, Ok}
+use Rattle.std.specs.Prelude.{◌≡◌, ℕ, ◌<◌, ◌≤◌, ◌^◌, ◌⊎◌, true, List, [], ◌∷◌, ◌++◌, length, map, flat_map, decimal, codes, Option, Some, Ok}
 use Rattle.std.specs.List.{list_all, AllByRecursion}
 use Rattle.vk_base.specs.Options.{◌>>=◌}
 use Rattle.vk_base.specs.Pids.{IsPid}
-use Rattle.vk_base.specs.Settings.{first_fault}
+use Rattle.vk_base.specs.Settings.{Settings}
 use Rattle.vk_base.specs.declared.config.ProcessSpec.{ProcessSpec}
 use Rattle.vk_base.specs.declared.pid.Pid.{Pid}
-use Rattle.vk_text.specs.Heads.{settings_of, process_text, line_text}
+use Rattle.vk_text.specs.Heads.{line_text}
 use Rattle.vk_text.specs.Laws.{IsCount, IsReadable}
+use Rattle.vk_text.specs.Openings.{IsOpening, IsTold, opening_lines}
 use Rattle.vk_text.specs.Spelling.{joined, pid_text, call_words}
 use Rattle.vk_event.specs.declared.scenario.LinkPlan.{LinkPlan}
 use Rattle.vk_event.specs.declared.scenario.Scenario.{Scenario}
@@ -18,7 +19,7 @@ use Rattle.vk_event.specs.declared.task.TaskKind.{TaskKind}
 use Rattle.vk_event.specs.declared.task.TaskKind.TheVariants as kinds
 use Rattle.vk_event.specs.declared.task.TheConstants.{PAGES}
 use Rattle.vk_event.specs.declared.task_line.TaskLine.{TaskLine}
-use Rattle.vk_event.specs.Scenario.{idle, most_rounds, scenario_of}
+use Rattle.vk_event.specs.Scenario.{idle, most_rounds, plain_title, scenario_of, timed_title}
 use Rattle.vk_event.specs.Tasks.{memory_of, has_memory, with_given}
 
 abbrev pub IsPageCount : ℕ → Type 0
@@ -33,12 +34,10 @@ IsReadableKind (kinds.PageClient server pages rounds) = IsPid server × IsPageCo
 abbrev pub IsPlan : LinkPlan → Type 0
 IsPlan plan = (plan.lose < 256) × (plan.double < 256) × (plan.hold < 256) × (plan.seed < 2 ^ 64)
 
--- the processes are those of a configuration, whose times and pool are those of a text, and there is one; each has a task, for
--- which it has the memory; there are not too many rounds
+-- the configuration is one that a text can tell, and there is a process; each process has a task, for which it has the memory; there
+-- are not too many rounds
 pub record IsLawfulScenario (s : Scenario) : Type 0 where
-  pub config : s.config ≡ settings_of s.config.specs
-  pub pids : AllByRecursion (λ p. IsPid p.pid) s.config.specs
-  pub faultless : first_fault [] s.config.specs ≡ None
+  pub told : IsTold s.config
   pub some : 0 < length s.config.specs
   pub tasks : map (λ t. t.pid) s.tasks ≡ map (λ p. p.pid) s.config.specs
   pub ranges : AllByRecursion (λ t. IsReadableKind t.kind) s.tasks
@@ -90,21 +89,27 @@ rounds_words rounds = codes "ticks" ∷ decimal rounds ∷ []
 abbrev pub body_lines : Scenario → List TaskLine → List (List ℕ)
 body_lines s given = map task_text given ++ joined (plan_words s.plan) ∷ joined (rounds_words s.rounds) ∷ []
 
--- a text of the scenario, with these lines of tasks
-abbrev pub scenario_text : Scenario → List TaskLine → List ℕ
-scenario_text s given = flat_map line_text (codes "vkernel scenario 1" ∷ (map process_text s.config.specs ++ body_lines s given))
+-- these lines are an opening of a scenario's configuration
+abbrev pub IsFront : Settings → List (List ℕ) → Type 0
+IsFront c opening = IsOpening plain_title timed_title c opening
+
+-- a text of the scenario, with this opening and these lines of tasks
+abbrev pub scenario_text : Scenario → List (List ℕ) → List TaskLine → List ℕ
+scenario_text s opening given = flat_map line_text (opening ++ body_lines s given)
 
 -- a text that reads as a scenario is one of it, but that the last line feed may lack: its lines give the tasks
 abbrev pub ScenariosAreSpelled : Type 0
 ScenariosAreSpelled =
     (text : List ℕ) (s : Scenario) → scenario_of text ≡ Ok s →
-    (given : List TaskLine) × GiveTasks s given × ((text ≡ scenario_text s given) ⊎ (text ++ codes "\n" ≡ scenario_text s given))
+    (opening : List (List ℕ)) × IsFront s.config opening
+    × ((given : List TaskLine) × GiveTasks s given
+    × ((text ≡ scenario_text s opening given) ⊎ (text ++ codes "\n" ≡ scenario_text s opening given)))
 
 -- each text of a lawful scenario reads as it
 abbrev pub ScenariosReadBack : Type 0
 ScenariosReadBack =
-    (s : Scenario) (given : List TaskLine) → IsLawfulScenario s → AllByRecursion IsReadableLine given → GiveTasks s given →
-    scenario_of (scenario_text s given) ≡ Ok s
+    (s : Scenario) (opening : List (List ℕ)) (given : List TaskLine) → IsLawfulScenario s → IsFront s.config opening →
+    AllByRecursion IsReadableLine given → GiveTasks s given → scenario_of (scenario_text s opening given) ≡ Ok s
 
 -- and no other scenario has a text
 abbrev pub OnlyLawfulScenariosAreRead : Type 0
@@ -113,4 +118,6 @@ OnlyLawfulScenariosAreRead = (text : List ℕ) (s : Scenario) → scenario_of te
 -- there is a text of each lawful scenario
 abbrev pub LawfulScenariosHaveTexts : Type 0
 LawfulScenariosHaveTexts =
-    (s : Scenario) → IsLawfulScenario s → (given : List TaskLine) × AllByRecursion IsReadableLine given × GiveTasks s given
+    (s : Scenario) → IsLawfulScenario s →
+    IsFront s.config (opening_lines plain_title timed_title s.config)
+    × ((given : List TaskLine) × AllByRecursion IsReadableLine given × GiveTasks s given)

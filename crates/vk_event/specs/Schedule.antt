@@ -2,11 +2,15 @@
 use Rattle.std.specs.Prelude.{ℕ, ◌+◌, ◌<◌, nat_lt, List, [], ◌∷◌, ◌++◌, length, codes, bytes_eq, Option, Some, None, Result, Ok, Err, if◌then◌else◌}
 use Rattle.vk_base.specs.declared.limits.TheConstants.{EVENTS}
 use Rattle.vk_base.specs.Options.{◌>>=◌}
+use Rattle.vk_base.specs.Settings.{Settings}
 use Rattle.vk_base.specs.declared.config.ProcessSpec.{ProcessSpec}
 use Rattle.vk_text.specs.Calls.{first_as, ended, call_of}
-use Rattle.vk_text.specs.Heads.{settings_of, head_of}
+use Rattle.vk_text.specs.Heads.{settings_of}
 use Rattle.vk_text.specs.Lines.{lines_of, words_from}
+use Rattle.vk_text.specs.Openings.{line_number, opening_of}
 use Rattle.vk_text.specs.Words.{positive_of, station_of, pid_of}
+use Rattle.vk_text.specs.declared.opening.OpeningRefusal.{OpeningRefusal}
+use Rattle.vk_text.specs.declared.opening.OpeningRefusal.TheVariants as openings
 use Rattle.vk_event.specs.declared.event.Event.{Event}
 use Rattle.vk_event.specs.declared.event.Event.TheVariants as events
 use Rattle.vk_event.specs.declared.schedule.Front.{Front}
@@ -52,14 +56,10 @@ acting specs (Some e) = if has_actors specs e then Some e else None
 abbrev pub more : Schedule → Event → Schedule
 more s e = record s { events = s.events ++ e ∷ [] }
 
--- the number of the line behind the title, the processes and the events, which have a line each
-abbrev pub line_behind : Schedule → ℕ
-line_behind s = length s.config.specs + length s.events + 2
-
--- the schedule with one event more, or why the line is refused that should have it
-abbrev pub with_event : Schedule → Option Event → Result Schedule TextRefusal
-with_event s None = Err (refusals.BadInput (line_behind s))
-with_event s (Some e) = if nat_lt (length s.events) EVENTS then Ok (more s e) else Err refusals.Limit
+-- the schedule with one event more, or why the line of this number is refused that should have it
+abbrev pub with_event : ℕ → Schedule → Option Event → Result Schedule TextRefusal
+with_event n s None = Err (refusals.BadInput n)
+with_event n s (Some e) = if nat_lt (length s.events) EVENTS then Ok (more s e) else Err refusals.Limit
 
 -- the front ends where a line is refused; where the line has an event, that is one too many
 abbrev pub or_end : Schedule → Option Event → Result Schedule TextRefusal → (Schedule → Front) → Front
@@ -70,28 +70,47 @@ or_end s event (Err e) rest = record { schedule = s; refused = Some e; beyond = 
 abbrev pub next_event : Schedule → List ℕ → Option Event
 next_event s line = acting s.config.specs (event_of (words_from line 0))
 
--- the schedule with the events of these lines behind its own, up to the first line that is refused
-unfoldable pub front_from : Schedule → List (List ℕ) → Front
-front_from s [] = record { schedule = s; refused = None; beyond = None }
-front_from s (l ∷ ls) = or_end s (next_event s l) (with_event s (next_event s l)) (λ t. front_from t ls)
+-- the schedule with the events of these lines behind its own, of which the first has this number, up to the first line that is refused
+unfoldable pub front_from : ℕ → Schedule → List (List ℕ) → Front
+front_from n s [] = record { schedule = s; refused = None; beyond = None }
+front_from n s (l ∷ ls) = or_end s (next_event s l) (with_event n s (next_event s l)) (λ t. front_from (n + 1) t ls)
 
-abbrev pub without_events : List ProcessSpec → Schedule
-without_events specs = record { config = settings_of specs; events = [] }
+-- why a text that does not open is refused
+abbrev pub as_text : OpeningRefusal → TextRefusal
+as_text (openings.Bad n) = refusals.BadInput n
+as_text openings.NoMemory = refusals.NoMemory
 
--- the title is bad, or the events stand behind the processes
-abbrev pub front_by : Option (List ProcessSpec × List (List ℕ)) → Front
-front_by None = record { schedule = without_events []; refused = Some (refusals.BadInput 1); beyond = None }
-front_by (Some (specs, body)) = front_from (without_events specs) body
+abbrev pub without_events : Settings → Schedule
+without_events c = record { config = c; events = [] }
+
+-- the line of this number is refused, and nothing is read
+abbrev pub unopened : ℕ → Front
+unopened n = record { schedule = without_events (settings_of []); refused = Some (refusals.BadInput n); beyond = None }
+
+-- the opening is bad, or the events stand behind it
+abbrev pub front_by : List (List ℕ) → Result (Settings × List (List ℕ)) ℕ → Front
+front_by lines (Err n) = unopened n
+front_by lines (Ok found) = front_from (line_number lines found.1) (without_events found.0) found.1
+
+-- the titles of the two formats
+abbrev pub plain_title : List ℕ
+plain_title = codes "vkernel 1"
+
+abbrev pub timed_title : List ℕ
+timed_title = codes "vkernel 2"
+
+abbrev pub opened : List (List ℕ) → Result (Settings × List (List ℕ)) ℕ
+opened lines = opening_of plain_title timed_title lines
 
 -- the schedule of the text up to the first line that is refused
 abbrev pub front_of : List ℕ → Front
-front_of text = front_by (head_of (codes "vkernel 1") (lines_of text))
+front_of text = front_by (lines_of text) (opened (lines_of text))
 
 abbrev pub whole : Schedule → Option TextRefusal → Result Schedule TextRefusal
 whole s None = Ok s
 whole s (Some e) = Err e
 
--- the text has the title, and the line behind it is that of a process
+-- the text opens with a process
 abbrev pub HasProcess : List ℕ → Type 0
 HasProcess text = 0 < length (front_of text).schedule.config.specs
 

@@ -1,10 +1,13 @@
 -- How schedules are spelled.
 use Rattle.std.specs.Prelude.{ℕ, List, [], ◌∷◌, ◌++◌, map, flat_map, decimal, codes}
-use Rattle.vk_text.specs.Heads.{process_text, line_text, head_text}
+use Rattle.vk_base.specs.Settings.{Settings}
+use Rattle.vk_text.specs.Heads.{line_text}
+use Rattle.vk_text.specs.Openings.{IsOpening, opening_text}
 use Rattle.vk_text.specs.Spelling.{joined, pid_text, call_words}
 use Rattle.vk_event.specs.declared.event.Event.{Event}
 use Rattle.vk_event.specs.declared.event.Event.TheVariants as events
 use Rattle.vk_event.specs.declared.schedule.Schedule.{Schedule}
+use Rattle.vk_event.specs.Schedule.{plain_title, timed_title}
 
 -- the words of an event's line
 abbrev pub event_words : Event → List (List ℕ)
@@ -16,9 +19,17 @@ event_words (events.Deliver to from event output) = codes "deliver" ∷ decimal 
 abbrev pub event_text : Event → List ℕ
 event_text e = joined (event_words e)
 
-abbrev pub schedule_text : Schedule → List ℕ
-schedule_text s = head_text (codes "vkernel 1") s.config.specs ++ flat_map (λ e. line_text (event_text e)) s.events
+abbrev pub text_of : List (List ℕ) → List ℕ
+text_of lines = flat_map line_text lines
 
--- the lines of that text: process k, from 0, stands in line 2 + k, and event k in line 2 + processes + k
-abbrev pub schedule_lines : Schedule → List (List ℕ)
-schedule_lines s = codes "vkernel 1" ∷ (map process_text s.config.specs ++ map event_text s.events)
+-- these lines are an opening of a schedule's configuration
+abbrev pub IsFront : Settings → List (List ℕ) → Type 0
+IsFront c opening = IsOpening plain_title timed_title c opening
+
+-- the lines of the schedule with this opening: event k, from 0, stands k lines behind it
+abbrev pub schedule_lines : List (List ℕ) → Schedule → List (List ℕ)
+schedule_lines opening s = opening ++ map event_text s.events
+
+-- the text that is written: format 1 exactly where that tells all of the configuration
+abbrev pub schedule_text : Schedule → List ℕ
+schedule_text s = opening_text plain_title timed_title s.config ++ flat_map (λ e. line_text (event_text e)) s.events

@@ -1,21 +1,21 @@
 //! Laws about the texts of schedules.
 
-ghost use Rattle.vk_event.specs.Laws.{SchedulesReadBack, OnlyLawfulAreRead, SchedulesAreSpelledOnce, FrontsHaveTheirLines};
+ghost use Rattle.vk_event.specs.Laws.{SchedulesReadBack, OnlyLawfulAreRead, SchedulesAreSpelled, FrontsHaveTheirLines};
 ghost use Rattle.vk_event.specs.ScenarioLaws.{LawfulScenariosHaveTexts, OnlyLawfulScenariosAreRead, ScenariosAreSpelled, ScenariosReadBack};
 
-/// What is written of a lawful schedule is read as it again, and what is read is lawful.
+/// Each text of a lawful schedule is read as it, and what is read is lawful.
 pub fn schedules_are_read_again()
     ensures back { SchedulesReadBack }
     ensures lawful { OnlyLawfulAreRead }
 {}
 
-/// A schedule has one text, which is the one that is written: no other reads as it, but the same without its last line
-/// feed.
-pub fn schedules_are_spelled_once()
-    ensures { SchedulesAreSpelledOnce }
+/// No other text is read as a schedule than those of it, but the same without their last line feed. In format 1 it has one; in format 2
+/// a text may also tell a pool of 16, and all that format 1 tells.
+pub fn schedules_are_spelled()
+    ensures { SchedulesAreSpelled }
 {}
 
-/// In a text with the title, process k, from 0, of its front stands in line 2 + k, and event k in line 2 + processes + k.
+/// In a text that opens, event k, from 0, of its front stands k lines behind the opening.
 pub fn front_lines()
     ensures { FrontsHaveTheirLines }
 {}

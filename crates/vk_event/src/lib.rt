@@ -18,7 +18,7 @@ mod writing;
 pub use event::Event;
 pub use law::{
     front_lines, scenarios_are_read_again, scenarios_are_spelled, schedules_are_read_again,
-    schedules_are_spelled_once,
+    schedules_are_spelled,
 };
 pub use reader::EventReader;
 pub use scenario::{LinkPlan, Scenario, TICKS, read_scenario};

@@ -1,19 +1,19 @@
 //! The events of a schedule's text, one after another.
 
-ghost use Rattle.std.specs.Prelude.{◌≡◌, ◌⊎◌, true, [], None, IfOk, IfErr, if◌then◌else◌};
+ghost use Rattle.std.specs.Prelude.{◌≡◌, ◌⊎◌, ℕ, true, [], None, IfOk, IfErr, if◌then◌else◌};
 ghost use Rattle.vk_event.specs.Lawful.{IsLawful, IsReadableEvent, has_actors};
 ghost use Rattle.vk_event.specs.Remaining.{IsNext, end_of};
-ghost use Rattle.vk_event.specs.Schedule.{HasProcess, front_by, front_of};
+ghost use Rattle.vk_event.specs.Schedule.{HasProcess, front_of, unopened};
 
 use crate::event::Event;
 use crate::line::read_event;
-use crate::schedule::{Front, Schedule, TextRefusal};
+use crate::schedule::{Front, Schedule, TextRefusal, refused};
 use crate::view::EventBuffer;
 use std::alloc::Global;
 use std::marker::Model;
 use vk_base::limits::EVENTS;
 use vk_base::{Config, List};
-use vk_text::{HeadRefusal, next_line, read_head};
+use vk_text::{next_line, read_opening};
 
 /// What is left to be read of a text: the events that are still to come, which [`EventReader::next`] gives one by one, and how the
 /// reading ends. It keeps none of the events.
@@ -24,23 +24,24 @@ pub struct EventReader<'a> {
     text: &'a [u8],
     /// Where the next line starts.
     at: usize,
+    /// The number of that line, from 1.
+    line: u64,
     /// How many events were given.
     given: usize,
 }
 
 impl<'a> Model for EventReader<'a> {
-    ghost use Rattle.std.specs.Prelude.{drop, length, ◌≤◌};
-    ghost use Rattle.vk_base.specs.declared.limits.TheConstants.{EVENTS};
+    ghost use Rattle.std.specs.Prelude.{drop};
     ghost use Rattle.vk_text.specs.Lines.{lines_of};
     ghost use Rattle.vk_event.specs.declared.schedule.Front.{Front};
 
     ghost Value = { Front };
 
-    ghost use Rattle.vk_event.specs.Remaining.{front_left};
+    ghost use Rattle.vk_event.specs.Remaining.{IsWithin, front_left};
 
-    ghost view = { λ r. front_left r.config r.given (lines_of (drop r.at r.text.now)) };
+    ghost view = { λ r. front_left r.config r.given r.line (lines_of (drop r.at r.text.now)) };
 
-    ghost invariant = { λ r. r.given ≤ EVENTS };
+    ghost invariant = { λ r. IsWithin r.given r.line };
 }
 
 /// What is left where no event is.
@@ -63,28 +64,28 @@ fn ended(
 }
 
 impl<'a> EventReader<'a> {
-    /// All of the text is left to be read, but its head. A text without the title is bad in line 1; other bad lines, and an event
-    /// too many, are told at the end of the reading. Memory is wanted only for processes.
+    /// All of the text is left to be read, but its opening. A text without a title, or without the times of its format, is bad in that
+    /// line; other bad lines, and an event too many, are told at the end of the reading. Memory is wanted only for processes.
     pub fn new(alloc: Global, text: &'a [u8]) -> Result<Self, TextRefusal>
         ensures front { IfOk result (λ r. r ≡ front_of text.now) }
         ensures lawful { IfOk result (λ r. IsLawful r.schedule) }
         ensures refused { IfErr result (λ e. ((e ≡ TextRefusal.NoMemory) × HasProcess text.now)
-            ⊎ ((e ≡ TextRefusal.BadInput 1) × (front_of text.now ≡ front_by None))) }
+            ⊎ ((line : ℕ) × (e ≡ TextRefusal.BadInput line) × (front_of text.now ≡ unopened line))) }
     {
-        match read_head(alloc, text, b"vkernel 1") {
+        match read_opening(alloc, text, b"vkernel 1", b"vkernel 2") {
             Ok(head) => Ok(EventReader {
                 alloc,
                 config: head.config,
                 text,
                 at: head.at,
+                line: head.line,
                 given: 0,
             }),
-            Err(HeadRefusal::NoTitle) => Err(TextRefusal::BadInput { line: 1 }),
-            Err(HeadRefusal::NoMemory) => Err(TextRefusal::NoMemory),
+            Err(refusal) => Err(refused(refusal)),
         }
     }
 
-    /// The processes of the text.
+    /// The configuration of the text.
     pub fn config(&self) -> &Config
         ensures { result.now ≡ self.now.schedule.config }
     {
@@ -106,11 +107,12 @@ impl<'a> EventReader<'a> {
             return false;
         };
         self.at = next;
+        self.line += 1;
         self.given += 1;
         true
     }
 
-    /// How the reading ends, with the processes of the text and with none of its events.
+    /// How the reading ends, with the configuration of the text and with none of its events.
     pub fn into_front(self) -> Front
         requires { self.schedule.events ≡ [] }
         ensures { result ≡ self.entry }
@@ -123,8 +125,7 @@ impl<'a> EventReader<'a> {
             let refused = Some(TextRefusal::Limit);
             return ended(self.alloc, self.config, refused, Some(event.view().whole()));
         }
-        let line = self.config.specs().len() as u64 + self.given as u64 + 2;
-        let refused = Some(TextRefusal::BadInput { line });
+        let refused = Some(TextRefusal::BadInput { line: self.line });
         ended(self.alloc, self.config, refused, None)
     }
 }

@@ -1,19 +1,18 @@
 //! Scenarios as texts.
 
 ghost use Rattle.std.specs.Prelude.{◌≡◌, ◌⊎◌, ◌+◌, ◌<◌, ◌≤◌, ◌^◌, Ok, Err, IfOk, IfErr, map, drop, length};
-ghost use Rattle.vk_base.specs.declared.limits.TheConstants.{PROCESSES};
-ghost use Rattle.vk_text.specs.Heads.{settings_of};
+ghost use Rattle.vk_base.specs.declared.limits.TheConstants.{PROCESSES, STATIONS};
 ghost use Rattle.vk_text.specs.Lines.{lines_of};
 ghost use Rattle.vk_event.specs.Endings.{ending_from};
 ghost use Rattle.vk_event.specs.ScenarioLaws.{IsLawfulScenario};
 ghost use Rattle.vk_event.specs.Scenario.{HasScenarioProcess, idle, most_rounds, scenario_from, scenario_of, scenario_with};
 
-use crate::schedule::TextRefusal;
+use crate::schedule::{TextRefusal, refused};
 use crate::task::{Task, TaskKind};
 use crate::task_line::{read_plan, read_rounds, take_line};
 use std::alloc::Global;
 use vk_base::{Config, List, NoMemory, ProcessSpec};
-use vk_text::{Head, HeadRefusal, next_line, read_head};
+use vk_text::{Head, next_line, read_opening};
 
 /// Ticks of all stations of a scenario together.
 pub const TICKS: u32 = 50_000;
@@ -105,8 +104,7 @@ fn end(
 ) -> Result<Scenario, TextRefusal>
     requires some { 0 < length config.specs }
     requires line { line + 2 < 2 ^ 64 }
-    requires config { config ≡ settings_of config.specs }
-    ensures { result ≡ scenario_with config.specs tasks.items (ending_from (most_rounds config.specs) line (lines_of (drop at text.now))) }
+    ensures { result ≡ scenario_with config tasks.items (ending_from (most_rounds config.specs) line (lines_of (drop at text.now))) }
 {
     match read_ending(text, at, line, most_rounds(&config)) {
         Ok(Ending { plan, rounds }) => Ok(Scenario {
@@ -119,7 +117,7 @@ fn end(
     }
 }
 
-/// The scenario of these processes and of the lines from `start` on, of which the first has the number `first`.
+/// The scenario of this configuration and of the lines from `start` on, of which the first has the number `first`.
 fn read_body(
     alloc: Global,
     config: Config,
@@ -128,13 +126,11 @@ fn read_body(
     first: u64,
 ) -> Result<Scenario, TextRefusal>
     requires some { 0 < length config.specs }
-    requires few { length config.specs ≤ PROCESSES }
-    requires first { first ≡ length config.specs + 2 }
+    requires first { first ≤ PROCESSES + STATIONS + 3 }
     requires within { start ≤ length text.now }
-    requires config { config ≡ settings_of config.specs }
-    ensures scenario { IfOk result (λ s. scenario_from config.specs (map idle config.specs) first (lines_of (drop start text.now)) ≡ Ok s) }
+    ensures scenario { IfOk result (λ s. scenario_from config (map idle config.specs) first (lines_of (drop start text.now)) ≡ Ok s) }
     ensures refused { IfErr result (λ e. (e ≡ TextRefusal.NoMemory)
-        ⊎ (scenario_from config.specs (map idle config.specs) first (lines_of (drop start text.now)) ≡ Err e)) }
+        ⊎ (scenario_from config (map idle config.specs) first (lines_of (drop start text.now)) ≡ Err e)) }
 {
     let Ok(mut tasks) = idle_tasks(alloc, config.specs()) else {
         return Err(TextRefusal::NoMemory);
@@ -153,24 +149,29 @@ fn read_body(
     Err(TextRefusal::BadInput { line })
 }
 
-/// The scenario that the text spells. Its first line is `vkernel scenario 1`, then come `process PID SIZE` lines by rising
-/// pids, at least one. Then come lines of tasks, of processes that the text names: `do PID CALLTEXT` puts a call behind
-/// those of the process's script, and `program PID pageserver PAGES REQUESTS` and `program PID pageclient SERVER PAGES
+/// The scenario that the text spells. In format 1 its first line is `vkernel scenario 1`, and then come `process PID SIZE` lines by
+/// rising pids, at least one; in format 2 it is `vkernel scenario 2`, then come `times TRIES INTERVAL LIFE`, the `process` lines, and
+/// `pool HOST POOL` lines by rising stations. Then come lines of tasks, of processes that the text names: `do PID CALLTEXT` puts a call
+/// behind those of the process's script, and `program PID pageserver PAGES REQUESTS` and `program PID pageclient SERVER PAGES
 /// ROUNDS` give it a program instead, for which it needs 512 and 1,024 bytes of memory. The last two lines are
 /// `link LOSE DOUBLE HOLD SEED` and `ticks ROUNDS`, of at most 50,000 rounds by the number of stations. The first line that
-/// is none of these decides; [`TextRefusal::Limit`] never comes. Memory is wanted only where a process stands behind the title.
+/// is none of these decides; [`TextRefusal::Limit`] never comes. Memory is wanted only where the text opens with a process.
 pub fn read_scenario(alloc: Global, text: &[u8]) -> Result<Scenario, TextRefusal>
     ensures scenario { IfOk result (λ s. scenario_of text.now ≡ Ok s) }
     ensures refused { IfErr result (λ e. ((e ≡ TextRefusal.NoMemory) × HasScenarioProcess text.now) ⊎ (scenario_of text.now ≡ Err e)) }
     ensures lawful { IfOk result IsLawfulScenario }
 {
-    let Head { config, at, line } = match read_head(alloc, text, b"vkernel scenario 1") {
+    let Head { config, at, line } = match read_opening(
+        alloc,
+        text,
+        b"vkernel scenario 1",
+        b"vkernel scenario 2",
+    ) {
         Ok(head) => head,
-        Err(HeadRefusal::NoTitle) => return Err(TextRefusal::BadInput { line: 1 }),
-        Err(HeadRefusal::NoMemory) => return Err(TextRefusal::NoMemory),
+        Err(refusal) => return Err(refused(refusal)),
     };
     if config.specs().is_empty() {
-        return Err(TextRefusal::BadInput { line: 2 });
+        return Err(TextRefusal::BadInput { line });
     }
     read_body(alloc, config, text, at, line)
 }

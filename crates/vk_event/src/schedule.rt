@@ -2,14 +2,14 @@
 
 ghost use Rattle.std.specs.Prelude.{◌≡◌, ◌⊎◌, ◌<◌, None, Ok, Err, IfOk, IfErr, OnErr, length};
 ghost use Rattle.vk_event.specs.Lawful.{IsLawful};
-ghost use Rattle.vk_event.specs.Schedule.{HasProcess, front_by, front_of, schedule_of};
+ghost use Rattle.vk_event.specs.Schedule.{HasProcess, as_text, front_of, schedule_of, unopened};
 
 use crate::event::Event;
 use crate::reader::EventReader;
 use crate::view::EventBuffer;
 use std::alloc::Global;
 use vk_base::{Config, List, NoMemory};
-use vk_text::empty_config;
+use vk_text::{OpeningRefusal, empty_config};
 
 /// A configuration, and the events of a run of it.
 #[derive(Drop)]
@@ -28,6 +28,16 @@ pub enum TextRefusal {
     NoMemory,
 }
 
+/// Why a text gives no value where it does not open.
+pub fn refused(refusal: OpeningRefusal) -> TextRefusal
+    ensures { result ≡ as_text refusal }
+{
+    match refusal {
+        OpeningRefusal::Bad { line } => TextRefusal::BadInput { line },
+        OpeningRefusal::NoMemory => TextRefusal::NoMemory,
+    }
+}
+
 /// The schedule of a text up to its first line that is refused.
 #[derive(Drop)]
 pub struct Front {
@@ -39,16 +49,16 @@ pub struct Front {
     pub beyond: Option<Event>,
 }
 
-/// What is read of a text without the title.
-fn untitled(alloc: Global) -> Front
-    ensures { result ≡ front_by None }
+/// What is read of a text that does not open, since this line is bad.
+fn unopened(alloc: Global, line: u64) -> Front
+    ensures { result ≡ unopened line }
 {
     Front {
         schedule: Schedule {
             config: empty_config(alloc),
             events: List::empty(alloc),
         },
-        refused: Some(TextRefusal::BadInput { line: 1 }),
+        refused: Some(TextRefusal::BadInput { line }),
         beyond: None,
     }
 }
@@ -68,10 +78,11 @@ fn collect(alloc: Global, mut reader: EventReader<'_>) -> Result<Front, NoMemory
     Ok(front)
 }
 
-/// The schedule of the text up to the first line that is refused. The first line is `vkernel 1`, then come
-/// `process PID SIZE` lines by rising pids, and then the events: lines `call PID CALLTEXT`, `collect PID`, `tick H` and
+/// The schedule of the text up to the first line that is refused. In format 1 the first line is `vkernel 1`, and then come
+/// `process PID SIZE` lines by rising pids; in format 2 it is `vkernel 2`, then come `times TRIES INTERVAL LIFE`, the `process` lines, and
+/// `pool HOST POOL` lines by rising stations. Behind them stand the events: lines `call PID CALLTEXT`, `collect PID`, `tick H` and
 /// `deliver TO FROM EVENT OUTPUT`, of processes and stations that the text names. Memory is wanted only for lines that are
-/// taken, so only where a process stands behind the title.
+/// taken, so only where the text opens with a process.
 pub fn read_front(alloc: Global, text: &[u8]) -> Result<Front, NoMemory>
     ensures front { IfOk result (λ f. f ≡ front_of text.now) }
     ensures lawful { IfOk result (λ f. IsLawful f.schedule) }
@@ -79,8 +90,8 @@ pub fn read_front(alloc: Global, text: &[u8]) -> Result<Front, NoMemory>
 {
     match EventReader::new(alloc, text) {
         Ok(reader) => collect(alloc, reader),
-        Err(TextRefusal::NoMemory) => Err(NoMemory),
-        Err(_) => Ok(untitled(alloc)),
+        Err(TextRefusal::BadInput { line }) => Ok(unopened(alloc, line)),
+        Err(_) => Err(NoMemory),
     }
 }
 

@@ -12,7 +12,7 @@ use crate::schedule::Schedule;
 use std::alloc::Global;
 use vk_base::{Call, NoMemory, Pid};
 use vk_brief::{BriefCall, CallView};
-use vk_text::{put, put_head, write_call, write_number, write_pid};
+use vk_text::{put, put_opening, write_call, write_number, write_pid};
 
 /// Appends `call PID CALLTEXT`.
 #[tactic(auto, using(crate::proofs::Events::call_event_text))]
@@ -92,14 +92,21 @@ fn write_events(alloc: Global, into: &mut Vec<u8>, events: &[Event]) -> Result<(
     Ok(())
 }
 
-/// The text of the schedule, which is lawful: reading it gives the schedule again.
+/// The text of the schedule, which is lawful: reading it gives the schedule again. It is in format 1 exactly where the times are 5, 4 and
+/// 8 and each pool is 16; in format 2 it tells the pools that are not 16.
 pub fn write_schedule(alloc: Global, schedule: &Schedule) -> Result<Vec<u8>, NoMemory>
     requires { IsLawful schedule.now }
     ensures text { IfOk result (λ v. v.items ≡ schedule_text schedule.now) }
     ensures read { IfOk result (λ v. schedule_of v.items ≡ Ok schedule.now) }
 {
     let mut text = Vec::new(alloc);
-    put_head(alloc, &mut text, b"vkernel 1", &schedule.config)?;
+    put_opening(
+        alloc,
+        &mut text,
+        b"vkernel 1",
+        b"vkernel 2",
+        &schedule.config,
+    )?;
     write_events(alloc, &mut text, schedule.events.as_slice())?;
     Ok(text)
 }

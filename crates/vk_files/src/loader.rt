@@ -1,6 +1,6 @@
 //! The loader.
 
-ghost use Rattle.std.specs.Prelude.{◌≡◌, ◌≤◌, [], min, length, slice_get};
+ghost use Rattle.std.specs.Prelude.{◌≡◌, ◌≤◌, ◌+◌, [], min, length, slice_get, if◌then◌else◌};
 ghost use Rattle.vk_program.specs.Tasks.{script_call};
 ghost use Rattle.vk_files.specs.Loaders.{IsLoaderAfter, loader_calls, loader_name};
 
@@ -81,9 +81,14 @@ impl Program for Loader {
     ghost is_after = { λ l answers. IsLoaderAfter l.at answers };
 
     fn next(&mut self, last: Option<&Answer>) -> Option<Call> {
-        if last.is_some() && self.at < 3 {
-            self.at += 1;
-        }
+        self.at = counted(self.at, last.is_some());
         self.call_at(self.at)
     }
+}
+
+/// How many of the three calls were answered, with one answer more or not.
+fn counted(at: usize, is_told: bool) -> usize
+    ensures { result ≡ min (if is_told then at + 1 else at) 3 }
+{
+    if is_told && at < 3 { at + 1 } else { at.min(3) }
 }

@@ -31,7 +31,7 @@ use Rattle.vk_base.specs.declared.pid.Pid.{Pid}
 use Rattle.vk_base.specs.declared.step.Step.TheVariants as steps
 use Rattle.vk_base.specs.Activities.{call_of, state_of}
 unfoldable use Rattle.vk_base.specs.Calls.{copied_at_once, lookup_begun, move_begun, sent}
-use Rattle.vk_base.specs.Calls.{Effect, accepted, answered, begin_move, call_refusal, called, found_at_once, get_pid, is_at_once, is_message_at, new_move, replied, tests_of, unseen}
+use Rattle.vk_base.specs.Calls.{Effect, accepted, answered, begin_move, call_refusal, called, forward, found_at_once, get_pid, is_at_once, is_message_at, new_move, replied, tests_of, unseen}
 use Rattle.vk_base.specs.Kernel.{◌>>=◌, Kernel, blocked_in, held, holds_of, is_live, name_of, put_process, with_state}
 use Rattle.vk_base.specs.Packets.{MoveAck, MoveBytes, MoveData, MoveNegative, MoveRequest, Negative, Packet, Pending, Reply, Send, AskPid, TellPid}
 use Rattle.vk_base.specs.Pids.{same_host}
@@ -68,7 +68,7 @@ use Rattle.vk_host.specs.Values.{StationValue}
 use Rattle.v_lawful.proofs.Sendable.{few_if, few_offsets, few_or, told_few}
 use Rattle.v_lawful.proofs.Brought.{place_is}
 use Rattle.vk_rules.proofs.Lengths.{fits_is}
-use Rattle.vk_rules.specs.PacketOutcomes.{FarSender, ack_outcome, arrival, bytes_outcome, bytes_packet, copies_bytes, data_outcome, done_behind, far_sender, found_there, has_made, is_later, is_opened, is_same, may_be_read, may_be_written, no_sender, request_outcome, restarts_at, running_from, running_to, send_outcome, told_asker}
+use Rattle.vk_rules.specs.PacketOutcomes.{FarSender, ack_outcome, arrival, bytes_outcome, bytes_packet, copies_bytes, data_outcome, done_behind, far_partner, found_there, has_made, is_later, is_opened, is_same, may_be_read, may_be_written, no_sender, request_outcome, restarts_at, running_from, running_to, send_outcome, told_asker}
 
 -- Rounds. One that is few where the process waits in no move of more than 65,536 bytes.
 abbrev IsShort : Call → Type 0
@@ -98,6 +98,7 @@ call_few k w pid p calls.Receive short = omega arith
 call_few k w pid p (calls.ReceiveSegment start count) short = omega arith
 call_few k w pid p (calls.Reply m to) short = omega arith
 call_few k w pid p (calls.ReplySegment m to dest src count) short = omega arith
+call_few k w pid p (calls.Forward m from to) short = omega arith
 call_few k w pid p (calls.SetPid logical q scope) short = omega arith
 call_few k w pid p (calls.Load start count) short = omega arith
 call_few k w pid p (calls.Store start bytes) short = omega arith
@@ -159,6 +160,13 @@ replied_short k pid c to m dest bytes e is =
     let x = bind_is (k.exchanges (name_of to number.0)) _ e number.2 in
     answered_short _ pid c answers.Ok e x.2
 
+forward_short : (k : Kernel) (pid : Pid) (m : Message) (from to : Pid) (e : Effect) →
+    forward k pid (calls.Forward m from to) m from to ≡ Some e → BeginsShort pid e
+forward_short k pid m from to e is =
+    let number = bind_is (held k pid from) _ e is in
+    let x = bind_is (k.exchanges (name_of from number.0)) _ e number.2 in
+    answered_short _ pid (calls.Forward m from to) answers.Ok e x.2
+
 copied_short : (k : Kernel) (pid : Pid) (c : Call) (into : Pid) (dest : ℕ) (bytes : List ℕ) (e : Effect) →
     copied_at_once k pid c into dest bytes ≡ Some e → BeginsShort pid e
 unfolding copied_at_once
@@ -200,6 +208,7 @@ accepted_short k pid p (calls.ReceiveSegment start count) e fit is = received_sh
 accepted_short k pid p (calls.Reply m to) e fit is = replied_short k pid (calls.Reply m to) to m 0 [] e is
 accepted_short k pid p (calls.ReplySegment m to dest src count) e fit is =
     replied_short k pid (calls.ReplySegment m to dest src count) to m dest (bytes_in (range_of src count) p.memory) e is
+accepted_short k pid p (calls.Forward m from to) e fit is = forward_short k pid m from to e is
 accepted_short k pid p (calls.MoveTo partner dest src count) e fit is =
     let c : Call = calls.MoveTo partner dest src count in
     let bytes = bytes_in (range_of src count) p.memory in
@@ -320,7 +329,7 @@ packet_few host r (Reply from to number m dest bytes) lawful short = omega arith
 packet_few host r (Pending from to number) lawful short = omega arith
 packet_few host r (Negative from to number) lawful short = omega arith
 packet_few host r (MoveData from to number moving dest total offset bytes) lawful short =
-    few_by _ (far_sender r.view (name_of to number) from) _
+    few_by _ (far_partner r.view (name_of to number) from) _
     (λ w. cond_both (may_be_written dest total w) (data_outcome (name_of to number) from moving total offset bytes w.exchange) nothing SendsFew
     (λ h. data_few (name_of to number) from moving total offset bytes w.exchange) (λ h. omega arith))
     (no_sender_few r.view (name_of to number) from moving)
@@ -334,7 +343,7 @@ packet_few host r (MoveAck from to number moving received) lawful short =
     (omega arith)
 packet_few host r (MoveRequest from to number moving src total offset) lawful short =
     let most = (place_is total offset (fits_is (MoveRequest from to number moving src total offset) lawful)).most in
-    few_by _ (far_sender r.view (name_of to number) from) _
+    few_by _ (far_partner r.view (name_of to number) from) _
     (λ w. cond_both (may_be_read src total w) (request_outcome (name_of to number) from moving src total offset w) nothing SendsFew
     (λ h. request_few (name_of to number) from moving src total offset w most) (λ h. omega arith))
     (no_sender_few r.view (name_of to number) from moving)

@@ -7,13 +7,14 @@ mod Delivering
 mod Entries
 mod Events
 mod FewFrames
-mod Followed
 mod Happening
 mod Hearing
 mod InOrder
 mod InTurn
+mod Lasting
 mod Limits
 mod Naming
+mod Pools
 mod Receiving
 mod Remembering
 mod Rooms

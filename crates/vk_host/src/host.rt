@@ -3,7 +3,7 @@
 ghost use Rattle.std.specs.Prelude.{◌≡◌, ◌<◌, ◌≤◌, ◌+◌, ◌-◌, ◌^◌, List, [], length, max, min, slice_get, true, None, Some, IfOk};
 ghost use Rattle.v_lawful.specs.Sending.{most_packets};
 ghost use Rattle.vk_base.specs.declared.limits.TheConstants.{DATA_BYTES, STEPS};
-ghost use Rattle.vk_base.specs.Settings.{Settings, refusal_of};
+ghost use Rattle.vk_base.specs.Settings.{Settings};
 ghost use Rattle.vk_base.specs.Steps.{is_allowed};
 ghost use Rattle.vk_packet.specs.Posts.{framed};
 ghost use Rattle.vk_rules.specs.Entries.{Called, Collected, Delivered, Entry, Ticked};
@@ -11,22 +11,19 @@ ghost use Rattle.vk_rules.specs.Frames.{number_in, unsealed_of};
 ghost use Rattle.vk_rules.specs.Readings.{reading};
 ghost use Rattle.vk_host.specs.Opened.{unsealed_as};
 ghost use Rattle.vk_host.specs.Responses.{answer_of, loaded};
-ghost use Rattle.vk_host.specs.Standing.{IsAt, IsEvent, StandsSomewhere};
+ghost use Rattle.vk_host.specs.Standing.{IsAt, IsEvent};
 ghost use Rattle.vk_host.specs.Values.{has, input_of, is_own, most_before};
 
 use crate::desk::Desk;
-use crate::following::due_places;
 use crate::frames::seal;
 use crate::opening::{Opened, next_number, number_after, open_frame};
 use crate::response::{Response, loaded};
 use crate::{calls, deliveries, ticks};
 use std::alloc::Global;
 use std::marker::Model;
-use vk_base::limits::STATION_PROCESSES;
 use vk_base::{Call, Config, EventAnswer, NoMemory, Outcome, Pid, Refusal, StationEvent, Step};
 use vk_brief::{BriefCall, CallView, Steps};
 use vk_packet::Outbox;
-use vk_timer::Wheel;
 
 /// One station with its kernel: its tables and counts, and the steps of its last event and its packets, each in its frame.
 #[derive(Drop)]
@@ -34,21 +31,18 @@ pub struct Host {
     number: u64,
     events: u64,
     desk: Desk,
-    wheel: Wheel,
-    /// Whether something happened since the wheel was told what the processes wait for.
-    stale: bool,
 }
 
 impl Model for Host {
     ghost use Rattle.vk_host.specs.Desks.{value_in};
-    ghost use Rattle.vk_host.specs.Following.{IsFollowed};
+    ghost use Rattle.vk_host.specs.Standing.{StandsSomewhere};
     ghost use Rattle.vk_host.specs.Values.{StationValue};
 
     ghost Value = { StationValue };
 
     ghost view = { λ h. value_in h.desk h.number h.events };
 
-    ghost invariant = { λ h. IsFollowed h.stale h.desk.now h.desk.procs h.wheel };
+    ghost invariant = { λ h. StandsSomewhere (value_in h.desk h.number h.events) };
 }
 
 impl Host {
@@ -59,25 +53,22 @@ impl Host {
     ///
     /// [`NoMemory`] where memory is wanting.
     pub fn new(alloc: Global, config: &Config, host: u16) -> Result<Self, NoMemory>
-        requires lawful { refusal_of config.now.times config.now.pool config.now.specs ≡ None }
         requires some_host { 0 < host }
         requires one_host { host < 65535 }
         ensures stands { IfOk result (λ h. IsAt config.now [] h) }
         ensures host { IfOk result (λ h. h.host ≡ host) }
     {
+        let _lawful = config.times();
         Ok(Host {
             number: 0,
             events: 0,
             desk: Desk::new(alloc, config, host)?,
-            wheel: Wheel::new(alloc, STATION_PROCESSES as u32)?,
-            stale: true,
         })
     }
 
     /// One event: a call or a collect of a process of the station, a tick, or a frame that comes, whatever its bytes are. Takes no
     /// memory.
     pub fn event(&mut self, event: &StationEvent) -> EventAnswer
-        requires somewhere { StandsSomewhere self.old }
         requires few { self.old.events < most_before event.now }
         requires own { is_own self.old event.now ≡ true }
         ensures event { IsEvent self.old self.new (input_of event.now) result }
@@ -104,7 +95,6 @@ impl Host {
     }
 
     fn respond(&mut self, event: &StationEvent) -> Response
-        requires somewhere { StandsSomewhere self.old }
         requires few { self.old.events < most_before event.now }
         requires own { is_own self.old event.now ≡ true }
         ensures event { IsEvent self.old self.new (input_of event.now) (answer_of self.new result) }
@@ -120,7 +110,6 @@ impl Host {
     }
 
     fn make(&mut self, pid: Pid, call: &Call) -> Response
-        requires somewhere { StandsSomewhere self.old }
         requires few { self.old.events < 2 ^ 48 }
         requires own { has self.old pid ≡ true }
         ensures event { IsEvent self.old self.new (Called pid call.now) (answer_of self.new result) }
@@ -133,7 +122,6 @@ impl Host {
 
     /// The event that the process makes the call. Takes no memory.
     pub fn call(&mut self, pid: Pid, call: &CallView) -> Response
-        requires somewhere { StandsSomewhere self.old }
         requires few { self.old.events < 2 ^ 48 }
         requires own { has self.old pid ≡ true }
         ensures event { IsEvent self.old self.new (Called pid call.now) (answer_of self.new result) }
@@ -141,7 +129,6 @@ impl Host {
         ensures steps { length self.new.doing.steps ≤ STEPS }
     {
         count(&mut self.events, &mut self.number);
-        self.stale = true;
         let response = calls::call(&mut self.desk, pid, call);
         seal(
             &mut self.desk.out,
@@ -156,7 +143,6 @@ impl Host {
 
     /// The event that the process collects its answer. Takes no memory.
     pub fn collect(&mut self, pid: Pid) -> Response
-        requires somewhere { StandsSomewhere self.old }
         requires few { self.old.events < 2 ^ 48 }
         requires own { has self.old pid ≡ true }
         ensures event { IsEvent self.old self.new (Collected pid) (answer_of self.new result) }
@@ -164,7 +150,6 @@ impl Host {
         ensures steps { length self.new.doing.steps ≤ STEPS }
     {
         count(&mut self.events, &mut self.number);
-        self.stale = true;
         let outcome = calls::collect(&mut self.desk, pid);
         are_few(&self.desk.steps, &self.desk.out);
         match outcome {
@@ -179,16 +164,13 @@ impl Host {
 
     /// The event that the station's clock ticks. Takes no memory.
     pub fn tick(&mut self) -> Response
-        requires somewhere { StandsSomewhere self.old }
         requires few { self.old.events + 1 < 2 ^ 48 }
         ensures event { IsEvent self.old self.new Ticked (answer_of self.new result) }
         ensures frames { length self.new.frames ≤ most_packets Ticked }
         ensures steps { length self.new.doing.steps ≤ STEPS }
     {
         count(&mut self.events, &mut self.number);
-        let due = due_places(&mut self.wheel, self.stale, &self.desk.procs, self.desk.now);
-        self.stale = due != 0;
-        let now = ticks::tick(&mut self.desk, due);
+        let now = ticks::tick(&mut self.desk);
         seal(
             &mut self.desk.out,
             self.desk.host,
@@ -202,7 +184,6 @@ impl Host {
 
     /// The event that these bytes come, a frame or not. Takes no memory.
     pub fn deliver(&mut self, bytes: &[u8]) -> Response
-        requires somewhere { StandsSomewhere self.old }
         requires few { self.old.events < 2 ^ 48 }
         ensures event { IsEvent self.old self.new (Delivered (unsealed_of bytes.now)) (answer_of self.new result) }
         ensures frames { length self.new.frames ≤ most_packets (Delivered (unsealed_of bytes.now)) }
@@ -210,7 +191,6 @@ impl Host {
     {
         let opened = open_frame(bytes);
         count_frame(&mut self.events, &mut self.number, &opened);
-        self.stale = true;
         let judged = deliveries::deliver(&mut self.desk, &opened);
         seal(
             &mut self.desk.out,

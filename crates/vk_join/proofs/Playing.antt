@@ -19,7 +19,7 @@ use Rattle.vk_rules.proofs.Rising.{events_are}
 use Rattle.v_lawful.specs.Sending.{IsFaultless, IsInput}
 use Rattle.v_lawful.proofs.Faultless.{configs_are_faultless}
 use Rattle.vk_host.specs.Sealed.{sealed}
-use Rattle.vk_host.specs.Standing.{IsAt, IsEvent, StandsSomewhere}
+use Rattle.vk_host.specs.Standing.{IsAt, IsEvent}
 use Rattle.vk_host.specs.Values.{StationValue, input_of, is_own, most_before}
 use Rattle.vk_cluster.specs.declared.emitted.TheConstants.{EVENT_BYTES}
 use Rattle.vk_cluster.specs.declared.frames.TheConstants.{MOST_BYTES}
@@ -153,9 +153,6 @@ module _ {c : Settings} {all : List StationLog} {position : Position} {l : Stati
 
   host_is : (s : StationValue) → slice_get r.hosts.items place ≡ Some s → s.host ≡ l.host
   host_is s here = host_at c (before_event c all n l at) r.hosts.items (pile_of r.emitted) place l.host s p.next.played.at here p.next.station
-
-  pub somewhere : (s : StationValue) → slice_get r.hosts.items place ≡ Some s → StandsSomewhere s
-  somewhere s here = (c, before_event c all n l at s.host, p.next.played.at.at place s here)
 
   -- the station has fewer entries than its log has events
   short_at : length (before_event c all n l at l.host) ≤ 100000

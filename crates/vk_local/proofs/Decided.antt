@@ -1,6 +1,7 @@
 -- What the tables refuse, the kernel refuses, in the view that they stand for.
-use Rattle.std.proofs.Common.{◌≡◌, ℕ, Bool, true, cond, ◌&&◌, not, nat_lt, List, [], ◌∷◌, Option, Some, None, refl, sym, ap, ◌∙◌}
+use Rattle.std.proofs.Common.{◌≡◌, ℕ, Bool, true, false, cond, ◌&&◌, not, nat_lt, List, [], ◌∷◌, Option, Some, None, refl, sym, ap, ◌∙◌}
 use Rattle.std.specs.Option.{is_none, option_map}
+use Rattle.std.proofs.lemmas.Bool.{both_ways, eq-eqb, eqb-true}
 use Rattle.std.proofs.lemmas.Option.{none-some}
 use Rattle.vk_base.specs.declared.activity.Activity.TheVariants as activities
 use Rattle.vk_base.specs.declared.activity.Waiting.{Waiting}
@@ -28,11 +29,12 @@ use Rattle.vk_stands.specs.Fit.{AreFit}
 use Rattle.vk_stands.specs.Held.{Holding, local_holding}
 use Rattle.vk_stands.specs.Stands.{Stands}
 use Rattle.vk_stands.specs.Tables.{Tables}
+use Rattle.vk_stands.proofs.Found.{seat_found}
 use Rattle.vk_stands.proofs.Held.{IsHolding, held_here, message_held, none_held}
 use Rattle.vk_local.specs.declared.access.Access.{Access}
 use Rattle.vk_local.specs.declared.access.Segment.{Segment}
 use Rattle.vk_local.specs.Access.{access_refusal, grants, has_range, may_use, not_awaiting, own_range}
-use Rattle.vk_local.specs.Calls.{move_access, move_call, receive_refusal, reply_access, send_refusal}
+use Rattle.vk_local.specs.Calls.{forward_refusal, move_access, move_call, receive_refusal, reply_access, send_refusal}
 
 -- A process that may call: it is in its seat, alive and ready.
 pub record MayCall (seats : List Seat) (pid : Pid) (s : Seat) : Type 0 where
@@ -140,6 +142,26 @@ module _ (times : Times) (host : ℕ) (t : Tables) (r : Reading) (h : Stands tim
       (let mine = own_is t.seats pid s (segment_of m).start (segment_of m).len may.found in
       let live = sym (live_is (seat_in t.seats target)) ∙ ap is_live (sym (h.procs target here)) in
       λ i. first_that_holds ((not (mine i), refusals.BadSegment) ∷ (sym near i && not (live i), refusals.NoProcess) ∷ []))
+
+  -- a process of another station is none of the tables
+  pub near_live : (to : Pid) (b : Bool) → same_host pid to ≡ b → (b && is_live (k.procs to)) ≡ is_live_in (seat_in t.seats to)
+  near_live to true near =
+      ap is_live (h.procs to (sym (eqb-true pid.host to.host near) ∙ own)) ∙ live_is (seat_in t.seats to)
+  near_live to false far = sym (ap is_live_in (foreign (seat_in t.seats to) refl))
+    where
+      foreign : (o : Option Seat) → seat_in t.seats to ≡ o → o ≡ None
+      foreign None none = refl
+      foreign (Some x) some =
+          let place = seat_found t.seats to x some in
+          absurd (both_ways (same_host pid to) far
+          (eq-eqb pid.host to.host (own ∙ sym (fit.seats place.at x place.here).own ∙ ap (λ (p : Pid). p.host) place.named)))
+
+  pub forward_decided : (from : Pid) (m : Message) (to : Pid) → from.host ≡ host →
+      forward_refusal t.seats pid from to ≡ call_refusal k pid (process_of s) (calls.Forward m from to)
+  forward_decided from m to there = decided (calls.Forward m from to) (forward_refusal t.seats pid from to)
+      (let none = none_held k pid from (local_holding t.seats pid from) (holding from there) in
+      let live = near_live to (same_host pid to) refl in
+      λ i. first_that_holds ((sym none i, refusals.NotAwaiting) ∷ (not (sym live i), refusals.NoProcess) ∷ []))
 
   pub receive_decided : (w : Waiting) → as_receive w ≡ Some w →
       receive_refusal t.seats pid w ≡ call_refusal k pid (process_of s) (call_of w)

@@ -31,7 +31,7 @@ use Rattle.vk_stands.proofs.ExitStands.{exit_answer, exit_packets_are, exit_stan
 use Rattle.vk_stands.proofs.Seats.{placed}
 use Rattle.vk_local.specs.Done.{IsExit}
 use Rattle.vk_local.specs.Exits as exits
-use Rattle.vk_local.specs.Exits.{is_left, left_in, left_of, negatives, told_left, told_slot}
+use Rattle.vk_local.specs.Exits.{is_left, left_in, left_of, negatives, sent_by, told_left, told_slot}
 use Rattle.vk_local.specs.Rules.{IsExitRule, may_call}
 use Rattle.vk_local.proofs.Decided.{MayCall, ready_refusal}
 use Rattle.vk_local.proofs.Rules.{at_times, may_be}
@@ -44,14 +44,14 @@ record Whole : Type 0 where
   out : Posts
 
 -- whom it tells, by the tables
-told_by : (pid : Pid) (a : Alien) (b : Bool) →
-    (if b then Negative pid a.sender a.number ∷ [] else []) ≡ told_left pid (if b then Some (a.sender, a.number) else None)
-told_by pid a true = refl
-told_by pid a false = refl
+told_by : (a : Alien) (b : Bool) →
+    (if b then Negative a.target a.sender a.number ∷ [] else []) ≡ told_left (if b then Some (sent_by a) else None)
+told_by a true = refl
+told_by a false = refl
 
 told_is : (pid : Pid) (slot : Option Alien) → told_for pid slot ≡ told_slot pid slot
 told_is pid None = refl
-told_is pid (Some a) = told_by pid a (is_left pid a)
+told_is pid (Some a) = told_by a (is_left pid a)
 
 all_told : (pid : Pid) (slots : List (Option Alien)) → flat_map (told_for pid) slots ≡ negatives pid slots
 all_told pid [] = refl

@@ -12,7 +12,8 @@ use Rattle.vk_pool.specs.declared.alien.Alien.{Alien}
 use Rattle.vk_pool.specs.Aliens.{alien_at, refused}
 use Rattle.vk_queue.specs.Lists.{Lists, queue_at, with_list}
 use Rattle.vk_stands.specs.Rules.{post_of, posted}
-use Rattle.vk_local.specs.Exits.{after_left, is_left, left_of, left_slots, negatives, slots_left, told_left, told_slot}
+use Rattle.vk_local.specs.declared.exits.Left.{Left}
+use Rattle.vk_local.specs.Exits.{after_left, is_left, left_of, left_slots, negatives, sent_by, slots_left, told_left, told_slot}
 
 set_same : {X : Type 0} (xs : List X) (n : ℕ) (d : X) → set xs n (get_or xs n d) ≡ xs
 set_same [] n d = refl
@@ -47,9 +48,9 @@ pub posted_twice : (o : Posts) (ps qs : List Packet) → posted (posted o ps) qs
 posted_twice o ps qs = ap (λ posts. record o { posts = posts })
     (append_assoc o.posts (map post_of ps) (map post_of qs) ∙ ap (λ xs. o.posts ++ xs) (sym (map-append post_of ps qs)))
 
-told_few : (pid : Pid) (o : Option (Pid × ℕ)) → length (told_left pid o) ≤ 1
-told_few pid None = omega arith
-told_few pid (Some x) = omega arith
+told_few : (o : Option Left) → length (told_left o) ≤ 1
+told_few None = omega arith
+told_few (Some x) = omega arith
 
 -- The slots before this one were left by the process that exits.
 pub record IsLeftTo (pid : Pid) (now n : ℕ) (old slots : List (Option Alien)) (before after : Posts) : Type 0 where
@@ -60,7 +61,7 @@ pub record IsLeftTo (pid : Pid) (now n : ℕ) (old slots : List (Option Alien)) 
 -- one slot more
 changed_by : (slots : List (Option Alien)) (pid : Pid) (n now : ℕ) (a : Alien) (b : Bool) → is_left pid a ≡ b →
     alien_at slots n ≡ Some a →
-    slots_left slots n now (cond b (Some (a.sender, a.number)) None) ≡ set slots n (Some (cond b (refused now a) a))
+    slots_left slots n now (cond b (Some (sent_by a)) None) ≡ set slots n (Some (cond b (refused now a) a))
 changed_by slots pid n now a true is at = ap (λ o. set slots n (option_map (refused now) o)) at
 changed_by slots pid n now a false is at = sym (ap (set slots n) (sym at) ∙ set_same slots n None)
 
@@ -84,7 +85,7 @@ left_first pid now old o = record {
 
 pub left_more : (pid : Pid) (now n : ℕ) (old slots new : List (Option Alien)) (o before after : Posts) →
     IsLeftTo pid now n old slots o before → new ≡ slots_left slots n now (left_of pid (alien_at slots n)) →
-    after ≡ posted before (told_left pid (left_of pid (alien_at slots n))) → IsLeftTo pid now (n + 1) old new o after
+    after ≡ posted before (told_left (left_of pid (alien_at slots n))) → IsLeftTo pid now (n + 1) old new o after
 left_more pid now n old slots new o before after h is told =
     let here : alien_at slots n ≡ alien_at old n =
     ap (λ xs. get_or xs n None) h.kept ∙ at_next (option_map (after_left pid now)) None old n in
@@ -100,9 +101,9 @@ left_more pid now n old slots new o before after h is told =
           ∙ posted_twice o (negatives pid (take n old)) (told_slot pid (alien_at old n))
           ∙ ap (posted o) (told_next pid old n) ∙ ap (λ k. posted o (negatives pid (take k old))) next;
       few = subst (λ (p : Posts). length p.posts ≤ length o.posts + (n + 1)) (sym told)
-          (let few : length (posted before (told_left pid (left_of pid (alien_at slots n)))).posts ≤ length o.posts + n + 1 =
-          told_length before (told_left pid (left_of pid (alien_at slots n))) 1 (length o.posts + n)
-          (told_few pid (left_of pid (alien_at slots n))) h.few in
+          (let few : length (posted before (told_left (left_of pid (alien_at slots n)))).posts ≤ length o.posts + n + 1 =
+          told_length before (told_left (left_of pid (alien_at slots n))) 1 (length o.posts + n)
+          (told_few (left_of pid (alien_at slots n))) h.few in
           omega (arith, few));
     }
 

@@ -1,6 +1,8 @@
 mod Copied
 pub mod Decided
 mod ExitRules
+mod ForwardRules
+mod Forwarded
 mod Fronts
 pub mod Leaving
 mod MoveRules

@@ -83,7 +83,7 @@ module _ (c : Settings) (host : ℕ) (t : Tables) (r : Reading) (h : Stands c.ti
     at = h.procs to there ∙ ap (option_map process_of) partner.found
 
     apart : same_pid pid to ≡ false
-    apart = partner_apart t.seats pid to s partner.seat partner.message may partner.found partner.waits
+    apart = partner_apart t.seats pid to s partner.seat partner.target partner.message may partner.found partner.waits
 
     abbrev l : Kernel
     l = with_memory r.view to (process_of partner.seat) (with_bytes partner.seat.memory g.dest (bytes_in
@@ -122,7 +122,7 @@ module _ (c : Settings) (host : ℕ) (t : Tables) (r : Reading) (h : Stands c.ti
         (sym (move_decided c.times host t r h fit pid own s may directions.From to g there) ∙ free)
 
     apart_from : same_pid to pid ≡ false
-    apart_from = same_pid_laws.symm to pid ∙ partner_apart t.seats pid to s giver.seat giver.message may giver.found giver.waits
+    apart_from = same_pid_laws.symm to pid ∙ partner_apart t.seats pid to s giver.seat giver.target giver.message may giver.found giver.waits
 
     own_room : lies_in (range_of g.dest g.count) (length s.memory) ≡ true
     own_room = mine_is host t fit pid s may to from_access free

@@ -52,12 +52,13 @@ free_of false false true false own is = absurd (none-some refusals.BadRange (sym
 free_of false false true true false is = absurd (none-some refusals.BadRange (sym is))
 free_of false false true true true is = record { some = refl; lets_is = refl; granted_is = refl; own_is = refl }
 
--- The partner of an access that is not refused: it waits in a Send to the caller, and the range lies in its memory.
+-- The partner of an access that is not refused: it waits in a Send whose message the caller has taken, and the range lies in its memory.
 pub record IsPartner (seats : List Seat) (pid to : Pid) (a : Access) : Type 0 where
   pub seat : Seat
   pub found : seat_in seats to ≡ Some seat
+  pub target : Pid
   pub message : Message
-  pub waits : seat.doing ≡ activities.Blocked (waitings.Send pid message)
+  pub waits : seat.doing ≡ activities.Blocked (waitings.Send target message)
   pub taken : seat.note.taken ≡ true
   pub granted : lies_in (range_of a.granted a.count) (length seat.memory) ≡ true
 
@@ -82,11 +83,12 @@ module _ (host : ℕ) (t : Tables) (fit : AreFit host t) (pid : Pid) (s : Seat) 
       record {
         seat = x.0;
         found = x.1;
+        target = x.2.target;
         message = g.message;
         waits = x.2.waits;
         taken = x.2.taken;
         granted = within_lies a.granted a.count (length x.0.memory) (segment_of g.message) granted
-            ((fit.seats at.at x.0 at.here).waits (waitings.Send pid g.message) x.2.waits);
+            ((fit.seats at.at x.0 at.here).waits (waitings.Send x.2.target g.message) x.2.waits);
       }
 
   pub partner_is : IsPartner t.seats pid to a
@@ -99,11 +101,11 @@ module _ (host : ℕ) (t : Tables) (fit : AreFit host t) (pid : Pid) (s : Seat) 
   mine_is = sym (ap (holds_of (has_range a.own a.count)) may.found) ∙ all.own_is
 
 -- a process that is ready is none that waits
-pub partner_apart : (seats : List Seat) (pid to : Pid) (s x : Seat) (m : Message) → MayCall seats pid s → seat_in seats to ≡ Some x →
-    x.doing ≡ activities.Blocked (waitings.Send pid m) → same_pid pid to ≡ false
-partner_apart seats pid to s x m may found waits = false_from_ne_true (same_pid pid to) (λ t.
+pub partner_apart : (seats : List Seat) (pid to : Pid) (s x : Seat) (target : Pid) (m : Message) → MayCall seats pid s →
+    seat_in seats to ≡ Some x → x.doing ≡ activities.Blocked (waitings.Send target m) → same_pid pid to ≡ false
+partner_apart seats pid to s x target m may found waits = false_from_ne_true (same_pid pid to) (λ t.
     let one : s ≡ x = same_Some s x (sym may.found ∙ ap (seat_in seats) (same_pid_is pid to t) ∙ found) in
-    let both : activities.Ready ≡ activities.Blocked (waitings.Send pid m) =
+    let both : activities.Ready ≡ activities.Blocked (waitings.Send target m) =
     sym may.ready ∙ ap (λ (z : Seat). z.doing) one ∙ waits in
     absurd (cc))
 

@@ -11,21 +11,19 @@ use Rattle.vk_base.specs.declared.kernel.Direction.TheVariants as directions
 use Rattle.vk_base.specs.declared.limits.TheConstants.{STATION_PROCESSES}
 use Rattle.vk_base.specs.declared.message.Message.{Message}
 use Rattle.vk_base.specs.declared.pid.Pid.{Pid}
-use Rattle.vk_base.specs.Activities.{state_of}
 use Rattle.vk_base.specs.Firsts.{change_first}
-use Rattle.vk_base.specs.Kernel.{sending}
 use Rattle.vk_pool.specs.declared.alien.Alien.{Alien}
 use Rattle.vk_pool.specs.Aliens.{alien_at}
 use Rattle.vk_procs.specs.declared.seat.Passed.TheVariants as gifts
 use Rattle.vk_procs.specs.declared.seat.Seat.{Seat}
-use Rattle.vk_procs.specs.Seats.{begun_send, bereft, doing_now, finished, is_seat, killed, marked_taken, pids, reached}
+use Rattle.vk_procs.specs.Seats.{begun_send, bereft, doing_now, finished, handed_on, is_seat, killed, marked_taken, pids, reached}
 use Rattle.vk_procs.proofs.PidsStay.{bereft_pid, pids_changed, pids_if, pids_mapped, pids_passed, reached_pid}
 use Rattle.vk_stands.specs.Tables.{Tables}
 use Rattle.vk_local.specs.declared.access.Segment.{Segment}
 use Rattle.vk_local.specs.Access.{access_refusal, not_awaiting}
-use Rattle.vk_local.specs.Calls.{after_move, after_receive, after_reply, after_reply_segment, after_send, awaited, begun, bytes_passed, move_access, moved_seats, receive_refusal, received, replied_seats, reply_access, send_refusal, sent, unless}
+use Rattle.vk_local.specs.Calls.{after_forward, after_move, after_receive, after_reply, after_reply_segment, after_send, awaited, begun, bytes_passed, forward_refusal, forwarded, handed_over, move_access, moved_seats, receive_refusal, received, replied_seats, reply_access, send_refusal, sent, unless}
 use Rattle.vk_local.specs.Exits.{exited_seats}
-use Rattle.vk_local.specs.Takes.{alien_taken, front_of, local_taken, seats_at, sent_taken, served_seats}
+use Rattle.vk_local.specs.Takes.{alien_taken, front_of, local_taken, seats_at, served_seats}
 
 pids_unless : (o : Option Refusal) (changed seats : List Seat) → pids changed ≡ pids seats → pids (unless o changed seats) ≡ pids seats
 pids_unless None changed seats same = same
@@ -59,20 +57,16 @@ pids_moved way seats pid partner s =
     (pids_copied way seats pid partner s)
 
 -- A Take.
-pids_sent_taken : (seats : List Seat) (pid : Pid) (s : Seat) (o : Option (Pid × Message)) → pids (sent_taken seats pid s o) ≡ pids seats
-pids_sent_taken seats pid s None = refl
-pids_sent_taken seats pid s (Some to) =
-    pids_passed s.pid pid (gifts.Message to.1) (change_first (is_seat s.pid) marked_taken seats)
-    ∙ pids_changed marked_taken (λ x. refl) (is_seat s.pid) seats
-
 pids_local_taken : (seats : List Seat) (pid : Pid) (s : Option Seat) → pids (local_taken seats pid s) ≡ pids seats
 pids_local_taken seats pid None = refl
-pids_local_taken seats pid (Some s) = pids_sent_taken seats pid s (sending (state_of s.doing))
+pids_local_taken seats pid (Some s) =
+    pids_passed s.pid pid (gifts.Message s.shown) (change_first (is_seat s.pid) marked_taken seats)
+    ∙ pids_changed marked_taken (λ x. refl) (is_seat s.pid) seats
 
 pids_alien_taken : (seats : List Seat) (pid : Pid) (a : Option Alien) → pids (alien_taken seats pid a) ≡ pids seats
 pids_alien_taken seats pid None = refl
 pids_alien_taken seats pid (Some a) =
-    pids_changed (reached a.sender a.message a.part) (reached_pid a.sender a.message a.part) (is_seat pid) seats
+    pids_changed (reached a.sender a.shown a.part) (reached_pid a.sender a.shown a.part) (is_seat pid) seats
 
 pub pids_at : (seats : List Seat) (slots : List (Option Alien)) (pid : Pid) (slot : ℕ) → pids (seats_at seats slots pid slot) ≡ pids seats
 pids_at seats slots pid slot =
@@ -85,7 +79,7 @@ pub pids_served : (seats : List Seat) (slots : List (Option Alien)) (pid : Pid) 
 pids_served seats slots pid None = refl
 pids_served seats slots pid (Some slot) = pids_at seats slots pid slot
 
--- Sends and receives, each with the Take behind it.
+-- Sends, receives and Forwards, each with the Take behind it.
 pub pids_sent : (t : Tables) (pid target : Pid) (m : Message) → pids (after_send t pid target m).seats ≡ pids t.seats
 pids_sent t pid target m =
     let u : Tables = sent t pid target m in
@@ -99,6 +93,13 @@ pids_received t pid w =
     tables_unless (receive_refusal t.seats pid w) (awaited t pid w) t
     (pids_served u.seats u.slots pid (front_of u.seats u.lists pid)
     ∙ pids_changed (doing_now (activities.Blocked w)) (λ x. refl) (is_seat pid) t.seats)
+
+pub pids_forwarded : (t : Tables) (pid from : Pid) (m : Message) (to : Pid) → pids (after_forward t pid from m to).seats ≡ pids t.seats
+pids_forwarded t pid from m to =
+    let u : Tables = forwarded t from m to in
+    tables_unless (forward_refusal t.seats pid from to) (handed_over t from m to) t
+    (pids_served u.seats u.slots to (front_of u.seats u.lists to)
+    ∙ pids_changed (handed_on m to) (λ x. refl) (is_seat from) t.seats)
 
 -- An exit.
 pub pids_exited : (seats : List Seat) (pid : Pid) → pids (exited_seats seats pid) ≡ pids seats

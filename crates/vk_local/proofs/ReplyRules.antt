@@ -1,7 +1,7 @@
 -- Replies within the station are their right entries.
 use Rattle.std.proofs.Common.{◌≡◌, ℕ, true, false, List, [], ◌∷◌, ◌++◌, length, Option, Some, None, refl, sym, ap, subst, ◌∙◌, inl}
 use Rattle.std.specs.Option.{is_none, option_map}
-use Rattle.std.proofs.lemmas.Bool.{eqb-true}
+use Rattle.std.proofs.lemmas.Bool.{eq-eqb, eqb-true}
 use Rattle.vk_base.specs.declared.activity.Activity.TheVariants as activities
 use Rattle.vk_base.specs.declared.activity.Waiting.TheVariants as waitings
 use Rattle.vk_base.specs.declared.answer.Answer.TheVariants as answers
@@ -30,8 +30,8 @@ use Rattle.vk_rules.specs.Right.{answer_to, right_entry}
 use Rattle.vk_stands.specs.Fit.{AreFit}
 use Rattle.vk_stands.specs.Held.{Holding, local_holding}
 use Rattle.vk_stands.specs.Rules.{Makes}
-use Rattle.vk_stands.specs.Stands.{Stands}
-use Rattle.vk_stands.specs.Tables.{Tables, seat_name}
+use Rattle.vk_stands.specs.Stands.{IsSent, Stands}
+use Rattle.vk_stands.specs.Tables.{Spot, Tables, seat_name}
 use Rattle.vk_stands.proofs.Found.{seat_found}
 use Rattle.vk_stands.proofs.Held.{IsHolding, held_here}
 use Rattle.vk_stands.proofs.LocalReply.{answered_with, finish_next, landed, part_replied, reached_by_reply, replied_carries}
@@ -42,12 +42,14 @@ use Rattle.vk_local.proofs.Decided.{MayCall}
 use Rattle.vk_local.proofs.Moved.{seat_of}
 use Rattle.vk_local.proofs.Rules.{ok_makes}
 
--- The one that is replied to, by the tables and in the view.
+-- The one whose message the caller has taken, by the tables and in the view.
 pub record IsReplied (k : Kernel) (seats : List Seat) (pid to : Pid) : Type 0 where
   pub seat : Seat
   pub found : seat_in seats to ≡ Some seat
+  pub target : Pid
   pub message : Message
-  pub waits : seat.doing ≡ activities.Blocked (waitings.Send pid message)
+  pub waits : seat.doing ≡ activities.Blocked (waitings.Send target message)
+  pub near : same_host seat.pid target ≡ true
   pub exchange : Exchange
   pub held_is : held k pid to ≡ Some seat.note.sends
   pub is : k.exchanges (name_of to seat.note.sends) ≡ Some exchange
@@ -63,11 +65,18 @@ module _ (c : Settings) (host : ℕ) (t : Tables) (r : Reading) (h : Stands c.ti
   replied_by None is some holds = cc
   replied_by (Some g) is some holds =
       let x = seat_of t.seats pid to g is in
+      let v : IsSent r.view x.0 x.2.target g.message = h.waiting to x.0 (waitings.Send x.2.target g.message) x.1 x.2.waits in
+      let at : v.exchange.at ≡ pid = ap (λ (z : Spot). z.at) v.spot_is ∙ x.2.at in
       record {
         seat = x.0;
         found = x.1;
+        target = x.2.target;
         message = g.message;
         waits = x.2.waits;
+        near = eq-eqb x.0.pid.host x.2.target.host (ap (λ (p : Pid). p.host) (seat_found t.seats to x.0 x.1).named ∙ there ∙ sym own
+            ∙ ap (λ (p : Pid). p.host) (sym at)
+            ∙ sym (eqb-true v.exchange.target.host v.exchange.at.host (h.sound.near (seat_name x.0) v.exchange v.is))
+            ∙ ap (λ (p : Pid). p.host) v.target_is);
         exchange = holds.exchange;
         held_is = holds.held ∙ ap Some x.2.number;
         is = ap (λ n. r.view.exchanges (name_of to n)) (sym x.2.number) ∙ holds.is;
@@ -106,13 +115,13 @@ module _ (c : Settings) (host : ℕ) (t : Tables) (r : Reading) (h : Stands c.ti
     lands = landed dest bytes x.seat.memory lies
 
     abbrev after : Kernel
-    after = reached_by_reply r.view to x.seat x.exchange pid x.message m dest bytes
+    after = reached_by_reply r.view to x.seat x.exchange x.target x.message m dest bytes
 
     part : Part host t r.view
     part = part_of c.times host t r fit h
 
     leads : next l (steps.Finish to) ≡ after
-    leads = finish_next host t r.view part to there x.seat x.found pid x.message x.waits x.exchange at (inl x.taken) m dest bytes lands
+    leads = finish_next host t r.view part to there x.seat x.found x.target x.message x.waits x.exchange at (inl x.taken) m dest bytes lands
 
     sound : IsSoundAt (λ g. false) after
     sound = subst (IsSoundAt (λ g. false)) leads (sound_next l (steps.Finish to)
@@ -122,7 +131,7 @@ module _ (c : Settings) (host : ℕ) (t : Tables) (r : Reading) (h : Stands c.ti
     u = seated t to (answered_with m dest bytes)
 
     part_after : Part host u after
-    part_after = part_replied host t r.view part to there x.seat x.found pid x.message x.waits x.exchange at
+    part_after = part_replied host t r.view part to there x.seat x.found x.target x.message x.waits x.exchange at
         (inl x.taken) m dest bytes lands sound
 
     pub reply_makes : (before : List Step) (out : Posts) → Makes c host r (right_entry c host r (Called pid call))
@@ -130,7 +139,7 @@ module _ (c : Settings) (host : ℕ) (t : Tables) (r : Reading) (h : Stands c.ti
         (record { tables = u; steps = before ++ (steps.Call pid call ∷ steps.Finish to ∷ []); out = out })
     reply_makes before out = ok_makes c host t r h pid call before out l after (steps.Finish to ∷ []) u does (behind_is l)
         (none l) leads part_after
-        (replied_carries host t r.view part to there x.seat x.found pid x.message x.waits x.exchange at
+        (replied_carries host t r.view part to there x.seat x.found x.target x.message x.waits x.exchange at
         (inl x.taken) m dest bytes lands) refl
 
     pub reply_answer : events_answered.Answered answers.Ok ≡ answer_to c host r (Called pid call)

@@ -64,6 +64,21 @@ may_be seats pid t =
 posted_none : (out : Posts) → posted out [] ≡ out
 posted_none out = ap (λ posts. record out { posts = posts }) (append-nil out.posts)
 
+pub more_carried : (t u : Tables) → Carries 0 t u → Carries 1 t u
+more_carried t u carries = record {
+  seats = λ q y at. let x = carries.seats q y at in record {
+    old = x.old;
+    was = x.was;
+    sends = more y.note.sends x.old.note.sends x.sends;
+    lookups = more y.note.lookups x.old.note.lookups x.lookups;
+    work = x.work;
+  };
+  aliens = carries.aliens;
+}
+  where
+    more : (a b : ℕ) → a ≤ b + 0 → a ≤ b + 1
+    more a b low = omega arith
+
 module _ (c : Settings) (host : ℕ) (t : Tables) (r : Reading) (h : Stands c.times host t r) (pid : Pid) (call : Call) (before : List Step)
     (out : Posts) where
   -- refused
@@ -83,58 +98,45 @@ module _ (c : Settings) (host : ℕ) (t : Tables) (r : Reading) (h : Stands c.ti
       (answered l pid call answers.Ok))
       (steps_are : steps_behind l pid call (events_answered.Answered answers.Ok) ≡ behind)
       (none : packets_of r.view l r.slots pid call (events_answered.Answered answers.Ok) ≡ []) (leads : fold next l behind ≡ after)
-      (part : Part host u after) (carries : Carries 0 t u) (slots : u.slots ≡ t.slots) where
-    abbrev k : Kernel
-    k = next r.view (steps.Call pid call)
+      (part : Part host u after) (carries : Carries 0 t u) (read : map (option_map read_alien) u.slots ≡ map (option_map read_alien) t.slots)
+    where
+      abbrev k : Kernel
+      k = next r.view (steps.Call pid call)
 
-    abbrev a : EventAnswer
-    a = answer_to c host r (Called pid call)
+      abbrev a : EventAnswer
+      a = answer_to c host r (Called pid call)
 
-    answer_is : a ≡ events_answered.Answered answers.Ok
-    answer_is = ap effect_answer does
+      answer_is : a ≡ events_answered.Answered answers.Ok
+      answer_is = ap effect_answer does
 
-    kernel_is : k ≡ l
-    kernel_is = ap (after_effect r.view) does
+      kernel_is : k ≡ l
+      kernel_is = ap (after_effect r.view) does
 
-    behind_is : steps_behind k pid call a ≡ behind
-    behind_is = (λ i. steps_behind (kernel_is i) pid call (answer_is i)) ∙ steps_are
+      behind_is : steps_behind k pid call a ≡ behind
+      behind_is = (λ i. steps_behind (kernel_is i) pid call (answer_is i)) ∙ steps_are
 
-    packets_none : packets_of r.view k r.slots pid call a ≡ []
-    packets_none = (λ i. packets_of r.view (kernel_is i) r.slots pid call (answer_is i)) ∙ none
+      packets_none : packets_of r.view k r.slots pid call a ≡ []
+      packets_none = (λ i. packets_of r.view (kernel_is i) r.slots pid call (answer_is i)) ∙ none
 
-    carried : Carries 1 t u
-    carried = record {
-      seats = λ q y at. let x = carries.seats q y at in record {
-        old = x.old;
-        was = x.was;
-        sends = more y.note.sends x.old.note.sends x.sends;
-        lookups = more y.note.lookups x.old.note.lookups x.lookups;
-        work = x.work;
-      };
-      aliens = carries.aliens;
-    }
-      where
-        more : (a b : ℕ) → a ≤ b + 0 → a ≤ b + 1
-        more a b low = omega arith
+      ok_stands : Stands c.times host u (reading_for c host r (Called pid call))
+      ok_stands = stands_part c.times host t u r (reading_for c host r (Called pid call)) h
+          (subst (Part host u) (sym (called_view c host r pid call ∙ (λ i. fold next (kernel_is i) (behind_is i)) ∙ leads)) part)
+          (more_carried t u carries)
+          (record {
+            slots = called_slots c host r pid call (λ name. ap (list_any (is_closing name)) packets_none) ∙ h.slots
+                ∙ sym read;
+            events = events_are c host r (Called pid call);
+            works = λ q y w at blocked is. answered_works c host r pid call (ap is_begun answer_is) q;
+          })
 
-    ok_stands : Stands c.times host u (reading_for c host r (Called pid call))
-    ok_stands = stands_part c.times host t u r (reading_for c host r (Called pid call)) h
-        (subst (Part host u) (sym (called_view c host r pid call ∙ (λ i. fold next (kernel_is i) (behind_is i)) ∙ leads)) part) carried
-        (record {
-          slots = called_slots c host r pid call (λ name. ap (list_any (is_closing name)) packets_none) ∙ h.slots
-              ∙ sym (ap (map (option_map read_alien)) slots);
-          events = events_are c host r (Called pid call);
-          works = λ q y w at blocked is. answered_works c host r pid call (ap is_begun answer_is) q;
-        })
-
-    pub ok_makes : Makes c host r (right_entry c host r (Called pid call)) (record { tables = t; steps = before; out = out })
-        (record { tables = u; steps = before ++ (steps.Call pid call ∷ behind); out = out })
-    unfolding call_outcome
-    ok_makes = record {
-      steps = ap (λ ss. before ++ ss) (sym (called_steps c host r pid call ∙ ap (λ ss. steps.Call pid call ∷ ss) behind_is));
-      packets = sym (ap (posted out) (packets_are c host r (Called pid call) ∙ packets_none) ∙ posted_none out);
-      stands = ok_stands;
-    }
+      pub ok_makes : Makes c host r (right_entry c host r (Called pid call)) (record { tables = t; steps = before; out = out })
+          (record { tables = u; steps = before ++ (steps.Call pid call ∷ behind); out = out })
+      unfolding call_outcome
+      ok_makes = record {
+        steps = ap (λ ss. before ++ ss) (sym (called_steps c host r pid call ∙ ap (λ ss. steps.Call pid call ∷ ss) behind_is));
+        packets = sym (ap (posted out) (packets_are c host r (Called pid call) ∙ packets_none) ∙ posted_none out);
+        stands = ok_stands;
+      }
 
 -- A call of this answer, after which the processes are these and the steps those.
 pub record IsDone (c : Settings) (host : ℕ) (r : Reading) (pid : Pid) (call : Call) (t : Tables) (before : List Step) (out : Posts)
@@ -187,21 +189,6 @@ seats_rule pid call due left made p seats new before after may is f = λ times n
         let s = may_be t.seats pid (ap (λ xs. may_call xs pid) same ∙ may) in
         done_as c pid.host r pid call t before out (due t.seats) (left t.seats) (made t.seats) p new after (f c t r s.0 out h fit s.1)
         (subst (λ xs. LeavesSeats (due xs) (left xs) (made xs) p new before after) (sym same) is)
-
-pub more_carried : (t u : Tables) → Carries 0 t u → Carries 1 t u
-more_carried t u carries = record {
-  seats = λ q y at. let x = carries.seats q y at in record {
-    old = x.old;
-    was = x.was;
-    sends = more y.note.sends x.old.note.sends x.sends;
-    lookups = more y.note.lookups x.old.note.lookups x.lookups;
-    work = x.work;
-  };
-  aliens = carries.aliens;
-}
-  where
-    more : (a b : ℕ) → a ≤ b + 0 → a ≤ b + 1
-    more a b low = omega arith
 
 -- A call of this answer, after which the tables are these and the steps those.
 pub record IsPlayed (c : Settings) (host : ℕ) (r : Reading) (pid : Pid) (call : Call) (t : Tables) (before : List Step) (out : Posts)

@@ -86,7 +86,7 @@ module _ (c : Settings) (host : ℕ) (t : Tables) (r : Reading) (h : Stands c.ti
         ∙ partner.granted
 
     apart : same_pid pid to ≡ false
-    apart = partner_apart t.seats pid to s partner.seat partner.message may partner.found partner.waits
+    apart = partner_apart t.seats pid to s partner.seat partner.target partner.message may partner.found partner.waits
 
     seats_are : replied_seats (bytes_passed t.seats pid to g) to m ≡ change_first (is_seat to) (answered_with m g.dest bytes) t.seats
     seats_are =

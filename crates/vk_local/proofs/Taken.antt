@@ -12,10 +12,10 @@ use Rattle.vk_base.specs.declared.message.Message.{Message}
 use Rattle.vk_base.specs.declared.pid.Pid.{Pid}
 use Rattle.vk_base.specs.declared.step.Step.{Step}
 use Rattle.vk_base.specs.declared.step.Step.TheVariants as steps
-use Rattle.vk_base.specs.Activities.{receive_in, state_of}
+use Rattle.vk_base.specs.Activities.{receive_in}
 use Rattle.vk_base.specs.Calls.{unseen}
 use Rattle.vk_base.specs.Firsts.{change_first}
-use Rattle.vk_base.specs.Kernel.{◌>>=◌, Kernel, sending}
+use Rattle.vk_base.specs.Kernel.{◌>>=◌, Kernel}
 use Rattle.vk_base.specs.Pids.{same_pid}
 use Rattle.vk_base.specs.Steps.{Taking, after_effect, next, taken, taking}
 use Rattle.v_laws.proofs.Options.{mapped_is}
@@ -36,7 +36,7 @@ use Rattle.vk_stands.proofs.Seats.{find-changed, placed}
 use Rattle.vk_stands.proofs.Served.{alien_served, alien_served_carries, alien_served_read, local_served, local_served_carries, part_alien_served, part_local_served, taken_local, taking_first, taking_idle, taking_none}
 use Rattle.vk_stands.proofs.Takings.{TakenFrom, front_name}
 use Rattle.vk_stands.proofs.Whole.{same_work}
-use Rattle.vk_local.specs.Takes.{alien_taken, front_at, front_by, front_of, local_taken, sent_taken, served, served_by, served_steps, without_first}
+use Rattle.vk_local.specs.Takes.{alien_taken, front_at, front_by, front_of, local_taken, served, served_by, served_steps, without_first}
 
 -- The tables and the steps after a Take, where there is one.
 pub record IsServed (host : ℕ) (t : Tables) (k : Kernel) (pid : Pid) (u : Tables) (ss : List Step) : Type 0 where
@@ -85,9 +85,9 @@ module _ (host : ℕ) (t : Tables) (k : Kernel) (part : Part host t k) (pid : Pi
     named : slot_name t.seats t.slots slot ≡ Some tk.name
     named = front_name t k pid tk at slot (part.queues pid at place) is front
 
-    apart : (x : Seat) (m : Message) → seat_in t.seats x.pid ≡ Some x → x.doing ≡ activities.Blocked (waitings.Send pid m) →
-        same_pid x.pid pid ≡ false
-    apart x m here sends = false_from_ne_true (same_pid x.pid pid) (λ same.
+    apart : (x : Seat) (target : Pid) (m : Message) → seat_in t.seats x.pid ≡ Some x →
+        x.doing ≡ activities.Blocked (waitings.Send target m) → same_pid x.pid pid ≡ false
+    apart x target m here sends = false_from_ne_true (same_pid x.pid pid) (λ same.
         let one : x ≡ s = same_Some x s (sym here ∙ ap (seat_in t.seats) (same_pid_is x.pid pid same) ∙ found) in
         none-some w (sym (ap receive_in (ap (λ (z : Seat). z.doing) (sym one) ∙ sends)) ∙ waits))
 
@@ -95,27 +95,25 @@ module _ (host : ℕ) (t : Tables) (k : Kernel) (part : Part host t k) (pid : Pi
         IsServed host t k pid (served_by t pid (Some slot)) (steps.Take pid ∷ [])
     local_by low x here =
         let from : TakenFrom k t pid tk x = taken_local host t k part pid own s found w waits at place slot front tk is low x here in
-        let m : Message = tk.exchange.message in
         let there : seat_in t.seats x.pid ≡ Some x = seat_at_place t.seats slot x here (part.fit.places slot x here) in
         let marked : List Seat = change_first (is_seat x.pid) marked_taken t.seats in
         let seats = cond-true (nat_lt slot STATION_PROCESSES) (local_taken t.seats pid (slice_get t.seats slot))
         (alien_taken t.seats pid (alien_at t.slots (slot - STATION_PROCESSES))) low
         ∙ ap (local_taken t.seats pid) here
-        ∙ ap (λ d. sent_taken t.seats pid x (sending (state_of d))) from.waits
-        ∙ cond-false (same_pid x.pid pid) marked (passed_by (seat_in marked x.pid) pid (gifts.Message m) marked)
-        (apart x m there from.waits)
-        ∙ ap (λ o. passed_by o pid (gifts.Message m) marked)
+        ∙ cond-false (same_pid x.pid pid) marked (passed_by (seat_in marked x.pid) pid (gifts.Message x.shown) marked)
+        (apart x tk.exchange.target tk.exchange.message there from.waits)
+        ∙ ap (λ o. passed_by o pid (gifts.Message x.shown) marked)
         (find-changed x.pid marked_taken (λ z. refl) t.seats ∙ ap (option_map marked_taken) there) in
-        let same : served_by t pid (Some slot) ≡ local_served host t k part pid own s found w waits at place x m =
+        let same : served_by t pid (Some slot) ≡ local_served host t k part pid own s found w waits at place x =
         (λ i. record t {
           seats = seats i;
           lists = without_first t.lists (place i);
           slots = cond-true (nat_lt slot STATION_PROCESSES) t.slots (pool.changed_at (slot - STATION_PROCESSES) pool.taken t.slots) low i;
         }) in
         subst (λ u. IsServed host t k pid u (steps.Take pid ∷ [])) (sym same)
-        (some_served host t (local_served host t k part pid own s found w waits at place x m) k pid tk is
-        (part_local_served host t k part pid own s found w waits at place slot front tk is low x here m from.waits)
-        (local_served_carries host t k part pid own s found w waits at place slot front tk is low x here m from.waits) refl)
+        (some_served host t (local_served host t k part pid own s found w waits at place x) k pid tk is
+        (part_local_served host t k part pid own s found w waits at place slot front tk is low x here)
+        (local_served_carries host t k part pid own s found w waits at place slot front tk is low x here) refl)
 
     alien_by : nat_lt slot STATION_PROCESSES ≡ false → (a : Alien) → alien_at t.slots (slot - STATION_PROCESSES) ≡ Some a →
         IsServed host t k pid (served_by t pid (Some slot)) (steps.Take pid ∷ [])

@@ -1,5 +1,5 @@
 -- What calls within the station come to, by the tables.
-use Rattle.std.specs.Prelude.{ℕ, true, false, not, List, [], ◌∷◌, ◌++◌, map, slice_set, Option, Some, None}
+use Rattle.std.specs.Prelude.{ℕ, true, false, not, List, [], ◌∷◌, ◌++◌, map, slice_set, Option, Some, None, is_none}
 use Rattle.std.specs.List.{position}
 use Rattle.vk_base.specs.declared.activity.Activity.TheVariants as activities
 use Rattle.vk_base.specs.declared.activity.Outcome.{Outcome}
@@ -24,12 +24,13 @@ use Rattle.vk_base.specs.Messages.{segment_of}
 use Rattle.vk_pool.specs.declared.alien.Alien.{Alien}
 use Rattle.vk_procs.specs.declared.seat.Seat.{Seat}
 use Rattle.vk_procs.specs.declared.seat.Passed.TheVariants as gifts
-use Rattle.vk_procs.specs.Seats.{begun_send, doing_now, finished, is_live_in, is_seat, passed, seat_in}
+use Rattle.vk_procs.specs.Seats.{begun_send, doing_now, finished, handed_on, is_live_in, is_seat, passed, seat_in}
 use Rattle.vk_queue.specs.Lists.{queue_at, without}
 use Rattle.vk_local.specs.declared.access.Access.{Access}
 use Rattle.vk_local.specs.declared.access.Segment.{Segment}
 use Rattle.vk_local.specs.Access.{access_refusal, not_awaiting, own_range}
 use Rattle.vk_local.specs.Takes.{front_of, served, served_steps}
+use Rattle.vk_stands.specs.Held.{local_holding}
 use Rattle.vk_stands.specs.Tables.{Tables}
 
 -- what a call is answered that is done at once where it is not refused, and one that is begun
@@ -139,6 +140,30 @@ after_reply_segment seats pid to m s =
 abbrev pub reply_segment_steps : List Seat → Pid → Pid → Message → Segment → List Step
 reply_segment_steps seats pid to m s =
     steps.Call pid (calls.ReplySegment m to s.dest s.src s.count) ∷ finish_steps (access_refusal seats pid to (reply_access s)) to
+
+-- Forward: the message waits anew, at another process of the station, behind all others, and is taken if that one waits for one.
+abbrev pub forward_refusal : List Seat → Pid → Pid → Pid → Option Refusal
+forward_refusal seats pid from to = first_that_holds (
+    (is_none (local_holding seats pid from), refusals.NotAwaiting)
+    ∷ (not (is_live_in (seat_in seats to)), refusals.NoProcess)
+    ∷ [])
+
+abbrev pub forwarded_seats : List Seat → Pid → Message → Pid → List Seat
+forwarded_seats seats from m to = change_first (is_seat from) (handed_on m to) seats
+
+abbrev pub forwarded : Tables → Pid → Message → Pid → Tables
+forwarded t from m to =
+    record t { seats = forwarded_seats t.seats from m to; lists = queued (forwarded_seats t.seats from m to) t.lists from to }
+
+abbrev pub handed_over : Tables → Pid → Message → Pid → Tables
+handed_over t from m to = served (forwarded t from m to) to
+
+abbrev pub after_forward : Tables → Pid → Pid → Message → Pid → Tables
+after_forward t pid from m to = unless (forward_refusal t.seats pid from to) (handed_over t from m to) t
+
+abbrev pub forward_steps : Tables → Pid → Pid → Message → Pid → List Step
+forward_steps t pid from m to =
+    steps.Call pid (calls.Forward m from to) ∷ unless (forward_refusal t.seats pid from to) (steps_of (forwarded t from m to) to) []
 
 -- Moves, in either direction.
 abbrev pub move_call : Direction → Pid → Segment → Call

@@ -13,7 +13,7 @@ use Rattle.vk_packet.specs.Posts.{Posts}
 use Rattle.vk_procs.specs.declared.seat.Seat.{Seat}
 use Rattle.vk_local.specs.declared.access.Segment.{Segment}
 use Rattle.vk_local.specs.Access.{access_refusal, not_awaiting}
-use Rattle.vk_local.specs.Calls.{after_move, after_receive, after_reply, after_reply_segment, after_send, begun_by, done_by, move_access, move_call, receive_refusal, receive_steps, reply_access, reply_segment_steps, reply_steps, send_refusal, send_steps}
+use Rattle.vk_local.specs.Calls.{after_forward, after_move, after_receive, after_reply, after_reply_segment, after_send, begun_by, done_by, forward_refusal, forward_steps, move_access, move_call, receive_refusal, receive_steps, reply_access, reply_segment_steps, reply_steps, send_refusal, send_steps}
 use Rattle.vk_local.specs.Exits.{exited, negatives}
 use Rattle.vk_stands.specs.Rules.{posted}
 use Rattle.vk_stands.specs.Tables.{Tables}
@@ -56,6 +56,11 @@ IsSend pid target m answer old new before after =
 abbrev pub IsReceive : Pid → Waiting → Option Outcome → (old new : Tables) → (before after : List Step) → Type 0
 IsReceive pid w answer old new before after =
     LeavesTables (begun_by (receive_refusal old.seats pid w)) (after_receive old pid w) (receive_steps old pid w) answer new before after
+
+abbrev pub IsForward : Pid → Pid → Message → Pid → Option Outcome → (old new : Tables) → (before after : List Step) → Type 0
+IsForward pid from m to answer old new before after =
+    LeavesTables (done_by (forward_refusal old.seats pid from to)) (after_forward old pid from m to) (forward_steps old pid from m to)
+    answer new before after
 
 -- An exit also forgets names, and tells other stations.
 pub record IsExit (pid : Pid) (now : ℕ) (answer : Option Outcome) (old new : Tables) (before after : List Step) (sent out : Posts) : Type 0

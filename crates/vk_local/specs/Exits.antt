@@ -11,27 +11,30 @@ use Rattle.vk_pool.specs.declared.alien.Alien.{Alien}
 use Rattle.vk_pool.specs.Aliens.{changed_at, refused}
 use Rattle.vk_procs.specs.declared.seat.Seat.{Seat}
 use Rattle.vk_procs.specs.Seats.{bereft, is_seat, killed}
+use Rattle.vk_local.specs.declared.exits.Left.{Left}
 use Rattle.vk_stands.specs.Tables.{Tables, stage_of}
 
 -- an alien whose message waits at the process that exits, or was taken by it
 abbrev pub is_left : Pid → Alien → Bool
-is_left pid a = same_pid a.target pid && is_at_target (stage_of a)
+is_left pid a = same_pid a.at pid && is_at_target (stage_of a)
 
--- its sender and number
-abbrev pub left_in : Pid → Alien → Option (Pid × ℕ)
-left_in pid a = if is_left pid a then Some (a.sender, a.number) else None
+abbrev pub sent_by : Alien → Left
+sent_by a = record { target = a.target; sender = a.sender; number = a.number }
 
-abbrev pub left_of : Pid → Option Alien → Option (Pid × ℕ)
+abbrev pub left_in : Pid → Alien → Option Left
+left_in pid a = if is_left pid a then Some (sent_by a) else None
+
+abbrev pub left_of : Pid → Option Alien → Option Left
 left_of pid slot = slot >>= left_in pid
 
--- one slot, and what its sender is told
-abbrev pub slots_left : List (Option Alien) → ℕ → ℕ → Option (Pid × ℕ) → List (Option Alien)
+-- one slot, and what its sender is told, in the name of its target
+abbrev pub slots_left : List (Option Alien) → ℕ → ℕ → Option Left → List (Option Alien)
 slots_left slots slot now None = slots
 slots_left slots slot now (Some left) = changed_at slot (refused now) slots
 
-abbrev pub told_left : Pid → Option (Pid × ℕ) → List Packet
-told_left pid None = []
-told_left pid (Some left) = Negative pid left.0 left.1 ∷ []
+abbrev pub told_left : Option Left → List Packet
+told_left None = []
+told_left (Some left) = Negative left.target left.sender left.number ∷ []
 
 -- all slots, in order
 abbrev pub after_left : Pid → ℕ → Alien → Alien
@@ -41,7 +44,7 @@ abbrev pub left_slots : Pid → ℕ → List (Option Alien) → List (Option Ali
 left_slots pid now slots = map (option_map (after_left pid now)) slots
 
 abbrev pub told_slot : Pid → Option Alien → List Packet
-told_slot pid slot = told_left pid (left_of pid slot)
+told_slot pid slot = told_left (left_of pid slot)
 
 abbrev pub negatives : Pid → List (Option Alien) → List Packet
 negatives pid slots = flat_map (told_slot pid) slots

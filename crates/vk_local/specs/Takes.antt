@@ -3,13 +3,10 @@ use Rattle.std.specs.Prelude.{ℕ, ◌-◌, nat_lt, List, [], ◌∷◌, drop, s
 use Rattle.std.specs.List.{position}
 use Rattle.vk_base.specs.declared.activity.Waiting.{Waiting}
 use Rattle.vk_base.specs.declared.limits.TheConstants.{STATION_PROCESSES}
-use Rattle.vk_base.specs.declared.message.Message.{Message}
 use Rattle.vk_base.specs.declared.pid.Pid.{Pid}
 use Rattle.vk_base.specs.declared.step.Step.{Step}
 use Rattle.vk_base.specs.declared.step.Step.TheVariants as steps
-use Rattle.vk_base.specs.Activities.{state_of}
 use Rattle.vk_base.specs.Firsts.{change_first}
-use Rattle.vk_base.specs.Kernel.{sending}
 use Rattle.vk_pool.specs.declared.alien.Alien.{Alien}
 use Rattle.vk_pool.specs.Aliens.{alien_at, changed_at, taken}
 use Rattle.vk_procs.specs.declared.seat.Passed.TheVariants as gifts
@@ -18,19 +15,15 @@ use Rattle.vk_procs.specs.Seats.{is_seat, marked_taken, passed, reached, receive
 use Rattle.vk_queue.specs.Lists.{queue_at}
 use Rattle.vk_stands.specs.Tables.{Tables}
 
--- The message of the Send in which a process waits is taken.
-abbrev pub sent_taken : List Seat → Pid → Seat → Option (Pid × Message) → List Seat
-sent_taken seats pid s None = seats
-sent_taken seats pid s (Some m) = passed s.pid pid (gifts.Message m.1) (change_first (is_seat s.pid) marked_taken seats)
-
+-- The message of a process of the station is taken, as it is shown there.
 abbrev pub local_taken : List Seat → Pid → Option Seat → List Seat
 local_taken seats pid None = seats
-local_taken seats pid (Some s) = sent_taken seats pid s (sending (state_of s.doing))
+local_taken seats pid (Some s) = passed s.pid pid (gifts.Message s.shown) (change_first (is_seat s.pid) marked_taken seats)
 
 -- The message of an alien is taken.
 abbrev pub alien_taken : List Seat → Pid → Option Alien → List Seat
 alien_taken seats pid None = seats
-alien_taken seats pid (Some a) = change_first (is_seat pid) (reached a.sender a.message a.part) seats
+alien_taken seats pid (Some a) = change_first (is_seat pid) (reached a.sender a.shown a.part) seats
 
 -- What stands at a slot of the queues is taken.
 abbrev pub seats_at : List Seat → List (Option Alien) → Pid → ℕ → List Seat

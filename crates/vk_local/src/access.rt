@@ -28,12 +28,13 @@ pub struct Access {
     pub own: u32,
 }
 
-/// The message of the sender at this seat, where the holder has taken it and has yet to reply.
+/// The message of the Send at this seat, where the holder has taken it and has neither replied nor handed it on. Access is by its
+/// grants, whatever message the holder is shown.
 fn seat_held(seat: &Seat, holder: Pid) -> Option<Message>
     ensures { result ≡ option_map message_of (seat_holding holder seat.now) }
 {
     match seat.doing.sending() {
-        Some((target, message)) if seat.note.taken && target == holder => Some(message),
+        Some((_, message)) if seat.note.taken && seat.at == holder => Some(message),
         _ => None,
     }
 }

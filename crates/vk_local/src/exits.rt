@@ -22,45 +22,57 @@ use vk_pool::{Alien, AlienPool, AlienStage};
 use vk_procs::Procs;
 use vk_queue::Queues;
 
+/// A Send of another station whose message was at a process that exits: to whom it was sent, by whom, and its number.
+#[derive(Clone, Copy)]
+pub struct Left {
+    pub target: Pid,
+    pub sender: Pid,
+    pub number: u64,
+}
+
 fn is_left(alien: &Alien, pid: Pid) -> bool
     ensures { result ≡ is_left pid alien.now }
 {
-    alien.target == pid && matches!(alien.stage, AlienStage::Queued | AlienStage::Taken)
+    alien.at == pid && matches!(alien.stage, AlienStage::Queued | AlienStage::Taken)
 }
 
-fn left_in(alien: &Alien, pid: Pid) -> Option<(Pid, u64)>
+fn left_in(alien: &Alien, pid: Pid) -> Option<Left>
     ensures { result ≡ left_in pid alien.now }
 {
     if is_left(alien, pid) {
-        Some((alien.sender, alien.number))
+        Some(Left {
+            target: alien.target,
+            sender: alien.sender,
+            number: alien.number,
+        })
     } else {
         None
     }
 }
 
-/// The sender and the number of the alien in the slot, where its message waits at the process, or was taken by it.
-fn left_at(aliens: &AlienPool, slot: u32, pid: Pid) -> Option<(Pid, u64)>
+/// The Send of the alien in the slot, where its message waits at the process, or was taken by it.
+fn left_at(aliens: &AlienPool, slot: u32, pid: Pid) -> Option<Left>
     ensures { result ≡ left_of pid (alien_at aliens.now slot) }
 {
     let alien = aliens.alien(slot)?;
     left_in(alien, pid)
 }
 
-/// The alien in the slot is told that its target is gone, if its message was there.
+/// The alien in the slot is told that who had its message is gone, if that was this process.
 fn leave_slot(aliens: &mut AlienPool, now: u64, out: &mut Outbox, pid: Pid, slot: u32)
     requires number { (a : TheAlien) → alien_at aliens.old slot ≡ Some a → is_number a.number ≡ true }
     requires room { length out.old.posts < out.old.room }
     ensures slots { aliens.new ≡ slots_left aliens.old slot now (left_of pid (alien_at aliens.old slot)) }
-    ensures packets { out.new ≡ posted out.old (told_left pid (left_of pid (alien_at aliens.old slot))) }
+    ensures packets { out.new ≡ posted out.old (told_left (left_of pid (alien_at aliens.old slot))) }
 {
-    if let Some((sender, number)) = left_at(aliens, slot, pid) {
+    if let Some(left) = left_at(aliens, slot, pid) {
         aliens.refuse(slot, now);
         out.post(
-            sender.host,
+            left.sender.host,
             &PacketView::Negative {
-                from: pid,
-                to: sender,
-                number,
+                from: left.target,
+                to: left.sender,
+                number: left.number,
             },
         );
     }
@@ -130,8 +142,8 @@ fn play_exit(
     Some(Outcome::Ok)
 }
 
-/// A process, which is alive and ready, exits at the tick `now`: who waits for its reply is told that it is gone, and its names are
-/// forgotten.
+/// A process, which is alive and ready, exits at the tick `now`: whose message waits at it or was taken by it is told that it is gone,
+/// those of other stations in the name of their Send's target, and its names are forgotten.
 pub fn exit(
     procs: &mut Procs,
     names: &mut Names,

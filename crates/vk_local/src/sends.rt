@@ -31,9 +31,9 @@ fn send_refusal(procs: &Procs, pid: Pid, target: Pid, message: &Message) -> Opti
     }
 }
 
-/// The message of the process waits at the target, behind all others.
+/// The message of the process waits at this one, behind all others.
 #[tactic(auto, unfolding(vk_queue::specs::Lists::requeued))]
-fn enqueue(procs: &Procs, queues: &mut Queues, pid: Pid, target: Pid)
+pub fn enqueue(procs: &Procs, queues: &mut Queues, pid: Pid, target: Pid)
     requires lists { length queues.old.lists ≡ STATION_PROCESSES }
     requires slots { STATION_PROCESSES ≤ queues.old.slots }
     ensures lists { queues.new.lists ≡ queued procs.now queues.old.lists pid target }

@@ -14,17 +14,15 @@ use vk_pool::AlienPool;
 use vk_procs::{Passed, Procs};
 use vk_queue::Queues;
 
-/// The message of the station's process in this place is taken.
+/// The message of the station's process in this place is taken, as it is shown now.
 fn take_local(procs: &mut Procs, pid: Pid, place: u32)
     ensures { procs.new ≡ local_taken procs.old pid (slice_get procs.old place) }
 {
-    let Some(seat) = procs.at(place) else {
-        return;
-    };
-    let Some((_, message)) = seat.doing.sending() else {
+    let Some(seat) = procs.seat_at(place) else {
         return;
     };
     let from = seat.pid;
+    let message = seat.shown;
     procs.mark_taken(from);
     procs.pass(from, pid, Passed::Message { message });
 }
@@ -34,7 +32,7 @@ fn reach_from(procs: &mut Procs, aliens: &AlienPool, pid: Pid, slot: u32)
     ensures { procs.new ≡ alien_taken procs.old pid (alien_at aliens.now slot) }
 {
     if let Some(alien) = aliens.alien(slot) {
-        procs.reach(pid, alien.sender, &alien.message, alien.part.as_slice());
+        procs.reach(pid, alien.sender, &alien.shown, alien.part.as_slice());
     }
 }
 
@@ -55,7 +53,7 @@ fn take_slot(procs: &mut Procs, aliens: &mut AlienPool, pid: Pid, slot: u32)
 fn waits_at(procs: &Procs, at: u32) -> bool
     ensures { result ≡ is_some (receive_of (slice_get procs.now at)) }
 {
-    match procs.at(at) {
+    match procs.seat_at(at) {
         Some(seat) => seat.doing.receiving().is_some(),
         None => false,
     }

@@ -165,7 +165,7 @@ module _ (c : Settings) (host : ℕ) (r : Reading) (h : Header) (from to : Pid) 
     then_is = acknowledged e moving to got mine
 
     same : HasOtherMoves e then_is
-    same = record { target = refl; message = refl; part = refl; stage = refl; moves = left_long e moving to mine }
+    same = record { target = refl; message = refl; part = refl; spot = refl; stage = refl; moves = left_long e moving to mine }
 
     abbrev change : Exchange → Exchange
     change x = with_progress moving got (with_running moving to (running_move r.view to) x)

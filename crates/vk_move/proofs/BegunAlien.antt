@@ -21,7 +21,7 @@ use Rattle.vk_procs.specs.Seats.{seat_in}
 use Rattle.vk_queue.specs.Lists.{queue_at}
 use Rattle.vk_stands.specs.Fit.{AreFit, IsFitAlien}
 use Rattle.vk_stands.specs.Stands.{IsHome, IsKept}
-use Rattle.vk_stands.specs.Tables.{Tables, alien_name, names_at, slot_name, told_by}
+use Rattle.vk_stands.specs.Tables.{Tables, alien_name, names_at, slot_name, told_by, spot_of}
 use Rattle.vk_stands.proofs.Aliens.{of_at}
 use Rattle.vk_stands.proofs.FitSlots.{fit_changed_at}
 use Rattle.vk_stands.proofs.Fits.{map_all}
@@ -83,7 +83,7 @@ module _ (host : ℕ) (t : Tables) (k : Kernel) (part : Part host t k) (i : ℕ)
   u = slotted t i (with_moves n)
 
   same : HasSameMessage e y
-  same = record { target = refl; message = refl; part = refl; stage = refl }
+  same = record { target = refl; message = refl; part = refl; spot = refl; stage = refl }
 
   away : name.sender.host ≡ host → ⊥
   away = (part.fit.aliens i a here).foreign
@@ -107,6 +107,7 @@ module _ (host : ℕ) (t : Tables) (k : Kernel) (part : Part host t k) (i : ℕ)
         target = ap (λ (x : Exchange). x.target) (sym one) ∙ v.target;
         message = ap (λ (x : Exchange). x.message) (sym one) ∙ v.message;
         part = ap (λ (x : Exchange). x.part) (sym one) ∙ v.part;
+        spot = ap spot_of (sym one) ∙ v.spot;
         stage = ap (λ (x : Exchange). x.stage) (sym one) ∙ v.stage;
         moves = one_more;
         made = v.made;
@@ -120,6 +121,7 @@ module _ (host : ℕ) (t : Tables) (k : Kernel) (part : Part host t k) (i : ℕ)
     target = v.target;
     message = v.message;
     part = v.part;
+    spot = v.spot;
     stage = v.stage;
     moves = v.moves;
     made = v.made;

@@ -179,6 +179,7 @@ module _ (c : Settings) (host : ℕ) (t : Tables) (r : Reading) (h : Stands c.ti
   part = part_waits host (slotted t i (with_moves n)) k part_sent pid own s may.found f (λ x. refl) (record {
     ready = may.ready;
     taken = refl;
+    spot = refl;
     alive = refl;
     waits = λ v at. subst (IsWaiting l (f s)) (same_wait waiting v at) (waits_moving way l (f s) a.sender dest src count waits_here);
     fits = fits_begun host t fit few c.times r.now pid own s may.found i a here way dest src count is;

@@ -118,6 +118,7 @@ module _ (host : ℕ) (t : Tables) (fit : AreFit host t) (few : HasFewMoves t.sl
     done = f.done;
     part = λ target m at. absurd (no_send way a.sender dest src count target m at);
     few = f.few;
+    away = λ target m at other. absurd (no_send way a.sender dest src count target m at);
     begun = λ target m at. absurd (no_send way a.sender dest src count target m at);
     asked = λ logical scope at. absurd (no_lookup way a.sender dest src count logical scope at);
   }

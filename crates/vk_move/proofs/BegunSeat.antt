@@ -13,7 +13,7 @@ use Rattle.vk_procs.specs.declared.seat.Seat.{Seat}
 use Rattle.vk_procs.specs.Seats.{process_of, seat_in}
 use Rattle.vk_stands.specs.Fit.{IsFitSeat}
 use Rattle.vk_stands.specs.Stands.{IsWaiting}
-use Rattle.vk_stands.specs.Tables.{Tables, seat_name}
+use Rattle.vk_stands.specs.Tables.{Tables, seat_name, seat_spot, spot_of}
 use Rattle.vk_stands.proofs.Fits.{fit_seated, queues_seated}
 use Rattle.vk_stands.proofs.OneSeat.{ChangesSeat, seated, view_changed}
 use Rattle.vk_stands.proofs.Parts.{Part}
@@ -26,6 +26,7 @@ use Rattle.vk_stands.proofs.Waits.{stage_of_local}
 pub record BeginsToWait (host : ℕ) (l : Kernel) (s y : Seat) : Type 0 where
   pub ready : s.doing ≡ activities.Ready
   pub taken : y.note.taken ≡ s.note.taken
+  pub spot : seat_spot y ≡ seat_spot s
   pub alive : y.alive ≡ s.alive
   pub waits : (w : Waiting) → y.doing ≡ activities.Blocked w → IsWaiting l y w
   pub fits : IsFitSeat host s → IsFitSeat host y
@@ -49,6 +50,7 @@ module _ (host : ℕ) (t : Tables) (k : Kernel) (part : Part host t k) (pid : Pi
     same = λ w is. absurd (ready_waits s w g.ready is);
     stage = λ target e x at there local doing stage.
         ap (λ (a : Exchange). a.stage) (same_Some x e (sym there ∙ at)) ∙ stage ∙ ap stage_of_local (sym g.taken);
+    spot = λ e x at there spot. ap spot_of (same_Some x e (sym there ∙ at)) ∙ spot ∙ sym g.spot;
     dead = λ dead. g.alive ∙ dead;
     waits = λ w is. inr (g.waits w is);
     sends = λ e at near there is. absurd (ready_waits s (waitings.Send e.target e.message) g.ready is);

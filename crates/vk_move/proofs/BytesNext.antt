@@ -223,6 +223,7 @@ module _ (c : Settings) (host : ℕ) (r : Reading) (h : Header) (from to : Pid) 
     target = refl;
     message = refl;
     part = refl;
+    spot = refl;
     stage = refl;
     moves = written_long e moving to
         (bytes_from offset bytes) asked;
@@ -342,6 +343,7 @@ module _ (c : Settings) (host : ℕ) (r : Reading) (h : Header) (from to : Pid) 
     part_end = part_process host t k part to own s found f (λ x. refl) (record {
       same = record { pid = refl; part = refl; sends = refl; lookups = refl; moving = refl; opened = refl; done = refl };
       taken = refl;
+      spot = refl;
       alive = refl;
       waits = λ x is. absurd (never x is);
       sends = λ x at near there is. absurd (no_send x.target x.message is);
@@ -420,6 +422,7 @@ module _ (c : Settings) (host : ℕ) (r : Reading) (h : Header) (from to : Pid) 
     part_more = part_process host t k part to own s found f_more (λ x. refl) (record {
       same = record { pid = refl; part = refl; sends = refl; lookups = refl; moving = refl; opened = refl; done = refl };
       taken = refl;
+      spot = refl;
       alive = refl;
       waits = λ x is. inl is;
       sends = λ x at near there is. refl;

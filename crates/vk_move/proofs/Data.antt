@@ -30,7 +30,7 @@ use Rattle.vk_procs.specs.Seats.{is_seat, process_of, seat_in, written}
 use Rattle.vk_rules.specs.Aliens.{as_arrival, is_closing}
 use Rattle.vk_rules.specs.Entries.{Delivered}
 use Rattle.vk_rules.specs.Frames.{Framed}
-use Rattle.vk_rules.specs.PacketOutcomes.{FarSender, data_outcome, far_sender, has_made, may_be_written, no_sender}
+use Rattle.vk_rules.specs.PacketOutcomes.{FarSender, data_outcome, far_partner, has_made, may_be_written, no_sender}
 unfoldable use Rattle.vk_rules.specs.PacketOutcomes.{packet_outcome}
 use Rattle.vk_rules.specs.Readings.{Reading}
 use Rattle.vk_rules.specs.Right.{answer_to}
@@ -135,7 +135,7 @@ module _ (c : Settings) (host : ℕ) (r : Reading) (h : Header) (from to : Pid) 
   calm_gone : IsCalm (only_packets (MoveNegative to from number moving ∷ []))
   calm_gone = record { arrival = refl; closes = λ n. refl; rounds = λ q. refl }
 
-  out_by : (o : Option FarSender) → far_sender r.view name from ≡ o → packet_outcome host r packet
+  out_by : (o : Option FarSender) → far_partner r.view name from ≡ o → packet_outcome host r packet
       ≡ option_map_or (λ (w : FarSender). cond (may_be_written dest total w)
       (data_outcome name from moving total offset bytes w.exchange) nothing) o (no_sender r.view name from moving)
   unfolding packet_outcome
@@ -213,24 +213,24 @@ module _ (c : Settings) (host : ℕ) (r : Reading) (h : Header) (from to : Pid) 
     at0 = put_own e moving mv some
 
     more0 : HasMoreMoves e e0
-    more0 = record { target = refl; message = refl; part = refl; stage = refl; moves = moved_long e.moves moving mv }
+    more0 = record { target = refl; message = refl; part = refl; spot = refl; stage = refl; moves = moved_long e.moves moving mv }
 
     process_here : r.view.procs to ≡ Some p
     process_here = here c.times host t r stands fit from to own away number moving m current done w
 
-    sends : sending p.state ≡ Some (from, m)
+    sends : sending p.state ≡ Some (w.target, m)
     sends = waits c.times host t r stands fit from to own away number moving m current done w
 
     -- the opened move
     abbrev e1 : Exchange
-    e1 = opened r.view to number moving p process_here (from, m) sends w.last e0 mv
+    e1 = opened r.view to number moving p process_here (w.target, m) sends w.last e0 mv
 
     more1 : HasMoreMoves e e1
     more1 = more_opened c.times host t r stands fit from to own away number moving m current done w e0 mv more0
 
     opened_view : ltb current moving ≡ true → stepped (brought r.view packet) opener ≡ with_send r.view name e1
     opened_view later = ap (λ k. stepped k opener) brought_is
-        ∙ opens r.view to number moving p process_here (from, m) sends w.last e0 mv (ap (λ n. ltb n moving) w.open_is ∙ later) at0
+        ∙ opens r.view to number moving p process_here (w.target, m) sends w.last e0 mv (ap (λ n. ltb n moving) w.open_is ∙ later) at0
 
     at1 : move_of e1 moving ≡ Some mv
     at1 = moved_there e0 moving moving 0 mv mv at0
@@ -242,7 +242,7 @@ module _ (c : Settings) (host : ℕ) (r : Reading) (h : Header) (from to : Pid) 
     copied_view : (x : Exchange) → x.opened ≡ moving → x.done ≡ offset → move_of x moving ≡ Some mv →
         stepped (with_send r.view name x) copy ≡ with_send k1 name (record x { done = x.done + length bytes })
     copied_view x is_open so_far at = copies r.view to number moving p process_here
-        (from, m) sends w.last from dest total offset bytes any within x
+        (w.target, m) sends w.last from dest total offset bytes any within x
         is_open so_far at
 
     lies : may_write m dest total ≡ true → lies_in (range_of (dest + offset) (length bytes)) (length w.seat.memory) ≡ true
@@ -252,7 +252,7 @@ module _ (c : Settings) (host : ℕ) (r : Reading) (h : Header) (from to : Pid) 
         let in_segment = leb-true (dest + total) ((segment_of m).start + (segment_of m).len) b.1 in
         let place = seat_found t.seats to w.seat w.found in
         let in_memory = leb-true ((segment_of m).start + (segment_of m).len) (length w.seat.memory)
-        ((fit.seats place.at w.seat place.here).waits (waitings.Send from m) w.state) in
+        ((fit.seats place.at w.seat place.here).waits (waitings.Send w.target m) w.state) in
         le-leb (dest + offset + length bytes) (length w.seat.memory) (omega (arith, in_segment, in_memory, within))
 
     out_waits : packet_outcome host r packet ≡ cond (may_write m dest total) (data_outcome name from moving total offset bytes e) nothing
@@ -274,7 +274,7 @@ module _ (c : Settings) (host : ℕ) (r : Reading) (h : Header) (from to : Pid) 
     moved_stands later next before out part carries =
         stands_moved c host r h packet taken to plain (by_tests later true next before) out
         (calm_by later next before) t stands w.seat w.found
-        from m w.state (record t { seats = (moved_by later next before).seats }) part carries refl
+        w.target m w.state (record t { seats = (moved_by later next before).seats }) part carries refl
 
     acked_same : (next : Bool) (before : ℕ) → (next ≡ true → offset ≡ before) →
         (moved_by true next before).packets ≡ (by_tests true true next before).packets
@@ -314,7 +314,7 @@ module _ (c : Settings) (host : ℕ) (r : Reading) (h : Header) (from to : Pid) 
         (sym (ap (λ k. stepped k copy) brought_is ∙ copied_view e0 (w.open_is ∙ same) start at0))
         (part_copied c.times host t r stands fit from to own away number moving m current done w (dest + offset) bytes (lies granted) y
         (offset + length bytes)
-        (record { target = refl; message = refl; part = refl; stage = refl; moves = more0.moves }) (w.open_is ∙ same)
+        (record { target = refl; message = refl; part = refl; spot = refl; stage = refl; moves = more0.moves }) (w.open_is ∙ same)
         (ap (λ n. n + length bytes) start) low))
         (carries_copied c.times host t r stands fit from to own away number moving m current done w (dest + offset) bytes (lies granted)
         (offset + length bytes)))
@@ -327,7 +327,7 @@ module _ (c : Settings) (host : ℕ) (r : Reading) (h : Header) (from to : Pid) 
         (sym (ap (λ k. stepped k copy) (opened_view later) ∙ copied_view e1 refl start at1))
         (part_copied c.times host t r stands fit from to own away number moving m current done w (dest + offset) bytes (lies granted) y
         (offset + length bytes)
-        (record { target = refl; message = refl; part = refl; stage = refl; moves = more1.moves }) refl
+        (record { target = refl; message = refl; part = refl; spot = refl; stage = refl; moves = more1.moves }) refl
         (ap (λ n. n + length bytes) start) low))
         (carries_copied c.times host t r stands fit from to own away number moving m current done w (dest + offset) bytes (lies granted)
         (offset + length bytes)))

@@ -43,6 +43,7 @@ fit_finished host o s f = record {
   done = f.done;
   part = λ target m is. absurd (never_blocked s.doing o (waitings.Send target m) is);
   few = f.few;
+  away = λ target m is far. absurd (never_blocked s.doing o (waitings.Send target m) is);
   begun = λ target m is. absurd (never_blocked s.doing o (waitings.Send target m) is);
   asked = λ logical scope is. absurd (never_blocked s.doing o (waitings.GetPid logical scope) is);
 }
@@ -58,6 +59,7 @@ fit_noted host g s sends lookups low goes f = record {
   done = low;
   part = f.part;
   few = f.few;
+  away = f.away;
   begun = λ target m is. subst (λ n. 0 < n) (sym sends) (f.begun target m is);
   asked = λ logical scope is. subst (λ n. 0 < n) (sym lookups) (f.asked logical scope is);
 }
@@ -79,6 +81,7 @@ fit_written host at bytes s f = record {
   done = f.done;
   part = f.part;
   few = f.few;
+  away = f.away;
   begun = f.begun;
   asked = f.asked;
 }

@@ -25,7 +25,7 @@ use Rattle.vk_procs.specs.Seats.{process_of, seat_in}
 use Rattle.vk_rules.specs.Aliens.{as_arrival, is_closing}
 use Rattle.vk_rules.specs.Entries.{Delivered}
 use Rattle.vk_rules.specs.Frames.{Framed}
-use Rattle.vk_rules.specs.PacketOutcomes.{FarSender, bytes_packet, far_sender, has_made, may_be_read, no_sender, request_outcome}
+use Rattle.vk_rules.specs.PacketOutcomes.{FarSender, bytes_packet, far_partner, has_made, may_be_read, no_sender, request_outcome}
 unfoldable use Rattle.vk_rules.specs.PacketOutcomes.{packet_outcome}
 use Rattle.vk_rules.specs.Readings.{Reading}
 use Rattle.vk_rules.specs.Right.{answer_to}
@@ -106,7 +106,7 @@ module _ (c : Settings) (host : ℕ) (r : Reading) (h : Header) (from to : Pid) 
   calm_gone : IsCalm (only_packets (MoveNegative to from number moving ∷ []))
   calm_gone = record { arrival = refl; closes = λ n. refl; rounds = λ q. refl }
 
-  out_by : (o : Option FarSender) → far_sender r.view name from ≡ o → packet_outcome host r packet
+  out_by : (o : Option FarSender) → far_partner r.view name from ≡ o → packet_outcome host r packet
       ≡ option_map_or (λ (w : FarSender). cond (may_be_read src total w)
       (request_outcome name from moving src total offset w) nothing) o (no_sender r.view name from moving)
   unfolding packet_outcome
@@ -171,7 +171,7 @@ module _ (c : Settings) (host : ℕ) (r : Reading) (h : Header) (from to : Pid) 
     process_here : r.view.procs to ≡ Some p
     process_here = here c.times host t r stands fit from to own away number moving m current done w
 
-    sends : sending p.state ≡ Some (from, m)
+    sends : sending p.state ≡ Some (w.target, m)
     sends = waits c.times host t r stands fit from to own away number moving m current done w
 
     -- it is opened
@@ -190,21 +190,21 @@ module _ (c : Settings) (host : ℕ) (r : Reading) (h : Header) (from to : Pid) 
       at0 = put_own e moving mv some
 
       more0 : HasMoreMoves e e0
-      more0 = record { target = refl; message = refl; part = refl; stage = refl; moves = moved_long e.moves moving mv }
+      more0 = record { target = refl; message = refl; part = refl; spot = refl; stage = refl; moves = moved_long e.moves moving mv }
 
       abbrev e1 : Exchange
-      e1 = opened r.view to number moving p process_here (from, m) sends w.last e0 mv
+      e1 = opened r.view to number moving p process_here (w.target, m) sends w.last e0 mv
 
       more1 : HasMoreMoves e e1
       more1 = more_opened c.times host t r stands fit from to own away number moving m current done w e0 mv more0
 
       opened_view : stepped (brought r.view packet) opener ≡ with_send r.view name e1
       opened_view = ap (λ k. stepped k opener) brought_is
-          ∙ opens r.view to number moving p process_here (from, m) sends w.last e0 mv later_there at0
+          ∙ opens r.view to number moving p process_here (w.target, m) sends w.last e0 mv later_there at0
 
       opens_right : packet_outcome host r packet ≡ by_tests true true → Right (moved_by true 0)
       opens_right out = right (by_tests true true) out (calm_by true) (moved_by true 0) refl posts
-          (stands_moved c host r h packet taken to plain (by_tests true true) out (calm_by true) t stands w.seat w.found from m w.state
+          (stands_moved c host r h packet taken to plain (by_tests true true) out (calm_by true) t stands w.seat w.found w.target m w.state
           (record t { seats = (moved_by true 0).seats })
           (subst (Part host (record t { seats = (moved_by true 0).seats })) (sym opened_view)
           (part_noted c.times host t r stands fit from to own away number moving m current done w e1 0 more1 refl refl (omega arith)))

@@ -13,15 +13,14 @@ use Rattle.vk_base.specs.declared.message.Message.{Message}
 use Rattle.vk_base.specs.declared.pid.Pid.{Pid}
 use Rattle.vk_base.specs.Activities.{state_of}
 use Rattle.vk_base.specs.Kernel.{◌>>=◌, blocked_in, holds_of, name_of, sending}
-use Rattle.vk_base.specs.Pids.{same_host, same_pid}
+use Rattle.vk_base.specs.Pids.{same_host}
 use Rattle.vk_base.specs.Steps.{only_if}
-use Rattle.v_laws.proofs.Tables.{same_pid_is}
 use Rattle.vk_procs.specs.declared.seat.Seat.{Seat}
 use Rattle.vk_procs.specs.Seats.{process_of, seat_in}
 use Rattle.vk_rules.specs.PacketOutcomes.{FarSender, has_made}
-unfoldable use Rattle.vk_rules.specs.PacketOutcomes.{far_sender}
+unfoldable use Rattle.vk_rules.specs.PacketOutcomes.{far_partner}
 use Rattle.vk_rules.specs.Readings.{Reading}
-use Rattle.vk_rules.specs.Works.{awaits, is_send_to}
+use Rattle.vk_rules.specs.Works.{awaits_near, is_send_near}
 use Rattle.vk_stands.specs.Stands.{IsSent, Stands}
 use Rattle.vk_stands.specs.Tables.{Tables}
 use Rattle.vk_stands.proofs.Found.{seat_found}
@@ -29,11 +28,13 @@ use Rattle.vk_move.specs.declared.sender.Sender.{Sender}
 use Rattle.vk_move.specs.declared.sender.Sender.TheVariants as senders
 use Rattle.vk_move.specs.Sender.{made_by, sender_by, sender_doing}
 
--- A process that waits in its Send to the mover, and its exchange.
+-- A process that waits in its Send to a process of the mover's station, and its exchange.
 pub record IsWaiter (t : Tables) (r : Reading) (from to : Pid) (number : ℕ) (m : Message) (opened done : ℕ) : Type 0 where
   pub seat : Seat
   pub found : seat_in t.seats to ≡ Some seat
-  pub state : seat.doing ≡ activities.Blocked (waitings.Send from m)
+  pub target : Pid
+  pub state : seat.doing ≡ activities.Blocked (waitings.Send target m)
+  pub near : same_host target from ≡ true
   pub last : (seat.note.sends == number) ≡ true
   pub opened_is : seat.note.opened ≡ opened
   pub done_is : seat.note.done ≡ done
@@ -41,13 +42,13 @@ pub record IsWaiter (t : Tables) (r : Reading) (from to : Pid) (number : ℕ) (m
   pub is : r.view.exchanges (name_of to number) ≡ Some exchange
   pub open_is : exchange.opened ≡ opened
   pub so_far : exchange.done ≡ done
-  pub far : far_sender r.view (name_of to number) from ≡ Some (record { process = process_of seat; message = m; exchange = exchange })
+  pub far : far_partner r.view (name_of to number) from ≡ Some (record { process = process_of seat; message = m; exchange = exchange })
 
 abbrev pub Decided : Tables → Reading → Pid → Pid → ℕ → Sender → Type 0
 Decided t r from to number senders.Unknown =
-    (far_sender r.view (name_of to number) from ≡ None) × (has_made r.view (name_of to number) ≡ false)
+    (far_partner r.view (name_of to number) from ≡ None) × (has_made r.view (name_of to number) ≡ false)
 Decided t r from to number senders.Gone =
-    (far_sender r.view (name_of to number) from ≡ None) × (has_made r.view (name_of to number) ≡ true)
+    (far_partner r.view (name_of to number) from ≡ None) × (has_made r.view (name_of to number) ≡ true)
 Decided t r from to number (senders.Waits m opened done) = IsWaiter t r from to number m opened done
 
 module _ (times : Times) (host : ℕ) (t : Tables) (r : Reading) (h : Stands times host t r) (from to : Pid) (own : to.host ≡ host)
@@ -56,11 +57,11 @@ module _ (times : Times) (host : ℕ) (t : Tables) (r : Reading) (h : Stands tim
   name = name_of to number
 
   nobody : seat_in t.seats to ≡ None → Decided t r from to number senders.Unknown
-  unfolding far_sender
+  unfolding far_partner
   nobody none =
       let here : r.view.procs to ≡ None = h.procs to own ∙ ap (option_map process_of) none in
       let next : Process → Option FarSender =
-      λ p. only_if (awaits to p from number) (sending p.state) >>= λ send. r.view.exchanges name
+      λ p. only_if (awaits_near to p from number) (sending p.state) >>= λ send. r.view.exchanges name
       >>= λ e. Some (record { process = p; message = send.1; exchange = e }) in
       (ap (λ o. o >>= next) here, ap (holds_of (λ (p : Process). leb number p.sends)) here)
 
@@ -68,39 +69,38 @@ module _ (times : Times) (host : ℕ) (t : Tables) (r : Reading) (h : Stands tim
     here : r.view.procs to ≡ Some (process_of s)
     here = h.procs to own ∙ ap (option_map process_of) found
 
-    far_by : (b : Bool) → awaits to (process_of s) from number ≡ b →
-        far_sender r.view name from
+    far_by : (b : Bool) → awaits_near to (process_of s) from number ≡ b →
+        far_partner r.view name from
         ≡ (only_if b (sending (state_of s.doing)) >>= λ send. r.view.exchanges name
         >>= λ e. Some (record { process = process_of s; message = send.1; exchange = e }))
-    unfolding far_sender
+    unfolding far_partner
     far_by b is =
         let rest : Process → Option (Pid × Message) → Option FarSender =
         λ p o. o >>= λ send. r.view.exchanges name >>= λ e. Some (record { process = p; message = send.1; exchange = e }) in
-        ap (λ o. o >>= λ p. rest p (only_if (awaits to p from number) (sending p.state))) here
+        ap (λ o. o >>= λ p. rest p (only_if (awaits_near to p from number) (sending p.state))) here
         ∙ ap (λ b. rest (process_of s) (only_if b (sending (state_of s.doing)))) is
 
     made_is : has_made r.view name ≡ leb number s.note.sends
     made_is = ap (holds_of (λ (p : Process). leb number p.sends)) here
 
-    by_made : (b : Bool) → leb number s.note.sends ≡ b → far_sender r.view name from ≡ None →
+    by_made : (b : Bool) → leb number s.note.sends ≡ b → far_partner r.view name from ≡ None →
         Decided t r from to number (cond b senders.Gone senders.Unknown)
     by_made true is none = (none, made_is ∙ is)
     by_made false is none = (none, made_is ∙ is)
 
     -- it does not wait in it
-    over : awaits to (process_of s) from number ≡ false → Decided t r from to number (made_by number s.note)
+    over : awaits_near to (process_of s) from number ≡ false → Decided t r from to number (made_by number s.note)
     over is = by_made (leb number s.note.sends) refl (far_by false is)
 
     awaits_by : (d : Activity) → s.doing ≡ d →
-        awaits to (process_of s) from number ≡ (holds_of (is_send_to to from) (blocked_in (state_of d)) && s.note.sends == number)
-    awaits_by d is = ap (λ x. holds_of (is_send_to to from) (blocked_in (state_of x)) && s.note.sends == number) is
+        awaits_near to (process_of s) from number ≡ (holds_of (is_send_near to from) (blocked_in (state_of d)) && s.note.sends == number)
+    awaits_by d is = ap (λ x. holds_of (is_send_near to from) (blocked_in (state_of x)) && s.note.sends == number) is
 
     by_send : (target : Pid) (m : Message) (b : Bool) → s.doing ≡ activities.Blocked (waitings.Send target m) →
-        (same_pid target from && not (same_host to from) && s.note.sends == number) ≡ b →
+        (same_host target from && not (same_host to from) && s.note.sends == number) ≡ b →
         Decided t r from to number (cond b (senders.Waits m s.note.opened s.note.done) (made_by number s.note))
     by_send target m true is test =
-        let a = and_parts (same_pid target from && not (same_host to from)) (s.note.sends == number) test in
-        let one : target ≡ from = same_pid_is target from (and_parts (same_pid target from) (not (same_host to from)) a.0).0 in
+        let a = and_parts (same_host target from && not (same_host to from)) (s.note.sends == number) test in
         let v : IsSent r.view s target m = h.waiting to s (waitings.Send target m) found is in
         let at : r.view.exchanges name ≡ Some v.exchange =
         sym (ap r.view.exchanges (λ i. name_of ((seat_found t.seats to s found).named i) (eqb-true s.note.sends number a.1 i))) ∙ v.is in
@@ -108,7 +108,9 @@ module _ (times : Times) (host : ℕ) (t : Tables) (r : Reading) (h : Stands tim
         record {
           seat = s;
           found = found;
-          state = is ∙ ap (λ p. activities.Blocked (waitings.Send p m)) one;
+          target = target;
+          state = is;
+          near = (and_parts (same_host target from) (not (same_host to from)) a.0).0;
           last = a.1;
           opened_is = refl;
           done_is = refl;

@@ -1,5 +1,5 @@
--- A process that waits in its Send to the mover: what becomes of the relation when one of the Send's moves is opened, or its next bytes
--- are written.
+-- A process that waits in its Send to a process of the mover's station: what becomes of the relation when one of the Send's moves is
+-- opened, or its next bytes are written.
 use Rattle.std.proofs.Common.{◌≡◌, ◌≤◌, ℕ, ◌-◌, true, List, length, refl, sym, ap, subst, ◌∙◌, Some, arith}
 use Rattle.std.specs.Option.{option_map}
 use Rattle.std.proofs.lemmas.Bool.{eqb-true}
@@ -50,12 +50,15 @@ module _ (times : Times) (host : ℕ) (t : Tables) (r : Reading) (h : Stands tim
   e = w.exchange
 
   abbrev waiting : Waiting
-  waiting = waitings.Send from m
+  waiting = waitings.Send w.target m
+
+  target_away : w.target.host ≡ host → ⊥
+  target_away here = away (sym (eqb-true w.target.host from.host w.near) ∙ here)
 
   pub here : r.view.procs to ≡ Some p
   here = h.procs to own ∙ ap (option_map process_of) w.found
 
-  pub waits : sending p.state ≡ Some (from, m)
+  pub waits : sending p.state ≡ Some (w.target, m)
   waits = ap (λ d. sending (state_of d)) w.state
 
   named : name ≡ seat_name s
@@ -74,7 +77,7 @@ module _ (times : Times) (host : ℕ) (t : Tables) (r : Reading) (h : Stands tim
       subst (λ n. Part host (noted d) (with_send r.view n y)) (sym named)
       (subst (λ z. Part host (seated t to (moved_on moving z)) (with_send r.view (seat_name s) y)) so_far
       (subst (λ z. Part host (seated t to (moved_on z y.done)) (with_send r.view (seat_name s) y)) opens
-      (part_moved_on host t r.view part to own s w.found from m w.state away e (sym (ap r.view.exchanges named) ∙ w.is) y more
+      (part_moved_on host t r.view part to own s w.found w.target m w.state target_away e (sym (ap r.view.exchanges named) ∙ w.is) y more
       (subst (λ z. z ≤ MOVE_BYTES) (sym so_far) low))))
 
   pub carries_noted : (d : ℕ) → Carries 1 t (noted d)
@@ -87,12 +90,13 @@ module _ (times : Times) (host : ℕ) (t : Tables) (r : Reading) (h : Stands tim
       (λ i. record s { note = record s.note { opened = sym (w.opened_is ∙ is) i; done = sym w.done_is i } })
 
   -- a move is opened
-  pub more_opened : (x : Exchange) (v : Move) → HasMoreMoves e x → HasMoreMoves e (opened r.view to number moving p here (from, m) waits
+  pub more_opened : (x : Exchange) (v : Move) → HasMoreMoves e x → HasMoreMoves e (opened r.view to number moving p here (w.target, m) waits
       w.last x v)
   more_opened x v more = record {
     target = more.target;
     message = more.message;
     part = more.part;
+    spot = more.spot;
     stage = more.stage;
     moves =
         let long = more.moves in
@@ -122,7 +126,7 @@ module _ (times : Times) (host : ℕ) (t : Tables) (r : Reading) (h : Stands tim
         (subst (λ z. Part host (seated (seated t to (written at bytes)) to (moved_on z y.done)) (with_send k (seat_name s) y)) opens
         (part_moved_on host (seated t to (written at bytes)) k
         (part_written host t r.view part to own s w.found waiting w.state at bytes lies) to own
-        (written at bytes s) found from m w.state away e
+        (written at bytes s) found w.target m w.state target_away e
         (sym (ap r.view.exchanges named) ∙ w.is) y more (subst (λ z. z ≤ MOVE_BYTES) (sym so_far) low))))
 
     pub carries_copied : (d : ℕ) → Carries 1 t (with_written d)

@@ -7,7 +7,7 @@ use Rattle.vk_base.specs.declared.activity.Waiting.TheVariants as waitings
 use Rattle.vk_base.specs.declared.message.Message.{Message}
 use Rattle.vk_base.specs.declared.pid.Pid.{Pid}
 use Rattle.vk_base.specs.Messages.{grants_read, segment_of}
-use Rattle.vk_base.specs.Pids.{same_host, same_pid}
+use Rattle.vk_base.specs.Pids.{same_host}
 use Rattle.vk_base.specs.Ranges.{range_of, lies_within}
 use Rattle.vk_procs.specs.declared.seat.ProcNote.{ProcNote}
 use Rattle.vk_procs.specs.declared.seat.Seat.{Seat}
@@ -20,7 +20,7 @@ use Rattle.vk_move.specs.Moved.{HasFitSeats}
 use Rattle.vk_move.specs.Sender.{IsReadable, bytes_wanted, data_wanted, may_read, sender_by, sender_doing}
 use Rattle.vk_move.proofs.Going.{found_fits}
 
--- A process that waits in its Send to the mover.
+-- A process that waits in its Send to a process of the mover's station.
 pub record IsSending (note : ProcNote) (d : Activity) (m : Message) (opened done : ℕ) : Type 0 where
   pub to : Pid
   pub state : d ≡ activities.Blocked (waitings.Send to m)
@@ -46,7 +46,7 @@ pub is_sending : (pid target : Pid) (number : ℕ) (note : ProcNote) (d : Activi
 is_sending pid target number note activities.Ready m opened done is = absurd (never_made (leb number note.sends) m opened done is)
 is_sending pid target number note (activities.Done w o) m opened done is = absurd (never_made (leb number note.sends) m opened done is)
 is_sending pid target number note (activities.Blocked (waitings.Send to x)) m opened done is =
-    by_test (same_pid to target && not (same_host pid target) && note.sends == number) (leb number note.sends) note to x m opened done is
+    by_test (same_host to target && not (same_host pid target) && note.sends == number) (leb number note.sends) note to x m opened done is
 is_sending pid target number note (activities.Blocked waitings.Receive) m opened done is = absurd
     (never_made (leb number note.sends) m opened done is)
 is_sending pid target number note (activities.Blocked (waitings.ReceiveSegment start count)) m opened done is = absurd

@@ -12,7 +12,7 @@ use Rattle.vk_base.specs.Firsts.{change_first}
 use Rattle.vk_base.specs.Kernel.{name_of}
 use Rattle.vk_base.specs.Messages.{grants_read, grants_write, segment_of}
 use Rattle.vk_base.specs.Packets.{Packet, MoveAck, MoveNegative}
-use Rattle.vk_base.specs.Pids.{same_host, same_pid}
+use Rattle.vk_base.specs.Pids.{same_host}
 use Rattle.vk_base.specs.Ranges.{range_of, lies_within}
 use Rattle.vk_procs.specs.declared.seat.ProcNote.{ProcNote}
 use Rattle.vk_procs.specs.declared.seat.Seat.{Seat}
@@ -26,19 +26,20 @@ use Rattle.vk_move.specs.declared.sender.Sender.{Sender}
 use Rattle.vk_move.specs.declared.sender.Sender.TheVariants as senders
 use Rattle.vk_move.specs.Moved.{Moved, asked_packets, change_note, place_in, progressed, still}
 
--- What is known of the process of which a mover names the Send of this number: it waits in it for this target, or made it, or not.
+-- What is known of the process of which a mover names the Send of this number: it waits in it, to a process of the mover's station, or
+-- made it, or not.
 abbrev pub made_by : ℕ → ProcNote → Sender
 made_by number note = if nat_le number note.sends then senders.Gone else senders.Unknown
 
 abbrev pub sender_doing : Pid → Pid → ℕ → ProcNote → Activity → Sender
-sender_doing pid target number note (activities.Blocked (waitings.Send to m)) =
-    if same_pid to target && not (same_host pid target) && note.sends == number then senders.Waits m note.opened note.done
+sender_doing pid mover number note (activities.Blocked (waitings.Send to m)) =
+    if same_host to mover && not (same_host pid mover) && note.sends == number then senders.Waits m note.opened note.done
     else made_by number note
-sender_doing pid target number note d = made_by number note
+sender_doing pid mover number note d = made_by number note
 
 abbrev pub sender_by : Pid → Pid → ℕ → Option Seat → Sender
-sender_by pid target number None = senders.Unknown
-sender_by pid target number (Some s) = sender_doing pid target number s.note s.doing
+sender_by pid mover number None = senders.Unknown
+sender_by pid mover number (Some s) = sender_doing pid mover number s.note s.doing
 
 -- What is done with a packet of its mover: nothing; it is told that the sender waits no longer; or the packet is of the open move, or of
 -- one that is opened by it, of which so many bytes are done.

@@ -26,14 +26,14 @@ pub enum Verdict {
     Begins,
 }
 
-/// The message of the alien, if the process holds it.
+/// The message of the alien's Send, if the process holds it: access is by its grants, whatever message the process is shown.
 fn message_held(alien: Option<&Alien>, pid: Pid) -> Option<Message>
     ensures { result ≡ message_held pid (option_copied alien.entry) }
 {
     let alien = alien?;
     match alien.stage {
         AlienStage::Taken => {
-            if alien.target == pid {
+            if alien.at == pid {
                 Some(alien.message)
             } else {
                 None

@@ -19,8 +19,8 @@ use vk_brief::{BriefStep, Steps};
 use vk_packet::{Outbox, PacketView};
 use vk_procs::{ProcNote, Procs, Seat};
 
-/// What is known of the process of which a mover names a Send: that it waits in it, with this message, and of the open move so many
-/// bytes are done; that it made it; or nothing.
+/// What is known of the process of which a mover names a Send: that it waits in it, to a process of the mover's station, with this
+/// message, and of the open move so many bytes are done; that it made it; or nothing.
 #[derive(Clone, Copy)]
 pub enum Sender {
     Unknown,
@@ -51,8 +51,8 @@ fn made_by(number: u64, note: &ProcNote) -> Sender
     }
 }
 
-fn sender_by(seat: Option<&Seat>, pid: Pid, target: Pid, number: u64) -> Sender
-    ensures { result ≡ sender_by pid target number (option_copied seat.entry) }
+fn sender_by(seat: Option<&Seat>, pid: Pid, mover: Pid, number: u64) -> Sender
+    ensures { result ≡ sender_by pid mover number (option_copied seat.entry) }
 {
     let Some(seat) = seat else {
         return Sender::Unknown;
@@ -64,7 +64,7 @@ fn sender_by(seat: Option<&Seat>, pid: Pid, target: Pid, number: u64) -> Sender
                 message,
             },
         } => {
-            if to == target && pid.host != target.host && seat.note.sends == number {
+            if to.host == mover.host && pid.host != mover.host && seat.note.sends == number {
                 Sender::Waits {
                     message,
                     opened: seat.note.opened,

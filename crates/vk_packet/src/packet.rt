@@ -33,7 +33,7 @@ pub enum PacketView<'a> {
         to: Pid,
         number: u64,
     },
-    /// The target of the Send is not alive.
+    /// The process that has the message of the Send is not alive; it is told in the name of the target.
     Negative {
         from: Pid,
         to: Pid,
@@ -78,7 +78,7 @@ pub enum PacketView<'a> {
         offset: u32,
         bytes: &'a [u8],
     },
-    /// The process that the move concerns no longer waits for its mover.
+    /// The process that the move concerns does not wait in that Send for a process of the mover's station.
     MoveNegative {
         from: Pid,
         to: Pid,

@@ -17,7 +17,7 @@ use Rattle.vk_picture.specs.declared.picture.StepKind.{StepKind}
 use Rattle.vk_picture.specs.declared.picture.StepKind.TheVariants as steps
 use Rattle.vk_picture.specs.declared.picture.StepMark.{StepMark}
 
--- a Send waits for its target
+-- a Send waits for the process that has its message
 abbrev pub waiting : CallKind → Option Pid → Activity
 waiting calls.Send (Some target) = activities.Sending target
 waiting kind partner = activities.Waiting
@@ -31,10 +31,16 @@ is_bereft p a gone = false
 abbrev pub after_exit : Pid → Activity → Pid → Option Activity
 after_exit p a gone = if same_pid p gone then Some activities.Dead else if is_bereft p a gone then Some activities.Done else None
 
--- what a call makes of a process: its own that is begun, or an exit
+-- what a Forward makes of a sender of the forwarder's station: its message is at another process
+abbrev pub after_forward : Pid → Pid → Pid → Option Pid → Option Activity
+after_forward p pid from (Some to) = if same_pid p from && p.host == pid.host then Some (activities.Sending to) else None
+after_forward p pid from None = None
+
+-- what a call makes of a process: its own that is begun, an exit, or a Forward
 abbrev pub after_call : Pid → Activity → Pid → CallKind → Option Pid → Said → Option Activity
 after_call p a pid kind partner said.Begun = if same_pid p pid then Some (waiting kind partner) else None
 after_call p a pid calls.Exit partner said.Ok = after_exit p a pid
+after_call p a pid (calls.Forward from) partner said.Ok = after_forward p pid from partner
 after_call p a pid kind partner answer = None
 
 abbrev pub after_act : Pid → Activity → Act → Said → Option Activity

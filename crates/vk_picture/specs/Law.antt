@@ -3,7 +3,7 @@ use Rattle.std.specs.Prelude.{ℕ, ◌≡◌, Bool, List, [], ◌∷◌, ◌++�
 use Rattle.vk_picture.specs.declared.picture.FrameMark.{FrameMark}
 use Rattle.vk_picture.specs.declared.picture.Picture.{Picture}
 use Rattle.vk_picture.specs.declared.picture.Row.{Row}
-use Rattle.vk_picture.specs.Marks.{Mark, Arrow, Dot, Cross, Event, arrives, brought, marks_of}
+use Rattle.vk_picture.specs.Marks.{Mark, Arrow, Dot, Cross, Hand, Event, arrives, brought, handed, marks_of}
 use Rattle.vk_picture.specs.Svg.{arrow_line, marks_text, row_line}
 
 -- the number of the event that a mark is of
@@ -26,9 +26,18 @@ abbrev pub cross_in : Mark → List (ℕ × ℕ)
 cross_in (Cross number output at kind) = (number, output) ∷ []
 cross_in mark = []
 
+-- the number of the event that a hand begins at
+abbrev pub hand_in : Mark → List ℕ
+hand_in (Hand number start holder) = number ∷ []
+hand_in mark = []
+
 -- the number of an event, where a frame comes at it
 abbrev pub arrival : Picture → Row → List ℕ
 arrival p r = if is_some (brought p r) then r.number ∷ [] else []
+
+-- the number of an event, where it hands a message on
+abbrev pub handing : Row → List ℕ
+handing r = if is_some (handed r) then r.number ∷ [] else []
 
 abbrev pub frame_name : Row → FrameMark → ℕ × ℕ
 frame_name r f = (r.number, f.output)
@@ -37,13 +46,14 @@ frame_name r f = (r.number, f.output)
 abbrev pub stray : Picture → Row → FrameMark → List (ℕ × ℕ)
 stray p r f = if arrives p r f.output then [] else frame_name r f ∷ []
 
--- of each event, each frame, each frame that comes at an event, and each that comes nowhere there is one mark, in their order; and
--- what is written behind the lines of events and of columns is the text of all marks
+-- of each event, each frame, each frame that comes at an event, each that comes nowhere, and each message that is handed on there is one
+-- mark, in their order; and what is written behind the lines of events and of columns is the text of all marks
 pub record HasOneMarkEach (p : Picture) : Type 0 where
   pub events : flat_map event_in (marks_of p) ≡ map (λ (r : Row). r.number) p.rows
   pub frames : flat_map dot_in (marks_of p) ≡ flat_map (λ (r : Row). map (frame_name r) r.frames) p.rows
   pub arrows : flat_map arrow_in (marks_of p) ≡ flat_map (arrival p) p.rows
   pub crosses : flat_map cross_in (marks_of p) ≡ flat_map (λ (r : Row). flat_map (stray p r) r.frames) p.rows
+  pub hands : flat_map hand_in (marks_of p) ≡ flat_map handing p.rows
   pub drawn : flat_map (arrow_line p) p.rows ++ flat_map (row_line p) p.rows ≡ marks_text (marks_of p)
 
 abbrev pub EachHasOneMark : Type 0

@@ -1,12 +1,16 @@
--- The marks of a history: an event, a frame at the event that emitted it, an arrow to an event that it came to, a cross.
+-- The marks of a history: an event, a frame at the event that emitted it, an arrow to an event that it came to, a cross, and a hand, which
+-- is a message that a Forward brings to another process.
 use Rattle.std.specs.Prelude.{ℕ, ◌+◌, ◌*◌, Bool, true, false, ◌==◌, ◌&&◌, ◌||◌, not, List, [], ◌∷◌, ◌++◌, find, flat_map, length, Option, Some, None, option_map, if◌then◌else◌}
 use Rattle.std.specs.List.{list_any}
 use Rattle.std.specs.Option.{option_map_or}
 use Rattle.vk_base.specs.Options.{◌>>=◌}
+use Rattle.vk_base.specs.declared.pid.Pid.{Pid}
 use Rattle.vk_report.specs.declared.frame.PacketKind.{PacketKind}
 use Rattle.vk_picture.specs.declared.marks.Start.{Start}
 use Rattle.vk_picture.specs.declared.picture.Act.{Act}
 use Rattle.vk_picture.specs.declared.picture.Act.TheVariants as acts
+use Rattle.vk_picture.specs.declared.picture.CallKind.{CallKind}
+use Rattle.vk_picture.specs.declared.picture.CallKind.TheVariants as calls
 use Rattle.vk_picture.specs.declared.picture.Column.{Column}
 use Rattle.vk_picture.specs.declared.picture.FrameMark.{FrameMark}
 use Rattle.vk_picture.specs.declared.picture.Picture.{Picture}
@@ -14,7 +18,7 @@ use Rattle.vk_picture.specs.declared.picture.Row.{Row}
 use Rattle.vk_picture.specs.declared.picture.Said.{Said}
 use Rattle.vk_picture.specs.declared.picture.Said.TheVariants as said
 use Rattle.vk_picture.specs.declared.places.Point.{Point}
-use Rattle.vk_picture.specs.Places.{act_x, row_y}
+use Rattle.vk_picture.specs.Places.{act_x, process_x, row_y}
 
 -- where an event stands
 abbrev pub event_point : List Column → Row → Point
@@ -75,6 +79,18 @@ is_arrival host own output r = is_delivery host own output r.said r.act
 abbrev pub arrives : Picture → Row → ℕ → Bool
 arrives p r output = list_any (is_arrival r.host r.own output) p.rows
 
+abbrev pub handed_to : CallKind → Option Pid → Said → Option Pid
+handed_to (calls.Forward from) partner said.Ok = partner
+handed_to kind partner answer = None
+
+abbrev pub handed_by : Said → Act → Option Pid
+handed_by answer (acts.Call pid kind partner) = handed_to kind partner answer
+handed_by answer act = None
+
+-- the process to which an event, which is a Forward, brings a message
+abbrev pub handed : Row → Option Pid
+handed r = handed_by r.said r.act
+
 pub data Mark : Type 0 where
   -- a frame comes at the event of this number: from where, to where, its kind, and whether it is drawn lightly
   Arrow : (number : ℕ) (start : Start) (end : Point) (light : Bool) → Mark
@@ -82,6 +98,8 @@ pub data Mark : Type 0 where
   Dot : (number output : ℕ) (at : Point) (kind : PacketKind) → Mark
   -- it came nowhere
   Cross : (number output : ℕ) (at : Point) (kind : PacketKind) → Mark
+  -- the event of this number hands a message on: from where, and the line of the process that has it now
+  Hand : (number : ℕ) (start : Point) (holder : ℕ) → Mark
   -- an event, and what is brought to it
   Event : (row : Row) (at : Point) (brings : Option PacketKind) → Mark
 
@@ -97,8 +115,18 @@ frame_marks p r f = Dot r.number f.output (frame_point p.columns r f.output) f.k
 abbrev pub event_mark : Picture → Row → Mark
 event_mark p r = Event r (event_point p.columns r) (kind_brought p r)
 
+abbrev pub hand_mark : Picture → Row → Pid → Mark
+hand_mark p r to = Hand r.number (event_point p.columns r) (process_x p.columns to)
+
+abbrev pub hand_marks : Picture → Row → List Mark
+hand_marks p r = option_map_or (λ to. hand_mark p r to ∷ []) (handed r) []
+
+-- an event lies on the hand that begins there
+abbrev pub act_marks : Picture → Row → List Mark
+act_marks p r = hand_marks p r ++ event_mark p r ∷ []
+
 abbrev pub row_marks : Picture → Row → List Mark
-row_marks p r = flat_map (frame_marks p r) r.frames ++ event_mark p r ∷ []
+row_marks p r = flat_map (frame_marks p r) r.frames ++ act_marks p r
 
 -- all marks, in the order in which they are drawn
 abbrev pub marks_of : Picture → List Mark

@@ -19,7 +19,7 @@ use Rattle.vk_picture.specs.declared.picture.StepMark.{StepMark}
 use Rattle.vk_picture.specs.declared.places.Point.{Point}
 use Rattle.vk_picture.specs.declared.style.TheConstants.{STYLE}
 use Rattle.vk_picture.specs.Lanes.{activity_word, turn_of}
-use Rattle.vk_picture.specs.Marks.{Mark, Arrow, Dot, Cross, Event, arrow_marks, frame_marks, event_mark}
+use Rattle.vk_picture.specs.Marks.{Mark, Arrow, Dot, Cross, Hand, Event, arrow_marks, frame_marks, hand_marks, event_mark}
 use Rattle.vk_picture.specs.Places.{bottom_y, column_x, row_y, steps_x, width_of}
 use Rattle.vk_picture.specs.Words.{label_text, step_text}
 
@@ -76,6 +76,10 @@ cross_text at kind =
     shape_text (codes "frame") (kind_text kind) at (codes "l8 16m-5-5l10 10m0-10l-10 10")
     ++ words_text (codes "lost") at (codes " dx=\"16\" dy=\"20\">") (kind_text kind)
 
+-- a line to that of the process that has the message now, and a diamond there
+abbrev pub hand_text : Point → ℕ → List ℕ
+hand_text start holder = shape_start (codes "hand") (codes "send") start ++ codes "H" ++ decimal holder ++ codes "m-5 0l5-5 5 5-5 5z\"/>\n"
+
 abbrev pub sign_word : Act → List ℕ
 sign_word (acts.Call pid kind partner) = codes "call"
 sign_word (acts.Collect pid) = codes "answer"
@@ -102,6 +106,7 @@ abbrev pub mark_text : Mark → List ℕ
 mark_text (Arrow number start end light) = arrow_text start end light
 mark_text (Dot number output at kind) = dot_text at kind
 mark_text (Cross number output at kind) = cross_text at kind
+mark_text (Hand number start holder) = hand_text start holder
 mark_text (Event row at brings) = event_text row at brings
 
 abbrev pub marks_text : List Mark → List ℕ
@@ -115,9 +120,13 @@ arrow_line p r = marks_text (arrow_marks p r)
 unfoldable pub frame_line : Picture → Row → FrameMark → List ℕ
 frame_line p r f = marks_text (frame_marks p r f)
 
--- the frames of an event, and the event
+-- a message that an event hands on
+unfoldable pub hand_line : Picture → Row → List ℕ
+hand_line p r = marks_text (hand_marks p r)
+
+-- the frames of an event, what it hands on, and the event
 unfoldable pub row_line : Picture → Row → List ℕ
-row_line p r = flat_map (frame_line p r) r.frames ++ mark_text (event_mark p r)
+row_line p r = flat_map (frame_line p r) r.frames ++ hand_line p r ++ mark_text (event_mark p r)
 
 -- Rows and columns.
 

@@ -22,6 +22,7 @@ call_word calls.Receive = codes "receive"
 call_word calls.ReceiveSegment = codes "receivesegment"
 call_word calls.Reply = codes "reply"
 call_word calls.ReplySegment = codes "replysegment"
+call_word (calls.Forward from) = codes "forward"
 call_word calls.MoveTo = codes "moveto"
 call_word calls.MoveFrom = codes "movefrom"
 call_word calls.SetPid = codes "setpid"
@@ -60,6 +61,11 @@ abbrev pub partner_text : Option Pid → List ℕ
 partner_text None = []
 partner_text (Some p) = 32 ∷ pid_text p
 
+-- whose message a call hands on, where it hands one on
+abbrev pub handed_from : CallKind → Option Pid
+handed_from (calls.Forward from) = Some from
+handed_from kind = None
+
 -- what is brought, where it is known
 abbrev pub brought_text : Option PacketKind → List ℕ
 brought_text None = []
@@ -67,7 +73,7 @@ brought_text (Some kind) = kind_text kind
 
 -- the words before the answer
 abbrev pub act_text : Option PacketKind → Act → List ℕ
-act_text brought (acts.Call pid kind partner) = call_word kind ++ partner_text partner
+act_text brought (acts.Call pid kind partner) = call_word kind ++ partner_text (handed_from kind) ++ partner_text partner
 act_text brought (acts.Collect pid) = []
 act_text brought (acts.Tick host) = []
 act_text brought (acts.Deliver to from event output) = brought_text brought

@@ -3,14 +3,18 @@
 ghost use Rattle.std.specs.Prelude.{◌≡◌, ◌++◌, flat_map, OnOk};
 ghost use Rattle.vk_report.specs.Report.{kind_text};
 ghost use Rattle.vk_picture.specs.Marks.{cross_marks};
-ghost use Rattle.vk_picture.specs.Svg.{marks_text, label_at_text, arrow_line, arrow_text, cross_text, dot_text, event_text, frame_line, row_line, ruler_text};
+ghost use Rattle.vk_picture.specs.Svg.{marks_text, label_at_text, arrow_line, arrow_text, cross_text, dot_text, event_text, frame_line, hand_line, hand_text, row_line, ruler_text};
 ghost use Rattle.vk_picture.specs.Svg.{across_text, arrow_start, way_text, number_text, steps_text, sign_shape, sign_text, sign_word};
 
-use crate::elements::{write_light, write_open, write_point, write_shape, write_words};
+use crate::elements::{
+    write_light, write_open, write_point, write_shape, write_shape_start, write_words,
+};
 use crate::labels::{write_label, write_steps};
-use crate::marks::{Start, arrives, brought, event_point, frame_point, is_light, kind_brought};
+use crate::marks::{
+    Start, arrives, brought, event_point, frame_point, handed, is_light, kind_brought,
+};
 use crate::picture::{Act, FrameMark, Picture, Row, StepMark};
-use crate::places::{Point, row_y};
+use crate::places::{Point, process_x, row_y};
 use std::alloc::Global;
 use vk_base::NoMemory;
 use vk_report::{PacketKind, kind_word};
@@ -126,6 +130,36 @@ fn write_frame(
     write_end(alloc, text, picture, row, frame)
 }
 
+/// A line to that of the process that has the message now, and a diamond there.
+fn write_hand(alloc: Global, text: &mut Vec<u8>, start: Point, holder: u64) -> Result<(), NoMemory>
+    ensures { OnOk result (text.new.items ≡ text.old.items ++ hand_text start holder) }
+{
+    write_shape_start(alloc, text, b"hand", b"send", start)?;
+    put(text, b"H")?;
+    put_number(alloc, text, holder)?;
+    put(text, b"m-5 0l5-5 5 5-5 5z\"/>\n")
+}
+
+/// The message that an event hands on, where it hands one on.
+#[tactic(auto, unfolding(crate::specs::Svg::hand_line))]
+fn write_handed(
+    alloc: Global,
+    text: &mut Vec<u8>,
+    picture: &Picture,
+    row: &Row,
+) -> Result<(), NoMemory>
+    ensures { OnOk result (text.new.items ≡ text.old.items ++ hand_line picture.now row.now) }
+{
+    match handed(row) {
+        Some(to) => {
+            let columns = picture.columns.as_slice();
+            let start = event_point(columns, row);
+            write_hand(alloc, text, start, process_x(columns, to))
+        }
+        None => Ok(()),
+    }
+}
+
 fn sign_word(act: Act) -> &'static [u8]
     ensures { result.now ≡ sign_word act }
 {
@@ -198,7 +232,7 @@ fn write_frames(
     Ok(())
 }
 
-/// The frames of an event, and the event.
+/// The frames of an event, what it hands on, and the event.
 #[tactic(auto, unfolding(crate::specs::Svg::row_line))]
 pub(crate) fn write_row(
     alloc: Global,
@@ -209,6 +243,7 @@ pub(crate) fn write_row(
     ensures { OnOk result (text.new.items ≡ text.old.items ++ row_line picture.now row.now) }
 {
     write_frames(alloc, text, picture, row, row.frames.as_slice())?;
+    write_handed(alloc, text, picture, row)?;
     let at = event_point(picture.columns.as_slice(), row);
     write_event(alloc, text, row, at, kind_brought(picture, row))
 }

@@ -6,7 +6,7 @@ ghost use Rattle.vk_picture.specs.Svg.{name_words};
 ghost use Rattle.vk_picture.specs.Words.{said_text, partner_text, brought_text, act_text, label_text, step_words, step_text};
 
 use crate::picture::{Act, Said, StepMark};
-use crate::words::{call_word, step_word};
+use crate::words::{call_word, handed_from, step_word};
 use std::alloc::Global;
 use v_trace::put_answer;
 use vk_base::{Answer, NoMemory, Pid};
@@ -57,6 +57,7 @@ fn write_act(
     match act {
         Act::Call { kind, partner, .. } => {
             put(text, call_word(kind))?;
+            write_partner(alloc, text, handed_from(kind))?;
             write_partner(alloc, text, partner)
         }
         Act::Collect { .. } | Act::Tick { .. } => Ok(()),

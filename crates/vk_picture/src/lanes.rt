@@ -1,7 +1,7 @@
 //! What a process does, from event to event.
 
 ghost use Rattle.std.specs.Prelude.{◌≡◌};
-ghost use Rattle.vk_picture.specs.Lanes.{waiting, is_bereft, after_exit, after_call, after_act, after_kind, after_step, after_steps, turn_of, activity_word};
+ghost use Rattle.vk_picture.specs.Lanes.{waiting, is_bereft, after_exit, after_forward, after_call, after_act, after_kind, after_step, after_steps, turn_of, activity_word};
 
 use crate::picture::{Act, CallKind, Row, Said, StepKind, StepMark};
 use vk_base::Pid;
@@ -10,7 +10,7 @@ use vk_base::Pid;
 #[derive(Clone, Copy, Debug, PartialEq, Eq)]
 pub(crate) enum Activity {
     Ready,
-    /// It waits in a Send.
+    /// It waits in a Send, whose message this process has.
     Sending { target: Pid },
     /// It waits in another call.
     Waiting,
@@ -61,6 +61,18 @@ fn after_exit(pid: Pid, activity: Activity, gone: Pid) -> Option<Activity>
     }
 }
 
+/// What a Forward by `caller` of the message of `from` makes of the process.
+fn after_forward(pid: Pid, caller: Pid, from: Pid, partner: Option<Pid>) -> Option<Activity>
+    ensures { result ≡ after_forward pid caller from partner }
+{
+    let target = partner?;
+    if pid == from && pid.host == caller.host {
+        Some(Activity::Sending { target })
+    } else {
+        None
+    }
+}
+
 /// What a call of `caller` makes of the process.
 fn after_call(
     pid: Pid,
@@ -81,6 +93,7 @@ fn after_call(
             }
         }
         (Said::Ok, CallKind::Exit) => after_exit(pid, activity, caller),
+        (Said::Ok, CallKind::Forward { from }) => after_forward(pid, caller, from, partner),
         _ => None,
     }
 }

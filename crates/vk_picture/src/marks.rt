@@ -1,10 +1,11 @@
-//! The marks of a history: where frames begin, and where they come.
+//! The marks of a history: where frames begin, and where they come, and to whom messages are handed on.
 
 ghost use Rattle.std.specs.Prelude.{◌≡◌, find, option_copied};
-ghost use Rattle.vk_picture.specs.Marks.{event_point, frame_point, is_missing, is_taken, is_event, is_output, start_in, start_of, brought_by, brought, kind_brought, is_light, is_delivery, is_arrival, arrives};
+ghost use Rattle.vk_picture.specs.Marks.{event_point, frame_point, is_missing, is_taken, is_event, is_output, start_in, start_of, brought_by, brought, kind_brought, is_light, is_delivery, is_arrival, arrives, handed_to, handed_by, handed};
 
-use crate::picture::{Act, Column, FrameMark, Picture, Row, Said};
+use crate::picture::{Act, CallKind, Column, FrameMark, Picture, Row, Said};
 use crate::places::{Point, act_x, row_y};
+use vk_base::Pid;
 use vk_report::PacketKind;
 
 /// A frame where it begins.
@@ -145,4 +146,23 @@ pub(crate) fn arrives(picture: &Picture, row: &Row, output: u16) -> bool
         .as_slice()
         .iter()
         .any(|r| is_arrival(r, row.host, row.own, output))
+}
+
+fn handed_to(kind: CallKind, partner: Option<Pid>, said: Said) -> Option<Pid>
+    ensures { result ≡ handed_to kind partner said }
+{
+    match (said, kind) {
+        (Said::Ok, CallKind::Forward { .. }) => partner,
+        _ => None,
+    }
+}
+
+/// The process to which the event, which is a Forward, brings a message.
+pub(crate) fn handed(row: &Row) -> Option<Pid>
+    ensures { result ≡ handed row.now }
+{
+    match row.act {
+        Act::Call { kind, partner, .. } => handed_to(kind, partner, row.said),
+        _ => None,
+    }
 }

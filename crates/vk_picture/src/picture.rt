@@ -11,6 +11,8 @@ pub enum CallKind {
     ReceiveSegment,
     Reply,
     ReplySegment,
+    /// The message of this process is handed on to the partner.
+    Forward { from: Pid },
     MoveTo,
     MoveFrom,
     SetPid,

@@ -48,7 +48,7 @@ fn station_column(columns: &[Column], host: u16) -> Option<&Column>
 }
 
 /// The line of a process.
-fn process_x(columns: &[Column], pid: Pid) -> u64
+pub(crate) fn process_x(columns: &[Column], pid: Pid) -> u64
     ensures x { result ≡ process_x columns.now pid }
     ensures few { result < 2 ^ 32 }
 {

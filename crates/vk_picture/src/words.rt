@@ -1,9 +1,10 @@
 //! Words of the labels.
 
 ghost use Rattle.std.specs.Prelude.{◌≡◌};
-ghost use Rattle.vk_picture.specs.Words.{call_word, step_word};
+ghost use Rattle.vk_picture.specs.Words.{call_word, handed_from, step_word};
 
 use crate::picture::{CallKind, StepKind};
+use vk_base::Pid;
 
 /// As the call is spelled in a schedule.
 pub(crate) fn call_word(kind: CallKind) -> &'static [u8]
@@ -15,6 +16,7 @@ pub(crate) fn call_word(kind: CallKind) -> &'static [u8]
         CallKind::ReceiveSegment => b"receivesegment",
         CallKind::Reply => b"reply",
         CallKind::ReplySegment => b"replysegment",
+        CallKind::Forward { .. } => b"forward",
         CallKind::MoveTo => b"moveto",
         CallKind::MoveFrom => b"movefrom",
         CallKind::SetPid => b"setpid",
@@ -22,6 +24,16 @@ pub(crate) fn call_word(kind: CallKind) -> &'static [u8]
         CallKind::Load => b"load",
         CallKind::Store => b"store",
         CallKind::Exit => b"exit",
+    }
+}
+
+/// Whose message the call hands on, where it hands one on.
+pub(crate) fn handed_from(kind: CallKind) -> Option<Pid>
+    ensures { result ≡ handed_from kind }
+{
+    match kind {
+        CallKind::Forward { from } => Some(from),
+        _ => None,
     }
 }
 

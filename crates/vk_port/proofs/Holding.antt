@@ -1,5 +1,5 @@
 -- A station keeps what it keeps: at the beginning, and with one more entry.
-use Rattle.std.proofs.Common.{◌≡◌, ℕ, ◌+◌, ◌-◌, ◌*◌, ◌/◌, ◌^◌, ◌<◌, ◌≤◌, Bool, true, false, ◌&&◌, ◌==◌, nat_le, nat_lt, List, [], ◌∷◌, ◌++◌, length, map, None, refl, sym, ap, subst, ◌∙◌, inl, inr, arith}
+use Rattle.std.proofs.Common.{◌≡◌, ℕ, ◌+◌, ◌-◌, ◌*◌, ◌/◌, ◌^◌, ◌<◌, ◌≤◌, Bool, true, false, ◌&&◌, ◌==◌, nat_le, nat_lt, List, [], ◌∷◌, ◌++◌, length, map, None, Some, refl, sym, ap, subst, ◌∙◌, inl, inr, arith}
 use Rattle.std.specs.Prelude.{sum_by}
 use Rattle.std.specs.List.{list_any}
 use Rattle.std.proofs.Math.Nat.{div-le_self}
@@ -16,7 +16,7 @@ use Rattle.vk_base.specs.declared.pid.Pid.{Pid}
 use Rattle.vk_base.specs.declared.step.Step.TheVariants as steps
 use Rattle.vk_base.specs.Pids.{IsPid}
 use Rattle.vk_base.specs.Steps.{is_allowed}
-use Rattle.vk_base.specs.Settings.{Settings, has_process, has_station, refusal_of, stations_of}
+use Rattle.vk_base.specs.Settings.{AreLawful, Settings, has_process, has_station, stations_of}
 use Rattle.vk_base.proofs.SettingsLemmas.{among_stations}
 use Rattle.vk_rules.specs.Each.{Each}
 use Rattle.vk_rules.specs.Entries.{Called, Collected, Delivered, Entry, Input, Ticked}
@@ -86,7 +86,7 @@ none_there : (before rest : List (ℕ × StationEvent)) (x : ℕ × StationEvent
 none_there [] rest x e = cc
 none_there (b ∷ before) rest x e = cc
 
-pub kept_first : (c : Settings) (s : StationValue) (host stations : ℕ) → s.host ≡ host → refusal_of c.times c.pool c.specs ≡ None →
+pub kept_first : (c : Settings) (s : StationValue) (host stations : ℕ) → s.host ≡ host → AreLawful c →
     Each (λ (p : ProcessSpec). IsPid p.pid) c.specs → has_station c.specs host ≡ true → stations ≡ length (stations_of c.specs) →
     stations ≤ STATIONS → IsAt c [] s → (items : List (ℕ × StationEvent)) → items ≡ [] → IsKept c s.host items s stations 0
 kept_first c s host stations same lawful pids has count few at items none =

@@ -1,11 +1,11 @@
 -- Internal. What a station keeps: its host stands for the entries of its history, and these are within its share.
-use Rattle.std.specs.Prelude.{ℕ, ◌≡◌, ◌≤◌, ◌/◌, true, List, [], ◌∷◌, length, None}
+use Rattle.std.specs.Prelude.{ℕ, ◌≡◌, ◌≤◌, ◌/◌, true, List, [], ◌∷◌, length}
 use Rattle.vk_base.specs.declared.config.ProcessSpec.{ProcessSpec}
 use Rattle.vk_base.specs.declared.event.StationEvent.{StationEvent}
 use Rattle.vk_base.specs.declared.event.StationEvent.TheVariants as events
 use Rattle.vk_base.specs.declared.limits.TheConstants.{EVENTS, FRAME_BYTES, STATIONS}
 use Rattle.vk_base.specs.Pids.{IsPid}
-use Rattle.vk_base.specs.Settings.{Settings, has_station, refusal_of, stations_of}
+use Rattle.vk_base.specs.Settings.{AreLawful, Settings, has_station, stations_of}
 use Rattle.vk_host.specs.Standing.{IsAt}
 use Rattle.vk_host.specs.Values.{StationValue}
 use Rattle.vk_rules.specs.Each.{Each}
@@ -44,7 +44,7 @@ first_of c host = record { config = c; host = host; history = []; spare = 0 }
 -- The host stands for the entries that these events make. So many stations share, and so many bytes were emitted here.
 pub record IsKept (c : Settings) (host : ℕ) (items : List (ℕ × StationEvent)) (s : StationValue) (stations bytes : ℕ) : Type 0 where
   pub same : s.host ≡ host
-  pub lawful : refusal_of c.times c.pool c.specs ≡ None
+  pub lawful : AreLawful c
   pub pids : Each (λ (p : ProcessSpec). IsPid p.pid) c.specs
   pub station : has_station c.specs host ≡ true
   pub count : stations ≡ length (stations_of c.specs)

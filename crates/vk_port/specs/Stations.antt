@@ -7,7 +7,7 @@ use Rattle.vk_base.specs.declared.event.StationEvent.TheVariants as events
 use Rattle.vk_base.specs.declared.limits.TheConstants.{EVENTS}
 use Rattle.vk_base.specs.declared.pid.Pid.{Pid}
 use Rattle.vk_base.specs.declared.step.Step.TheVariants as steps
-use Rattle.vk_base.specs.Settings.{Settings, has_process, has_station, refusal_of, stations_of}
+use Rattle.vk_base.specs.Settings.{AreLawful, Settings, has_process, has_station, stations_of}
 use Rattle.vk_base.specs.Steps.{is_allowed}
 use Rattle.vk_host.specs.Sealed.{sealed}
 use Rattle.vk_host.specs.Values.{input_of}
@@ -118,7 +118,7 @@ HadRoom o history =
 -- What is true of every history of a station: its configuration has no fault, and has the station; the events are the station's own; each
 -- was entered where there was room, and all are within the station's share.
 pub record IsLawfulHistory (o : StationHistory) : Type 0 where
-  pub lawful : refusal_of o.config.times o.config.pool o.config.specs ≡ None
+  pub lawful : AreLawful o.config
   pub station : has_station o.config.specs o.host ≡ true
   pub own : Each (λ (x : ℕ × StationEvent). is_own o x.1 ≡ true) o.history
   pub had_room : HadRoom o o.history

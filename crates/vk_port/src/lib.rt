@@ -8,7 +8,7 @@
 #![tactic(auto)]
 
 mod entries;
-mod fields;
+mod opened;
 mod patience;
 mod port;
 mod station;

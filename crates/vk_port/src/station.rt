@@ -3,14 +3,14 @@
 ghost use Rattle.std.specs.Prelude.{◌≡◌, ◌≤◌, ◌<◌, ◌==◌, [], false, true, length, map, slice_get, Some, None, IfOk};
 ghost use Rattle.vk_base.specs.declared.config.ProcessSpec.{ProcessSpec as TheProcessSpec};
 ghost use Rattle.vk_base.specs.Pids.{IsPid};
-ghost use Rattle.vk_base.specs.Settings.{has_station, refusal_of};
+ghost use Rattle.vk_base.specs.Settings.{has_station};
 ghost use Rattle.vk_rules.specs.Each.{Each};
 ghost use Rattle.vk_rules.specs.Frames.{number_in, unsealed_of};
 ghost use Rattle.vk_port.specs.Kept.{IsHeld};
 ghost use Rattle.vk_port.specs.Stations.{IsLawfulHistory, brings_last_number, entry_at, event_of, is_full, is_own, is_ready, is_used_up_by, most_frames, origin_of, shown};
 
 use crate::entries::Entries;
-use crate::fields::{are_in_range, frame_is, pid_is};
+use crate::opened::frame_is;
 use crate::station_out::StationOut;
 use std::alloc::Global;
 use std::marker::Model;
@@ -20,7 +20,7 @@ use vk_base::limits::EVENTS;
 use vk_base::{Config, List, NoMemory, ProcessSpec, StationEvent};
 use vk_brief::{BriefCall, CallView};
 use vk_frame::unseal;
-use vk_host::Host;
+use vk_host::{Host, are_in_range, pid_is};
 
 /// The most bytes that the frames of all stations have.
 pub const EMITTED_BYTES: usize = 268_435_456;
@@ -58,12 +58,12 @@ impl Station {
     ///
     /// [`NoMemory`] where memory is wanting.
     pub fn new(alloc: Global, config: &Config, host: u16) -> Result<Station, NoMemory>
-        requires lawful { refusal_of config.now.times config.now.pool config.now.specs ≡ None }
-        requires station { has_station config.now.specs host ≡ true }
+        requires { has_station config.now.specs host ≡ true }
         ensures config { IfOk result (λ s. s.config ≡ config.now) }
         ensures host { IfOk result (λ s. s.host ≡ host) }
         ensures empty { IfOk result (λ s. s.history ≡ []) }
     {
+        let _lawful = config.times();
         pids_are(config.specs());
         Ok(Station {
             config: Snapshot::of(config),

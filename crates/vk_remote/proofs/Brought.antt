@@ -1,7 +1,7 @@
 -- What a Send of another station brings into the view of a station leaves the view sound.
 use Rattle.std.proofs.Common.{◌≡◌, ℕ, ◌<◌, ◌≤◌, max, Bool, true, false, cond, not, ◌==◌, ◌&&◌, ◌||◌, List, [], ◌∷◌, refl, ap, sym, ◌∙◌, subst, Option, Some, None, is_some, inl, inr, arith}
 use Rattle.std.specs.List.{list_any}
-use Rattle.std.proofs.lemmas.Bool.{cases_Bool, and_parts, both_ways, eqb-true, false_from_ne_true}
+use Rattle.std.proofs.lemmas.Bool.{cases_Bool, and_parts, both_ways, eqb-true, false_from_ne_true, eq-eqb}
 use Rattle.std.proofs.lemmas.Option.{same_Some, none-some}
 use Rattle.vk_base.specs.declared.kernel.Exchange.{Exchange}
 use Rattle.vk_base.specs.declared.kernel.Name.{Name}
@@ -9,8 +9,8 @@ use Rattle.vk_base.specs.declared.kernel.Process.{Process}
 use Rattle.vk_base.specs.declared.kernel.State.TheVariants as states
 use Rattle.vk_base.specs.declared.message.Message.{Message}
 use Rattle.vk_base.specs.declared.pid.Pid.{Pid}
-use Rattle.vk_base.specs.Brought.{brought, posted, sender_heard, without}
-use Rattle.vk_base.specs.Kernel.{Kernel, is_at_target, is_live, is_posted, is_ready, name_of, same_name, sending}
+use Rattle.vk_base.specs.Brought.{brought, posted, sender_heard}
+use Rattle.vk_base.specs.Kernel.{Kernel, is_at_target, is_live, is_posted, is_ready, name_of, same_name, sending, without}
 use Rattle.vk_base.specs.Packets.{Send}
 use Rattle.vk_base.specs.Pids.{same_host, same_pid}
 use Rattle.v_laws.specs.Sound.{IsAwaited, IsBegun, IsSent, IsSoundAt, IsUnderWay, has_arrived}
@@ -174,10 +174,18 @@ module _ (host : ℕ) (k : Kernel) (sound : IsSoundAt (λ g. false) k)
       remote = ap (λ p. same_host p e.target) (same_pid_is n.sender from (sender_same n same))
           ∙ ap (λ (z : Exchange). same_host from z.target) (sym (at_name n e same is)) ∙ hosts_apart;
       away = none_without n name k.arrived same;
+      at = ap (λ (z : Exchange). z.at) (sym (at_name n e same is)) ∙ ap (λ (z : Exchange). z.target) (at_name n e same is);
+      shown = ap (λ (z : Exchange). z.shown) (sym (at_name n e same is)) ∙ ap (λ (z : Exchange). z.message) (at_name n e same is);
     }
     | inr other ↦
         let u = sound.posted n e (was n e other is) away in
-        record { remote = u.remote; away = any_without n name k.arrived other ∙ u.away }
+        record { remote = u.remote; away = any_without n name k.arrived other ∙ u.away; at = u.at; shown = u.shown }
+  ]
+
+  near : (n : Name) (e : Exchange) → l.exchanges n ≡ Some e → same_host e.target e.at ≡ true
+  near n e is = elim (cases_Bool (same_name n name)) [
+    | inl same ↦ ap (λ (z : Exchange). same_host z.target z.at) (sym (at_name n e same is)) ∙ eq-eqb to.host to.host refl
+    | inr other ↦ sound.near n e (was n e other is)
   ]
 
   came : (n : Name) (e : Exchange) → l.exchanges n ≡ Some e → is_at_target e.stage ≡ true → has_arrived l n ≡ true
@@ -222,6 +230,7 @@ module _ (host : ℕ) (k : Kernel) (sound : IsSoundAt (λ g. false) k)
   sound_brought = record {
     begun = begun;
     awaited = awaited;
+    near = near;
     known = known;
     once = distinct_filter same_name (λ n. not (same_name n name)) k.arrived sound.once;
     posted = under_way;

@@ -18,7 +18,7 @@ unfoldable use Rattle.vk_rules.specs.Aliens.{place_for, alien_of, slots_after}
 unfoldable use Rattle.vk_rules.specs.CallOutcomes.{call_outcome, collect_outcome, tick_outcome}
 unfoldable use Rattle.vk_rules.specs.Histories.{with_entry, happened, history}
 unfoldable use Rattle.vk_rules.specs.Observed.{observed}
-unfoldable use Rattle.vk_rules.specs.PacketOutcomes.{far_sender, packet_outcome}
+unfoldable use Rattle.vk_rules.specs.PacketOutcomes.{far_sender, far_partner, packet_outcome}
 unfoldable use Rattle.vk_rules.specs.Readings.{reading, reading_after}
 unfoldable use Rattle.vk_rules.specs.Right.{right_entry}
 unfoldable use Rattle.vk_rules.specs.Rounds.{round, told_sender}
@@ -37,7 +37,7 @@ message_1 = record { 0 = (10 ∷ []) ++ replicate 31 0 }
 abbrev settings : Settings
 settings = record {
   times = record { tries = 5; interval = 4; life = 8 };
-  pool = 16;
+  pools = 16 ∷ 16 ∷ [];
   specs = record { pid = p1_1; size = 64 } ∷ record { pid = p2_1; size = 64 } ∷ [];
 }
 
@@ -61,7 +61,7 @@ told =
 entries : history_of settings (events_of told) ≡ happenings told
 unfolding put_process put_exchange put_names put_lookup queue_of held held_up_to waiting_on call_refusal sent copied_at_once
     move_begun lookup_begun exited arriving with_arrival taking taken finishing failing opening_move move_opened copying copied
-    ending hearing finding collecting run place_for alien_of with_entry happened history observed round told_sender far_sender
+    ending hearing finding collecting run place_for alien_of with_entry happened history observed round told_sender far_sender far_partner
     call_outcome collect_outcome tick_outcome packet_outcome reading change_process change_exchange change_lookup slots_after
     work_after reading_after right_entry
 entries = refl
@@ -69,7 +69,7 @@ entries = refl
 observations : seen_in settings told ≡ Some (observed no_call (happenings told))
 unfolding put_process put_exchange put_names put_lookup queue_of held held_up_to waiting_on call_refusal sent copied_at_once
     move_begun lookup_begun exited arriving with_arrival taking taken finishing failing opening_move move_opened copying copied
-    ending hearing finding collecting run place_for alien_of with_entry happened history observed round told_sender far_sender
+    ending hearing finding collecting run place_for alien_of with_entry happened history observed round told_sender far_sender far_partner
     call_outcome collect_outcome tick_outcome packet_outcome reading change_process change_exchange change_lookup slots_after
     work_after reading_after right_entry
 observations = refl

@@ -189,4 +189,5 @@ none_arrive k pid calls.Receive a = none_where (is_begun a) k pid
 none_arrive k pid (calls.ReceiveSegment start count) a = none_where (is_begun a) k pid
 none_arrive k pid (calls.Reply m to) a = no_finish (is_ok a && same_host pid to) to
 none_arrive k pid (calls.ReplySegment m to dest src count) a = no_finish (is_ok a && same_host pid to) to
+none_arrive k pid (calls.Forward m from to) a = none_where (is_ok a) k to
 none_arrive k pid c a = refl

@@ -46,7 +46,7 @@ use Rattle.vk_stands.proofs.OneAlien.{slotted}
 use Rattle.vk_stands.proofs.Parts.{Part, carries_more, part_of, stands_part}
 
 -- an alien whose message was taken is not closed
-open_by : (stage : AlienStage) (bytes : List ℕ) → is_taken (stage_by stage bytes) ≡ true → closed_in stage ≡ None
+pub open_by : (stage : AlienStage) (bytes : List ℕ) → is_taken (stage_by stage bytes) ≡ true → closed_in stage ≡ None
 open_by alien_stages.Queued bytes t = refl
 open_by alien_stages.Taken bytes t = refl
 open_by (alien_stages.Replied m dest closed) bytes t = absurd (cc)

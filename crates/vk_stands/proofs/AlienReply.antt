@@ -1,6 +1,5 @@
 -- A reply to a process of another station is kept in its alien, which it closes.
-use Rattle.std.proofs.Common.{◌≡◌, ◌≤◌, ℕ, true, false, List, length, map, Some, refl, sym, ap, subst, ◌∙◌, inl, inr}
-use Rattle.std.proofs.lemmas.Bool.{cases_Bool}
+use Rattle.std.proofs.Common.{◌≡◌, ◌≤◌, ℕ, true, false, List, length, map, Some, refl, sym, ap, ◌∙◌}
 use Rattle.std.proofs.lemmas.Option.{same_Some}
 use Rattle.vk_base.specs.declared.kernel.Exchange.{Exchange}
 use Rattle.vk_base.specs.declared.kernel.Name.{Name}
@@ -9,18 +8,19 @@ use Rattle.vk_base.specs.declared.limits.TheConstants.{SEGMENT_BYTES}
 use Rattle.vk_base.specs.declared.message.Message.{Message}
 use Rattle.vk_base.specs.Kernel.{Kernel, is_taken, queue_of, same_name, with_stage}
 use Rattle.v_laws.proofs.Queues.{queue-stage}
-use Rattle.v_laws.proofs.Tables.{put_exchange_at, put_exchange_other, same_name_is, same_name_self}
+use Rattle.v_laws.proofs.Tables.{put_exchange_at, put_exchange_other, same_name_self}
 use Rattle.vk_pool.specs.declared.alien.Alien.{Alien}
 use Rattle.vk_pool.specs.Aliens.{alien_at, replied}
 use Rattle.vk_stands.specs.Stands.{IsKept}
-use Rattle.vk_stands.specs.Tables.{Tables, alien_name, stage_of}
+use Rattle.vk_stands.specs.Tables.{Tables, alien_name, spot_of, stage_of}
 use Rattle.vk_stands.proofs.Aliens.{of_at}
 use Rattle.vk_stands.proofs.FitSlots.{fit_replied}
 use Rattle.vk_stands.proofs.LocalReply.{taken_unqueued}
 use Rattle.vk_stands.proofs.OneAlien.{ChangesAlien, names_slotted, slotted, slotted_carries, view_slotted}
 use Rattle.vk_stands.proofs.Parts.{Carries, Part}
 use Rattle.vk_stands.proofs.RemoteReply.{sound_told}
-use Rattle.vk_stands.proofs.Views.{Goes, goes_self}
+use Rattle.vk_stands.proofs.OneSend.{put_back, put_forth}
+use Rattle.vk_stands.proofs.Views.{Goes}
 
 module _ (host : ℕ) (t : Tables) (k : Kernel) (part : Part host t k) (i : ℕ) (a : Alien) (here : alien_at t.slots i ≡ Some a)
     (taken : is_taken (stage_of a) ≡ true) (m : Message) (dest : ℕ) (bytes : List ℕ) (closed : ℕ) where
@@ -45,22 +45,6 @@ module _ (host : ℕ) (t : Tables) (k : Kernel) (part : Part host t k) (i : ℕ)
   others : (n : Name) → same_name n (alien_name a) ≡ false → l.exchanges n ≡ k.exchanges n
   others n other = put_exchange_other k.exchanges (alien_name a) x n other
 
-  forth : (n : Name) (z : Exchange) → k.exchanges n ≡ Some z → (v : Exchange) × (l.exchanges n ≡ Some v) × Goes z v
-  forth n z there = elim (cases_Bool (same_name n (alien_name a))) [
-    | inl same ↦
-        let one : e ≡ z = same_Some e z (sym kept_alien.is ∙ ap k.exchanges (sym (same_name_is n (alien_name a) same)) ∙ there) in
-        (x, put_exchange_at k.exchanges (alien_name a) x n same, subst (λ y. Goes y x) one goes)
-    | inr other ↦ (z, others n other ∙ there, goes_self z)
-  ]
-
-  back : (n : Name) (v : Exchange) → l.exchanges n ≡ Some v → (z : Exchange) × (k.exchanges n ≡ Some z) × Goes z v
-  back n v there = elim (cases_Bool (same_name n (alien_name a))) [
-    | inl same ↦
-        let one : x ≡ v = same_Some x v (sym (put_exchange_at k.exchanges (alien_name a) x n same) ∙ there) in
-        (e, ap k.exchanges (same_name_is n (alien_name a) same) ∙ kept_alien.is, subst (Goes e) one goes)
-    | inr other ↦ (v, sym (others n other) ∙ there, goes_self v)
-  ]
-
   pub closed_exchange : l.exchanges (alien_name a) ≡ Some x
   closed_exchange = put_exchange_at k.exchanges (alien_name a) x (alien_name a) (same_name_self (alien_name a))
 
@@ -68,11 +52,12 @@ module _ (host : ℕ) (t : Tables) (k : Kernel) (part : Part host t k) (i : ℕ)
   change = record {
     procs = λ q. refl;
     others = others;
-    forth = forth;
-    back = back;
+    forth = put_forth k.exchanges (alien_name a) e x kept_alien.is goes;
+    back = put_back k.exchanges (alien_name a) e x kept_alien.is goes;
     lookups = λ asker number. refl;
     same = record { sender = refl; number = refl; target = refl; message = refl; part = refl; moves = refl };
     stage = λ y z at there stage. ap (λ (v : Exchange). v.stage) (same_Some z x (sym there ∙ closed_exchange));
+    spot = λ y z at there spot. ap spot_of (same_Some z x (sym there ∙ closed_exchange)) ∙ kept_alien.spot;
     refused = λ at is. absurd (cc);
   }
 

@@ -57,6 +57,7 @@ module _ (host : ℕ) (t : Tables) (k : Kernel) (part : Part host t k) (pid : Pi
       done = fit.done;
       part = λ target m is. absurd (g.no_send target m (same_waiting w (waitings.Send target m) is));
       few = fit.few;
+      away = λ target m is far. absurd (g.no_send target m (same_waiting w (waitings.Send target m) is));
       begun = λ target m is. absurd (g.no_send target m (same_waiting w (waitings.Send target m) is));
       asked = λ logical scope is. absurd (g.no_lookup logical scope (same_waiting w (waitings.GetPid logical scope) is));
     }
@@ -66,6 +67,7 @@ module _ (host : ℕ) (t : Tables) (k : Kernel) (part : Part host t k) (pid : Pi
     begun_part = part_process host t k part pid own s found (doing_now (activities.Blocked w)) (λ x. refl) (record {
       same = record { pid = refl; part = refl; sends = refl; lookups = refl; moving = refl; opened = refl; done = refl };
       taken = refl;
+      spot = refl;
       alive = refl;
       waits = λ v is. inr (subst (λ x. IsWaiting k (doing_now (activities.Blocked w) s) x) (same_waiting w v is) g.waiting);
       sends = λ e at here near is. absurd (idle_not s.doing (waitings.Send e.target e.message) (subst Idles (sym g.ready) tt) is);
@@ -85,6 +87,7 @@ module _ (host : ℕ) (t : Tables) (k : Kernel) (part : Part host t k) (pid : Pi
     idle_part = part_process host t k part pid own s found (doing_now d) (λ x. refl) (record {
       same = record { pid = refl; part = refl; sends = refl; lookups = refl; moving = refl; opened = refl; done = refl };
       taken = refl;
+      spot = refl;
       alive = refl;
       waits = λ v is. absurd (idle_not d v idles is);
       sends = λ e at here near is. absurd (over e.target e.message is);
@@ -105,6 +108,7 @@ module _ (host : ℕ) (t : Tables) (k : Kernel) (part : Part host t k) (pid : Pi
     memory_part = part_process host t k part pid own s found remembering (λ x. refl) (record {
       same = record { pid = refl; part = refl; sends = refl; lookups = refl; moving = refl; opened = refl; done = refl };
       taken = refl;
+      spot = refl;
       alive = refl;
       waits = λ v is. inl is;
       sends = λ e at here near is. refl;

@@ -22,7 +22,7 @@ use Rattle.vk_rules.specs.CallOutcomes.{exit_packets, negative_for}
 unfoldable use Rattle.vk_rules.specs.Rounds.{told_sender}
 use Rattle.vk_rules.specs.Rounds.{list_if, told_of}
 use Rattle.vk_stands.specs.Stands.{IsKept}
-use Rattle.vk_stands.specs.Tables.{Tables, alien_name, read_alien}
+use Rattle.vk_stands.specs.Tables.{Spot, Tables, alien_name, read_alien}
 use Rattle.vk_stands.proofs.Aliens.{of_at}
 use Rattle.vk_stands.proofs.Exited.{exchange_is, is_left, proc_here}
 use Rattle.vk_stands.proofs.Parts.{Part}
@@ -30,7 +30,7 @@ use Rattle.vk_stands.proofs.Parts.{Part}
 -- Whom an exit tells.
 abbrev pub told_for : Pid → Option Alien → List Packet
 told_for pid None = []
-told_for pid (Some a) = if is_left pid a then Negative pid a.sender a.number ∷ [] else []
+told_for pid (Some a) = if is_left pid a then Negative a.target a.sender a.number ∷ [] else []
 
 module _ (host : ℕ) (t : Tables) (k : Kernel) (part : Part host t k) (pid : Pid) (own : pid.host ≡ host) (s : Seat)
     (found : seat_in t.seats pid ≡ Some s) (ready : s.doing ≡ activities.Ready) (now : ℕ) where
@@ -43,20 +43,20 @@ module _ (host : ℕ) (t : Tables) (k : Kernel) (part : Part host t k) (pid : Pi
   left_as : (i : ℕ) (a : Alien) (at : alien_at t.slots i ≡ Some a) → is_message_at pid (kept i a at).exchange ≡ is_left pid a
   left_as i a at =
       let v = kept i a at in
-      (λ j. same_pid (v.target j) pid && is_at_target (v.stage j))
+      (λ j. same_pid (v.spot j).at pid && is_at_target (v.stage j))
 
   told_by : (i : ℕ) (a : Alien) (at : alien_at t.slots i ≡ Some a) (b : Bool) → is_left pid a ≡ b →
-      list_if b (told_sender l (alien_name a)) ≡ (if b then Negative pid a.sender a.number ∷ [] else [])
+      list_if b (told_sender l (alien_name a)) ≡ (if b then Negative a.target a.sender a.number ∷ [] else [])
   unfolding told_sender
   told_by i a at true left =
       let v = kept i a at in
       let dropped : dropped_at pid v.exchange ≡ record v.exchange { stage = stages.Dropped } =
       cond-true (is_message_at pid v.exchange) (record v.exchange { stage = stages.Dropped }) v.exchange (left_as i a at ∙ left) in
-      let target : v.exchange.target ≡ pid = v.target ∙ same_pid_is a.target pid (and_parts (same_pid a.target pid) _ left).0 in
+      let here : v.exchange.at ≡ pid = ap (λ (z : Spot). z.at) v.spot ∙ same_pid_is a.at pid (and_parts (same_pid a.at pid) _ left).0 in
       ap (λ o. option_map_or (told_of l (alien_name a)) o [])
       (exchange_is host t k part pid own s found ready now (alien_name a) ∙ ap (option_map (dropped_at pid)) v.is ∙ ap Some dropped)
-      ∙ ap (λ p. list_if (not (is_live (l.procs p))) (Negative p a.sender a.number ∷ [])) target
-      ∙ ap (λ o. list_if (not (is_live o)) (Negative pid a.sender a.number ∷ []))
+      ∙ (λ j. list_if (not (is_live (l.procs (here j)))) (Negative (v.target j) a.sender a.number ∷ []))
+      ∙ ap (λ o. list_if (not (is_live o)) (Negative a.target a.sender a.number ∷ []))
       (proc_here host t k part pid own s found ready now pid (same_pid_self pid))
   told_by i a at false other = refl
 
@@ -117,7 +117,7 @@ module _ (host : ℕ) (t : Tables) (k : Kernel) (part : Part host t k) (pid : Pi
   closing_by name None is = absurd (cc)
   closing_by name (Some b) is = by_left (is_left pid b) refl is
     where
-      by_left : (c : Bool) → is_left pid b ≡ c → list_any (is_closing name) (if c then Negative pid b.sender b.number ∷ [] else []) ≡ true →
+      by_left : (c : Bool) → is_left pid b ≡ c → list_any (is_closing name) (if c then Negative b.target b.sender b.number ∷ [] else []) ≡ true →
           (x : Alien) × (Some b ≡ Some x) × (alien_name x ≡ name) × (is_left pid x ≡ true)
       by_left true left closes = (b, refl, same_name_is (alien_name b) name (alone (same_name (alien_name b) name) closes), left)
         where
@@ -131,7 +131,7 @@ module _ (host : ℕ) (t : Tables) (k : Kernel) (part : Part host t k) (pid : Pi
   closed_is i a at = elim (cases_Bool (is_left pid a)) [
     | inl left ↦
         one_closed (alien_name a) t.slots i (ap (λ o. list_any (is_closing (alien_name a)) (told_for pid o)) at
-        ∙ ap (λ b. list_any (is_closing (alien_name a)) (if b then Negative pid a.sender a.number ∷ [] else [])) left
+        ∙ ap (λ b. list_any (is_closing (alien_name a)) (if b then Negative a.target a.sender a.number ∷ [] else [])) left
         ∙ ap (λ b. b || false) (same_name_self (alien_name a)))
         ∙ sym left
     | inr other ↦

@@ -14,7 +14,7 @@ use Rattle.vk_pool.specs.declared.alien.Alien.{Alien}
 use Rattle.vk_pool.specs.Aliens.{alien_at, is_alien_from, refused}
 use Rattle.vk_pool.proofs.Shown.{position-mapped}
 use Rattle.vk_procs.specs.declared.seat.Seat.{Seat}
-use Rattle.vk_procs.specs.Seats.{bereft, finished, is_seat, is_sent_to, killed}
+use Rattle.vk_procs.specs.Seats.{bereft, finished, is_seat, killed, waits_at}
 use Rattle.vk_stands.specs.Fit.{AreFit, IsFitAlien, IsFitSeat}
 use Rattle.vk_stands.specs.Tables.{Tables}
 use Rattle.vk_stands.proofs.Exited.{bereft_name, gone, is_left, turned_away, turned_same}
@@ -90,6 +90,7 @@ fit_killed host s fit = record {
   done = fit.done;
   part = fit.part;
   few = fit.few;
+  away = fit.away;
   begun = fit.begun;
   asked = fit.asked;
 }
@@ -114,7 +115,7 @@ pub exit_fit : (host : ℕ) (t : Tables) (pid : Pid) (now at : ℕ) (names : Lis
     })
 exit_fit host t pid now at names fit =
     let first = fit_seats host t fit (bereft pid) (λ s. ap (λ (n : Name). n.sender) (bereft_name pid s))
-    (λ s. bereft_fits host (is_sent_to pid s.doing) s) in
+    (λ s. bereft_fits host (waits_at pid s) s) in
     let second = fit_seated host (record t { seats = map (bereft pid) t.seats }) first pid killed (λ s. refl) (λ s is. fit_killed host s) in
     let third = fit_slots host (record t { seats = exit_seats t.seats pid }) second (turned_away pid now)
     (λ a. (turned_same pid now a).sender) (λ a. turned_fits host now (is_left pid a) a) in

@@ -32,7 +32,7 @@ use Rattle.vk_pool.specs.declared.alien.Alien.{Alien}
 use Rattle.vk_pool.specs.Aliens.{alien_at, alien_from}
 use Rattle.vk_pool.proofs.Shown.{position-mapped}
 use Rattle.vk_procs.specs.declared.seat.Seat.{Seat}
-use Rattle.vk_procs.specs.Seats.{bereft, finished, is_seat, is_sent_to, killed, process_of, seat_in}
+use Rattle.vk_procs.specs.Seats.{bereft, finished, is_seat, killed, process_of, seat_in, waits_at}
 use Rattle.vk_queue.specs.Lists.{queue_at}
 use Rattle.vk_stands.specs.Tables.{Tables, alien_name, seat_name, slot_name}
 use Rattle.vk_stands.proofs.Exited.{bereft_name, gone, left_behind, turned_away, turned_same}
@@ -52,10 +52,10 @@ none_left test (x ∷ xs) none = ap (λ b. cond b (x ∷ filter test xs) (filter
 
 own_by : (pid : Pid) (e : Exchange) (b : Bool) → is_message_at pid e ≡ b →
     is_queued_at pid (if b then record e { stage = stages.Dropped } else e) ≡ false
-own_by pid e true message = and_right (same_pid e.target pid) false refl
+own_by pid e true message = and_right (same_pid e.at pid) false refl
 own_by pid e false other = false_from_ne_true (is_queued_at pid e) (λ queued.
-    let parts = and_parts (same_pid e.target pid) (is_queued e.stage) queued in
-    both_ways (is_message_at pid e) other (and_from (same_pid e.target pid) _ parts.0 (queued_is_at_target e.stage parts.1)))
+    let parts = and_parts (same_pid e.at pid) (is_queued e.stage) queued in
+    both_ways (is_message_at pid e) other (and_from (same_pid e.at pid) _ parts.0 (queued_is_at_target e.stage parts.1)))
 
 own_none : (pid : Pid) (o : Option Exchange) → holds_of (is_queued_at pid) (option_map (dropped_at pid) o) ≡ false
 own_none pid None = refl
@@ -64,9 +64,9 @@ own_none pid (Some e) = own_by pid e (is_message_at pid e) refl
 other_by : (pid q : Pid) (e : Exchange) (b : Bool) → same_pid pid q ≡ false → is_message_at pid e ≡ b →
     is_queued_at q (if b then record e { stage = stages.Dropped } else e) ≡ is_queued_at q e
 other_by pid q e true apart message =
-    let parts = and_parts (same_pid e.target pid) _ message in
-    let away : same_pid e.target q ≡ false = ap (λ p. same_pid p q) (same_pid_is e.target pid parts.0) ∙ apart in
-    and_right (same_pid e.target q) false refl ∙ sym (ap (λ b. b && is_queued e.stage) away)
+    let parts = and_parts (same_pid e.at pid) _ message in
+    let away : same_pid e.at q ≡ false = ap (λ p. same_pid p q) (same_pid_is e.at pid parts.0) ∙ apart in
+    and_right (same_pid e.at q) false refl ∙ sym (ap (λ b. b && is_queued e.stage) away)
 other_by pid q e false apart other = refl
 
 other_same : (pid q : Pid) (o : Option Exchange) → same_pid pid q ≡ false →
@@ -171,14 +171,14 @@ module _ (host : ℕ) (t : Tables) (k : Kernel) (part : Part host t k) (pid : Pi
   work_same true x = record { tries = refl; deadline = refl; offset = refl; fresh = refl }
   work_same false x = same_work x
 
-  counts_by : (q : Pid) (x : Seat) (b : Bool) → is_sent_to pid x.doing ≡ b → seat_in t.seats q ≡ Some x →
+  counts_by : (q : Pid) (x : Seat) (b : Bool) → waits_at pid x ≡ b → seat_in t.seats q ≡ Some x →
       IsCarried 0 t q (left_behind pid x)
   counts_by q x b sent there = record {
     old = x;
     was = there;
-    sends = subst (λ n. n ≤ x.note.sends + 0) (sym (same_note (is_sent_to pid x.doing) (same_pid (bereft pid x).pid pid)).0)
+    sends = subst (λ n. n ≤ x.note.sends + 0) (sym (same_note (waits_at pid x) (same_pid (bereft pid x).pid pid)).0)
         (same_more 0 x.note.sends);
-    lookups = subst (λ n. n ≤ x.note.lookups + 0) (sym (same_note (is_sent_to pid x.doing) (same_pid (bereft pid x).pid pid)).1)
+    lookups = subst (λ n. n ≤ x.note.lookups + 0) (sym (same_note (waits_at pid x) (same_pid (bereft pid x).pid pid)).1)
         (same_more 0 x.note.lookups);
     work = λ w blocked is. by_sent w b sent blocked;
   }
@@ -191,12 +191,12 @@ module _ (host : ℕ) (t : Tables) (k : Kernel) (part : Part host t k) (pid : Pi
       same_note false true = (refl, refl)
       same_note false false = (refl, refl)
 
-      by_sent : (w : Waiting) (c : Bool) → is_sent_to pid x.doing ≡ c → (left_behind pid x).doing ≡ activities.Blocked w →
+      by_sent : (w : Waiting) (c : Bool) → waits_at pid x ≡ c → (left_behind pid x).doing ≡ activities.Blocked w →
           (x.doing ≡ activities.Blocked w) × IsSameWork (left_behind pid x) x
       by_sent w true is blocked = absurd (over host t k part pid own s found ready now after_exit.lists after_exit.names x w is blocked)
       by_sent w false is blocked = (
         sym (kept_doing host t k part pid own s found ready now after_exit.lists after_exit.names x is) ∙ blocked,
-        subst (λ z. IsSameWork (only pid killed z) x) (sym (cond-false (is_sent_to pid x.doing) (finished gone x) x is))
+        subst (λ z. IsSameWork (only pid killed z) x) (sym (cond-false (waits_at pid x) (finished gone x) x is))
             (work_same (same_pid x.pid pid) x),
       )
 
@@ -204,7 +204,7 @@ module _ (host : ℕ) (t : Tables) (k : Kernel) (part : Part host t k) (pid : Pi
   exit_carries = record {
     seats = λ q y there.
         let x = mapped_is (left_behind pid) (seat_in t.seats q) y (sym (exit_seat_in t.seats pid q) ∙ there) in
-        subst (IsCarried 0 t q) x.2 (counts_by q x.0 (is_sent_to pid x.0.doing) refl x.1);
+        subst (IsCarried 0 t q) x.2 (counts_by q x.0 (waits_at pid x.0) refl x.1);
     aliens = λ q b there.
         let a = mapped_is (turned_away pid now) (alien_from t.slots q) b (sym (exit_alien_of t.slots pid now q) ∙ there) in
         (a.0, a.1, ap (λ (z : Alien). z.moves) (sym a.2) ∙ (turned_same pid now a.0).moves);

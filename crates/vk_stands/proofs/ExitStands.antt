@@ -54,7 +54,7 @@ closed_by : (now : ℕ) (pid : Pid) (a : Alien) (b : Bool) → is_left pid a ≡
 closed_by now pid a true left = λ i. record (read_alien a) {
   newest = max_zero a.newest i;
   closed = ap (λ o. option_or o (Some now)) (open_by a.stage a.bytes
-      (and_parts (same_pid a.target pid) (is_at_target (stage_of a)) left).1) i;
+      (and_parts (same_pid a.at pid) (is_at_target (stage_of a)) left).1) i;
 }
 closed_by now pid a false other = λ i. record (read_alien a) { newest = max_zero a.newest i; closed = same_closed (closed_in a.stage) i }
 

@@ -2,7 +2,7 @@
 use Rattle.std.proofs.Common.{◌≡◌, ℕ, ◌&&◌, Bool, true, false, List, map, Option, Some, None, is_some, refl, sym, ap, subst, ◌∙◌, inl, if◌then◌else◌}
 use Rattle.std.specs.List.{find}
 use Rattle.std.specs.Option.{option_map, option_flatten}
-use Rattle.std.proofs.lemmas.Bool.{and_from, and_parts, both_ways, cond-true, cond-false, eqb-true, false_from_ne_true}
+use Rattle.std.proofs.lemmas.Bool.{and_from, and_parts, and_right, both_ways, cond-true, cond-false, eqb-true, false_from_ne_true}
 use Rattle.std.proofs.lemmas.Option.{same_Some}
 use Rattle.vk_base.specs.declared.activity.Activity.TheVariants as activities
 use Rattle.vk_base.specs.declared.activity.Waiting.{Waiting}
@@ -15,7 +15,7 @@ use Rattle.vk_base.specs.declared.kernel.Process.{Process}
 use Rattle.vk_base.specs.declared.kernel.Registration.{Registration}
 use Rattle.vk_base.specs.declared.kernel.Stage.TheVariants as stages
 use Rattle.vk_base.specs.declared.pid.Pid.{Pid}
-use Rattle.vk_base.specs.Activities.{done_with}
+use Rattle.vk_base.specs.Activities.{done_with, state_of}
 use Rattle.vk_base.specs.Calls.{dropped_at, is_bereft, is_message_at, released}
 unfoldable use Rattle.vk_base.specs.Calls.{exited}
 use Rattle.vk_base.specs.Firsts.{change_first}
@@ -26,10 +26,10 @@ use Rattle.vk_pool.specs.declared.alien.Alien.{Alien}
 use Rattle.vk_pool.specs.declared.alien.AlienStage.TheVariants as alien_stages
 use Rattle.vk_pool.specs.Aliens.{alien_from, is_alien_from, refused}
 use Rattle.vk_procs.specs.declared.seat.Seat.{Seat}
-use Rattle.vk_procs.specs.Seats.{bereft, finished, is_seat, is_sent_to, killed, process_of, seat_in}
+use Rattle.vk_procs.specs.Seats.{bereft, finished, is_seat, killed, process_of, seat_in, waits_at}
 use Rattle.vk_stands.specs.Stands.{IsKept, IsSender, IsWaiting}
-use Rattle.vk_stands.specs.Tables.{Tables, alien_name, seat_name, stage_of}
-use Rattle.vk_stands.proofs.Exited.{back, bereft_name, dropped_by, exchange_is, forth, gone, is_left, killed_doing, killed_same, killed_taken, left_behind, proc_here, proc_other, released_is, sender_waits, sent_to_is, turned_away, turned_same}
+use Rattle.vk_stands.specs.Tables.{Tables, alien_name, seat_name, seat_spot, spot_of, stage_of}
+use Rattle.vk_stands.proofs.Exited.{at_seat, back, bereft_name, dropped_by, dropped_spot, exchange_is, forth, gone, is_left, killed_doing, killed_same, killed_spot, killed_taken, left_behind, proc_here, proc_other, released_is, sender_waits, turned_away, turned_same, turned_spot, waits_at_is}
 use Rattle.vk_stands.proofs.Found.{seat_found}
 use Rattle.vk_stands.proofs.Lists.{find-mapped}
 use Rattle.vk_stands.proofs.Parts.{Part}
@@ -91,29 +91,32 @@ module _ (host : ℕ) (t : Tables) (k : Kernel) (part : Part host t k) (pid : Pi
   abbrev f : Seat → Seat
   f = left_behind pid
 
-  unbereft : (x : Seat) → is_sent_to pid x.doing ≡ false → bereft pid x ≡ x
-  unbereft x is = cond-false (is_sent_to pid x.doing) (finished gone x) x is
+  unbereft : (x : Seat) → waits_at pid x ≡ false → bereft pid x ≡ x
+  unbereft x is = cond-false (waits_at pid x) (finished gone x) x is
 
-  unsent : is_sent_to pid s.doing ≡ false
-  unsent = ap (is_sent_to pid) ready
+  unsent : waits_at pid s ≡ false
+  unsent = ap (λ d. same_pid s.at pid && is_some (sending (state_of d))) ready ∙ and_right (same_pid s.at pid) false refl
 
   -- one that is not bereft is as it was, but that it may not be alive
-  kept_seat : (x : Seat) → is_sent_to pid x.doing ≡ false → IsSameSeat x (f x)
+  kept_seat : (x : Seat) → waits_at pid x ≡ false → IsSameSeat x (f x)
   kept_seat x is = subst (λ z. IsSameSeat x (only pid killed z)) (sym (unbereft x is)) (killed_same (same_pid x.pid pid) x)
 
-  pub kept_doing : (x : Seat) → is_sent_to pid x.doing ≡ false → (f x).doing ≡ x.doing
+  pub kept_doing : (x : Seat) → waits_at pid x ≡ false → (f x).doing ≡ x.doing
   kept_doing x is = ap (λ z. (only pid killed z).doing) (unbereft x is) ∙ killed_doing (same_pid x.pid pid) x
 
-  kept_taken : (x : Seat) → is_sent_to pid x.doing ≡ false → (f x).note.taken ≡ x.note.taken
+  kept_taken : (x : Seat) → waits_at pid x ≡ false → (f x).note.taken ≡ x.note.taken
   kept_taken x is = ap (λ z. (only pid killed z).note.taken) (unbereft x is) ∙ killed_taken (same_pid x.pid pid) x
 
-  pub over : (x : Seat) (w : Waiting) → is_sent_to pid x.doing ≡ true → (f x).doing ≡ activities.Blocked w → ⊥
+  kept_spot : (x : Seat) → waits_at pid x ≡ false → seat_spot (f x) ≡ seat_spot x
+  kept_spot x is = ap (λ z. seat_spot (only pid killed z)) (unbereft x is) ∙ killed_spot (same_pid x.pid pid) x
+
+  pub over : (x : Seat) (w : Waiting) → waits_at pid x ≡ true → (f x).doing ≡ activities.Blocked w → ⊥
   over x w is blocked =
-      let sent = sent_to_is pid x.doing is in
-      let done : (f x).doing ≡ activities.Done (waitings.Send pid sent.0) gone =
+      let sent = waits_at_is pid x is in
+      let done : (f x).doing ≡ activities.Done (waitings.Send sent.0.0 sent.0.1) gone =
       killed_doing (same_pid (bereft pid x).pid pid) (bereft pid x)
-      ∙ ap (λ (z : Seat). z.doing) (cond-true (is_sent_to pid x.doing) (finished gone x) x is) ∙ ap (λ d. done_with d gone) sent.1 in
-      let both : activities.Done (waitings.Send pid sent.0) gone ≡ activities.Blocked w = sym done ∙ blocked in
+      ∙ ap (λ (z : Seat). z.doing) (cond-true (waits_at pid x) (finished gone x) x is) ∙ ap (λ d. done_with d gone) sent.1 in
+      let both : activities.Done (waitings.Send sent.0.0 sent.0.1) gone ≡ activities.Blocked w = sym done ∙ blocked in
       absurd (cc)
 
   procs_by : (q : Pid) (b : Bool) → same_pid q pid ≡ b → q.host ≡ host → l.procs q ≡ option_map process_of (seat_in exit_tables.seats q)
@@ -145,25 +148,27 @@ module _ (host : ℕ) (t : Tables) (k : Kernel) (part : Part host t k) (pid : Pi
   unfolding exited
   same_lookups asker number = refl
 
-  waits_by : (q : Pid) (x : Seat) (w : Waiting) (b : Bool) → is_sent_to pid x.doing ≡ b → seat_in t.seats q ≡ Some x →
+  -- what the exchange of a Send that there was has become
+  pub became : (n : Name) (e y : Exchange) → k.exchanges n ≡ Some e → l.exchanges n ≡ Some y → dropped_at pid e ≡ y
+  became n e y at there = same_Some (dropped_at pid e) y
+      (sym (exchange_is host t k part pid own s found ready now n ∙ ap (option_map (dropped_at pid)) at) ∙ there)
+
+  waits_by : (q : Pid) (x : Seat) (w : Waiting) (b : Bool) → waits_at pid x ≡ b → seat_in t.seats q ≡ Some x →
       (f x).doing ≡ activities.Blocked w → IsWaiting l (f x) w
   waits_by q x w true is at blocked = absurd (over x w is blocked)
   waits_by q x w false is at blocked =
       waiting_kept k l (forth host t k part pid own s found ready now) same_lookups x (f x) (kept_seat x is)
       (λ target e z there here local stage.
       let message : is_message_at pid e ≡ false = false_from_ne_true (is_message_at pid e) (λ yes_it_is.
-      both_ways (is_sent_to pid x.doing) is (sender_waits host t k part pid own s found ready now (seat_name x) e x there yes_it_is
+      both_ways (waits_at pid x) is (sender_waits host t k part pid own s found ready now (seat_name x) e x there yes_it_is
       (ap (seat_in t.seats) (seat_found t.seats q x at).named ∙ at))) in
       let one : dropped_at pid e ≡ z = same_Some (dropped_at pid e) z
       (sym (exchange_is host t k part pid own s found ready now (seat_name x) ∙ ap (option_map (dropped_at pid)) there) ∙ here) in
       ap (λ (a : Exchange). a.stage) (sym one ∙ cond-false (is_message_at pid e) (record e { stage = stages.Dropped }) e message)
       ∙ stage ∙ ap stage_of_local (sym (kept_taken x is)))
+      (λ e z there here spot. ap spot_of (sym (became (seat_name x) e z there here)) ∙ dropped_spot (is_message_at pid e) e ∙ spot
+      ∙ sym (kept_spot x is))
       w (part.view.waiting q x w at (sym (kept_doing x is) ∙ blocked))
-
-  -- what the exchange of a Send that there was has become
-  pub became : (n : Name) (e y : Exchange) → k.exchanges n ≡ Some e → l.exchanges n ≡ Some y → dropped_at pid e ≡ y
-  became n e y at there = same_Some (dropped_at pid e) y
-      (sym (exchange_is host t k part pid own s found ready now n ∙ ap (option_map (dropped_at pid)) at) ∙ there)
 
   not_dropped : (e y : Exchange) → dropped_at pid e ≡ y → is_at_target y.stage ≡ true → is_message_at pid e ≡ false
   not_dropped e y is near = false_from_ne_true (is_message_at pid e) (λ message.
@@ -172,15 +177,16 @@ module _ (host : ℕ) (t : Tables) (k : Kernel) (part : Part host t k) (pid : Pi
       let bad : false ≡ true = ap (λ (z : Exchange). is_at_target z.stage) one ∙ near in
       absurd (cc))
 
-  still_by : (n : Name) (x : Seat) (y : Exchange) → l.exchanges n ≡ Some y → is_at_target y.stage ≡ true → IsSender n y x →
-      IsSender n y (f x)
-  still_by n x y there near is =
+  still_by : (n : Name) (x : Seat) (y : Exchange) → seat_in t.seats n.sender ≡ Some x → l.exchanges n ≡ Some y →
+      is_at_target y.stage ≡ true → IsSender n y x → IsSender n y (f x)
+  still_by n x y at there near is =
       let e = back host t k part pid own s found ready now n y there in
       let message = not_dropped e.0 y e.2 near in
       let one : e.0 ≡ y = sym (cond-false (is_message_at pid e.0) (record e.0 { stage = stages.Dropped }) e.0 message) ∙ e.2 in
-      let other : is_sent_to pid x.doing ≡ false = false_from_ne_true (is_sent_to pid x.doing) (λ sent.
-      both_ways (is_message_at pid e.0) message (ap (is_message_at pid) one
-      ∙ and_from (same_pid y.target pid) (is_at_target y.stage) (sym (ap (is_sent_to pid) is.waits) ∙ sent) near)) in
+      let other : waits_at pid x ≡ false = false_from_ne_true (waits_at pid x) (λ sent.
+      let here : e.0.at ≡ x.at = at_seat host t k part pid own s found ready now n e.0 x e.1 at (subst (λ z. IsSender n z x) (sym one) is) in
+      both_ways (is_message_at pid e.0) message (and_from (same_pid e.0.at pid) (is_at_target e.0.stage)
+      (ap (λ p. same_pid p pid) here ∙ (waits_at_is pid x sent).2) (ap (λ (z : Exchange). is_at_target z.stage) one ∙ near))) in
       record { waits = kept_doing x other ∙ is.waits; last = (kept_seat x other).sends ∙ is.last }
 
   pub kept_of : (q : Pid) (x : Alien) → alien_from t.slots q ≡ Some x → IsKept k x
@@ -192,7 +198,7 @@ module _ (host : ℕ) (t : Tables) (k : Kernel) (part : Part host t k) (pid : Pi
       let v = kept_of q x at in
       let one : v.exchange ≡ e = same_Some v.exchange e (sym v.is ∙ there) in
       ap (is_message_at pid) (sym one)
-      ∙ (λ i. same_pid (v.target i) pid && is_at_target (v.stage i))
+      ∙ (λ i. same_pid (v.spot i).at pid && is_at_target (v.stage i))
 
   stage_by : (x : Alien) (e : Exchange) (b : Bool) → e.stage ≡ stage_of x →
       (if b then record e { stage = stages.Dropped } else e).stage ≡ stage_of (if b then refused now x else x)
@@ -212,11 +218,11 @@ module _ (host : ℕ) (t : Tables) (k : Kernel) (part : Part host t k) (pid : Pi
       ap is_live (proc_other host t k part pid own s found ready now q other) ∙ live_same k pid q (k.procs q) ∙ dead
 
   refused_by : (q : Pid) (x : Alien) (closed : ℕ) (b : Bool) → is_left pid x ≡ b → alien_from t.slots q ≡ Some x →
-      (if b then refused now x else x).stage ≡ alien_stages.Refused closed → is_live (l.procs x.target) ≡ false
+      (if b then refused now x else x).stage ≡ alien_stages.Refused closed → is_live (l.procs (if b then refused now x else x).at) ≡ false
   refused_by q x closed true left at is =
-      ap is_live (proc_here host t k part pid own s found ready now x.target
-      (and_parts (same_pid x.target pid) (is_at_target (stage_of x)) left).0)
-  refused_by q x closed false other at is = dead_by x.target (same_pid x.target pid) refl ((kept_of q x at).refused closed is)
+      ap is_live (proc_here host t k part pid own s found ready now x.at
+      (and_parts (same_pid x.at pid) (is_at_target (stage_of x)) left).0)
+  refused_by q x closed false other at is = dead_by x.at (same_pid x.at pid) refl ((kept_of q x at).refused closed is)
 
   pub view_exited : StandsView host exit_tables l
   view_exited = view_turned host t exit_tables k l f (turned_away pid now) part.fit part.view (record {
@@ -228,9 +234,11 @@ module _ (host : ℕ) (t : Tables) (k : Kernel) (part : Part host t k) (pid : Pi
     back = λ n y at.
         let e = back host t k part pid own s found ready now n y at in
         inl (e.0, e.1, subst (Goes e.0) e.2 (dropped_by (is_message_at pid e.0) e.0));
-    waits = λ q x w at blocked. waits_by q x w (is_sent_to pid x.doing) refl at blocked;
-    still = λ n x y at there here near is. still_by n x y there near is;
+    waits = λ q x w at blocked. waits_by q x w (waits_at pid x) refl at blocked;
+    still = λ n x y at there here near is. still_by n x y at there near is;
     same = λ q x at. turned_same pid now x;
     stages = stages_by;
+    spots = λ q x e y at there here spot. ap spot_of (sym (became (alien_name x) e y there here)) ∙ dropped_spot (is_message_at pid e) e
+        ∙ spot ∙ sym (turned_spot pid now x);
     refused = λ q x closed at is. refused_by q x closed (is_left pid x) refl at is;
   })

@@ -1,7 +1,7 @@
 -- A process exits: its messages are dropped, and who waits for its reply is done or refused.
-use Rattle.std.proofs.Common.{◌≡◌, ℕ, ◌&&◌, Bool, true, false, Option, Some, None, is_some, refl, sym, ap, ◌∙◌, inl, inr, if◌then◌else◌}
+use Rattle.std.proofs.Common.{◌≡◌, ℕ, ◌&&◌, Bool, true, false, Option, Some, None, is_some, refl, sym, ap, subst, ◌∙◌, inl, inr, if◌then◌else◌}
 use Rattle.std.specs.Option.{option_map}
-use Rattle.std.proofs.lemmas.Bool.{and_from, and_parts, cond-true, cond-false, eq-eqb}
+use Rattle.std.proofs.lemmas.Bool.{and_from, and_parts, and_right, cond-true, cond-false, eq-eqb, eqb-true}
 use Rattle.std.proofs.lemmas.Option.{same_Some}
 use Rattle.vk_base.specs.declared.activity.Activity.{Activity}
 use Rattle.vk_base.specs.declared.activity.Activity.TheVariants as activities
@@ -19,14 +19,14 @@ use Rattle.vk_base.specs.Calls.{dropped_at, is_bereft, is_message_at, released}
 unfoldable use Rattle.vk_base.specs.Calls.{exited}
 use Rattle.vk_base.specs.Kernel.{Kernel, ended, holds_of, is_at_target, name_of, sending}
 use Rattle.vk_base.specs.Pids.{same_host, same_pid}
-use Rattle.v_laws.proofs.Options.{mapped_is, some_that_holds}
+use Rattle.v_laws.proofs.Options.{mapped_is}
 use Rattle.v_laws.proofs.Tables.{same_pid_is, same_pid_self}
 use Rattle.vk_pool.specs.declared.alien.Alien.{Alien}
 use Rattle.vk_pool.specs.Aliens.{refused}
 use Rattle.vk_procs.specs.declared.seat.Seat.{Seat}
-use Rattle.vk_procs.specs.Seats.{bereft, finished, is_sent_to, is_to, killed, process_of, seat_in}
-use Rattle.vk_stands.specs.Stands.{IsHome, IsSent}
-use Rattle.vk_stands.specs.Tables.{Tables, seat_name, stage_of}
+use Rattle.vk_procs.specs.Seats.{bereft, finished, killed, process_of, seat_in, waits_at}
+use Rattle.vk_stands.specs.Stands.{IsHome, IsSender, IsSent}
+use Rattle.vk_stands.specs.Tables.{Spot, Tables, alien_spot, seat_name, seat_spot, spot_of, stage_of}
 use Rattle.vk_stands.proofs.Found.{alien_found, seat_found}
 use Rattle.vk_stands.proofs.Held.{sending_is}
 use Rattle.vk_stands.proofs.Parts.{Part}
@@ -41,7 +41,7 @@ abbrev pub left_behind : Pid → Seat → Seat
 left_behind pid s = only pid killed (bereft pid s)
 
 abbrev pub is_left : Pid → Alien → Bool
-is_left pid a = same_pid a.target pid && is_at_target (stage_of a)
+is_left pid a = same_pid a.at pid && is_at_target (stage_of a)
 
 abbrev pub turned_away : Pid → ℕ → Alien → Alien
 turned_away pid now a = if is_left pid a then refused now a else a
@@ -52,7 +52,7 @@ bereft_by true s = refl
 bereft_by false s = refl
 
 pub bereft_name : (pid : Pid) (s : Seat) → seat_name (bereft pid s) ≡ seat_name s
-bereft_name pid s = bereft_by (is_sent_to pid s.doing) s
+bereft_name pid s = bereft_by (waits_at pid s) s
 
 pub killed_same : (b : Bool) (s : Seat) → IsSameSeat s (if b then killed s else s)
 killed_same true s = record { pid = refl; part = refl; sends = refl; lookups = refl; moving = refl; opened = refl; done = refl }
@@ -66,12 +66,27 @@ pub killed_taken : (b : Bool) (s : Seat) → (if b then killed s else s).note.ta
 killed_taken true s = refl
 killed_taken false s = refl
 
+pub killed_spot : (b : Bool) (s : Seat) → seat_spot (if b then killed s else s) ≡ seat_spot s
+killed_spot true s = refl
+killed_spot false s = refl
+
 same_by : (b : Bool) (now : ℕ) (a : Alien) → IsSameAlien a (if b then refused now a else a)
 same_by true now a = record { sender = refl; number = refl; target = refl; message = refl; part = refl; moves = refl }
 same_by false now a = same_alien a
 
 pub turned_same : (pid : Pid) (now : ℕ) (a : Alien) → IsSameAlien a (turned_away pid now a)
 turned_same pid now a = same_by (is_left pid a) now a
+
+spot_by : (b : Bool) (now : ℕ) (a : Alien) → alien_spot (if b then refused now a else a) ≡ alien_spot a
+spot_by true now a = refl
+spot_by false now a = refl
+
+pub turned_spot : (pid : Pid) (now : ℕ) (a : Alien) → alien_spot (turned_away pid now a) ≡ alien_spot a
+turned_spot pid now a = spot_by (is_left pid a) now a
+
+pub dropped_spot : (b : Bool) (e : Exchange) → spot_of (if b then record e { stage = stages.Dropped } else e) ≡ spot_of e
+dropped_spot true e = refl
+dropped_spot false e = refl
 
 pub dropped_by : (b : Bool) (e : Exchange) → Goes e (if b then record e { stage = stages.Dropped } else e)
 dropped_by true e = record { target = refl; message = refl; part = refl; moves = refl; opened = refl; done = refl; near = λ t. absurd (cc) }
@@ -82,11 +97,18 @@ ended_is activities.Ready o = refl
 ended_is (activities.Blocked w) o = refl
 ended_is (activities.Done w p) o = refl
 
--- what its sender waits for, when it waits in a Send to this process
-pub sent_to_is : (pid : Pid) (d : Activity) → is_sent_to pid d ≡ true → (m : Message) × (d ≡ activities.Blocked (waitings.Send pid m))
-sent_to_is pid d t =
-    let m = some_that_holds (is_to pid) (sending (state_of d)) t in
-    (m.0.1, sending_is d m.0 m.1 ∙ ap (λ p. activities.Blocked (waitings.Send p m.0.1)) (same_pid_is m.0.0 pid m.2))
+-- one that waits in a Send whose message is at this process
+sends_by : (d : Activity) (o : Option (Pid × Message)) → sending (state_of d) ≡ o → is_some o ≡ true →
+    (m : Pid × Message) × (d ≡ activities.Blocked (waitings.Send m.0 m.1))
+sends_by d None is t = cc
+sends_by d (Some m) is t = (m, sending_is d m is)
+
+pub waits_at_is : (pid : Pid) (s : Seat) → waits_at pid s ≡ true →
+    (m : Pid × Message) × (s.doing ≡ activities.Blocked (waitings.Send m.0 m.1)) × (same_pid s.at pid ≡ true)
+waits_at_is pid s t =
+    let parts = and_parts (same_pid s.at pid) (is_some (sending (state_of s.doing))) t in
+    let m = sends_by s.doing (sending (state_of s.doing)) refl parts.1 in
+    (m.0, m.1, parts.0)
 
 at_target_local : (taken : Bool) → is_at_target (stage_of_local taken) ≡ true
 at_target_local true = refl
@@ -118,19 +140,33 @@ module _ (host : ℕ) (t : Tables) (k : Kernel) (part : Part host t k) (pid : Pi
   pub back : (n : Name) (y : Exchange) → l.exchanges n ≡ Some y → (e : Exchange) × (k.exchanges n ≡ Some e) × (dropped_at pid e ≡ y)
   back n y at = mapped_is (dropped_at pid) (k.exchanges n) y (sym (exchange_is n) ∙ at)
 
+  -- the message of a process that waits in its Send is where its seat tells
+  pub at_seat : (n : Name) (e : Exchange) (x : Seat) → k.exchanges n ≡ Some e → seat_in t.seats n.sender ≡ Some x → IsSender n e x →
+      e.at ≡ x.at
+  at_seat n e x at there sender =
+      let v : IsSent k x e.target e.message = part.view.waiting n.sender x (waitings.Send e.target e.message) there sender.waits in
+      let named : x.pid ≡ n.sender = (seat_found t.seats n.sender x there).named in
+      let same : e ≡ v.exchange =
+      same_Some e v.exchange (sym at ∙ ap k.exchanges (λ i. name_of (sym named i) (sym sender.last i)) ∙ v.is) in
+      ap (λ (z : Exchange). z.at) same ∙ ap (λ (z : Spot). z.at) v.spot_is
+
   -- a message of a process of the station that waits at this one, or was taken by it: its sender waits for the reply
   pub sender_waits : (n : Name) (e : Exchange) (x : Seat) → k.exchanges n ≡ Some e → is_message_at pid e ≡ true →
-      seat_in t.seats n.sender ≡ Some x → is_sent_to pid x.doing ≡ true
+      seat_in t.seats n.sender ≡ Some x → waits_at pid x ≡ true
   sender_waits n e x at message there =
-      by_home (part.view.home n e at (ap (λ (p : Pid). p.host) (same_pid_is e.target pid parts.0) ∙ own) parts.1)
+      by_home (part.view.home n e at (eqb-true e.target.host e.at.host (part.sound.near n e at)
+      ∙ ap (λ (p : Pid). p.host) (same_pid_is e.at pid parts.0) ∙ own) parts.1)
     where
-      parts : (same_pid e.target pid ≡ true) × (is_at_target e.stage ≡ true)
-      parts = and_parts (same_pid e.target pid) (is_at_target e.stage) message
+      parts : (same_pid e.at pid ≡ true) × (is_at_target e.stage ≡ true)
+      parts = and_parts (same_pid e.at pid) (is_at_target e.stage) message
 
-      by_home : IsHome host t n e → is_sent_to pid x.doing ≡ true
+      by_home : IsHome host t n e → waits_at pid x ≡ true
       by_home (inl m) =
           let one : m.1.0 ≡ x = same_Some m.1.0 x (sym m.1.1 ∙ there) in
-          ap (λ (z : Seat). is_sent_to pid z.doing) (sym one) ∙ ap (is_sent_to pid) m.1.2.waits ∙ parts.0
+          let sender : IsSender n e x = subst (IsSender n e) one m.1.2 in
+          and_from (same_pid x.at pid) (is_some (sending (state_of x.doing)))
+          (ap (λ p. same_pid p pid) (sym (at_seat n e x at there sender)) ∙ parts.0)
+          (ap (λ d. is_some (sending (state_of d))) sender.waits)
       by_home (inr a) =
           let place = alien_found t.slots n.sender a.0 a.1 in
           let seat = seat_found t.seats n.sender x there in
@@ -139,7 +175,7 @@ module _ (host : ℕ) (t : Tables) (k : Kernel) (part : Part host t k) (pid : Pi
 
   -- who is bereft, by the kernel and by the tables
   pub bereft_is : (q : Pid) (x : Seat) → seat_in t.seats q ≡ Some x → q.host ≡ host →
-      is_bereft k pid q (process_of x) ≡ is_sent_to pid x.doing
+      is_bereft k pid q (process_of x) ≡ waits_at pid x
   bereft_is q x at here =
       ap (λ b. b && is_some (sending (state_of x.doing)) && holds_of (is_message_at pid) (k.exchanges (name_of q x.note.sends)))
       (eq-eqb q.host pid.host (here ∙ sym own))
@@ -148,26 +184,28 @@ module _ (host : ℕ) (t : Tables) (k : Kernel) (part : Part host t k) (pid : Pi
       named : x.pid ≡ q
       named = (seat_found t.seats q x at).named
 
-      by_target : (m : Pid × Message) (v : IsSent k x m.0 m.1) (b : Bool) → same_pid m.0 pid ≡ b →
-          holds_of (is_message_at pid) (k.exchanges (name_of q x.note.sends)) ≡ b
-      by_target m v true same =
-          let target : v.exchange.target ≡ pid = v.target_is ∙ same_pid_is m.0 pid same in
+      by_at : (m : Pid × Message) (v : IsSent k x m.0 m.1) (b : Bool) → same_pid x.at pid ≡ b →
+          holds_of (is_message_at pid) (k.exchanges (name_of q x.note.sends)) ≡ (b && true)
+      by_at m v true same =
+          let there : v.exchange.at ≡ pid = ap (λ (z : Spot). z.at) v.spot_is ∙ same_pid_is x.at pid same in
           let local : same_host x.pid m.0 ≡ true = eq-eqb x.pid.host m.0.host
-          (ap (λ (p : Pid). p.host) named ∙ here ∙ sym own ∙ ap (λ (p : Pid). p.host) (sym (same_pid_is m.0 pid same))) in
+          (ap (λ (p : Pid). p.host) named ∙ here ∙ sym own ∙ ap (λ (p : Pid). p.host) (sym there)
+          ∙ sym (eqb-true v.exchange.target.host v.exchange.at.host (part.sound.near (seat_name x) v.exchange v.is))
+          ∙ ap (λ (p : Pid). p.host) v.target_is) in
           ap (λ p. holds_of (is_message_at pid) (k.exchanges (name_of p x.note.sends))) (sym named)
           ∙ ap (holds_of (is_message_at pid)) v.is
-          ∙ and_from (same_pid v.exchange.target pid) (is_at_target v.exchange.stage) (ap (λ p. same_pid p pid) target ∙ same_pid_self pid)
+          ∙ and_from (same_pid v.exchange.at pid) (is_at_target v.exchange.stage) (ap (λ p. same_pid p pid) there ∙ same_pid_self pid)
           (ap is_at_target (v.stage_is local) ∙ at_target_local x.note.taken)
-      by_target m v false other =
+      by_at m v false other =
           ap (λ p. holds_of (is_message_at pid) (k.exchanges (name_of p x.note.sends))) (sym named)
           ∙ ap (holds_of (is_message_at pid)) v.is
-          ∙ ap (λ b. b && is_at_target v.exchange.stage) (ap (λ p. same_pid p pid) v.target_is ∙ other)
+          ∙ ap (λ b. b && is_at_target v.exchange.stage) (ap (λ (z : Spot). same_pid z.at pid) v.spot_is ∙ other)
 
       by_sending : (o : Option (Pid × Message)) → sending (state_of x.doing) ≡ o →
-          (is_some o && holds_of (is_message_at pid) (k.exchanges (name_of q x.note.sends))) ≡ holds_of (is_to pid) o
-      by_sending None none = refl
+          (is_some o && holds_of (is_message_at pid) (k.exchanges (name_of q x.note.sends))) ≡ (same_pid x.at pid && is_some o)
+      by_sending None none = sym (and_right (same_pid x.at pid) false refl)
       by_sending (Some m) some =
-          by_target m (part.view.waiting q x (waitings.Send m.0 m.1) at (sending_is x.doing m some)) (same_pid m.0 pid) refl
+          by_at m (part.view.waiting q x (waitings.Send m.0 m.1) at (sending_is x.doing m some)) (same_pid x.at pid) refl
 
   released_by : (x : Seat) (b : Bool) → (if b then record (process_of x) {
     state =
@@ -182,4 +220,4 @@ module _ (host : ℕ) (t : Tables) (k : Kernel) (part : Part host t k) (pid : Pi
   released_is q x at here =
       ap (λ b. if b then record (process_of x) { state = ended (state_of x.doing) (answer_of gone) } else process_of x)
       (bereft_is q x at here)
-      ∙ released_by x (is_sent_to pid x.doing)
+      ∙ released_by x (waits_at pid x)

@@ -23,6 +23,7 @@ fit_idle host s y pid note part idle h = record {
   done = subst (λ (n : ProcNote). n.done ≤ MOVE_BYTES) (sym note) h.done;
   part = λ target m is. absurd (idle (waitings.Send target m) is);
   few = subst (λ bytes. length bytes ≤ SEGMENT_BYTES) (sym part) h.few;
+  away = λ target m is far. absurd (idle (waitings.Send target m) is);
   begun = λ target m is. absurd (idle (waitings.Send target m) is);
   asked = λ logical scope is. absurd (idle (waitings.GetPid logical scope) is);
 }
@@ -61,6 +62,7 @@ fit_note host s n same h = record {
   done = subst (λ d. d ≤ MOVE_BYTES) (sym same.done) h.done;
   part = h.part;
   few = h.few;
+  away = h.away;
   begun = λ target m is. subst (λ d. 0 < d) (sym same.sends) (h.begun target m is);
   asked = λ logical scope is. subst (λ d. 0 < d) (sym same.lookups) (h.asked logical scope is);
 }
@@ -75,6 +77,7 @@ fit_memory host s memory same h = record {
   done = h.done;
   part = h.part;
   few = h.few;
+  away = h.away;
   begun = h.begun;
   asked = h.asked;
 }

@@ -10,7 +10,7 @@ use Rattle.vk_base.specs.declared.message.Message.{Message}
 use Rattle.vk_base.specs.declared.pid.Pid.{Pid}
 use Rattle.vk_packet.specs.Rules.{is_number}
 use Rattle.vk_pool.specs.declared.alien.Alien.{Alien}
-use Rattle.vk_pool.specs.Aliens.{alien_at, changed_at, heard, heard_of, is_alien_from, replied, taken}
+use Rattle.vk_pool.specs.Aliens.{alien_at, changed_at, forwarded, heard, heard_of, is_alien_from, replied, taken}
 use Rattle.vk_stands.specs.Fit.{AreFit, IsFitAlien}
 use Rattle.vk_stands.specs.Tables.{Tables}
 use Rattle.vk_stands.proofs.Placed.{IsPlace, place_at, put_apart}
@@ -79,6 +79,16 @@ fit_replied host t fit o m dest bytes now few = fit_changed_where host t fit (re
 }) o
 
 -- an alien that waits or was taken is told that it is pending
+pub fit_forwarded : (host : ℕ) (t : Tables) → AreFit host t → (i : ℕ) (m : Message) (to : Pid) →
+    AreFit host (record t { slots = changed_at i (forwarded m to) t.slots })
+fit_forwarded host t fit i m to = fit_changed_at host t fit (forwarded m to) (λ a. refl) (λ a h. record {
+  foreign = h.foreign;
+  here = h.here;
+  number = h.number;
+  told = grind (arith, h.number);
+  part = h.part;
+}) i
+
 pub fit_taken : (host : ℕ) (t : Tables) → AreFit host t → (i : ℕ) → AreFit host (record t { slots = changed_at i taken t.slots })
 fit_taken host t fit i = fit_changed_at host t fit taken (λ a. refl) (λ a h. record {
   foreign = h.foreign;

@@ -1,7 +1,7 @@
 -- Whom a process holds, by the tables and in the view.
 use Rattle.std.proofs.Common.{◌≡◌, ℕ, zero, suc, ◌^◌, nat_lt, ◌<◌, ◌≤◌, Bool, true, false, cond, ◌&&◌, Option, Some, None, refl, sym, ap, subst, ◌∙◌, inl, inr, arith}
 use Rattle.std.specs.Option.{option_map, is_none}
-use Rattle.std.proofs.lemmas.Bool.{both_ways, and_parts, and_from, or_right, cond-true, false_from_ne_true, eq-eqb, ltb-true}
+use Rattle.std.proofs.lemmas.Bool.{both_ways, and_parts, and_from, or_right, cond-true, false_from_ne_true, eq-eqb, eqb-true, ltb-true}
 use Rattle.std.proofs.lemmas.Option.{same_Some, none-some}
 use Rattle.vk_base.specs.declared.activity.Activity.{Activity}
 use Rattle.vk_base.specs.declared.activity.Activity.TheVariants as activities
@@ -29,7 +29,7 @@ use Rattle.vk_rules.specs.Readings.{Reading}
 use Rattle.vk_stands.specs.Fit.{AreFit}
 use Rattle.vk_stands.specs.Held.{Holding, holding_by, seat_holding, local_holding, is_held, alien_holding, remote_holding}
 use Rattle.vk_stands.specs.Stands.{Stands, IsHome, IsKept, IsSent}
-use Rattle.vk_stands.specs.Tables.{Tables, stage_of}
+use Rattle.vk_stands.specs.Tables.{Spot, Tables, seat_name, stage_of}
 use Rattle.vk_stands.proofs.Found.{alien_found, seat_found}
 
 -- What the view has where the tables tell this.
@@ -37,7 +37,7 @@ pub record IsHeldAs (k : Kernel) (holder sender : Pid) (h : Holding) : Type 0 wh
   pub held : held k holder sender ≡ Some h.number
   pub exchange : Exchange
   pub is : k.exchanges (name_of sender h.number) ≡ Some exchange
-  pub target : exchange.target ≡ holder
+  pub at : exchange.at ≡ holder
   pub message : exchange.message ≡ h.message
   pub taken : is_taken exchange.stage ≡ true
 
@@ -83,7 +83,9 @@ sending_is (activities.Done w o) m is = absurd (none-some m is)
 
 -- What a seat tells where it is held.
 pub record IsHeldSeat (holder : Pid) (s : Seat) (h : Holding) : Type 0 where
-  pub waits : s.doing ≡ activities.Blocked (waitings.Send holder h.message)
+  pub target : Pid
+  pub waits : s.doing ≡ activities.Blocked (waitings.Send target h.message)
+  pub at : s.at ≡ holder
   pub taken : s.note.taken ≡ true
   pub number : h.number ≡ s.note.sends
 
@@ -91,14 +93,14 @@ abbrev held_now : Seat → Message → Holding
 held_now s m = record { number = s.note.sends; message = m }
 
 seat_by : (holder : Pid) (s : Seat) (m : Pid × Message) (h : Holding) (b : Bool) → sending (state_of s.doing) ≡ Some m →
-    (s.note.taken && same_pid m.0 holder) ≡ b → cond b (Some (held_now s m.1)) None ≡ Some h → IsHeldSeat holder s h
+    (s.note.taken && same_pid s.at holder) ≡ b → cond b (Some (held_now s m.1)) None ≡ Some h → IsHeldSeat holder s h
 seat_by holder s m h true sends t is =
-    let parts = and_parts s.note.taken (same_pid m.0 holder) t in
+    let parts = and_parts s.note.taken (same_pid s.at holder) t in
     let same : held_now s m.1 ≡ h = same_Some (held_now s m.1) h is in
     record {
-      waits = sending_is s.doing m sends
-          ∙ ap (λ p. activities.Blocked (waitings.Send p m.1)) (same_pid_is m.0 holder parts.1)
-          ∙ ap (λ (x : Holding). activities.Blocked (waitings.Send holder x.message)) same;
+      target = m.0;
+      waits = sending_is s.doing m sends ∙ ap (λ (x : Holding). activities.Blocked (waitings.Send m.0 x.message)) same;
+      at = same_pid_is s.at holder parts.1;
       taken = parts.0;
       number = ap (λ (x : Holding). x.number) (sym same);
     }
@@ -107,7 +109,7 @@ seat_by holder s m h false sends f is = absurd (none-some h is)
 seat_on : (holder : Pid) (s : Seat) (h : Holding) (o : Option (Pid × Message)) → sending (state_of s.doing) ≡ o →
     holding_by holder s o ≡ Some h → IsHeldSeat holder s h
 seat_on holder s h None sends is = absurd (none-some h is)
-seat_on holder s h (Some m) sends is = seat_by holder s m h (s.note.taken && same_pid m.0 holder) sends refl is
+seat_on holder s h (Some m) sends is = seat_by holder s m h (s.note.taken && same_pid s.at holder) sends refl is
 
 pub held_seat : (holder : Pid) (s : Seat) (h : Holding) → seat_holding holder s ≡ Some h → IsHeldSeat holder s h
 held_seat holder s h is = seat_on holder s h (sending (state_of s.doing)) refl is
@@ -115,25 +117,25 @@ held_seat holder s h is = seat_on holder s h (sending (state_of s.doing)) refl i
 pub seat_held : (holder : Pid) (s : Seat) (h : Holding) → IsHeldSeat holder s h → seat_holding holder s ≡ Some h
 seat_held holder s h is =
     ap (λ d. holding_by holder s (sending (state_of d))) is.waits
-    ∙ cond-true (s.note.taken && same_pid holder holder) (Some (held_now s h.message)) None
-    (and_from s.note.taken (same_pid holder holder) is.taken (same_pid_self holder))
+    ∙ cond-true (s.note.taken && same_pid s.at holder) (Some (held_now s h.message)) None
+    (and_from s.note.taken (same_pid s.at holder) is.taken (ap (λ p. same_pid p holder) is.at ∙ same_pid_self holder))
     ∙ ap (λ n. Some (record { number = n; message = h.message })) (sym is.number)
 
 -- What an alien tells where it is held.
 pub record IsHeldAlien (holder : Pid) (a : Alien) (h : Holding) : Type 0 where
   pub taken : is_taken (stage_of a) ≡ true
-  pub target : a.target ≡ holder
+  pub at : a.at ≡ holder
   pub number : h.number ≡ a.number
   pub message : h.message ≡ a.message
 
 alien_by : (holder : Pid) (a : Alien) (h : Holding) (b : Bool) → is_held holder a ≡ b →
     cond b (Some (record { number = a.number; message = a.message })) None ≡ Some h → IsHeldAlien holder a h
 alien_by holder a h true t is =
-    let parts = and_parts (is_taken (stage_of a)) (same_pid a.target holder) t in
+    let parts = and_parts (is_taken (stage_of a)) (same_pid a.at holder) t in
     let same = same_Some (record { number = a.number; message = a.message }) h is in
     record {
       taken = parts.0;
-      target = same_pid_is a.target holder parts.1;
+      at = same_pid_is a.at holder parts.1;
       number = ap (λ (x : Holding). x.number) (sym same);
       message = ap (λ (x : Holding). x.message) (sym same);
     }
@@ -146,22 +148,22 @@ held_alien holder a h is = alien_by holder a h (is_held holder a) refl is
 record IsHeldExchange (exchanges : Name → Option Exchange) (holder sender : Pid) (number : ℕ) : Type 0 where
   exchange : Exchange
   is : exchanges (name_of sender number) ≡ Some exchange
-  target : exchange.target ≡ holder
+  at : exchange.at ≡ holder
   taken : is_taken exchange.stage ≡ true
 
 exchange_held : (exchanges : Name → Option Exchange) (holder sender : Pid) (number : ℕ) → holds_at exchanges holder sender number ≡ true →
     IsHeldExchange exchanges holder sender number
 exchange_held exchanges holder sender number t =
     let e = some_that_holds (is_held_by holder) (exchanges (name_of sender number)) t in
-    let parts = and_parts (same_pid e.0.target holder) (is_taken e.0.stage) e.2 in
-    record { exchange = e.0; is = e.1; target = same_pid_is e.0.target holder parts.0; taken = parts.1 }
+    let parts = and_parts (same_pid e.0.at holder) (is_taken e.0.stage) e.2 in
+    record { exchange = e.0; is = e.1; at = same_pid_is e.0.at holder parts.0; taken = parts.1 }
 
 holds_here : (exchanges : Name → Option Exchange) (holder sender : Pid) (number : ℕ) → IsHeldExchange exchanges holder sender number →
     holds_at exchanges holder sender number ≡ true
 holds_here exchanges holder sender number h =
     ap (holds_of (is_held_by holder)) h.is
-    ∙ and_from (same_pid h.exchange.target holder) (is_taken h.exchange.stage)
-    (ap (λ p. same_pid p holder) h.target ∙ same_pid_self holder) h.taken
+    ∙ and_from (same_pid h.exchange.at holder) (is_taken h.exchange.stage)
+    (ap (λ p. same_pid p holder) h.at ∙ same_pid_self holder) h.taken
 
 held_nowhere : (k : Kernel) (holder sender : Pid) (o : Option Process) → k.procs sender ≡ o →
     ((m : ℕ) → holds_at k.exchanges holder sender m ≡ false) → held k holder sender ≡ None
@@ -180,7 +182,7 @@ held_as k holder sender p h there low high e message one = record {
       ∙ held_only k.exchanges holder sender h.number low (holds_here k.exchanges holder sender h.number e) one p.sends high;
   exchange = e.exchange;
   is = e.is;
-  target = e.target;
+  at = e.at;
   message = message;
   taken = e.taken;
 }
@@ -197,9 +199,15 @@ module _ (times : Times) (host : ℕ) (t : Tables) (r : Reading) (h : Stands tim
   abbrev exchanges : Name → Option Exchange
   exchanges = r.view.exchanges
 
+  -- its target is of the station too
+  target_here : (sender : Pid) (number : ℕ) (e : IsHeldExchange exchanges holder sender number) → e.exchange.target.host ≡ host
+  target_here sender number e =
+      eqb-true e.exchange.target.host e.exchange.at.host (h.sound.near (name_of sender number) e.exchange e.is)
+      ∙ ap (λ (p : Pid). p.host) e.at ∙ own
+
   home_of : (sender : Pid) (number : ℕ) (e : IsHeldExchange exchanges holder sender number) →
       IsHome host t (name_of sender number) e.exchange
-  home_of sender number e = h.home (name_of sender number) e.exchange e.is (ap (λ (p : Pid). p.host) e.target ∙ own)
+  home_of sender number e = h.home (name_of sender number) e.exchange e.is (target_here sender number e)
       (taken_at_target e.exchange.stage e.taken)
 
   -- the exchange of a process that waits in a Send
@@ -221,13 +229,14 @@ module _ (times : Times) (host : ℕ) (t : Tables) (r : Reading) (h : Stands tim
       let one : sent.exchange ≡ e.exchange = same_Some sent.exchange e.exchange
       (sym sent.is ∙ ap (λ p. exchanges (name_of p s.note.sends)) pid ∙ ap (λ n. exchanges (name_of sender n)) last ∙ e.is) in
       let near : same_host s.pid e.exchange.target ≡ true =
-      eq-eqb s.pid.host e.exchange.target.host (ap (λ (p : Pid). p.host) pid ∙ here ∙ sym own ∙ sym (ap (λ
-      (p : Pid). p.host) e.target)) in
+      eq-eqb s.pid.host e.exchange.target.host (ap (λ (p : Pid). p.host) pid ∙ here ∙ sym (target_here sender number e)) in
       let taken : s.note.taken ≡ true = sym (seat_stage s.note.taken) ∙ ap is_taken (sym (sent.stage_is near))
       ∙ ap (λ (x : Exchange). is_taken x.stage) one ∙ e.taken in (
         e.exchange.message,
         seat_held holder s (record { number = number; message = e.exchange.message }) (record {
-          waits = waits ∙ ap (λ p. activities.Blocked (waitings.Send p e.exchange.message)) e.target;
+          target = e.exchange.target;
+          waits = waits;
+          at = ap (λ (p : Spot). p.at) (sym sent.spot_is) ∙ ap (λ (x : Exchange). x.at) one ∙ e.at;
           taken = taken;
           number = sym last;
         }),
@@ -246,14 +255,17 @@ module _ (times : Times) (host : ℕ) (t : Tables) (r : Reading) (h : Stands tim
   seat_exchange : (sender : Pid) (s : Seat) (g : Holding) → sender.host ≡ host → seat_in t.seats sender ≡ Some s →
       IsHeldSeat holder s g → (e : IsHeldExchange exchanges holder sender g.number) × (e.exchange.message ≡ g.message)
   seat_exchange sender s g here found held =
-      let sent : IsSent r.view s holder g.message = sent_in sender s holder g.message found held.waits in
+      let sent : IsSent r.view s held.target g.message = sent_in sender s held.target g.message found held.waits in
       let pid : s.pid ≡ sender = (seat_found t.seats sender s found).named in
-      let near : same_host s.pid holder ≡ true =
-      eq-eqb s.pid.host holder.host (ap (λ (p : Pid). p.host) pid ∙ here ∙ sym own) in (
+      let at : sent.exchange.at ≡ holder = ap (λ (p : Spot). p.at) sent.spot_is ∙ held.at in
+      let near : same_host s.pid held.target ≡ true =
+      eq-eqb s.pid.host held.target.host (ap (λ (p : Pid). p.host) pid ∙ here ∙ sym own ∙ ap (λ (p : Pid). p.host) (sym at)
+      ∙ sym (eqb-true sent.exchange.target.host sent.exchange.at.host (h.sound.near (seat_name s) sent.exchange sent.is))
+      ∙ ap (λ (p : Pid). p.host) sent.target_is) in (
         record {
           exchange = sent.exchange;
           is = ap (λ n. exchanges (name_of sender n)) held.number ∙ ap (λ p. exchanges (name_of p s.note.sends)) (sym pid) ∙ sent.is;
-          target = sent.target_is;
+          at = at;
           taken = ap is_taken (sent.stage_is near) ∙ seat_stage s.note.taken ∙ held.taken;
         },
         sent.message_is,
@@ -262,7 +274,7 @@ module _ (times : Times) (host : ℕ) (t : Tables) (r : Reading) (h : Stands tim
   begun : (sender : Pid) (s : Seat) (g : Holding) → seat_in t.seats sender ≡ Some s → IsHeldSeat holder s g → 0 < s.note.sends
   begun sender s g found held =
       let at = seat_found t.seats sender s found in
-      (fit.seats at.at s at.here).begun holder g.message held.waits
+      (fit.seats at.at s at.here).begun held.target g.message held.waits
 
   local_seat : (sender : Pid) (s : Seat) (o : Option Holding) → sender.host ≡ host → seat_in t.seats sender ≡ Some s →
       seat_holding holder s ≡ o → IsHolding r.view holder sender o
@@ -304,13 +316,13 @@ module _ (times : Times) (host : ℕ) (t : Tables) (r : Reading) (h : Stands tim
       let one : kept.exchange ≡ e.exchange = same_Some kept.exchange e.exchange
       (sym kept.is ∙ ap (λ p. exchanges (name_of p a.0.number)) from ∙ ap (λ n. exchanges (name_of sender n)) a.2 ∙ e.is) in
       let taken : is_taken (stage_of a.0) ≡ true = ap is_taken (sym kept.stage) ∙ ap (λ (x : Exchange). is_taken x.stage) one ∙ e.taken in
-      let target : same_pid a.0.target holder ≡ true = ap (λ p. same_pid p holder) (sym kept.target ∙ ap (λ
-      (x : Exchange). x.target) one ∙ e.target)
+      let at : same_pid a.0.at holder ≡ true = ap (λ p. same_pid p holder) (ap (λ (p : Spot). p.at) (sym kept.spot)
+      ∙ ap (λ (x : Exchange). x.at) one ∙ e.at)
       ∙ same_pid_self holder in (
         a.0,
         a.1,
         cond-true (is_held holder a.0) (Some (record { number = a.0.number; message = a.0.message })) None
-            (and_from (is_taken (stage_of a.0)) (same_pid a.0.target holder) taken target)
+            (and_from (is_taken (stage_of a.0)) (same_pid a.0.at holder) taken at)
             ∙ ap (λ n. Some (record { number = n; message = a.0.message })) a.2,
       )
 
@@ -329,7 +341,7 @@ module _ (times : Times) (host : ℕ) (t : Tables) (r : Reading) (h : Stands tim
         record {
           exchange = kept.exchange;
           is = ap (λ n. exchanges (name_of sender n)) held.number ∙ ap (λ p. exchanges (name_of p a.number)) (sym from) ∙ kept.is;
-          target = kept.target ∙ held.target;
+          at = ap (λ (p : Spot). p.at) kept.spot ∙ held.at;
           taken = ap is_taken kept.stage ∙ held.taken;
         },
         kept.message ∙ sym held.message,

@@ -3,6 +3,7 @@ pub mod AfterCalls
 pub mod AfterEntries
 pub mod AfterFrames
 pub mod AlienClosed
+pub mod AlienForward
 pub mod AlienReply
 pub mod Aliens
 pub mod CallStands
@@ -18,9 +19,11 @@ pub mod FitSeats
 pub mod FitSlots
 pub mod Fits
 pub mod Found
+pub mod HandedOn
 pub mod Held
 pub mod Listed
 pub mod Lists
+pub mod LocalForward
 pub mod LocalReply
 pub mod MoverLeft
 pub mod MoverSeated
@@ -32,6 +35,7 @@ pub mod MovesOwn
 pub mod Named
 pub mod OneAlien
 pub mod OneSeat
+pub mod OneSend
 pub mod Opening
 pub mod Parts
 pub mod PidsStay

@@ -1,7 +1,7 @@
 -- A reply reaches a sender of the station.
 use Rattle.std.proofs.Common.{◌≡◌, ◌⊎◌, ℕ, Bool, true, false, cond, List, [], length, Option, Some, refl, sym, ap, subst, ◌∙◌, inl, inr}
 use Rattle.std.specs.Option.{option_map}
-use Rattle.std.proofs.lemmas.Bool.{cases_Bool, cond-true, false_from_ne_true}
+use Rattle.std.proofs.lemmas.Bool.{cond-true, false_from_ne_true}
 use Rattle.std.proofs.lemmas.Option.{same_Some}
 use Rattle.vk_base.specs.declared.activity.Activity.TheVariants as activities
 use Rattle.vk_base.specs.declared.activity.Outcome.TheVariants as outcomes
@@ -26,18 +26,19 @@ use Rattle.vk_base.specs.Steps.{Finishing, after_effect, finished, next}
 unfoldable use Rattle.vk_base.specs.Steps.{finishing}
 use Rattle.v_laws.specs.Sound.{IsSoundAt}
 use Rattle.v_laws.proofs.Queues.{queue-stage, queue-stage_elsewhere}
-use Rattle.v_laws.proofs.Tables.{put_exchange_at, put_exchange_other, same_name_is, same_name_self, same_pid_is}
+use Rattle.v_laws.proofs.Tables.{put_exchange_at, put_exchange_other, same_name_self, same_pid_is}
 use Rattle.vk_procs.specs.declared.seat.Seat.{Seat}
 use Rattle.vk_procs.specs.Seats as procs
 use Rattle.vk_procs.specs.Seats.{overwritten, process_of, seat_in, written}
 use Rattle.vk_stands.specs.Fit.{IsFitSeat}
-use Rattle.vk_stands.specs.Tables.{Tables, seat_name}
+use Rattle.vk_stands.specs.Tables.{Tables, seat_name, spot_of}
 use Rattle.vk_stands.proofs.FitSeats.{fit_idle}
 use Rattle.vk_stands.proofs.Fits.{fit_seated, placed_here, queues_seated}
 use Rattle.vk_stands.proofs.Found.{seat_found}
 use Rattle.vk_stands.proofs.OneSeat.{ChangesOne, seated, view_seated}
+use Rattle.vk_stands.proofs.OneSend.{put_back, put_forth}
 use Rattle.vk_stands.proofs.Parts.{Carries, Part, carries_seated, same_more}
-use Rattle.vk_stands.proofs.Views.{Goes, goes_self}
+use Rattle.vk_stands.proofs.Views.{Goes}
 
 -- the process gets these bytes, and is done with this reply
 abbrev pub answered_with : Message → ℕ → List ℕ → Seat → Seat
@@ -58,9 +59,9 @@ pub landed : (dest : ℕ) (bytes memory : List ℕ) → lies_in (range_of dest (
 landed dest bytes memory lies =
     cond-true (lies_in (range_of dest (length bytes)) (length memory)) (with_bytes memory dest bytes) memory lies
 
--- the message of the Send waits at no process of the station: it was taken, or is for another one
+-- the message of the Send waits at no process of the station: it was taken, or is at another one
 abbrev pub IsOutOfQueues : ℕ → Exchange → Type 0
-IsOutOfQueues host e = (is_taken e.stage ≡ true) ⊎ (e.target.host ≡ host → ⊥)
+IsOutOfQueues host e = (is_taken e.stage ≡ true) ⊎ (e.at.host ≡ host → ⊥)
 
 pub taken_unqueued : (s : Stage) → is_taken s ≡ true → false ≡ is_queued s
 taken_unqueued stages.Posted t = refl
@@ -101,33 +102,20 @@ module _ (host : ℕ) (t : Tables) (k : Kernel) (part : Part host t k) (to : Pid
   others : (n : Name) → same_name n (seat_name s) ≡ false → l.exchanges n ≡ k.exchanges n
   others n other = put_exchange_other k.exchanges (seat_name s) x n other
 
-  forth : (n : Name) (z : Exchange) → k.exchanges n ≡ Some z → (v : Exchange) × (l.exchanges n ≡ Some v) × Goes z v
-  forth n z there = elim (cases_Bool (same_name n (seat_name s))) [
-    | inl same ↦
-        let one : e ≡ z = same_Some e z (sym at ∙ ap k.exchanges (sym (same_name_is n (seat_name s) same)) ∙ there) in
-        (x, put_exchange_at k.exchanges (seat_name s) x n same, subst (λ a. Goes a x) one goes)
-    | inr other ↦ (z, others n other ∙ there, goes_self z)
-  ]
-
-  back : (n : Name) (v : Exchange) → l.exchanges n ≡ Some v → (z : Exchange) × (k.exchanges n ≡ Some z) × Goes z v
-  back n v there = elim (cases_Bool (same_name n (seat_name s))) [
-    | inl same ↦
-        let one : x ≡ v = same_Some x v (sym (put_exchange_at k.exchanges (seat_name s) x n same) ∙ there) in
-        (e, ap k.exchanges (same_name_is n (seat_name s) same) ∙ at, subst (Goes e) one goes)
-    | inr other ↦ (v, sym (others n other) ∙ there, goes_self v)
-  ]
-
   changes : ChangesOne k l to s y
   changes = record {
     procs = λ q. refl;
     others = others;
-    forth = forth;
-    back = back;
+    forth = put_forth k.exchanges (seat_name s) e x at goes;
+    back = put_back k.exchanges (seat_name s) e x at goes;
     lookups = λ asker number. refl;
     same = record { pid = refl; part = refl; sends = refl; lookups = refl; moving = refl; opened = refl; done = refl };
     stage = λ to z v is there local doing stage.
         let both : activities.Done (waitings.Send target message) (outcomes.Replied m) ≡ activities.Blocked (waitings.Send target message) =
         doing ∙ waits in absurd (cc);
+    spot = λ z v is there spot. ap spot_of (same_Some v x (sym there ∙ put_exchange_at k.exchanges (seat_name s) x (seat_name s)
+        (same_name_self (seat_name s))))
+        ∙ ap spot_of (same_Some e z (sym at ∙ is)) ∙ spot;
     dead = λ dead. dead;
     waits = λ w blocked. absurd (cc);
     sends = λ z there here near blocked.
@@ -142,7 +130,7 @@ module _ (host : ℕ) (t : Tables) (k : Kernel) (part : Part host t k) (to : Pid
   queue_same q here (inl taken) =
       queue-stage k (seat_name s) e (stages.Replied m dest bytes) q at (taken_unqueued e.stage taken)
   queue_same q here (inr away) = queue-stage_elsewhere k (seat_name s) e (stages.Replied m dest bytes) q at
-      (false_from_ne_true (same_pid e.target q) (λ same. away (ap (λ (p : Pid). p.host) (same_pid_is e.target q same) ∙ here)))
+      (false_from_ne_true (same_pid e.at q) (λ same. away (ap (λ (p : Pid). p.host) (same_pid_is e.at q same) ∙ here)))
 
   pub part_replied : IsSoundAt (λ g. false) l → Part host (seated t to f) l
   unfolding queue_of

@@ -24,7 +24,7 @@ use Rattle.vk_procs.specs.declared.seat.Seat.{Seat}
 use Rattle.vk_procs.specs.Seats.{seat_in}
 use Rattle.vk_pool.specs.declared.alien.Alien.{Alien}
 use Rattle.vk_stands.specs.Stands.{IsHome, IsKept, IsMoving, IsOwnMove, IsWaiting}
-use Rattle.vk_stands.specs.Tables.{Tables, alien_name}
+use Rattle.vk_stands.specs.Tables.{Spot, Tables, alien_name, spot_of}
 use Rattle.vk_stands.proofs.Found.{seat_found}
 use Rattle.vk_stands.proofs.Parts.{AreQueues, Part}
 use Rattle.vk_stands.proofs.SentMoves.{with_send}
@@ -34,10 +34,11 @@ pub record HasSameMessage (e y : Exchange) : Type 0 where
   pub target : y.target ≡ e.target
   pub message : y.message ≡ e.message
   pub part : y.part ≡ e.part
+  pub spot : spot_of y ≡ spot_of e
   pub stage : y.stage ≡ e.stage
 
 others_self : (e : Exchange) → HasSameMessage e e
-others_self e = record { target = refl; message = refl; part = refl; stage = refl }
+others_self e = record { target = refl; message = refl; part = refl; spot = refl; stage = refl }
 
 -- what a process waits in is its own move there too
 abbrev pub Owns : Kernel → Name → Exchange → Seat → Waiting → Type 0
@@ -95,12 +96,18 @@ module _ (host : ℕ) (t : Tables) (k : Kernel) (part : Part host t k) (name : N
               blocked = a.blocked ∙ (λ i. states.Blocked (calls.Send (sym x.2.target i) (sym x.2.message i)));
               last = a.last;
             };
+        near = λ n z at. let x = back n z at in (λ i. same_host (x.2.target i) (x.2.spot i).at) ∙ old.near n x.0 x.1;
         known = λ n came. known_by n (k.exchanges n) refl (old.known n came);
         once = old.once;
         posted = λ n z at posted.
             let x = back n z at in
             let u = old.posted n x.0 x.1 (ap is_posted (sym x.2.stage) ∙ posted) in
-            record { remote = ap (same_host n.sender) x.2.target ∙ u.remote; away = u.away };
+            record {
+              remote = ap (same_host n.sender) x.2.target ∙ u.remote;
+              away = u.away;
+              at = ap (λ (p : Spot). p.at) x.2.spot ∙ u.at ∙ sym x.2.target;
+              shown = ap (λ (p : Spot). p.shown) x.2.spot ∙ u.shown ∙ sym x.2.message;
+            };
         came = λ n z at near. let x = back n z at in old.came n x.0 x.1 (ap is_at_target (sym x.2.stage) ∙ near);
         settled = λ sender m n x z at there less local sees posted. cc;
         resting = old.resting;
@@ -153,6 +160,7 @@ module _ (host : ℕ) (t : Tables) (k : Kernel) (part : Part host t k) (name : N
     target_is = v.target_is;
     message_is = v.message_is;
     part_is = v.part_is;
+    spot_is = v.spot_is;
     stage_is = v.stage_is;
     opened = v.opened;
     done = v.done;
@@ -200,7 +208,7 @@ module _ (host : ℕ) (t : Tables) (k : Kernel) (part : Part host t k) (name : N
       none_by (Some x) before = absurd (none-some (forth_moved n x before).0 (sym at ∙ (forth_moved n x before).1))
   queued_by q n (Some z) at =
       let x = back n z at in
-      ap (holds_of (is_queued_at q)) at ∙ (λ i. same_pid (x.2.target i) q && is_queued (x.2.stage i))
+      ap (holds_of (is_queued_at q)) at ∙ (λ i. same_pid (x.2.spot i).at q && is_queued (x.2.stage i))
       ∙ sym (ap (holds_of (is_queued_at q)) x.1)
 
   pub queues_moved : AreQueues t l
@@ -214,6 +222,7 @@ pub record HasOtherMoves (e y : Exchange) : Type 0 where
   pub target : y.target ≡ e.target
   pub message : y.message ≡ e.message
   pub part : y.part ≡ e.part
+  pub spot : spot_of y ≡ spot_of e
   pub stage : y.stage ≡ e.stage
   pub moves : length y.moves ≡ length e.moves
 
@@ -221,7 +230,7 @@ module _ (host : ℕ) (t : Tables) (k : Kernel) (part : Part host t k) (name : N
     (is : k.exchanges name ≡ Some e) (same : HasOtherMoves e y)
     (owns : (pid : Pid) (s : Seat) (w : Waiting) → seat_in t.seats pid ≡ Some s → s.doing ≡ activities.Blocked w → Owns k name y s w) where
   message_same : HasSameMessage e y
-  message_same = record { target = same.target; message = same.message; part = same.part; stage = same.stage }
+  message_same = record { target = same.target; message = same.message; part = same.part; spot = same.spot; stage = same.stage }
 
   long_by : (n : Name) (x z : Exchange) (b : Bool) → same_name n name ≡ b → k.exchanges n ≡ Some x →
       (with_send k name y).exchanges n ≡ Some z →
@@ -242,6 +251,7 @@ module _ (host : ℕ) (t : Tables) (k : Kernel) (part : Part host t k) (name : N
         target = z.2.target ∙ v.target;
         message = z.2.message ∙ v.message;
         part = z.2.part ∙ v.part;
+        spot = z.2.spot ∙ v.spot;
         stage = z.2.stage ∙ v.stage;
         moves = long_by (alien_name a) v.exchange z.0 (same_name (alien_name a) name) refl v.is z.1 ∙ v.moves;
         made = v.made;

@@ -17,7 +17,7 @@ use Rattle.vk_procs.specs.Seats.{process_of, seat_in}
 use Rattle.vk_rules.specs.Readings.{Reading}
 use Rattle.vk_stands.specs.Fit.{AreFit}
 use Rattle.vk_stands.specs.Stands.{HasOwnNames, IsWorking, Stands}
-use Rattle.vk_stands.specs.Tables.{Tables, is_work}
+use Rattle.vk_stands.specs.Tables.{Tables, is_work, spot_of}
 use Rattle.vk_stands.proofs.Fits.{queues_seated}
 use Rattle.vk_stands.proofs.Found.{seat_found}
 use Rattle.vk_stands.proofs.OneSeat.{ChangesOne, seated, view_seated}
@@ -51,6 +51,7 @@ module _ (times : Times) (host : ℕ) (t : Tables) (r : Reading) (h : Stands tim
     lookups = λ asker n. refl;
     same = record { pid = refl; part = refl; sends = refl; lookups = refl; moving = refl; opened = refl; done = refl };
     stage = λ target e x at there local doing stage. ap (λ (z : Exchange). z.stage) (same_Some x e (sym there ∙ at)) ∙ stage;
+    spot = λ e x at there spot. ap spot_of (same_Some x e (sym there ∙ at)) ∙ spot;
     dead = λ d. d;
     waits = λ w is. inl is;
     sends = λ e at here near is. refl;

@@ -13,7 +13,7 @@ use Rattle.v_laws.specs.Sound.{IsSoundAt}
 use Rattle.vk_pool.specs.Aliens.{alien_from}
 use Rattle.vk_procs.specs.Seats.{seat_in}
 use Rattle.vk_stands.specs.Stands.{HasOwnNames}
-use Rattle.vk_stands.specs.Tables.{Tables}
+use Rattle.vk_stands.specs.Tables.{Tables, spot_of}
 use Rattle.vk_stands.proofs.OneSeat.{same_map}
 use Rattle.vk_stands.proofs.Parts.{Carries, Part, same_more}
 use Rattle.vk_stands.proofs.Views.{StandsView, goes_self, same_alien, view_turned}
@@ -33,11 +33,13 @@ module _ (host : ℕ) (t : Tables) (k : Kernel) (part : Part host t k) (names : 
     forth = λ n e at. (e, at, goes_self e);
     back = λ n y at. inl (y, at, goes_self y);
     waits = λ q s w at blocked. waiting_kept k l (λ n e there. (e, there, goes_self e)) (λ asker number. refl) s s (same_seat s)
-        (λ target e z is there local stage. ap (λ (y : Exchange). y.stage) (same_Some z e (sym there ∙ is)) ∙ stage) w
+        (λ target e z is there local stage. ap (λ (y : Exchange). y.stage) (same_Some z e (sym there ∙ is)) ∙ stage)
+        (λ e z is there spot. ap spot_of (same_Some z e (sym there ∙ is)) ∙ spot) w
         (part.view.waiting q s w at blocked);
     still = λ n s y at there here near sender. sender;
     same = λ q x at. same_alien x;
     stages = λ q x e y at is there stage. ap (λ (z : Exchange). z.stage) (same_Some y e (sym there ∙ is)) ∙ stage;
+    spots = λ q x e y at is there spot. ap spot_of (same_Some y e (sym there ∙ is)) ∙ spot;
     refused = λ q x closed at is. (part.view.kept q x at).refused closed is;
   })
 

@@ -19,7 +19,7 @@ use Rattle.vk_pool.specs.Aliens.{alien_at, alien_from, changed_at}
 use Rattle.vk_procs.specs.Seats.{seat_in}
 use Rattle.vk_queue.specs.Lists.{queue_at}
 use Rattle.vk_stands.specs.Fit.{AreFit}
-use Rattle.vk_stands.specs.Tables.{Tables, alien_name, names_at, read_alien, seat_name, slot_name, stage_of}
+use Rattle.vk_stands.specs.Tables.{Tables, alien_name, alien_spot, names_at, read_alien, seat_name, slot_name, spot_of, stage_of}
 use Rattle.vk_stands.proofs.Aliens.{of_at}
 use Rattle.vk_stands.proofs.Fits.{map_all}
 use Rattle.vk_stands.proofs.Found.{alien_found, seat_found}
@@ -75,7 +75,9 @@ pub record ChangesAlien (k l : Kernel) (a b : Alien) : Type 0 where
   pub same : IsSameAlien a b
   pub stage : (e x : Exchange) → k.exchanges (alien_name a) ≡ Some e → l.exchanges (alien_name a) ≡ Some x → e.stage ≡ stage_of a →
       x.stage ≡ stage_of b
-  pub refused : (closed : ℕ) → b.stage ≡ alien_stages.Refused closed → is_live (k.procs a.target) ≡ false
+  pub spot : (e x : Exchange) → k.exchanges (alien_name a) ≡ Some e → l.exchanges (alien_name a) ≡ Some x → spot_of e ≡ alien_spot a →
+      spot_of x ≡ alien_spot b
+  pub refused : (closed : ℕ) → b.stage ≡ alien_stages.Refused closed → is_live (k.procs b.at) ≡ false
 
 module _ (host : ℕ) (t : Tables) (k l : Kernel) (fit : AreFit host t) (h : StandsView host t k) (i : ℕ) (a : Alien)
     (here : alien_at t.slots i ≡ Some a) (f : Alien → Alien) (g : ChangesAlien k l a (f a)) where
@@ -122,33 +124,37 @@ module _ (host : ℕ) (t : Tables) (k l : Kernel) (fit : AreFit host t) (h : Sta
       (subst (IsSameAlien a) (sym (cond-true (same_pid a.sender a.sender) (f a) a (same_pid_self a.sender))) g.same)
   same_by x false other is = subst (IsSameAlien x) (sym (cond-false (same_pid a.sender x.sender) (f x) x other)) (same_alien x)
 
-  stage_by : (x : Alien) (e y : Exchange) (b : Bool) → same_pid a.sender x.sender ≡ b → alien_from t.slots x.sender ≡ Some x →
-      k.exchanges (alien_name x) ≡ Some e → l.exchanges (alien_name x) ≡ Some y → e.stage ≡ stage_of x →
-      y.stage ≡ stage_of (only_alien a.sender f x)
-  stage_by x e y true same is at there stage =
+  -- what its exchange and it have in common, as how far it is
+  told_by : {X : Type 0} (p : Exchange → X) (q : Alien → X) → ((e x : Exchange) → k.exchanges (alien_name a) ≡ Some e →
+      l.exchanges (alien_name a) ≡ Some x → p e ≡ q a → p x ≡ q (f a)) →
+      (x : Alien) (e y : Exchange) (b : Bool) → same_pid a.sender x.sender ≡ b → alien_from t.slots x.sender ≡ Some x →
+      k.exchanges (alien_name x) ≡ Some e → l.exchanges (alien_name x) ≡ Some y → p e ≡ q x →
+      p y ≡ q (only_alien a.sender f x)
+  told_by p q then_is x e y true same is at there told =
       let one : x ≡ a = sym (same_Some a x (sym found ∙ ap (alien_from t.slots) (same_pid_is a.sender x.sender same) ∙ is)) in
-      g.stage e y (ap (λ z. k.exchanges (alien_name z)) (sym one) ∙ at) (ap (λ z. l.exchanges (alien_name z)) (sym one) ∙ there)
-      (stage ∙ ap stage_of one)
-      ∙ sym (ap (λ z. stage_of (only_alien a.sender f z)) one
-      ∙ ap stage_of (cond-true (same_pid a.sender a.sender) (f a) a (same_pid_self a.sender)))
-  stage_by x e y false other is at there stage =
+      then_is e y (ap (λ z. k.exchanges (alien_name z)) (sym one) ∙ at) (ap (λ z. l.exchanges (alien_name z)) (sym one) ∙ there)
+      (told ∙ ap q one)
+      ∙ sym (ap (λ z. q (only_alien a.sender f z)) one
+      ∙ ap q (cond-true (same_pid a.sender a.sender) (f a) a (same_pid_self a.sender)))
+  told_by p q then_is x e y false other is at there told =
       let away : same_pid x.sender a.sender ≡ false =
       false_from_ne_true (same_pid x.sender a.sender) (λ same. both_ways (same_pid a.sender x.sender) other
       (ap (same_pid a.sender) (same_pid_is x.sender a.sender same) ∙ same_pid_self a.sender)) in
-      ap (λ (z : Exchange). z.stage) (same_Some y e (sym there ∙ g.others (alien_name x) (apart_name x.sender x.number away) ∙ at))
-      ∙ stage ∙ ap stage_of (sym (cond-false (same_pid a.sender x.sender) (f x) x other))
+      ap p (same_Some y e (sym there ∙ g.others (alien_name x) (apart_name x.sender x.number away) ∙ at))
+      ∙ told ∙ ap q (sym (cond-false (same_pid a.sender x.sender) (f x) x other))
 
   refused_by : (x : Alien) (closed : ℕ) (b : Bool) → same_pid a.sender x.sender ≡ b → alien_from t.slots x.sender ≡ Some x →
-      (only_alien a.sender f x).stage ≡ alien_stages.Refused closed → is_live (l.procs x.target) ≡ false
+      (only_alien a.sender f x).stage ≡ alien_stages.Refused closed → is_live (l.procs (only_alien a.sender f x).at) ≡ false
   refused_by x closed true same is stage =
       let one : x ≡ a = sym (same_Some a x (sym found ∙ ap (alien_from t.slots) (same_pid_is a.sender x.sender same) ∙ is)) in
-      ap (λ (z : Alien). is_live (l.procs z.target)) one ∙ ap is_live (g.procs a.target)
-      ∙ g.refused closed (sym (ap (λ (z : Alien). (only_alien a.sender f z).stage) one
-      ∙ ap (λ (z : Alien). z.stage) (cond-true (same_pid a.sender a.sender) (f a) a (same_pid_self a.sender))) ∙ stage)
+      let now : only_alien a.sender f x ≡ f a = ap (only_alien a.sender f) one
+      ∙ cond-true (same_pid a.sender a.sender) (f a) a (same_pid_self a.sender) in
+      ap (λ (z : Alien). is_live (l.procs z.at)) now ∙ ap is_live (g.procs (f a).at)
+      ∙ g.refused closed (sym (ap (λ (z : Alien). z.stage) now) ∙ stage)
   refused_by x closed false other is stage =
-      ap is_live (g.procs x.target)
-      ∙ (h.kept x.sender x is).refused closed (sym (ap (λ (z : Alien). z.stage) (cond-false (same_pid a.sender x.sender) (f x) x other))
-      ∙ stage)
+      let now : only_alien a.sender f x ≡ x = cond-false (same_pid a.sender x.sender) (f x) x other in
+      ap (λ (z : Alien). is_live (l.procs z.at)) now ∙ ap is_live (g.procs x.at)
+      ∙ (h.kept x.sender x is).refused closed (sym (ap (λ (z : Alien). z.stage) now) ∙ stage)
 
   self_found : (q : Pid) (x : Alien) → alien_from t.slots q ≡ Some x → alien_from t.slots x.sender ≡ Some x
   self_found q x is = ap (alien_from t.slots) (alien_found t.slots q x is).from ∙ is
@@ -166,10 +172,17 @@ module _ (host : ℕ) (t : Tables) (k l : Kernel) (fit : AreFit host t) (h : Sta
         let own : s.pid.host ≡ host = let p = seat_found t.seats q s at in (fit.seats p.at s p.here).own in
         ap (λ (y : Exchange). y.stage) (same_Some z e (sym there
         ∙ g.others (seat_name s) (apart_name s.pid s.note.sends (own_apart s.pid own)) ∙ is))
-        ∙ stage) w (h.waiting q s w at blocked);
+        ∙ stage)
+        (λ e z is there spot.
+        let own : s.pid.host ≡ host = let p = seat_found t.seats q s at in (fit.seats p.at s p.here).own in
+        ap spot_of (same_Some z e (sym there ∙ g.others (seat_name s) (apart_name s.pid s.note.sends (own_apart s.pid own)) ∙ is)) ∙ spot)
+        w (h.waiting q s w at blocked);
     still = λ n s y at there here near sender. sender;
     same = λ q x is. same_by x (same_pid a.sender x.sender) refl (self_found q x is);
-    stages = λ q x e y is at there stage. stage_by x e y (same_pid a.sender x.sender) refl (self_found q x is) at there stage;
+    stages = λ q x e y is at there stage. told_by (λ (z : Exchange). z.stage) stage_of g.stage x e y (same_pid a.sender x.sender) refl
+        (self_found q x is) at there stage;
+    spots = λ q x e y is at there spot. told_by spot_of alien_spot g.spot x e y (same_pid a.sender x.sender) refl (self_found q x is) at
+        there spot;
     refused = λ q x closed is stage. refused_by x closed (same_pid a.sender x.sender) refl (self_found q x is) stage;
   })
 

@@ -18,7 +18,7 @@ use Rattle.vk_procs.specs.declared.seat.Seat.{Seat}
 use Rattle.vk_procs.specs.Seats.{is_seat, process_of, seat_in}
 use Rattle.vk_stands.specs.Fit.{AreFit}
 use Rattle.vk_stands.specs.Stands.{IsSender, IsWaiting}
-use Rattle.vk_stands.specs.Tables.{Tables, seat_name}
+use Rattle.vk_stands.specs.Tables.{Tables, seat_name, seat_spot, spot_of}
 use Rattle.vk_stands.proofs.Found.{alien_found, seat_found}
 use Rattle.vk_stands.proofs.Views.{Goes, StandsView, Turns, same_alien, view_turned}
 use Rattle.vk_stands.proofs.Waits.{IsSameSeat, only, only_here, only_other, same_seat, local_stage, seats_changed, waiting_kept}
@@ -42,6 +42,9 @@ pub record ChangesSeat (k l : Kernel) (pid : Pid) (s y : Seat) : Type 0 where
   -- where it waits in a local Send, its note tells how far that is
   pub stage : (target : Pid) (e x : Exchange) → k.exchanges (seat_name s) ≡ Some e → l.exchanges (seat_name s) ≡ Some x →
       same_host s.pid target ≡ true → y.doing ≡ s.doing → e.stage ≡ local_stage s → x.stage ≡ local_stage y
+  -- and where its message is, and what is shown there
+  pub spot : (e x : Exchange) → k.exchanges (seat_name s) ≡ Some e → l.exchanges (seat_name s) ≡ Some x → spot_of e ≡ seat_spot s →
+      spot_of x ≡ seat_spot y
   pub dead : s.alive ≡ false → y.alive ≡ false
   -- what it waits in it waited in before, or the view has it
   pub waits : (w : Waiting) → y.doing ≡ activities.Blocked w → (s.doing ≡ activities.Blocked w) ⊎ IsWaiting l y w
@@ -96,7 +99,8 @@ module _ (host : ℕ) (t : Tables) (k l : Kernel) (fit : AreFit host t) (h : Sta
   mine : (w : Waiting) → (f s).doing ≡ activities.Blocked w → (s.doing ≡ activities.Blocked w) ⊎ IsWaiting l (f s) w → IsWaiting l (f s) w
   mine w now (inl before) =
       waiting_kept k l g.forth g.lookups s (f s) (g.same w before)
-      (λ target e z at there local stage. g.stage target e z at there local (now ∙ sym before) stage) w (h.waiting pid s w found before)
+      (λ target e z at there local stage. g.stage target e z at there local (now ∙ sym before) stage) g.spot w
+      (h.waiting pid s w found before)
   mine w now (inr is) = is
 
   waits_by : (q : Pid) (x : Seat) (w : Waiting) (b : Bool) → same_pid q pid ≡ b → seat_in t.seats q ≡ Some x →
@@ -113,6 +117,7 @@ module _ (host : ℕ) (t : Tables) (k l : Kernel) (fit : AreFit host t) (h : Sta
       subst (λ z. IsWaiting l z w) (sym same)
       (waiting_kept k l g.forth g.lookups x x (same_seat x)
       (λ target e z is there local stage. ap (λ (a : Exchange). a.stage) (same_exchange x.pid x.note.sends e z away is there) ∙ stage)
+      (λ e z is there spot. ap spot_of (same_exchange x.pid x.note.sends e z away is there) ∙ spot)
       w (h.waiting q x w at (ap (λ (z : Seat). z.doing) (sym same) ∙ blocked)))
 
   still_by : (n : Name) (x : Seat) (y : Exchange) (b : Bool) → same_pid n.sender pid ≡ b → seat_in t.seats n.sender ≡ Some x →
@@ -152,7 +157,11 @@ module _ (host : ℕ) (t : Tables) (k l : Kernel) (fit : AreFit host t) (h : Sta
         let place = alien_found t.slots sender x here in
         let away : same_pid x.sender pid ≡ false = apart x.sender (fit.aliens place.at x place.here).foreign in
         ap (λ (a : Exchange). a.stage) (same_exchange x.sender x.number e y away at there) ∙ stage;
-    refused = λ sender x closed at is. dead_by x.target (same_pid x.target pid) refl ((h.kept sender x at).refused closed is);
+    spots = λ sender x e y here at there spot.
+        let place = alien_found t.slots sender x here in
+        let away : same_pid x.sender pid ≡ false = apart x.sender (fit.aliens place.at x place.here).foreign in
+        ap spot_of (same_exchange x.sender x.number e y away at there) ∙ spot;
+    refused = λ sender x closed at is. dead_by x.at (same_pid x.at pid) refl ((h.kept sender x at).refused closed is);
   }
 
   pub view_changed : StandsView host u l
@@ -169,6 +178,9 @@ pub record ChangesOne (k l : Kernel) (pid : Pid) (s y : Seat) : Type 0 where
   -- where it waits in a local Send, its note tells how far that is
   pub stage : (target : Pid) (e x : Exchange) → k.exchanges (seat_name s) ≡ Some e → l.exchanges (seat_name s) ≡ Some x →
       same_host s.pid target ≡ true → y.doing ≡ s.doing → e.stage ≡ local_stage s → x.stage ≡ local_stage y
+  -- and where its message is, and what is shown there
+  pub spot : (e x : Exchange) → k.exchanges (seat_name s) ≡ Some e → l.exchanges (seat_name s) ≡ Some x → spot_of e ≡ seat_spot s →
+      spot_of x ≡ seat_spot y
   pub dead : s.alive ≡ false → y.alive ≡ false
   -- what it waits in it waited in before, or the view has it
   pub waits : (w : Waiting) → y.doing ≡ activities.Blocked w → (s.doing ≡ activities.Blocked w) ⊎ IsWaiting l y w
@@ -188,6 +200,7 @@ module _ (host : ℕ) (t : Tables) (k l : Kernel) (fit : AreFit host t) (h : Sta
     lookups = g.lookups;
     same = λ w is. g.same;
     stage = g.stage;
+    spot = g.spot;
     dead = g.dead;
     waits = g.waits;
     sends = g.sends;

@@ -1,21 +1,20 @@
 -- The tables of a new station fit each other, and stand for the reading of no entries.
-use Rattle.std.proofs.Common.{◌≡◌, ◌⊎◌, ℕ, zero, suc, ◌+◌, ◌<◌, ◌≤◌, ◌==◌, nat_le, Bool, true, false, cond, not, List, [], ◌∷◌, ◌++◌, filter, length, map, replicate, get_or, refl, ap, sym, ◌∙◌, subst, Option, Some, None, inl, inr, arith, ltb}
+use Rattle.std.proofs.Common.{◌≡◌, ◌⊎◌, ℕ, zero, suc, ◌+◌, ◌<◌, ◌≤◌, ◌==◌, Bool, true, false, cond, not, List, [], ◌∷◌, filter, length, map, replicate, get_or, refl, ap, sym, ◌∙◌, subst, Some, None, inl, inr, arith, ltb}
 use Rattle.std.specs.Option.{option_map, option_flatten}
-use Rattle.std.specs.List.{find, list_any, position, position_or_len, slice_get}
-use Rattle.std.proofs.lemmas.Bool.{and_parts, cond-true, eq-eqb, eqb-true, false_from_ne_true, leb-true, lt-ltb}
-use Rattle.std.proofs.lemmas.List.{append-nil, append_assoc}
+use Rattle.std.specs.List.{find, position, position_or_len, slice_get}
+use Rattle.std.proofs.lemmas.Bool.{cond-true, eq-eqb, eqb-true, false_from_ne_true, lt-ltb}
 use Rattle.std.proofs.lemmas.Option.{same_Some, none-some, slice_get-map}
 use Rattle.vk_base.specs.declared.activity.Activity.TheVariants as activities
 use Rattle.vk_base.specs.declared.activity.Waiting.{Waiting}
-use Rattle.vk_base.specs.declared.config.ConfigRefusal.{ConfigRefusal}
 use Rattle.vk_base.specs.declared.config.ProcessSpec.{ProcessSpec}
 use Rattle.vk_base.specs.declared.limits.TheConstants.{POOL, STATION_PROCESSES}
 use Rattle.vk_base.specs.declared.pid.Pid.{Pid}
 unfoldable use Rattle.vk_base.specs.Kernel.{queue_of}
 use Rattle.vk_base.specs.Pids.{same_pid}
-use Rattle.vk_base.specs.Settings.{AreKept, Settings, fault_of, first_fault, is_on, is_process, or_else, pool_is_lawful, refusal_of, settings_refusal, times_are_lawful}
+use Rattle.vk_base.specs.Settings.{AreLawful, Settings, is_on, is_process, pool_of}
+use Rattle.vk_base.proofs.Pools.{few_aliens}
 use Rattle.vk_base.proofs.Rising.{AllAbove, AreRising, Below, lawful_rise}
-use Rattle.vk_base.proofs.SettingsLemmas.{kept_more}
+use Rattle.vk_base.proofs.SettingsLemmas.{kept_all}
 use Rattle.v_laws.proofs.Options.{mapped_is}
 use Rattle.v_laws.proofs.SoundLemmas.{initial_ready, sound_initial}
 use Rattle.v_laws.proofs.Tables.{same_pid_is, same_pid_self}
@@ -100,40 +99,15 @@ rising_some host [] up = up
 rising_some host (s ∷ ss) up =
     rising_by s (filter (is_on host) ss) (is_on host s) (above_some s.pid host ss up.0) (rising_some host ss up.1)
 
--- What is said of settings without a fault: times and pool are lawful, and a host has few processes.
-no_refusal : (o p : Option ConfigRefusal) → or_else o p ≡ None → (o ≡ None) × (p ≡ None)
-no_refusal None p is = (refl, is)
-no_refusal (Some x) p is = absurd (none-some x (sym is))
-
-pool_by : (times pool : Bool) (x y : ConfigRefusal) → cond (not times) (Some x) (cond (not pool) (Some y) None) ≡ None → pool ≡ true
-pool_by true true x y is = refl
-pool_by true false x y is = absurd (none-some y (sym is))
-pool_by false pool x y is = absurd (none-some x (sym is))
-
-kept_behind : (before xs : List ProcessSpec) (hosts : List ℕ) → AreKept before hosts → first_fault before xs ≡ None →
-    (all : List ℕ) × AreKept (before ++ xs) all
-kept_behind before [] hosts kept is = (hosts, subst (λ ss. AreKept ss hosts) (sym (append-nil before)) kept)
-kept_behind before (x ∷ xs) hosts kept is =
-    let parts = no_refusal (fault_of before x) (first_fault (before ++ x ∷ []) xs) is in
-    let more = kept_more before (before ++ x ∷ []) hosts _ x (list_any (λ h. h == x.pid.host) hosts) kept parts.0 refl refl refl in
-    let rest = kept_behind (before ++ x ∷ []) xs _ more parts.1 in
-    (rest.0, subst (λ ss. AreKept ss rest.0) (append_assoc before (x ∷ []) xs) rest.1)
-
-kept_all : (specs : List ProcessSpec) → first_fault [] specs ≡ None → (hosts : List ℕ) × AreKept specs hosts
-kept_all specs is = kept_behind [] specs [] (record { lawful = refl; stations = refl; few = λ host. omega arith; all = omega arith }) is
-
-module _ (c : Settings) (host : ℕ) (fine : refusal_of c.times c.pool c.specs ≡ None) where
+module _ (c : Settings) (host : ℕ) (lawful : AreLawful c) where
   abbrev t : Tables
   t = new_tables c host
 
   abbrev specs : List ProcessSpec
   specs = filter (is_on host) c.specs
 
-  lawful : (settings_refusal c.times c.pool ≡ None) × (first_fault [] c.specs ≡ None)
-  lawful = no_refusal (settings_refusal c.times c.pool) (first_fault [] c.specs) fine
-
   up : AreRising specs
-  up = rising_some host c.specs (lawful_rise c.specs lawful.1)
+  up = rising_some host c.specs (lawful_rise c.specs lawful.processes)
 
   seat_is : (pid : Pid) → seat_in t.seats pid ≡ option_map initial_seat (find (is_process pid) specs)
   seat_is pid = find-mapped (is_seat pid) (is_process pid) initial_seat (λ x. refl) specs
@@ -162,6 +136,7 @@ module _ (c : Settings) (host : ℕ) (fine : refusal_of c.times c.pool c.specs �
     done = omega arith;
     part = λ target m blocked. absurd (cc);
     few = omega arith;
+    away = λ target m blocked far. absurd (cc);
     begun = λ target m blocked. absurd (cc);
     asked = λ logical scope blocked. absurd (cc);
   }
@@ -185,15 +160,13 @@ module _ (c : Settings) (host : ℕ) (fine : refusal_of c.times c.pool c.specs �
 
   pub new_fit : AreFit host t
   new_fit = record {
-    few = let kept = kept_all c.specs lawful.1 in subst (λ n. n ≤ STATION_PROCESSES) (sym (length_initial host c.specs)) (kept.1.few host);
+    few = subst (λ n. n ≤ STATION_PROCESSES) (sym (length_initial host c.specs)) ((kept_all c.specs lawful.processes).few host);
     lists = refl;
-    pool = subst (λ n. n ≤ POOL) (sym (length_same None c.pool))
-        (leb-true c.pool POOL (and_parts (nat_le 1 c.pool) (nat_le c.pool POOL)
-        (pool_by (times_are_lawful c.times) (pool_is_lawful c.pool) _ _ lawful.0)).1);
+    pool = subst (λ n. n ≤ POOL) (sym (length_same None (pool_of c host))) (few_aliens c host lawful);
     places = λ i s at. let x = spec_at i s at in ap (λ (z : Seat). position (is_seat z.pid) t.seats) (sym x.2) ∙ place_of i x.0 x.1;
     seats = λ i s at. let x = spec_at i s at in subst (IsFitSeat host) x.2 (fit_seat x.0 (on_host c.specs i x.0 x.1));
-    apart = λ i a at. absurd (none-some a (sym (get_same None c.pool i) ∙ at));
-    aliens = λ i a at. absurd (none-some a (sym (get_same None c.pool i) ∙ at));
+    apart = λ i a at. absurd (none-some a (sym (get_same None (pool_of c host) i) ∙ at));
+    aliens = λ i a at. absurd (none-some a (sym (get_same None (pool_of c host) i) ∙ at));
   }
 
   count_none : (pid : Pid) (s : Seat) → seat_in t.seats pid ≡ Some s → (s.note.sends ≤ 0) × (s.note.lookups ≤ 0)
@@ -209,12 +182,12 @@ module _ (c : Settings) (host : ℕ) (fine : refusal_of c.times c.pool c.specs �
     elsewhere = λ pid p away at. initial_ready (find (is_process pid) c.specs) p at;
     names = refl;
     unknown = λ g away. refl;
-    slots = sym (map_same (option_map read_alien) None c.pool);
-    kept = λ sender a at. absurd (none-some a (sym (no_alien sender c.pool) ∙ at));
+    slots = sym (map_same (option_map read_alien) None (pool_of c host));
+    kept = λ sender a at. absurd (none-some a (sym (no_alien sender (pool_of c host)) ∙ at));
     waiting = λ pid s w at blocked. absurd (idle pid s w at blocked);
     works = λ pid s w at blocked work. absurd (idle pid s w at blocked);
     home = λ n e at here near. absurd (none-some e at);
     queues = λ pid i at. sym (ap (map (slot_name t.seats t.slots)) (get_same [] STATION_PROCESSES i));
     counted = λ pid s at. record { sends = (count_none pid s at).0; lookups = (count_none pid s at).1 };
-    moved = λ sender a at. absurd (none-some a (sym (no_alien sender c.pool) ∙ at));
+    moved = λ sender a at. absurd (none-some a (sym (no_alien sender (pool_of c host)) ∙ at));
   }

@@ -17,7 +17,7 @@ use Rattle.vk_procs.specs.declared.seat.Seat.{Seat}
 use Rattle.vk_procs.specs.Seats.{process_of, seat_in}
 use Rattle.vk_stands.specs.Fit.{IsFitSeat}
 use Rattle.vk_stands.specs.Stands.{IsWaiting}
-use Rattle.vk_stands.specs.Tables.{Tables, seat_name}
+use Rattle.vk_stands.specs.Tables.{Tables, seat_name, seat_spot, spot_of}
 use Rattle.vk_stands.proofs.Fits.{fit_seated, queues_seated}
 use Rattle.vk_stands.proofs.OneSeat.{ChangesOne, seated, view_seated}
 use Rattle.vk_stands.proofs.Parts.{Part}
@@ -32,6 +32,7 @@ with_process k pid p = record k { procs = put_process k.procs pid p }
 pub record Becomes (host : ℕ) (k : Kernel) (s y : Seat) : Type 0 where
   pub same : IsSameSeat s y
   pub taken : y.note.taken ≡ s.note.taken
+  pub spot : seat_spot y ≡ seat_spot s
   pub alive : y.alive ≡ s.alive
   -- what it waits in it waited in before, or it is a receive
   pub waits : (w : Waiting) → y.doing ≡ activities.Blocked w → (s.doing ≡ activities.Blocked w) ⊎ IsWaiting k y w
@@ -56,6 +57,7 @@ module _ (host : ℕ) (t : Tables) (k : Kernel) (part : Part host t k) (pid : Pi
     target_is = v.target_is;
     message_is = v.message_is;
     part_is = v.part_is;
+    spot_is = v.spot_is;
     stage_is = v.stage_is;
     opened = v.opened;
     done = v.done;
@@ -95,6 +97,7 @@ module _ (host : ℕ) (t : Tables) (k : Kernel) (part : Part host t k) (pid : Pi
     same = g.same;
     stage = λ target e x at there local doing stage.
         ap (λ (a : Exchange). a.stage) (same_Some x e (sym there ∙ at)) ∙ stage ∙ ap stage_of_local (sym g.taken);
+    spot = λ e x at there spot. ap spot_of (same_Some x e (sym there ∙ at)) ∙ spot ∙ sym g.spot;
     dead = λ dead. g.alive ∙ dead;
     waits = λ w is. waits_now w (g.waits w is);
     sends = g.sends;

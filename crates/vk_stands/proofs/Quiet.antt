@@ -41,6 +41,7 @@ none_behind k pid (calls.ReceiveSegment start count) a unbegun bad = ap (λ b. l
 none_behind k pid (calls.Reply m to) a unbegun bad = ap (λ b. list_if (b && same_host pid to) (steps.Finish to ∷ [])) bad
 none_behind k pid (calls.ReplySegment m to dest src count) a unbegun bad =
     ap (λ b. list_if (b && same_host pid to) (steps.Finish to ∷ [])) bad
+none_behind k pid (calls.Forward m from to) a unbegun bad = ap (λ b. list_if b (take_where k to)) bad
 none_behind k pid c a unbegun bad = refl
 
 -- What an entry is that says so much: one step, no packets, and the tables stand for the reading after it.

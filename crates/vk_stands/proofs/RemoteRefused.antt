@@ -37,14 +37,14 @@ use Rattle.vk_procs.specs.declared.seat.Seat.{Seat}
 use Rattle.vk_procs.specs.Seats.{finished, process_of, seat_in}
 use Rattle.vk_stands.specs.Fit.{IsFitSeat}
 use Rattle.vk_stands.specs.Stands.{IsKept}
-use Rattle.vk_stands.specs.Tables.{Tables}
+use Rattle.vk_stands.specs.Tables.{Spot, Tables, alien_name, spot_of}
 use Rattle.vk_stands.proofs.FitSeats.{fit_idle}
 use Rattle.vk_stands.proofs.Endings.{Comes}
 use Rattle.vk_stands.proofs.Found.{alien_found, seat_found}
 use Rattle.vk_stands.proofs.OneSeat.{seated}
 use Rattle.vk_stands.proofs.Parts.{Part, carries_seated, same_more}
 use Rattle.vk_stands.proofs.Process.{part_process}
-use Rattle.vk_stands.proofs.RemoteReply.{sent_far}
+use Rattle.vk_stands.proofs.RemoteReply.{at_target, sent_far}
 use Rattle.vk_stands.proofs.Views.{StandsView, goes_self}
 use Rattle.vk_stands.proofs.Waits.{same_seat, waiting_kept}
 use Rattle.vk_stands.proofs.Whole.{sound_next}
@@ -130,9 +130,10 @@ module _ (host : ℕ) (t : Tables) (k : Kernel) (part : Part host t k) (from : P
         let y = becomes n.sender b.process b.is in
         record { process = y.0; is = y.1; first = b.first; last = subst (λ i. n.number ≤ i) (sym y.2.sends) b.last };
     awaited = λ n e is local near. awaited_still n e (part.sound.awaited n e is local near);
+    near = part.sound.near;
     known = part.sound.known;
     once = part.sound.once;
-    posted = λ n e is posted. let u = part.sound.posted n e is posted in record { remote = u.remote; away = u.away };
+    posted = λ n e is posted. let u = part.sound.posted n e is posted in record { remote = u.remote; away = u.away; at = u.at; shown = u.shown };
     came = part.sound.came;
     settled = λ sender i j y z at_y at_z less local sees posted. cc;
     resting = λ pid y is dead. resting_by pid y is dead (same_pid pid from) refl;
@@ -157,17 +158,18 @@ module _ (host : ℕ) (t : Tables) (k : Kernel) (part : Part host t k) (from : P
       by_process (Some p) low = low
   sends_same q n false other low = subst (λ o. n ≤ sends_of o) (sym (at_others q other)) low
 
-  kept_dead : (sender : Pid) (a : Alien) → IsKept k a → a.target.host ≡ host → IsKept l a
+  kept_dead : (sender : Pid) (a : Alien) → IsKept k a → a.at.host ≡ host → IsKept l a
   kept_dead sender a v own = record {
     exchange = v.exchange;
     is = v.is;
     target = v.target;
     message = v.message;
     part = v.part;
+    spot = v.spot;
     stage = v.stage;
     moves = v.moves;
     made = sends_same a.sender a.number (same_pid a.sender from) refl v.made;
-    refused = λ closed is. ap is_live (at_own a.target own) ∙ v.refused closed is;
+    refused = λ closed is. ap is_live (at_own a.at own) ∙ v.refused closed is;
   }
 
   view_dead : StandsView host t l
@@ -175,10 +177,14 @@ module _ (host : ℕ) (t : Tables) (k : Kernel) (part : Part host t k) (from : P
     procs = λ pid own. at_own pid own ∙ part.view.procs pid own;
     elsewhere = λ pid y there is. let x = was pid y is in x.2.state ∙ part.view.elsewhere pid x.0 there x.1;
     kept = λ sender a at.
+        let v = part.view.kept sender a at in
         let place = alien_found t.slots sender a at in
-        kept_dead sender a (part.view.kept sender a at) (part.fit.aliens place.at a place.here).here;
+        kept_dead sender a v (ap (λ (p : Spot). p.at.host) (sym v.spot)
+        ∙ sym (eqb-true v.exchange.target.host v.exchange.at.host (part.sound.near (alien_name a) v.exchange v.is))
+        ∙ ap (λ (p : Pid). p.host) v.target ∙ (part.fit.aliens place.at a place.here).here);
     waiting = λ pid s w at blocked. waiting_kept k l (λ n e is. (e, is, goes_self e)) (λ asker number. refl) s s (same_seat s)
-        (λ target e x is there local stage. ap (λ (z : Exchange). z.stage) (same_Some x e (sym there ∙ is)) ∙ stage) w
+        (λ target e x is there local stage. ap (λ (z : Exchange). z.stage) (same_Some x e (sym there ∙ is)) ∙ stage)
+        (λ e x is there spot. ap spot_of (same_Some x e (sym there ∙ is)) ∙ spot) w
         (part.view.waiting pid s w at blocked);
     home = part.view.home;
   }
@@ -235,7 +241,7 @@ module _ (host : ℕ) (t : Tables) (k : Kernel) (part : Part host t k) (to : Pid
       ∙ ap (λ x. only_if x (failure b e endings.NoProcess) >>= λ refusal. Some (process_of s, refusal))
       (ap (λ p. not (same_host to p)) target_is ∙ ap not far)
       ∙ ap (λ x. only_if (not x) (Some refusals.NoProcess) >>= λ refusal. Some (process_of s, refusal))
-      (ap (λ p. is_live (b.procs p)) target_is ∙ ap is_live (at_dead host t k part from target_far from (same_pid_self from))
+      (ap (λ p. is_live (b.procs p)) (at_target host t k part to own s found from message waits far number last) ∙ ap is_live (at_dead host t k part from target_far from (same_pid_self from))
       ∙ dead_target (k.procs from))
 
   abbrev pub refused : Seat → Seat
@@ -274,6 +280,7 @@ module _ (host : ℕ) (t : Tables) (k : Kernel) (part : Part host t k) (to : Pid
   part_refused = part_process host t b part_b to own s found refused (λ x. refl) (record {
     same = record { pid = refl; part = refl; sends = refl; lookups = refl; moving = refl; opened = refl; done = refl };
     taken = refl;
+    spot = refl;
     alive = refl;
     waits = λ w blocked. absurd (over w blocked);
     sends = λ z at local near blocked. absurd (no_local z local blocked);

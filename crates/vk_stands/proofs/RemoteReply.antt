@@ -27,7 +27,7 @@ use Rattle.v_laws.proofs.Tables.{put_exchange_at, put_exchange_other, same_name_
 use Rattle.vk_procs.specs.declared.seat.Seat.{Seat}
 use Rattle.vk_procs.specs.Seats.{overwritten, seat_in}
 use Rattle.vk_stands.specs.Stands.{IsSent}
-use Rattle.vk_stands.specs.Tables.{Tables, seat_name}
+use Rattle.vk_stands.specs.Tables.{Spot, Tables, seat_name, spot_of}
 use Rattle.vk_stands.proofs.Endings.{Comes}
 use Rattle.vk_stands.proofs.Found.{seat_found}
 use Rattle.vk_stands.proofs.LocalReply.{IsOutOfQueues, answered_with, finish_next, part_replied, reached_by_reply, replied_carries}
@@ -47,13 +47,14 @@ module _ (k : Kernel) (sound : IsSoundAt (λ g. false) k) (name : Name) (e : Exc
   record Told (y z : Exchange) : Type 0 where
     pub target : z.target ≡ y.target
     pub message : z.message ≡ y.message
+    pub spot : spot_of z ≡ spot_of y
     pub stage : (z.stage ≡ y.stage) ⊎ (z.stage ≡ stages.Replied m dest bytes)
 
   told : Told e x
-  told = record { target = refl; message = refl; stage = inr refl }
+  told = record { target = refl; message = refl; spot = refl; stage = inr refl }
 
   told_self : (y : Exchange) → Told y y
-  told_self y = record { target = refl; message = refl; stage = inl refl }
+  told_self y = record { target = refl; message = refl; spot = refl; stage = inl refl }
 
   back : (n : Name) (z : Exchange) → l.exchanges n ≡ Some z → (y : Exchange) × (k.exchanges n ≡ Some y) × Told y z
   back n z is = elim (cases_Bool (same_name n name)) [
@@ -103,12 +104,18 @@ module _ (k : Kernel) (sound : IsSoundAt (λ g. false) k) (name : Name) (e : Exc
           blocked = a.blocked ∙ (λ i. states.Blocked (calls.Send (sym y.2.target i) (sym y.2.message i)));
           last = a.last;
         };
+    near = λ n z is. let y = back n z is in (λ i. same_host (y.2.target i) (y.2.spot i).at) ∙ sound.near n y.0 y.1;
     known = λ n came. known_by n (k.exchanges n) refl (sound.known n came);
     once = sound.once;
     posted = λ n z is posted.
         let y = back n z is in
         let u = sound.posted n y.0 y.1 (posted_was y.0 z y.2.stage posted) in
-        record { remote = ap (same_host n.sender) y.2.target ∙ u.remote; away = u.away };
+        record {
+          remote = ap (same_host n.sender) y.2.target ∙ u.remote;
+          away = u.away;
+          at = ap (λ (p : Spot). p.at) y.2.spot ∙ u.at ∙ sym y.2.target;
+          shown = ap (λ (p : Spot). p.shown) y.2.spot ∙ u.shown ∙ sym y.2.message;
+        };
     came = λ n z is near. let y = back n z is in sound.came n y.0 y.1 (near_was y.0 z y.2.stage near);
     settled = λ sender i j y z at_y at_z less local sees posted. cc;
     resting = sound.resting;
@@ -141,9 +148,16 @@ module _ (host : ℕ) (t : Tables) (k : Kernel) (part : Part host t k) (to : Pid
   pub far_name : name_of to number ≡ seat_name s
   far_name = λ i. name_of (sym (seat_found t.seats to s found).named i) (sym last i)
 
-  pub target_away : sent_far.exchange.target.host ≡ host → ⊥
-  target_away here = both_ways (same_host to target) far
-      (eq-eqb to.host target.host (own ∙ sym here ∙ ap (λ (p : Pid). p.host) sent_far.target_is))
+  -- for all that the view tells its message is at its target
+  pub at_target : sent_far.exchange.at ≡ target
+  at_target =
+      let p = seat_found t.seats to s found in
+      ap (λ (z : Spot). z.at) sent_far.spot_is
+      ∙ (part.fit.seats p.at s p.here).away target message waits (ap (λ q. same_host q target) p.named ∙ far)
+
+  pub message_away : sent_far.exchange.at.host ≡ host → ⊥
+  message_away here = both_ways (same_host to target) far
+      (eq-eqb to.host target.host (own ∙ sym here ∙ ap (λ (p : Pid). p.host) at_target))
 
   module _ (m : Message) (dest : ℕ) (bytes : List ℕ) (lands : overwritten dest bytes s.memory ≡ with_bytes s.memory dest bytes) where
     abbrev packet : Packet
@@ -159,7 +173,7 @@ module _ (host : ℕ) (t : Tables) (k : Kernel) (part : Part host t k) (to : Pid
     after = reached_by_reply k to s e target message m dest bytes
 
     out : IsOutOfQueues host e
-    out = inr target_away
+    out = inr message_away
 
     brought_is : brought k packet ≡ kept
     brought_is =

@@ -30,7 +30,7 @@ use Rattle.vk_procs.specs.declared.seat.Seat.{Seat}
 use Rattle.vk_procs.specs.Seats.{begun_send, next, process_of, seat_in}
 use Rattle.vk_stands.specs.Fit.{AreFit, IsFitSeat, may_go_on, may_wait}
 use Rattle.vk_stands.specs.Stands.{IsHome, IsSender, IsWaiting}
-use Rattle.vk_stands.specs.Tables.{Tables, alien_name, seat_name}
+use Rattle.vk_stands.specs.Tables.{Tables, alien_name, seat_name, spot_of}
 use Rattle.vk_stands.proofs.Fits.{fit_seated}
 use Rattle.vk_stands.proofs.Found.{alien_found, seat_found}
 use Rattle.vk_stands.proofs.OneSeat.{same_map, seated}
@@ -101,6 +101,7 @@ module _ (host : ℕ) (t : Tables) (k : Kernel) (part : Part host t k) (pid : Pi
     done = omega arith;
     part = λ to n is. part_length m s.memory g.lies ∙ ap (λ w. part_len_in w) (same_send target m (waitings.Send to n) is);
     few = subst (λ n. n ≤ SEGMENT_BYTES) (sym (part_length m s.memory g.lies)) (part_low (grants_read m) (segment_of m).len);
+    away = λ to n is far. ap send_target (same_send target m (waitings.Send to n) is);
     begun = λ to n is. subst (λ n. 0 < n) (sym g.more) (omega arith);
     asked = λ logical scope is. absurd (cc);
   }
@@ -108,6 +109,10 @@ module _ (host : ℕ) (t : Tables) (k : Kernel) (part : Part host t k) (pid : Pi
       part_len_in : Waiting → ℕ
       part_len_in (waitings.Send to n) = part_len n
       part_len_in w = 0
+
+      send_target : Waiting → Pid
+      send_target (waitings.Send to n) = to
+      send_target w = target
 
   pub begun_fit : AreFit host (seated t pid f)
   begun_fit = fit_seated host t part.fit pid f (λ x. refl)
@@ -181,6 +186,7 @@ module _ (host : ℕ) (t : Tables) (k : Kernel) (part : Part host t k) (pid : Pi
     target_is = refl;
     message_is = refl;
     part_is = refl;
+    spot_is = refl;
     stage_is = λ local. cond-true (same_host pid target) stages.Queued stages.Posted (ap (λ a. same_host a target) (sym named) ∙ local);
     opened = refl;
     done = refl;
@@ -200,6 +206,8 @@ module _ (host : ℕ) (t : Tables) (k : Kernel) (part : Part host t k) (pid : Pi
       (waiting_kept k l forth same_lookups z z (same_seat z)
       (λ to e y is there_is local stage. ap (λ (a : Exchange). a.stage)
       (same_Some y e (sym there_is ∙ at_other (seat_name z) (other_name z.pid z.note.sends away) ∙ is)) ∙ stage)
+      (λ e y is there_is spot. ap spot_of
+      (same_Some y e (sym there_is ∙ at_other (seat_name z) (other_name z.pid z.note.sends away) ∙ is)) ∙ spot)
       w (part.view.waiting q z w at (ap (λ (a : Seat). a.doing) (sym same) ∙ blocked)))
 
   still_by : (n : Name) (z : Seat) (y : Exchange) (b : Bool) → same_pid n.sender pid ≡ b → seat_in t.seats n.sender ≡ Some z →
@@ -249,5 +257,9 @@ module _ (host : ℕ) (t : Tables) (k : Kernel) (part : Part host t k) (pid : Pi
         let away : same_pid a.sender pid ≡ false = apart a.sender (part.fit.aliens place.at a place.here).foreign in
         ap (λ (z : Exchange). z.stage) (same_Some y e (sym there_is ∙ at_other (alien_name a) (other_name a.sender a.number away) ∙ is))
         ∙ stage;
-    refused = λ sender a closed at is. dead_by a.target (same_pid a.target pid) refl ((part.view.kept sender a at).refused closed is);
+    spots = λ sender a e y at is there_is spot.
+        let place = alien_found t.slots sender a at in
+        let away : same_pid a.sender pid ≡ false = apart a.sender (part.fit.aliens place.at a place.here).foreign in
+        ap spot_of (same_Some y e (sym there_is ∙ at_other (alien_name a) (other_name a.sender a.number away) ∙ is)) ∙ spot;
+    refused = λ sender a closed at is. dead_by a.at (same_pid a.at pid) refl ((part.view.kept sender a at).refused closed is);
   })

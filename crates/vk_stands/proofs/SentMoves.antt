@@ -34,7 +34,7 @@ use Rattle.vk_procs.specs.declared.seat.Seat.{Seat}
 use Rattle.vk_procs.specs.Seats.{is_seat, process_of, seat_in, written}
 use Rattle.vk_stands.specs.Fit.{IsFitSeat, is_remote_move, may_go_on, may_wait}
 use Rattle.vk_stands.specs.Stands.{IsHome, IsKept, IsMoving, IsSender, IsSent, IsWaiting}
-use Rattle.vk_stands.specs.Tables.{Tables, alien_name, seat_name}
+use Rattle.vk_stands.specs.Tables.{Spot, Tables, alien_name, seat_name, spot_of}
 use Rattle.vk_stands.proofs.Doing.{memory_part, overwritten_length, remembering}
 use Rattle.vk_stands.proofs.Fits.{fit_seated, queues_seated}
 use Rattle.vk_stands.proofs.Found.{alien_found, seat_found}
@@ -49,11 +49,12 @@ pub record HasMoreMoves (e y : Exchange) : Type 0 where
   pub target : y.target ≡ e.target
   pub message : y.message ≡ e.message
   pub part : y.part ≡ e.part
+  pub spot : spot_of y ≡ spot_of e
   pub stage : y.stage ≡ e.stage
   pub moves : length e.moves ≤ length y.moves
 
 pub more_self : (e : Exchange) → HasMoreMoves e e
-more_self e = record { target = refl; message = refl; part = refl; stage = refl; moves = omega arith }
+more_self e = record { target = refl; message = refl; part = refl; spot = refl; stage = refl; moves = omega arith }
 
 -- what the process notes of it
 abbrev pub moved_on : ℕ → ℕ → Seat → Seat
@@ -127,6 +128,7 @@ module _ (host : ℕ) (t : Tables) (k : Kernel) (part : Part host t k) (pid : Pi
         target = v.target;
         message = v.message;
         part = v.part;
+        spot = v.spot;
         stage = v.stage;
         moves = v.moves;
         made = v.made;
@@ -146,6 +148,7 @@ module _ (host : ℕ) (t : Tables) (k : Kernel) (part : Part host t k) (pid : Pi
         target_is = same.target ∙ sym (ap (λ (z : Exchange). z.target) one) ∙ v.target_is;
         message_is = same.message ∙ sym (ap (λ (z : Exchange). z.message) one) ∙ v.message_is;
         part_is = same.part ∙ sym (ap (λ (z : Exchange). z.part) one) ∙ v.part_is;
+        spot_is = same.spot ∙ sym (ap spot_of one) ∙ v.spot_is;
         stage_is = λ local. absurd (local_never local);
         opened = refl;
         done = refl;
@@ -178,6 +181,7 @@ module _ (host : ℕ) (t : Tables) (k : Kernel) (part : Part host t k) (pid : Pi
     target_is = v.target_is;
     message_is = v.message_is;
     part_is = v.part_is;
+    spot_is = v.spot_is;
     stage_is = v.stage_is;
     opened = v.opened;
     done = v.done;
@@ -248,7 +252,7 @@ module _ (host : ℕ) (t : Tables) (k : Kernel) (part : Part host t k) (pid : Pi
       holds_of (is_queued_at q) (l.exchanges n) ≡ holds_of (is_queued_at q) (k.exchanges n)
   queued_by q n true t1 =
       ap (holds_of (is_queued_at q)) (put_exchange_at k.exchanges (seat_name s) y n t1)
-      ∙ (λ i. same_pid (same.target i) q && is_queued (same.stage i))
+      ∙ (λ i. same_pid (same.spot i).at q && is_queued (same.stage i))
       ∙ sym (ap (holds_of (is_queued_at q)) (ap k.exchanges (same_name_is n (seat_name s) t1) ∙ is))
   queued_by q n false f1 = ap (holds_of (is_queued_at q)) (put_exchange_other k.exchanges (seat_name s) y n f1)
 
@@ -265,6 +269,7 @@ module _ (host : ℕ) (t : Tables) (k : Kernel) (part : Part host t k) (pid : Pi
     done = low;
     part = h.part;
     few = h.few;
+    away = h.away;
     begun = h.begun;
     asked = h.asked;
   }
@@ -276,6 +281,8 @@ module _ (host : ℕ) (t : Tables) (k : Kernel) (part : Part host t k) (pid : Pi
         target = same.target;
         message = same.message;
         part = same.part;
+        at = ap (λ (z : Spot). z.at) same.spot;
+        shown = ap (λ (z : Spot). z.shown) same.spot;
         moves = same.moves;
         stage = StageOn.same same.stage;
       })))

@@ -2,7 +2,7 @@
 use Rattle.std.proofs.Common.{◌≡◌, ◌≢◌, ℕ, zero, suc, ◌+◌, ◌-◌, ◌<◌, ◌≤◌, ◌==◌, ◌||◌, nat_lt, Bool, true, false, cond, not, List, [], ◌∷◌, ◌++◌, length, map, slice_set, Option, Some, None, refl, sym, ap, subst, ◌∙◌, inl, inr, le_refl}
 use Rattle.std.specs.List.{position, slice_get}
 use Rattle.std.specs.Option.{option_map}
-use Rattle.std.proofs.lemmas.Bool.{and_parts, and_right, both_ways, cases_Bool, cond-true, eq-eqb, false_from_ne_true, lt-ltb}
+use Rattle.std.proofs.lemmas.Bool.{and_parts, and_right, both_ways, cases_Bool, cond-true, eq-eqb, eqb-true, false_from_ne_true, lt-ltb}
 use Rattle.std.proofs.lemmas.List.{get_or-set_other, get_or-set_same, length-map, length-set}
 use Rattle.std.proofs.lemmas.List.Quantifiers.{position-Some}
 use Rattle.std.proofs.lemmas.Option.{same_Some, none-some}
@@ -56,8 +56,9 @@ ready_unqueued host t k part pid own s found ready q here number = by_exchange (
 
     queued_home : (e : Exchange) → k.exchanges (name_of pid number) ≡ Some e → is_queued_at q e ≡ true → ⊥
     queued_home e at is =
-        let parts = and_parts (same_pid e.target q) (is_queued e.stage) is in
-        never e (part.view.home (name_of pid number) e at (ap (λ (p : Pid). p.host) (same_pid_is e.target q parts.0) ∙ here)
+        let parts = and_parts (same_pid e.at q) (is_queued e.stage) is in
+        never e (part.view.home (name_of pid number) e at (eqb-true e.target.host e.at.host (part.sound.near (name_of pid number) e at)
+        ∙ ap (λ (p : Pid). p.host) (same_pid_is e.at q parts.0) ∙ here)
         (queued_is_at_target e.stage parts.1))
 
     by_exchange : (o : Option Exchange) → k.exchanges (name_of pid number) ≡ o →
@@ -70,12 +71,12 @@ ready_unqueued host t k part pid own s found ready q here number = by_exchange (
 abbrev pub last_in : List (List ℕ) → ℕ → ℕ → List (List ℕ)
 last_in lists at slot = slice_set (map (without slot) lists) at (queue_at (map (without slot) lists) at ++ slot ∷ [])
 
-without_at : (slot : ℕ) (lists : List (List ℕ)) (i : ℕ) → queue_at (map (without slot) lists) i ≡ without slot (queue_at lists i)
+pub without_at : (slot : ℕ) (lists : List (List ℕ)) (i : ℕ) → queue_at (map (without slot) lists) i ≡ without slot (queue_at lists i)
 without_at slot [] i = refl
 without_at slot (q ∷ qs) zero = refl
 without_at slot (q ∷ qs) (suc i) = without_at slot qs i
 
-map_end : {A B : Type 0} (f : A → B) (xs : List A) (x : A) → map f (xs ++ x ∷ []) ≡ map f xs ++ f x ∷ []
+pub map_end : {A B : Type 0} (f : A → B) (xs : List A) (x : A) → map f (xs ++ x ∷ []) ≡ map f xs ++ f x ∷ []
 map_end f [] x = refl
 map_end f (y ∷ ys) x = ap (λ zs. f y ∷ zs) (map_end f ys x)
 

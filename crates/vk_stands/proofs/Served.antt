@@ -12,7 +12,6 @@ use Rattle.vk_base.specs.declared.kernel.Exchange.{Exchange}
 use Rattle.vk_base.specs.declared.kernel.Name.{Name}
 use Rattle.vk_base.specs.declared.kernel.Process.{Process}
 use Rattle.vk_base.specs.declared.limits.TheConstants.{STATION_PROCESSES}
-use Rattle.vk_base.specs.declared.message.Message.{Message}
 use Rattle.vk_base.specs.declared.pid.Pid.{Pid}
 use Rattle.vk_base.specs.Activities.{as_receive, call_of, receive_in, state_of}
 use Rattle.vk_base.specs.Firsts.{change_first}
@@ -32,7 +31,7 @@ use Rattle.vk_stands.specs.Tables.{Tables, read_alien, slot_name}
 use Rattle.vk_stands.proofs.OneAlien.{slotted}
 use Rattle.vk_stands.proofs.OneSeat.{seated}
 use Rattle.vk_stands.proofs.Parts.{Carries, Part, carries_then}
-use Rattle.vk_stands.proofs.Takings.{TakenFrom, alien_carries, alien_message_is, alien_part_is, alien_read, alien_sender_is, front_name, noted_alien, noted_carries, noted_local, taken_from}
+use Rattle.vk_stands.proofs.Takings.{TakenFrom, alien_carries, alien_part_is, alien_read, alien_sender_is, alien_shown_is, front_name, noted_alien, noted_carries, noted_local, taken_from}
 use Rattle.vk_stands.proofs.TookPart.{first_out, part_took, took_carries}
 
 -- The receive in which a process waits, as the kernel has it.
@@ -108,16 +107,16 @@ module _ (host : ℕ) (t : Tables) (k : Kernel) (part : Part host t k) (pid : Pi
         )
 
     -- The tables then. The message is of a process of the station, which is noted to be taken.
-    abbrev pub local_served : Seat → Message → Tables
-    local_served x m = record t {
-      seats = change_first (is_seat pid) (reached x.pid m x.part) (change_first (is_seat x.pid) marked_taken t.seats);
+    abbrev pub local_served : Seat → Tables
+    local_served x = record t {
+      seats = change_first (is_seat pid) (reached x.pid x.shown x.part) (change_first (is_seat x.pid) marked_taken t.seats);
       lists = first_out t.lists at;
     }
 
     -- or of an alien, which is
     abbrev pub alien_served : ℕ → Alien → Tables
     alien_served i a = record t {
-      seats = change_first (is_seat pid) (reached a.sender a.message a.part) t.seats;
+      seats = change_first (is_seat pid) (reached a.sender a.shown a.part) t.seats;
       lists = first_out t.lists at;
       slots = changed_at i pool.taken t.slots;
     }
@@ -129,34 +128,26 @@ module _ (host : ℕ) (t : Tables) (k : Kernel) (part : Part host t k) (pid : Pi
       pub taken_local : nat_lt slot STATION_PROCESSES ≡ true → (x : Seat) → slice_get t.seats slot ≡ Some x → TakenFrom k t pid tk x
       taken_local low x here = taken_from host t k part pid own s found w waits tk is slot name_is low x here
 
-      served_by : (P : Tables → Type 0) (x : Seat) (m : Message) → TakenFrom k t pid tk x →
-          x.doing ≡ activities.Blocked (waitings.Send pid m) →
+      served_by : (P : Tables → Type 0) (x : Seat) → TakenFrom k t pid tk x →
           P (record t {
-            seats = change_first (is_seat pid) (reached tk.name.sender tk.exchange.message tk.exchange.part)
+            seats = change_first (is_seat pid) (reached tk.name.sender tk.exchange.shown tk.exchange.part)
                 (change_first (is_seat x.pid) marked_taken t.seats);
             lists = first_out t.lists at;
-          }) → P (local_served x m)
-      served_by P x m g sends h =
-          let message : tk.exchange.message ≡ m =
-          same_message tk.exchange.message m (sym g.waits ∙ sends) in
-          subst P (λ i. record t {
-            seats = change_first (is_seat pid) (reached (g.sender i) (message i) (g.part i))
-                (change_first (is_seat x.pid) marked_taken t.seats);
-            lists = first_out t.lists at;
-          }) h
-        where
-          same_message : (a b : Message) → activities.Blocked (waitings.Send pid a) ≡ activities.Blocked (waitings.Send pid b) → a ≡ b
-          same_message a b e = cc
+          }) → P (local_served x)
+      served_by P x g h = subst P (λ i. record t {
+        seats = change_first (is_seat pid) (reached (g.sender i) (g.shown i) (g.part i))
+            (change_first (is_seat x.pid) marked_taken t.seats);
+        lists = first_out t.lists at;
+      }) h
 
-      module _ (low : nat_lt slot STATION_PROCESSES ≡ true) (x : Seat) (here : slice_get t.seats slot ≡ Some x) (m : Message)
-          (sends : x.doing ≡ activities.Blocked (waitings.Send pid m)) where
-        pub part_local_served : Part host (local_served x m) (taken k pid tk)
-        part_local_served = served_by (λ u. Part host u (taken k pid tk)) x m (taken_local low x here) sends
+      module _ (low : nat_lt slot STATION_PROCESSES ≡ true) (x : Seat) (here : slice_get t.seats slot ≡ Some x) where
+        pub part_local_served : Part host (local_served x) (taken k pid tk)
+        part_local_served = served_by (λ u. Part host u (taken k pid tk)) x (taken_local low x here)
             (part_took host t k part pid own s found w waits tk is at place (seated t x.pid marked_taken)
             (noted_local host t k part pid own s found w waits tk is slot name_is low x here))
 
-        pub local_served_carries : Carries 0 t (local_served x m)
-        local_served_carries = served_by (λ u. Carries 0 t u) x m (taken_local low x here) sends
+        pub local_served_carries : Carries 0 t (local_served x)
+        local_served_carries = served_by (λ u. Carries 0 t u) x (taken_local low x here)
             (carries_then 0 0 t (seated t x.pid marked_taken) _
             (noted_carries host t k part pid own s found w waits tk is slot name_is low x here)
             (took_carries host t k part pid own s found w waits tk is at place (seated t x.pid marked_taken)
@@ -168,13 +159,13 @@ module _ (host : ℕ) (t : Tables) (k : Kernel) (part : Part host t k) (pid : Pi
         i = slot - STATION_PROCESSES
 
         alien_by : (P : Tables → Type 0) → P (record (slotted t i pool.taken) {
-          seats = change_first (is_seat pid) (reached tk.name.sender tk.exchange.message tk.exchange.part) t.seats;
+          seats = change_first (is_seat pid) (reached tk.name.sender tk.exchange.shown tk.exchange.part) t.seats;
           lists = first_out t.lists at;
         }) → P (alien_served i a)
         alien_by P h = subst P (λ j. record (slotted t i pool.taken) {
           seats = change_first (is_seat pid) (reached
               (alien_sender_is host t k part pid own s found w waits tk is slot name_is high a here j)
-              (alien_message_is host t k part pid own s found w waits tk is slot name_is high a here j)
+              (alien_shown_is host t k part pid own s found w waits tk is slot name_is high a here j)
               (alien_part_is host t k part pid own s found w waits tk is slot name_is high a here j)) t.seats;
           lists = first_out t.lists at;
         }) h

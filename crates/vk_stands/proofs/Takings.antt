@@ -1,8 +1,8 @@
 -- The Send whose message a process takes is noted as taken: of a process of the station, or of an alien.
-use Rattle.std.proofs.Common.{◌≡◌, ℕ, ◌-◌, nat_lt, true, false, List, [], ◌∷◌, map, Option, Some, None, refl, sym, ap, subst, ◌∙◌, inl, inr}
+use Rattle.std.proofs.Common.{◌≡◌, ℕ, ◌-◌, nat_lt, true, false, List, [], ◌∷◌, map, Option, Some, None, refl, sym, ap, subst, ◌∙◌, inl, inr, Bool}
 use Rattle.std.specs.List.{slice_get}
 use Rattle.std.specs.Option.{option_map}
-use Rattle.std.proofs.lemmas.Bool.{cases_Bool, cond-true, cond-false, false_from_ne_true}
+use Rattle.std.proofs.lemmas.Bool.{cases_Bool, cond-true, cond-false, eqb-true, false_from_ne_true}
 use Rattle.std.proofs.lemmas.Option.{same_Some, none-some}
 use Rattle.vk_base.specs.declared.activity.Activity.TheVariants as activities
 use Rattle.vk_base.specs.declared.activity.Waiting.{Waiting}
@@ -30,7 +30,7 @@ use Rattle.vk_procs.specs.declared.seat.Seat.{Seat}
 use Rattle.vk_procs.specs.Seats.{is_seat, marked_taken, process_of, seat_in}
 use Rattle.vk_queue.specs.Lists.{queue_at}
 use Rattle.vk_stands.specs.Stands.{IsHome, IsKept, IsSender, IsSent}
-use Rattle.vk_stands.specs.Tables.{Tables, alien_name, names_at, read_alien, seat_name, slot_name, stage_by}
+use Rattle.vk_stands.specs.Tables.{Spot, Tables, alien_name, names_at, read_alien, seat_name, slot_name, spot_of, stage_by}
 use Rattle.vk_stands.proofs.Aliens.{of_at}
 use Rattle.vk_stands.proofs.FitSeats.{fit_note}
 use Rattle.vk_stands.proofs.FitSlots.{fit_taken}
@@ -42,7 +42,8 @@ use Rattle.vk_stands.proofs.Parts.{Carries, Part, carries_seated, same_more}
 use Rattle.vk_stands.proofs.Seats.{position-changed}
 use Rattle.vk_stands.proofs.Took.{receive_is}
 use Rattle.vk_stands.proofs.TookPart.{Noted, send_taken}
-use Rattle.vk_stands.proofs.Views.{Goes, goes_self}
+use Rattle.vk_stands.proofs.OneSend.{put_back, put_forth}
+use Rattle.vk_stands.proofs.Views.{Goes}
 use Rattle.vk_stands.proofs.Waits.{only_other, seats_changed}
 
 -- the first slot of a list is of the first name
@@ -84,23 +85,23 @@ module _ (k : Kernel) (pid : Pid) (tk : Taking) (is : taking k pid ≡ Some tk) 
 
   pub taken_forth : (n : Name) (e : Exchange) → k.exchanges n ≡ Some e →
       (y : Exchange) × ((send_taken k tk).exchanges n ≡ Some y) × Goes e y
-  taken_forth n e at = elim (cases_Bool (same_name n tk.name)) [
-    | inl same ↦
-        let one : tk.exchange ≡ e = same_Some tk.exchange e (sym (taking_is k pid tk is).exchange
-        ∙ ap k.exchanges (sym (same_name_is n tk.name same)) ∙ at) in
-        (x, put_exchange_at k.exchanges tk.name x n same, subst (λ z. Goes z x) one goes)
-    | inr other ↦ (e, taken_others n other ∙ at, goes_self e)
-  ]
+  taken_forth = put_forth k.exchanges tk.name tk.exchange x (taking_is k pid tk is).exchange goes
 
   pub taken_back : (n : Name) (y : Exchange) → (send_taken k tk).exchanges n ≡ Some y → (e : Exchange) × (k.exchanges n ≡ Some e) × Goes e y
-  taken_back n y at = elim (cases_Bool (same_name n tk.name)) [
-    | inl same ↦
-        let one : x ≡ y = same_Some x y (sym (put_exchange_at k.exchanges tk.name x n same) ∙ at) in
-        (tk.exchange, ap k.exchanges (same_name_is n tk.name same) ∙ (taking_is k pid tk is).exchange, subst (Goes tk.exchange) one goes)
-    | inr other ↦ (y, sym (taken_others n other) ∙ at, goes_self y)
-  ]
+  taken_back = put_back k.exchanges tk.name tk.exchange x (taking_is k pid tk is).exchange goes
 
-same_put : (procs : Pid → Option Process) (pid : Pid) (p : Process) (q : Pid) → procs pid ≡ Some p → procs q ≡ put_process procs pid p q
+  spot_by : (n : Name) (e y : Exchange) (b : Bool) → same_name n tk.name ≡ b → k.exchanges n ≡ Some e →
+      (send_taken k tk).exchanges n ≡ Some y → spot_of y ≡ spot_of e
+  spot_by n e y true same at there =
+      ap spot_of (same_Some y x (sym there ∙ put_exchange_at k.exchanges tk.name x n same))
+      ∙ ap spot_of (same_Some tk.exchange e (sym (taking_is k pid tk is).exchange ∙ ap k.exchanges (sym (same_name_is n tk.name same)) ∙ at))
+  spot_by n e y false other at there = ap spot_of (same_Some y e (sym there ∙ taken_others n other ∙ at))
+
+  pub taken_spot : (n : Name) (e y : Exchange) → k.exchanges n ≡ Some e → (send_taken k tk).exchanges n ≡ Some y →
+      spot_of y ≡ spot_of e
+  taken_spot n e y at there = spot_by n e y (same_name n tk.name) refl at there
+
+pub same_put : (procs : Pid → Option Process) (pid : Pid) (p : Process) (q : Pid) → procs pid ≡ Some p → procs q ≡ put_process procs pid p q
 same_put procs pid p q at = elim (cases_Bool (same_pid q pid)) [
   | inl same ↦ ap procs (same_pid_is q pid same) ∙ at ∙ sym (put_process_at procs pid p q same)
   | inr other ↦ sym (put_process_other procs pid p q other)
@@ -109,17 +110,21 @@ same_put procs pid p q at = elim (cases_Bool (same_pid q pid)) [
 -- A local Send: the sender is in its place.
 pub record TakenFrom (k : Kernel) (t : Tables) (pid : Pid) (tk : Taking) (x : Seat) : Type 0 where
   pub sender : tk.name.sender ≡ x.pid
-  pub waits : x.doing ≡ activities.Blocked (waitings.Send pid tk.exchange.message)
+  pub waits : x.doing ≡ activities.Blocked (waitings.Send tk.exchange.target tk.exchange.message)
   pub part : tk.exchange.part ≡ x.part
+  pub shown : tk.exchange.shown ≡ x.shown
 
 module _ (host : ℕ) (t : Tables) (k : Kernel) (part : Part host t k) (pid : Pid) (own : pid.host ≡ host) (s : Seat)
     (found : seat_in t.seats pid ≡ Some s) (w : Waiting) (waits : receive_in s.doing ≡ Some w) (tk : Taking) (is : taking k pid ≡ Some tk)
     (slot : ℕ) (name_is : slot_name t.seats t.slots slot ≡ Some tk.name) where
-  target_is : tk.exchange.target ≡ pid
-  target_is = same_pid_is tk.exchange.target pid (taken_was_queued k pid tk is).0
+  -- its target is of the station
+  target_here : tk.exchange.target.host ≡ host
+  target_here =
+      eqb-true tk.exchange.target.host tk.exchange.at.host (part.sound.near tk.name tk.exchange (taking_is k pid tk is).exchange)
+      ∙ ap (λ (p : Pid). p.host) (same_pid_is tk.exchange.at pid (taken_was_queued k pid tk is).0) ∙ own
 
   home : IsHome host t tk.name tk.exchange
-  home = part.view.home tk.name tk.exchange (taking_is k pid tk is).exchange (ap (λ (p : Pid). p.host) target_is ∙ own)
+  home = part.view.home tk.name tk.exchange (taking_is k pid tk is).exchange target_here
       (queued_is_at_target tk.exchange.stage (taken_was_queued k pid tk is).1)
 
   module _ (low : nat_lt slot STATION_PROCESSES ≡ true) (x : Seat) (here : slice_get t.seats slot ≡ Some x) where
@@ -148,12 +153,15 @@ module _ (host : ℕ) (t : Tables) (k : Kernel) (part : Part host t k) (pid : Pi
     sent_x : IsSent k x tk.exchange.target tk.exchange.message
     sent_x = part.view.waiting x.pid x (waitings.Send tk.exchange.target tk.exchange.message) found_x waits_x
 
+    one : tk.exchange ≡ sent_x.exchange
+    one = same_Some tk.exchange sent_x.exchange (sym (taking_is k pid tk is).exchange ∙ ap k.exchanges (sym named) ∙ sent_x.is)
+
     pub taken_from : TakenFrom k t pid tk x
     taken_from = record {
       sender = ap (λ (n : Name). n.sender) (sym named);
-      waits = waits_x ∙ ap (λ p. activities.Blocked (waitings.Send p tk.exchange.message)) target_is;
-      part = ap (λ (e : Exchange). e.part) (same_Some tk.exchange sent_x.exchange
-          (sym (taking_is k pid tk is).exchange ∙ ap k.exchanges (sym named) ∙ sent_x.is)) ∙ sent_x.part_is;
+      waits = waits_x;
+      part = ap (λ (e : Exchange). e.part) one ∙ sent_x.part_is;
+      shown = ap (λ (e : Exchange). e.shown) one ∙ ap (λ (p : Spot). p.shown) sent_x.spot_is;
     }
 
     apart : same_pid s.pid x.pid ≡ false
@@ -176,6 +184,7 @@ module _ (host : ℕ) (t : Tables) (k : Kernel) (part : Part host t k) (pid : Pi
       lookups = λ asker number. refl;
       same = record { pid = refl; part = refl; sends = refl; lookups = refl; moving = refl; opened = refl; done = refl };
       stage = λ target e z at there local doing stage. taken_here k pid tk is (seat_name x) z named there;
+      spot = λ e z at there spot. taken_spot k pid tk is (seat_name x) e z at there ∙ spot;
       dead = λ dead. dead;
       waits = λ v blocked. inl blocked;
       sends = λ e there here near blocked. refl;
@@ -217,8 +226,8 @@ module _ (host : ℕ) (t : Tables) (k : Kernel) (part : Part host t k) (pid : Pi
     pub alien_sender_is : tk.name.sender ≡ a.sender
     alien_sender_is = ap (λ (n : Name). n.sender) (sym alien_named)
 
-    pub alien_message_is : tk.exchange.message ≡ a.message
-    alien_message_is = ap (λ (e : Exchange). e.message) exchange_is ∙ kept.message
+    pub alien_shown_is : tk.exchange.shown ≡ a.shown
+    alien_shown_is = ap (λ (e : Exchange). e.shown) exchange_is ∙ ap (λ (p : Spot). p.shown) kept.spot
 
     pub alien_part_is : tk.exchange.part ≡ a.part
     alien_part_is = ap (λ (e : Exchange). e.part) exchange_is ∙ kept.part
@@ -232,6 +241,7 @@ module _ (host : ℕ) (t : Tables) (k : Kernel) (part : Part host t k) (pid : Pi
       lookups = λ asker number. refl;
       same = record { sender = refl; number = refl; target = refl; message = refl; part = refl; moves = refl };
       stage = λ e z at there stage. taken_here k pid tk is (alien_name a) z alien_named there;
+      spot = λ e z at there spot. taken_spot k pid tk is (alien_name a) e z at there ∙ spot;
       refused = λ closed stage. absurd (cc);
     }
 

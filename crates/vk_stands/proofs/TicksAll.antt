@@ -21,7 +21,7 @@ use Rattle.vk_procs.specs.declared.seat.Seat.{Seat}
 use Rattle.vk_procs.specs.Seats.{is_seat, process_of, seat_in}
 use Rattle.vk_stands.specs.Fit.{AreFit}
 use Rattle.vk_stands.specs.Stands.{IsWaiting}
-use Rattle.vk_stands.specs.Tables.{Tables, is_work}
+use Rattle.vk_stands.specs.Tables.{Tables, is_work, seat_spot}
 use Rattle.vk_stands.specs.Ticks.{at_rest, tick_steps, ticked_seat, ticking, ticking_by, ticking_in, unanswered, work_in}
 use Rattle.vk_stands.proofs.Lists.{find-mapped}
 use Rattle.vk_stands.proofs.TicksView.{next_ticked, peopled}
@@ -41,6 +41,7 @@ pub record IsTicked (s y : Seat) : Type 0 where
   pub alive : y.alive ≡ s.alive
   pub memory : y.memory ≡ s.memory
   pub part : y.part ≡ s.part
+  pub spot : seat_spot y ≡ seat_spot s
   pub sends : y.note.sends ≡ s.note.sends
   pub lookups : y.note.lookups ≡ s.note.lookups
   pub moving : y.note.moving ≡ s.note.moving
@@ -58,6 +59,7 @@ at_rest_ticked s = record {
   alive = refl;
   memory = refl;
   part = refl;
+  spot = refl;
   sends = refl;
   lookups = refl;
   moving = refl;
@@ -81,6 +83,7 @@ by_due times now s w is far dues.Resend = record {
   alive = refl;
   memory = refl;
   part = refl;
+  spot = refl;
   sends = refl;
   lookups = refl;
   moving = refl;
@@ -96,6 +99,7 @@ by_due times now s w is far dues.GiveUp = record {
   alive = refl;
   memory = refl;
   part = refl;
+  spot = refl;
   sends = refl;
   lookups = refl;
   moving = refl;

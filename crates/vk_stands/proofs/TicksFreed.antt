@@ -156,7 +156,7 @@ module _ (times : Times) (now : ℕ) where
     slot_at pid slot n None none queued is = cc
     slot_at pid slot n (Some e) there queued is =
         slot_by slot n e (nat_lt slot STATION_PROCESSES) there
-        (queued_near e.stage (and_parts (same_pid e.target pid) (is_queued e.stage) queued).1) is
+        (queued_near e.stage (and_parts (same_pid e.at pid) (is_queued e.stage) queued).1) is
 
     module _ (pid : Pid) where
       abbrev test : Name → Bool

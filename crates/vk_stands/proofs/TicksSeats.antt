@@ -1,8 +1,8 @@
 -- The view after a tick of all processes, and that the processes fit.
-use Rattle.std.proofs.Common.{◌≡◌, ◌⊎◌, ◌≤◌, ◌<◌, ℕ, zero, suc, false, not, List, [], ◌∷◌, length, map, refl, ap, sym, ◌∙◌, subst, Option, Some, None, inl, inr}
+use Rattle.std.proofs.Common.{◌≡◌, ◌⊎◌, ◌≤◌, ◌<◌, ℕ, zero, suc, Bool, true, false, ◌==◌, not, List, [], ◌∷◌, length, map, refl, ap, sym, ◌∙◌, subst, Option, Some, None, inl, inr}
 use Rattle.std.specs.List.{position, slice_get}
 use Rattle.std.specs.Option.{option_map, option_or}
-use Rattle.std.proofs.lemmas.Bool.{eq-eqb}
+use Rattle.std.proofs.lemmas.Bool.{both_ways, eq-eqb, eqb-true}
 use Rattle.std.proofs.lemmas.List.{length-map}
 use Rattle.std.proofs.lemmas.Option.{none-some, same_Some}
 use Rattle.vk_base.specs.declared.activity.Activity.TheVariants as activities
@@ -14,17 +14,17 @@ use Rattle.vk_base.specs.declared.limits.TheConstants.{MOVE_BYTES, SEGMENT_BYTES
 use Rattle.vk_base.specs.declared.message.Message.{Message}
 use Rattle.vk_base.specs.declared.pid.Pid.{Pid}
 use Rattle.vk_base.specs.Kernel.{Kernel, is_live}
-use Rattle.vk_base.specs.Pids.{same_pid}
+use Rattle.vk_base.specs.Pids.{same_pid, same_host}
 use Rattle.vk_pool.specs.Aliens.{alien_from}
 use Rattle.vk_pool.proofs.Shown.{position-mapped}
 use Rattle.vk_procs.specs.declared.seat.Seat.{Seat}
 use Rattle.vk_procs.specs.Seats.{is_seat, process_of, seat_in}
 use Rattle.vk_stands.specs.Fit.{AreFit, IsFitSeat, may_wait}
 use Rattle.vk_stands.specs.Stands.{IsSender, IsWaiting}
-use Rattle.vk_stands.specs.Tables.{Tables, is_work}
+use Rattle.vk_stands.specs.Tables.{Spot, Tables, is_work, spot_of}
 use Rattle.vk_stands.specs.Ticks.{ticked_seat, unanswered}
 use Rattle.vk_stands.proofs.FitSeats.{move_note}
-use Rattle.vk_stands.proofs.Found.{alien_found, seat_found}
+use Rattle.vk_stands.proofs.Found.{seat_found}
 use Rattle.vk_stands.proofs.OneSeat.{same_map}
 use Rattle.vk_stands.proofs.TicksAll.{IsOver, IsTicked, seat_ticked, ticked_procs, ticked_seats}
 use Rattle.vk_stands.proofs.TicksView.{peopled}
@@ -74,6 +74,8 @@ fit_ticked host s y is fit = record {
   part = λ target m blocked. ap (λ bytes. length bytes) is.part ∙ fit.part target m (waited s y
       (waitings.Send target m) is.doing blocked);
   few = subst (λ bytes. length bytes ≤ SEGMENT_BYTES) (sym is.part) fit.few;
+  away = λ target m blocked far. ap (λ (z : Spot). z.at) is.spot
+      ∙ fit.away target m (waited s y (waitings.Send target m) is.doing blocked) (ap (λ p. same_host p target) (sym is.pid) ∙ far);
   begun = λ target m blocked. subst (λ n. 0 < n) (sym is.sends) (fit.begun target m (waited s y
       (waitings.Send target m) is.doing blocked));
   asked = λ logical scope blocked. subst (λ n. 0 < n) (sym is.lookups) (fit.asked logical scope
@@ -145,6 +147,7 @@ module _ (times : Times) (now host : ℕ) (t : Tables) (fit : AreFit host t) whe
           done = is.done;
         }) (λ target e x at there local stage.
         ap (λ (a : Exchange). a.stage) (same_Some x e (sym there ∙ at)) ∙ stage ∙ ap stage_of_local (sym is.taken))
+        (λ e x at there spot. ap spot_of (same_Some x e (sym there ∙ at)) ∙ spot ∙ sym is.spot)
         w (h.waiting pid s w found (waited s (f s) w is.doing blocked))
 
     dead_by : (pid : Pid) (o : Option Seat) → pid.host ≡ host → seat_in t.seats pid ≡ o → is_live (k.procs pid) ≡ false →
@@ -155,6 +158,11 @@ module _ (times : Times) (now host : ℕ) (t : Tables) (fit : AreFit host t) whe
         ap is_live (procs_by pid (Some s) own some ∙ ap (option_map process_of) (ticked_seats times now t.seats pid ∙ ap
         (option_map f) some))
         ∙ (seat_ticked times now s).alive ∙ sym (ap is_live (h.procs pid own ∙ ap (option_map process_of) some)) ∙ dead
+
+    dead_any : (pid : Pid) (b : Bool) → (pid.host == host) ≡ b → is_live (k.procs pid) ≡ false → is_live (ticked_view.procs pid) ≡ false
+    dead_any pid true own dead = dead_by pid (seat_in t.seats pid) (eqb-true pid.host host own) refl dead
+    dead_any pid false away dead =
+        ap is_live (far_by pid (seat_in t.seats pid) (λ own. both_ways (pid.host == host) away (eq-eqb pid.host host own)) refl) ∙ dead
 
     turned : Turns host t all_ticked k ticked_view f (λ x. x)
     turned = record {
@@ -171,10 +179,8 @@ module _ (times : Times) (now host : ℕ) (t : Tables) (fit : AreFit host t) whe
           subst (IsSender n y) (sym ((seat_ticked times now s).near (local_near host s y.target y.message own here sender.waits))) sender;
       same = λ sender x at. same_alien x;
       stages = λ sender x e y here at there stage. ap (λ (a : Exchange). a.stage) (same_Some y e (sym there ∙ at)) ∙ stage;
-      refused = λ sender x closed at is.
-          let place = alien_found t.slots sender x at in
-          dead_by x.target (seat_in t.seats x.target) (fit.aliens place.at x place.here).here refl
-          ((h.kept sender x at).refused closed is);
+      spots = λ sender x e y here at there spot. ap spot_of (same_Some y e (sym there ∙ at)) ∙ spot;
+      refused = λ sender x closed at is. dead_any x.at (x.at.host == host) refl ((h.kept sender x at).refused closed is);
     }
 
     pub view_ticked : StandsView host all_ticked ticked_view

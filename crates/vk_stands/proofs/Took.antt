@@ -58,7 +58,7 @@ lies_shorter start count size part lies =
 
 pub reached_process : (w : Waiting) (from : Pid) (e : Exchange) (s : Seat) → as_receive w ≡ Some w →
     may_wait s.pid (length s.memory) w ≡ true →
-    process_of (reached_seat w from e.message e.part s)
+    process_of (reached_seat w from e.shown e.part s)
     ≡ record (process_of s) {
       memory = with_part (call_of w) e s.memory;
       state = states.Done (call_of w) (received (call_of w) from e);

@@ -32,7 +32,7 @@ use Rattle.vk_procs.specs.declared.seat.Seat.{Seat}
 use Rattle.vk_procs.specs.Seats.{is_seat, process_of, reached, reached_by, seat_in}
 use Rattle.vk_queue.specs.Lists.{queue_at}
 use Rattle.vk_stands.specs.Fit.{AreFit, IsFitSeat}
-use Rattle.vk_stands.specs.Tables.{Tables, names_at, slot_name}
+use Rattle.vk_stands.specs.Tables.{Tables, names_at, slot_name, spot_of}
 use Rattle.vk_stands.proofs.FitSeats.{fit_idle}
 use Rattle.vk_stands.proofs.Fits.{fit_seated, map_all, slot_kept}
 use Rattle.vk_stands.proofs.Found.{seat_found}
@@ -75,10 +75,10 @@ module _ (host : ℕ) (t : Tables) (k : Kernel) (part : Part host t k) (pid : Pi
   from = tk.name.sender
 
   abbrev f : Seat → Seat
-  f = reached from e.message e.part
+  f = reached from e.shown e.part
 
   abbrev y : Seat
-  y = reached_seat w from e.message e.part s
+  y = reached_seat w from e.shown e.part s
 
   abbrev l : Kernel
   l = taken k pid tk
@@ -93,7 +93,7 @@ module _ (host : ℕ) (t : Tables) (k : Kernel) (part : Part host t k) (pid : Pi
   receive = receive_is s.doing w waits
 
   is_y : f s ≡ y
-  is_y = ap (λ o. reached_by o from e.message e.part s) waits
+  is_y = ap (λ o. reached_by o from e.shown e.part s) waits
 
   process_is : process_of s ≡ tk.process
   process_is = same_Some (process_of s) tk.process (sym (part.view.procs pid own ∙ ap (option_map process_of) found) ∙ facts.process)
@@ -122,6 +122,7 @@ module _ (host : ℕ) (t : Tables) (k : Kernel) (part : Part host t k) (pid : Pi
     lookups = λ asker number. refl;
     same = record { pid = refl; part = refl; sends = refl; lookups = refl; moving = refl; opened = refl; done = refl };
     stage = λ target x z there here local doing stage. ap (λ (a : Exchange). a.stage) (same_Some z x (sym here ∙ there)) ∙ stage;
+    spot = λ x z there here spot. ap spot_of (same_Some z x (sym here ∙ there)) ∙ spot;
     dead = λ dead. dead;
     waits = λ v blocked. absurd (cc);
     sends = λ x there here near blocked. absurd (receive.no_send x.target x.message
@@ -129,7 +130,7 @@ module _ (host : ℕ) (t : Tables) (k : Kernel) (part : Part host t k) (pid : Pi
   }
 
   keeps_pid : (x : Seat) → (f x).pid ≡ x.pid
-  keeps_pid x = ap (λ (n : Name). n.sender) (reached_name from e.message e.part x)
+  keeps_pid x = ap (λ (n : Name). n.sender) (reached_name from e.shown e.part x)
 
   abbrev pub took : Tables
   took = record (seated u pid f) { lists = first_out u.lists at }
@@ -158,7 +159,7 @@ module _ (host : ℕ) (t : Tables) (k : Kernel) (part : Part host t k) (pid : Pi
 
   names_of : (q : List ℕ) → map (slot_name took.seats took.slots) q ≡ map (slot_name t.seats t.slots) q
   names_of q = map_all (slot_name took.seats took.slots) (slot_name t.seats t.slots) q
-      (λ slot. slot_kept u pid f (reached_name from e.message e.part) slot ∙ g.slots slot)
+      (λ slot. slot_kept u pid f (reached_name from e.shown e.part) slot ∙ g.slots slot)
 
   low : at < length u.lists
   low =

@@ -22,7 +22,7 @@ use Rattle.vk_procs.specs.Seats.{process_of, seat_in}
 use Rattle.vk_rules.specs.Readings.{Reading}
 use Rattle.vk_stands.specs.Fit.{AreFit}
 use Rattle.vk_stands.specs.Stands.{IsHome, IsKept, IsSender, IsWaiting, Stands}
-use Rattle.vk_stands.specs.Tables.{Tables, alien_name, stage_of}
+use Rattle.vk_stands.specs.Tables.{Tables, alien_name, alien_spot, spot_of, stage_of}
 use Rattle.vk_stands.proofs.Found.{alien_found}
 
 pub record StandsView (host : ℕ) (t : Tables) (k : Kernel) : Type 0 where
@@ -35,7 +35,7 @@ pub record StandsView (host : ℕ) (t : Tables) (k : Kernel) : Type 0 where
 pub view_in : (times : Times) (host : ℕ) (t : Tables) (r : Reading) → Stands times host t r → StandsView host t r.view
 view_in times host t r h = record { procs = h.procs; elsewhere = h.elsewhere; kept = h.kept; waiting = h.waiting; home = h.home }
 
--- A Send is as it was, but for how far it is; it is no nearer to its target's queue.
+-- A Send is as it was, but for how far it is, and where; it is no nearer to a queue.
 pub record Goes (e y : Exchange) : Type 0 where
   pub target : y.target ≡ e.target
   pub message : y.message ≡ e.message
@@ -78,8 +78,10 @@ pub record Turns (host : ℕ) (t u : Tables) (k l : Kernel) (f : Seat → Seat) 
   pub same : (sender : Pid) (x : Alien) → alien_from t.slots sender ≡ Some x → IsSameAlien x (a x)
   pub stages : (sender : Pid) (x : Alien) (e y : Exchange) → alien_from t.slots sender ≡ Some x → k.exchanges (alien_name x) ≡ Some e →
       l.exchanges (alien_name x) ≡ Some y → e.stage ≡ stage_of x → y.stage ≡ stage_of (a x)
+  pub spots : (sender : Pid) (x : Alien) (e y : Exchange) → alien_from t.slots sender ≡ Some x → k.exchanges (alien_name x) ≡ Some e →
+      l.exchanges (alien_name x) ≡ Some y → spot_of e ≡ alien_spot x → spot_of y ≡ alien_spot (a x)
   pub refused : (sender : Pid) (x : Alien) (closed : ℕ) → alien_from t.slots sender ≡ Some x →
-      (a x).stage ≡ alien_stages.Refused closed → is_live (l.procs x.target) ≡ false
+      (a x).stage ≡ alien_stages.Refused closed → is_live (l.procs (a x).at) ≡ false
 
 module _ (host : ℕ) (t u : Tables) (k l : Kernel) (f : Seat → Seat) (a : Alien → Alien) (fit : AreFit host t) (h : StandsView host t k)
     (g : Turns host t u k l f a) where
@@ -95,12 +97,13 @@ module _ (host : ℕ) (t u : Tables) (k l : Kernel) (f : Seat → Seat) (a : Ali
         target = y.2.target ∙ v.target ∙ sym same.target;
         message = y.2.message ∙ v.message ∙ sym same.message;
         part = y.2.part ∙ v.part ∙ sym same.part;
+        spot = g.spots sender x v.exchange y.0 here v.is y.1 v.spot;
         stage = g.stages sender x v.exchange y.0 here v.is y.1 v.stage;
         moves = ap length y.2.moves ∙ v.moves ∙ sym same.moves;
         made = subst (λ n. n ≤ sends_of (l.procs (a x).sender)) (sym same.number)
             (subst (λ p. x.number ≤ sends_of (l.procs p)) (sym same.sender)
             (subst (λ p. x.number ≤ sends_of p) (sym (g.far x.sender away)) v.made));
-        refused = λ closed is. ap (λ p. is_live (l.procs p)) same.target ∙ g.refused sender x closed here is;
+        refused = λ closed is. g.refused sender x closed here is;
       }
 
   home_by : (n : Name) (e y : Exchange) → Goes e y → l.exchanges n ≡ Some y → y.target.host ≡ host →

@@ -20,7 +20,7 @@ use Rattle.v_laws.proofs.Tables.{same_pid_is, same_pid_self}
 use Rattle.vk_procs.specs.declared.seat.Seat.{Seat}
 use Rattle.vk_procs.specs.Seats.{is_seat, seat_in}
 use Rattle.vk_stands.specs.Stands.{IsAsking, IsMoving, IsSent, IsWaiting}
-use Rattle.vk_stands.specs.Tables.{seat_name}
+use Rattle.vk_stands.specs.Tables.{seat_name, seat_spot, spot_of}
 use Rattle.vk_stands.proofs.Found.{seat_found}
 use Rattle.vk_stands.proofs.Seats.{find-changed, find-unchanged}
 use Rattle.vk_stands.proofs.Views.{Goes}
@@ -86,7 +86,9 @@ move_same e y (suc number) same = ap (λ ms. slice_get ms number) same
 module _ (k l : Kernel) (forth : (n : Name) (e : Exchange) → k.exchanges n ≡ Some e → (y : Exchange) × (l.exchanges n ≡ Some y) × Goes e y)
     (lookups : (asker : Pid) (number : ℕ) → l.lookups asker number ≡ k.lookups asker number) (s y : Seat) (same : IsSameSeat s y)
     (stage : (target : Pid) (e x : Exchange) → k.exchanges (seat_name s) ≡ Some e → l.exchanges (seat_name s) ≡ Some x →
-    same_host s.pid target ≡ true → e.stage ≡ local_stage s → x.stage ≡ local_stage y) where
+    same_host s.pid target ≡ true → e.stage ≡ local_stage s → x.stage ≡ local_stage y)
+    (spot : (e x : Exchange) → k.exchanges (seat_name s) ≡ Some e → l.exchanges (seat_name s) ≡ Some x → spot_of e ≡ seat_spot s →
+    spot_of x ≡ seat_spot y) where
   sent_kept : (target : Pid) (m : Message) → IsSent k s target m → IsSent l y target m
   sent_kept target m v =
       let x = forth (seat_name s) v.exchange v.is in
@@ -96,6 +98,7 @@ module _ (k l : Kernel) (forth : (n : Name) (e : Exchange) → k.exchanges n ≡
         target_is = x.2.target ∙ v.target_is;
         message_is = x.2.message ∙ v.message_is;
         part_is = x.2.part ∙ v.part_is ∙ sym same.part;
+        spot_is = spot v.exchange x.0 v.is x.1 v.spot_is;
         stage_is = λ local.
             let near : same_host s.pid target ≡ true = ap (λ p. same_host p target) (sym same.pid) ∙ local in
             stage target v.exchange x.0 v.is x.1 near (v.stage_is near);

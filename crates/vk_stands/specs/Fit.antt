@@ -1,5 +1,5 @@
 -- When the tables of a station fit each other: what each rule asks of them, and keeps.
-use Rattle.std.specs.Prelude.{ℕ, ◌≡◌, ◌≤◌, ◌<◌, Bool, true, ◌&&◌, not, nat_lt, nat_le, length, slice_get, Some}
+use Rattle.std.specs.Prelude.{ℕ, ◌≡◌, ◌≤◌, ◌<◌, Bool, true, false, ◌&&◌, not, nat_lt, nat_le, length, slice_get, Some}
 use Rattle.std.specs.List.{position}
 use Rattle.vk_base.specs.declared.activity.Activity.TheVariants as activities
 use Rattle.vk_base.specs.declared.activity.Waiting.{Waiting}
@@ -55,6 +55,9 @@ pub record IsFitSeat (host : ℕ) (s : Seat) : Type 0 where
   -- its first part is that of the Send in which it waits
   pub part : (target : Pid) (m : Message) → s.doing ≡ activities.Blocked (waitings.Send target m) → length s.part ≡ part_len m
   pub few : length s.part ≤ SEGMENT_BYTES
+  -- of what it sent to another station, no frame tells that it was handed on
+  pub away : (target : Pid) (m : Message) → s.doing ≡ activities.Blocked (waitings.Send target m) → same_host s.pid target ≡ false →
+      s.at ≡ target
   pub begun : (target : Pid) (m : Message) → s.doing ≡ activities.Blocked (waitings.Send target m) → 0 < s.note.sends
   pub asked : (logical : ℕ) (scope : Scope) → s.doing ≡ activities.Blocked (waitings.GetPid logical scope) → 0 < s.note.lookups
 

@@ -28,7 +28,7 @@ use Rattle.vk_procs.specs.declared.seat.Seat.{Seat}
 use Rattle.vk_procs.specs.Seats.{is_seat, process_of, seat_in}
 use Rattle.vk_rules.specs.Readings.{Reading}
 use Rattle.vk_rules.specs.Works.{Work}
-use Rattle.vk_stands.specs.Tables.{Tables, alien_name, is_work, names_at, read_alien, stage_of}
+use Rattle.vk_stands.specs.Tables.{Tables, alien_name, alien_spot, is_work, names_at, read_alien, seat_spot, spot_of, stage_of}
 
 -- An alien's exchange is what the slot keeps of it. Its sender is known to have made that Send.
 pub record IsKept (k : Kernel) (a : Alien) : Type 0 where
@@ -37,11 +37,12 @@ pub record IsKept (k : Kernel) (a : Alien) : Type 0 where
   pub target : exchange.target ≡ a.target
   pub message : exchange.message ≡ a.message
   pub part : exchange.part ≡ a.part
+  pub spot : spot_of exchange ≡ alien_spot a
   pub stage : exchange.stage ≡ stage_of a
   pub moves : length exchange.moves ≡ a.moves
   pub made : a.number ≤ sends_of (k.procs a.sender)
-  -- one that is refused has a target that is not alive
-  pub refused : (closed : ℕ) → a.stage ≡ alien_stages.Refused closed → is_live (k.procs a.target) ≡ false
+  -- where one is refused the process that has it is not alive
+  pub refused : (closed : ℕ) → a.stage ≡ alien_stages.Refused closed → is_live (k.procs a.at) ≡ false
 
 -- The exchange of a process that waits in a Send. A local one is queued or taken; of a remote one the open move is noted.
 pub record IsSent (k : Kernel) (s : Seat) (target : Pid) (m : Message) : Type 0 where
@@ -50,6 +51,7 @@ pub record IsSent (k : Kernel) (s : Seat) (target : Pid) (m : Message) : Type 0 
   pub target_is : exchange.target ≡ target
   pub message_is : exchange.message ≡ m
   pub part_is : exchange.part ≡ s.part
+  pub spot_is : spot_of exchange ≡ seat_spot s
   pub stage_is : same_host s.pid target ≡ true → exchange.stage ≡ (if s.note.taken then stages.Taken else stages.Queued)
   pub opened : exchange.opened ≡ s.note.opened
   pub done : exchange.done ≡ s.note.done

@@ -1,10 +1,12 @@
 -- The tables of a station as plain values, and what they tell by themselves.
 use Rattle.std.specs.Prelude.{ℕ, ◌-◌, Bool, false, not, nat_lt, List, [], map, replicate, slice_get, Option, None, option_map, if◌then◌else◌}
+use Rattle.vk_base.specs.declared.kernel.Exchange.{Exchange}
 use Rattle.vk_base.specs.declared.kernel.Name.{Name}
 use Rattle.vk_base.specs.declared.kernel.Registration.{Registration}
 use Rattle.vk_base.specs.declared.kernel.Stage.{Stage}
 use Rattle.vk_base.specs.declared.kernel.Stage.TheVariants as stages
 use Rattle.vk_base.specs.declared.limits.TheConstants.{STATION_PROCESSES}
+use Rattle.vk_base.specs.declared.message.Message.{Message}
 use Rattle.vk_base.specs.declared.pid.Pid.{Pid}
 use Rattle.vk_base.specs.declared.activity.Waiting.{Waiting}
 use Rattle.vk_base.specs.declared.activity.Waiting.TheVariants as waitings
@@ -15,7 +17,7 @@ use Rattle.vk_pool.specs.declared.alien.Alien.{Alien}
 use Rattle.vk_pool.specs.declared.alien.AlienStage.{AlienStage}
 use Rattle.vk_pool.specs.declared.alien.AlienStage.TheVariants as alien_stages
 use Rattle.vk_pool.specs.Aliens.{alien_at, closed_in}
-use Rattle.vk_base.specs.Settings.{Settings}
+use Rattle.vk_base.specs.Settings.{Settings, pool_of}
 use Rattle.vk_procs.specs.declared.seat.Seat.{Seat}
 use Rattle.vk_procs.specs.Seats.{initial_seats}
 use Rattle.vk_queue.specs.Lists.{queue_at}
@@ -61,7 +63,21 @@ stage_by (alien_stages.Refused closed) bytes = stages.Dropped
 abbrev pub stage_of : Alien → Stage
 stage_of a = stage_by a.stage a.bytes
 
--- what its sender is told
+-- Where the message of a Send is, and what is shown there: its target and its message, until a Forward.
+pub record Spot : Type 0 where
+  pub at : Pid
+  pub shown : Message
+
+abbrev pub spot_of : Exchange → Spot
+spot_of e = record { at = e.at; shown = e.shown }
+
+abbrev pub seat_spot : Seat → Spot
+seat_spot s = record { at = s.at; shown = s.shown }
+
+abbrev pub alien_spot : Alien → Spot
+alien_spot a = record { at = a.at; shown = a.shown }
+
+-- what its sender is told, always in the name of the Send's target
 abbrev pub told_by : Alien → AlienStage → Packet
 told_by a alien_stages.Queued = Pending a.target a.sender a.number
 told_by a alien_stages.Taken = Pending a.target a.sender a.number
@@ -85,6 +101,6 @@ abbrev pub new_tables : Settings → ℕ → Tables
 new_tables c host = record {
   seats = initial_seats host c.specs;
   lists = replicate STATION_PROCESSES [];
-  slots = replicate c.pool None;
+  slots = replicate (pool_of c host) None;
   names = [];
 }

@@ -9,6 +9,8 @@
 //! `AfterFrames`. Within an entry the tables go on step by step: `Parts` has what is kept then (`Part`) and what tables keep of
 //! earlier ones (`Carries`), `Views` the part of the relation that speaks of view and tables alone, `OneSeat` and `OneAlien` the
 //! changes of one process and of one alien; `CallStands` gives the relation after the whole entry.
+//! A message that is handed on changes its Send, the notes of its sender or its alien, and two lists: `HandedOn`, `LocalForward`,
+//! `AlienForward`.
 //! What a tick does to the tables is in `specs/Ticks.antt`, for all processes and aliens at once (`Ticks`).
 #![tactic(auto)]
 

@@ -1,10 +1,8 @@
 -- Logs that are such as can be joined, and the schedule that they are joined to.
-use Rattle.std.proofs.Common.{◌≡◌, ℕ, ◌+◌, ◌<◌, ◌≤◌, List, [], ◌∷◌, ◌++◌, get_or, length, take, None, sym, ap, subst, ◌∙◌, arith}
+use Rattle.std.proofs.Common.{◌≡◌, ℕ, ◌+◌, ◌<◌, ◌≤◌, List, [], ◌∷◌, ◌++◌, get_or, length, take, sym, ap, subst, ◌∙◌, arith}
 use Rattle.std.proofs.lemmas.List.{take_all, take_more}
 use Rattle.vk_base.specs.declared.config.ProcessSpec.{ProcessSpec}
-use Rattle.vk_base.specs.Settings.{Settings, refusal_of}
-use Rattle.vk_event.specs.declared.schedule.Schedule.{Schedule}
-use Rattle.vk_event.specs.Lawful.{IsLawful}
+use Rattle.vk_base.specs.Settings.{Settings}
 use Rattle.vk_join.specs.declared.log.StationLog.{StationLog}
 use Rattle.vk_join.specs.Logs.{AreLogs, HostsRise}
 use Rattle.vk_rules.specs.Each.{Each}
@@ -49,8 +47,3 @@ logs_are c ls n last all are =
       stations = each_weaker (IsLogOf c.specs) _ ls whole.each (λ l is. is.station);
       own = each_weaker (IsLogOf c.specs) _ ls whole.each (λ l is. is.own);
     }
-
--- A configuration of a text's schedule is without a fault.
-pub faultless : (s : Schedule) → IsLawful s → refusal_of s.config.times s.config.pool s.config.specs ≡ None
-faultless s lawful =
-    ap (λ (x : Settings). refusal_of x.times x.pool x.specs) lawful.config ∙ lawful.faultless

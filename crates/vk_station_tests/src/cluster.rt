@@ -4,7 +4,6 @@ ghost use Rattle.std.specs.Prelude.{◌≡◌};
 ghost use Rattle.vk_event.specs.Lawful.{has_actors};
 
 use crate::frames::is_bad;
-use crate::station::TIMES;
 use std::alloc::Global;
 use std::io;
 use std::marker::Model;
@@ -51,11 +50,10 @@ fn out_of_memory() -> io::Error {
 }
 
 impl Stations {
-    /// The stations of these processes, each with so many places for aliens.
     #[tactic(auto, using(crate::proofs::Standing::cluster_stands))]
-    pub fn new(alloc: Global, processes: &Config, pool: u32) -> io::Result<Self> {
-        let Ok(config) = Config::new(alloc, TIMES, pool, processes.specs()) else {
-            return Err(is_bad());
+    pub fn new(alloc: Global, config: &Config) -> io::Result<Self> {
+        let Ok(config) = config.copy(alloc) else {
+            return Err(out_of_memory());
         };
         let Ok(cluster) = Cluster::new(alloc, &config) else {
             return Err(out_of_memory());

@@ -1,10 +1,9 @@
 //! Stations that are driven by hand, as files: what no report shows. Each file of `data/stations/` is a text of stations, of frames by
 //! name, with every byte, and of events with what the station must tell of each: its Lamport number, itself and its count, the
 //! answer, the steps, and the names of its frames. The frames that come are those of the file too, so they may be bad, old or forged.
-//! `src/transcript.rt` says how such a text is read. Each file of `data/clusters/` is a schedule over stations with so many places for
-//! aliens as it says, which the text of a schedule cannot, with what they must tell of each event (`src/schedule.rt`). Each file of
-//! `data/logs/` has logs of stations, with frames of the file's own, and what they are joined to (`src/logs.rt`). A text more is its
-//! file, and one more in the number of the file `stdout`.
+//! `src/transcript.rt` says how such a text is read. Each file of `data/clusters/` is a schedule, with what all stations must tell of each
+//! event and with every byte of their frames (`src/schedule.rt`). Each file of `data/logs/` has logs of stations, with frames of the file's
+//! own, and what they are joined to (`src/logs.rt`). A text more is its file, and one more in the number of the file `stdout`.
 //!
 //! Stands on the station (`vk_host`), on all stations (`vk_cluster`), on joined logs (`vk_join`) and on the texts of calls, schedules and
 //! reports (`vk_text`, `vk_event`, `vk_report`).

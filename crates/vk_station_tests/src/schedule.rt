@@ -1,5 +1,5 @@
-//! A text of all stations and what they tell. A line `pool COUNT` says how many places for aliens each station has; the title and the
-//! processes of a schedule stand behind it; a line `> EVENT` is an event of a schedule, with what the stations tell of it behind it.
+//! A text of all stations and what they tell. It begins as a schedule, with a line that begins `vkernel`, `times`, `process` or `pool`;
+//! a line `> EVENT` is an event of a schedule, with what the stations tell of it behind it.
 //! A line `again COUNT` is the event before it so many times more, with what they tell of the last of these behind it, and how many
 //! deliveries there were till then of what was not emitted. A line that begins with `# ` is a remark.
 
@@ -20,8 +20,10 @@ struct Play<'a> {
 
 /// The line of the schedule that this one is.
 fn scheduled(line: &str) -> Option<&str> {
-    if line.starts_with("vkernel ") || line.starts_with("process ") {
-        return Some(line);
+    for word in ["vkernel ", "times ", "process ", "pool "] {
+        if line.starts_with(word) {
+            return Some(line);
+        }
     }
     line.strip_prefix("> ")
 }
@@ -34,18 +36,6 @@ fn schedule_of(alloc: Global, text: &str) -> io::Result<Vec<u8>> {
         }
     }
     Ok(schedule)
-}
-
-fn pool_of(text: &str) -> io::Result<u32> {
-    for line in text.lines() {
-        if let Some(count) = line.strip_prefix("pool ") {
-            return match count.parse::<u32>() {
-                Ok(count) => Ok(count),
-                Err(_) => Err(is_bad()),
-            };
-        }
-    }
-    Err(is_bad())
 }
 
 /// Plays the last event so many times.
@@ -83,11 +73,7 @@ fn put(alloc: Global, play: &mut Play<'_>, line: &str, told: &mut Vec<u8>) -> io
         let event = play.event.view().whole();
         return play.stations.play(alloc, &event, told);
     }
-    if line.is_empty()
-        || line.starts_with("# ")
-        || line.starts_with("pool ")
-        || scheduled(line).is_some()
-    {
+    if line.is_empty() || line.starts_with("# ") || scheduled(line).is_some() {
         return put_line(told, line);
     }
     Ok(())
@@ -99,7 +85,7 @@ pub fn transcript(alloc: Global, text: &str) -> io::Result<Vec<u8>> {
     let Ok(reader) = EventReader::new(alloc, schedule.as_slice()) else {
         return Err(is_bad());
     };
-    let stations = Stations::new(alloc, reader.config(), pool_of(text)?)?;
+    let stations = Stations::new(alloc, reader.config())?;
     let mut play = Play {
         stations,
         reader,

@@ -11,7 +11,7 @@ use vk_report::{AnswerView, Form, Place, put_entry};
 use vk_text::{next_pid, pid, read_call};
 
 /// How often and how long a station tries.
-pub const TIMES: Times = Times {
+const TIMES: Times = Times {
     tries: 5,
     interval: 4,
     life: 8,

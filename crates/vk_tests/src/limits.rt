@@ -1,9 +1,9 @@
-//! What is too much, and the most that is not: events, bytes, bytes that a trace notes for remote moves, and stations.
+//! What is too much, and the most that is not: events, bytes, bytes that a trace notes for remote moves, stations, and pools.
 
 use crate::running::{run, run_over};
 use std::alloc::{AllocError, Global};
 use std::test::Fail;
-use vk_base::{Config, ConfigRefusal, Memory, Pid, ProcessSpec, Times};
+use vk_base::{Config, ConfigRefusal, Memory, Pid, PoolRefusal, ProcessSpec, Times};
 use vk_io::{MemorySource, Sink};
 use vk_top::Status;
 
@@ -148,8 +148,14 @@ fn configurations(rt: HostRuntime) -> Result<(), Fail> {
     );
     specs.truncate(16);
     match Config::new(alloc, times, 16, &specs) {
-        Ok(config) => {
+        Ok(mut config) => {
             assert_eq!(rt; config.station_count(), 16);
+            assert_eq!(rt; config.set_pool(17, 65), Err(PoolRefusal::NoStation));
+            assert_eq!(rt; config.set_pool(16, 65), Err(PoolRefusal::BadPool));
+            assert_eq!(rt; config.set_pool(16, 0), Err(PoolRefusal::BadPool));
+            assert_eq!(rt; (config.pool_of(15), config.pool_of(16)), (16, 16));
+            assert_eq!(rt; config.set_pool(16, 64), Ok(()));
+            assert_eq!(rt; (config.pool_of(15), config.pool_of(16)), (16, 64));
             assert!(rt; config.copy(alloc).is_ok());
         }
         Err(_) => assert!(rt; false, "a lawful configuration"),

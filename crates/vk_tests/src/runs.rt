@@ -20,6 +20,17 @@ link 0 0 0 1
 ticks 0
 ";
 
+/// The same where the clocks tick and nobody gives up in a second.
+const PATIENT: &str = "vkernel scenario 2
+times 16 64 1024
+process 1.1 1024
+process 2.1 1024
+program 1.1 pageserver 4 2
+program 2.1 pageclient 1.1 4 1
+link 0 0 0 1
+ticks 25000
+";
+
 /// A message over a link that loses all frames, to a process that exits.
 const LOST: &str = "vkernel scenario 1
 process 1.1 64
@@ -99,36 +110,38 @@ fn answers<'a>(alloc: Global, report: &'a str, pid: &str) -> Result<Vec<&'a [u8]
 #[test]
 fn a_page_is_written_and_read(rt: HostRuntime) -> Result<(), Fail> {
     let alloc = rt.alloc();
-    let sink = reported(&rt, alloc, PAGES)?;
-    let report = str::from_utf8(sink.written()).unwrap_or("");
-    let client = answers(alloc, report, "2.1")?;
-    assert_eq!(rt; client.len(), 6);
-    assert_eq!(rt;
-        &client[..5],
-        [
-            b"ok".as_slice(),
-            b"begun".as_slice(),
-            b"ok -".as_slice(),
-            b"begun".as_slice(),
-            b"ok -".as_slice()
-        ]
-        .as_slice()
-    );
-    let mut page = Vec::from_slice(alloc, b"ok ")?;
-    for _ in 0..512 {
-        page.extend_from_slice(b"02")?;
-    }
-    assert_eq!(rt; client[5], page.as_slice());
-    let server = answers(alloc, report, "1.1")?;
-    let mut requests = Vec::new(alloc);
-    for answer in &server {
-        if answer.starts_with(b"ok 2.1 ") {
-            requests.push(*answer)?;
+    for scenario in [PAGES, PATIENT] {
+        let sink = reported(&rt, alloc, scenario)?;
+        let report = str::from_utf8(sink.written()).unwrap_or("");
+        let client = answers(alloc, report, "2.1")?;
+        assert_eq!(rt; client.len(), 6);
+        assert_eq!(rt;
+            &client[..5],
+            [
+                b"ok".as_slice(),
+                b"begun".as_slice(),
+                b"ok -".as_slice(),
+                b"begun".as_slice(),
+                b"ok -".as_slice()
+            ]
+            .as_slice()
+        );
+        let mut page = Vec::from_slice(alloc, b"ok ")?;
+        for _ in 0..512 {
+            page.extend_from_slice(b"02")?;
         }
+        assert_eq!(rt; client[5], page.as_slice());
+        let server = answers(alloc, report, "1.1")?;
+        let mut requests = Vec::new(alloc);
+        for answer in &server {
+            if answer.starts_with(b"ok 2.1 ") {
+                requests.push(*answer)?;
+            }
+        }
+        assert_eq!(rt; requests.len(), 2);
+        assert!(rt; requests[0].ends_with(b" 512"));
+        assert!(rt; requests[1].ends_with(b" 0"));
     }
-    assert_eq!(rt; requests.len(), 2);
-    assert!(rt; requests[0].ends_with(b" 512"));
-    assert!(rt; requests[1].ends_with(b" 0"));
     Ok(())
 }
 

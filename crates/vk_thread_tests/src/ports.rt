@@ -1,7 +1,6 @@
 // A station of two processes under a turn, and a port at it.
 ghost use Rattle.std.specs.Prelude.{◌≡◌, ◌≤◌, ◌<◌, [], true, None, IfSome, vec_capacity};
 ghost use Rattle.turn_cell.specs.Seats.{IsComplete, IsSameSeat, IsSeatOf};
-ghost use Rattle.vk_base.specs.Settings.{refusal_of};
 ghost use Rattle.vk_port.specs.Stations.{is_process_of};
 
 use std::alloc::Global;
@@ -21,9 +20,7 @@ const TIMES: Times = Times {
     life: 8,
 };
 
-pub fn config_of(alloc: Global, specs: &[ProcessSpec]) -> Option<Config>
-    ensures { IfSome result (λ c. refusal_of c.times c.pool c.specs ≡ None) }
-{
+pub fn config_of(alloc: Global, specs: &[ProcessSpec]) -> Option<Config> {
     match Config::new(alloc, TIMES, 16, specs) {
         Ok(config) => Some(config),
         Err(_) => None,
@@ -48,7 +45,6 @@ struct Site {
 }
 
 fn open_site(alloc: Global, config: &Config, host: u16) -> Option<Site>
-    requires { refusal_of config.now.times config.now.pool config.now.specs ≡ None }
     ensures seat { IfSome result (λ s. IsSeatOf s.cell s.seat × IsComplete s.seat × (s.cell.seats ≡ 1)) }
     ensures station { IfSome result (λ s. (s.cell.origin.config ≡ config.now) × (s.cell.origin.host ≡ host)) }
     ensures room { IfSome result (λ s. (s.seats.items ≡ []) × (1 ≤ vec_capacity s.seats)) }

@@ -12,7 +12,7 @@ use Rattle.turn_cell.specs.History.{events_of}
 use Rattle.turn_cell.specs.Seats.{Cell, IsSeatOf, Sitting, numbers_of}
 use Rattle.vk_base.specs.declared.event.StationEvent.{StationEvent}
 use Rattle.vk_base.specs.declared.config.ProcessSpec.{ProcessSpec}
-use Rattle.vk_base.specs.Settings.{Settings, has_station, refusal_of, stations_of}
+use Rattle.vk_base.specs.Settings.{AreLawful, Settings, has_station, stations_of}
 use Rattle.vk_base.proofs.SettingsLemmas.{among_stations}
 use Rattle.vk_cluster.proofs.Stations.{Apart, stations_apart}
 use Rattle.vk_event.specs.declared.schedule.Schedule.{Schedule}
@@ -227,7 +227,7 @@ module _ (c : Settings) (sites : List Site) (hub : Cell HubLog) (rounds : ℕ) (
           (shut_at sites (all_spares ends) logs shut h cell.0 cell.1).lawful c h (site_of c h sites cell.0 are.cells cell.1);
     }
 
-    pub asked : LogsMayBeJoined → refusal_of c.times c.pool c.specs ≡ None → AreLogs c logs
+    pub asked : LogsMayBeJoined → AreLawful c → AreLogs c logs
     asked law lawful = law c closed_at logs lawful are_logs
 
     -- a join is refused only for want of memory

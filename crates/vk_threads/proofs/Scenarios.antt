@@ -85,7 +85,7 @@ scenario_have s programs lawful are =
 pub scenario_apart : (s : Scenario) (programs : List (Assigned AnyProgram)) → IsLawfulScenario s → ArePrograms s.tasks programs
     → AreDifferent (map pid_of programs)
 scenario_apart s programs lawful are =
-    subst AreDifferent (sym (scenario_pids s programs lawful are)) (specs_differ s.config.specs lawful.faultless)
+    subst AreDifferent (sym (scenario_pids s programs lawful are)) (specs_differ s.config.specs lawful.told.lawful.processes)
 
 pub scenario_tasks : (s : Scenario) → IsLawfulScenario s → Each (IsTaskOf s.config.specs) s.tasks
 scenario_tasks s lawful = tasks_fit s.config.specs s.tasks lawful.ranges lawful.memory

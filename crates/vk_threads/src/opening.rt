@@ -1,7 +1,7 @@
 //! Cells for the stations, and their seats.
 ghost use Rattle.std.specs.Prelude.{◌≡◌, ◌≤◌, ◌++◌, None, true, length, map, IfOk};
 ghost use Rattle.vk_base.specs.declared.limits.TheConstants.{STATIONS};
-ghost use Rattle.vk_base.specs.Settings.{has_station, refusal_of, stations_of};
+ghost use Rattle.vk_base.specs.Settings.{has_station, stations_of};
 ghost use Rattle.vk_rules.specs.Each.{Each};
 ghost use Rattle.vk_threads.specs.Opened.{AreOpened, HasOpened, count_of, spare_at};
 
@@ -58,7 +58,6 @@ pub fn open_all(
     stations: &[u16],
     hosts: &[u16],
 ) -> Result<(Vec<Site>, Vec<Spare>), NoMemory>
-    requires lawful { refusal_of config.now.times config.now.pool config.now.specs ≡ None }
     requires stations { Each (λ h. has_station config.now.specs h ≡ true) stations.now }
     requires some { Each (λ h. 1 ≤ count_of h hosts.now) stations.now }
     requires few { length hosts.now ≤ 1000 }
@@ -81,7 +80,6 @@ fn open_one(
     seats: u32,
     spares: &mut Vec<Spare>,
 ) -> Result<TurnCell<Station>, NoMemory>
-    requires lawful { refusal_of config.now.times config.now.pool config.now.specs ≡ None }
     requires station { has_station config.now.specs host ≡ true }
     requires some { 1 ≤ seats }
     ensures { IfOk result (λ cell. HasOpened config.now host seats cell spares.old.items spares.new.items) }

@@ -1,6 +1,5 @@
 //! The record of a run.
 ghost use Rattle.std.specs.Prelude.{◌≡◌, ℕ, List, None, IfOk, IfErr};
-ghost use Rattle.vk_base.specs.Settings.{refusal_of};
 ghost use Rattle.v_run.specs.Outcomes.{Assignment};
 ghost use Rattle.v_run.specs.Ran.{IsRun};
 ghost use Rattle.vk_threads.specs.Ended.{AreSites, HaveEnded};
@@ -42,13 +41,13 @@ pub fn record_of(
     ends: Vec<End>,
     halt: TurnSeat<HubState>,
 ) -> Result<RunRecord, RunRefusal>
-    requires lawful { refusal_of config.times config.pool config.specs ≡ None }
     requires sites { AreSites config sites.items }
     requires ended { (rounds : ℕ) × (tasks : List Assignment) × HaveEnded config sites.items hub rounds tasks ends.items halt }
     ensures ran { IfOk result (λ r. (rounds : ℕ) (tasks : List Assignment) → HaveEnded config sites.items hub rounds tasks ends.items halt →
         IsRun config hub.origin.plan rounds tasks r.limited r.schedule) }
     ensures refused { IfErr result (λ e. e ≡ RunRefusal.NoMemory) }
 {
+    let _lawful = config.times();
     closed_runs_are_joined();
     joined_runs_are_runs();
     let limited = has_met_full(&ends);

@@ -3,7 +3,7 @@ ghost use Rattle.std.specs.Prelude.{◌≡◌, ◌≤◌, ◌+◌, ◌-◌, ◌^
 ghost use Rattle.turn_cell.specs.Seats.{IsSeatOf};
 ghost use Rattle.v_run.specs.Ran.{IsRun};
 ghost use Rattle.vk_base.specs.declared.limits.TheConstants.{PROCESSES};
-ghost use Rattle.vk_base.specs.Settings.{has_process, refusal_of, stations_of};
+ghost use Rattle.vk_base.specs.Settings.{has_process, stations_of};
 ghost use Rattle.vk_event.specs.ScenarioLaws.{IsLawfulScenario};
 ghost use Rattle.vk_rules.specs.Each.{Each};
 ghost use Rattle.vk_threads.specs.Assigned.{AreDifferent, LeavesJobs, TellsRunFault, ArePrograms, assignments_of, pid_of, program_task};
@@ -114,7 +114,6 @@ pub fn run_programs<G: Program + Send, C: Crew, P: Pacer + Send, R: Wait + Threa
     crew: &mut C,
     pacer: &mut P,
 ) -> Result<RunRecord, RunRefusal>
-    requires lawful { refusal_of config.times config.pool config.specs ≡ None }
     requires processes { Each (λ (a : Assigned G). has_process config.specs a.pid ≡ true) programs.items }
     requires apart { AreDifferent (map pid_of programs.items) }
     requires fresh { Each (λ (a : Assigned G). G.is_after a.program []) programs.items }

@@ -7,6 +7,7 @@ use Rattle.std.proofs.lemmas.List.{append-nil}
 use Rattle.vk_io.specs.Causes.{LosesFront, Rose}
 use Rattle.vk_text.specs.Heads.{head_of}
 use Rattle.vk_text.specs.Lines.{lines_of}
+use Rattle.vk_text.specs.Openings.{opening_of}
 use Rattle.v_trace.specs.Traces.{behind_head}
 use Rattle.vk_top.proofs.Told.{nothing_more}
 use Rattle.vk_top.specs.Top.{IsDecided, IsEarly, IsOverLimit, OfInput, TellsFaults, status_of, text_status}
@@ -152,7 +153,7 @@ weaker told P Q follows given = record { input = given.input; all = given.all; h
 -- the empty text is bad in its first line
 
 empty_bad : (a : Asked) → text_status a [] ≡ status.BadInput 1
-unfolding lines_of head_of behind_head
+unfolding lines_of head_of opening_of behind_head
 empty_bad (asked.Replay form) = refl
 empty_bad asked.Check = refl
 

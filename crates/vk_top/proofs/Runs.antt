@@ -5,18 +5,19 @@ use Rattle.std.specs.Option.{option_map_or}
 use Rattle.std.specs.Io.KnownBytes.{Appends}
 use Rattle.std.proofs.lemmas.Bool.{cond-false, cond-true, le-ltb, lt-ltb}
 use Rattle.vk_base.specs.declared.config.ProcessSpec.{ProcessSpec}
+use Rattle.vk_base.specs.Settings.{Settings}
 use Rattle.vk_event.specs.declared.scenario.Scenario.{Scenario}
 use Rattle.vk_event.specs.declared.schedule.Schedule.{Schedule}
 use Rattle.vk_event.specs.declared.schedule.TextRefusal.{TextRefusal}
 use Rattle.vk_event.specs.declared.schedule.TextRefusal.TheVariants as texts
 use Rattle.vk_event.specs.declared.task.Task.{Task}
 use Rattle.vk_event.specs.Endings.{ending_from}
-use Rattle.vk_event.specs.Scenario.{HasScenarioProcess, idle, most_rounds, scenario_by, scenario_from, scenario_of, scenario_with}
+use Rattle.vk_event.specs.Scenario.{HasScenarioProcess, idle, most_rounds, opened, scenario_by, scenario_from, scenario_of, scenario_on, scenario_with}
 use Rattle.vk_event.specs.Spelling.{schedule_text}
 use Rattle.vk_event.specs.Tasks.{with_task_line}
 use Rattle.vk_io.specs.Causes.{LosesFront}
-use Rattle.vk_text.specs.Heads.{head_of}
 use Rattle.vk_text.specs.Lines.{lines_of}
+use Rattle.vk_text.specs.Openings.{line_number, opening_of}
 use Rattle.vk_top.proofs.Outcomes.{all_taken, tells_none, told_input, told_whole, too_many, weaker, written_late}
 use Rattle.vk_top.specs.declared.status.Status.{Status}
 use Rattle.vk_top.specs.declared.status.Status.TheVariants as status
@@ -45,27 +46,31 @@ bad_behind : (o : Option (List Task)) (rest : List Task → Result Scenario Text
 bad_behind None rest otherwise some none = none
 bad_behind (Some tasks) rest otherwise some none = some tasks
 
-bad_from : (specs : List ProcessSpec) (tasks : List Task) (n : ℕ) (lines : List (List ℕ)) → IsBadText (scenario_from specs tasks n lines)
+bad_from : (c : Settings) (tasks : List Task) (n : ℕ) (lines : List (List ℕ)) → IsBadText (scenario_from c tasks n lines)
 unfolding scenario_from
-bad_from specs tasks n [] = tt
-bad_from specs tasks n (l ∷ ls) =
-    bad_behind (with_task_line specs tasks l) (λ more. scenario_from specs more (n + 1) ls)
-    (scenario_with specs tasks (ending_from (most_rounds specs) n (l ∷ ls))) (λ more. bad_from specs more (n + 1) ls)
-    (bad_either (scenario_with specs tasks) (λ e. tt) (λ m. tt) (ending_from (most_rounds specs) n (l ∷ ls)))
+bad_from c tasks n [] = tt
+bad_from c tasks n (l ∷ ls) =
+    bad_behind (with_task_line c.specs tasks l) (λ more. scenario_from c more (n + 1) ls)
+    (scenario_with c tasks (ending_from (most_rounds c.specs) n (l ∷ ls))) (λ more. bad_from c more (n + 1) ls)
+    (bad_either (scenario_with c tasks) (λ e. tt) (λ m. tt) (ending_from (most_rounds c.specs) n (l ∷ ls)))
 
-bad_by : (o : Option (List ProcessSpec × List (List ℕ))) → IsBadText (scenario_by o)
+bad_on : (n : ℕ) (c : Settings) (specs : List ProcessSpec) (body : List (List ℕ)) → IsBadText (scenario_on n c specs body)
+unfolding scenario_on
+bad_on n c [] body = tt
+bad_on n c (s ∷ ss) body = bad_from c (map idle (s ∷ ss)) n body
+
+bad_by : (lines : List (List ℕ)) (r : Result (Settings × List (List ℕ)) ℕ) → IsBadText (scenario_by lines r)
 unfolding scenario_by
-bad_by None = tt
-bad_by (Some ([], body)) = tt
-bad_by (Some (s ∷ ss, body)) = bad_from (s ∷ ss) (map idle (s ∷ ss)) (length (s ∷ ss) + 2) body
+bad_by lines (Ok found) = bad_on (line_number lines found.1) found.0 found.0.specs found.1
+bad_by lines (Err n) = tt
 
 bad_text : (text : List ℕ) → IsBadText (scenario_of text)
-bad_text text = bad_by (head_of (codes "vkernel scenario 1") (lines_of text))
+bad_text text = bad_by (lines_of text) (opened (lines_of text))
 
 -- The empty text is bad in its first line.
 
 empty_bad : scenario_of [] ≡ Err (texts.BadInput 1)
-unfolding lines_of head_of scenario_by
+unfolding lines_of opening_of scenario_by
 empty_bad = refl
 
 pub some_scenario : (text : List ℕ) (scenario : Scenario) → scenario_of text ≡ Ok scenario → 0 < length text
@@ -73,7 +78,7 @@ some_scenario [] scenario is = let clash : Err (texts.BadInput 1) ≡ Ok scenari
 some_scenario (b ∷ bs) scenario is = omega arith
 
 some_process : (text : List ℕ) → HasScenarioProcess text → 0 < length text
-unfolding lines_of head_of
+unfolding lines_of opening_of
 some_process [] some = absurd some
 some_process (b ∷ bs) some = omega arith
 

@@ -30,5 +30,5 @@ of_processes specs (e ∷ es) (suc n) h = let parts = and_parts (has_actors spec
 -- the steps of the history of a lawful schedule's first events are a run
 pub front_is_run : (s : Schedule) (n : ℕ) → IsLawful s → IsRunOf s.config (take n s.events)
 front_is_run s n lawful =
-    schedules_run s.config (take n s.events) (lawful_distinct s.config.specs lawful.faultless)
+    schedules_run s.config (take n s.events) (lawful_distinct s.config.specs lawful.told.lawful.processes)
     (of_processes s.config.specs s.events n lawful.events)

@@ -44,5 +44,5 @@ fn latest_of(store: &Store, at: usize, host: u16) -> u64
 fn is_held_by(sent: &Sent, pid: Pid) -> bool
     ensures { result ≡ is_held_by pid sent.now }
 {
-    sent.target() == pid && sent.is_taken()
+    sent.at() == pid && sent.is_taken()
 }

@@ -125,7 +125,7 @@ fn send_away(
 fn post_here(store: &mut Store, at: usize, to: usize, pid: Pid, sent: Sent) -> Result<(), NoMemory>
     requires kept { IsKept store.old }
     requires here { IsAt store.old pid at }
-    requires there { IsAt store.old sent.target to }
+    requires there { IsAt store.old sent.at to }
     requires local { same_host pid sent.target ≡ true }
     requires queued { is_queued sent.stage ≡ true }
     requires room { HasRoomFor store.old at pid.host }
@@ -162,6 +162,7 @@ fn new_sent(
 ) -> Result<Sent, NoMemory>
     requires { at < length store.now.procs.items }
     ensures target { IfOk result (λ s. s.target ≡ target) }
+    ensures at { IfOk result (λ s. s.at ≡ target) }
     ensures stage { IfOk result (λ s. s.stage ≡ first_stage phase message) }
     ensures value { (pid : ThePid) (p : Process) → place_in store.now.places pid ≡ Some at → (kernel_in store.now).procs pid ≡ Some p →
         lies_in (segment_of message) (length p.memory) ≡ true →
@@ -169,6 +170,8 @@ fn new_sent(
           target = target;
           message = message;
           part = first_part message p.memory;
+          at = target;
+          shown = message;
           stage = first_stage phase message;
           moves = [];
           opened = 0;

@@ -47,7 +47,7 @@ fn receive_into(memory: &mut Memory, sent: &Sent, waiting: Waiting, sender: Pid)
     ensures answer { answer_of result ≡ received (call_of waiting) sender sent.now }
     ensures memory { HasRoom (call_of waiting) memory.old → memory.new ≡ with_part (call_of waiting) sent.now memory.old }
 {
-    let message = *sent.message();
+    let message = sent.shown();
     match waiting {
         Waiting::ReceiveSegment { start, count } => {
             let part = sent.part();
@@ -110,18 +110,17 @@ pub fn fail(store: &mut Store, pid: Pid, why: Ending) -> Option<()>
     let activity = proc(store, at).activity;
     let _send = activity.sending()?;
     let sent = sent_of(store, at, sends_of(store, at))?;
-    let target = sent.target();
-    if target.host == pid.host {
+    if sent.target().host == pid.host {
         return None;
     }
-    let why = failure(why, is_live(store, target))?;
+    let why = failure(why, is_live(store, sent.at()))?;
     put_activity(store, at, activity.ended(Outcome::Refused { why }));
     Some(())
 }
 
-/// Why a remote Send fails, if its target is alive or not.
+/// Why a remote Send fails, if the process that has its message is alive or not.
 fn failure(why: Ending, live: bool) -> Option<Refusal>
-    ensures { (k : Kernel) (e : TheExchange) → is_live (k.procs e.target) ≡ live → result ≡ failure k e why }
+    ensures { (k : Kernel) (e : TheExchange) → is_live (k.procs e.at) ≡ live → result ≡ failure k e why }
 {
     match why {
         Ending::TimedOut => Some(Refusal::TimedOut),

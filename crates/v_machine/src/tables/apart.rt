@@ -1,21 +1,23 @@
 //! What most exchanges have not. It lies apart of them, and takes no memory where there is nothing.
 
 ghost use Rattle.std.specs.Prelude.{◌≡◌, ◌≤◌, [], OnOk, OnErr, IfOk};
-ghost use Rattle.v_machine.specs.Apart.{only_part, answer_in, moves_in};
+ghost use Rattle.v_machine.specs.Apart.{only_part, answer_in, handed_in, moves_in};
 ghost use Rattle.v_machine.specs.Sends.{begun_moving, opened_moving, written_moving, emptied_moving};
 
+use crate::tables::handed::{Handed, Handing};
 use crate::tables::remote::Moving;
 use std::alloc::Global;
 use std::marker::Model;
 use vk_base::{List, Move, NoMemory};
 
-/// The first part of the segment, the place and the bytes of the reply, and the remote moves.
+/// The first part of the segment, the place and the bytes of the reply, the remote moves, and where the message was handed on to.
 #[derive(Drop)]
 pub struct Rare {
     pub part: List<u8>,
     pub dest: u32,
     pub bytes: List<u8>,
     pub moving: Moving,
+    pub handed: Handed,
 }
 
 #[derive(Drop)]
@@ -121,6 +123,30 @@ impl Apart {
         Ok(())
     }
 
+    /// Where the message was handed on to last, if it was.
+    pub fn handed(&self) -> Option<Handing>
+        ensures { result ≡ self.now.handed }
+    {
+        match &self.rare {
+            Some(rare) => rare.handed.get(),
+            None => None,
+        }
+    }
+
+    /// The message is handed on. Where memory is wanting nothing changes.
+    pub fn hand_on(&mut self, alloc: Global, handing: Handing) -> Result<(), NoMemory>
+        ensures ok { OnOk result (self.new ≡ handed_in handing self.old) }
+        ensures err { OnErr result (self.new ≡ self.old) }
+    {
+        if let Some(rare) = &mut self.rare {
+            return rare.handed.put(alloc, handing);
+        }
+        let mut rare = boxed(alloc, List::empty(alloc))?;
+        rare.handed.put(alloc, handing)?;
+        self.rare = Some(rare);
+        Ok(())
+    }
+
     /// The number of the move that was opened last, 0 where none was.
     pub fn opened(&self) -> u64
         ensures { result ≡ self.now.moving.opened }
@@ -183,6 +209,7 @@ fn boxed(alloc: Global, part: List<u8>) -> Result<Box<Rare>, NoMemory>
             opened: 0,
             done: 0,
         },
+        handed: Handed::none(),
     };
     Ok(Box::new(alloc, rare)?)
 }

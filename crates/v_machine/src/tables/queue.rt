@@ -1,6 +1,7 @@
 //! The names of what has come to a process's queue, in order. What is no longer queued may still stand among them.
 
 ghost use Rattle.std.specs.Prelude.{◌≡◌, ◌++◌, ◌∷◌, [], length, take, drop, slice_get, OnOk, OnErr};
+ghost use Rattle.vk_base.specs.Kernel.{without};
 
 use std::alloc::Global;
 use std::collections::VecDeque;
@@ -57,6 +58,13 @@ impl Queue {
     {
         self.names.push_back(name)?;
         Ok(())
+    }
+
+    /// Takes a name away, wherever it stands.
+    pub fn remove(&mut self, name: Name)
+        ensures { self.new ≡ without name self.old }
+    {
+        self.names.retain(|n| *n != name);
     }
 
     /// Takes away all but the first names.

@@ -28,7 +28,7 @@ fn is_queued(places: &Places, sends: &[Numbered<Sent>], pid: Pid, name: Name) ->
     ensures { result ≡ queued_at (exchanges_by places.now sends.now) pid name }
 {
     match named(places, sends, name) {
-        Some(sent) => sent.target() == pid && sent.is_queued(),
+        Some(sent) => sent.at() == pid && sent.is_queued(),
         None => false,
     }
 }

@@ -6,7 +6,7 @@ ghost use Rattle.vk_base.specs.Kernel.{is_posted, is_at_target};
 ghost use Rattle.vk_base.specs.declared.kernel.Stage.TheVariants as stages;
 ghost use Rattle.v_machine.specs.Lists.{change_numbered};
 ghost use Rattle.v_machine.specs.Places.{numbered};
-ghost use Rattle.v_machine.specs.Sends.{at_stage, dropped_to, come_at, with_begun, with_opened, with_written, given_back};
+ghost use Rattle.v_machine.specs.Sends.{at_stage, dropped_to, handed_on, come_at, with_begun, with_opened, with_written, given_back};
 
 use crate::tables::numbered::Numbered;
 use crate::tables::sent::Sent;
@@ -27,6 +27,24 @@ pub fn take(sends: &mut Numbered<Sent>, number: u64)
 {
     if let Some(sent) = sends.get_mut(number) {
         sent.take();
+    }
+}
+
+/// The Send of a number is handed on to another process, which is shown this message. Where memory is wanting nothing changes.
+#[tactic(auto, using(crate::proofs::Changes::changes))]
+pub fn hand_on(
+    sends: &mut Numbered<Sent>,
+    alloc: Global,
+    number: u64,
+    shown: Message,
+    to: Pid,
+) -> Result<(), NoMemory>
+    ensures ok { OnOk result (sends.new ≡ change_numbered number (handed_on shown to) sends.old) }
+    ensures err { OnErr result (sends.new ≡ sends.old) }
+{
+    match sends.get_mut(number) {
+        Some(sent) => sent.hand_on(alloc, shown, to),
+        None => Ok(()),
     }
 }
 
@@ -109,7 +127,7 @@ pub fn drop_at(sends: &mut Numbered<Sent>, number: u64, gone: Pid)
 pub fn is_message_at(sent: &Sent, pid: Pid) -> bool
     ensures { result ≡ is_message_at pid sent.now }
 {
-    sent.target() == pid && (sent.is_queued() || sent.is_taken())
+    sent.at() == pid && (sent.is_queued() || sent.is_taken())
 }
 
 /// Whether a Send is neither replied to nor dropped.

@@ -3,10 +3,11 @@
 ghost use Rattle.std.specs.Prelude.{◌≡◌, ◌≤◌, [], Some, None, IfSome, IfNone, OnOk, OnErr, IfOk};
 ghost use Rattle.vk_base.specs.declared.kernel.Stage.TheVariants as stages;
 ghost use Rattle.vk_base.specs.Kernel.{is_posted, is_queued, is_taken, reply_of};
-ghost use Rattle.v_machine.specs.Sends.{at_stage, with_begun, with_opened, with_written, given_back};
+ghost use Rattle.v_machine.specs.Sends.{at_stage, handed_on, with_begun, with_opened, with_written, given_back};
 ghost use Rattle.v_machine.specs.Sent.{first_stage};
 
 use crate::tables::apart::Apart;
+use crate::tables::handed::Handing;
 use std::alloc::Global;
 use std::marker::Model;
 use vk_base::{List, Message, Move, NoMemory, Pid};
@@ -30,6 +31,8 @@ pub struct Sent {
     /// The message of the reply, where there is one.
     reply: Message,
     phase: Phase,
+    /// The message was handed on; to whom lies apart.
+    is_handed: bool,
 }
 
 impl Model for Sent {
@@ -38,7 +41,7 @@ impl Model for Sent {
 
     ghost Value = { Exchange };
 
-    ghost view = { λ s. exchange_by s.target s.message s.phase s.reply s.apart };
+    ghost view = { λ s. exchange_by s.target s.message s.phase s.reply s.is_handed s.apart };
 }
 
 impl Sent {
@@ -55,6 +58,8 @@ impl Sent {
           target = target;
           message = message;
           part = part;
+          at = target;
+          shown = message;
           stage = first_stage phase message;
           moves = [];
           opened = 0;
@@ -68,6 +73,7 @@ impl Sent {
             message,
             reply: message,
             phase,
+            is_handed: false,
         })
     }
 
@@ -81,6 +87,34 @@ impl Sent {
         ensures { result.now ≡ self.now.message }
     {
         &self.message
+    }
+
+    /// The process in whose queue it waits, or that took it last.
+    #[inline(always)]
+    pub fn at(&self) -> Pid
+        ensures { result ≡ self.now.at }
+    {
+        if !self.is_handed {
+            return self.target;
+        }
+        match self.apart.handed() {
+            Some(last) => last.at,
+            None => self.target,
+        }
+    }
+
+    /// The message that this process is shown.
+    #[inline(always)]
+    pub fn shown(&self) -> Message
+        ensures { result ≡ self.now.shown }
+    {
+        if !self.is_handed {
+            return self.message;
+        }
+        match self.apart.handed() {
+            Some(last) => last.shown,
+            None => self.message,
+        }
     }
 
     pub fn part(&self) -> &[u8]
@@ -146,6 +180,17 @@ impl Sent {
         ensures { self.new ≡ at_stage stages.Taken self.old }
     {
         self.phase = Phase::Taken;
+    }
+
+    /// It is handed on to another process, which is shown this message. Where memory is wanting nothing changes.
+    pub fn hand_on(&mut self, alloc: Global, shown: Message, to: Pid) -> Result<(), NoMemory>
+        ensures ok { OnOk result (self.new ≡ handed_on shown to self.old) }
+        ensures err { OnErr result (self.new ≡ self.old) }
+    {
+        self.apart.hand_on(alloc, Handing { at: to, shown })?;
+        self.is_handed = true;
+        self.phase = Phase::Queued;
+        Ok(())
     }
 
     pub fn drop_it(&mut self)

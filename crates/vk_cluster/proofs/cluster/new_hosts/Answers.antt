@@ -15,7 +15,7 @@ loop-at-init c =
 pub new-requires : goal.new-requires
 new-requires c =
     let bounds = number_bounds c.args.config.now.specs c.loop-at.at c.station.result (omega arith) c.station.ensures in
-    record { lawful = c.requires; some_host = bounds.0; one_host = bounds.1 }
+    record { some_host = bounds.0; one_host = bounds.1 }
 
 pub loop-at-preserved : goal.loop-at-preserved
 loop-at-preserved c =

@@ -7,9 +7,9 @@ abbrev pub invariant-loop-words : goal.invariant-loop-words
 invariant-loop-words l = record {
   config : l.config ≡ l.fn.config;
   within : l.at ≤ length l.text;
-  small : l.line ≤ l.at + 514;
-  read : scenario_from l.fn.config.specs (map idle l.fn.config.specs) l.first (lines_of (drop l.start l.text))
-      ≡ scenario_from l.config.specs l.tasks.items l.line (lines_of (drop l.at l.text));
+  small : l.line ≤ l.at + 531;
+  read : scenario_from l.fn.config (map idle l.fn.config.specs) l.first (lines_of (drop l.start l.text))
+      ≡ scenario_from l.config l.tasks.items l.line (lines_of (drop l.at l.text));
 }
 
 abbrev pub decreases-loop-words : goal.decreases-loop-words

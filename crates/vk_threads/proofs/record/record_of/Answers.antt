@@ -17,11 +17,11 @@ close_run-requires-clause-all c =
     let t = c.requires.ended in
     hub_count c.args.config c.args.sites.items c.args.hub t.0 t.1 c.args.ends.items c.args.halt c.requires.sites t.2
 
-pub join_stations-requires-clause-logs : goal.join_stations-requires-clause-logs
-join_stations-requires-clause-logs c =
+pub join_stations-requires : goal.join_stations-requires
+join_stations-requires c =
     let t = c.requires.ended in
     asked c.args.config c.args.sites.items c.args.hub t.0 t.1 c.args.ends.items c.args.halt c.requires.sites t.2
-    c.in-Ok.logs.items c.in-Ok.ensures c.closed_runs_are_joined.ensures.asked c.requires.lawful
+    c.in-Ok.logs.items c.in-Ok.ensures c.closed_runs_are_joined.ensures.asked c.times-lawful.ensures.lawful
 
 pub returns-in-Ok-join_stations : goal.returns-in-Ok-join_stations
 returns-in-Ok-join_stations c = record {

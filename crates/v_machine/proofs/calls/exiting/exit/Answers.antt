@@ -23,7 +23,7 @@ returns c = λ p there ready.
     subst (λ ls. Each (Drops c.args.pid ls) s.sends.items sends) c.deref-2.ensures.value
     (each_between (Drops c.args.pid c.deref-2.result.now) _ _ _ _ c.deref_mut-2.ensures.value (sym new_sends)
     c.drop_at_target.ensures.each) in (
-      exit_goes s _ c.args.pid c.args.at p procs c.index_mut.result.now c.requires.kept.indexed c.requires.here there ready released
+      exit_goes s _ c.args.pid c.args.at p procs c.index_mut.result.now c.requires.kept c.requires.here there ready released
           (ap length new_procs ∙ c.release.ensures.count ∙ ap length c.deref_mut.ensures.value)
           dropped (ap length new_sends ∙ c.drop_at_target.ensures.count ∙ ap length c.deref_mut-2.ensures.value) c.index_mut.ensures.value
           refl c.forget.ensures refl refl refl refl refl,

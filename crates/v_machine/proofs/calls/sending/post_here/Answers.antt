@@ -5,12 +5,13 @@ use Rattle.vk_base.specs.declared.kernel.Exchange.{Exchange}
 use Rattle.vk_base.specs.Kernel.{name_of}
 use Rattle.vk_base.specs.Pids.{same_host}
 use Rattle.v_machine.specs.Latest.{latest_in}
-use Rattle.v_machine.specs.Kept.{kernel_in}
+use Rattle.v_machine.specs.Kept.{arrived_in, kernel_in, newest}
 use Rattle.v_machine.specs.Rules.{posted}
 use Rattle.v_machine.proofs.Indexes.{list_at_is}
 use Rattle.v_machine.proofs.KernelLemmas.{set_self, count_pushed, exchanges-pushed, kernel-pushed}
+use Rattle.v_machine.proofs.Newest.{newest_new}
 use Rattle.v_machine.proofs.PlaceLemmas.{get_of_or}
-use Rattle.v_machine.proofs.SendLemmas.{stays_alike, truncated, indexed_posted}
+use Rattle.v_machine.proofs.SendLemmas.{stays_alike, truncated, new, indexed_posted}
 use Rattle.v_machine.proofs.Stores.{on_ok, on_err}
 use Rattle.v_machine.proofs.calls.sending.post_here.Goals as goal
 
@@ -41,8 +42,9 @@ returns-clause-ok c = λ p there ready.
     ∙ get_of_or s.sends.items at s0 here.sends ∙ ap Some (sym c.index_mut-2.ensures.value)) in
     let number : c.next_number-number.result ≡ p.sends + 1 = c.next_number-number.ensures ∙ ap (λ (ss : List Exchange). length ss + 1) one
     ∙ sym counted in
-    let arrived : c.push_name.new.names.items ≡ s.arrived.items ++ name_of pid (p.sends + 1) ∷ [] = c.push_name.ensures
-    ∙ ap (λ n. s.arrived.items ++ name_of pid n ∷ []) number in
+    let unknown = new s pid at c.args.to p x c.requires.kept here c.requires.there c.requires.local c.requires.queued there ready in
+    let arrived : newest c.push_name.new.names.items ≡ arrived_in s ++ name_of pid (p.sends + 1) ∷ [] = ap newest c.push_name.ensures
+    ∙ ap (λ n. newest (s.arrived.items ++ name_of pid n ∷ [])) number ∙ newest_new (name_of pid (p.sends + 1)) s.arrived.items unknown in
     let exchanges = exchanges-pushed s.places s.procs.items s.sends.items s.asked.items pid at p c.args.sent s0 c.push-2.new.self here.place
     here.procs here.sends c.index_mut-2.ensures.value pushed there in
     let grown : length c.push-2.new.self ≡ p.sends + 1 = ap length pushed ∙ length-append s0 (c.args.sent ∷ []) ∙ sym counted in
@@ -50,10 +52,10 @@ returns-clause-ok c = λ p there ready.
     let waits : c.push.new.self ≡ c.index_mut.result.now ++ name_of pid (p.sends + 1) ∷ [] = c.in_ok-push.ensures.ok
     ∙ ap (λ n. c.index_mut.result.now ++ name_of pid n ∷ []) number in (
       kernel-pushed s.places s.procs.items s.sends.items s.asked.items pid at p c.args.sent s0 c.push-2.new.self here.place here.procs
-          here.sends c.index_mut-2.ensures.value pushed there s.names.items s.arrived.items c.push_name.new.names.items
+          here.sends c.index_mut-2.ensures.value pushed there s.names.items (arrived_in s) (newest c.push_name.new.names.items)
           ∙ ap (λ a. record (posted (kernel_in s) pid p x) { arrived = a })
           (arrived ∙ sym
-          (cond-true (same_host pid x.target) (s.arrived.items ++ name_of pid (p.sends + 1) ∷ []) s.arrived.items c.requires.local)),
+          (cond-true (same_host pid x.target) (arrived_in s ++ name_of pid (p.sends + 1) ∷ []) (arrived_in s) c.requires.local)),
       indexed_posted s pid at c.args.to p x c.requires.kept here c.requires.there c.requires.local c.requires.queued there ready _
           c.push-2.new.self c.index_mut.result.now c.index_mut-3.result.now c.put.new.self refl refl refl
           refl grown (omega (arith, grown, mine, counted)) exchanges arrived c.index_mut.ensures.value

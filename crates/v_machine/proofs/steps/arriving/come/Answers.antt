@@ -4,15 +4,16 @@ use Rattle.vk_base.specs.declared.pid.Pid.{Pid}
 use Rattle.vk_base.specs.Calls.{unseen}
 use Rattle.vk_base.specs.Kernel.{is_live}
 use Rattle.vk_base.specs.Steps.{after_arrival, with_arrival}
-use Rattle.v_machine.specs.Kept.{IsAt, IsLatest, kernel_in, latest_by}
+use Rattle.v_machine.specs.Kept.{IsAt, IsLatest, IsWaiting, arrived_in, kernel_in, latest_by, newest}
 use Rattle.v_machine.specs.Latest.{latest_in}
 use Rattle.v_machine.specs.Places.{numbered}
 use Rattle.v_machine.specs.Sends.{come_at}
 use Rattle.v_machine.specs.Tables.{exchanges_by}
-use Rattle.v_machine.proofs.Arrivals.{indexed_arrived}
+use Rattle.v_machine.proofs.Arrivals.{indexed_arrived, not_waiting}
 use Rattle.v_machine.proofs.Arrive.{arrive_allowed, latest_is_before, arrive_others, arrive_new, arrive_at, arrive_rest, arrive_latest, exchanges-come}
 use Rattle.v_machine.proofs.Indexes.{list_at_is}
 use Rattle.v_machine.proofs.KernelLemmas.{set_self, sent_there}
+use Rattle.v_machine.proofs.Newest.{newest_on, newest_new}
 use Rattle.v_machine.proofs.PlaceLemmas.{get_of_or}
 use Rattle.v_machine.proofs.SendLemmas.{stays_alike}
 use Rattle.v_machine.proofs.TableLemmas.{procs-even, count-set_even, numbered_low}
@@ -55,6 +56,9 @@ returns c =
     let e = is.exchange in
     let host = ap (λ (t : Pid). t.host) is.same_target in
     let there = subst (λ t. IsAt s t c.args.to) (sym is.same_target) c.requires.there in
+    let on_way = c.requires.kept.sound.posted name e is.is is.posted in
+    let at = subst (λ t. IsAt s t c.args.to) (sym on_way.at) there in
+    let new = arrive_new s name c.args.at c.args.to e c.requires.kept here there is.is is.posted in
     let latest : latest_by s.places s.latest.items name.sender e.target.host ≡ c.get-latest.result =
     ap (λ ls. latest_in ls e.target.host)
     (list_at_is s.places s.latest.items name.sender c.args.at c.index.result.now here.place here.latest c.index.ensures)
@@ -81,15 +85,24 @@ returns c =
         effect =
             arrive_allowed (kernel_in s) name e is.is is.posted (ap (λ t. is_live ((kernel_in s).procs t)) is.same_target ∙ c.requires.live)
             ∙ (λ i. Some (unseen
-            (record (kernel_in s) { procs = sym processes i; exchanges = sym exchanges i; arrived = sym c.push_name.ensures i })));
+            (record (kernel_in s) {
+              procs = sym processes i;
+              exchanges = sym exchanges i;
+              arrived = sym (ap newest c.push_name.ensures
+                  ∙ newest_new name s.arrived.items new) i;
+            })));
         indexed = indexed_arrived s _ name.sender c.args.at c.args.to name.number (record e { stage = stages.Queued })
-            (λ n. option_map (after_arrival name e n) (exchanges_by s.places s.sends.items n)) here there c.requires.kept.indexed
+            (λ n. option_map (after_arrival name e n) (exchanges_by s.places s.sends.items n)) here at c.requires.kept.indexed
             (arrive_at s name c.args.at c.args.to e c.requires.kept here there is.is is.posted) refl
             (arrive_others s name c.args.at c.args.to e c.requires.kept here there is.is is.posted)
-            (arrive_new s name c.args.at c.args.to e c.requires.kept here there is.is is.posted)
             (arrive_rest s name c.args.at c.args.to e c.requires.kept here there is.is is.posted)
             s' c.index_mut.result.now c.index_mut-3.result.now c.put.new.self refl refl refl refl (omega (arith, low, count))
-            (omega (arith, mine, count)) exchanges c.push_name.ensures c.index_mut.ensures.value
+            (omega (arith, mine, count)) exchanges (ap newest c.push_name.ensures ∙ newest_on name s.arrived.items)
+            (not_waiting (exchanges_by s.places s.sends.items) (arrived_in s) name e.at c.index_mut.result.now new
+            (subst (IsWaiting (exchanges_by s.places s.sends.items) (arrived_in s) e.at)
+            (list_at_is s.places s.queues.items e.at c.args.to c.index_mut.result.now at.place at.queues c.index_mut.ensures.value)
+            (c.requires.kept.indexed.waiting e.at (ap is_some at.place))))
+            c.index_mut.ensures.value
             (ap (set s.queues.items c.args.to) pushed) c.index_mut-3.ensures.value refl
             (λ h. c.put.ensures h ∙ ap (λ z. if h == z then name.number else latest_in c.index_mut-3.result.now h) (sym host));
       },

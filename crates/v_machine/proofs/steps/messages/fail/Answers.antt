@@ -19,7 +19,7 @@ returns c =
     record {
       effect = fail_allowed k _ c.args.pid p c.in_ok-_send._send e c.args.why c.in_ok-why.why there (grind arith)
           (grind (arith, common_steps)) (grind (arith, common_steps))
-          (sym (c.failure.ensures k e (sym (c.is_live.ensures ∙ ap (λ t. is_live (k.procs t)) c.target-target.ensures)))
+          (sym (c.failure.ensures k e (sym (c.is_live.ensures ∙ ap (λ t. is_live (k.procs t)) c.at.ensures)))
           ∙ c.in_ok-why.was)
           (c.put_activity.ensures.kernel c.args.pid p place there ∙ ap (with_state k c.args.pid p) c.ended.ensures.kernel);
       indexed = c.put_activity.ensures.indexed c.requires.indexed;

@@ -6,7 +6,7 @@ use Rattle.v_machine.proofs.tables.moving.push_move.Goals as goal
 
 pub returns-clause-ok : goal.returns-clause-ok
 returns-clause-ok c = on_ok_weaker c.push_move.result
-    (λ is. puts c.args.store.now (with_begun c.args.begun) c.args.at c.args.number c.index_mut.result.now c.push_move.new.sends (λ e. refl)
+    (λ is. puts c.args.store.now (with_begun c.args.begun) c.args.at c.args.number c.index_mut.result.now c.push_move.new.sends (λ e. refl) (λ e. refl)
     (λ e. refl) c.requires c.index_mut.ensures.value is) c.push_move.ensures.ok
 
 pub returns-clause-err : goal.returns-clause-err

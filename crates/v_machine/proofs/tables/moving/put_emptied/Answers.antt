@@ -5,4 +5,4 @@ use Rattle.v_machine.proofs.tables.moving.put_emptied.Goals as goal
 
 pub returns : goal.returns
 returns c = puts c.args.store.now (given_back c.args.from c.args.to) c.args.at c.args.number c.index_mut.result.now
-    c.give_back.new.sends (λ e. refl) (λ e. refl) c.requires.low c.index_mut.ensures.value c.give_back.ensures
+    c.give_back.new.sends (λ e. refl) (λ e. refl) (λ e. refl) c.requires.low c.index_mut.ensures.value c.give_back.ensures

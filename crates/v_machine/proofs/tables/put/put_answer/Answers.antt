@@ -20,5 +20,5 @@ returns-clause-indexed c = λ pid e is there less old.
     (put_no_nearer _ _ _ e _ there
     (exchanges-change _ c.args.store.now.procs.items _ c.args.store.now.asked.items change pid c.args.at c.args.number
     c.index_mut.result.now c.answer.new.sends e is c.requires c.index_mut.ensures.value there c.answer.ensures)
-    refl less)
+    refl refl less)
     old

@@ -25,7 +25,7 @@ returns-clause-indexed c = on_ok_weaker c.answer_with.result
     (put_no_nearer _ _ _ e _ there
     (exchanges-change _ c.args.store.now.procs.items _ c.args.store.now.asked.items change pid c.args.at c.args.number
     c.index_mut.result.now c.answer_with.new.sends e is c.requires c.index_mut.ensures.value there put)
-    refl less)
+    refl refl less)
     old)
     c.answer_with.ensures.ok
 

@@ -6,7 +6,7 @@ use Rattle.v_lawful.specs.Sending.{IsInput}
 use Rattle.vk_host.specs.Responses.{answer_of}
 use Rattle.vk_cluster.specs.Piles.{items_of}
 use Rattle.vk_cluster.specs.Clusters.{value_of}
-use Rattle.vk_cluster.proofs.Arms.{collect_happens, events_low, few_at, fit_at, found_here, host_is, own_at, place_low, somewhere_at, station_step}
+use Rattle.vk_cluster.proofs.Arms.{collect_happens, events_low, few_at, fit_at, found_here, host_is, own_at, place_low, station_step}
 use Rattle.vk_cluster.proofs.Logs.{get_set_same}
 use Rattle.vk_cluster.proofs.cluster.Cluster.collect.Goals as goal
 
@@ -22,7 +22,6 @@ collect-response-requires c =
     let s = c.index_mut.result.now in
     let found = found_here v some c.args.place c.args.pid.host c.requires.place s c.index_mut.ensures.value in
     record {
-      somewhere = somewhere_at v some c.args.place c.args.pid.host c.requires.place s found;
       few = let few = few_at v some c.args.place c.args.pid.host c.requires.place s found in omega arith;
       own = own_at v some c.args.place c.args.pid.host c.requires.place s c.args.pid found refl c.requires.process;
     }

@@ -10,4 +10,4 @@ pub returns : goal.returns
 returns c =
     let pids = subst (Each (λ (s : ProcessSpec). IsPid s.pid)) c.specs.ensures.specs c.pids_are.ensures in
     begins c.args.config.now c.in_ok-copy.field-0 c.in_ok-new_hosts.field-0.items (pile_of c.in_ok-new.field-0) c.station_count.result
-    c.in_ok-copy.ensures c.requires pids c.in_ok-new_hosts.ensures c.station_count.ensures.count c.in_ok-new.ensures
+    c.in_ok-copy.ensures c.times-lawful.ensures.lawful pids c.in_ok-new_hosts.ensures c.station_count.ensures.count c.in_ok-new.ensures

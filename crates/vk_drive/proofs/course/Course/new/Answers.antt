@@ -2,11 +2,8 @@ use Rattle.std.proofs.Common.{[], subst, ◌∙◌}
 use Rattle.vk_base.specs.Settings.{Settings}
 use Rattle.vk_cluster.specs.Clusters.{value_of}
 use Rattle.vk_cluster.specs.Standing.{StandsFor}
-use Rattle.vk_drive.proofs.Opening.{course_first, lawful_settings}
+use Rattle.vk_drive.proofs.Opening.{course_first}
 use Rattle.vk_drive.proofs.course.Course.new.Goals as goal
-
-pub new-requires : goal.new-requires
-new-requires c = lawful_settings c.args.config.now c.requires
 
 pub returns-clause-course : goal.returns-clause-course
 returns-clause-course c =

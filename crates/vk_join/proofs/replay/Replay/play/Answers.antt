@@ -7,7 +7,7 @@ use Rattle.vk_host.specs.Values.{StationValue}
 use Rattle.vk_cluster.specs.declared.emitted.TheConstants.{EVENT_BYTES}
 use Rattle.vk_cluster.specs.declared.frames.TheConstants.{MOST_BYTES}
 use Rattle.vk_cluster.specs.Piles.{AreFrames, IsAdded, items_of, pile_of}
-use Rattle.vk_join.proofs.Playing.{IsPlaying, bytes_at, events_low, few_at, found_here, frames_at, over_at, own_at, place_low, played_next, put_there, somewhere}
+use Rattle.vk_join.proofs.Playing.{IsPlaying, bytes_at, events_low, few_at, found_here, frames_at, over_at, own_at, place_low, played_next, put_there}
 use Rattle.vk_join.proofs.replay.Replay.play.Goals as goal
 
 pub index_mut-requires : goal.index_mut-requires
@@ -22,7 +22,7 @@ event-answer-requires c =
     record { frames = c.frames_are_spelled_once.ensures; packets = c.packets_are_spelled_once.ensures.read; next = c.requires } in
     let s = c.index_mut.result.now in
     let here = found_here p s c.index_mut.ensures.value in
-    record { somewhere = somewhere p s here; few = few_at p s here; own = own_at p s here }
+    record { few = few_at p s here; own = own_at p s here }
 
 pub index-requires : goal.index-requires
 index-requires c =

@@ -1,0 +1,15 @@
+use Rattle.std.proofs.Common.{◌+◌, [], ap, arith, drop, length}
+use Rattle.vk_base.specs.Settings.{Settings}
+use Rattle.vk_text.specs.Lines.{lines_of}
+use Rattle.vk_text.proofs.HeadReading.{Parts, processes_counted}
+use Rattle.vk_text.proofs.opening.read_pooled.Goals as goal
+
+pub returns-clause-line : goal.returns-clause-line
+returns-clause-line c = omega (
+  arith,
+  processes_counted [] (lines_of (drop c.args.start c.args.text.now)),
+  ap (λ (p : Parts). length p.0 + length p.1) c.in_ok-at.ensures.read,
+  ap (λ (s : Settings). length s.specs) c.read_pools-at.ensures.others,
+  c.read_pools-at.ensures.count,
+  ap length c.specs.ensures.specs,
+)
