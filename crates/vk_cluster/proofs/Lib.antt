@@ -3,6 +3,7 @@ pub mod Begins
 pub mod Blocks
 pub mod Found
 pub mod Handed
+pub mod Lasting
 pub mod Logs
 pub mod Loops
 pub mod Pieces

@@ -15,7 +15,7 @@ use Rattle.vk_frame.specs.Reading.{frame_of}
 use Rattle.vk_rules.specs.Laws.{station_of}
 use Rattle.vk_host.specs.Standing.{IsAt}
 use Rattle.vk_host.specs.Values.{StationValue}
-use Rattle.vk_cluster.specs.declared.cluster.Cluster.{Cluster}
+use Rattle.vk_cluster.specs.declared.cluster.Parts.{Parts}
 use Rattle.vk_cluster.specs.declared.emitted.Emitted.{Emitted}
 use Rattle.vk_cluster.specs.declared.emitted.TheConstants.{EVENT_BYTES, EVENT_FRAMES, LAST_BYTES}
 use Rattle.vk_cluster.specs.Clusters.{value_of}
@@ -52,7 +52,7 @@ pub same_pile : (old new : Emitted) → new.frames.items ≡ old.frames.items �
     map items_of new.events.items ≡ map items_of old.events.items → pile_of new ≡ pile_of old
 same_pile old new frames events = λ k. record { bytes = concat (frames k); frames = frames k; events = events k }
 
-pub same_value : (k : Cluster) (e : Emitted) → pile_of e ≡ pile_of k.emitted → value_of (record k { emitted = e }) ≡ value_of k
+pub same_value : (k : Parts) (e : Emitted) → pile_of e ≡ pile_of k.emitted → value_of (record k { emitted = e }) ≡ value_of k
 same_value k e same = ap (λ p. record (value_of k) { pile = p }) same
 
 -- the station at a place stands for its entries

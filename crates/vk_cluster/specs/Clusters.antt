@@ -1,7 +1,7 @@
--- What is said of a `Cluster`.
-use Rattle.vk_cluster.specs.declared.cluster.Cluster.{Cluster}
+-- What is said of a cluster with these parts.
+use Rattle.vk_cluster.specs.declared.cluster.Parts.{Parts}
 use Rattle.vk_cluster.specs.Piles.{pile_of}
 use Rattle.vk_cluster.specs.Values.{ClusterValue}
 
-abbrev pub value_of : Cluster → ClusterValue
-value_of k = record { config = k.config; hosts = k.hosts.items; pile = pile_of k.emitted; events = k.events }
+abbrev pub value_of : Parts → ClusterValue
+value_of p = record { config = p.config; hosts = p.hosts.items; pile = pile_of p.emitted; events = p.events }

@@ -21,6 +21,7 @@ ghost use Rattle.vk_cluster.specs.Values.{is_full};
 use crate::emitted::{EVENT_BYTES, EVENT_FRAMES, Emitted, LAST_BYTES};
 use crate::report::{Advance, ClusterAnswer, ClusterRefusal, StepReport};
 use std::alloc::Global;
+use std::marker::Model;
 use vk_base::limits::EVENTS;
 use vk_base::{Config, NoMemory, Pid, ProcessSpec};
 use vk_brief::CallView;
@@ -35,10 +36,19 @@ const EVERY_STATION: u16 = 65_535;
 /// All stations of a configuration, and the frames that they emitted.
 #[derive(Drop)]
 pub struct Cluster {
-    config: Config,
-    hosts: Vec<Host>,
-    emitted: Emitted,
-    events: usize,
+    parts: Parts,
+}
+
+impl Model for Cluster {
+    ghost use Rattle.vk_cluster.specs.Clusters.{value_of};
+    ghost use Rattle.vk_cluster.specs.Standing.{StandsSomewhere};
+    ghost use Rattle.vk_cluster.specs.Values.{ClusterValue};
+
+    ghost Value = { ClusterValue };
+
+    ghost view = { λ k. value_of k.parts };
+
+    ghost invariant = { λ k. StandsSomewhere (value_of k.parts) };
 }
 
 impl Cluster {
@@ -48,15 +58,17 @@ impl Cluster {
     ///
     /// [`NoMemory`] where memory is wanting.
     pub fn new(alloc: Global, config: &Config) -> Result<Self, NoMemory>
-        ensures { IfOk result (λ k. StandsFor config.now [] (value_of k)) }
+        ensures { IfOk result (λ k. StandsFor config.now [] k) }
     {
         let _lawful = config.times();
         pids_are(config.specs());
         Ok(Cluster {
-            config: config.copy(alloc)?,
-            hosts: new_hosts(alloc, config)?,
-            emitted: Emitted::new(alloc, config.station_count() as usize)?,
-            events: 0,
+            parts: Parts {
+                config: config.copy(alloc)?,
+                hosts: new_hosts(alloc, config)?,
+                emitted: Emitted::new(alloc, config.station_count() as usize)?,
+                events: 0,
+            },
         })
     }
 
@@ -67,12 +79,11 @@ impl Cluster {
     /// [`ClusterRefusal::Limit`] exactly where there were 100,000 events, or where the frames so far hold more than 266,076,160
     /// bytes; then [`ClusterRefusal::NoMemory`]. Both change nothing: memory is taken before the station acts.
     pub fn step(&mut self, alloc: Global, event: &Event) -> Result<StepReport, ClusterRefusal>
-        requires somewhere { StandsSomewhere (value_of self.old) }
         requires actors { has_actors self.old.config.specs event.now ≡ true }
-        ensures step { IfOk result (IsStep (value_of self.old) (value_of self.new) event.now) }
-        ensures room { IfOk result (λ _. is_full (value_of self.old) ≡ false) }
-        ensures cause { IfErr result (λ e. is_full (value_of self.old) ≡ is_limit e) }
-        ensures same { OnErr result (value_of self.new ≡ value_of self.old) }
+        ensures step { IfOk result (IsStep self.old self.new event.now) }
+        ensures room { IfOk result (λ _. is_full self.old ≡ false) }
+        ensures cause { IfErr result (λ e. is_full self.old ≡ is_limit e) }
+        ensures same { OnErr result (self.new ≡ self.old) }
     {
         let (kind, call, bytes) = EventKind::of(event);
         let event = EventView::new(kind, &call, bytes);
@@ -88,26 +99,19 @@ impl Cluster {
     /// Those of [`Cluster::step`].
     #[inline(always)]
     pub fn advance(&mut self, alloc: Global, event: &EventView) -> Result<Advance, ClusterRefusal>
-        requires somewhere { StandsSomewhere (value_of self.old) }
         requires actors { has_actors self.old.config.specs event.now ≡ true }
-        ensures step { IfOk result (IsAdvance (value_of self.old) (value_of self.new) event.now) }
-        ensures room { IfOk result (λ _. is_full (value_of self.old) ≡ false) }
-        ensures cause { IfErr result (λ e. is_full (value_of self.old) ≡ is_limit e) }
-        ensures same { OnErr result (value_of self.new ≡ value_of self.old) }
+        ensures step { IfOk result (IsAdvance self.old self.new event.now) }
+        ensures room { IfOk result (λ _. is_full self.old ≡ false) }
+        ensures cause { IfErr result (λ e. is_full self.old ≡ is_limit e) }
+        ensures same { OnErr result (self.new ≡ self.old) }
     {
-        if is_full(self.events, self.emitted.size()) {
-            return Err(ClusterRefusal::Limit);
-        }
-        let place = place_of(&self.config, acting(event));
-        self.emitted
-            .make_room(alloc, place, EVENT_BYTES, EVENT_FRAMES)?;
-        Ok(self.play(place, event))
+        self.parts.advance(alloc, event)
     }
 
     /// The report that this stands for, before the next event.
     pub fn report(&self, advance: Advance) -> StepReport
-        requires { (r : TheReport) × Tells (value_of self.now) advance r }
-        ensures { (r : TheReport) → Tells (value_of self.now) advance r → result ≡ r }
+        requires { (r : TheReport) × Tells self.now advance r }
+        ensures { (r : TheReport) → Tells self.now advance r → result ≡ r }
     {
         match advance {
             Advance::Missing { host } => StepReport {
@@ -131,24 +135,53 @@ impl Cluster {
     /// The station in this place among those of the configuration, counted from 0, with the steps and frames of its last event,
     /// whichever station acted since.
     pub fn station(&self, place: usize) -> &Host
-        requires { place < length self.now.hosts.items }
-        ensures { slice_get self.now.hosts.items place ≡ Some result.now }
+        requires { place < length self.now.hosts }
+        ensures { slice_get self.now.hosts place ≡ Some result.now }
     {
-        &self.hosts[place]
+        &self.parts.hosts[place]
     }
 
     /// The station of this host, which is one of the configuration, with the steps and frames of its last event, whichever station
     /// acted since.
     pub fn host(&self, host: u16) -> &Host
-        requires somewhere { StandsSomewhere (value_of self.now) }
         requires station { has_station self.now.config.specs host ≡ true }
         ensures host { result.now.host ≡ host }
-        ensures found { (place : ℕ) × (slice_get self.now.hosts.items place ≡ Some result.now) }
-        ensures at { (c : Settings) (es : List TheEvent) → StandsFor c es (value_of self.now) → IsAt c (logs_of c es host) result.now }
-        ensures newest { (c : Settings) (es : List TheEvent) → StandsFor c es (value_of self.now) →
+        ensures found { (place : ℕ) × (slice_get self.now.hosts place ≡ Some result.now) }
+        ensures at { (c : Settings) (es : List TheEvent) → StandsFor c es self.now → IsAt c (logs_of c es host) result.now }
+        ensures newest { (c : Settings) (es : List TheEvent) → StandsFor c es self.now →
             ShowsNewest (logs_of c es host) result.now }
     {
-        &self.hosts[place_of(&self.config, host)]
+        &self.parts.hosts[place_of(&self.parts.config, host)]
+    }
+}
+
+/// What a cluster is made of: its configuration, its stations, the frames that they emitted, and how many events there were.
+#[derive(Drop)]
+pub struct Parts {
+    config: Config,
+    hosts: Vec<Host>,
+    emitted: Emitted,
+    events: usize,
+}
+
+impl Parts {
+    /// One event, or why there is none. Memory is taken before the station acts.
+    #[inline(always)]
+    fn advance(&mut self, alloc: Global, event: &EventView) -> Result<Advance, ClusterRefusal>
+        requires somewhere { StandsSomewhere (value_of self.old) }
+        requires actors { has_actors self.old.config.specs event.now ≡ true }
+        ensures step { IfOk result (IsAdvance (value_of self.old) (value_of self.new) event.now) }
+        ensures room { IfOk result (λ _. is_full (value_of self.old) ≡ false) }
+        ensures cause { IfErr result (λ e. is_full (value_of self.old) ≡ is_limit e) }
+        ensures same { OnErr result (value_of self.new ≡ value_of self.old) }
+    {
+        if is_full(self.events, self.emitted.size()) {
+            return Err(ClusterRefusal::Limit);
+        }
+        let place = place_of(&self.config, acting(event));
+        self.emitted
+            .make_room(alloc, place, EVENT_BYTES, EVENT_FRAMES)?;
+        Ok(self.play(place, event))
     }
 
     /// The event at the station of this place, for which there is room.

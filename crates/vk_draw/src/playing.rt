@@ -3,7 +3,6 @@
 ghost use Rattle.std.specs.Prelude.{◌≡◌, ◌<◌, ◌≤◌, ◌+◌, ◌++◌, ◌∷◌, ◌⊎◌, [], List, length, true, false, Err, IfOk, IfErr, OnOk, OnErr};
 ghost use Rattle.vk_base.specs.Settings.{Settings};
 ghost use Rattle.vk_base.specs.declared.limits.TheConstants.{EVENTS};
-ghost use Rattle.vk_cluster.specs.Clusters.{value_of};
 ghost use Rattle.vk_cluster.specs.Standing.{StandsFor, StandsSomewhere, logs_of};
 ghost use Rattle.vk_cluster.specs.Values.{is_full};
 ghost use Rattle.vk_event.specs.declared.event.Event.{Event as TheEvent};
@@ -73,8 +72,8 @@ fn row_by(
     event: &Event,
     report: &StepReport,
 ) -> Result<Row, NoMemory>
-    requires { (c : Settings) × (es : List TheEvent) × HasReported c es (value_of cluster.now) event.now report.now }
-    ensures { IfOk result (λ row. (c : Settings) (es : List TheEvent) → HasReported c es (value_of cluster.now) event.now report.now →
+    requires { (c : Settings) × (es : List TheEvent) × HasReported c es cluster.now event.now report.now }
+    ensures { IfOk result (λ row. (c : Settings) (es : List TheEvent) → HasReported c es cluster.now event.now report.now →
         row ≡ next_row c es event.now number) }
 {
     match &report.answer {
@@ -103,8 +102,8 @@ fn put_report(
     report: &StepReport,
 ) -> Result<(), NoMemory>
     requires few { length rows.old < ROWS }
-    requires reported { (c : Settings) × (es : List TheEvent) × HasReported c es (value_of cluster.now) event.now report.now }
-    ensures { OnOk result ((c : Settings) (es : List TheEvent) → HasReported c es (value_of cluster.now) event.now report.now →
+    requires reported { (c : Settings) × (es : List TheEvent) × HasReported c es cluster.now event.now report.now }
+    ensures { OnOk result ((c : Settings) (es : List TheEvent) → HasReported c es cluster.now event.now report.now →
         rows.new ≡ rows.old ++ next_row c es event.now (length rows.old + 1) ∷ []) }
 {
     let number = rows.len() as u16 + 1;
@@ -120,11 +119,11 @@ fn put_event(
     event: &Event,
 ) -> Result<(), ClusterRefusal>
     requires few { length rows.old < ROWS }
-    requires somewhere { StandsSomewhere (value_of cluster.old) }
-    requires actors { has_actors (value_of cluster.old).config.specs event.now ≡ true }
-    ensures had { OnOk result ((c : Settings) (es : List TheEvent) → StandsFor c es (value_of cluster.old) →
-        IsHad c es event.now rows.old rows.new (value_of cluster.new)) }
-    ensures refused { result ≡ Err ClusterRefusal.Limit → is_full (value_of cluster.old) ≡ true }
+    requires somewhere { StandsSomewhere cluster.old }
+    requires actors { has_actors cluster.old.config.specs event.now ≡ true }
+    ensures had { OnOk result ((c : Settings) (es : List TheEvent) → StandsFor c es cluster.old →
+        IsHad c es event.now rows.old rows.new cluster.new) }
+    ensures refused { result ≡ Err ClusterRefusal.Limit → is_full cluster.old ≡ true }
 {
     let stepped = cluster.step(alloc, event);
     match &stepped {
@@ -146,7 +145,7 @@ fn rows_of(
     requires lawful { IsLawful schedule.now }
     requires events { events.now ≡ schedule.now.events }
     requires few { length events.now ≤ ROWS }
-    requires stands { StandsFor schedule.now.config [] (value_of cluster.old) }
+    requires stands { StandsFor schedule.now.config [] cluster.old }
     ensures rows { IfOk result (λ rows. rows ≡ (picture_of schedule.now).rows) }
     ensures refused { IfErr result (λ e. (e ≡ Status.NoMemory) ⊎ ((e ≡ Status.Limit) × IsTooLarge schedule.now)) }
 {

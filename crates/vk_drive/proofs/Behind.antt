@@ -10,7 +10,6 @@ use Rattle.vk_base.specs.declared.pid.Pid.{Pid}
 use Rattle.vk_event.specs.declared.event.Event.{Event}
 use Rattle.vk_rules.specs.Entries.{Entry, is_frame_taken}
 use Rattle.vk_rules.specs.Histories.{At, Happened, Missing, happened, history_of, no_entries}
-use Rattle.vk_cluster.specs.Clusters.{value_of}
 use Rattle.vk_cluster.specs.declared.report.StepReport.{StepReport}
 use Rattle.vk_cluster.specs.Standing.{IsNext, StandsFor, logs_of}
 use Rattle.vk_cluster.proofs.Logs.{history_more}
@@ -107,11 +106,11 @@ low hs recent counts noted few =
     }
 
 -- the event happened, and was noted
-pub course_next : (old new : Course) (e : Event) (r : StepReport) → IsCourse old → IsNext settings old.events (value_of new.cluster) e r →
+pub course_next : (old new : Course) (e : Event) (r : StepReport) → IsCourse old → IsNext settings old.events new.cluster e r →
     new.events ≡ old.events ++ e ∷ [] → IsNoted (history_of settings (old.events ++ e ∷ [])) new.recent new.counts →
     new.counts.frames ≤ old.counts.frames + 4294967295 → IsCourse new
 course_next old new e r is happens events_are noted few = record {
-  stands = subst (λ es. StandsFor settings es (value_of new.cluster)) (sym events_are) happens.stands;
+  stands = subst (λ es. StandsFor settings es new.cluster) (sym events_are) happens.stands;
   noted = subst (λ es. IsNoted (history_of settings es) new.recent new.counts) (sym events_are) noted;
   few =
       let long : length new.events ≡ length old.events + 1 = ap length events_are ∙ length-append old.events (e ∷ []) in

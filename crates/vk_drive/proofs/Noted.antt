@@ -5,7 +5,6 @@ use Rattle.std.proofs.lemmas.List.{length-map}
 use Rattle.circular_buffer.specs.Buffer.{Buffer}
 use Rattle.vk_cluster.specs.declared.report.Advance.{Advance}
 use Rattle.vk_cluster.specs.declared.report.Advance.TheVariants as advances
-use Rattle.vk_cluster.specs.Clusters.{value_of}
 use Rattle.vk_cluster.specs.Shown.{HasAdvanced, HasReported, Sends}
 use Rattle.vk_cluster.specs.Standing.{IsAdvance, Tells, logs_of, report_by, report_of}
 use Rattle.vk_cluster.specs.Values.{ClusterValue}
@@ -28,7 +27,7 @@ use Rattle.vk_drive.specs.Told.{all_emitted, headers}
 use Rattle.vk_drive.proofs.Behind.{history_with, noted_at, noted_missing}
 
 pub advanced : (old : Course) (new : ClusterValue) (e : Event) (a : Advance) → IsCourse old → has_actors specs e ≡ true →
-    IsAdvance (value_of old.cluster) new e a → HasAdvanced settings old.events new e a
+    IsAdvance old.cluster new e a → HasAdvanced settings old.events new e a
 advanced old new e a is acts step = record {
   report = step.report;
   told = step.told;

@@ -1,7 +1,6 @@
 -- Before the first event.
 use Rattle.std.proofs.Common.{◌≡◌, ℕ, zero, suc, ◌<◌, List, [], get_or, refl, sym, ap, subst, arith}
 use Rattle.circular_buffer.specs.Buffer.{buffer}
-use Rattle.vk_cluster.specs.Clusters.{value_of}
 use Rattle.vk_cluster.specs.Standing.{StandsFor}
 use Rattle.vk_event.specs.declared.event.Event.{Event}
 use Rattle.vk_event.specs.declared.task.Task.{Task}
@@ -14,11 +13,11 @@ use Rattle.vk_drive.specs.declared.counts.Counts.{Counts}
 use Rattle.vk_drive.specs.Driving.{AreActors, IsCourse, IsNoted}
 use Rattle.vk_drive.specs.Tasks.{settings, specs, tasks}
 
-pub course_first : (c : Course) → StandsFor settings [] (value_of c.cluster) → c.recent ≡ buffer [] 32 →
+pub course_first : (c : Course) → StandsFor settings [] c.cluster → c.recent ≡ buffer [] 32 →
     c.counts ≡ record { frames = 0; taken = 0; late = 0; answers = 0; timedout = 0 } → c.events ≡ [] → IsCourse c
 unfolding history
 course_first c stands recent counts none = record {
-  stands = subst (λ es. StandsFor settings es (value_of c.cluster)) (sym none) stands;
+  stands = subst (λ es. StandsFor settings es c.cluster) (sym none) stands;
   noted = subst (λ es. IsNoted (history_of settings es) c.recent c.counts) (sym none) (record { recent_is = recent; counts_are = counts });
   few = let zeros : c.counts.frames ≡ 0 = ap (λ (n : Counts). n.frames) counts in omega (arith, zeros);
 }

@@ -4,7 +4,6 @@ use Rattle.circular_buffer.specs.Buffer.{Buffer, buffer, keep_last}
 use Rattle.vk_base.specs.declared.answer.Answer.{Answer}
 use Rattle.vk_base.specs.declared.event.EventAnswer.{EventAnswer}
 use Rattle.vk_cluster.specs.declared.emitted.TheConstants.{LAST_BYTES}
-use Rattle.vk_cluster.specs.Clusters.{value_of}
 use Rattle.vk_cluster.specs.Standing.{StandsFor, emitted_bytes}
 use Rattle.vk_event.specs.declared.event.Event.{Event}
 use Rattle.vk_event.specs.declared.event.Event.TheVariants as events
@@ -95,7 +94,7 @@ pub record IsNoted (hs : List Happened) (recent : Buffer Header) (counts : Count
 
 -- what is kept of the history of the events so far
 pub record IsCourse (c : Course) : Type 0 where
-  pub stands : StandsFor settings c.events (value_of c.cluster)
+  pub stands : StandsFor settings c.events c.cluster
   pub noted : IsNoted (history_of settings c.events) c.recent c.counts
   pub few : c.counts.frames ≤ 4294967296 * length c.events
 

@@ -2,7 +2,6 @@
 
 ghost use Rattle.std.specs.Prelude.{◌≡◌, ◌≢◌, ◌<◌, [], ◌∷◌, ◌++◌, ℕ, List, length, IfOk};
 ghost use Rattle.vk_base.specs.declared.event.EventAnswer.{EventAnswer as TheAnswer};
-ghost use Rattle.vk_cluster.specs.Clusters.{value_of};
 ghost use Rattle.vk_cluster.specs.declared.report.ClusterAnswer.TheVariants as answered;
 ghost use Rattle.vk_cluster.specs.declared.report.StepReport.{StepReport as TheReport};
 ghost use Rattle.vk_cluster.specs.Standing.{Tells};
@@ -43,9 +42,9 @@ pub fn next_event(actors: &mut Vec<Actor>, place: usize) -> Event
 pub fn hear(actors: &mut Vec<Actor>, place: usize, cluster: &Cluster, advance: Advance)
     requires within { place < length actors.old.items }
     requires none { HasPassedOn actors.old.items place }
-    requires told { (r : TheReport) × Tells (value_of cluster.now) advance r }
+    requires told { (r : TheReport) × Tells cluster.now advance r }
     ensures { (hs : List Happened) (h : Happened) (a : TheAnswer) (r : TheReport) → AreActors actors.old.items hs →
-        Tells (value_of cluster.now) advance r → r.answer ≡ answered.Event a →
+        Tells cluster.now advance r → r.answer ≡ answered.Event a →
         answered_in (task_at place).pid h ≡ a ∷ [] → ((q : ℕ) → q < 4 → q ≢ place → answered_in (task_at q).pid h ≡ []) →
         AreActors actors.new.items (hs ++ h ∷ []) }
 {

@@ -3,8 +3,7 @@
 ghost use Rattle.std.specs.Prelude.{◌≡◌, ◌≤◌, ◌<◌, ◌+◌, ◌^◌, [], ◌∷◌, ◌++◌, List, length, true, false, Err, IfOk, IfErr, OnOk};
 ghost use Rattle.vk_base.specs.declared.limits.TheConstants.{EVENTS};
 ghost use Rattle.vk_cluster.specs.declared.emitted.TheConstants.{LAST_BYTES};
-ghost use Rattle.vk_cluster.specs.Clusters.{value_of};
-ghost use Rattle.vk_cluster.specs.Standing.{IsAdvance, StandsSomewhere, Tells, emitted_bytes, is_limit, logs_of, report_of};
+ghost use Rattle.vk_cluster.specs.Standing.{IsAdvance, Tells, emitted_bytes, is_limit, logs_of, report_of};
 ghost use Rattle.vk_cluster.specs.Values.{is_full};
 ghost use Rattle.vk_event.specs.declared.event.Event.{Event as TheEvent};
 ghost use Rattle.vk_event.specs.Lawful.{has_actors};
@@ -74,8 +73,8 @@ fn note(
 )
     requires frames { counts.old.frames < 2 ^ 63 }
     requires low { AreLow counts.old }
-    requires advanced { (es : List TheEvent) × (e : TheEvent) × HasAdvanced settings es (value_of cluster.now) e advance }
-    ensures noted { (es : List TheEvent) (e : TheEvent) → HasAdvanced settings es (value_of cluster.now) e advance →
+    requires advanced { (es : List TheEvent) × (e : TheEvent) × HasAdvanced settings es cluster.now e advance }
+    ensures noted { (es : List TheEvent) (e : TheEvent) → HasAdvanced settings es cluster.now e advance →
         IsNoted (history_of settings es) recent.old counts.old → IsNoted (history_of settings (es ++ e ∷ [])) recent.new counts.new }
     ensures few { counts.new.frames ≤ counts.old.frames + 4294967295 }
 {
@@ -91,11 +90,10 @@ fn note(
 
 /// The cluster has this event, of which it tells in few bytes.
 fn advance(cluster: &mut Cluster, alloc: Global, event: &Event) -> Result<Advance, ClusterRefusal>
-    requires somewhere { StandsSomewhere (value_of cluster.old) }
-    requires actors { has_actors (value_of cluster.old).config.specs event.now ≡ true }
-    ensures step { IfOk result (IsAdvance (value_of cluster.old) (value_of cluster.new) event.now) }
-    ensures room { IfOk result (λ _. is_full (value_of cluster.old) ≡ false) }
-    ensures cause { IfErr result (λ e. is_full (value_of cluster.old) ≡ is_limit e) }
+    requires actors { has_actors cluster.old.config.specs event.now ≡ true }
+    ensures step { IfOk result (IsAdvance cluster.old cluster.new event.now) }
+    ensures room { IfOk result (λ _. is_full cluster.old ≡ false) }
+    ensures cause { IfErr result (λ e. is_full cluster.old ≡ is_limit e) }
 {
     let (kind, call, bytes) = EventKind::of(event);
     cluster.advance(alloc, &EventView::new(kind, &call, bytes))
@@ -131,7 +129,7 @@ impl Course {
         requires actors { has_actors specs event ≡ true }
         ensures course { OnOk result (IsCourse self.new) }
         ensures events { OnOk result (self.new.events ≡ self.old.events ++ event ∷ []) }
-        ensures told { IfOk result (λ a. Tells (value_of self.new.cluster) a
+        ensures told { IfOk result (λ a. Tells self.new.cluster a
             (report_of (happened settings (logs_of settings self.old.events) event))) }
         ensures fits { OnOk result (emitted_bytes (history_of settings self.old.events) ≤ LAST_BYTES) }
         ensures limit { result ≡ Err StormRefusal.Limit → LAST_BYTES < emitted_bytes (history_of settings self.old.events) }

@@ -24,14 +24,13 @@ pub struct Stations {
 impl Model for Stations {
     ghost use Rattle.std.specs.Prelude.{◌≡◌};
     ghost use Rattle.vk_base.specs.Settings.{Settings};
-    ghost use Rattle.vk_cluster.specs.Clusters.{value_of};
     ghost use Rattle.vk_cluster.specs.Standing.{StandsSomewhere};
 
     ghost Value = { Settings };
 
     ghost view = { λ s. s.config };
 
-    ghost invariant = { λ s. StandsSomewhere (value_of s.cluster) × (s.cluster.config.specs ≡ s.config.specs) };
+    ghost invariant = { λ s. StandsSomewhere s.cluster × (s.cluster.config.specs ≡ s.config.specs) };
 }
 
 /// Whether the processes and stations of the event are of the configuration.

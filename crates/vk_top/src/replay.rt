@@ -5,7 +5,6 @@ ghost use Rattle.vk_base.specs.Settings.{Settings};
 ghost use Rattle.vk_event.specs.declared.event.Event.{Event as TheEvent};
 ghost use Rattle.vk_event.specs.Lawful.{IsLawful, has_actors};
 ghost use Rattle.vk_event.specs.Schedule.{schedule_of};
-ghost use Rattle.vk_cluster.specs.Clusters.{value_of};
 ghost use Rattle.vk_cluster.specs.Standing.{StandsFor, StandsSomewhere, logs_of};
 ghost use Rattle.vk_cluster.specs.Values.{is_full};
 ghost use Rattle.vk_host.specs.Responses.{answer_of};
@@ -111,8 +110,8 @@ fn put_report(
     advance: Advance,
 ) -> Result<(), NoMemory>
     requires few { AreFew counts.old }
-    requires advanced { (c : Settings) × (es : List TheEvent) × (e : TheEvent) × HasAdvanced c es (value_of cluster.now) e advance }
-    ensures { OnOk result ((c : Settings) (es : List TheEvent) (e : TheEvent) → HasAdvanced c es (value_of cluster.now) e advance →
+    requires advanced { (c : Settings) × (es : List TheEvent) × (e : TheEvent) × HasAdvanced c es cluster.now e advance }
+    ensures { OnOk result ((c : Settings) (es : List TheEvent) (e : TheEvent) → HasAdvanced c es cluster.now e advance →
         IsTold form counts.old counts.new text.old.items text.new.items (happened c (logs_of c es) e)) }
 {
     let number = counts.events + 1;
@@ -143,12 +142,12 @@ fn put_event(
     event: &EventBuffer,
 ) -> Result<(), ClusterRefusal>
     requires few { AreFew counts.old }
-    requires somewhere { StandsSomewhere (value_of cluster.old) }
-    requires actors { has_actors (value_of cluster.old).config.specs event.now ≡ true }
-    ensures had { OnOk result ((c : Settings) (es : List TheEvent) → StandsFor c es (value_of cluster.old) →
-        IsHad form c es event.now counts.old counts.new text.old.items text.new.items (value_of cluster.new)) }
-    ensures room { OnOk result (is_full (value_of cluster.old) ≡ false) }
-    ensures refused { result ≡ Err ClusterRefusal.Limit → (is_full (value_of cluster.old) ≡ true) × (text.new.items ≡ text.old.items) }
+    requires somewhere { StandsSomewhere cluster.old }
+    requires actors { has_actors cluster.old.config.specs event.now ≡ true }
+    ensures had { OnOk result ((c : Settings) (es : List TheEvent) → StandsFor c es cluster.old →
+        IsHad form c es event.now counts.old counts.new text.old.items text.new.items cluster.new) }
+    ensures room { OnOk result (is_full cluster.old ≡ false) }
+    ensures refused { result ≡ Err ClusterRefusal.Limit → (is_full cluster.old ≡ true) × (text.new.items ≡ text.old.items) }
 {
     match cluster.advance(alloc, &event.view()) {
         Ok(advance) => match put_report(alloc, cluster, text, form, counts, advance) {
@@ -169,7 +168,7 @@ fn put_events(
     reader: &mut EventReader<'_>,
 ) -> Result<bool, NoMemory>
     requires lawful { IsLawful reader.old.schedule }
-    requires stands { StandsFor reader.old.schedule.config [] (value_of cluster.old) }
+    requires stands { StandsFor reader.old.schedule.config [] cluster.old }
     requires opening { text.old.items ≡ opening_lines form reader.old.schedule.config.specs }
     ensures cut { IfOk result (λ cut. cut ≡ is_cut reader.old.schedule) }
     ensures text { OnOk result (text.new.items ≡ written_text form reader.old.schedule) }

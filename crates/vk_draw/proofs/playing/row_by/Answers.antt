@@ -1,22 +1,21 @@
 use Rattle.std.proofs.Common.{ap, sym, ◌∙◌}
 use Rattle.std.proofs.lemmas.Result.{IfOk-weaker}
-use Rattle.vk_cluster.specs.Clusters.{value_of}
 use Rattle.vk_cluster.specs.Standing.{logs_of}
 use Rattle.vk_rules.specs.Histories.{happened}
 use Rattle.vk_cluster.proofs.Shown.{is_station, last_is, reported_entry, reported_missing}
 use Rattle.vk_draw.specs.Rows.{row_of}
 use Rattle.vk_draw.proofs.playing.row_by.Goals as goal
 
-pub host-station-requires-clause-station : goal.host-station-requires-clause-station
-host-station-requires-clause-station c =
-    let r = c.requires in is_station r.0 r.1 (value_of c.args.cluster.now) c.args.event.now c.args.report.now r.2
+pub host-station-requires : goal.host-station-requires
+host-station-requires c =
+    let r = c.requires in record { station = is_station r.0 r.1 c.args.cluster.now c.args.event.now c.args.report.now r.2 }
 
 pub station_row-requires : goal.station_row-requires
 station_row-requires c =
     let r = c.requires in
     let one = reported_entry c.args.report.now c.in-Event.answer (happened r.0 (logs_of r.0 r.1) c.args.event.now) r.2.next.report c.in-Event.is in (
       one.entry,
-      last_is r.0 r.1 (value_of c.args.cluster.now) c.args.event.now c.args.report.now r.2 one.entry one.is c.host-station.ensures.found.0
+      last_is r.0 r.1 c.args.cluster.now c.args.event.now c.args.report.now r.2 one.entry one.is c.host-station.ensures.found.0
           c.host-station.result.now c.host-station.ensures.found.1 c.host-station.ensures.host c.in-Event.answer one.answered,
     )
 
@@ -28,7 +27,7 @@ returns-in-Event c =
     (λ row is s es r.
     let one = reported_entry report c.in-Event.answer (happened s (logs_of s es) event) r.next.report c.in-Event.is in
     is one.entry
-    (last_is s es (value_of c.args.cluster.now) event report r one.entry one.is c.host-station.ensures.found.0 c.host-station.result.now
+    (last_is s es c.args.cluster.now event report r one.entry one.is c.host-station.ensures.found.0 c.host-station.result.now
     c.host-station.ensures.found.1 c.host-station.ensures.host c.in-Event.answer one.answered)
     ∙ ap (row_of c.args.number event) (sym one.is))
     c.station_row.ensures

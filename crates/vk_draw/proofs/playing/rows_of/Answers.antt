@@ -1,5 +1,4 @@
 use Rattle.std.proofs.Common.{Err, ◌<◌, List, get_or, inr, length, refl, subst, sym, take, ap, ◌∙◌, arith}
-use Rattle.vk_cluster.specs.Clusters.{value_of}
 use Rattle.vk_event.specs.declared.event.Event.{Event}
 use Rattle.vk_picture.specs.declared.picture.Row.{Row}
 use Rattle.vk_draw.specs.Playing.{ArePlayed}
@@ -9,7 +8,7 @@ use Rattle.vk_draw.proofs.playing.rows_of.Goals as goal
 pub loop-event-init : goal.loop-event-init
 loop-event-init c =
     let s = c.args.schedule.now in
-    let now = value_of c.args.cluster.now in
+    let now = c.args.cluster.now in
     subst (λ (rows : List Row). ArePlayed s.config s.events 0 rows now) (sym c.empty-rows.ensures)
     (played_none s.config s.events now c.requires.stands)
 
@@ -22,11 +21,11 @@ put_event-requires-clause-few c =
 
 pub put_event-requires-clause-somewhere : goal.put_event-requires-clause-somewhere
 put_event-requires-clause-somewhere c =
-    somewhere c.args.schedule.now c.loop-event.event-index c.loop-event.rows (value_of c.loop-event.cluster) c.loop-event.invariant
+    somewhere c.args.schedule.now c.loop-event.event-index c.loop-event.rows c.loop-event.cluster c.loop-event.invariant
 
 pub put_event-requires-clause-actors : goal.put_event-requires-clause-actors
 put_event-requires-clause-actors c =
-    acts c.args.schedule.now c.loop-event.event-index c.loop-event.rows (value_of c.loop-event.cluster) c.loop-event.invariant
+    acts c.args.schedule.now c.loop-event.event-index c.loop-event.rows c.loop-event.cluster c.loop-event.invariant
     c.event-item.result (subst (λ (es : List Event). c.loop-event.event-index < length es) c.requires.events c.loop-event-test.true)
     (c.event-item.is ∙ ap (λ (es : List Event). get_or es c.loop-event.event-index c.event-item.result) c.requires.events)
     c.requires.lawful.events
@@ -34,10 +33,10 @@ put_event-requires-clause-actors c =
 pub loop-event-preserved : goal.loop-event-preserved
 loop-event-preserved c =
     let s = c.args.schedule.now in
-    played_more s c.loop-event.event-index c.loop-event.rows (value_of c.loop-event.cluster) c.loop-event.invariant
+    played_more s c.loop-event.event-index c.loop-event.rows c.loop-event.cluster c.loop-event.invariant
     c.event-item.result (subst (λ (es : List Event). c.loop-event.event-index < length es) c.requires.events c.loop-event-test.true)
     (c.event-item.is ∙ ap (λ (es : List Event). get_or es c.loop-event.event-index c.event-item.result) c.requires.events)
-    c.put_event.new.rows (value_of c.put_event.new.cluster)
+    c.put_event.new.rows c.put_event.new.cluster
     (c.in-Ok.ensures.had s.config (take c.loop-event.event-index s.events) c.loop-event.invariant.stands)
 
 pub returns-in-Err-Limit-clause-refused : goal.returns-in-Err-Limit-clause-refused
@@ -46,7 +45,7 @@ returns-in-Err-Limit-clause-refused c =
     let same = ap (λ (es : List Event). length es) c.requires.events in
     inr (
       refl,
-      too_large c.args.schedule.now c.loop-event.event-index c.loop-event.rows (value_of c.loop-event.cluster) c.loop-event.invariant
+      too_large c.args.schedule.now c.loop-event.event-index c.loop-event.rows c.loop-event.cluster c.loop-event.invariant
           c.event-item.result (subst (λ (es : List Event). c.loop-event.event-index < length es) c.requires.events c.loop-event-test.true)
           (c.event-item.is ∙ ap (λ (es : List Event). get_or es c.loop-event.event-index c.event-item.result) c.requires.events)
           (omega (arith, few, same)) (c.in-Err-Limit.ensures.refused (ap Err c.in-Err-Limit.field-0-is)),
@@ -56,5 +55,5 @@ pub returns-clause-rows : goal.returns-clause-rows
 returns-clause-rows c =
     let over = c.loop-event-test.false in
     let same = ap (λ (es : List Event). length es) c.requires.events in
-    played_all c.args.schedule.now c.loop-event.event-index c.loop-event.rows (value_of c.loop-event.cluster) c.loop-event.invariant
+    played_all c.args.schedule.now c.loop-event.event-index c.loop-event.rows c.loop-event.cluster c.loop-event.invariant
     (omega (arith, over, same))

@@ -1,28 +1,27 @@
 use Rattle.std.proofs.Common.{Err, take, ap, ◌∙◌}
-use Rattle.vk_cluster.specs.Clusters.{value_of}
 use Rattle.vk_top.proofs.Nexts.{fewer_events, next_event, no_event}
 use Rattle.vk_top.proofs.Lefts.{actors_stand, end_text, end_whole, few_so_far, under_way_more, under_way_none, way_cut, way_ending, way_text}
 use Rattle.vk_top.proofs.replay.put_events.Goals as goal
 
 pub loop-event-init : goal.loop-event-init
 loop-event-init c =
-    under_way_none c.args.form c.args.reader.now (value_of c.args.cluster.now) c.args.text.now.items c.requires.stands c.requires.opening
+    under_way_none c.args.form c.args.reader.now c.args.cluster.now c.args.text.now.items c.requires.stands c.requires.opening
 
 pub put_event-requires-clause-few : goal.put_event-requires-clause-few
 put_event-requires-clause-few c =
-    few_so_far c.args.form c.args.reader.now c.loop-event.reader (value_of c.loop-event.cluster) c.loop-event.counts c.loop-event.text.items
+    few_so_far c.args.form c.args.reader.now c.loop-event.reader c.loop-event.cluster c.loop-event.counts c.loop-event.text.items
     c.loop-event.invariant c.next.new.self c.next.new.event (next_event _ _ _ _ c.loop-event-test.true c.next.ensures.next) c.requires.lawful.few
 
 pub put_event-requires-clause-actors : goal.put_event-requires-clause-actors
 put_event-requires-clause-actors c =
-    actors_stand c.args.form c.args.reader.now c.loop-event.reader (value_of c.loop-event.cluster) c.loop-event.counts
+    actors_stand c.args.form c.args.reader.now c.loop-event.reader c.loop-event.cluster c.loop-event.counts
     c.loop-event.text.items c.loop-event.invariant c.next.new.self c.next.new.event
     (next_event _ _ _ _ c.loop-event-test.true c.next.ensures.next) (c.next.ensures.lawful c.loop-event-test.true).1
 
 pub returns-in-Err-Limit-clause-cut : goal.returns-in-Err-Limit-clause-cut
 returns-in-Err-Limit-clause-cut c =
     let refused = c.in-Err-Limit.ensures.refused (ap Err c.in-Err-Limit.field-0-is) in
-    way_cut c.args.form c.args.reader.now c.loop-event.reader (value_of c.loop-event.cluster) c.loop-event.counts c.loop-event.text.items
+    way_cut c.args.form c.args.reader.now c.loop-event.reader c.loop-event.cluster c.loop-event.counts c.loop-event.text.items
     c.loop-event.invariant c.next.new.self c.next.new.event (next_event _ _ _ _ c.loop-event-test.true c.next.ensures.next)
     c.requires.lawful.few refused.0
 
@@ -30,26 +29,26 @@ pub returns-in-Err-Limit-clause-text : goal.returns-in-Err-Limit-clause-text
 returns-in-Err-Limit-clause-text c =
     let refused = c.in-Err-Limit.ensures.refused (ap Err c.in-Err-Limit.field-0-is) in
     refused.1
-    ∙ way_text c.args.form c.args.reader.now c.loop-event.reader (value_of c.loop-event.cluster) c.loop-event.counts c.loop-event.text.items
+    ∙ way_text c.args.form c.args.reader.now c.loop-event.reader c.loop-event.cluster c.loop-event.counts c.loop-event.text.items
     c.loop-event.invariant c.next.new.self c.next.new.event (next_event _ _ _ _ c.loop-event-test.true c.next.ensures.next)
     c.requires.lawful.few refused.0
 
 pub returns-in-Err-Limit-clause-ending : goal.returns-in-Err-Limit-clause-ending
 returns-in-Err-Limit-clause-ending c =
-    way_ending c.args.form c.args.reader.now c.loop-event.reader (value_of c.loop-event.cluster) c.loop-event.counts c.loop-event.text.items
+    way_ending c.args.form c.args.reader.now c.loop-event.reader c.loop-event.cluster c.loop-event.counts c.loop-event.text.items
     c.loop-event.invariant c.next.new.self c.next.new.event (next_event _ _ _ _ c.loop-event-test.true c.next.ensures.next)
 
 pub returns-in-Err-NoMemory-clause-ending : goal.returns-in-Err-NoMemory-clause-ending
 returns-in-Err-NoMemory-clause-ending c =
-    way_ending c.args.form c.args.reader.now c.loop-event.reader (value_of c.loop-event.cluster) c.loop-event.counts c.loop-event.text.items
+    way_ending c.args.form c.args.reader.now c.loop-event.reader c.loop-event.cluster c.loop-event.counts c.loop-event.text.items
     c.loop-event.invariant c.next.new.self c.next.new.event (next_event _ _ _ _ c.loop-event-test.true c.next.ensures.next)
 
 pub loop-event-preserved : goal.loop-event-preserved
 loop-event-preserved c =
     let all = c.args.reader.now in
-    under_way_more c.args.form all c.loop-event.reader (value_of c.loop-event.cluster) c.loop-event.counts c.loop-event.text.items
+    under_way_more c.args.form all c.loop-event.reader c.loop-event.cluster c.loop-event.counts c.loop-event.text.items
     c.loop-event.invariant c.next.new.self c.next.new.event (next_event _ _ _ _ c.loop-event-test.true c.next.ensures.next)
-    (value_of c.put_event.new.cluster) c.put_event.new.counts c.put_event.new.text.items c.in-Ok.ensures.room
+    c.put_event.new.cluster c.put_event.new.counts c.put_event.new.text.items c.in-Ok.ensures.room
     (c.in-Ok.ensures.had all.schedule.config (take c.loop-event.counts.events all.schedule.events) c.loop-event.invariant.played.stands)
 
 pub loop-event-smaller : goal.loop-event-smaller
@@ -58,12 +57,12 @@ loop-event-smaller c = fewer_events _ _ _ (next_event _ _ _ _ c.loop-event-test.
 pub returns-clause-cut : goal.returns-clause-cut
 returns-clause-cut c =
     let end = no_event _ _ _ _ c.loop-event-test.false c.next.ensures.next in
-    end_whole c.args.form c.args.reader.now c.loop-event.reader (value_of c.loop-event.cluster) c.loop-event.counts c.loop-event.text.items
+    end_whole c.args.form c.args.reader.now c.loop-event.reader c.loop-event.cluster c.loop-event.counts c.loop-event.text.items
     c.loop-event.invariant end.0
 
 pub returns-clause-text : goal.returns-clause-text
 returns-clause-text c =
     let end = no_event _ _ _ _ c.loop-event-test.false c.next.ensures.next in
     c.in_ok-put_end.ensures.ok
-    ∙ end_text c.args.form c.args.reader.now c.loop-event.reader (value_of c.loop-event.cluster) c.loop-event.counts c.loop-event.text.items
+    ∙ end_text c.args.form c.args.reader.now c.loop-event.reader c.loop-event.cluster c.loop-event.counts c.loop-event.text.items
     c.loop-event.invariant end.0

@@ -1,7 +1,6 @@
 use Rattle.std.proofs.Common.{◌≡◌, ◌+◌, ◌++◌, length, refl, ap, ◌∙◌}
 use Rattle.std.proofs.lemmas.Option.{slice_get_within}
 use Rattle.std.proofs.lemmas.Result.{on_ok_weaker}
-use Rattle.vk_cluster.specs.Clusters.{value_of}
 use Rattle.vk_cluster.proofs.Told.{station_told}
 use Rattle.vk_report.specs.declared.entry.Counts.{Counts}
 use Rattle.vk_report.specs.declared.entry.Place.{Place}
@@ -13,14 +12,14 @@ use Rattle.vk_top.proofs.replay.put_report.Goals as goal
 pub station-station-requires : goal.station-station-requires
 station-station-requires c =
     let had = c.requires.advanced.3 in
-    let now = value_of c.args.cluster.now in
+    let now = c.args.cluster.now in
     let s = station_told now c.args.advance c.in-Event.place c.in-Event.response had.report c.in-Event.is had.told in
     slice_get_within now.hosts c.in-Event.place s.0 s.1
 
 pub put_told-requires : goal.put_told-requires
 put_told-requires c =
     let r = c.requires.advanced in
-    last_advanced r.0 r.1 (value_of c.args.cluster.now) r.2 c.args.advance r.3 c.in-Event.place c.in-Event.response c.in-Event.is
+    last_advanced r.0 r.1 c.args.cluster.now r.2 c.args.advance r.3 c.in-Event.place c.in-Event.response c.in-Event.is
     c.station-station.result.now c.station-station.ensures
 
 pub returns-in-Missing : goal.returns-in-Missing
@@ -28,7 +27,7 @@ returns-in-Missing c =
     let before = c.args.counts.now in
     let after : Counts = record { events = before.events + 1; steps = before.steps; frames = before.frames } in
     on_ok_weaker c.put_missing.result
-    (λ lines s es e had. missing_told s es (value_of c.args.cluster.now) e c.args.advance c.in-Missing.host had c.in-Missing.is c.args.form
+    (λ lines s es e had. missing_told s es c.args.cluster.now e c.args.advance c.in-Missing.host had c.in-Missing.is c.args.form
     before after c.args.text.now.items _ lines refl) c.put_missing.ensures.ok
 
 pub returns-in-Event : goal.returns-in-Event
@@ -44,7 +43,7 @@ returns-in-Event c =
     } in
     let placed : own ≡ shown = λ i. record { number = before.events + 1; host = c.host.ensures i; own = c.events.ensures i } in
     on_ok_weaker c.put_told.result
-    (λ lines s es e had. told_advanced s es (value_of c.args.cluster.now) e c.args.advance had c.in-Event.place c.in-Event.response
+    (λ lines s es e had. told_advanced s es c.args.cluster.now e c.args.advance had c.in-Event.place c.in-Event.response
     c.in-Event.is c.station-station.result.now c.station-station.ensures c.args.form before _ c.args.text.now.items _
     (λ entry last. lines entry last
     ∙ (λ i. c.args.text.now.items ++ told_lines c.args.form (told_entry (placed i) entry))) (λ i. record { events = before.events + 1; steps = before.steps + steps i; frames = before.frames + frames i }))

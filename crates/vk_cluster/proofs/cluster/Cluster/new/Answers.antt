@@ -1,4 +1,4 @@
-use Rattle.std.proofs.Common.{subst}
+use Rattle.std.proofs.Common.{[], subst}
 use Rattle.vk_base.specs.declared.config.ProcessSpec.{ProcessSpec}
 use Rattle.vk_base.specs.Pids.{IsPid}
 use Rattle.vk_rules.specs.Each.{Each}
@@ -11,3 +11,6 @@ returns c =
     let pids = subst (Each (λ (s : ProcessSpec). IsPid s.pid)) c.specs.ensures.specs c.pids_are.ensures in
     begins c.args.config.now c.in_ok-copy.field-0 c.in_ok-new_hosts.field-0.items (pile_of c.in_ok-new.field-0) c.station_count.result
     c.in_ok-copy.ensures c.times-lawful.ensures.lawful pids c.in_ok-new_hosts.ensures c.station_count.ensures.count c.in_ok-new.ensures
+
+pub invariant_of-result : goal.invariant_of-result
+invariant_of-result c = (c.args.config.now, [], returns c)

@@ -1,5 +1,4 @@
 use Rattle.std.proofs.Common.{arith}
-use Rattle.vk_cluster.specs.Clusters.{value_of}
 use Rattle.vk_rules.specs.Histories.{history_of}
 use Rattle.vk_rules.proofs.OneHistory.{histories_have_all}
 use Rattle.vk_drive.specs.Tasks.{settings}
@@ -19,20 +18,20 @@ note-requires-clause-advanced c =
     let old = c.args.self.now in (
       old.events,
       c.args.event,
-      advanced old (value_of c.advance.new.cluster) c.args.event c.in_ok-told.told c.requires.course c.requires.actors c.in_ok-told.ensures.step,
+      advanced old c.advance.new.cluster c.args.event c.in_ok-told.told c.requires.course c.requires.actors c.in_ok-told.ensures.step,
     )
 
 pub returns-clause-course : goal.returns-clause-course
 returns-clause-course c =
     let old = c.args.self.now in
     let e = c.args.event in
-    let had = advanced old (value_of c.advance.new.cluster) e c.in_ok-told.told c.requires.course c.requires.actors c.in_ok-told.ensures.step in
+    let had = advanced old c.advance.new.cluster e c.in_ok-told.told c.requires.course c.requires.actors c.in_ok-told.ensures.step in
     course_next old _ e had.report c.requires.course had.reported.next c.in_ok-push.ensures.ok
     (c.note.ensures.noted old.events e had c.requires.course.noted) c.note.ensures.few
 
 pub returns-clause-told : goal.returns-clause-told
 returns-clause-told c =
     let old = c.args.self.now in
-    let now = value_of c.advance.new.cluster in
+    let now = c.advance.new.cluster in
     tells old.events now c.args.event c.in_ok-told.told
     (advanced old now c.args.event c.in_ok-told.told c.requires.course c.requires.actors c.in_ok-told.ensures.step)

@@ -8,7 +8,7 @@ use Rattle.vk_cluster.specs.Piles.{items_of}
 use Rattle.vk_cluster.specs.Clusters.{value_of}
 use Rattle.vk_cluster.proofs.Arms.{events_low, few_at, fit_at, found_here, host_is, place_low, station_step, tick_happens}
 use Rattle.vk_cluster.proofs.Logs.{get_set_same}
-use Rattle.vk_cluster.proofs.cluster.Cluster.tick.Goals as goal
+use Rattle.vk_cluster.proofs.cluster.Parts.tick.Goals as goal
 
 pub index_mut-requires : goal.index_mut-requires
 index_mut-requires c =

@@ -9,7 +9,7 @@ use Rattle.vk_cluster.specs.Piles.{items_of}
 use Rattle.vk_cluster.specs.Clusters.{value_of}
 use Rattle.vk_cluster.proofs.Arms.{delivered_happens, delivered_input, events_low, few_at, fit_at, found_here, host_is, missing_happens, missing_step, place_low, station_step}
 use Rattle.vk_cluster.proofs.Logs.{get_set_same}
-use Rattle.vk_cluster.proofs.cluster.Cluster.deliver.Goals as goal
+use Rattle.vk_cluster.proofs.cluster.Parts.deliver.Goals as goal
 
 pub handed_over-requires : goal.handed_over-requires
 handed_over-requires c = c.requires.somewhere.2.stands.kept

@@ -6,7 +6,7 @@ use Rattle.vk_cluster.specs.Clusters.{value_of}
 use Rattle.vk_cluster.specs.Piles.{IsAdded, pile_of}
 use Rattle.vk_cluster.proofs.Arms.{found_at}
 use Rattle.vk_cluster.proofs.Taking.{finished, room_for}
-use Rattle.vk_cluster.proofs.cluster.Cluster.finish.Goals as goal
+use Rattle.vk_cluster.proofs.cluster.Parts.finish.Goals as goal
 
 pub keep-requires : goal.keep-requires
 keep-requires c =
