@@ -18,8 +18,8 @@ use Rattle.vk_base.specs.Settings.{Settings, is_process, pool_of}
 use Rattle.vk_base.specs.Steps.{only_if, first_of}
 use Rattle.v_laws.proofs.Tables.{same_pid_is, same_pid_self}
 use Rattle.vk_frame.specs.declared.header.Header.{Header}
-use Rattle.vk_event.specs.declared.event.Event.{Event}
-use Rattle.vk_event.specs.declared.event.Event.TheVariants as events
+use Rattle.vk_schedule.specs.declared.event.Event.{Event}
+use Rattle.vk_schedule.specs.declared.event.Event.TheVariants as events
 use Rattle.vk_rules.specs.Aliens.{as_arrival, Alien, is_alien_of, alien_of, arrival_in, slots_after}
 use Rattle.vk_rules.specs.Entries.{Entry, Input, Called, Collected, Ticked, Delivered, taken_packet}
 use Rattle.vk_rules.specs.Frames.{Frame, Framed}

@@ -71,7 +71,7 @@ told r e = e.seen >>= answer_in r
 pub own_told : (r : Pid) (c : Call) (a : Answer) (e : Effect) → e.seen ≡ saw r c a → told r e ≡ Some a
 own_told r c a e is = ap (λ o. o >>= answer_in r) is ∙ cond-true (same_pid r r) (Some a) None (same_pid_self r)
 
-same_process : (k : Kernel) (r : Pid) (e : Effect) (p y : Process) → IsCalling k r e p y → e.after.procs r ≡ k.procs r → p ≡ y
+pub same_process : (k : Kernel) (r : Pid) (e : Effect) (p y : Process) → IsCalling k r e p y → e.after.procs r ≡ k.procs r → p ≡ y
 same_process k r e p y call same = same_Some p y (sym call.at ∙ sym same ∙ call.later)
 
 pub one_given : (given : List Answer) (a : Answer) → length (given ++ a ∷ []) ≡ length given + 1
@@ -183,13 +183,13 @@ stored_on all p from page memory same s = record {
   room = subst (λ n. PAGE_BYTES ≤ n) (sym same) s.room;
 }
 
-never_refused : (k : Kernel) (r : Pid) (p : Process) (bytes : List ℕ) (why : Refusal) → p.alive ≡ true → is_ready p.state ≡ true →
-    is_own p 0 (length bytes) ≡ true → call_refusal k r p (calls.Store 0 bytes) ≡ Some why → ⊥
+pub never_refused : (k : Kernel) (r : Pid) (p : Process) (start : ℕ) (bytes : List ℕ) (why : Refusal) → p.alive ≡ true →
+    is_ready p.state ≡ true → is_own p start (length bytes) ≡ true → call_refusal k r p (calls.Store start bytes) ≡ Some why → ⊥
 unfolding call_refusal
-never_refused k r p bytes why alive ready own bars = none-some why (sym (
+never_refused k r p start bytes why alive ready own bars = none-some why (sym (
     cond-false (not p.alive) (Some refusals.Dead) _ (ap not alive)
     ∙ cond-false (not (is_ready p.state)) (Some refusals.Busy) _ (ap not ready)
-    ∙ cond-false (not (is_own p 0 (length bytes))) (Some refusals.BadRange) None (ap not own)) ∙ bars)
+    ∙ cond-false (not (is_own p start (length bytes))) (Some refusals.BadRange) None (ap not own)) ∙ bars)
 
 store_call : (pages requests made replies : ℕ) (kept : List (List ℕ)) (given : List Answer) (all : List Request) (k : Kernel) (r : Pid)
     (e : Effect) (p y : Process) (from : Pid) (page dest : ℕ) → IsCalling k r e p y → made ≡ length given →
@@ -201,7 +201,7 @@ store_call pages requests made replies kept given all k r e p y from page dest c
     (CallOutcome.refused why bars same) =
     let bytes = map_after pages doing.serving.earlier page in
     let room = doing.serving.room in
-    absurd (never_refused k r p bytes why doing.serving.alive (ap is_ready call.ready)
+    absurd (never_refused k r p 0 bytes why doing.serving.alive (ap is_ready call.ready)
     (le-leb (0 + length bytes) (length p.memory) (omega arith)) bars)
 store_call pages requests made replies kept given all k r e p y from page dest call count is doing size (CallOutcome.allowed fit g) =
     let bytes = map_after pages doing.serving.earlier page in
@@ -229,7 +229,7 @@ store_call pages requests made replies kept given all k r e p y from page dest c
     }))
 
 -- It replies.
-replied_same : (k : Kernel) (r : Pid) (c : Call) (to : Pid) (m : Message) (dest : ℕ) (bytes : List ℕ) (e : Effect) →
+pub replied_same : (k : Kernel) (r : Pid) (c : Call) (to : Pid) (m : Message) (dest : ℕ) (bytes : List ℕ) (e : Effect) →
     kernel_replied k r c to m dest bytes ≡ Some e → (e.after.procs r ≡ k.procs r) × (e.seen ≡ saw r c answers.Ok)
 replied_same k r c to m dest bytes e g =
     let number = bind_is (held k r to) _ e g in
@@ -242,7 +242,7 @@ pub record IsReplied (k : Kernel) (r : Pid) (c : Call) (e : Effect) : Type 0 whe
   pub seen : e.seen ≡ saw r c answer
   pub same : e.after.procs r ≡ k.procs r
 
-reply_outcome : (k : Kernel) (r : Pid) (p : Process) (m : Message) (to : Pid) (e : Effect) → CallOutcome k r p (calls.Reply m to) e →
+pub reply_outcome : (k : Kernel) (r : Pid) (p : Process) (m : Message) (to : Pid) (e : Effect) → CallOutcome k r p (calls.Reply m to) e →
     IsReplied k r (calls.Reply m to) e
 reply_outcome k r p m to e (CallOutcome.refused why bars same) = record {
   answer = answers.Refused why;
@@ -253,7 +253,7 @@ reply_outcome k r p m to e (CallOutcome.allowed fit g) =
     let x = replied_same k r (calls.Reply m to) to m 0 [] e g in
     record { answer = answers.Ok; seen = x.1; same = x.0 }
 
-give_outcome : (k : Kernel) (r : Pid) (p : Process) (m : Message) (to : Pid) (dest src count : ℕ) (e : Effect) →
+pub give_outcome : (k : Kernel) (r : Pid) (p : Process) (m : Message) (to : Pid) (dest src count : ℕ) (e : Effect) →
     CallOutcome k r p (calls.ReplySegment m to dest src count) e → IsReplied k r (calls.ReplySegment m to dest src count) e
 give_outcome k r p m to dest src count e (CallOutcome.refused why bars same) = record {
   answer = answers.Refused why;
@@ -278,7 +278,7 @@ replies_on pages requests made replies kept stage given all k r c e p y call cou
     (cond_both (more == requests) stages.Exit stages.Receive (Standing pages kept all y) (λ t. tt) (λ f. keeps))
 
 -- It exits.
-exited_ready : (k : Kernel) (r : Pid) (p y : Process) → (exited k r p).procs r ≡ Some y → y.state ≡ p.state
+pub exited_ready : (k : Kernel) (r : Pid) (p y : Process) → (exited k r p).procs r ≡ Some y → y.state ≡ p.state
 unfolding exited
 exited_ready k r p y at = ap (λ (z : Process). z.state)
     (same_Some y (record p { alive = false })

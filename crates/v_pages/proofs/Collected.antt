@@ -65,7 +65,8 @@ by_touch specs ss s i k t e x p at is does there now has (Touched.finishes step 
   is = is ∙ ap (λ (z : Step). Some z) step;
   after = left_at specs ss i k t e s at is does ∙ now;
 }
-by_touch specs ss s i k t e x p at is does there now has (Touched.waits w none kept) again = absurd (both_ways (has_reply p.state) none has)
+by_touch specs ss s i k t e x p at is does there now has (Touched.waits w none kept on stays) again =
+    absurd (both_ways (has_reply p.state) none has)
 
 by_next : (specs : List ProcessSpec) (ss : List Step) (s : Pid) (i : ℕ) (l : Kernel) (p : Process) → IsNext specs ss i l →
     l.procs s ≡ Some p → has_reply p.state ≡ true →

@@ -18,8 +18,8 @@ use Rattle.vk_base.specs.declared.step.Step.TheVariants as steps
 use Rattle.vk_base.specs.Kernel.{◌>>=◌, initial_kernel}
 use Rattle.vk_base.specs.Settings.{Settings}
 use Rattle.vk_base.specs.Steps.{effect, is_allowed, next, run}
-use Rattle.vk_event.specs.declared.event.Event.{Event}
-use Rattle.vk_event.specs.declared.event.Event.TheVariants as events
+use Rattle.vk_schedule.specs.declared.event.Event.{Event}
+use Rattle.vk_schedule.specs.declared.event.Event.TheVariants as events
 use Rattle.vk_pages.specs.Servers.{server_call}
 use Rattle.vk_rules.specs.CallOutcomes.{call_outcome, collect_outcome, effect_answer, tick_outcome, steps_behind}
 use Rattle.vk_rules.specs.Each.{Each}

@@ -30,6 +30,7 @@ use Rattle.v_pages.specs.Requests.{Request, request_at, requests_before}
 use Rattle.v_pages.proofs.Asked.{read_done}
 use Rattle.v_pages.proofs.Places.{server_before}
 use Rattle.v_pages.proofs.Standing.{Doing, Standing}
+use Rattle.v_pages.proofs.Staying.{keeps_each, never_hands}
 use Rattle.v_pages.proofs.Taken.{last_taken}
 use Rattle.v_pages.proofs.Turns.{ready_when}
 
@@ -146,7 +147,8 @@ given_to pages requests specs ss r s i j number reply dest bytes follows rep tak
     let standing = (subst (Doing pages at.kept all rep.caller at.stage made (length given)) ready at.doing).1 in
     let g = gives_on pages at.kept at.stage all s reply dest bytes rep.caller rep.call standing
     (called_after at.kept pages requests at.replies at.stage given at.is ∙ next.told) rep.gives in
-    let l = last_taken pages requests specs ss r s i j number k.0 g.earlier g.request follows takes is less k.1 holds g.last g.sender in
+    let never = never_hands ss r (keeps_each pages requests specs ss r follows) in
+    let l = last_taken specs ss r s i j number k.0 g.earlier g.request never takes is less k.1 holds g.last g.sender in
     record {
       request = g.request;
       takes = l.is;

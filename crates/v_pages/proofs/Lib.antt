@@ -1,19 +1,20 @@
-mod Asked
-mod Calling
-mod Collected
-mod Events
+pub mod Asked
+pub mod Calling
+pub mod Collected
+pub mod Ended
+pub mod Events
 mod Examples
-mod Given
-mod Lists
-mod Own
-mod Places
-mod Replied
-mod Seen
-mod Senders
-mod Sent
-mod Standing
-mod Staying
-mod Taken
-mod Touched
-mod Turns
-mod Waiting
+pub mod Given
+pub mod Lists
+pub mod Own
+pub mod Places
+pub mod Replied
+pub mod Seen
+pub mod Senders
+pub mod Sent
+pub mod Standing
+pub mod Staying
+pub mod Taken
+pub mod Touched
+pub mod Turns
+pub mod Waiting

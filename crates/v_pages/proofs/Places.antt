@@ -10,7 +10,7 @@ use Rattle.vk_base.specs.declared.kernel.State.TheVariants as states
 use Rattle.vk_base.specs.declared.pid.Pid.{Pid}
 use Rattle.vk_base.specs.declared.step.Step.{Step}
 use Rattle.vk_base.specs.Calls.{Effect}
-use Rattle.vk_base.specs.Kernel.{◌>>=◌, Kernel}
+use Rattle.vk_base.specs.Kernel.{◌>>=◌, Kernel, initial_kernel}
 use Rattle.vk_base.specs.Ranges.{range_of, bytes_in}
 use Rattle.vk_base.specs.Settings.{is_process}
 use Rattle.vk_base.specs.Steps.{Taking, effect}
@@ -29,7 +29,7 @@ use Rattle.v_pages.proofs.Calling.{told}
 use Rattle.v_pages.proofs.Collected.{left_at, was_there}
 use Rattle.v_pages.proofs.Lists.{up_to_none}
 use Rattle.v_pages.proofs.Standing.{Doing, ServerAt, Standing, keeps_zero}
-use Rattle.v_pages.proofs.Turns.{ServerNext, request_by, server_next}
+use Rattle.v_pages.proofs.Turns.{MayCall, request_by, server_next}
 
 -- What a place gives is what its step gives.
 pub answer_here : (specs : List ProcessSpec) (ss : List Step) (r : Pid) (i : ℕ) (k : Kernel) (s : Step) (e : Effect) →
@@ -52,38 +52,54 @@ request_here specs ss r i k s e at is does =
     Some (record { name = t.name; message = t.exchange.shown; bytes = bytes_in (range_of 0 PAGE_BYTES) p.memory }))
     (left_at specs ss i k s e r at is does)
 
--- One step more.
-abbrev pub ServerBefore : ℕ → ℕ → List ProcessSpec → List Step → Pid → ℕ → Process → Type 0
-ServerBefore pages requests specs ss r i p =
-    ServerAt pages requests (length (calls_before ss r i)) (answers_before specs ss r i) (requests_before specs ss r i) p
+-- How a process stands before a place, by how many calls it made before, the answers that it got, and the requests that it took.
+abbrev pub Stands : (ℕ → List Answer → List Request → Kernel → Process → Type 0) → List ProcessSpec → List Step → Pid → ℕ → Kernel →
+    Process → Type 0
+Stands P specs ss r i k p = P (length (calls_before ss r i)) (answers_before specs ss r i) (requests_before specs ss r i) k p
 
-joined : (pages requests : ℕ) (specs : List ProcessSpec) (ss : List Step) (r : Pid) (i : ℕ) (c : Option Call) (a : Option Answer)
-    (q : Option Request) (y : Process) → call_at ss r i ≡ c → answer_at specs ss r i ≡ a → request_at specs ss r i ≡ q →
-    ServerNext pages requests (length (calls_before ss r i)) (answers_before specs ss r i) (requests_before specs ss r i) c a q y →
-    ServerBefore pages requests specs ss r (suc i) y
+-- and after a step by which it makes this call, gets this answer, and takes this request
+abbrev pub StandsNext : (ℕ → List Answer → List Request → Kernel → Process → Type 0) → ℕ → List Answer → List Request → Option Call →
+    Option Answer → Option Request → Kernel → Process → Type 0
+StandsNext P made given all c a q k y =
+    P (made + length (option_to_list c)) (given ++ option_to_list a) (all ++ option_to_list q) k y
+
+-- each step keeps it, where a call is the next one of the process's task
+abbrev pub KeepsStanding : (ℕ → List Answer → List Request → Kernel → Process → Type 0) → (List Answer → Option Call) →
+    List ProcessSpec → List Step → Pid → Type 0
+KeepsStanding P task specs ss r = (i made : ℕ) (given : List Answer) (all : List Request) (k : Kernel) (s : Step) (e : Effect)
+    (p y : Process) → before specs ss i ≡ Some k → slice_get ss i ≡ Some s → effect k s ≡ Some e → k.procs r ≡ Some p →
+    e.after.procs r ≡ Some y → P made given all k p → MayCall task made given (call_by r s) →
+    StandsNext P made given all (call_by r s) (told r e) (request_by r k s e) e.after y
+
+-- One step more.
+joined : (P : ℕ → List Answer → List Request → Kernel → Process → Type 0) (specs : List ProcessSpec) (ss : List Step) (r : Pid) (i : ℕ)
+    (c : Option Call) (a : Option Answer) (q : Option Request) (k : Kernel) (y : Process) → call_at ss r i ≡ c →
+    answer_at specs ss r i ≡ a → request_at specs ss r i ≡ q →
+    StandsNext P (length (calls_before ss r i)) (answers_before specs ss r i) (requests_before specs ss r i) c a q k y →
+    Stands P specs ss r (suc i) k y
 unfolding up_to
-joined pages requests specs ss r i c a q y is_c is_a is_q next =
-    subst (λ n. ServerAt pages requests n (answers_before specs ss r (suc i)) (requests_before specs ss r (suc i)) y)
+joined P specs ss r i c a q k y is_c is_a is_q next =
+    subst (λ n. P n (answers_before specs ss r (suc i)) (requests_before specs ss r (suc i)) k y)
     (sym (length-append (calls_before ss r i) (option_to_list (call_at ss r i))))
-    (subst (λ z. ServerAt pages requests (length (calls_before ss r i) + length (option_to_list z)) (answers_before specs ss r (suc i))
-    (requests_before specs ss r (suc i)) y) (sym is_c)
-    (subst (λ z. ServerAt pages requests (length (calls_before ss r i) + length (option_to_list c))
-    (answers_before specs ss r i ++ option_to_list z) (requests_before specs ss r (suc i)) y) (sym is_a)
-    (subst (λ z. ServerAt pages requests (length (calls_before ss r i) + length (option_to_list c))
-    (answers_before specs ss r i ++ option_to_list a) (requests_before specs ss r i ++ option_to_list z) y) (sym is_q) next)))
+    (subst (λ z. P (length (calls_before ss r i) + length (option_to_list z)) (answers_before specs ss r (suc i))
+    (requests_before specs ss r (suc i)) k y) (sym is_c)
+    (subst (λ z. P (length (calls_before ss r i) + length (option_to_list c))
+    (answers_before specs ss r i ++ option_to_list z) (requests_before specs ss r (suc i)) k y) (sym is_a)
+    (subst (λ z. P (length (calls_before ss r i) + length (option_to_list c))
+    (answers_before specs ss r i ++ option_to_list a) (requests_before specs ss r i ++ option_to_list z) k y) (sym is_q) next)))
 
 -- nothing stands there
-none_there : (pages requests : ℕ) (specs : List ProcessSpec) (ss : List Step) (r : Pid) (i : ℕ) (k : Kernel) (p : Process) →
-    before specs ss i ≡ Some k → slice_get ss i ≡ None → ServerBefore pages requests specs ss r i p →
-    ServerBefore pages requests specs ss r (suc i) p
-none_there pages requests specs ss r i k p at none is =
-    subst (λ cs. ServerAt pages requests (length cs) (answers_before specs ss r (suc i)) (requests_before specs ss r (suc i)) p)
+none_there : (P : ℕ → List Answer → List Request → Kernel → Process → Type 0) (specs : List ProcessSpec) (ss : List Step) (r : Pid) (i : ℕ)
+    (k : Kernel) (p : Process) → before specs ss i ≡ Some k → slice_get ss i ≡ None → Stands P specs ss r i k p →
+    Stands P specs ss r (suc i) k p
+none_there P specs ss r i k p at none is =
+    subst (λ cs. P (length cs) (answers_before specs ss r (suc i)) (requests_before specs ss r (suc i)) k p)
     (sym (up_to_none (call_at ss r) i (ap (λ o. o >>= call_by r) none)))
-    (subst (λ gs. ServerAt pages requests (length (calls_before ss r i)) gs (requests_before specs ss r (suc i)) p)
+    (subst (λ gs. P (length (calls_before ss r i)) gs (requests_before specs ss r (suc i)) k p)
     (sym (up_to_none (answer_at specs ss r) i
     (ap (λ o. ((o >>= λ k. slice_get ss i >>= λ s. effect k s) >>= λ (e : Effect). e.seen) >>= answer_in r) at
     ∙ ap (λ o. ((o >>= λ s. effect k s) >>= λ (e : Effect). e.seen) >>= answer_in r) none)))
-    (subst (λ qs. ServerAt pages requests (length (calls_before ss r i)) (answers_before specs ss r i) qs p)
+    (subst (λ qs. P (length (calls_before ss r i)) (answers_before specs ss r i) qs k p)
     (sym (up_to_none (request_at specs ss r) i (no_request at))) is))
   where
     no_request : before specs ss i ≡ Some k → request_at specs ss r i ≡ None
@@ -93,23 +109,55 @@ none_there pages requests specs ss r i k p at none is =
         ∙ ap (λ o. o >>= λ s. taking_by r k s >>= λ t. process_after specs ss i r >>= λ p.
         Some (record { name = t.name; message = t.exchange.shown; bytes = bytes_in (range_of 0 PAGE_BYTES) p.memory })) none
 
-step_there : (pages requests : ℕ) (specs : List ProcessSpec) (ss : List Step) (r : Pid) (i : ℕ) (k : Kernel) (s : Step) (e : Effect)
-    (p y : Process) → Follows (server_call pages requests) specs ss r → before specs ss i ≡ Some k → slice_get ss i ≡ Some s →
-    effect k s ≡ Some e → k.procs r ≡ Some p → e.after.procs r ≡ Some y → ServerBefore pages requests specs ss r i p →
-    ServerBefore pages requests specs ss r (suc i) y
-step_there pages requests specs ss r i k s e p y follows at is does there later so_far =
+step_there : (P : ℕ → List Answer → List Request → Kernel → Process → Type 0) (task : List Answer → Option Call)
+    (specs : List ProcessSpec) (ss : List Step) (r : Pid) (i : ℕ) (k : Kernel) (s : Step) (e : Effect) (p y : Process) →
+    Follows task specs ss r → KeepsStanding P task specs ss r → before specs ss i ≡ Some k → slice_get ss i ≡ Some s →
+    effect k s ≡ Some e → k.procs r ≡ Some p → e.after.procs r ≡ Some y → Stands P specs ss r i k p → Stands P specs ss r (suc i) e.after y
+step_there P task specs ss r i k s e p y follows keeps at is does there later so_far =
     let call = ap (λ o. o >>= call_by r) is in
-    joined pages requests specs ss r i (call_by r s) (told r e) (request_by r k s e) y call (answer_here specs ss r i k s e at is does)
+    joined P specs ss r i (call_by r s) (told r e) (request_by r k s e) e.after y call (answer_here specs ss r i k s e at is does)
     (request_here specs ss r i k s e at is does)
-    (server_next pages requests (length (calls_before ss r i)) (answers_before specs ss r i) (requests_before specs ss r i) k r s e p y
-    (before_sound specs ss i k at) so_far there later does
-    (λ c makes. let n = follows i c (call ∙ makes) in (n.answered, n.told)))
+    (keeps i (length (calls_before ss r i)) (answers_before specs ss r i) (requests_before specs ss r i) k s e p y at is does there later
+    so_far (λ c makes. let n = follows i c (call ∙ makes) in (n.answered, n.told)))
 
--- At first.
-server_first : (pages requests : ℕ) (specs : List ProcessSpec) (ss : List Step) (r : Pid) (p : Process) → p.state ≡ states.Ready →
-    ServerBefore pages requests specs ss r 0 p
+by_next : (P : ℕ → List Answer → List Request → Kernel → Process → Type 0) (task : List Answer → Option Call) (specs : List ProcessSpec)
+    (ss : List Step) (r : Pid) (i : ℕ) (l : Kernel) (y : Process) → Follows task specs ss r → KeepsStanding P task specs ss r →
+    IsNext specs ss i l → l.procs r ≡ Some y →
+    ((k : Kernel) (p : Process) → before specs ss i ≡ Some k → k.procs r ≡ Some p → Stands P specs ss r i k p) →
+    Stands P specs ss r (suc i) l y
+by_next P task specs ss r i l y follows keeps n there so_far = elim n.how [
+  | inl h ↦
+      let later : h.1.after.procs r ≡ Some y = ap (λ (z : Kernel). z.procs r) h.4 ∙ there in
+      let x = was_there n.kernel h.0 h.1 r y (before_sound specs ss i n.kernel n.at) h.3 later in
+      subst (λ z. Stands P specs ss r (suc i) z y) h.4
+      (step_there P task specs ss r i n.kernel h.0 h.1 x.0 y follows keeps n.at h.2 h.3 x.1 later (so_far n.kernel x.0 n.at x.1))
+  | inr h ↦
+      let was = ap (λ (z : Kernel). z.procs r) h.1 ∙ there in
+      subst (λ z. Stands P specs ss r (suc i) z y) h.1
+      (none_there P specs ss r i n.kernel y n.at h.0 (so_far n.kernel y n.at was))
+]
+
+-- how it stands at first, and over each step, it stands at each place
+pub stands_before : (P : ℕ → List Answer → List Request → Kernel → Process → Type 0) (task : List Answer → Option Call)
+    (specs : List ProcessSpec) (ss : List Step) (r : Pid) → Follows task specs ss r →
+    ((p : Process) → p.state ≡ states.Ready → P 0 [] [] (initial_kernel specs) p) → KeepsStanding P task specs ss r → (i : ℕ) (k : Kernel)
+    (p : Process) → before specs ss i ≡ Some k → k.procs r ≡ Some p → Stands P specs ss r i k p
 unfolding up_to
-server_first pages requests specs ss r p ready = record {
+stands_before P task specs ss r follows first keeps zero k p at there =
+    let same = before_first specs ss k at in
+    subst (λ z. P 0 [] [] z p) same
+    (first p (initial_ready (find (is_process r) specs) p (ap (λ (z : Kernel). z.procs r) same ∙ there)))
+stands_before P task specs ss r follows first keeps (suc i) k p at there =
+    by_next P task specs ss r i k p follows keeps (before_next specs ss i k at) there
+    (λ m q at_m there_m. stands_before P task specs ss r follows first keeps i m q at_m there_m)
+
+-- A page server.
+abbrev pub ServerBefore : ℕ → ℕ → List ProcessSpec → List Step → Pid → ℕ → Process → Type 0
+ServerBefore pages requests specs ss r i p =
+    ServerAt pages requests (length (calls_before ss r i)) (answers_before specs ss r i) (requests_before specs ss r i) p
+
+server_first : (pages requests : ℕ) (p : Process) → p.state ≡ states.Ready → ServerAt pages requests 0 [] [] p
+server_first pages requests p ready = record {
   kept = zero_pages pages;
   replies = 0;
   stage = between requests 0;
@@ -120,24 +168,11 @@ server_first pages requests specs ss r p ready = record {
   );
 }
 
-by_next : (pages requests : ℕ) (specs : List ProcessSpec) (ss : List Step) (r : Pid) (i : ℕ) (l : Kernel) (y : Process) →
-    Follows (server_call pages requests) specs ss r → IsNext specs ss i l → l.procs r ≡ Some y →
-    ((k : Kernel) (p : Process) → before specs ss i ≡ Some k → k.procs r ≡ Some p → ServerBefore pages requests specs ss r i p) →
-    ServerBefore pages requests specs ss r (suc i) y
-by_next pages requests specs ss r i l y follows n there so_far = elim n.how [
-  | inl h ↦
-      let later : h.1.after.procs r ≡ Some y = ap (λ (z : Kernel). z.procs r) h.4 ∙ there in
-      let x = was_there n.kernel h.0 h.1 r y (before_sound specs ss i n.kernel n.at) h.3 later in
-      step_there pages requests specs ss r i n.kernel h.0 h.1 x.0 y follows n.at h.2 h.3 x.1 later (so_far n.kernel x.0 n.at x.1)
-  | inr h ↦ none_there pages requests specs ss r i n.kernel y n.at h.0
-      (so_far n.kernel y n.at (ap (λ (z : Kernel). z.procs r) h.1 ∙ there))
-]
-
 pub server_before : (pages requests : ℕ) (specs : List ProcessSpec) (ss : List Step) (r : Pid) →
     Follows (server_call pages requests) specs ss r → (i : ℕ) (k : Kernel) (p : Process) → before specs ss i ≡ Some k →
     k.procs r ≡ Some p → ServerBefore pages requests specs ss r i p
-server_before pages requests specs ss r follows zero k p at there = server_first pages requests specs ss r p
-    (initial_ready (find (is_process r) specs) p (ap (λ (z : Kernel). z.procs r) (before_first specs ss k at) ∙ there))
-server_before pages requests specs ss r follows (suc i) k p at there =
-    by_next pages requests specs ss r i k p follows (before_next specs ss i k at) there
-    (λ m q at_m there_m. server_before pages requests specs ss r follows i m q at_m there_m)
+server_before pages requests specs ss r follows =
+    stands_before (λ made given all k p. ServerAt pages requests made given all p) (server_call pages requests) specs ss r follows
+    (λ p ready. server_first pages requests p ready)
+    (λ i made given all k s e p y at is does there later so_far may.
+    server_next pages requests made given all k r s e p y (before_sound specs ss i k at) so_far there later does may)

@@ -69,11 +69,11 @@ accepted_has k pid p (calls.ReplySegment n to at src count) s number m dest byte
 accepted_has k pid p c s number m dest bytes e holds gives g = absurd (none-some (s, m, dest, bytes) gives)
 
 -- A call that is answered ok was not refused.
-abbrev is_refused : Answer → Bool
+abbrev pub is_refused : Answer → Bool
 is_refused (answers.Refused why) = true
 is_refused a = false
 
-abbrev shows_refusal : Option Observation → Bool
+abbrev pub shows_refusal : Option Observation → Bool
 shows_refusal None = false
 shows_refusal (Some o) = is_refused o.answer
 
@@ -84,16 +84,16 @@ called_has k pid p c s number m dest bytes None e holds gives g seen = accepted_
 called_has k pid p c s number m dest bytes (Some why) e holds gives g seen =
     absurd (both_ways true (ap (λ (z : Effect). shows_refusal z.seen) (same_Some _ e g) ∙ ap shows_refusal seen) refl)
 
-record IsKeptReply (specs : List ProcessSpec) (ss : List Step) (j : ℕ) (n : Name) (reply : Message) (dest : ℕ) (bytes : List ℕ) :
+pub record IsKeptReply (specs : List ProcessSpec) (ss : List Step) (j : ℕ) (n : Name) (reply : Message) (dest : ℕ) (bytes : List ℕ) :
     Type 0 where
-  after : Kernel
-  at : before specs ss (suc j) ≡ Some after
-  exchange : Exchange
-  is : after.exchanges n ≡ Some exchange
-  stage : exchange.stage ≡ stages.Replied reply dest bytes
+  pub after : Kernel
+  pub at : before specs ss (suc j) ≡ Some after
+  pub exchange : Exchange
+  pub is : after.exchanges n ≡ Some exchange
+  pub stage : exchange.stage ≡ stages.Replied reply dest bytes
 
-kept_reply : (specs : List ProcessSpec) (ss : List Step) (j : ℕ) (s r : Pid) (number : ℕ) (reply : Message) (dest : ℕ) (bytes : List ℕ) →
-    IsReplyAt specs ss j s r number reply dest bytes → IsKeptReply specs ss j (name_of s number) reply dest bytes
+pub kept_reply : (specs : List ProcessSpec) (ss : List Step) (j : ℕ) (s r : Pid) (number : ℕ) (reply : Message) (dest : ℕ)
+    (bytes : List ℕ) → IsReplyAt specs ss j s r number reply dest bytes → IsKeptReply specs ss j (name_of s number) reply dest bytes
 kept_reply specs ss j s r number reply dest bytes rep =
     let k = bind_is (before specs ss j) _ rep.caller rep.then in
     let seen : Observation = record { pid = r; call = rep.call; answer = answers.Ok } in

@@ -74,7 +74,7 @@ mapped_option : {A B : Type 0} (f : A → Option B) (o : Option A) → filter_ma
 mapped_option f None = refl
 mapped_option f (Some x) = one_mapped f x [] ∙ append-nil (option_to_list (f x))
 
-answer_none : (specs : List ProcessSpec) (ss : List Step) (r : Pid) (i : ℕ) → slice_get ss i ≡ None → answer_at specs ss r i ≡ None
+pub answer_none : (specs : List ProcessSpec) (ss : List Step) (r : Pid) (i : ℕ) → slice_get ss i ≡ None → answer_at specs ss r i ≡ None
 answer_none specs ss r i none = by_kernel (before specs ss i)
   where
     by_kernel : (o : Option Kernel) → (((o >>= λ k. slice_get ss i >>= λ s. effect k s) >>= λ (e : Effect). e.seen) >>= answer_in r) ≡ None

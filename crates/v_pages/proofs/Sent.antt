@@ -40,22 +40,23 @@ use Rattle.v_pages.specs.Written.{IsSentBefore}
 use Rattle.v_pages.proofs.Collected.{left_at}
 use Rattle.v_pages.proofs.Lists.{read_back}
 use Rattle.v_pages.proofs.Places.{server_before}
-use Rattle.v_pages.proofs.Staying.{as_sent}
+use Rattle.v_pages.proofs.Staying.{as_sent, keeps_each, never_hands}
 use Rattle.v_pages.proofs.Taken.{request_is}
 use Rattle.v_pages.proofs.Turns.{after_take, waiting_when}
 
 -- An exchange was made by a Send.
-record IsMade (specs : List ProcessSpec) (ss : List Step) (i : ℕ) (n : Name) (e : Exchange) : Type 0 where
-  place : ℕ
-  earlier : place < i
-  caller : Process
-  at : process_at specs ss place n.sender ≡ Some caller
-  is : slice_get ss place ≡ Some (steps.Call n.sender (calls.Send e.target e.message))
-  number : n.number ≡ caller.sends + 1
-  room : lies_in (segment_of e.message) (length caller.memory) ≡ true
-  part : e.part ≡ first_part e.message caller.memory
+pub record IsMade (specs : List ProcessSpec) (ss : List Step) (i : ℕ) (n : Name) (e : Exchange) : Type 0 where
+  pub place : ℕ
+  pub earlier : place < i
+  pub caller : Process
+  pub at : process_at specs ss place n.sender ≡ Some caller
+  pub is : slice_get ss place ≡ Some (steps.Call n.sender (calls.Send e.target e.message))
+  pub number : n.number ≡ caller.sends + 1
+  pub alive : caller.alive ≡ true
+  pub room : lies_in (segment_of e.message) (length caller.memory) ≡ true
+  pub part : e.part ≡ first_part e.message caller.memory
 
-abbrev is_there : Name → Kernel → Bool
+abbrev pub is_there : Name → Kernel → Bool
 is_there n k = is_some (k.exchanges n)
 
 made_new : (specs : List ProcessSpec) (ss : List Step) (i : ℕ) (n : Name) (t : IsTurn specs ss (is_there n) i) (y e : Exchange) →
@@ -72,12 +73,13 @@ made_new specs ss i n t y e new later =
       at = ap (λ (o : Option Kernel). o >>= λ k. k.procs n.sender) t.at ∙ new.at;
       is = t.is ∙ ap (λ (z : Step). Some z) new.send ∙ (λ j. Some (steps.Call n.sender (calls.Send (sym target j) (sym message j))));
       number = new.number;
+      alive = new.fit.alive;
       room = ap (λ m. lies_in (segment_of m) (length new.process.memory)) message
           ∙ not-false (lies_in (segment_of new.message) (length new.process.memory)) fits.0;
       part = later.part ∙ ap (λ (x : Exchange). x.part) new.is ∙ ap (λ m. first_part m new.process.memory) (sym message);
     }
 
-made_by : (specs : List ProcessSpec) (ss : List Step) (i : ℕ) (n : Name) (k : Kernel) (e : Exchange) → before specs ss i ≡ Some k →
+pub made_by : (specs : List ProcessSpec) (ss : List Step) (i : ℕ) (n : Name) (k : Kernel) (e : Exchange) → before specs ss i ≡ Some k →
     k.exchanges n ≡ Some e → IsTurn specs ss (is_there n) i → IsMade specs ss i n e
 made_by specs ss i n k e at there t =
     let earlier = t.earlier in
@@ -89,6 +91,10 @@ made_by specs ss i n k e at there t =
       | inl x ↦ absurd (both_ways (is_there n t.kernel) t.was (ap is_some x.1))
       | inr new ↦ made_new specs ss i n t y.0 e new (subst (IsLater y.0) (same_Some on.0 e (sym on.1 ∙ there)) on.2)
     ]
+
+pub made_at : (specs : List ProcessSpec) (ss : List Step) (i : ℕ) (n : Name) (k : Kernel) (e : Exchange) → before specs ss i ≡ Some k →
+    k.exchanges n ≡ Some e → IsMade specs ss i n e
+made_at specs ss i n k e at there = made_by specs ss i n k e at there (turn specs ss (is_there n) refl i k at (ap is_some there))
 
 -- The part of a Send that lets be read as many bytes as a page has is all of its segment.
 whole_part : (m : Message) (memory : List ℕ) → grants_read m ≡ true → (segment_of m).len ≡ PAGE_BYTES →
@@ -124,8 +130,7 @@ writes_sent specs ss r pages requests i q follows takes lawful =
     let t = a.take in
     let is = taking_is a.kernel r t a.takes in
     let there : a.kernel.exchanges q.name ≡ Some t.exchange = ap a.kernel.exchanges a.name ∙ is.exchange in
-    let m = made_by specs ss i q.name a.kernel t.exchange a.at there
-    (turn specs ss (is_there q.name) refl i a.kernel a.at (ap is_some there)) in
+    let m = made_at specs ss i q.name a.kernel t.exchange a.at there in
     let sound = before_sound specs ss i a.kernel a.at in
     let here = same_pid_is t.exchange.at r (taken_was_queued a.kernel r t a.takes).0 in
     let server = server_before pages requests specs ss r follows i a.kernel t.process a.at is.process in
@@ -144,7 +149,9 @@ writes_sent specs ss r pages requests i q follows takes lawful =
       caller = m.caller;
       at = m.at;
       number = m.number;
-      own = λ to. sym (as_sent pages requests specs ss r follows i a.kernel a.at q.name t.exchange there to).shown ∙ sym a.message;
+      own = λ to.
+          let never = never_hands ss r (keeps_each pages requests specs ss r follows) in
+          sym (as_sent specs ss r never i a.kernel a.at q.name t.exchange there to).shown ∙ sym a.message;
       bytes = λ reads size.
           let part : t.exchange.part ≡ bytes_in (segment_of t.exchange.message) m.caller.memory =
           m.part ∙ whole_part t.exchange.message m.caller.memory reads size in

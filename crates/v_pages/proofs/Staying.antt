@@ -1,7 +1,8 @@
--- What came to a page server stays with it: it calls for no move, and hands nothing on.
+-- What came to a process that hands nothing on stays with it; and a page server hands nothing on, nor calls for a move.
 use Rattle.std.proofs.Common.{◌≡◌, ℕ, zero, suc, ◌≤◌, Bool, true, false, List, slice_get, Option, Some, None, option_map, refl, sym, ap, subst, ◌∙◌, inl, inr, arith, le_of_eq}
 use Rattle.std.proofs.lemmas.Bool.{both_ways, cond-true}
 use Rattle.std.proofs.lemmas.Option.{same_Some, none-some}
+use Rattle.vk_base.specs.declared.answer.Answer.{Answer}
 use Rattle.vk_base.specs.declared.call.Call.{Call}
 use Rattle.vk_base.specs.declared.call.Call.TheVariants as calls
 use Rattle.vk_base.specs.declared.config.ProcessSpec.{ProcessSpec}
@@ -9,6 +10,7 @@ use Rattle.vk_base.specs.declared.kernel.Exchange.{Exchange}
 use Rattle.vk_base.specs.declared.kernel.Name.{Name}
 use Rattle.vk_base.specs.declared.kernel.Stage.{Stage}
 use Rattle.vk_base.specs.declared.kernel.Stage.TheVariants as kinds
+use Rattle.vk_base.specs.declared.message.Message.{Message}
 use Rattle.vk_base.specs.declared.pid.Pid.{Pid}
 use Rattle.vk_base.specs.declared.step.Step.{Step}
 use Rattle.vk_base.specs.declared.step.Step.TheVariants as steps
@@ -50,13 +52,36 @@ never_gives kept stages.Ended c e = absurd (none-some c e)
 abbrev pub KeepsAll : Pid → Step → Type 0
 KeepsAll r s = (c : Call) → s ≡ steps.Call r c → gives_away c ≡ false
 
-pub keeps_all : (pages requests : ℕ) (specs : List ProcessSpec) (ss : List Step) (r : Pid) (i : ℕ) (s : Step) →
-    Follows (server_call pages requests) specs ss r → slice_get ss i ≡ Some s → KeepsAll r s
-keeps_all pages requests specs ss r i s follows is c same =
+-- none of these steps is
+abbrev pub KeepsEach : List Step → Pid → Type 0
+KeepsEach ss r = (i : ℕ) (s : Step) → slice_get ss i ≡ Some s → KeepsAll r s
+
+-- as where none of the calls of the task of r is one
+pub task_keeps : (task : List Answer → Option Call) (specs : List ProcessSpec) (ss : List Step) (r : Pid) →
+    ((given : List Answer) (c : Call) → task given ≡ Some c → gives_away c ≡ false) → Follows task specs ss r → KeepsEach ss r
+task_keeps task specs ss r keeps follows i s is c same =
     let call : call_at ss r i ≡ Some c = ap (λ o. o >>= call_by r) is ∙ ap (call_by r) same
     ∙ cond-true (same_pid r r) (Some c) None (same_pid_self r) in
-    let server = answered_all requests (new_server pages requests) (answers_before specs ss r i) in
-    never_gives server.pages server.stage c (follows i c call).told
+    keeps (answers_before specs ss r i) c (follows i c call).told
+
+pub keeps_each : (pages requests : ℕ) (specs : List ProcessSpec) (ss : List Step) (r : Pid) →
+    Follows (server_call pages requests) specs ss r → KeepsEach ss r
+keeps_each pages requests specs ss r = task_keeps (server_call pages requests) specs ss r
+    (λ given c told.
+    let server = answered_all requests (new_server pages requests) given in
+    never_gives server.pages server.stage c told)
+
+-- no step hands on a message that r has; r may call for moves
+abbrev pub HandsNone : Pid → Step → Type 0
+HandsNone r s = (m : Message) (from to : Pid) → s ≡ steps.Call r (calls.Forward m from to) → ⊥
+
+-- none of these steps does
+abbrev pub NeverHands : List Step → Pid → Type 0
+NeverHands ss r = (i : ℕ) (s : Step) → slice_get ss i ≡ Some s → HandsNone r s
+
+-- so it is where they are no calls for moves either
+pub never_hands : (ss : List Step) (r : Pid) → KeepsEach ss r → NeverHands ss r
+never_hands ss r keeps i s is m from to step = both_ways true (keeps i s is (calls.Forward m from to) step) refl
 
 -- What holds at first, and over each step, holds at each place.
 next_place : (specs : List ProcessSpec) (ss : List Step) (Q : Kernel → Type 0) →
@@ -88,7 +113,7 @@ as_before : (r : Pid) (x y : Exchange) → y.target ≡ x.target → y.message �
 as_before r x y target message at shown first is =
     let was = first (sym target ∙ is) in record { at = at ∙ was.at; shown = shown ∙ was.shown ∙ sym message }
 
-as_sent_on : (k : Kernel) (s : Step) (n : Name) (x y : Exchange) (r : Pid) → KeepsAll r s → Becomes k s n x y →
+as_sent_on : (k : Kernel) (s : Step) (n : Name) (x y : Exchange) (r : Pid) → HandsNone r s → Becomes k s n x y →
     (x.target ≡ r → IsAsSent r x) → y.target ≡ r → IsAsSent r y
 as_sent_on k s n x y r keeps (Becomes.goes on) first is = as_before r x y on.target on.message on.at on.shown first is
 as_sent_on k s n x y r keeps (Becomes.arrives step away after) first is =
@@ -98,11 +123,10 @@ as_sent_on k s n x y r keeps (Becomes.overtaken number step less live after) fir
     subst (λ (z : Exchange). z.target ≡ r → IsAsSent r z) (sym after)
     (as_before r x (record x { stage = kinds.Dropped }) refl refl refl refl first) is
 as_sent_on k s n x y r keeps (Becomes.forwards p m to step at fit f after) first is =
-    let c : Call = calls.Forward m n.sender to in
     let was = first (sym (ap (λ (z : Exchange). z.target) after) ∙ is) in
-    absurd (both_ways true (keeps c (step ∙ ap (λ q. steps.Call q c) was.at)) refl)
+    absurd (keeps m n.sender to (step ∙ ap (λ q. steps.Call q (calls.Forward m n.sender to)) was.at))
 
-as_sent_step : (k : Kernel) (s : Step) (e : Effect) (r : Pid) → IsSound k → effect k s ≡ Some e → KeepsAll r s → AllAsSent k r →
+as_sent_step : (k : Kernel) (s : Step) (e : Effect) (r : Pid) → IsSound k → effect k s ≡ Some e → HandsNone r s → AllAsSent k r →
     AllAsSent e.after r
 as_sent_step k s e r sound does keeps first n y at target =
     elim (exchange_before s k e.after n y sound (step_is k s e sound does) at) [
@@ -113,10 +137,10 @@ as_sent_step k s e r sound does keeps first n y at target =
       }
     ]
 
-pub as_sent : (pages requests : ℕ) (specs : List ProcessSpec) (ss : List Step) (r : Pid) → Follows (server_call pages requests) specs ss r →
-    (i : ℕ) (k : Kernel) → before specs ss i ≡ Some k → AllAsSent k r
-as_sent pages requests specs ss r follows = everywhere specs ss (λ k. AllAsSent k r) (λ n e is target. absurd (none-some e is))
-    (λ i k s e is at sound does first. as_sent_step k s e r sound does (keeps_all pages requests specs ss r i s follows is) first)
+pub as_sent : (specs : List ProcessSpec) (ss : List Step) (r : Pid) → NeverHands ss r → (i : ℕ) (k : Kernel) → before specs ss i ≡ Some k →
+    AllAsSent k r
+as_sent specs ss r never = everywhere specs ss (λ k. AllAsSent k r) (λ n e is target. absurd (none-some e is))
+    (λ i k s e is at sound does first. as_sent_step k s e r sound does (never i s is) first)
 
 -- What is at r at a place stays there, and is queued, taken and settled in this order.
 abbrev pub reach : Stage → ℕ
@@ -171,7 +195,8 @@ stage_reach k s n x y (StageOn.dropped is t e) =
     let later : reach y.stage ≡ 3 = ap reach e in
     omega arith
 
-with_on : (k : Kernel) (s : Step) (n : Name) (x y z : Exchange) (r : Pid) → KeepsAll r s → IsWith r x y → Becomes k s n y z → IsWith r x z
+pub with_on : (k : Kernel) (s : Step) (n : Name) (x y z : Exchange) (r : Pid) → HandsNone r s → IsWith r x y → Becomes k s n y z →
+    IsWith r x z
 with_on k s n x y z r keeps w (Becomes.goes on) =
     let so_far = w.far in
     let next = stage_reach k s n y z on.stage in
@@ -183,17 +208,15 @@ with_on k s n x y z r keeps w (Becomes.arrives step away after) =
 with_on k s n x y z r keeps w (Becomes.overtaken number step less live after) =
     subst (IsWith r x) (sym after) (record { at = w.at; shown = w.shown; far = reach_most x.stage })
 with_on k s n x y z r keeps w (Becomes.forwards p m to step at fit f after) =
-    let c : Call = calls.Forward m n.sender to in
-    absurd (both_ways true (keeps c (step ∙ ap (λ q. steps.Call q c) w.at)) refl)
+    absurd (keeps m n.sender to (step ∙ ap (λ q. steps.Call q (calls.Forward m n.sender to)) w.at))
 
-pub stays_with : (pages requests : ℕ) (specs : List ProcessSpec) (ss : List Step) (r : Pid) →
-    Follows (server_call pages requests) specs ss r → (i j : ℕ) (k l : Kernel) → i ≤ j → before specs ss i ≡ Some k →
-    before specs ss j ≡ Some l → (n : Name) (x : Exchange) →
-    k.exchanges n ≡ Some x → x.at ≡ r → (y : Exchange) × (l.exchanges n ≡ Some y) × IsWith r x y
-stays_with pages requests specs ss r follows i j k l up at_i at_j n x is here =
+pub stays_with : (specs : List ProcessSpec) (ss : List Step) (r : Pid) → NeverHands ss r → (i j : ℕ) (k l : Kernel) → i ≤ j →
+    before specs ss i ≡ Some k → before specs ss j ≡ Some l → (n : Name) (x : Exchange) → k.exchanges n ≡ Some x → x.at ≡ r →
+    (y : Exchange) × (l.exchanges n ≡ Some y) × IsWith r x y
+stays_with specs ss r never i j k l up at_i at_j n x is here =
     along specs ss (λ a m. (y : Exchange) × (m.exchanges n ≡ Some y) × IsWith r x y) i k at_i
     (x, is, record { at = here; shown = refl; far = omega arith })
     (λ a m s e low there step sound does so_far.
     let z = exchange_later s m e.after n so_far.0 sound (step_is m s e sound does) so_far.1 in
-    (z.0, z.1, with_on m s n x so_far.0 z.0 r (keeps_all pages requests specs ss r a s follows step) so_far.2 z.2))
+    (z.0, z.1, with_on m s n x so_far.0 z.0 r (never a s step) so_far.2 z.2))
     (λ a m low none so_far. so_far) j up l at_j

@@ -19,7 +19,6 @@ use Rattle.vk_base.specs.Ranges.{range_of, bytes_in}
 use Rattle.vk_base.specs.Steps.{Run, Taking, run, taking, taken, received, with_part}
 use Rattle.vk_base.proofs.OptionLemmas.{bind_is}
 use Rattle.vk_event.specs.declared.task.TheConstants.{PAGE_BYTES}
-use Rattle.vk_pages.specs.Servers.{server_call}
 use Rattle.v_laws.specs.Places.{before, process_after, taken_at, taken_by}
 use Rattle.v_laws.specs.Reached.{IsReached}
 use Rattle.v_laws.proofs.Changes.{taken_is_at_target}
@@ -30,11 +29,10 @@ use Rattle.v_laws.proofs.PlaceLemmas.{at_place, before_sound}
 use Rattle.v_laws.proofs.Queues.{taken_was_queued}
 use Rattle.v_laws.proofs.StepLemmas.{only_if_is}
 use Rattle.v_laws.proofs.Tables.{same_pid_is, same_pid_self, put_process_here}
-use Rattle.v_pages.specs.Followed.{Follows}
 use Rattle.v_pages.specs.Requests.{Request, request_at, requests_before, taking_by}
 use Rattle.v_pages.proofs.Lists.{IsLastAt, last_at}
 use Rattle.v_pages.proofs.Places.{request_here}
-use Rattle.v_pages.proofs.Staying.{queued_reach, reach, stays_with}
+use Rattle.v_pages.proofs.Staying.{NeverHands, queued_reach, reach, stays_with}
 
 -- A request that was taken at a place.
 pub record IsRequestAt (specs : List ProcessSpec) (ss : List Step) (r : Pid) (i : ℕ) (q : Request) : Type 0 where
@@ -114,7 +112,7 @@ request_of specs ss r i k t at is takes =
     )
 
 -- Two that are taken at the same time are one.
-reached_before : (specs : List ProcessSpec) (ss : List Step) (i : ℕ) (k : Kernel) → before specs ss i ≡ Some k → IsReached k
+pub reached_before : (specs : List ProcessSpec) (ss : List Step) (i : ℕ) (k : Kernel) → before specs ss i ≡ Some k → IsReached k
 reached_before specs ss i k at =
     let r = mapped_is (λ (r : Run). r.after) (run (initial_kernel specs) (take i ss)) k at in
     record {
@@ -148,35 +146,64 @@ taker specs ss i n r a is = same_pid_is a.take.exchange.at a.receiver (taken_was
     ∙ take_same a.receiver r (same_Some (steps.Take a.receiver) (steps.Take r) (sym a.is ∙ is))
 
 -- what the server took it takes no second time
-pub not_again : (pages requests : ℕ) (specs : List ProcessSpec) (ss : List Step) (i l : ℕ) (r : Pid) (n : Name) →
-    Follows (server_call pages requests) specs ss r → taken_at specs ss i ≡ Some n → slice_get ss i ≡ Some (steps.Take r) →
+pub not_again : (specs : List ProcessSpec) (ss : List Step) (i l : ℕ) (r : Pid) (n : Name) →
+    NeverHands ss r → taken_at specs ss i ≡ Some n → slice_get ss i ≡ Some (steps.Take r) →
     taken_at specs ss l ≡ Some n → i < l → ⊥
-not_again pages requests specs ss i l r n follows first is second less =
+not_again specs ss i l r n never first is second less =
     let a = taken_at_is specs ss i n first in
     let b = taken_at_is specs ss l n second in
     let o = taken_over specs ss i n a in
     let p = taken_over specs ss l n b in
-    let x = stays_with pages requests specs ss r follows (suc i) l o.after b.kernel (omega arith) o.at b.at n
+    let x = stays_with specs ss r never (suc i) l o.after b.kernel (omega arith) o.at b.at n
     (record a.take.exchange { stage = stages.Taken }) o.there (taker specs ss i n r a is) in
     let far = x.2.far in
     let low : reach x.0.stage ≡ 1 = ap (λ (z : Exchange). reach z.stage) (same_Some x.0 b.take.exchange (sym x.1 ∙ p.queued))
     ∙ queued_reach b.take.exchange.stage (taken_was_queued b.kernel b.receiver b.take b.takes).1 in
     absurd (omega arith)
 
+no_second : (specs : List ProcessSpec) (ss : List Step) (i j : ℕ) (r : Pid) (p q : Request) →
+    NeverHands ss r → request_at specs ss r i ≡ Some p → request_at specs ss r j ≡ Some q →
+    q.name ≡ p.name → i < j → ⊥
+no_second specs ss i j r p q never first second name less =
+    let a = request_is specs ss r i p first in
+    let b = request_is specs ss r j q second in
+    not_again specs ss i j r p.name never (request_taken specs ss r i p a) a.is
+    (request_taken specs ss r j q b ∙ ap (λ n. Some n) name) less
+
+pub one_take : (specs : List ProcessSpec) (ss : List Step) (i j : ℕ) (r : Pid) (p q : Request) →
+    NeverHands ss r → request_at specs ss r i ≡ Some p → request_at specs ss r j ≡ Some q →
+    q.name ≡ p.name → j ≡ i
+one_take specs ss i j r p q never first second name = elim (cases_order j i) [
+  | inl same ↦ same
+  | inr apart ↦ elim apart [
+    | inl below ↦ absurd (no_second specs ss j i r q p never second first (sym name) below)
+    | inr above ↦ absurd (no_second specs ss i j r p q never first second name above)
+  ]
+]
+
+-- what is taken there by the server is a request
+pub request_at_take : (specs : List ProcessSpec) (ss : List Step) (r : Pid) (i : ℕ) (n : Name) → slice_get ss i ≡ Some (steps.Take r) →
+    taken_at specs ss i ≡ Some n → (q : Request) × (request_at specs ss r i ≡ Some q) × (q.name ≡ n)
+request_at_take specs ss r i n is takes =
+    let a = taken_at_is specs ss i n takes in
+    let same = take_same a.receiver r (same_Some (steps.Take a.receiver) (steps.Take r) (sym a.is ∙ is)) in
+    let x = request_of specs ss r i a.kernel a.take a.at is (ap (taking a.kernel) (sym same) ∙ a.takes) in
+    (x.0, x.1, same_Some x.0.name n (sym (request_taken specs ss r i x.0 (request_is specs ss r i x.0 x.1)) ∙ takes))
+
 -- what it holds at a place it held from its Take on
-held_since : (pages requests : ℕ) (specs : List ProcessSpec) (ss : List Step) (i l j : ℕ) (r s : Pid) (number : ℕ) (m k : Kernel) →
-    Follows (server_call pages requests) specs ss r → taken_at specs ss i ≡ Some (name_of s number) →
+held_since : (specs : List ProcessSpec) (ss : List Step) (i l j : ℕ) (r s : Pid) (number : ℕ) (m k : Kernel) →
+    NeverHands ss r → taken_at specs ss i ≡ Some (name_of s number) →
     slice_get ss i ≡ Some (steps.Take r) → i < l → l ≤ j → before specs ss l ≡ Some m → before specs ss j ≡ Some k →
     held k r s ≡ Some number →
     (x : Exchange) × (m.exchanges (name_of s number) ≡ Some x) × (is_taken x.stage ≡ true) × (x.at ≡ r)
-held_since pages requests specs ss i l j r s number m k follows takes is less up at_l at_j holds =
+held_since specs ss i l j r s number m k never takes is less up at_l at_j holds =
     let n = name_of s number in
     let a = taken_at_is specs ss i n takes in
     let o = taken_over specs ss i n a in
     let h = holding_is k r s number holds in
-    let x = stays_with pages requests specs ss r follows (suc i) l o.after m (omega arith) o.at at_l n
+    let x = stays_with specs ss r never (suc i) l o.after m (omega arith) o.at at_l n
     (record a.take.exchange { stage = stages.Taken }) o.there (taker specs ss i n r a is) in
-    let y = stays_with pages requests specs ss r follows l j m k up at_l at_j n x.0 x.1 x.2.at in
+    let y = stays_with specs ss r never l j m k up at_l at_j n x.0 x.1 x.2.at in
     let same : y.0 ≡ h.exchange = same_Some y.0 h.exchange (sym y.1 ∙ h.is) in
     let low = x.2.far in
     let high = y.2.far in
@@ -184,15 +211,15 @@ held_since pages requests specs ss i l j r s number m k follows takes is less up
     (x.0, x.1, past_taken x.0.stage low (omega arith), x.2.at)
 
 -- so of two Takes of one sender by a server the second is the one that it holds
-never_both : (pages requests : ℕ) (specs : List ProcessSpec) (ss : List Step) (i l j : ℕ) (r s : Pid) (number : ℕ) (k : Kernel)
-    (q : Request) → Follows (server_call pages requests) specs ss r → taken_at specs ss i ≡ Some (name_of s number) →
+pub never_both : (specs : List ProcessSpec) (ss : List Step) (i l j : ℕ) (r s : Pid) (number : ℕ) (k : Kernel)
+    (q : Request) → NeverHands ss r → taken_at specs ss i ≡ Some (name_of s number) →
     slice_get ss i ≡ Some (steps.Take r) → request_at specs ss r l ≡ Some q → q.name.sender ≡ s → i < l → l < j →
     before specs ss j ≡ Some k → held k r s ≡ Some number → ⊥
-never_both pages requests specs ss i l j r s number k q follows takes is asked sender less up at holds =
+never_both specs ss i l j r s number k q never takes is asked sender less up at holds =
     let a = request_is specs ss r l q asked in
     let b = taken_at_is specs ss l q.name (request_taken specs ss r l q a) in
     let o = taken_over specs ss l q.name b in
-    let x = held_since pages requests specs ss i (suc l) j r s number o.after k follows takes is (omega arith) (omega arith) o.at at
+    let x = held_since specs ss i (suc l) j r s number o.after k never takes is (omega arith) (omega arith) o.at at
     holds in
     let y : Exchange = record b.take.exchange { stage = stages.Taken } in
     let name : name_of s q.name.number ≡ q.name = ap (λ z. name_of z q.name.number) (sym sender) in
@@ -202,7 +229,7 @@ never_both pages requests specs ss i l j r s number k q follows takes is asked s
     (taken_is_at_target x.0.stage x.2) refl
     (one_host x.0 y (x.3 ∙ sym (taker specs ss l q.name r b a.is)) (sound.near (name_of s number) x.0 x.1)
     (sound.near (name_of s q.name.number) y there)) in
-    not_again pages requests specs ss i l r q.name follows
+    not_again specs ss i l r q.name never
     (takes ∙ ap (λ n. Some (name_of s n)) one ∙ ap (λ (z : Name). Some z) name) is (request_taken specs ss r l q a) less
   where
     one_host : (x y : Exchange) → x.at ≡ y.at → same_host x.target x.at ≡ true → same_host y.target y.at ≡ true →
@@ -211,44 +238,43 @@ never_both pages requests specs ss i l j r s number k q follows takes is asked s
         (eqb-true x.target.host x.at.host first ∙ ap (λ (p : Pid). p.host) same ∙ sym (eqb-true y.target.host y.at.host second))
 
 -- The request that it took last is the one that it replies to.
-pub record IsLastTaken (specs : List ProcessSpec) (ss : List Step) (r : Pid) (i : ℕ) (earlier : List Request) (q : Request) (n : Name) :
+pub record IsLastTaken (specs : List ProcessSpec) (ss : List Step) (r : Pid) (i j : ℕ) (earlier : List Request) (q : Request) (n : Name) :
     Type 0 where
   pub is : request_at specs ss r i ≡ Some q
   pub name : q.name ≡ n
   pub front : requests_before specs ss r i ≡ earlier
+  pub none : (l : ℕ) → i < l → l < j → request_at specs ss r l ≡ None
 
-pub last_taken : (pages requests : ℕ) (specs : List ProcessSpec) (ss : List Step) (r s : Pid) (i j number : ℕ) (k : Kernel)
-    (earlier : List Request) (q : Request) → Follows (server_call pages requests) specs ss r →
+pub last_taken : (specs : List ProcessSpec) (ss : List Step) (r s : Pid) (i j number : ℕ) (k : Kernel)
+    (earlier : List Request) (q : Request) → NeverHands ss r →
     taken_at specs ss i ≡ Some (name_of s number) → slice_get ss i ≡ Some (steps.Take r) → i < j → before specs ss j ≡ Some k →
     held k r s ≡ Some number → requests_before specs ss r j ≡ earlier ++ q ∷ [] → q.name.sender ≡ s →
-    IsLastTaken specs ss r i earlier q (name_of s number)
-last_taken pages requests specs ss r s i j number k earlier q follows takes is less at holds all sender = by_place (last_at
+    IsLastTaken specs ss r i j earlier q (name_of s number)
+last_taken specs ss r s i j number k earlier q never takes is less at holds all sender = by_place (last_at
     (request_at specs ss r) j earlier q all)
   where
     other : request_at specs ss r i ≡ None → ⊥
     other none =
-        let a = taken_at_is specs ss i (name_of s number) takes in
-        let same = take_same a.receiver r (same_Some (steps.Take a.receiver) (steps.Take r) (sym a.is ∙ is)) in
-        let x = request_of specs ss r i a.kernel a.take a.at is (ap (taking a.kernel) (sym same) ∙ a.takes) in
-        none-some x.0 (sym none ∙ x.1)
+        let x = request_at_take specs ss r i (name_of s number) is takes in none-some x.0 (sym none ∙ x.1)
 
     here : (l : ℕ) → request_at specs ss r l ≡ Some q → requests_before specs ss r l ≡ earlier → l ≡ i →
-        IsLastTaken specs ss r i earlier q (name_of s number)
-    here l asked front same =
+        ((a : ℕ) → l < a → a < j → request_at specs ss r a ≡ None) → IsLastTaken specs ss r i j earlier q (name_of s number)
+    here l asked front same rest =
         let asked_here : request_at specs ss r i ≡ Some q = ap (request_at specs ss r) (sym same) ∙ asked in
         record {
           is = asked_here;
           name = same_Some q.name (name_of s number)
               (sym (request_taken specs ss r i q (request_is specs ss r i q asked_here)) ∙ takes);
           front = ap (requests_before specs ss r) (sym same) ∙ front;
+          none = λ a low high. rest a (omega (arith, same)) high;
         }
 
-    by_place : IsLastAt (request_at specs ss r) j earlier q → IsLastTaken specs ss r i earlier q (name_of s number)
+    by_place : IsLastAt (request_at specs ss r) j earlier q → IsLastTaken specs ss r i j earlier q (name_of s number)
     by_place l = elim (cases_order l.place i) [
-      | inl same ↦ here l.place l.is l.front same
+      | inl same ↦ here l.place l.is l.front same l.none
       | inr apart ↦ elim apart [
         | inl below ↦ absurd (other (l.none i below less))
-        | inr above ↦ absurd (never_both pages requests specs ss i l.place j r s number k q follows takes is l.is sender above l.earlier at
+        | inr above ↦ absurd (never_both specs ss i l.place j r s number k q never takes is l.is sender above l.earlier at
             holds)
       ]
     ]

@@ -1,5 +1,5 @@
 -- What a step does to one process: nothing, or it is the process's own call, Take, Collect or Finish, or the process waits.
-use Rattle.std.proofs.Common.{◌≡◌, ℕ, ◌+◌, Bool, true, false, ◌==◌, ◌&&◌, ◌||◌, not, nat_lt, List, [], take, drop, is_none, is_some, option_map, Option, Some, None, refl, sym, ap, subst, subst₂, ◌∙◌, inl, inr}
+use Rattle.std.proofs.Common.{◌≡◌, ◌⊎◌, ℕ, ◌+◌, Bool, true, false, ◌==◌, ◌&&◌, ◌||◌, not, nat_lt, List, [], take, drop, is_none, is_some, option_map, Option, Some, None, refl, sym, ap, subst, subst₂, ◌∙◌, inl, inr}
 use Rattle.std.proofs.lemmas.Bool.{cases_Bool, both_ways, or_cases, or_left, or_right, and_parts, eqb-true, eq-eqb, cond-true, cond-false, cond_both}
 use Rattle.std.proofs.lemmas.Option.{same_Some, none-some}
 use Rattle.vk_base.specs.declared.answer.Answer.{Answer}
@@ -33,7 +33,8 @@ use Rattle.vk_base.proofs.OptionLemmas.{bind_is}
 use Rattle.v_laws.specs.Sound.{IsSound}
 use Rattle.v_laws.proofs.Changes.{taken_is_at_target}
 use Rattle.v_laws.proofs.Held.{IsHolding, holding_is}
-use Rattle.v_laws.proofs.Options.{of_either, mapped_is, some_not_none}
+use Rattle.v_laws.proofs.Options.{of_either, mapped_is, some_not_none, some_there}
+use Rattle.v_laws.proofs.States.{moving_sends_none}
 use Rattle.v_laws.proofs.StepLemmas.{IsFit, fit_is, four_tests, only_if_is, taking_is, finishing_is, failing_is, copying_is, ending_is, asking_is, finding_is, collecting_is, waiting_is}
 use Rattle.v_laws.proofs.Tables.{same_pid_is, put_process_at, put_process_other}
 use Rattle.v_laws.proofs.SoundMoves.{with_no_bytes}
@@ -59,13 +60,24 @@ pub data Kept (k : Kernel) (s : Step) (q : Pid) (p after : Process) : Type 0 whe
   moved : (pid : Pid) (dest src count number : ℕ) → s ≡ steps.Call pid (calls.MoveTo q dest src count) → held k pid q ≡ Some number →
       same_host pid q ≡ true → Kept k s q p after
 
+-- the call in which it waits goes on, or is over
+pub data GoesOn (p after : Process) : Type 0 where
+  still : after.state ≡ p.state → after.sends ≡ p.sends → GoesOn p after
+  over : (a : Answer) → after.state ≡ ended p.state a → after.sends ≡ p.sends → GoesOn p after
+
+-- a process that waits in a move stays in it, unless the move ends
+abbrev pub StaysIn : Step → Pid → Process → Process → Type 0
+StaysIn s q p after = is_moving p.state ≡ true →
+    ((after.state ≡ p.state) × (after.moving ≡ p.moving)) ⊎ ((why : Ending) × (s ≡ steps.End q why))
+
 pub data Touched (k : Kernel) (s : Step) (q : Pid) (p after : Process) : Type 0 where
   rests : after ≡ p → Touched k s q p after
   makes : (c : Call) → s ≡ steps.Call q c → is_waiting p.state ≡ false → has_reply after.state ≡ false → Touched k s q p after
   takes : s ≡ steps.Take q → is_waiting p.state ≡ false → has_reply after.state ≡ false → Touched k s q p after
   collects : s ≡ steps.Collect q → is_waiting p.state ≡ false → has_reply after.state ≡ false → Touched k s q p after
   finishes : s ≡ steps.Finish q → sending after.state ≡ None → Touched k s q p after
-  waits : is_waiting p.state ≡ true → has_reply after.state ≡ false → Kept k s q p after → Touched k s q p after
+  waits : is_waiting p.state ≡ true → has_reply after.state ≡ false → Kept k s q p after → GoesOn p after → StaysIn s q p after →
+      Touched k s q p after
 
 abbrev pub AllTouched : Kernel → Step → Kernel → Type 0
 AllTouched k s l = (q : Pid) (p after : Process) → k.procs q ≡ Some p → l.procs q ≡ Some after → Touched k s q p after
@@ -140,8 +152,18 @@ put_effect k s f e g pid p after at is on = by_effect k s f e g (touched_put k s
 
 -- a call in which it waits is over
 ended_on : (k : Kernel) (s : Step) (q : Pid) (p : Process) (a : Answer) → is_waiting p.state ≡ true → is_reply a ≡ false →
-    Touched k s q p (record p { state = ended p.state a })
-ended_on k s q p a w none = Touched.waits w (ended_no_reply p.state a w none) (Kept.stays refl)
+    StaysIn s q p (record p { state = ended p.state a }) → Touched k s q p (record p { state = ended p.state a })
+ended_on k s q p a w none in_move = Touched.waits w (ended_no_reply p.state a w none) (Kept.stays refl) (GoesOn.over a refl refl) in_move
+
+-- in a Send or in a lookup it is in no move
+send_no_move : (t : State) (x : Pid × Message) → sending t ≡ Some x → is_moving t ≡ true → ⊥
+send_no_move t x sends moves = none-some x (sym (moving_sends_none t moves) ∙ sends)
+
+lookup_no_move : (t : State) → is_asking t ≡ true → is_moving t ≡ true → ⊥
+lookup_no_move states.Ready asks moves = both_ways false refl asks
+lookup_no_move (states.Blocked (calls.GetPid logical scope)) asks moves = both_ways false refl moves
+lookup_no_move (states.Blocked c) asks moves = both_ways false refl asks
+lookup_no_move (states.Done c a) asks moves = both_ways false refl asks
 
 -- Calls.
 sent_touched : (k : Kernel) (pid : Pid) (p : Process) (target : Pid) (x : Message) → k.procs pid ≡ Some p → is_ready p.state ≡ true →
@@ -176,15 +198,16 @@ near_target k s pid number h sound near =
 
 near_on : (k : Kernel) (s : Step) (pid partner : Pid) (number dest src count : ℕ) (q after : Process) →
     s ≡ steps.Call pid (calls.MoveTo partner dest src count) → IsSound k → held k pid partner ≡ Some number →
-    same_host pid partner ≡ true → k.procs partner ≡ Some q → after.state ≡ q.state → Touched k s partner q after
-near_on k s pid partner number dest src count q after step sound holds near at state =
+    same_host pid partner ≡ true → k.procs partner ≡ Some q → after.state ≡ q.state → after.sends ≡ q.sends → Touched k s partner q after
+near_on k s pid partner number dest src count q after step sound holds near at state sends =
     let h = holding_is k pid partner number holds in
     let w = sound.awaited (name_of partner number) h.exchange h.is (near_target k partner pid number h sound near)
     (taken_is_at_target h.exchange.stage h.taken) in
     let blocked : q.state ≡ states.Blocked (calls.Send h.exchange.target h.exchange.message) =
     ap (λ (z : Process). z.state) (same_Some q w.process (sym at ∙ w.is)) ∙ w.blocked in
     Touched.waits (ap is_waiting blocked) (ap has_reply (state ∙ blocked))
-    (Kept.moved pid dest src count number step holds near)
+    (Kept.moved pid dest src count number step holds near) (GoesOn.still state sends)
+    (λ moves. absurd (send_no_move q.state (h.exchange.target, h.exchange.message) (ap sending blocked) moves))
 
 nothing_on : (k : Kernel) (s : Step) (into : Pid) (q : Process) (dest : ℕ) (bytes : List ℕ) → bytes ≡ [] →
     Touched k s into q (record q { memory = with_bytes q.memory dest bytes })
@@ -235,18 +258,18 @@ exited_touched k pid p at ready q x y at_x at_y = elim (cases_Bool (same_pid q p
       subst₂ (λ u v. Touched k (steps.Call pid calls.Exit) q u v) same z.2 (released_on z.0)
 ]
   where
-    in_send : (q : Pid) (w : Process) → is_bereft k pid q w ≡ true → is_waiting w.state ≡ true
-    in_send q w t =
+    in_send : (w : Process) → is_bereft k pid q w ≡ true → (x : Pid × Message) × (sending w.state ≡ Some x)
+    in_send w t =
         let parts = and_parts (same_host q pid && is_some (sending w.state))
         (holds_of (is_message_at pid) (k.exchanges (name_of q w.sends))) t in
-        let first = and_parts (same_host q pid) (is_some (sending w.state)) parts.0 in
-        or_left (is_some (sending w.state) || is_moving w.state) (is_asking w.state)
-        (or_left (is_some (sending w.state)) (is_moving w.state) first.1)
+        some_there (sending w.state) (and_parts (same_host q pid) (is_some (sending w.state)) parts.0).1
 
     released_on : (w : Process) → Touched k (steps.Call pid calls.Exit) q w (released k pid q w)
     released_on w = cond_both (is_bereft k pid q w) (record w { state = ended w.state (answers.Refused refusals.NoProcess) }) w
         (Touched k (steps.Call pid calls.Exit) q w)
-        (λ t. ended_on k (steps.Call pid calls.Exit) q w (answers.Refused refusals.NoProcess) (in_send q w t) refl)
+        (λ t. let x = in_send w t in
+        ended_on k (steps.Call pid calls.Exit) q w (answers.Refused refusals.NoProcess) (sending_waits w.state x.0 x.1) refl
+        (λ moves. absurd (send_no_move w.state x.0 x.1 moves)))
         (λ g. Touched.rests refl)
 
 moved_to : (k : Kernel) (pid : Pid) (p : Process) (partner : Pid) (dest src count : ℕ) (e : Effect) → IsSound k → k.procs pid ≡ Some p →
@@ -264,7 +287,7 @@ moved_to k pid p partner dest src count e sound at fit g =
     (begin_move k pid p c partner (new_move pid directions.To dest src count bytes)) e
     (λ once. at_once_touched k s pid c partner dest bytes e (λ q at_q. elim (or_cases (same_host pid partner) (count == 0) once) [
       | inl near ↦ near_on k s pid partner number.0 dest src count q (record q { memory = with_bytes q.memory dest bytes }) refl sound
-          number.1 near at_q refl
+          number.1 near at_q refl refl
       | inr none ↦ nothing_on k s partner q dest bytes (ap (λ n. take n (drop src p.memory)) (eqb-true count 0 none))
     ]))
     (λ later. begin_touched k pid p c partner (new_move pid directions.To dest src count bytes) e at fit.ready) g
@@ -364,7 +387,8 @@ copied_touched k s n number offset count c g =
     let is = copying_is k n number offset count c g in
     let w = written_waits k n number c.move.mover c.move.direction (c.pid, c.process) is.written in
     touched_put k s (copied k n offset count c) c.pid c.process _ is.process (λ q. refl)
-    (Touched.waits w (waiting_no_reply c.process.state w) (Kept.copied_to n number offset count c g refl refl))
+    (Touched.waits w (waiting_no_reply c.process.state w) (Kept.copied_to n number offset count c g refl refl)
+    (GoesOn.still refl refl) (λ moves. inl (refl, refl)))
 
 ending_no_reply : (k : Kernel) (m : MoveName) (why : Ending) (a : Answer) → move_ending k m why ≡ Some a → is_reply a ≡ false
 ending_no_reply k m endings.Ok a g =
@@ -402,7 +426,8 @@ touched k (steps.Fail s why) e sound g =
     let f = bind_is (failing k s why) _ e g in
     let is = failing_is k s why f.0 f.1 in
     put_effect k (steps.Fail s why) _ e f.2 s f.0.0 _ is.process (λ q. refl)
-    (ended_on k (steps.Fail s why) s f.0.0 (answers.Refused f.0.1) (sending_waits f.0.0.state is.send is.sends) refl)
+    (ended_on k (steps.Fail s why) s f.0.0 (answers.Refused f.0.1) (sending_waits f.0.0.state is.send is.sends) refl
+    (λ moves. absurd (send_no_move f.0.0.state is.send is.sends moves)))
 touched k (steps.OpenMove sender number moving) e sound g = let o = bind_is (opening_move k (name_of sender number) moving) _ e g in
     by_effect k (steps.OpenMove sender number moving) _ e o.2
     (opened_touched k (steps.OpenMove sender number moving) (name_of sender number) moving o.0)
@@ -414,19 +439,21 @@ touched k (steps.End r why) e sound g =
     let x = bind_is (ending k r why) _ e g in
     let w = ended_touched k r why x.0 x.1 in
     put_effect k (steps.End r why) _ e x.2 r x.0.0 _ (ending_is k r why x.0 x.1).process (λ q. refl)
-    (ended_on k (steps.End r why) r x.0.0 x.0.1 w.0 w.1)
+    (ended_on k (steps.End r why) r x.0.0 x.0.1 w.0 w.1 (λ moves. inr (why, refl)))
 touched k (steps.Hear asker number pid) e sound g = let x = bind_is (hearing k asker number pid) _ e g in
     self_effect k (steps.Hear asker number pid) _ e x.2 (λ q. refl)
 touched k (steps.Found asker pid) e sound g =
     let p = bind_is (finding k asker pid) _ e g in
     let is = (finding_is k asker pid p.0 p.1).asks in
     put_effect k (steps.Found asker pid) _ e p.2 asker p.0 _ is.process (λ q. refl)
-    (ended_on k (steps.Found asker pid) asker p.0 (answers.Found pid) (asking_waits p.0.state is.asks) refl)
+    (ended_on k (steps.Found asker pid) asker p.0 (answers.Found pid) (asking_waits p.0.state is.asks) refl
+    (λ moves. absurd (lookup_no_move p.0.state is.asks moves)))
 touched k (steps.Lost asker) e sound g =
     let p = bind_is (asking k asker) _ e g in
     let is = asking_is k asker p.0 p.1 in
     put_effect k (steps.Lost asker) _ e p.2 asker p.0 _ is.process (λ q. refl)
-    (ended_on k (steps.Lost asker) asker p.0 (answers.Refused refusals.NotFound) (asking_waits p.0.state is.asks) refl)
+    (ended_on k (steps.Lost asker) asker p.0 (answers.Refused refusals.NotFound) (asking_waits p.0.state is.asks) refl
+    (λ moves. absurd (lookup_no_move p.0.state is.asks moves)))
 touched k (steps.Collect pid) e sound g = let d = bind_is (collecting k pid) _ e g in
     put_effect k (steps.Collect pid) _ e d.2 pid d.0.process _ (collecting_is k pid d.0 d.1).process (λ q. refl)
     (Touched.collects refl (finished_idle d.0.process.state (d.0.call, d.0.answer) (collecting_is k pid d.0 d.1).done) refl)

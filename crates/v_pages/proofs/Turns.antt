@@ -111,6 +111,66 @@ after_take k r t y at = same_Some _ y (sym (put_process_here k.procs r (record t
   state = states.Done t.call (received t.call t.name.sender t.exchange);
 })) ∙ at)
 
+-- What a process takes by a Take of its own.
+pub record IsTakeBy (k : Kernel) (r : Pid) (e : Effect) (p y : Process) : Type 0 where
+  pub take : Taking
+  pub takes : taking k r ≡ Some take
+  pub own : take.process ≡ p
+  pub now : record take.process {
+    memory = with_part take.call take.exchange take.process.memory;
+    state = states.Done take.call (received take.call take.name.sender take.exchange);
+  } ≡ y
+  pub asks : request_by r k (steps.Take r) e ≡
+      Some (record { name = take.name; message = take.exchange.shown; bytes = bytes_in (range_of 0 PAGE_BYTES) y.memory })
+  pub sees_none : told r e ≡ None
+
+pub take_by : (k : Kernel) (r : Pid) (e : Effect) (p y : Process) → k.procs r ≡ Some p → e.after.procs r ≡ Some y →
+    effect k (steps.Take r) ≡ Some e → IsTakeBy k r e p y
+take_by k r e p y there later does =
+    let found = bind_is (taking k r) (λ t. Some (unseen (kernel_taken k r t))) e does in
+    record {
+      take = found.0;
+      takes = found.1;
+      own = same_Some found.0.process p (sym (taking_is k r found.0 found.1).process ∙ there);
+      now = after_take k r found.0 y (ap (λ (x : Effect). x.after.procs r) (same_Some _ e found.2) ∙ later);
+      asks = ap (λ o. o >>= λ (t : Taking). e.after.procs r >>= λ (p : Process).
+          Some (record { name = t.name; message = t.exchange.shown; bytes = bytes_in (range_of 0 PAGE_BYTES) p.memory }))
+          (cond-true (same_pid r r) (taking k r) None (same_pid_self r) ∙ found.1)
+          ∙ ap (λ o. o >>= λ (p : Process).
+          Some (record {
+            name = found.0.name;
+            message = found.0.exchange.shown;
+            bytes = bytes_in (range_of 0 PAGE_BYTES) p.memory;
+          })) later;
+      sees_none = ap (told r) (sym (same_Some _ e found.2));
+    }
+
+-- What it collects by a Collect.
+pub record IsCollectBy (k : Kernel) (r : Pid) (e : Effect) (p y : Process) : Type 0 where
+  pub call : Call
+  pub answer : Answer
+  pub done : finished_call p.state ≡ Some (call, answer)
+  pub after : record p { state = states.Ready } ≡ y
+  pub sees : told r e ≡ Some answer
+
+pub collect_by : (k : Kernel) (r : Pid) (e : Effect) (p y : Process) → k.procs r ≡ Some p → e.after.procs r ≡ Some y →
+    effect k (steps.Collect r) ≡ Some e → IsCollectBy k r e p y
+collect_by k r e p y there later does =
+    let d = bind_is (collecting k r) _ e does in
+    let is = collecting_is k r d.0 d.1 in
+    let own : d.0.process ≡ p = same_Some d.0.process p (sym is.process ∙ there) in
+    let same = same_Some (seen_answered (with_state k r d.0.process states.Ready) r d.0.call d.0.answer) e d.2 in
+    record {
+      call = d.0.call;
+      answer = d.0.answer;
+      done = ap (λ (z : Process). finished_call z.state) (sym own) ∙ is.done;
+      after = ap (λ (z : Process). record z { state = states.Ready }) (sym own)
+          ∙ same_Some (record d.0.process { state = states.Ready }) y
+          (sym (put_process_here k.procs r (record d.0.process { state = states.Ready })) ∙ ap (λ (x : Effect). x.after.procs r) same
+          ∙ later);
+      sees = own_told r d.0.call d.0.answer e (ap (λ (x : Effect). x.seen) (sym same));
+    }
+
 part_size : (memory part : List ℕ) → PAGE_BYTES ≤ length memory →
     length (with_bytes memory 0 (take PAGE_BYTES part)) ≡ length memory
 part_size memory part room = let most = taken_most PAGE_BYTES part in
@@ -120,7 +180,7 @@ take_next : (pages requests made : ℕ) (given : List Answer) (all : List Reques
     ServerAt pages requests made given all p → k.procs r ≡ Some p → e.after.procs r ≡ Some y → effect k (steps.Take r) ≡ Some e →
     ServerNext pages requests made given all None (told r e) (request_by r k (steps.Take r) e) y
 take_next pages requests made given all k r e p y at there later does =
-    next_by pages requests made given all None None (told r e) None (request_by r k (steps.Take r) e) (Some q) y refl unseen_here asks
+    next_by pages requests made given all None None (told r e) None (request_by r k (steps.Take r) e) (Some q) y refl b.sees_none b.asks
     (record {
       kept = at.kept;
       replies = at.replies;
@@ -147,24 +207,15 @@ take_next pages requests made given all k r e p y at there later does =
       );
     })
   where
-    found : (x : Taking) × (taking k r ≡ Some x) × (Some (unseen (kernel_taken k r x)) ≡ Some e)
-    found = bind_is (taking k r) (λ t. Some (unseen (kernel_taken k r t))) e does
+    b : IsTakeBy k r e p y
+    b = take_by k r e p y there later does
 
     t : Taking
-    t = found.0
-
-    own : t.process ≡ p
-    own = same_Some t.process p (sym (taking_is k r t found.1).process ∙ there)
+    t = b.take
 
     waits : IsWaiting pages at.kept all p at.stage made (length given) t.call
     waits = waiting_when pages at.kept all p at.stage made (length given) p.state t.call at.doing
-        (ap (λ (z : Process). receiving z.state) (sym own) ∙ (taking_is k r t found.1).call)
-
-    now : record t.process {
-      memory = with_part t.call t.exchange t.process.memory;
-      state = states.Done t.call (received t.call t.name.sender t.exchange);
-    } ≡ y
-    now = after_take k r t y (ap (λ (x : Effect). x.after.procs r) (same_Some _ e found.2) ∙ later)
+        (ap (λ (z : Process). receiving z.state) (sym b.own) ∙ (taking_is k r t b.takes).call)
 
     after : record p {
       memory = with_bytes p.memory 0 (take PAGE_BYTES t.exchange.part);
@@ -172,10 +223,10 @@ take_next pages requests made given all k r e p y at there later does =
           states.Done (calls.ReceiveSegment 0 PAGE_BYTES)
           (answers.ReceivedSegment t.name.sender t.exchange.shown (min PAGE_BYTES (length t.exchange.part)));
     } ≡ y
-    after = (λ i. record (sym own i) {
-      memory = with_part (sym waits.call i) t.exchange (sym own i).memory;
+    after = (λ i. record (sym b.own i) {
+      memory = with_part (sym waits.call i) t.exchange (sym b.own i).memory;
       state = states.Done (sym waits.call i) (received (sym waits.call i) t.name.sender t.exchange);
-    }) ∙ now
+    }) ∙ b.now
 
     state : y.state ≡ states.Done (calls.ReceiveSegment 0 PAGE_BYTES)
         (answers.ReceivedSegment t.name.sender t.exchange.shown (min PAGE_BYTES (length t.exchange.part)))
@@ -183,16 +234,6 @@ take_next pages requests made given all k r e p y at there later does =
 
     q : Request
     q = record { name = t.name; message = t.exchange.shown; bytes = bytes_in (range_of 0 PAGE_BYTES) y.memory }
-
-    asks : request_by r k (steps.Take r) e ≡ Some q
-    asks = ap (λ o. o >>= λ (t : Taking). e.after.procs r >>= λ (p : Process).
-        Some (record { name = t.name; message = t.exchange.shown; bytes = bytes_in (range_of 0 PAGE_BYTES) p.memory }))
-        (cond-true (same_pid r r) (taking k r) None (same_pid_self r) ∙ found.1)
-        ∙ ap (λ o. o >>= λ (p : Process).
-        Some (record { name = t.name; message = t.exchange.shown; bytes = bytes_in (range_of 0 PAGE_BYTES) p.memory })) later
-
-    unseen_here : told r e ≡ None
-    unseen_here = ap (told r) (sym (same_Some _ e found.2))
 
 -- It collects a request.
 record IsCollected (pages : ℕ) (kept : List (List ℕ)) (all : List Request) (p : Process) (stage : Serving) (made given : ℕ) (a : Answer) :
@@ -233,21 +274,12 @@ collect_next : (pages requests made : ℕ) (given : List Answer) (all : List Req
     ServerAt pages requests made given all p → k.procs r ≡ Some p → e.after.procs r ≡ Some y → effect k (steps.Collect r) ≡ Some e →
     ServerNext pages requests made given all None (told r e) None y
 collect_next pages requests made given all k r e p y at there later does =
-    let d = bind_is (collecting k r) _ e does in
-    let is = collecting_is k r d.0 d.1 in
-    let own : d.0.process ≡ p = same_Some d.0.process p (sym is.process ∙ there) in
-    let same = same_Some (seen_answered (with_state k r d.0.process states.Ready) r d.0.call d.0.answer) e d.2 in
-    let after : record p { state = states.Ready } ≡ y =
-    ap (λ (z : Process). record z { state = states.Ready }) (sym own)
-    ∙ same_Some (record d.0.process { state = states.Ready }) y
-    (sym (put_process_here k.procs r (record d.0.process { state = states.Ready })) ∙ ap (λ (x : Effect). x.after.procs r) same ∙ later) in
-    let got = collected_when pages at.kept all p at.stage made (length given) p.state (d.0.call, d.0.answer) at.doing
-    (ap (λ (z : Process). finished_call z.state) (sym own) ∙ is.done) in
+    let b = collect_by k r e p y there later does in
+    let got = collected_when pages at.kept all p at.stage made (length given) p.state (b.call, b.answer) at.doing b.done in
     let none : made ≡ made + 0 = omega arith in
     subst (λ n. ServerAt pages requests n (given ++ option_to_list (told r e)) (all ++ []) y) none
     (subst (λ qs. ServerAt pages requests made (given ++ option_to_list (told r e)) qs y) (sym (append-nil all))
-    (collected_on pages requests made at.replies at.kept given all p y at.stage d.0.answer (told r e)
-    (own_told r d.0.call d.0.answer e (ap (λ (x : Effect). x.seen) (sym same))) at.is got after))
+    (collected_on pages requests made at.replies at.kept given all p y at.stage b.answer (told r e) b.sees at.is got b.after))
 
 -- Others leave it alone.
 not_waiting : (pages : ℕ) (kept : List (List ℕ)) (all : List Request) (p : Process) (stage : Serving) (made given : ℕ) (t : State) →
@@ -256,10 +288,10 @@ not_waiting pages kept all p stage made given states.Ready doing = refl
 not_waiting pages kept all p stage made given (states.Blocked c) doing = ap (λ c. is_waiting (states.Blocked c)) doing.1.call
 not_waiting pages kept all p stage made given (states.Done c a) doing = refl
 
-own_self : (r : Pid) (s t : Step) → s ≡ t → own_step r t ≡ same_pid r r → own_step r s ≡ true
+pub own_self : (r : Pid) (s t : Step) → s ≡ t → own_step r t ≡ same_pid r r → own_step r s ≡ true
 own_self r s t same own = ap (own_step r) same ∙ own ∙ same_pid_self r
 
-finishing_waits : (k : Kernel) (r : Pid) (e : Effect) (p : Process) → k.procs r ≡ Some p → effect k (steps.Finish r) ≡ Some e →
+pub finishing_waits : (k : Kernel) (r : Pid) (e : Effect) (p : Process) → k.procs r ≡ Some p → effect k (steps.Finish r) ≡ Some e →
     is_waiting p.state ≡ true
 finishing_waits k r e p there does =
     let f = bind_is (finishing k r) _ e does in
@@ -267,7 +299,7 @@ finishing_waits k r e p there does =
     ap (λ (z : Process). is_waiting z.state) (same_Some p f.0.process (sym there ∙ is.process))
     ∙ sending_waits f.0.process.state (f.0.target, f.0.message) is.send
 
-left_alone : (k : Kernel) (r : Pid) (s : Step) (e : Effect) (p y : Process) → own_step r s ≡ false → is_waiting p.state ≡ false →
+pub left_alone : (k : Kernel) (r : Pid) (s : Step) (e : Effect) (p y : Process) → own_step r s ≡ false → is_waiting p.state ≡ false →
     k.procs r ≡ Some p → effect k s ≡ Some e → Touched k s r p y → p ≡ y
 left_alone k r s e p y other idle there does (Touched.rests same) = sym same
 left_alone k r s e p y other idle there does (Touched.makes c step still none) =
@@ -278,7 +310,7 @@ left_alone k r s e p y other idle there does (Touched.collects step still none) 
     absurd (both_ways (own_step r s) other (own_self r s (steps.Collect r) step refl))
 left_alone k r s e p y other idle there does (Touched.finishes step over) =
     absurd (both_ways (is_waiting p.state) idle (finishing_waits k r e p there (ap (effect k) (sym step) ∙ does)))
-left_alone k r s e p y other idle there does (Touched.waits w none kept) = absurd (both_ways (is_waiting p.state) idle w)
+left_alone k r s e p y other idle there does (Touched.waits w none kept on stays) = absurd (both_ways (is_waiting p.state) idle w)
 
 others_next : (pages requests made : ℕ) (given : List Answer) (all : List Request) (p y : Process) →
     ServerAt pages requests made given all p →
@@ -291,12 +323,12 @@ others_next pages requests made given all p y at same =
     (subst (ServerAt pages requests made given all) same at)))
 
 -- After any step.
-abbrev pub MayCall : ℕ → ℕ → ℕ → List Answer → Option Call → Type 0
-MayCall pages requests made given o = (c : Call) → o ≡ Some c → (length given ≡ made) × (server_call pages requests given ≡ Some c)
+abbrev pub MayCall : (List Answer → Option Call) → ℕ → List Answer → Option Call → Type 0
+MayCall task made given o = (c : Call) → o ≡ Some c → (length given ≡ made) × (task given ≡ Some c)
 
 next_step : (pages requests made : ℕ) (given : List Answer) (all : List Request) (k : Kernel) (r : Pid) (s : Step) (e : Effect)
     (p y : Process) → OwnStep r s → IsSound k → ServerAt pages requests made given all p → k.procs r ≡ Some p →
-    e.after.procs r ≡ Some y → effect k s ≡ Some e → MayCall pages requests made given (call_by r s) →
+    e.after.procs r ≡ Some y → effect k s ≡ Some e → MayCall (server_call pages requests) made given (call_by r s) →
     ServerNext pages requests made given all (call_by r s) (told r e) (request_by r k s e) y
 next_step pages requests made given all k r s e p y (OwnStep.makes c step) sound at there later does may =
     let calls : call_by r s ≡ Some c = ap (call_by r) step ∙ cond-true (same_pid r r) (Some c) None (same_pid_self r) in
@@ -324,7 +356,7 @@ next_step pages requests made given all k r s e p y (OwnStep.others other) sound
 
 pub server_next : (pages requests made : ℕ) (given : List Answer) (all : List Request) (k : Kernel) (r : Pid) (s : Step) (e : Effect)
     (p y : Process) → IsSound k → ServerAt pages requests made given all p → k.procs r ≡ Some p → e.after.procs r ≡ Some y →
-    effect k s ≡ Some e → MayCall pages requests made given (call_by r s) →
+    effect k s ≡ Some e → MayCall (server_call pages requests) made given (call_by r s) →
     ServerNext pages requests made given all (call_by r s) (told r e) (request_by r k s e) y
 server_next pages requests made given all k r s e p y sound at there later does may =
     next_step pages requests made given all k r s e p y (which_step r s) sound at there later does may

@@ -21,7 +21,6 @@ use Rattle.vk_base.specs.Pids.{same_host, same_pid}
 use Rattle.vk_base.specs.Settings.{is_process}
 use Rattle.vk_base.specs.Steps.{Copying, effect, is_in_move, same_move, with_arrival, written_process}
 use Rattle.vk_base.proofs.OptionLemmas.{bind_is}
-use Rattle.vk_pages.specs.Servers.{server_call}
 use Rattle.v_laws.specs.Moves.{move_call}
 use Rattle.v_laws.specs.Places.{before}
 use Rattle.v_laws.specs.Sound.{IsSound}
@@ -36,9 +35,8 @@ use Rattle.v_laws.proofs.SoundLemmas.{initial_ready, step_is}
 use Rattle.v_laws.proofs.States.{moving_sends_none}
 use Rattle.v_laws.proofs.StepLemmas.{copying_is, only_if_is, opening_is, waiting_is}
 use Rattle.v_laws.proofs.Tables.{same_pid_is, put_process_at, put_process_other}
-use Rattle.v_pages.specs.Followed.{Follows}
 use Rattle.v_pages.proofs.Collected.{was_there}
-use Rattle.v_pages.proofs.Staying.{AllAsSent, KeepsAll, as_sent, everywhere, gives_away, keeps_all}
+use Rattle.v_pages.proofs.Staying.{AllAsSent, KeepsAll, KeepsEach, as_sent, everywhere, gives_away, never_hands}
 use Rattle.v_pages.proofs.Touched.{Kept, Touched, is_waiting, near_target, sending_waits, touched}
 
 -- No exchange with a page server has a move.
@@ -78,40 +76,40 @@ moves_step : (k : Kernel) (s : Step) (e : Effect) (r : Pid) → IsSound k → ef
 moves_step k s e r sound does not own none n y at target =
     none_after k e.after s r n y not own none (k.exchanges n) (e.after.exchanges n) refl at target (all_moves k s e sound does n)
 
-no_moves : (pages requests : ℕ) (specs : List ProcessSpec) (ss : List Step) (r : Pid) → Follows (server_call pages requests) specs ss r →
+no_moves : (specs : List ProcessSpec) (ss : List Step) (r : Pid) → KeepsEach ss r →
     (i : ℕ) (k : Kernel) → before specs ss i ≡ Some k → NoMoves k r
-no_moves pages requests specs ss r follows = everywhere specs ss (λ k. NoMoves k r) (λ n e is target. absurd (none-some e is))
-    (λ i k s e is at sound does none. moves_step k s e r sound does (keeps_all pages requests specs ss r i s follows is)
-    (as_sent pages requests specs ss r follows i k at) none)
+no_moves specs ss r keeps = everywhere specs ss (λ k. NoMoves k r) (λ n e is target. absurd (none-some e is))
+    (λ i k s e is at sound does none. moves_step k s e r sound does (keeps i s is)
+    (as_sent specs ss r (never_hands ss r keeps) i k at) none)
 
--- What is written into a process that waits for the server.
-to_other : (k : Kernel) (r s : Pid) (m : Message) (x : Process) (n : Name) (number : ℕ) (c : Copying) → IsSound k → NoMoves k r →
-    k.procs s ≡ Some x → sending x.state ≡ Some (r, m) → k.exchanges n ≡ Some c.exchange → move_of c.exchange number ≡ Some c.move →
-    n ≡ name_of s x.sends → ⊥
-to_other k r s m x n number c sound none at sends is move name =
-    let w = sound.sent s x r m at sends in
-    let same : c.exchange ≡ w.exchange = same_Some c.exchange w.exchange (sym is ∙ ap k.exchanges name ∙ w.is) in
-    none-some c.move
-    (sym (no_move c.exchange number (none n c.exchange is (ap (λ (z : Exchange). z.target) same ∙ w.target))) ∙ move)
-
-written_not : (k : Kernel) (r s : Pid) (m : Message) (x : Process) (n : Name) (number : ℕ) (c : Copying) (d : Direction) → IsSound k →
-    NoMoves k r → k.procs s ≡ Some x → sending x.state ≡ Some (r, m) → k.exchanges n ≡ Some c.exchange →
-    move_of c.exchange number ≡ Some c.move → written_process k n number c.move.mover d ≡ Some (c.pid, c.process) → c.pid ≡ s →
-    c.process ≡ x → ⊥
-written_not k r s m x n number c directions.To sound none at sends is move g mine who =
+-- What is copied to a process that waits in a Send is of a move of that Send's exchange.
+pub copied_own : (k : Kernel) (s : Pid) (y : Pid × Message) (x : Process) (n : Name) (number : ℕ) (c : Copying) (d : Direction) →
+    sending x.state ≡ Some y → written_process k n number c.move.mover d ≡ Some (c.pid, c.process) → c.pid ≡ s → c.process ≡ x →
+    n ≡ name_of s x.sends
+copied_own k s y x n number c directions.To sends g mine who =
     let p = bind_is (waiting_on k n) _ (c.pid, c.process) g in
     let w = waiting_is k n p.0 p.1 in
     let same = same_Some (n.sender, p.0) (c.pid, c.process) p.2 in
     let sender : n.sender ≡ s = ap (λ (z : Pid × Process). z.0) same ∙ mine in
     let process : p.0 ≡ x = ap (λ (z : Pid × Process). z.1) same ∙ who in
     let last : n.number ≡ x.sends = sym (eqb-true p.0.sends n.number w.last) ∙ ap (λ (z : Process). z.sends) process in
-    to_other k r s m x n number c sound none at sends is move (λ j. name_of (sender j) (last j))
-written_not k r s m x n number c directions.From sound none at sends is move g mine who =
+    (λ j. name_of (sender j) (last j))
+copied_own k s y x n number c directions.From sends g mine who =
     let p = bind_is (k.procs c.move.mover) _ (c.pid, c.process) g in
     let test = only_if_is (is_in_move n number p.0) (Some (c.move.mover, p.0)) (c.pid, c.process) p.2 in
     let moves = (and_parts (is_moving p.0.state) (holds_of (λ m. same_move m n number) p.0.moving) test.0).0 in
     let process : p.0 ≡ x = ap (λ (z : Pid × Process). z.1) (same_Some (c.move.mover, p.0) (c.pid, c.process) test.1) ∙ who in
-    none-some (r, m) (sym (moving_sends_none p.0.state moves) ∙ ap (λ (z : Process). sending z.state) process ∙ sends)
+    absurd (none-some y (sym (moving_sends_none p.0.state moves) ∙ ap (λ (z : Process). sending z.state) process ∙ sends))
+
+-- so none is copied to one that waits for the server
+written_not : (k : Kernel) (r s : Pid) (m : Message) (x : Process) (n : Name) (number : ℕ) (c : Copying) → IsSound k → NoMoves k r →
+    k.procs s ≡ Some x → sending x.state ≡ Some (r, m) → k.exchanges n ≡ Some c.exchange → move_of c.exchange number ≡ Some c.move →
+    n ≡ name_of s x.sends → ⊥
+written_not k r s m x n number c sound none at sends is move name =
+    let w = sound.sent s x r m at sends in
+    let same : c.exchange ≡ w.exchange = same_Some c.exchange w.exchange (sym is ∙ ap k.exchanges name ∙ w.is) in
+    none-some c.move
+    (sym (no_move c.exchange number (none n c.exchange is (ap (λ (z : Exchange). z.target) same ∙ w.target))) ∙ move)
 
 moved_not : (k : Kernel) (t : Step) (r s pid : Pid) (m : Message) (x : Process) (dest src count number : ℕ) → IsSound k → KeepsAll r t →
     AllAsSent k r → k.procs s ≡ Some x → sending x.state ≡ Some (r, m) → t ≡ steps.Call pid (calls.MoveTo s dest src count) →
@@ -132,19 +130,19 @@ kept_memory : (k : Kernel) (t : Step) (r s : Pid) (m : Message) (x p : Process) 
 kept_memory k t r s m x p sound not own none at sends (Kept.stays same) = same
 kept_memory k t r s m x p sound not own none at sends (Kept.copied_to n number offset count c g mine who) =
     let is = copying_is k n number offset count c g in
-    absurd (written_not k r s m x n number c c.move.direction sound none at sends is.exchange is.move is.written mine who)
+    absurd (written_not k r s m x n number c sound none at sends is.exchange is.move
+    (copied_own k s (r, m) x n number c c.move.direction sends is.written mine who))
 kept_memory k t r s m x p sound not own none at sends (Kept.moved pid dest src count number step holds near) =
     absurd (moved_not k t r s pid m x dest src count number sound not own at sends step holds near)
 
 -- One step back from a sender that waits for r.
-data Back (t : Step) (s r : Pid) (m : Message) (x p : Process) : Type 0 where
+pub data Back (t : Step) (s r : Pid) (m : Message) (x p : Process) : Type 0 where
   here : t ≡ steps.Call s (calls.Send r m) → p.sends ≡ x.sends + 1 → p.memory ≡ x.memory → Back t s r m x p
-  waited : sending x.state ≡ Some (r, m) → p.sends ≡ x.sends → p.memory ≡ x.memory → Back t s r m x p
+  waited : sending x.state ≡ Some (r, m) → p.sends ≡ x.sends → Back t s r m x p
 
 same_back : (t : Step) (s r : Pid) (m : Message) (x p : Process) → x ≡ p → sending p.state ≡ Some (r, m) → Back t s r m x p
 same_back t s r m x p same sends =
     Back.waited (ap (λ (z : Process). sending z.state) same ∙ sends) (ap (λ (z : Process). z.sends) (sym same))
-    (ap (λ (z : Process). z.memory) (sym same))
 
 touched_memory : (k : Kernel) (t : Step) (r s : Pid) (m : Message) (x p : Process) → IsSound k → KeepsAll r t → AllAsSent k r →
     NoMoves k r → k.procs s ≡ Some x → sending x.state ≡ Some (r, m) → sending p.state ≡ Some (r, m) → Touched k t s x p →
@@ -157,7 +155,7 @@ touched_memory k t r s m x p sound not own none at sends now (Touched.takes step
 touched_memory k t r s m x p sound not own none at sends now (Touched.collects step idle reply) =
     absurd (both_ways (is_waiting x.state) idle (sending_waits x.state (r, m) sends))
 touched_memory k t r s m x p sound not own none at sends now (Touched.finishes step over) = absurd (none-some (r, m) (sym over ∙ now))
-touched_memory k t r s m x p sound not own none at sends now (Touched.waits w reply kept) =
+touched_memory k t r s m x p sound not own none at sends now (Touched.waits w reply kept on stays) =
     kept_memory k t r s m x p sound not own none at sends kept
 
 sent_procs : (k : Kernel) (pid : Pid) (p : Process) (target : Pid) (m : Message) (q : Pid) →
@@ -196,20 +194,18 @@ sent_back k t l s r m x p pid y target n at now sends step there after = elim (c
     procs : put_process k.procs pid (record y { state = states.Blocked (calls.Send target n); sends = y.sends + 1 }) s ≡ l.procs s
     procs = sym (sent_procs k pid y target n s) ∙ ap (λ (z : Kernel). z.procs s) (sym after)
 
-step_back : (k : Kernel) (t : Step) (l : Kernel) (r s : Pid) (m : Message) (x p : Process) → IsSound k → KeepsAll r t →
-    AllAsSent k r → NoMoves k r → k.procs s ≡ Some x → l.procs s ≡ Some p → sending p.state ≡ Some (r, m) → Touched k t s x p →
-    IsStep t k l → Back t s r m x p
-step_back k t l r s m x p sound not own none at now sends touch (IsStep.goes on) =
+pub step_back : (k : Kernel) (t : Step) (l : Kernel) (r s : Pid) (m : Message) (x p : Process) → k.procs s ≡ Some x → l.procs s ≡ Some p →
+    sending p.state ≡ Some (r, m) → IsStep t k l → Back t s r m x p
+step_back k t l r s m x p at now sends (IsStep.goes on) =
     let y = related_after (ProcessOn t s) (k.procs s) (l.procs s) x (on.processes s) at in
     let later : ProcessOn t s x p = subst (ProcessOn t s x) (same_Some y.0 p (sym y.1 ∙ now)) y.2 in
-    let before = later.sent (r, m) sends in
-    Back.waited before later.sends (touched_memory k t r s m x p sound not own none at before sends touch)
-step_back k t l r s m x p sound not own none at now sends touch (IsStep.sends pid y target n is there fit after) =
+    Back.waited (later.sent (r, m) sends) later.sends
+step_back k t l r s m x p at now sends (IsStep.sends pid y target n is there fit after) =
     sent_back k t l s r m x p pid y target n at now sends is there after
-step_back k t l r s m x p sound not own none at now sends touch (IsStep.arrives n e is g after) =
+step_back k t l r s m x p at now sends (IsStep.arrives n e is g after) =
     same_back t s r m x p
     (same_Some x p (sym at ∙ sym (arrived_procs k n e s) ∙ ap (λ (z : Kernel). z.procs s) (sym after) ∙ now)) sends
-step_back k t l r s m x p sound not own none at now sends touch (IsStep.forwards pid y n from to is f) =
+step_back k t l r s m x p at now sends (IsStep.forwards pid y n from to is f) =
     same_back t s r m x p
     (same_Some x p (sym at ∙ sym (forwarded_procs k (name_of from f.number) f.exchange n to s)
     ∙ ap (λ (z : Kernel). z.procs s) (sym f.after) ∙ now)) sends
@@ -244,8 +240,9 @@ later_call specs ss i s r m x p sends memory c =
 
 call_by_back : (specs : List ProcessSpec) (ss : List Step) (i : ℕ) (k : Kernel) (t : Step) (s r : Pid) (m : Message) (x p : Process) →
     before specs ss i ≡ Some k → slice_get ss i ≡ Some t → k.procs s ≡ Some x → Back t s r m x p →
-    (sending x.state ≡ Some (r, m) → IsCalled specs ss i s r m x) → IsCalled specs ss (suc i) s r m p
-call_by_back specs ss i k t s r m x p at is there (Back.here step sends memory) again = record {
+    (sending x.state ≡ Some (r, m) → p.memory ≡ x.memory) → (sending x.state ≡ Some (r, m) → IsCalled specs ss i s r m x) →
+    IsCalled specs ss (suc i) s r m p
+call_by_back specs ss i k t s r m x p at is there (Back.here step sends memory) kept again = record {
   place = i;
   earlier = omega arith;
   is = is ∙ ap (λ (z : Step). Some z) step;
@@ -256,35 +253,36 @@ call_by_back specs ss i k t s r m x p at is there (Back.here step sends memory) 
   sends = sends;
   memory = memory;
 }
-call_by_back specs ss i k t s r m x p at is there (Back.waited still sends memory) again =
-    later_call specs ss i s r m x p sends memory (again still)
+call_by_back specs ss i k t s r m x p at is there (Back.waited still sends) kept again =
+    later_call specs ss i s r m x p sends (kept still) (again still)
 
-call_by_next : (pages requests : ℕ) (specs : List ProcessSpec) (ss : List Step) (i : ℕ) (s r : Pid) (m : Message) (l : Kernel)
-    (p : Process) → Follows (server_call pages requests) specs ss r → IsNext specs ss i l → l.procs s ≡ Some p →
+call_by_next : (specs : List ProcessSpec) (ss : List Step) (i : ℕ) (s r : Pid) (m : Message) (l : Kernel)
+    (p : Process) → KeepsEach ss r → IsNext specs ss i l → l.procs s ≡ Some p →
     sending p.state ≡ Some (r, m) →
     ((k : Kernel) (x : Process) → before specs ss i ≡ Some k → k.procs s ≡ Some x → sending x.state ≡ Some (r, m) →
     IsCalled specs ss i s r m x) → IsCalled specs ss (suc i) s r m p
-call_by_next pages requests specs ss i s r m l p follows n now sends again = elim n.how [
+call_by_next specs ss i s r m l p keeps n now sends again = elim n.how [
   | inl h ↦
       let k = n.kernel in
       let sound = before_sound specs ss i k n.at in
       let later : h.1.after.procs s ≡ Some p = ap (λ (z : Kernel). z.procs s) h.4 ∙ now in
       let x = was_there k h.0 h.1 s p sound h.3 later in
       call_by_back specs ss i k h.0 s r m x.0 p n.at h.2 x.1
-      (step_back k h.0 h.1.after r s m x.0 p sound (keeps_all pages requests specs ss r i h.0 follows h.2)
-      (as_sent pages requests specs ss r follows i k n.at) (no_moves pages requests specs ss r follows i k n.at) x.1 later sends
-      (touched k h.0 h.1 sound h.3 s x.0 p x.1 later)
-      (step_is k h.0 h.1 sound h.3)) (again k x.0 n.at x.1)
+      (step_back k h.0 h.1.after r s m x.0 p x.1 later sends (step_is k h.0 h.1 sound h.3))
+      (λ waited. touched_memory k h.0 r s m x.0 p sound (keeps i h.0 h.2)
+      (as_sent specs ss r (never_hands ss r keeps) i k n.at) (no_moves specs ss r keeps i k n.at)
+      x.1 waited sends (touched k h.0 h.1 sound h.3 s x.0 p x.1 later))
+      (again k x.0 n.at x.1)
   | inr h ↦ later_call specs ss i s r m p p refl refl
       (again n.kernel p n.at (ap (λ (z : Kernel). z.procs s) h.1 ∙ now) sends)
 ]
 
-pub called_before : (pages requests : ℕ) (specs : List ProcessSpec) (ss : List Step) (s r : Pid) (m : Message) →
-    Follows (server_call pages requests) specs ss r → (i : ℕ) (k : Kernel) (p : Process) → before specs ss i ≡ Some k →
+pub called_before : (specs : List ProcessSpec) (ss : List Step) (s r : Pid) (m : Message) →
+    KeepsEach ss r → (i : ℕ) (k : Kernel) (p : Process) → before specs ss i ≡ Some k →
     k.procs s ≡ Some p → sending p.state ≡ Some (r, m) → IsCalled specs ss i s r m p
-called_before pages requests specs ss s r m follows zero k p at there sends =
+called_before specs ss s r m keeps zero k p at there sends =
     absurd (none-some (r, m) (ap sending (sym (initial_ready (find (is_process s) specs) p
     (ap (λ (z : Kernel). z.procs s) (before_first specs ss k at) ∙ there))) ∙ sends))
-called_before pages requests specs ss s r m follows (suc i) k p at there sends =
-    call_by_next pages requests specs ss i s r m k p follows (before_next specs ss i k at) there sends
-    (λ l x at_l there_x still. called_before pages requests specs ss s r m follows i l x at_l there_x still)
+called_before specs ss s r m keeps (suc i) k p at there sends =
+    call_by_next specs ss i s r m k p keeps (before_next specs ss i k at) there sends
+    (λ l x at_l there_x still. called_before specs ss s r m keeps i l x at_l there_x still)

@@ -12,8 +12,8 @@ use Rattle.vk_base.specs.Kernel.{◌>>=◌}
 use Rattle.vk_base.specs.Pids.{same_pid}
 use Rattle.vk_base.specs.Settings.{Settings}
 use Rattle.vk_base.specs.Steps.{only_if}
-use Rattle.vk_event.specs.declared.event.Event.{Event}
-use Rattle.vk_event.specs.declared.event.Event.TheVariants as events
+use Rattle.vk_schedule.specs.declared.event.Event.{Event}
+use Rattle.vk_schedule.specs.declared.event.Event.TheVariants as events
 use Rattle.vk_pages.specs.Servers.{server_call}
 use Rattle.vk_rules.specs.Histories.{history_of}
 use Rattle.vk_rules.specs.Observed.{no_call, observed}

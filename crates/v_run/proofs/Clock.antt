@@ -31,7 +31,7 @@ no_tick_next task r calls answers (events.Collect pid) next = refl
 no_tick_next task r calls answers events.Tick next = absurd next
 no_tick_next task r calls answers (events.Deliver f) next = absurd next
 
-plays_no_tick : (task : List Answer
+pub plays_no_tick : (task : List Answer
     → Option Call) (r : Pid) (o : StationHistory) (calls : List Call) (answers : List Answer) (acts : List Action)
     → Plays task r o calls answers acts → ticks_by acts ≡ 0
 plays_no_tick task r o calls answers [] plays = refl
@@ -57,7 +57,7 @@ one_tick (events.Collect pid) tick = absurd tick
 one_tick events.Tick tick = refl
 one_tick (events.Deliver f) tick = absurd tick
 
-only_ticks : (acts : List Action) → OnlyTicks acts → ticks_by acts ≡ tick_count acts
+pub only_ticks : (acts : List Action) → OnlyTicks acts → ticks_by acts ≡ tick_count acts
 only_ticks [] only = refl
 only_ticks (Enters before e posted ∷ acts) only = let rest = only_ticks acts only.1 in let one = one_tick e only.0 in omega arith
 only_ticks (Delivers heard frame before posted ∷ acts) only = let rest = only_ticks acts only in omega arith

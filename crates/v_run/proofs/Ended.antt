@@ -9,7 +9,7 @@ use Rattle.vk_base.specs.declared.event.StationEvent.{StationEvent}
 use Rattle.vk_base.specs.declared.event.StationEvent.TheVariants as events
 use Rattle.vk_base.specs.declared.pid.Pid.{Pid}
 use Rattle.vk_base.specs.Settings.{Settings}
-use Rattle.vk_event.specs.declared.scenario.LinkPlan.{LinkPlan}
+use Rattle.vk_schedule.specs.declared.plan.LinkPlan.{LinkPlan}
 use Rattle.vk_hub.specs.declared.event.Fetched.TheVariants as fetched
 use Rattle.vk_hub.specs.declared.event.HubEvent.{HubEvent}
 use Rattle.vk_hub.specs.declared.event.HubEvent.TheVariants as hub_events
@@ -59,7 +59,7 @@ module _ (plan : LinkPlan) (n : ℕ) where
   finished_step hub_events.Finished t m s rest = omega arith
   finished_step hub_events.Halt t m s rest = omega arith
 
-  finished_after : (t : Traffic) (xs : List (ℕ × HubEvent)) → (traffic_after plan n t xs).finished ≡ t.finished + summed finishes xs
+  pub finished_after : (t : Traffic) (xs : List (ℕ × HubEvent)) → (traffic_after plan n t xs).finished ≡ t.finished + summed finishes xs
   finished_after t [] = omega arith
   finished_after t (x ∷ xs) =
       finished_step x.1 t ((traffic_after plan n (changed plan n t x.1) xs).finished) (summed finishes xs) (finished_after (changed plan
@@ -71,7 +71,7 @@ module _ (plan : LinkPlan) (n : ℕ) where
   halted_step hub_events.Finished t s none = (refl, omega arith)
   halted_step hub_events.Halt t s none = absurd (omega arith)
 
-  halted_after : (t : Traffic) (xs : List (ℕ × HubEvent)) → summed halts xs ≡ 0 → (traffic_after plan n t xs).halted ≡ t.halted
+  pub halted_after : (t : Traffic) (xs : List (ℕ × HubEvent)) → summed halts xs ≡ 0 → (traffic_after plan n t xs).halted ≡ t.halted
   halted_after t [] none = refl
   halted_after t (x ∷ xs) none =
       let step = halted_step x.1 t (summed halts xs) none in halted_after (changed plan n t x.1) xs step.1 ∙ step.0
@@ -81,7 +81,7 @@ found_is_no_stop : (o : Option Frame) → found o ≡ fetched.Stopped → ⊥
 found_is_no_stop (Some f) is = cc is
 found_is_no_stop None is = cc is
 
-stopped_by : (programs h : ℕ) (t : Traffic) (b : Bool) → is_stopped programs t ≡ b
+pub stopped_by : (programs h : ℕ) (t : Traffic) (b : Bool) → is_stopped programs t ≡ b
     → (if b then fetched.Stopped else found (first_for h t.waiting)) ≡ fetched.Stopped → is_stopped programs t ≡ true
 stopped_by programs h t true is stop = is
 stopped_by programs h t false is stop = absurd (found_is_no_stop (first_for h t.waiting) stop)
@@ -109,7 +109,7 @@ is_program Pumps = 0
 is_program Ticks = 0
 
 -- each finishes at most once, and is a program
-finish_few : (c : Settings) (g : Passage) (role : Role) → EndsRole c g role → IsLast g.last → added finishes g.last ≤ is_program role
+pub finish_few : (c : Settings) (g : Passage) (role : Role) → EndsRole c g role → IsLast g.last → added finishes g.last ≤ is_program role
 finish_few c g (Runs r task) ends (inl is) = let n = ap (added finishes) is in omega arith
 finish_few c g (Runs r task) ends (inr (inl is)) = let n = ap (added finishes) is in omega arith
 finish_few c g (Runs r task) ends (inr (inr is)) = let n = ap (added finishes) is in omega arith
@@ -120,12 +120,12 @@ finish_few c g Ticks ends (inl is) = let n = ap (added finishes) is in omega ari
 finish_few c g Ticks ends (inr (inl is)) = absurd (ends is)
 finish_few c g Ticks ends (inr (inr is)) = let n = ap (added finishes) is in omega arith
 
-no_halt_last : (last : List HubEvent) → IsLast last → last ≢ hub_events.Halt ∷ [] → added halts last ≡ 0
+pub no_halt_last : (last : List HubEvent) → IsLast last → last ≢ hub_events.Halt ∷ [] → added halts last ≡ 0
 no_halt_last last (inl is) none = ap (added halts) is
 no_halt_last last (inr (inl is)) none = ap (added halts) is
 no_halt_last last (inr (inr is)) none = absurd (none is)
 
-no_sends : (u : HubEvent → ℕ) → ((f : Frame) → u (hub_events.Post f) ≡ 0) → ((h : ℕ) → u (hub_events.Fetch h) ≡ 0)
+pub no_sends : (u : HubEvent → ℕ) → ((f : Frame) → u (hub_events.Post f) ≡ 0) → ((h : ℕ) → u (hub_events.Fetch h) ≡ 0)
     → (o : StationHistory) (host : ℕ) (acts : List Action) → added u (sends o host acts) ≡ 0
 no_sends u post fetch o host acts =
     let few = sends_few u (λ f. 0) post o host acts in

@@ -4,8 +4,8 @@ use Rattle.std.proofs.lemmas.Bool.{cases_Bool}
 use Rattle.vk_base.specs.Settings.{Settings}
 use Rattle.vk_cluster.proofs.Logs.{with_here, with_other}
 use Rattle.vk_cluster.specs.Standing.{logs_of}
-use Rattle.vk_event.specs.declared.event.Event.{Event}
-use Rattle.vk_event.specs.declared.event.Event.TheVariants as scheduled
+use Rattle.vk_schedule.specs.declared.event.Event.{Event}
+use Rattle.vk_schedule.specs.declared.event.Event.TheVariants as scheduled
 use Rattle.vk_join.proofs.Numbers.{IsFew, few_later, few_next, number_came}
 use Rattle.vk_port.specs.declared.station.TheConstants.{LAST_NUMBER}
 use Rattle.vk_rules.specs.Each.{Each}

@@ -17,9 +17,9 @@ use Rattle.vk_base.specs.Steps.{only_if}
 use Rattle.vk_base.proofs.OptionLemmas.{bind_is}
 use Rattle.vk_cluster.proofs.Logs.{history_more, logs_next, with_here, with_other}
 use Rattle.vk_cluster.specs.Standing.{logs_of}
-use Rattle.vk_event.specs.declared.event.Event.{Event}
-use Rattle.vk_event.specs.declared.event.Event.TheVariants as scheduled
-use Rattle.vk_event.specs.Lawful.{has_actors}
+use Rattle.vk_schedule.specs.declared.event.Event.{Event}
+use Rattle.vk_schedule.specs.declared.event.Event.TheVariants as scheduled
+use Rattle.vk_schedule.specs.Lawful.{has_actors}
 use Rattle.vk_rules.specs.CallOutcomes.{given}
 use Rattle.vk_rules.specs.Each.{Each}
 use Rattle.vk_rules.specs.Entries.{Called, Collected, Entry, Input}

@@ -16,11 +16,11 @@ use Rattle.v_ended.specs.Ends.{EachWorkIsEndedByFrame, NoTickEnds}
 use Rattle.v_run.specs.Passages.{fresh_station}
 
 -- the inputs of these events behind others, of which the newest comes first
-abbrev inputs_behind : List Input → List StationEvent → List Input
+abbrev pub inputs_behind : List Input → List StationEvent → List Input
 inputs_behind is [] = is
 inputs_behind is (e ∷ es) = inputs_behind (input_of e ∷ is) es
 
-behind_are : (c : Settings) (h : ℕ) (is : List Input) (es : List StationEvent)
+pub behind_are : (c : Settings) (h : ℕ) (is : List Input) (es : List StationEvent)
     → entries_from c h (entries_of c h is) es ≡ entries_of c h (inputs_behind is es)
 behind_are c h is [] = refl
 behind_are c h is (e ∷ es) = behind_are c h (input_of e ∷ is) es
@@ -32,7 +32,7 @@ own_input o (events.Collect pid) own = eqb-true pid.host o.host (and_parts (has_
 own_input o events.Tick own = tt
 own_input o (events.Deliver frame) own = tt
 
-own_behind : (o : StationHistory) (is : List Input) (xs : List (ℕ × StationEvent)) → AreOwnInputs o.host is
+pub own_behind : (o : StationHistory) (is : List Input) (xs : List (ℕ × StationEvent)) → AreOwnInputs o.host is
     → Each (λ (x : ℕ × StationEvent). is_own o x.1 ≡ true) xs → AreOwnInputs o.host (inputs_behind is (map event_of xs))
 own_behind o is [] own all = own
 own_behind o is (x ∷ xs) own all = own_behind o (input_of x.1 ∷ is) xs (own_input o x.1 all.0, own) all.1

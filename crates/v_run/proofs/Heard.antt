@@ -19,7 +19,7 @@ prefix_over xs ys zs one two = (one.0 ++ two.0, sym (append_assoc xs one.0 two.0
 pub prefix_front : {A : Type 0} (xs ys zs : List A) → IsPrefix (xs ++ ys) zs → IsPrefix xs zs
 prefix_front xs ys zs pre = (ys ++ pre.0, sym (append_assoc xs ys pre.0) ∙ pre.1)
 
-append_same : {A : Type 0} (xs ys zs : List A) → xs ++ ys ≡ xs ++ zs → ys ≡ zs
+pub append_same : {A : Type 0} (xs ys zs : List A) → xs ++ ys ≡ xs ++ zs → ys ≡ zs
 append_same [] ys zs same = same
 append_same (x ∷ xs) ys zs same = append_same xs ys zs (grind (arith, same))
 
@@ -75,7 +75,7 @@ module _ (w : List (ℕ × HubEvent) → HubEvent → ℕ) (of : IsOfFetches w) 
   light (p ∷ ps) none = let one = light_one p.0 p.1 none.0 in let rest = light ps none.1 in omega arith
 
   -- what lies between, without a fetch
-  light_between : (n : ℕ) (xs ys : List (ℕ × HubEvent)) (more : List HubEvent) → IsPrefix xs ys
+  pub light_between : (n : ℕ) (xs ys : List (ℕ × HubEvent)) (more : List HubEvent) → IsPrefix xs ys
       → events_of n ys ≡ events_of n xs ++ more → Each IsNoFetch more → weight w (places n [] ys) ≡ weight w (places n [] xs)
   light_between n xs ys more pre is none =
       let rest = pre.0 in
@@ -92,7 +92,7 @@ module _ (w : List (ℕ × HubEvent) → HubEvent → ℕ) (of : IsOfFetches w) 
       plus_none : (k : ℕ) → k + 0 ≡ k
       plus_none k = omega arith
 
-  heavy_last : (n : ℕ) (xs : List (ℕ × HubEvent)) (e : HubEvent)
+  pub heavy_last : (n : ℕ) (xs : List (ℕ × HubEvent)) (e : HubEvent)
       → weight w (places n [] (xs ++ (n, e) ∷ [])) ≡ weight w (places n [] xs) + w xs e
   heavy_last n xs e =
       ap (weight w) (placed_last n xs e)

@@ -54,15 +54,15 @@ one_each : (b : Bool) → cond {A = ℕ} b 0 1 ≤ 1
 one_each true = omega arith
 one_each false = omega arith
 
-last_few : (last : List HubEvent) → added other last ≤ length last
+pub last_few : (last : List HubEvent) → added other last ≤ length last
 last_few [] = omega arith
 last_few (e ∷ es) = let rest = last_few es in let one = one_each (is_halt e) in omega arith
 
-added_ones : {A : Type 0} (xs : List A) → added (λ x. 1) xs ≡ length xs
+pub added_ones : {A : Type 0} (xs : List A) → added (λ x. 1) xs ≡ length xs
 added_ones [] = refl
 added_ones (x ∷ xs) = let rest = added_ones xs in omega arith
 
-length_map : {A B : Type 0} (f : A → B) (xs : List A) → length (map f xs) ≡ length xs
+pub length_map : {A B : Type 0} (f : A → B) (xs : List A) → length (map f xs) ≡ length xs
 length_map f [] = refl
 length_map f (x ∷ xs) = ap suc (length_map f xs)
 

@@ -13,7 +13,7 @@ use Rattle.vk_base.specs.declared.pid.Pid.{Pid}
 use Rattle.vk_base.specs.Settings.{AreLawful, Settings, has_process, has_station, stations_of}
 use Rattle.vk_cluster.specs.declared.frames.TheConstants.{MOST_BYTES}
 use Rattle.vk_host.specs.Values.{input_of}
-use Rattle.vk_join.specs.declared.log.StationLog.{StationLog}
+use Rattle.vk_schedule.specs.declared.log.StationLog.{StationLog}
 use Rattle.vk_join.specs.Logs.{AreLogs, HostsRise, IsOfStation, byte_count, bytes_in, entries_behind, entries_for, event_count, events_at}
 use Rattle.vk_join.specs.Logs as joined
 use Rattle.vk_port.specs.Stations.{StationHistory, emitted_bytes, entries_at, entries_from, event_of, is_own, most_entries, share_of_bytes}
@@ -56,10 +56,26 @@ both P Q R [] joins one two = tt
 both P Q R (x ∷ xs) joins one two = (joins x one.0 two.0, both P Q R xs joins one.1 two.1)
 
 -- The same entries.
-behind_is : (c : Settings) (h : ℕ) (es : List Entry) (xs : List StationEvent)
+pub behind_is : (c : Settings) (h : ℕ) (es : List Entry) (xs : List StationEvent)
     → entries_behind c h es (map input_of xs) ≡ entries_from c h es xs
 behind_is c h es [] = refl
 behind_is c h es (x ∷ xs) = behind_is c h (entry_of c h es (input_of x) ∷ es) xs
+
+of_station_by : (o : StationHistory) (pid : Pid) → (has_process o.config.specs pid && (pid.host == o.host)) ≡ true
+    → (pid.host ≡ o.host) × (has_process o.config.specs pid ≡ true)
+of_station_by o pid own =
+    let parts = and_parts (has_process o.config.specs pid) (pid.host == o.host) own in (eqb-true pid.host o.host parts.1, parts.0)
+
+of_station : (o : StationHistory) (e : StationEvent) → is_own o e ≡ true → IsOfStation o.config.specs o.host e
+of_station o (events.Call pid call) own = of_station_by o pid own
+of_station o (events.Collect pid) own = of_station_by o pid own
+of_station o events.Tick own = tt
+of_station o (events.Deliver frame) own = tt
+
+pub all_of_station : (o : StationHistory) (xs : List (ℕ × StationEvent)) → Each (λ (x : ℕ × StationEvent). is_own o x.1 ≡ true) xs
+    → Each (IsOfStation o.config.specs o.host) (map event_of xs)
+all_of_station o [] own = tt
+all_of_station o (x ∷ xs) own = (of_station o x.1 own.0, all_of_station o xs own.1)
 
 module _ (c : Settings) (histories : ℕ → List (ℕ × StationEvent)) (logs : List StationLog) (are : AreLogsOf c histories logs) where
   pub entries_are : (h : ℕ) → joined.entries_at c logs h ≡ entries_at (fresh_station c h) (histories h)
@@ -68,22 +84,6 @@ module _ (c : Settings) (histories : ℕ → List (ℕ × StationEvent)) (logs :
   -- of each log
   pub of_stations : (P : ℕ → Type 0) → ((h : ℕ) → has_station c.specs h ≡ true → P h) → Each (λ (l : StationLog). P l.host) logs
   of_stations P all = of_hosts P logs (subst (Each P) (sym are.hosts) (each_station P c all))
-
-  of_station_by : (o : StationHistory) (pid : Pid) → (has_process o.config.specs pid && (pid.host == o.host)) ≡ true
-      → (pid.host ≡ o.host) × (has_process o.config.specs pid ≡ true)
-  of_station_by o pid own =
-      let parts = and_parts (has_process o.config.specs pid) (pid.host == o.host) own in (eqb-true pid.host o.host parts.1, parts.0)
-
-  of_station : (o : StationHistory) (e : StationEvent) → is_own o e ≡ true → IsOfStation o.config.specs o.host e
-  of_station o (events.Call pid call) own = of_station_by o pid own
-  of_station o (events.Collect pid) own = of_station_by o pid own
-  of_station o events.Tick own = tt
-  of_station o (events.Deliver frame) own = tt
-
-  all_of_station : (o : StationHistory) (xs : List (ℕ × StationEvent)) → Each (λ (x : ℕ × StationEvent). is_own o x.1 ≡ true) xs
-      → Each (IsOfStation o.config.specs o.host) (map event_of xs)
-  all_of_station o [] own = tt
-  all_of_station o (x ∷ xs) own = (of_station o x.1 own.0, all_of_station o xs own.1)
 
   module _ (lawful : AreLawful c) where
     rise : HostsRise logs

@@ -22,7 +22,7 @@ use Rattle.vk_hub.specs.Hubs.{HubLog}
 use Rattle.vk_hub.specs.Links as links
 use Rattle.vk_hub.specs.Links.{header_of}
 use Rattle.vk_join.proofs.Given.{IsSound, each_emitted}
-use Rattle.vk_join.specs.declared.log.StationLog.{StationLog}
+use Rattle.vk_schedule.specs.declared.log.StationLog.{StationLog}
 use Rattle.vk_join.specs.Laws.{AreGiven, BringsOutput, IsOutput, OutputsAreJoined}
 use Rattle.vk_join.specs.Logs.{events_at}
 use Rattle.vk_join.specs.Logs as joined

@@ -4,10 +4,10 @@ use Rattle.vk_base.specs.declared.event.StationEvent.{StationEvent}
 use Rattle.vk_base.specs.declared.limits.TheConstants.{EVENTS}
 use Rattle.vk_base.specs.Settings.{Settings, has_station}
 use Rattle.vk_cluster.specs.Standing.{logs_of}
-use Rattle.vk_event.specs.declared.schedule.Schedule.{Schedule}
+use Rattle.vk_schedule.specs.declared.schedule.Schedule.{Schedule}
 use Rattle.vk_frame.specs.Law.{FramesAreSpelledOnce}
 use Rattle.vk_join.proofs.Given.{IsSound, sound_at}
-use Rattle.vk_join.specs.declared.log.StationLog.{StationLog}
+use Rattle.vk_schedule.specs.declared.log.StationLog.{StationLog}
 use Rattle.vk_join.specs.Joined.{IsJoined}
 use Rattle.vk_join.specs.Laws.{AreGiven, BytesAreOfStations, OutputsAreJoined}
 use Rattle.vk_join.specs.Logs.{bytes_in, event_count}

@@ -26,7 +26,7 @@ module _ (w : List (ℕ × StationEvent) → StationEvent → ℕ) where
       → is_full o before e ≡ false
       → w before e ≡ 0
 
-  light_log : (b : Berth) → IsLight b.station → (acts : List Action) (s t : Stand) → IsLog b s acts t → weight w (entered_places acts) ≡ 0
+  pub light_log : (b : Berth) → IsLight b.station → (acts : List Action) (s t : Stand) → IsLog b s acts t → weight w (entered_places acts) ≡ 0
   light_log b light [] s t log = refl
   light_log b light (Enters before e posted ∷ acts) s t log =
       let one = light before e log.0.own log.0.ready log.0.room in
@@ -41,11 +41,11 @@ module _ (w : List (ℕ × StationEvent) → StationEvent → ℕ) where
   light_log b light (Hears heard ∷ acts) s t log = light_log b light acts (fetched_at b s heard) t log.1
 
 -- A collect that is not allowed.
-abbrev is_early : StationHistory → List (ℕ × StationEvent) → StationEvent → Bool
+abbrev pub is_early : StationHistory → List (ℕ × StationEvent) → StationEvent → Bool
 is_early o before (events.Collect pid) = not (is_allowed (reading o.config o.host (entries_at o before)).view (steps.Collect pid))
 is_early o before e = false
 
-abbrev early : StationHistory → List (ℕ × StationEvent) → StationEvent → ℕ
+abbrev pub early : StationHistory → List (ℕ × StationEvent) → StationEvent → ℕ
 early o before e = cond (is_early o before e) 1 0
 
 and_second : (a b : Bool) → (a && b) ≡ true → b ≡ true
@@ -56,7 +56,7 @@ not_early : (b : Bool) → b ≡ true → cond {A = ℕ} (not b) 1 0 ≡ 0
 not_early true is = refl
 not_early false is = absurd (cc is)
 
-early_none : (o : StationHistory) → IsLight (early o) o
+pub early_none : (o : StationHistory) → IsLight (early o) o
 early_none o before (events.Call pid c) own ready room = refl
 early_none o before (events.Collect pid) own ready room =
     not_early (is_allowed (reading o.config o.host (entries_at o before)).view (steps.Collect pid)) (and_second _ _ ready)
@@ -74,7 +74,7 @@ in_time_one o before (events.Collect pid) none = allowed_by _ none
 in_time_one o before events.Tick none = tt
 in_time_one o before (events.Deliver f) none = tt
 
-in_time_all : (o : StationHistory) (acc xs : List (ℕ × StationEvent)) → total (early o) acc xs ≡ 0
+pub in_time_all : (o : StationHistory) (acc xs : List (ℕ × StationEvent)) → total (early o) acc xs ≡ 0
     → ComeInTime o.config o.host (entries_at o acc)
     → ComeInTime o.config o.host (entries_at o (acc ++ xs))
 in_time_all o acc [] none so = subst (λ l. ComeInTime o.config o.host (entries_at o l)) (sym (append-nil acc)) so

@@ -94,7 +94,7 @@ entries_size o acc (x ∷ xs) =
     ap (λ l. length (entries_at o l)) (append_assoc acc (x ∷ []) xs) in
     omega arith
 
-used_more : (o : StationHistory) (xs history : List (ℕ × StationEvent)) → IsPrefix xs history → is_used_up o xs ≡ true
+pub used_more : (o : StationHistory) (xs history : List (ℕ × StationEvent)) → IsPrefix xs history → is_used_up o xs ≡ true
     → is_used_up_by (length (entries_at o history)) (emitted_bytes (entries_at o history)) (length (stations_of o.config.specs)) ≡ true
 used_more o xs history pre used =
     let size = entries_size o [] history in
@@ -151,7 +151,7 @@ module _ (to : ℕ) where
       omega arith
 
 -- what was refused was fetched
-dropped_weight : (test : Frame → Bool) (f : Frame) → test f ≡ true → (b : Berth) (acts : List Action) (s t : Stand) → IsLog b s acts t
+pub dropped_weight : (test : Frame → Bool) (f : Frame) → test f ≡ true → (b : Berth) (acts : List Action) (s t : Stand) → IsLog b s acts t
     → HasDropped f acts
     → 1 ≤ weight (λ before e. gets test b.host b.hub.programs (traffic_of b.hub before) e) (fetched_places b.host acts)
 dropped_weight test f is b [] s t log has = absurd has
@@ -170,7 +170,7 @@ dropped_weight test f is b (Drops heard frame ∷ acts) s t log (inr has) =
 dropped_weight test f is b (Hears heard ∷ acts) s t log has =
     let rest = dropped_weight test f is b acts (fetched_at b s heard) t log.1 has in omega arith
 
-at_least : {A : Type 0} (f : A → ℕ) (xs : List A) (x : A) → Among x xs → f x ≤ added f xs
+pub at_least : {A : Type 0} (f : A → ℕ) (xs : List A) (x : A) → Among x xs → f x ≤ added f xs
 at_least f [] x among = absurd among
 at_least f (y ∷ ys) x (inl is) = let one = ap f is in omega arith
 at_least f (y ∷ ys) x (inr among) = let rest = at_least f ys x among in omega arith

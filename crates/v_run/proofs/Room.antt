@@ -16,9 +16,9 @@ use Rattle.vk_cluster.proofs.Taking.{actor_station}
 use Rattle.vk_cluster.specs.declared.emitted.TheConstants.{LAST_BYTES}
 use Rattle.vk_cluster.specs.Standing.{logs_of}
 use Rattle.vk_cluster.specs.Standing as cluster
-use Rattle.vk_event.specs.declared.event.Event.{Event}
-use Rattle.vk_event.specs.declared.event.Event.TheVariants as scheduled
-use Rattle.vk_event.specs.Lawful.{has_actors}
+use Rattle.vk_schedule.specs.declared.event.Event.{Event}
+use Rattle.vk_schedule.specs.declared.event.Event.TheVariants as scheduled
+use Rattle.vk_schedule.specs.Lawful.{has_actors}
 use Rattle.vk_host.specs.Sealed.{sealed}
 use Rattle.vk_join.specs.Joined.{IsThere}
 use Rattle.vk_join.specs.Laws.{BytesAreOfStations}

@@ -12,7 +12,7 @@ use Rattle.vk_base.specs.Pids.{is_below}
 unfoldable use Rattle.vk_base.specs.Settings.{fault_of}
 use Rattle.vk_base.specs.Settings.{AreLawful, Settings, first_fault, is_too_many, or_else, rises, stations_of}
 use Rattle.vk_base.proofs.SettingsLemmas.{room_of_stations, stations_of-append}
-use Rattle.vk_join.specs.declared.log.StationLog.{StationLog}
+use Rattle.vk_schedule.specs.declared.log.StationLog.{StationLog}
 use Rattle.vk_join.specs.Logs.{HostsRise}
 use Rattle.vk_rules.specs.Each.{Each}
 use Rattle.v_run.specs.Laws.{host_in}

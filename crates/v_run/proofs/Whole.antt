@@ -33,36 +33,36 @@ use Rattle.v_run.proofs.Ready.{in_time}
 use Rattle.v_run.proofs.Reasons.{reason}
 use Rattle.v_run.proofs.Unique.{seldom}
 
-same_self : (p : Pid) → same_pid p p ≡ true
+pub same_self : (p : Pid) → same_pid p p ≡ true
 same_self p = both (p.host == p.host) (p.local == p.local) (eq-eqb p.host p.host refl) (eq-eqb p.local p.local refl)
   where
     both : (a b : Bool) → a ≡ true → b ≡ true → (a && b) ≡ true
     both a b one two = ap (λ x. x && b) one ∙ two
 
-each_append : {A : Type 0} (P : A → Type 0) (xs ys : List A) → Each P xs → Each P ys → Each P (xs ++ ys)
+pub each_append : {A : Type 0} (P : A → Type 0) (xs ys : List A) → Each P xs → Each P ys → Each P (xs ++ ys)
 each_append P [] ys one two = two
 each_append P (x ∷ xs) ys one two = (one.0, each_append P xs ys one.1 two)
 
 -- what holds of the passages of each job holds of all
-from_jobs : (P : Passage → Type 0) (js : List JobEnd) → Each (λ (j : JobEnd). Each P j.passages) js → Each P (passages_of js)
+pub from_jobs : (P : Passage → Type 0) (js : List JobEnd) → Each (λ (j : JobEnd). Each P j.passages) js → Each P (passages_of js)
 from_jobs P [] each = tt
 from_jobs P (j ∷ js) each = each_append P j.passages (passages_of js) each.0 (from_jobs P js each.1)
 
-among_right : {A : Type 0} (x : A) (xs ys : List A) → Among x ys → Among x (xs ++ ys)
+pub among_right : {A : Type 0} (x : A) (xs ys : List A) → Among x ys → Among x (xs ++ ys)
 among_right x [] ys among = among
 among_right x (z ∷ xs) ys among = inr (among_right x xs ys among)
 
-among_left : {A : Type 0} (x : A) (xs ys : List A) → Among x xs → Among x (xs ++ ys)
+pub among_left : {A : Type 0} (x : A) (xs ys : List A) → Among x xs → Among x (xs ++ ys)
 among_left x [] ys among = absurd among
 among_left x (z ∷ xs) ys (inl is) = inl is
 among_left x (z ∷ xs) ys (inr among) = inr (among_left x xs ys among)
 
-one_among : {A : Type 0} (P : A → Type 0) (xs : List A) → OneOf P xs → (x : A) × Among x xs × P x
+pub one_among : {A : Type 0} (P : A → Type 0) (xs : List A) → OneOf P xs → (x : A) × Among x xs × P x
 one_among P [] one = absurd one
 one_among P (x ∷ xs) (inl p) = (x, inl refl, p)
 one_among P (x ∷ xs) (inr rest) = let it = one_among P xs rest in (it.0, inr it.1, it.2)
 
-among_jobs : (g : Passage) (j : JobEnd) (js : List JobEnd) → Among j js → Among g j.passages → Among g (passages_of js)
+pub among_jobs : (g : Passage) (j : JobEnd) (js : List JobEnd) → Among j js → Among g j.passages → Among g (passages_of js)
 among_jobs g j [] among here = absurd among
 among_jobs g j (i ∷ js) (inl is) here =
     among_left g i.passages (passages_of js) (subst (λ (x : JobEnd). Among g x.passages) (sym is) here)
@@ -78,13 +78,13 @@ length_append : {A : Type 0} (xs ys : List A) → length (xs ++ ys) ≡ length x
 length_append [] ys = omega arith
 length_append (x ∷ xs) ys = let rest = length_append xs ys in omega arith
 
-programs_are : (gs : List Passage) → length (tasks_of gs) ≡ added (λ (g : Passage). is_program g.role) gs
+pub programs_are : (gs : List Passage) → length (tasks_of gs) ≡ added (λ (g : Passage). is_program g.role) gs
 programs_are [] = refl
 programs_are (g ∷ gs) =
     let one = one_task g.role in let rest = programs_are gs in let sum = length_append (task_in g.role) (tasks_of gs) in omega arith
 
 -- what holds of each passage that runs a process holds of each task
-from_tasks : (P : Assignment → Type 0) (gs : List Passage) → Each (λ (g : Passage). Each P (task_in g.role)) gs → Each P (tasks_of gs)
+pub from_tasks : (P : Assignment → Type 0) (gs : List Passage) → Each (λ (g : Passage). Each P (task_in g.role)) gs → Each P (tasks_of gs)
 from_tasks P [] each = tt
 from_tasks P (g ∷ gs) each = each_append P (task_in g.role) (tasks_of gs) each.0 (from_tasks P gs each.1)
 

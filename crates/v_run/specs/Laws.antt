@@ -3,12 +3,12 @@ use Rattle.std.specs.Prelude.{ℕ, ◌≡◌, Bool, true, false, Some, None, Lis
 use Rattle.turn_cell.specs.declared.replay.Room.TheVariants as rooms
 use Rattle.vk_base.specs.declared.event.StationEvent.{StationEvent}
 use Rattle.vk_base.specs.Settings.{AreLawful, Settings, has_station, stations_of}
-use Rattle.vk_event.specs.declared.event.Event.{Event}
-use Rattle.vk_event.specs.declared.scenario.LinkPlan.{LinkPlan}
-use Rattle.vk_event.specs.declared.schedule.Schedule.{Schedule}
+use Rattle.vk_schedule.specs.declared.event.Event.{Event}
+use Rattle.vk_schedule.specs.declared.plan.LinkPlan.{LinkPlan}
+use Rattle.vk_schedule.specs.declared.schedule.Schedule.{Schedule}
 use Rattle.vk_hub.specs.declared.event.HubEvent.{HubEvent}
 use Rattle.vk_hub.specs.Hubs.{HubLog}
-use Rattle.vk_join.specs.declared.log.StationLog.{StationLog}
+use Rattle.vk_schedule.specs.declared.log.StationLog.{StationLog}
 use Rattle.vk_join.specs.Joined.{IsJoined}
 use Rattle.vk_join.specs.Laws.{AreGiven}
 use Rattle.vk_join.specs.Logs.{AreLogs, events_at}

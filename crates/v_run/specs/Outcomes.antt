@@ -7,7 +7,7 @@ use Rattle.vk_base.specs.Pids.{same_pid}
 use Rattle.vk_base.specs.Settings.{Settings, has_station, stations_of}
 use Rattle.vk_frame.specs.declared.header.Header.{Header}
 use Rattle.vk_hub.specs.Counting.{copies}
-use Rattle.vk_event.specs.declared.scenario.LinkPlan.{LinkPlan}
+use Rattle.vk_schedule.specs.declared.plan.LinkPlan.{LinkPlan}
 use Rattle.vk_port.specs.Stations.{emitted_bytes, is_used_up_by}
 use Rattle.vk_rules.specs.Each.{Each}
 use Rattle.vk_rules.specs.Entries.{Entry, Input, Called, Collected, Delivered, is_tick, is_delivery}

@@ -4,9 +4,9 @@ use Rattle.std.specs.List.{list_all}
 use Rattle.vk_base.specs.declared.event.EventAnswer.{EventAnswer}
 use Rattle.vk_base.specs.declared.limits.TheConstants.{EVENTS}
 use Rattle.vk_base.specs.Settings.{Settings}
-use Rattle.vk_event.specs.declared.scenario.LinkPlan.{LinkPlan}
-use Rattle.vk_event.specs.declared.schedule.Schedule.{Schedule}
-use Rattle.vk_event.specs.Lawful.{IsReadableEvent, has_actors}
+use Rattle.vk_schedule.specs.declared.plan.LinkPlan.{LinkPlan}
+use Rattle.vk_schedule.specs.declared.schedule.Schedule.{Schedule}
+use Rattle.vk_schedule.specs.Lawful.{IsReadableEvent, has_actors}
 use Rattle.vk_cluster.specs.declared.emitted.TheConstants.{LAST_BYTES}
 use Rattle.vk_cluster.specs.Standing.{emitted_bytes, logs_of}
 use Rattle.vk_join.specs.Joined.{IsThere, Rise}

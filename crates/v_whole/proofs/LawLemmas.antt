@@ -16,8 +16,8 @@ use Rattle.vk_base.specs.Pids.{same_host}
 use Rattle.vk_base.specs.Settings.{Settings}
 use Rattle.vk_base.specs.Steps.{Run, run, failing, failure, only_if}
 use Rattle.vk_base.proofs.OptionLemmas.{bind_is}
-use Rattle.vk_event.specs.declared.event.Event.{Event}
-use Rattle.vk_event.specs.declared.event.Event.TheVariants as events
+use Rattle.vk_schedule.specs.declared.event.Event.{Event}
+use Rattle.vk_schedule.specs.declared.event.Event.TheVariants as events
 use Rattle.v_laws.specs.Moves.{HasMoved}
 use Rattle.v_laws.specs.Places.{HasOwnReply, IsForwardedBetween, taken_at}
 use Rattle.v_laws.proofs.MoveLemmas.{moved_whole}

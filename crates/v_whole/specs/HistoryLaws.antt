@@ -13,7 +13,7 @@ use Rattle.vk_base.specs.declared.step.Step.{Step}
 use Rattle.vk_base.specs.declared.step.Step.TheVariants as steps
 use Rattle.vk_base.specs.Kernel.{Kernel, name_of, is_live}
 use Rattle.vk_base.specs.Settings.{Settings}
-use Rattle.vk_event.specs.declared.event.Event.{Event}
+use Rattle.vk_schedule.specs.declared.event.Event.{Event}
 use Rattle.v_laws.specs.Moves.{HasMoved}
 use Rattle.v_laws.specs.Places.{HasOwnReply, IsForwardedBetween, before, taken_at}
 use Rattle.v_whole.specs.Delays.{FailsRightly}

@@ -1,7 +1,7 @@
 -- A cluster that stands for some events does so after each step.
 use Rattle.std.proofs.Common.{◌≡◌, [], ◌∷◌, ◌++◌, sym, subst, Result, Ok, Err}
 use Rattle.std.specs.Prelude.{IfOk, OnErr}
-use Rattle.vk_event.specs.declared.event.Event.{Event}
+use Rattle.vk_schedule.specs.declared.event.Event.{Event}
 use Rattle.vk_cluster.specs.declared.report.Advance.{Advance}
 use Rattle.vk_cluster.specs.declared.report.ClusterRefusal.{ClusterRefusal}
 use Rattle.vk_cluster.specs.Standing.{IsAdvance, StandsSomewhere}

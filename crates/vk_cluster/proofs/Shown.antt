@@ -12,8 +12,8 @@ use Rattle.vk_cluster.specs.Standing.{ShowsLast, StandsSomewhere, logs_of, repor
 use Rattle.vk_cluster.specs.Values.{ClusterValue}
 use Rattle.vk_cluster.proofs.Logs.{logs_next}
 use Rattle.vk_cluster.proofs.Taking.{actor_station}
-use Rattle.vk_event.specs.declared.event.Event.{Event}
-use Rattle.vk_event.specs.declared.event.Event.TheVariants as scheduled
+use Rattle.vk_schedule.specs.declared.event.Event.{Event}
+use Rattle.vk_schedule.specs.declared.event.Event.TheVariants as scheduled
 use Rattle.vk_frame.specs.declared.header.Header.{Header}
 use Rattle.vk_frame.specs.Reading.{frame_of}
 use Rattle.vk_host.specs.Sealed.{sealed}

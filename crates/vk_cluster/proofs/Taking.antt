@@ -8,9 +8,9 @@ use Rattle.vk_base.specs.declared.limits.TheConstants.{EVENTS}
 use Rattle.vk_base.specs.declared.pid.Pid.{Pid}
 use Rattle.vk_base.specs.Options.{◌>>=◌}
 use Rattle.vk_base.specs.Settings.{Settings, has_process, has_station, is_on, is_process}
-use Rattle.vk_event.specs.declared.event.Event.{Event}
-use Rattle.vk_event.specs.declared.event.Event.TheVariants as events
-use Rattle.vk_event.specs.Lawful.{has_actors}
+use Rattle.vk_schedule.specs.declared.event.Event.{Event}
+use Rattle.vk_schedule.specs.declared.event.Event.TheVariants as events
+use Rattle.vk_schedule.specs.Lawful.{has_actors}
 use Rattle.vk_frame.specs.Reading.{frame_of}
 use Rattle.vk_rules.specs.Laws.{station_of}
 use Rattle.vk_host.specs.Standing.{IsAt}

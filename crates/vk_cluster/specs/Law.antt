@@ -1,7 +1,7 @@
 -- The law of all stations.
 use Rattle.std.specs.Prelude.{List}
 use Rattle.vk_base.specs.Settings.{Settings}
-use Rattle.vk_event.specs.declared.event.Event.{Event}
+use Rattle.vk_schedule.specs.declared.event.Event.{Event}
 use Rattle.vk_rules.specs.Observed.{IsRunOf}
 use Rattle.vk_cluster.specs.Standing.{StandsFor}
 use Rattle.vk_cluster.specs.Values.{ClusterValue}

@@ -7,8 +7,8 @@ use Rattle.vk_cluster.specs.declared.report.Advance.{Advance}
 use Rattle.vk_cluster.specs.declared.report.StepReport.{StepReport}
 use Rattle.vk_cluster.specs.Standing.{IsNext, Tells}
 use Rattle.vk_cluster.specs.Values.{ClusterValue}
-use Rattle.vk_event.specs.declared.event.Event.{Event}
-use Rattle.vk_event.specs.Lawful.{has_actors}
+use Rattle.vk_schedule.specs.declared.event.Event.{Event}
+use Rattle.vk_schedule.specs.Lawful.{has_actors}
 use Rattle.vk_host.specs.Sealed.{sealed}
 use Rattle.vk_host.specs.Standing.{Shows}
 use Rattle.vk_host.specs.Values.{StationValue}

@@ -4,7 +4,7 @@ use Rattle.vk_base.specs.declared.config.ProcessSpec.{ProcessSpec}
 use Rattle.vk_base.specs.declared.limits.TheConstants.{EVENTS}
 use Rattle.vk_base.specs.Pids.{IsPid}
 use Rattle.vk_base.specs.Settings.{AreLawful, Settings, stations_of}
-use Rattle.vk_event.specs.declared.event.Event.{Event}
+use Rattle.vk_schedule.specs.declared.event.Event.{Event}
 use Rattle.vk_rules.specs.Each.{Each}
 use Rattle.vk_rules.specs.Entries.{Entry}
 use Rattle.vk_rules.specs.Histories.{At, Happened, Logs, Missing, happened, history_of, logs_from, no_entries}

@@ -3,8 +3,8 @@
 ghost use Rattle.std.specs.Prelude.{◌≡◌, ◌≤◌, ◌<◌, ◌+◌, ◌||◌, ℕ, List, [], true, false, None, Some, length, map, sum_by, nat_le, nat_lt, slice_get, slice_index, IfOk, IfErr, OnErr, MatchOption};
 ghost use Rattle.vk_base.specs.Pids.{IsPid};
 ghost use Rattle.vk_base.specs.Settings.{Settings, has_process, has_station, stations_of};
-ghost use Rattle.vk_event.specs.declared.event.Event.{Event as TheEvent};
-ghost use Rattle.vk_event.specs.Lawful.{has_actors};
+ghost use Rattle.vk_schedule.specs.declared.event.Event.{Event as TheEvent};
+ghost use Rattle.vk_schedule.specs.Lawful.{has_actors};
 ghost use Rattle.vk_frame.specs.Reading.{frame_of};
 ghost use Rattle.vk_rules.specs.Each.{Each};
 ghost use Rattle.vk_rules.specs.Laws.{station_of};
@@ -25,10 +25,10 @@ use std::marker::Model;
 use vk_base::limits::EVENTS;
 use vk_base::{Config, NoMemory, Pid, ProcessSpec};
 use vk_brief::CallView;
-use vk_event::{Event, EventKind, EventView};
 use vk_frame::{Header, unseal};
 use vk_host::{Host, are_in_range, pid_is};
 use vk_rules::frames_unseal_again;
+use vk_schedule::{Event, EventKind, EventView};
 
 /// The destination of a frame for every station.
 const EVERY_STATION: u16 = 65_535;

@@ -4,10 +4,10 @@ use Rattle.std.specs.Prelude.{IfSome}
 use Rattle.std.specs.Io.KnownBytes.{Appends, Consumes}
 use Rattle.vk_base.specs.declared.config.ProcessSpec.{ProcessSpec}
 use Rattle.vk_base.specs.declared.limits.TheConstants.{INPUT_BYTES}
-use Rattle.vk_event.specs.declared.schedule.Schedule.{Schedule}
-use Rattle.vk_event.specs.declared.schedule.TextRefusal.{TextRefusal}
-use Rattle.vk_event.specs.declared.schedule.TextRefusal.TheVariants as schedules
-use Rattle.vk_event.specs.Schedule.{HasProcess, schedule_of}
+use Rattle.vk_schedule.specs.declared.schedule.Schedule.{Schedule}
+use Rattle.vk_schedule.specs.declared.schedule.TextRefusal.{TextRefusal}
+use Rattle.vk_schedule.specs.declared.schedule.TextRefusal.TheVariants as schedules
+use Rattle.vk_schedule.specs.Schedule.{HasProcess, schedule_of}
 use Rattle.vk_io.specs.Causes.{LosesFront}
 use Rattle.vk_text.specs.Lines.{lines_of}
 use Rattle.vk_text.specs.Openings.{opening_of}

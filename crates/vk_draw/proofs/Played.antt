@@ -9,9 +9,9 @@ use Rattle.vk_base.specs.Settings.{Settings}
 use Rattle.vk_cluster.specs.declared.emitted.TheConstants.{LAST_BYTES}
 use Rattle.vk_cluster.specs.Standing.{StandsFor, StandsSomewhere, emitted_bytes, logs_of}
 use Rattle.vk_cluster.specs.Values.{ClusterValue, is_full}
-use Rattle.vk_event.specs.declared.event.Event.{Event}
-use Rattle.vk_event.specs.declared.schedule.Schedule.{Schedule}
-use Rattle.vk_event.specs.Lawful.{has_actors}
+use Rattle.vk_schedule.specs.declared.event.Event.{Event}
+use Rattle.vk_schedule.specs.declared.schedule.Schedule.{Schedule}
+use Rattle.vk_schedule.specs.Lawful.{has_actors}
 use Rattle.vk_rules.specs.Histories.{Logs, logs_after, no_entries}
 unfoldable use Rattle.vk_rules.specs.Histories.{happened, logs_from}
 use Rattle.vk_top.proofs.Fronts.{taken_more}

@@ -3,7 +3,7 @@ use Rattle.std.specs.Prelude.{ℕ, ◌≡◌, ◌+◌, List, [], ◌∷◌, ◌+
 use Rattle.vk_base.specs.Settings.{Settings}
 use Rattle.vk_cluster.specs.Standing.{StandsFor, logs_of}
 use Rattle.vk_cluster.specs.Values.{ClusterValue}
-use Rattle.vk_event.specs.declared.event.Event.{Event}
+use Rattle.vk_schedule.specs.declared.event.Event.{Event}
 use Rattle.vk_rules.specs.Histories.{happened}
 use Rattle.vk_picture.specs.declared.picture.Row.{Row}
 use Rattle.vk_draw.specs.Rows.{row_of, rows_of}

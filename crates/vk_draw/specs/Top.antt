@@ -5,9 +5,9 @@ use Rattle.vk_base.specs.declared.limits.TheConstants.{INPUT_BYTES}
 use Rattle.vk_io.specs.Causes.{Rose}
 use Rattle.vk_cluster.specs.declared.emitted.TheConstants.{LAST_BYTES}
 use Rattle.vk_cluster.specs.Standing.{emitted_bytes}
-use Rattle.vk_event.specs.declared.schedule.Schedule.{Schedule}
-use Rattle.vk_event.specs.declared.schedule.TextRefusal.TheVariants as schedules
-use Rattle.vk_event.specs.Schedule.{schedule_of}
+use Rattle.vk_schedule.specs.declared.schedule.Schedule.{Schedule}
+use Rattle.vk_schedule.specs.declared.schedule.TextRefusal.TheVariants as schedules
+use Rattle.vk_schedule.specs.Schedule.{schedule_of}
 use Rattle.vk_picture.specs.declared.svg.TheConstants.{ROWS}
 use Rattle.vk_picture.specs.Svg.{picture_text}
 use Rattle.vk_top.specs.Report.{history_before}

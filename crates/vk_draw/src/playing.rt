@@ -5,8 +5,8 @@ ghost use Rattle.vk_base.specs.Settings.{Settings};
 ghost use Rattle.vk_base.specs.declared.limits.TheConstants.{EVENTS};
 ghost use Rattle.vk_cluster.specs.Standing.{StandsFor, StandsSomewhere, logs_of};
 ghost use Rattle.vk_cluster.specs.Values.{is_full};
-ghost use Rattle.vk_event.specs.declared.event.Event.{Event as TheEvent};
-ghost use Rattle.vk_event.specs.Lawful.{IsLawful, has_actors};
+ghost use Rattle.vk_schedule.specs.declared.event.Event.{Event as TheEvent};
+ghost use Rattle.vk_schedule.specs.Lawful.{IsLawful, has_actors};
 ghost use Rattle.vk_rules.specs.Entries.{Entry};
 ghost use Rattle.vk_rules.specs.Histories.{At, Missing};
 ghost use Rattle.vk_cluster.specs.Shown.{HasReported, IsLast};
@@ -21,9 +21,9 @@ use crate::status::Status;
 use std::alloc::Global;
 use vk_base::{EventAnswer, List, NoMemory};
 use vk_cluster::{Cluster, ClusterAnswer, ClusterRefusal, StepReport};
-use vk_event::{Event, Schedule};
 use vk_host::Host;
 use vk_picture::{Picture, ROWS, Row, Said, columns_of};
+use vk_schedule::{Event, Schedule};
 
 /// The station's last event, its own event `own`, which was answered so.
 fn station_row(

@@ -6,8 +6,8 @@ ghost use Rattle.vk_draw.specs.Rows.{act_of, call_kind, partner_of, said_of, sai
 use std::alloc::Global;
 use vk_base::{Answer, Call, EventAnswer, List, NoMemory, Pid};
 use vk_brief::{BriefStep, StepView, Steps};
-use vk_event::Event;
 use vk_picture::{Act, CallKind, Said, StepKind, StepMark};
+use vk_schedule::Event;
 
 fn call_kind(call: &Call) -> CallKind
     ensures { result ≡ call_kind call.now }

@@ -1,6 +1,6 @@
 ghost use Rattle.std.specs.Prelude.{◌≡◌, ◌<◌, ◌≤◌, ◌⊎◌, ℕ, [], false, length, Ok, Some, map, take, string_bytes, IfSome, IfOk, IfErr, OnOk};
 ghost use Rattle.std.specs.Io.KnownBytes.{Appends};
-ghost use Rattle.vk_event.specs.Schedule.{schedule_of};
+ghost use Rattle.vk_schedule.specs.Schedule.{schedule_of};
 ghost use Rattle.vk_top.specs.Top.{IsWanting, OfInput};
 ghost use Rattle.vk_draw.specs.Top.{IsDrawn, IsEarly, IsOfText, IsPicture, IsFront, IsReadCount, IsRefusal, IsRefused, IsWriteCount};
 ghost use Rattle.vk_draw.specs.Work.{IsAnswered, IsOutcome, IsUnread, IsWritten};
@@ -12,9 +12,9 @@ use crate::words::read_words;
 use std::alloc::Global;
 use vk_base::NoMemory;
 use vk_base::limits::INPUT_BYTES;
-use vk_event::{Schedule, TextRefusal, read_schedule};
 use vk_io::{Failed, ReadRefusal, Sink, Source, read_all, write_all};
 use vk_picture::{ROWS, picture_text};
+use vk_schedule::{Schedule, TextRefusal, read_schedule};
 
 /// The picture of the schedule that the text spells.
 fn draw_schedule(alloc: Global, text: &[u8], schedule: &Schedule) -> Result<Vec<u8>, Status>

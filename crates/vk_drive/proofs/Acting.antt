@@ -10,7 +10,7 @@ use Rattle.vk_base.specs.declared.event.EventAnswer.{EventAnswer}
 use Rattle.vk_base.specs.declared.event.EventAnswer.TheVariants as given
 use Rattle.vk_cluster.specs.declared.report.ClusterAnswer.{ClusterAnswer}
 use Rattle.vk_cluster.specs.declared.report.ClusterAnswer.TheVariants as answers
-use Rattle.vk_event.specs.declared.event.Event.TheVariants as events
+use Rattle.vk_schedule.specs.declared.event.Event.TheVariants as events
 use Rattle.vk_event.specs.declared.task.Task.{Task}
 use Rattle.vk_pages.specs.Any.{IsAfter, call_by}
 use Rattle.vk_pages.specs.Programs.{task_call}

@@ -7,7 +7,7 @@ use Rattle.circular_buffer.specs.Buffer.{Buffer}
 use Rattle.vk_base.specs.declared.event.EventAnswer.{EventAnswer}
 use Rattle.vk_frame.specs.declared.header.Header.{Header}
 use Rattle.vk_base.specs.declared.pid.Pid.{Pid}
-use Rattle.vk_event.specs.declared.event.Event.{Event}
+use Rattle.vk_schedule.specs.declared.event.Event.{Event}
 use Rattle.vk_rules.specs.Entries.{Entry, is_frame_taken}
 use Rattle.vk_rules.specs.Histories.{At, Happened, Missing, happened, history_of, no_entries}
 use Rattle.vk_cluster.specs.declared.report.StepReport.{StepReport}

@@ -8,9 +8,9 @@ use Rattle.vk_base.specs.Pids.{same_pid}
 use Rattle.vk_base.specs.Settings.{Settings, has_process}
 use Rattle.vk_cluster.specs.declared.report.ClusterAnswer.TheVariants as answers
 use Rattle.vk_cluster.specs.Standing.{report_of}
-use Rattle.vk_event.specs.declared.event.Event.{Event}
-use Rattle.vk_event.specs.declared.event.Event.TheVariants as events
-use Rattle.vk_event.specs.Lawful.{has_actors}
+use Rattle.vk_schedule.specs.declared.event.Event.{Event}
+use Rattle.vk_schedule.specs.declared.event.Event.TheVariants as events
+use Rattle.vk_schedule.specs.Lawful.{has_actors}
 use Rattle.vk_frame.specs.declared.header.Header.{Header}
 use Rattle.vk_rules.specs.Entries.{Called, Collected}
 use Rattle.vk_rules.specs.Frames.{Frame}

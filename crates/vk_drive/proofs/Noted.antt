@@ -10,8 +10,8 @@ use Rattle.vk_cluster.specs.Standing.{IsAdvance, Tells, logs_of, report_by, repo
 use Rattle.vk_cluster.specs.Values.{ClusterValue}
 use Rattle.vk_cluster.proofs.Shown.{IsEntry, reported_entry, reported_missing, sends}
 use Rattle.vk_cluster.proofs.Told.{report_told}
-use Rattle.vk_event.specs.declared.event.Event.{Event}
-use Rattle.vk_event.specs.Lawful.{has_actors}
+use Rattle.vk_schedule.specs.declared.event.Event.{Event}
+use Rattle.vk_schedule.specs.Lawful.{has_actors}
 use Rattle.vk_frame.specs.declared.header.Header.{Header}
 use Rattle.vk_host.specs.declared.response.Response.{Response}
 use Rattle.vk_host.specs.Responses.{answer_of}

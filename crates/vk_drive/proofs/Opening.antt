@@ -2,7 +2,7 @@
 use Rattle.std.proofs.Common.{◌≡◌, ℕ, zero, suc, ◌<◌, List, [], get_or, refl, sym, ap, subst, arith}
 use Rattle.circular_buffer.specs.Buffer.{buffer}
 use Rattle.vk_cluster.specs.Standing.{StandsFor}
-use Rattle.vk_event.specs.declared.event.Event.{Event}
+use Rattle.vk_schedule.specs.declared.event.Event.{Event}
 use Rattle.vk_event.specs.declared.task.Task.{Task}
 unfoldable use Rattle.vk_rules.specs.Histories.{history}
 use Rattle.vk_pages.specs.Any.{IsTaskOf}
@@ -24,10 +24,10 @@ course_first c stands recent counts none = record {
 
 -- each process has the memory that its task needs
 pub task_fits : (i : ℕ) (d : Task) → i < 4 → IsTaskOf specs (get_or tasks i d)
-task_fits zero d low = (((omega arith, omega arith), omega arith), refl)
-task_fits (suc zero) d low = ((omega arith, (omega arith, omega arith), omega arith), refl)
-task_fits (suc (suc zero)) d low = ((omega arith, (omega arith, omega arith), omega arith), refl)
-task_fits (suc (suc (suc zero))) d low = ((omega arith, (omega arith, omega arith), omega arith), refl)
+task_fits zero d low = (refl, ((omega arith, omega arith), omega arith), refl)
+task_fits (suc zero) d low = (refl, (omega arith, (omega arith, omega arith), omega arith), refl)
+task_fits (suc (suc zero)) d low = (refl, (omega arith, (omega arith, omega arith), omega arith), refl)
+task_fits (suc (suc (suc zero))) d low = (refl, (omega arith, (omega arith, omega arith), omega arith), refl)
 task_fits (suc (suc (suc (suc i)))) d low = absurd (omega arith)
 
 pub actors_first : (actors : List Actor) (es : List Event) → AreActors actors [] → es ≡ [] → AreActors actors (history_of settings es)

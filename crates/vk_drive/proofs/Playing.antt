@@ -5,7 +5,7 @@ use Rattle.std.proofs.lemmas.Bool.{cases_Bool, cond-true, cond-false, eqb-true, 
 use Rattle.circular_buffer.specs.Buffer.{Buffer}
 use Rattle.vk_cluster.specs.declared.emitted.TheConstants.{LAST_BYTES}
 use Rattle.vk_cluster.specs.Standing.{emitted_bytes, logs_of}
-use Rattle.vk_event.specs.declared.event.Event.{Event}
+use Rattle.vk_schedule.specs.declared.event.Event.{Event}
 use Rattle.vk_frame.specs.declared.header.Header.{Header}
 use Rattle.vk_generator.specs.Numbers.{drawn, next}
 use Rattle.vk_rules.specs.Histories.{Happened, happened, history_of}

@@ -5,8 +5,8 @@ use Rattle.vk_base.specs.declared.answer.Answer.{Answer}
 use Rattle.vk_base.specs.declared.event.EventAnswer.{EventAnswer}
 use Rattle.vk_cluster.specs.declared.emitted.TheConstants.{LAST_BYTES}
 use Rattle.vk_cluster.specs.Standing.{StandsFor, emitted_bytes}
-use Rattle.vk_event.specs.declared.event.Event.{Event}
-use Rattle.vk_event.specs.declared.event.Event.TheVariants as events
+use Rattle.vk_schedule.specs.declared.event.Event.{Event}
+use Rattle.vk_schedule.specs.declared.event.Event.TheVariants as events
 use Rattle.vk_event.specs.declared.task.Task.{Task}
 use Rattle.vk_frame.specs.declared.header.Header.{Header}
 use Rattle.vk_pages.specs.Any.{IsAfter, call_by}

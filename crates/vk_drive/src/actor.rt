@@ -11,10 +11,11 @@ ghost use Rattle.vk_drive.specs.Driving.{IsActor, IsNextEvent};
 
 use std::alloc::Global;
 use vk_base::{Answer, Config, EventAnswer, NoMemory, Pid, Refusal};
-use vk_event::{Event, Task};
+use vk_event::Task;
 use vk_host::{Host, Response};
 use vk_pages::AnyProgram;
 use vk_program::Program;
+use vk_schedule::Event;
 
 /// A process and its program.
 #[derive(Drop)]

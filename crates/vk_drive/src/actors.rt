@@ -15,7 +15,7 @@ use crate::tasks::tasks;
 use std::alloc::Global;
 use vk_base::{Config, NoMemory};
 use vk_cluster::{Advance, Cluster};
-use vk_event::Event;
+use vk_schedule::Event;
 
 /// The processes before their first calls.
 pub fn new_actors(alloc: Global, config: &Config) -> Result<Vec<Actor>, NoMemory>

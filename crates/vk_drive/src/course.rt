@@ -5,8 +5,8 @@ ghost use Rattle.vk_base.specs.declared.limits.TheConstants.{EVENTS};
 ghost use Rattle.vk_cluster.specs.declared.emitted.TheConstants.{LAST_BYTES};
 ghost use Rattle.vk_cluster.specs.Standing.{IsAdvance, Tells, emitted_bytes, is_limit, logs_of, report_of};
 ghost use Rattle.vk_cluster.specs.Values.{is_full};
-ghost use Rattle.vk_event.specs.declared.event.Event.{Event as TheEvent};
-ghost use Rattle.vk_event.specs.Lawful.{has_actors};
+ghost use Rattle.vk_schedule.specs.declared.event.Event.{Event as TheEvent};
+ghost use Rattle.vk_schedule.specs.Lawful.{has_actors};
 ghost use Rattle.vk_frame.specs.declared.header.Header.{Header as TheHeader};
 ghost use Rattle.vk_host.specs.Sealed.{sealed};
 ghost use Rattle.vk_rules.specs.Frames.{Frame as TheFrame};
@@ -23,10 +23,10 @@ use circular_buffer::HeapCircularBuffer;
 use std::alloc::Global;
 use vk_base::{Config, List, NoMemory};
 use vk_cluster::{Advance, Cluster, ClusterRefusal};
-use vk_event::{Event, EventKind, EventView};
 use vk_frame::{Header, unseal};
 use vk_host::Host;
 use vk_rules::frames_unseal_again;
+use vk_schedule::{Event, EventKind, EventView};
 
 /// The frames of which a delivery chooses one.
 const RECENT: usize = 32;

@@ -4,7 +4,7 @@ ghost use Rattle.std.specs.Prelude.{◌≡◌, ◌≤◌, ◌<◌, [], List, len
 ghost use Rattle.vk_base.specs.declared.limits.TheConstants.{EVENTS};
 ghost use Rattle.vk_cluster.specs.declared.emitted.TheConstants.{LAST_BYTES};
 ghost use Rattle.vk_cluster.specs.Standing.{emitted_bytes};
-ghost use Rattle.vk_event.specs.Lawful.{has_actors};
+ghost use Rattle.vk_schedule.specs.Lawful.{has_actors};
 ghost use Rattle.vk_rules.specs.Histories.{Happened, history_of};
 ghost use Rattle.vk_drive.specs.Driving.{IsCourse, IsDriver, IsPlayed, counts_of, history_so_far, is_quiet, storm_of};
 ghost use Rattle.vk_drive.specs.Storms.{Fits, IsTooMuch, choice, chosen, delivery_choice, delivery_of, process_choice, storm_after, summary_by, summary_of, tick_choice};
@@ -19,9 +19,9 @@ use crate::summary::{StormRefusal, StormSummary};
 use crate::tasks::settings;
 use std::alloc::Global;
 use vk_base::{Config, List, NoMemory};
-use vk_event::{Event, Schedule};
 use vk_frame::Header;
 use vk_generator::Generator;
+use vk_schedule::{Event, Schedule};
 
 /// A storm under way.
 #[derive(Drop)]

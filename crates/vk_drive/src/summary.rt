@@ -6,7 +6,7 @@ ghost use Rattle.vk_drive.specs.declared.summary.StormRefusal.TheVariants.{Limit
 
 use vk_base::NoMemory;
 use vk_cluster::ClusterRefusal;
-use vk_event::Schedule;
+use vk_schedule::Schedule;
 
 /// What happened in a storm.
 #[derive(Drop)]

@@ -32,6 +32,11 @@ kind_lines : Pid → TaskKind → List TaskLine
 kind_lines pid (kinds.Script calls) = map (do_line pid) calls
 kind_lines pid (kinds.PageServer pages requests) = program_line pid (kinds.PageServer pages requests) ∷ []
 kind_lines pid (kinds.PageClient server pages rounds) = program_line pid (kinds.PageClient server pages rounds) ∷ []
+kind_lines pid (kinds.FileServer files requests) = program_line pid (kinds.FileServer files requests) ∷ []
+kind_lines pid (kinds.Loader server file) = program_line pid (kinds.Loader server file) ∷ []
+kind_lines pid (kinds.PipeServer requests) = program_line pid (kinds.PipeServer requests) ∷ []
+kind_lines pid (kinds.Group requests pairs) = program_line pid (kinds.Group requests pairs) ∷ []
+kind_lines pid (kinds.GroupHelper coordinator member) = program_line pid (kinds.GroupHelper coordinator member) ∷ []
 
 all_lines : List Task → List TaskLine
 all_lines [] = []
@@ -50,6 +55,11 @@ unfolding kind_lines program_line
 kind_ranges pid (kinds.Script calls) p h = do_ranges pid calls p h
 kind_ranges pid (kinds.PageServer pages requests) p h = ((p, h), tt)
 kind_ranges pid (kinds.PageClient server pages rounds) p h = ((p, h), tt)
+kind_ranges pid (kinds.FileServer files requests) p h = ((p, h), tt)
+kind_ranges pid (kinds.Loader server file) p h = ((p, h), tt)
+kind_ranges pid (kinds.PipeServer requests) p h = ((p, h), tt)
+kind_ranges pid (kinds.Group requests pairs) p h = ((p, h), tt)
+kind_ranges pid (kinds.GroupHelper coordinator member) p h = ((p, h), tt)
 
 both_ranges : (a b : List TaskLine) → AllByRecursion IsReadableLine a → AllByRecursion IsReadableLine b
     → AllByRecursion IsReadableLine (a ++ b)
@@ -135,6 +145,21 @@ task_given specs pid (kinds.PageClient server pages rounds) ts rest room =
     one_line specs pid (givens.Program (kinds.PageClient server pages rounds)) (kinds.Script [])
     (kinds.PageClient server pages rounds) ts rest
     room refl
+task_given specs pid (kinds.FileServer files requests) ts rest room =
+    one_line specs pid (givens.Program (kinds.FileServer files requests)) (kinds.Script []) (kinds.FileServer files requests) ts rest
+    room refl
+task_given specs pid (kinds.Loader server file) ts rest room =
+    one_line specs pid (givens.Program (kinds.Loader server file)) (kinds.Script []) (kinds.Loader server file) ts rest
+    room refl
+task_given specs pid (kinds.PipeServer requests) ts rest room =
+    one_line specs pid (givens.Program (kinds.PipeServer requests)) (kinds.Script []) (kinds.PipeServer requests) ts rest
+    room refl
+task_given specs pid (kinds.Group requests pairs) ts rest room =
+    one_line specs pid (givens.Program (kinds.Group requests pairs)) (kinds.Script []) (kinds.Group requests pairs) ts rest
+    room refl
+task_given specs pid (kinds.GroupHelper coordinator member) ts rest room =
+    one_line specs pid (givens.Program (kinds.GroupHelper coordinator member)) (kinds.Script []) (kinds.GroupHelper coordinator member) ts rest
+    room refl
 
 -- the processes rise, so the lines for later tasks are of other processes
 
@@ -156,6 +181,11 @@ unfolding kind_lines program_line
 kind_others pid own (kinds.Script calls) h = do_others pid own calls h
 kind_others pid own (kinds.PageServer pages requests) h = (h, tt)
 kind_others pid own (kinds.PageClient server pages rounds) h = (h, tt)
+kind_others pid own (kinds.FileServer files requests) h = (h, tt)
+kind_others pid own (kinds.Loader server file) h = (h, tt)
+kind_others pid own (kinds.PipeServer requests) h = (h, tt)
+kind_others pid own (kinds.Group requests pairs) h = (h, tt)
+kind_others pid own (kinds.GroupHelper coordinator member) h = (h, tt)
 
 both_others : (pid : Pid) (a b : List TaskLine) → AllByRecursion (IsOther pid) a → AllByRecursion (IsOther pid) b
     → AllByRecursion (IsOther pid) (a ++ b)

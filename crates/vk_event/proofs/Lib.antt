@@ -1,10 +1,14 @@
+mod NodeExamples
 pub mod EachHasText
-pub mod Events
-pub mod FrontLines
-pub mod Lawfulness
-pub mod Leading
-pub mod ReadAgain
-pub mod RemainingEvents
+pub mod NodeBack
+pub mod NodeEvents
+pub mod NodeFrames
+pub mod NodeLawful
+pub mod NodeOpenings
+pub mod NodeReading
+pub mod NodeSpelled
+pub mod PairWords
+pub mod PortLines
 pub mod ScenarioHeads
 pub mod ScenarioLines
 pub mod ScenarioRanges
@@ -12,4 +16,3 @@ pub mod ScenarioTexts
 pub mod Stations
 pub mod TaskLines
 pub mod TaskPlaces
-pub mod Wanted

@@ -1,5 +1,5 @@
 -- The opening of a scenario.
-use Rattle.std.proofs.Common.{◌≡◌, ℕ, ◌+◌, ◌<◌, List, [], ◌∷◌, length, map, Result, Ok, Err, IfOk, IfErr, ◌⊎◌, inl, inr, refl, ap, sym, subst, ◌∙◌, arith}
+use Rattle.std.proofs.Common.{◌≡◌, ℕ, ◌<◌, List, [], ◌∷◌, length, map, Result, Ok, Err, IfOk, IfErr, ◌⊎◌, inl, inr, refl, ap, sym, subst, ◌∙◌, arith}
 use Rattle.vk_base.specs.Settings.{Settings}
 use Rattle.vk_base.specs.declared.config.ProcessSpec.{ProcessSpec}
 use Rattle.vk_text.specs.Lines.{lines_of}
@@ -7,9 +7,9 @@ use Rattle.vk_text.specs.Openings.{HasProcesses, line_number}
 use Rattle.vk_text.specs.declared.opening.OpeningRefusal.{OpeningRefusal}
 use Rattle.vk_text.specs.declared.opening.OpeningRefusal.TheVariants as openings
 use Rattle.vk_event.specs.declared.scenario.Scenario.{Scenario}
-use Rattle.vk_event.specs.declared.schedule.TextRefusal.{TextRefusal}
-use Rattle.vk_event.specs.declared.schedule.TextRefusal.TheVariants as refusals
-use Rattle.vk_event.specs.Schedule.{as_text}
+use Rattle.vk_schedule.specs.declared.schedule.TextRefusal.{TextRefusal}
+use Rattle.vk_schedule.specs.declared.schedule.TextRefusal.TheVariants as refusals
+use Rattle.vk_schedule.specs.Schedule.{as_text}
 use Rattle.vk_event.specs.Scenario.{HasScenarioProcess, idle, opened, scenario_from, scenario_by, scenario_of, scenario_on}
 
 -- why there is no opening

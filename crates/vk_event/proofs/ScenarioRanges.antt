@@ -1,10 +1,10 @@
 -- What a text of a scenario spells is lawful.
-use Rattle.std.proofs.Common.{◌≡◌, ℕ, ◌<◌, ◌≤◌, ◌==◌, ◌&&◌, ◌||◌, length, nat_le, Bool, true, false, cond, List, [], ◌∷◌, ◌++◌, map, codes, Option, Some, Result, Err, IfOk, None, Ok, refl, ap, sym, ◌∙◌, subst, append_assoc, arith}
+use Rattle.std.proofs.Common.{◌≡◌, ℕ, ◌<◌, ◌≤◌, ◌==◌, ◌&&◌, ◌||◌, length, nat_le, Bool, true, false, cond, List, [], ◌∷◌, ◌++◌, map, Option, Some, Result, Err, IfOk, None, Ok, refl, ap, sym, ◌∙◌, subst, append_assoc, arith}
 use Rattle.std.specs.List.{AllByRecursion, list_all, list_any}
 use Rattle.std.specs.Option.{option_map}
 use Rattle.std.proofs.lemmas.Bool.{and_from, and_parts, eq-eqb, eqb-true, le-leb}
 use Rattle.std.proofs.lemmas.Option.{cond_some}
-use Rattle.vk_base.specs.Pids.{IsPid, same_pid}
+use Rattle.vk_base.specs.Pids.{same_pid}
 use Rattle.vk_base.specs.Settings.{Settings, is_process}
 use Rattle.vk_base.specs.declared.call.Call.{Call}
 use Rattle.vk_base.specs.declared.config.ProcessSpec.{ProcessSpec}
@@ -15,13 +15,14 @@ use Rattle.vk_text.specs.Lines.{lines_of}
 use Rattle.vk_text.specs.Openings.{IsTold}
 use Rattle.vk_text.proofs.OpeningLaws.{openings_spelled}
 use Rattle.vk_event.specs.declared.scenario.Scenario.{Scenario}
-use Rattle.vk_event.specs.declared.schedule.TextRefusal.{TextRefusal}
+use Rattle.vk_schedule.specs.declared.schedule.TextRefusal.{TextRefusal}
 use Rattle.vk_event.specs.declared.task.Given.{Given}
 use Rattle.vk_event.specs.declared.task.Given.TheVariants as givens
 use Rattle.vk_event.specs.declared.task.Task.{Task}
 use Rattle.vk_event.specs.declared.task.TaskKind.{TaskKind}
 use Rattle.vk_event.specs.declared.task.TaskKind.TheVariants as kinds
 use Rattle.vk_event.specs.declared.task_line.TaskLine.{TaskLine}
+use Rattle.vk_event.specs.Ports.{ArePortsAbove}
 use Rattle.vk_event.specs.Scenario.{idle, most_rounds, plain_title, scenario_of, timed_title}
 use Rattle.vk_event.specs.ScenarioLaws.{IsLawfulScenario, IsReadableGiven, IsReadableKind, IsReadableLine, OnlyLawfulScenariosAreRead, with_all_given}
 use Rattle.vk_event.specs.Tasks.{given_kind, given_to, has_memory, is_idle, memory_for, memory_of, with_given}
@@ -37,6 +38,11 @@ program_fits : (program : TaskKind) → IsReadableGiven (givens.Program program)
 program_fits (kinds.Script calls) h = absurd h
 program_fits (kinds.PageServer pages requests) h = h
 program_fits (kinds.PageClient server pages rounds) h = h
+program_fits (kinds.FileServer files requests) h = h
+program_fits (kinds.Loader server file) h = h
+program_fits (kinds.PipeServer requests) h = h
+program_fits (kinds.Group requests pairs) h = h
+program_fits (kinds.GroupHelper coordinator member) h = h
 
 script_fits : (calls : List Call) (call : Call) (k : TaskKind) → given_kind (givens.Call call) (kinds.Script calls) ≡ Some k
     → IsReadable call → AllByRecursion IsReadable calls → IsReadableKind k
@@ -47,6 +53,11 @@ kind_fits : (given : Given) (kind k : TaskKind) → given_kind given kind ≡ So
 kind_fits (givens.Call call) (kinds.Script calls) k h one all = script_fits calls call k h one all
 kind_fits (givens.Call call) (kinds.PageServer pages requests) k h one all = cc
 kind_fits (givens.Call call) (kinds.PageClient server pages rounds) k h one all = cc
+kind_fits (givens.Call call) (kinds.FileServer files requests) k h one all = cc
+kind_fits (givens.Call call) (kinds.Loader server file) k h one all = cc
+kind_fits (givens.Call call) (kinds.PipeServer requests) k h one all = cc
+kind_fits (givens.Call call) (kinds.Group requests pairs) k h one all = cc
+kind_fits (givens.Call call) (kinds.GroupHelper coordinator member) k h one all = cc
 kind_fits (givens.Program program) kind k h one all = subst IsReadableKind (cond_some (is_idle kind) program k h).1
     (program_fits program one)
 
@@ -56,6 +67,11 @@ kind_memory specs pid (givens.Call call) (kinds.Script calls) k h room =
     subst (λ x. has_memory specs pid (memory_of x) ≡ true) (cond_some true (kinds.Script (calls ++ call ∷ [])) k h).1 room
 kind_memory specs pid (givens.Call call) (kinds.PageServer pages requests) k h room = cc
 kind_memory specs pid (givens.Call call) (kinds.PageClient server pages rounds) k h room = cc
+kind_memory specs pid (givens.Call call) (kinds.FileServer files requests) k h room = cc
+kind_memory specs pid (givens.Call call) (kinds.Loader server file) k h room = cc
+kind_memory specs pid (givens.Call call) (kinds.PipeServer requests) k h room = cc
+kind_memory specs pid (givens.Call call) (kinds.Group requests pairs) k h room = cc
+kind_memory specs pid (givens.Call call) (kinds.GroupHelper coordinator member) k h room = cc
 kind_memory specs pid (givens.Program program) kind k h room =
     subst (λ x. has_memory specs pid (memory_of x) ≡ true) (cond_some (is_idle kind) program k h).1 room
 
@@ -190,6 +206,7 @@ only_lawful text s h =
       tasks = tasks.pids ∙ idle_pids specs ∙ ap (λ (c : Settings). map (λ (p : ProcessSpec). p.pid) c.specs) same;
       ranges = tasks.ranges;
       memory = subst (λ (c : Settings). list_all (λ (t : Task). has_memory c.specs t.pid (memory_of t.kind)) s.tasks ≡ true) same tasks.memory;
+      ports = subst (λ (c : Settings). ArePortsAbove c.specs 0 s.ports) same w.told.ports;
       plan = w.told.plan;
       rounds = subst (λ (c : Settings). s.rounds ≤ most_rounds c.specs) same w.told.rounds;
     }

@@ -1,7 +1,7 @@
 -- The lines of a scenario's text, and that each text of a scenario reads as it.
-use Rattle.std.proofs.Common.{◌≡◌, ℕ, ◌+◌, ◌<◌, ◌≤◌, ◌^◌, List, [], ◌∷◌, ◌++◌, length, map, codes, Option, Some, None, Result, Ok, Err, refl, ap, sym, ◌∙◌, subst, arith}
+use Rattle.std.proofs.Common.{◌≡◌, ℕ, ◌+◌, ◌<◌, ◌≤◌, ◌^◌, List, [], ◌∷◌, ◌++◌, length, map, Option, Some, None, Result, Ok, Err, refl, ap, sym, ◌∙◌, subst, arith, length-append}
 use Rattle.std.proofs.Math.Nat.{div-le_self}
-use Rattle.std.specs.List.{AllByRecursion, flat_map}
+use Rattle.std.specs.List.{AllByRecursion}
 use Rattle.std.specs.Option.{option_map_or}
 use Rattle.vk_base.specs.Settings.{Settings, stations_of}
 use Rattle.vk_base.specs.declared.config.ProcessSpec.{ProcessSpec}
@@ -15,8 +15,9 @@ use Rattle.vk_text.proofs.Bodies.{text_spelled, title_plain}
 use Rattle.vk_text.proofs.OpeningLaws.{openings_back, openings_no_feed, openings_spelled}
 use Rattle.vk_text.proofs.PlainWords.{no_spaces, no_feeds, joined_no_feed}
 use Rattle.vk_text.proofs.ReadBack.{joined_words, line_joined}
+use Rattle.vk_event.specs.declared.port.StationPort.{StationPort}
 use Rattle.vk_event.specs.declared.scenario.Ending.{Ending}
-use Rattle.vk_event.specs.declared.scenario.LinkPlan.{LinkPlan}
+use Rattle.vk_schedule.specs.declared.plan.LinkPlan.{LinkPlan}
 use Rattle.vk_event.specs.declared.scenario.Scenario.{Scenario}
 use Rattle.vk_event.specs.declared.task.Given.{Given}
 use Rattle.vk_event.specs.declared.task.Given.TheVariants as givens
@@ -24,12 +25,14 @@ use Rattle.vk_event.specs.declared.task.Task.{Task}
 use Rattle.vk_event.specs.declared.task.TaskKind.TheVariants as kinds
 use Rattle.vk_event.specs.declared.task_line.TaskLine.{TaskLine}
 use Rattle.vk_event.specs.Endings.{at_last, plan_of, rounds_of, rounds_from, ending_from}
-use Rattle.vk_event.specs.Scenario.{idle, most_rounds, opened, plain_title, scenario_with, scenario_from, scenario_by, scenario_of, scenario_on, timed_title}
-use Rattle.vk_event.specs.ScenarioLaws.{GiveTasks, IsFront, IsLawfulScenario, IsPlan, IsReadableLine, ScenariosAreSpelled, ScenariosReadBack, body_lines, given_words, plan_words, rounds_words, scenario_text, task_text, task_words, with_all_given}
+use Rattle.vk_event.specs.Ports.{ArePortsAbove, port_of, port_text, ports_from}
+use Rattle.vk_event.specs.Scenario.{idle, most_rounds, opened, plain_title, scenario_by_ports, scenario_end, scenario_with, scenario_from, scenario_by, scenario_of, scenario_on, timed_title}
+use Rattle.vk_event.specs.ScenarioLaws.{GiveTasks, IsFront, IsLawfulScenario, IsPlan, IsReadableLine, ScenariosAreSpelled, ScenariosReadBack, body_lines, closing_lines, ending_lines, given_words, plan_words, rounds_words, scenario_text, task_text, task_words, with_all_given}
 use Rattle.vk_event.specs.Tasks.{task_line_of, with_given, with_task_line}
-use Rattle.vk_event.proofs.ReadAgain.{both_plain, lines_back}
+use Rattle.vk_event.proofs.PortLines.{port_parts, ports_back, ports_feeds, ports_told}
+use Rattle.vk_schedule.proofs.ReadAgain.{both_plain, lines_back}
 use Rattle.vk_event.proofs.ScenarioHeads.{on_some}
-use Rattle.vk_event.proofs.TaskLines.{task_line_is, task_line_read, task_line_plain, plan_is, plan_read, plan_plain, plan_no_task, rounds_is, rounds_read, rounds_plain}
+use Rattle.vk_event.proofs.TaskLines.{task_line_is, task_line_read, task_line_plain, plan_is, plan_read, plan_plain, plan_no_port, plan_no_task, port_no_task, rounds_is, rounds_read, rounds_plain}
 
 pub few_rounds : (specs : List ProcessSpec) → most_rounds specs < 2 ^ 64
 few_rounds specs = omega (arith, div-le_self 50000 (length (stations_of specs)))
@@ -94,25 +97,35 @@ pub record Told (c : Settings) (tasks : List Task) (lines : List (List ℕ)) (s 
   pub gives : with_all_given c.specs tasks given ≡ Some s.tasks
   pub body : lines ≡ body_lines s given
   pub config : s.config ≡ c
+  pub ports : ArePortsAbove c.specs 0 s.ports
   pub plan : IsPlan s.plan
   pub rounds : s.rounds ≤ most_rounds c.specs
 
-told_ending : (c : Settings) (tasks : List Task) (n : ℕ) (lines : List (List ℕ)) (r : Result Ending ℕ) (s : Scenario)
-    → ending_from (most_rounds c.specs) n lines ≡ r → scenario_with c tasks r ≡ Ok s → Told c tasks lines s
-told_ending c tasks n lines (Err k) s is h = cc
-told_ending c tasks n lines (Ok e) s is h =
-    let tells = ending_told (most_rounds c.specs) n lines e (few_rounds c.specs) is in
-    let made : Scenario = record { config = c; tasks = tasks; plan = e.plan; rounds = e.rounds } in
+told_ending : (c : Settings) (tasks : List Task) (n : ℕ) (lines : List (List ℕ)) (found : List StationPort × List (List ℕ))
+    (r : Result Ending ℕ) (s : Scenario) → ArePortsAbove c.specs 0 found.0 → lines ≡ map port_text found.0 ++ found.1
+    → ending_from (most_rounds c.specs) (n + length found.0) found.1 ≡ r → scenario_with c tasks found.0 r ≡ Ok s → Told c tasks lines s
+told_ending c tasks n lines found (Err k) s ports front is h = cc
+told_ending c tasks n lines found (Ok e) s ports front is h =
+    let tells = ending_told (most_rounds c.specs) (n + length found.0) found.1 e (few_rounds c.specs) is in
+    let made : Scenario = record { config = c; tasks = tasks; ports = found.0; plan = e.plan; rounds = e.rounds } in
     let same : made ≡ s = cc in
     record {
       given = [];
       ranges = tt;
       gives = ap (λ (x : Scenario). Some x.tasks) same;
-      body = tells.lines ∙ ap (λ (x : Scenario). joined (plan_words x.plan) ∷ joined (rounds_words x.rounds) ∷ []) same;
+      body = front ∙ ap (λ (k : List (List ℕ)). map port_text found.0 ++ k) tells.lines ∙ ap closing_lines same;
       config = ap (λ (x : Scenario). x.config) (sym same);
+      ports = subst (λ (x : Scenario). ArePortsAbove c.specs 0 x.ports) same ports;
       plan = subst (λ (x : Scenario). IsPlan x.plan) same tells.plan;
       rounds = subst (λ (x : Scenario). x.rounds ≤ most_rounds c.specs) same tells.rounds;
     }
+
+told_end : (c : Settings) (tasks : List Task) (n : ℕ) (lines : List (List ℕ)) (s : Scenario) → scenario_end c tasks n lines ≡ Ok s
+    → Told c tasks lines s
+told_end c tasks n lines s h =
+    let found = ports_from c.specs 0 lines in
+    let told = ports_told c.specs 0 lines in
+    told_ending c tasks n lines found (ending_from (most_rounds c.specs) (n + length found.0) found.1) s told.0 told.1 refl h
 
 some_given : (specs : List ProcessSpec) (tasks more : List Task) (o : Option TaskLine) → with_given specs tasks o ≡ Some more
     → (t : TaskLine) × (o ≡ Some t) × (with_given specs tasks (Some t) ≡ Some more)
@@ -130,15 +143,15 @@ told_line c tasks more l ls s is rest =
       gives = rw found.2 rest.gives;
       body = ap (λ k. l ∷ k) rest.body ∙ ap (λ k. k ∷ body_lines s rest.given) (line_is l (task_words found.0) line.1);
       config = rest.config;
+      ports = rest.ports;
       plan = rest.plan;
       rounds = rest.rounds;
     }
 
 told_by : (c : Settings) (tasks : List Task) (n : ℕ) (l : List ℕ) (ls : List (List ℕ)) (s : Scenario) (o : Option (List Task))
     → with_task_line c.specs tasks l ≡ o → ((more : List Task) → scenario_from c more (n + 1) ls ≡ Ok s → Told c more ls s)
-    → option_map_or (λ more. scenario_from c more (n + 1) ls) o
-    (scenario_with c tasks (ending_from (most_rounds c.specs) n (l ∷ ls))) ≡ Ok s → Told c tasks (l ∷ ls) s
-told_by c tasks n l ls s None is after h = told_ending c tasks n (l ∷ ls) (ending_from (most_rounds c.specs) n (l ∷ ls)) s refl h
+    → option_map_or (λ more. scenario_from c more (n + 1) ls) o (scenario_end c tasks n (l ∷ ls)) ≡ Ok s → Told c tasks (l ∷ ls) s
+told_by c tasks n l ls s None is after h = told_end c tasks n (l ∷ ls) s h
 told_by c tasks n l ls s (Some more) is after h = told_line c tasks more l ls s is (after more h)
 
 pub told_from : (c : Settings) (tasks : List Task) (n : ℕ) (lines : List (List ℕ)) (s : Scenario)
@@ -195,6 +208,11 @@ some_words pid (givens.Call call) = omega arith
 some_words pid (givens.Program (kinds.Script calls)) = omega arith
 some_words pid (givens.Program (kinds.PageServer pages requests)) = omega arith
 some_words pid (givens.Program (kinds.PageClient server pages rounds)) = omega arith
+some_words pid (givens.Program (kinds.FileServer files requests)) = omega arith
+some_words pid (givens.Program (kinds.Loader server file)) = omega arith
+some_words pid (givens.Program (kinds.PipeServer requests)) = omega arith
+some_words pid (givens.Program (kinds.Group requests pairs)) = omega arith
+some_words pid (givens.Program (kinds.GroupHelper coordinator member)) = omega arith
 
 task_parts : (t : TaskLine) → IsReadableLine t → words_from (task_text t) 0 ≡ task_words t
 task_parts t h = joined_words (task_words t) (some_words t.pid t.given) (no_spaces (task_words t) (task_line_plain t h))
@@ -214,38 +232,69 @@ ending_read most n p rounds m plan few =
     ap (rounds_of most) (rounds_parts rounds (omega arith)) ∙ rounds_read most rounds m few in
     rw (first, second) refl
 
+-- the first line behind those of tasks gives no process anything
+abbrev BeginsNoTask : List ProcessSpec → List Task → List (List ℕ) → Type 0
+BeginsNoTask specs tasks [] = Unit {0}
+BeginsNoTask specs tasks (l ∷ ls) = with_task_line specs tasks l ≡ None
+
+some_lines : (s : Scenario) → 0 < length (closing_lines s)
+some_lines s =
+    let all = length-append (map port_text s.ports) (ending_lines s.plan s.rounds) in
+    omega (arith, all)
+
+first_no_task : (specs : List ProcessSpec) (ports : List StationPort) (plan : LinkPlan) (rounds : ℕ) (tasks : List Task)
+    → ArePortsAbove specs 0 ports → IsPlan plan → BeginsNoTask specs tasks (map port_text ports ++ ending_lines plan rounds)
+first_no_task specs [] plan rounds tasks are is =
+    ap (λ ws. with_given specs tasks (task_line_of ws)) (plan_parts plan is) ∙ ap (with_given specs tasks) (plan_no_task plan)
+first_no_task specs (p ∷ ps) plan rounds tasks are is =
+    ap (λ ws. with_given specs tasks (task_line_of ws)) (port_parts p are.0) ∙ ap (with_given specs tasks) (port_no_task p)
+
+at_end : (c : Settings) (tasks : List Task) (n : ℕ) (lines : List (List ℕ)) → 0 < length lines → BeginsNoTask c.specs tasks lines
+    → scenario_from c tasks n lines ≡ scenario_end c tasks n lines
+unfolding scenario_from
+at_end c tasks n [] some other = absurd (omega arith)
+at_end c tasks n (l ∷ ls) some other = rw other refl
+
+end_read : (c : Settings) (tasks : List Task) (n : ℕ) (ports : List StationPort) (plan : LinkPlan) (rounds : ℕ)
+    → ArePortsAbove c.specs 0 ports → IsPlan plan → rounds ≤ most_rounds c.specs
+    → scenario_end c tasks n (map port_text ports ++ ending_lines plan rounds)
+    ≡ Ok (record { config = c; tasks = tasks; ports = ports; plan = plan; rounds = rounds })
+end_read c tasks n ports plan rounds are is few =
+    ap (scenario_by_ports c tasks n) (ports_back c.specs 0 ports (joined (plan_words plan)) (joined (rounds_words rounds) ∷ []) are
+    (ap port_of (plan_parts plan is) ∙ plan_no_port plan))
+    ∙ ap (scenario_with c tasks ports) (ending_read (most_rounds c.specs) (n + length ports) plan rounds (few_rounds c.specs) is few)
+
 body_of : (c : Settings) (tasks : List Task) (n : ℕ) (s : Scenario) (given : List TaskLine)
     → AllByRecursion IsReadableLine given
-    → with_all_given c.specs tasks given ≡ Some s.tasks → s.config ≡ c → IsPlan s.plan → s.rounds ≤ most_rounds c.specs
-    → scenario_from c tasks n (body_lines s given) ≡ Ok s
+    → with_all_given c.specs tasks given ≡ Some s.tasks → s.config ≡ c → ArePortsAbove c.specs 0 s.ports → IsPlan s.plan
+    → s.rounds ≤ most_rounds c.specs → scenario_from c tasks n (body_lines s given) ≡ Ok s
 unfolding scenario_from
-body_of c tasks n s [] ranges gives config plan few =
-    let no : with_task_line c.specs tasks (joined (plan_words s.plan)) ≡ None =
-    ap (λ ws. with_given c.specs tasks (task_line_of ws)) (plan_parts s.plan plan) ∙ ap (with_given c.specs tasks) (plan_no_task s.plan) in
-    let end = ending_read (most_rounds c.specs) n s.plan s.rounds (few_rounds c.specs) plan few in
+body_of c tasks n s [] ranges gives config ports plan few =
     let same : tasks ≡ s.tasks = cc in
-    rw (no, end)
-    (ap (λ ts. let made : Scenario = record { config = c; tasks = ts; plan = s.plan; rounds = s.rounds } in Ok made)
-    same ∙ ap (λ c. let made : Scenario = record { config = c; tasks = s.tasks; plan = s.plan; rounds = s.rounds } in Ok made) (sym config))
-body_of c tasks n s (t ∷ ts) ranges gives config plan few =
+    at_end c tasks n (closing_lines s) (some_lines s) (first_no_task c.specs s.ports s.plan s.rounds tasks ports plan)
+    ∙ end_read c tasks n s.ports s.plan s.rounds ports plan few
+    ∙ ap (λ ts. let made : Scenario = record { config = c; tasks = ts; ports = s.ports; plan = s.plan; rounds = s.rounds } in Ok made) same
+    ∙ ap (λ c. let made : Scenario = record { config = c; tasks = s.tasks; ports = s.ports; plan = s.plan; rounds = s.rounds } in Ok made)
+    (sym config)
+body_of c tasks n s (t ∷ ts) ranges gives config ports plan few =
     let step = bind_is (with_given c.specs tasks (Some t)) (λ more. with_all_given c.specs more ts) s.tasks gives in
     let line : with_task_line c.specs tasks (task_text t) ≡ Some step.0 =
     ap (λ ws. with_given c.specs tasks (task_line_of ws)) (task_parts t ranges.0)
     ∙ ap (with_given c.specs tasks) (task_line_read t ranges.0) ∙ step.1 in
-    rw line (body_of c step.0 (n + 1) s ts ranges.1 step.2 config plan few)
+    rw line (body_of c step.0 (n + 1) s ts ranges.1 step.2 config ports plan few)
 
 task_feeds : (given : List TaskLine) → AllByRecursion IsReadableLine given → (rest : List (List ℕ)) → AllByRecursion HasNoFeed rest
     → AllByRecursion HasNoFeed (map task_text given ++ rest)
 task_feeds [] h rest r = r
 task_feeds (t ∷ ts) h rest r = (joined_no_feed (task_words t) (no_feeds (task_words t) (task_line_plain t h.0)), task_feeds ts h.1 rest r)
 
-no_feed_in : (s : Scenario) (given : List TaskLine) → AllByRecursion IsReadableLine given → IsPlan s.plan → s.rounds < 2 ^ 64
-    → AllByRecursion HasNoFeed (body_lines s given)
-no_feed_in s given h plan few =
-    task_feeds given h (joined (plan_words s.plan) ∷ joined (rounds_words s.rounds) ∷ []) (
+no_feed_in : (s : Scenario) (given : List TaskLine) → AllByRecursion IsReadableLine given → ArePortsAbove s.config.specs 0 s.ports
+    → IsPlan s.plan → s.rounds < 2 ^ 64 → AllByRecursion HasNoFeed (body_lines s given)
+no_feed_in s given h ports plan few =
+    task_feeds given h (closing_lines s) (ports_feeds s.config.specs 0 s.ports (ending_lines s.plan s.rounds) ports (
       joined_no_feed (plan_words s.plan) (no_feeds (plan_words s.plan) (plan_plain s.plan plan)),
       (joined_no_feed (rounds_words s.rounds) (no_feeds (rounds_words s.rounds) (rounds_plain s.rounds few)), tt),
-    )
+    ))
 
 no_head_word : (pid : Pid) (given : Given) → (process_of (given_words pid given) ≡ None) × (pool_line_of (given_words pid given) ≡ None)
 unfolding process_of pool_line_of
@@ -253,11 +302,22 @@ no_head_word pid (givens.Call call) = (refl, refl)
 no_head_word pid (givens.Program (kinds.Script calls)) = (refl, refl)
 no_head_word pid (givens.Program (kinds.PageServer pages requests)) = (refl, refl)
 no_head_word pid (givens.Program (kinds.PageClient server pages rounds)) = (refl, refl)
+no_head_word pid (givens.Program (kinds.FileServer files requests)) = (refl, refl)
+no_head_word pid (givens.Program (kinds.Loader server file)) = (refl, refl)
+no_head_word pid (givens.Program (kinds.PipeServer requests)) = (refl, refl)
+no_head_word pid (givens.Program (kinds.Group requests pairs)) = (refl, refl)
+no_head_word pid (givens.Program (kinds.GroupHelper coordinator member)) = (refl, refl)
 
-first_is_none : (s : Scenario) (given : List TaskLine) → AllByRecursion IsReadableLine given → IsPlan s.plan → BeginsNoHead (body_lines s given)
+closing_begins : (specs : List ProcessSpec) (ports : List StationPort) (plan : LinkPlan) (rounds : ℕ) → ArePortsAbove specs 0 ports
+    → IsPlan plan → BeginsNoHead (map port_text ports ++ ending_lines plan rounds)
 unfolding process_of pool_line_of
-first_is_none s [] h plan = (ap process_of (plan_parts s.plan plan), ap pool_line_of (plan_parts s.plan plan))
-first_is_none s (t ∷ ts) h plan =
+closing_begins specs [] plan rounds are is = (ap process_of (plan_parts plan is), ap pool_line_of (plan_parts plan is))
+closing_begins specs (p ∷ ps) plan rounds are is = (ap process_of (port_parts p are.0), ap pool_line_of (port_parts p are.0))
+
+first_is_none : (s : Scenario) (given : List TaskLine) → AllByRecursion IsReadableLine given → ArePortsAbove s.config.specs 0 s.ports
+    → IsPlan s.plan → BeginsNoHead (body_lines s given)
+first_is_none s [] h ports plan = closing_begins s.config.specs s.ports s.plan s.rounds ports plan
+first_is_none s (t ∷ ts) h ports plan =
     let word = no_head_word t.pid t.given in
     (ap process_of (task_parts t h.0) ∙ word.0, ap pool_line_of (task_parts t h.0) ∙ word.1)
 
@@ -269,13 +329,13 @@ back_by s opening given is front ranges gives =
     let body : List (List ℕ) = body_lines s given in
     let feeds = both_plain opening body
     (openings_no_feed plain_title timed_title s.config opening (title_plain plain_title refl) (title_plain timed_title refl) is.told front)
-    (no_feed_in s given ranges is.plan few) in
+    (no_feed_in s given ranges is.ports is.plan few) in
     let lines : lines_of (scenario_text s opening given) ≡ opening ++ body = lines_back (opening ++ body) feeds in
-    let found = openings_back plain_title timed_title s.config opening body refl is.told front (first_is_none s given ranges is.plan) in
+    let found = openings_back plain_title timed_title s.config opening body refl is.told front (first_is_none s given ranges is.ports is.plan) in
     let number = line_number (opening ++ body) body in
     ap (λ ls. scenario_by ls (opened ls)) lines ∙ ap (scenario_by (opening ++ body)) found
     ∙ on_some number s.config s.config.specs body is.some
-    ∙ body_of s.config (map idle s.config.specs) number s given ranges gives refl is.plan is.rounds
+    ∙ body_of s.config (map idle s.config.specs) number s given ranges gives refl is.ports is.plan is.rounds
 
 pub scenarios_back : ScenariosReadBack
 scenarios_back = back_by

@@ -6,7 +6,7 @@ use Rattle.vk_text.specs.Calls.{first_as, ended}
 use Rattle.vk_text.specs.Lines.{words_from}
 use Rattle.vk_text.specs.Words.{number_of}
 use Rattle.vk_event.specs.declared.scenario.Ending.{Ending}
-use Rattle.vk_event.specs.declared.scenario.LinkPlan.{LinkPlan}
+use Rattle.vk_schedule.specs.declared.plan.LinkPlan.{LinkPlan}
 
 -- `LOSE DOUBLE HOLD SEED`: three numbers of 8 bits, and one of 64
 unfoldable pub plan_fields_of : List (List ℕ) → Option LinkPlan

@@ -1,10 +1,9 @@
 pub mod Endings
-pub mod Lawful
-pub mod Laws
-pub mod Remaining
+pub mod NodeLaws
+pub mod NodePlaces
+pub mod Nodes
+pub mod Pairs
+pub mod Ports
 pub mod Scenario
 pub mod ScenarioLaws
-pub mod Schedule
-pub mod Spelling
 pub mod Tasks
-pub mod Views

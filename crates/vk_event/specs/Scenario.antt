@@ -5,14 +5,16 @@ use Rattle.vk_base.specs.Settings.{Settings, stations_of}
 use Rattle.vk_base.specs.declared.config.ProcessSpec.{ProcessSpec}
 use Rattle.vk_text.specs.Lines.{lines_of}
 use Rattle.vk_text.specs.Openings.{HasProcesses, line_number, opening_of}
+use Rattle.vk_event.specs.declared.port.StationPort.{StationPort}
 use Rattle.vk_event.specs.declared.scenario.Ending.{Ending}
 use Rattle.vk_event.specs.declared.scenario.Scenario.{Scenario}
 use Rattle.vk_event.specs.declared.scenario.TheConstants.{TICKS}
-use Rattle.vk_event.specs.declared.schedule.TextRefusal.{TextRefusal}
-use Rattle.vk_event.specs.declared.schedule.TextRefusal.TheVariants as refusals
+use Rattle.vk_schedule.specs.declared.schedule.TextRefusal.{TextRefusal}
+use Rattle.vk_schedule.specs.declared.schedule.TextRefusal.TheVariants as refusals
 use Rattle.vk_event.specs.declared.task.Task.{Task}
 use Rattle.vk_event.specs.declared.task.TaskKind.TheVariants as kinds
 use Rattle.vk_event.specs.Endings.{ending_from}
+use Rattle.vk_event.specs.Ports.{ports_from}
 use Rattle.vk_event.specs.Tasks.{with_task_line}
 
 -- a process that is given nothing has the script of no calls
@@ -23,16 +25,23 @@ idle s = record { pid = s.pid; kind = kinds.Script [] }
 abbrev pub most_rounds : List ProcessSpec → ℕ
 most_rounds specs = TICKS / length (stations_of specs)
 
-abbrev pub scenario_with : Settings → List Task → Result Ending ℕ → Result Scenario TextRefusal
-scenario_with c tasks (Ok e) = Ok (record { config = c; tasks = tasks; plan = e.plan; rounds = e.rounds })
-scenario_with c tasks (Err n) = Err (refusals.BadInput n)
+-- the scenario of these tasks and ports, and of what the last two lines tell
+abbrev pub scenario_with : Settings → List Task → List StationPort → Result Ending ℕ → Result Scenario TextRefusal
+scenario_with c tasks ports (Ok e) = Ok (record { config = c; tasks = tasks; ports = ports; plan = e.plan; rounds = e.rounds })
+scenario_with c tasks ports (Err n) = Err (refusals.BadInput n)
+
+-- the scenario of these tasks, of the ports that the lines from line n on tell, and of the last two lines behind theirs
+abbrev pub scenario_by_ports : Settings → List Task → ℕ → List StationPort × List (List ℕ) → Result Scenario TextRefusal
+scenario_by_ports c tasks n found = scenario_with c tasks found.0 (ending_from (most_rounds c.specs) (n + length found.0) found.1)
+
+abbrev pub scenario_end : Settings → List Task → ℕ → List (List ℕ) → Result Scenario TextRefusal
+scenario_end c tasks n lines = scenario_by_ports c tasks n (ports_from c.specs 0 lines)
 
 -- the scenario of this configuration and of these tasks, and of the lines from line n on
 unfoldable pub scenario_from : Settings → List Task → ℕ → List (List ℕ) → Result Scenario TextRefusal
 scenario_from c tasks n [] = Err (refusals.BadInput n)
 scenario_from c tasks n (l ∷ ls) =
-    option_map_or (λ more. scenario_from c more (n + 1) ls) (with_task_line c.specs tasks l)
-    (scenario_with c tasks (ending_from (most_rounds c.specs) n (l ∷ ls)))
+    option_map_or (λ more. scenario_from c more (n + 1) ls) (with_task_line c.specs tasks l) (scenario_end c tasks n (l ∷ ls))
 
 -- there is at least one process, else the line behind the opening is bad
 unfoldable pub scenario_on : ℕ → Settings → List ProcessSpec → List (List ℕ) → Result Scenario TextRefusal

@@ -10,38 +10,57 @@ use Rattle.vk_text.specs.Heads.{line_text}
 use Rattle.vk_text.specs.Laws.{IsCount, IsReadable}
 use Rattle.vk_text.specs.Openings.{IsOpening, IsTold, opening_lines}
 use Rattle.vk_text.specs.Spelling.{joined, pid_text, call_words}
-use Rattle.vk_event.specs.declared.scenario.LinkPlan.{LinkPlan}
+use Rattle.vk_event.specs.Pairs.{are_pairs}
+use Rattle.vk_event.specs.declared.pair.HelperPair.{HelperPair}
+use Rattle.vk_schedule.specs.declared.plan.LinkPlan.{LinkPlan}
 use Rattle.vk_event.specs.declared.scenario.Scenario.{Scenario}
 use Rattle.vk_event.specs.declared.task.Given.{Given}
 use Rattle.vk_event.specs.declared.task.Given.TheVariants as givens
 use Rattle.vk_event.specs.declared.task.Task.{Task}
 use Rattle.vk_event.specs.declared.task.TaskKind.{TaskKind}
 use Rattle.vk_event.specs.declared.task.TaskKind.TheVariants as kinds
-use Rattle.vk_event.specs.declared.task.TheConstants.{PAGES}
+use Rattle.vk_event.specs.declared.task.TheConstants.{FILES, PAGES}
 use Rattle.vk_event.specs.declared.task_line.TaskLine.{TaskLine}
+use Rattle.vk_event.specs.Ports.{AreStationPorts, port_text}
 use Rattle.vk_event.specs.Scenario.{idle, most_rounds, plain_title, scenario_of, timed_title}
 use Rattle.vk_event.specs.Tasks.{memory_of, has_memory, with_given}
 
 abbrev pub IsPageCount : ℕ → Type 0
 IsPageCount pages = (0 < pages) × (pages ≤ PAGES)
 
+abbrev pub IsFileCount : ℕ → Type 0
+IsFileCount files = (0 < files) × (files ≤ FILES)
+
+abbrev pub IsReadablePair : HelperPair → Type 0
+IsReadablePair p = IsPid p.helper × IsPid p.member
+
+-- the pairs make a group
+abbrev pub IsReadableGroup : List HelperPair → Type 0
+IsReadableGroup pairs = AllByRecursion IsReadablePair pairs × (are_pairs pairs ≡ true)
+
 -- each field of the program is in its range
 abbrev pub IsReadableKind : TaskKind → Type 0
 IsReadableKind (kinds.Script calls) = AllByRecursion IsReadable calls
 IsReadableKind (kinds.PageServer pages requests) = IsPageCount pages × IsCount requests
 IsReadableKind (kinds.PageClient server pages rounds) = IsPid server × IsPageCount pages × IsCount rounds
+IsReadableKind (kinds.FileServer files requests) = IsFileCount files × IsCount requests
+IsReadableKind (kinds.Loader server file) = IsPid server × (file < FILES)
+IsReadableKind (kinds.PipeServer requests) = IsCount requests
+IsReadableKind (kinds.Group requests pairs) = IsCount requests × IsReadableGroup pairs
+IsReadableKind (kinds.GroupHelper coordinator member) = IsPid coordinator × IsPid member
 
 abbrev pub IsPlan : LinkPlan → Type 0
 IsPlan plan = (plan.lose < 256) × (plan.double < 256) × (plan.hold < 256) × (plan.seed < 2 ^ 64)
 
--- the configuration is one that a text can tell, and there is a process; each process has a task, for which it has the memory; there
--- are not too many rounds
+-- the configuration is one that a text can tell, and there is a process; each process has a task, for which it has the memory; ports are
+-- of its stations, and rise; there are not too many rounds
 pub record IsLawfulScenario (s : Scenario) : Type 0 where
   pub told : IsTold s.config
   pub some : 0 < length s.config.specs
   pub tasks : map (λ t. t.pid) s.tasks ≡ map (λ p. p.pid) s.config.specs
   pub ranges : AllByRecursion (λ t. IsReadableKind t.kind) s.tasks
   pub memory : list_all (λ t. has_memory s.config.specs t.pid (memory_of t.kind)) s.tasks ≡ true
+  pub ports : AreStationPorts s.config.specs s.ports
   pub plan : IsPlan s.plan
   pub rounds : s.rounds ≤ most_rounds s.config.specs
 
@@ -51,6 +70,11 @@ IsReadableGiven (givens.Call call) = IsReadable call
 IsReadableGiven (givens.Program (kinds.Script calls)) = ⊥
 IsReadableGiven (givens.Program (kinds.PageServer pages requests)) = IsPageCount pages × IsCount requests
 IsReadableGiven (givens.Program (kinds.PageClient server pages rounds)) = IsPid server × IsPageCount pages × IsCount rounds
+IsReadableGiven (givens.Program (kinds.FileServer files requests)) = IsFileCount files × IsCount requests
+IsReadableGiven (givens.Program (kinds.Loader server file)) = IsPid server × (file < FILES)
+IsReadableGiven (givens.Program (kinds.PipeServer requests)) = IsCount requests
+IsReadableGiven (givens.Program (kinds.Group requests pairs)) = IsCount requests × IsReadableGroup pairs
+IsReadableGiven (givens.Program (kinds.GroupHelper coordinator member)) = IsPid coordinator × IsPid member
 
 abbrev pub IsReadableLine : TaskLine → Type 0
 IsReadableLine t = IsPid t.pid × IsReadableGiven t.given
@@ -64,6 +88,9 @@ with_all_given specs tasks (t ∷ ts) = with_given specs tasks (Some t) >>= λ m
 abbrev pub GiveTasks : Scenario → List TaskLine → Type 0
 GiveTasks s given = with_all_given s.config.specs (map idle s.config.specs) given ≡ Some s.tasks
 
+abbrev pub pair_words : HelperPair → List (List ℕ)
+pair_words p = pid_text p.helper ∷ pid_text p.member ∷ []
+
 -- the words of a line that gives this to the process
 abbrev pub given_words : Pid → Given → List (List ℕ)
 given_words pid (givens.Call call) = codes "do" ∷ pid_text pid ∷ call_words call
@@ -72,6 +99,16 @@ given_words pid (givens.Program (kinds.PageServer pages requests)) =
     codes "program" ∷ pid_text pid ∷ codes "pageserver" ∷ decimal pages ∷ decimal requests ∷ []
 given_words pid (givens.Program (kinds.PageClient server pages rounds)) =
     codes "program" ∷ pid_text pid ∷ codes "pageclient" ∷ pid_text server ∷ decimal pages ∷ decimal rounds ∷ []
+given_words pid (givens.Program (kinds.FileServer files requests)) =
+    codes "program" ∷ pid_text pid ∷ codes "fileserver" ∷ decimal files ∷ decimal requests ∷ []
+given_words pid (givens.Program (kinds.Loader server file)) =
+    codes "program" ∷ pid_text pid ∷ codes "loader" ∷ pid_text server ∷ decimal file ∷ []
+given_words pid (givens.Program (kinds.PipeServer requests)) =
+    codes "program" ∷ pid_text pid ∷ codes "pipeserver" ∷ decimal requests ∷ []
+given_words pid (givens.Program (kinds.Group requests pairs)) =
+    codes "program" ∷ pid_text pid ∷ codes "group" ∷ decimal requests ∷ flat_map pair_words pairs
+given_words pid (givens.Program (kinds.GroupHelper coordinator member)) =
+    codes "program" ∷ pid_text pid ∷ codes "grouphelper" ∷ pid_text coordinator ∷ pid_text member ∷ []
 
 abbrev pub task_words : TaskLine → List (List ℕ)
 task_words t = given_words t.pid t.given
@@ -85,9 +122,16 @@ plan_words plan = codes "link" ∷ decimal plan.lose ∷ decimal plan.double ∷
 abbrev pub rounds_words : ℕ → List (List ℕ)
 rounds_words rounds = codes "ticks" ∷ decimal rounds ∷ []
 
--- the lines behind the processes
+abbrev pub ending_lines : LinkPlan → ℕ → List (List ℕ)
+ending_lines plan rounds = joined (plan_words plan) ∷ joined (rounds_words rounds) ∷ []
+
+-- the lines behind those of tasks
+abbrev pub closing_lines : Scenario → List (List ℕ)
+closing_lines s = map port_text s.ports ++ ending_lines s.plan s.rounds
+
+-- the lines behind the opening
 abbrev pub body_lines : Scenario → List TaskLine → List (List ℕ)
-body_lines s given = map task_text given ++ joined (plan_words s.plan) ∷ joined (rounds_words s.rounds) ∷ []
+body_lines s given = map task_text given ++ closing_lines s
 
 -- these lines are an opening of a scenario's configuration
 abbrev pub IsFront : Settings → List (List ℕ) → Type 0

@@ -5,35 +5,26 @@ ghost use Rattle.vk_base.specs.declared.limits.TheConstants.{PROCESSES, STATIONS
 ghost use Rattle.vk_text.specs.Lines.{lines_of};
 ghost use Rattle.vk_event.specs.Endings.{ending_from};
 ghost use Rattle.vk_event.specs.ScenarioLaws.{IsLawfulScenario};
-ghost use Rattle.vk_event.specs.Scenario.{HasScenarioProcess, idle, most_rounds, scenario_from, scenario_of, scenario_with};
+ghost use Rattle.vk_event.specs.Scenario.{HasScenarioProcess, idle, most_rounds, scenario_end, scenario_from, scenario_of, scenario_with};
 
-use crate::schedule::{TextRefusal, refused};
+use crate::port::{PortLines, StationPort, read_ports};
 use crate::task::{Task, TaskKind};
 use crate::task_line::{read_plan, read_rounds, take_line};
 use std::alloc::Global;
 use vk_base::{Config, List, NoMemory, ProcessSpec};
+use vk_schedule::{LinkPlan, TextRefusal, refused};
 use vk_text::{Head, next_line, read_opening};
 
 /// Ticks of all stations of a scenario together.
 pub const TICKS: u32 = 50_000;
 
-/// What becomes of frames on the way. Each station that a frame is addressed to has three draws of 0 to 255: a first below
-/// `lose` loses the frame, else a third below `hold` holds it back, else a second below `double` brings it twice.
-#[derive(Clone, Copy, Debug, PartialEq, Eq)]
-pub struct LinkPlan {
-    pub lose: u8,
-    pub double: u8,
-    pub hold: u8,
-    /// The generator's first state.
-    pub seed: u64,
-}
-
-/// A configuration, what each of its processes is to do, in their order, what becomes of frames on the way, and how many
-/// rounds of ticks there are, of which each ticks every station once.
+/// A configuration, what each of its processes is to do, in their order, ports of some of its stations, by rising stations, what
+/// becomes of frames on the way, and how many rounds of ticks there are, of which each ticks every station once.
 #[derive(Drop)]
 pub struct Scenario {
     pub config: Config,
     pub tasks: List<Task>,
+    pub ports: List<StationPort>,
     pub plan: LinkPlan,
     pub rounds: u32,
 }
@@ -94,8 +85,35 @@ fn read_ending(text: &[u8], at: usize, line: u64, most: u32) -> Result<Ending, u
     Ok(Ending { plan, rounds })
 }
 
-/// The scenario of these tasks and of the last two lines, of which the first starts at `at` and has the number `line`.
+/// The scenario of these tasks, of these ports, and of the last two lines, of which the first starts at `at` and has the number `line`.
+fn close(
+    config: Config,
+    tasks: Vec<Task>,
+    ports: List<StationPort>,
+    text: &[u8],
+    at: usize,
+    line: u64,
+) -> Result<Scenario, TextRefusal>
+    requires some { 0 < length config.specs }
+    requires line { line + 2 < 2 ^ 64 }
+    ensures { result ≡ scenario_with config tasks.items ports
+        (ending_from (most_rounds config.specs) line (lines_of (drop at text.now))) }
+{
+    match read_ending(text, at, line, most_rounds(&config)) {
+        Ok(Ending { plan, rounds }) => Ok(Scenario {
+            config,
+            tasks: List::new(tasks),
+            ports,
+            plan,
+            rounds,
+        }),
+        Err(line) => Err(TextRefusal::BadInput { line }),
+    }
+}
+
+/// The scenario of these tasks and of the lines behind them, of which the first starts at `at` and has the number `line`.
 fn end(
+    alloc: Global,
     config: Config,
     tasks: Vec<Task>,
     text: &[u8],
@@ -103,17 +121,18 @@ fn end(
     line: u64,
 ) -> Result<Scenario, TextRefusal>
     requires some { 0 < length config.specs }
-    requires line { line + 2 < 2 ^ 64 }
-    ensures { result ≡ scenario_with config tasks.items (ending_from (most_rounds config.specs) line (lines_of (drop at text.now))) }
+    requires line { line ≤ at + PROCESSES + STATIONS + 3 }
+    requires within { at ≤ length text.now }
+    ensures scenario { IfOk result (λ s. scenario_end config tasks.items line (lines_of (drop at text.now)) ≡ Ok s) }
+    ensures refused { IfErr result (λ e. (e ≡ TextRefusal.NoMemory)
+        ⊎ (scenario_end config tasks.items line (lines_of (drop at text.now)) ≡ Err e)) }
 {
-    match read_ending(text, at, line, most_rounds(&config)) {
-        Ok(Ending { plan, rounds }) => Ok(Scenario {
-            config,
-            tasks: List::new(tasks),
-            plan,
-            rounds,
-        }),
-        Err(line) => Err(TextRefusal::BadInput { line }),
+    match read_ports(alloc, &config, text, at) {
+        Ok(PortLines { ports, at }) => {
+            let line = line + ports.len() as u64;
+            close(config, tasks, ports, text, at, line)
+        }
+        Err(NoMemory) => Err(TextRefusal::NoMemory),
     }
 }
 
@@ -138,9 +157,9 @@ fn read_body(
     let mut at = start;
     let mut line = first;
     while let Some((words, next)) = next_line(text, at) {
-        match take_line(config.specs(), &mut tasks, words) {
+        match take_line(alloc, config.specs(), &mut tasks, words) {
             Ok(true) => {}
-            Ok(false) => return end(config, tasks, text, at, line),
+            Ok(false) => return end(alloc, config, tasks, text, at, line),
             Err(NoMemory) => return Err(TextRefusal::NoMemory),
         }
         at = next;
@@ -152,8 +171,10 @@ fn read_body(
 /// The scenario that the text spells. In format 1 its first line is `vkernel scenario 1`, and then come `process PID SIZE` lines by
 /// rising pids, at least one; in format 2 it is `vkernel scenario 2`, then come `times TRIES INTERVAL LIFE`, the `process` lines, and
 /// `pool HOST POOL` lines by rising stations. Then come lines of tasks, of processes that the text names: `do PID CALLTEXT` puts a call
-/// behind those of the process's script, and `program PID pageserver PAGES REQUESTS` and `program PID pageclient SERVER PAGES
-/// ROUNDS` give it a program instead, for which it needs 512 and 1,024 bytes of memory. The last two lines are
+/// behind those of the process's script, and `program PID NAME ..` gives it a program instead, for which it needs so much memory:
+/// `pageserver PAGES REQUESTS` 512 bytes, `pageclient SERVER PAGES ROUNDS` 1,024, `fileserver FILES REQUESTS` and `loader SERVER I`
+/// 65,536, `pipeserver REQUESTS` 512, `group REQUESTS HELPER MEMBER ..` with 1 to 16 pairs that make a group 512, and
+/// `grouphelper COORDINATOR MEMBER` 32. Then come `port HOST PORT` lines by rising stations, PORT 1 to 65,535. The last two lines are
 /// `link LOSE DOUBLE HOLD SEED` and `ticks ROUNDS`, of at most 50,000 rounds by the number of stations. The first line that
 /// is none of these decides; [`TextRefusal::Limit`] never comes. Memory is wanted only where the text opens with a process.
 pub fn read_scenario(alloc: Global, text: &[u8]) -> Result<Scenario, TextRefusal>

@@ -3,12 +3,17 @@
 ghost use Rattle.std.specs.Prelude.{◌≡◌, true, false, Some, None, IfOk, if◌then◌else◌};
 ghost use Rattle.vk_event.specs.Tasks.{given_kind, is_idle};
 
+use crate::pair::HelperPair;
 use vk_base::{Call, List, NoMemory, Pid};
 
 /// Bytes of a page.
 pub const PAGE_BYTES: usize = 512;
 /// Pages of one page server.
 pub const PAGES: u32 = 4_096;
+/// Files of one file server.
+pub const FILES: u32 = 16;
+/// Bytes of memory that one file wants of those who move it whole.
+pub const IMAGE_BYTES: usize = 65_536;
 
 /// The program of a process.
 #[derive(Drop)]
@@ -27,6 +32,30 @@ pub enum TaskKind {
         server: Pid,
         pages: u32,
         rounds: u32,
+    },
+    /// Serves so many files, 1 to 16, and ends after so many replies.
+    FileServer {
+        files: u32,
+        requests: u32,
+    },
+    /// Loads the file of this number, 0 to 15, from the server.
+    Loader {
+        server: Pid,
+        file: u32,
+    },
+    /// Serves a pipe, and ends after so many replies.
+    PipeServer {
+        requests: u32,
+    },
+    /// Brings messages to the members of these pairs, which make a group, by their helpers, and ends after so many replies.
+    Group {
+        requests: u32,
+        pairs: List<HelperPair>,
+    },
+    /// Sends to the member what the coordinator gives it.
+    GroupHelper {
+        coordinator: Pid,
+        member: Pid,
     },
 }
 

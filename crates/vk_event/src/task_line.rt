@@ -3,13 +3,16 @@
 ghost use Rattle.std.specs.Prelude.{◌≡◌, ◌&&◌, ◌≤◌, true, false, Some, None, IfOk, nat_le, position, if◌then◌else◌};
 ghost use Rattle.vk_base.specs.Pids.{same_pid};
 ghost use Rattle.vk_text.specs.Lines.{words_from};
-ghost use Rattle.vk_event.specs.Tasks.{client_of, do_of, given_to, has_memory, kind_of, memory_for, memory_of, program_of, server_of, task_line_of, with_task_line};
+ghost use Rattle.vk_event.specs.Tasks.{do_of, given_to, has_memory, memory_for, memory_of, program_of, task_line_of, with_task_line};
 ghost use Rattle.vk_event.specs.Endings.{plan_fields_of, plan_of, round_count_of, rounds_of};
 
-use crate::scenario::LinkPlan;
-use crate::task::{Given, PAGE_BYTES, PAGES, Task, TaskKind};
+use crate::programs::read_kind;
+use crate::task::{Given, IMAGE_BYTES, PAGE_BYTES, Task, TaskKind};
+use std::alloc::Global;
+use vk_base::limits::{MESSAGE_BYTES, SEGMENT_BYTES};
 use vk_base::{NoMemory, Pid, ProcessSpec};
-use vk_text::{is_end, next_count, next_number, next_pid, next_positive, next_word, read_call};
+use vk_schedule::LinkPlan;
+use vk_text::{is_end, next_number, next_pid, next_word, read_call};
 
 /// A process, and what a line gives it.
 #[derive(Drop)]
@@ -31,82 +34,37 @@ fn read_do(line: &[u8], at: usize) -> Option<TaskLine>
     })
 }
 
-/// `PAGES REQUESTS`
-#[tactic(auto, unfolding(crate::specs::Tasks::server_of))]
-fn read_server(line: &[u8], at: usize) -> Option<TaskKind>
-    ensures { result ≡ server_of (words_from line.now at) }
-{
-    let (pages, at) = next_positive(line, at, u64::from(PAGES))?;
-    let (requests, at) = next_count(line, at)?;
-    if is_end(line, at) {
-        Some(TaskKind::PageServer {
-            pages: pages as u32,
-            requests,
-        })
-    } else {
-        None
-    }
-}
-
-/// `SERVER PAGES ROUNDS`
-#[tactic(auto, unfolding(crate::specs::Tasks::client_of))]
-fn read_client(line: &[u8], at: usize) -> Option<TaskKind>
-    ensures { result ≡ client_of (words_from line.now at) }
-{
-    let (server, at) = next_pid(line, at)?;
-    let (pages, at) = next_positive(line, at, u64::from(PAGES))?;
-    let (rounds, at) = next_count(line, at)?;
-    if is_end(line, at) {
-        Some(TaskKind::PageClient {
-            server,
-            pages: pages as u32,
-            rounds,
-        })
-    } else {
-        None
-    }
-}
-
-/// `pageserver PAGES REQUESTS` or `pageclient SERVER PAGES ROUNDS`
-#[tactic(auto, unfolding(crate::specs::Tasks::kind_of))]
-fn read_kind(line: &[u8], at: usize) -> Option<TaskKind>
-    ensures { result ≡ kind_of (words_from line.now at) }
-{
-    let (word, at) = next_word(line, at)?;
-    if word == b"pageserver".as_slice() {
-        read_server(line, at)
-    } else if word == b"pageclient".as_slice() {
-        read_client(line, at)
-    } else {
-        None
-    }
-}
-
 /// `PID PROGRAM`
 #[tactic(auto, unfolding(crate::specs::Tasks::program_of))]
-fn read_program(line: &[u8], at: usize) -> Option<TaskLine>
-    ensures { result ≡ program_of (words_from line.now at) }
+fn read_program(alloc: Global, line: &[u8], at: usize) -> Result<Option<TaskLine>, NoMemory>
+    ensures { IfOk result (λ told. told ≡ program_of (words_from line.now at)) }
 {
-    let (pid, at) = next_pid(line, at)?;
-    let kind = read_kind(line, at)?;
-    Some(TaskLine {
-        pid,
-        given: Given::Program { kind },
-    })
+    let Some((pid, at)) = next_pid(line, at) else {
+        return Ok(None);
+    };
+    match read_kind(alloc, line, at)? {
+        Some(kind) => Ok(Some(TaskLine {
+            pid,
+            given: Given::Program { kind },
+        })),
+        None => Ok(None),
+    }
 }
 
 /// What the line gives to a process.
 #[tactic(auto, unfolding(crate::specs::Tasks::task_line_of))]
-fn read_task_line(line: &[u8]) -> Option<TaskLine>
-    ensures { result ≡ task_line_of (words_from line.now 0) }
+fn read_task_line(alloc: Global, line: &[u8]) -> Result<Option<TaskLine>, NoMemory>
+    ensures { IfOk result (λ told. told ≡ task_line_of (words_from line.now 0)) }
 {
-    let (word, at) = next_word(line, 0)?;
+    let Some((word, at)) = next_word(line, 0) else {
+        return Ok(None);
+    };
     if word == b"do".as_slice() {
-        read_do(line, at)
+        Ok(read_do(line, at))
     } else if word == b"program".as_slice() {
-        read_program(line, at)
+        read_program(alloc, line, at)
     } else {
-        None
+        Ok(None)
     }
 }
 
@@ -120,6 +78,9 @@ fn memory_for(given: &Given) -> u32
             TaskKind::Script { .. } => 0,
             TaskKind::PageServer { .. } => PAGE_BYTES as u32,
             TaskKind::PageClient { .. } => 2 * PAGE_BYTES as u32,
+            TaskKind::FileServer { .. } | TaskKind::Loader { .. } => IMAGE_BYTES as u32,
+            TaskKind::PipeServer { .. } | TaskKind::Group { .. } => SEGMENT_BYTES,
+            TaskKind::GroupHelper { .. } => MESSAGE_BYTES as u32,
         },
     }
 }
@@ -150,6 +111,7 @@ fn give(tasks: &mut Vec<Task>, pid: Pid, given: Given) -> Result<bool, NoMemory>
 
 /// Gives to a process what the line says, and tells whether the line is one of a task. Otherwise nothing changes.
 pub fn take_line(
+    alloc: Global,
     specs: &[ProcessSpec],
     tasks: &mut Vec<Task>,
     line: &[u8],
@@ -158,7 +120,7 @@ pub fn take_line(
         ≡ (if done then Some tasks.new.items else None)) }
     ensures same { IfOk result (λ done. done ≡ false → tasks.new.items ≡ tasks.old.items) }
 {
-    let Some(TaskLine { pid, given }) = read_task_line(line) else {
+    let Some(TaskLine { pid, given }) = read_task_line(alloc, line)? else {
         return Ok(false);
     };
     if has_memory(specs, pid, memory_for(&given)) {

@@ -12,7 +12,7 @@ use Rattle.vk_files.specs.Ahead.{IsCalledIf, calls_disk, is_ahead}
 use Rattle.vk_files.specs.Disks.{DiskState, is_done}
 use Rattle.vk_files.specs.Messages.{code_of, file_of, name_of, page_of, reply_of}
 use Rattle.vk_files.specs.Placed.{AreOnDisk, IsInReach, IsOnDisk, IsPageOn, IsPlaced}
-use Rattle.vk_files.specs.Servers.{asked_to_load, asked_to_read, asked_to_write, between, gathered, is_failure, loaded, moved, one_more, opened, page_in, received, refused, stage_after, stage_call, taken, turn_at, went_on, work_of}
+use Rattle.vk_files.specs.Servers.{FetchesAhead, asked_to_load, asked_to_read, asked_to_write, between, gathered, is_failure, loaded, moved, one_more, opened, page_in, received, refused, stage_after, stage_call, taken, turn_at, went_on, work_of}
 use Rattle.vk_files.specs.Volumes.{are_zeros, blocks_for, ends_in_zeros, file_at, file_from, file_named, first_bad, first_bad_behind, is_free, is_lawful, is_taken, lies_on}
 use Rattle.vk_files.specs.declared.disk.Telling.{Telling}
 use Rattle.vk_files.specs.declared.disk.Telling.TheVariants.{Done, Lost, Landed}
@@ -188,6 +188,15 @@ failure_rose (turns.FetchPart from f at dest) Landed blocks ahead old new calm c
 failure_rose (turns.WritePage from f page bytes) Done blocks ahead old new calm called is = absurd (cc)
 failure_rose (turns.WritePage from f page bytes) Lost blocks ahead old new calm called is = told_rose true Lost old new refl called
 failure_rose (turns.WritePage from f page bytes) Landed blocks ahead old new calm called is = told_rose true Landed old new refl called
+
+-- no turn that fetches a block ahead makes one
+pub failure_asked : (turn : Turn) (t : Telling) (blocks : List (List ℕ)) → IsCalm turn → is_failure (stage_after turn t blocks) ≡ true
+    → (block : ℕ) → work_of turn ≡ FetchesAhead block → ⊥
+failure_asked (turns.Goes next) t blocks calm is block asked = cc
+failure_asked (turns.GoesAhead f page next) t blocks calm is block asked = cc
+failure_asked (turns.FetchPage from f page dest) t blocks calm is block asked = cc
+failure_asked (turns.FetchPart from f at dest) t blocks calm is block asked = cc
+failure_asked (turns.WritePage from f page bytes) t blocks calm is block asked = cc
 
 -- the second byte of a reply is its code
 code_is : (code file number : ℕ) (from to : Pid)

@@ -1,5 +1,6 @@
 -- One step of a file server, by its parts.
 use Rattle.std.proofs.Common.{◌≡◌, ℕ, List, length, Option, Some, None, refl, ap, sym, subst, ◌∙◌, length-set, ◌++◌}
+use Rattle.std.proofs.lemmas.Option.{same_Some}
 use Rattle.vk_base.specs.declared.answer.Answer.{Answer}
 use Rattle.vk_base.specs.declared.call.Call.{Call}
 use Rattle.vk_base.specs.declared.call.Call.TheVariants as calls
@@ -7,14 +8,14 @@ use Rattle.vk_base.specs.declared.pid.Pid.{Pid}
 use Rattle.vk_io.specs.Causes.{Rose}
 use Rattle.vk_program.specs.Tasks.{told_by}
 use Rattle.vk_files.proofs.Answering.{after_none, after_step, called_after}
-use Rattle.vk_files.proofs.Placing.{IsFine, after_placed, failure_called, failure_rose, files_there, turn_fine}
+use Rattle.vk_files.proofs.Placing.{IsFine, after_placed, failure_asked, failure_called, failure_rose, files_there, turn_fine}
 use Rattle.vk_files.specs.Ahead.{Reading, Works}
 use Rattle.vk_files.specs.Disks.{DiskState}
 use Rattle.vk_files.specs.Messages.{reply_of}
 use Rattle.vk_files.specs.Opened.{IsServing}
 use Rattle.vk_files.specs.Placed.{AreOnDisk, IsPlaced}
 use Rattle.vk_files.specs.Servers.{Work, Rests, Fetches, Writes, FetchesAhead, blocks_after, is_failure, replies_after, stage_after, stage_call, turn_at, work_of}
-use Rattle.vk_files.specs.Tasks.{FileState, IsActed, IsAfter, IsStep, IsStepBy, file_task}
+use Rattle.vk_files.specs.Tasks.{FileState, IsActed, IsAfter, IsStep, IsStepBy, asked_of_disk, file_task}
 use Rattle.vk_files.specs.Volumes.{files_of}
 use Rattle.vk_files.specs.declared.disk.Telling.{Telling}
 use Rattle.vk_files.specs.declared.disk.Telling.TheVariants.{Done, Lost, Landed}
@@ -78,6 +79,8 @@ step_made first files seen requests replies more stage next reading now a turn i
       };
       failed = λ failed. failure_rose turn acted.told blocks reading.ahead reading.disk now.disk fine.calm acted.works.called
           (ap is_failure (sym acted.next) ∙ failed);
+      none_ahead = λ failed block asked. failure_asked turn acted.told blocks fine.calm (ap is_failure (sym acted.next) ∙ failed) block
+          (ap work_of turn_is ∙ asked);
       first = refl;
       requests = refl;
     }
@@ -104,3 +107,9 @@ pub failed_only : (last : Option Answer) (old new : FileState) → IsStepBy last
     → stage_call new.stage ≡ Some (calls.Reply (reply_of 3 0 0) from) → Rose old.reading.disk.faults new.reading.disk.faults
 failed_only None old new step a from is called = absurd (cc)
 failed_only (Some b) old new step a from is called = step.failed (failure_called new.stage from called)
+
+pub failed_by_asking : (last : Option Answer) (old new : FileState) → IsStepBy last old new → (a : Answer) (from : Pid) (block : ℕ)
+    → last ≡ Some a → stage_call new.stage ≡ Some (calls.Reply (reply_of 3 0 0) from) → asked_of_disk old a ≡ FetchesAhead block → ⊥
+failed_by_asking None old new step a from block is called asked = cc
+failed_by_asking (Some b) old new step a from block is called asked =
+    step.none_ahead (failure_called new.stage from called) block (ap (asked_of_disk old) (same_Some b a is) ∙ asked)

@@ -3,6 +3,7 @@ pub mod Disks
 pub mod Loaders
 pub mod MemoryDisks
 pub mod Messages
+pub mod Numbered
 pub mod Opened
 pub mod Placed
 pub mod Servers

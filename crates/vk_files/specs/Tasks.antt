@@ -5,7 +5,7 @@ use Rattle.vk_base.specs.declared.call.Call.{Call}
 use Rattle.vk_io.specs.Causes.{Rose}
 use Rattle.vk_files.specs.Ahead.{Reading, Works, ahead_after, calls_disk}
 use Rattle.vk_files.specs.Disks.{DiskState, told_at}
-use Rattle.vk_files.specs.Servers.{Server, Work, answered, is_failure, new_server, stage_after, stage_call, turn_at, work_of}
+use Rattle.vk_files.specs.Servers.{FetchesAhead, Server, Work, answered, is_failure, new_server, stage_after, stage_call, turn_at, work_of}
 use Rattle.vk_files.specs.Volumes.{files_of}
 use Rattle.vk_files.specs.declared.disk.Telling.{Telling}
 use Rattle.vk_files.specs.declared.disk.Telling.TheVariants.{Done}
@@ -96,13 +96,18 @@ pub record IsActed (turn : Turn) (old new : Reading) (stage : Serving) : Type 0 
   pub works : Works (work_of turn) told old new
   pub next : stage ≡ stage_after turn told old.disk.blocks
 
+-- what it asks of its disk where its last call is answered so
+abbrev pub asked_of_disk : FileState → Answer → Work
+asked_of_disk s a = work_of (turn_at (files_of s.first.blocks) s.requests s.replies s.stage a)
+
 -- One step, whatever the disk foretells: what is asked of the disk, what it told, and the server by that.
 pub record IsStep (a : Answer) (old new : FileState) : Type 0 where
   pub told : Telling
-  pub works : Works (work_of (turn_at (files_of old.first.blocks) old.requests old.replies old.stage a)) told old.reading new.reading
+  pub works : Works (asked_of_disk old a) told old.reading new.reading
   pub server : server_of new ≡ answered (files_of old.first.blocks) old.requests (server_of old) told a
-  -- a reply that the disk failed comes only where its count of faults rose now
+  -- a reply that the disk failed comes only where its count of faults rose now, and where no block was fetched ahead now
   pub failed : is_failure new.stage ≡ true → Rose old.reading.disk.faults new.reading.disk.faults
+  pub none_ahead : is_failure new.stage ≡ true → (block : ℕ) → asked_of_disk old a ≡ FetchesAhead block → ⊥
   pub first : new.first ≡ old.first
   pub requests : new.requests ≡ old.requests
 

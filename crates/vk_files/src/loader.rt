@@ -20,7 +20,7 @@ pub struct Loader {
 }
 
 /// The name of a file of this number.
-fn loader_name(file: u32) -> [u8; NAME_BYTES]
+pub fn loader_name(file: u32) -> [u8; NAME_BYTES]
     requires { file ≤ 15 }
     ensures { result ≡ loader_name file }
 {

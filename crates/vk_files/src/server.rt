@@ -10,8 +10,8 @@ ghost use Rattle.vk_files.specs.declared.disk.Telling.{Telling as TheTelling};
 ghost use Rattle.vk_files.specs.Messages.{reply_of};
 ghost use Rattle.vk_files.specs.Opened.{IsOpened, IsRefused};
 ghost use Rattle.vk_files.specs.Placed.{IsInReach};
-ghost use Rattle.vk_files.specs.Servers.{answered_write, put_there, stage_call, stored};
-ghost use Rattle.vk_files.specs.Tasks.{IsActed, IsAfter, IsStep, IsStepBy, file_task};
+ghost use Rattle.vk_files.specs.Servers.{FetchesAhead, answered_write, put_there, stage_call, stored};
+ghost use Rattle.vk_files.specs.Tasks.{IsActed, IsAfter, IsStep, IsStepBy, asked_of_disk, file_task};
 ghost use Rattle.vk_files.specs.declared.serving.Serving.TheVariants as stages;
 
 use crate::ahead::ReadAhead;
@@ -244,6 +244,10 @@ impl<D: Disk> Program for FileServer<D> {
         // a reply that the disk failed comes only where its count of faults rose now
         ensures failed { (a : TheAnswer) (from : ThePid) → option_copied last.entry ≡ Some a →
             result ≡ Some (Call.Reply (reply_of 3 0 0) from) → Rose self.old.reading.disk.faults self.new.reading.disk.faults }
+
+        // and only where no block was fetched ahead now
+        ensures none_ahead { (a : TheAnswer) (from : ThePid) (block : ℕ) → option_copied last.entry ≡ Some a →
+            result ≡ Some (Call.Reply (reply_of 3 0 0) from) → asked_of_disk self.old a ≡ FetchesAhead block → ⊥ }
     {
         self.hear(last);
         self.call()

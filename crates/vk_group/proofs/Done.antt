@@ -11,7 +11,7 @@ use Rattle.vk_group.specs.declared.code.Code.{Code}
 use Rattle.vk_group.specs.declared.code.Code.TheVariants as codes
 use Rattle.vk_group.specs.declared.group.Group.{Group}
 use Rattle.vk_group.specs.declared.notes.Note.{Note}
-use Rattle.vk_group.specs.declared.pair.HelperPair.{HelperPair}
+use Rattle.vk_event.specs.declared.pair.HelperPair.{HelperPair}
 use Rattle.vk_group.specs.declared.request.Request.TheVariants as requests
 use Rattle.vk_group.specs.declared.stage.Asked.{Asked}
 use Rattle.vk_group.specs.declared.stage.Job.{Job}

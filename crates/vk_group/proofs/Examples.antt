@@ -1,5 +1,5 @@
 -- The definitions, tried: a coordinator and a helper, answer by answer.
-use Rattle.std.proofs.Common.{◌≡◌, ℕ, true, false, List, [], ◌∷◌, ◌++◌, Option, Some, None, replicate, refl, lit<}
+use Rattle.std.proofs.Common.{◌≡◌, ℕ, zero, suc, ◌<◌, true, false, List, [], ◌∷◌, ◌++◌, Option, Some, None, replicate, refl, lit<, arith}
 use Rattle.vk_base.specs.declared.answer.Answer.{Answer}
 use Rattle.vk_base.specs.declared.answer.Answer.TheVariants as answers
 use Rattle.vk_base.specs.declared.answer.Refusal.TheVariants as refusals
@@ -11,12 +11,12 @@ use Rattle.vk_group.specs.declared.code.Code.TheVariants as codes
 use Rattle.vk_group.specs.declared.group.Group.{Group}
 use Rattle.vk_group.specs.declared.helping.Helping.{Helping}
 use Rattle.vk_group.specs.declared.helping.Helping.TheVariants as helpings
-use Rattle.vk_group.specs.declared.pair.HelperPair.{HelperPair}
+use Rattle.vk_event.specs.declared.pair.HelperPair.{HelperPair}
 use Rattle.vk_group.specs.Accounts.{account_after}
 use Rattle.vk_group.specs.Groups.{answered, new_group, stage_call}
 use Rattle.vk_group.specs.Helpers.{helped, helping_call}
 use Rattle.vk_group.specs.Messages.{ready_message, reply_of, result_message}
-use Rattle.vk_group.specs.Pairs.{are_pairs}
+use Rattle.vk_event.specs.Pairs.{are_pairs}
 
 unfoldable first_helper : Pid
 first_helper = record { host = 1; local = 2; some_host = lit< tt; one_host = lit< tt; some_local = lit< tt }
@@ -231,6 +231,23 @@ same_helper = refl
 same_member : are_pairs (pairs ++ record { helper = client; member = second_member } ∷ []) ≡ false
 unfolding pairs first_helper second_helper first_member second_member client
 same_member = refl
+
+-- so many pairs, in which each process stands once
+numbered : ℕ → List HelperPair
+numbered zero = []
+numbered (suc n) =
+    let some : 0 < suc n = omega arith in
+    let helper : Pid = record { host = 1; local = suc n; some_host = lit< tt; one_host = lit< tt; some_local = some } in
+    let member : Pid = record { host = 2; local = suc n; some_host = lit< tt; one_host = lit< tt; some_local = some } in
+    record { helper = helper; member = member } ∷ numbered n
+
+sixteen : are_pairs (numbered 16) ≡ true
+unfolding numbered
+sixteen = refl
+
+seventeen : are_pairs (numbered 17) ≡ false
+unfolding numbered
+seventeen = refl
 
 -- A helper: its calls before, between and after these answers.
 helper_calls : Helping → List Answer → List (Option Call)

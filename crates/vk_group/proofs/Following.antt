@@ -7,13 +7,13 @@ use Rattle.vk_group.specs.declared.group.Group.{Group}
 use Rattle.vk_group.specs.declared.helping.Helping.{Helping}
 use Rattle.vk_group.specs.declared.helping.Helping.TheVariants as helpings
 use Rattle.vk_group.specs.declared.member.Member.{Member}
-use Rattle.vk_group.specs.declared.pair.HelperPair.{HelperPair}
-use Rattle.vk_group.specs.declared.pair.TheConstants.{GROUP_MEMBERS}
+use Rattle.vk_event.specs.declared.pair.HelperPair.{HelperPair}
+use Rattle.vk_event.specs.declared.pair.TheConstants.{GROUP_MEMBERS}
 use Rattle.vk_group.specs.Coordinators.{IsCoordinatorAfter}
 use Rattle.vk_group.specs.Groups.{HasRoom, answered, group_after, new_group}
 use Rattle.vk_group.specs.Helpers.{IsHelperAfter, helped, helped_all}
 use Rattle.vk_group.specs.Members.{pair_of, pairs_of}
-use Rattle.vk_group.specs.Pairs.{are_different, are_pairs}
+use Rattle.vk_event.specs.Pairs.{are_different, are_pairs}
 use Rattle.vk_group.proofs.Answering.{one_answer_more}
 use Rattle.vk_group.proofs.Constant.{pairs_new}
 use Rattle.vk_group.proofs.Told.{room_after}

@@ -16,8 +16,8 @@ use Rattle.vk_group.specs.declared.member.Member.{Member}
 use Rattle.vk_group.specs.declared.member.Work.TheVariants as works
 use Rattle.vk_group.specs.declared.member.Work.{Work}
 use Rattle.vk_group.specs.declared.notes.Note.{Note}
-use Rattle.vk_group.specs.declared.pair.HelperPair.{HelperPair}
-use Rattle.vk_group.specs.declared.pair.TheConstants.{GROUP_MEMBERS}
+use Rattle.vk_event.specs.declared.pair.HelperPair.{HelperPair}
+use Rattle.vk_event.specs.declared.pair.TheConstants.{GROUP_MEMBERS}
 use Rattle.vk_group.specs.declared.stage.Stage.{Stage}
 use Rattle.vk_group.specs.declared.stage.Stage.TheVariants as stages
 use Rattle.vk_group.specs.Accounts.{Account, account_after, note_member}

@@ -8,7 +8,7 @@ use Rattle.vk_base.specs.declared.pid.Pid.{Pid}
 use Rattle.vk_group.specs.declared.code.Code.{Code}
 use Rattle.vk_group.specs.declared.group.Group.{Group}
 use Rattle.vk_group.specs.declared.notes.Note.{Note}
-use Rattle.vk_group.specs.declared.pair.HelperPair.{HelperPair}
+use Rattle.vk_event.specs.declared.pair.HelperPair.{HelperPair}
 use Rattle.vk_group.specs.declared.stage.Asked.{Asked}
 use Rattle.vk_group.specs.declared.stage.Stage.{Stage}
 use Rattle.vk_group.specs.declared.stage.Stage.TheVariants as stages

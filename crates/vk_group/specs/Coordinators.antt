@@ -2,7 +2,7 @@
 use Rattle.std.specs.Prelude.{◌≡◌, ◌≤◌, ℕ, List, length}
 use Rattle.vk_base.specs.declared.answer.Answer.{Answer}
 use Rattle.vk_group.specs.declared.group.Group.{Group}
-use Rattle.vk_group.specs.declared.pair.TheConstants.{GROUP_MEMBERS}
+use Rattle.vk_event.specs.declared.pair.TheConstants.{GROUP_MEMBERS}
 use Rattle.vk_group.specs.Groups.{group_after}
 use Rattle.vk_group.specs.Members.{pairs_of}
 

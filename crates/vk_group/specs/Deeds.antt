@@ -10,7 +10,7 @@ use Rattle.vk_base.specs.declared.pid.Pid.{Pid}
 use Rattle.vk_base.specs.Pids.{same_pid}
 use Rattle.vk_group.specs.declared.code.Code.TheVariants as codes
 use Rattle.vk_group.specs.declared.notes.Note.{Note}
-use Rattle.vk_group.specs.declared.pair.HelperPair.{HelperPair}
+use Rattle.vk_event.specs.declared.pair.HelperPair.{HelperPair}
 use Rattle.vk_group.specs.declared.request.Request.TheVariants as requests
 use Rattle.vk_group.specs.declared.stage.Asked.{Asked}
 use Rattle.vk_group.specs.Accounts.{Deed, Began, Gave, Handed, Heard, Report, account_after, deed_of, reply_if}

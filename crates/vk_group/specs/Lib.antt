@@ -8,4 +8,3 @@ pub mod Laws
 pub mod Members
 pub mod Messages
 pub mod Notes
-pub mod Pairs

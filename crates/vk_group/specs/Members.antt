@@ -6,7 +6,7 @@ use Rattle.vk_base.specs.Pids.{same_pid}
 use Rattle.vk_group.specs.declared.member.Member.{Member}
 use Rattle.vk_group.specs.declared.member.Work.TheVariants as works
 use Rattle.vk_group.specs.declared.member.Work.{Work}
-use Rattle.vk_group.specs.declared.pair.HelperPair.{HelperPair}
+use Rattle.vk_event.specs.declared.pair.HelperPair.{HelperPair}
 
 -- before anything was asked
 abbrev pub new_member : HelperPair → Member

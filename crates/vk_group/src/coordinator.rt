@@ -6,11 +6,11 @@ ghost use Rattle.vk_program.specs.Tasks.{told_by};
 ghost use Rattle.vk_group.specs.Coordinators.{IsCoordinatorAfter};
 ghost use Rattle.vk_group.specs.Groups.{coordinator_call, stage_call};
 ghost use Rattle.vk_group.specs.Members.{pairs_of};
-ghost use Rattle.vk_group.specs.Pairs.{are_pairs as make_a_group};
+ghost use Rattle.vk_event.specs.Pairs.{are_pairs as make_a_group};
 
 use crate::group::Group;
-use crate::pair::{HelperPair, are_pairs};
 use vk_base::{Answer, Call};
+use vk_event::{HelperPair, are_pairs};
 use vk_program::Program;
 
 /// Brings a group Send to the helpers of all members, and their replies to the client, one by one.

@@ -7,11 +7,11 @@ use crate::code::Code;
 use crate::members::Members;
 use crate::message::{bringing, message_in, replying, storing};
 use crate::notes::{Note, Notes};
-use crate::pair::HelperPair;
 use crate::request::{Request, request_in};
 use crate::stage::{Asked, Job, Stage, Wait};
 use vk_base::limits::{MESSAGE_BYTES, SEGMENT_BYTES};
 use vk_base::{Answer, Call, Message, Pid};
+use vk_event::HelperPair;
 
 /// What a coordinator knows of its group, and what it does.
 #[derive(Drop)]
@@ -39,7 +39,7 @@ impl Group {
     ghost use Rattle.std.specs.Prelude.{◌≡◌, ◌≤◌, ◌<◌, length, slice_get};
     ghost use Rattle.vk_group.specs.Groups.{HasRoom, answered, begun, by_waiting, ended, heard, helper_due, is_busy, is_client, is_ending, job_due, left_after, loaded_result, loaded_send, new_group, next_stage, notes_after, refused, refused_as, rest, settled, stage_call, taken, verdict, wait_over};
     ghost use Rattle.vk_group.specs.Members.{given, holds_job, pairs_of, told};
-    ghost use Rattle.vk_group.specs.declared.pair.TheConstants.{GROUP_MEMBERS};
+    ghost use Rattle.vk_event.specs.declared.pair.TheConstants.{GROUP_MEMBERS};
 
     /// The group of these pairs before its first call. So many replies are made to clients.
     pub fn new(pairs: &[HelperPair], requests: u32) -> Self

@@ -4,7 +4,7 @@
 //! Begin with `specs/Groups.antt`, the coordinator, and `specs/Helpers.antt`; that no reply is handed over twice and no code is told
 //! untruly is `specs/Laws.antt`. Requests, replies and their bytes are `specs/Messages.antt`.
 //!
-//! Stands on `vk_base` and `vk_program`.
+//! Stands on `vk_base`, on `vk_event` for which pairs make a group, and on `vk_program`.
 #![tactic(auto)]
 
 mod code;
@@ -17,11 +17,9 @@ mod member;
 mod members;
 mod message;
 mod notes;
-mod pair;
 mod request;
 mod stage;
 
 pub use coordinator::Coordinator;
 pub use helper::Helper;
 pub use laws::{codes_are_true, deeds_are_done, jobs_are_given_once, replies_are_handed_over_once};
-pub use pair::{GROUP_MEMBERS, HelperPair, are_pairs};

@@ -1,7 +1,7 @@
 //! A member of a group, with its helper.
 
-use crate::pair::HelperPair;
 use vk_base::Pid;
+use vk_event::HelperPair;
 
 /// How far a member is with the current group Send.
 #[derive(Clone, Copy, Debug, PartialEq, Eq)]

@@ -3,13 +3,13 @@
 ghost use Rattle.std.specs.Prelude.{◌≡◌, ◌≤◌, ◌<◌, IfSome, length, map, slice_get, slice_set};
 ghost use Rattle.std.specs.List.{list_any, list_all, position};
 ghost use Rattle.vk_group.specs.Members.{given, has_job, has_replied, has_reported, is_due, is_helper, is_ready, made_ready, new_member, reopened, reported, restarted, told, was_told, work_of};
-ghost use Rattle.vk_group.specs.declared.pair.TheConstants.{GROUP_MEMBERS as MOST};
+ghost use Rattle.vk_event.specs.declared.pair.TheConstants.{GROUP_MEMBERS as MOST};
 
 use crate::member::{Member, Work};
-use crate::pair::{GROUP_MEMBERS, HelperPair};
 use arrayvec::ArrayVec;
 use std::marker::Model;
 use vk_base::Pid;
+use vk_event::{GROUP_MEMBERS, HelperPair};
 
 /// The members of a group, at most 16, numbered from 0, which contracts see as their list.
 #[derive(Drop)]

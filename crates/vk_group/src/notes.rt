@@ -2,13 +2,13 @@
 
 ghost use Rattle.std.specs.Prelude.{◌≡◌, ◌<◌, [], drop, length, slice_get};
 ghost use Rattle.vk_group.specs.Notes.{noted};
-ghost use Rattle.vk_group.specs.declared.pair.TheConstants.{GROUP_MEMBERS as MOST};
+ghost use Rattle.vk_event.specs.declared.pair.TheConstants.{GROUP_MEMBERS as MOST};
 
-use crate::pair::GROUP_MEMBERS;
 use arrayvec::ArrayVec;
 use std::marker::Model;
 use vk_base::Message;
 use vk_base::limits::MESSAGE_BYTES;
+use vk_event::GROUP_MEMBERS;
 
 /// What a member replied.
 #[derive(Clone, Copy)]

@@ -4,7 +4,7 @@ use Rattle.std.proofs.Math.Nat.{mul-add}
 use Rattle.vk_hub.specs.Links.{Frame, header_of}
 use Rattle.vk_hub.specs.Hubs.{Traffic, changed, first_traffic, is_stopped, nothing_for}
 use Rattle.vk_hub.specs.Counting.{FetchesArePosts, all_gets, all_posts, copies, gets, posts}
-use Rattle.vk_event.specs.declared.scenario.LinkPlan.{LinkPlan}
+use Rattle.vk_schedule.specs.declared.plan.LinkPlan.{LinkPlan}
 use Rattle.vk_hub.specs.declared.event.HubEvent.{HubEvent}
 use Rattle.vk_hub.specs.declared.event.HubEvent.TheVariants.{Post, Fetch, Finished, Halt}
 use Rattle.vk_hub.proofs.Fetching.{fetched_by}

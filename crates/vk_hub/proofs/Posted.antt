@@ -5,7 +5,7 @@ use Rattle.vk_hub.specs.Links.{Frame, header_of, is_addressed}
 use Rattle.vk_hub.specs.Hubs.{HubLog, Traffic, changed, fetched_from, first_traffic, is_at_limit, traffic_after, traffic_of}
 use Rattle.vk_hub.specs.Counting.{all_gets, all_posts, copies, gets, hits, posts}
 use Rattle.vk_hub.specs.Posts.{IsFromPost, IsPostOf, WasPosted}
-use Rattle.vk_event.specs.declared.scenario.LinkPlan.{LinkPlan}
+use Rattle.vk_schedule.specs.declared.plan.LinkPlan.{LinkPlan}
 use Rattle.vk_hub.specs.declared.event.Fetched.{Fetched}
 use Rattle.vk_hub.specs.declared.event.Fetched.TheVariants as fetched
 use Rattle.vk_hub.specs.declared.event.HubEvent.{HubEvent}

@@ -5,7 +5,7 @@ use Rattle.vk_frame.specs.declared.header.Header.{Header}
 use Rattle.vk_hub.specs.Links.{Frame, Waiting, drawn_byte, holding, into_ring, is_addressed, once, posted, posted_all, third_next, twice, with_held}
 use Rattle.vk_generator.specs.Numbers.{next}
 use Rattle.vk_hub.specs.Counting.{copies}
-use Rattle.vk_event.specs.declared.scenario.LinkPlan.{LinkPlan}
+use Rattle.vk_schedule.specs.declared.plan.LinkPlan.{LinkPlan}
 
 module _ (test : Frame → Bool) where
   abbrev pub hit : Frame → ℕ

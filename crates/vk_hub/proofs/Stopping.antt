@@ -6,7 +6,7 @@ use Rattle.turn_cell.specs.Seats.{HasEntered, HasLooked, Sitting}
 use Rattle.turn_cell.specs.declared.cell.Ready.{Ready}
 use Rattle.turn_cell.specs.declared.cell.Ready.TheVariants.{Done, NotYet}
 use Rattle.vk_hub.specs.Hubs.{HubLog, Traffic, changed, first_traffic, has_halt, is_halt, is_stopped, traffic_after, traffic_of}
-use Rattle.vk_event.specs.declared.scenario.LinkPlan.{LinkPlan}
+use Rattle.vk_schedule.specs.declared.plan.LinkPlan.{LinkPlan}
 use Rattle.vk_hub.specs.declared.event.HubEvent.{HubEvent}
 use Rattle.vk_hub.specs.declared.event.HubEvent.TheVariants.{Post, Fetch, Finished, Halt}
 use Rattle.vk_hub.specs.Stops.{StoppedStays}

@@ -2,7 +2,7 @@
 use Rattle.std.specs.Prelude.{ℕ, ◌+◌, ◌*◌, ◌≤◌, ◌==◌, ◌&&◌, Bool, List, [], ◌∷◌, cond}
 use Rattle.vk_hub.specs.Links.{Frame, header_of, is_addressed}
 use Rattle.vk_hub.specs.Hubs.{HubLog, Traffic, changed, fetched_from, first_traffic}
-use Rattle.vk_event.specs.declared.scenario.LinkPlan.{LinkPlan}
+use Rattle.vk_schedule.specs.declared.plan.LinkPlan.{LinkPlan}
 use Rattle.vk_hub.specs.declared.event.HubEvent.{HubEvent}
 use Rattle.vk_hub.specs.declared.event.HubEvent.TheVariants as event
 use Rattle.vk_hub.specs.declared.event.Fetched.{Fetched}

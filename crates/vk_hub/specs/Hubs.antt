@@ -1,7 +1,7 @@
 -- What a hub's history makes of its links, and what it answers.
 use Rattle.std.specs.Prelude.{ℕ, ◌+◌, ◌==◌, ◌||◌, not, Bool, true, false, Option, Some, None, List, [], ◌∷◌, map, is_some, nat_le, if◌then◌else◌, cond}
 use Rattle.vk_hub.specs.Links.{Frame, Waiting, first_of, header_of, posted_all, rest_of}
-use Rattle.vk_event.specs.declared.scenario.LinkPlan.{LinkPlan}
+use Rattle.vk_schedule.specs.declared.plan.LinkPlan.{LinkPlan}
 use Rattle.vk_hub.specs.declared.event.HubEvent.{HubEvent}
 use Rattle.vk_hub.specs.declared.event.HubEvent.TheVariants as event
 use Rattle.vk_hub.specs.declared.event.Fetched.{Fetched}

@@ -1,7 +1,7 @@
 -- What a hub keeps: its traffic is what its history makes, and there is always room for the one halt.
 use Rattle.std.specs.Prelude.{◌≡◌, ℕ, ◌+◌, ◌≤◌, Bool, true, false, List, length, cond}
 use Rattle.vk_hub.specs.Hubs.{Traffic, first_traffic, has_halt, others, traffic_after}
-use Rattle.vk_event.specs.declared.scenario.LinkPlan.{LinkPlan}
+use Rattle.vk_schedule.specs.declared.plan.LinkPlan.{LinkPlan}
 use Rattle.vk_hub.specs.declared.event.HubEvent.{HubEvent}
 
 pub record IsKept (plan : LinkPlan) (stations : List ℕ) (programs : ℕ) (traffic : Traffic) (history : List (ℕ × HubEvent)) (spare : ℕ)

@@ -4,7 +4,7 @@ use Rattle.std.specs.Option.{option_map}
 use Rattle.circular_buffer.specs.Buffer.{keep_last}
 use Rattle.vk_frame.specs.Reading.{frame_of}
 use Rattle.vk_frame.specs.declared.header.Header.{Header}
-use Rattle.vk_event.specs.declared.scenario.LinkPlan.{LinkPlan}
+use Rattle.vk_schedule.specs.declared.plan.LinkPlan.{LinkPlan}
 use Rattle.vk_generator.specs.Numbers.{drawn, next}
 
 abbrev pub Frame : Type 0

@@ -1,7 +1,7 @@
 -- That a hub ends for good.
 use Rattle.std.specs.Prelude.{◌≡◌, ℕ, true, List}
 use Rattle.vk_hub.specs.Hubs.{Traffic, is_stopped, traffic_after}
-use Rattle.vk_event.specs.declared.scenario.LinkPlan.{LinkPlan}
+use Rattle.vk_schedule.specs.declared.plan.LinkPlan.{LinkPlan}
 use Rattle.vk_hub.specs.declared.event.HubEvent.{HubEvent}
 
 -- whatever is entered behind, what is stopped stays stopped

@@ -16,7 +16,7 @@ use std::marker::Model;
 use std::sync::Wait;
 use turn_cell::{Ready, Room, TurnCell, TurnSeat};
 use vk_base::{Config, FrameBytes, NoMemory};
-use vk_event::LinkPlan;
+use vk_schedule::LinkPlan;
 
 /// The links between the stations of a configuration. Threads share it, each with a seat of its own.
 #[derive(Drop)]

@@ -7,8 +7,8 @@ use circular_buffer::HeapCircularBuffer;
 use std::alloc::{AllocError, Global};
 use std::marker::Model;
 use vk_base::FrameBytes;
-use vk_event::LinkPlan;
 use vk_generator::Generator;
+use vk_schedule::LinkPlan;
 
 const MOST: usize = 128;
 

@@ -7,9 +7,9 @@ use crate::event::{Fetched, HubEvent};
 use crate::inbox::Inbox;
 use std::marker::Model;
 use vk_base::FrameBytes;
-use vk_event::LinkPlan;
 use vk_frame::{Header, unseal};
 use vk_generator::Generator;
+use vk_schedule::LinkPlan;
 
 /// The generator's state, what waits for each station, how many programs have finished, and whether the hub is halted.
 #[derive(Drop)]

@@ -10,7 +10,7 @@ use std::alloc::{AllocError, Global};
 use std::marker::Model;
 use turn_cell::{Replay, Room};
 use vk_base::Config;
-use vk_event::LinkPlan;
+use vk_schedule::LinkPlan;
 
 /// The greatest number of entries that are no halt.
 const MOST: usize = 200_000;

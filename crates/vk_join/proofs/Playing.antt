@@ -32,7 +32,7 @@ use Rattle.vk_cluster.proofs.Pieces.{each_at}
 use Rattle.vk_cluster.proofs.Stations.{has_own}
 use Rattle.vk_cluster.proofs.Steps.{acted, as_many, as_many_events, few_bytes, few_frames, frames_are, host_at}
 use Rattle.vk_join.specs.declared.log.JoinRefusal.{JoinRefusal}
-use Rattle.vk_join.specs.declared.log.StationLog.{StationLog}
+use Rattle.vk_schedule.specs.declared.log.StationLog.{StationLog}
 use Rattle.vk_join.specs.declared.replay.Position.{Position}
 use Rattle.vk_join.specs.declared.replay.Replay.{Replay}
 use Rattle.vk_join.specs.Laws.{AreGiven}

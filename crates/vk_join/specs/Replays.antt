@@ -11,7 +11,7 @@ use Rattle.vk_cluster.specs.Piles.{pile_of}
 use Rattle.vk_cluster.specs.Standing.{AreAt}
 use Rattle.vk_join.specs.declared.log.JoinRefusal.{JoinRefusal}
 use Rattle.vk_join.specs.declared.log.JoinRefusal.TheVariants as refusals
-use Rattle.vk_join.specs.declared.log.StationLog.{StationLog}
+use Rattle.vk_schedule.specs.declared.log.StationLog.{StationLog}
 use Rattle.vk_join.specs.declared.replay.Key.{Key}
 use Rattle.vk_join.specs.declared.replay.Position.{Position}
 use Rattle.vk_join.specs.declared.replay.Replay.{Replay}

@@ -6,18 +6,19 @@ ghost use Rattle.vk_base.specs.Settings.{stations_of};
 ghost use Rattle.vk_cluster.specs.declared.emitted.TheConstants.{EVENT_BYTES};
 ghost use Rattle.vk_cluster.specs.declared.frames.TheConstants.{MOST_BYTES as MOST};
 ghost use Rattle.vk_cluster.specs.Piles.{AreFrames, IsAdded, IsKept, pile_of};
-ghost use Rattle.vk_join.specs.declared.log.StationLog.{StationLog as TheLog};
+ghost use Rattle.vk_schedule.specs.declared.log.StationLog.{StationLog as TheLog};
 ghost use Rattle.vk_join.specs.Laws.{AreGiven};
 ghost use Rattle.vk_join.specs.Logs.{byte_count, event_count};
 ghost use Rattle.vk_join.specs.Replays.{HasPlayed, IsNext, IsOver, front_of};
 
-use crate::log::{JoinRefusal, StationLog};
+use crate::log::JoinRefusal;
 use std::alloc::Global;
 use vk_base::{Config, NoMemory, StationEvent};
 use vk_cluster::{Emitted, MOST_BYTES, keep, new_hosts, place_of};
 use vk_frame::frames_are_spelled_once;
 use vk_host::Host;
 use vk_packet::packets_are_spelled_once;
+use vk_schedule::StationLog;
 
 /// Where an event stands: the place of its log among all, and its own in the log, counted from 0; with the Lamport number that its
 /// entry has.

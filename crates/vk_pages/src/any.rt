@@ -1,7 +1,7 @@
-//! Any program of a scenario.
+//! Scripts and programs of pages, as one program.
 
 ghost use Rattle.std.specs.Prelude.{◌≡◌, [], IfOk};
-ghost use Rattle.vk_pages.specs.Any.{IsAfter, IsTaskOf, call_by};
+ghost use Rattle.vk_pages.specs.Any.{IsAfter, IsTaskOf, are_any_kinds, call_by, is_any_kind};
 ghost use Rattle.vk_pages.specs.Programs.{task_call};
 
 use crate::client::PageClient;
@@ -12,12 +12,29 @@ use vk_base::{Answer, Call, Config, List, NoMemory};
 use vk_event::{Task, TaskKind};
 use vk_program::{Program, Script};
 
-/// The program of a task.
+/// The program of a task that is a script or a program of pages.
 #[derive(Drop)]
 pub enum AnyProgram {
     Script { script: Script },
     Server { server: PageServer<MemoryPages> },
     Client { client: PageClient },
+}
+
+/// Whether it is a script or a program of pages.
+fn is_any_kind(kind: &TaskKind) -> bool
+    ensures { result ≡ is_any_kind kind.now }
+{
+    matches!(
+        kind,
+        TaskKind::Script { .. } | TaskKind::PageServer { .. } | TaskKind::PageClient { .. }
+    )
+}
+
+/// Whether each of the tasks is a script or a program of pages.
+pub fn are_any_kinds(tasks: &[Task]) -> bool
+    ensures { result ≡ are_any_kinds tasks.now }
+{
+    tasks.iter().all(|task| is_any_kind(&task.kind))
 }
 
 /// The calls once more.
@@ -32,7 +49,7 @@ fn copied(alloc: Global, calls: &[Call]) -> Result<List<Call>, NoMemory>
 }
 
 impl AnyProgram {
-    /// The program of a task that is one of this configuration.
+    /// The program of a task that is one of this configuration, a script or a program of pages.
     ///
     /// # Errors
     ///
@@ -58,6 +75,7 @@ impl AnyProgram {
             } => Ok(AnyProgram::Client {
                 client: PageClient::new(task.pid.host, *server, *pages, *rounds),
             }),
+            _ => unreachable!(),
         }
     }
 }

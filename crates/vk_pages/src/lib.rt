@@ -11,7 +11,7 @@ mod server;
 mod serving;
 mod store;
 
-pub use any::AnyProgram;
+pub use any::{AnyProgram, are_any_kinds};
 pub use client::PageClient;
 pub use server::PageServer;
 pub use serving::Serving;

@@ -123,10 +123,10 @@ fn a_block_is_read_ahead(rt: HostRuntime) -> Result<(), Fail> {
     let done = Telling::Done;
     let lost = Telling::Lost;
     let Some(disk) = disk(alloc, 3, [done, done, lost, lost]) else {
-        return Ok(());
+        panic!(rt; "no memory")
     };
     let Ok(mut server) = FileServer::new(alloc, disk, 9) else {
-        return Ok(());
+        panic!(rt; "no memory")
     };
     let _receive = server.next(None);
     assert_eq!(rt; outcome(&mut server, read(0)), Some((0, 5)));
@@ -152,7 +152,7 @@ fn each_call_fails_in_turn(rt: HostRuntime) -> Result<(), Fail> {
     let lost = Telling::Lost;
     let landed = Telling::Landed;
     let Some(none) = session_with(alloc, []) else {
-        return Ok(());
+        panic!(rt; "no memory")
     };
     assert_eq!(rt; none, [(0, 5), (0, 6), (0, 0), (0, 9), (0, 9)]);
     // the second call reads page 0, the third page 1 ahead, the fourth writes it, the fifth reads it again, and the last two load
@@ -178,7 +178,7 @@ fn each_call_fails_in_turn(rt: HostRuntime) -> Result<(), Fail> {
 fn the_directory_fails(rt: HostRuntime) -> Result<(), Fail> {
     let alloc = rt.alloc();
     let Some(disk) = disk(alloc, 3, [Telling::Lost]) else {
-        return Ok(());
+        panic!(rt; "no memory")
     };
     let Err(refusal) = FileServer::new(alloc, disk, 9) else {
         assert!(rt; false);
@@ -193,7 +193,7 @@ fn the_directory_fails(rt: HostRuntime) -> Result<(), Fail> {
 fn an_entry_meets_another(rt: HostRuntime) -> Result<(), Fail> {
     let alloc = rt.alloc();
     let Some(disk) = disk(alloc, 2, []) else {
-        return Ok(());
+        panic!(rt; "no memory")
     };
     let Err(refusal) = FileServer::new(alloc, disk, 9) else {
         assert!(rt; false);

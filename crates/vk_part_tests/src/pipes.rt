@@ -106,7 +106,7 @@ fn bytes_stay_until_they_are_had(rt: HostRuntime) -> Result<(), Fail> {
         return Ok(());
     };
     let Ok(mut server) = PipeServer::new(rt.alloc(), 9) else {
-        return Ok(());
+        panic!(rt; "no memory")
     };
     let gone = Answer::Refused {
         why: Refusal::NotAwaiting,

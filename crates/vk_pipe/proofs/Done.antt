@@ -53,7 +53,7 @@ settled_done m to p =
       put = refl;
       is = sym (same_Some (reply_to_write w) (calls.Reply m to) is);
     })
-    (λ r first is coded. other_call _ m to refl is coded)
+    (λ r first some is coded. other_call _ m to refl is coded)
     (λ r first over is coded. other_call _ m to refl is coded)
 
 abbrev IsDoneFor : Message → Pid → Pid → Message → Pipe → News → Type 0

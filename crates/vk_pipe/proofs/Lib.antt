@@ -1,5 +1,6 @@
 pub mod Along
 pub mod Copying
+pub mod Crossing
 pub mod Done
 pub mod Examples
 pub mod Hearing

@@ -87,7 +87,7 @@ settled_room p few small =
     (λ rest. record { few = omega (arith, few); small = small })
     (λ w first room. let e : length (p.bytes ++ w.bytes) ≡ length p.bytes + length w.bytes = length-append p.bytes w.bytes in
     record { few = omega (arith, few, shorter p.writes); small = omega (arith, e, room) })
-    (λ r first. record { few = omega (arith, few, shorter p.reads); small = small })
+    (λ r first some. record { few = omega (arith, few, shorter p.reads); small = small })
     (λ r first over. record { few = omega (arith, few, shorter p.reads); small = small })
 
 rule_room : (p : Pipe) (n : News) → waiting p + places_in n ≤ 16 → length p.bytes ≤ PIPE_BYTES → IsRoomyBy p (rule_for p n)

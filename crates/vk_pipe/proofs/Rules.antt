@@ -27,6 +27,10 @@ nothing_in (x ∷ xs) h = let none_there : length (x ∷ xs) ≡ 0 = eqb-true (l
 not_something : {A : Type 0} (xs : List A) → not (length xs == 0) ≡ false → xs ≡ []
 not_something xs h = nothing_in xs (not-false (length xs == 0) h)
 
+something_in : {A : Type 0} (xs : List A) → not (length xs == 0) ≡ true → 0 < length xs
+something_in [] h = absurd (cc)
+something_in (x ∷ xs) h = omega arith
+
 at_end : (p : Pipe) → p.bytes ≡ [] → (p.closed && length p.writes == 0) ≡ true → IsAtEnd p
 at_end p empty both =
     let parts = and_parts p.closed (length p.writes == 0) both in
@@ -43,7 +47,7 @@ HasNoRoom p = (w : Write) → slice_get p.writes 0 ≡ Some w → PIPE_BYTES < l
 
 read_rule_goes : (P : Rule → Type 0) (p : Pipe) → HasNoRoom p
     → (IsAtRest p → P (Calls stages.Receive))
-    → ((r : Read) → slice_get p.reads 0 ≡ Some r → P (Serves r))
+    → ((r : Read) → slice_get p.reads 0 ≡ Some r → 0 < length p.bytes → P (Serves r))
     → ((r : Read) → slice_get p.reads 0 ≡ Some r → IsAtEnd p → P (Ends r))
     → (o : Option Read) → slice_get p.reads 0 ≡ o → P (read_rule p o)
 read_rule_goes P p room rests serves ends None e =
@@ -54,7 +58,7 @@ read_rule_goes P p room rests serves ends None e =
     })
 read_rule_goes P p room rests serves ends (Some r) e =
     either_way P (not (is_empty p)) (Serves r) (if p.closed && length p.writes == 0 then Ends r else Calls stages.Receive)
-    (λ some. serves r e)
+    (λ some. serves r e (something_in p.bytes some))
     (λ empty. either_way P (p.closed && length p.writes == 0) (Ends r) (Calls stages.Receive)
     (λ both. ends r e (at_end p (not_something p.bytes empty) both))
     (λ neither. rests (record {
@@ -66,7 +70,7 @@ read_rule_goes P p room rests serves ends (Some r) e =
 write_rule_goes : (P : Rule → Type 0) (p : Pipe)
     → (IsAtRest p → P (Calls stages.Receive))
     → ((w : Write) → slice_get p.writes 0 ≡ Some w → length p.bytes + length w.bytes ≤ PIPE_BYTES → P (Puts w))
-    → ((r : Read) → slice_get p.reads 0 ≡ Some r → P (Serves r))
+    → ((r : Read) → slice_get p.reads 0 ≡ Some r → 0 < length p.bytes → P (Serves r))
     → ((r : Read) → slice_get p.reads 0 ≡ Some r → IsAtEnd p → P (Ends r))
     → (o : Option Write) → slice_get p.writes 0 ≡ o → P (write_rule p (fitting (length p.bytes) o))
 write_rule_goes P p rests puts serves ends None e =
@@ -83,7 +87,7 @@ pub settled_goes : (P : Rule → Type 0) (p : Pipe)
     → P (Calls stages.Exit)
     → (IsAtRest p → P (Calls stages.Receive))
     → ((w : Write) → slice_get p.writes 0 ≡ Some w → length p.bytes + length w.bytes ≤ PIPE_BYTES → P (Puts w))
-    → ((r : Read) → slice_get p.reads 0 ≡ Some r → P (Serves r))
+    → ((r : Read) → slice_get p.reads 0 ≡ Some r → 0 < length p.bytes → P (Serves r))
     → ((r : Read) → slice_get p.reads 0 ≡ Some r → IsAtEnd p → P (Ends r))
     → P (settled p)
 settled_goes P p exits rests puts serves ends =

@@ -94,7 +94,7 @@ settles : (p : Pipe) → Settles p (settled p)
 settles p =
     settled_goes (Settles p) p (called p stages.Exit (record { no_write = refl; no_read = refl; right = tt }))
     (λ rest. called p stages.Receive (record { no_write = refl; no_read = refl; right = rest }))
-    (λ w first room. puts p w first) (serves p) (ends p)
+    (λ w first room. puts p w first) (λ r first some. serves p r first) (ends p)
 
 -- a call that news make due is quiet
 abbrev pub IsQuietNews : Pipe → News → Type 0

@@ -3,8 +3,10 @@
 //! Stands on `vk_base` alone.
 #![tactic(auto)]
 
+mod assigned;
 mod program;
 mod script;
 
+pub use assigned::Assigned;
 pub use program::Program;
 pub use script::Script;

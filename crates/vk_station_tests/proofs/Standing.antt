@@ -4,7 +4,7 @@ use Rattle.std.proofs.Common.{ap, sym, subst, ◌∙◌}
 use Rattle.vk_base.specs.Settings.{Settings}
 use Rattle.vk_base.specs.declared.config.ProcessSpec.{ProcessSpec}
 use Rattle.vk_base.specs.declared.event.EventAnswer.{EventAnswer}
-use Rattle.vk_event.specs.declared.event.Event.{Event}
+use Rattle.vk_schedule.specs.declared.event.Event.{Event}
 use Rattle.vk_rules.specs.Entries.{Input}
 use Rattle.vk_rules.specs.Right.{entry_of}
 use Rattle.vk_host.specs.Standing.{IsAt, IsEvent, StandsSomewhere}

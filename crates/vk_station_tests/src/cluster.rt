@@ -1,7 +1,7 @@
 //! All stations of a configuration, which play events and tell of them.
 
 ghost use Rattle.std.specs.Prelude.{◌≡◌};
-ghost use Rattle.vk_event.specs.Lawful.{has_actors};
+ghost use Rattle.vk_schedule.specs.Lawful.{has_actors};
 
 use crate::frames::is_bad;
 use std::alloc::Global;
@@ -9,8 +9,8 @@ use std::io;
 use std::marker::Model;
 use vk_base::Config;
 use vk_cluster::{Cluster, ClusterAnswer, ClusterRefusal, StepReport};
-use vk_event::Event;
 use vk_report::{AnswerView, Form, Place, put_entry, put_missing};
+use vk_schedule::Event;
 
 /// The stations, how many events they had, and how many of these were deliveries of what was not emitted.
 #[derive(Drop)]

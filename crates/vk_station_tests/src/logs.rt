@@ -4,7 +4,7 @@
 //! stray, with what it took and what the station emitted; or `limit`. A line that begins with `# ` is a remark.
 
 ghost use Rattle.std.specs.Prelude.{◌≡◌, true, IfOk};
-ghost use Rattle.vk_event.specs.Lawful.{IsLawful};
+ghost use Rattle.vk_schedule.specs.Lawful.{IsLawful};
 ghost use Rattle.vk_join.specs.Logs.{AreLogs, IsOfStation};
 ghost use Rattle.vk_rules.specs.Each.{Each};
 ghost use Rattle.vk_station_tests.specs.Logs.{IsLogOf};
@@ -14,8 +14,8 @@ use crate::transcript::put_line;
 use std::alloc::Global;
 use std::{format, io, str};
 use vk_base::{Config, FrameBytes, List, NoMemory, StationEvent};
-use vk_event::{Event, Schedule, read_schedule, write_schedule};
 use vk_join::{JoinRefusal, StationLog, join_stations};
+use vk_schedule::{Event, Schedule, read_schedule, write_schedule};
 
 fn out_of_memory() -> io::Error {
     io::Error::from(io::ErrorKind::OutOfMemory)

@@ -6,7 +6,7 @@
 //! own, and what they are joined to (`src/logs.rt`). A text more is its file, and one more in the number of the file `stdout`.
 //!
 //! Stands on the station (`vk_host`), on all stations (`vk_cluster`), on joined logs (`vk_join`) and on the texts of calls, schedules and
-//! reports (`vk_text`, `vk_event`, `vk_report`).
+//! reports (`vk_text`, `vk_schedule`, `vk_report`).
 #![tactic(auto)]
 
 mod cluster;

@@ -8,7 +8,7 @@ use crate::frames::is_bad;
 use crate::transcript::put_line;
 use std::alloc::Global;
 use std::{format, io};
-use vk_event::{EventBuffer, EventReader};
+use vk_schedule::{EventBuffer, EventReader};
 
 /// The stations, the events that are left, and the last one.
 #[derive(Drop)]

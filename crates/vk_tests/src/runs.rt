@@ -1,6 +1,7 @@
 //! `run`: scenarios that come to their end in threads, and a crew that fails.
 
 use std::alloc::{AllocError, Global};
+use std::net::Net;
 use std::str;
 use std::sync::Wait;
 use std::test::Fail;
@@ -9,6 +10,7 @@ use std::time::Clock;
 use vk_io::{Crew, MemoryCrew, MemorySink, MemorySource, Sink};
 use vk_threads::{SleepPacer, ThreadCrew};
 use vk_top::{Status, vkernel};
+use vk_udp::{SureWire, Wire};
 
 /// A client writes a page of a server on another station, and reads it.
 const PAGES: &str = "vkernel scenario 1
@@ -41,36 +43,55 @@ link 255 0 0 1
 ticks 25000
 ";
 
-/// Runs the top call with this word on the text.
-fn called<C: Crew, R: Wait + Threads + Clock + Sync>(
+/// Runs the top call with these words on the text.
+pub(crate) fn called<C: Crew, W: Wire, R: Wait + Threads + Clock + Net + Sync>(
     rt: &R,
     alloc: Global,
-    word: &str,
+    words: &[&str],
     text: &[u8],
     crew: &mut C,
+    wire: &mut W,
 ) -> Result<(Status, MemorySink), AllocError> {
-    let mut words = Vec::new(alloc);
-    words.push(String::from_str(alloc, word)?)?;
+    let mut own_words = Vec::new(alloc);
+    for word in words {
+        own_words.push(String::from_str(alloc, word)?)?;
+    }
     let bytes = Vec::from_slice(alloc, text)?;
     let mut source = MemorySource::new(bytes, Vec::new(alloc), 4096);
     let mut sink = MemorySink::new(alloc, Vec::new(alloc), 4096);
     let mut pacer = SleepPacer::new();
-    let status = vkernel(rt, alloc, &words, &mut source, &mut sink, crew, &mut pacer);
+    let status = vkernel(
+        rt,
+        alloc,
+        &own_words,
+        &mut source,
+        &mut sink,
+        crew,
+        &mut pacer,
+        wire,
+    );
     Ok((status, sink))
 }
 
 /// The report of the schedule that a run of the scenario in threads writes; nothing where the run or the report does not end well.
-fn reported<R: Wait + Threads + Clock + Sync>(
+fn reported<R: Wait + Threads + Clock + Net + Sync>(
     rt: &R,
     alloc: Global,
     scenario: &str,
 ) -> Result<MemorySink, AllocError> {
-    let mut crew = ThreadCrew::new();
-    let (status, sink) = called(rt, alloc, "run", scenario.as_bytes(), &mut crew)?;
+    let (mut crew, mut wire) = (ThreadCrew::new(), SureWire::new());
+    let (status, sink) = called(
+        rt,
+        alloc,
+        &["run"],
+        scenario.as_bytes(),
+        &mut crew,
+        &mut wire,
+    )?;
     if status != Status::Done {
         return Ok(MemorySink::new(alloc, Vec::new(alloc), 1));
     }
-    let (status, report) = called(rt, alloc, "replay", sink.written(), &mut crew)?;
+    let (status, report) = called(rt, alloc, &["replay"], sink.written(), &mut crew, &mut wire)?;
     if status != Status::Done {
         return Ok(MemorySink::new(alloc, Vec::new(alloc), 1));
     }
@@ -107,40 +128,43 @@ fn answers<'a>(alloc: Global, report: &'a str, pid: &str) -> Result<Vec<&'a [u8]
     Ok(answers)
 }
 
+/// What a client is answered that writes a page of twos and reads it.
+fn page_answers<'a>(alloc: Global, page: &'a mut Vec<u8>) -> Result<Vec<&'a [u8]>, AllocError> {
+    page.extend_from_slice(b"ok ")?;
+    for _ in 0..512 {
+        page.extend_from_slice(b"02")?;
+    }
+    let mut told = Vec::new(alloc);
+    for answer in ["ok", "begun", "ok -", "begun", "ok -"] {
+        told.push(answer.as_bytes())?;
+    }
+    told.push(page.as_slice())?;
+    Ok(told)
+}
+
+/// Whether in the report the client 2.1 has its page, and the server 1.1 had two requests.
+pub(crate) fn tells_of_the_page(alloc: Global, report: &[u8]) -> Result<bool, AllocError> {
+    let report = str::from_utf8(report).unwrap_or("");
+    let mut page = Vec::new(alloc);
+    let wanted = page_answers(alloc, &mut page)?;
+    if answers(alloc, report, "2.1")? != wanted {
+        return Ok(false);
+    }
+    let mut requests = Vec::new(alloc);
+    for answer in &answers(alloc, report, "1.1")? {
+        if answer.starts_with(b"ok 2.1 ") {
+            requests.push(*answer)?;
+        }
+    }
+    Ok(requests.len() == 2 && requests[0].ends_with(b" 512") && requests[1].ends_with(b" 0"))
+}
+
 #[test]
 fn a_page_is_written_and_read(rt: HostRuntime) -> Result<(), Fail> {
     let alloc = rt.alloc();
     for scenario in [PAGES, PATIENT] {
         let sink = reported(&rt, alloc, scenario)?;
-        let report = str::from_utf8(sink.written()).unwrap_or("");
-        let client = answers(alloc, report, "2.1")?;
-        assert_eq!(rt; client.len(), 6);
-        assert_eq!(rt;
-            &client[..5],
-            [
-                b"ok".as_slice(),
-                b"begun".as_slice(),
-                b"ok -".as_slice(),
-                b"begun".as_slice(),
-                b"ok -".as_slice()
-            ]
-            .as_slice()
-        );
-        let mut page = Vec::from_slice(alloc, b"ok ")?;
-        for _ in 0..512 {
-            page.extend_from_slice(b"02")?;
-        }
-        assert_eq!(rt; client[5], page.as_slice());
-        let server = answers(alloc, report, "1.1")?;
-        let mut requests = Vec::new(alloc);
-        for answer in &server {
-            if answer.starts_with(b"ok 2.1 ") {
-                requests.push(*answer)?;
-            }
-        }
-        assert_eq!(rt; requests.len(), 2);
-        assert!(rt; requests[0].ends_with(b" 512"));
-        assert!(rt; requests[1].ends_with(b" 0"));
+        assert!(rt; tells_of_the_page(alloc, sink.written())?);
     }
     Ok(())
 }
@@ -161,7 +185,14 @@ fn a_send_over_a_dead_link_ends(rt: HostRuntime) -> Result<(), Fail> {
 fn a_crew_fails(rt: HostRuntime) -> Result<(), Fail> {
     let alloc = rt.alloc();
     let mut crew = MemoryCrew::new(Vec::from_slice(alloc, &[1])?);
-    let (status, sink) = called(&rt, alloc, "run", PAGES.as_bytes(), &mut crew)?;
+    let (status, sink) = called(
+        &rt,
+        alloc,
+        &["run"],
+        PAGES.as_bytes(),
+        &mut crew,
+        &mut SureWire::new(),
+    )?;
     assert_eq!(rt; status, Status::CrewFault);
     assert_eq!(rt; status.number(), 7);
     assert_eq!(rt;

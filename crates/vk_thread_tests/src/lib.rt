@@ -1,6 +1,8 @@
-//! Tests of the turn cell, of the links between stations, of ports and of runs, by threads: what no contract of theirs says.
+//! Tests of the turn cell, of the links between stations, of ports, of runs and of datagrams, by threads: what no contract of theirs says.
 #![tactic(auto)]
 
+#[cfg(test)]
+mod datagrams;
 #[cfg(test)]
 mod links;
 #[cfg(test)]

@@ -5,9 +5,9 @@ use crate::ports::{config_of, process};
 use std::alloc::Global;
 use std::test::Fail;
 use vk_base::{Config, FrameBytes};
-use vk_event::LinkPlan;
 use vk_frame::{Header, seal};
 use vk_hub::{Fetched, Hub};
+use vk_schedule::LinkPlan;
 
 // Two stations with a process each.
 fn config(alloc: Global) -> Option<Config> {

@@ -9,10 +9,10 @@ use std::sync::atomic::Ordering::SeqCst;
 use std::test::Fail;
 use std::thread::yield_now;
 use vk_base::{Answer, Call, Pid};
-use vk_event::LinkPlan;
 use vk_io::Crew;
-use vk_program::Program;
-use vk_threads::{Assigned, SleepPacer, ThreadCrew, run_programs};
+use vk_program::{Assigned, Program};
+use vk_schedule::LinkPlan;
+use vk_threads::{SleepPacer, ThreadCrew, run_programs};
 
 /// What each program adds when it comes, and when it has seen that the other came.
 const COMES: u32 = 1;

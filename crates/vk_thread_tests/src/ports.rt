@@ -10,9 +10,9 @@ use turn_cell::{Ready, Room, TurnCell, TurnSeat};
 use vk_base::{
     Call, CallOutcome, Config, EventAnswer, Message, Pid, ProcessSpec, StationEvent, Times,
 };
-use vk_event::LinkPlan;
 use vk_hub::{Hub, HubState};
 use vk_port::{Collected, Port, Pumped, Station, StationOut};
+use vk_schedule::LinkPlan;
 
 const TIMES: Times = Times {
     tries: 5,

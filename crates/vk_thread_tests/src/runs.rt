@@ -7,6 +7,7 @@ use std::thread::Threads;
 use std::time::Clock;
 use vk_event::read_scenario;
 use vk_io::Crew;
+use vk_pages::are_any_kinds;
 use vk_threads::{SleepPacer, ThreadCrew, run_stations};
 
 /// A client writes four pages and reads them, over links that double and hold.
@@ -24,6 +25,9 @@ fn jobs_of<R: Wait + Threads + Clock + Sync>(rt: &R, alloc: Global, text: &[u8])
     let Ok(scenario) = read_scenario(alloc, text) else {
         return None;
     };
+    if !are_any_kinds(scenario.tasks.as_slice()) {
+        return None;
+    }
     let mut crew = ThreadCrew::new();
     let mut pacer = SleepPacer::new();
     match run_stations(rt, alloc, scenario, &mut crew, &mut pacer) {

@@ -95,6 +95,11 @@ module _ (old mid new : PortValue) (pid : Pid) (call : Call) (made : HasMade old
           does = does_more old mid new acts more made.does it.does;
           plays = plays_on more (λ task calls answers. pumping_plays task pid O calls answers first last pumping tt);
         },
+        calls_append acts more
+            ∙ ap (λ l. call ∷ l) (calls_append first last ∙ ap (λ l. l ++ []) quiet.calls),
+        answers_append O acts more
+            ∙ (ap (λ l. l ++ answers_by O more) begun_none
+            ∙ (answers_append O first last ∙ ap (λ l. l ++ []) quiet.answers)),
         heard_append acts more (heard_append first last tt),
         (let one = lost_append acts more in let two = lost_append first last in let none = quiet.lost in omega arith),
       )
@@ -223,8 +228,16 @@ module _ (old mid new : PortValue) (pid : Pid) (task : List Answer → Option Ca
         so.acts ++ more,
         it.0,
         it.1,
-        heard_append so.acts more called.2,
-        (let sum = lost_append so.acts more in let was = so.lost in let few = called.3 in omega arith),
+        heard_append so.acts more called.4,
+        (let sum = lost_append so.acts more in let was = so.lost in let few = called.5 in omega arith),
+        (let o = old.station.origin in
+            let none : answers_by o more ≡ [] = subst (λ p. answers_by p more ≡ []) here called.3 in
+            let calls = ap length (calls_append so.acts more) in
+            let count = ap length called.2 in
+            let sum = length-append (calls_by so.acts) (calls_by more) in
+            let told = ap length (answers_append o so.acts more ∙ (ap (λ l. l ++ answers_by o more) so.told ∙ ap (λ l. answers ++ l) none ∙ append-nil answers)) in
+            let was = so.each in
+            omega arith),
       )
 
   pub play_cut : (call : Call) (why : Room) → Some call ≡ task answers → HasCalledCut mid new pid call why → HasPlayedCut old new pid task why

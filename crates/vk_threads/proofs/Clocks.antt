@@ -235,7 +235,7 @@ so_all i old now so low = record {
   few = (let none = so.none in omega arith);
 }
 
-cut_tick : (o : _) (last : List Action) (m : Met) → IsCutEvent o events.Tick last m → OnlyTicks last × (tick_count last ≤ 1) × (lost_count last ≡ 0)
+pub cut_tick : (o : _) (last : List Action) (m : Met) → IsCutEvent o events.Tick last m → OnlyTicks last × (tick_count last ≤ 1) × (lost_count last ≡ 0)
 cut_tick o [] m cut = (tt, omega arith, refl)
 cut_tick o (Enters before x posted ∷ []) (AtHub (hub_events.Post f)) cut =
     (subst (λ y. OnlyTicks (Enters before y posted ∷ [])) (sym cut.0) (tt, tt), omega arith, refl)
@@ -283,7 +283,7 @@ first_delivers ps p q a low at it =
 pub first_rests : (ps : List PortValue) (p q : PortValue) → 0 < length ps → get_or ps 0 p ≡ p → Does p q [] → HaveTicked 0 0 0 ps (slice_set ps 0 q)
 first_rests ps p q low at it = first_does ps p q 0 [] low at it tt refl (omega arith)
 
-cut_pumps : (o : _) (host : ℕ) (last : List Action) (m : Met) → IsCutPump o host last m → OnlyTicks last × (tick_count last ≡ 0) × (lost_count last ≤ 1)
+pub cut_pumps : (o : _) (host : ℕ) (last : List Action) (m : Met) → IsCutPump o host last m → OnlyTicks last × (tick_count last ≡ 0) × (lost_count last ≤ 1)
 cut_pumps o host [] m cut = (tt, refl, omega arith)
 cut_pumps o host (Drops heard frame ∷ []) m cut = (tt, refl, omega arith)
 cut_pumps o host (Drops heard frame ∷ (y ∷ ys)) m cut = absurd cut

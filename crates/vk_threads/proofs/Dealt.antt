@@ -23,7 +23,7 @@ use Rattle.v_run.specs.Runs.{AreApart, IsApart, passages_of, task_in, tasks_of}
 use Rattle.vk_threads.specs.declared.end.End.{End}
 use Rattle.vk_threads.specs.declared.end.Seats.{Seats}
 use Rattle.vk_threads.specs.declared.opening.Site.{Site}
-use Rattle.vk_threads.specs.declared.run.Assigned.{Assigned}
+use Rattle.vk_program.specs.declared.assigned.Assigned.{Assigned}
 use Rattle.vk_threads.specs.declared.work.Work.{Work}
 use Rattle.vk_threads.specs.declared.work.Work.TheVariants as works
 use Rattle.vk_threads.specs.Assigned.{AreDifferent, pid_of, program_task}

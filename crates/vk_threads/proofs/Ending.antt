@@ -23,7 +23,7 @@ use Rattle.v_run.specs.Jobs.{EndsRole, GoesOn, IsJobEnd, JobEnd, KeepsTime, MetF
 use Rattle.v_run.specs.Passages.{HasDropped, HasHeard, IsAtEnd, IsLast, IsRole, OnlyPumps, Passage, Plays, Pumps, Role, Runs, answers_by, calls_by, fresh_station, lost_count}
 use Rattle.vk_threads.specs.declared.end.Seats.{Seats}
 use Rattle.vk_threads.specs.Works.{FindsFull, HasClosed, HasEnded, HasFinished, HasHalted, HasPlayed, HasPlayedCut, HasPumped, HasPumpedCut}
-use Rattle.vk_threads.specs.Ends.{AreThrough, IsOf, IsThrough, MayEnd}
+use Rattle.vk_threads.specs.Ends.{AreThrough, EndsProcess, FinishesOrWaits, IsOf, IsThrough, MayEnd}
 
 -- a log's end may have heard more
 pub log_later : (b : Berth) (s t : Stand) (acts : List Action) (looked : List (ℕ × HubEvent)) → IsLog b s acts t → IsPrefix t.heard looked
@@ -106,22 +106,25 @@ one_end : (p q : PortValue) (acts : List Action) (role : Role) (s : Seats) (last
     → ((c : Settings) → IsOf c p → EndsRole c (passage_of p q acts role last looked) role)
     → (met ≡ None → last ≢ hub_events.Halt ∷ []) → (met ≡ None → GoesOn (passage_of p q acts role last looked) role)
     → ((c : Settings) → IsOf c p → met ≡ Some rooms.Full → MetFull c (passage_of p q acts role last looked))
-    → MayEnd (p ∷ []) (role ∷ []) 0 (s ∷ []) met
-one_end p q acts role s last looked met does behind host keeps ends few short time at_end halts goes full = record {
-  passages = passage_of p q acts role last looked ∷ [];
-  through = (is_through p q acts role s last looked does behind host keeps ends, tt);
-  each = refl;
-  done = 0;
-  time = (time, tt);
-  job = λ c of. record {
-    losses = omega arith;
-    last_entries = omega arith;
-    roles = (at_end c of.0, tt);
-    halts = λ is. (halts is, tt);
-    goes_on = λ is. (goes is, tt);
-    full = λ is. inl (full c of.0 is);
-  };
-}
+    → (may : MayEnd (p ∷ []) (role ∷ []) 0 (s ∷ []) met) × (may.passages ≡ passage_of p q acts role last looked ∷ [])
+one_end p q acts role s last looked met does behind host keeps ends few short time at_end halts goes full = (
+  record {
+    passages = passage_of p q acts role last looked ∷ [];
+    through = (is_through p q acts role s last looked does behind host keeps ends, tt);
+    each = refl;
+    done = 0;
+    time = (time, tt);
+    job = λ c of. record {
+      losses = omega arith;
+      last_entries = omega arith;
+      roles = (at_end c of.0, tt);
+      halts = λ is. (halts is, tt);
+      goes_on = λ is. (goes is, tt);
+      full = λ is. inl (full c of.0 is);
+    };
+  },
+  refl,
+)
 
 -- A port that was closed without a Room.
 pub closed_behind : (q : PortValue) (s : Seats) → HasClosed q s.seat s.hub_seat None → Behind q s [] q.hub_seat.seen
@@ -149,57 +152,62 @@ cut_end : (p q : PortValue) (acts : List Action) (role : Role) (s : Seats) (look
     → ((c : Settings) (last : List HubEvent) → IsOf c p → why ≡ rooms.Full → MetFull c (passage_of p q acts role last looked))
     → (Behind q s [] looked) ⊎ (Behind q s (hub_events.Halt ∷ []) looked) → MayEnd (p ∷ []) (role ∷ []) 0 (s ∷ []) (Some why)
 cut_end p q acts role s looked why does host keeps few time at_end full (inl behind) =
-    one_end p q acts role s [] looked (Some why) does behind host keeps last_none few (omega arith) (time [])
-    (λ c of. at_end c [] none_finished) (λ is. absurd (cc is)) (λ is. absurd (cc is)) (λ c of is. full c [] of (some_is why rooms.Full is))
+    (one_end p q acts role s [] looked (Some why) does behind host keeps last_none few (omega arith) (time [])
+    (λ c of. at_end c [] none_finished) (λ is. absurd (cc is)) (λ is. absurd (cc is)) (λ c of is. full c [] of (some_is why rooms.Full is))).0
   where
     some_is : (x y : Room) → Some x ≡ Some y → x ≡ y
     some_is x y is = cc is
 cut_end p q acts role s looked why does host keeps few time at_end full (inr behind) =
-    one_end p q acts role s (hub_events.Halt ∷ []) looked (Some why) does behind host keeps last_halt few (omega arith) (time (hub_events.Halt ∷ []))
+    (one_end p q acts role s (hub_events.Halt ∷ []) looked (Some why) does behind host keeps last_halt few (omega arith) (time (hub_events.Halt ∷ []))
     (λ c of. at_end c (hub_events.Halt ∷ []) halt_finished) (λ is. absurd (cc is)) (λ is. absurd (cc is))
-    (λ c of is. full c (hub_events.Halt ∷ []) of (some_is why rooms.Full is))
+    (λ c of is. full c (hub_events.Halt ∷ []) of (some_is why rooms.Full is))).0
   where
     some_is : (x y : Room) → Some x ≡ Some y → x ≡ y
     some_is x y is = cc is
 
 -- PROCESSES.
 module _ (p q : PortValue) (pid : Pid) (task : List Answer → Option Call) (s : Seats) (host : s.host ≡ p.host) (here : pid.host ≡ p.station.origin.host) where
+  halted : (why : Room) → MayEnd (p ∷ []) (Runs pid task ∷ []) 0 (s ∷ []) (Some why) → EndsProcess p pid task (s ∷ []) (Some why)
+  halted why may = record { may = may; waits = λ is. absurd (cc is) }
+
   -- it was told that the hub had ended
-  pub process_stopped : HasPlayed p q pid task false → HasClosed q s.seat s.hub_seat None → MayEnd (p ∷ []) (Runs pid task ∷ []) 0 (s ∷ []) None
+  pub process_stopped : HasPlayed p q pid task false → HasClosed q s.seat s.hub_seat None → EndsProcess p pid task (s ∷ []) None
   process_stopped played closed =
-      one_end p q played.0 (Runs pid task) s [] q.hub_seat.seen None played.1 (closed_behind q s closed) host (here, played.2) last_none played.4 (omega arith) tt
-      (λ c of is. absurd (none_finished is)) (λ is. none_halt) (λ is. inr played.3) (λ c of is. absurd (cc is))
+      let end = one_end p q played.0 (Runs pid task) s [] q.hub_seat.seen None played.1 (closed_behind q s closed) host (here, played.2) last_none played.4
+      (omega arith) tt (λ c of is. absurd (none_finished is)) (λ is. none_halt) (λ is. inr played.3) (λ c of is. absurd (cc is)) in
+      record { may = end.0; waits = λ is. subst (Each (FinishesOrWaits p.station.origin)) (sym end.1) (inr played.5, tt) }
 
   -- it met a Room
   pub process_cut : (why : Room) → HasPlayedCut p q pid task why → HasClosed q s.seat s.hub_seat (Some why)
-      → MayEnd (p ∷ []) (Runs pid task ∷ []) 0 (s ∷ []) (Some why)
+      → EndsProcess p pid task (s ∷ []) (Some why)
   process_cut why played closed =
-      cut_end p q played.0 (Runs pid task) s q.hub_seat.seen why played.1 host (here, played.2) played.3 (λ last. tt)
+      halted why (cut_end p q played.0 (Runs pid task) s q.hub_seat.seen why played.1 host (here, played.2) played.3 (λ last. tt)
       (λ c last never is. absurd (never is))
       (λ c last of full. met_full c p q played.0 (Runs pid task) last of played.1 (played.4 full))
-      (halted_behind q s q.hub_seat.seen why closed.seat closed.same (prefix_self q.hub_seat.seen) closed.heard closed.sent)
+      (halted_behind q s q.hub_seat.seen why closed.seat closed.same (prefix_self q.hub_seat.seen) closed.heard closed.sent))
 
   -- it came to its end
-  pub process_finished : HasPlayed p q pid task true → HasEnded q s.seat s.hub_seat None → MayEnd (p ∷ []) (Runs pid task ∷ []) 0 (s ∷ []) None
+  pub process_finished : HasPlayed p q pid task true → HasEnded q s.seat s.hub_seat None → EndsProcess p pid task (s ∷ []) None
   process_finished played ended =
-      one_end p q played.0 (Runs pid task) s (hub_events.Finished ∷ []) q.hub_seat.seen None played.1
+      let end = one_end p q played.0 (Runs pid task) s (hub_events.Finished ∷ []) q.hub_seat.seen None played.1
       (record { seat = ended.seat; same = ended.same; later = prefix_self q.hub_seat.seen; heard = ended.finished.1; sent = ended.finished.0 })
       host (here, played.2) last_finished (let none = played.4 in omega arith) (omega arith) tt
       (λ c of is. subst (λ o. IsAtEnd task (calls_by played.0) (answers_by o played.0)) of played.3)
-      (λ is. finished_halt) (λ is. inl refl) (λ c of is. absurd (cc is))
+      (λ is. finished_halt) (λ is. inl refl) (λ c of is. absurd (cc is)) in
+      record { may = end.0; waits = λ is. subst (Each (FinishesOrWaits p.station.origin)) (sym end.1) (inl refl, tt) }
 
   -- it came to its end, but met a Room there
   pub process_unfinished : (why : Room) → HasPlayed p q pid task true → HasEnded q s.seat s.hub_seat (Some why)
-      → MayEnd (p ∷ []) (Runs pid task ∷ []) 0 (s ∷ []) (Some why)
+      → EndsProcess p pid task (s ∷ []) (Some why)
   process_unfinished why played ended =
       let it = ended.finished in
-      cut_end p q played.0 (Runs pid task) s it.0 why played.1 host (here, played.2) (let none = played.4 in omega arith) (λ last. tt)
+      halted why (cut_end p q played.0 (Runs pid task) s it.0 why played.1 host (here, played.2) (let none = played.4 in omega arith) (λ last. tt)
       (λ c last never is. absurd (never is)) (λ c last of full. inr (inr (it.4 full)))
-      (halted_behind q s it.0 why ended.seat ended.same it.1 it.2 it.3)
+      (halted_behind q s it.0 why ended.seat ended.same it.1 it.2 it.3))
 
 -- however it ended
 pub process_done : (p q : PortValue) (pid : Pid) (task : List Answer → Option Call) (s : Seats) → s.host ≡ p.host → pid.host ≡ p.station.origin.host
-    → HasPlayed p q pid task true → (met : Option Room) → HasEnded q s.seat s.hub_seat met → MayEnd (p ∷ []) (Runs pid task ∷ []) 0 (s ∷ []) met
+    → HasPlayed p q pid task true → (met : Option Room) → HasEnded q s.seat s.hub_seat met → EndsProcess p pid task (s ∷ []) met
 process_done p q pid task s host here played None ended = process_finished p q pid task s host here played ended
 process_done p q pid task s host here played (Some why) ended = process_unfinished p q pid task s host here why played ended
 
@@ -207,8 +215,8 @@ process_done p q pid task s host here played (Some why) ended = process_unfinish
 module _ (p q : PortValue) (s : Seats) (host : s.host ≡ p.host) where
   pub pump_stopped : HasPumped p q → HasClosed q s.seat s.hub_seat None → MayEnd (p ∷ []) (Pumps ∷ []) 0 (s ∷ []) None
   pump_stopped pumped closed =
-      one_end p q pumped.0 Pumps s [] q.hub_seat.seen None pumped.1 (closed_behind q s closed) host pumped.2 last_none pumped.3 (omega arith) tt
-      (λ c of. none_finished) (λ is. none_halt) (λ is. tt) (λ c of is. absurd (cc is))
+      (one_end p q pumped.0 Pumps s [] q.hub_seat.seen None pumped.1 (closed_behind q s closed) host pumped.2 last_none pumped.3 (omega arith) tt
+      (λ c of. none_finished) (λ is. none_halt) (λ is. tt) (λ c of is. absurd (cc is))).0
 
   pub pump_cut : (why : Room) → HasPumpedCut p q why → HasClosed q s.seat s.hub_seat (Some why) → MayEnd (p ∷ []) (Pumps ∷ []) 0 (s ∷ []) (Some why)
   pump_cut why pumped closed =

@@ -7,7 +7,7 @@ use Rattle.vk_base.specs.Pids.{same_pid}
 use Rattle.vk_base.specs.Settings.{has_process, has_station, is_process}
 use Rattle.vk_rules.specs.Each.{Each}
 use Rattle.std.proofs.lemmas.List.{length-map}
-use Rattle.vk_threads.specs.declared.run.Assigned.{Assigned}
+use Rattle.vk_program.specs.declared.assigned.Assigned.{Assigned}
 use Rattle.vk_threads.specs.Assigned.{AreDifferent, pid_of}
 
 -- two pids of one process are the same

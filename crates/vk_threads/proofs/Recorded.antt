@@ -15,12 +15,12 @@ use Rattle.vk_base.specs.declared.config.ProcessSpec.{ProcessSpec}
 use Rattle.vk_base.specs.Settings.{AreLawful, Settings, has_station, stations_of}
 use Rattle.vk_base.proofs.SettingsLemmas.{among_stations}
 use Rattle.vk_cluster.proofs.Stations.{Apart, stations_apart}
-use Rattle.vk_event.specs.declared.schedule.Schedule.{Schedule}
+use Rattle.vk_schedule.specs.declared.schedule.Schedule.{Schedule}
 use Rattle.vk_hub.specs.declared.event.HubEvent.{HubEvent}
 use Rattle.vk_hub.specs.Hubs.{HubLog}
 use Rattle.vk_join.specs.declared.log.JoinRefusal.{JoinRefusal}
 use Rattle.vk_join.specs.declared.log.JoinRefusal.TheVariants as refusals
-use Rattle.vk_join.specs.declared.log.StationLog.{StationLog}
+use Rattle.vk_schedule.specs.declared.log.StationLog.{StationLog}
 use Rattle.vk_join.specs.Joined.{IsJoined}
 use Rattle.vk_join.specs.Laws.{AreGiven}
 use Rattle.vk_join.specs.Logs.{AreLogs}

@@ -11,19 +11,21 @@ use Rattle.vk_event.specs.declared.scenario.Scenario.{Scenario}
 use Rattle.vk_event.specs.ScenarioLaws.{IsLawfulScenario, IsReadableKind}
 use Rattle.vk_event.specs.Tasks.{has_memory, memory_of}
 use Rattle.vk_event.specs.declared.task.Task.{Task}
-use Rattle.vk_pages.specs.Any.{IsTaskOf}
+use Rattle.vk_pages.specs.Any.{IsTaskOf, are_any_kinds, is_any_kind}
 use Rattle.vk_rules.specs.Each.{Each}
 use Rattle.vk_pages.specs.declared.any.AnyProgram.{AnyProgram}
-use Rattle.vk_threads.specs.declared.run.Assigned.{Assigned}
+use Rattle.vk_program.specs.declared.assigned.Assigned.{Assigned}
 use Rattle.vk_threads.specs.Assigned.{AreDifferent, ArePrograms, pid_of}
 use Rattle.vk_threads.proofs.Dealing.{programs_pids}
 
-pub tasks_fit : (specs : List ProcessSpec) (ts : List Task) → AllByRecursion (λ (t : Task). IsReadableKind t.kind) ts
+pub tasks_fit : (specs : List ProcessSpec) (ts : List Task) → are_any_kinds ts ≡ true
+    → AllByRecursion (λ (t : Task). IsReadableKind t.kind) ts
     → list_all (λ (t : Task). has_memory specs t.pid (memory_of t.kind)) ts ≡ true → Each (IsTaskOf specs) ts
-tasks_fit specs [] ranges memory = tt
-tasks_fit specs (t ∷ ts) ranges memory =
+tasks_fit specs [] kinds ranges memory = tt
+tasks_fit specs (t ∷ ts) kinds ranges memory =
+    let own = and_parts (is_any_kind t.kind) (are_any_kinds ts) kinds in
     let both = and_parts (has_memory specs t.pid (memory_of t.kind)) (list_all (λ (u : Task). has_memory specs u.pid (memory_of u.kind)) ts) memory in
-    ((ranges.0, both.0), tasks_fit specs ts ranges.1 both.1)
+    ((own.0, ranges.0, both.0), tasks_fit specs ts own.1 ranges.1 both.1)
 
 abbrev pub spec_pid : ProcessSpec → Pid
 spec_pid s = s.pid
@@ -87,5 +89,5 @@ pub scenario_apart : (s : Scenario) (programs : List (Assigned AnyProgram)) → 
 scenario_apart s programs lawful are =
     subst AreDifferent (sym (scenario_pids s programs lawful are)) (specs_differ s.config.specs lawful.told.lawful.processes)
 
-pub scenario_tasks : (s : Scenario) → IsLawfulScenario s → Each (IsTaskOf s.config.specs) s.tasks
-scenario_tasks s lawful = tasks_fit s.config.specs s.tasks lawful.ranges lawful.memory
+pub scenario_tasks : (s : Scenario) → IsLawfulScenario s → are_any_kinds s.tasks ≡ true → Each (IsTaskOf s.config.specs) s.tasks
+scenario_tasks s lawful kinds = tasks_fit s.config.specs s.tasks kinds lawful.ranges lawful.memory

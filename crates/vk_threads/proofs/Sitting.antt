@@ -6,7 +6,7 @@ use Rattle.std.proofs.lemmas.Option.{none-some, same_Some}
 use Rattle.turn_cell.specs.Seats.{Cell, IsSeatOf, Sitting}
 use Rattle.vk_base.specs.declared.event.StationEvent.{StationEvent}
 use Rattle.vk_base.specs.Settings.{Settings, stations_of}
-use Rattle.vk_join.specs.declared.log.StationLog.{StationLog}
+use Rattle.vk_schedule.specs.declared.log.StationLog.{StationLog}
 use Rattle.vk_join.specs.Logs.{events_at}
 use Rattle.vk_port.specs.Stations.{IsLawfulHistory, StationHistory, event_of, origin_of}
 use Rattle.v_run.specs.Laws.{closed_station, host_in}

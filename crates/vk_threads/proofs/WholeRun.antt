@@ -27,14 +27,14 @@ use Rattle.vk_rules.proofs.Lists.{each_weaker}
 use Rattle.v_run.specs.Jobs.{JobEnd}
 use Rattle.v_run.specs.Outcomes.{Assignment}
 use Rattle.v_run.specs.Ran.{IsRun}
-use Rattle.vk_event.specs.declared.scenario.LinkPlan.{LinkPlan}
+use Rattle.vk_schedule.specs.declared.plan.LinkPlan.{LinkPlan}
 use Rattle.vk_threads.specs.declared.record.RunRecord.{RunRecord}
 use Rattle.v_run.specs.Passages.{Passage, host_of}
 use Rattle.v_run.specs.Runs.{passages_of, tasks_of}
 use Rattle.vk_threads.specs.declared.end.End.{End}
 use Rattle.vk_threads.specs.declared.opening.Site.{Site}
 use Rattle.vk_threads.specs.declared.opening.Spare.{Spare}
-use Rattle.vk_threads.specs.declared.run.Assigned.{Assigned}
+use Rattle.vk_program.specs.declared.assigned.Assigned.{Assigned}
 use Rattle.vk_threads.specs.declared.work.Work.{Work}
 use Rattle.vk_threads.specs.declared.work.Work.TheVariants as works
 use Rattle.vk_threads.specs.Assigned.{AreDifferent, pid_of, program_task}

@@ -13,7 +13,7 @@ use Rattle.vk_rules.specs.Each.{Each}
 use Rattle.v_run.specs.Outcomes.{Assignment}
 use Rattle.vk_threads.specs.declared.record.RunRefusal.{RunRefusal}
 use Rattle.vk_threads.specs.declared.record.RunRefusal.TheVariants as refusals
-use Rattle.vk_threads.specs.declared.run.Assigned.{Assigned}
+use Rattle.vk_program.specs.declared.assigned.Assigned.{Assigned}
 
 -- a process with the task of its program
 abbrev pub program_task : {G : Type 0} → (G → List Answer → Option Call) → Assigned G → Assignment

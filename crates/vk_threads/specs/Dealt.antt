@@ -13,7 +13,7 @@ use Rattle.vk_rules.specs.Each.{Each}
 use Rattle.v_run.specs.Passages.{Pumps, Role, Runs, nowhere}
 use Rattle.vk_threads.specs.declared.opening.Site.{Site}
 use Rattle.vk_threads.specs.declared.opening.Spare.{Spare}
-use Rattle.vk_threads.specs.declared.run.Assigned.{Assigned}
+use Rattle.vk_program.specs.declared.assigned.Assigned.{Assigned}
 use Rattle.vk_threads.specs.declared.work.Work.{Work}
 use Rattle.vk_threads.specs.declared.work.Work.TheVariants as works
 use Rattle.vk_threads.specs.Duties.{ClockDuty}

@@ -1,16 +1,19 @@
 -- What the end of a job may be.
-use Rattle.std.specs.Prelude.{ℕ, ◌≡◌, List, [], ◌∷◌, ◌++◌, Option, Some, None, map}
+use Rattle.std.specs.Prelude.{ℕ, ◌≡◌, ◌+◌, ◌⊎◌, List, [], ◌∷◌, ◌++◌, Option, Some, None, length, map}
 use mathlib.Core.List.{IsPrefix}
 use Rattle.turn_cell.specs.Seats.{Cell, IsSameSeat}
+use Rattle.vk_hub.specs.declared.event.HubEvent.TheVariants as hub_events
 use Rattle.vk_hub.specs.Hubs.{HubLog}
 use Rattle.turn_cell.specs.declared.replay.Room.{Room}
 use Rattle.vk_base.specs.declared.answer.Answer.{Answer}
 use Rattle.vk_base.specs.declared.call.Call.{Call}
+use Rattle.vk_base.specs.declared.pid.Pid.{Pid}
 use Rattle.vk_base.specs.Settings.{Settings}
 use Rattle.vk_port.specs.Ports.{IsLog, PortValue, berth_of, stand_of}
+use Rattle.vk_port.specs.Stations.{StationHistory}
 use Rattle.vk_rules.specs.Each.{Each}
 use Rattle.v_run.specs.Jobs.{IsJobEnd, JobEnd, KeepsTime}
-use Rattle.v_run.specs.Passages.{IsLast, IsRole, Passage, Pumps, Role, Runs, Ticks, fresh_station}
+use Rattle.v_run.specs.Passages.{IsLast, IsRole, Passage, Pumps, Role, Runs, Ticks, answers_by, calls_by, fresh_station}
 use Rattle.vk_threads.specs.declared.end.Seats.{Seats}
 use Rattle.vk_threads.specs.Works.{HasClosed}
 
@@ -49,6 +52,16 @@ pub record MayEnd (ports : List PortValue) (roles : List Role) (rounds : ℕ) (s
   pub done : ℕ
   pub time : Each (λ (g : Passage). KeepsTime done rounds g g.role) passages
   pub job : (c : Settings) → Each (IsOf c) ports → IsJobEnd c (record { passages = passages; met = met })
+
+-- The process of a passage finished, or its last call is not answered.
+abbrev pub FinishesOrWaits : StationHistory → Passage → Type 0
+FinishesOrWaits o g =
+    (g.last ≡ hub_events.Finished ∷ []) ⊎ (length (calls_by g.actions) ≡ length (answers_by o g.actions) + 1)
+
+-- A process's job with this port and task may hand back these seats with this Room.
+pub record EndsProcess (p : PortValue) (pid : Pid) (task : List Answer → Option Call) (seats : List Seats) (met : Option Room) : Type 0 where
+  pub may : MayEnd (p ∷ []) (Runs pid task ∷ []) 0 seats met
+  pub waits : met ≡ None → Each (FinishesOrWaits p.station.origin) may.passages
 
 -- the clock's roles: one for each station
 abbrev pub ticking : List PortValue → List Role

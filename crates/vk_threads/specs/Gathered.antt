@@ -10,7 +10,7 @@ use Rattle.turn_cell.specs.declared.replay.Room.TheVariants as rooms
 use Rattle.vk_base.specs.declared.event.StationEvent.{StationEvent}
 use Rattle.vk_hub.specs.declared.event.HubEvent.{HubEvent}
 use Rattle.vk_hub.specs.Hubs.{HubLog}
-use Rattle.vk_join.specs.declared.log.StationLog.{StationLog}
+use Rattle.vk_schedule.specs.declared.log.StationLog.{StationLog}
 use Rattle.vk_port.specs.Stations.{IsLawfulHistory, StationHistory, event_of, origin_of}
 use Rattle.vk_threads.specs.declared.end.End.{End}
 use Rattle.vk_threads.specs.declared.end.Seats.{Seats}

@@ -1,5 +1,5 @@
 -- What jobs do with their ports, and what their ends may be.
-use Rattle.std.specs.Prelude.{ℕ, ◌≡◌, ◌≤◌, ◌⊎◌, Bool, true, false, Option, Some, None, List, [], ◌∷◌, ◌++◌}
+use Rattle.std.specs.Prelude.{ℕ, ◌≡◌, ◌≤◌, ◌+◌, ◌⊎◌, Bool, true, false, Option, Some, None, List, [], ◌∷◌, ◌++◌, length}
 use mathlib.Core.List.{IsPrefix}
 use Rattle.turn_cell.specs.Seats.{IsSameSeat, Sitting}
 use Rattle.turn_cell.specs.declared.replay.Room.{Room}
@@ -35,19 +35,22 @@ abbrev pub HasCalled : PortValue → PortValue → Pid → Call → Option Answe
 HasCalled old new pid call (Some a) =
     (acts : List Action) × HasCalledBy old new pid call acts × (calls_by acts ≡ call ∷ []) × (answers_by old.station.origin acts ≡ a ∷ [])
     × (lost_count acts ≡ 0)
-HasCalled old new pid call None = (acts : List Action) × HasCalledBy old new pid call acts × HasHeard acts × (lost_count acts ≤ 1)
+HasCalled old new pid call None =
+    (acts : List Action) × HasCalledBy old new pid call acts × (calls_by acts ≡ call ∷ []) × (answers_by old.station.origin acts ≡ [])
+    × HasHeard acts × (lost_count acts ≤ 1)
 
 abbrev pub HasCalledCut : PortValue → PortValue → Pid → Call → Room → Type 0
 HasCalledCut old new pid call why =
     (acts : List Action) × HasCalledBy old new pid call acts × (lost_count acts ≤ 1) × (why ≡ rooms.Full → FindsFull new acts)
 
--- A process with its task: it came to the task's end, or heard that the hub had ended.
+-- A process with its task: it came to the task's end, or heard that the hub had ended before its last call was answered.
 abbrev pub HasPlayed : PortValue → PortValue → Pid → (List Answer → Option Call) → Bool → Type 0
 HasPlayed old new pid task true =
     (acts : List Action) × Does old new acts × Plays task pid old.station.origin [] [] acts
     × IsAtEnd task (calls_by acts) (answers_by old.station.origin acts) × (lost_count acts ≡ 0)
 HasPlayed old new pid task false =
     (acts : List Action) × Does old new acts × Plays task pid old.station.origin [] [] acts × HasHeard acts × (lost_count acts ≤ 1)
+    × (length (calls_by acts) ≡ length (answers_by old.station.origin acts) + 1)
 
 abbrev pub HasPlayedCut : PortValue → PortValue → Pid → (List Answer → Option Call) → Room → Type 0
 HasPlayedCut old new pid task why =

@@ -44,7 +44,7 @@ impl<'a, 'p, P: Pacer> Model for ClockWork<'a, 'p, P> {
 
 impl<'a, 'p, P: Pacer> ClockWork<'a, 'p, P> {
     /// The clock of these stations, with its ports.
-    pub(crate) fn new(
+    pub fn new(
         alloc: Global,
         hub: &'a Hub,
         hosts: Vec<u16>,
@@ -71,7 +71,7 @@ impl<'a, 'p, P: Pacer> ClockWork<'a, 'p, P> {
 }
 
 /// Does the work.
-pub(crate) fn clock_end<P: Pacer, R: Wait + Clock>(rt: &R, work: ClockWork<P>) -> End
+pub fn clock_end<P: Pacer, R: Wait + Clock>(rt: &R, work: ClockWork<P>) -> End
     ensures { MayEnd work.entry.ports (ticking work.entry.ports) work.entry.rounds result.seats.items result.met }
 {
     let ClockWork {
@@ -152,13 +152,13 @@ fn has_ended<R: Wait>(rt: &R, alloc: Global, ports: &mut [Port]) -> Result<bool,
 }
 
 /// Waits once.
-fn wait_once<P: Pacer, R: Wait + Clock>(rt: &R, pacer: &Mutex<&mut P>) {
+pub fn wait_once<P: Pacer, R: Wait + Clock>(rt: &R, pacer: &Mutex<&mut P>) {
     let mut held = pacer.lock(rt);
     held.wait(rt);
 }
 
 /// Waits and ticks all stations, so many times, or until the hub has ended.
-pub(crate) fn tick_on<P: Pacer, R: Wait + Clock>(
+pub fn tick_on<P: Pacer, R: Wait + Clock>(
     rt: &R,
     alloc: Global,
     ports: &mut [Port],

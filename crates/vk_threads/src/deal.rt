@@ -3,7 +3,7 @@ ghost use Rattle.std.specs.Prelude.{◌≡◌, ◌≤◌, ◌<◌, ◌+◌, ◌+
 ghost use Rattle.vk_rules.specs.Each.{Each};
 ghost use Rattle.vk_threads.specs.Dealt.{AreDealt, AreDue, AreJobsAt, ArePorts, HasSite, IsOwnAt, IsPort, IsStocked, IsTaken, host_of, hosts_for, pumps_at, runs_by, spare_host};
 ghost use Rattle.v_run.specs.Passages.{Role};
-ghost use Rattle.vk_threads.specs.declared.run.Assigned.{Assigned};
+ghost use Rattle.vk_program.specs.declared.assigned.Assigned.{Assigned};
 ghost use Rattle.vk_threads.specs.declared.opening.Spare.{Spare};
 ghost use Rattle.vk_threads.specs.Ended.{cell_at};
 ghost use Rattle.vk_threads.specs.Opened.{count_of};
@@ -12,7 +12,6 @@ use crate::clock::ClockWork;
 use crate::opening::{Site, Spare};
 use crate::process::ProcessWork;
 use crate::pump::PumpWork;
-use crate::run::Assigned;
 use crate::work::Work;
 use std::alloc::Global;
 use std::sync::Mutex;
@@ -21,7 +20,7 @@ use vk_base::NoMemory;
 use vk_hub::{Hub, HubState};
 use vk_io::Pacer;
 use vk_port::{Port, Station};
-use vk_program::Program;
+use vk_program::{Assigned, Program};
 
 /// The stations and the hub, and their seats that no port has yet.
 #[derive(Drop)]
@@ -83,7 +82,7 @@ pub fn take_hub_seat(seats: &mut Vec<TurnSeat<HubState>>) -> TurnSeat<HubState>
 
 impl<'a> Stock<'a> {
     /// A port at the station.
-    fn port_at(&mut self, host: u16, ticks: bool) -> Result<Port<'a>, NoMemory>
+    pub fn port_at(&mut self, host: u16, ticks: bool) -> Result<Port<'a>, NoMemory>
         requires { AreDue (IsStocked self.old.sites.now self.old.hub.now self.old.spares.items self.old.hub_seats.items) (host ∷ []) }
         ensures sites { self.new.sites ≡ self.old.sites }
         ensures hub { self.new.hub ≡ self.old.hub }

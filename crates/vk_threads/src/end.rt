@@ -24,13 +24,7 @@ pub struct End {
 }
 
 /// Takes both seats back, and halts the hub where a `Room` was met.
-pub(crate) fn close_port<R: Wait>(
-    rt: &R,
-    port: Port,
-    hub: &Hub,
-    host: u16,
-    met: Option<Room>,
-) -> Seats
+pub fn close_port<R: Wait>(rt: &R, port: Port, hub: &Hub, host: u16, met: Option<Room>) -> Seats
     requires { port.hub ≡ hub.now }
     ensures host { result.host ≡ host }
     ensures closed { HasClosed port.entry result.seat result.hub_seat met }
@@ -47,7 +41,7 @@ pub(crate) fn close_port<R: Wait>(
 }
 
 /// Takes both seats back, and tells the hub that a program has finished. Where there is no room for that, it halts the hub.
-pub(crate) fn finish_port<R: Wait>(
+pub fn finish_port<R: Wait>(
     rt: &R,
     alloc: Global,
     port: Port,

@@ -15,9 +15,9 @@ use vk_port::Station;
 
 /// All seats that came back, in order.
 #[derive(Drop)]
-struct Gathered {
-    seats: Vec<Spare>,
-    hub_seats: Vec<TurnSeat<HubState>>,
+pub struct Gathered {
+    pub seats: Vec<Spare>,
+    pub hub_seats: Vec<TurnSeat<HubState>>,
 }
 
 /// Whether a job met a history that may not grow.
@@ -36,7 +36,7 @@ pub fn has_met_no_memory(ends: &[End]) -> bool
 }
 
 /// The seats of all jobs, in order.
-fn gather_all(alloc: Global, ends: Vec<End>) -> Result<Gathered, NoMemory>
+pub fn gather_all(alloc: Global, ends: Vec<End>) -> Result<Gathered, NoMemory>
     ensures { IfOk result (HasGathered ends.items) }
 {
     let mut all = Gathered {
@@ -111,7 +111,7 @@ fn shut(site: Site, own: Vec<TurnSeat<Station>>) -> StationLog
 }
 
 /// The logs of all stations, whose seats have come back.
-fn close_all(
+pub fn close_all(
     alloc: Global,
     sites: Vec<Site>,
     seats: Vec<Spare>,

@@ -12,7 +12,7 @@ use vk_io::Halt;
 
 /// Stops the hub, by a seat of its own.
 #[derive(Drop)]
-pub(crate) struct HubHalt<'a> {
+pub struct HubHalt<'a> {
     hub: &'a Hub,
     seat: TurnSeat<HubState>,
 }
@@ -30,7 +30,7 @@ impl<'a> Model for HubHalt<'a> {
 }
 
 impl<'a> HubHalt<'a> {
-    pub(crate) fn new(hub: &'a Hub, seat: TurnSeat<HubState>) -> HubHalt<'a>
+    pub fn new(hub: &'a Hub, seat: TurnSeat<HubState>) -> HubHalt<'a>
         requires { IsSeatOf hub.now seat }
         ensures { result ≡ seat }
     {
@@ -38,7 +38,7 @@ impl<'a> HubHalt<'a> {
     }
 
     /// Hands its seat back.
-    pub(crate) fn into_seat(self) -> TurnSeat<HubState>
+    pub fn into_seat(self) -> TurnSeat<HubState>
         ensures { result ≡ self.entry }
     {
         let HubHalt { hub: _, seat } = self;

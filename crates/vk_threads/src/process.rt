@@ -1,8 +1,7 @@
 //! The job that runs a process with its program.
 ghost use Rattle.std.specs.Prelude.{◌≡◌, [], ◌∷◌, true, IfOk, IfErr};
-ghost use Rattle.v_run.specs.Passages.{Runs};
 ghost use Rattle.vk_port.specs.Stations.{is_process_of};
-ghost use Rattle.vk_threads.specs.Ends.{MayEnd};
+ghost use Rattle.vk_threads.specs.Ends.{EndsProcess};
 ghost use Rattle.vk_threads.specs.Works.{HasCalled, HasCalledCut, HasPlayed, HasPlayedCut};
 
 use crate::end::{End, Seats, close_port, finish_port};
@@ -42,7 +41,7 @@ impl<'a, G: Program> Model for ProcessWork<'a, G> {
 
 impl<'a, G: Program> ProcessWork<'a, G> {
     /// The job of this process.
-    pub(crate) fn new(
+    pub fn new(
         alloc: Global,
         hub: &'a Hub,
         port: Port<'a>,
@@ -68,8 +67,8 @@ impl<'a, G: Program> ProcessWork<'a, G> {
 }
 
 /// Does the work.
-pub(crate) fn process_end<G: Program, R: Wait + Clock>(rt: &R, work: ProcessWork<G>) -> End
-    ensures { MayEnd (work.entry.port ∷ []) (Runs work.entry.pid (G.task work.entry.program) ∷ []) 0 result.seats.items result.met }
+pub fn process_end<G: Program, R: Wait + Clock>(rt: &R, work: ProcessWork<G>) -> End
+    ensures { EndsProcess work.entry.port work.entry.pid (G.task work.entry.program) result.seats.items result.met }
 {
     let ProcessWork {
         alloc,
@@ -122,7 +121,7 @@ fn make<R: Wait + Clock>(
 
 /// Makes the program's calls one after the other, each after the answer to the one before. True where the program came to its end,
 /// false where the hub ended before.
-pub(crate) fn play<G: Program, R: Wait + Clock>(
+pub fn play<G: Program, R: Wait + Clock>(
     rt: &R,
     alloc: Global,
     port: &mut Port,

@@ -40,7 +40,7 @@ impl<'a> Model for PumpWork<'a> {
 
 impl<'a> PumpWork<'a> {
     /// The job that delivers at this station.
-    pub(crate) fn new(
+    pub fn new(
         alloc: Global,
         hub: &'a Hub,
         host: u16,
@@ -62,7 +62,7 @@ impl<'a> PumpWork<'a> {
 }
 
 /// Does the work.
-pub(crate) fn pump_end<R: Wait + Clock>(rt: &R, work: PumpWork) -> End
+pub fn pump_end<R: Wait + Clock>(rt: &R, work: PumpWork) -> End
     ensures { MayEnd (work.entry ∷ []) (Pumps ∷ []) 0 result.seats.items result.met }
 {
     let PumpWork {
@@ -86,7 +86,7 @@ pub(crate) fn pump_end<R: Wait + Clock>(rt: &R, work: PumpWork) -> End
 }
 
 /// Delivers frame after frame, until the hub has ended.
-pub(crate) fn pump_on<R: Wait + Clock>(rt: &R, alloc: Global, port: &mut Port) -> Result<(), Room>
+pub fn pump_on<R: Wait + Clock>(rt: &R, alloc: Global, port: &mut Port) -> Result<(), Room>
     ensures stopped { IfOk result (λ _. HasPumped port.old port.new) }
     ensures cut { IfErr result (λ why. HasPumpedCut port.old port.new why) }
 {

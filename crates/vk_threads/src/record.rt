@@ -11,9 +11,9 @@ use std::alloc::Global;
 use turn_cell::TurnSeat;
 use v_run::{closed_runs_are_joined, joined_runs_are_runs};
 use vk_base::Config;
-use vk_event::Schedule;
 use vk_hub::{Hub, HubState};
 use vk_join::{JoinRefusal, join_stations};
+use vk_schedule::Schedule;
 
 /// What a run was, as a schedule.
 #[derive(Drop)]

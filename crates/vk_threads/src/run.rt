@@ -8,8 +8,8 @@ ghost use Rattle.vk_event.specs.ScenarioLaws.{IsLawfulScenario};
 ghost use Rattle.vk_rules.specs.Each.{Each};
 ghost use Rattle.vk_threads.specs.Assigned.{AreDifferent, LeavesJobs, TellsRunFault, ArePrograms, assignments_of, pid_of, program_task};
 ghost use Rattle.vk_threads.specs.Dealt.{HasRunJobs, IsOwnAt, IsStocked, TellsJobs, hosts_for};
-ghost use Rattle.vk_pages.specs.Any.{IsTaskOf};
-ghost use Rattle.vk_threads.specs.declared.run.Assigned.{Assigned};
+ghost use Rattle.vk_pages.specs.Any.{IsTaskOf, are_any_kinds};
+ghost use Rattle.vk_program.specs.declared.assigned.Assigned.{Assigned};
 
 use crate::deal::{Stock, jobs_of, take_hub_seat};
 use crate::end::End;
@@ -21,19 +21,13 @@ use std::sync::{Mutex, Wait};
 use std::thread::Threads;
 use std::time::Clock;
 use turn_cell::TurnSeat;
-use vk_base::{Config, NoMemory, Pid};
-use vk_event::{LinkPlan, Scenario, Task};
+use vk_base::{Config, NoMemory};
+use vk_event::{Scenario, Task};
 use vk_hub::{Hub, HubState};
 use vk_io::{Crew, CrewError, Pacer};
 use vk_pages::AnyProgram;
-use vk_program::Program;
-
-/// A process and its program.
-#[derive(Drop)]
-pub struct Assigned<G: Program> {
-    pub pid: Pid,
-    pub program: G,
-}
+use vk_program::{Assigned, Program};
+use vk_schedule::LinkPlan;
 
 /// Deals seats to jobs and has the crew run them. Gives what they ended with, and the seat of the halt, which has halted nothing.
 fn run_jobs<'a, 'p, G: Program + Send, C: Crew, P: Pacer + Send, R: Wait + Threads + Clock + Sync>(
@@ -174,7 +168,7 @@ fn programs_of(
     Ok(programs)
 }
 
-/// Runs each process of the scenario with its program.
+/// Runs each process of the scenario with its program, where each is a script or a program of pages.
 ///
 /// # Errors
 ///
@@ -186,7 +180,8 @@ pub fn run_stations<C: Crew, P: Pacer + Send, R: Wait + Threads + Clock + Sync>(
     crew: &mut C,
     pacer: &mut P,
 ) -> Result<RunRecord, RunRefusal>
-    requires { IsLawfulScenario scenario }
+    requires lawful { IsLawfulScenario scenario }
+    requires kinds { are_any_kinds scenario.tasks ≡ true }
     ensures ran { IfOk result (λ r. IsRun scenario.config scenario.plan scenario.rounds (assignments_of scenario.tasks) r.limited
         r.schedule) }
     ensures jobs { OnOk result (C.job_count crew.new
@@ -201,6 +196,7 @@ pub fn run_stations<C: Crew, P: Pacer + Send, R: Wait + Threads + Clock + Sync>(
         tasks,
         plan,
         rounds,
+        ..
     } = scenario;
     let Ok(programs) = programs_of(alloc, &config, tasks.as_slice()) else {
         return Err(RunRefusal::NoMemory);

@@ -1,10 +1,10 @@
 -- Why a text is refused that does not open.
 use Rattle.std.proofs.Common.{◌≡◌, ℕ, List, Err, ◌⊎◌, inl, inr, sym, ap, ◌∙◌}
-use Rattle.vk_event.specs.declared.schedule.Front.{Front}
-use Rattle.vk_event.specs.declared.schedule.TextRefusal.{TextRefusal}
-use Rattle.vk_event.specs.declared.schedule.TextRefusal.TheVariants as schedules
-use Rattle.vk_event.specs.Schedule as schedule
-use Rattle.vk_event.specs.Schedule.{HasProcess, front_of, schedule_of, unopened}
+use Rattle.vk_schedule.specs.declared.schedule.Front.{Front}
+use Rattle.vk_schedule.specs.declared.schedule.TextRefusal.{TextRefusal}
+use Rattle.vk_schedule.specs.declared.schedule.TextRefusal.TheVariants as schedules
+use Rattle.vk_schedule.specs.Schedule as schedule
+use Rattle.vk_schedule.specs.Schedule.{HasProcess, front_of, schedule_of, unopened}
 use Rattle.v_trace.specs.declared.trace.TraceRefusal.{TraceRefusal}
 use Rattle.v_trace.specs.declared.trace.TraceRefusal.TheVariants as traces
 use Rattle.v_trace.specs.Traces as trace_lines

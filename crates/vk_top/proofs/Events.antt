@@ -15,7 +15,7 @@ use Rattle.vk_cluster.specs.Standing.{Tells, logs_of, report_by, report_of}
 use Rattle.vk_cluster.specs.Values.{ClusterValue}
 use Rattle.vk_cluster.proofs.Shown.{IsEntry, IsSent, last_is, lawful_entry, reported_entry, reported_missing}
 use Rattle.vk_cluster.proofs.Told.{report_told}
-use Rattle.vk_event.specs.declared.event.Event.{Event}
+use Rattle.vk_schedule.specs.declared.event.Event.{Event}
 use Rattle.vk_frame.specs.declared.header.Header.{Header}
 use Rattle.vk_frame.specs.Law.{FramesAreSpelledOnce}
 use Rattle.vk_frame.specs.Reading.{frame_of}

@@ -9,8 +9,8 @@ use Rattle.vk_base.specs.Settings.{Settings}
 use Rattle.vk_cluster.specs.declared.emitted.TheConstants.{LAST_BYTES}
 use Rattle.vk_cluster.specs.Standing.{bytes_of, emitted_bytes, logs_of}
 use Rattle.vk_cluster.proofs.Logs.{bytes_next, history_more, logs_next}
-use Rattle.vk_event.specs.declared.event.Event.{Event}
-use Rattle.vk_event.specs.declared.schedule.Schedule.{Schedule}
+use Rattle.vk_schedule.specs.declared.event.Event.{Event}
+use Rattle.vk_schedule.specs.declared.schedule.Schedule.{Schedule}
 use Rattle.vk_report.specs.declared.entry.Counts.{Counts}
 use Rattle.vk_report.specs.declared.entry.Form.{Form}
 use Rattle.vk_report.specs.Histories.{Told, told_lines}

@@ -1,5 +1,5 @@
 -- From the answer to an input or to a storm to the words.
-use Rattle.std.proofs.Common.{◌≡◌, ℕ, ◌⊎◌, List, take, Option, Some, None, inl, inr, refl, subst, arith}
+use Rattle.std.proofs.Common.{◌≡◌, ◌∙◌, ap, ℕ, ◌⊎◌, true, List, [], Option, Some, None, inl, inr, refl, subst, arith}
 use Rattle.std.specs.Prelude.{IsSomeAnd}
 use Rattle.std.specs.Io.KnownBytes.{Appends}
 use Rattle.clap.specs.Walk.{Text}
@@ -11,10 +11,10 @@ use Rattle.vk_top.specs.declared.status.Status.TheVariants as status
 use Rattle.vk_top.specs.declared.words.Asked.{Asked}
 use Rattle.vk_top.specs.declared.words.Job.{Job}
 use Rattle.vk_top.specs.declared.words.Job.TheVariants as jobs
-use Rattle.vk_top.specs.Jobs.{Asks, IsAloneAnswer, IsFront, IsJobBadAt, IsJobCutShort, IsJobDecided, IsJobDone, IsJobNotARun, IsJobOverLimit, IsJobToWrite, IsStormAnswered, job_output}
+use Rattle.vk_top.specs.Jobs.{Asks, IsAloneAnswer, IsFront, IsJobBadAt, IsJobCutShort, IsJobDecided, IsJobDone, IsJobNotARun, IsJobOverLimit, IsJobPart, IsJobStrayAt, IsJobToWrite, IsStormAnswered}
 use Rattle.vk_top.specs.Top.{IsEarly, OfInput}
 use Rattle.vk_top.specs.Work.{IsOutcome}
-use Rattle.vk_top.specs.Words.{job_of}
+use Rattle.vk_top.specs.Words.{is_threaded, job_of}
 
 asks : (words : List Text) (j : Job) (told : Option (List ℕ)) (Holds : Job → List ℕ → Type 0) → Some j ≡ job_of words
     → OfInput told (Holds j) → Asks words told Holds
@@ -25,19 +25,21 @@ asks_anyhow : (words : List Text) (j : Job) (told : Option (List ℕ)) (Holds : 
     → ((i : List ℕ) → Holds j i) → Asks words told Holds
 asks_anyhow words j told Holds is given = asks words j told Holds is (some_input told (Holds j) given)
 
+front_for : (words : List Text) (j : Job) (i : List ℕ) (old new : Option (List ℕ)) → Some j ≡ job_of words
+    → Appends old new [] ⊎ IsJobPart j i old new → IsFront words i old new
+front_for words j i old new is (inl none) = inl none
+front_for words j i old new is (inr part) = inr (subst (λ (o : Option Job). IsSomeAnd o (λ k. IsJobPart k i old new)) is part)
+
 front_is : (words : List Text) (j : Job) (told old new : Option (List ℕ)) → Some j ≡ job_of words
-    → OfInput told (λ i. (n : ℕ) × Appends old new (take n (job_output (Some j) i))) → OfInput told (λ i. IsFront words i old new)
+    → OfInput told (λ i. Appends old new [] ⊎ IsJobPart j i old new) → OfInput told (λ i. IsFront words i old new)
 front_is words j told old new is given = record {
   input = given.input;
   all = given.all;
-  holds = record {
-    count = given.holds.0;
-    written = subst (λ (o : Option Job). Appends old new (take given.holds.0 (job_output o given.input))) is given.holds.1;
-  };
+  holds = front_for words j given.input old new is given.holds;
 }
 
 nothing_written : (words : List Text) (told old : Option (List ℕ)) → OfInput told (λ i. IsFront words i old old)
-nothing_written words told old = some_input told _ (λ i. record { count = 0; written = nothing_more old })
+nothing_written words told old = some_input told _ (λ i. inl (nothing_more old))
 
 clash : {A B : Type 0} (a : A) (o : Option A) → Some a ≡ o → o ≡ None → B
 clash a o is none = cc
@@ -65,6 +67,7 @@ text_answer Unread Unwritten words a left rest old new s job outcome nothing = r
   whole = λ b same told. outcome.whole told;
   alone = λ n same. differ (jobs.OfText a) (jobs.Storm n) (job_of words) job same (λ e. absurd (cc));
   bad = λ line is. asks words (jobs.OfText a) left (λ j i. IsJobBadAt j i line) job (outcome.bad line is);
+  stray = λ host event is. asks words (jobs.OfText a) left (λ j i. IsJobStrayAt j i host event) job (outcome.stray host event is);
   limit = λ is.
       asks words (jobs.OfText a) left (λ j i. (IsJobOverLimit j i × Unwritten) ⊎ IsJobCutShort j i old new) job (outcome.limit is);
   limit_whole = λ is. outcome.read is;
@@ -72,6 +75,7 @@ text_answer Unread Unwritten words a left rest old new s job outcome nothing = r
   complete = λ j same. decided_for j (jobs.OfText a) (job_of words) left s job same outcome.complete;
   writing = λ is. asks words (jobs.OfText a) left IsJobToWrite job (outcome.writing is);
   crew = outcome.kinds.1;
+  link = outcome.kinds.2;
   nothing = nothing;
   front = front_is words (jobs.OfText a) left old new job outcome.front;
 }
@@ -92,6 +96,8 @@ storm_answer Unread Unwritten words n left old new s job unread answered nothing
       alone = λ m same. unread;
       bad = λ line is.
           no_other s (status.BadInput line) answered.kinds is (λ e. grind (arith, e)) (λ e. grind (arith, e)) (λ e. grind (arith, e)) (λ e. grind (arith, e));
+      stray = λ host event is.
+          no_other s (status.Stray host event) answered.kinds is (λ e. grind (arith, e)) (λ e. grind (arith, e)) (λ e. grind (arith, e)) (λ e. grind (arith, e));
       limit = λ is. asks_anyhow words j left (λ k i. (IsJobOverLimit k i × Unwritten) ⊎ IsJobCutShort k i old new) job
           (λ i. inl (answered.limit is));
       limit_whole = λ is. inl (answered.limit is).1;
@@ -99,8 +105,9 @@ storm_answer Unread Unwritten words n left old new s job unread answered nothing
       complete = λ k same. decided_for k j (job_of words) left s job same answered.complete;
       writing = λ is. asks_anyhow words j left IsJobToWrite job (λ i. answered.writing is);
       crew = λ is. no_other s status.CrewFault answered.kinds is (λ e. grind (arith, e)) (λ e. grind (arith, e)) (λ e. grind (arith, e)) (λ e. grind (arith, e));
+      link = λ is. no_other s status.LinkFault answered.kinds is (λ e. grind (arith, e)) (λ e. grind (arith, e)) (λ e. grind (arith, e)) (λ e. grind (arith, e));
       nothing = nothing;
-      front = front_is words j left old new job (some_input left _ (λ i. answered.front));
+      front = front_is words j left old new job (some_input left _ (λ i. inr answered.front));
     }
 
 -- The answer to words that ask for nothing that the program does.
@@ -114,12 +121,14 @@ useless_answer Unread Unwritten words left old none unread unwritten = record {
   whole = λ a same told. absurd told;
   alone = λ n same. unread;
   bad = λ line is. absurd (grind (arith, is));
+  stray = λ host event is. absurd (grind (arith, is));
   limit = λ is. absurd (grind (arith, is));
   limit_whole = λ is. absurd (grind (arith, is));
   memory = λ is. absurd (grind (arith, is));
   complete = λ j same. absurd (cc);
   writing = λ is. absurd (grind (arith, is));
   crew = λ is. grind (arith, is);
+  link = λ is. grind (arith, is);
   nothing = λ early. unwritten;
   front = nothing_written words left old;
 }
@@ -127,6 +136,7 @@ useless_answer Unread Unwritten words left old none unread unwritten = record {
 wanted : (j : Job) (told : Option (List ℕ)) → IsJobDecided j told status.NoMemory
 wanted (jobs.OfText a) told = tt
 wanted jobs.Run told = refl
+wanted (jobs.Node host) told = refl
 wanted (jobs.Storm n) told = tt
 
 -- The answer where memory is wanting to read the words.
@@ -140,16 +150,18 @@ wanting_answer Unread Unwritten words left old unread unwritten = record {
   whole = λ a same told. absurd told;
   alone = λ n same. unread;
   bad = λ line is. absurd (grind (arith, is));
+  stray = λ host event is. absurd (grind (arith, is));
   limit = λ is. absurd (grind (arith, is));
   limit_whole = λ is. absurd (grind (arith, is));
   memory = λ is. inl unread;
   complete = λ j same. wanted j left;
   writing = λ is. absurd (grind (arith, is));
   crew = λ is. grind (arith, is);
+  link = λ is. grind (arith, is);
   nothing = λ early. unwritten;
   front = nothing_written words left old;
 }
 
--- No text and no storm is asked for where the words are those of a run.
-pub not_run : {B : Type 0} (j : Job) (o : Option Job) → Some j ≡ o → o ≡ Some jobs.Run → ¬ (j ≡ jobs.Run) → B
-not_run j o is same other = let e : j ≡ jobs.Run = cc in absurd (other e)
+-- No text and no storm is asked for where what is asked for is done in threads.
+pub not_threaded : {B : Type 0} (j : Job) (o : Option Job) → Some j ≡ o → is_threaded o ≡ true → ¬ (is_threaded (Some j) ≡ true) → B
+not_threaded j o is threaded other = absurd (other (ap is_threaded is ∙ threaded))

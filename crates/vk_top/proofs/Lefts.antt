@@ -5,10 +5,10 @@ use Rattle.vk_base.specs.declared.limits.TheConstants.{EVENTS}
 use Rattle.vk_base.specs.Settings.{Settings}
 use Rattle.vk_cluster.specs.Standing.{StandsFor}
 use Rattle.vk_cluster.specs.Values.{ClusterValue, is_full}
-use Rattle.vk_event.specs.declared.event.Event.{Event}
-use Rattle.vk_event.specs.declared.schedule.Front.{Front}
-use Rattle.vk_event.specs.Lawful.{has_actors}
-use Rattle.vk_event.specs.Remaining.{behind}
+use Rattle.vk_schedule.specs.declared.event.Event.{Event}
+use Rattle.vk_schedule.specs.declared.schedule.Front.{Front}
+use Rattle.vk_schedule.specs.Lawful.{has_actors}
+use Rattle.vk_schedule.specs.Remaining.{behind}
 use Rattle.vk_report.specs.declared.entry.Counts.{Counts}
 use Rattle.vk_report.specs.declared.entry.Form.{Form}
 use Rattle.vk_report.specs.Report.{end_lines, opening_lines}

@@ -1,9 +1,9 @@
 -- What a reader leaves when it gave its next event or step, or has none.
 use Rattle.std.proofs.Common.{◌≡◌, ◌<◌, Bool, true, false, cond, [], ◌∷◌, length, Some, None, ap, arith}
 use Rattle.vk_base.specs.declared.step.Step.{Step}
-use Rattle.vk_event.specs.declared.event.Event.{Event}
-use Rattle.vk_event.specs.declared.schedule.Front.{Front}
-use Rattle.vk_event.specs.Remaining as events
+use Rattle.vk_schedule.specs.declared.event.Event.{Event}
+use Rattle.vk_schedule.specs.declared.schedule.Front.{Front}
+use Rattle.vk_schedule.specs.Remaining as events
 use Rattle.v_trace.specs.Remaining as steps
 use Rattle.v_trace.specs.Remaining.{Remaining}
 

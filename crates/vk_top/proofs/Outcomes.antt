@@ -1,17 +1,13 @@
 -- From the answer to a text to that to an input.
-use Rattle.std.proofs.Common.{◌≡◌, ℕ, ◌<◌, ◌≤◌, List, [], ◌∷◌, length, Option, Some, None, inl, inr, refl, ap, subst, sym, ◌∙◌, ◌⊎◌, arith, length-append}
+use Rattle.std.proofs.Common.{◌≡◌, ℕ, ◌<◌, ◌≤◌, List, [], length, Option, Some, None, inl, inr, refl, ap, subst, sym, ◌∙◌, ◌⊎◌, arith, length-append}
 use Rattle.std.specs.Prelude.{IfSome}
 use Rattle.std.specs.Io.KnownBytes.{Consumes}
 use Rattle.std.proofs.lemmas.Bool.{cond-true, lt-ltb}
 use Rattle.std.proofs.lemmas.List.{append-nil}
 use Rattle.vk_io.specs.Causes.{LosesFront, Rose}
-use Rattle.vk_text.specs.Heads.{head_of}
-use Rattle.vk_text.specs.Lines.{lines_of}
-use Rattle.vk_text.specs.Openings.{opening_of}
-use Rattle.v_trace.specs.Traces.{behind_head}
 use Rattle.vk_top.proofs.Told.{nothing_more}
-use Rattle.vk_top.specs.Top.{IsDecided, IsEarly, IsOverLimit, OfInput, TellsFaults, status_of, text_status}
-use Rattle.vk_top.specs.Work.{IsAnswered, IsLate, IsOutcome, IsReadCount, IsRefusal, IsUnread, IsWriteCount, IsWritten, KeepsLines}
+use Rattle.vk_top.specs.Top.{IsDecided, IsEarly, IsOverLimit, OfInput, TellsFaults, status_of}
+use Rattle.vk_top.specs.Work.{IsAnswered, IsLate, IsOutcome, IsReadCount, IsRefusal, IsUnread, IsWriteCount, IsWritten}
 use Rattle.vk_top.specs.declared.status.Status.{Status}
 use Rattle.vk_top.specs.declared.status.Status.TheVariants as status
 use Rattle.vk_top.specs.declared.words.Asked.{Asked}
@@ -29,6 +25,8 @@ read_told status.WriteFault before now count more = absurd (omega (arith, count,
 read_told status.NoMemory before now count more = absurd (omega (arith, count, more))
 read_told status.CrewFault before now count more = absurd (omega (arith, count, more))
 read_told status.Limit before now count more = absurd (omega (arith, count, more))
+read_told status.LinkFault before now count more = absurd (omega (arith, count, more))
+read_told (status.Stray host event) before now count more = absurd (omega (arith, count, more))
 
 write_told : (s : Status) (before now : ℕ) → IsWriteCount s before now → before < now → s ≡ status.WriteFault
 write_told status.WriteFault before now count more = refl
@@ -40,6 +38,8 @@ write_told status.ReadFault before now count more = absurd (omega (arith, count,
 write_told status.NoMemory before now count more = absurd (omega (arith, count, more))
 write_told status.CrewFault before now count more = absurd (omega (arith, count, more))
 write_told status.Limit before now count more = absurd (omega (arith, count, more))
+write_told status.LinkFault before now count more = absurd (omega (arith, count, more))
+write_told (status.Stray host event) before now count more = absurd (omega (arith, count, more))
 
 read_fault : (s : Status) (before now : ℕ) → IsReadCount s before now → s ≡ status.ReadFault → Rose before now
 read_fault s before now count is = let P : Status → Type 0 = λ t. IsReadCount t before now in subst P is count
@@ -57,6 +57,8 @@ read_kept status.WriteFault before now other same = same
 read_kept status.NoMemory before now other same = same
 read_kept status.CrewFault before now other same = same
 read_kept status.Limit before now other same = same
+read_kept status.LinkFault before now other same = same
+read_kept (status.Stray host event) before now other same = same
 
 pub late_count : (s : Status) (before now : ℕ) → IsLate s → now ≡ before → IsWriteCount s before now
 late_count status.Done before now late same = same
@@ -68,9 +70,12 @@ late_count status.ReadFault before now late same = absurd late
 late_count status.WriteFault before now late same = absurd late
 late_count status.NoMemory before now late same = absurd late
 late_count status.CrewFault before now late same = absurd late
+late_count status.LinkFault before now late same = absurd late
+late_count (status.Stray host event) before now late same = absurd late
 
 pub refusal_count : (a : Asked) (text : List ℕ) (s : Status) (before : ℕ) → IsRefusal a text s → IsWriteCount s before before
 refusal_count a text (status.BadInput line) before why = refl
+refusal_count a text (status.Stray host event) before why = refl
 refusal_count a text status.Limit before why = refl
 refusal_count a text status.NoMemory before why = refl
 refusal_count a text status.Done before why = absurd why
@@ -79,6 +84,7 @@ refusal_count a text status.Usage before why = absurd why
 refusal_count a text status.ReadFault before why = absurd why
 refusal_count a text status.CrewFault before why = absurd why
 refusal_count a text status.WriteFault before why = absurd why
+refusal_count a text status.LinkFault before why = absurd why
 
 pub unread_count : (left rest : Option (List ℕ)) (s : Status) (before : ℕ) → IsUnread left rest s → IsWriteCount s before before
 unread_count left rest status.ReadFault before why = refl
@@ -90,6 +96,8 @@ unread_count left rest status.Usage before why = absurd why
 unread_count left rest (status.BadInput line) before why = absurd why
 unread_count left rest status.WriteFault before why = absurd why
 unread_count left rest status.CrewFault before why = absurd why
+unread_count left rest status.LinkFault before why = absurd why
+unread_count left rest (status.Stray host event) before why = absurd why
 
 -- an answer behind a write is none at which nothing is written
 
@@ -103,6 +111,8 @@ late_not_early status.ReadFault late early = late
 late_not_early status.WriteFault late early = late
 late_not_early status.NoMemory late early = late
 late_not_early status.CrewFault late early = late
+late_not_early status.LinkFault late early = late
+late_not_early (status.Stray host event) late early = late
 
 pub written_late : (text : List ℕ) (told : Status) (old new : Option (List ℕ)) (s : Status) → IsLate told → IsWritten text told old new s
     → IsEarly s → ⊥
@@ -150,17 +160,6 @@ some_input (Some i) Holds holds = record { input = i; all = refl; holds = holds 
 pub weaker : (told : Option (List ℕ)) (P Q : List ℕ → Type 0) → ((i : List ℕ) → P i → Q i) → OfInput told P → OfInput told Q
 weaker told P Q follows given = record { input = given.input; all = given.all; holds = follows given.input given.holds }
 
--- the empty text is bad in its first line
-
-empty_bad : (a : Asked) → text_status a [] ≡ status.BadInput 1
-unfolding lines_of head_of opening_of behind_head
-empty_bad (asked.Replay form) = refl
-empty_bad asked.Check = refl
-
-kept_some : (a : Asked) (text : List ℕ) → KeepsLines a text → 0 < length text
-kept_some a [] kept = absurd (omega (arith, kept 1 (empty_bad a)))
-kept_some a (b ∷ bs) kept = omega arith
-
 -- the answers to an input
 
 decided : (a : Asked) (told : Option (List ℕ)) (s : Status) → OfInput told (λ i. s ≡ status_of a i) → IsDecided a told s
@@ -173,6 +172,8 @@ decided a told status.WriteFault given = tt
 decided a told status.NoMemory given = tt
 decided a told status.CrewFault given = given
 decided a told status.Limit given = given
+decided a told status.LinkFault given = given
+decided a told (status.Stray host event) given = given
 
 by_text : (a : Asked) (left : Option (List ℕ)) (text : List ℕ) (s : Status) → IfSome left (λ bytes. bytes ≡ text)
     → (s ≡ status.NoMemory) ⊎ (s ≡ status.WriteFault) ⊎ (s ≡ status_of a text) → IsDecided a left s
@@ -185,14 +186,15 @@ answered_is : (Unchanged : Type 0) (a : Asked) (left rest old new : Option (List
 answered_is Unchanged a left rest old new text s small read answered =
     let all = told_input left rest text read in
     record {
-      kinds = (answered.kinds.0, answered.kinds.2);
+      kinds = (answered.kinds.0, answered.kinds.2, answered.kinds.3);
       done = λ is. record { input = text; all = all; holds = answered.done is };
       no = λ step is. record { input = text; all = all; holds = answered.no step is };
       whole = λ is. told_whole left rest text read;
       bad = λ line is. record { input = text; all = all; holds = answered.bad line is };
+      stray = λ host event is. record { input = text; all = all; holds = answered.stray host event is };
       limit = λ is. record { input = text; all = all; holds = answered.limit is };
       read = λ is. inr (told_whole left rest text read);
-      memory = λ is. record { bytes = text; front = all_taken left rest text read; count = (kept_some a text (answered.memory is), small) };
+      memory = λ is. record { bytes = text; front = all_taken left rest text read; count = (answered.memory is, small) };
       writing = λ is. record { input = text; all = all; holds = answered.writing is };
       complete = by_text a left text s all answered.complete;
       front = record { input = text; all = all; holds = answered.front };
@@ -209,6 +211,7 @@ served_is Unchanged a left rest old new text seen s small read same answered =
 over_limit : (a : Asked) (i : List ℕ) → 16777216 < length i → IsOverLimit a i
 over_limit (asked.Replay form) i many = inl many
 over_limit asked.Check i many = inl many
+over_limit asked.Join i many = inl many
 
 limit_status : (a : Asked) (i : List ℕ) → 16777216 < length i → status.Limit ≡ status_of a i
 limit_status a i many = sym (cond-true _ _ _ (lt-ltb 16777216 (length i) many))
@@ -216,43 +219,46 @@ limit_status a i many = sym (cond-true _ _ _ (lt-ltb 16777216 (length i) many))
 pub unread_is : (Unchanged : Type 0) (a : Asked) (left rest old : Option (List ℕ)) (s : Status) → Unchanged → IsUnread left rest s
     → IsOutcome Unchanged a left rest old old s
 unread_is Unchanged a left rest old status.ReadFault same why = record {
-  kinds = (λ is. grind (arith, is), λ is. grind (arith, is));
+  kinds = (λ is. grind (arith, is), λ is. grind (arith, is), λ is. grind (arith, is));
   done = λ is. absurd (grind (arith, is));
   no = λ step is. absurd (grind (arith, is));
   whole = λ told. absurd told;
   bad = λ line is. absurd (grind (arith, is));
+  stray = λ host event is. absurd (grind (arith, is));
   limit = λ is. absurd (grind (arith, is));
   read = λ is. absurd (grind (arith, is));
   memory = λ is. absurd (grind (arith, is));
   writing = λ is. absurd (grind (arith, is));
   complete = tt;
-  front = some_input left _ (λ i. (0, nothing_more old));
+  front = some_input left _ (λ i. inl (nothing_more old));
 }
 unread_is Unchanged a left rest old status.Limit same why = record {
-  kinds = (λ is. grind (arith, is), λ is. grind (arith, is));
+  kinds = (λ is. grind (arith, is), λ is. grind (arith, is), λ is. grind (arith, is));
   done = λ is. absurd (grind (arith, is));
   no = λ step is. absurd (grind (arith, is));
   whole = λ told. absurd told;
   bad = λ line is. absurd (grind (arith, is));
+  stray = λ host event is. absurd (grind (arith, is));
   limit = λ is. weaker left _ _ (λ i many. inl (over_limit a i many, same)) (too_many left rest why);
   read = λ is. inl same;
   memory = λ is. absurd (grind (arith, is));
   writing = λ is. absurd (grind (arith, is));
   complete = weaker left _ _ (limit_status a) (too_many left rest why);
-  front = some_input left _ (λ i. (0, nothing_more old));
+  front = some_input left _ (λ i. inl (nothing_more old));
 }
 unread_is Unchanged a left rest old status.NoMemory same why = record {
-  kinds = (λ is. grind (arith, is), λ is. grind (arith, is));
+  kinds = (λ is. grind (arith, is), λ is. grind (arith, is), λ is. grind (arith, is));
   done = λ is. absurd (grind (arith, is));
   no = λ step is. absurd (grind (arith, is));
   whole = λ told. absurd told;
   bad = λ line is. absurd (grind (arith, is));
+  stray = λ host event is. absurd (grind (arith, is));
   limit = λ is. absurd (grind (arith, is));
   read = λ is. absurd (grind (arith, is));
   memory = λ is. why;
   writing = λ is. absurd (grind (arith, is));
   complete = tt;
-  front = some_input left _ (λ i. (0, nothing_more old));
+  front = some_input left _ (λ i. inl (nothing_more old));
 }
 unread_is Unchanged a left rest old status.Done same why = absurd why
 unread_is Unchanged a left rest old (status.NotARun step) same why = absurd why
@@ -260,3 +266,5 @@ unread_is Unchanged a left rest old status.Usage same why = absurd why
 unread_is Unchanged a left rest old (status.BadInput line) same why = absurd why
 unread_is Unchanged a left rest old status.WriteFault same why = absurd why
 unread_is Unchanged a left rest old status.CrewFault same why = absurd why
+unread_is Unchanged a left rest old status.LinkFault same why = absurd why
+unread_is Unchanged a left rest old (status.Stray host event) same why = absurd why

@@ -6,8 +6,8 @@ use Rattle.vk_base.specs.declared.limits.TheConstants.{EVENTS, STEPS}
 use Rattle.vk_cluster.specs.declared.emitted.TheConstants.{EVENT_FRAMES, LAST_BYTES}
 use Rattle.vk_cluster.specs.Standing.{StandsFor, emitted_bytes, logs_of}
 use Rattle.vk_cluster.specs.Values.{ClusterValue, is_full}
-use Rattle.vk_event.specs.declared.event.Event.{Event}
-use Rattle.vk_event.specs.declared.schedule.Schedule.{Schedule}
+use Rattle.vk_schedule.specs.declared.event.Event.{Event}
+use Rattle.vk_schedule.specs.declared.schedule.Schedule.{Schedule}
 use Rattle.vk_report.specs.declared.entry.Counts.{Counts}
 use Rattle.vk_report.specs.declared.entry.Form.{Form}
 use Rattle.vk_report.specs.Histories.{told_lines}

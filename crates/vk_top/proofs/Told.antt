@@ -1,16 +1,16 @@
 -- From what a text asks for to what the top call answers.
-use Rattle.std.proofs.Common.{◌≡◌, ℕ, ◌<◌, ◌≤◌, Bool, true, false, cond, List, [], length, take, Option, Some, None, Result, Ok, Err, ◌⊎◌, inl, inr, refl, ap, subst, sym, ◌∙◌, arith}
+use Rattle.std.proofs.Common.{◌≡◌, ℕ, ◌<◌, ◌≤◌, Bool, true, false, cond, List, [], ◌∷◌, length, take, Option, Some, None, Result, Ok, Err, ◌⊎◌, inl, inr, refl, ap, subst, sym, ◌∙◌, arith}
 use Rattle.std.specs.Io.KnownBytes.{Appends}
 use Rattle.std.proofs.lemmas.Bool.{cond-false, cond-true, le-ltb}
 use Rattle.std.proofs.lemmas.List.{take_all}
 use Rattle.std.proofs.lemmas.List.{append-nil}
-use Rattle.vk_event.specs.declared.schedule.Schedule.{Schedule}
-use Rattle.vk_event.specs.declared.schedule.TextRefusal.{TextRefusal}
-use Rattle.vk_event.specs.declared.schedule.TextRefusal.TheVariants as schedules
-use Rattle.vk_event.specs.Lawful.{IsLawful}
-use Rattle.vk_event.specs.Schedule.{HasProcess, front_of, schedule_of, whole}
-use Rattle.vk_event.proofs.Lawfulness.{only_lawful}
-use Rattle.vk_event.proofs.Wanted.{bad_line}
+use Rattle.vk_schedule.specs.declared.schedule.Schedule.{Schedule}
+use Rattle.vk_schedule.specs.declared.schedule.TextRefusal.{TextRefusal}
+use Rattle.vk_schedule.specs.declared.schedule.TextRefusal.TheVariants as schedules
+use Rattle.vk_schedule.specs.Lawful.{IsLawful}
+use Rattle.vk_schedule.specs.Schedule.{HasProcess, front_of, schedule_of, whole}
+use Rattle.vk_schedule.proofs.Lawfulness.{only_lawful}
+use Rattle.vk_schedule.proofs.Wanted.{bad_line}
 use Rattle.vk_rules.specs.Observed.{IsRunOf}
 use Rattle.v_trace.specs.Traces as trace_lines
 use Rattle.v_trace.specs.Traces.{trace_of}
@@ -22,8 +22,17 @@ use Rattle.vk_top.proofs.Fronts.{fits_all, fits_before, full_before, refused_wit
 use Rattle.vk_top.proofs.Schedules.{front_is_run}
 use Rattle.vk_top.proofs.Verdicts.{verdict_holds}
 use Rattle.vk_top.specs.Check.{IsNo, IsTooMuch, IsVerdict, IsYes, verdict_of, verdict_text}
+use Rattle.vk_join.specs.declared.log.JoinRefusal.{JoinRefusal}
+use Rattle.vk_join.specs.declared.log.JoinRefusal.TheVariants as joins
+use Rattle.vk_event.specs.declared.node.NodeTexts.{NodeTexts}
+use Rattle.vk_event.specs.Nodes.{node_opening, nodes_of}
+use Rattle.vk_text.specs.Heads.{head_of}
+use Rattle.vk_text.specs.Lines.{lines_of}
+use Rattle.vk_text.specs.Openings.{opening_of}
+use Rattle.v_trace.specs.Traces.{behind_head}
+use Rattle.vk_top.specs.Joins.{HasStray, join_status, nodes_refusal, nodes_status}
 use Rattle.vk_top.specs.Report.{front_text, is_cut, output_text, taken_of, written_text}
-use Rattle.vk_top.specs.Top.{HasRefused, IsBadAt, IsCut, IsCutShort, IsDone, IsNotARun, IsRefusedLate, IsReplayed, IsToWrite, IsTold, check_output, check_status, replay_output, output_of, replay_status, status_of, text_output, text_status, verdict_status}
+use Rattle.vk_top.specs.Top.{HasRefused, IsBadAt, IsCut, IsCutShort, IsDone, IsNotARun, IsPart, IsRefusedLate, IsReplayed, IsStrayAt, IsTextOutput, IsToWrite, IsTold, check_output, check_status, replay_output, replay_status, status_of, text_status, verdict_status}
 use Rattle.vk_top.specs.Work.{IsAnswered, IsLate, IsRefusal, KeepsLines, IsWork, IsWritten}
 use Rattle.vk_top.specs.declared.check.TraceVerdict.{TraceVerdict}
 use Rattle.vk_top.specs.declared.check.TraceVerdict.TheVariants as verdicts
@@ -153,32 +162,109 @@ check_limit text (Ok t) is limit = too_much text t (verdict_of t) is (verdict_ho
 check_limit text (Err (traces.BadInput n)) is limit = absurd (grind (arith, limit))
 check_limit text (Err traces.NoMemory) is limit = absurd (grind (arith, limit))
 
+-- node texts
+
+unjoined_stray : (o : Option JoinRefusal) (host event : ℕ) → nodes_status o ≡ status.Stray host event →
+    (taken : List ℕ) × (emitted : Option (List ℕ)) × (o ≡ Some (joins.Stray host event taken emitted))
+unjoined_stray None host event is = absurd (grind (arith, is))
+unjoined_stray (Some (joins.Stray h e taken emitted)) host event is = (taken, emitted, grind (arith, is))
+unjoined_stray (Some joins.Limit) host event is = absurd (grind (arith, is))
+unjoined_stray (Some joins.NoMemory) host event is = absurd (grind (arith, is))
+
+unjoined_no : (o : Option JoinRefusal) (step : ℕ) → nodes_status o ≡ status.NotARun step → ⊥
+unjoined_no None step is = grind (arith, is)
+unjoined_no (Some (joins.Stray h e taken emitted)) step is = grind (arith, is)
+unjoined_no (Some joins.Limit) step is = grind (arith, is)
+unjoined_no (Some joins.NoMemory) step is = grind (arith, is)
+
+unjoined_bad : (o : Option JoinRefusal) (line : ℕ) → nodes_status o ≡ status.BadInput line → ⊥
+unjoined_bad None line is = grind (arith, is)
+unjoined_bad (Some (joins.Stray h e taken emitted)) line is = grind (arith, is)
+unjoined_bad (Some joins.Limit) line is = grind (arith, is)
+unjoined_bad (Some joins.NoMemory) line is = grind (arith, is)
+
+join_no : (r : Result NodeTexts TextRefusal) (step : ℕ) → join_status r ≡ status.NotARun step → ⊥
+join_no (Ok nodes) step is = unjoined_no (nodes_refusal nodes) step is
+join_no (Err (schedules.BadInput n)) step is = grind (arith, is)
+join_no (Err schedules.Limit) step is = grind (arith, is)
+join_no (Err schedules.NoMemory) step is = grind (arith, is)
+
+pub join_bad : (r : Result NodeTexts TextRefusal) (line : ℕ) → join_status r ≡ status.BadInput line → r ≡ Err (schedules.BadInput line)
+join_bad (Ok nodes) line is = absurd (unjoined_bad (nodes_refusal nodes) line is)
+join_bad (Err (schedules.BadInput n)) line is = grind (arith, is)
+join_bad (Err schedules.Limit) line is = absurd (grind (arith, is))
+join_bad (Err schedules.NoMemory) line is = absurd (grind (arith, is))
+
+join_stray : (text : List ℕ) (host event : ℕ) → length text ≤ 16777216 → (r : Result NodeTexts TextRefusal) → nodes_of text ≡ r →
+    join_status r ≡ status.Stray host event → HasStray text host event
+join_stray text host event small (Ok nodes) is stray =
+    let found = unjoined_stray (nodes_refusal nodes) host event stray in
+    record { small = small; nodes = nodes; text = is; taken = found.0; emitted = found.1; stray = found.2 }
+join_stray text host event small (Err (schedules.BadInput n)) is stray = absurd (grind (arith, stray))
+join_stray text host event small (Err schedules.Limit) is stray = absurd (grind (arith, stray))
+join_stray text host event small (Err schedules.NoMemory) is stray = absurd (grind (arith, stray))
+
+replay_stray : (r : Result Schedule TextRefusal) (host event : ℕ) → replay_status r ≡ status.Stray host event → ⊥
+replay_stray (Ok s) host event is = elim (cut_not (is_cut s) (status.Stray host event) is) [
+  | inl limit ↦ grind (arith, limit)
+  | inr done ↦ grind (arith, done)
+]
+replay_stray (Err (schedules.BadInput n)) host event is = grind (arith, is)
+replay_stray (Err schedules.Limit) host event is = grind (arith, is)
+replay_stray (Err schedules.NoMemory) host event is = grind (arith, is)
+
+no_stray : (v : TraceVerdict) (host event : ℕ) → verdict_status v ≡ status.Stray host event → ⊥
+no_stray (verdicts.Run m) host event is = grind (arith, is)
+no_stray (verdicts.Refused m) host event is = grind (arith, is)
+no_stray verdicts.TooMuch host event is = grind (arith, is)
+
+check_stray : (r : Result Trace TraceRefusal) (host event : ℕ) → check_status r ≡ status.Stray host event → ⊥
+check_stray (Ok t) host event is = no_stray (verdict_of t) host event is
+check_stray (Err (traces.BadInput n)) host event is = grind (arith, is)
+check_stray (Err traces.NoMemory) host event is = grind (arith, is)
+
 -- what a text asks for
 
-done_is : (a : Asked) (text : List ℕ) (old new : Option (List ℕ)) → length text ≤ 16777216 → text_status a text ≡ status.Done
-    → Appends old new (text_output a text) → IsDone a text old new
-done_is (asked.Replay form) text old new small done written = replayed form text old new (schedule_of text) small refl done written
-done_is asked.Check text old new small done written = check_yes text old new (trace_of text) small refl done written
+done_is : (a : Asked) (text output : List ℕ) (old new : Option (List ℕ)) → length text ≤ 16777216 → text_status a text ≡ status.Done
+    → IsTextOutput a text output → Appends old new output → IsDone a text old new
+done_is (asked.Replay form) text output old new small done is written =
+    replayed form text old new (schedule_of text) small refl done (subst (Appends old new) is written)
+done_is asked.Check text output old new small done is written =
+    check_yes text old new (trace_of text) small refl done (subst (Appends old new) is written)
+done_is asked.Join text output old new small done is written = record {
+  small = small;
+  schedule = is.schedule;
+  joined = is.joined;
+  output = subst (Appends old new) is.lines written;
+}
 
-no_is : (a : Asked) (text : List ℕ) (old new : Option (List ℕ)) (step : ℕ) → length text ≤ 16777216
-    → text_status a text ≡ status.NotARun step → Appends old new (text_output a text) → IsNotARun a text step old new
-no_is (asked.Replay form) text old new step small refused written = replay_no (schedule_of text) step refused
-no_is asked.Check text old new step small refused written = check_no text old new step (trace_of text) small refl refused written
+no_is : (a : Asked) (text output : List ℕ) (old new : Option (List ℕ)) (step : ℕ) → length text ≤ 16777216
+    → text_status a text ≡ status.NotARun step → IsTextOutput a text output → Appends old new output → IsNotARun a text step old new
+no_is (asked.Replay form) text output old new step small refused is written = replay_no (schedule_of text) step refused
+no_is asked.Check text output old new step small refused is written =
+    check_no text old new step (trace_of text) small refl refused (subst (Appends old new) is written)
+no_is asked.Join text output old new step small refused is written = join_no (nodes_of text) step refused
 
 bad_is : (a : Asked) (text : List ℕ) (line : ℕ) → length text ≤ 16777216 → text_status a text ≡ status.BadInput line → IsBadAt a text line
 bad_is (asked.Replay form) text line small is = record { small = small; bad = replay_bad (schedule_of text) line is }
 bad_is asked.Check text line small is = record { small = small; bad = check_bad (trace_of text) line is }
+bad_is asked.Join text line small is = record { small = small; bad = join_bad (nodes_of text) line is }
 
-cut_is : (a : Asked) (text : List ℕ) (old new : Option (List ℕ)) → length text ≤ 16777216 → IsRefusedLate a text
-    → Appends old new (text_output a text) → IsCutShort a text old new
-cut_is (asked.Replay form) text old new small refused written = cut_short form text old new small refused written
-cut_is asked.Check text old new small refused written = refused
+stray_is : (a : Asked) (text : List ℕ) (host event : ℕ) → length text ≤ 16777216 → text_status a text ≡ status.Stray host event →
+    IsStrayAt a text host event
+stray_is (asked.Replay form) text host event small is = replay_stray (schedule_of text) host event is
+stray_is asked.Check text host event small is = check_stray (trace_of text) host event is
+stray_is asked.Join text host event small is = join_stray text host event small (nodes_of text) refl is
+
+cut_is : (a : Asked) (text output : List ℕ) (old new : Option (List ℕ)) → length text ≤ 16777216 → IsRefusedLate a text
+    → IsTextOutput a text output → Appends old new output → IsCutShort a text old new
+cut_is (asked.Replay form) text output old new small refused is written =
+    cut_short form text old new small refused (subst (Appends old new) is written)
+cut_is asked.Check text output old new small refused is written = refused
+cut_is asked.Join text output old new small refused is written = refused
 
 small_status : (a : Asked) (text : List ℕ) → length text ≤ 16777216 → text_status a text ≡ status_of a text
 small_status a text small = sym (cond-false _ _ _ (le-ltb 16777216 (length text) small))
-
-small_output : (a : Asked) (text : List ℕ) → length text ≤ 16777216 → text_output a text ≡ output_of a text
-small_output a text small = sym (cond-false _ _ _ (le-ltb 16777216 (length text) small))
 
 -- the answers
 
@@ -189,37 +275,52 @@ nothing_more (Some xs) = sym (append-nil xs)
 pub refused_is : (a : Asked) (text : List ℕ) (old : Option (List ℕ)) (Unchanged : Type 0) (s : Status) → Unchanged → length text ≤ 16777216
     → IsRefusal a text s → IsAnswered Unchanged a text old old s
 refused_is a text old Unchanged (status.BadInput line) same small why = record {
-  kinds = (λ is. grind (arith, is), λ is. grind (arith, is), λ is. grind (arith, is));
+  kinds = (λ is. grind (arith, is), λ is. grind (arith, is), λ is. grind (arith, is), λ is. grind (arith, is));
   done = λ is. absurd (grind (arith, is));
   no = λ step is. absurd (grind (arith, is));
   bad = λ n is. bad_is a text n small (why ∙ is);
+  stray = λ host event is. absurd (grind (arith, is));
   limit = λ is. absurd (grind (arith, is));
   memory = λ is. absurd (grind (arith, is));
   writing = λ is. absurd (grind (arith, is));
   complete = inr (inr (sym why ∙ small_status a text small));
-  front = (0, nothing_more old);
+  front = inl (nothing_more old);
 }
-refused_is a text old Unchanged status.Limit same small why = record {
-  kinds = (λ is. grind (arith, is), λ is. grind (arith, is), λ is. grind (arith, is));
+refused_is a text old Unchanged (status.Stray host event) same small why = record {
+  kinds = (λ is. grind (arith, is), λ is. grind (arith, is), λ is. grind (arith, is), λ is. grind (arith, is));
   done = λ is. absurd (grind (arith, is));
   no = λ step is. absurd (grind (arith, is));
   bad = λ n is. absurd (grind (arith, is));
+  stray = λ h e is. stray_is a text h e small (why ∙ is);
+  limit = λ is. absurd (grind (arith, is));
+  memory = λ is. absurd (grind (arith, is));
+  writing = λ is. absurd (grind (arith, is));
+  complete = inr (inr (sym why ∙ small_status a text small));
+  front = inl (nothing_more old);
+}
+refused_is a text old Unchanged status.Limit same small why = record {
+  kinds = (λ is. grind (arith, is), λ is. grind (arith, is), λ is. grind (arith, is), λ is. grind (arith, is));
+  done = λ is. absurd (grind (arith, is));
+  no = λ step is. absurd (grind (arith, is));
+  bad = λ n is. absurd (grind (arith, is));
+  stray = λ host event is. absurd (grind (arith, is));
   limit = λ is. inl (why.1, same);
   memory = λ is. absurd (grind (arith, is));
   writing = λ is. absurd (grind (arith, is));
   complete = inr (inr (sym why.0 ∙ small_status a text small));
-  front = (0, nothing_more old);
+  front = inl (nothing_more old);
 }
 refused_is a text old Unchanged status.NoMemory same small why = record {
-  kinds = (λ is. grind (arith, is), λ is. grind (arith, is), λ is. grind (arith, is));
+  kinds = (λ is. grind (arith, is), λ is. grind (arith, is), λ is. grind (arith, is), λ is. grind (arith, is));
   done = λ is. absurd (grind (arith, is));
   no = λ step is. absurd (grind (arith, is));
   bad = λ n is. absurd (grind (arith, is));
+  stray = λ host event is. absurd (grind (arith, is));
   limit = λ is. absurd (grind (arith, is));
   memory = λ is. why;
   writing = λ is. absurd (grind (arith, is));
   complete = inl refl;
-  front = (0, nothing_more old);
+  front = inl (nothing_more old);
 }
 refused_is a text old Unchanged status.Done same small why = absurd why
 refused_is a text old Unchanged (status.NotARun step) same small why = absurd why
@@ -227,23 +328,27 @@ refused_is a text old Unchanged status.Usage same small why = absurd why
 refused_is a text old Unchanged status.ReadFault same small why = absurd why
 refused_is a text old Unchanged status.WriteFault same small why = absurd why
 refused_is a text old Unchanged status.CrewFault same small why = absurd why
+refused_is a text old Unchanged status.LinkFault same small why = absurd why
 
 -- an answer behind a write is that of the work
 late_kinds : (s : Status) → IsLate s
     → ¬ (s ≡ status.Usage) × ¬ (s ≡ status.ReadFault) × ¬ (s ≡ status.WriteFault)
-    × ((line : ℕ) → ¬ (s ≡ status.BadInput line)) × ¬ (s ≡ status.NoMemory) × ¬ (s ≡ status.CrewFault)
+    × ((line : ℕ) → ¬ (s ≡ status.BadInput line)) × ¬ (s ≡ status.NoMemory) × ¬ (s ≡ status.CrewFault) × ¬ (s ≡ status.LinkFault)
+    × ((host event : ℕ) → ¬ (s ≡ status.Stray host event))
 late_kinds status.Done late =
-    (λ is. grind (arith, is), λ is. grind (arith, is), λ is. grind (arith, is), λ line is. grind (arith, is), λ is. grind (arith, is), λ is. grind (arith, is))
+    (λ is. grind (arith, is), λ is. grind (arith, is), λ is. grind (arith, is), λ line is. grind (arith, is), λ is. grind (arith, is), λ is. grind (arith, is), λ is. grind (arith, is), λ host event is. grind (arith, is))
 late_kinds (status.NotARun step) late =
-    (λ is. grind (arith, is), λ is. grind (arith, is), λ is. grind (arith, is), λ line is. grind (arith, is), λ is. grind (arith, is), λ is. grind (arith, is))
+    (λ is. grind (arith, is), λ is. grind (arith, is), λ is. grind (arith, is), λ line is. grind (arith, is), λ is. grind (arith, is), λ is. grind (arith, is), λ is. grind (arith, is), λ host event is. grind (arith, is))
 late_kinds status.Limit late =
-    (λ is. grind (arith, is), λ is. grind (arith, is), λ is. grind (arith, is), λ line is. grind (arith, is), λ is. grind (arith, is), λ is. grind (arith, is))
+    (λ is. grind (arith, is), λ is. grind (arith, is), λ is. grind (arith, is), λ line is. grind (arith, is), λ is. grind (arith, is), λ is. grind (arith, is), λ is. grind (arith, is), λ host event is. grind (arith, is))
 late_kinds status.Usage late = absurd late
 late_kinds (status.BadInput line) late = absurd late
 late_kinds status.ReadFault late = absurd late
 late_kinds status.WriteFault late = absurd late
 late_kinds status.NoMemory late = absurd late
 late_kinds status.CrewFault late = absurd late
+late_kinds status.LinkFault late = absurd late
+late_kinds (status.Stray host event) late = absurd late
 
 late_is : (a : Asked) (text : List ℕ) (s : Status) → length text ≤ 16777216 → IsLate s → (s ≡ status.Limit → IsRefusedLate a text)
     → s ≡ status_of a text → IsToWrite a text
@@ -256,52 +361,70 @@ late_is a text status.ReadFault small late limit is = absurd late
 late_is a text status.WriteFault small late limit is = absurd late
 late_is a text status.NoMemory small late limit is = absurd late
 late_is a text status.CrewFault small late limit is = absurd late
+late_is a text status.LinkFault small late limit is = absurd late
+late_is a text (status.Stray host event) small late limit is = absurd late
 
-all_written : (Unchanged : Type 0) (a : Asked) (text : List ℕ) (old new : Option (List ℕ)) (s : Status) → length text ≤ 16777216
-    → s ≡ text_status a text → IsLate s → (s ≡ status.Limit → IsRefusedLate a text) → Appends old new (text_output a text)
-    → (n : ℕ) × Appends old new (take n (output_of a text)) → IsAnswered Unchanged a text old new s
-all_written Unchanged a text old new s small same late limit written front =
+all_written : (Unchanged : Type 0) (a : Asked) (text output : List ℕ) (old new : Option (List ℕ)) (s : Status) → length text ≤ 16777216
+    → s ≡ text_status a text → IsLate s → (s ≡ status.Limit → IsRefusedLate a text) → IsTextOutput a text output → Appends old new output
+    → IsPart a text old new → IsAnswered Unchanged a text old new s
+all_written Unchanged a text output old new s small same late limit is_output written front =
     let other = late_kinds s late in
     record {
-      kinds = (other.0, other.1, other.5);
-      done = λ is. done_is a text old new small (sym same ∙ is) written;
-      no = λ step is. no_is a text old new step small (sym same ∙ is) written;
+      kinds = (other.0, other.1, other.5, other.6);
+      done = λ is. done_is a text output old new small (sym same ∙ is) is_output written;
+      no = λ step is. no_is a text output old new step small (sym same ∙ is) is_output written;
       bad = λ line is. absurd (other.3 line is);
-      limit = λ is. inr (cut_is a text old new small (limit is) written);
+      stray = λ host event is. absurd (other.7 host event is);
+      limit = λ is. inr (cut_is a text output old new small (limit is) is_output written);
       memory = λ is. absurd (other.4 is);
       writing = λ is. absurd (other.2 is);
       complete = inr (inr (same ∙ small_status a text small));
-      front = front;
+      front = inr front;
     }
 
 failed_is : (Unchanged : Type 0) (a : Asked) (text : List ℕ) (old new : Option (List ℕ)) → IsToWrite a text
-    → (n : ℕ) × Appends old new (take n (output_of a text)) → IsAnswered Unchanged a text old new status.WriteFault
+    → IsPart a text old new → IsAnswered Unchanged a text old new status.WriteFault
 failed_is Unchanged a text old new late front = record {
-  kinds = (λ is. grind (arith, is), λ is. grind (arith, is), λ is. grind (arith, is));
+  kinds = (λ is. grind (arith, is), λ is. grind (arith, is), λ is. grind (arith, is), λ is. grind (arith, is));
   done = λ is. absurd (grind (arith, is));
   no = λ step is. absurd (grind (arith, is));
   bad = λ line is. absurd (grind (arith, is));
+  stray = λ host event is. absurd (grind (arith, is));
   limit = λ is. absurd (grind (arith, is));
   memory = λ is. absurd (grind (arith, is));
   writing = λ is. late;
   complete = inr (inl refl);
-  front = front;
+  front = inr front;
 }
+
+part_is : (a : Asked) (text : List ℕ) (w : Work) (old new : Option (List ℕ)) (n : ℕ) → length text ≤ 16777216 → IsWork a text w
+    → Appends old new (take n w.text.items) → IsPart a text old new
+part_is a text w old new n small work some =
+    record { small = small; output = w.text.items; asked_for = work.output; count = n; written = some }
 
 pub written_is : (Unchanged : Type 0) (a : Asked) (text : List ℕ) (w : Work) (old new : Option (List ℕ)) (s : Status)
     → length text ≤ 16777216 → IsWork a text w → IsWritten w.text.items w.status old new s
     → (n : ℕ) × Appends old new (take n w.text.items) → IsAnswered Unchanged a text old new s
 written_is Unchanged a text w old new s small work (inl (same, written)) (n, some) =
-    all_written Unchanged a text old new s small (same ∙ work.status) (subst IsLate (sym same) work.late)
-    (λ is. work.limit (sym same ∙ is)) (subst (Appends old new) work.output written) (
-      n,
-      subst (λ t. Appends old new (take n t)) (work.output ∙ small_output a text small) some,
-    )
+    all_written Unchanged a text w.text.items old new s small (same ∙ work.status) (subst IsLate (sym same) work.late)
+    (λ is. work.limit (sym same ∙ is)) work.output written (part_is a text w old new n small work some)
 written_is Unchanged a text w old new s small work (inr failed) (n, some) =
     subst (IsAnswered Unchanged a text old new) (sym failed)
     (failed_is Unchanged a text old new
     (late_is a text w.status small work.late work.limit (work.status ∙ small_status a text small))
-    (n, subst (λ t. Appends old new (take n t)) (work.output ∙ small_output a text small) some))
+    (part_is a text w old new n small work some))
+
+-- the empty text is bad in its first line
+
+pub empty_bad : (a : Asked) → text_status a [] ≡ status.BadInput 1
+unfolding lines_of head_of opening_of behind_head node_opening
+empty_bad (asked.Replay form) = refl
+empty_bad asked.Check = refl
+empty_bad asked.Join = refl
+
+kept_some : (a : Asked) (text : List ℕ) → KeepsLines a text → 0 < length text
+kept_some a [] kept = absurd (omega (arith, kept 1 (empty_bad a)))
+kept_some a (b ∷ bs) kept = omega arith
 
 -- where memory is wanted for a text, no line before the third is refused
 
@@ -315,22 +438,33 @@ pub process_wanted : (form : Form) (text : List ℕ) → HasProcess text → Kee
 process_wanted form text some line bad =
     refused_behind (front_of text).schedule (front_of text).refused line (replay_bad (schedule_of text) line bad) text some refl
 
-pub replay_wanted : (form : Form) (text : List ℕ) (e : TextRefusal) → e ≡ schedules.NoMemory
+replay_keeps : (form : Form) (text : List ℕ) (e : TextRefusal) → e ≡ schedules.NoMemory
     → ((e ≡ schedules.NoMemory) × KeepsLines (asked.Replay form) text) ⊎ (schedule_of text ≡ Err e) → KeepsLines (asked.Replay form) text
-replay_wanted form text e is (inl h) line bad = h.1 line bad
-replay_wanted form text e is (inr h) line bad =
+replay_keeps form text e is (inl h) line bad = h.1 line bad
+replay_keeps form text e is (inr h) line bad =
     let none : schedule_of text ≡ Err (schedules.BadInput line) = replay_bad (schedule_of text) line bad in cc
+
+pub replay_wanted : (form : Form) (text : List ℕ) (e : TextRefusal) → e ≡ schedules.NoMemory
+    → ((e ≡ schedules.NoMemory) × KeepsLines (asked.Replay form) text) ⊎ (schedule_of text ≡ Err e) → 0 < length text
+replay_wanted form text e is why = kept_some (asked.Replay form) text (replay_keeps form text e is why)
 
 pub trace_wanted : (text : List ℕ) → trace_lines.KeepsLines text → KeepsLines asked.Check text
 trace_wanted text keeps line bad = bad_behind text line keeps (check_bad (trace_of text) line bad)
 
-pub check_wanted : (text : List ℕ) (e : TraceRefusal) → e ≡ traces.NoMemory
+check_keeps : (text : List ℕ) (e : TraceRefusal) → e ≡ traces.NoMemory
     → ((e ≡ traces.NoMemory) × KeepsLines asked.Check text) ⊎ (trace_of text ≡ Err e) → KeepsLines asked.Check text
-check_wanted text e is (inl h) line bad = h.1 line bad
-check_wanted text e is (inr h) line bad = let none : trace_of text ≡ Err (traces.BadInput line) = check_bad (trace_of text) line bad in cc
+check_keeps text e is (inl h) line bad = h.1 line bad
+check_keeps text e is (inr h) line bad = let none : trace_of text ≡ Err (traces.BadInput line) = check_bad (trace_of text) line bad in cc
 
-pub checked_wanted : (text : List ℕ) (t : Trace) → trace_of text ≡ Ok t → KeepsLines asked.Check text
-checked_wanted text t h line bad = let none : trace_of text ≡ Err (traces.BadInput line) = check_bad (trace_of text) line bad in cc
+pub check_wanted : (text : List ℕ) (e : TraceRefusal) → e ≡ traces.NoMemory
+    → ((e ≡ traces.NoMemory) × KeepsLines asked.Check text) ⊎ (trace_of text ≡ Err e) → 0 < length text
+check_wanted text e is why = kept_some asked.Check text (check_keeps text e is why)
+
+checked_keeps : (text : List ℕ) (t : Trace) → trace_of text ≡ Ok t → KeepsLines asked.Check text
+checked_keeps text t h line bad = let none : trace_of text ≡ Err (traces.BadInput line) = check_bad (trace_of text) line bad in cc
+
+checked_wanted : (text : List ℕ) (t : Trace) → trace_of text ≡ Ok t → 0 < length text
+checked_wanted text t is = kept_some asked.Check text (checked_keeps text t is)
 
 -- what is refused once the verdict is known
 
@@ -351,6 +485,8 @@ told_late status.ReadFault told = absurd told
 told_late status.WriteFault told = absurd told
 told_late status.NoMemory told = absurd told
 told_late status.CrewFault told = absurd told
+told_late status.LinkFault told = absurd told
+told_late (status.Stray host event) told = absurd told
 told_late status.Limit told = absurd told
 
 pub check_work : (text : List ℕ) (w : Work) (t : Trace) (v : TraceVerdict) → trace_of text ≡ Ok t → v ≡ verdict_of t

@@ -5,7 +5,7 @@ use Rattle.clap.specs.Faults.{is_simple_and_free}
 use Rattle.vk_top.specs.declared.words.Asked.TheVariants as asked
 use Rattle.vk_top.specs.declared.words.Job.TheVariants as jobs
 use Rattle.vk_report.specs.declared.entry.Form.TheVariants as forms
-use Rattle.vk_text.specs.Words.{number_of}
+use Rattle.vk_text.specs.Words.{number_of, positive_of}
 use Rattle.vk_top.specs.Words.{the_app, job_of}
 
 -- the command is one of those of which clap's definitions speak
@@ -153,6 +153,18 @@ run-twice : job_of (codes "run" ∷ codes "run" ∷ []) ≡ None
 unfolding clap_on_literals
 run-twice = refl
 
+join : job_of (codes "join" ∷ []) ≡ Some (jobs.OfText asked.Join)
+unfolding clap_on_literals
+join = refl
+
+join-trace : job_of (codes "join" ∷ codes "--trace" ∷ []) ≡ None
+unfolding clap_on_literals
+join-trace = refl
+
+join-number : job_of (codes "join" ∷ codes "1" ∷ []) ≡ None
+unfolding clap_on_literals
+join-number = refl
+
 storm : job_of (codes "storm" ∷ []) ≡ None
 unfolding clap_on_literals
 storm = refl
@@ -196,3 +208,31 @@ capital = refl
 replay-space : job_of (codes "replay " ∷ []) ≡ None
 unfolding clap_on_literals
 replay-space = refl
+
+node : job_of (codes "node" ∷ []) ≡ None
+unfolding clap_on_literals
+node = refl
+
+node-first : job_of (codes "node" ∷ codes "1" ∷ []) ≡ Some (jobs.Node 1)
+unfolding clap_on_literals number_of positive_of
+node-first = refl
+
+node-last : job_of (codes "node" ∷ codes "65534" ∷ []) ≡ Some (jobs.Node 65534)
+unfolding clap_on_literals number_of positive_of
+node-last = refl
+
+node-of_all : job_of (codes "node" ∷ codes "65535" ∷ []) ≡ None
+unfolding clap_on_literals number_of positive_of
+node-of_all = refl
+
+node-zero : job_of (codes "node" ∷ codes "0" ∷ []) ≡ None
+unfolding clap_on_literals number_of positive_of
+node-zero = refl
+
+node-leading_zero : job_of (codes "node" ∷ codes "01" ∷ []) ≡ None
+unfolding clap_on_literals number_of positive_of
+node-leading_zero = refl
+
+node-trace : job_of (codes "node" ∷ codes "1" ∷ codes "--trace" ∷ []) ≡ None
+unfolding clap_on_literals number_of positive_of
+node-trace = refl

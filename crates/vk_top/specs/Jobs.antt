@@ -1,5 +1,5 @@
 -- What is answered and written without a runtime, by what the words ask for: something of a text, or a storm, which reads nothing. To the
--- words of `run` the only answer here is that memory is wanting to read them.
+-- words of `run` and of `node H` the only answer here is that memory is wanting to read them.
 use Rattle.std.specs.Prelude.{ℕ, ◌≡◌, ◌⊎◌, List, [], take, Option, Some, None, IfSome, IsSomeAnd}
 use Rattle.clap.specs.Walk.{Text}
 use Rattle.std.specs.Io.KnownBytes.{Appends}
@@ -10,7 +10,7 @@ use Rattle.vk_top.specs.declared.words.Asked.{Asked}
 use Rattle.vk_top.specs.declared.words.Job.{Job}
 use Rattle.vk_top.specs.declared.words.Job.TheVariants as jobs
 use Rattle.vk_top.specs.Storm.{storm_output, storm_status, summary_text}
-use Rattle.vk_top.specs.Top.{IsBadAt, IsCutShort, IsDecided, IsDone, IsEarly, IsNotARun, IsOverLimit, IsTold, IsToWrite, IsWanting, OfInput, output_of}
+use Rattle.vk_top.specs.Top.{IsBadAt, IsCutShort, IsDecided, IsDone, IsEarly, IsNotARun, IsOverLimit, IsPart, IsStrayAt, IsTold, IsToWrite, IsWanting, OfInput}
 use Rattle.vk_top.specs.Words.{job_of}
 
 -- the words ask for something, and this holds of it and of the input
@@ -25,45 +25,56 @@ pub record IsStormTold (n : ℕ) (old new : Option (List ℕ)) : Type 0 where
 abbrev pub IsJobDone : Job → List ℕ → Option (List ℕ) → Option (List ℕ) → Type 0
 IsJobDone (jobs.OfText a) input old new = IsDone a input old new
 IsJobDone jobs.Run input old new = ⊥
+IsJobDone (jobs.Node host) input old new = ⊥
 IsJobDone (jobs.Storm n) input old new = IsStormTold n old new
 
 abbrev pub IsJobNotARun : Job → List ℕ → ℕ → Option (List ℕ) → Option (List ℕ) → Type 0
 IsJobNotARun (jobs.OfText a) input step old new = IsNotARun a input step old new
 IsJobNotARun jobs.Run input step old new = ⊥
+IsJobNotARun (jobs.Node host) input step old new = ⊥
 IsJobNotARun (jobs.Storm n) input step old new = ⊥
 
 abbrev pub IsJobBadAt : Job → List ℕ → ℕ → Type 0
 IsJobBadAt (jobs.OfText a) input line = IsBadAt a input line
 IsJobBadAt jobs.Run input line = ⊥
+IsJobBadAt (jobs.Node host) input line = ⊥
 IsJobBadAt (jobs.Storm n) input line = ⊥
+
+abbrev pub IsJobStrayAt : Job → List ℕ → ℕ → ℕ → Type 0
+IsJobStrayAt (jobs.OfText a) input host event = IsStrayAt a input host event
+IsJobStrayAt jobs.Run input host event = ⊥
+IsJobStrayAt (jobs.Node own) input host event = ⊥
+IsJobStrayAt (jobs.Storm n) input host event = ⊥
 
 abbrev pub IsJobOverLimit : Job → List ℕ → Type 0
 IsJobOverLimit (jobs.OfText a) input = IsOverLimit a input
 IsJobOverLimit jobs.Run input = ⊥
+IsJobOverLimit (jobs.Node host) input = ⊥
 IsJobOverLimit (jobs.Storm n) input = IsTooMuch n
 
 abbrev pub IsJobCutShort : Job → List ℕ → Option (List ℕ) → Option (List ℕ) → Type 0
 IsJobCutShort (jobs.OfText a) input old new = IsCutShort a input old new
 IsJobCutShort jobs.Run input old new = ⊥
+IsJobCutShort (jobs.Node host) input old new = ⊥
 IsJobCutShort (jobs.Storm n) input old new = ⊥
 
 -- something is to be written
 abbrev pub IsJobToWrite : Job → List ℕ → Type 0
 IsJobToWrite (jobs.OfText a) input = IsToWrite a input
 IsJobToWrite jobs.Run input = ⊥
+IsJobToWrite (jobs.Node host) input = ⊥
 IsJobToWrite (jobs.Storm n) input = Fits n
 
--- what is to be written
-abbrev pub job_output : Option Job → List ℕ → List ℕ
-job_output None input = []
-job_output (Some (jobs.OfText a)) input = output_of a input
-job_output (Some jobs.Run) input = []
-job_output (Some (jobs.Storm n)) input = storm_output n
+-- so many bytes of what is to be written stand behind what stood written
+abbrev pub IsJobPart : Job → List ℕ → Option (List ℕ) → Option (List ℕ) → Type 0
+IsJobPart (jobs.OfText a) input old new = IsPart a input old new
+IsJobPart jobs.Run input old new = ⊥
+IsJobPart (jobs.Node host) input old new = ⊥
+IsJobPart (jobs.Storm n) input old new = (count : ℕ) × Appends old new (take count (storm_output n))
 
--- so many bytes of the output that is asked for are written behind what stood written
-pub record IsFront (words : List Text) (input : List ℕ) (old new : Option (List ℕ)) : Type 0 where
-  pub count : ℕ
-  pub written : Appends old new (take count (job_output (job_of words) input))
+-- nothing is written behind what stood written, or a front of what is asked for
+abbrev pub IsFront : List Text → List ℕ → Option (List ℕ) → Option (List ℕ) → Type 0
+IsFront words input old new = Appends old new [] ⊎ IsSomeAnd (job_of words) (λ j. IsJobPart j input old new)
 
 -- unless a fault is told, the number and memory decide the answer to a storm
 abbrev pub IsStormDecided : ℕ → Status → Type 0
@@ -74,6 +85,7 @@ IsStormDecided n s = s ≡ storm_status n
 abbrev pub IsJobDecided : Job → Option (List ℕ) → Status → Type 0
 IsJobDecided (jobs.OfText a) told s = IsDecided a told s
 IsJobDecided jobs.Run told s = s ≡ status.NoMemory
+IsJobDecided (jobs.Node host) told s = s ≡ status.NoMemory
 IsJobDecided (jobs.Storm n) told s = IsStormDecided n s
 
 -- what the answer to a storm says
@@ -92,7 +104,8 @@ pub record IsAloneAnswer (Unread Unwritten : Type 0) (words : List Text) (left r
   pub usage : s ≡ status.Usage → job_of words ≡ None
   -- For such words there is no other answer, but for want of memory to read them; nothing is read and nothing is written.
   pub useless : job_of words ≡ None → ((s ≡ status.Usage) ⊎ (s ≡ status.NoMemory)) × Unread × Unwritten
-  -- Done: all of the input is the text of what is asked for, and that is written; or the summary of a storm is.
+  -- Done: all of the input is the text of what is asked for, and that is written; or texts of stations, and a schedule is written that says
+  -- the same; or the summary of a storm is.
   pub done : s ≡ status.Done → Asks words left (λ j i. IsJobDone j i old new)
   -- NotARun: `check` is asked for, all of the input is the text of a trace, the step is its first that is not allowed, and that is written.
   pub not_a_run : (step : ℕ) → s ≡ status.NotARun step → Asks words left (λ j i. IsJobNotARun j i step old new)
@@ -102,9 +115,11 @@ pub record IsAloneAnswer (Unread Unwritten : Type 0) (words : List Text) (left r
   pub alone : (n : ℕ) → job_of words ≡ Some (jobs.Storm n) → Unread
   -- BadInput tells the first line of the input that is bad.
   pub bad : (line : ℕ) → s ≡ status.BadInput line → Asks words left (λ j i. IsJobBadAt j i line)
+  -- Stray tells the first delivery in texts of stations, by host and event, of bytes that no station emitted for this one.
+  pub stray : (host event : ℕ) → s ≡ status.Stray host event → Asks words left (λ j i. IsJobStrayAt j i host event)
   -- Limit comes only where the input has too many bytes, or too many events or noted bytes before any line or step that is refused, or
-  -- where before an event of a storm too many bytes were emitted, and then nothing is written; or where before an event of a schedule too
-  -- many bytes were emitted, and then the events before it are written, of which the steps are a run.
+  -- where before an event of a storm, or by the stations of which texts tell, too many bytes were emitted, and then nothing is written; or
+  -- where before an event of a schedule too many bytes were emitted, and then the events before it are written, of which the steps are a run.
   pub limit : s ≡ status.Limit → Asks words left (λ j i. (IsJobOverLimit j i × Unwritten) ⊎ IsJobCutShort j i old new)
   -- If something was written then, the input was read to its end.
   pub limit_whole : s ≡ status.Limit → Unwritten ⊎ IfSome left (λ i. rest ≡ Some [])
@@ -114,9 +129,10 @@ pub record IsAloneAnswer (Unread Unwritten : Type 0) (words : List Text) (left r
   pub complete : (j : Job) → job_of words ≡ Some j → IsJobDecided j left s
   -- A write is tried only where the input is one that asks for something to be written.
   pub writing : s ≡ status.WriteFault → Asks words left IsJobToWrite
-  -- No crew is asked.
+  -- No crew and no link is asked.
   pub crew : ¬ (s ≡ status.CrewFault)
-  -- At Usage, BadInput, ReadFault and NoMemory nothing is written.
+  pub link : ¬ (s ≡ status.LinkFault)
+  -- At Usage, BadInput, Stray, ReadFault and NoMemory nothing is written.
   pub nothing : IsEarly s → Unwritten
   -- At every answer what stood written stays in front, and a front of what is asked for is behind it.
   pub front : OfInput left (λ i. IsFront words i old new)

@@ -1,10 +1,14 @@
 pub mod Check
 pub mod Jobs
+pub mod Joins
+pub mod Nodes
 pub mod Playing
+pub mod Programs
 pub mod Report
 pub mod Runs
 pub mod Statuses
 pub mod Storm
+pub mod Threaded
 pub mod Top
 pub mod Words
 pub mod Work

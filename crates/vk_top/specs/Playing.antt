@@ -5,10 +5,10 @@ use Rattle.vk_base.specs.Settings.{Settings}
 use Rattle.vk_cluster.specs.declared.emitted.TheConstants.{EVENT_FRAMES}
 use Rattle.vk_cluster.specs.Standing.{StandsFor, emitted_bytes, logs_of}
 use Rattle.vk_cluster.specs.Values.{ClusterValue}
-use Rattle.vk_event.specs.declared.event.Event.{Event}
-use Rattle.vk_event.specs.declared.schedule.Front.{Front}
-use Rattle.vk_event.specs.declared.schedule.Schedule.{Schedule}
-use Rattle.vk_event.specs.Schedule.{schedule_of}
+use Rattle.vk_schedule.specs.declared.event.Event.{Event}
+use Rattle.vk_schedule.specs.declared.schedule.Front.{Front}
+use Rattle.vk_schedule.specs.declared.schedule.Schedule.{Schedule}
+use Rattle.vk_schedule.specs.Schedule.{schedule_of}
 use Rattle.vk_report.specs.declared.entry.Counts.{Counts}
 use Rattle.vk_report.specs.declared.entry.Form.{Form}
 use Rattle.vk_report.specs.declared.entry.Place.{Place}

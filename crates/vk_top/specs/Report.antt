@@ -3,7 +3,7 @@ use Rattle.std.specs.Prelude.{ℕ, suc, ◌+◌, nat_lt, Bool, List, [], ◌∷�
 use Rattle.vk_base.specs.Packets.{Packet, Send, Reply, Pending, Negative, MoveData, MoveAck, MoveRequest, MoveBytes, MoveNegative, AskPid, TellPid}
 use Rattle.vk_cluster.specs.declared.emitted.TheConstants.{LAST_BYTES}
 use Rattle.vk_cluster.specs.Standing.{bytes_of}
-use Rattle.vk_event.specs.declared.schedule.Schedule.{Schedule}
+use Rattle.vk_schedule.specs.declared.schedule.Schedule.{Schedule}
 use Rattle.vk_host.specs.Sealed.{sealed}
 use Rattle.vk_report.specs.declared.entry.Counts.{Counts}
 use Rattle.vk_report.specs.declared.entry.Form.{Form}

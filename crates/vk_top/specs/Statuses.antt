@@ -1,5 +1,7 @@
 -- The number and the text of each status.
 use Rattle.std.specs.Prelude.{ℕ, List, [], ◌++◌, codes, decimal}
+use Rattle.vk_schedule.specs.declared.schedule.TextRefusal.{TextRefusal}
+use Rattle.vk_schedule.specs.declared.schedule.TextRefusal.TheVariants as texts
 use Rattle.vk_top.specs.declared.status.Status.{Status}
 use Rattle.vk_top.specs.declared.status.Status.TheVariants as status
 
@@ -13,14 +15,24 @@ number_of status.WriteFault = 5
 number_of status.NoMemory = 6
 number_of status.CrewFault = 7
 number_of status.Limit = 8
+number_of status.LinkFault = 9
+number_of (status.Stray host event) = 10
 
 abbrev pub text_of : Status → List ℕ
 text_of status.Done = []
 text_of (status.NotARun step) = codes "vkernel: step " ++ decimal step ++ codes " is not allowed"
-text_of status.Usage = codes "vkernel: usage: vkernel replay [--trace] | check | run | storm N"
+text_of status.Usage = codes "vkernel: usage: vkernel replay [--trace] | check | run | storm N | node H | join"
 text_of (status.BadInput line) = codes "vkernel: line " ++ decimal line ++ codes " is not valid"
 text_of status.ReadFault = codes "vkernel: reading failed"
 text_of status.WriteFault = codes "vkernel: writing failed"
 text_of status.NoMemory = codes "vkernel: out of memory"
 text_of status.CrewFault = codes "vkernel: the crew failed"
 text_of status.Limit = codes "vkernel: limit reached"
+text_of status.LinkFault = codes "vkernel: the link failed"
+text_of (status.Stray host event) = codes "vkernel: station " ++ decimal host ++ codes " took a stray frame at event " ++ decimal event
+
+-- the answer to a text that is not read; only code can want memory
+abbrev pub refused : TextRefusal → Status
+refused (texts.BadInput line) = status.BadInput line
+refused texts.Limit = status.Limit
+refused texts.NoMemory = status.NoMemory

@@ -9,10 +9,10 @@ use Rattle.v_trace.specs.declared.trace.TraceRefusal.{TraceRefusal}
 use Rattle.v_trace.specs.declared.trace.TraceRefusal.TheVariants as traces
 use Rattle.vk_cluster.specs.declared.emitted.TheConstants.{LAST_BYTES}
 use Rattle.vk_cluster.specs.Standing.{emitted_bytes}
-use Rattle.vk_event.specs.declared.schedule.Schedule.{Schedule}
-use Rattle.vk_event.specs.declared.schedule.TextRefusal.{TextRefusal}
-use Rattle.vk_event.specs.declared.schedule.TextRefusal.TheVariants as schedules
-use Rattle.vk_event.specs.Schedule.{schedule_of}
+use Rattle.vk_schedule.specs.declared.schedule.Schedule.{Schedule}
+use Rattle.vk_schedule.specs.declared.schedule.TextRefusal.{TextRefusal}
+use Rattle.vk_schedule.specs.declared.schedule.TextRefusal.TheVariants as schedules
+use Rattle.vk_schedule.specs.Schedule.{schedule_of}
 use Rattle.vk_rules.specs.Observed.{IsRunOf}
 use Rattle.vk_top.specs.declared.check.TraceVerdict.{TraceVerdict}
 use Rattle.vk_top.specs.declared.check.TraceVerdict.TheVariants as verdicts
@@ -21,6 +21,8 @@ use Rattle.vk_top.specs.declared.status.Status.TheVariants as status
 use Rattle.vk_top.specs.declared.words.Asked.{Asked}
 use Rattle.vk_top.specs.declared.words.Asked.TheVariants as asked
 use Rattle.vk_report.specs.declared.entry.Form.{Form}
+use Rattle.vk_event.specs.Nodes.{nodes_of}
+use Rattle.vk_top.specs.Joins.{EmitsTooMuch, HasStray, IsJoinOutput, IsJoinWritten, join_status}
 use Rattle.vk_top.specs.Check.{IsNo, IsTooMuch, IsYes, verdict_of, verdict_text}
 use Rattle.vk_top.specs.Report.{front_text, history_before, is_cut, output_text, written_text}
 
@@ -56,29 +58,41 @@ pub record IsCut (form : Form) (input : List ℕ) (old new : Option (List ℕ)) 
 abbrev pub IsDone : Asked → List ℕ → Option (List ℕ) → Option (List ℕ) → Type 0
 IsDone (asked.Replay form) input old new = IsReplayed form input old new
 IsDone asked.Check input old new = IsYes input old new
+IsDone asked.Join input old new = IsJoinWritten input old new
 
 abbrev pub IsNotARun : Asked → List ℕ → ℕ → Option (List ℕ) → Option (List ℕ) → Type 0
 IsNotARun (asked.Replay form) input step old new = ⊥
 IsNotARun asked.Check input step old new = IsNo input step old new
+IsNotARun asked.Join input step old new = ⊥
+
+-- the event of this host is the first stray delivery of the text
+abbrev pub IsStrayAt : Asked → List ℕ → ℕ → ℕ → Type 0
+IsStrayAt (asked.Replay form) input host event = ⊥
+IsStrayAt asked.Check input host event = ⊥
+IsStrayAt asked.Join input host event = HasStray input host event
 
 -- the line is the first of the text that is bad
 abbrev pub IsBadLine : Asked → List ℕ → ℕ → Type 0
 IsBadLine (asked.Replay form) input line = schedule_of input ≡ Err (schedules.BadInput line)
 IsBadLine asked.Check input line = trace_of input ≡ Err (traces.BadInput line)
+IsBadLine asked.Join input line = nodes_of input ≡ Err (schedules.BadInput line)
 
 pub record IsBadAt (a : Asked) (input : List ℕ) (line : ℕ) : Type 0 where
   pub small : length input ≤ INPUT_BYTES
   pub bad : IsBadLine a input line
 
--- there are too many bytes; or too many events in a schedule; or a trace that notes too much for remote moves
+-- there are too many bytes; or too many events in a schedule, or in texts of stations; or a trace that notes too much for remote moves, or
+-- stations that emit too much
 abbrev pub IsOverLimit : Asked → List ℕ → Type 0
 IsOverLimit (asked.Replay form) input = (INPUT_BYTES < length input) ⊎ (schedule_of input ≡ Err schedules.Limit)
 IsOverLimit asked.Check input = (INPUT_BYTES < length input) ⊎ IsTooMuch input
+IsOverLimit asked.Join input = (INPUT_BYTES < length input) ⊎ (nodes_of input ≡ Err schedules.Limit) ⊎ EmitsTooMuch input
 
 -- an event of the schedule is refused, and what comes before it is written
 abbrev pub IsCutShort : Asked → List ℕ → Option (List ℕ) → Option (List ℕ) → Type 0
 IsCutShort (asked.Replay form) input old new = IsCut form input old new
 IsCutShort asked.Check input old new = ⊥
+IsCutShort asked.Join input old new = ⊥
 
 -- what a schedule asks for; only code can want memory, so that no text has this refusal
 abbrev pub replay_status : Result Schedule TextRefusal → Status
@@ -109,18 +123,25 @@ check_output (Err why) = []
 abbrev pub text_status : Asked → List ℕ → Status
 text_status (asked.Replay form) text = replay_status (schedule_of text)
 text_status asked.Check text = check_status (trace_of text)
+text_status asked.Join text = join_status (nodes_of text)
 
-abbrev pub text_output : Asked → List ℕ → List ℕ
-text_output (asked.Replay form) text = replay_output form (schedule_of text)
-text_output asked.Check text = check_output (trace_of text)
+-- what is to be written of a text; of texts of stations it is the text of a schedule that says the same
+abbrev pub IsTextOutput : Asked → List ℕ → List ℕ → Type 0
+IsTextOutput (asked.Replay form) text output = output ≡ replay_output form (schedule_of text)
+IsTextOutput asked.Check text output = output ≡ check_output (trace_of text)
+IsTextOutput asked.Join text output = IsJoinOutput text output
 
 -- what the input asks for where nothing fails
 abbrev pub status_of : Asked → List ℕ → Status
 status_of a input = if nat_lt INPUT_BYTES (length input) then status.Limit else text_status a input
 
--- what is to be written
-abbrev pub output_of : Asked → List ℕ → List ℕ
-output_of a input = if nat_lt INPUT_BYTES (length input) then [] else text_output a input
+-- so many bytes of what is to be written of the input stand behind what stood written
+pub record IsPart (a : Asked) (input : List ℕ) (old new : Option (List ℕ)) : Type 0 where
+  pub small : length input ≤ INPUT_BYTES
+  pub output : List ℕ
+  pub asked_for : IsTextOutput a input output
+  pub count : ℕ
+  pub written : Appends old new (take count output)
 
 -- the answers at which all is written that is asked for
 abbrev pub IsTold : Status → Type 0
@@ -133,6 +154,8 @@ IsTold status.WriteFault = ⊥
 IsTold status.NoMemory = ⊥
 IsTold status.CrewFault = ⊥
 IsTold status.Limit = ⊥
+IsTold status.LinkFault = ⊥
+IsTold (status.Stray host event) = ⊥
 
 -- the input is the text of a schedule of which an event is refused
 pub record HasRefused (input : List ℕ) : Type 0 where
@@ -143,6 +166,7 @@ pub record HasRefused (input : List ℕ) : Type 0 where
 abbrev pub IsRefusedLate : Asked → List ℕ → Type 0
 IsRefusedLate (asked.Replay form) input = HasRefused input
 IsRefusedLate asked.Check input = ⊥
+IsRefusedLate asked.Join input = ⊥
 
 -- something is to be written
 abbrev pub IsToWrite : Asked → List ℕ → Type 0
@@ -171,6 +195,8 @@ IsEarly (status.BadInput line) = Unit {0}
 IsEarly status.ReadFault = Unit {0}
 IsEarly status.NoMemory = Unit {0}
 IsEarly status.CrewFault = Unit {0}
+IsEarly status.LinkFault = Unit {0}
+IsEarly (status.Stray host event) = Unit {0}
 IsEarly status.Limit = ⊥
 IsEarly status.Done = ⊥
 IsEarly (status.NotARun step) = ⊥

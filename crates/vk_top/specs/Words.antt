@@ -8,7 +8,7 @@ use Rattle.clap.specs.Simple.{App, Shape, matches_of, new_app, new_rule, on_top,
 use Rattle.clap.specs.Walk.{Row, Rule, Text, first_of, is_empty}
 use Rattle.clap.specs.declared.builder.action.ArgAction.TheVariants.{SetTrue}
 use Rattle.vk_base.specs.declared.limits.TheConstants.{EVENTS}
-use Rattle.vk_text.specs.Words.{number_of}
+use Rattle.vk_text.specs.Words.{number_of, station_of}
 use Rattle.vk_top.specs.declared.words.Asked.TheVariants as asked
 use Rattle.vk_top.specs.declared.words.Job.{Job}
 use Rattle.vk_top.specs.declared.words.Job.TheVariants as jobs
@@ -36,14 +36,22 @@ the_app = with_rule (with_rule (with_rule (on_top with_settings (new_app (codes 
 abbrev pub storm_of : Text → Option Job
 storm_of word = option_map jobs.Storm (number_of EVENTS word)
 
--- the table: what a command asks for, with or without `--trace`; a storm, and nothing else, goes with a number
+-- a node, where the word spells a station, from 1 to 65,534
+abbrev pub node_of : Text → Option Job
+node_of word = option_map jobs.Node (station_of word)
+
+-- the table: what a command asks for, with or without `--trace`; a storm and a node, and nothing else, go with a number
 abbrev pub job_for : Option Text → Bool → Option Text → Option Job
 job_for (Some word) has_trace None =
     if bytes_eq word (codes "replay") then Some (jobs.OfText (asked.Replay (if has_trace then forms.Trace else forms.Report)))
     else if bytes_eq word (codes "check") && not has_trace then Some (jobs.OfText asked.Check)
+    else if bytes_eq word (codes "join") && not has_trace then Some (jobs.OfText asked.Join)
     else if bytes_eq word (codes "run") && not has_trace then Some jobs.Run
     else None
-job_for (Some word) has_trace (Some n) = if bytes_eq word (codes "storm") && not has_trace then storm_of n else None
+job_for (Some word) has_trace (Some n) =
+    if bytes_eq word (codes "storm") && not has_trace then storm_of n
+    else if bytes_eq word (codes "node") && not has_trace then node_of n
+    else None
 job_for None has_trace n = None
 
 -- the value of a flag is `true` where it was given, else `false`
@@ -62,7 +70,16 @@ job_of words = if is_empty (fault_of the_app words) then job_by (matches_of the_
 abbrev pub IsFew : Job → Type 0
 IsFew (jobs.OfText a) = Unit {0}
 IsFew jobs.Run = Unit {0}
+IsFew (jobs.Node host) = Unit {0}
 IsFew (jobs.Storm n) = n ≤ EVENTS
 
 abbrev pub AreFewIn : Option Job → Type 0
 AreFewIn o = IfSome o IsFew
+
+-- what the words ask for is done in threads
+abbrev pub is_threaded : Option Job → Bool
+is_threaded None = false
+is_threaded (Some (jobs.OfText a)) = false
+is_threaded (Some jobs.Run) = true
+is_threaded (Some (jobs.Node host)) = true
+is_threaded (Some (jobs.Storm n)) = false

@@ -1,5 +1,5 @@
 -- What the parts of the top call promise one another.
-use Rattle.std.specs.Prelude.{ℕ, ◌≡◌, ◌<◌, ◌≤◌, ◌⊎◌, List, [], take, Option, Some, IfSome}
+use Rattle.std.specs.Prelude.{ℕ, ◌≡◌, ◌<◌, ◌≤◌, ◌⊎◌, List, [], length, Option, Some, IfSome}
 use Rattle.std.specs.Io.KnownBytes.{Appends}
 use Rattle.vk_base.specs.declared.limits.TheConstants.{INPUT_BYTES}
 use Rattle.vk_io.specs.Causes.{LosesFront, Rose}
@@ -7,7 +7,7 @@ use Rattle.vk_top.specs.declared.status.Status.{Status}
 use Rattle.vk_top.specs.declared.status.Status.TheVariants as status
 use Rattle.vk_top.specs.declared.top.Work.{Work}
 use Rattle.vk_top.specs.declared.words.Asked.{Asked}
-use Rattle.vk_top.specs.Top.{IsBadAt, IsCutShort, IsDecided, IsDone, IsNotARun, IsOverLimit, IsRefusedLate, IsToWrite, IsTold, OfInput, output_of, status_of, text_output, text_status}
+use Rattle.vk_top.specs.Top.{IsBadAt, IsCutShort, IsDecided, IsDone, IsNotARun, IsOverLimit, IsPart, IsRefusedLate, IsStrayAt, IsTextOutput, IsToWrite, IsTold, OfInput, status_of, text_status}
 
 -- the count of a source's faults: it rose where the answer is that a read failed, and else is as it was
 abbrev pub IsReadCount : Status → ℕ → ℕ → Type 0
@@ -33,8 +33,9 @@ KeepsLines a text = (line : ℕ) → text_status a text ≡ status.BadInput line
 -- why nothing is written of a text
 abbrev pub IsRefusal : Asked → List ℕ → Status → Type 0
 IsRefusal a text (status.BadInput line) = text_status a text ≡ status.BadInput line
+IsRefusal a text (status.Stray host event) = text_status a text ≡ status.Stray host event
 IsRefusal a text status.Limit = (text_status a text ≡ status.Limit) × IsOverLimit a text
-IsRefusal a text status.NoMemory = KeepsLines a text
+IsRefusal a text status.NoMemory = 0 < length text
 IsRefusal a text s = ⊥
 
 -- the answers behind a write
@@ -46,7 +47,7 @@ IsLate s = IsTold s
 pub record IsWork (a : Asked) (text : List ℕ) (w : Work) : Type 0 where
   pub late : IsLate w.status
   pub limit : w.status ≡ status.Limit → IsRefusedLate a text
-  pub output : w.text.items ≡ text_output a text
+  pub output : IsTextOutput a text w.text.items
   pub status : w.status ≡ text_status a text
 
 -- all was written, and the answer is that of the work; or a write failed
@@ -60,26 +61,28 @@ IsLimit Unchanged a input old new = (IsOverLimit a input × Unchanged) ⊎ IsCut
 
 -- what the answer to a text says, which was read whole
 pub record IsAnswered (Unchanged : Type 0) (a : Asked) (text : List ℕ) (old new : Option (List ℕ)) (s : Status) : Type 0 where
-  pub kinds : ¬ (s ≡ status.Usage) × ¬ (s ≡ status.ReadFault) × ¬ (s ≡ status.CrewFault)
+  pub kinds : ¬ (s ≡ status.Usage) × ¬ (s ≡ status.ReadFault) × ¬ (s ≡ status.CrewFault) × ¬ (s ≡ status.LinkFault)
   pub done : s ≡ status.Done → IsDone a text old new
   pub no : (step : ℕ) → s ≡ status.NotARun step → IsNotARun a text step old new
   pub bad : (line : ℕ) → s ≡ status.BadInput line → IsBadAt a text line
+  pub stray : (host event : ℕ) → s ≡ status.Stray host event → IsStrayAt a text host event
   pub limit : s ≡ status.Limit → IsLimit Unchanged a text old new
-  pub memory : s ≡ status.NoMemory → KeepsLines a text
+  pub memory : s ≡ status.NoMemory → 0 < length text
   pub writing : s ≡ status.WriteFault → IsToWrite a text
   pub complete : (s ≡ status.NoMemory) ⊎ (s ≡ status.WriteFault) ⊎ (s ≡ status_of a text)
-  pub front : (n : ℕ) × Appends old new (take n (output_of a text))
+  pub front : Appends old new [] ⊎ IsPart a text old new
 
 -- what the answer to an input says, which has these bytes left and then those
 pub record IsOutcome (Unchanged : Type 0) (a : Asked) (left rest old new : Option (List ℕ)) (s : Status) : Type 0 where
-  pub kinds : ¬ (s ≡ status.Usage) × ¬ (s ≡ status.CrewFault)
+  pub kinds : ¬ (s ≡ status.Usage) × ¬ (s ≡ status.CrewFault) × ¬ (s ≡ status.LinkFault)
   pub done : s ≡ status.Done → OfInput left (λ i. IsDone a i old new)
   pub no : (step : ℕ) → s ≡ status.NotARun step → OfInput left (λ i. IsNotARun a i step old new)
   pub whole : IsTold s → IfSome left (λ i. rest ≡ Some [])
   pub bad : (line : ℕ) → s ≡ status.BadInput line → OfInput left (λ i. IsBadAt a i line)
+  pub stray : (host event : ℕ) → s ≡ status.Stray host event → OfInput left (λ i. IsStrayAt a i host event)
   pub limit : s ≡ status.Limit → OfInput left (λ i. IsLimit Unchanged a i old new)
   pub read : s ≡ status.Limit → Unchanged ⊎ IfSome left (λ i. rest ≡ Some [])
   pub memory : s ≡ status.NoMemory → LosesFront left rest (λ n. (0 < n) × (n ≤ INPUT_BYTES))
   pub writing : s ≡ status.WriteFault → OfInput left (IsToWrite a)
   pub complete : IsDecided a left s
-  pub front : OfInput left (λ i. (n : ℕ) × Appends old new (take n (output_of a i)))
+  pub front : OfInput left (λ i. Appends old new [] ⊎ IsPart a i old new)

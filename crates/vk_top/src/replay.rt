@@ -2,9 +2,9 @@
 
 ghost use Rattle.std.specs.Prelude.{◌≡◌, ◌≤◌, ◌<◌, ◌++◌, ◌∷◌, ◌⊎◌, [], Ok, Err, List, length, map, true, false, IfOk, IfErr, OnOk};
 ghost use Rattle.vk_base.specs.Settings.{Settings};
-ghost use Rattle.vk_event.specs.declared.event.Event.{Event as TheEvent};
-ghost use Rattle.vk_event.specs.Lawful.{IsLawful, has_actors};
-ghost use Rattle.vk_event.specs.Schedule.{schedule_of};
+ghost use Rattle.vk_schedule.specs.declared.event.Event.{Event as TheEvent};
+ghost use Rattle.vk_schedule.specs.Lawful.{IsLawful, has_actors};
+ghost use Rattle.vk_schedule.specs.Schedule.{schedule_of};
 ghost use Rattle.vk_cluster.specs.Standing.{StandsFor, StandsSomewhere, logs_of};
 ghost use Rattle.vk_cluster.specs.Values.{is_full};
 ghost use Rattle.vk_host.specs.Responses.{answer_of};
@@ -24,11 +24,11 @@ use crate::emitted::emitted_of;
 use std::alloc::Global;
 use vk_base::NoMemory;
 use vk_cluster::{Advance, Cluster, ClusterRefusal};
-use vk_event::{EventBuffer, EventReader, TextRefusal};
 use vk_host::{Host, Response};
 use vk_report::{
     AnswerView, Counts, Form, Place, put_end, put_entry, put_frame, put_missing, put_opening,
 };
+use vk_schedule::{EventBuffer, EventReader, TextRefusal};
 
 /// What is written of a schedule.
 #[derive(Drop)]

@@ -1,38 +1,31 @@
-//! The whole top call: `run`, whose stations run beside each other, and behind it all that needs no runtime.
+//! `run`: all stations of a scenario, beside each other.
 
-ghost use Rattle.std.specs.Prelude.{◌≡◌, ◌≢◌, ◌≤◌, length, Ok, Err, Some, map, string_bytes, IfOk, IfErr, OnOk, OnErr};
+ghost use Rattle.std.specs.Prelude.{◌≡◌, ◌≤◌, ◌+◌, ◌-◌, ◌^◌, min, length, Ok, IfOk, IfErr, OnOk};
 ghost use Rattle.vk_base.specs.declared.limits.TheConstants.{INPUT_BYTES};
-ghost use Rattle.vk_event.specs.Lawful.{IsLawful};
-ghost use Rattle.vk_event.specs.Schedule.{schedule_of};
-ghost use Rattle.vk_event.specs.Spelling.{schedule_text};
-ghost use Rattle.vk_top.specs.Jobs.{IsAloneAnswer};
-ghost use Rattle.vk_top.specs.Runs.{IsRunAnswer, IsRunAnswered, IsRunRefusal, IsRunWork, ended, refused};
+ghost use Rattle.v_run.specs.Ran.{IsRun};
+ghost use Rattle.vk_event.specs.ScenarioLaws.{IsLawfulScenario};
+ghost use Rattle.vk_schedule.specs.Lawful.{IsLawful};
+ghost use Rattle.vk_schedule.specs.Schedule.{schedule_of};
+ghost use Rattle.vk_schedule.specs.Spelling.{schedule_text};
+ghost use Rattle.vk_threads.specs.Assigned.{LeavesJobs, TellsRunFault};
+ghost use Rattle.vk_top.specs.Programs.{assignments_of};
+ghost use Rattle.vk_top.specs.Runs.{IsRunAnswer, TellsRun, jobs_of, run_asked};
+ghost use Rattle.vk_top.specs.Threaded.{IsThreadedAnswered, IsThreadedRefusal, IsThreadedWork, ended};
 ghost use Rattle.vk_top.specs.Top.{TellsFaults};
 ghost use Rattle.vk_top.specs.Work.{IsReadCount, IsWriteCount};
-ghost use Rattle.vk_top.specs.Words.{job_of};
 
-use crate::status::Status;
-use crate::top::{Work, ended, read_text, vkernel_alone, write_work};
-use crate::words::Job;
+use crate::program::programs_of;
+use crate::status::{Status, refused};
+use crate::top::{Work, ended, read_text, write_work};
 use std::alloc::Global;
 use std::sync::Wait;
 use std::thread::Threads;
 use std::time::Clock;
 use vk_base::NoMemory;
-use vk_event::{Schedule, TextRefusal, read_scenario, write_schedule};
+use vk_event::{Scenario, read_scenario};
 use vk_io::{Crew, Pacer, Sink, Source};
-use vk_threads::{RunRecord, RunRefusal, run_stations};
-
-/// The answer to a scenario that is not read.
-fn refused(refusal: TextRefusal) -> Status
-    ensures { result ≡ refused refusal }
-{
-    match refusal {
-        TextRefusal::BadInput { line } => Status::BadInput { line },
-        TextRefusal::Limit => Status::Limit,
-        TextRefusal::NoMemory => Status::NoMemory,
-    }
-}
+use vk_schedule::{Schedule, write_schedule};
+use vk_threads::{RunRecord, RunRefusal, run_programs};
 
 /// The text of the schedule that a run gave, and the answer then.
 fn written(alloc: Global, schedule: &Schedule, limited: bool) -> Result<Work, Status>
@@ -50,6 +43,35 @@ fn written(alloc: Global, schedule: &Schedule, limited: bool) -> Result<Work, St
     }
 }
 
+/// What happened where each process of the scenario was run with its program.
+fn run_scenario<C: Crew, P: Pacer + Send, R: Wait + Threads + Clock + Sync>(
+    rt: &R,
+    alloc: Global,
+    scenario: Scenario,
+    crew: &mut C,
+    pacer: &mut P,
+) -> Result<RunRecord, RunRefusal>
+    requires { IsLawfulScenario scenario }
+    ensures ran { IfOk result (λ r. IsRun scenario.config scenario.plan scenario.rounds (assignments_of scenario.tasks) r.limited
+        r.schedule) }
+    ensures jobs { OnOk result (C.job_count crew.new ≡ min (C.job_count crew.old + jobs_of scenario) (2 ^ 64 - 1)) }
+    ensures no_jobs { IfErr result (LeavesJobs (C.job_count crew.old)
+        (min (C.job_count crew.old + jobs_of scenario) (2 ^ 64 - 1)) (C.job_count crew.new)) }
+    ensures fault { TellsRunFault (C.fault_count crew.old) (C.fault_count crew.new) result }
+{
+    let Scenario {
+        config,
+        tasks,
+        plan,
+        rounds,
+        ..
+    } = scenario;
+    let Ok(programs) = programs_of(alloc, &config, tasks.as_slice()) else {
+        return Err(RunRefusal::NoMemory);
+    };
+    run_programs(rt, alloc, config, programs, plan, rounds, crew, pacer)
+}
+
 /// `run`: the schedule of what happened where the stations of the scenario ran.
 fn run_text<C: Crew, P: Pacer + Send, R: Wait + Threads + Clock + Sync>(
     rt: &R,
@@ -59,8 +81,8 @@ fn run_text<C: Crew, P: Pacer + Send, R: Wait + Threads + Clock + Sync>(
     pacer: &mut P,
 ) -> Result<Work, Status>
     requires { length text.now ≤ INPUT_BYTES }
-    ensures work { IfOk result (IsRunWork text.now (C.job_count crew.old) (C.job_count crew.new)) }
-    ensures refused { IfErr result (IsRunRefusal text.now) }
+    ensures work { IfOk result (IsThreadedWork (TellsRun (C.job_count crew.old) (C.job_count crew.new)) run_asked text.now) }
+    ensures refused { IfErr result (IsThreadedRefusal run_asked ⊥ text.now) }
     ensures kept { OnOk result (C.fault_count crew.new ≡ C.fault_count crew.old) }
     ensures faults { IfErr result (λ s. TellsFaults Status.CrewFault s (C.fault_count crew.old) (C.fault_count crew.new)) }
 {
@@ -68,7 +90,7 @@ fn run_text<C: Crew, P: Pacer + Send, R: Wait + Threads + Clock + Sync>(
         Ok(scenario) => scenario,
         Err(refusal) => return Err(refused(refusal)),
     };
-    match run_stations(rt, alloc, scenario, crew, pacer) {
+    match run_scenario(rt, alloc, scenario, crew, pacer) {
         Ok(RunRecord { schedule, limited }) => written(alloc, &schedule, limited),
         Err(RunRefusal::CrewFault) => Err(Status::CrewFault),
         Err(RunRefusal::NoMemory) => Err(Status::NoMemory),
@@ -85,8 +107,8 @@ fn answer_run<K: Sink, C: Crew, P: Pacer + Send, R: Wait + Threads + Clock + Syn
     pacer: &mut P,
 ) -> Status
     requires { length text.now ≤ INPUT_BYTES }
-    ensures answered { IsRunAnswered (output.new ≡ output.old) text.now (C.job_count crew.old) (C.job_count crew.new)
-        (K.written output.old) (K.written output.new) result }
+    ensures answered { IsThreadedAnswered (TellsRun (C.job_count crew.old) (C.job_count crew.new)) run_asked ⊥ (output.new ≡ output.old)
+        text.now (K.written output.old) (K.written output.new) result }
     ensures write_count { IsWriteCount result (K.fault_count output.old) (K.fault_count output.new) }
     ensures crew_faults { TellsFaults Status.CrewFault result (C.fault_count crew.old) (C.fault_count crew.new) }
     ensures never_falls { K.fault_count output.old ≤ K.fault_count output.new }
@@ -98,7 +120,7 @@ fn answer_run<K: Sink, C: Crew, P: Pacer + Send, R: Wait + Threads + Clock + Syn
 }
 
 /// The whole work of `run`.
-fn run<S: Source, K: Sink, C: Crew, P: Pacer + Send, R: Wait + Threads + Clock + Sync>(
+pub(crate) fn run<S: Source, K: Sink, C: Crew, P: Pacer + Send, R: Wait + Threads + Clock + Sync>(
     rt: &R,
     alloc: Global,
     input: &mut S,
@@ -117,46 +139,5 @@ fn run<S: Source, K: Sink, C: Crew, P: Pacer + Send, R: Wait + Threads + Clock +
     match read_text(alloc, input) {
         Ok(text) => answer_run(rt, alloc, &text, output, crew, pacer),
         Err(status) => status,
-    }
-}
-
-/// The whole work that the words ask for. For all words but those of `run` it is that of [`vkernel_alone`], and crew and pacer are not
-/// asked. `run` reads a scenario, runs its stations beside each other, each process and each station's pump in a job of its own and the
-/// clock in one more, and writes the schedule of what happened, which `replay` reads. The input is read to its end, then its text is read,
-/// then the jobs run, and only then is anything written; after it is flushed once. `Limit` comes for more than 16,777,216 bytes, and then
-/// nothing is written; or where a limit of events, emitted bytes or frames ended the run, and then its whole schedule is written.
-/// `CrewFault` comes where the crew failed. The pacer waits between the ticks of the stations' clocks.
-///
-/// `run` may wait for its jobs. Where the source does not tell what is left, the clauses speak of some input that it may have had.
-pub fn vkernel<S: Source, K: Sink, C: Crew, P: Pacer + Send, R: Wait + Threads + Clock + Sync>(
-    rt: &R,
-    alloc: Global,
-    words: &[String],
-    input: &mut S,
-    output: &mut K,
-    crew: &mut C,
-    pacer: &mut P,
-) -> Status
-    // Words that are not those of `run` are answered without the crew.
-    ensures others { job_of (map string_bytes words.now) ≢ Some Job.Run →
-        IsAloneAnswer (input.new ≡ input.old) (output.new ≡ output.old) (map string_bytes words.now) (S.left input.old) (S.left input.new)
-        (K.written output.old) (K.written output.new) result }
-    ensures idle { job_of (map string_bytes words.now) ≢ Some Job.Run → crew.new ≡ crew.old }
-    // The words of `run` have their own answers.
-    ensures run { job_of (map string_bytes words.now) ≡ Some Job.Run →
-        IsRunAnswer (input.new ≡ input.old) (output.new ≡ output.old) (S.left input.old) (S.left input.new)
-        (C.job_count crew.old) (C.job_count crew.new) (K.written output.old) (K.written output.new) result }
-
-    // ReadFault, WriteFault and CrewFault are answered only where a fault of the input, the output and the crew was counted, and every such
-    // fault is told so.
-    ensures read_faults { TellsFaults Status.ReadFault result (S.fault_count input.old) (S.fault_count input.new) }
-    ensures write_faults { TellsFaults Status.WriteFault result (K.fault_count output.old) (K.fault_count output.new) }
-    ensures crew_faults { TellsFaults Status.CrewFault result (C.fault_count crew.old) (C.fault_count crew.new) }
-    ensures read_faults_never_fall { S.fault_count input.old ≤ S.fault_count input.new }
-    ensures write_faults_never_fall { K.fault_count output.old ≤ K.fault_count output.new }
-{
-    match vkernel_alone(alloc, words, input, output) {
-        Some(status) => status,
-        None => run(rt, alloc, input, output, crew, pacer),
     }
 }

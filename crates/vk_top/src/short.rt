@@ -28,14 +28,40 @@ pub fn short_text(bytes: &[u8]) -> ArrayVec<u8, MOST>
     text
 }
 
+/// Appends a number, of at most 20 digits.
+fn put_number(text: &mut ArrayVec<u8, MOST>, number: u64)
+    requires { length text.old.items ≤ 76 }
+    ensures digits { text.new.items ≡ text.old.items ++ decimal number }
+    ensures few { length text.new.items ≤ length text.old.items + 20 }
+{
+    let mut buffer = Buffer::new();
+    put(text, buffer.format(number).as_bytes());
+}
+
 /// A text with a number, of at most 20 digits, in its midst. The bytes around it are at most 76.
 pub fn numbered_text(before: &[u8], number: u64, behind: &[u8]) -> ArrayVec<u8, MOST>
     requires { length before.now + length behind.now ≤ 76 }
     ensures { result.items ≡ before.now ++ decimal number ++ behind.now }
 {
     let mut text = short_text(before);
-    let mut buffer = Buffer::new();
-    put(&mut text, buffer.format(number).as_bytes());
+    put_number(&mut text, number);
     put(&mut text, behind);
+    text
+}
+
+/// A text with two numbers, each of at most 20 digits and behind a text. The bytes of these are at most 56.
+pub(crate) fn twice_numbered_text(
+    before: &[u8],
+    number: u64,
+    between: &[u8],
+    other: u64,
+) -> ArrayVec<u8, MOST>
+    requires { length before.now + length between.now ≤ 56 }
+    ensures { result.items ≡ before.now ++ decimal number ++ between.now ++ decimal other }
+{
+    let mut text = short_text(before);
+    put_number(&mut text, number);
+    put(&mut text, between);
+    put_number(&mut text, other);
     text
 }

@@ -1,14 +1,15 @@
-ghost use Rattle.std.specs.Prelude.{◌≡◌, ◌≤◌, ◌⊎◌, ℕ, [], length, Some, None, Ok, Err, map, take, string_bytes, IfSome, IfOk, IfErr, OnOk, if◌then◌else◌};
+ghost use Rattle.std.specs.Prelude.{◌≡◌, ◌≤◌, ◌⊎◌, ℕ, [], length, true, Some, None, Ok, Err, map, take, string_bytes, IfSome, IfOk, IfErr, OnOk, if◌then◌else◌};
 ghost use Rattle.std.specs.Io.KnownBytes.{Appends};
 ghost use Rattle.vk_base.specs.declared.limits.TheConstants.{EVENTS};
 ghost use Rattle.vk_top.specs.Check.{verdict_text};
 ghost use Rattle.vk_top.specs.Jobs.{IsAloneAnswer, IsStormAnswered};
 ghost use Rattle.vk_top.specs.Top.{IsEarly, IsTold, TellsFaults, verdict_status};
 ghost use Rattle.vk_top.specs.Work.{IsAnswered, IsLate, IsOutcome, IsReadCount, IsRefusal, IsUnread, IsWork, IsWriteCount, IsWritten};
-ghost use Rattle.vk_top.specs.Words.{job_of};
+ghost use Rattle.vk_top.specs.Words.{is_threaded, job_of};
 ghost use Rattle.vk_top.specs.declared.words.Asked.TheVariants as asked;
 
 use crate::check::{TraceVerdict, put_line, verdict_of};
+use crate::join::joined_text;
 use crate::replay::{Written, output};
 use crate::status::Status;
 use crate::storm::summary_of;
@@ -18,9 +19,9 @@ use v_trace::TraceRefusal;
 use vk_base::NoMemory;
 use vk_base::limits::INPUT_BYTES;
 use vk_drive::StormRefusal;
-use vk_event::TextRefusal;
 use vk_io::{Failed, ReadRefusal, Sink, Source, read_all, write_all};
 use vk_report::Form;
+use vk_schedule::TextRefusal;
 
 /// What a text asks to be written, and the answer then.
 #[derive(Drop)]
@@ -82,6 +83,20 @@ fn check(alloc: Global, text: &[u8]) -> Result<Work, Status>
     }
 }
 
+/// `join`: the schedule that texts of stations say.
+fn join(alloc: Global, text: &[u8]) -> Result<Work, Status>
+    ensures work { IfOk result (IsWork asked.Join text.now) }
+    ensures refused { IfErr result (IsRefusal asked.Join text.now) }
+{
+    match joined_text(alloc, text) {
+        Ok(text) => Ok(Work {
+            text,
+            status: Status::Done,
+        }),
+        Err(status) => Err(status),
+    }
+}
+
 /// What is asked for of a text.
 fn work_on(alloc: Global, asked: Asked, text: &[u8]) -> Result<Work, Status>
     ensures work { IfOk result (IsWork asked text.now) }
@@ -90,6 +105,7 @@ fn work_on(alloc: Global, asked: Asked, text: &[u8]) -> Result<Work, Status>
     match asked {
         Asked::Replay { form } => replay(alloc, form, text),
         Asked::Check => check(alloc, text),
+        Asked::Join => join(alloc, text),
     }
 }
 
@@ -178,14 +194,16 @@ fn storm<K: Sink>(alloc: Global, n: u32, output: &mut K) -> Status
     }
 }
 
-/// The whole work that the words ask for, where it waits for nobody; no answer for the words of `run`, of which nothing is read or written
-/// here. `replay` reads a schedule and writes its report, `replay --trace` the trace of its steps. `check` reads a trace and writes
-/// `yes STEPS` where its steps are a run of the one-machine kernel, else `no STEP` with the first that is not allowed. `storm N` reads
-/// nothing and writes the summary of the storm of this number. The words come first, then the input is read to its end, then its text is
-/// read, and only then is anything written. `Limit` comes for more than 16,777,216 bytes, for more than 100,000 events before any line that
-/// is bad, where `check` finds that more than 268,435,456 bytes would be noted for remote moves by steps that are allowed, and at an event
-/// of `replay` or of a storm before which the emitted frames hold more than 266,076,160 bytes: then what `replay` writes ends before that
-/// event, and of a storm nothing is written. After the output it is flushed once.
+/// The whole work that the words ask for, where it waits for nobody; no answer for the words of `run` and of `node H`, of which nothing is
+/// read or written here. `replay` reads a schedule and writes its report, `replay --trace` the trace of its steps. `check` reads a trace and writes
+/// `yes STEPS` where its steps are a run of the one-machine kernel, else `no STEP` with the first that is not allowed. `join` reads texts of
+/// single stations, one behind the other, and writes the schedule of what happened at all of them; `Stray` comes where a station took a
+/// frame that no other sent to it. `storm N` reads nothing and writes the summary of the storm of this number. The words come first, then
+/// the input is read to its end, then its text is read, and only then is anything written. `Limit` comes for more than 16,777,216 bytes, for
+/// more than 100,000 events before any line that is bad, where `check` finds that more than 268,435,456 bytes would be noted for remote
+/// moves by steps that are allowed, where the stations of `join` emitted more than 268,435,456 bytes, and at an event of `replay` or of a
+/// storm before which the emitted frames hold more than 266,076,160 bytes: then what `replay` writes ends before that event, and of the
+/// others nothing is written. After the output it is flushed once.
 ///
 /// Where the source does not tell what is left, the clauses speak of some input that it may have had.
 pub fn vkernel_alone<S: Source, K: Sink>(
@@ -194,9 +212,10 @@ pub fn vkernel_alone<S: Source, K: Sink>(
     input: &mut S,
     output: &mut K,
 ) -> Option<Status>
-    // There is no answer exactly for the words of `run`, unless memory is wanting to read them. Then nothing is read or written.
-    ensures none { result ≡ None → job_of (map string_bytes words.now) ≡ Some Job.Run }
-    ensures run { job_of (map string_bytes words.now) ≡ Some Job.Run →
+    // There is no answer exactly for the words of `run` and of `node H`, unless memory is wanting to read them. Then nothing is read or
+    // written.
+    ensures none { result ≡ None → is_threaded (job_of (map string_bytes words.now)) ≡ true }
+    ensures threaded { is_threaded (job_of (map string_bytes words.now)) ≡ true →
         ((result ≡ None) ⊎ (result ≡ Some Status.NoMemory)) × (input.new ≡ input.old) × (output.new ≡ output.old) }
     ensures answer { IfSome result (IsAloneAnswer (input.new ≡ input.old) (output.new ≡ output.old) (map string_bytes words.now)
         (S.left input.old) (S.left input.new) (K.written output.old) (K.written output.new)) }
@@ -209,7 +228,7 @@ pub fn vkernel_alone<S: Source, K: Sink>(
 {
     match read_words(alloc, words) {
         Ok(Some(Job::OfText { asked })) => Some(serve(alloc, asked, input, output)),
-        Ok(Some(Job::Run)) => None,
+        Ok(Some(Job::Run | Job::Node { .. })) => None,
         Ok(Some(Job::Storm { n })) => Some(storm(alloc, n, output)),
         Ok(None) => Some(Status::Usage),
         Err(NoMemory) => Some(Status::NoMemory),

@@ -2,7 +2,8 @@
 
 ghost use Rattle.std.specs.Prelude.{◌≡◌, ◌≤◌, map, option_map, codes, string_bytes, IfOk};
 ghost use Rattle.clap.specs.Words.{app_of, first_of, found_of, rows_of};
-ghost use Rattle.vk_top.specs.Words.{AreFewIn, job_by, job_for, job_of, is_set, storm_of, the_app};
+ghost use Rattle.vk_text.specs.Words.{station_of};
+ghost use Rattle.vk_top.specs.Words.{AreFewIn, job_by, job_for, job_of, is_set, node_of, storm_of, the_app};
 
 use clap::error::ErrorKind;
 use clap::{Arg, ArgAction, ArgMatches, Command};
@@ -19,6 +20,8 @@ pub(crate) enum Asked {
     Replay { form: Form },
     /// `check`: a trace is read, and whether its steps are a run is written.
     Check,
+    /// `join`: texts of single stations are read, and the schedule that they say is written.
+    Join,
 }
 
 /// What the words ask for.
@@ -28,6 +31,8 @@ pub(crate) enum Job {
     OfText { asked: Asked },
     /// `run`: a scenario is read, its stations are run beside each other, and the schedule of what happened is written.
     Run,
+    /// `node H`: a scenario is read, its station of this number, 1 to 65,534, is run, and what happened there is written.
+    Node { host: u16 },
     /// `storm N`: nothing is read, and what happens in the storm of this number, at most 100,000, is written.
     Storm { n: u32 },
 }
@@ -59,6 +64,24 @@ fn storm_of(word: &str) -> Option<Job>
     Some(Job::Storm { n: n as u32 })
 }
 
+/// The station that the word spells.
+#[tactic(auto, using(crate::proofs::Hosts::positive_station))]
+fn station(word: &str) -> Option<u16>
+    ensures { result ≡ station_of word.now }
+{
+    let host = number(word.as_bytes(), 65_534)?;
+    if host > 0 { Some(host as u16) } else { None }
+}
+
+/// The node of the station that the word spells.
+fn node_of(word: &str) -> Option<Job>
+    ensures job { result ≡ node_of word.now }
+    ensures few { AreFewIn result }
+{
+    let host = station(word)?;
+    Some(Job::Node { host })
+}
+
 /// What the values ask for, by the table.
 fn job_for(command: Option<&str>, has_trace: bool, number: Option<&str>) -> Option<Job>
     ensures job { result ≡ job_for (option_map (λ s. s.now) command.entry) has_trace (option_map (λ s. s.now) number.entry) }
@@ -68,8 +91,10 @@ fn job_for(command: Option<&str>, has_trace: bool, number: Option<&str>) -> Opti
         (Some("replay"), None) if has_trace => Asked::Replay { form: Form::Trace },
         (Some("replay"), None) => Asked::Replay { form: Form::Report },
         (Some("check"), None) if !has_trace => Asked::Check,
+        (Some("join"), None) if !has_trace => Asked::Join,
         (Some("run"), None) if !has_trace => return Some(Job::Run),
         (Some("storm"), Some(word)) if !has_trace => return storm_of(word),
+        (Some("node"), Some(word)) if !has_trace => return node_of(word),
         _ => return None,
     };
     Some(Job::OfText { asked })

@@ -1,6 +1,6 @@
 //! The program: it hands the words, standard input and standard output to the top call, tells on standard error how that
-//! ended where it did not end well, and exits with the status's number. For `run` it makes a crew of threads and the pace of a real clock
-//! (`vk_threads`). Stands on vk_top; no rule stands here.
+//! ended where it did not end well, and exits with the status's number. For `run` and `node H` it makes a crew of threads and the pace of a
+//! real clock (`vk_threads`), and for `node H` a wire of UDP sockets (`vk_udp`). Stands on vk_top; no rule stands here.
 #![tactic(auto)]
 
 use std::process::ExitCode;
@@ -9,6 +9,7 @@ use std::{env, io, str};
 use vk_io::{StdSink, StdSource};
 use vk_threads::{SleepPacer, ThreadCrew};
 use vk_top::{Status, vkernel};
+use vk_udp::UdpWire;
 
 /// The arguments behind the program's own name.
 fn words<R: Env + AllocGlobal>(rt: &R) -> Result<Vec<String>, Status> {
@@ -40,6 +41,7 @@ fn main(rt: HostRuntime) -> ExitCode {
     let mut output = StdSink::new(rt.stdout());
     let mut crew = ThreadCrew::new();
     let mut pacer = SleepPacer::new();
+    let mut wire = UdpWire::new();
     let status = match words(&rt) {
         Ok(words) => vkernel(
             &rt,
@@ -49,6 +51,7 @@ fn main(rt: HostRuntime) -> ExitCode {
             &mut output,
             &mut crew,
             &mut pacer,
+            &mut wire,
         ),
         Err(status) => status,
     };

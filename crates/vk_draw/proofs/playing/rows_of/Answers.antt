@@ -1,5 +1,5 @@
 use Rattle.std.proofs.Common.{Err, ◌<◌, List, get_or, inr, length, refl, subst, sym, take, ap, ◌∙◌, arith}
-use Rattle.vk_event.specs.declared.event.Event.{Event}
+use Rattle.vk_schedule.specs.declared.event.Event.{Event}
 use Rattle.vk_picture.specs.declared.picture.Row.{Row}
 use Rattle.vk_draw.specs.Playing.{ArePlayed}
 use Rattle.vk_draw.proofs.Played.{acts, as_many, played_all, played_more, played_none, somewhere, too_large}

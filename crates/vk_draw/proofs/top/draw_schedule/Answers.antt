@@ -1,5 +1,5 @@
 use Rattle.std.proofs.Common.{length, ap, ◌∙◌, arith}
-use Rattle.vk_event.proofs.Lawfulness.{only_lawful}
+use Rattle.vk_schedule.proofs.Lawfulness.{only_lawful}
 use Rattle.vk_picture.specs.declared.picture.Picture.{Picture}
 use Rattle.vk_draw.proofs.Answered.{refusal_by, spelled_some}
 use Rattle.vk_draw.proofs.Played.{as_many}

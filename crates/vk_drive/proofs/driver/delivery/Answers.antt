@@ -1,5 +1,5 @@
 use Rattle.std.proofs.Common.{Some, None, ap, ◌∙◌}
-use Rattle.vk_event.specs.declared.event.Event.TheVariants as events
+use Rattle.vk_schedule.specs.declared.event.Event.TheVariants as events
 use Rattle.vk_generator.specs.Numbers.{drawn}
 use Rattle.vk_rules.specs.Histories.{history_of}
 use Rattle.vk_drive.specs.Storms.{chosen}

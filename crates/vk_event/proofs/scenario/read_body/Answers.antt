@@ -1,4 +1,4 @@
-use Rattle.std.proofs.Common.{◌≡◌, ◌<◌, ◌∙◌, List, Some, None, ap, arith, cond, inr, length, subst, sym}
+use Rattle.std.proofs.Common.{◌<◌, ◌∙◌, List, Some, None, ap, arith, cond, inr, length, subst, sym}
 use Rattle.vk_base.specs.Settings.{Settings}
 use Rattle.vk_base.specs.declared.config.ProcessSpec.{ProcessSpec}
 use Rattle.vk_event.specs.Tasks.{with_task_line}
@@ -10,23 +10,25 @@ end-requires-clause-some c = subst (λ (s : Settings). 0 < length s.specs) (sym 
 
 pub returns-in-Ok-false-clause-scenario : goal.returns-in-Ok-false-clause-scenario
 returns-in-Ok-false-clause-scenario c =
-    told_ok c.end.result _ _ _ _ _ _ _ c.end.ensures (c.in-Ok-false.ensures.same c.in-Ok-false.field-0-test)
-    (line_ends _ c.loop-words.config c.loop-words.tasks.items c.loop-words.line c.in-Some.words.now _ _
+    told_ok c.end.result _ _
+    (line_ends _ c.loop-words.config c.loop-words.tasks.items c.take_line.new.tasks.items c.loop-words.line c.in-Some.words.now _ _
     c.loop-words.invariant.read c.in-Some.ensures.line
     (ap (λ (specs : List ProcessSpec). with_task_line specs c.loop-words.tasks.items c.in-Some.words.now)
     (sym c.specs-in-Some.ensures.specs)
     ∙ c.in-Ok-false.ensures.taken
-    ∙ ap (λ b. cond b (Some c.take_line.new.tasks.items) None) c.in-Ok-false.field-0-test))
+    ∙ ap (λ b. cond b (Some c.take_line.new.tasks.items) None) c.in-Ok-false.field-0-test)
+    (c.in-Ok-false.ensures.same c.in-Ok-false.field-0-test)) c.end.ensures.scenario
 
 pub returns-in-Ok-false-clause-refused : goal.returns-in-Ok-false-clause-refused
 returns-in-Ok-false-clause-refused c =
-    told_err c.end.result _ _ _ _ _ _ _ c.end.ensures (c.in-Ok-false.ensures.same c.in-Ok-false.field-0-test)
-    (line_ends _ c.loop-words.config c.loop-words.tasks.items c.loop-words.line c.in-Some.words.now _ _
+    told_err c.end.result _ _
+    (line_ends _ c.loop-words.config c.loop-words.tasks.items c.take_line.new.tasks.items c.loop-words.line c.in-Some.words.now _ _
     c.loop-words.invariant.read c.in-Some.ensures.line
     (ap (λ (specs : List ProcessSpec). with_task_line specs c.loop-words.tasks.items c.in-Some.words.now)
     (sym c.specs-in-Some.ensures.specs)
     ∙ c.in-Ok-false.ensures.taken
-    ∙ ap (λ b. cond b (Some c.take_line.new.tasks.items) None) c.in-Ok-false.field-0-test))
+    ∙ ap (λ b. cond b (Some c.take_line.new.tasks.items) None) c.in-Ok-false.field-0-test)
+    (c.in-Ok-false.ensures.same c.in-Ok-false.field-0-test)) c.end.ensures.refused
 
 pub loop-words-preserved : goal.loop-words-preserved
 loop-words-preserved c = record {

@@ -1,4 +1,4 @@
-use Rattle.std.proofs.Common.{◌≡◌, ◌<◌, ◌∙◌, List, length, ap, arith, inl, inr, refl, sym}
+use Rattle.std.proofs.Common.{◌≡◌, ◌<◌, ◌∙◌, List, length, ap, arith, inr, sym}
 use Rattle.vk_base.specs.declared.config.ProcessSpec.{ProcessSpec}
 use Rattle.std.proofs.lemmas.Bool.{eqb-true}
 use Rattle.vk_event.proofs.ScenarioHeads.{refused_as, no_process, with_body, has_process, ok_of, err_of}

@@ -1,5 +1,5 @@
 use Rattle.std.proofs.Common.{List, ◌++◌}
-use Rattle.vk_join.specs.declared.log.StationLog.{StationLog}
+use Rattle.vk_schedule.specs.declared.log.StationLog.{StationLog}
 use Rattle.vk_threads.specs.Gathered.{AreReady, AreShut}
 use Rattle.vk_threads.proofs.gather.close_all.Given as goal
 

@@ -10,16 +10,16 @@ use Rattle.vk_threads.proofs.run.run_stations.Goals as goal
 
 pub programs_of-requires : goal.programs_of-requires
 programs_of-requires g c =
-    subst (Each (IsTaskOf c.args.scenario.config.specs)) (sym c.as_slice.ensures) (scenario_tasks c.args.scenario c.requires)
+    subst (Each (IsTaskOf c.args.scenario.config.specs)) (sym c.as_slice.ensures) (scenario_tasks c.args.scenario c.requires.lawful c.requires.kinds)
 
 pub run_programs-requires-clause-processes : goal.run_programs-requires-clause-processes
 run_programs-requires-clause-processes g c κs within =
-    scenario_have c.args.scenario c.in-Ok.programs.items c.requires
+    scenario_have c.args.scenario c.in-Ok.programs.items c.requires.lawful
     (subst (λ l. ArePrograms l c.in-Ok.programs.items) c.as_slice.ensures c.in-Ok.ensures)
 
 pub run_programs-requires-clause-apart : goal.run_programs-requires-clause-apart
 run_programs-requires-clause-apart g c κs within =
-    scenario_apart c.args.scenario c.in-Ok.programs.items c.requires
+    scenario_apart c.args.scenario c.in-Ok.programs.items c.requires.lawful
     (subst (λ l. ArePrograms l c.in-Ok.programs.items) c.as_slice.ensures c.in-Ok.ensures)
 
 pub run_programs-requires-clause-fresh : goal.run_programs-requires-clause-fresh

@@ -1,5 +1,6 @@
 use Rattle.std.proofs.Common.{refl}
-use Rattle.vk_top.proofs.Runs.{refusal_count, run_refused, run_written, work_late, written_tells}
+use Rattle.vk_top.proofs.Threaded.{refusal_count, run_refused, work_late, work_written, written_tells}
+use Rattle.vk_top.specs.Runs.{run_asked}
 use Rattle.vk_top.proofs.run.answer_run.Goals as goal
 
 pub write_work-requires : goal.write_work-requires
@@ -7,14 +8,14 @@ write_work-requires g c = work_late _ _ _ _ c.in-Ok.ensures.work
 
 pub returns-in-Ok-clause-answered : goal.returns-in-Ok-clause-answered
 returns-in-Ok-clause-answered g c =
-    run_written _ _ _ _ _ _ _ _ c.in-Ok.ensures.work c.write_work.ensures.written c.write_work.ensures.front
+    work_written _ _ _ _ _ _ _ _ _ c.requires c.in-Ok.ensures.work c.write_work.ensures.written c.write_work.ensures.front
 
 pub returns-in-Ok-clause-crew_faults : goal.returns-in-Ok-clause-crew_faults
 returns-in-Ok-clause-crew_faults g c =
-    written_tells _ _ _ _ _ _ _ (work_late _ _ _ _ c.in-Ok.ensures.work) c.write_work.ensures.written c.in-Ok.ensures.kept
+    written_tells _ _ _ _ _ _ _ _ tt (work_late _ _ _ _ c.in-Ok.ensures.work) c.write_work.ensures.written c.in-Ok.ensures.kept
 
 pub returns-in-Err-clause-answered : goal.returns-in-Err-clause-answered
-returns-in-Err-clause-answered g c = run_refused _ _ _ _ _ _ refl c.requires c.in-Err.ensures.refused
+returns-in-Err-clause-answered g c = run_refused _ _ _ _ _ _ _ refl c.requires c.in-Err.ensures.refused
 
 pub returns-in-Err-clause-write_count : goal.returns-in-Err-clause-write_count
-returns-in-Err-clause-write_count g c = refusal_count _ _ _ c.in-Err.ensures.refused
+returns-in-Err-clause-write_count g c = refusal_count run_asked ⊥ c.args.text.now c.in-Err.status _ c.in-Err.ensures.refused

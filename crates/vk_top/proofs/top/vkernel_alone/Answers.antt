@@ -1,5 +1,5 @@
 use Rattle.std.proofs.Common.{Some, ◌∙◌, ap, arith, refl, sym}
-use Rattle.vk_top.proofs.Jobs.{not_run, storm_answer, text_answer, useless_answer, wanting_answer}
+use Rattle.vk_top.proofs.Jobs.{not_threaded, storm_answer, text_answer, useless_answer, wanting_answer}
 use Rattle.vk_top.proofs.Outcomes.{tells_none, tells_read, tells_write}
 use Rattle.vk_top.proofs.Storms.{no_other}
 use Rattle.vk_top.proofs.top.vkernel_alone.Goals as goal
@@ -10,10 +10,10 @@ returns-in-Ok-Some-OfText-clause-answer g c =
     (sym (c.in-Ok-Some-OfText.field-0-is ∙ ap Some c.in-Ok-Some-OfText.field-0-0-is) ∙ c.in-Ok-Some-OfText.ensures.job)
     c.serve.ensures.outcome c.serve.ensures.nothing
 
-pub returns-in-Ok-Some-OfText-clause-run : goal.returns-in-Ok-Some-OfText-clause-run
-returns-in-Ok-Some-OfText-clause-run g c =
-    λ run. not_run _ _
-    (sym (c.in-Ok-Some-OfText.field-0-is ∙ ap Some c.in-Ok-Some-OfText.field-0-0-is) ∙ c.in-Ok-Some-OfText.ensures.job) run (λ e. cc)
+pub returns-in-Ok-Some-OfText-clause-threaded : goal.returns-in-Ok-Some-OfText-clause-threaded
+returns-in-Ok-Some-OfText-clause-threaded g c =
+    λ threaded. not_threaded _ _
+    (sym (c.in-Ok-Some-OfText.field-0-is ∙ ap Some c.in-Ok-Some-OfText.field-0-0-is) ∙ c.in-Ok-Some-OfText.ensures.job) threaded (λ e. cc)
 
 pub returns-in-Ok-Some-OfText-clause-read_faults : goal.returns-in-Ok-Some-OfText-clause-read_faults
 returns-in-Ok-Some-OfText-clause-read_faults g c = tells_read _ _ _ c.serve.ensures.read_count
@@ -27,10 +27,10 @@ returns-in-Ok-Some-Storm-clause-answer g c =
     (sym (c.in-Ok-Some-Storm.field-0-is ∙ ap Some c.in-Ok-Some-Storm.field-0-0-is) ∙ c.in-Ok-Some-Storm.ensures.job) refl
     c.storm.ensures.answered c.storm.ensures.nothing
 
-pub returns-in-Ok-Some-Storm-clause-run : goal.returns-in-Ok-Some-Storm-clause-run
-returns-in-Ok-Some-Storm-clause-run g c =
-    λ run. not_run _ _
-    (sym (c.in-Ok-Some-Storm.field-0-is ∙ ap Some c.in-Ok-Some-Storm.field-0-0-is) ∙ c.in-Ok-Some-Storm.ensures.job) run (λ e. cc)
+pub returns-in-Ok-Some-Storm-clause-threaded : goal.returns-in-Ok-Some-Storm-clause-threaded
+returns-in-Ok-Some-Storm-clause-threaded g c =
+    λ threaded. not_threaded _ _
+    (sym (c.in-Ok-Some-Storm.field-0-is ∙ ap Some c.in-Ok-Some-Storm.field-0-0-is) ∙ c.in-Ok-Some-Storm.ensures.job) threaded (λ e. cc)
 
 pub returns-in-Ok-Some-Storm-clause-read_faults : goal.returns-in-Ok-Some-Storm-clause-read_faults
 returns-in-Ok-Some-Storm-clause-read_faults g c =

@@ -1,6 +1,6 @@
 use Rattle.std.proofs.Common.{◌≡◌, false, sym, ap, subst, ◌∙◌}
 use Rattle.std.specs.Prelude.{IfErr, IfOk, OnErr, true}
-use Rattle.vk_event.specs.Lawful.{has_actors}
+use Rattle.vk_schedule.specs.Lawful.{has_actors}
 use Rattle.vk_cluster.specs.Clusters.{value_of}
 use Rattle.vk_cluster.specs.Standing.{IsAdvance, is_limit}
 use Rattle.vk_cluster.specs.Values.{ClusterValue, is_full}

@@ -1,6 +1,6 @@
 use Rattle.std.proofs.Common.{refl, arith}
 use Rattle.std.proofs.lemmas.List.{length-map, length-set}
-use Rattle.vk_event.specs.declared.event.Event.TheVariants as scheduled
+use Rattle.vk_schedule.specs.declared.event.Event.TheVariants as scheduled
 use Rattle.vk_rules.specs.Entries.{Called}
 use Rattle.v_lawful.specs.Sending.{IsInput}
 use Rattle.vk_host.specs.Responses.{answer_of}

@@ -1,6 +1,6 @@
 use Rattle.std.proofs.Common.{◌≡◌, ℕ, ◌<◌, ◌%◌, refl, sym, ap, subst, ◌∙◌, arith}
 use Rattle.vk_cluster.specs.Standing.{logs_of, report_of}
-use Rattle.vk_event.specs.Lawful.{has_actors}
+use Rattle.vk_schedule.specs.Lawful.{has_actors}
 use Rattle.vk_generator.specs.Numbers.{drawn, next}
 use Rattle.vk_rules.specs.Histories.{happened}
 use Rattle.vk_drive.specs.Driving.{history_so_far}

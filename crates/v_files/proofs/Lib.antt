@@ -1,0 +1,10 @@
+mod Asked
+mod Calling
+mod Disks
+mod Events
+mod Examples
+mod Given
+mod Loads
+mod Moved
+mod Standing
+mod Turns

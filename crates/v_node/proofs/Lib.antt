@@ -1,0 +1,15 @@
+pub mod States
+pub mod Answered
+pub mod Others
+pub mod Carried
+pub mod Sums
+pub mod Own
+pub mod Brought
+pub mod Following
+pub mod Ticking
+pub mod Ending
+pub mod Crowded
+pub mod Sound
+pub mod Long
+pub mod Whole
+pub mod Examples

@@ -1,0 +1,6 @@
+pub mod Links
+pub mod Jobs
+pub mod Closed
+pub mod Seats
+pub mod Outcomes
+pub mod Laws

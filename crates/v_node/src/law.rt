@@ -1,0 +1,28 @@
+//! The laws of what a node comes to.
+ghost use Rattle.v_node.specs.Laws.{ClosedNodesAreRuns, FramesGoToOthers};
+
+use v_whole::views_and_aliens_hold_anyhow;
+use vk_frame::frames_are_spelled_once;
+use vk_packet::packets_are_spelled_once;
+use vk_rules::frames_unseal_again;
+
+/// No frame that a station sends is for a process of this station, whatever its processes call and whatever frames come, also such as no
+/// station emitted.
+pub fn frames_go_to_others()
+    ensures { FramesGoToOthers }
+{
+    views_and_aliens_hold_anyhow();
+}
+
+/// Whatever the jobs of a node did by their seats, each in its role: where all seats have come back, the events of its station are the run of
+/// a node. Each program's process follows its task, no collect is answered that it comes too early, and what is delivered are datagrams that
+/// the link was handed and kept, in order. A node that was not limited ticks once a round and delivers all of them; one that was ticks no more
+/// often and delivers the first of them, and it was limited only where the station is full or its frames are many.
+pub fn closed_nodes_are_runs()
+    ensures { ClosedNodesAreRuns }
+{
+    frames_unseal_again();
+    frames_are_spelled_once();
+    packets_are_spelled_once();
+    frames_go_to_others();
+}

@@ -1,0 +1,10 @@
+mod Entries
+mod Given
+mod Own
+mod Pieces
+mod Readers
+mod Standing
+mod Stocked
+mod Tracked
+mod Turns
+mod Writers

@@ -1,0 +1,4 @@
+pub mod Read
+pub mod Scheduled
+pub mod Waits
+pub mod Written

@@ -1,5 +1,0 @@
-use Rattle.vk_event.proofs.FrontLines.{their_lines}
-use Rattle.vk_event.proofs.law.front_lines.Goals as goal
-
-pub returns : goal.returns
-returns c = their_lines

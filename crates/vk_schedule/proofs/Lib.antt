@@ -1,0 +1,7 @@
+pub mod Events
+pub mod FrontLines
+pub mod Lawfulness
+pub mod Leading
+pub mod ReadAgain
+pub mod RemainingEvents
+pub mod Wanted

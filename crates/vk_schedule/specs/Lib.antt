@@ -1,0 +1,6 @@
+pub mod Lawful
+pub mod Laws
+pub mod Remaining
+pub mod Schedule
+pub mod Spelling
+pub mod Views

@@ -1,0 +1,116 @@
+//! The line of an event. Each of these reads the words from `at` on, and writes their event over the one that it is given. `None`
+//! is a bad line.
+
+ghost use Rattle.std.specs.Prelude.{◌≡◌, option_map};
+ghost use Rattle.vk_text.specs.Lines.{words_from};
+ghost use Rattle.vk_schedule.specs.Lawful.{has_actors};
+ghost use Rattle.vk_schedule.specs.Schedule.{acting, call_event_of, collect_event_of, tick_event_of, deliver_event_of, event_of};
+
+use crate::view::{EventBuffer, EventKind};
+use vk_base::Config;
+use vk_text::{is_end, next_pid, next_positive, next_station, take_call};
+
+/// The greatest number of an event of a station.
+const EVENT: u64 = 9_223_372_036_854_775_807;
+
+/// The greatest number of a frame of an event.
+const OUTPUT: u64 = 65_535;
+
+/// `PID CALLTEXT`
+#[tactic(auto, unfolding(crate::specs::Schedule::call_event_of))]
+fn read_call_event(line: &[u8], at: usize, into: &mut EventBuffer) -> Option<()>
+    ensures { option_map (λ _. into.new) result ≡ call_event_of (words_from line.now at) }
+{
+    let (pid, at) = next_pid(line, at)?;
+    take_call(line, at, &mut into.call)?;
+    into.kind = EventKind::Call { pid };
+    Some(())
+}
+
+/// `PID`
+#[tactic(auto, unfolding(crate::specs::Schedule::collect_event_of))]
+fn read_collect(line: &[u8], at: usize, into: &mut EventBuffer) -> Option<()>
+    ensures { option_map (λ _. into.new) result ≡ collect_event_of (words_from line.now at) }
+{
+    let (pid, at) = next_pid(line, at)?;
+    if !is_end(line, at) {
+        return None;
+    }
+    into.kind = EventKind::Collect { pid };
+    Some(())
+}
+
+/// `H`
+#[tactic(auto, unfolding(crate::specs::Schedule::tick_event_of))]
+fn read_tick(line: &[u8], at: usize, into: &mut EventBuffer) -> Option<()>
+    ensures { option_map (λ _. into.new) result ≡ tick_event_of (words_from line.now at) }
+{
+    let (host, at) = next_station(line, at)?;
+    if !is_end(line, at) {
+        return None;
+    }
+    into.kind = EventKind::Tick { host };
+    Some(())
+}
+
+/// `TO FROM EVENT OUTPUT`
+#[tactic(auto, unfolding(crate::specs::Schedule::deliver_event_of))]
+fn read_delivery(line: &[u8], at: usize, into: &mut EventBuffer) -> Option<()>
+    ensures { option_map (λ _. into.new) result ≡ deliver_event_of (words_from line.now at) }
+{
+    let (to, at) = next_station(line, at)?;
+    let (from, at) = next_station(line, at)?;
+    let (event, at) = next_positive(line, at, EVENT)?;
+    let (output, at) = next_positive(line, at, OUTPUT)?;
+    if !is_end(line, at) {
+        return None;
+    }
+    into.kind = EventKind::Deliver {
+        to,
+        from,
+        event,
+        output: output as u16,
+    };
+    Some(())
+}
+
+/// The event that the line spells.
+#[tactic(auto, unfolding(crate::specs::Schedule::event_of))]
+fn read_words(line: &[u8], into: &mut EventBuffer) -> Option<()>
+    ensures { option_map (λ _. into.new) result ≡ event_of (words_from line.now 0) }
+{
+    if line.starts_with(b"call ") {
+        read_call_event(line, 5, into)
+    } else if line.starts_with(b"collect ") {
+        read_collect(line, 8, into)
+    } else if line.starts_with(b"tick ") {
+        read_tick(line, 5, into)
+    } else if line.starts_with(b"deliver ") {
+        read_delivery(line, 8, into)
+    } else {
+        None
+    }
+}
+
+/// Whether its processes and stations are in the configuration.
+fn has_actors(config: &Config, event: &EventBuffer) -> bool
+    ensures { result ≡ has_actors config.now.specs event.now }
+{
+    match event.kind {
+        EventKind::Call { pid } | EventKind::Collect { pid } => config.has_process(pid),
+        EventKind::Tick { host } => config.has_station(host),
+        EventKind::Deliver { to, from, .. } => config.has_station(to) && config.has_station(from),
+    }
+}
+
+/// The event of the line, where it is one of processes and stations of the configuration.
+pub fn read_event(config: &Config, line: &[u8], into: &mut EventBuffer) -> Option<()>
+    ensures { option_map (λ _. into.new) result ≡ acting config.now.specs (event_of (words_from line.now 0)) }
+{
+    read_words(line, into)?;
+    if has_actors(config, into) {
+        Some(())
+    } else {
+        None
+    }
+}

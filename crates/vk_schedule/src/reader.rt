@@ -1,0 +1,131 @@
+//! The events of a schedule's text, one after another.
+
+ghost use Rattle.std.specs.Prelude.{◌≡◌, ◌⊎◌, ℕ, true, [], None, IfOk, IfErr, if◌then◌else◌};
+ghost use Rattle.vk_schedule.specs.Lawful.{IsLawful, IsReadableEvent, has_actors};
+ghost use Rattle.vk_schedule.specs.Remaining.{IsNext, end_of};
+ghost use Rattle.vk_schedule.specs.Schedule.{HasProcess, front_of, unopened};
+
+use crate::event::Event;
+use crate::line::read_event;
+use crate::schedule::{Front, Schedule, TextRefusal, refused};
+use crate::view::EventBuffer;
+use std::alloc::Global;
+use std::marker::Model;
+use vk_base::limits::EVENTS;
+use vk_base::{Config, List};
+use vk_text::{next_line, read_opening};
+
+/// What is left to be read of a text: the events that are still to come, which [`EventReader::next`] gives one by one, and how the
+/// reading ends. It keeps none of the events.
+#[derive(Drop)]
+pub struct EventReader<'a> {
+    alloc: Global,
+    config: Config,
+    text: &'a [u8],
+    /// Where the next line starts.
+    at: usize,
+    /// The number of that line, from 1.
+    line: u64,
+    /// How many events were given.
+    given: usize,
+}
+
+impl<'a> Model for EventReader<'a> {
+    ghost use Rattle.std.specs.Prelude.{drop};
+    ghost use Rattle.vk_text.specs.Lines.{lines_of};
+    ghost use Rattle.vk_schedule.specs.declared.schedule.Front.{Front};
+
+    ghost Value = { Front };
+
+    ghost use Rattle.vk_schedule.specs.Remaining.{IsWithin, front_left};
+
+    ghost view = { λ r. front_left r.config r.given r.line (lines_of (drop r.at r.text.now)) };
+
+    ghost invariant = { λ r. IsWithin r.given r.line };
+}
+
+/// What is left where no event is.
+fn ended(
+    alloc: Global,
+    config: Config,
+    refused: Option<TextRefusal>,
+    beyond: Option<Event>,
+) -> Front
+    ensures { result ≡ end_of config refused beyond }
+{
+    Front {
+        schedule: Schedule {
+            config,
+            events: List::empty(alloc),
+        },
+        refused,
+        beyond,
+    }
+}
+
+impl<'a> EventReader<'a> {
+    /// All of the text is left to be read, but its opening. A text without a title, or without the times of its format, is bad in that
+    /// line; other bad lines, and an event too many, are told at the end of the reading. Memory is wanted only for processes.
+    pub fn new(alloc: Global, text: &'a [u8]) -> Result<Self, TextRefusal>
+        ensures front { IfOk result (λ r. r ≡ front_of text.now) }
+        ensures lawful { IfOk result (λ r. IsLawful r.schedule) }
+        ensures refused { IfErr result (λ e. ((e ≡ TextRefusal.NoMemory) × HasProcess text.now)
+            ⊎ ((line : ℕ) × (e ≡ TextRefusal.BadInput line) × (front_of text.now ≡ unopened line))) }
+    {
+        match read_opening(alloc, text, b"vkernel 1", b"vkernel 2") {
+            Ok(head) => Ok(EventReader {
+                alloc,
+                config: head.config,
+                text,
+                at: head.at,
+                line: head.line,
+                given: 0,
+            }),
+            Err(refusal) => Err(refused(refusal)),
+        }
+    }
+
+    /// The configuration of the text.
+    pub fn config(&self) -> &Config
+        ensures { result.now ≡ self.now.schedule.config }
+    {
+        &self.config
+    }
+
+    /// Writes the next event over this one, and tells whether there is one. Where there is none, any may be left in its place.
+    pub fn next(&mut self, event: &mut EventBuffer) -> bool
+        ensures next { IsNext self.old self.new (if result then Some event.new else None) }
+        ensures lawful { result ≡ true → IsReadableEvent event.new × (has_actors self.old.schedule.config.specs event.new ≡ true) }
+    {
+        let Some((line, next)) = next_line(self.text, self.at) else {
+            return false;
+        };
+        if self.given >= EVENTS {
+            return false;
+        }
+        let Some(()) = read_event(&self.config, line, event) else {
+            return false;
+        };
+        self.at = next;
+        self.line += 1;
+        self.given += 1;
+        true
+    }
+
+    /// How the reading ends, with the configuration of the text and with none of its events.
+    pub fn into_front(self) -> Front
+        requires { self.schedule.events ≡ [] }
+        ensures { result ≡ self.entry }
+    {
+        let Some((line, _)) = next_line(self.text, self.at) else {
+            return ended(self.alloc, self.config, None, None);
+        };
+        let mut event = EventBuffer::new();
+        if let Some(()) = read_event(&self.config, line, &mut event) {
+            let refused = Some(TextRefusal::Limit);
+            return ended(self.alloc, self.config, refused, Some(event.view().whole()));
+        }
+        let refused = Some(TextRefusal::BadInput { line: self.line });
+        ended(self.alloc, self.config, refused, None)
+    }
+}

@@ -1,0 +1,67 @@
+-- What `node H` answers and writes: the input is a scenario that has the station H, and a port of each station. This station is run with a
+-- wire to the others, and what happened there is written.
+use Rattle.std.specs.Prelude.{ℕ, ◌≡◌, ◌+◌, ◌-◌, ◌^◌, ◌≤◌, min, Bool, List, length, Option, Result, Ok, Err, if◌then◌else◌}
+use Rattle.vk_base.specs.declared.event.StationEvent.{StationEvent}
+use Rattle.vk_base.specs.declared.limits.TheConstants.{INPUT_BYTES}
+use Rattle.vk_event.specs.declared.scenario.Scenario.{Scenario}
+use Rattle.vk_event.specs.NodeLaws.{node_text, one_log}
+use Rattle.vk_event.specs.Nodes.{nodes_of}
+use Rattle.vk_event.specs.Ports.{has_all_ports, line_behind}
+use Rattle.vk_event.specs.Scenario.{scenario_of}
+use Rattle.vk_schedule.specs.declared.schedule.TextRefusal.{TextRefusal}
+use Rattle.vk_schedule.specs.declared.schedule.TextRefusal.TheVariants as texts
+use Rattle.v_node.specs.Outcomes.{IsNodeRun}
+use Rattle.vk_top.specs.declared.status.Status.{Status}
+use Rattle.vk_top.specs.Programs.{assignments_at, tasks_at}
+use Rattle.vk_top.specs.Threaded.{IsThreadedAnswer, scenario_status}
+use Rattle.vk_udp.specs.Node.{HandedOut}
+
+-- the scenario, where it has the station and a port of each; else the line behind the text's last is bad
+abbrev pub for_station : ℕ → List ℕ → Result Scenario TextRefusal → Result Scenario TextRefusal
+for_station host text (Ok s) = if has_all_ports s.config.specs s.ports host then Ok s else Err (texts.BadInput (line_behind text))
+for_station host text (Err e) = Err e
+
+-- the scenario that the text spells for this station
+abbrev pub node_scenario : ℕ → List ℕ → Result Scenario TextRefusal
+node_scenario host text = for_station host text (scenario_of text)
+
+-- a job for each task of the station, one for the link and one for the clock
+abbrev pub jobs_at : ℕ → Scenario → ℕ
+jobs_at host s = length (tasks_at host s.tasks) + 2
+
+-- what is counted of a node's run: what the wire's links handed out, where it tells that, and the crew's jobs
+pub record Passed : Type 0 where
+  pub handed : Option (List (List ℕ))
+  pub jobs : ℕ
+
+-- The input is the text of a scenario for this station. The station's run, which was limited or not, came to these events: its processes did
+-- what their tasks say and no others did anything, its clock ticked, and what was delivered are datagrams that the wire's links handed out,
+-- in order. The crew's count of jobs rose by as many as one call of it has for the station, up to its last value. The node text reads as
+-- these events again.
+pub record HasNodeRun (host : ℕ) (before now : Passed) (limited : Bool) (input : List ℕ) (scenario : Scenario) (events : List StationEvent)
+    : Type 0 where
+  pub small : length input ≤ INPUT_BYTES
+  pub text : node_scenario host input ≡ Ok scenario
+  pub handed : List (List ℕ)
+  pub told : HandedOut before.handed now.handed handed
+  pub ran : IsNodeRun scenario.config host scenario.rounds (assignments_at host scenario.tasks) limited handed events
+  pub jobs : now.jobs ≡ min (before.jobs + jobs_at host scenario) (2 ^ 64 - 1)
+  pub read : nodes_of (node_text scenario.config host events) ≡ Ok (one_log scenario.config host events)
+
+-- and this is the node text
+pub record TellsNode (host : ℕ) (before now : Passed) (limited : Bool) (input output : List ℕ) : Type 0 where
+  pub scenario : Scenario
+  pub events : List StationEvent
+  pub ran : HasNodeRun host before now limited input scenario events
+  pub lines : output ≡ node_text scenario.config host events
+
+-- what a text asks for, where the station's run is limited or not
+abbrev pub node_asked : ℕ → Bool → List ℕ → Status
+node_asked host limited text = scenario_status limited (node_scenario host text)
+
+-- What the answer to the words of `node H` says. `Unread` and `Unwritten` are that input and output are as they were; of the input these
+-- bytes were left, and are; so much was counted before, and now; to the output those bytes were written, and are.
+abbrev pub IsNodeAnswer : ℕ → (Unread Unwritten : Type 0) → (left rest : Option (List ℕ)) → (before now : Passed) →
+    (old new : Option (List ℕ)) → Status → Type 0
+IsNodeAnswer host Unread Unwritten left rest before now old new s =
+    IsThreadedAnswer (TellsNode host before now) (node_asked host) (Unit {0}) Unread Unwritten left rest old new s

@@ -1,0 +1,112 @@
+-- What is answered and written where a scenario is read, run in threads, and what happened is told in a text. `Tells limited input output`
+-- is what is known of such a text where the run was limited, or not; `asked limited input` is what the input asks for then. `Linked` is that
+-- the run has a link, which may fail.
+use Rattle.std.specs.Prelude.{ℕ, ◌≡◌, ◌≤◌, ◌<◌, ◌⊎◌, nat_lt, Bool, true, false, List, [], length, take, Option, Some, IfSome, Result, Ok, Err, if◌then◌else◌}
+use Rattle.std.specs.Io.KnownBytes.{Appends}
+use Rattle.vk_base.specs.declared.limits.TheConstants.{INPUT_BYTES}
+use Rattle.vk_event.specs.declared.scenario.Scenario.{Scenario}
+use Rattle.vk_schedule.specs.declared.schedule.TextRefusal.{TextRefusal}
+use Rattle.vk_top.specs.declared.status.Status.{Status}
+use Rattle.vk_top.specs.declared.status.Status.TheVariants as status
+use Rattle.vk_top.specs.declared.top.Work.{Work}
+use Rattle.vk_top.specs.Statuses.{refused}
+use Rattle.vk_top.specs.Top.{IsEarly, IsWanting, OfInput}
+
+-- the answer to a run
+abbrev pub ended : Bool → Status
+ended limited = if limited then status.Limit else status.Done
+
+-- what a scenario asks for, where its run is limited or not; no text is refused for a limit
+abbrev pub scenario_status : Bool → Result Scenario TextRefusal → Status
+scenario_status limited (Ok scenario) = ended limited
+scenario_status limited (Err why) = refused why
+
+-- it is written
+pub record IsRan (Tells : Bool → List ℕ → List ℕ → Type 0) (limited : Bool) (input : List ℕ) (old new : Option (List ℕ)) : Type 0 where
+  pub output : List ℕ
+  pub tells : Tells limited input output
+  pub written : Appends old new output
+
+-- so many bytes of it are written
+pub record IsRanInPart (Tells : Bool → List ℕ → List ℕ → Type 0) (input : List ℕ) (old new : Option (List ℕ)) : Type 0 where
+  pub limited : Bool
+  pub output : List ℕ
+  pub tells : Tells limited input output
+  pub count : ℕ
+  pub written : Appends old new (take count output)
+
+-- the line is the first of the text that is bad, and there are not too many bytes
+pub record IsBadScenario (asked : Bool → List ℕ → Status) (input : List ℕ) (line : ℕ) : Type 0 where
+  pub small : length input ≤ INPUT_BYTES
+  pub bad : asked false input ≡ status.BadInput line
+
+-- what an input asks for
+abbrev pub asked_of : (Bool → List ℕ → Status) → Bool → List ℕ → Status
+asked_of asked limited input = if nat_lt INPUT_BYTES (length input) then status.Limit else asked limited input
+
+-- the input, memory and whether the run was limited decide the answer, unless a fault is told
+abbrev pub IsRunDecided : (Bool → List ℕ → Status) → Option (List ℕ) → Status → Type 0
+IsRunDecided asked told status.ReadFault = Unit {0}
+IsRunDecided asked told status.WriteFault = Unit {0}
+IsRunDecided asked told status.CrewFault = Unit {0}
+IsRunDecided asked told status.LinkFault = Unit {0}
+IsRunDecided asked told status.NoMemory = Unit {0}
+IsRunDecided asked told s = OfInput told (λ i. (limited : Bool) × (s ≡ asked_of asked limited i))
+
+-- What the answer says. `Unread` and `Unwritten` are that input and output are as they were; of the input these bytes were left, and are; to
+-- the output those were written, and are.
+pub record IsThreadedAnswer (Tells : Bool → List ℕ → List ℕ → Type 0) (asked : Bool → List ℕ → Status) (Linked : Type 0)
+    (Unread Unwritten : Type 0) (left rest old new : Option (List ℕ)) (s : Status) : Type 0 where
+  -- Done: all of the input is the text of a scenario, and what happened in its run, which was not limited, is written.
+  pub done : s ≡ status.Done → OfInput left (λ i. IsRan Tells false i old new)
+  -- Limit comes only where the input has too many bytes, and then nothing is written; or where the run was limited, and then all that
+  -- happened is written.
+  pub limit : s ≡ status.Limit → OfInput left (λ i. ((INPUT_BYTES < length i) × Unwritten) ⊎ IsRan Tells true i old new)
+  -- At WriteFault a run went well, limited or not, and a front of the text is written.
+  pub writing : s ≡ status.WriteFault → OfInput left (λ i. IsRanInPart Tells i old new)
+  -- At Done and WriteFault the input was read to its end, and at Limit where something was written.
+  pub whole : (s ≡ status.Done) ⊎ (s ≡ status.WriteFault) → IfSome left (λ i. rest ≡ Some [])
+  pub limit_whole : s ≡ status.Limit → Unwritten ⊎ IfSome left (λ i. rest ≡ Some [])
+  -- BadInput tells the first line of the input that is bad.
+  pub bad : (line : ℕ) → s ≡ status.BadInput line → OfInput left (λ i. IsBadScenario asked i line)
+  -- NoMemory comes only before anything was read, or where at least one byte was read and not one too many.
+  pub memory : s ≡ status.NoMemory → IsWanting Unread left rest
+  -- Usage, NotARun and Stray do not come, and LinkFault only where there is a link.
+  pub kinds : ¬ (s ≡ status.Usage) × ((step : ℕ) → ¬ (s ≡ status.NotARun step)) × ((host event : ℕ) → ¬ (s ≡ status.Stray host event))
+  pub link : s ≡ status.LinkFault → Linked
+  -- At BadInput, ReadFault, NoMemory, CrewFault and LinkFault nothing is written.
+  pub nothing : IsEarly s → Unwritten
+  -- Where no fault is told and memory sufficed, the input decides, and whether the run was limited.
+  pub complete : IsRunDecided asked left s
+
+-- Of the code alone from here on.
+
+-- what is written of a scenario, and the answer then
+pub record IsThreadedWork (Tells : Bool → List ℕ → List ℕ → Type 0) (asked : Bool → List ℕ → Status) (text : List ℕ) (w : Work) : Type 0 where
+  pub limited : Bool
+  pub tells : Tells limited text w.text.items
+  pub status : w.status ≡ ended limited
+  pub asked_for : ended limited ≡ asked limited text
+
+-- why nothing is written of a scenario
+abbrev pub IsThreadedRefusal : (Bool → List ℕ → Status) → Type 0 → List ℕ → Status → Type 0
+IsThreadedRefusal asked Linked text (status.BadInput line) = asked false text ≡ status.BadInput line
+IsThreadedRefusal asked Linked text status.NoMemory = 0 < length text
+IsThreadedRefusal asked Linked text status.CrewFault = Unit {0}
+IsThreadedRefusal asked Linked text status.LinkFault = Linked
+IsThreadedRefusal asked Linked text s = ⊥
+
+-- what the answer to a text says, which was read whole
+pub record IsThreadedAnswered (Tells : Bool → List ℕ → List ℕ → Type 0) (asked : Bool → List ℕ → Status) (Linked Unwritten : Type 0)
+    (text : List ℕ) (old new : Option (List ℕ)) (s : Status) : Type 0 where
+  pub done : s ≡ status.Done → IsRan Tells false text old new
+  pub limit : s ≡ status.Limit → IsRan Tells true text old new
+  pub writing : s ≡ status.WriteFault → IsRanInPart Tells text old new
+  pub bad : (line : ℕ) → s ≡ status.BadInput line → IsBadScenario asked text line
+  pub memory : s ≡ status.NoMemory → 0 < length text
+  pub kinds : ¬ (s ≡ status.Usage) × ((step : ℕ) → ¬ (s ≡ status.NotARun step)) × ((host event : ℕ) → ¬ (s ≡ status.Stray host event))
+  pub link : s ≡ status.LinkFault → Linked
+  pub reading : ¬ (s ≡ status.ReadFault)
+  pub nothing : IsEarly s → Unwritten
+  pub complete : (s ≡ status.NoMemory) ⊎ (s ≡ status.WriteFault) ⊎ (s ≡ status.CrewFault) ⊎ (s ≡ status.LinkFault)
+      ⊎ ((limited : Bool) × (s ≡ asked_of asked limited text))

@@ -1,0 +1,208 @@
+//! `node H`: one station of a scenario, with a wire to the others.
+
+ghost use Rattle.std.specs.Prelude.{◌≡◌, ◌<◌, ◌≤◌, ◌+◌, ◌-◌, ◌^◌, min, length, true, Ok, IfOk, IfErr, OnOk};
+ghost use Rattle.vk_base.specs.declared.limits.TheConstants.{INPUT_BYTES};
+ghost use Rattle.vk_event.specs.NodeLaws.{IsLawfulNodes, node_text, one_log};
+ghost use Rattle.vk_event.specs.Nodes.{nodes_of};
+ghost use Rattle.vk_event.specs.Ports.{has_all_ports};
+ghost use Rattle.vk_event.specs.ScenarioLaws.{IsLawfulScenario};
+ghost use Rattle.vk_top.specs.Nodes.{IsNodeAnswer, Passed, TellsNode, jobs_at, node_asked, node_scenario};
+ghost use Rattle.vk_top.specs.Programs.{assignments_at};
+ghost use Rattle.vk_top.specs.Threaded.{IsThreadedAnswered, IsThreadedRefusal, IsThreadedWork, ended};
+ghost use Rattle.vk_top.specs.Top.{TellsFaults};
+ghost use Rattle.vk_top.specs.Work.{IsReadCount, IsWriteCount};
+ghost use Rattle.vk_udp.specs.Node.{IsNodeRecord, TellsNodeFault, TellsNodeJobs};
+
+use crate::program::programs_at;
+use crate::status::{Status, refused};
+use crate::top::{Work, ended, read_text, write_work};
+use std::alloc::Global;
+use std::net::Net;
+use std::sync::Wait;
+use std::thread::Threads;
+use std::time::Clock;
+use vk_base::{Config, NoMemory, StationEvent};
+use vk_event::{Scenario, has_all_ports, line_behind, read_scenario, write_node};
+use vk_io::{Crew, Pacer, Sink, Source};
+use vk_udp::{NodeRecord, NodeRefusal, Wire, run_node};
+
+/// The scenario that the text spells. It has the station, and a port for each; else the line behind its last is bad.
+fn read_for(alloc: Global, host: u16, text: &[u8]) -> Result<Scenario, Status>
+    ensures scenario { IfOk result (λ s. node_scenario host text.now ≡ Ok s) }
+    ensures lawful { IfOk result IsLawfulScenario }
+    ensures ports { IfOk result (λ s. has_all_ports s.config.specs s.ports host ≡ true) }
+    ensures some { OnOk result (0 < length text.now) }
+    ensures refused { IfErr result (IsThreadedRefusal (node_asked host) (Unit {0}) text.now) }
+    ensures kinds { IfErr result (λ s. ¬ (s ≡ Status.CrewFault) × ¬ (s ≡ Status.LinkFault)) }
+{
+    match read_scenario(alloc, text) {
+        Ok(scenario) => {
+            if has_all_ports(&scenario, host) {
+                Ok(scenario)
+            } else {
+                Err(Status::BadInput {
+                    line: line_behind(text),
+                })
+            }
+        }
+        Err(refusal) => Err(refused(refusal)),
+    }
+}
+
+/// The node text of the station with these events, and the answer then.
+fn written(
+    alloc: Global,
+    config: &Config,
+    host: u16,
+    events: &[StationEvent],
+    limited: bool,
+) -> Result<Work, Status>
+    requires { IsLawfulNodes (one_log config.now host events.now) }
+    ensures work { IfOk result (λ w. (w.text.items ≡ node_text config.now host events.now) × (w.status ≡ ended limited)) }
+    ensures read { OnOk result (nodes_of (node_text config.now host events.now) ≡ Ok (one_log config.now host events.now)) }
+    ensures refused { IfErr result (λ s. s ≡ Status.NoMemory) }
+{
+    match write_node(alloc, config, host, events) {
+        Ok(text) => Ok(Work {
+            text,
+            status: ended(limited),
+        }),
+        Err(NoMemory) => Err(Status::NoMemory),
+    }
+}
+
+/// What happened where the station of the scenario ran.
+fn run_station<C: Crew, P: Pacer + Send, W: Wire, R: Wait + Threads + Clock + Net + Sync>(
+    rt: &R,
+    alloc: Global,
+    host: u16,
+    scenario: &Scenario,
+    crew: &mut C,
+    pacer: &mut P,
+    wire: &mut W,
+) -> Result<NodeRecord, NodeRefusal>
+    requires lawful { IsLawfulScenario scenario.now }
+    requires ports { has_all_ports scenario.now.config.specs scenario.now.ports host ≡ true }
+    ensures ran { IfOk result (λ r. IsNodeRecord scenario.now.config host scenario.now.rounds (assignments_at host scenario.now.tasks)
+        (W.handed wire.old) (W.handed wire.new) r.limited r.log) }
+    ensures jobs { TellsNodeJobs (C.job_count crew.old) (min (C.job_count crew.old + jobs_at host scenario.now) (2 ^ 64 - 1))
+        (C.job_count crew.new) result }
+    ensures fault { TellsNodeFault (W.fault_count wire.old) (W.fault_count wire.new) (C.fault_count crew.old) (C.fault_count crew.new)
+        result }
+{
+    let Ok(config) = scenario.config.copy(alloc) else {
+        return Err(NodeRefusal::NoMemory);
+    };
+    let Ok(programs) = programs_at(alloc, &config, scenario.tasks.as_slice(), host) else {
+        return Err(NodeRefusal::NoMemory);
+    };
+    run_node(
+        rt,
+        alloc,
+        config,
+        host,
+        programs,
+        scenario.plan,
+        scenario.rounds,
+        scenario.ports.as_slice(),
+        crew,
+        pacer,
+        wire,
+    )
+}
+
+/// `node H`: what happened at the station where it ran.
+fn node_work<C: Crew, P: Pacer + Send, W: Wire, R: Wait + Threads + Clock + Net + Sync>(
+    rt: &R,
+    alloc: Global,
+    host: u16,
+    text: &[u8],
+    crew: &mut C,
+    pacer: &mut P,
+    wire: &mut W,
+) -> Result<Work, Status>
+    requires { length text.now ≤ INPUT_BYTES }
+    ensures work { IfOk result (IsThreadedWork (TellsNode host (record { handed = W.handed wire.old; jobs = C.job_count crew.old })
+        (record { handed = W.handed wire.new; jobs = C.job_count crew.new })) (node_asked host) text.now) }
+    ensures refused { IfErr result (IsThreadedRefusal (node_asked host) (Unit {0}) text.now) }
+    ensures kept { OnOk result ((C.fault_count crew.new ≡ C.fault_count crew.old) × (W.fault_count wire.new ≡ W.fault_count wire.old)) }
+    ensures crew_faults { IfErr result (λ s. TellsFaults Status.CrewFault s (C.fault_count crew.old) (C.fault_count crew.new)) }
+    ensures link_faults { IfErr result (λ s. TellsFaults Status.LinkFault s (W.fault_count wire.old) (W.fault_count wire.new)) }
+{
+    let scenario = match read_for(alloc, host, text) {
+        Ok(scenario) => scenario,
+        Err(status) => return Err(status),
+    };
+    match run_station(rt, alloc, host, &scenario, crew, pacer, wire) {
+        Ok(NodeRecord { log, limited }) => written(
+            alloc,
+            &scenario.config,
+            host,
+            log.events.as_slice(),
+            limited,
+        ),
+        Err(NodeRefusal::LinkFault) => Err(Status::LinkFault),
+        Err(NodeRefusal::CrewFault) => Err(Status::CrewFault),
+        Err(NodeRefusal::NoMemory) => Err(Status::NoMemory),
+    }
+}
+
+/// The whole work on the text of a scenario that was read.
+fn answer_node<K: Sink, C: Crew, P: Pacer + Send, W: Wire, R: Wait + Threads + Clock + Net + Sync>(
+    rt: &R,
+    alloc: Global,
+    host: u16,
+    text: &[u8],
+    output: &mut K,
+    crew: &mut C,
+    pacer: &mut P,
+    wire: &mut W,
+) -> Status
+    requires { length text.now ≤ INPUT_BYTES }
+    ensures answered { IsThreadedAnswered (TellsNode host (record { handed = W.handed wire.old; jobs = C.job_count crew.old })
+        (record { handed = W.handed wire.new; jobs = C.job_count crew.new })) (node_asked host) (Unit {0}) (output.new ≡ output.old)
+        text.now (K.written output.old) (K.written output.new) result }
+    ensures write_count { IsWriteCount result (K.fault_count output.old) (K.fault_count output.new) }
+    ensures crew_faults { TellsFaults Status.CrewFault result (C.fault_count crew.old) (C.fault_count crew.new) }
+    ensures link_faults { TellsFaults Status.LinkFault result (W.fault_count wire.old) (W.fault_count wire.new) }
+    ensures never_falls { K.fault_count output.old ≤ K.fault_count output.new }
+{
+    match node_work(rt, alloc, host, text, crew, pacer, wire) {
+        Ok(work) => write_work(output, &work),
+        Err(status) => status,
+    }
+}
+
+/// The whole work of `node H`.
+pub(crate) fn node<
+    S: Source,
+    K: Sink,
+    C: Crew,
+    P: Pacer + Send,
+    W: Wire,
+    R: Wait + Threads + Clock + Net + Sync,
+>(
+    rt: &R,
+    alloc: Global,
+    host: u16,
+    input: &mut S,
+    output: &mut K,
+    crew: &mut C,
+    pacer: &mut P,
+    wire: &mut W,
+) -> Status
+    ensures answer { IsNodeAnswer host (input.new ≡ input.old) (output.new ≡ output.old) (S.left input.old) (S.left input.new)
+        (record { handed = W.handed wire.old; jobs = C.job_count crew.old })
+        (record { handed = W.handed wire.new; jobs = C.job_count crew.new }) (K.written output.old) (K.written output.new) result }
+    ensures read_count { IsReadCount result (S.fault_count input.old) (S.fault_count input.new) }
+    ensures write_count { IsWriteCount result (K.fault_count output.old) (K.fault_count output.new) }
+    ensures crew_faults { TellsFaults Status.CrewFault result (C.fault_count crew.old) (C.fault_count crew.new) }
+    ensures link_faults { TellsFaults Status.LinkFault result (W.fault_count wire.old) (W.fault_count wire.new) }
+    ensures read_faults_never_fall { S.fault_count input.old ≤ S.fault_count input.new }
+    ensures write_faults_never_fall { K.fault_count output.old ≤ K.fault_count output.new }
+{
+    match read_text(alloc, input) {
+        Ok(text) => answer_node(rt, alloc, host, &text, output, crew, pacer, wire),
+        Err(status) => status,
+    }
+}

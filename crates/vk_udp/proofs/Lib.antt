@@ -1,0 +1,11 @@
+mod Clocking
+mod Bringing
+mod Fetching
+mod Ending
+mod Closed
+mod WholeNode
+mod Recorded
+mod LinkBack
+mod Dealing
+mod Sending
+mod Opened

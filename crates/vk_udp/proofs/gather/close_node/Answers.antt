@@ -1,0 +1,26 @@
+use Rattle.std.proofs.Common.{◌≡◌, ◌∙◌, ◌++◌, ◌∷◌, [], List, ap, append_assoc, subst}
+use Rattle.turn_cell.specs.Seats.{Sitting}
+use Rattle.vk_hub.specs.declared.event.HubEvent.{HubEvent}
+use Rattle.vk_hub.specs.Hubs.{HubLog}
+use Rattle.vk_threads.specs.declared.opening.Site.{Site}
+use Rattle.vk_threads.specs.declared.opening.Spare.{Spare}
+use Rattle.vk_threads.specs.Gathered.{AreShut, HaveComeBack, all_hub_seats, all_spares}
+use Rattle.vk_udp.specs.Gathered.{hub_seats_of, site_of}
+use Rattle.vk_udp.proofs.gather.close_node.Goals as goal
+
+pub returns : goal.returns
+returns c =
+    let ends = c.args.ends.items in
+    let closed = c.close-closed.ensures in
+    let seated : c.push-2.new.self.items ≡ hub_seats_of ends c.args.fetches c.args.halt =
+    c.in_ok-push-2.ensures.items
+    ∙ ap (λ l. l ++ c.args.halt ∷ []) (c.in_ok-push.ensures.items ∙ ap (λ l. l ++ c.args.fetches ∷ []) c.in_ok-seats.ensures.hub_seats)
+    ∙ append_assoc (all_hub_seats ends) (c.args.fetches ∷ []) (c.args.halt ∷ []) in
+    record {
+      heard = c.close-closed.result.history;
+      back = subst (λ (l : List (Sitting HubLog HubEvent)). HaveComeBack c.args.hub.seats l c.close-closed.result.history) seated
+          (record { seen = closed.seen; mine = closed.mine; others = closed.others; different = closed.different; numbers = closed.numbers });
+      shut = subst (AreShut (site_of c.args.host c.args.cell ∷ []) (all_spares ends)) c.one_log.ensures
+          (subst (λ (l : List Spare). AreShut (site_of c.args.host c.args.cell ∷ []) l c.in_ok-logs.logs.items) c.in_ok-seats.ensures.spares
+          (subst (λ (l : List Site). AreShut l c.in_ok-seats.field-0.seats.items c.in_ok-logs.logs.items) c.in_ok-sites.ensures c.in_ok-logs.ensures));
+    }

@@ -1,0 +1,90 @@
+-- What has come back once all jobs of a node have ended.
+use Rattle.std.specs.Prelude.{ℕ, ◌≡◌, ◌+◌, ◌++◌, true, Option, List, [], ◌∷◌, length, map, option_map}
+use mathlib.Core.List.{IsPrefix}
+use Rattle.turn_cell.specs.Seats.{Cell, IsSeatOf, Sitting}
+use Rattle.vk_base.specs.declared.answer.Answer.{Answer}
+use Rattle.vk_base.specs.declared.call.Call.{Call}
+use Rattle.vk_base.specs.Settings.{Settings}
+use Rattle.vk_event.specs.declared.port.StationPort.{StationPort}
+use Rattle.vk_hub.specs.declared.event.HubEvent.{HubEvent}
+use Rattle.vk_hub.specs.Hubs.{HubLog}
+use Rattle.vk_hub.specs.Links.{Frame}
+use Rattle.vk_io.specs.Crews.{AllEnd}
+use Rattle.vk_io.specs.Causes.{Rose}
+use Rattle.vk_port.specs.Stations.{StationHistory}
+use Rattle.vk_program.specs.declared.assigned.Assigned.{Assigned}
+use Rattle.vk_rules.specs.Each.{Each}
+use Rattle.v_node.specs.Closed.{IsLinkWay}
+use Rattle.v_node.specs.Jobs.{AreNodeJobs, ClockEnd, LinkEnd, passages_in}
+use Rattle.v_node.specs.Jobs.{NodeEnd as AllEnds}
+use Rattle.v_run.specs.Jobs.{JobEnd}
+use Rattle.v_run.specs.Outcomes.{Assignment}
+use Rattle.v_run.specs.Passages.{IsPassage, Passage, Pumps, host_of}
+use Rattle.v_run.specs.Runs.{passages_of, tasks_of}
+use Rattle.vk_threads.specs.declared.end.End.{End}
+use Rattle.vk_threads.specs.Ended.{AreEndsOf}
+use Rattle.vk_udp.specs.declared.work.Carried.{Carried}
+use Rattle.vk_udp.specs.declared.work.NodeEnd.{NodeEnd}
+use Rattle.vk_udp.specs.declared.work.NodeEnd.TheVariants as ends
+use Rattle.vk_udp.specs.declared.work.NodeWork.{NodeWork}
+use Rattle.vk_udp.specs.Dealt.{AreNodeDealt}
+use Rattle.vk_udp.specs.Gathered.{own_end, site_of}
+use Rattle.vk_udp.specs.Jobs.{ends_as}
+
+-- All jobs of a node were run, and ended so; the seat of the halt is as it was.
+pub record HasRunNodeJobs (G P L : Type 0) (task : G → List Answer → Option Call) (handed : L → Option (List Frame)) (faults : L → ℕ)
+    (cell : Cell StationHistory) (hub : Cell HubLog) (host : ℕ) (programs : List (Assigned G)) (rounds : ℕ) (ports : List StationPort)
+    (fetches : Sitting HubLog HubEvent) (link : L) (all : List (NodeEnd L)) (halt : Sitting HubLog HubEvent) : Type 0 where
+  pub jobs : List (NodeWork G P L)
+  pub dealt : AreNodeDealt cell hub host programs rounds ports fetches link jobs
+  pub each_end : AllEnd (ends_as task handed faults) jobs all
+  pub seat : IsSeatOf hub halt
+  pub unhalted : halt.mine ≡ []
+
+-- The clock's job and the link's, as other jobs are: what the link's port did, as a passage.
+abbrev pub clock_job : ClockEnd → JobEnd
+clock_job k = record { passages = k.passage ∷ []; met = k.met }
+
+abbrev pub link_passage : LinkEnd → Passage
+link_passage l = record { berth = l.berth; actions = l.actions; left = l.left; role = Pumps; last = l.last }
+
+abbrev pub link_job : LinkEnd → JobEnd
+link_job l = record { passages = link_passage l ∷ []; met = l.met }
+
+abbrev pub all_jobs : AllEnds → List JobEnd
+all_jobs n = n.programs ++ clock_job n.clock ∷ link_job n.link ∷ []
+
+-- The seat that fetched came back so from the link's job.
+pub record HasFetched (hub : Cell HubLog) (l : LinkEnd) (seat : Sitting HubLog HubEvent) : Type 0 where
+  pub of : IsSeatOf hub seat
+  pub number : seat.number ≡ l.carrier
+  pub reached : IsPrefix l.reached.heard seat.seen
+  pub carried : seat.mine ≡ l.reached.sent ++ l.rest
+
+-- ALL JOBS OF A NODE HAVE ENDED, of these tasks and so many rounds: what they did are jobs of a node, all seats of the station and of the
+-- hub have come back, and the halt's has entered nothing.
+pub record HaveNodeEnded (c : Settings) (host : ℕ) (cell : Cell StationHistory) (hub : Cell HubLog) (rounds : ℕ) (tasks : List Assignment)
+    (n : AllEnds) (all : List End) (fetches halt : Sitting HubLog HubEvent) : Type 0 where
+  pub each_end : AreEndsOf (site_of host cell ∷ []) hub all (all_jobs n)
+  pub fetched : HasFetched hub n.link fetches
+  pub passages : Each (IsPassage c hub.origin) (passages_in n)
+  pub here : Each (λ (g : Passage). host_of g ≡ host) (passages_in n)
+  pub way : IsLinkWay c host hub.origin n.link
+  pub are_jobs : AreNodeJobs c host hub.origin rounds n
+  pub are_tasks : tasks_of (passages_of n.programs) ≡ tasks
+  pub seats : length (passages_in n) + 1 ≡ cell.seats
+  pub hub_seats : length (passages_in n) + 3 ≡ hub.seats
+  pub halt_seat : IsSeatOf hub halt
+  pub unhalted : halt.mine ≡ []
+
+-- and these are their ends, of which the last one's link was `start`
+pub record HasNodeEnds {L : Type 0} (handed : L → Option (List Frame)) (faults : L → ℕ) (c : Settings) (host : ℕ) (cell : Cell StationHistory)
+    (hub : Cell HubLog) (rounds : ℕ) (tasks : List Assignment) (start : L) (all : List (NodeEnd L)) (halt : Sitting HubLog HubEvent)
+    : Type 0 where
+  pub n : AllEnds
+  pub front : List (NodeEnd L)
+  pub last : Carried L
+  pub are : all ≡ front ++ ends.Carried last ∷ []
+  pub ended : HaveNodeEnded c host cell hub rounds tasks n (map own_end front ++ last.end ∷ []) last.hub_seat halt
+  pub told : handed last.link ≡ option_map (λ all. all ++ n.link.handed) (handed start)
+  pub failed : n.link.failed ≡ true → Rose (faults start) (faults last.link)

@@ -1,0 +1,49 @@
+-- The jobs of a node, and what their ends may be.
+use Rattle.std.specs.Prelude.{ℕ, ◌≡◌, ◌++◌, true, false, Option, List, [], ◌∷◌, option_map}
+use Rattle.turn_cell.specs.declared.replay.Room.{Room}
+use Rattle.vk_base.specs.declared.answer.Answer.{Answer}
+use Rattle.vk_base.specs.declared.call.Call.{Call}
+use Rattle.vk_base.specs.Settings.{Settings}
+use Rattle.vk_hub.specs.Links.{Frame}
+use Rattle.vk_io.specs.Causes.{Rose}
+use Rattle.vk_port.specs.Ports.{PortValue}
+use Rattle.vk_rules.specs.Each.{Each}
+use Rattle.v_node.specs.Jobs.{ClockEnd, IsClockEnd, IsLinkEnd, LinkEnd}
+use Rattle.v_node.specs.Seats.{IsLinkThrough}
+use Rattle.vk_threads.specs.declared.end.Seats.{Seats}
+use Rattle.vk_threads.specs.Ends.{EndsProcess, IsOf, IsThrough}
+use Rattle.vk_udp.specs.Carried.{IsStationPort}
+use Rattle.vk_udp.specs.Values.{CarrierDuty}
+use Rattle.vk_udp.specs.declared.work.Carried.{Carried}
+use Rattle.vk_udp.specs.declared.work.NodeEnd.{NodeEnd}
+use Rattle.vk_udp.specs.declared.work.NodeEnd.TheVariants as ends
+use Rattle.vk_udp.specs.declared.work.NodeWork.{NodeWork}
+use Rattle.vk_udp.specs.declared.work.NodeWork.TheVariants as works
+
+-- The clock with this port may hand back these seats with this Room.
+pub record EndsClock (p : PortValue) (rounds : ℕ) (back : List Seats) (why : Option Room) : Type 0 where
+  pub end : ClockEnd
+  pub seat : Seats
+  pub seats : back ≡ seat ∷ []
+  pub through : IsThrough p seat end.passage
+  pub met : end.met ≡ why
+  pub job : (c : Settings) → IsOf c p → IsClockEnd c rounds end
+
+-- What carries frames may come to this end: the link handed out these datagrams, and met a fault exactly where the job says so.
+pub record EndsCarrier {L : Type 0} (handed : L → Option (List Frame)) (faults : L → ℕ) (d : CarrierDuty L) (e : Carried L) : Type 0 where
+  pub end : LinkEnd
+  pub seat : Seats
+  pub seats : e.end.seats.items ≡ seat ∷ []
+  pub host : seat.host ≡ d.port.host
+  pub through : IsLinkThrough d.port d.carrier seat.seat seat.hub_seat e.hub_seat end
+  pub met : end.met ≡ e.end.met
+  pub told : handed e.link ≡ option_map (λ all. all ++ end.handed) (handed d.link)
+  pub sound : end.failed ≡ false → faults e.link ≡ faults d.link
+  pub failed : end.failed ≡ true → Rose (faults d.link) (faults e.link)
+  pub job : (c : Settings) → IsOf c d.port → Each (IsStationPort c) d.ports → IsLinkEnd c d.port.host end
+
+abbrev pub ends_as : {G P L : Type 0} → (G → List Answer → Option Call) → (L → Option (List Frame)) → (L → ℕ) → NodeWork G P L → NodeEnd L → Type 0
+ends_as task handed faults (works.Process w) (ends.Own e) = EndsProcess w.port w.pid (task w.program) e.seats.items e.met
+ends_as task handed faults (works.Clock w) (ends.Own e) = EndsClock w.port w.rounds e.seats.items e.met
+ends_as task handed faults (works.Carrier w) (ends.Carried e) = EndsCarrier handed faults w e
+ends_as task handed faults w e = ⊥

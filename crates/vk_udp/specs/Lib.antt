@@ -1,0 +1,9 @@
+pub mod Wires
+pub mod Values
+pub mod Carried
+pub mod Clocked
+pub mod Jobs
+pub mod Dealt
+pub mod Gathered
+pub mod Ended
+pub mod Node

@@ -1,0 +1,121 @@
+//! The record of a node.
+ghost use Rattle.std.specs.Prelude.{◌≡◌, ◌++◌, ◌∷◌, [], false, ℕ, List, map, IfOk};
+ghost use Rattle.v_node.specs.Jobs.{NodeEnd as AllEnds};
+ghost use Rattle.v_run.specs.Outcomes.{Assignment};
+ghost use Rattle.v_run.specs.Passages.{fresh_station};
+ghost use Rattle.vk_udp.specs.Ended.{HasNodeEnds, HaveNodeEnded};
+ghost use Rattle.vk_udp.specs.Gathered.{own_end};
+ghost use Rattle.vk_udp.specs.Node.{IsNodeRecord, IsRecordOf, TellsLink};
+ghost use Rattle.vk_udp.specs.Wires.{IsNewLink};
+
+use crate::gather::{all_fit, close_node, own_ends, take_carried};
+use crate::link::{Link, Wire};
+use crate::work::{Carried, NodeEnd};
+use std::alloc::Global;
+use turn_cell::{TurnCell, TurnSeat};
+use v_node::closed_nodes_are_runs;
+use vk_base::{Config, NoMemory};
+use vk_cluster::pids_are;
+use vk_hub::{Hub, HubState};
+use vk_join::{StationLog, all_readable};
+use vk_port::Station;
+use vk_threads::{End, has_met_full, has_met_no_memory};
+
+/// What happened at a node.
+#[derive(Drop)]
+pub struct NodeRecord {
+    pub log: StationLog,
+    /// It was halted where a history could not grow any more.
+    pub limited: bool,
+}
+
+/// Why there is no record of a node.
+#[derive(Clone, Copy, Debug, PartialEq, Eq)]
+pub enum NodeRefusal {
+    /// The wire failed, or a link of it.
+    LinkFault,
+    /// The crew failed.
+    CrewFault,
+    /// There was no memory.
+    NoMemory,
+}
+
+/// The record of a node whose link met no fault, from what its jobs gave back.
+fn whole_record(
+    alloc: Global,
+    config: &Config,
+    host: u16,
+    cell: TurnCell<Station>,
+    hub: Hub,
+    ends: Vec<End>,
+    fetches: TurnSeat<HubState>,
+    halt: TurnSeat<HubState>,
+) -> Result<NodeRecord, NoMemory>
+    requires station { cell.origin ≡ fresh_station config.now host }
+    requires ended { (rounds : ℕ) × (tasks : List Assignment) × (n : AllEnds) ×
+        HaveNodeEnded config.now host cell hub rounds tasks n ends.items fetches halt }
+    ensures { IfOk result (λ r. (rounds : ℕ) (tasks : List Assignment) (n : AllEnds) →
+        HaveNodeEnded config.now host cell hub rounds tasks n ends.items fetches halt → n.link.failed ≡ false →
+        IsRecordOf config.now host rounds tasks n.link.handed r.limited r.log) }
+{
+    let _lawful = config.times();
+    pids_are(config.specs());
+    closed_nodes_are_runs();
+    let limited = has_met_full(&ends);
+    if has_met_no_memory(&ends) {
+        return Err(NoMemory);
+    }
+    let log = close_node(alloc, host, cell, hub, ends, fetches, halt)?;
+    all_readable(log.events.as_slice());
+    all_fit(log.events.as_slice());
+    Ok(NodeRecord { log, limited })
+}
+
+/// The ends of all jobs, as all jobs have them.
+fn all_ends<L: Link>(alloc: Global, ends: Vec<NodeEnd<L>>, last: End) -> Result<Vec<End>, NoMemory>
+    ensures { IfOk result (λ all. all.items ≡ map own_end ends.items ++ last ∷ []) }
+{
+    let mut all = own_ends(alloc, ends)?;
+    all.push(last)?;
+    Ok(all)
+}
+
+/// The record of a node, from what its jobs gave back. The wire takes the link back.
+pub fn record_of<W: Wire>(
+    alloc: Global,
+    config: &Config,
+    host: u16,
+    cell: TurnCell<Station>,
+    hub: Hub,
+    ends: Vec<NodeEnd<W::L>>,
+    halt: TurnSeat<HubState>,
+    wire: &mut W,
+) -> Result<NodeRecord, NodeRefusal>
+    requires station { cell.origin ≡ fresh_station config.now host }
+    requires ended { (rounds : ℕ) × (tasks : List Assignment) × (start : W.L) ×
+        HasNodeEnds W.L.handed W.L.fault_count config.now host cell hub rounds tasks start ends.items halt }
+    ensures ran { IfOk result (λ r. (rounds : ℕ) (tasks : List Assignment) (start : W.L) →
+        IsNewLink (W.handed wire.old) (W.L.handed start) (W.L.fault_count start) →
+        HasNodeEnds W.L.handed W.L.fault_count config.now host cell hub rounds tasks start ends.items halt →
+        IsNodeRecord config.now host rounds tasks (W.handed wire.old) (W.handed wire.new) r.limited r.log) }
+    ensures fault { TellsLink (W.fault_count wire.old) (W.fault_count wire.new) result }
+{
+    let mut ends = ends;
+    let Carried {
+        end,
+        hub_seat,
+        link,
+    } = take_carried(&mut ends);
+    let failed = link.faults() > 0;
+    wire.close(link);
+    if failed {
+        return Err(NodeRefusal::LinkFault);
+    }
+    let Ok(all) = all_ends(alloc, ends, end) else {
+        return Err(NodeRefusal::NoMemory);
+    };
+    match whole_record(alloc, config, host, cell, hub, all, hub_seat, halt) {
+        Ok(record) => Ok(record),
+        Err(NoMemory) => Err(NodeRefusal::NoMemory),
+    }
+}
