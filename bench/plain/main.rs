@@ -1,4 +1,5 @@
-//! `plain replay`, `plain replay --trace`, `plain check` and `plain run`: a plain, fast program of the rules of `vkernel`, for measuring.
+//! `plain replay`, `plain replay --trace`, `plain check` and `plain run`: a plain, fast program of the rules of `vkernel`, for measuring. And
+//! `plain stations`, which plays texts of single stations, for comparing.
 
 mod calls;
 mod exchange;
@@ -6,6 +7,7 @@ mod head;
 mod hub;
 mod machine;
 mod packets;
+mod played;
 mod programs;
 mod replay;
 mod report;
@@ -39,7 +41,8 @@ fn main() -> ExitCode {
         ["replay", "--trace"] | ["--trace", "replay"] => |text| replay::replay(text, true),
         ["check"] => trace::check,
         ["run"] => run::run,
-        _ => return fail(2, "usage: plain replay [--trace] | check | run"),
+        ["stations"] => played::played,
+        _ => return fail(2, "usage: plain replay [--trace] | check | run | stations"),
     };
     let mut text = Vec::new();
     if std::io::stdin().lock().take(INPUT_BYTES + 1).read_to_end(&mut text).is_err() {

@@ -12,7 +12,7 @@ const EVENTS: usize = 100_000;
 const LAST_BYTES: usize = 266_076_160;
 
 /// An event. Stations are told by their places, and processes by theirs among all processes.
-enum Event {
+pub enum Event {
     Call { station: usize, process: usize, call: Call },
     Collect { station: usize, process: usize },
     Tick { station: usize },
@@ -21,7 +21,7 @@ enum Event {
 
 /// The event of a line, of processes and stations of the configuration.
 #[inline(always)]
-fn read_event(reader: &mut Reader, config: &Config) -> Option<Event> {
+pub fn read_event(reader: &mut Reader, config: &Config) -> Option<Event> {
     if reader.skip(b"call ").is_some() {
         let pid = reader.pid()?;
         reader.space()?;

@@ -259,6 +259,11 @@ impl Station {
         destination == self.host || destination == EVERY_STATION
     }
 
+    /// Its Lamport number.
+    pub fn number(&self) -> u64 {
+        self.number
+    }
+
     /// Begins an event, to which this Lamport number came.
     #[inline]
     pub fn begin(&mut self, came: u64, out: &mut Telling) {

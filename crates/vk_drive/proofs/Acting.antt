@@ -21,12 +21,12 @@ use Rattle.vk_drive.specs.Driving.{IsActor, IsNextEvent}
 use Rattle.vk_drive.specs.Storms.{call_event}
 use Rattle.vk_drive.specs.Told.{is_waiting, told, waits_after, waits_from}
 
-told_more : (heard : List EventAnswer) (a : EventAnswer) → told (heard ++ a ∷ []) ≡ told heard ++ option_to_list (handed_out a)
+pub told_more : (heard : List EventAnswer) (a : EventAnswer) → told (heard ++ a ∷ []) ≡ told heard ++ option_to_list (handed_out a)
 told_more heard a =
     flat_map-append (λ x. option_to_list (handed_out x)) heard (a ∷ [])
     ∙ ap (λ l. told heard ++ l) (append-nil (option_to_list (handed_out a)))
 
-waits_more : (waits : Bool) (heard : List EventAnswer) (a : EventAnswer) →
+pub waits_more : (waits : Bool) (heard : List EventAnswer) (a : EventAnswer) →
     waits_from waits (heard ++ a ∷ []) ≡ waits_after (waits_from waits heard) a
 waits_more waits [] a = refl
 waits_more waits (x ∷ xs) a = waits_more (waits_after waits x) xs a

@@ -141,7 +141,7 @@ pub process_hears : (c : Settings) (logs : Logs) (place : ℕ) (heard : List Eve
 process_hears c logs place heard = heard_either c logs (task_at place).pid (is_waiting heard) _
 
 -- the processes are of different hosts
-host_is : (place : ℕ) → place < 4 → (task_at place).pid.host ≡ place + 1
+pub host_is : (place : ℕ) → place < 4 → (task_at place).pid.host ≡ place + 1
 host_is zero low = refl
 host_is (suc zero) low = refl
 host_is (suc (suc zero)) low = refl

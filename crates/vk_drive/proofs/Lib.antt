@@ -1,7 +1,7 @@
-mod Acting
-mod Behind
-mod Chosen
-mod Fronts
+pub mod Acting
+pub mod Behind
+pub mod Chosen
+pub mod Fronts
 mod Noted
 mod Opening
 mod Places

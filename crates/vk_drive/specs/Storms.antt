@@ -27,8 +27,8 @@ pub record Choice : Type 0 where
 abbrev pub chosen : ℕ → Event → Choice
 chosen x e = record { state = x; event = e }
 
--- The process collects where its last call is to be collected, else it makes its program's next call. At its program's end it collects;
--- that no storm comes so far is not proved.
+-- The process collects where its last call is to be collected, else it makes its program's next call. At its program's end it collects,
+-- so that this is defined; no storm comes so far (`programs_go_on` of `v_storm`).
 abbrev pub call_event : Pid → Option Call → Event
 call_event pid (Some call) = events.Call pid call
 call_event pid None = events.Collect pid
@@ -36,8 +36,8 @@ call_event pid None = events.Collect pid
 abbrev pub process_event : Task → List EventAnswer → Event
 process_event t heard = if is_waiting heard then events.Collect t.pid else call_event t.pid (task_call t (told heard))
 
--- The frame comes to the station to which it is addressed. Where that is none of the storm station 1 ticks; that it always is one is not
--- proved.
+-- The frame comes to the station to which it is addressed. Where that is none of the storm station 1 ticks, so that this is defined; it
+-- always is one (`frames_are_for_stations` of `v_storm`).
 abbrev pub delivery_of : Header → Event
 delivery_of h =
     let delivery = events.Deliver h.destination h.source h.event h.output in

@@ -122,7 +122,8 @@ impl Course {
     ///
     /// # Errors
     ///
-    /// [`StormRefusal::Limit`] exactly where the frames so far hold more than 266,076,160 bytes; then [`StormRefusal::NoMemory`].
+    /// [`StormRefusal::Limit`] exactly where the frames so far hold more than 266,076,160 bytes; [`StormRefusal::NoMemory`] only where
+    /// they do not.
     pub fn happen(&mut self, alloc: Global, event: Event) -> Result<Advance, StormRefusal>
         requires course { IsCourse self.old }
         requires few { length self.old.events < EVENTS }
@@ -133,6 +134,7 @@ impl Course {
             (report_of (happened settings (logs_of settings self.old.events) event))) }
         ensures fits { OnOk result (emitted_bytes (history_of settings self.old.events) ≤ LAST_BYTES) }
         ensures limit { result ≡ Err StormRefusal.Limit → LAST_BYTES < emitted_bytes (history_of settings self.old.events) }
+        ensures memory { result ≡ Err StormRefusal.NoMemory → emitted_bytes (history_of settings self.old.events) ≤ LAST_BYTES }
     {
         let told = advance(&mut self.cluster, alloc, &event)?;
         self.events.push(event)?;

@@ -106,6 +106,7 @@ impl Driver {
         requires actors { has_actors specs event ≡ true }
         ensures played { OnOk result (IsPlayed self.old self.new (chosen self.old.generator event)) }
         ensures limit { result ≡ Err StormRefusal.Limit → LAST_BYTES < emitted_bytes (history_so_far self.old) }
+        ensures memory { result ≡ Err StormRefusal.NoMemory → emitted_bytes (history_so_far self.old) ≤ LAST_BYTES }
     {
         let _advance = self.course.happen(alloc, event)?;
         Ok(())
@@ -117,6 +118,7 @@ impl Driver {
         requires few { length self.old.course.events < EVENTS }
         ensures played { OnOk result (IsPlayed self.old self.new (process_choice self.old.generator (history_so_far self.old))) }
         ensures limit { result ≡ Err StormRefusal.Limit → LAST_BYTES < emitted_bytes (history_so_far self.old) }
+        ensures memory { result ≡ Err StormRefusal.NoMemory → emitted_bytes (history_so_far self.old) ≤ LAST_BYTES }
     {
         let place = (self.generator.draw() % 4) as usize;
         let event = next_event(&mut self.actors, place);
@@ -132,6 +134,7 @@ impl Driver {
         ensures played { OnOk result (IsPlayed self.old self.new
             (delivery_choice self.old.generator (all_emitted (history_so_far self.old)))) }
         ensures limit { result ≡ Err StormRefusal.Limit → LAST_BYTES < emitted_bytes (history_so_far self.old) }
+        ensures memory { result ≡ Err StormRefusal.NoMemory → emitted_bytes (history_so_far self.old) ≤ LAST_BYTES }
     {
         let event = delivery(&mut self.generator, &self.config, &self.course);
         self.happen(alloc, event)
@@ -143,6 +146,7 @@ impl Driver {
         requires few { length self.old.course.events < EVENTS }
         ensures played { OnOk result (IsPlayed self.old self.new (tick_choice self.old.generator)) }
         ensures limit { result ≡ Err StormRefusal.Limit → LAST_BYTES < emitted_bytes (history_so_far self.old) }
+        ensures memory { result ≡ Err StormRefusal.NoMemory → emitted_bytes (history_so_far self.old) ≤ LAST_BYTES }
     {
         let host = 1 + (self.generator.draw() % 4) as u16;
         self.happen(alloc, Event::Tick { host })
@@ -154,6 +158,7 @@ impl Driver {
         requires few { length self.old.course.events < EVENTS }
         ensures played { OnOk result (IsPlayed self.old self.new (choice self.old.generator (history_so_far self.old))) }
         ensures limit { result ≡ Err StormRefusal.Limit → LAST_BYTES < emitted_bytes (history_so_far self.old) }
+        ensures memory { result ≡ Err StormRefusal.NoMemory → emitted_bytes (history_so_far self.old) ≤ LAST_BYTES }
     {
         let kind = self.generator.draw() % 8;
         if kind < 3 {

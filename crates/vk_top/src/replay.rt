@@ -1,6 +1,6 @@
 //! A schedule, played on all stations of its configuration, and the report or the trace of it.
 
-ghost use Rattle.std.specs.Prelude.{◌≡◌, ◌≤◌, ◌<◌, ◌++◌, ◌∷◌, ◌⊎◌, [], Ok, Err, List, length, map, true, false, IfOk, IfErr, OnOk};
+ghost use Rattle.std.specs.Prelude.{◌≡◌, ◌≤◌, ◌<◌, ◌++◌, ◌∷◌, ◌⊎◌, [], Ok, Err, List, length, map, true, false, IfOk, IfErr, OnErr, OnOk};
 ghost use Rattle.vk_base.specs.Settings.{Settings};
 ghost use Rattle.vk_schedule.specs.declared.event.Event.{Event as TheEvent};
 ghost use Rattle.vk_schedule.specs.Lawful.{IsLawful, has_actors};
@@ -15,7 +15,7 @@ ghost use Rattle.vk_rules.specs.Entries.{Entry};
 ghost use Rattle.vk_rules.specs.Frames.{Frame as TheFrame};
 ghost use Rattle.vk_rules.specs.Histories.{happened};
 ghost use Rattle.vk_cluster.specs.Shown.{HasAdvanced, IsLast, Sends};
-ghost use Rattle.vk_top.specs.Playing.{AreFew, IsHad, IsTold, IsWrittenOf, ending, told_entry};
+ghost use Rattle.vk_top.specs.Playing.{AreFew, HasHadRoom, IsHad, IsTold, IsWrittenOf, ending, told_entry};
 ghost use Rattle.vk_top.specs.Report.{emitted_of, is_cut, written_text};
 ghost use Rattle.vk_top.specs.Work.{KeepsLines};
 ghost use Rattle.vk_top.specs.declared.words.Asked.TheVariants as asked;
@@ -148,6 +148,7 @@ fn put_event(
         IsHad form c es event.now counts.old counts.new text.old.items text.new.items cluster.new) }
     ensures room { OnOk result (is_full cluster.old ≡ false) }
     ensures refused { result ≡ Err ClusterRefusal.Limit → (is_full cluster.old ≡ true) × (text.new.items ≡ text.old.items) }
+    ensures memory { result ≡ Err ClusterRefusal.NoMemory → is_full cluster.old ≡ false }
 {
     match cluster.advance(alloc, &event.view()) {
         Ok(advance) => match put_report(alloc, cluster, text, form, counts, advance) {
@@ -159,7 +160,7 @@ fn put_event(
 }
 
 /// The events that are left in the reader, of which the cluster had none, up to the first that is refused, and their lines. Whether one is
-/// refused; if not, the last line too.
+/// refused; if not, the last line too. Where memory is wanting, none of the events that were read is one that is refused.
 fn put_events(
     alloc: Global,
     cluster: &mut Cluster,
@@ -172,6 +173,7 @@ fn put_events(
     requires opening { text.old.items ≡ opening_lines form reader.old.schedule.config.specs }
     ensures cut { IfOk result (λ cut. cut ≡ is_cut reader.old.schedule) }
     ensures text { OnOk result (text.new.items ≡ written_text form reader.old.schedule) }
+    ensures memory { OnErr result (HasHadRoom reader.old reader.new) }
     ensures ending { ending reader.new ≡ ending reader.old }
 {
     let mut counts = Counts {
@@ -191,7 +193,8 @@ fn put_events(
     Ok(false)
 }
 
-/// The report of the schedule that is left in the reader, or its trace.
+/// The report of the schedule that is left in the reader, or its trace. Where memory is wanting, none of the events that were read is one
+/// that is refused.
 fn put_schedule(
     alloc: Global,
     form: Form,
@@ -200,6 +203,7 @@ fn put_schedule(
     requires { IsLawful reader.old.schedule }
     ensures text { IfOk result (λ w. w.text.items ≡ written_text form reader.old.schedule) }
     ensures cut { IfOk result (λ w. w.is_cut ≡ is_cut reader.old.schedule) }
+    ensures memory { OnErr result (HasHadRoom reader.old reader.new) }
     ensures ending { ending reader.new ≡ ending reader.old }
 {
     let mut text = Vec::new(alloc);

@@ -1,5 +1,5 @@
 -- From what jobs did to their ends.
-use Rattle.std.proofs.Common.{◌≡◌, ◌≢◌, ℕ, ◌⊎◌, inl, inr, true, false, Option, Some, None, List, [], ◌∷◌, ◌++◌, refl, sym, ap, ◌∙◌, subst, append-nil}
+use Rattle.std.proofs.Common.{◌≡◌, ◌≢◌, ℕ, ◌⊎◌, inl, inr, true, false, Option, Some, None, List, [], ◌∷◌, ◌++◌, refl, sym, ap, ◌∙◌, subst, append-nil, arith, ◌≤◌}
 use mathlib.Core.List.{IsPrefix}
 use Rattle.turn_cell.proofs.Histories.{prefix_self}
 use Rattle.turn_cell.specs.declared.replay.Room.{Room}
@@ -8,17 +8,18 @@ use Rattle.turn_cell.specs.Seats.{IsSameSeat, Sitting}
 use Rattle.vk_base.specs.Settings.{Settings}
 use Rattle.vk_hub.specs.declared.event.HubEvent.{HubEvent}
 use Rattle.vk_hub.specs.declared.event.HubEvent.TheVariants as hub_events
-use Rattle.vk_hub.specs.Hubs.{HubLog}
+use Rattle.vk_hub.specs.Hubs.{HubLog, has_halt}
 use Rattle.vk_hub.specs.Links.{Frame}
 use Rattle.vk_port.specs.Ports.{PortValue, berth_of, stand_of}
 use Rattle.vk_port.specs.Stations.{is_used_up}
 use Rattle.v_run.specs.Passages.{IsLast, Ticks}
 use Rattle.v_node.specs.Jobs.{HaltsAtMost, LinkEnd, LinkMetFull}
+use Rattle.v_node.specs.Links.{stop_count}
 use Rattle.v_node.specs.Seats.{IsLinkThrough, hub_stand_of}
 use Rattle.vk_threads.specs.declared.end.Seats.{Seats}
 use Rattle.vk_threads.specs.Ends.{IsOf}
 use Rattle.vk_threads.proofs.Ending.{Behind, halt_finished, halted_behind, is_through, last_halt, last_none, met_full, none_finished, passage_of}
-use Rattle.vk_udp.specs.Carried.{HasBrought, HasFetchedFor, HasHaltedBy, IsHubFull, IsPortFull, TellsStop, is_failed, met_by}
+use Rattle.vk_udp.specs.Carried.{HasBrought, HasFetchedFor, HasHaltedBy, IsHubFull, IsPortFull, TellsStop, is_failed, met_by, stops_of}
 use Rattle.vk_udp.specs.Clocked.{HasClocked, HasStopped}
 use Rattle.vk_io.specs.Causes.{Rose}
 use Rattle.vk_udp.specs.Jobs.{EndsCarrier, EndsClock}
@@ -30,8 +31,9 @@ use Rattle.vk_udp.proofs.Fetching.{same_seat}
 
 -- THE CLOCK
 clock_by : (p q : PortValue) (s : Seats) (rounds : ℕ) (met : Option Room) (last : List HubEvent) → HasClocked p q rounds met → s.host ≡ p.host
-    → IsLast last → last ≢ hub_events.Finished ∷ [] → Behind q s last q.hub_seat.seen → EndsClock p rounds (s ∷ []) met
-clock_by p q s rounds met last it host ends never behind = record {
+    → IsLast last → last ≢ hub_events.Finished ∷ [] → Behind q s last q.hub_seat.seen → has_halt s.hub_seat.seen ≡ true
+    → EndsClock p rounds (s ∷ []) met
+clock_by p q s rounds met last it host ends never behind halted = record {
   end = record { passage = passage_of p q it.acts Ticks last q.hub_seat.seen; met = met };
   seat = s;
   seats = refl;
@@ -45,6 +47,7 @@ clock_by p q s rounds met last it host ends never behind = record {
     last = never;
     full = λ is. met_full c p q it.acts Ticks last of it.does (it.full is);
   };
+  halted = halted;
 }
 
 pub clock_ended : (p q : PortValue) (s : Seats) (rounds : ℕ) (met : Option Room) → HasClocked p q rounds met → s.host ≡ p.host
@@ -53,8 +56,8 @@ clock_ended p q s rounds met it host stopped =
     either_way (halted_behind q s q.hub_seat.seen rooms.NoMemory stopped.seat stopped.same (prefix_self q.hub_seat.seen) stopped.heard stopped.sent)
   where
     either_way : (Behind q s [] q.hub_seat.seen) ⊎ (Behind q s (hub_events.Halt ∷ []) q.hub_seat.seen) → EndsClock p rounds (s ∷ []) met
-    either_way (inl behind) = clock_by p q s rounds met [] it host last_none none_finished behind
-    either_way (inr behind) = clock_by p q s rounds met (hub_events.Halt ∷ []) it host last_halt halt_finished behind
+    either_way (inl behind) = clock_by p q s rounds met [] it host last_none none_finished behind stopped.halted
+    either_way (inr behind) = clock_by p q s rounds met (hub_events.Halt ∷ []) it host last_halt halt_finished behind stopped.halted
 
 -- WHAT CARRIES FRAMES
 abbrev HubSeat : Type 0
@@ -67,17 +70,33 @@ pub record IsRest (mid back : HubSeat) (stop : Stop) (rest : List HubEvent) : Ty
   pub mine : back.mine ≡ mid.mine ++ rest
   pub halts : HaltsAtMost rest
   pub none : met_by stop ≡ None → is_failed stop ≡ false → rest ≡ []
+  pub ended : ((met_by stop ≡ None) × (is_failed stop ≡ false) × (stops_of stop ≡ 1)) ⊎ (has_halt back.seen ≡ true)
 
 halted_rest : (mid back : HubSeat) (stop : Stop) → (met_by stop ≡ None → is_failed stop ≡ false → ⊥)
     → IsSameSeat mid back × IsPrefix mid.seen back.seen × ((back.mine ≡ mid.mine) ⊎ (back.mine ≡ mid.mine ++ hub_events.Halt ∷ []))
+    × (has_halt back.seen ≡ true)
     → (rest : List HubEvent) × IsRest mid back stop rest
-halted_rest mid back stop never (same, later, inl mine) = (
+halted_rest mid back stop never (same, later, inl mine, halted) = (
   [],
-  record { same = same; later = later; mine = mine ∙ sym (append-nil mid.mine); halts = inl refl; none = λ a b. refl },
+  record {
+    same = same;
+    later = later;
+    mine = mine ∙ sym (append-nil mid.mine);
+    halts = inl refl;
+    none = λ a b. refl;
+    ended = inr halted;
+  },
 )
-halted_rest mid back stop never (same, later, inr mine) = (
+halted_rest mid back stop never (same, later, inr mine, halted) = (
   hub_events.Halt ∷ [],
-  record { same = same; later = later; mine = mine; halts = inr refl; none = λ a b. absurd (never a b) },
+  record {
+    same = same;
+    later = later;
+    mine = mine;
+    halts = inr refl;
+    none = λ a b. absurd (never a b);
+    ended = inr halted;
+  },
 )
 
 pub rest_of : (mid back : HubSeat) (stop : Stop) → HasHaltedBy mid back stop → (rest : List HubEvent) × IsRest mid back stop rest
@@ -89,10 +108,16 @@ rest_of mid back stops.Ended is = (
     mine = ap (λ (s : HubSeat). s.mine) is ∙ sym (append-nil mid.mine);
     halts = inl refl;
     none = λ a b. refl;
+    ended = inl (refl, refl, refl);
   },
 )
 rest_of mid back stops.Failed is = halted_rest mid back stops.Failed (λ a b. absurd (cc b)) is
 rest_of mid back (stops.Met why) is = halted_rest mid back (stops.Met why) (λ a b. absurd (cc a)) is
+
+stops_few : (stop : Stop) → stops_of stop ≤ 1
+stops_few stops.Ended = omega arith
+stops_few stops.Failed = omega arith
+stops_few (stops.Met why) = omega arith
 
 sound_stop : (before now : ℕ) (stop : Stop) → TellsStop before now stop → is_failed stop ≡ false → now ≡ before
 sound_stop before now stops.Ended tells is = tells
@@ -106,7 +131,7 @@ failed_stop before now (stops.Met why) tells is = absurd (cc is)
 
 module _ {L : Type 0} (handed : L → Option (List Frame)) (faults : L → ℕ) (d : CarrierDuty L) (e : Carried L) (q : PortValue) (mid : HubSeat) (s : Seats)
     (stop : Stop) (b : HasBrought handed d.port.host d.port q d.link e.link (met_by stop))
-    (f : HasFetchedFor d.port.hub.origin d.ports d.carrier mid 1) (r : (rest : List HubEvent) × IsRest mid e.hub_seat stop rest) where
+    (f : HasFetchedFor d.port.hub.origin d.ports d.carrier mid (stops_of stop)) (r : (rest : List HubEvent) × IsRest mid e.hub_seat stop rest) where
   abbrev linked : LinkEnd
   linked = record {
     berth = berth_of d.port;
@@ -126,6 +151,14 @@ module _ {L : Type 0} (handed : L → Option (List Frame)) (faults : L → ℕ) 
   link_full c of (inl (inl used)) = inl (subst (λ o. is_used_up o q.seat.seen ≡ true) of used)
   link_full c of (inl (inr full)) = inr (inl full)
   link_full c of (inr full) = inr (inr full)
+
+  few_stops : stop_count f.errands ≤ 1
+  few_stops = let at_most = stops_few stop in let is = f.stopped in omega arith
+
+  link_ended : ((met_by stop ≡ None) × (is_failed stop ≡ false) × (stops_of stop ≡ 1)) ⊎ (has_halt e.hub_seat.seen ≡ true)
+      → ((met_by stop ≡ None) × (is_failed stop ≡ false) × (stop_count f.errands ≡ 1)) ⊎ (has_halt e.hub_seat.seen ≡ true)
+  link_ended (inl (none, sound, one)) = inl (none, sound, f.stopped ∙ one)
+  link_ended (inr halted) = inr halted
 
   link_through : s.seat ≡ q.seat → s.hub_seat ≡ q.hub_seat → IsLinkThrough d.port d.carrier s.seat s.hub_seat e.hub_seat linked
   link_through seat hub_seat = record {
@@ -160,7 +193,7 @@ module _ {L : Type 0} (handed : L → Option (List Frame)) (faults : L → ℕ) 
     failed = failed_stop (faults d.link) (faults e.link) stop tells;
     job = λ c of ports. record {
       stations = f.stations c ports;
-      stops = f.few;
+      stops = few_stops;
       last = inl refl;
       rest = r.1.halts;
       halts = λ none sound. (refl, r.1.none none sound);
@@ -168,4 +201,5 @@ module _ {L : Type 0} (handed : L → Option (List Frame)) (faults : L → ℕ) 
       whole = b.whole;
       full = λ is. link_full c of (full is);
     };
+    ended = link_ended r.1.ended;
   }

@@ -59,7 +59,7 @@ fetched_none o ports s = record {
   same = (refl, refl, refl);
   are = (prefix_self s.seen, refl);
   stations = λ c each. tt;
-  few = omega arith;
+  stopped = omega arith;
 }
 
 pub fetched_more : (o : HubLog) (ports : List StationPort) (s t u : HubSeat) (n m : ℕ) → HasFetchedFor o ports s t n → HasFetchedFor o ports t u m
@@ -70,7 +70,7 @@ fetched_more o ports s t u n m one two = record {
   are = errands_append s.number o (hub_stand_of s) one.errands (hub_stand_of t) two.errands (hub_stand_of u) one.are
       (subst (λ k. AreErrands k o (hub_stand_of t) two.errands (hub_stand_of u)) one.same.2 two.are);
   stations = λ c each. each_append (λ (e : Errand). has_station c.specs e.host ≡ true) one.errands two.errands (one.stations c each) (two.stations c each);
-  few = (let sum = stops_append one.errands two.errands in let x = one.few in let y = two.few in omega arith);
+  stopped = (let sum = stops_append one.errands two.errands in let x = one.stopped in let y = two.stopped in omega arith);
 }
 
 -- it found nothing, or was refused
@@ -80,7 +80,7 @@ fetched_nothing o ports s t same looked = record {
   same = same;
   are = looked;
   stations = λ c each. tt;
-  few = omega arith;
+  stopped = omega arith;
 }
 
 -- what the seat had entered before its new entry
@@ -116,7 +116,7 @@ fetched_one o ports s t host f same complete some turn station = record {
     ),
   );
   stations = λ c each. (station c each, tt);
-  few = omega arith;
+  stopped = omega arith;
 }
 
 pub fetched_as : (o : HubLog) (ports : List StationPort) (s t : HubSeat) (p : StationPort) (f g : Fetched) → f ≡ g → g ≢ fetched.Nothing
@@ -138,16 +138,6 @@ stopped_some e = absurd (cc e)
 pub fetched_on : (o : HubLog) (ports : List StationPort) (s t u : HubSeat) (m n : ℕ) → HasFetchedFor o ports s t 0 → HasFetchedFor o ports t u m
     → m ≡ n → HasFetchedFor o ports s u n
 fetched_on o ports s t u m n one two is = let e : 0 + m ≡ n = omega arith in subst (HasFetchedFor o ports s u) e (fetched_more o ports s t u 0 m one two)
-
--- the count of what was heard may be more
-pub fetched_few : (o : HubLog) (ports : List StationPort) (s t : HubSeat) (m n : ℕ) → HasFetchedFor o ports s t m → m ≤ n → HasFetchedFor o ports s t n
-fetched_few o ports s t m n it few = record {
-  errands = it.errands;
-  same = it.same;
-  are = it.are;
-  stations = it.stations;
-  few = (let was = it.few in omega arith);
-}
 
 pub among_at : (ports : List StationPort) (i : ℕ) (d : StationPort) → i < length ports → IsAmong ports (get_or ports i d)
 among_at (p ∷ ps) zero d low = λ c each. each.0

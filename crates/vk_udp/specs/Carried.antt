@@ -6,7 +6,7 @@ use Rattle.turn_cell.specs.declared.replay.Room.{Room}
 use Rattle.vk_base.specs.Settings.{Settings, has_station}
 use Rattle.vk_hub.specs.declared.event.HubEvent.{HubEvent}
 use Rattle.vk_hub.specs.declared.event.HubEvent.TheVariants as hub_events
-use Rattle.vk_hub.specs.Hubs.{HubLog, others}
+use Rattle.vk_hub.specs.Hubs.{HubLog, has_halt, others}
 use Rattle.vk_hub.specs.Links.{Frame}
 use Rattle.vk_io.specs.Causes.{Rose}
 use Rattle.vk_base.specs.declared.event.EventAnswer.{EventAnswer}
@@ -68,13 +68,13 @@ IsStationPort c p = has_station c.specs p.host ≡ true
 abbrev pub IsAmong : List StationPort → StationPort → Type 0
 IsAmong ports p = (c : Settings) → Each (IsStationPort c) ports → IsStationPort c p
 
--- The seat fetched so, for stations of these ports, and so often heard that the hub had ended.
+-- The seat fetched so, for stations of these ports, and just so often heard that the hub had ended.
 pub record HasFetchedFor (o : HubLog) (ports : List StationPort) (old new : Sitting HubLog HubEvent) (stops : ℕ) : Type 0 where
   pub errands : List Errand
   pub same : IsSameSeat old new
   pub are : AreErrands old.number o (hub_stand_of old) errands (hub_stand_of new)
   pub stations : (c : Settings) → Each (IsStationPort c) ports → Each (λ (e : Errand). has_station c.specs e.host ≡ true) errands
-  pub few : stop_count errands ≤ stops
+  pub stopped : stop_count errands ≡ stops
 
 -- how often a round of fetches heard that the hub had ended
 abbrev pub stops_in : Result Sent Room → ℕ
@@ -90,6 +90,12 @@ met_by stops.Ended = None
 met_by stops.Failed = None
 met_by (stops.Met why) = Some why
 
+-- how often it heard that the hub had ended
+abbrev pub stops_of : Stop → ℕ
+stops_of stops.Ended = 1
+stops_of stops.Failed = 0
+stops_of (stops.Met why) = 0
+
 abbrev pub is_failed : Stop → Bool
 is_failed stops.Ended = false
 is_failed stops.Failed = true
@@ -100,8 +106,9 @@ TellsStop before now stops.Ended = now ≡ before
 TellsStop before now stops.Failed = Rose before now
 TellsStop before now (stops.Met why) = now ≡ before
 
--- The seat halted the hub unless the hub had ended.
+-- The seat halted the hub unless the hub had ended: it has seen a halt.
 abbrev pub HasHaltedBy : Sitting HubLog HubEvent → Sitting HubLog HubEvent → Stop → Type 0
 HasHaltedBy old new stops.Ended = new ≡ old
 HasHaltedBy old new stop =
     IsSameSeat old new × IsPrefix old.seen new.seen × ((new.mine ≡ old.mine) ⊎ (new.mine ≡ old.mine ++ hub_events.Halt ∷ []))
+    × (has_halt new.seen ≡ true)

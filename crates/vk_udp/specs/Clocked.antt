@@ -7,7 +7,7 @@ use Rattle.turn_cell.specs.declared.replay.Room.TheVariants as rooms
 use Rattle.vk_base.specs.declared.event.StationEvent.{StationEvent}
 use Rattle.vk_hub.specs.declared.event.HubEvent.{HubEvent}
 use Rattle.vk_hub.specs.declared.event.HubEvent.TheVariants as hub_events
-use Rattle.vk_hub.specs.Hubs.{HubLog}
+use Rattle.vk_hub.specs.Hubs.{HubLog, has_halt}
 use Rattle.vk_port.specs.Ports.{Action, Does, HasHeard as HeardOnce, PortValue}
 use Rattle.vk_port.specs.Stations.{StationHistory}
 use Rattle.v_run.specs.Passages.{HasHeard, OnlyTicks, lost_count, tick_count}
@@ -28,9 +28,10 @@ pub record HasClocked (old new : PortValue) (rounds : ℕ) (met : Option Room) :
   pub losses : lost_count acts ≤ 1
   pub full : met ≡ Some rooms.Full → FindsFull new acts
 
--- A port's two seats; by the one at the hub the hub was halted, or was so before.
+-- A port's two seats; by the one at the hub the hub was halted, or was so before: it has seen a halt.
 pub record HasStopped (p : PortValue) (station : Sitting StationHistory StationEvent) (hub : Sitting HubLog HubEvent) : Type 0 where
   pub seat : station ≡ p.seat
   pub same : IsSameSeat p.hub_seat hub
   pub heard : IsPrefix p.hub_seat.seen hub.seen
   pub sent : (hub.mine ≡ p.hub_seat.mine) ⊎ (hub.mine ≡ p.hub_seat.mine ++ hub_events.Halt ∷ [])
+  pub halted : has_halt hub.seen ≡ true

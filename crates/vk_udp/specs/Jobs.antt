@@ -1,14 +1,16 @@
 -- The jobs of a node, and what their ends may be.
-use Rattle.std.specs.Prelude.{ℕ, ◌≡◌, ◌++◌, true, false, Option, List, [], ◌∷◌, option_map}
+use Rattle.std.specs.Prelude.{ℕ, ◌≡◌, ◌++◌, ◌⊎◌, true, false, Option, None, List, [], ◌∷◌, option_map}
 use Rattle.turn_cell.specs.declared.replay.Room.{Room}
 use Rattle.vk_base.specs.declared.answer.Answer.{Answer}
 use Rattle.vk_base.specs.declared.call.Call.{Call}
 use Rattle.vk_base.specs.Settings.{Settings}
+use Rattle.vk_hub.specs.Hubs.{has_halt}
 use Rattle.vk_hub.specs.Links.{Frame}
 use Rattle.vk_io.specs.Causes.{Rose}
 use Rattle.vk_port.specs.Ports.{PortValue}
 use Rattle.vk_rules.specs.Each.{Each}
 use Rattle.v_node.specs.Jobs.{ClockEnd, IsClockEnd, IsLinkEnd, LinkEnd}
+use Rattle.v_node.specs.Links.{stop_count}
 use Rattle.v_node.specs.Seats.{IsLinkThrough}
 use Rattle.vk_threads.specs.declared.end.Seats.{Seats}
 use Rattle.vk_threads.specs.Ends.{EndsProcess, IsOf, IsThrough}
@@ -20,7 +22,7 @@ use Rattle.vk_udp.specs.declared.work.NodeEnd.TheVariants as ends
 use Rattle.vk_udp.specs.declared.work.NodeWork.{NodeWork}
 use Rattle.vk_udp.specs.declared.work.NodeWork.TheVariants as works
 
--- The clock with this port may hand back these seats with this Room.
+-- The clock with this port may hand back these seats with this Room. The hub is halted then.
 pub record EndsClock (p : PortValue) (rounds : ℕ) (back : List Seats) (why : Option Room) : Type 0 where
   pub end : ClockEnd
   pub seat : Seats
@@ -28,8 +30,10 @@ pub record EndsClock (p : PortValue) (rounds : ℕ) (back : List Seats) (why : O
   pub through : IsThrough p seat end.passage
   pub met : end.met ≡ why
   pub job : (c : Settings) → IsOf c p → IsClockEnd c rounds end
+  pub halted : has_halt seat.hub_seat.seen ≡ true
 
--- What carries frames may come to this end: the link handed out these datagrams, and met a fault exactly where the job says so.
+-- What carries frames may come to this end: the link handed out these datagrams, and met a fault exactly where the job says so. It ended where it
+-- heard that the hub had ended; else the hub is halted.
 pub record EndsCarrier {L : Type 0} (handed : L → Option (List Frame)) (faults : L → ℕ) (d : CarrierDuty L) (e : Carried L) : Type 0 where
   pub end : LinkEnd
   pub seat : Seats
@@ -41,6 +45,7 @@ pub record EndsCarrier {L : Type 0} (handed : L → Option (List Frame)) (faults
   pub sound : end.failed ≡ false → faults e.link ≡ faults d.link
   pub failed : end.failed ≡ true → Rose (faults d.link) (faults e.link)
   pub job : (c : Settings) → IsOf c d.port → Each (IsStationPort c) d.ports → IsLinkEnd c d.port.host end
+  pub ended : ((end.met ≡ None) × (end.failed ≡ false) × (stop_count end.errands ≡ 1)) ⊎ (has_halt e.hub_seat.seen ≡ true)
 
 abbrev pub ends_as : {G P L : Type 0} → (G → List Answer → Option Call) → (L → Option (List Frame)) → (L → ℕ) → NodeWork G P L → NodeEnd L → Type 0
 ends_as task handed faults (works.Process w) (ends.Own e) = EndsProcess w.port w.pid (task w.program) e.seats.items e.met

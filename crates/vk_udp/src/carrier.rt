@@ -2,7 +2,7 @@
 ghost use Rattle.std.specs.Prelude.{◌≡◌, ◌≤◌, ◌⊎◌, List, [], true, None, Some, IfErr, IfOk};
 ghost use Rattle.turn_cell.specs.Seats.{IsSameSeat, IsSeatOf};
 ghost use Rattle.v_node.specs.Links.{is_kept};
-ghost use Rattle.vk_udp.specs.Carried.{HasBrought, HasFetchedFor, HasHaltedBy, IsAmong, IsBrought, IsHubFull, IsPortFull, TellsHeard, TellsStop, is_failed, met_by, room_in, stops_in};
+ghost use Rattle.vk_udp.specs.Carried.{HasBrought, HasFetchedFor, HasHaltedBy, IsAmong, IsBrought, IsHubFull, IsPortFull, TellsHeard, TellsStop, is_failed, met_by, room_in, stops_in, stops_of};
 ghost use Rattle.vk_event.specs.declared.port.StationPort.{StationPort as ThePort};
 ghost use Rattle.vk_udp.specs.Jobs.{EndsCarrier};
 
@@ -182,7 +182,7 @@ fn carry_on<L: Link, R: Wait + Clock>(
 ) -> Stop
     requires seat { IsSeatOf hub.now hub_seat.old }
     ensures brought { HasBrought L.handed host port.old port.new link.old link.new (met_by result) }
-    ensures fetched { HasFetchedFor hub.now.origin ports.now hub_seat.old hub_seat.new 1 }
+    ensures fetched { HasFetchedFor hub.now.origin ports.now hub_seat.old hub_seat.new (stops_of result) }
     ensures full { met_by result ≡ Some Room.Full → IsPortFull port.old port.new ⊎ IsHubFull hub_seat.new }
     ensures faults { TellsStop (L.fault_count link.old) (L.fault_count link.new) result }
 {

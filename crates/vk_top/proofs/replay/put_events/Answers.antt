@@ -1,6 +1,7 @@
 use Rattle.std.proofs.Common.{Err, take, ap, ◌∙◌}
+use Rattle.vk_text.proofs.Fronts.{at_refusal}
 use Rattle.vk_top.proofs.Nexts.{fewer_events, next_event, no_event}
-use Rattle.vk_top.proofs.Lefts.{actors_stand, end_text, end_whole, few_so_far, under_way_more, under_way_none, way_cut, way_ending, way_text}
+use Rattle.vk_top.proofs.Lefts.{actors_stand, end_room, end_text, end_whole, few_so_far, under_way_more, under_way_none, way_cut, way_ending, way_room, way_text}
 use Rattle.vk_top.proofs.replay.put_events.Goals as goal
 
 pub loop-event-init : goal.loop-event-init
@@ -42,6 +43,19 @@ pub returns-in-Err-NoMemory-clause-ending : goal.returns-in-Err-NoMemory-clause-
 returns-in-Err-NoMemory-clause-ending c =
     way_ending c.args.form c.args.reader.now c.loop-event.reader c.loop-event.cluster c.loop-event.counts c.loop-event.text.items
     c.loop-event.invariant c.next.new.self c.next.new.event (next_event _ _ _ _ c.loop-event-test.true c.next.ensures.next)
+
+pub returns-in-Err-NoMemory-clause-memory : goal.returns-in-Err-NoMemory-clause-memory
+returns-in-Err-NoMemory-clause-memory c =
+    way_room c.args.form c.args.reader.now c.loop-event.reader c.loop-event.cluster c.loop-event.counts c.loop-event.text.items
+    c.loop-event.invariant c.next.new.self c.next.new.event (next_event _ _ _ _ c.loop-event-test.true c.next.ensures.next)
+    (c.in-Err-NoMemory.ensures.memory (ap Err c.in-Err-NoMemory.field-0-is))
+
+pub returns-in_err-put_end-clause-memory : goal.returns-in_err-put_end-clause-memory
+returns-in_err-put_end-clause-memory c =
+    let end = no_event _ _ _ _ c.loop-event-test.false c.next.ensures.next in
+    at_refusal c.from_residual.result
+    (end_room c.args.form c.args.reader.now c.loop-event.reader c.loop-event.cluster c.loop-event.counts c.loop-event.text.items
+    c.loop-event.invariant end.0 c.next.new.self end.1)
 
 pub loop-event-preserved : goal.loop-event-preserved
 loop-event-preserved c =

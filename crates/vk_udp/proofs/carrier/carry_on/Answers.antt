@@ -1,8 +1,8 @@
-use Rattle.std.proofs.Common.{◌∙◌, None, Some, arith, cond, refl, subst}
+use Rattle.std.proofs.Common.{◌∙◌, None, Some, cond, refl, subst}
 use Rattle.std.specs.Prelude.{Ok}
 use Rattle.vk_udp.specs.Carried.{TellsHeard}
 use Rattle.vk_udp.proofs.Bringing.{brought_more, brought_none}
-use Rattle.vk_udp.proofs.Fetching.{fetched_few, fetched_none, fetched_on, going_on, gone}
+use Rattle.vk_udp.proofs.Fetching.{fetched_none, fetched_on, going_on, gone}
 use Rattle.vk_udp.proofs.carrier.carry_on.Goals as goal
 
 pub loop-init : goal.loop-init
@@ -18,8 +18,7 @@ pub returns-in-Err-clause-fetched : goal.returns-in-Err-clause-fetched
 returns-in-Err-clause-fetched g c =
     let o = c.args.hub.now.origin in
     let ports = c.args.ports.now in
-    fetched_few o ports c.args.hub_seat.now c.send_each.new.hub_seat 0 1
-    (fetched_on o ports c.args.hub_seat.now c.loop.hub_seat c.send_each.new.hub_seat 0 0 c.loop.invariant.fetched c.in-Err.ensures.fetched refl) (omega arith)
+    fetched_on o ports c.args.hub_seat.now c.loop.hub_seat c.send_each.new.hub_seat 0 0 c.loop.invariant.fetched c.in-Err.ensures.fetched refl
 
 pub returns-then-sent-clause-fetched : goal.returns-then-sent-clause-fetched
 returns-then-sent-clause-fetched g c =
@@ -77,9 +76,8 @@ pub returns-in-Ok-Failed-clause-fetched : goal.returns-in-Ok-Failed-clause-fetch
 returns-in-Ok-Failed-clause-fetched g c =
     let o = c.args.hub.now.origin in
     let ports = c.args.ports.now in
-    fetched_few o ports c.args.hub_seat.now c.send_each.new.hub_seat 0 1
-    (fetched_on o ports c.args.hub_seat.now c.loop.hub_seat c.send_each.new.hub_seat (cond c.in-Ok.sent.ended 1 0) 0 c.loop.invariant.fetched
-    c.in-Ok.ensures.fetched (going_on c.in-Ok.sent.ended c.if-sent.false)) (omega arith)
+    fetched_on o ports c.args.hub_seat.now c.loop.hub_seat c.send_each.new.hub_seat (cond c.in-Ok.sent.ended 1 0) 0 c.loop.invariant.fetched
+    c.in-Ok.ensures.fetched (going_on c.in-Ok.sent.ended c.if-sent.false)
 
 pub returns-in-Err-hear-clause-brought : goal.returns-in-Err-hear-clause-brought
 returns-in-Err-hear-clause-brought g c =
@@ -94,6 +92,5 @@ pub returns-in-Err-hear-clause-fetched : goal.returns-in-Err-hear-clause-fetched
 returns-in-Err-hear-clause-fetched g c =
     let o = c.args.hub.now.origin in
     let ports = c.args.ports.now in
-    fetched_few o ports c.args.hub_seat.now c.send_each.new.hub_seat 0 1
-    (fetched_on o ports c.args.hub_seat.now c.loop.hub_seat c.send_each.new.hub_seat (cond c.in-Ok.sent.ended 1 0) 0 c.loop.invariant.fetched
-    c.in-Ok.ensures.fetched (going_on c.in-Ok.sent.ended c.if-sent.false)) (omega arith)
+    fetched_on o ports c.args.hub_seat.now c.loop.hub_seat c.send_each.new.hub_seat (cond c.in-Ok.sent.ended 1 0) 0 c.loop.invariant.fetched
+    c.in-Ok.ensures.fetched (going_on c.in-Ok.sent.ended c.if-sent.false)

@@ -1,0 +1,86 @@
+-- What an entry does, by what it takes: its packet, and the steps of that.
+use Rattle.std.proofs.Common.{◌≡◌, ℕ, ◌+◌, false, ◌==◌, [], Option, Some, None, refl, sym, ap, ◌∙◌}
+use Rattle.std.proofs.lemmas.Option.{same_Some, none-some}
+use Rattle.vk_base.specs.declared.pid.Pid.{Pid}
+use Rattle.vk_base.specs.Brought.{brought, sender_heard, found_dead}
+use Rattle.vk_base.specs.Kernel.{Kernel}
+use Rattle.vk_base.specs.Packets.{Packet, Send, Reply, Pending, Negative, MoveData, MoveAck, MoveRequest, MoveBytes, MoveNegative, AskPid, TellPid}
+use Rattle.vk_base.specs.Pids.{same_pid}
+use Rattle.vk_base.specs.Settings.{Settings}
+use Rattle.v_laws.proofs.Tables.{changed_apart, put_process_other}
+use Rattle.vk_rules.specs.Entries.{Input, Called, Collected, Ticked, Delivered, is_delivery, taken_in, taken_packet}
+use Rattle.vk_rules.specs.Frames.{Frame, Unsealed, frames_of, sender_of}
+use Rattle.vk_rules.specs.PacketOutcomes.{packet_outcome}
+use Rattle.vk_rules.specs.Readings.{Reading}
+use Rattle.vk_rules.specs.Right.{answer_to, number_after, right_entry, tick_after}
+use Rattle.vk_rules.specs.Rounds.{Outcome}
+use Rattle.vk_rules.proofs.Taken.{outcome_by, packet_taken}
+use Rattle.v_ages.proofs.Taken.{Takes, Nothing, TakesFrame, from_is, takes}
+use Rattle.v_ended.proofs.Whole.{no_frame}
+
+-- The packet that an entry takes is of a process of another station, and the entry has its steps.
+pub record Brings (c : Settings) (host : ℕ) (rd : Reading) (i : Input) (p : Packet) : Type 0 where
+  pub away : ((sender_of p).host == host) ≡ false
+  pub other : (s : Pid) → s.host ≡ host → same_pid s (sender_of p) ≡ false
+  pub steps : (right_entry c host rd i).steps ≡ (packet_outcome host rd p).steps
+  pub frames : (right_entry c host rd i).frames
+      ≡ frames_of host (tick_after rd i) (number_after rd i) (rd.events + 1) 1 (packet_outcome host rd p).packets
+
+none_in : (c : Settings) (host : ℕ) (rd : Reading) (i : Input) (p : Packet) → is_delivery i ≡ false →
+    taken_packet (right_entry c host rd i) ≡ Some p → Brings c host rd i p
+unfolding right_entry
+none_in c host rd i p d e = absurd (none-some p (sym (ap packet_taken (no_frame i (answer_to c host rd i) d)) ∙ e))
+
+delivery_brings : (c : Settings) (host : ℕ) (rd : Reading) (u : Unsealed) (p : Packet) → Takes host rd.now c.times.life u →
+    packet_taken (taken_in (Delivered u) (answer_to c host rd (Delivered u))) ≡ Some p → Brings c host rd (Delivered u) p
+unfolding right_entry
+delivery_brings c host rd u p (Nothing none) e = absurd (none-some p (sym (ap packet_taken none) ∙ e))
+delivery_brings c host rd u p (TakesFrame h q is taken for young between) e =
+    let same : q ≡ p = same_Some q p (sym (ap packet_taken taken) ∙ e) in
+    let from = from_is host h q for between in
+    record {
+      away = ap (λ z. (sender_of z).host == host) (sym same) ∙ from.away;
+      other = λ s here. ap (λ z. same_pid s (sender_of z)) (sym same) ∙ from.other s here;
+      steps = ap (λ o. (outcome_by host rd o).steps) taken ∙ ap (λ z. (packet_outcome host rd z).steps) same;
+      frames = ap (λ (o : Outcome). frames_of host rd.now (number_after rd (Delivered u)) (rd.events + 1) 1 o.packets)
+          (ap (outcome_by host rd) taken ∙ ap (packet_outcome host rd) same);
+    }
+
+pub brings : (c : Settings) (host : ℕ) (rd : Reading) (i : Input) (p : Packet) → taken_packet (right_entry c host rd i) ≡ Some p →
+    Brings c host rd i p
+unfolding right_entry
+brings c host rd (Called pid call) p e = none_in c host rd (Called pid call) p refl e
+brings c host rd (Collected pid) p e = none_in c host rd (Collected pid) p refl e
+brings c host rd Ticked p e = none_in c host rd Ticked p refl e
+brings c host rd (Delivered u) p e = delivery_brings c host rd u p (takes host rd.now c.times.life u) e
+
+-- where a delivery takes none it has no steps
+abbrev pub IsDelivery : Input → Type 0
+IsDelivery (Delivered u) = Unit {0}
+IsDelivery i = ⊥
+
+pub untaken : (c : Settings) (host : ℕ) (rd : Reading) (i : Input) → taken_packet (right_entry c host rd i) ≡ None → IsDelivery i →
+    (right_entry c host rd i).steps ≡ []
+unfolding right_entry
+untaken c host rd (Called pid call) e d = absurd d
+untaken c host rd (Collected pid) e d = absurd d
+untaken c host rd Ticked e d = absurd d
+untaken c host rd (Delivered u) e d = by_none (taken_in (Delivered u) (answer_to c host rd (Delivered u))) e
+  where
+    by_none : (o : Option Frame) → packet_taken o ≡ None → (outcome_by host rd o).steps ≡ []
+    by_none None e = refl
+    by_none (Some f) e = absurd (none-some f.packet (sym e))
+
+-- What a packet brings in leaves each process but its sender as it was.
+pub brought_apart : (k : Kernel) (p : Packet) (s : Pid) → same_pid s (sender_of p) ≡ false → (brought k p).procs s ≡ k.procs s
+brought_apart k (Send from to number m part) s apart = put_process_other k.procs from (sender_heard number (k.procs from)) s apart
+brought_apart k (Reply from to number m dest bytes) s apart = refl
+brought_apart k (Pending from to number) s apart = refl
+brought_apart k (Negative from to number) s apart = changed_apart k.procs from found_dead s apart
+brought_apart k (MoveData from to number moving dest total offset bytes) s apart = refl
+brought_apart k (MoveAck from to number moving received) s apart = refl
+brought_apart k (MoveRequest from to number moving src total offset) s apart = refl
+brought_apart k (MoveBytes from to number moving total offset bytes) s apart = refl
+brought_apart k (MoveNegative from to number moving) s apart = refl
+brought_apart k (AskPid asker lookup logical) s apart = refl
+brought_apart k (TellPid found asker lookup) s apart = refl

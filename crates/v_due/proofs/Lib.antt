@@ -1,0 +1,16 @@
+pub mod Refused
+pub mod Packets
+pub mod Entries
+pub mod Told
+pub mod Named
+pub mod Ticks
+pub mod Dues
+pub mod Negated
+pub mod Waits
+pub mod Blocked
+pub mod Rounds
+pub mod Patience
+pub mod Arrived
+pub mod Passed
+pub mod Nearby
+pub mod Exiting

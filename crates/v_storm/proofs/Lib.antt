@@ -1,0 +1,17 @@
+mod Brought
+mod Called
+mod Calls
+mod Changes
+mod Course
+mod Doing
+mod Entries
+mod Histories
+mod Laws
+mod Messages
+mod Ours
+mod Packets
+mod Programs
+mod Serving
+mod Standing
+mod Steps
+mod Views
