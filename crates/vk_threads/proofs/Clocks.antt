@@ -10,10 +10,10 @@ use Rattle.vk_port.specs.Ports.{Action, AtHub, AtStation, Delivers, Does, Drops,
 use Rattle.vk_port.specs.Stations.{frames_at}
 use Rattle.vk_port.proofs.Logs.{does_more, does_nothing}
 use Rattle.vk_rules.specs.Each.{Each}
-use Rattle.v_run.specs.Passages.{HasDropped, OnlyTicks, lost_count, tick_count}
-use Rattle.vk_threads.specs.Clocks.{AreTicked, HaveRounds, HaveRoundsCut, HaveTicked, HaveTickedCut, OneFindsFull, TickBetween, all_lost, may_tick}
+use Rattle.v_run.specs.Passages.{HasDropped, HasHeard, OnlyTicks, lost_count, tick_count}
+use Rattle.vk_threads.specs.Clocks.{AreTicked, HaveLooked, HaveRounds, HaveRoundsCut, HaveTicked, HaveTickedCut, OneFindsFull, OneHears, TickBetween, all_lost, may_tick}
 use Rattle.vk_threads.specs.Works.{FindsFull}
-use Rattle.vk_threads.proofs.Playing.{lost_append, met_own, met_pump}
+use Rattle.vk_threads.proofs.Playing.{heard_append, lost_append, met_own, met_pump}
 use Rattle.vk_threads.proofs.Full.{full_after}
 
 -- Of one port.
@@ -107,6 +107,20 @@ joined_full (p ∷ ps) [] rs all more one two full = absurd one
 joined_full (p ∷ ps) (q ∷ qs) rs [] more one two full = absurd one
 joined_full (p ∷ ps) (q ∷ qs) [] (a ∷ all) more one two full = absurd two
 joined_full (p ∷ ps) (q ∷ qs) (r ∷ rs) (a ∷ all) [] one two full = absurd two
+
+joined_hears : (ps qs rs : List PortValue) (all more : List (List Action)) → AreTicked ps qs all → AreTicked qs rs more → OneHears more
+    → OneHears (joined all more)
+joined_hears [] [] [] [] [] one two hears = hears
+joined_hears (p ∷ ps) (q ∷ qs) (r ∷ rs) (a ∷ all) (b ∷ more) one two (inl hears) = inl (heard_append a b hears)
+joined_hears (p ∷ ps) (q ∷ qs) (r ∷ rs) (a ∷ all) (b ∷ more) one two (inr hears) = inr (joined_hears ps qs rs all more one.2 two.2 hears)
+joined_hears [] [] [] [] (b ∷ more) one two hears = absurd two
+joined_hears [] [] (r ∷ rs) [] more one two hears = absurd two
+joined_hears [] (q ∷ qs) rs all more one two hears = absurd one
+joined_hears [] [] rs (a ∷ all) more one two hears = absurd one
+joined_hears (p ∷ ps) [] rs all more one two hears = absurd one
+joined_hears (p ∷ ps) (q ∷ qs) rs [] more one two hears = absurd one
+joined_hears (p ∷ ps) (q ∷ qs) [] (a ∷ all) more one two hears = absurd two
+joined_hears (p ∷ ps) (q ∷ qs) (r ∷ rs) (a ∷ all) [] one two hears = absurd two
 
 pub ticked_more : (low high lost low2 high2 lost2 : ℕ) (ps qs rs : List PortValue) → HaveTicked low high lost ps qs → HaveTicked low2 high2 lost2 qs rs
     → HaveTicked (low + low2) (high + high2) (lost + lost2) ps rs
@@ -271,8 +285,21 @@ first_does ps p q lost more low at does only none few = record {
   few = (let sum = behind_lost 0 (idle_all ps) more in let none2 = idle_lost ps in omega arith);
 }
 
-pub first_stops : (ps : List PortValue) (p q : PortValue) → 0 < length ps → get_or ps 0 p ≡ p → HeardOnce p q [] → HaveTicked 0 0 1 ps (slice_set ps 0 q)
-first_stops ps p q low at it = first_does ps p q 1 (Hears it.heard ∷ []) low at it.does tt refl (omega arith)
+first_hears : (ps : List PortValue) (more : List Action) → 0 < length ps → HasHeard more → OneHears (behind 0 (idle_all ps) more)
+first_hears [] more low hears = absurd (omega arith)
+first_hears (p ∷ ps) more low hears = inl hears
+
+pub first_stops : (ps : List PortValue) (p q : PortValue) → 0 < length ps → get_or ps 0 p ≡ p → HeardOnce p q [] → HaveLooked ps (slice_set ps 0 q) true
+first_stops ps p q low at it =
+    let more = Hears it.heard ∷ [] in (
+      record {
+        acts = behind 0 (idle_all ps) more;
+        does = behind_ticked 0 ps ps (idle_all ps) p q more (idle_ticked ps) low at it.does tt;
+        ticks = behind_between 0 0 0 0 (idle_all ps) more (idle_between ps) (omega arith);
+        few = (let sum = behind_lost 0 (idle_all ps) more in let none = idle_lost ps in omega arith);
+      },
+      first_hears ps more low tt,
+    )
 
 pub first_delivers : (ps : List PortValue) (p q : PortValue) (a : EventAnswer) → 0 < length ps → get_or ps 0 p ≡ p → HasDelivered p q a
     → HaveTicked 0 0 0 ps (slice_set ps 0 q)
@@ -335,11 +362,32 @@ rounds_more n ps qs rs ts one two three =
     subst (λ m. HaveTicked m m 0 ps ts) e sum
 
 pub rounds_end : (n rounds : ℕ) (ps qs rs ts : List PortValue) → n + 1 ≤ rounds → HaveTicked n n 0 ps qs → HaveTicked 1 1 0 qs rs
-    → HaveTicked 0 0 1 rs ts → HaveRounds rounds ps ts
-rounds_end n rounds ps qs rs ts low one two three =
-    let sum = ticked_more (n + 1) (n + 1) 0 0 0 1 ps rs ts (ticked_more n n 0 1 1 0 ps qs rs one two) three in
+    → HaveLooked rs ts true → HaveRounds rounds ps ts
+rounds_end n rounds ps qs rs ts low one two last =
+    let mid = ticked_more n n 0 1 1 0 ps qs rs one two in
+    let look = last.0 in
+    let acts = joined mid.acts look.acts in
     let e : n + 1 + 0 ≡ n + 1 = omega arith in
-    record { done = n + 1; few = low; ticked = subst (λ m. HaveTicked m m 1 ps ts) e sum }
+    record {
+      done = n + 1;
+      few = low;
+      ticked = record {
+        acts = acts;
+        does = joined_ticked ps rs ts mid.acts look.acts mid.does look.does;
+        ticks = subst (λ m. TickBetween m m acts) e (joined_between (n + 1) (n + 1) 0 0 mid.acts look.acts mid.ticks look.ticks);
+        few = (let sum = joined_lost mid.acts look.acts in let x = mid.few in let y = look.few in omega arith);
+      };
+      all = inr (joined_hears ps rs ts mid.acts look.acts mid.does look.does last.1);
+    }
+
+-- all rounds are over
+pub rounds_over : (n rounds : ℕ) (ps qs : List PortValue) → n ≡ rounds → HaveTicked n n 0 ps qs → HaveRounds rounds ps qs
+rounds_over n rounds ps qs whole so = record {
+  done = n;
+  few = omega arith;
+  ticked = record { acts = so.acts; does = so.does; ticks = so.ticks; few = (let none = so.few in omega arith) };
+  all = inl whole;
+}
 
 pub rounds_cut : (n rounds : ℕ) (ps qs rs : List PortValue) (why : Room) → n + 1 ≤ rounds → HaveTicked n n 0 ps qs → HaveTickedCut 0 1 0 qs rs why
     → HaveRoundsCut rounds ps rs why

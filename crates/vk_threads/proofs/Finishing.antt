@@ -9,7 +9,7 @@ use Rattle.turn_cell.specs.Seats.{HasEntered, HasLooked, IsSameSeat, Sitting}
 use Rattle.vk_base.specs.declared.event.StationEvent.{StationEvent}
 use Rattle.vk_hub.specs.declared.event.HubEvent.{HubEvent}
 use Rattle.vk_hub.specs.declared.event.HubEvent.TheVariants as hub_events
-use Rattle.vk_hub.specs.Hubs.{HubLog, is_at_limit, others}
+use Rattle.vk_hub.specs.Hubs.{HubLog, has_halt, is_at_limit, others}
 use Rattle.vk_port.specs.Ports.{PortValue}
 use Rattle.vk_port.specs.Stations.{StationHistory}
 use Rattle.vk_threads.specs.Works.{HasEnded}
@@ -39,8 +39,9 @@ has_finished p seat before now Gives is was same entered = record {
 
 pub has_failed : (p : PortValue) (seat : Sitting StationHistory StationEvent) (before mid now : HubSeat) (why : Room)
     → seat ≡ p.seat → before ≡ p.hub_seat → IsSameSeat before mid → HasLooked before mid → is_at_limit mid.seen hub_events.Finished ≡ is_full why
-    → IsSameSeat mid now → IsPrefix mid.seen now.seen → (now.mine ≡ mid.mine) ⊎ (now.mine ≡ mid.mine ++ hub_events.Halt ∷ []) → HasEnded p seat now (Some why)
-has_failed p seat before mid now why is was same looked full same2 later mine = record {
+    → IsSameSeat mid now → IsPrefix mid.seen now.seen → (now.mine ≡ mid.mine) ⊎ (now.mine ≡ mid.mine ++ hub_events.Halt ∷ [])
+    → has_halt now.seen ≡ true → HasEnded p seat now (Some why)
+has_failed p seat before mid now why is was same looked full same2 later mine halted = record {
   seat = is;
   same = subst (λ s. IsSameSeat s now) was (same2.0 ∙ same.0, same2.1 ∙ same.1, same2.2 ∙ same.2);
   finished = (
@@ -49,5 +50,6 @@ has_failed p seat before mid now why is was same looked full same2 later mine = 
     later,
     subst (λ l. (now.mine ≡ l) ⊎ (now.mine ≡ l ++ hub_events.Halt ∷ [])) (looked.1 ∙ ap (λ (s : HubSeat). s.mine) was) mine,
     (λ e. at_limit (others mid.seen) (full ∙ ap is_full e)),
+    halted,
   );
 }

@@ -176,8 +176,13 @@ pumps_nothing old mid new so it =
 
 pub pumps_stopped : (old mid new : PortValue) → PumpsSoFar old mid → HeardOnce mid new [] → HasPumped old new
 pumps_stopped old mid new so it =
-    let last = Hears it.heard ∷ [] in
-    (so.0 ++ last, does_more old mid new so.0 last so.1 it.does, only_append so.0 last so.2 tt, (let sum = lost_append so.0 last in let none = so.3 in omega arith))
+    let last = Hears it.heard ∷ [] in (
+      so.0 ++ last,
+      does_more old mid new so.0 last so.1 it.does,
+      only_append so.0 last so.2 tt,
+      (let sum = lost_append so.0 last in let none = so.3 in omega arith),
+      heard_append so.0 last tt,
+    )
 
 cut_pump_only : (o : StationHistory) (host : ℕ) (last : List Action) (m : Met) → IsCutPump o host last m → OnlyPumps last × (lost_count last ≤ 1)
 cut_pump_only o host [] m cut = (tt, omega arith)

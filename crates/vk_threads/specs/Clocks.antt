@@ -1,9 +1,9 @@
 -- What the clock does with its ports, one at each station.
-use Rattle.std.specs.Prelude.{ℕ, ◌≡◌, ◌≤◌, ◌+◌, ◌⊎◌, true, List, [], ◌∷◌}
+use Rattle.std.specs.Prelude.{ℕ, ◌≡◌, ◌≤◌, ◌+◌, ◌⊎◌, Bool, true, false, List, [], ◌∷◌}
 use Rattle.turn_cell.specs.declared.replay.Room.{Room}
 use Rattle.turn_cell.specs.declared.replay.Room.TheVariants as rooms
 use Rattle.vk_port.specs.Ports.{Action, Does, PortValue}
-use Rattle.v_run.specs.Passages.{OnlyTicks, lost_count, tick_count}
+use Rattle.v_run.specs.Passages.{HasHeard, OnlyTicks, lost_count, tick_count}
 use Rattle.vk_threads.specs.Works.{FindsFull}
 
 -- each port did these actions, none but ticks of its own accord
@@ -28,6 +28,11 @@ OneFindsFull [] all = ⊥
 OneFindsFull (p ∷ ps) [] = ⊥
 OneFindsFull (p ∷ ps) (acts ∷ all) = FindsFull p acts ⊎ OneFindsFull ps all
 
+-- one of these ports heard that the hub had ended
+abbrev pub OneHears : List (List Action) → Type 0
+OneHears [] = ⊥
+OneHears (acts ∷ all) = HasHeard acts ⊎ OneHears all
+
 -- Each port ticked between so often and so often, and together they lost at most so many fetches.
 pub record HaveTicked (low high lost : ℕ) (old new : List PortValue) : Type 0 where
   pub acts : List (List Action)
@@ -43,11 +48,17 @@ pub record HaveTickedCut (low high lost : ℕ) (old new : List PortValue) (why :
   pub few : all_lost acts ≤ lost
   pub full : why ≡ rooms.Full → OneFindsFull new acts
 
--- The clock went so many rounds, and where it met a Room, a part of one more.
+-- One look: it heard that the hub had ended, or did not.
+abbrev pub HaveLooked : List PortValue → List PortValue → Bool → Type 0
+HaveLooked old new true = (t : HaveTicked 0 0 1 old new) × OneHears t.acts
+HaveLooked old new false = HaveTicked 0 0 0 old new
+
+-- The clock went just so many rounds, or fewer where it heard that the hub had ended; and where it met a Room, a part of one more.
 pub record HaveRounds (rounds : ℕ) (old new : List PortValue) : Type 0 where
   pub done : ℕ
   pub few : done ≤ rounds
   pub ticked : HaveTicked done done 1 old new
+  pub all : (done ≡ rounds) ⊎ OneHears ticked.acts
 
 pub record HaveRoundsCut (rounds : ℕ) (old new : List PortValue) (why : Room) : Type 0 where
   pub done : ℕ

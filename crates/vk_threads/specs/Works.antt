@@ -1,5 +1,5 @@
 -- What jobs do with their ports, and what their ends may be.
-use Rattle.std.specs.Prelude.{ℕ, ◌≡◌, ◌≤◌, ◌+◌, ◌⊎◌, Bool, true, false, Option, Some, None, List, [], ◌∷◌, ◌++◌, length}
+use Rattle.std.specs.Prelude.{ℕ, ◌≡◌, ◌≤◌, ◌+◌, ◌⊎◌, Bool, true, false, Option, Some, None, is_some, List, [], ◌∷◌, ◌++◌, length}
 use mathlib.Core.List.{IsPrefix}
 use Rattle.turn_cell.specs.Seats.{IsSameSeat, Sitting}
 use Rattle.turn_cell.specs.declared.replay.Room.{Room}
@@ -10,7 +10,7 @@ use Rattle.vk_base.specs.declared.event.StationEvent.{StationEvent}
 use Rattle.vk_base.specs.declared.pid.Pid.{Pid}
 use Rattle.vk_hub.specs.declared.event.HubEvent.{HubEvent}
 use Rattle.vk_hub.specs.declared.event.HubEvent.TheVariants as hub_events
-use Rattle.vk_hub.specs.Hubs.{HubLog, others}
+use Rattle.vk_hub.specs.Hubs.{HubLog, has_halt, others}
 use Rattle.vk_port.specs.Ports.{Action, Does, PortValue, stand_of}
 use Rattle.vk_port.specs.Stations.{StationHistory}
 use Rattle.v_run.specs.Jobs.{SeesFull}
@@ -59,13 +59,13 @@ HasPlayedCut old new pid task why =
 
 -- Pumping until the hub has ended.
 abbrev pub HasPumped : PortValue → PortValue → Type 0
-HasPumped old new = (acts : List Action) × Does old new acts × OnlyPumps acts × (lost_count acts ≤ 1)
+HasPumped old new = (acts : List Action) × Does old new acts × OnlyPumps acts × (lost_count acts ≤ 1) × HasHeard acts
 
 abbrev pub HasPumpedCut : PortValue → PortValue → Room → Type 0
 HasPumpedCut old new why =
     (acts : List Action) × Does old new acts × OnlyPumps acts × (lost_count acts ≤ 1) × (why ≡ rooms.Full → FindsFull new acts)
 
--- A port's two seats, once it has ended: nothing was entered behind its end but a halt, where a Room was met.
+-- A port's two seats, once it has ended: nothing was entered behind its end but a halt, where a Room was met. The hub is halted then.
 abbrev pub HasHalted : List HubEvent → List HubEvent → Option Room → Type 0
 HasHalted before after None = after ≡ before
 HasHalted before after (Some why) = (after ≡ before) ⊎ (after ≡ before ++ hub_events.Halt ∷ [])
@@ -76,13 +76,14 @@ pub record HasClosed (p : PortValue) (station : Sitting StationHistory StationEv
   pub same : IsSameSeat p.hub_seat hub
   pub heard : IsPrefix p.hub_seat.seen hub.seen
   pub sent : HasHalted p.hub_seat.mine hub.mine met
+  pub halted : is_some met ≡ true → has_halt hub.seen ≡ true
 
 -- The two seats of a port whose program has finished: it said so to the hub, or met a Room there and halted it.
 abbrev pub HasFinished : PortValue → List HubEvent → List (ℕ × HubEvent) → Option Room → Type 0
 HasFinished p sent heard None = (sent ≡ p.hub_seat.mine ++ hub_events.Finished ∷ []) × IsPrefix p.hub_seat.seen heard
 HasFinished p sent heard (Some why) =
     (looked : List (ℕ × HubEvent)) × IsPrefix p.hub_seat.seen looked × IsPrefix looked heard
-    × HasHalted p.hub_seat.mine sent (Some why) × (why ≡ rooms.Full → 200000 ≤ others looked)
+    × HasHalted p.hub_seat.mine sent (Some why) × (why ≡ rooms.Full → 200000 ≤ others looked) × (has_halt heard ≡ true)
 
 pub record HasEnded (p : PortValue) (station : Sitting StationHistory StationEvent) (hub : Sitting HubLog HubEvent) (met : Option Room)
     : Type 0 where

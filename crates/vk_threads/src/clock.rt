@@ -1,7 +1,7 @@
 //! The job that ticks all stations.
-ghost use Rattle.std.specs.Prelude.{◌≡◌, ◌≤◌, [], ◌++◌, map, length, IfOk, IfErr, if◌then◌else◌, vec_len, vec_capacity};
+ghost use Rattle.std.specs.Prelude.{◌≡◌, ◌≤◌, [], ◌++◌, map, length, IfOk, IfErr, vec_len, vec_capacity};
 ghost use Rattle.vk_rules.specs.Each.{Each};
-ghost use Rattle.vk_threads.specs.Clocks.{HaveRounds, HaveRoundsCut, HaveTicked, HaveTickedCut, may_tick};
+ghost use Rattle.vk_threads.specs.Clocks.{HaveLooked, HaveRounds, HaveRoundsCut, HaveTicked, HaveTickedCut, may_tick};
 ghost use Rattle.vk_threads.specs.Ends.{ArePortsClosed, IsAt, MayEnd, port_host, ticking};
 
 use crate::end::{End, Seats, close_port};
@@ -137,7 +137,7 @@ fn tick_each<R: Wait>(rt: &R, alloc: Global, ports: &mut [Port]) -> Result<(), R
 
 /// Whether the first port hears that the hub has ended.
 fn has_ended<R: Wait>(rt: &R, alloc: Global, ports: &mut [Port]) -> Result<bool, Room>
-    ensures ended { IfOk result (λ ended. HaveTicked 0 0 (if ended then 1 else 0) ports.old ports.new) }
+    ensures ended { IfOk result (HaveLooked ports.old ports.new) }
     ensures cut { IfErr result (HaveTickedCut 0 0 1 ports.old ports.new) }
 {
     if ports.is_empty() {

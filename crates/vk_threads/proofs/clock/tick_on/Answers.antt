@@ -1,6 +1,6 @@
-use Rattle.std.proofs.Common.{arith, ◌≡◌, false, true, if◌then◌else◌, subst}
-use Rattle.vk_threads.specs.Clocks.{HaveTicked}
-use Rattle.vk_threads.proofs.Clocks.{rounds_cut, rounds_cut_late, rounds_end, rounds_more, still, ticked_none}
+use Rattle.std.proofs.Common.{arith, ◌≡◌, false, true, subst}
+use Rattle.vk_threads.specs.Clocks.{HaveLooked}
+use Rattle.vk_threads.proofs.Clocks.{rounds_cut, rounds_cut_late, rounds_end, rounds_more, rounds_over, still, ticked_none}
 use Rattle.vk_threads.proofs.clock.tick_on.Goals as goal
 
 pub loop-init : goal.loop-init
@@ -13,8 +13,7 @@ returns-in-Err-clause-cut g c =
 
 pub returns-in-Ok-true-clause-ticked : goal.returns-in-Ok-true-clause-ticked
 returns-in-Ok-true-clause-ticked g c =
-    let last = subst (λ b. HaveTicked 0 0 (if b then 1 else 0) c.tick_each.new.ports c.has_ended.new.ports) c.in-Ok-true.field-0-test
-    c.in-Ok-true.ensures.ended in
+    let last = subst (HaveLooked c.tick_each.new.ports c.has_ended.new.ports) c.in-Ok-true.field-0-test c.in-Ok-true.ensures.ended in
     rounds_end c.loop.counter c.args.rounds c.args.ports.now c.loop.ports c.tick_each.new.ports c.has_ended.new.ports (omega arith)
     c.loop.invariant.so_far c.in-Ok.ensures.ticked last
 
@@ -25,11 +24,14 @@ returns-in-Err-has_ended-clause-cut g c =
 
 pub loop-preserved : goal.loop-preserved
 loop-preserved g c =
-    let last = subst (λ b. HaveTicked 0 0 (if b then 1 else 0) c.tick_each.new.ports c.has_ended.new.ports) c.in-Ok-false.field-0-test
-    c.in-Ok-false.ensures.ended in
+    let last = subst (HaveLooked c.tick_each.new.ports c.has_ended.new.ports) c.in-Ok-false.field-0-test c.in-Ok-false.ensures.ended in
     record {
       so_far = rounds_more c.loop.counter c.args.ports.now c.loop.ports c.tick_each.new.ports c.has_ended.new.ports c.loop.invariant.so_far
           c.in-Ok.ensures.ticked last;
       may = still 0 0 0 c.tick_each.new.ports c.has_ended.new.ports last
           (still 1 1 0 c.loop.ports c.tick_each.new.ports c.in-Ok.ensures.ticked c.loop.invariant.may);
     }
+
+pub returns-clause-ticked : goal.returns-clause-ticked
+returns-clause-ticked g c =
+    rounds_over c.loop.counter c.args.rounds c.args.ports.now c.loop.ports (omega arith) c.loop.invariant.so_far

@@ -10,4 +10,4 @@ pub returns-in-Err-clause-ended : goal.returns-in-Err-clause-ended
 returns-in-Err-clause-ended g c =
     has_failed c.args.port c.end-seat.result.0 c.end-seat.result.1 c.finished.new.seat c.stop.new.seat c.in-Err.why c.end-seat.ensures.seat
     c.end-seat.ensures.hub_seat c.finished.ensures.same c.in-Err.ensures.err c.in-Err.ensures.refused c.stop.ensures.same c.stop.ensures.later
-    c.stop.ensures.mine
+    c.stop.ensures.mine c.stop.ensures.halted
