@@ -31,19 +31,22 @@ pub record IsSince (c : Settings) (host : ℕ) (earlier : List Input) (first : I
 abbrev pub last_tick : Times → Pid → Entry → ℕ
 last_tick t s e = e.tick + t.interval * (if has_round s e then t.tries else t.tries + 1)
 
-pub record IsLastTick (c : Settings) (host : ℕ) (earlier : List Input) (first : Input) (later : List Input) (i : Input) (s : Pid) : Type 0 where
+pub record IsLastTick (c : Settings) (host : ℕ) (earlier : List Input) (first : Input) (later : List Input) (i : Input) (s : Pid)
+    : Type 0 where
   pub tick : i ≡ Ticked
   pub last : (reading_behind c host (later ++ first ∷ earlier)).now + 1 ≡ last_tick c.times s (next_entry c host earlier first)
 
 -- There it fails, and at nothing else.
 abbrev pub FailuresComeInTurn : Type 0
-FailuresComeInTurn = (c : Settings) (host : ℕ) (earlier : List Input) (first : Input) (later : List Input) (i : Input) (s : Pid) (call : Call) →
+FailuresComeInTurn = (c : Settings) (host : ℕ) (earlier : List Input) (first : Input) (later : List Input) (i : Input) (s : Pid)
+    (call : Call) →
     0 < c.times.tries → 0 < c.times.interval →
     IsSince c host earlier first later s → IsAtWork c host (later ++ first ∷ earlier) s call →
     IsRefused c host (later ++ first ∷ earlier) i s call (failure_of call) → IsLastTick c host earlier first later i s
 
 abbrev pub WorksFailInTurn : Type 0
-WorksFailInTurn = (c : Settings) (host : ℕ) (earlier : List Input) (first : Input) (later : List Input) (i : Input) (s : Pid) (call : Call) →
+WorksFailInTurn = (c : Settings) (host : ℕ) (earlier : List Input) (first : Input) (later : List Input) (i : Input) (s : Pid)
+    (call : Call) →
     0 < c.times.tries → 0 < c.times.interval →
     IsSince c host earlier first later s → IsAtWork c host (later ++ first ∷ earlier) s call →
     IsLastTick c host earlier first later i s → IsRefused c host (later ++ first ∷ earlier) i s call (failure_of call)

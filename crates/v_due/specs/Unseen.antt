@@ -36,13 +36,15 @@ pub record IsKnown (c : Settings) (host : ℕ) (is : List Input) (from : Pid) (n
   pub reached : number ≤ alien.name.number
 
 abbrev pub CopiesChangeNothing : Type 0
-CopiesChangeNothing = (c : Settings) (host : ℕ) (is : List Input) (i : Input) (from to : Pid) (number : ℕ) (message : Message) (part : List ℕ) →
+CopiesChangeNothing = (c : Settings) (host : ℕ) (is : List Input) (i : Input) (from to : Pid) (number : ℕ) (message : Message)
+    (part : List ℕ) →
     AreOwnInputs host is → IsTakenNext c host is i (Send from to number message part) → IsKnown c host is from number →
     ChangesNothing c host is i
 
 -- A late reply: the process does not wait in this Send to that target, or not any more.
 abbrev pub LateRepliesPassBy : Type 0
-LateRepliesPassBy = (c : Settings) (host : ℕ) (is : List Input) (i : Input) (from to : Pid) (number : ℕ) (message : Message) (dest : ℕ)
+LateRepliesPassBy = (c : Settings) (host : ℕ) (is : List Input) (i : Input) (from to : Pid) (number : ℕ) (message : Message)
+    (dest : ℕ)
     (bytes : List ℕ) →
     IsTakenNext c host is i (Reply from to number message dest bytes) →
     holds_of (λ p. awaits to p from number) ((reading_behind c host is).view.procs to) ≡ false → PassesBy c host is i

@@ -17,7 +17,8 @@ use Rattle.v_group.specs.Grouped.{IsDoneAt, IsMemberReply, IsSameSend}
 -- By these events the process r follows the task of a coordinator of these pairs, and the helper of each that of a helper.
 pub record IsGroupIn (c : Settings) (es : List Event) (r : Pid) (pairs : List HelperPair) (replies : ℕ) : Type 0 where
   pub coordinator : FollowsIn (coordinator_call pairs replies) c es r
-  pub helpers : (number : ℕ) (pair : HelperPair) → slice_get pairs number ≡ Some pair → FollowsIn (helper_call r pair.member) c es pair.helper
+  pub helpers : (number : ℕ) (pair : HelperPair) → slice_get pairs number ≡ Some pair
+      → FollowsIn (helper_call r pair.member) c es pair.helper
 
 -- In each history in which r and its helpers follow their tasks, each reply that r hears of is a member's, in the steps of that history.
 abbrev pub RepliesAreMembersIn : Type 0
