@@ -37,11 +37,10 @@ use Rattle.vk_rules.specs.Rounds.{Outcome, nothing, only_packets, told_sender}
 use Rattle.vk_rules.specs.View.{after_steps}
 use Rattle.v_ages.proofs.FarSlots.{mapped}
 use Rattle.v_ages.proofs.Slots.{at, alien_there, at_past, at_set_same, position_map}
-use Rattle.v_ages.proofs.Taken.{from_is}
+use Rattle.v_ages.proofs.Taken.{brought_procs, from_is}
 use Rattle.v_whole.specs.EveryFrame.{EveryFrameHolds, HasAlien, HoldsAnyhow}
 use Rattle.v_due.specs.Arriving.{Arrives, HasFreeSlot, HasOlderAlien, IsWelcome, LaterSendsReplace, NewSendsArrive, Sent, comes, packet_with}
 use Rattle.v_due.specs.Failures.{reading_behind}
-use Rattle.v_due.proofs.Entries.{brought_apart}
 
 -- Its message has come: it waits at its target, or was taken there.
 record HasCome (k : Kernel) (s : Sent) : Type 0 where
@@ -61,7 +60,7 @@ arrives_there k s apart live =
     let name = name_of s.from s.number in
     let x = posted s.to s.message s.part in
     let there : l.exchanges name ≡ Some x = put_exchange_here k.exchanges name x in
-    let alive : is_live (l.procs s.to) ≡ true = ap is_live (brought_apart k (packet_with s) s.to apart) ∙ live in
+    let alive : is_live (l.procs s.to) ≡ true = ap is_live (brought_procs k (packet_with s) s.to apart) ∙ live in
     let may = arriving_from l name x there refl alive in
     let goes = ap (λ o. after_effect l (o >>= λ (e : Exchange). Some (unseen (with_arrival l name e)))) may in
     let queued = ap (option_map (after_arrival name x name)) there

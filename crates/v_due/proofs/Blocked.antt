@@ -40,11 +40,11 @@ use Rattle.vk_rules.proofs.Taken.{outcome_by, packet_taken}
 use Rattle.v_ages.proofs.Outcomes.{behind_no_call, failed_no_call, mild_packet}
 use Rattle.v_ages.proofs.Quiet.{NoCall}
 use Rattle.v_ages.proofs.Sent.{IsRound, round_is}
-use Rattle.v_ages.proofs.Taken.{any_each, settled_procs}
+use Rattle.v_ages.proofs.Taken.{brought_procs, any_each, settled_procs}
 use Rattle.v_ended.proofs.Spared.{doing, state_of}
 use Rattle.v_ended.proofs.Whole.{no_frame}
 use Rattle.v_due.specs.Failures.{reading_behind}
-use Rattle.v_due.proofs.Entries.{brings, brought_apart, untaken}
+use Rattle.v_due.proofs.Entries.{brings, untaken}
 use Rattle.v_due.proofs.Told.{view_after}
 use Rattle.v_due.proofs.Waits.{Before, Begun, Blocked, HasBytes, HasMore, IsCalm, call_starts, some_bytes, steps_calm}
 
@@ -60,7 +60,7 @@ frame_calm k p [] r apart none = λ c at. at
 frame_calm k p (s ∷ ss) r apart none = λ c at.
     let l = fold next (brought k p) (s ∷ ss) in
     let there = sym (ap (λ (procs : Pid → Option Process). state_of (procs r)) (settled_procs k l p)) ∙ at in
-    sym (ap state_of (brought_apart k p r apart)) ∙ steps_calm (brought k p) r (s ∷ ss) none c there
+    sym (ap state_of (brought_procs k p r apart)) ∙ steps_calm (brought k p) r (s ∷ ss) none c there
 
 delivered_calm : (c : Settings) (host : ℕ) (rd : Reading) (u : Unsealed) (r : Pid) → r.host ≡ host → (o : Option Packet) →
     taken_packet (right_entry c host rd (Delivered u)) ≡ o →

@@ -2,12 +2,9 @@
 use Rattle.std.proofs.Common.{◌≡◌, ℕ, ◌+◌, false, ◌==◌, [], Option, Some, None, refl, sym, ap, ◌∙◌}
 use Rattle.std.proofs.lemmas.Option.{same_Some, none-some}
 use Rattle.vk_base.specs.declared.pid.Pid.{Pid}
-use Rattle.vk_base.specs.Brought.{brought, sender_heard, found_dead}
-use Rattle.vk_base.specs.Kernel.{Kernel}
-use Rattle.vk_base.specs.Packets.{Packet, Send, Reply, Pending, Negative, MoveData, MoveAck, MoveRequest, MoveBytes, MoveNegative, AskPid, TellPid}
+use Rattle.vk_base.specs.Packets.{Packet}
 use Rattle.vk_base.specs.Pids.{same_pid}
 use Rattle.vk_base.specs.Settings.{Settings}
-use Rattle.v_laws.proofs.Tables.{changed_apart, put_process_other}
 use Rattle.vk_rules.specs.Entries.{Input, Called, Collected, Ticked, Delivered, is_delivery, taken_in, taken_packet}
 use Rattle.vk_rules.specs.Frames.{Frame, Unsealed, frames_of, sender_of}
 use Rattle.vk_rules.specs.PacketOutcomes.{packet_outcome}
@@ -70,17 +67,3 @@ untaken c host rd (Delivered u) e d = by_none (taken_in (Delivered u) (answer_to
     by_none : (o : Option Frame) → packet_taken o ≡ None → (outcome_by host rd o).steps ≡ []
     by_none None e = refl
     by_none (Some f) e = absurd (none-some f.packet (sym e))
-
--- What a packet brings in leaves each process but its sender as it was.
-pub brought_apart : (k : Kernel) (p : Packet) (s : Pid) → same_pid s (sender_of p) ≡ false → (brought k p).procs s ≡ k.procs s
-brought_apart k (Send from to number m part) s apart = put_process_other k.procs from (sender_heard number (k.procs from)) s apart
-brought_apart k (Reply from to number m dest bytes) s apart = refl
-brought_apart k (Pending from to number) s apart = refl
-brought_apart k (Negative from to number) s apart = changed_apart k.procs from found_dead s apart
-brought_apart k (MoveData from to number moving dest total offset bytes) s apart = refl
-brought_apart k (MoveAck from to number moving received) s apart = refl
-brought_apart k (MoveRequest from to number moving src total offset) s apart = refl
-brought_apart k (MoveBytes from to number moving total offset bytes) s apart = refl
-brought_apart k (MoveNegative from to number moving) s apart = refl
-brought_apart k (AskPid asker lookup logical) s apart = refl
-brought_apart k (TellPid found asker lookup) s apart = refl

@@ -1,6 +1,6 @@
 -- The laws of Sends within a station.
-use Rattle.std.proofs.Common.{◌≡◌, ℕ, Bool, true, false, cond, ◌==◌, ◌&&◌, not, List, [], ◌∷◌, length, option_map, Option, Some, None, is_some, refl, sym, ap, subst, ◌∙◌, inl, inr, ◌⊎◌}
-use Rattle.std.proofs.lemmas.Bool.{and_from, and_parts, both_ways, cases_Bool, cond-true, cond-false, eq-eqb, eqb-true, not-true, not_from_true}
+use Rattle.std.proofs.Common.{◌≡◌, ℕ, true, false, cond, ◌==◌, ◌&&◌, not, List, [], ◌∷◌, length, option_map, Option, Some, None, is_some, refl, sym, ap, subst, ◌∙◌, inl, inr}
+use Rattle.std.proofs.lemmas.Bool.{and_from, and_parts, both_ways, cond-true, cond-false, eq-eqb, eqb-true, not-true, not_from_true}
 use Rattle.std.proofs.lemmas.Option.{same_Some}
 use Rattle.vk_base.specs.declared.answer.Answer.TheVariants as answers
 use Rattle.vk_base.specs.declared.answer.Refusal.{Refusal}
@@ -8,25 +8,23 @@ use Rattle.vk_base.specs.declared.answer.Refusal.TheVariants as refusals
 use Rattle.vk_base.specs.declared.call.Call.{Call}
 use Rattle.vk_base.specs.declared.call.Call.TheVariants as calls
 use Rattle.vk_base.specs.declared.event.EventAnswer.{EventAnswer}
-use Rattle.vk_base.specs.declared.kernel.Direction.TheVariants as directions
 use Rattle.vk_base.specs.declared.kernel.Exchange.{Exchange}
-use Rattle.vk_base.specs.declared.kernel.Move.{Move}
 use Rattle.vk_base.specs.declared.kernel.Process.{Process}
 use Rattle.vk_base.specs.declared.kernel.State.TheVariants as states
 use Rattle.vk_base.specs.declared.message.Message.{Message}
 use Rattle.vk_base.specs.declared.pid.Pid.{Pid}
 use Rattle.vk_base.specs.declared.step.Step.{Step}
 use Rattle.vk_base.specs.declared.step.Step.TheVariants as steps
-use Rattle.vk_base.specs.Calls.{Effect, accepted, answered, begin_move, call_refusal, call_step, called, copied_at_once, exited, forwarded, found_at_once, get_pid, is_at_once, is_bereft, is_message_at, lookup_begun, move_begun, new_move, released, replied, sent}
-use Rattle.vk_base.specs.Kernel.{◌>>=◌, Kernel, blocked_in, ended, finished_call, held, holds_of, is_at_target, is_live, is_ready, name_of, sending}
+use Rattle.vk_base.specs.Calls.{Effect, answered, call_refusal, call_step, called, exited, is_bereft, is_message_at, released, sent}
+use Rattle.vk_base.specs.Kernel.{◌>>=◌, Kernel, blocked_in, ended, finished_call, holds_of, is_at_target, is_live, is_ready, name_of, sending}
 use Rattle.vk_base.specs.Messages.{segment_of}
 use Rattle.vk_base.specs.Packets.{Packet, Negative}
 use Rattle.vk_base.specs.Pids.{same_pid, same_host}
-use Rattle.vk_base.specs.Ranges.{range_of, bytes_in, lies_in, with_bytes}
+use Rattle.vk_base.specs.Ranges.{lies_in}
 use Rattle.vk_base.specs.Settings.{Settings}
 use Rattle.vk_base.specs.Steps.{after_effect, next}
 use Rattle.vk_base.proofs.OptionLemmas.{bind_is}
-use Rattle.v_laws.proofs.Options.{of_either, some_that_holds}
+use Rattle.v_laws.proofs.Options.{some_that_holds}
 use Rattle.v_laws.proofs.StepLemmas.{fit_is}
 use Rattle.v_laws.proofs.Tables.{same_pid_is, same_pid_self}
 use Rattle.vk_rules.specs.CallOutcomes.{call_outcome, effect_answer, is_ok, seen_answer, steps_behind, take_where}
@@ -42,8 +40,8 @@ use Rattle.vk_rules.proofs.Taken.{packet_taken}
 use Rattle.v_ages.proofs.Outcomes.{behind_no_call}
 use Rattle.v_ages.proofs.Taken.{any_each}
 use Rattle.v_whole.proofs.AnyEntries.{view_entries}
-use Rattle.v_ended.proofs.Calling.{IsSoundView}
-use Rattle.v_ended.proofs.Spared.{by_effect, doing, doing_over, put_other, put_same, state_of}
+use Rattle.v_ended.proofs.Calling.{IsSoundView, Bereaves, call_left, ready_other}
+use Rattle.v_ended.proofs.Spared.{doing, doing_over, state_of}
 use Rattle.v_ended.proofs.Uncollected.{NoCollect}
 use Rattle.v_ended.proofs.Whole.{no_frame}
 use Rattle.v_due.specs.Failures.{reading_behind}
@@ -95,119 +93,6 @@ send_waits s target m (steps.Hear asker number pid) none off = tt
 send_waits s target m (steps.Found q pid) none off = λ same. absurd (both_ways (same_pid s q) off same)
 send_waits s target m (steps.Lost q) none off = λ same. absurd (both_ways (same_pid s q) off same)
 send_waits s target m (steps.Collect q) none off = λ same. refl
-
--- A call leaves who is blocked, or it is an Exit of who has the message.
-record Bereaves (k : Kernel) (s q : Pid) (d : Call) (ok : Bool) : Type 0 where
-  exit : d ≡ calls.Exit
-  process : Process
-  is : k.procs s ≡ Some process
-  bereft : is_bereft k q s process ≡ true
-  answered : ok ≡ true
-
-abbrev Leaves : Kernel → Pid → Pid → Call → Effect → Type 0
-Leaves k s q d e = (doing e.after s ≡ doing k s) ⊎ Bereaves k s q d (is_ok (seen_answer e.seen))
-
-by_left : (k : Kernel) (s q : Pid) (d : Call) (f e : Effect) → Some f ≡ Some e → Leaves k s q d f → Leaves k s q d e
-by_left k s q d f e g left = subst (Leaves k s q d) (same_Some f e g) left
-
-once_left : (k : Kernel) (s q : Pid) (d : Call) (into : Pid) (dest : ℕ) (bytes : List ℕ) (e : Effect) →
-    copied_at_once k q d into dest bytes ≡ Some e → doing e.after s ≡ doing k s
-unfolding copied_at_once
-once_left k s q d into dest bytes e g =
-    let x = bind_is (k.procs into) _ e g in
-    by_effect k s _ e x.2 (put_same k.procs into x.0 (record x.0 { memory = with_bytes x.0.memory dest bytes }) s x.1 refl)
-
-begin_left : (k : Kernel) (s q : Pid) (p : Process) (d : Call) (partner : Pid) (m : Move) (e : Effect) → same_pid s q ≡ false →
-    begin_move k q p d partner m ≡ Some e → doing e.after s ≡ doing k s
-unfolding move_begun
-begin_left k s q p d partner m e other g =
-    let number = bind_is (held k q partner) _ e g in
-    let x = bind_is (k.exchanges (name_of partner number.0)) _ e number.2 in
-    by_effect k s _ e x.2 (put_other k.procs q _ s other)
-
-reply_left : (k : Kernel) (s q : Pid) (d : Call) (to : Pid) (m : Message) (dest : ℕ) (bytes : List ℕ) (e : Effect) →
-    replied k q d to m dest bytes ≡ Some e → doing e.after s ≡ doing k s
-reply_left k s q d to m dest bytes e g =
-    let number = bind_is (held k q to) _ e g in
-    let x = bind_is (k.exchanges (name_of to number.0)) _ e number.2 in
-    by_effect k s _ e x.2 refl
-
-got_left : (k : Kernel) (s q : Pid) (p : Process) (d : Call) (logical : ℕ) (o : Option Pid) → same_pid s q ≡ false →
-    doing (get_pid k q p d logical o).after s ≡ doing k s
-unfolding lookup_begun
-got_left k s q p d logical None other = put_other k.procs q _ s other
-got_left k s q p d logical (Some x) other = refl
-
-exit_left : (k : Kernel) (s q : Pid) (p : Process) (o : Option Process) → k.procs s ≡ o → same_pid s q ≡ false →
-    Leaves k s q calls.Exit (answered (exited k q p) q calls.Exit answers.Ok)
-unfolding exited
-exit_left k s q p None is other =
-    inl (ap state_of (cond-false (same_pid s q) (Some (record p { alive = false })) (option_map (released k q s) (k.procs s)) other
-    ∙ ap (option_map (released k q s)) is) ∙ sym (ap state_of is))
-exit_left k s q p (Some x) is other =
-    let there = ap state_of (cond-false (same_pid s q) (Some (record p { alive = false })) (option_map (released k q s) (k.procs s)) other
-    ∙ ap (option_map (released k q s)) is) in
-    elim (cases_Bool (is_bereft k q s x)) [
-      | inl t ↦ inr (record { exit = refl; process = x; is = is; bereft = t; answered = refl })
-      | inr f ↦ inl (there ∙ ap (λ (y : Process). Some y.state) (cond-false (is_bereft k q s x) _ x f) ∙ sym (ap state_of is))
-    ]
-
-accepted_left : (k : Kernel) (s q : Pid) (p : Process) (d : Call) (e : Effect) → k.procs q ≡ Some p → same_pid s q ≡ false →
-    accepted k q p d ≡ Some e → Leaves k s q d e
-unfolding sent forwarded
-accepted_left k s q p (calls.Send target m) e is other g = inl (by_effect k s _ e g (put_other k.procs q _ s other))
-accepted_left k s q p calls.Receive e is other g = inl (by_effect k s _ e g (put_other k.procs q _ s other))
-accepted_left k s q p (calls.ReceiveSegment start count) e is other g = inl (by_effect k s _ e g (put_other k.procs q _ s other))
-accepted_left k s q p (calls.Reply m to) e is other g = inl (reply_left k s q (calls.Reply m to) to m 0 [] e g)
-accepted_left k s q p (calls.ReplySegment m to dest src count) e is other g =
-    inl (reply_left k s q (calls.ReplySegment m to dest src count) to m dest (bytes_in (range_of src count) p.memory) e g)
-accepted_left k s q p (calls.Forward m from to) e is other g =
-    let number = bind_is (held k q from) _ e g in
-    let x = bind_is (k.exchanges (name_of from number.0)) _ e number.2 in
-    inl (by_effect k s _ e x.2 refl)
-accepted_left k s q p (calls.MoveTo partner dest src count) e is other g =
-    let d : Call = calls.MoveTo partner dest src count in
-    let bytes = bytes_in (range_of src count) p.memory in
-    inl (of_either (λ (x : Effect). doing x.after s ≡ doing k s) (is_at_once q partner count) (copied_at_once k q d partner dest bytes)
-    (begin_move k q p d partner (new_move q directions.To dest src count bytes)) e
-    (λ once. once_left k s q d partner dest bytes e)
-    (λ later. begin_left k s q p d partner (new_move q directions.To dest src count bytes) e other) g)
-accepted_left k s q p (calls.MoveFrom partner dest src count) e is other g =
-    let d : Call = calls.MoveFrom partner dest src count in
-    inl (of_either (λ (x : Effect). doing x.after s ≡ doing k s) (is_at_once q partner count)
-    (k.procs partner >>= λ x. copied_at_once k q d q dest (bytes_in (range_of src count) x.memory))
-    (begin_move k q p d partner (new_move q directions.From dest src count [])) e
-    (λ once h. let x = bind_is (k.procs partner) _ e h in once_left k s q d q dest (bytes_in (range_of src count) x.0.memory) e x.2)
-    (λ later. begin_left k s q p d partner (new_move q directions.From dest src count []) e other) g)
-accepted_left k s q p (calls.SetPid logical x scope) e is other g = inl (by_effect k s _ e g refl)
-accepted_left k s q p (calls.GetPid logical scope) e is other g =
-    inl (by_effect k s _ e g (got_left k s q p (calls.GetPid logical scope) logical (found_at_once k q logical scope) other))
-accepted_left k s q p (calls.Load start count) e is other g = inl (by_effect k s _ e g refl)
-accepted_left k s q p (calls.Store start bytes) e is other g =
-    inl (by_effect k s _ e g (put_same k.procs q p (record p { memory = with_bytes p.memory start bytes }) s is refl))
-accepted_left k s q p calls.Exit e is other g = by_left k s q calls.Exit _ e g (exit_left k s q p (k.procs s) refl other)
-
--- who may call is another process than one that is blocked
-ready_other : (k : Kernel) (s q : Pid) (p : Process) (call : Call) → doing k s ≡ Some (states.Blocked call) → k.procs q ≡ Some p →
-    is_ready p.state ≡ true → same_pid s q ≡ false
-ready_other k s q p call at is ready = elim (cases_Bool (same_pid s q)) [
-  | inr other ↦ other
-  | inl same ↦
-      let state = same_Some p.state (states.Blocked call) (sym (ap state_of is) ∙ ap (doing k) (sym (same_pid_is s q same)) ∙ at) in
-      absurd (both_ways (is_ready p.state) (ap is_ready state) ready)
-]
-
-called_left : (k : Kernel) (s q : Pid) (p : Process) (d : Call) (o : Option Refusal) (e : Effect) (call : Call) →
-    doing k s ≡ Some (states.Blocked call) → k.procs q ≡ Some p → call_refusal k q p d ≡ o → called k q p d o ≡ Some e → Leaves k s q d e
-called_left k s q p d None e call at is fits g =
-    accepted_left k s q p d e is (ready_other k s q p call at is (fit_is k q p d fits).ready) g
-called_left k s q p d (Some why) e call at is fits g = inl (by_effect k s _ e g refl)
-
-call_left : (k : Kernel) (s q : Pid) (d : Call) (o : Option Effect) (call : Call) → doing k s ≡ Some (states.Blocked call) →
-    call_step k q d ≡ o → (doing (after_effect k o) s ≡ doing k s) ⊎ Bereaves k s q d (is_ok (effect_answer o))
-call_left k s q d None call at g = inl refl
-call_left k s q d (Some e) call at g =
-    let p = bind_is (k.procs q) _ e g in called_left k s q p.0 d (call_refusal k q p.0 d) e call at p.1 refl p.2
 
 -- the steps behind a call refuse nothing, and collect nothing
 abbrev IsMute : Pid → Refusal → Step → Type 0

@@ -33,13 +33,14 @@ use Rattle.vk_rules.specs.Readings.{reading, reading_after}
 use Rattle.vk_rules.specs.Right.{right_entry}
 use Rattle.vk_rules.specs.View.{after_steps}
 use Rattle.vk_rules.specs.Works.{awaits, is_send_to}
+use Rattle.v_ages.proofs.Taken.{brought_procs}
 use Rattle.v_whole.proofs.AnyEntries.{view_entries}
 use Rattle.v_ended.proofs.Calling.{IsSoundView}
 use Rattle.v_ended.proofs.Spared.{doing, doing_over, state_of}
 use Rattle.v_due.specs.Failures.{reading_behind}
 use Rattle.v_due.specs.Negatives.{GoneComesByMoveNegatives, MoveNegativesEndMoves, NegativesEndSends, RemoteSendsFailByNegatives, TakesMoveNegative, TakesNegative}
 use Rattle.v_due.proofs.Dues.{cause_of, doing_behind, own_here}
-use Rattle.v_due.proofs.Entries.{brings, brought_apart}
+use Rattle.v_due.proofs.Entries.{brings}
 use Rattle.v_due.proofs.Packets.{IsMoveNegativeOf, IsNegativeOf}
 use Rattle.v_due.proofs.Ticks.{end_over, fail_over}
 use Rattle.v_due.proofs.Told.{Cause, Frame, Tick, view_after}
@@ -191,7 +192,7 @@ negative_over h k s target number call view here w =
     let apart : same_pid s target ≡ false = ap (λ b. b && s.local == target.local) w.remote in
     let dead : is_live (l.procs sent.exchange.at) ≡ false = ap (λ q. is_live (l.procs q)) at ∙ found_dead_is k.procs target in
     fail_over l s target w.message w.process sent.exchange endings.NoProcess refusals.NoProcess
-    (brought_apart k (Negative target s number) s apart ∙ w.is) w.state sent.is far
+    (brought_procs k (Negative target s number) s apart ∙ w.is) w.state sent.is far
     (cond-true (not (is_live (l.procs sent.exchange.at))) (Some refusals.NoProcess) None (not_from_false _ dead))
     ∙ ap (λ z. Some (states.Done z (answers.Refused refusals.NoProcess))) (sym w.same)
 

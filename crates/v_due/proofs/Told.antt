@@ -41,13 +41,13 @@ use Rattle.vk_rules.proofs.Failures.{each_failed}
 use Rattle.vk_rules.proofs.Taken.{packet_taken}
 use Rattle.v_ages.proofs.Outcomes.{failed_no_call, mild_packet}
 use Rattle.v_ages.proofs.Quiet.{NoCall}
-use Rattle.v_ages.proofs.Taken.{any_each, settled_procs}
+use Rattle.v_ages.proofs.Taken.{brought_procs, any_each, settled_procs}
 use Rattle.v_whole.specs.Delays.{IsGivenUp}
 use Rattle.v_ended.proofs.Calling.{IsSoundView, call_spares}
 use Rattle.v_ended.proofs.Spared.{IsAtWork, Passes, after_leaves, doing, state_of}
 use Rattle.v_ended.proofs.Uncollected.{NoCollect, packets_collect_none}
 use Rattle.v_ended.proofs.Whole.{no_frame}
-use Rattle.v_due.proofs.Entries.{brings, brought_apart, untaken}
+use Rattle.v_due.proofs.Entries.{brings, untaken}
 use Rattle.v_due.proofs.Packets.{ByPacket, RefusedBy, packet_refuses}
 use Rattle.v_due.proofs.Refused.{Waits, refuses, steps_told, work_waits}
 
@@ -137,7 +137,7 @@ frame_told : (k : Kernel) (s : Pid) (p : Packet) (ss : List Step) (call : Call) 
 frame_told k s p [] call why work apart none left by at d is = absurd (never_both (doing k s) call d (answers.Refused why) at is)
 frame_told k s p (x ∷ xs) call why work apart none left by at d is =
     let l = fold next (brought k p) (x ∷ xs) in
-    let came : doing (brought k p) s ≡ Some (states.Blocked call) = ap state_of (brought_apart k p s apart) ∙ at in
+    let came : doing (brought k p) s ≡ Some (states.Blocked call) = ap state_of (brought_procs k p s apart) ∙ at in
     let there : doing l s ≡ Some (states.Done d (answers.Refused why)) =
     sym (ap (λ (procs : Pid → Option Process). state_of (procs s)) (settled_procs k l p)) ∙ is in
     any_each (RefusedBy k s p why) (λ st. refuses s st why) (x ∷ xs) (steps_told (brought k p) s call (x ∷ xs) work none left came d why there)

@@ -25,7 +25,7 @@ use Rattle.v_laws.proofs.SoundLemmas.{step_is}
 use Rattle.v_laws.proofs.Tables.{same_pid_is}
 use Rattle.v_pages.proofs.Senders.{sent_to}
 use Rattle.v_group.specs.Grouped.{HasComeTo}
-use Rattle.v_group.proofs.LastHeld.{take_same}
+use Rattle.v_pages.proofs.Taken.{take_same}
 
 module _ (specs : List ProcessSpec) (ss : List Step) (n : Name) (send : ℕ) (target : Pid) where
   abbrev Come : ℕ → Pid → Type 0

@@ -129,14 +129,6 @@ loaded_bytes k r p count bytes e got (CallOutcome.allowed fit g) =
     sym (loaded_same own bytes (same_Some (answers.Loaded own) (answers.Loaded bytes)
     (sym (own_told r (calls.Load 0 count) (answers.Loaded own) e (ap (λ (x : Effect). x.seen) (sym same))) ∙ got)))
 
-loaded_stays : (k : Kernel) (r : Pid) (p : Process) (count : ℕ) (e : Effect) (y : Process) → k.procs r ≡ Some p →
-    e.after.procs r ≡ Some y → CallOutcome k r p (calls.Load 0 count) e → y ≡ p
-loaded_stays k r p count e y at later (CallOutcome.refused why bars same) =
-    same_Some y p (sym later ∙ ap (λ (x : Effect). x.after.procs r) (sym same) ∙ at)
-loaded_stays k r p count e y at later (CallOutcome.allowed fit g) =
-    let same = same_Some (seen_answered k r (calls.Load 0 count) (answers.Loaded (bytes_in (range_of 0 count) p.memory))) e g in
-    same_Some y p (sym later ∙ ap (λ (x : Effect). x.after.procs r) (sym same) ∙ at)
-
 -- The Send is called for before it is taken.
 called_first : (specs : List ProcessSpec) (ss : List Step) (s : Pid) (number i j : ℕ) (k : Kernel) (caller : Process) →
     taken_at specs ss i ≡ Some (name_of s number) → before specs ss j ≡ Some k → k.procs s ≡ Some caller → number ≡ caller.sends + 1 →

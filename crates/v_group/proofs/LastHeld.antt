@@ -1,60 +1,25 @@
 -- What a process holds of a sender is what it took of that sender last.
-use Rattle.std.proofs.Common.{◌≡◌, ℕ, suc, ◌<◌, ◌≤◌, true, false, List, slice_get, Option, Some, None, take, refl, sym, ap, ◌∙◌, inl, inr, arith}
-use Rattle.std.proofs.lemmas.Bool.{both_ways, cases_order, eq-eqb, eqb-true}
+use Rattle.std.proofs.Common.{◌≡◌, ℕ, suc, ◌<◌, ◌≤◌, true, List, slice_get, Option, Some, None, take, sym, ap, ◌∙◌, inl, inr, arith}
+use Rattle.std.proofs.lemmas.Bool.{cases_order}
 use Rattle.std.proofs.lemmas.Option.{same_Some, none-some}
 use Rattle.vk_base.specs.declared.config.ProcessSpec.{ProcessSpec}
 use Rattle.vk_base.specs.declared.kernel.Exchange.{Exchange}
 use Rattle.vk_base.specs.declared.kernel.Process.{Process}
-use Rattle.vk_base.specs.declared.kernel.Stage.{Stage}
 use Rattle.vk_base.specs.declared.kernel.Stage.TheVariants as kinds
 use Rattle.vk_base.specs.declared.pid.Pid.{Pid}
 use Rattle.vk_base.specs.declared.step.Step.{Step}
 use Rattle.vk_base.specs.declared.step.Step.TheVariants as steps
-use Rattle.vk_base.specs.Kernel.{◌>>=◌, Kernel, initial_kernel, is_taken, name_of, receiving}
-use Rattle.vk_base.specs.Pids.{same_host}
-use Rattle.vk_base.specs.Steps.{Run, Taking, run, taking}
+use Rattle.vk_base.specs.Kernel.{◌>>=◌, Kernel, is_taken, name_of, receiving}
+use Rattle.vk_base.specs.Steps.{Taking, taking}
 use Rattle.v_laws.specs.Places.{before, process_at, taken_at}
-use Rattle.v_laws.specs.Reached.{IsReached}
 use Rattle.v_laws.proofs.Changes.{queued_is_at_target, taken_is_at_target}
 use Rattle.v_laws.proofs.OnceLemmas.{one_open, taken_at_is, taken_over}
-use Rattle.v_laws.proofs.Options.{mapped_is}
 use Rattle.v_laws.proofs.PlaceLemmas.{before_sound}
 use Rattle.v_laws.proofs.Queues.{taken_was_queued}
 use Rattle.v_laws.proofs.StepLemmas.{taking_is}
 use Rattle.v_laws.proofs.Tables.{same_pid_is}
+use Rattle.v_pages.proofs.Taken.{one_host, past_taken, reached_before, take_same, taken_reach, taker}
 use Rattle.v_pages.proofs.Staying.{NeverHands, queued_reach, reach, stays_with}
-
-reached_before : (specs : List ProcessSpec) (ss : List Step) (i : ℕ) (k : Kernel) → before specs ss i ≡ Some k → IsReached k
-reached_before specs ss i k at =
-    let r = mapped_is (λ (r : Run). r.after) (run (initial_kernel specs) (take i ss)) k at in
-    record {
-      specs = specs;
-      steps = take i ss;
-      seen = r.0.seen;
-      is = r.1 ∙ (λ j. Some (record { after = r.2 j; seen = r.0.seen }));
-    }
-
-held_reach : (s : Stage) → is_taken s ≡ true → reach s ≡ 2
-held_reach kinds.Posted t = absurd (both_ways false refl t)
-held_reach kinds.Queued t = absurd (both_ways false refl t)
-held_reach kinds.Taken t = refl
-held_reach (kinds.Replied m d bytes) t = absurd (both_ways false refl t)
-held_reach kinds.Dropped t = absurd (both_ways false refl t)
-
-reach_held : (s : Stage) → reach s ≡ 2 → is_taken s ≡ true
-reach_held kinds.Posted e = absurd (omega (arith, e))
-reach_held kinds.Queued e = absurd (omega (arith, e))
-reach_held kinds.Taken e = refl
-reach_held (kinds.Replied m d bytes) e = absurd (omega (arith, e))
-reach_held kinds.Dropped e = absurd (omega (arith, e))
-
-pub take_same : (p q : Pid) → steps.Take p ≡ steps.Take q → p ≡ q
-take_same p q e = cc
-
-one_host : (x y : Exchange) → x.at ≡ y.at → same_host x.target x.at ≡ true → same_host y.target y.at ≡ true →
-    same_host x.target y.target ≡ true
-one_host x y same first second = eq-eqb x.target.host y.target.host
-    (eqb-true x.target.host x.at.host first ∙ ap (λ (p : Pid). p.host) same ∙ sym (eqb-true y.target.host y.at.host second))
 
 -- A Take of a process, of a message of this sender.
 pub record IsTakeFrom (specs : List ProcessSpec) (ss : List Step) (r h : Pid) (i : ℕ) (t : Taking) : Type 0 where
@@ -72,15 +37,14 @@ held_then specs ss r h never x k number e at is taken i j t takes receives f les
     let n = name_of h number in
     let a = taken_at_is specs ss i n takes in
     let o = taken_over specs ss i n a in
-    let here : a.take.exchange.at ≡ r = same_pid_is a.take.exchange.at a.receiver (taken_was_queued a.kernel a.receiver a.take a.takes).0
-    ∙ take_same a.receiver r (same_Some (steps.Take a.receiver) (steps.Take r) (sym a.is ∙ receives)) in
+    let here : a.take.exchange.at ≡ r = taker specs ss i n r a receives in
     let y = stays_with specs ss r never (suc i) j o.after f.kernel (omega arith) o.at f.at n (record a.take.exchange { stage = kinds.Taken })
     o.there here in
     let z = stays_with specs ss r never j x f.kernel k (omega arith) f.at at n y.0 y.1 y.2.at in
     let same : z.0 ≡ e = same_Some z.0 e (sym z.1 ∙ is) in
     let low = y.2.far in
     let high = z.2.far in
-    let last : reach z.0.stage ≡ 2 = ap (λ (w : Exchange). reach w.stage) same ∙ held_reach e.stage taken in
+    let last : reach z.0.stage ≡ 2 = ap (λ (w : Exchange). reach w.stage) same ∙ taken_reach e.stage taken in
     let two : reach y.0.stage ≡ 2 = omega arith in
     let sound = before_sound specs ss j f.kernel f.at in
     let w = t.exchange in
@@ -88,7 +52,7 @@ held_then specs ss r h never x k number e at is taken i j t takes receives f les
     let there : f.kernel.exchanges (name_of h t.name.number) ≡ Some w =
     ap (λ p. f.kernel.exchanges (name_of p t.name.number)) (sym f.sender) ∙ (taking_is f.kernel r t f.takes).exchange in
     let one = one_open f.kernel h number t.name.number y.0 w (reached_before specs ss j f.kernel f.at) y.1 there
-    (taken_is_at_target y.0.stage (reach_held y.0.stage two)) (queued_is_at_target w.stage queued.1)
+    (taken_is_at_target y.0.stage (past_taken y.0.stage (omega (arith, two)) (omega (arith, two)))) (queued_is_at_target w.stage queued.1)
     (one_host y.0 w (y.2.at ∙ sym (same_pid_is w.at r queued.0)) (sound.near n y.0 y.1) (sound.near (name_of h t.name.number) w there)) in
     let alike : y.0 ≡ w = same_Some y.0 w (sym y.1 ∙ ap (λ m. f.kernel.exchanges (name_of h m)) one ∙ there) in
     let first : reach y.0.stage ≡ 1 = ap (λ (v : Exchange). reach v.stage) alike ∙ queued_reach w.stage queued.1 in

@@ -1,40 +1,25 @@
 -- A helper makes each of its reports in a round of its own.
-use Rattle.std.proofs.Common.{◌≡◌, ℕ, zero, suc, ◌+◌, ◌<◌, ◌≤◌, Bool, List, [], ◌∷◌, ◌++◌, length, slice_get, Option, Some, option_to_list, refl, sym, ap, ◌∙◌, inl, inr, arith}
-use Rattle.std.proofs.lemmas.Bool.{cases_lt, cases_order}
-use Rattle.std.proofs.lemmas.List.{append_assoc, append-nil, length-append}
+use Rattle.std.proofs.Common.{◌≡◌, ℕ, suc, ◌+◌, ◌<◌, ◌≤◌, Bool, List, [], ◌∷◌, ◌++◌, length, slice_get, Option, Some, refl, sym, ap, ◌∙◌, inl, inr, arith}
+use Rattle.std.proofs.lemmas.Bool.{cases_order}
+use Rattle.std.proofs.lemmas.List.{append-nil, length-append}
 use Rattle.vk_base.specs.declared.answer.Answer.{Answer}
 use Rattle.vk_base.specs.declared.call.Call.{Call}
 use Rattle.vk_base.specs.declared.config.ProcessSpec.{ProcessSpec}
 use Rattle.vk_base.specs.declared.pid.Pid.{Pid}
 use Rattle.vk_base.specs.declared.step.Step.{Step}
 use Rattle.vk_base.specs.declared.step.Step.TheVariants as steps
-use Rattle.vk_base.specs.Kernel.{◌>>=◌}
 use Rattle.vk_group.specs.declared.helping.Helping.{Helping}
 use Rattle.vk_group.specs.declared.helping.Helping.TheVariants as helpings
 use Rattle.vk_group.specs.Helpers.{helped, helped_all}
-use Rattle.v_pages.specs.Followed.{Follows, answer_at, answers_before, call_at, call_by, calls_before, up_to}
-use Rattle.v_pages.proofs.Lists.{up_to_some}
-use Rattle.v_group.proofs.Stepping.{own_call}
-
--- What there is before a later place.
-pub front_of : {A : Type 0} (at : ℕ → Option A) (i j : ℕ) → i ≤ j → (later : List A) × (up_to at j ≡ up_to at i ++ later)
-unfolding up_to
-front_of at i zero up = let same : 0 ≡ i = omega arith in ([], ap (up_to at) same ∙ sym (append-nil (up_to at i)))
-front_of at i (suc j) up = elim (cases_lt i (suc j)) [
-  | inl less ↦
-      let f = front_of at i j (omega arith) in
-      (f.0 ++ option_to_list (at j), ap (λ xs. xs ++ option_to_list (at j)) f.1 ∙ append_assoc (up_to at i) f.0 (option_to_list (at j)))
-  | inr more ↦ let same : suc j ≡ i = omega arith in ([], ap (up_to at) same ∙ sym (append-nil (up_to at i)))
-]
+use Rattle.v_pages.specs.Followed.{Follows, answer_at, answers_before, call_at, calls_before}
+use Rattle.v_pages.proofs.Lists.{up_to_later, up_to_some}
+use Rattle.v_pages.proofs.Places.{call_here}
 
 -- a process that follows a task is answered between two of its calls
 pub record IsAnsweredOn (specs : List ProcessSpec) (ss : List Step) (h : Pid) (i j : ℕ) : Type 0 where
   pub answer : Answer
   pub later : List Answer
   pub is : answers_before specs ss h j ≡ answers_before specs ss h i ++ answer ∷ later
-
-call_there : (ss : List Step) (h : Pid) (i : ℕ) (c : Call) → slice_get ss i ≡ Some (steps.Call h c) → call_at ss h i ≡ Some c
-call_there ss h i c is = ap (λ o. o >>= call_by h) is ∙ own_call h (steps.Call h c) c refl
 
 not_none : (xs later : List Answer) (n : ℕ) → n ≡ length xs → n + 1 ≤ length (xs ++ later) →
     (a : Answer) × (rest : List Answer) × (later ≡ a ∷ rest)
@@ -45,14 +30,14 @@ pub answered_on : (task : List Answer → Option Call) (specs : List ProcessSpec
     (i j : ℕ) (c d : Call) → slice_get ss i ≡ Some (steps.Call h c) → slice_get ss j ≡ Some (steps.Call h d) → i < j →
     IsAnsweredOn specs ss h i j
 answered_on task specs ss h follows i j c d is_i is_j less =
-    let first = (follows i c (call_there ss h i c is_i)).answered in
-    let second = (follows j d (call_there ss h j d is_j)).answered in
-    let calls = front_of (call_at ss h) (suc i) j (omega arith) in
-    let one = ap length (up_to_some (call_at ss h) i c (call_there ss h i c is_i)) in
+    let first = (follows i c (call_here ss h i c is_i)).answered in
+    let second = (follows j d (call_here ss h j d is_j)).answered in
+    let calls = up_to_later (call_at ss h) (suc i) j (omega arith) in
+    let one = ap length (up_to_some (call_at ss h) i c (call_here ss h i c is_i)) in
     let push = length-append (calls_before ss h i) (c ∷ []) in
     let count = ap length calls.1 in
     let sum = length-append (calls_before ss h (suc i)) calls.0 in
-    let f = front_of (answer_at specs ss h) i j (omega arith) in
+    let f = up_to_later (answer_at specs ss h) i j (omega arith) in
     let size = ap length f.1 in
     let x = not_none (answers_before specs ss h i) f.0 (length (answers_before specs ss h i)) refl (omega arith) in
     record { answer = x.0; later = x.1; is = f.1 ∙ ap (λ xs. answers_before specs ss h i ++ xs) x.2 }
@@ -102,7 +87,7 @@ more_sum n k m e = omega (arith, e)
 
 pub rounds_up : (specs : List ProcessSpec) (ss : List Step) (h : Pid) (i j : ℕ) → i ≤ j → rounds_at specs ss h i ≤ rounds_at specs ss h j
 rounds_up specs ss h i j up =
-    let f = front_of (answer_at specs ss h) i j up in
+    let f = up_to_later (answer_at specs ss h) i j up in
     more_sum (rounds_at specs ss h i) (rounds (helped_all helpings.Ready (answers_before specs ss h i)) f.0) (rounds_at specs ss h j)
     (ap (rounds helpings.Ready) f.1 ∙ rounds_on helpings.Ready (answers_before specs ss h i) f.0)
 

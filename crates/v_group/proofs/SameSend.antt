@@ -47,7 +47,7 @@ use Rattle.v_pages.proofs.Staying.{NeverHands, queued_reach, reach, stays_with}
 use Rattle.v_group.specs.Grouped.{IsDoneAt, IsGroup, IsSameSend}
 use Rattle.v_group.proofs.FirstReady.{IsFirstDue, are_first, first_of}
 use Rattle.v_group.proofs.Jobs.{IsOwnJob, by_all_below, never}
-use Rattle.v_group.proofs.LastHeld.{take_same}
+use Rattle.v_pages.proofs.Taken.{take_same}
 use Rattle.v_group.proofs.Reported.{IsToldBy, report_on}
 use Rattle.v_group.proofs.Rounds.{answered_on, one_report, rounds_at}
 use Rattle.v_group.proofs.Since.{deed_done}

@@ -24,6 +24,7 @@ use Rattle.v_laws.specs.Sound.{IsSound}
 use Rattle.v_laws.proofs.StepLemmas.{collecting_is, finishing_is, taking_is}
 use Rattle.v_laws.proofs.Tables.{put_process_here, same_pid_self}
 use Rattle.v_pages.specs.Followed.{call_by}
+use Rattle.v_pages.proofs.Ended.{finished_is}
 use Rattle.v_pages.proofs.Calling.{CallOutcome, exited_ready, outcome_of, own_told, replied_same, told}
 use Rattle.v_pages.proofs.Own.{OwnStep, other_call, other_told, own_step, which_step}
 use Rattle.v_pages.proofs.Touched.{GoesOn, Touched, is_waiting, touched}
@@ -241,11 +242,6 @@ pub record IsOwnCollect (r : Pid) (e : Effect) (p y : Process) : Type 0 where
   pub after : record p { state = states.Ready } ≡ y
   pub told : told r e ≡ Some answer
 
-finished_state : (t : State) (c : Call) (a : Answer) → finished_call t ≡ Some (c, a) → t ≡ states.Done c a
-finished_state states.Ready c a e = absurd (none-some (c, a) e)
-finished_state (states.Blocked d) c a e = absurd (none-some (c, a) e)
-finished_state (states.Done d b) c a e = ap (λ (z : Call × Answer). states.Done z.0 z.1) (same_Some (d, b) (c, a) e)
-
 pub own_collect : (k : Kernel) (r : Pid) (e : Effect) (p y : Process) → k.procs r ≡ Some p → e.after.procs r ≡ Some y →
     effect k (steps.Collect r) ≡ Some e → IsOwnCollect r e p y
 own_collect k r e p y at later does =
@@ -256,7 +252,7 @@ own_collect k r e p y at later does =
     record {
       call = d.0.call;
       answer = d.0.answer;
-      state = finished_state p.state d.0.call d.0.answer (ap (λ (z : Process). finished_call z.state) (sym own) ∙ is.done);
+      state = finished_is p.state d.0.call d.0.answer (ap (λ (z : Process). finished_call z.state) (sym own) ∙ is.done);
       after = ap (λ (z : Process). record z { state = states.Ready }) (sym own)
           ∙ same_Some (record d.0.process { state = states.Ready }) y
           (sym (put_process_here k.procs r (record d.0.process { state = states.Ready }))

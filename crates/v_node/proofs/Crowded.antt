@@ -188,7 +188,7 @@ module _ (c : Settings) (host : ℕ) (o : HubLog) (rounds : ℕ) (history : List
   fetched_few q =
       let are = gets_are o any q [] heard in
       let law = counted o heard any q in
-      let posted = posts_most c host o history heard n k jobs.link rise opens for_others q in
+      let posted = posts_most c host o history heard n k jobs.link rise opens for_others any q in
       let few = total_most (λ before e. added (meant q) (frames_at O before e)) ones [] history
       (λ before e. meant_few q (frames_at O before e)) in
       let made = ones_are in

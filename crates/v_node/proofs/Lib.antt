@@ -11,5 +11,6 @@ pub mod Ending
 pub mod Crowded
 pub mod Sound
 pub mod Long
+pub mod Sending
 pub mod Whole
 pub mod Examples

@@ -50,9 +50,12 @@ none_if : (b : Bool) → b ≡ false → cond {A = ℕ} b 1 0 ≡ 0
 none_if true is = absurd (cc is)
 none_if false is = refl
 
--- 1 for a frame for this station
+-- 1 for a frame for this station, of those that are meant
+abbrev pub meant_by : (Frame → Bool) → ℕ → Frame → ℕ
+meant_by test host f = cond (test f && is_addressed (header_of f) host) 1 0
+
 abbrev pub meant : ℕ → Frame → ℕ
-meant host f = cond (any f && is_addressed (header_of f) host) 1 0
+meant host f = meant_by any host f
 
 frames_none : (host stamp number event output : ℕ) (fs : List rules.Frame) → HaveHeaders host stamp number event output fs
     → Each IsOpen fs → Each (IsForOthers host) fs → added (λ f. meant host (sealed f)) fs ≡ 0
@@ -79,18 +82,19 @@ entries_none host (e ∷ es) rise opens others =
     let rest = entries_none host es rise.1 opens.1 others.1 in
     omega arith
 
-no_posts_fetched : (host : ℕ) (es : List Errand) → added (posts any host) (fetches_of es) ≡ 0
-no_posts_fetched host [] = refl
-no_posts_fetched host (e ∷ es) = let rest = no_posts_fetched host es in omega arith
+module _ (test : Frame → Bool) (host : ℕ) where
+  no_posts_fetched : (es : List Errand) → added (posts test host) (fetches_of es) ≡ 0
+  no_posts_fetched [] = refl
+  no_posts_fetched (e ∷ es) = let rest = no_posts_fetched es in omega arith
 
-no_posts_last : (host : ℕ) (last : List HubEvent) → IsLast last → added (posts any host) last ≡ 0
-no_posts_last host last (inl is) = ap (added (posts any host)) is
-no_posts_last host last (inr (inl is)) = ap (added (posts any host)) is
-no_posts_last host last (inr (inr is)) = ap (added (posts any host)) is
+  no_posts_last : (last : List HubEvent) → IsLast last → added (posts test host) last ≡ 0
+  no_posts_last last (inl is) = ap (added (posts test host)) is
+  no_posts_last last (inr (inl is)) = ap (added (posts test host)) is
+  no_posts_last last (inr (inr is)) = ap (added (posts test host)) is
 
-no_posts_halt : (host : ℕ) (last : List HubEvent) → HaltsAtMost last → added (posts any host) last ≡ 0
-no_posts_halt host last (inl is) = ap (added (posts any host)) is
-no_posts_halt host last (inr is) = ap (added (posts any host)) is
+  no_posts_halt : (last : List HubEvent) → HaltsAtMost last → added (posts test host) last ≡ 0
+  no_posts_halt last (inl is) = ap (added (posts test host)) is
+  no_posts_halt last (inr is) = ap (added (posts test host)) is
 
 module _ (c : Settings) (host : ℕ) (o : HubLog) (history : List (ℕ × StationEvent)) (heard : List (ℕ × HubEvent)) (n : NodeEnd)
     (k : IsNodeClosed c host o history heard n) (link : IsLinkEnd c host n.link)
@@ -109,33 +113,33 @@ module _ (c : Settings) (host : ℕ) (o : HubLog) (history : List (ℕ × Statio
   here = all_here c host o history heard n k
 
   -- what is posted for a station it made
-  module _ (q : ℕ) where
+  module _ (test : Frame → Bool) (q : ℕ) where
     abbrev pub made : List (ℕ × StationEvent) → StationEvent → ℕ
-    made before e = added (meant q) (frames_at O before e)
+    made before e = added (meant_by test q) (frames_at O before e)
 
-    posted_by : (g : Passage) → H g → sent_by c host o history heard n k (posts any q) g ≤ weight made (entered_places g.actions)
+    posted_by : (g : Passage) → H g → sent_by c host o history heard n k (posts test q) g ≤ weight made (entered_places g.actions)
     posted_by g d =
-        let few = sends_few (posts any q) (meant q) (λ f. refl) O host g.actions in
-        let none = no_posts_last q g.last d.0.0.last in
+        let few = sends_few (posts test q) (meant_by test q) (λ f. refl) O host g.actions in
+        let none = no_posts_last test q g.last d.0.0.last in
         omega arith
 
-    pub posts_most : all_posts any q heard ≤ total made [] history
+    pub posts_most : all_posts test q heard ≤ total made [] history
     posts_most =
-        let all = posts_are any q [] heard in
-        let hub = events_at_hub c host o history heard n k (posts any q) in
-        let ports = added_most_each H (sent_by c host o history heard n k (posts any q)) (λ (g : Passage). weight made (entered_places
+        let all = posts_are test q [] heard in
+        let hub = events_at_hub c host o history heard n k (posts test q) in
+        let ports = added_most_each H (sent_by c host o history heard n k (posts test q)) (λ (g : Passage). weight made (entered_places
         g.actions)) G posted_by here in
-        let own = sends_few (posts any q) (meant q) (λ f. refl) O host n.link.actions in
-        let last = no_posts_halt q n.link.last link.last in
-        let fetches = no_posts_fetched q n.link.errands in
-        let rest = no_posts_halt q n.link.rest link.rest in
+        let own = sends_few (posts test q) (meant_by test q) (λ f. refl) O host n.link.actions in
+        let last = no_posts_halt test q n.link.last link.last in
+        let fetches = no_posts_fetched test q n.link.errands in
+        let rest = no_posts_halt test q n.link.rest link.rest in
         let station = at_station c host o history heard n k made in
         omega arith
 
   no_posts : all_posts any host heard ≡ 0
   no_posts =
-      let few = posts_most host in
-      let entries : total (made host) [] history ≡ added (λ (e : Entry). added (meant host) (map sealed e.frames)) (entries_at O history) =
+      let few = posts_most any host in
+      let entries : total (made any host) [] history ≡ added (λ (e : Entry). added (meant host) (map sealed e.frames)) (entries_at O history) =
       by_entries c host history (λ (e : Entry). added (meant host) (map sealed e.frames)) in
       let none = entries_none host (entries_at O history) rise opens others in
       omega arith

@@ -37,6 +37,7 @@ use Rattle.v_node.specs.Jobs.{AreNodeJobs, IsProgramEnd, LinkMetFull, NodeEnd, N
 use Rattle.v_node.specs.Laws.{ClosedNodesAreRuns, FramesGoToOthers, IsForOthers, IsHeld}
 use Rattle.v_node.specs.Links.{brought_by, delivered_in, is_kept, is_welcome}
 use Rattle.v_node.specs.Outcomes.{IsExhausted}
+use Rattle.v_node.specs.Sent.{NodesSendTheirOwn}
 use Rattle.v_node.proofs.Answered.{all_out}
 use Rattle.v_node.proofs.Brought.{delivered_is}
 use Rattle.v_node.proofs.Crowded.{others_few}
@@ -44,6 +45,7 @@ use Rattle.v_node.proofs.Ending.{goes_on}
 use Rattle.v_node.proofs.Following.{each_left, ended, follows, idle}
 use Rattle.v_node.proofs.Long.{opened_long}
 use Rattle.v_node.proofs.Own.{no_drops}
+use Rattle.v_node.proofs.Sending.{own_frames}
 use Rattle.v_node.proofs.Sound.{for_others, opens, sound}
 use Rattle.v_node.proofs.Sums.{DHere, all_here, at_station}
 use Rattle.v_node.proofs.Ticking.{ticks}
@@ -191,3 +193,9 @@ closed_nodes_are_runs unseal frames packets go c host o rounds history heard n l
   limited = λ is. exhausted unseal frames packets go c host o rounds history heard n k jobs lawful held (some is);
   own = each_event (λ e. is_own (fresh_station c host) e ≡ true) history lawful.own;
 }
+
+pub nodes_send_their_own : FramesUnsealAgain → FramesAreSpelledOnce → NothingElseIsRead → FramesGoToOthers → NodesSendTheirOwn
+nodes_send_their_own unseal frames packets go c host o rounds history heard n k jobs lawful held =
+    own_frames c host o history heard n k jobs.link (is_sound unseal frames packets go c host o rounds history heard n k jobs lawful held).rise
+    (are_open unseal frames packets go c host o rounds history heard n k jobs lawful held)
+    (go_away unseal frames packets go c host o rounds history heard n k jobs lawful held)

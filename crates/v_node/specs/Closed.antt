@@ -14,11 +14,10 @@ use Rattle.v_run.specs.Passages.{IsPassage, Passage, fresh_station, host_of, hub
 use Rattle.v_node.specs.Jobs.{LinkEnd, NodeEnd, passages_in}
 use Rattle.v_node.specs.Links.{AreErrands, OnlyBrings, nothing_heard}
 
--- The link's port was one of this station and of this hub, with new seats, and only brought; its carrier was a new seat of the hub.
+-- The link's port was one of this station, with new seats, and only brought; its carrier was a new seat of the hub.
 pub record IsLinkWay (c : Settings) (host : ℕ) (o : HubLog) (l : LinkEnd) : Type 0 where
   pub at : l.berth.host ≡ host
   pub station : l.berth.station ≡ fresh_station c host
-  pub hub : l.berth.hub ≡ o
   pub log : IsLog l.berth nowhere l.actions l.left
   pub brings : OnlyBrings l.actions
   pub errands : AreErrands l.carrier o nothing_heard l.errands l.reached

@@ -4,3 +4,4 @@ pub mod Closed
 pub mod Seats
 pub mod Outcomes
 pub mod Laws
+pub mod Sent

@@ -15,7 +15,7 @@ use Rattle.v_laws.specs.Places.{before, process_after}
 use Rattle.v_laws.specs.Sound.{IsSound}
 use Rattle.v_laws.proofs.Later.{IsLaterProcess, process_step}
 use Rattle.v_laws.proofs.PlaceLemmas.{IsNext, at_place, before_first, before_next, before_sound}
-use Rattle.v_laws.proofs.Related.{related_before, related_after}
+use Rattle.v_laws.proofs.Related.{related_before}
 use Rattle.v_laws.proofs.SoundLemmas.{initial_ready}
 use Rattle.v_pages.proofs.Touched.{Touched, has_reply, touched}
 
@@ -25,12 +25,6 @@ pub was_there : (k : Kernel) (s : Step) (e : Effect) (q : Pid) (y : Process) →
 was_there k s e q y sound does at =
     let x = related_before IsLaterProcess (k.procs q) (e.after.procs q) y (process_step k s e sound does q) at in
     (x.0, x.1)
-
-pub is_there : (k : Kernel) (s : Step) (e : Effect) (q : Pid) (x : Process) → IsSound k → effect k s ≡ Some e → k.procs q ≡ Some x →
-    (y : Process) × (e.after.procs q ≡ Some y)
-is_there k s e q x sound does at =
-    let y = related_after IsLaterProcess (k.procs q) (e.after.procs q) x (process_step k s e sound does q) at in
-    (y.0, y.1)
 
 -- what a step left of a process
 pub left_at : (specs : List ProcessSpec) (ss : List Step) (i : ℕ) (k : Kernel) (s : Step) (e : Effect) (q : Pid) →

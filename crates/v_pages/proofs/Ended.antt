@@ -30,7 +30,7 @@ use Rattle.v_pages.proofs.Replied.{one_reply}
 use Rattle.v_pages.proofs.Touched.{has_reply}
 
 -- What a sender collects.
-finished_is : (t : State) (c : Call) (a : Answer) → finished_call t ≡ Some (c, a) → t ≡ states.Done c a
+pub finished_is : (t : State) (c : Call) (a : Answer) → finished_call t ≡ Some (c, a) → t ≡ states.Done c a
 finished_is states.Ready c a e = absurd (none-some (c, a) e)
 finished_is (states.Blocked d) c a e = absurd (none-some (c, a) e)
 finished_is (states.Done d b) c a e = ap (λ (z : Call × Answer). states.Done z.0 z.1) (same_Some (d, b) (c, a) e)

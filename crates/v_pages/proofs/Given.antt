@@ -1,6 +1,6 @@
 -- What a page server replies is what its requests say.
 use Rattle.std.proofs.Common.{◌≡◌, ℕ, ◌+◌, ◌<◌, true, false, List, [], ◌∷◌, ◌++◌, length, slice_get, Option, Some, None, option_map, refl, sym, ap, subst, ◌∙◌, arith}
-use Rattle.std.proofs.lemmas.Bool.{both_ways, cond-true, le-leb}
+use Rattle.std.proofs.lemmas.Bool.{both_ways, le-leb}
 use Rattle.std.proofs.lemmas.Option.{same_Some, none-some}
 use Rattle.vk_base.specs.declared.call.Call.{Call}
 use Rattle.vk_base.specs.declared.call.Call.TheVariants as calls
@@ -12,7 +12,6 @@ use Rattle.vk_base.specs.declared.step.Step.{Step}
 use Rattle.vk_base.specs.declared.step.Step.TheVariants as steps
 use Rattle.vk_base.specs.Kernel.{◌>>=◌, held, name_of}
 use Rattle.vk_base.specs.Messages.{segment_of}
-use Rattle.vk_base.specs.Pids.{same_pid}
 use Rattle.vk_base.specs.Ranges.{range_of, bytes_in}
 use Rattle.vk_base.proofs.OptionLemmas.{bind_is}
 use Rattle.vk_event.specs.declared.task.TheConstants.{PAGE_BYTES}
@@ -23,12 +22,11 @@ use Rattle.vk_pages.specs.declared.serving.Serving.TheVariants as stages
 use Rattle.vk_pages.proofs.Answering.{called_after}
 use Rattle.v_laws.specs.Places.{IsReplyAt, before, given_by, taken_at}
 use Rattle.v_laws.proofs.MoveLists.{all_bytes}
-use Rattle.v_laws.proofs.Tables.{same_pid_self}
-use Rattle.v_pages.specs.Followed.{Follows, answers_before, call_at, call_by, calls_before}
+use Rattle.v_pages.specs.Followed.{Follows, answers_before, calls_before}
 use Rattle.v_pages.specs.PageMap.{is_lawful_read, map_after, reply_for}
 use Rattle.v_pages.specs.Requests.{Request, request_at, requests_before}
 use Rattle.v_pages.proofs.Asked.{read_done}
-use Rattle.v_pages.proofs.Places.{server_before}
+use Rattle.v_pages.proofs.Places.{server_before, call_here}
 use Rattle.v_pages.proofs.Standing.{Doing, Standing}
 use Rattle.v_pages.proofs.Staying.{keeps_each, never_hands}
 use Rattle.v_pages.proofs.Taken.{last_taken}
@@ -136,9 +134,7 @@ pub given_to : (pages requests : ℕ) (specs : List ProcessSpec) (ss : List Step
 given_to pages requests specs ss r s i j number reply dest bytes follows rep takes is less =
     let k = bind_is (before specs ss j) _ rep.caller rep.then in
     let holds : held k.0 r s ≡ Some number = ap (λ o. o >>= λ k. held k r s) (sym k.1) ∙ rep.holds in
-    let call : call_at ss r j ≡ Some rep.call = ap (λ o. o >>= call_by r) rep.is
-    ∙ cond-true (same_pid r r) (Some rep.call) None (same_pid_self r) in
-    let next = follows j rep.call call in
+    let next = follows j rep.call (call_here ss r j rep.call rep.is) in
     let at = server_before pages requests specs ss r follows j k.0 rep.caller k.1 k.2 in
     let made = length (calls_before ss r j) in
     let given = answers_before specs ss r j in

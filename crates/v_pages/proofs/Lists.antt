@@ -1,6 +1,6 @@
 -- Lists of what there is at places, pages that are set, and bytes that are read back.
 use Rattle.std.proofs.Common.{◌≡◌, ℕ, zero, suc, ◌+◌, ◌<◌, ◌≤◌, List, [], ◌∷◌, ◌++◌, take, drop, length, replicate, slice_get, slice_set, Option, Some, None, option_to_list, refl, sym, ap, ◌∙◌, inl, inr, arith}
-use Rattle.std.proofs.lemmas.Bool.{cases_lt}
+use Rattle.std.proofs.lemmas.Bool.{cases_eq, cases_lt}
 use Rattle.std.proofs.lemmas.List.{append_assoc, append-nil, append_cancel_left, length-append, length-take-le}
 use Rattle.std.proofs.Math.Seq.{drop-append_seam, take-append_seam}
 use Rattle.vk_base.specs.Ranges.{range_of, bytes_in, with_bytes}
@@ -38,6 +38,19 @@ up_to_none at i none = ap (λ o. up_to at i ++ option_to_list o) none ∙ append
 pub up_to_some : {A : Type 0} (at : ℕ → Option A) (i : ℕ) (x : A) → at i ≡ Some x → up_to at (suc i) ≡ up_to at i ++ x ∷ []
 unfolding up_to
 up_to_some at i x some = ap (λ o. up_to at i ++ option_to_list o) some
+
+-- What there is up to a place stays.
+pub up_to_later : {A : Type 0} (at : ℕ → Option A) (i j : ℕ) → i ≤ j → (rest : List A) × (up_to at j ≡ up_to at i ++ rest)
+unfolding up_to
+up_to_later at i zero up = let none : i ≡ 0 = omega (arith, up) in ([], ap (up_to at) (sym none) ∙ sym (append-nil (up_to at i)))
+up_to_later at i (suc j) up = elim (cases_eq i (suc j)) [
+  | inl same ↦ ([], ap (up_to at) (sym same) ∙ sym (append-nil (up_to at i)))
+  | inr apart ↦
+      let more = up_to_later at i j (omega (arith, up, apart)) in (
+        more.0 ++ option_to_list (at j),
+        ap (λ xs. xs ++ option_to_list (at j)) more.1 ∙ append_assoc (up_to at i) more.0 (option_to_list (at j)),
+      )
+]
 
 -- the last place at which there is something
 pub record IsLastAt {A : Type 0} (at : ℕ → Option A) (j : ℕ) (xs : List A) (x : A) : Type 0 where

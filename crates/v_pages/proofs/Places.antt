@@ -9,11 +9,13 @@ use Rattle.vk_base.specs.declared.kernel.Process.{Process}
 use Rattle.vk_base.specs.declared.kernel.State.TheVariants as states
 use Rattle.vk_base.specs.declared.pid.Pid.{Pid}
 use Rattle.vk_base.specs.declared.step.Step.{Step}
+use Rattle.vk_base.specs.declared.step.Step.TheVariants as steps
 use Rattle.vk_base.specs.Calls.{Effect}
 use Rattle.vk_base.specs.Kernel.{◌>>=◌, Kernel, initial_kernel}
+use Rattle.vk_base.specs.Pids.{same_pid}
 use Rattle.vk_base.specs.Ranges.{range_of, bytes_in}
 use Rattle.vk_base.specs.Settings.{is_process}
-use Rattle.vk_base.specs.Steps.{Taking, effect}
+use Rattle.vk_base.specs.Steps.{effect}
 use Rattle.vk_event.specs.declared.task.TheConstants.{PAGE_BYTES}
 use Rattle.vk_pages.specs.Pages.{zero_pages}
 use Rattle.vk_pages.specs.Servers.{between, server_call}
@@ -21,8 +23,9 @@ use Rattle.vk_pages.specs.declared.serving.Serving.TheVariants as stages
 use Rattle.v_laws.specs.Places.{before, process_after}
 use Rattle.v_laws.proofs.PlaceLemmas.{IsNext, at_place, before_first, before_next, before_sound}
 use Rattle.v_laws.proofs.SoundLemmas.{initial_ready}
-use Rattle.std.proofs.lemmas.Bool.{cond_both}
+use Rattle.std.proofs.lemmas.Bool.{cond-true, cond_both}
 use Rattle.std.proofs.lemmas.List.{length-replicate}
+use Rattle.v_laws.proofs.Tables.{same_pid_self}
 use Rattle.v_pages.specs.Followed.{Follows, answer_at, answer_in, answers_before, call_at, call_by, calls_before, up_to}
 use Rattle.v_pages.specs.Requests.{Request, request_at, requests_before, taking_by}
 use Rattle.v_pages.proofs.Calling.{told}
@@ -32,15 +35,14 @@ use Rattle.v_pages.proofs.Standing.{Doing, ServerAt, Standing, keeps_zero}
 use Rattle.v_pages.proofs.Turns.{MayCall, request_by, server_next}
 
 -- What a place gives is what its step gives.
+pub call_here : (ss : List Step) (r : Pid) (i : ℕ) (c : Call) → slice_get ss i ≡ Some (steps.Call r c) → call_at ss r i ≡ Some c
+call_here ss r i c is = ap (λ o. o >>= call_by r) is ∙ cond-true (same_pid r r) (Some c) None (same_pid_self r)
+
 pub answer_here : (specs : List ProcessSpec) (ss : List Step) (r : Pid) (i : ℕ) (k : Kernel) (s : Step) (e : Effect) →
     before specs ss i ≡ Some k →
     slice_get ss i ≡ Some s → effect k s ≡ Some e → answer_at specs ss r i ≡ told r e
 answer_here specs ss r i k s e at is does =
     ap (λ (o : Option Effect). (o >>= λ (e : Effect). e.seen) >>= answer_in r) (at_place effect specs ss i k s at is ∙ does)
-
-asked_of : Pid → Option Process → Taking → Option Request
-asked_of r o t = o >>= λ (p : Process).
-    Some (record { name = t.name; message = t.exchange.shown; bytes = bytes_in (range_of 0 PAGE_BYTES) p.memory })
 
 pub request_here : (specs : List ProcessSpec) (ss : List Step) (r : Pid) (i : ℕ) (k : Kernel) (s : Step) (e : Effect) →
     before specs ss i ≡ Some k →

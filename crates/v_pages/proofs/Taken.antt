@@ -122,25 +122,25 @@ reached_before specs ss i k at =
       is = r.1 ∙ (λ j. Some (record { after = r.2 j; seen = r.0.seen }));
     }
 
-past_taken : (s : Stage) → 2 ≤ reach s → reach s ≤ 2 → is_taken s ≡ true
+pub past_taken : (s : Stage) → 2 ≤ reach s → reach s ≤ 2 → is_taken s ≡ true
 past_taken stages.Posted a b = absurd (omega arith)
 past_taken stages.Queued a b = absurd (omega arith)
 past_taken stages.Taken a b = refl
 past_taken (stages.Replied m d bytes) a b = absurd (omega arith)
 past_taken stages.Dropped a b = absurd (omega arith)
 
-taken_reach : (s : Stage) → is_taken s ≡ true → reach s ≡ 2
+pub taken_reach : (s : Stage) → is_taken s ≡ true → reach s ≡ 2
 taken_reach stages.Posted t = absurd (both_ways false refl t)
 taken_reach stages.Queued t = absurd (both_ways false refl t)
 taken_reach stages.Taken t = refl
 taken_reach (stages.Replied m d bytes) t = absurd (both_ways false refl t)
 taken_reach stages.Dropped t = absurd (both_ways false refl t)
 
-take_same : (p q : Pid) → steps.Take p ≡ steps.Take q → p ≡ q
+pub take_same : (p q : Pid) → steps.Take p ≡ steps.Take q → p ≡ q
 take_same p q e = cc
 
 -- what a process takes is at that process
-taker : (specs : List ProcessSpec) (ss : List Step) (i : ℕ) (n : Name) (r : Pid) (a : IsTakenAt specs ss i n) →
+pub taker : (specs : List ProcessSpec) (ss : List Step) (i : ℕ) (n : Name) (r : Pid) (a : IsTakenAt specs ss i n) →
     slice_get ss i ≡ Some (steps.Take r) → a.take.exchange.at ≡ r
 taker specs ss i n r a is = same_pid_is a.take.exchange.at a.receiver (taken_was_queued a.kernel a.receiver a.take a.takes).0
     ∙ take_same a.receiver r (same_Some (steps.Take a.receiver) (steps.Take r) (sym a.is ∙ is))
@@ -210,6 +210,12 @@ held_since specs ss i l j r s number m k never takes is less up at_l at_j holds 
     let last : reach y.0.stage ≡ 2 = ap (λ (z : Exchange). reach z.stage) same ∙ taken_reach h.exchange.stage h.taken in
     (x.0, x.1, past_taken x.0.stage low (omega arith), x.2.at)
 
+-- exchanges at one process are of one station
+pub one_host : (x y : Exchange) → x.at ≡ y.at → same_host x.target x.at ≡ true → same_host y.target y.at ≡ true →
+    same_host x.target y.target ≡ true
+one_host x y same first second = eq-eqb x.target.host y.target.host
+    (eqb-true x.target.host x.at.host first ∙ ap (λ (p : Pid). p.host) same ∙ sym (eqb-true y.target.host y.at.host second))
+
 -- so of two Takes of one sender by a server the second is the one that it holds
 pub never_both : (specs : List ProcessSpec) (ss : List Step) (i l j : ℕ) (r s : Pid) (number : ℕ) (k : Kernel)
     (q : Request) → NeverHands ss r → taken_at specs ss i ≡ Some (name_of s number) →
@@ -231,11 +237,6 @@ never_both specs ss i l j r s number k q never takes is asked sender less up at 
     (sound.near (name_of s q.name.number) y there)) in
     not_again specs ss i l r q.name never
     (takes ∙ ap (λ n. Some (name_of s n)) one ∙ ap (λ (z : Name). Some z) name) is (request_taken specs ss r l q a) less
-  where
-    one_host : (x y : Exchange) → x.at ≡ y.at → same_host x.target x.at ≡ true → same_host y.target y.at ≡ true →
-        same_host x.target y.target ≡ true
-    one_host x y same first second = eq-eqb x.target.host y.target.host
-        (eqb-true x.target.host x.at.host first ∙ ap (λ (p : Pid). p.host) same ∙ sym (eqb-true y.target.host y.at.host second))
 
 -- The request that it took last is the one that it replies to.
 pub record IsLastTaken (specs : List ProcessSpec) (ss : List Step) (r : Pid) (i j : ℕ) (earlier : List Request) (q : Request) (n : Name) :

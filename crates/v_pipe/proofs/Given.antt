@@ -1,6 +1,6 @@
 -- What a pipe server replies, and to whom.
-use Rattle.std.proofs.Common.{◌≡◌, ℕ, suc, ◌+◌, ◌≤◌, nat_lt, true, false, not, List, [], ◌∷◌, ◌++◌, length, slice_get, Some, None, is_none, refl, sym, ap, subst, ◌∙◌, arith}
-use Rattle.std.proofs.lemmas.Bool.{both_ways, cond-true, leb-true}
+use Rattle.std.proofs.Common.{◌≡◌, ℕ, suc, ◌+◌, ◌≤◌, nat_lt, true, false, not, List, [], ◌∷◌, ◌++◌, length, Some, None, is_none, refl, sym, ap, subst, ◌∙◌, arith}
+use Rattle.std.proofs.lemmas.Bool.{both_ways, leb-true}
 use Rattle.std.proofs.lemmas.Option.{same_Some, none-some}
 use Rattle.vk_base.specs.declared.answer.Answer.TheVariants as answers
 use Rattle.vk_base.specs.declared.answer.Refusal.TheVariants as refusals
@@ -15,8 +15,7 @@ use Rattle.vk_base.specs.declared.pid.Pid.{Pid}
 use Rattle.vk_base.specs.declared.step.Step.{Step}
 use Rattle.vk_base.specs.declared.step.Step.TheVariants as steps
 use Rattle.vk_base.specs.Calls.{Effect, is_granted, is_own, may_write}
-use Rattle.vk_base.specs.Kernel.{◌>>=◌, Kernel, held, held_exchange}
-use Rattle.vk_base.specs.Pids.{same_pid}
+use Rattle.vk_base.specs.Kernel.{Kernel, held, held_exchange}
 use Rattle.vk_base.specs.Ranges.{range_of, bytes_in}
 use Rattle.vk_base.specs.Steps.{effect}
 use Rattle.vk_base.proofs.OptionLemmas.{bind_is}
@@ -24,11 +23,10 @@ use Rattle.v_laws.specs.Places.{IsReplyAt, before, effect_at, given_by}
 use Rattle.v_laws.specs.Reached.{saw}
 use Rattle.v_laws.proofs.PlaceLemmas.{at_place}
 use Rattle.v_laws.proofs.StepLemmas.{IsFit, four_tests}
-use Rattle.v_laws.proofs.Tables.{same_pid_self}
-use Rattle.v_pages.specs.Followed.{Follows, answer_at, answers_before, call_at, call_by, calls_before}
+use Rattle.v_pages.specs.Followed.{Follows, answer_at, answers_before, calls_before}
 use Rattle.v_pages.proofs.Calling.{CallOutcome, outcome_of, own_told}
 use Rattle.v_pages.proofs.Lists.{up_to_some}
-use Rattle.v_pages.proofs.Places.{answer_here}
+use Rattle.v_pages.proofs.Places.{answer_here, call_here}
 use Rattle.v_pages.proofs.Replied.{shows_refusal}
 use Rattle.v_pages.proofs.Staying.{NeverHands, gives_away, never_hands, task_keeps}
 use Rattle.vk_pipe.specs.declared.serving.Serving.{Serving}
@@ -49,9 +47,6 @@ never_gives q (stages.ReplyBytes x) c e = ap gives_away (sym (same_Some _ c e))
 never_gives q (stages.Reply to verdict) c e = ap gives_away (sym (same_Some _ c e))
 never_gives q stages.Exit c e = ap gives_away (sym (same_Some _ c e))
 never_gives q stages.Ended c e = absurd (none-some c e)
-
-pub own_call : (ss : List Step) (r : Pid) (i : ℕ) (c : Call) → slice_get ss i ≡ Some (steps.Call r c) → call_at ss r i ≡ Some c
-own_call ss r i c is = ap (λ o. o >>= call_by r) is ∙ cond-true (same_pid r r) (Some c) None (same_pid_self r)
 
 pub pipe_keeps : (requests : ℕ) (specs : List ProcessSpec) (ss : List Step) (r : Pid) → Follows (pipe_call requests) specs ss r →
     NeverHands ss r
@@ -149,7 +144,7 @@ replies_here requests specs ss j s r number reply dest bytes follows rep =
     let e = bind_is (effect_at specs ss j) _ (record { pid = r; call = rep.call; answer = answers.Ok }) rep.answered in
     let does : effect k.0 (steps.Call r rep.call) ≡ Some e.0 =
     sym (at_place effect specs ss j k.0 (steps.Call r rep.call) k.1 rep.is) ∙ e.1 in
-    let next = follows j rep.call (own_call ss r j rep.call rep.is) in
+    let next = follows j rep.call (call_here ss r j rep.call rep.is) in
     let t = server_after requests (answers_before specs ss r j) in
     let doing = pipe_before requests specs ss r follows j k.0 rep.caller k.1 k.2 in
     let made = length (calls_before ss r j) in

@@ -1,7 +1,6 @@
 -- The bytes that a reply gives are the next piece of what a pipe server hands out.
-use Rattle.std.proofs.Common.{◌≡◌, ℕ, zero, suc, ◌+◌, ◌<◌, ◌≤◌, List, [], ◌∷◌, ◌++◌, length, take, Option, option_to_list, refl, sym, ap, ◌∙◌, inl, inr, append-nil, append_assoc, arith}
+use Rattle.std.proofs.Common.{◌≡◌, ℕ, suc, ◌+◌, ◌<◌, ◌≤◌, List, [], ◌∷◌, ◌++◌, length, take, refl, sym, ap, ◌∙◌, append-nil, append_assoc, arith}
 use Rattle.std.specs.List.{flat_map}
-use Rattle.std.proofs.lemmas.Bool.{cases_eq}
 use Rattle.std.proofs.lemmas.List.{length-append}
 use Rattle.std.proofs.lemmas.List.Concat.{flat_map-append}
 use Rattle.std.proofs.Math.Seq.{drop-append_seam, take-append_seam}
@@ -12,7 +11,8 @@ use Rattle.vk_base.specs.declared.message.Message.{Message}
 use Rattle.vk_base.specs.declared.pid.Pid.{Pid}
 use Rattle.vk_base.specs.declared.step.Step.{Step}
 use Rattle.vk_base.specs.Ranges.{range_of, bytes_in}
-use Rattle.v_pages.specs.Followed.{answer_at, answers_before, up_to}
+use Rattle.v_pages.specs.Followed.{answer_at, answers_before}
+use Rattle.v_pages.proofs.Lists.{up_to_later}
 use Rattle.vk_pipe.specs.declared.serving.Serving.{Serving}
 use Rattle.vk_pipe.specs.Kept.{pipe_after}
 use Rattle.vk_pipe.specs.Pipes.{Pipe, Server, answered, answered_all, new_server, piece_of, server_after}
@@ -20,19 +20,6 @@ use Rattle.vk_pipe.specs.Told.{Piece, along, bytes_had, news_at, piece_in, piece
 use Rattle.vk_pipe.proofs.Keeping.{keeps}
 use Rattle.v_pipe.specs.Read.{IsPiece, had_before, put_before}
 use Rattle.v_pipe.proofs.Given.{Reply, RepliesHere}
-
--- What there is up to a place stays.
-pub up_to_later : {A : Type 0} (at : ℕ → Option A) (i j : ℕ) → i ≤ j → (rest : List A) × (up_to at j ≡ up_to at i ++ rest)
-unfolding up_to
-up_to_later at i zero up = let none : i ≡ 0 = omega (arith, up) in ([], ap (up_to at) (sym none) ∙ sym (append-nil (up_to at i)))
-up_to_later at i (suc j) up = elim (cases_eq i (suc j)) [
-  | inl same ↦ ([], ap (up_to at) (sym same) ∙ sym (append-nil (up_to at i)))
-  | inr apart ↦
-      let more = up_to_later at i j (omega (arith, up, apart)) in (
-        more.0 ++ option_to_list (at j),
-        ap (λ xs. xs ++ option_to_list (at j)) more.1 ∙ append_assoc (up_to at i) more.0 (option_to_list (at j)),
-      )
-]
 
 -- What more answers tell.
 pub along_append : {X : Type 0} (tells : Server → Answer → List X) (s : Server) (given more : List Answer) →

@@ -31,7 +31,7 @@ use Rattle.v_pages.specs.Followed.{Follows, answer_at, answers_before, call_at, 
 use Rattle.v_pages.specs.Scheduled.{FollowsIn}
 use Rattle.v_pages.specs.Served.{RepliesToLast}
 use Rattle.v_pages.proofs.Events.{follows_on}
-use Rattle.v_pages.proofs.Lists.{front_same, up_to_some}
+use Rattle.v_pages.proofs.Lists.{front_same, up_to_some, up_to_later}
 use Rattle.v_pages.proofs.Sent.{made_at}
 use Rattle.v_pages.proofs.Staying.{as_sent}
 use Rattle.v_pages.proofs.Taken.{request_is}
@@ -50,9 +50,10 @@ use Rattle.v_pipe.specs.Read.{IsHandedOut}
 use Rattle.v_pipe.specs.Waits.{NoneWaits}
 use Rattle.v_pipe.specs.Written.{IsWriteDone, IsWritten, writes_before}
 use Rattle.v_pipe.proofs.Entries.{Has, Suits, never_empty, rest_same, write_by}
-use Rattle.v_pipe.proofs.Given.{Reply, RepliesHere, own_call, pipe_keeps, replies_here}
+use Rattle.v_pages.proofs.Places.{call_here}
+use Rattle.v_pipe.proofs.Given.{Reply, RepliesHere, pipe_keeps, replies_here}
 use Rattle.v_pipe.proofs.Own.{close_code, kept_here, read_code, suits_at}
-use Rattle.v_pipe.proofs.Pieces.{along_append, up_to_later}
+use Rattle.v_pipe.proofs.Pieces.{along_append}
 use Rattle.v_pipe.proofs.Readers.{reads_pieces}
 use Rattle.v_pipe.proofs.Tracked.{put_more}
 
@@ -230,7 +231,7 @@ written specs ss requests i j s r reply follows h =
           subst (λ b. Has s q.message b (writes_put requests given) server.pipe server.stage) part
           (subst (λ y. Has y q.message (take SEGMENT_BYTES x.part) (writes_put requests given) server.pipe server.stage) sender kept.has) in
           write_done requests specs ss j s r reply (first_part x.message made.caller.memory) h.replies.call follows
-          (own_call ss r j h.replies.call h.replies.is)
+          (call_here ss r j h.replies.call h.replies.is)
           (put_by_reply s q.message (first_part x.message made.caller.memory) (writes_put requests given) server.pipe server.stage reply
           h.dest h.bytes has here.reply_is writes code);
     }

@@ -48,10 +48,11 @@ EndsRole c g (Runs r task) =
     g.last ≡ hub_events.Finished ∷ [] → IsAtEnd task (calls_by g.actions) (answers_by (fresh_station c (host_of g)) g.actions)
 EndsRole c g role = g.last ≢ hub_events.Finished ∷ []
 
--- where its job met no Room, a process finished or heard that the hub had ended
+-- where its job met no Room, a process finished or heard that the hub had ended, and what delivers heard it
 abbrev pub GoesOn : Passage → Role → Type 0
 GoesOn g (Runs r task) = (g.last ≡ hub_events.Finished ∷ []) ⊎ HasHeard g.actions
-GoesOn g role = Unit {0}
+GoesOn g Pumps = HasHeard g.actions
+GoesOn g Ticks = Unit {0}
 
 pub record IsJobEnd (c : Settings) (j : JobEnd) : Type 0 where
   pub losses : losses j.passages ≤ 2

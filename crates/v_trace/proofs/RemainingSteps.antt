@@ -10,7 +10,7 @@ use Rattle.vk_base.specs.declared.config.ProcessSpec.{ProcessSpec}
 use Rattle.vk_base.specs.declared.step.Step.{Step}
 use Rattle.vk_text.specs.Heads.{settings_of, head_of}
 use Rattle.vk_text.specs.Lines.{lines_of, words_from}
-use Rattle.v_trace.specs.Remaining.{IsNext, Remaining, whole, behind, acting, end_of, left_by, steps_left}
+use Rattle.v_trace.specs.Remaining.{Remaining, whole, behind, acting, end_of, left_by, steps_left}
 use Rattle.v_trace.specs.Steps.{step_of}
 use Rattle.v_trace.specs.Traces.{KeepsLines, kept_lines, has_actor, line_behind, with_step, with_lines, trace_of}
 use Rattle.v_trace.specs.declared.trace.Trace.{Trace}
@@ -179,42 +179,6 @@ given_acts r c given lines o s left is =
     subst (λ (d : Settings). has_actor d.specs s ≡ true) same (acts c.specs o s is)
 
 -- a loop over what is left
-
-pub is_next : (old new : Remaining) (b : Bool) (s : Step) → b ≡ true → IsNext old new (cond b (Some s) None) → old ≡ behind (s ∷ []) new
-is_next old new true s is next = next
-is_next old new false s is next = cc
-
-pub is_end : (old new : Remaining) (b : Bool) (s : Step) → b ≡ false → IsNext old new (cond b (Some s) None) → (old.steps ≡ []) × (new ≡ old)
-is_end old new true s is next = cc
-is_end old new false s is next = next
-
--- fewer are left
-pub fewer : (old new : Remaining) (s : Step) → old ≡ behind (s ∷ []) new → length new.steps < length old.steps
-fewer old new s step =
-    let count : length old.steps ≡ length (s ∷ new.steps) = ap (λ (r : Remaining). length r.steps) step in
-    omega (arith, count)
-
-pub one_more : (all old new : Remaining) (ss : List Step) (s : Step) → all ≡ behind ss old → old ≡ behind (s ∷ []) new
-    → all ≡ behind (ss ++ s ∷ []) new
-one_more all old new ss s so step = so ∙ ap (behind ss) step ∙ sym (behind_both ss (s ∷ []) new)
-
-pub some_steps : (all old new : Remaining) (ss : List Step) (s : Step) → all ≡ behind ss old → old ≡ behind (s ∷ []) new
-    → 0 < length all.steps
-some_steps all old new ss s so step =
-    let here : all.steps ≡ ss ++ s ∷ new.steps = ap (λ (r : Remaining). r.steps) (so ∙ ap (behind ss) step) in
-    omega (arith, ap length here, length-append ss (s ∷ new.steps))
-
-pub ends_bad : (all left : Remaining) (ss : List Step) (line : ℕ) → all ≡ behind ss left → left.bad ≡ Some line
-    → whole all ≡ Err (refusals.BadInput line)
-ends_bad all left ss line so bad =
-    ap whole so
-    ∙ ap (λ (o : Option ℕ). whole (record { config = left.config; steps = ss ++ left.steps; bad = o })) bad
-
-pub ends_well : (all left : Remaining) (ss : List Step) → all ≡ behind ss left → left.steps ≡ [] → left.bad ≡ None
-    → whole all ≡ Ok (record { config = left.config; steps = ss })
-ends_well all left ss so none good =
-    ap whole (so ∙ ending left ss none)
-    ∙ ap (λ (o : Option ℕ). whole (record { config = left.config; steps = ss; bad = o })) good
 
 kept_by : (c : Settings) (ss : List Step) (o : Option ℕ) → IfSome o (λ line. line ≡ length c.specs + length ss + 2) → 0 < length ss
     → 0 < kept_lines (whole (record { config = c; steps = ss; bad = o }))

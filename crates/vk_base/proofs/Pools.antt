@@ -9,7 +9,7 @@ use Rattle.vk_base.specs.declared.config.ConfigRefusal.TheVariants as refusals
 use Rattle.vk_base.specs.declared.config.ProcessSpec.{ProcessSpec}
 use Rattle.vk_base.specs.declared.config.Times.{Times}
 use Rattle.vk_base.specs.declared.limits.TheConstants.{POOL}
-use Rattle.vk_base.specs.Settings.{AreLawful, IsKept, Settings, fault_of, first_fault, has_station, pool_beside, pool_is_lawful, pool_of, put_beside, refusal_of, settings_refusal, stations_of, times_are_lawful, uniform, with_pool, with_process}
+use Rattle.vk_base.specs.Settings.{AreLawful, IsKept, Settings, fault_of, first_fault, has_station, pool_beside, pool_is_lawful, pool_of, put_beside, refusal_of, settings_refusal, stations_of, times_are_lawful, uniform, with_process}
 use Rattle.vk_base.proofs.SettingsLemmas.{among_stations, kept_more, none_of, stations_of-append}
 
 -- A pool by its place among the stations.
@@ -202,16 +202,6 @@ uniform_lawful t pool specs none =
       one_each = length-replicate (length (stations_of specs)) pool;
       pools = all_same pool_is_lawful (length (stations_of specs)) pool both.1;
       processes = parts.1;
-    }
-
--- another pool of a station
-pub with_pool_lawful : (c : Settings) (host pool : ℕ) → AreLawful c → pool_is_lawful pool ≡ true → AreLawful (with_pool c host pool)
-with_pool_lawful c host pool lawful fine =
-    let put = put_at_place (stations_of c.specs) c.pools host pool lawful.one_each in record {
-      times = lawful.times;
-      one_each = ap length put ∙ length-set c.pools _ pool ∙ lawful.one_each;
-      pools = ap (list_all pool_is_lawful) put ∙ all_set pool_is_lawful c.pools _ pool lawful.pools fine;
-      processes = lawful.processes;
     }
 
 few_beside : (hosts pools : List ℕ) (host : ℕ) → list_all pool_is_lawful pools ≡ true → pool_beside hosts pools host ≤ POOL

@@ -4,6 +4,7 @@ use Rattle.std.specs.Prelude.{slice_get, sum_by}
 use Rattle.std.proofs.lemmas.Bool.{cases_eq, eq-eqb}
 use Rattle.std.proofs.lemmas.Option.{none-some, same_Some, slice_get-map, slice_get_read, slice_get_within}
 use Rattle.vk_base.specs.declared.call.Call.{Call}
+use Rattle.vk_base.specs.declared.config.ProcessSpec.{ProcessSpec}
 use Rattle.vk_base.specs.declared.event.EventAnswer.{EventAnswer}
 use Rattle.vk_base.specs.declared.limits.TheConstants.{EVENTS}
 use Rattle.vk_base.specs.declared.pid.Pid.{Pid}
@@ -11,13 +12,14 @@ use Rattle.vk_base.specs.Pids.{IsPid}
 use Rattle.vk_base.specs.Settings.{Settings, has_process, stations_of}
 use Rattle.vk_schedule.specs.declared.event.Event.{Event}
 use Rattle.vk_schedule.specs.declared.event.Event.TheVariants as scheduled
+use Rattle.vk_schedule.specs.Lawful.{has_actors}
 use Rattle.vk_packet.specs.Rules.{IsPacket}
 use Rattle.vk_rules.specs.Each.{Each}
 use Rattle.vk_rules.specs.Entries.{Called, Collected, Delivered, Entry, Input, Ticked}
 use Rattle.vk_rules.specs.Frames.{Frame, Framed, unsealed_of}
 use Rattle.vk_rules.specs.Histories.{At, Happened, Logs, Missing, delivered, emitted, handed_over, happens_at, is_output, logs_after, no_entries, with_entry}
 unfoldable use Rattle.vk_rules.specs.Histories.{happened, logs_from}
-use Rattle.vk_rules.specs.Laws.{FramesUnsealAgain}
+use Rattle.vk_rules.specs.Laws.{FramesUnsealAgain, station_of}
 use Rattle.vk_rules.specs.Right.{entry_of}
 use Rattle.vk_rules.proofs.Headers.{headers_are_lawful}
 use Rattle.vk_rules.proofs.Lists.{each_append, each_find}
@@ -30,11 +32,12 @@ use Rattle.v_whole.specs.Schedules.{IsOfProcess}
 use Rattle.vk_host.specs.declared.response.Response.{Response}
 use Rattle.vk_host.specs.Responses.{answer_of}
 use Rattle.vk_host.specs.Sealed.{sealed}
-use Rattle.vk_host.specs.Standing.{IsAt, IsEvent}
+use Rattle.vk_host.specs.Standing.{IsEvent}
 use Rattle.vk_host.specs.Values.{StationValue, has}
 use Rattle.vk_cluster.specs.declared.emitted.TheConstants.{EVENT_BYTES}
 use Rattle.vk_cluster.specs.declared.report.Advance.{Advance}
 use Rattle.vk_cluster.specs.declared.report.Advance.TheVariants as advances
+use Rattle.vk_cluster.specs.Events.{ComesWith, FindsNone, input_with, is_own}
 use Rattle.vk_cluster.specs.Found.{bytes_for, sent_of}
 use Rattle.vk_cluster.specs.Piles.{AreFrames, shown}
 use Rattle.vk_cluster.specs.Standing.{AreAt, IsAdvance, IsFinished, IsNext, IsStep, ShowsLast, StandsFor, StandsSomewhere, Tells, bytes_of, logs_of, report_by, report_of}
@@ -118,7 +121,7 @@ module _ (v : ClusterValue) (some : StandsSomewhere v) (place host : ℕ) (there
         let few : length some.1 ≤ 100000 = some.2.few in
         omega arith
 
-    pub own_at : (s : StationValue) (pid : Pid) → slice_get v.hosts place ≡ Some s → pid.host ≡ host → has_process v.config.specs pid ≡ true →
+    own_at : (s : StationValue) (pid : Pid) → slice_get v.hosts place ≡ Some s → pid.host ≡ host → has_process v.config.specs pid ≡ true →
         has s pid ≡ true
     own_at s pid found at process =
         has_own some.0 s pid (some.2.stands.at place s found).order (at ∙ sym (host_is s found))
@@ -229,22 +232,22 @@ missing_step old new to e a few process happens told is = record {
 }
 
 -- What happens at a station with this number.
-pub call_happens : (c : Settings) (es : List Event) (host : ℕ) (pid : Pid) (call : Call) → host ≡ pid.host →
+call_happens : (c : Settings) (es : List Event) (host : ℕ) (pid : Pid) (call : Call) → host ≡ pid.host →
     happened c (logs_of c es) (scheduled.Call pid call) ≡ happens_at c (logs_of c es) host (Called pid call)
 unfolding happened
 call_happens c es host pid call same = ap (λ h. happens_at c (logs_of c es) h (Called pid call)) (sym same)
 
-pub collect_happens : (c : Settings) (es : List Event) (host : ℕ) (pid : Pid) → host ≡ pid.host →
+collect_happens : (c : Settings) (es : List Event) (host : ℕ) (pid : Pid) → host ≡ pid.host →
     happened c (logs_of c es) (scheduled.Collect pid) ≡ happens_at c (logs_of c es) host (Collected pid)
 unfolding happened
 collect_happens c es host pid same = ap (λ h. happens_at c (logs_of c es) h (Collected pid)) (sym same)
 
-pub tick_happens : (c : Settings) (es : List Event) (host at : ℕ) → host ≡ at →
+tick_happens : (c : Settings) (es : List Event) (host at : ℕ) → host ≡ at →
     happened c (logs_of c es) (scheduled.Tick at) ≡ happens_at c (logs_of c es) host Ticked
 unfolding happened
 tick_happens c es host at same = ap (λ h. happens_at c (logs_of c es) h Ticked) (sym same)
 
-pub call_input : (host : ℕ) (pid : Pid) (call : Call) → host ≡ pid.host → IsPid pid → IsReadable call → IsInput host (Called pid call)
+call_input : (host : ℕ) (pid : Pid) (call : Call) → host ≡ pid.host → IsPid pid → IsReadable call → IsInput host (Called pid call)
 call_input host pid call same is readable = (eq-eqb pid.host host (sym same), is, readable)
 
 -- What a delivery finds.
@@ -295,14 +298,14 @@ handed_by unseal logs to from event output bytes (Some f) is b lawful =
       packet = one.packet.packet;
     }
 
-pub handed : FramesUnsealAgain → (c : Settings) (es : List Event) (v : ClusterValue) (source to from event output : ℕ) (bytes : List ℕ) →
+handed : FramesUnsealAgain → (c : Settings) (es : List Event) (v : ClusterValue) (source to from event output : ℕ) (bytes : List ℕ) →
     StandsFor c es v → slice_get (stations_of v.config.specs) source ≡ Some from → bytes_for to (shown v.pile) source event output ≡ Some bytes →
     IsHanded (logs_of c es) to from event output bytes
 handed unseal c es v source to from event output bytes st there found =
     handed_by unseal (logs_of c es) to from event output bytes (handed_over (logs_of c es) to from event output) refl
     (sym (handed_bytes unseal c es v source to from event output st there) ∙ found) (lawful_of c es v source from st there)
 
-pub delivered_happens : FramesUnsealAgain → (c : Settings) (es : List Event) (v : ClusterValue) (source host to from event output : ℕ)
+delivered_happens : FramesUnsealAgain → (c : Settings) (es : List Event) (v : ClusterValue) (source host to from event output : ℕ)
     (bytes : List ℕ) → StandsFor c es v → slice_get (stations_of v.config.specs) source ≡ Some from →
     bytes_for to (shown v.pile) source event output ≡ Some bytes → host ≡ to →
     happened c (logs_of c es) (scheduled.Deliver to from event output) ≡ happens_at c (logs_of c es) host (Delivered (unsealed_of bytes))
@@ -313,7 +316,7 @@ delivered_happens unseal c es v source host to from event output bytes st there 
     ∙ ap (λ u. happens_at c (logs_of c es) to (Delivered u)) (sym h.opens)
     ∙ ap (λ n. happens_at c (logs_of c es) n (Delivered (unsealed_of bytes))) (sym same)
 
-pub delivered_input : FramesUnsealAgain → (v : ClusterValue) (source to from event output host : ℕ) (bytes : List ℕ) → StandsSomewhere v →
+delivered_input : FramesUnsealAgain → (v : ClusterValue) (source to from event output host : ℕ) (bytes : List ℕ) → StandsSomewhere v →
     slice_get (stations_of v.config.specs) source ≡ Some from → bytes_for to (shown v.pile) source event output ≡ Some bytes →
     IsInput host (Delivered (unsealed_of bytes))
 delivered_input unseal v source to from event output host bytes some there found =
@@ -324,7 +327,7 @@ none_handed : (o : Option Frame) → option_map sealed o ≡ None → o ≡ None
 none_handed None e = refl
 none_handed (Some f) e = absurd (none-some (sealed f) (sym e))
 
-pub missing_happens : FramesUnsealAgain → (c : Settings) (es : List Event) (v : ClusterValue) (source to from event output : ℕ) → StandsFor c es v →
+missing_happens : FramesUnsealAgain → (c : Settings) (es : List Event) (v : ClusterValue) (source to from event output : ℕ) → StandsFor c es v →
     slice_get (stations_of v.config.specs) source ≡ Some from → bytes_for to (shown v.pile) source event output ≡ None →
     happened c (logs_of c es) (scheduled.Deliver to from event output) ≡ Missing to
 unfolding happened
@@ -332,3 +335,44 @@ missing_happens unseal c es v source to from event output st there none =
     ap (delivered c (logs_of c es) to)
     (none_handed (handed_over (logs_of c es) to from event output)
     (sym (handed_bytes unseal c es v source to from event output st there) ∙ none))
+
+-- What an event is at its station, whatever kind it is of.
+pub event_happens : FramesUnsealAgain → (v : ClusterValue) (e : Event) (frame : List ℕ) → ComesWith v.config.specs (shown v.pile) e frame →
+    (host : ℕ) → host ≡ station_of e → (c : Settings) (es : List Event) → StandsFor c es v →
+    happened c (logs_of c es) e ≡ happens_at c (logs_of c es) host (input_with frame e)
+event_happens unseal v (scheduled.Call pid call) frame comes host same c es st = call_happens c es host pid call same
+event_happens unseal v (scheduled.Collect pid) frame comes host same c es st = collect_happens c es host pid same
+event_happens unseal v (scheduled.Tick at) frame comes host same c es st = tick_happens c es host at same
+event_happens unseal v (scheduled.Deliver to from event output) frame comes host same c es st =
+    delivered_happens unseal c es v comes.0 host to from event output frame st comes.1 comes.2 same
+
+pub event_input : FramesUnsealAgain → (v : ClusterValue) → StandsSomewhere v → (e : Event) (frame : List ℕ) →
+    ComesWith v.config.specs (shown v.pile) e frame → (host : ℕ) → host ≡ station_of e → IsInput host (input_with frame e)
+event_input unseal v some (scheduled.Call pid call) frame comes host same = call_input host pid call same comes.0 comes.1
+event_input unseal v some (scheduled.Collect pid) frame comes host same = tt
+event_input unseal v some (scheduled.Tick at) frame comes host same = tt
+event_input unseal v some (scheduled.Deliver to from event output) frame comes host same =
+    delivered_input unseal v comes.0 to from event output host frame some comes.1 comes.2
+
+pub none_happens : FramesUnsealAgain → (v : ClusterValue) (e : Event) → FindsNone v.config.specs (shown v.pile) e → (c : Settings)
+    (es : List Event) → StandsFor c es v → happened c (logs_of c es) e ≡ Missing (station_of e)
+none_happens unseal v (scheduled.Call pid call) none c es st = absurd none
+none_happens unseal v (scheduled.Collect pid) none c es st = absurd none
+none_happens unseal v (scheduled.Tick at) none c es st = absurd none
+none_happens unseal v (scheduled.Deliver to from event output) none c es st =
+    missing_happens unseal c es v none.0 to from event output st none.1 none.2
+
+-- who acts is of the station and of the configuration
+pub own_event : (v : ClusterValue) → StandsSomewhere v → (place : ℕ) (e : Event) →
+    slice_get (stations_of v.config.specs) place ≡ Some (station_of e) → (s : StationValue) →
+    slice_get v.hosts place ≡ Some s → has_actors v.config.specs e ≡ true → is_own s e ≡ true
+own_event v some place (scheduled.Call pid call) there s found has = own_at v some place pid.host there s pid found refl has
+own_event v some place (scheduled.Collect pid) there s found has = own_at v some place pid.host there s pid found refl has
+own_event v some place (scheduled.Tick at) there s found has = refl
+own_event v some place (scheduled.Deliver to from event output) there s found has = refl
+
+pub of_process : (specs : List ProcessSpec) (e : Event) → has_actors specs e ≡ true → IsOfProcess specs e
+of_process specs (scheduled.Call pid call) has = has
+of_process specs (scheduled.Collect pid) has = tt
+of_process specs (scheduled.Tick at) has = tt
+of_process specs (scheduled.Deliver to from event output) has = tt

@@ -1,7 +1,7 @@
 -- Pieces of a list, and of one that grows.
-use Rattle.std.proofs.Common.{◌≡◌, ℕ, zero, suc, ◌+◌, ◌-◌, ◌<◌, ◌≤◌, List, [], ◌∷◌, ◌++◌, length, map, take, drop, Some, None, option_map, refl, sym, ap, subst, ◌∙◌, arith}
+use Rattle.std.proofs.Common.{◌≡◌, ℕ, zero, suc, ◌≤◌, List, [], ◌∷◌, ◌++◌, length, map, take, drop, Some, option_map, refl, ap, subst, ◌∙◌, arith}
 use Rattle.std.specs.Prelude.{slice_get}
-use Rattle.std.proofs.lemmas.List.{length-drop, take-append-le, drop-append-le, drop_at, take_all, take-map, drop-map}
+use Rattle.std.proofs.lemmas.List.{length-drop, take-append-le, drop-append-le, drop_at, take_all}
 use Rattle.std.proofs.lemmas.Option.{none-some, same_Some, slice_get-map}
 use Rattle.vk_rules.specs.Each.{Each}
 use Rattle.vk_rules.proofs.Lists.{each_weaker}
@@ -54,48 +54,6 @@ last_piece xs ys p start size =
     ∙ take_all (length ys) ys (omega arith)
 
 -- Pieces of a list whose elements are changed.
-pub piece-map : {A B : Type 0} (f : A → B) (xs : List A) (p : Piece) → piece (map f xs) p ≡ map f (piece xs p)
-piece-map f xs p = ap (take p.count) (drop-map f p.from xs) ∙ take-map f p.count (drop p.from xs)
-
 pub from_one-map : {A B : Type 0} (f : A → B) (xs : List A) (n : ℕ) → from_one (map f xs) n ≡ option_map f (from_one xs n)
 from_one-map f xs zero = refl
 from_one-map f xs (suc n) = slice_get-map f xs n
-
--- Elements of a piece.
-dropped : {A : Type 0} (xs : List A) (n k : ℕ) → slice_get (drop n xs) k ≡ slice_get xs (n + k)
-dropped [] zero k = refl
-dropped [] (suc n) k = refl
-dropped (x ∷ xs) zero k = let same : k ≡ 0 + k = omega arith in ap (slice_get (x ∷ xs)) same
-dropped (x ∷ xs) (suc n) k =
-    let same : suc (n + k) ≡ suc n + k = omega arith in dropped xs n k ∙ ap (slice_get (x ∷ xs)) same
-
-taken : {A : Type 0} (xs : List A) (n k : ℕ) → k < n → slice_get (take n xs) k ≡ slice_get xs k
-taken xs zero k low = absurd (omega arith)
-taken [] (suc n) k low = refl
-taken (x ∷ xs) (suc n) zero low = refl
-taken (x ∷ xs) (suc n) (suc k) low = taken xs n k (omega arith)
-
-past : {A : Type 0} (xs : List A) (n k : ℕ) → n ≤ k → slice_get (take n xs) k ≡ None
-past xs zero k high = refl
-past [] (suc n) k high = refl
-past (x ∷ xs) (suc n) zero high = absurd (omega arith)
-past (x ∷ xs) (suc n) (suc k) high = past xs n k (omega arith)
-
-pub past_piece : {A : Type 0} (xs : List A) (p : Piece) (n : ℕ) → p.count < n → from_one (piece xs p) n ≡ None
-past_piece xs p zero high = refl
-past_piece xs p (suc n) high = past (drop p.from xs) p.count n (omega arith)
-
-pub at_piece : {A : Type 0} (xs : List A) (p : Piece) (n : ℕ) → 0 < n → n ≤ p.count →
-    from_one (piece xs p) n ≡ slice_get xs (p.from + n - 1)
-at_piece xs p zero some low = absurd (omega arith)
-at_piece xs p (suc n) some low =
-    let same : p.from + n ≡ p.from + suc n - 1 = omega arith in
-    taken (drop p.from xs) p.count n (omega arith) ∙ dropped xs p.from n ∙ ap (slice_get xs) same
-
--- The number counted from 1 and the place counted from 0.
-pub none_at_zero : {A : Type 0} (xs : List A) (n : ℕ) → n ≡ 0 → None ≡ from_one xs n
-none_at_zero xs n none = ap (from_one xs) (sym none)
-
-pub place_of_number : {A : Type 0} (xs : List A) (n : ℕ) → 0 < n → slice_get xs (n - 1) ≡ from_one xs n
-place_of_number xs zero some = absurd (omega arith)
-place_of_number xs (suc n) some = let same : suc n - 1 ≡ n = omega arith in ap (slice_get xs) same

@@ -1,10 +1,8 @@
 -- A list of vectors, of which one is changed.
-use Rattle.std.proofs.Common.{◌≡◌, ℕ, ◌+◌, ◌<◌, List, [], ◌∷◌, ◌++◌, length, map, get_or, set, replicate, Some, sym, ap, subst, ◌∙◌, vec_len, vec_capacity, arith}
-use Rattle.std.specs.Prelude.{slice_get}
+use Rattle.std.proofs.Common.{◌≡◌, ℕ, ◌+◌, ◌<◌, List, [], ◌∷◌, ◌++◌, length, map, get_or, set, replicate, sym, ap, ◌∙◌}
 use Rattle.std.specs.Global.{Vec}
 use Rattle.std.proofs.Math.Seq.{map-set_same}
-use Rattle.std.proofs.lemmas.List.{length-set, get_or-set_same, get_or-map, map-set, map_push, replicate_more}
-use Rattle.std.proofs.lemmas.Option.{same_Some, slice_get-get_or}
+use Rattle.std.proofs.lemmas.List.{get_or-map, map-set, map_push, replicate_more}
 use Rattle.vk_cluster.specs.declared.emitted.Piece.{Piece}
 use Rattle.vk_cluster.specs.Piles.{items_of, with_event}
 
@@ -18,14 +16,6 @@ more_none vs n v before none =
 pub same_items : (vs : List (Vec Piece)) (i : ℕ) (old new : Vec Piece) → old ≡ get_or vs i old → new.items ≡ old.items →
     map items_of (set vs i new) ≡ map items_of vs
 same_items vs i old new is same = map-set_same items_of vs i new old (same ∙ ap items_of is)
-
-pub has_room : (vs : List (Vec Piece)) (i : ℕ) (new s : Vec Piece) → i < length vs → vec_len new < vec_capacity new →
-    slice_get (set vs i new) i ≡ Some s → vec_len s < vec_capacity s
-has_room vs i new s low room found =
-    let there : i < length (set vs i new) = omega (arith, length-set vs i new) in
-    let is : new ≡ s =
-    same_Some new s (sym (slice_get-get_or (set vs i new) i new there ∙ ap Some (get_or-set_same vs i new new low)) ∙ found) in
-    let P : Vec Piece → Type 0 = λ v. vec_len v < vec_capacity v in subst P is room
 
 -- one that has a piece more
 pub pushed_items : (vs : List (Vec Piece)) (i : ℕ) (old new : Vec Piece) (one : Piece) → old ≡ get_or vs i old → i < length vs →

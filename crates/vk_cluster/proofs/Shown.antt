@@ -8,7 +8,7 @@ use Rattle.vk_base.specs.Settings.{Settings, has_station}
 use Rattle.vk_cluster.specs.declared.emitted.TheConstants.{EVENT_FRAMES}
 use Rattle.vk_cluster.specs.declared.report.ClusterAnswer.TheVariants as answers
 use Rattle.vk_cluster.specs.declared.report.StepReport.{StepReport}
-use Rattle.vk_cluster.specs.Standing.{ShowsLast, StandsSomewhere, logs_of, report_of}
+use Rattle.vk_cluster.specs.Standing.{ShowsLast, logs_of, report_of}
 use Rattle.vk_cluster.specs.Values.{ClusterValue}
 use Rattle.vk_cluster.proofs.Logs.{logs_next}
 use Rattle.vk_cluster.proofs.Taking.{actor_station}
@@ -124,9 +124,6 @@ most_is Ticked = omega arith
 most_is (Delivered o) = omega arith
 
 module _ (c : Settings) (es : List Event) (now : ClusterValue) (e : Event) (r : StepReport) (reported : HasReported c es now e r) where
-  pub somewhere : StandsSomewhere now
-  somewhere = (c, es ++ e ∷ [], reported.next.stands)
-
   pub is_station : has_station now.config.specs r.host ≡ true
   is_station =
       ap (λ (d : Settings). has_station d.specs r.host) reported.next.stands.config

@@ -1,5 +1,6 @@
 pub mod Blocks
 pub mod Clusters
+pub mod Events
 pub mod Found
 pub mod Law
 pub mod Piles

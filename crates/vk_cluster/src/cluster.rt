@@ -1,17 +1,19 @@
 //! The cluster and its events.
 
-ghost use Rattle.std.specs.Prelude.{◌≡◌, ◌≤◌, ◌<◌, ◌+◌, ◌||◌, ℕ, List, [], true, false, None, Some, length, map, sum_by, nat_le, nat_lt, slice_get, slice_index, IfOk, IfErr, OnErr, MatchOption};
+ghost use Rattle.std.specs.Prelude.{◌≡◌, ◌≤◌, ◌<◌, ◌+◌, ◌^◌, ◌||◌, ℕ, List, [], true, false, None, Some, length, map, sum_by, nat_le, nat_lt, slice_get, slice_index, IfOk, IfErr, OnErr, MatchOption};
 ghost use Rattle.vk_base.specs.Pids.{IsPid};
-ghost use Rattle.vk_base.specs.Settings.{Settings, has_process, has_station, stations_of};
+ghost use Rattle.vk_base.specs.Settings.{Settings, has_station, stations_of};
 ghost use Rattle.vk_schedule.specs.declared.event.Event.{Event as TheEvent};
 ghost use Rattle.vk_schedule.specs.Lawful.{has_actors};
 ghost use Rattle.vk_frame.specs.Reading.{frame_of};
 ghost use Rattle.vk_rules.specs.Each.{Each};
 ghost use Rattle.vk_rules.specs.Laws.{station_of};
-ghost use Rattle.vk_host.specs.Standing.{IsAt};
+ghost use Rattle.vk_host.specs.Responses.{answer_of};
+ghost use Rattle.vk_host.specs.Standing.{IsAt, IsEvent};
 ghost use Rattle.vk_host.specs.Values.{StationValue};
 ghost use Rattle.vk_base.specs.declared.config.ProcessSpec.{ProcessSpec as TheProcessSpec};
 ghost use Rattle.vk_cluster.specs.declared.report.StepReport.{StepReport as TheReport};
+ghost use Rattle.vk_cluster.specs.Events.{ComesWith, FindsNone, input_with, is_own};
 ghost use Rattle.vk_cluster.specs.Found.{bytes_for, is_addressed, opens_for};
 ghost use Rattle.vk_cluster.specs.Piles.{AreFrames, HasRoom, IsAdded, IsKept, pile_of, shown};
 ghost use Rattle.vk_cluster.specs.Standing.{AreHosts, IsAdvance, IsFinished, IsStep, ShowsNewest, StandsFor, StandsSomewhere, Tells, is_limit, logs_of};
@@ -23,10 +25,9 @@ use crate::report::{Advance, ClusterAnswer, ClusterRefusal, StepReport};
 use std::alloc::Global;
 use std::marker::Model;
 use vk_base::limits::EVENTS;
-use vk_base::{Config, NoMemory, Pid, ProcessSpec};
-use vk_brief::CallView;
+use vk_base::{Config, NoMemory, ProcessSpec};
 use vk_frame::{Header, unseal};
-use vk_host::{Host, are_in_range, pid_is};
+use vk_host::{Host, Response, are_in_range, pid_is};
 use vk_rules::frames_unseal_again;
 use vk_schedule::{Event, EventKind, EventView};
 
@@ -194,79 +195,14 @@ impl Parts {
         requires room { HasRoom self.old.emitted place EVENT_BYTES EVENT_FRAMES }
         ensures { IsAdvance (value_of self.old) (value_of self.new) event.now result }
     {
-        let (kind, call) = event.parts();
-        match kind {
-            EventKind::Call { pid } => self.call(place, pid, call),
-            EventKind::Collect { pid } => self.collect(place, pid),
-            EventKind::Tick { host } => self.tick(place, host),
-            EventKind::Deliver {
-                to,
-                from,
-                event,
-                output,
-            } => self.deliver(place, to, from, event, output),
-        }
-    }
-
-    #[inline(always)]
-    fn call(&mut self, place: usize, pid: Pid, call: &CallView) -> Advance
-        requires somewhere { StandsSomewhere (value_of self.old) }
-        requires few { self.old.events < EVENTS }
-        requires process { has_process self.old.config.specs pid ≡ true }
-        requires place { slice_get (stations_of self.old.config.specs) place ≡ Some pid.host }
-        requires room { HasRoom self.old.emitted place EVENT_BYTES EVENT_FRAMES }
-        ensures { IsAdvance (value_of self.old) (value_of self.new) (Event.Call pid call.now) result }
-    {
-        pid_is(&pid);
-        are_in_range(call);
-        let response = self.hosts[place].call(pid, call);
-        self.finish(place);
-        Advance::Event { place, response }
-    }
-
-    #[inline(always)]
-    fn collect(&mut self, place: usize, pid: Pid) -> Advance
-        requires somewhere { StandsSomewhere (value_of self.old) }
-        requires few { self.old.events < EVENTS }
-        requires process { has_process self.old.config.specs pid ≡ true }
-        requires place { slice_get (stations_of self.old.config.specs) place ≡ Some pid.host }
-        requires room { HasRoom self.old.emitted place EVENT_BYTES EVENT_FRAMES }
-        ensures { IsAdvance (value_of self.old) (value_of self.new) (Event.Collect pid) result }
-    {
-        let response = self.hosts[place].collect(pid);
-        self.finish(place);
-        Advance::Event { place, response }
-    }
-
-    fn tick(&mut self, place: usize, host: u16) -> Advance
-        requires somewhere { StandsSomewhere (value_of self.old) }
-        requires few { self.old.events < EVENTS }
-        requires place { slice_get (stations_of self.old.config.specs) place ≡ Some host }
-        requires room { HasRoom self.old.emitted place EVENT_BYTES EVENT_FRAMES }
-        ensures { IsAdvance (value_of self.old) (value_of self.new) (Event.Tick host) result }
-    {
-        let response = self.hosts[place].tick();
-        self.finish(place);
-        Advance::Event { place, response }
-    }
-
-    fn deliver(&mut self, place: usize, to: u16, from: u16, event: u64, output: u16) -> Advance
-        requires somewhere { StandsSomewhere (value_of self.old) }
-        requires few { self.old.events < EVENTS }
-        requires from { has_station self.old.config.specs from ≡ true }
-        requires place { slice_get (stations_of self.old.config.specs) place ≡ Some to }
-        requires room { HasRoom self.old.emitted place EVENT_BYTES EVENT_FRAMES }
-        ensures { IsAdvance (value_of self.old) (value_of self.new) (Event.Deliver to from event output) result }
-    {
         frames_unseal_again();
-        let source = place_of(&self.config, from);
-        match handed_over(&self.emitted, to, source, event, output) {
-            Some(bytes) => {
-                let response = self.hosts[place].deliver(bytes);
+        match frame_with(&self.config, &self.emitted, event) {
+            Some(frame) => {
+                let response = respond(&mut self.hosts[place], event, frame);
                 self.finish(place);
                 Advance::Event { place, response }
             }
-            None => self.missing(to),
+            None => self.missing(acting(event)),
         }
     }
 
@@ -295,6 +231,48 @@ impl Parts {
     {
         self.events += 1;
         Advance::Missing { host: to }
+    }
+}
+
+/// The bytes of the frame that comes with the event, where it is a delivery, `None` where there is nothing to deliver; and no bytes with
+/// any other event, of whose call the fields are in their ranges.
+#[inline(always)]
+fn frame_with<'a>(config: &Config, emitted: &'a Emitted, event: &EventView) -> Option<&'a [u8]>
+    requires kept { IsKept (pile_of emitted.now) }
+    requires actors { has_actors config.now.specs event.now ≡ true }
+    ensures { MatchOption result (FindsNone config.now.specs (shown (pile_of emitted.now)) event.now)
+        (λ r. ComesWith config.now.specs (shown (pile_of emitted.now)) event.now r.now) }
+{
+    let (kind, call) = event.parts();
+    match kind {
+        EventKind::Call { pid } => {
+            pid_is(&pid);
+            are_in_range(call);
+            Some(&[])
+        }
+        EventKind::Collect { .. } | EventKind::Tick { .. } => Some(&[]),
+        EventKind::Deliver {
+            to,
+            from,
+            event,
+            output,
+        } => handed_over(emitted, to, place_of(config, from), event, output),
+    }
+}
+
+/// The station has the event, with which this frame comes where it is a delivery.
+#[inline(always)]
+fn respond(host: &mut Host, event: &EventView, frame: &[u8]) -> Response
+    requires few { host.old.events + 1 < 2 ^ 48 }
+    requires own { is_own host.old event.now ≡ true }
+    ensures { IsEvent host.old host.new (input_with frame.now event.now) (answer_of host.new result) }
+{
+    let (kind, call) = event.parts();
+    match kind {
+        EventKind::Call { pid } => host.call(pid, call),
+        EventKind::Collect { pid } => host.collect(pid),
+        EventKind::Tick { .. } => host.tick(),
+        EventKind::Deliver { .. } => host.deliver(frame),
     }
 }
 

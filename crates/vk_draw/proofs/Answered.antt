@@ -1,5 +1,5 @@
 -- From the picture of a text to the answer to an input.
-use Rattle.std.proofs.Common.{◌≡◌, ℕ, ◌+◌, ◌*◌, ◌<◌, ◌≤◌, ◌==◌, Bool, true, false, cond, List, [], ◌∷◌, ◌++◌, length, take, Option, Some, None, Ok, Err, ◌⊎◌, inl, inr, refl, ap, subst, sym, ◌∙◌, arith, append-nil, length-append}
+use Rattle.std.proofs.Common.{◌≡◌, ℕ, ◌+◌, ◌*◌, ◌<◌, ◌≤◌, ◌==◌, Bool, true, false, cond, List, [], ◌∷◌, length, take, Option, Some, None, Ok, Err, ◌⊎◌, inl, inr, refl, ap, subst, sym, ◌∙◌, arith, append-nil, length-append}
 use Rattle.std.specs.Prelude.{IfSome}
 use Rattle.std.specs.Io.KnownBytes.{Appends, Consumes}
 use Rattle.vk_base.specs.declared.config.ProcessSpec.{ProcessSpec}
@@ -13,6 +13,7 @@ use Rattle.vk_text.specs.Lines.{lines_of}
 use Rattle.vk_text.specs.Openings.{opening_of}
 use Rattle.vk_top.specs.Top.{OfInput}
 use Rattle.vk_picture.specs.declared.picture.Column.{Column}
+use Rattle.vk_picture.specs.declared.svg.TheConstants.{ROWS}
 use Rattle.vk_picture.specs.Places.{columns_of, place_behind, station_column}
 use Rattle.vk_draw.specs.declared.status.Status.{Status}
 use Rattle.vk_draw.specs.declared.status.Status.TheVariants as status
@@ -56,10 +57,10 @@ wanted_some [] e is (inr h) = let bad = empty_bad in absurd (cc)
 wanted_some (b ∷ bs) e is h = omega arith
 
 -- why nothing is drawn of a schedule
-pub refusal_by : (text : List ℕ) (s : Schedule) (e : Status) → schedule_of text ≡ Ok s
+pub refusal_by : (text : List ℕ) (s : Schedule) (e : Status) → schedule_of text ≡ Ok s → length s.events ≤ ROWS
     → (e ≡ status.NoMemory) ⊎ ((e ≡ status.Limit) × IsTooLarge s) → IsRefusal text e
-refusal_by text s e spells (inl is) = subst (IsRefusal text) (sym is) (spelled_some text s spells)
-refusal_by text s e spells (inr is) = subst (IsRefusal text) (sym is.0) (s, spells, is.1)
+refusal_by text s e spells few (inl is) = subst (IsRefusal text) (sym is) (spelled_some text s spells)
+refusal_by text s e spells few (inr is) = subst (IsRefusal text) (sym is.0) (s, spells, few, is.1)
 
 -- all was written, or a write failed
 pub written_is : (Unchanged : Type 0) (text drawn : List ℕ) (old new : Option (List ℕ)) (s : Status) → length text ≤ INPUT_BYTES
@@ -80,7 +81,7 @@ written_is Unchanged text drawn old new s small picture (inr is) front =
       refused = λ told. absurd told;
       memory = λ e. absurd (grind (arith, e));
       nothing = λ early. absurd early;
-      front = λ e. record { drawn = drawn; picture = picture; count = front.0; written = front.1 };
+      front = λ e. record { small = small; drawn = drawn; picture = picture; count = front.0; written = front.1 };
     })
 
 -- nothing is written of a text
@@ -131,9 +132,9 @@ told_input None rest text h = tt
 told_input (Some i) rest text h = sym h.0
 
 told_whole : (left rest : Option (List ℕ)) (text : List ℕ) → IfSome left (λ i. (text ≡ i) × (rest ≡ Some []))
-    → IfSome left (λ i. rest ≡ Some [])
+    → IfSome left (λ i. length i ≤ INPUT_BYTES → rest ≡ Some [])
 told_whole None rest text h = tt
-told_whole (Some i) rest text h = h.1
+told_whole (Some i) rest text h = λ small. h.1
 
 all_taken : (left rest : Option (List ℕ)) (text : List ℕ) → IfSome left (λ i. (text ≡ i) × (rest ≡ Some [])) → Consumes left rest text
 all_taken None rest text h = tt
@@ -145,6 +146,13 @@ too_many (Some i) None lost = absurd lost.front
 too_many (Some i) (Some ys) lost =
     record { input = i; all = refl; holds = omega (arith, lost.count, ap length lost.front, length-append lost.bytes ys) }
 
+not_whole : (left rest : Option (List ℕ)) → LosesFront left rest (λ n. INPUT_BYTES < n)
+    → IfSome left (λ i. length i ≤ INPUT_BYTES → rest ≡ Some [])
+not_whole None rest lost = tt
+not_whole (Some i) None lost = absurd lost.front
+not_whole (Some i) (Some ys) lost =
+    λ small. absurd (omega (arith, small, lost.count, ap length lost.front, length-append lost.bytes ys))
+
 pub read_is : (Unchanged : Type 0) (left rest old new : Option (List ℕ)) (text seen : List ℕ) (s : Status) → length text ≤ INPUT_BYTES
     → IfSome left (λ i. (text ≡ i) × (rest ≡ Some [])) → seen ≡ text → IsAnswered Unchanged seen old new s
     → IsOutcome Unchanged left rest old new s
@@ -154,8 +162,8 @@ read_is Unchanged left rest old new text seen s small read same given =
     record {
       kinds = answered.kinds.0;
       done = λ is. record { input = text; all = all; holds = answered.done is };
-      whole = λ is. told_whole left rest text read;
-      refused = λ told. record { input = text; all = all; holds = inr (answered.refused told) };
+      whole = λ late. told_whole left rest text read;
+      refused = λ told. record { input = text; all = all; holds = inr (small, answered.refused told) };
       memory = λ is. record { bytes = text; front = all_taken left rest text read; count = (answered.memory is, small) };
       nothing = answered.nothing;
       front = λ is. record { input = text; all = all; holds = answered.front is };
@@ -166,7 +174,7 @@ pub unread_is : (Unchanged : Type 0) (left rest old : Option (List ℕ)) (s : St
 unread_is Unchanged left rest old status.ReadFault same why = record {
   kinds = λ e. grind (arith, e);
   done = λ e. absurd (grind (arith, e));
-  whole = λ e. absurd (grind (arith, e));
+  whole = λ late. absurd late;
   refused = λ told. absurd told;
   memory = λ e. absurd (grind (arith, e));
   nothing = λ early. same;
@@ -176,7 +184,7 @@ unread_is Unchanged left rest old status.Limit same why =
     let many = too_many left rest why in record {
       kinds = λ e. grind (arith, e);
       done = λ e. absurd (grind (arith, e));
-      whole = λ e. absurd (grind (arith, e));
+      whole = λ late. not_whole left rest why;
       refused = λ told. record { input = many.input; all = many.all; holds = inl (refl, many.holds) };
       memory = λ e. absurd (grind (arith, e));
       nothing = λ early. same;
@@ -185,7 +193,7 @@ unread_is Unchanged left rest old status.Limit same why =
 unread_is Unchanged left rest old status.NoMemory same why = record {
   kinds = λ e. grind (arith, e);
   done = λ e. absurd (grind (arith, e));
-  whole = λ e. absurd (grind (arith, e));
+  whole = λ late. absurd late;
   refused = λ told. absurd told;
   memory = λ e. why;
   nothing = λ early. same;
@@ -218,6 +226,14 @@ unread_count left rest status.Usage before why = absurd why
 unread_count left rest (status.BadInput line) before why = absurd why
 unread_count left rest status.WriteFault before why = absurd why
 unread_count left rest status.TooManyEvents before why = absurd why
+
+-- no picture was written where none was made, or where the input was not read
+
+pub refusal_not_done : (Flushed : Type 0) (text : List ℕ) (s : Status) → IsRefusal text s → s ≡ status.Done → Flushed
+refusal_not_done Flushed text s why is = absurd (subst (IsRefusal text) is why)
+
+pub unread_not_done : (Flushed : Type 0) (left rest : Option (List ℕ)) (s : Status) → IsUnread left rest s → s ≡ status.Done → Flushed
+unread_not_done Flushed left rest s why is = absurd (subst (IsUnread left rest) is why)
 
 pub read_kept : (s : Status) (before now : ℕ) → ¬ (s ≡ status.ReadFault) → now ≡ before → IsReadCount s before now
 read_kept status.ReadFault before now other same = absurd (other refl)

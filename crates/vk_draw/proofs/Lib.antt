@@ -1,4 +1,5 @@
 mod Answered
+mod Decided
 mod Marked
 mod MarkedSteps
 mod Played

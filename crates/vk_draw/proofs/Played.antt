@@ -1,26 +1,25 @@
 -- The rows of a history, one event after another.
-use Rattle.std.proofs.Common.{◌≡◌, ℕ, suc, ◌+◌, ◌<◌, ◌≤◌, Bool, true, false, nat_le, nat_lt, ◌||◌, List, [], ◌∷◌, ◌++◌, get_or, length, take, refl, sym, ap, subst, ◌∙◌, arith, cond}
+use Rattle.std.proofs.Common.{◌≡◌, ℕ, suc, ◌+◌, ◌<◌, ◌≤◌, Bool, true, false, nat_le, nat_lt, ◌||◌, List, [], ◌∷◌, ◌++◌, get_or, length, take, refl, sym, ap, subst, ◌∙◌, inl, inr, arith}
 use Rattle.std.specs.List.{list_all}
-use Rattle.std.proofs.lemmas.Bool.{leb-true, ltb-true}
+use Rattle.std.proofs.lemmas.Bool.{cases_Bool, leb-true, ltb-false, ltb-true, or_parts}
 use Rattle.std.proofs.lemmas.List.{length-append, length-take-le, take_all}
 use Rattle.std.proofs.lemmas.List.Folds.{list_all_at}
 use Rattle.vk_base.specs.declared.limits.TheConstants.{EVENTS}
 use Rattle.vk_base.specs.Settings.{Settings}
 use Rattle.vk_cluster.specs.declared.emitted.TheConstants.{LAST_BYTES}
-use Rattle.vk_cluster.specs.Standing.{StandsFor, StandsSomewhere, emitted_bytes, logs_of}
+use Rattle.vk_cluster.specs.Standing.{StandsFor, StandsSomewhere, emitted_bytes}
 use Rattle.vk_cluster.specs.Values.{ClusterValue, is_full}
 use Rattle.vk_schedule.specs.declared.event.Event.{Event}
 use Rattle.vk_schedule.specs.declared.schedule.Schedule.{Schedule}
 use Rattle.vk_schedule.specs.Lawful.{has_actors}
-use Rattle.vk_rules.specs.Histories.{Logs, logs_after, no_entries}
+use Rattle.vk_rules.specs.Histories.{Logs, history_of, logs_after, no_entries}
 unfoldable use Rattle.vk_rules.specs.Histories.{happened, logs_from}
 use Rattle.vk_top.proofs.Fronts.{taken_more}
-use Rattle.vk_top.specs.Report.{history_before}
 use Rattle.vk_picture.specs.declared.picture.Row.{Row}
 use Rattle.vk_draw.specs.Playing.{ArePlayed, IsHad, next_row}
 use Rattle.vk_draw.specs.Rows.{row_of, rows_of}
 unfoldable use Rattle.vk_draw.specs.Rows.{rows_from}
-use Rattle.vk_draw.specs.Top.{IsTooLarge}
+use Rattle.vk_draw.specs.Top.{Fits, IsTooLarge}
 
 -- one row more
 rows_more : (c : Settings) (es : List Event) (logs : Logs) (n m : ℕ) (e : Event) → m ≡ n + length es + 1 →
@@ -43,11 +42,21 @@ as_many c es = rows_many c es no_entries 0
 -- before the first event
 pub played_none : (c : Settings) (es : List Event) (now : ClusterValue) → StandsFor c [] now → ArePlayed c es 0 [] now
 unfolding rows_from
-played_none c es now stands = record { rows_are = refl; many = refl; stands = stands }
+played_none c es now stands = record { rows_are = refl; many = refl; stands = stands; fits = λ m low. absurd (omega (arith, low)) }
 
 full_by : (a b : Bool) → ¬ (a ≡ true) → (a || b) ≡ true → b ≡ true
 full_by true b not is = absurd (not refl)
 full_by false b not is = is
+
+-- what holds below a number and at it
+up_to : (P : ℕ → Type 0) (n : ℕ) → ((m : ℕ) → m < n → P m) → P n → (m : ℕ) → m < n + 1 → P m
+up_to P n below at m low =
+    elim (cases_Bool (nat_lt m n)) [
+      | inl less ↦ below m (ltb-true m n less)
+      | inr not ↦
+          let same : n ≡ m = omega (arith, low, ltb-false m n not) in
+          subst P same at
+    ]
 
 acts_by : (b : Bool) → ¬ (b ≡ false) → b ≡ true
 acts_by true not = refl
@@ -57,7 +66,16 @@ module _ (s : Schedule) (n : ℕ) (rows : List Row) (now : ClusterValue) (played
   pub somewhere : StandsSomewhere now
   somewhere = (s.config, take n s.events, played.stands)
 
+  -- at the next one where there is room
+  room_now : is_full now ≡ false → emitted_bytes (history_of s.config (take n s.events)) ≤ LAST_BYTES
+  room_now room =
+      let low = ltb-false LAST_BYTES (length now.pile.bytes) (or_parts (nat_le EVENTS now.events) (nat_lt LAST_BYTES (length now.pile.bytes)) room).1 in
+      omega (arith, low, played.stands.bytes)
+
   -- all of them
+  pub all_fit : length s.events ≤ n → Fits s
+  all_fit all m low = played.fits m (omega (arith, all, low))
+
   pub played_all : length s.events ≤ n → rows ≡ rows_of s.config s.events
   played_all all = played.rows_are ∙ ap (rows_of s.config) (take_all n s.events all)
 
@@ -66,9 +84,9 @@ module _ (s : Schedule) (n : ℕ) (rows : List Row) (now : ClusterValue) (played
     so_many = length-take-le n s.events (omega (arith, low))
 
     -- one more
-    pub played_more : (after : List Row) (later : ClusterValue) → IsHad s.config (take n s.events) e rows after later →
+    pub played_more : (after : List Row) (later : ClusterValue) → is_full now ≡ false → IsHad s.config (take n s.events) e rows after later →
         ArePlayed s.config s.events (n + 1) after later
-    played_more after later had =
+    played_more after later room had =
         let taken = taken_more s n e low is in
         let row = next_row s.config (take n s.events) e (length rows + 1) in
         let place : length rows + 1 ≡ 0 + length (take n s.events) + 1 = omega (arith, so_many, played.many) in
@@ -80,6 +98,7 @@ module _ (s : Schedule) (n : ℕ) (rows : List Row) (now : ClusterValue) (played
               ∙ ap (rows_of s.config) (sym taken);
           many = omega (arith, one, played.many);
           stands = subst (λ es. StandsFor s.config es later) (sym taken) had.stands;
+          fits = up_to (λ m. emitted_bytes (history_of s.config (take m s.events)) ≤ LAST_BYTES) n played.fits (room_now room);
         }
 
     -- it is of the configuration

@@ -1,10 +1,11 @@
 -- Of the code alone, no law rests on it: a schedule played on its stations, one event after another.
-use Rattle.std.specs.Prelude.{ℕ, ◌≡◌, ◌+◌, List, [], ◌∷◌, ◌++◌, length, take}
+use Rattle.std.specs.Prelude.{ℕ, ◌≡◌, ◌+◌, ◌<◌, ◌≤◌, List, [], ◌∷◌, ◌++◌, length, take}
 use Rattle.vk_base.specs.Settings.{Settings}
-use Rattle.vk_cluster.specs.Standing.{StandsFor, logs_of}
+use Rattle.vk_cluster.specs.declared.emitted.TheConstants.{LAST_BYTES}
+use Rattle.vk_cluster.specs.Standing.{StandsFor, emitted_bytes, logs_of}
 use Rattle.vk_cluster.specs.Values.{ClusterValue}
 use Rattle.vk_schedule.specs.declared.event.Event.{Event}
-use Rattle.vk_rules.specs.Histories.{happened}
+use Rattle.vk_rules.specs.Histories.{happened, history_of}
 use Rattle.vk_picture.specs.declared.picture.Row.{Row}
 use Rattle.vk_draw.specs.Rows.{row_of, rows_of}
 
@@ -17,8 +18,9 @@ pub record IsHad (c : Settings) (es : List Event) (e : Event) (before after : Li
   pub rows : after ≡ before ++ next_row c es e (length before + 1) ∷ []
   pub stands : StandsFor c (es ++ e ∷ []) now
 
--- the first so many events were had, and their rows are these
+-- the first so many events were had, before none of them too many bytes were emitted, and their rows are these
 pub record ArePlayed (c : Settings) (es : List Event) (n : ℕ) (rows : List Row) (now : ClusterValue) : Type 0 where
   pub rows_are : rows ≡ rows_of c (take n es)
   pub many : length rows ≡ n
   pub stands : StandsFor c (take n es) now
+  pub fits : (m : ℕ) → m < n → emitted_bytes (history_of c (take m es)) ≤ LAST_BYTES

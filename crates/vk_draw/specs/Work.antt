@@ -1,12 +1,12 @@
 -- What the parts of the top call promise one another.
-use Rattle.std.specs.Prelude.{ℕ, ◌≡◌, ◌<◌, ◌≤◌, ◌⊎◌, List, [], length, take, Option, Some, IfSome}
+use Rattle.std.specs.Prelude.{ℕ, ◌≡◌, ◌<◌, ◌≤◌, ◌⊎◌, List, [], length, Option, Some, IfSome}
 use Rattle.std.specs.Io.KnownBytes.{Appends}
 use Rattle.vk_base.specs.declared.limits.TheConstants.{INPUT_BYTES}
 use Rattle.vk_io.specs.Causes.{LosesFront}
 use Rattle.vk_top.specs.Top.{OfInput}
 use Rattle.vk_draw.specs.declared.status.Status.{Status}
 use Rattle.vk_draw.specs.declared.status.Status.TheVariants as status
-use Rattle.vk_draw.specs.Top.{IsDrawn, IsEarly, IsFront, IsOfText, IsRefusal, IsRefused}
+use Rattle.vk_draw.specs.Top.{IsDrawn, IsEarly, IsFront, IsLate, IsOfText, IsRefusal, IsRefused}
 
 -- why the input was not read whole
 abbrev pub IsUnread : Option (List ℕ) → Option (List ℕ) → Status → Type 0
@@ -32,7 +32,7 @@ pub record IsAnswered (Unchanged : Type 0) (text : List ℕ) (old new : Option (
 pub record IsOutcome (Unchanged : Type 0) (left rest old new : Option (List ℕ)) (s : Status) : Type 0 where
   pub kinds : ¬ (s ≡ status.Usage)
   pub done : s ≡ status.Done → OfInput left (λ i. IsDrawn i old new)
-  pub whole : s ≡ status.Done → IfSome left (λ i. rest ≡ Some [])
+  pub whole : IsLate s → IfSome left (λ i. length i ≤ INPUT_BYTES → rest ≡ Some [])
   pub refused : IsOfText s → OfInput left (λ i. IsRefused i s)
   pub memory : s ≡ status.NoMemory → LosesFront left rest (λ n. (0 < n) × (n ≤ INPUT_BYTES))
   pub nothing : IsEarly s → Unchanged

@@ -13,7 +13,7 @@ ghost use Rattle.vk_cluster.specs.Shown.{HasReported, IsLast};
 ghost use Rattle.vk_picture.specs.declared.svg.TheConstants.{COLUMNS, ROWS};
 ghost use Rattle.vk_draw.specs.Playing.{ArePlayed, IsHad, next_row};
 ghost use Rattle.vk_draw.specs.Rows.{picture_of, row_of};
-ghost use Rattle.vk_draw.specs.Top.{IsTooLarge};
+ghost use Rattle.vk_draw.specs.Top.{Fits, IsTooLarge};
 
 use crate::frames::frame_marks;
 use crate::rows::{act_of, said_of, step_marks};
@@ -123,6 +123,7 @@ fn put_event(
     requires actors { has_actors cluster.old.config.specs event.now ≡ true }
     ensures had { OnOk result ((c : Settings) (es : List TheEvent) → StandsFor c es cluster.old →
         IsHad c es event.now rows.old rows.new cluster.new) }
+    ensures room { OnOk result (is_full cluster.old ≡ false) }
     ensures refused { result ≡ Err ClusterRefusal.Limit → is_full cluster.old ≡ true }
 {
     let stepped = cluster.step(alloc, event);
@@ -147,6 +148,7 @@ fn rows_of(
     requires few { length events.now ≤ ROWS }
     requires stands { StandsFor schedule.now.config [] cluster.old }
     ensures rows { IfOk result (λ rows. rows ≡ (picture_of schedule.now).rows) }
+    ensures fits { OnOk result (Fits schedule.now) }
     ensures refused { IfErr result (λ e. (e ≡ Status.NoMemory) ⊎ ((e ≡ Status.Limit) × IsTooLarge schedule.now)) }
 {
     let mut rows = List::empty(alloc);
@@ -166,6 +168,7 @@ pub(crate) fn picture_of(alloc: Global, schedule: &Schedule) -> Result<Picture, 
     requires few { length schedule.now.events ≤ ROWS }
     ensures picture { IfOk result (λ p. p ≡ picture_of schedule.now) }
     ensures columns { IfOk result (λ p. length p.columns ≤ COLUMNS) }
+    ensures fits { OnOk result (Fits schedule.now) }
     ensures refused { IfErr result (λ e. (e ≡ Status.NoMemory) ⊎ ((e ≡ Status.Limit) × IsTooLarge schedule.now)) }
 {
     let Ok(columns) = columns_of(alloc, schedule.config.specs()) else {

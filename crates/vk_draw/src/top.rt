@@ -2,7 +2,7 @@ ghost use Rattle.std.specs.Prelude.{◌≡◌, ◌<◌, ◌≤◌, ◌⊎◌, �
 ghost use Rattle.std.specs.Io.KnownBytes.{Appends};
 ghost use Rattle.vk_schedule.specs.Schedule.{schedule_of};
 ghost use Rattle.vk_top.specs.Top.{IsWanting, OfInput};
-ghost use Rattle.vk_draw.specs.Top.{IsDrawn, IsEarly, IsOfText, IsPicture, IsFront, IsReadCount, IsRefusal, IsRefused, IsWriteCount};
+ghost use Rattle.vk_draw.specs.Top.{IsDecided, IsDrawn, IsEarly, IsLate, IsOfText, IsPicture, IsFront, IsReadCount, IsRefusal, IsRefused, IsWriteCount};
 ghost use Rattle.vk_draw.specs.Work.{IsAnswered, IsOutcome, IsUnread, IsWritten};
 ghost use Rattle.vk_draw.specs.Words.{are_good};
 
@@ -69,6 +69,7 @@ fn write_text<K: Sink>(output: &mut K, text: &[u8]) -> Status
     ensures written { IsWritten text.now (K.written output.old) (K.written output.new) result }
     ensures count { IsWriteCount result (K.fault_count output.old) (K.fault_count output.new) }
     ensures front { (n : ℕ) × Appends (K.written output.old) (K.written output.new) (take n text.now) }
+    ensures flushed { result ≡ Status.Done → K.flushed output.new }
 {
     if let Err(Failed) = write_all(output, text) {
         return Status::WriteFault;
@@ -84,6 +85,7 @@ fn answer<K: Sink>(alloc: Global, text: &[u8], output: &mut K) -> Status
     requires { length text.now ≤ INPUT_BYTES }
     ensures answered { IsAnswered (output.new ≡ output.old) text.now (K.written output.old) (K.written output.new) result }
     ensures count { IsWriteCount result (K.fault_count output.old) (K.fault_count output.new) }
+    ensures flushed { result ≡ Status.Done → K.flushed output.new }
 {
     match draw(alloc, text) {
         Ok(drawn) => write_text(output, &drawn),
@@ -95,6 +97,8 @@ fn answer<K: Sink>(alloc: Global, text: &[u8], output: &mut K) -> Status
 fn serve<S: Source, K: Sink>(alloc: Global, input: &mut S, output: &mut K) -> Status
     ensures outcome { IsOutcome (output.new ≡ output.old) (S.left input.old) (S.left input.new)
         (K.written output.old) (K.written output.new) result }
+    ensures decided { IsDecided (S.left input.old) result }
+    ensures flushed { result ≡ Status.Done → K.flushed output.new }
     ensures read_count { IsReadCount result (S.fault_count input.old) (S.fault_count input.new) }
     ensures write_count { IsWriteCount result (K.fault_count output.old) (K.fault_count output.new) }
 {
@@ -122,11 +126,15 @@ pub fn vkdraw<S: Source, K: Sink>(
     ensures useless { are_good (map string_bytes words.now) ≡ false → (result ≡ Status.Usage) ⊎ (result ≡ Status.NoMemory) }
     ensures unread { are_good (map string_bytes words.now) ≡ false → (input.new ≡ input.old) × (output.new ≡ output.old) }
 
-    // Done: all of the input is the text of a schedule of at most 500 events, and the picture of its history is written.
+    // Done: all of the input is the text of a schedule of at most 500 events, and the picture of its history is written and flushed.
     ensures done { result ≡ Status.Done → OfInput (S.left input.old) (λ i. IsDrawn i (K.written output.old) (K.written output.new)) }
-    ensures whole { result ≡ Status.Done → IfSome (S.left input.old) (λ i. S.left input.new ≡ Some []) }
+    ensures flushed { result ≡ Status.Done → K.flushed output.new }
     // BadInput, TooManyEvents and Limit tell of the input.
     ensures refused { IsOfText result → OfInput (S.left input.old) (λ i. IsRefused i result) }
+    // Each input asks for one answer: there is no other, but for faults and want of memory.
+    ensures decided { IsDecided (S.left input.old) result }
+    // At these answers, and where a write failed, an input that is not too long was read to its end.
+    ensures whole { IsLate result → IfSome (S.left input.old) (λ i. length i ≤ INPUT_BYTES → S.left input.new ≡ Some []) }
 
     // ReadFault is answered only where a fault of the input was counted, and every such fault is told so; WriteFault likewise.
     ensures read_count { IsReadCount result (S.fault_count input.old) (S.fault_count input.new) }

@@ -1,24 +1,20 @@
 -- A process, its next event, and what it hears.
-use Rattle.std.proofs.Common.{◌≡◌, Bool, true, false, List, [], ◌∷◌, ◌++◌, Option, Some, None, refl, sym, ap, subst, ◌∙◌}
+use Rattle.std.proofs.Common.{◌≡◌, Bool, true, false, List, [], ◌∷◌, ◌++◌, Some, None, refl, sym, ap, subst, ◌∙◌}
 use Rattle.std.specs.Prelude.{option_to_list}
 use Rattle.std.proofs.lemmas.Bool.{cond-true, cond-false}
 use Rattle.std.proofs.lemmas.Grind.{flat_map-append}
 use Rattle.std.proofs.lemmas.List.{append-nil}
 use Rattle.vk_base.specs.declared.answer.Answer.{Answer}
-use Rattle.vk_base.specs.declared.call.Call.{Call}
 use Rattle.vk_base.specs.declared.event.EventAnswer.{EventAnswer}
 use Rattle.vk_base.specs.declared.event.EventAnswer.TheVariants as given
 use Rattle.vk_cluster.specs.declared.report.ClusterAnswer.{ClusterAnswer}
 use Rattle.vk_cluster.specs.declared.report.ClusterAnswer.TheVariants as answers
-use Rattle.vk_schedule.specs.declared.event.Event.TheVariants as events
 use Rattle.vk_event.specs.declared.task.Task.{Task}
 use Rattle.vk_pages.specs.Any.{IsAfter, call_by}
-use Rattle.vk_pages.specs.Programs.{task_call}
 use Rattle.vk_program.specs.Tasks.{told_by}
 use Rattle.vk_rules.specs.Observed.{handed_out, is_not_yet}
 use Rattle.vk_drive.specs.declared.actor.Actor.{Actor}
-use Rattle.vk_drive.specs.Driving.{IsActor, IsNextEvent}
-use Rattle.vk_drive.specs.Storms.{call_event}
+use Rattle.vk_drive.specs.Driving.{IsActor}
 use Rattle.vk_drive.specs.Told.{is_waiting, told, waits_after, waits_from}
 
 pub told_more : (heard : List EventAnswer) (a : EventAnswer) → told (heard ++ a ∷ []) ≡ told heard ++ option_to_list (handed_out a)
@@ -31,55 +27,7 @@ pub waits_more : (waits : Bool) (heard : List EventAnswer) (a : EventAnswer) →
 waits_more waits [] a = refl
 waits_more waits (x ∷ xs) a = waits_more (waits_after waits x) xs a
 
--- before its first call
-pub acts_first : (a : Actor) (t : Task) → a.pid ≡ t.pid → call_by a.program ≡ task_call t → IsAfter a.program [] → a.told ≡ None →
-    a.waits ≡ false → IsActor a t []
-acts_first a t pid task after told_is waits = record {
-  pid = pid;
-  task = task;
-  given = [];
-  after = after;
-  all = ap told_by told_is;
-  waits = waits;
-  none = λ w. told_is;
-}
-
 module _ (t : Task) (heard : List EventAnswer) where
-  -- its last call is to be collected
-  pub collects : (a : Actor) → IsActor a t heard → a.waits ≡ true → IsNextEvent a t heard (events.Collect a.pid)
-  collects a is waiting = record {
-    actor = is;
-    event =
-        ap events.Collect is.pid
-        ∙ sym (cond-true (is_waiting heard) (events.Collect t.pid) (call_event t.pid (task_call t (told heard))) (sym is.waits ∙ waiting));
-    none = is.none waiting;
-  }
-
-  -- its program is told, and makes this call
-  pub calls : (old new : Actor) (call : Option Call) → IsActor old t heard → old.waits ≡ false → new.pid ≡ old.pid → new.told ≡ None →
-      new.waits ≡ old.waits → call_by new.program ≡ call_by old.program →
-      ((answers : List Answer) → IsAfter old.program answers → IsAfter new.program (answers ++ told_by old.told)) →
-      ((answers : List Answer) → IsAfter old.program answers → call ≡ call_by old.program (answers ++ told_by old.told)) →
-      IsNextEvent new t heard (call_event old.pid call)
-  calls old new call is free pid none waits task after next =
-      let made : call ≡ task_call t (told heard) =
-      next is.given is.after ∙ ap (λ f. f (is.given ++ told_by old.told)) is.task ∙ ap (task_call t) is.all in
-      record {
-        actor = record {
-          pid = pid ∙ is.pid;
-          task = task ∙ is.task;
-          given = is.given ++ told_by old.told;
-          after = after is.given is.after;
-          all = ap (λ o. (is.given ++ told_by old.told) ++ told_by o) none ∙ append-nil (is.given ++ told_by old.told) ∙ is.all;
-          waits = waits ∙ is.waits;
-          none = λ w. none;
-        };
-        event =
-            (λ i. call_event (is.pid i) (made i))
-            ∙ sym (cond-false (is_waiting heard) (events.Collect t.pid) (call_event t.pid (task_call t (told heard))) (sym is.waits ∙ free));
-        none = none;
-      }
-
   -- an answer that tells it nothing, and that changes not whether it waits
   pub hears_nothing : (a : Actor) (x : EventAnswer) → IsActor a t heard → handed_out x ≡ None →
       waits_after (is_waiting heard) x ≡ is_waiting heard → IsActor a t (heard ++ x ∷ [])

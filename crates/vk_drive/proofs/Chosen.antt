@@ -1,5 +1,5 @@
 -- The events of a storm are of its processes and stations; and what a history tells the processes of one more.
-use Rattle.std.proofs.Common.{◌≡◌, ◌≢◌, ℕ, zero, suc, ◌+◌, ◌%◌, ◌<◌, ◌==◌, min, ◌&&◌, Bool, true, false, cond, List, [], ◌∷◌, length, Option, Some, None, refl, sym, ap, ◌∙◌, arith}
+use Rattle.std.proofs.Common.{◌≡◌, ◌≢◌, ℕ, zero, suc, ◌+◌, ◌<◌, ◌==◌, ◌&&◌, Bool, true, false, cond, List, [], ◌∷◌, Option, Some, None, refl, sym, ap, ◌∙◌, arith}
 use Rattle.std.proofs.lemmas.Bool.{cond-true, cond-false, eqb-true, eq-eqb}
 use Rattle.vk_base.specs.declared.call.Call.{Call}
 use Rattle.vk_base.specs.declared.event.EventAnswer.{EventAnswer}
@@ -11,7 +11,6 @@ use Rattle.vk_cluster.specs.Standing.{report_of}
 use Rattle.vk_schedule.specs.declared.event.Event.{Event}
 use Rattle.vk_schedule.specs.declared.event.Event.TheVariants as events
 use Rattle.vk_schedule.specs.Lawful.{has_actors}
-use Rattle.vk_frame.specs.declared.header.Header.{Header}
 use Rattle.vk_rules.specs.Entries.{Called, Collected}
 use Rattle.vk_rules.specs.Frames.{Frame}
 use Rattle.vk_rules.specs.Histories.{Logs, delivered, handed_over}
@@ -19,8 +18,7 @@ unfoldable use Rattle.vk_rules.specs.Histories.{happened}
 unfoldable use Rattle.vk_rules.specs.Right.{right_entry}
 use Rattle.vk_rules.specs.Right.{entry_of}
 use Rattle.vk_drive.specs.Driving.{is_quiet}
-use Rattle.vk_generator.specs.Numbers.{drawn, next}
-use Rattle.vk_drive.specs.Storms.{Choice, before_last, call_event, delivery_choice, delivery_event, process_event}
+use Rattle.vk_drive.specs.Storms.{call_event, process_event}
 use Rattle.vk_drive.specs.Tasks.{specs, task_at}
 use Rattle.vk_drive.specs.Told.{answered_in, is_waiting}
 
@@ -32,41 +30,6 @@ tick_acts (suc zero) low = refl
 tick_acts (suc (suc zero)) low = refl
 tick_acts (suc (suc (suc zero))) low = refl
 tick_acts (suc (suc (suc (suc d)))) low = absurd (omega arith)
-
-acts_either : (d e : Event) (b : Bool) → has_actors specs d ≡ b → has_actors specs e ≡ true → has_actors specs (cond b d e) ≡ true
-acts_either d e true is other = is
-acts_either d e false is other = other
-
-pub delivery_acts : (o : Option Header) → has_actors specs (delivery_event o) ≡ true
-delivery_acts None = refl
-delivery_acts (Some h) =
-    let d : Event = events.Deliver h.destination h.source h.event h.output in
-    acts_either d (events.Tick 1) (has_actors specs d) refl refl
-
-quiet_either : (d e : Event) (b : Bool) → is_quiet d ≡ true → is_quiet e ≡ true → is_quiet (cond b d e) ≡ true
-quiet_either d e true is other = is
-quiet_either d e false is other = other
-
-pub delivery_quiet : (o : Option Header) → is_quiet (delivery_event o) ≡ true
-delivery_quiet None = refl
-delivery_quiet (Some h) =
-    let d : Event = events.Deliver h.destination h.source h.event h.output in
-    quiet_either d (events.Tick 1) (has_actors specs d) refl refl
-
--- what is chosen, by the test of whether there is a frame
-chosen_either : (P : Event → Type 0) (b : Bool) (c d : Choice) → P c.event → P d.event → P (cond b c d).event
-chosen_either P true c d p q = p
-chosen_either P false c d p q = q
-
-pub delivery_choice_acts : (x : ℕ) (fs : List Header) → has_actors specs (delivery_choice x fs).event ≡ true
-delivery_choice_acts x fs =
-    chosen_either (λ e. has_actors specs e ≡ true) (length fs == 0) _ _ refl
-    (delivery_acts (before_last fs (drawn (next x) % min 32 (length fs))))
-
-pub delivery_choice_quiet : (x : ℕ) (fs : List Header) → is_quiet (delivery_choice x fs).event ≡ true
-delivery_choice_quiet x fs =
-    chosen_either (λ e. is_quiet e ≡ true) (length fs == 0) _ _ refl
-    (delivery_quiet (before_last fs (drawn (next x) % min 32 (length fs))))
 
 pub process_there : (place : ℕ) → place < 4 → has_process specs (task_at place).pid ≡ true
 process_there zero low = refl

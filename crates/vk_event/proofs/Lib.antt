@@ -12,6 +12,7 @@ pub mod PortLines
 pub mod ScenarioHeads
 pub mod ScenarioLines
 pub mod ScenarioRanges
+pub mod ScenarioRefusals
 pub mod ScenarioTexts
 pub mod Stations
 pub mod TaskLines

@@ -18,9 +18,6 @@ use Rattle.vk_schedule.specs.declared.schedule.TextRefusal.TheVariants as refusa
 use Rattle.vk_event.specs.NodeLaws.{IsNodeOpening}
 use Rattle.vk_event.specs.Nodes.{HasNodeProcess, node_opening, node_title, nodes_by, nodes_of}
 
-abbrev Opened : Type 0
-Opened = Settings × List (List ℕ)
-
 -- a title of format 1 that no text of stations has
 abbrev pub other : List ℕ
 other = codes "vkernel 1"

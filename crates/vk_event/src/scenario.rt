@@ -1,6 +1,6 @@
 //! Scenarios as texts.
 
-ghost use Rattle.std.specs.Prelude.{◌≡◌, ◌⊎◌, ◌+◌, ◌<◌, ◌≤◌, ◌^◌, Ok, Err, IfOk, IfErr, map, drop, length};
+ghost use Rattle.std.specs.Prelude.{◌≡◌, ◌≢◌, ◌⊎◌, ◌+◌, ◌<◌, ◌≤◌, ◌^◌, Ok, Err, IfOk, IfErr, map, drop, length};
 ghost use Rattle.vk_base.specs.declared.limits.TheConstants.{PROCESSES, STATIONS};
 ghost use Rattle.vk_text.specs.Lines.{lines_of};
 ghost use Rattle.vk_event.specs.Endings.{ending_from};
@@ -176,10 +176,12 @@ fn read_body(
 /// 65,536, `pipeserver REQUESTS` 512, `group REQUESTS HELPER MEMBER ..` with 1 to 16 pairs that make a group 512, and
 /// `grouphelper COORDINATOR MEMBER` 32. Then come `port HOST PORT` lines by rising stations, PORT 1 to 65,535. The last two lines are
 /// `link LOSE DOUBLE HOLD SEED` and `ticks ROUNDS`, of at most 50,000 rounds by the number of stations. The first line that
-/// is none of these decides; [`TextRefusal::Limit`] never comes. Memory is wanted only where the text opens with a process.
+/// is none of these decides. Memory is wanted only where the text opens with a process.
 pub fn read_scenario(alloc: Global, text: &[u8]) -> Result<Scenario, TextRefusal>
     ensures scenario { IfOk result (λ s. scenario_of text.now ≡ Ok s) }
     ensures refused { IfErr result (λ e. ((e ≡ TextRefusal.NoMemory) × HasScenarioProcess text.now) ⊎ (scenario_of text.now ≡ Err e)) }
+    // no scenario is above a limit of events
+    ensures never_limit { IfErr result (λ e. e ≢ TextRefusal.Limit) }
     ensures lawful { IfOk result IsLawfulScenario }
 {
     let Head { config, at, line } = match read_opening(

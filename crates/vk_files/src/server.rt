@@ -230,6 +230,8 @@ impl<D: Disk> Program for FileServer<D> {
 
     ghost is_after = { IsAfter };
 
+    /// Without an answer nothing is asked of the disk, and the call that is due is given once more; so is a reply that the disk failed,
+    /// though no fault is counted then.
     fn next(&mut self, last: Option<&Answer>) -> Option<Call>
         ensures task { file_task self.new.first self.new.requests ≡ file_task self.old.first self.old.requests }
         ensures after { (answers : List TheAnswer) → IsAfter self.old answers →

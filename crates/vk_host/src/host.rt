@@ -210,13 +210,6 @@ impl Host {
         &self.desk.steps
     }
 
-    /// The packets that the last event sends, in order.
-    pub fn packets(&self) -> &Outbox
-        ensures { result.now ≡ self.now.doing.out }
-    {
-        &self.desk.out
-    }
-
     /// How many frames the last event sends: one for each packet.
     pub fn frame_count(&self) -> u32
         ensures { result ≡ length self.now.frames }

@@ -22,7 +22,11 @@ pub trait Job: Send + Drop {
 
 /// What makes jobs end that are under way.
 pub trait Halt {
-    fn halt<R: Wait + Threads + Clock + Sync>(&mut self, rt: &R);
+    /// It has halted them.
+    ghost is_halted: { Self → Type 0 };
+
+    fn halt<R: Wait + Threads + Clock + Sync>(&mut self, rt: &R)
+        ensures { is_halted self.new };
 }
 
 /// Waits for a while. It promises nothing.
@@ -95,6 +99,7 @@ pub trait Crew {
     ) -> Result<Vec<J::End>, CrewError>
         ensures ends { IfOk result (λ ends. AllEnd J.ends jobs.items ends.items) }
         ensures halt { OnOk result (halt.new ≡ halt.old) }
+        ensures halted { OnErr result (H.is_halted halt.new) }
         ensures jobs { OnOk result (job_count self.new ≡ min (job_count self.old + vec_len jobs) (2 ^ 64 - 1)) }
         ensures no_jobs { OnErr result (job_count self.new ≡ job_count self.old) }
         ensures cause { TellsCrewFault (fault_count self.old) (fault_count self.new) result }

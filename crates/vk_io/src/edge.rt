@@ -1,5 +1,5 @@
 // What a reader and a writer promise of each single call.
-ghost use Rattle.std.specs.Prelude.{◌≡◌, ◌<◌, ℕ, List, length, Option, IfOk};
+ghost use Rattle.std.specs.Prelude.{◌≡◌, ◌<◌, ℕ, List, length, Option, IfOk, OnOk};
 ghost use Rattle.std.specs.Io.{ReadsAtMost, WritesAtMost};
 ghost use Rattle.std.specs.Io.KnownBytes.{ReadConsumes, WriteAppends, Keeps};
 ghost use Rattle.vk_io.specs.Tallies.{after_answer};
@@ -71,6 +71,9 @@ pub trait Writer {
 
     ghost answered: { Self → Tally };
 
+    /// A flush went well, and no write has gone well since.
+    ghost flushed: { Self → Type 0 };
+
     fn tally(&self) -> Tally
         ensures { result ≡ answered self.now };
 
@@ -79,10 +82,12 @@ pub trait Writer {
         ensures bound { WritesAtMost result bytes.now }
         ensures some { IfOk result (λ n. 0 < length bytes.now → 0 < n) }
         ensures bytes { WriteAppends (written self.old) (written self.new) result bytes.now }
-        ensures counted { answered self.new ≡ after_answer (answered self.old) result };
+        ensures counted { answered self.new ≡ after_answer (answered self.old) result }
+        ensures unflushed { OnOk result (flushed self.new → ⊥) };
 
     /// Passes on what was written. What was written stays as it is, whatever the answer.
     fn flush(&mut self) -> Result<(), Hitch>
         ensures bytes { Keeps (written self.old) (written self.new) }
-        ensures counted { answered self.new ≡ after_answer (answered self.old) result };
+        ensures counted { answered self.new ≡ after_answer (answered self.old) result }
+        ensures flushed { OnOk result (flushed self.new) };
 }

@@ -1,5 +1,5 @@
 // Readers and writers in memory, some of whose calls are interrupted or fail.
-ghost use Rattle.std.specs.Prelude.{◌≡◌, ◌≢◌, ◌↔◌, ◌⊎◌, ◌+◌, ◌<◌, min, length, Some, is_err, IfOk, if◌then◌else◌};
+ghost use Rattle.std.specs.Prelude.{◌≡◌, ◌≢◌, ◌↔◌, ◌⊎◌, ◌+◌, ◌<◌, min, true, length, Some, is_err, IfOk, OnOk, if◌then◌else◌};
 ghost use Rattle.std.specs.Io.{ReadsAtMost, WritesAtMost};
 ghost use Rattle.std.specs.Io.KnownBytes.{ReadConsumes, WriteAppends, Keeps};
 ghost use Rattle.vk_io.specs.Memory.{FailsNext, after_call};
@@ -102,6 +102,8 @@ impl Writer for MemoryWriter {
 
     ghost answered = { λ w. tally_by w.interruptions w.sink.calls };
 
+    ghost flushed = { λ w. w.sink.flushed ≡ true };
+
     fn tally(&self) -> Tally {
         tally_with(&self.interruptions, self.sink.faults())
     }
@@ -112,6 +114,7 @@ impl Writer for MemoryWriter {
         ensures bytes { WriteAppends (Some self.old.sink.written) (Some self.new.sink.written) result bytes.now }
         ensures counted { tally_by self.new.interruptions self.new.sink.calls
             ≡ after_answer (tally_by self.old.interruptions self.old.sink.calls) result }
+        ensures unflushed { OnOk result (self.new.sink.flushed ≡ true → ⊥) }
 
         // A listed call is interrupted, and no other. What the sink does is a fault where it fails, or where it needs more memory.
         ensures interrupted { (result ≡ Err Hitch.Interrupted) ↔ FailsNext self.old.interruptions }
@@ -139,6 +142,7 @@ impl Writer for MemoryWriter {
         ensures bytes { Keeps (Some self.old.sink.written) (Some self.new.sink.written) }
         ensures counted { tally_by self.new.interruptions self.new.sink.calls
             ≡ after_answer (tally_by self.old.interruptions self.old.sink.calls) result }
+        ensures flushed { OnOk result (self.new.sink.flushed ≡ true) }
         ensures interrupted { (result ≡ Err Hitch.Interrupted) ↔ FailsNext self.old.interruptions }
         ensures failed { (result ≡ Err Hitch.Fault) ↔
             ((FailsNext self.old.interruptions → ⊥) × FailsNext self.old.sink.calls) }

@@ -1,5 +1,5 @@
 // Sources and sinks over readers and writers.
-ghost use Rattle.std.specs.Prelude.{◌≡◌, ◌<◌, length, is_err, if◌then◌else◌, IfOk};
+ghost use Rattle.std.specs.Prelude.{◌≡◌, ◌<◌, length, is_err, if◌then◌else◌, IfOk, OnOk};
 ghost use Rattle.std.specs.Io.{ReadsAtMost, WritesAtMost};
 ghost use Rattle.std.specs.Io.KnownBytes.{ReadConsumes, WriteAppends, Keeps};
 ghost use Rattle.vk_io.specs.Causes.{HasCause, next_count};
@@ -120,6 +120,8 @@ impl<T: Writer + Drop> Sink for WriterSink<T> {
 
     ghost fault_count = { λ s. s.faults };
 
+    ghost flushed = { λ s. T.flushed s.inner };
+
     fn faults(&self) -> u64 {
         self.faults
     }
@@ -132,6 +134,7 @@ impl<T: Writer + Drop> Sink for WriterSink<T> {
         ensures cause { HasCause self.old.faults self.new.faults result }
         ensures counted { self.new.faults
             ≡ (if is_err result then next_count self.old.faults else self.old.faults) }
+        ensures unflushed { OnOk result (T.flushed self.new.inner → ⊥) }
         ensures retried { IsRetried (T.answered self.old.inner) (T.answered self.new.inner)
             result }
     {
@@ -149,6 +152,7 @@ impl<T: Writer + Drop> Sink for WriterSink<T> {
         ensures cause { HasCause self.old.faults self.new.faults result }
         ensures counted { self.new.faults
             ≡ (if is_err result then next_count self.old.faults else self.old.faults) }
+        ensures flushed { OnOk result (T.flushed self.new.inner) }
         ensures retried { IsRetried (T.answered self.old.inner) (T.answered self.new.inner)
             result }
     {
@@ -181,6 +185,7 @@ fn write_retrying<T: Writer>(writer: &mut T, bytes: &[u8]) -> Result<usize, Fail
     ensures bound { WritesAtMost result bytes.now }
     ensures some { IfOk result (λ n. 0 < length bytes.now → 0 < n) }
     ensures bytes { WriteAppends (T.written writer.old) (T.written writer.new) result bytes.now }
+    ensures unflushed { OnOk result (T.flushed writer.new → ⊥) }
     ensures retried { IsRetried (T.answered writer.old) (T.answered writer.new) result }
 {
     for _try in 0..TRIES {
@@ -195,6 +200,7 @@ fn write_retrying<T: Writer>(writer: &mut T, bytes: &[u8]) -> Result<usize, Fail
 
 fn flush_retrying<T: Writer>(writer: &mut T) -> Result<(), Failed>
     ensures bytes { Keeps (T.written writer.old) (T.written writer.new) }
+    ensures flushed { OnOk result (T.flushed writer.new) }
     ensures retried { IsRetried (T.answered writer.old) (T.answered writer.new) result }
 {
     for _try in 0..TRIES {

@@ -4,6 +4,7 @@ mod ExitRules
 mod ForwardRules
 mod Forwarded
 mod Fronts
+pub mod Leaves
 pub mod Leaving
 mod MoveRules
 mod Moved

@@ -1,6 +1,6 @@
 -- Replies within the station are their right entries.
 use Rattle.std.proofs.Common.{◌≡◌, ℕ, true, false, List, [], ◌∷◌, ◌++◌, length, Option, Some, None, refl, sym, ap, subst, ◌∙◌, inl}
-use Rattle.std.specs.Option.{is_none, option_map}
+use Rattle.std.specs.Option.{is_none}
 use Rattle.std.proofs.lemmas.Bool.{eq-eqb, eqb-true}
 use Rattle.vk_base.specs.declared.activity.Activity.TheVariants as activities
 use Rattle.vk_base.specs.declared.activity.Waiting.TheVariants as waitings
@@ -22,7 +22,7 @@ use Rattle.vk_base.specs.Steps.{after_effect, effect, next}
 use Rattle.v_laws.specs.Sound.{IsSoundAt}
 use Rattle.vk_packet.specs.Posts.{Posts}
 use Rattle.vk_procs.specs.declared.seat.Seat.{Seat}
-use Rattle.vk_procs.specs.Seats.{overwritten, process_of, seat_in}
+use Rattle.vk_procs.specs.Seats.{overwritten, seat_in}
 use Rattle.vk_rules.specs.CallOutcomes.{effect_answer, packets_of, steps_behind}
 use Rattle.vk_rules.specs.Entries.{Called}
 use Rattle.vk_rules.specs.Readings.{Reading}
@@ -85,9 +85,6 @@ module _ (c : Settings) (host : ℕ) (t : Tables) (r : Reading) (h : Stands c.ti
 
   pub replied_is : is_none (local_holding t.seats pid to) ≡ false → IsReplied r.view t.seats pid to
   replied_is some = replied_by (local_holding t.seats pid to) refl some (held_here c.times host t r h fit pid own to there)
-
-  here : r.view.procs pid ≡ Some (process_of s)
-  here = h.procs pid own ∙ ap (option_map process_of) may.found
 
   module _ (x : IsReplied r.view t.seats pid to) (call : Call) (m : Message) (dest : ℕ) (bytes : List ℕ)
       (lies : lies_in (range_of dest (length bytes)) (length x.seat.memory) ≡ true)

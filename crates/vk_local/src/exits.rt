@@ -1,6 +1,6 @@
 //! Exit.
 
-ghost use Rattle.std.specs.Prelude.{◌≡◌, ◌<◌, ◌≤◌, ◌+◌, ◌++◌, ◌∷◌, [], ℕ, true, length, Some};
+ghost use Rattle.std.specs.Prelude.{◌≡◌, ◌<◌, ◌≤◌, ◌+◌, [], ℕ, true, length, Some};
 ghost use Rattle.std.specs.List.{position};
 ghost use Rattle.vk_base.specs.declared.limits.TheConstants.{POOL as ALIENS, STATION_PROCESSES, STEPS};
 ghost use Rattle.vk_packet.specs.Rules.{is_number};
@@ -110,38 +110,6 @@ fn empty_queue(procs: &Procs, queues: &mut Queues, pid: Pid)
     }
 }
 
-/// The exit, by the tables.
-fn play_exit(
-    procs: &mut Procs,
-    names: &mut Names,
-    queues: &mut Queues,
-    aliens: &mut AlienPool,
-    now: u64,
-    out: &mut Outbox,
-    steps: &mut Steps,
-    pid: Pid,
-) -> Option<Outcome>
-    requires lists { length queues.old.lists ≡ STATION_PROCESSES }
-    requires numbers { (i : ℕ) (a : TheAlien) → alien_at aliens.old i ≡ Some a → is_number a.number ≡ true }
-    requires few { length aliens.old ≤ ALIENS }
-    requires out { length out.old.posts + ALIENS ≤ out.old.room }
-    requires steps { length steps.old < STEPS }
-    ensures done { IsExit pid now result (whole_tables procs.old queues.old.lists aliens.old names.old)
-        (whole_tables procs.new queues.new.lists aliens.new names.new) steps.old steps.new out.old out.new }
-    ensures room { queues.new.slots ≡ queues.old.slots }
-{
-    steps.push(BriefStep::Call {
-        pid,
-        call: BriefCall::Exit,
-    });
-    names.forget(pid);
-    empty_queue(procs, queues, pid);
-    leave_aliens(aliens, now, out, pid);
-    procs.leave(pid);
-    procs.kill(pid);
-    Some(Outcome::Ok)
-}
-
 /// A process, which is alive and ready, exits at the tick `now`: whose message waits at it or was taken by it is told that it is gone,
 /// those of other stations in the name of their Send's target, and its names are forgotten.
 pub fn exit(
@@ -167,5 +135,14 @@ pub fn exit(
     ensures pids { pids procs.new ≡ pids procs.old }
     ensures room { queues.new.slots ≡ queues.old.slots }
 {
-    play_exit(procs, names, queues, aliens, now, out, steps, pid)
+    steps.push(BriefStep::Call {
+        pid,
+        call: BriefCall::Exit,
+    });
+    names.forget(pid);
+    empty_queue(procs, queues, pid);
+    leave_aliens(aliens, now, out, pid);
+    procs.leave(pid);
+    procs.kill(pid);
+    Some(Outcome::Ok)
 }

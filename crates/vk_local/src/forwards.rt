@@ -1,10 +1,10 @@
 //! A message of a process of the same station is handed on.
 
-ghost use Rattle.std.specs.Prelude.{◌≡◌, ◌≤◌, ◌<◌, ◌+◌, ◌++◌, true, length};
+ghost use Rattle.std.specs.Prelude.{◌≡◌, ◌≤◌, ◌+◌, true, length};
 ghost use Rattle.vk_base.specs.declared.limits.TheConstants.{STATION_PROCESSES, STEPS};
 ghost use Rattle.vk_base.specs.Pids.{same_host};
 ghost use Rattle.vk_procs.specs.Seats.{pids};
-ghost use Rattle.vk_local.specs.Calls.{forward_refusal, forwarded, handed_over, steps_of, tables_of};
+ghost use Rattle.vk_local.specs.Calls.{forward_refusal, tables_of};
 ghost use Rattle.vk_local.specs.Done.{IsForward};
 ghost use Rattle.vk_local.specs.Rules.{IsTablesRule, may_call};
 
@@ -28,64 +28,6 @@ fn forward_refusal(procs: &Procs, pid: Pid, from: Pid, to: Pid) -> Option<Refusa
     } else {
         None
     }
-}
-
-/// The message waits anew, and is taken if that process waits for one.
-fn hand_on(
-    procs: &mut Procs,
-    queues: &mut Queues,
-    aliens: &mut AlienPool,
-    steps: &mut Steps,
-    from: Pid,
-    message: &Message,
-    to: Pid,
-)
-    requires lists { length queues.old.lists ≡ STATION_PROCESSES }
-    requires slots { STATION_PROCESSES ≤ queues.old.slots }
-    requires room { length steps.old < STEPS }
-    ensures seats { procs.new ≡ (handed_over (tables_of procs.old queues.old.lists aliens.old) from message.now to).seats }
-    ensures lists { queues.new.lists ≡ (handed_over (tables_of procs.old queues.old.lists aliens.old) from message.now to).lists }
-    ensures slots { aliens.new ≡ (handed_over (tables_of procs.old queues.old.lists aliens.old) from message.now to).slots }
-    ensures steps { steps.new ≡ steps.old
-        ++ steps_of (forwarded (tables_of procs.old queues.old.lists aliens.old) from message.now to) to }
-    ensures room { queues.new.slots ≡ queues.old.slots }
-{
-    procs.forward(from, message, to);
-    enqueue(procs, queues, from, to);
-    serve(procs, queues, aliens, steps, to);
-}
-
-/// The Forward, by the tables.
-fn play_forward(
-    procs: &mut Procs,
-    queues: &mut Queues,
-    aliens: &mut AlienPool,
-    steps: &mut Steps,
-    pid: Pid,
-    message: &Message,
-    from: Pid,
-    to: Pid,
-) -> Option<Outcome>
-    requires lists { length queues.old.lists ≡ STATION_PROCESSES }
-    requires slots { STATION_PROCESSES ≤ queues.old.slots }
-    requires room { length steps.old + 2 ≤ STEPS }
-    ensures done { IsForward pid from message.now to result (tables_of procs.old queues.old.lists aliens.old)
-        (tables_of procs.new queues.new.lists aliens.new) steps.old steps.new }
-    ensures room { queues.new.slots ≡ queues.old.slots }
-{
-    steps.push(BriefStep::Call {
-        pid,
-        call: BriefCall::Forward {
-            message: *message,
-            from,
-            to,
-        },
-    });
-    if let Some(why) = forward_refusal(procs, pid, from, to) {
-        return Some(Outcome::Refused { why });
-    }
-    hand_on(procs, queues, aliens, steps, from, message, to);
-    Some(Outcome::Ok)
 }
 
 /// A process, which is alive and ready, hands the message that it has taken of another one of its station on to a third, which is shown
@@ -113,5 +55,19 @@ pub fn forward(
     ensures pids { pids procs.new ≡ pids procs.old }
     ensures room { queues.new.slots ≡ queues.old.slots }
 {
-    play_forward(procs, queues, aliens, steps, pid, message, from, to)
+    steps.push(BriefStep::Call {
+        pid,
+        call: BriefCall::Forward {
+            message: *message,
+            from,
+            to,
+        },
+    });
+    if let Some(why) = forward_refusal(procs, pid, from, to) {
+        return Some(Outcome::Refused { why });
+    }
+    procs.forward(from, message, to);
+    enqueue(procs, queues, from, to);
+    serve(procs, queues, aliens, steps, to);
+    Some(Outcome::Ok)
 }

@@ -70,7 +70,7 @@ fn move_bytes(procs: &mut Procs, pid: Pid, partner: Pid, way: Direction, segment
 }
 
 /// The call and the move, by the tables.
-fn play_move(
+fn make_move(
     procs: &mut Procs,
     steps: &mut Steps,
     pid: Pid,
@@ -108,7 +108,7 @@ pub fn move_to(
         steps.old steps.new }
     ensures pids { pids procs.new ≡ pids procs.old }
 {
-    play_move(procs, steps, pid, partner, Direction::To, segment)
+    make_move(procs, steps, pid, partner, Direction::To, segment)
 }
 
 /// A process, which is alive and ready, reads bytes of the memory of a partner of its station into its own.
@@ -127,5 +127,5 @@ pub fn move_from(
         steps.old steps.new }
     ensures pids { pids procs.new ≡ pids procs.old }
 {
-    play_move(procs, steps, pid, partner, Direction::From, segment)
+    make_move(procs, steps, pid, partner, Direction::From, segment)
 }

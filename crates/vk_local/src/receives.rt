@@ -4,7 +4,7 @@ ghost use Rattle.std.specs.Prelude.{◌≡◌, ◌<◌, ◌≤◌, ◌+◌, ◌+
 ghost use Rattle.vk_base.specs.Activities.{as_receive, call_of};
 ghost use Rattle.vk_base.specs.declared.limits.TheConstants.{STATION_PROCESSES, STEPS};
 ghost use Rattle.vk_procs.specs.Seats.{pids};
-ghost use Rattle.vk_local.specs.Calls.{awaited, receive_refusal, received, steps_of, tables_of};
+ghost use Rattle.vk_local.specs.Calls.{receive_refusal, tables_of};
 ghost use Rattle.vk_local.specs.Done.{IsReceive};
 ghost use Rattle.vk_local.specs.Rules.{IsTablesRule, may_call};
 
@@ -28,28 +28,6 @@ fn receive_refusal(procs: &Procs, pid: Pid, waiting: Waiting) -> Option<Refusal>
     }
 }
 
-/// The process waits for a message, and takes the first that waits at it.
-fn begin(
-    procs: &mut Procs,
-    queues: &mut Queues,
-    aliens: &mut AlienPool,
-    steps: &mut Steps,
-    pid: Pid,
-    waiting: Waiting,
-)
-    requires lists { length queues.old.lists ≡ STATION_PROCESSES }
-    requires room { length steps.old < STEPS }
-    ensures seats { procs.new ≡ (awaited (tables_of procs.old queues.old.lists aliens.old) pid waiting).seats }
-    ensures lists { queues.new.lists ≡ (awaited (tables_of procs.old queues.old.lists aliens.old) pid waiting).lists }
-    ensures slots { aliens.new ≡ (awaited (tables_of procs.old queues.old.lists aliens.old) pid waiting).slots }
-    ensures steps { steps.new ≡ steps.old
-        ++ steps_of (received (tables_of procs.old queues.old.lists aliens.old) pid waiting) pid }
-    ensures room { queues.new.slots ≡ queues.old.slots }
-{
-    procs.wait(pid, waiting);
-    serve(procs, queues, aliens, steps, pid);
-}
-
 /// The step of a receive.
 fn push_receive(steps: &mut Steps, pid: Pid, waiting: Waiting)
     requires receive { as_receive waiting ≡ Some waiting }
@@ -67,30 +45,6 @@ fn push_receive(steps: &mut Steps, pid: Pid, waiting: Waiting)
         }),
         _ => unreachable!(),
     }
-}
-
-/// The receive, by the tables.
-fn play_receive(
-    procs: &mut Procs,
-    queues: &mut Queues,
-    aliens: &mut AlienPool,
-    steps: &mut Steps,
-    pid: Pid,
-    waiting: Waiting,
-) -> Option<Outcome>
-    requires receive { as_receive waiting ≡ Some waiting }
-    requires lists { length queues.old.lists ≡ STATION_PROCESSES }
-    requires room { length steps.old + 2 ≤ STEPS }
-    ensures done { IsReceive pid waiting result (tables_of procs.old queues.old.lists aliens.old)
-        (tables_of procs.new queues.new.lists aliens.new) steps.old steps.new }
-    ensures room { queues.new.slots ≡ queues.old.slots }
-{
-    push_receive(steps, pid, waiting);
-    if let Some(why) = receive_refusal(procs, pid, waiting) {
-        return Some(Outcome::Refused { why });
-    }
-    begin(procs, queues, aliens, steps, pid, waiting);
-    None
 }
 
 /// A process, which is alive and ready, waits for a message: this is its receive. It takes the first message that waits at it.
@@ -113,5 +67,11 @@ pub fn receive(
     ensures pids { pids procs.new ≡ pids procs.old }
     ensures room { queues.new.slots ≡ queues.old.slots }
 {
-    play_receive(procs, queues, aliens, steps, pid, waiting)
+    push_receive(steps, pid, waiting);
+    if let Some(why) = receive_refusal(procs, pid, waiting) {
+        return Some(Outcome::Refused { why });
+    }
+    procs.wait(pid, waiting);
+    serve(procs, queues, aliens, steps, pid);
+    None
 }

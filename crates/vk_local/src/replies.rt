@@ -14,32 +14,6 @@ use vk_base::{Call, Message, Outcome, Pid};
 use vk_brief::{BriefCall, BriefStep, Steps};
 use vk_procs::{Passed, Procs};
 
-/// The reply, by the tables.
-fn play_reply(
-    procs: &mut Procs,
-    steps: &mut Steps,
-    pid: Pid,
-    to: Pid,
-    message: &Message,
-) -> Option<Outcome>
-    requires { length steps.old + 2 ≤ STEPS }
-    ensures { IsReply pid to message.now result procs.old procs.new steps.old steps.new }
-{
-    steps.push(BriefStep::Call {
-        pid,
-        call: BriefCall::Reply {
-            message: *message,
-            to,
-        },
-    });
-    if let Some(why) = not_awaiting(procs, pid, to) {
-        return Some(Outcome::Refused { why });
-    }
-    procs.finish(to, Outcome::Replied { message: *message });
-    steps.push(BriefStep::Finish { pid: to });
-    Some(Outcome::Ok)
-}
-
 /// What a reply asks for.
 fn reply_access(segment: Segment) -> Access
     ensures { result ≡ reply_access segment }
@@ -51,38 +25,6 @@ fn reply_access(segment: Segment) -> Access
         granted: segment.dest,
         own: segment.src,
     }
-}
-
-/// The reply with bytes, by the tables.
-fn play_reply_segment(
-    procs: &mut Procs,
-    steps: &mut Steps,
-    pid: Pid,
-    to: Pid,
-    message: &Message,
-    segment: Segment,
-) -> Option<Outcome>
-    requires { length steps.old + 2 ≤ STEPS }
-    ensures { IsReplySegment pid to message.now segment result procs.old procs.new steps.old steps.new }
-{
-    let Segment { dest, src, count } = segment;
-    steps.push(BriefStep::Call {
-        pid,
-        call: BriefCall::ReplySegment {
-            message: *message,
-            to,
-            dest,
-            src,
-            count,
-        },
-    });
-    if let Some(why) = access_refusal(procs, pid, to, reply_access(segment)) {
-        return Some(Outcome::Refused { why });
-    }
-    procs.pass(pid, to, Passed::Bytes { src, count, dest });
-    procs.finish(to, Outcome::Replied { message: *message });
-    steps.push(BriefStep::Finish { pid: to });
-    Some(Outcome::Ok)
 }
 
 /// A process, which is alive and ready, replies to one of its station, which has the reply now.
@@ -100,7 +42,19 @@ pub fn reply(
     ensures rule { IsSeatsRule pid (Call.Reply message.now to) result procs.old procs.new steps.old steps.new }
     ensures pids { pids procs.new ≡ pids procs.old }
 {
-    play_reply(procs, steps, pid, to, message)
+    steps.push(BriefStep::Call {
+        pid,
+        call: BriefCall::Reply {
+            message: *message,
+            to,
+        },
+    });
+    if let Some(why) = not_awaiting(procs, pid, to) {
+        return Some(Outcome::Refused { why });
+    }
+    procs.finish(to, Outcome::Replied { message: *message });
+    steps.push(BriefStep::Finish { pid: to });
+    Some(Outcome::Ok)
 }
 
 /// The same with bytes of the caller's memory, which are written into the memory of the other.
@@ -120,5 +74,22 @@ pub fn reply_segment(
         steps.old steps.new }
     ensures pids { pids procs.new ≡ pids procs.old }
 {
-    play_reply_segment(procs, steps, pid, to, message, segment)
+    let Segment { dest, src, count } = segment;
+    steps.push(BriefStep::Call {
+        pid,
+        call: BriefCall::ReplySegment {
+            message: *message,
+            to,
+            dest,
+            src,
+            count,
+        },
+    });
+    if let Some(why) = access_refusal(procs, pid, to, reply_access(segment)) {
+        return Some(Outcome::Refused { why });
+    }
+    procs.pass(pid, to, Passed::Bytes { src, count, dest });
+    procs.finish(to, Outcome::Replied { message: *message });
+    steps.push(BriefStep::Finish { pid: to });
+    Some(Outcome::Ok)
 }

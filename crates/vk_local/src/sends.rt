@@ -1,11 +1,11 @@
 //! A Send to a process of the same station.
 
-ghost use Rattle.std.specs.Prelude.{◌≡◌, ◌<◌, ◌≤◌, ◌+◌, ◌++◌, ◌∷◌, ◌^◌, [], length, true, Some};
+ghost use Rattle.std.specs.Prelude.{◌≡◌, ◌<◌, ◌≤◌, ◌+◌, ◌^◌, length, true, Some};
 ghost use Rattle.vk_base.specs.declared.limits.TheConstants.{STATION_PROCESSES, STEPS};
 ghost use Rattle.vk_base.specs.Pids.{same_host};
 ghost use Rattle.vk_procs.specs.declared.seat.Seat.{Seat as TheSeat};
 ghost use Rattle.vk_procs.specs.Seats.{pids, seat_in};
-ghost use Rattle.vk_local.specs.Calls.{begun, queued, send_refusal, sent, steps_of, tables_of};
+ghost use Rattle.vk_local.specs.Calls.{queued, send_refusal, tables_of};
 ghost use Rattle.vk_local.specs.Done.{IsSend};
 ghost use Rattle.vk_local.specs.Rules.{IsTablesRule, may_call};
 
@@ -46,62 +46,6 @@ pub fn enqueue(procs: &Procs, queues: &mut Queues, pid: Pid, target: Pid)
     }
 }
 
-/// The Send is begun, and its message taken if the target waits for one.
-fn begin(
-    procs: &mut Procs,
-    queues: &mut Queues,
-    aliens: &mut AlienPool,
-    steps: &mut Steps,
-    pid: Pid,
-    target: Pid,
-    message: &Message,
-)
-    requires lists { length queues.old.lists ≡ STATION_PROCESSES }
-    requires slots { STATION_PROCESSES ≤ queues.old.slots }
-    requires room { length steps.old < STEPS }
-    ensures seats { procs.new ≡ (begun (tables_of procs.old queues.old.lists aliens.old) pid target message.now).seats }
-    ensures lists { queues.new.lists ≡ (begun (tables_of procs.old queues.old.lists aliens.old) pid target message.now).lists }
-    ensures slots { aliens.new ≡ (begun (tables_of procs.old queues.old.lists aliens.old) pid target message.now).slots }
-    ensures steps { steps.new ≡ steps.old
-        ++ steps_of (sent (tables_of procs.old queues.old.lists aliens.old) pid target message.now) target }
-    ensures room { queues.new.slots ≡ queues.old.slots }
-{
-    procs.begin_send(pid, target, message);
-    enqueue(procs, queues, pid, target);
-    serve(procs, queues, aliens, steps, target);
-}
-
-/// The Send, by the tables.
-fn play_send(
-    procs: &mut Procs,
-    queues: &mut Queues,
-    aliens: &mut AlienPool,
-    steps: &mut Steps,
-    pid: Pid,
-    target: Pid,
-    message: &Message,
-) -> Option<Outcome>
-    requires lists { length queues.old.lists ≡ STATION_PROCESSES }
-    requires slots { STATION_PROCESSES ≤ queues.old.slots }
-    requires room { length steps.old + 2 ≤ STEPS }
-    ensures done { IsSend pid target message.now result (tables_of procs.old queues.old.lists aliens.old)
-        (tables_of procs.new queues.new.lists aliens.new) steps.old steps.new }
-    ensures room { queues.new.slots ≡ queues.old.slots }
-{
-    steps.push(BriefStep::Call {
-        pid,
-        call: BriefCall::Send {
-            target,
-            message: *message,
-        },
-    });
-    if let Some(why) = send_refusal(procs, pid, target, message) {
-        return Some(Outcome::Refused { why });
-    }
-    begin(procs, queues, aliens, steps, pid, target, message);
-    None
-}
-
 /// A process, which is alive and ready, sends to one of its station, which takes the message now if it waits for one.
 pub fn send(
     procs: &mut Procs,
@@ -125,5 +69,18 @@ pub fn send(
     ensures pids { pids procs.new ≡ pids procs.old }
     ensures room { queues.new.slots ≡ queues.old.slots }
 {
-    play_send(procs, queues, aliens, steps, pid, target, message)
+    steps.push(BriefStep::Call {
+        pid,
+        call: BriefCall::Send {
+            target,
+            message: *message,
+        },
+    });
+    if let Some(why) = send_refusal(procs, pid, target, message) {
+        return Some(Outcome::Refused { why });
+    }
+    procs.begin_send(pid, target, message);
+    enqueue(procs, queues, pid, target);
+    serve(procs, queues, aliens, steps, target);
+    None
 }

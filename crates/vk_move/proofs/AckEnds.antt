@@ -63,6 +63,7 @@ use Rattle.vk_stands.proofs.Parts.{Part, part_of}
 use Rattle.vk_stands.proofs.Received.{received}
 use Rattle.vk_move.specs.declared.mover.Acked.{Acked}
 use Rattle.vk_move.specs.declared.mover.Acked.TheVariants as acks
+use Rattle.vk_move.specs.Moved.{moving_by}
 use Rattle.vk_move.specs.Mover.{ack_moved, ack_taken, acked_doing, acked_in, is_mover}
 use Rattle.vk_move.specs.Right.{IsMoveRule, IsRight}
 use Rattle.vk_move.proofs.Acks.{answers_right, decided, goes_right, nothing_right, outcome}
@@ -336,17 +337,17 @@ module _ (c : Settings) (host : ℕ) (r : Reading) (h : Header) (from to : Pid) 
   by_seat (Some s) found = by_mover s found (is_mover name moving s) refl
 
   pub ack_right : IsRight c host t r (entry_for c host r (Delivered (Framed h packet)))
-      (ack_taken c.times r.now from to number moving got t.seats)
+      (ack_taken c.times r.now (moving_by to from number moving) got t.seats)
   ack_right = by_seat (seat_in t.seats to) refl
 
 pub ack_rule : (times : Times) (now : ℕ) (from to : Pid) (number moving got : ℕ) (seats : List Seat) →
-    IsMoveRule times now (MoveAck from to number moving got) seats (ack_taken times now from to number moving got seats)
+    IsMoveRule times now (MoveAck from to number moving got) seats (ack_taken times now (moving_by to from number moving) got seats)
 ack_rule times now from to number moving got seats c host t r h same at fit stands taken =
     subst (λ x. IsRight c host (record t { seats = seats }) r
     (entry_for c host r (Delivered (Framed h (MoveAck from to number moving got))))
-    (ack_taken x now from to number moving got seats)) same
+    (ack_taken x now (moving_by to from number moving) got seats)) same
     (subst (λ n. IsRight c host (record t { seats = seats }) r
     (entry_for c host r (Delivered (Framed h (MoveAck from to number moving got))))
-    (ack_taken c.times n from to number moving got seats)) at
+    (ack_taken c.times n (moving_by to from number moving) got seats)) at
     (ack_right c host r h from to number moving got taken (record t { seats = seats }) fit
     (subst (λ x. Stands x host (record t { seats = seats }) r) (sym same) stands)))

@@ -42,7 +42,7 @@ use Rattle.vk_stands.proofs.Placed.{IsAt, alien_is_at}
 use Rattle.vk_stands.proofs.Quiet.{refused_answer}
 use Rattle.vk_move.specs.declared.begun.Verdict.{Verdict}
 use Rattle.vk_move.specs.declared.begun.Verdict.TheVariants as verdicts
-use Rattle.vk_move.specs.Begun.{Begun, HasFewMoves, IsBeginRule, begun_by, doing_in, is_away, move_begun, verdict_in, waiting_in, way_begun}
+use Rattle.vk_move.specs.Begun.{Begun, HasFewMoves, IsBeginRule, IsMoveBegun, begun_by, doing_in, is_away, move_begun, verdict_in, waiting_in, way_begun}
 use Rattle.vk_move.proofs.Begins.{begins_held, made_empty}
 use Rattle.vk_move.proofs.BegunEntry.{IsBegun, begins_right}
 use Rattle.vk_move.proofs.BegunFits.{begun_is, fit_begun}
@@ -225,8 +225,15 @@ module _ (times : Times) (now : ℕ) (pid : Pid) (seats : List Seat) (slots : Li
       (then_slots : List (Option Alien)) (after : List Step) (sent : Posts) → answer ≡ (move_begun times now pid call seats slots).answer →
       new ≡ (move_begun times now pid call seats slots).seats → then_slots ≡ (move_begun times now pid call seats slots).slots →
       after ≡ before ++ steps.Call pid call ∷ [] → sent ≡ posted out (move_begun times now pid call seats slots).packets →
-      IsBeginRule times now pid call answer (doing_in seats slots before out) (doing_in new then_slots after sent)
-  begun_rule call moves away answer new then_slots after sent answered seated slotted listed packets =
-      subst (λ (x : Option Outcome × Doing). IsBeginRule times now pid call x.0 (doing_in seats slots before out) x.1)
-      (λ i. (sym answered i, doing_in (sym seated i) (sym slotted i) (sym listed i) (sym packets i)))
-      (begin_rule call moves away)
+      IsMoveBegun times now pid call answer (doing_in seats slots before out) (doing_in new then_slots after sent)
+  begun_rule call moves away answer new then_slots after sent answered seated slotted listed posts = record {
+    answer = answered;
+    seats = seated;
+    slots = slotted;
+    packets = posts;
+    steps = listed;
+    right =
+        subst (λ (x : Option Outcome × Doing). IsBeginRule times now pid call x.0 (doing_in seats slots before out) x.1)
+        (λ i. (sym answered i, doing_in (sym seated i) (sym slotted i) (sym listed i) (sym posts i)))
+        (begin_rule call moves away);
+  }

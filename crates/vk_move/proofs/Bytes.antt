@@ -36,7 +36,7 @@ use Rattle.vk_rules.specs.Works.{Work, is_answer, is_last, is_move_from, is_of_r
 use Rattle.vk_stands.specs.Fit.{AreFit, may_wait}
 use Rattle.vk_stands.specs.Stands.{IsWorking, Stands}
 use Rattle.vk_stands.specs.Tables.{Tables}
-use Rattle.vk_stands.proofs.After.{entry_for, reading_for, work_by}
+use Rattle.vk_stands.proofs.After.{entry_for, work_by}
 use Rattle.vk_stands.proofs.AfterCalls.{none_of_round, skips_closing, skips_others}
 use Rattle.vk_stands.proofs.Found.{seat_found}
 use Rattle.vk_stands.proofs.MovesNoted.{worked}
@@ -71,9 +71,6 @@ module _ (c : Settings) (host : ℕ) (r : Reading) (h : Header) (from to : Pid) 
 
   abbrev name : Name
   name = name_of from number
-
-  abbrev after : Reading
-  after = reading_for c host r (Delivered (Framed h packet))
 
   abbrev w : Work
   w = r.work to

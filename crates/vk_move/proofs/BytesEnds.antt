@@ -34,6 +34,7 @@ use Rattle.vk_stands.proofs.After.{entry_for}
 use Rattle.vk_stands.proofs.Received.{received}
 use Rattle.vk_move.specs.declared.mover.Brought.{Brought}
 use Rattle.vk_move.specs.declared.mover.Brought.TheVariants as brought
+use Rattle.vk_move.specs.Moved.{moving_by}
 use Rattle.vk_move.specs.Mover.{brought_by, brought_doing, brought_in, bytes_moved, bytes_taken, is_mover}
 use Rattle.vk_move.specs.Right.{IsMoveRule, IsRight}
 use Rattle.vk_move.proofs.AckEnds.{either_way}
@@ -180,18 +181,18 @@ module _ (c : Settings) (host : ℕ) (r : Reading) (h : Header) (from to : Pid) 
   by_seat (Some s) found = by_mover s found (is_mover name moving s) refl
 
   pub bytes_right : IsRight c host t r (entry_for c host r (Delivered (Framed h packet)))
-      (bytes_taken c.times r.now from to number moving total offset bytes t.seats)
+      (bytes_taken c.times r.now (moving_by to from number moving) total offset bytes t.seats)
   bytes_right = by_seat (seat_in t.seats to) refl
 
 pub bytes_rule : (times : Times) (now : ℕ) (from to : Pid) (number moving total offset : ℕ) (bytes : List ℕ) (seats : List Seat) →
     IsMoveRule times now (MoveBytes from to number moving total offset bytes) seats
-    (bytes_taken times now from to number moving total offset bytes seats)
+    (bytes_taken times now (moving_by to from number moving) total offset bytes seats)
 bytes_rule times now from to number moving total offset bytes seats c host t r h same at fit stands taken =
     subst (λ x. IsRight c host (record t { seats = seats }) r
     (entry_for c host r (Delivered (Framed h (MoveBytes from to number moving total offset bytes))))
-    (bytes_taken x now from to number moving total offset bytes seats)) same
+    (bytes_taken x now (moving_by to from number moving) total offset bytes seats)) same
     (subst (λ n. IsRight c host (record t { seats = seats }) r
     (entry_for c host r (Delivered (Framed h (MoveBytes from to number moving total offset bytes))))
-    (bytes_taken c.times n from to number moving total offset bytes seats)) at
+    (bytes_taken c.times n (moving_by to from number moving) total offset bytes seats)) at
     (bytes_right c host r h from to number moving total offset bytes taken (record t { seats = seats }) fit
     (subst (λ x. Stands x host (record t { seats = seats }) r) (sym same) stands)))

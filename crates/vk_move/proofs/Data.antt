@@ -52,7 +52,7 @@ use Rattle.vk_stands.proofs.SentSteps.{change_is, copies, moved_there, opened, o
 use Rattle.vk_move.specs.declared.sender.Piece.TheVariants as pieces
 use Rattle.vk_move.specs.declared.sender.Sender.{Sender}
 use Rattle.vk_move.specs.declared.sender.Sender.TheVariants as senders
-use Rattle.vk_move.specs.Moved.{Moved, change_note, place_in, progressed, still}
+use Rattle.vk_move.specs.Moved.{Moved, change_note, moving_by, place_in, progressed, still}
 use Rattle.vk_move.specs.Right.{IsMoveRule, IsRight}
 use Rattle.vk_move.specs.Sender.{data_moved, data_taken, data_wanted, may_write, sender_by}
 use Rattle.vk_move.proofs.Keeping.{IsPiece, piece_of}
@@ -361,12 +361,12 @@ module _ (c : Settings) (host : ℕ) (r : Reading) (h : Header) (from to : Pid) 
   right_sender senders.Gone d = quiet (MoveNegative to from number moving ∷ []) (out_by None d.0 ∙ made true d.1) calm_gone
   right_sender (senders.Waits m current done) w = right_waits m current done w
 
-  pub data_right : Right (data_taken from to number moving dest total offset bytes t.seats)
+  pub data_right : Right (data_taken (moving_by from to number moving) dest total offset bytes t.seats)
   data_right = right_sender (sender_by to from number (seat_in t.seats to)) (decided c.times host t r stands from to own number)
 
 pub data_rule : (times : Times) (now : ℕ) (from to : Pid) (number moving dest total offset : ℕ) (bytes : List ℕ) (seats : List Seat) →
     IsMoveRule times now (MoveData from to number moving dest total offset bytes) seats
-    (data_taken from to number moving dest total offset bytes seats)
+    (data_taken (moving_by from to number moving) dest total offset bytes seats)
 data_rule times now from to number moving dest total offset bytes seats c host t r h same at fit stands taken =
     data_right c host r h from to number moving dest total offset bytes taken (record t { seats = seats }) fit
     (subst (λ x. Stands x host (record t { seats = seats }) r) (sym same) stands)

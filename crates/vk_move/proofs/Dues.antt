@@ -18,6 +18,7 @@ use Rattle.vk_base.specs.Ranges.{range_of, lies_in}
 use Rattle.vk_base.specs.Steps.{only_if}
 use Rattle.vk_procs.specs.declared.seat.Seat.{Seat}
 use Rattle.vk_procs.specs.Seats.{process_of, seat_in}
+use Rattle.vk_procs.specs.Works.{work_in}
 use Rattle.vk_rules.specs.CallOutcomes.{failing_step, work_failure}
 use Rattle.vk_rules.specs.Readings.{Reading}
 unfoldable use Rattle.vk_rules.specs.Rounds.{round}
@@ -30,7 +31,7 @@ use Rattle.vk_stands.proofs.Found.{seat_found}
 use Rattle.vk_timer.specs.declared.work.Due.TheVariants as dues
 use Rattle.vk_timer.specs.Works.{work_at}
 use Rattle.vk_move.specs.declared.tick.Ticked.TheVariants as ticks
-use Rattle.vk_move.specs.Due.{IsDueRule, IsRightDue, due_moved, tick_moved, ticked_at, ticked_by, ticked_in, work_in}
+use Rattle.vk_move.specs.Due.{IsDueRule, IsRightDue, due_moved, tick_moved, ticked_at, ticked_by, ticked_in}
 use Rattle.vk_move.specs.Moved.{round_by, round_from}
 
 -- A process that waits in a move.
@@ -131,9 +132,9 @@ module _ (times : Times) (now : ℕ) (pid : Pid) (seats : List Seat) (host : ℕ
     tried_is = ap (λ n. leb times.tries n) (sym work.tries)
 
     ticks_at : ticked_in times now (seat_in seats pid) ≡ ticked_by (cond a (cond b dues.GiveUp dues.Resend) dues.NotDue)
-        (work_at times now (work_in s.note)).tries s.note.offset
-    ticks_at = ap (ticked_in times now) found ∙ ap (λ d. cond (is_moving (state_of d)) (ticked_at times now s.note) ticks.Nothing) m.state
-        ∙ ap (λ x. cond x (ticked_at times now s.note) ticks.Nothing) m.moves
+        (work_at times now (work_in s)).tries s.note.offset
+    ticks_at = ap (ticked_in times now) found ∙ ap (λ d. cond (is_moving (state_of d)) (ticked_at times now s) ticks.Nothing) m.state
+        ∙ ap (λ x. cond x (ticked_at times now s) ticks.Nothing) m.moves
 
     failing : failing_step r.view pid ≡ Some (steps.End pid endings.TimedOut)
     failing =
@@ -153,11 +154,11 @@ module _ (times : Times) (now : ℕ) (pid : Pid) (seats : List Seat) (host : ℕ
     due_of = record {
       steps =
           ap (λ x. (tick_moved times now pid x seats).steps) ticks_at
-          ∙ tick_steps times now pid seats a b (work_at times now (work_in s.note)).tries s.note.offset
+          ∙ tick_steps times now pid seats a b (work_at times now (work_in s)).tries s.note.offset
           ∙ sym (λ i. option_to_list (only_if (due_is i && tried_is i) (failing i)));
       packets =
           ap (λ x. (tick_moved times now pid x seats).packets) ticks_at
-          ∙ tick_packets times now pid seats a b (work_at times now (work_in s.note)).tries s.note.offset
+          ∙ tick_packets times now pid seats a b (work_at times now (work_in s)).tries s.note.offset
           ∙ sym (λ i. list_if (due_is i && not (tried_is i)) (sym rounds i));
     }
 

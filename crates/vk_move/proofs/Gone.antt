@@ -43,7 +43,7 @@ use Rattle.vk_stands.proofs.AfterFrames.{came_outcome, came_slots_still, came_st
 use Rattle.vk_stands.proofs.MovesEnded.{IsInMove, gone_ends, next_ended, stands_ended}
 use Rattle.vk_stands.proofs.Received.{received}
 use Rattle.vk_stands.proofs.Whole.{sound_next, stands_same}
-use Rattle.vk_move.specs.Moved.{still}
+use Rattle.vk_move.specs.Moved.{moving_by, still}
 use Rattle.vk_move.specs.Mover.{ended, gone_taken, is_mover}
 use Rattle.vk_move.specs.Right.{IsMoveRule, IsRight}
 
@@ -173,7 +173,7 @@ module _ (c : Settings) (host : ℕ) (r : Reading) (h : Header) (from to : Pid) 
   packets_by true = refl
   packets_by false = refl
 
-  gone_right : IsRight c host t r (entry_for c host r (Delivered (Framed h packet))) (gone_taken from to number moving t.seats)
+  gone_right : IsRight c host t r (entry_for c host r (Delivered (Framed h packet))) (gone_taken (moving_by to from number moving) t.seats)
   gone_right = record {
     steps = steps_by gone ∙ sym steps_are ∙ sym (came_steps c host r h packet taken);
     packets = packets_by gone ∙ sym (ap (λ (o : Outcome). o.packets) outcome_is)
@@ -183,7 +183,7 @@ module _ (c : Settings) (host : ℕ) (r : Reading) (h : Header) (from to : Pid) 
   }
 
 pub gone_rule : (times : Times) (now : ℕ) (from to : Pid) (number moving : ℕ) (seats : List Seat) →
-    IsMoveRule times now (MoveNegative from to number moving) seats (gone_taken from to number moving seats)
+    IsMoveRule times now (MoveNegative from to number moving) seats (gone_taken (moving_by to from number moving) seats)
 gone_rule times now from to number moving seats c host t r h same at fit stands taken =
     gone_right c host r h from to number moving taken (record t { seats = seats }) fit
     (subst (λ x. Stands x host (record t { seats = seats }) r) (sym same) stands)

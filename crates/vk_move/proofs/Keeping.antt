@@ -29,7 +29,7 @@ use Rattle.vk_move.specs.declared.sender.Piece.{Piece}
 use Rattle.vk_move.specs.declared.sender.Piece.TheVariants as pieces
 use Rattle.vk_move.specs.Due.{due_moved, tick_moved, ticked_in}
 use Rattle.vk_move.specs.Fitting.{KeepsFit}
-use Rattle.vk_move.specs.Moved.{HasFitSeats, change_note, place_in, received, renoted, still}
+use Rattle.vk_move.specs.Moved.{HasFitSeats, change_note, moving_by, place_in, received, renoted, still}
 use Rattle.vk_move.specs.Mover.{ack_moved, ack_taken, acked_in, brought_by, brought_doing, brought_in, bytes_moved, bytes_taken, gone_taken, is_mover, next_written, ended}
 use Rattle.vk_move.specs.Sender.{bytes_wanted, data_moved, data_taken, data_wanted, done_after, request_moved, request_taken, sender_by, written_if}
 use Rattle.vk_move.specs.Taken.{packet_taken}
@@ -37,7 +37,7 @@ use Rattle.vk_move.proofs.Fitting.{fit_noted, kept_answered, kept_change, kept_e
 use Rattle.vk_move.proofs.Going.{ack_goes_on, bytes_go_on}
 use Rattle.vk_move.proofs.Pieces.{is_at, place_is}
 use Rattle.vk_move.proofs.Ticks.{tick_goes_on}
-use Rattle.vk_move.proofs.Wanted.{low_before, low_asked}
+use Rattle.vk_move.proofs.Wanted.{done_low, low_before, low_asked}
 
 -- what is known of the bytes of a packet
 pub record IsPiece (total offset : ℕ) (bytes : List ℕ) : Type 0 where
@@ -63,7 +63,7 @@ module _ (t : Times) (now : ℕ) (seats : List Seat) (fit : HasFitSeats seats) (
   by_ack got acks.Restarts is = kept_restarted seats to t now 1 got (ack_goes_on seats fit to (name_of from number) moving got is)
   by_ack got acks.Ends is = kept_ended seats to endings.Ok
 
-  pub ack_keeps : (got : ℕ) → KeepsFit seats (ack_taken t now from to number moving got seats).seats
+  pub ack_keeps : (got : ℕ) → KeepsFit seats (ack_taken t now (moving_by to from number moving) got seats).seats
   ack_keeps got = by_ack got (acked_in (name_of from number) moving got (seat_in seats to)) refl
 
   -- Bytes: the next place is one, where they are not the last.
@@ -151,7 +151,7 @@ module _ (t : Times) (now : ℕ) (seats : List Seat) (fit : HasFitSeats seats) (
       (kept_received total offset dest (place_in dest offset) bytes p is)
 
   pub bytes_keep : (total offset : ℕ) (bytes : List ℕ) → IsPiece total offset bytes →
-      KeepsFit seats (bytes_taken t now from to number moving total offset bytes seats).seats
+      KeepsFit seats (bytes_taken t now (moving_by to from number moving) total offset bytes seats).seats
   bytes_keep total offset bytes p = by_brought total offset bytes p
       (brought_in (name_of from number) moving total offset (offset + length bytes) (seat_in seats to)) refl
 
@@ -159,15 +159,10 @@ module _ (t : Times) (now : ℕ) (seats : List Seat) (fit : HasFitSeats seats) (
   by_gone true = kept_ended seats to endings.Gone
   by_gone false = kept_same seats
 
-  pub gone_keeps : KeepsFit seats (gone_taken from to number moving seats).seats
+  pub gone_keeps : KeepsFit seats (gone_taken (moving_by to from number moving) seats).seats
   gone_keeps = by_gone (holds_of (is_mover (name_of from number) moving) (seat_in seats to))
 
   -- At the sender's.
-  after_low : (b : Bool) (offset before : ℕ) (bytes : List ℕ) → offset + length bytes ≤ 65536 → before ≤ 65536 →
-      cond b (offset + length bytes) before ≤ 65536
-  after_low true offset before bytes a c = a
-  after_low false offset before bytes a c = c
-
   kept_if : (b : Bool) (pid : Pid) (dest offset : ℕ) (bytes : List ℕ) → KeepsFit seats (written_if b pid dest offset bytes seats)
   kept_if true pid dest offset bytes = kept_written seats pid (place_in dest offset) bytes
   kept_if false pid dest offset bytes = kept_same seats
@@ -180,11 +175,11 @@ module _ (t : Times) (now : ℕ) (seats : List Seat) (fit : HasFitSeats seats) (
   by_data dest total offset bytes piece (pieces.Wanted opens before) is =
       kept_then seats (written_if (offset == before) to dest offset bytes seats) _ (kept_if (offset == before) to dest offset bytes)
       (kept_progressed (written_if (offset == before) to dest offset bytes seats) to moving (done_after offset before bytes)
-      (after_low (offset == before) offset before bytes (end_low total offset bytes piece)
+      (done_low (offset == before) (offset + length bytes) before (end_low total offset bytes piece)
       (low_before seats fit to from number moving dest total opens before is)))
 
   pub data_keeps : (dest total offset : ℕ) (bytes : List ℕ) → IsPiece total offset bytes →
-      KeepsFit seats (data_taken from to number moving dest total offset bytes seats).seats
+      KeepsFit seats (data_taken (moving_by from to number moving) dest total offset bytes seats).seats
   data_keeps dest total offset bytes piece = by_data dest total offset bytes piece
       (data_wanted moving dest total (sender_by to from number (seat_in seats to))) refl
 
@@ -195,7 +190,7 @@ module _ (t : Times) (now : ℕ) (seats : List Seat) (fit : HasFitSeats seats) (
   by_request src total offset (pieces.Wanted opens before) is =
       kept_progressed seats to moving before (low_asked seats fit to from number moving src total opens before is)
 
-  pub request_keeps : (src total offset : ℕ) → KeepsFit seats (request_taken from to number moving src total offset seats).seats
+  pub request_keeps : (src total offset : ℕ) → KeepsFit seats (request_taken (moving_by from to number moving) src total offset seats).seats
   request_keeps src total offset = by_request src total offset
       (bytes_wanted moving src total (sender_by to from number (seat_in seats to))) refl
 

@@ -31,3 +31,5 @@ pub mod SenderRules
 pub mod Senders
 pub mod Waiters
 pub mod PidsStay
+pub mod Taking
+pub mod Ticking

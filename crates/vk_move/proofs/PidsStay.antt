@@ -32,10 +32,7 @@ use Rattle.vk_move.specs.declared.mover.Brought.{Brought}
 use Rattle.vk_move.specs.declared.mover.Brought.TheVariants as brought
 use Rattle.vk_move.specs.declared.sender.Piece.{Piece}
 use Rattle.vk_move.specs.declared.sender.Piece.TheVariants as pieces
-use Rattle.vk_move.specs.declared.tick.Ticked.{Ticked}
-use Rattle.vk_move.specs.declared.tick.Ticked.TheVariants as ticks
 use Rattle.vk_move.specs.Begun.{begun_by, begun_note, begun_seats, move_begun, next_name, verdict_in}
-use Rattle.vk_move.specs.Due.{due_moved, tick_moved, ticked_in}
 use Rattle.vk_move.specs.Moved.{Moved, answered, change_note, place_in, progressed, received, renoted, restarted, still}
 use Rattle.vk_move.specs.Mover.{ack_moved, acked_in, brought_in, bytes_moved, ended, ended_seats, is_mover, next_written}
 use Rattle.vk_move.specs.Sender.{bytes_wanted, data_moved, data_wanted, done_after, request_moved, sender_by, written_if}
@@ -114,15 +111,6 @@ pids_packet t now (MoveNegative from to number moving) seats =
     pids_either (holds_of (is_mover (name_of from number) moving) (seat_in seats to)) (ended to endings.Gone seats) (still seats) seats
     (pids_ended to endings.Gone seats) refl
 pids_packet t now p seats = refl
-
--- A tick.
-pids_ticked : (t : Times) (now : ℕ) (pid : Pid) (k : Ticked) (seats : List Seat) → pids (tick_moved t now pid k seats).seats ≡ pids seats
-pids_ticked t now pid ticks.Nothing seats = refl
-pids_ticked t now pid ticks.Ends seats = pids_ended pid endings.TimedOut seats
-pids_ticked t now pid (ticks.Again tries from) seats = pids_noted pid (restarted t now tries from) seats
-
-pub pids_due : (t : Times) (now : ℕ) (pid : Pid) (seats : List Seat) → pids (due_moved t now pid seats).seats ≡ pids seats
-pids_due t now pid seats = pids_ticked t now pid (ticked_in t now (seat_in seats pid)) seats
 
 -- A move that is begun.
 pids_begun_as : (t : Times) (now : ℕ) (pid : Pid) (w : Waiting) (m : Option MoveName) (seats : List Seat) →

@@ -1,13 +1,12 @@
 -- The packets of a move: each is lawful, and one more of them.
-use Rattle.std.proofs.Common.{◌≡◌, ℕ, ◌+◌, ◌-◌, ◌*◌, ◌%◌, ◌<◌, ◌≤◌, min, true, List, [], ◌∷◌, ◌++◌, map, length, sym, ap, ◌∙◌, arith, append_assoc}
+use Rattle.std.proofs.Common.{◌≡◌, ℕ, ◌+◌, ◌*◌, ◌%◌, ◌<◌, ◌≤◌, true, List, [], ◌∷◌, ◌++◌, map, length, sym, ap, ◌∙◌, arith, append_assoc}
 use Rattle.std.specs.List.{range_with_len}
 use Rattle.std.proofs.lemmas.Bool.{and_parts, ltb-true, leb-true, eqb-true, eq-eqb, lt-ltb, le-leb}
 use Rattle.std.specs.Cmp.Derive.{both_true}
-use Rattle.std.proofs.lemmas.List.{append-nil, length-append, length-take, length-drop, length-map, map-append}
+use Rattle.std.proofs.lemmas.List.{append-nil, length-append, length-map, map-append}
 use Rattle.std.proofs.lemmas.List.FromFn.{length-range_with_len, map-range_with_len_more}
-use Rattle.vk_base.specs.Ranges.{range_of, bytes_in}
 use Rattle.vk_packet.specs.Posts.{Posts}
-use Rattle.vk_packet.specs.Rules.{is_place, piece_len}
+use Rattle.vk_packet.specs.Rules.{is_place}
 use Rattle.vk_stands.specs.Rules.{posted}
 
 -- where a packet of a move may start
@@ -28,23 +27,6 @@ pub is_at : (total offset : ℕ) → IsAt total offset → is_place total offset
 is_at total offset h =
     both_true (both_true (both_true (lt-ltb 0 total h.some) (le-leb total 65536 h.few)) (eq-eqb (offset % 1024) 0 h.multiple))
     (lt-ltb offset total h.inside)
-
--- the next packet's place
-pub next_place : (total offset i : ℕ) → is_place total offset ≡ true → offset + 1024 * i < total → is_place total (offset + 1024 * i) ≡ true
-next_place total offset i t lt =
-    let h = place_is total offset t in
-    is_at total (offset + 1024 * i) (record { some = h.some; few = h.few; multiple = omega arith; inside = lt })
-
--- the bytes of a range that lies in a memory
-pub length_bytes : (start count : ℕ) (memory : List ℕ) → start + count ≤ length memory →
-    length (bytes_in (range_of start count) memory) ≡ count
-length_bytes start count memory within = length-take _ _ ∙ (omega (arith, length-drop start memory))
-
-pub has_length : (memory : List ℕ) (src count offset : ℕ) → src + count ≤ length memory → is_place count offset ≡ true →
-    length (bytes_in (range_of (src + offset) (min (count - offset) 1024)) memory) ≡ piece_len count offset
-has_length memory src count offset within t =
-    let h = place_is count offset t in
-    length_bytes (src + offset) (min (count - offset) 1024) memory (omega arith)
 
 -- one more of them
 pub one_more : {A B : Type 0} (post : A → B) (packet : ℕ → A) (from i : ℕ) (posts : List B) →

@@ -45,7 +45,7 @@ use Rattle.vk_stands.proofs.SentSteps.{change_is, opened, opens}
 use Rattle.vk_move.specs.declared.sender.Piece.TheVariants as pieces
 use Rattle.vk_move.specs.declared.sender.Sender.{Sender}
 use Rattle.vk_move.specs.declared.sender.Sender.TheVariants as senders
-use Rattle.vk_move.specs.Moved.{Moved, change_note, progressed, still}
+use Rattle.vk_move.specs.Moved.{Moved, change_note, moving_by, progressed, still}
 use Rattle.vk_move.specs.Right.{IsMoveRule, IsRight}
 use Rattle.vk_move.specs.Sender.{bytes_of, bytes_wanted, may_read, request_moved, request_taken, sender_by}
 use Rattle.vk_move.proofs.Data.{never, some_number}
@@ -248,12 +248,12 @@ module _ (c : Settings) (host : ℕ) (r : Reading) (h : Header) (from to : Pid) 
   right_sender senders.Gone d = quiet (MoveNegative to from number moving ∷ []) (out_by None d.0 ∙ made true d.1) calm_gone
   right_sender (senders.Waits m current done) w = right_waits m current done w
 
-  pub request_right : Right (request_taken from to number moving src total offset t.seats)
+  pub request_right : Right (request_taken (moving_by from to number moving) src total offset t.seats)
   request_right = right_sender (sender_by to from number (seat_in t.seats to)) (decided c.times host t r stands from to own number)
 
 pub request_rule : (times : Times) (now : ℕ) (from to : Pid) (number moving src total offset : ℕ) (seats : List Seat) →
     IsMoveRule times now (MoveRequest from to number moving src total offset) seats
-    (request_taken from to number moving src total offset seats)
+    (request_taken (moving_by from to number moving) src total offset seats)
 request_rule times now from to number moving src total offset seats c host t r h same at fit stands taken =
     request_right c host r h from to number moving src total offset taken (record t { seats = seats }) fit
     (subst (λ x. Stands x host (record t { seats = seats }) r) (sym same) stands)

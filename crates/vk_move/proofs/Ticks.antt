@@ -14,12 +14,13 @@ use Rattle.vk_packet.specs.Rules.{is_place}
 use Rattle.vk_procs.specs.declared.seat.ProcNote.{ProcNote}
 use Rattle.vk_procs.specs.declared.seat.Seat.{Seat}
 use Rattle.vk_procs.specs.Seats.{seat_in}
+use Rattle.vk_procs.specs.Works.{work_in}
 use Rattle.vk_stands.specs.Fit.{is_move_of, is_remote_move, may_go_on, may_wait}
 use Rattle.vk_timer.specs.declared.work.Due.{Due}
 use Rattle.vk_timer.specs.declared.work.Due.TheVariants as dues
 use Rattle.vk_timer.specs.Works.{due_at, work_at}
 use Rattle.vk_move.specs.declared.tick.Ticked.TheVariants as ticks
-use Rattle.vk_move.specs.Due.{ticked_at, ticked_by, ticked_in, work_in}
+use Rattle.vk_move.specs.Due.{ticked_at, ticked_by, ticked_in}
 use Rattle.vk_move.specs.Moved.{CanGoOn, HasFitSeats, going}
 use Rattle.vk_move.proofs.Going.{found_fits, goes_from, goes_to}
 
@@ -50,16 +51,16 @@ from_by dues.NotDue n offset tries from is = cc
 from_by dues.GiveUp n offset tries from is = cc
 from_by dues.Resend n offset tries from is = cc
 
-moving_by : (b : Bool) (t : Times) (now : ℕ) (note : ProcNote) (tries from : ℕ) →
-    cond b (ticked_at t now note) ticks.Nothing ≡ ticks.Again tries from → (b ≡ true) × (note.offset ≡ from)
-moving_by true t now note tries from is =
-    (refl, from_by (due_at t now (work_in note)) (work_at t now (work_in note)).tries note.offset tries from is)
-moving_by false t now note tries from is = cc
+moving_by : (b : Bool) (t : Times) (now : ℕ) (s : Seat) (tries from : ℕ) →
+    cond b (ticked_at t now s) ticks.Nothing ≡ ticks.Again tries from → (b ≡ true) × (s.note.offset ≡ from)
+moving_by true t now s tries from is =
+    (refl, from_by (due_at t now (work_in s)) (work_at t now (work_in s)).tries s.note.offset tries from is)
+moving_by false t now s tries from is = cc
 
 pub tick_goes_on : (seats : List Seat) (fit : HasFitSeats seats) (pid : Pid) (t : Times) (now tries from : ℕ) →
     ticks.Again tries from ≡ ticked_in t now (seat_in seats pid) → CanGoOn seats pid from
 tick_goes_on seats fit pid t now tries from is s found =
     let f = found_fits seats fit pid s found in
-    let x = moving_by (is_moving (state_of s.doing)) t now s.note tries from (ap (ticked_in t now) (sym found) ∙ sym is) in
+    let x = moving_by (is_moving (state_of s.doing)) t now s tries from (ap (ticked_in t now) (sym found) ∙ sym is) in
     ap (λ n. going (length s.memory) n s.note.moving s.doing) (sym x.1)
     ∙ goes_still s.doing s.pid (length s.memory) s.note f.waits f.moves x.0

@@ -65,6 +65,11 @@ before_by true true done before opens is low = let e : 0 ≡ before = cc in omeg
 before_by true false done before opens is low = let e : done ≡ before = cc in omega arith
 before_by false a done before opens is low = cc
 
+-- so many bytes are done after it
+pub done_low : (next : Bool) (end before : ℕ) → end ≤ 65536 → before ≤ 65536 → cond next end before ≤ 65536
+done_low true end before low so_far = low
+done_low false end before low so_far = so_far
+
 low_by : (x : Sender) (moving dest total : ℕ) (opens : Bool) (before : ℕ) →
     ((m : Message) (opened done : ℕ) → x ≡ senders.Waits m opened done → done ≤ 65536) →
     data_wanted moving dest total x ≡ pieces.Wanted opens before → before ≤ 65536

@@ -1,5 +1,5 @@
 -- A move that is begun, by the tables.
-use Rattle.std.specs.Prelude.{ℕ, ◌≡◌, ◌<◌, ◌^◌, ◌+◌, Bool, true, false, ◌==◌, ◌&&◌, not, nat_lt, List, [], length, Option, Some, None, option_map, if◌then◌else◌}
+use Rattle.std.specs.Prelude.{ℕ, ◌≡◌, ◌<◌, ◌^◌, ◌+◌, Bool, true, false, ◌==◌, ◌&&◌, not, nat_lt, List, [], ◌∷◌, ◌++◌, length, Option, Some, None, option_map, if◌then◌else◌}
 use Rattle.std.specs.List.{position}
 use Rattle.std.specs.Option.{option_map_or}
 use Rattle.vk_base.specs.declared.activity.Activity.TheVariants as activities
@@ -18,6 +18,7 @@ use Rattle.vk_base.specs.declared.limits.TheConstants.{MOVE_BYTES}
 use Rattle.vk_base.specs.declared.message.Message.{Message}
 use Rattle.vk_base.specs.declared.pid.Pid.{Pid}
 use Rattle.vk_base.specs.declared.step.Step.{Step}
+use Rattle.vk_base.specs.declared.step.Step.TheVariants as made
 use Rattle.vk_base.specs.Firsts.{change_first}
 use Rattle.vk_base.specs.Kernel.{name_of}
 use Rattle.vk_base.specs.Packets.{Packet}
@@ -32,10 +33,11 @@ use Rattle.vk_procs.specs.declared.seat.Seat.{Seat}
 use Rattle.vk_procs.specs.Seats.{doing_now, is_seat, seat_in}
 use Rattle.vk_stands.specs.Fit.{AreFit, IsFitAlien}
 use Rattle.vk_stands.specs.Held.{Holding, alien_holding}
-use Rattle.vk_stands.specs.Rules.{Doing, IsCallRule, given_by}
+use Rattle.vk_stands.specs.Rules.{Doing, IsCallRule, given_by, posted}
 use Rattle.vk_stands.specs.Tables.{Tables}
 use Rattle.vk_move.specs.declared.begun.Verdict.{Verdict}
 use Rattle.vk_move.specs.declared.begun.Verdict.TheVariants as verdicts
+use Rattle.vk_move.specs.declared.moves.Transfer.{Transfer}
 use Rattle.vk_move.specs.Moved.{change_note, going, round_from}
 
 -- Whether a move may be made: the message of the partner that the process holds, if it does, grants this access to a segment that has
@@ -147,6 +149,16 @@ way_begun t now pid way partner dest src count seats slots =
     begun_by t now pid (waiting_in way partner dest src count) (position (is_alien_from partner) slots) partner
     (verdict_in seats slots pid partner way dest src count) seats slots
 
+-- the same of what a process calls for, and of a verdict on it
+abbrev pub transfer_by : Times → ℕ → Pid → Transfer → Verdict → List Seat → List (Option Alien) → Begun
+transfer_by t now pid x verdict seats slots =
+    begun_by t now pid (waiting_in x.way x.partner x.dest x.src x.count) (position (is_alien_from x.partner) slots) x.partner verdict
+    seats slots
+
+abbrev pub transfer_begun : Times → ℕ → Pid → Transfer → List Seat → List (Option Alien) → Begun
+transfer_begun t now pid x seats slots =
+    transfer_by t now pid x (verdict_in seats slots pid x.partner x.way x.dest x.src x.count) seats slots
+
 abbrev pub move_begun : Times → ℕ → Pid → Call → List Seat → List (Option Alien) → Begun
 move_begun t now pid (calls.MoveTo partner dest src count) seats slots = way_begun t now pid directions.To partner dest src count seats
     slots
@@ -187,3 +199,12 @@ abbrev pub IsBeginRule : Times → ℕ → Pid → Call → Option Outcome → (
 IsBeginRule times now pid call answer before after = (t : Tables) → AreFit pid.host (beside t before).tables →
     IsCallRule times pid.host now pid call (given_by answer) (beside t before) (beside t after)
     × AreFit pid.host (beside t after).tables
+
+-- What comes of a call of a move: its answer, the processes and aliens, the packets and the step, and that it is right.
+pub record IsMoveBegun (times : Times) (now : ℕ) (pid : Pid) (call : Call) (given : Option Outcome) (before after : Doing) : Type 0 where
+  pub answer : given ≡ (move_begun times now pid call before.tables.seats before.tables.slots).answer
+  pub seats : after.tables.seats ≡ (move_begun times now pid call before.tables.seats before.tables.slots).seats
+  pub slots : after.tables.slots ≡ (move_begun times now pid call before.tables.seats before.tables.slots).slots
+  pub packets : after.out ≡ posted before.out (move_begun times now pid call before.tables.seats before.tables.slots).packets
+  pub steps : after.steps ≡ before.steps ++ made.Call pid call ∷ []
+  pub right : IsBeginRule times now pid call given before after

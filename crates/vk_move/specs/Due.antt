@@ -1,41 +1,41 @@
 -- What a tick finds of the move that a process waits in.
-use Rattle.std.specs.Prelude.{ℕ, ◌≡◌, Bool, true, List, option_to_list, Option, Some, None, if◌then◌else◌}
+use Rattle.std.specs.Prelude.{ℕ, ◌≡◌, ◌++◌, Bool, true, List, option_to_list, Option, Some, None, if◌then◌else◌}
 use Rattle.vk_base.specs.declared.answer.Ending.TheVariants as endings
 use Rattle.vk_base.specs.declared.config.Times.{Times}
 use Rattle.vk_base.specs.declared.pid.Pid.{Pid}
+use Rattle.vk_base.specs.declared.step.Step.{Step}
 use Rattle.vk_base.specs.Activities.{state_of}
 use Rattle.vk_base.specs.Kernel.{holds_of, is_moving}
-use Rattle.vk_procs.specs.declared.seat.ProcNote.{ProcNote}
+use Rattle.vk_packet.specs.Posts.{Posts}
 use Rattle.vk_procs.specs.declared.seat.Seat.{Seat}
 use Rattle.vk_procs.specs.Seats.{seat_in}
+use Rattle.vk_procs.specs.Works.{work_in}
 use Rattle.vk_rules.specs.CallOutcomes.{failed, sent_again}
 use Rattle.vk_rules.specs.Readings.{Reading}
 use Rattle.vk_stands.specs.Fit.{AreFit}
+use Rattle.vk_stands.specs.Rules.{posted}
 use Rattle.vk_stands.specs.Stands.{Stands}
 use Rattle.vk_stands.specs.Tables.{Tables}
 use Rattle.vk_timer.specs.declared.work.Due.{Due}
 use Rattle.vk_timer.specs.declared.work.Due.TheVariants as dues
-use Rattle.vk_timer.specs.declared.work.Work.{Work}
 use Rattle.vk_timer.specs.Works.{due_at, work_at}
 use Rattle.vk_move.specs.declared.tick.Ticked.{Ticked}
 use Rattle.vk_move.specs.declared.tick.Ticked.TheVariants as ticks
+use Rattle.vk_move.specs.Fitting.{KeepsFit}
 use Rattle.vk_move.specs.Moved.{Moved, still}
 use Rattle.vk_move.specs.Mover.{ended, goes_on}
-
-abbrev pub work_in : ProcNote → Work
-work_in note = record { tries = note.tries; deadline = note.deadline }
 
 abbrev pub ticked_by : Due → ℕ → ℕ → Ticked
 ticked_by dues.NotDue tries from = ticks.Nothing
 ticked_by dues.GiveUp tries from = ticks.Ends
 ticked_by dues.Resend tries from = ticks.Again tries from
 
-abbrev pub ticked_at : Times → ℕ → ProcNote → Ticked
-ticked_at t now note = ticked_by (due_at t now (work_in note)) (work_at t now (work_in note)).tries note.offset
+abbrev pub ticked_at : Times → ℕ → Seat → Ticked
+ticked_at t now s = ticked_by (due_at t now (work_in s)) (work_at t now (work_in s)).tries s.note.offset
 
 abbrev pub ticked_in : Times → ℕ → Option Seat → Ticked
 ticked_in t now None = ticks.Nothing
-ticked_in t now (Some s) = if is_moving (state_of s.doing) then ticked_at t now s.note else ticks.Nothing
+ticked_in t now (Some s) = if is_moving (state_of s.doing) then ticked_at t now s else ticks.Nothing
 
 abbrev pub tick_moved : Times → ℕ → Pid → Ticked → List Seat → Moved
 tick_moved t now pid ticks.Nothing seats = still seats
@@ -59,3 +59,11 @@ abbrev pub IsDueRule : Times → ℕ → Pid → List Seat → Type 0
 IsDueRule times now pid seats =
     (host : ℕ) (t : Tables) (r : Reading) → pid.host ≡ host → waits_in_move seats pid ≡ true → AreFit host (record t { seats = seats }) →
     Stands times host (record t { seats = seats }) r → IsRightDue now pid times r (due_moved times now pid seats)
+
+-- What comes of a tick: the processes, steps and packets, which fit as before, and that they are right.
+pub record IsDue (times : Times) (now : ℕ) (pid : Pid) (old new : List Seat) (before after : List Step) (sent out : Posts) : Type 0 where
+  pub seats : new ≡ (due_moved times now pid old).seats
+  pub steps : after ≡ before ++ (due_moved times now pid old).steps
+  pub packets : out ≡ posted sent (due_moved times now pid old).packets
+  pub fit : KeepsFit old new
+  pub right : IsDueRule times now pid old

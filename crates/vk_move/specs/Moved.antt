@@ -9,6 +9,7 @@ use Rattle.vk_base.specs.declared.kernel.Name.{Name}
 use Rattle.vk_base.specs.declared.pid.Pid.{Pid}
 use Rattle.vk_base.specs.declared.step.Step.{Step}
 use Rattle.vk_base.specs.Firsts.{change_first}
+use Rattle.vk_base.specs.Kernel.{name_of}
 use Rattle.vk_base.specs.Packets.{Packet}
 use Rattle.vk_base.specs.Ranges.{range_of, lies_in}
 use Rattle.vk_procs.specs.declared.seat.ProcNote.{ProcNote}
@@ -18,6 +19,7 @@ use Rattle.vk_procs.specs.Seats.{is_seat, seat_in}
 use Rattle.vk_rules.specs.PacketOutcomes.{bytes_packet}
 use Rattle.vk_rules.specs.Rounds.{data_packets, offsets, request_packet}
 use Rattle.vk_stands.specs.Fit.{IsFitSeat}
+use Rattle.vk_move.specs.declared.moves.Moving.{Moving}
 
 pub record Moved : Type 0 where
   pub seats : List Seat
@@ -26,6 +28,10 @@ pub record Moved : Type 0 where
 
 abbrev pub still : List Seat → Moved
 still seats = record { seats = seats; steps = []; packets = [] }
+
+-- the move of this number in the Send of this number, which the mover makes
+abbrev pub moving_by : (mover sender : Pid) (number moving : ℕ) → Moving
+moving_by mover sender number moving = record { name = record { exchange = name_of sender number; number = moving }; mover = mover }
 
 -- the packets of the bytes that a request asks for
 abbrev pub asked_packets : Name → (mover : Pid) (moving src total from : ℕ) (memory : List ℕ) → List Packet

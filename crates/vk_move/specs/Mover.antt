@@ -19,6 +19,7 @@ use Rattle.vk_procs.specs.declared.seat.ProcNote.{ProcNote}
 use Rattle.vk_procs.specs.declared.seat.Seat.{Seat}
 use Rattle.vk_procs.specs.Seats.{finished, is_seat, process_of, seat_in, written}
 use Rattle.vk_rules.specs.PacketOutcomes.{copies_bytes}
+use Rattle.vk_move.specs.declared.moves.Moving.{Moving}
 use Rattle.vk_move.specs.declared.mover.Acked.{Acked}
 use Rattle.vk_move.specs.declared.mover.Acked.TheVariants as acks
 use Rattle.vk_move.specs.declared.mover.Brought.{Brought}
@@ -69,9 +70,8 @@ ack_moved t now pid got acks.Answers seats = record { seats = change_note pid (a
 ack_moved t now pid got acks.Restarts seats = goes_on t now 1 pid got seats
 ack_moved t now pid got acks.Ends seats = ended pid endings.Ok seats
 
-abbrev pub ack_taken : Times → ℕ → (from to : Pid) (number moving got : ℕ) → List Seat → Moved
-ack_taken t now from to number moving got seats =
-    ack_moved t now to got (acked_in (record { sender = from; number = number }) moving got (seat_in seats to)) seats
+abbrev pub ack_taken : Times → ℕ → Moving → ℕ → List Seat → Moved
+ack_taken t now m got seats = ack_moved t now m.mover got (acked_in m.name.exchange m.name.number got (seat_in seats m.mover)) seats
 
 -- Bytes that come: the next ones, which may be the last; or the last behind a gap, where the move goes on from the gap if some
 -- came since the last round.
@@ -106,13 +106,13 @@ bytes_moved t now pid name moving offset bytes (brought.Next dest last) seats = 
   packets = [];
 }
 
-abbrev pub bytes_taken : Times → ℕ → (from to : Pid) (number moving total offset : ℕ) (bytes : List ℕ) → List Seat → Moved
-bytes_taken t now from to number moving total offset bytes seats =
-    let name : Name = record { sender = from; number = number } in
-    bytes_moved t now to name moving offset bytes (brought_in name moving total offset (offset + length bytes) (seat_in seats to)) seats
+abbrev pub bytes_taken : Times → ℕ → Moving → (total offset : ℕ) (bytes : List ℕ) → List Seat → Moved
+bytes_taken t now m total offset bytes seats =
+    bytes_moved t now m.mover m.name.exchange m.name.number offset bytes
+    (brought_in m.name.exchange m.name.number total offset (offset + length bytes) (seat_in seats m.mover)) seats
 
 -- The partner no longer waits.
-abbrev pub gone_taken : (from to : Pid) (number moving : ℕ) → List Seat → Moved
-gone_taken from to number moving seats =
-    if holds_of (is_mover (record { sender = from; number = number }) moving) (seat_in seats to) then ended to endings.Gone seats
+abbrev pub gone_taken : Moving → List Seat → Moved
+gone_taken m seats =
+    if holds_of (is_mover m.name.exchange m.name.number) (seat_in seats m.mover) then ended m.mover endings.Gone seats
     else still seats

@@ -1,20 +1,23 @@
 -- What it means that a rule of moves is right: for every reading that the tables stand for it makes the steps and the packets of the right
 -- entry, and the tables then stand for the reading after it.
-use Rattle.std.specs.Prelude.{ℕ, ◌≡◌, List}
+use Rattle.std.specs.Prelude.{ℕ, ◌≡◌, ◌++◌, List}
 use Rattle.vk_base.specs.declared.config.Times.{Times}
 use Rattle.vk_base.specs.declared.event.EventAnswer.TheVariants as events_answered
 use Rattle.vk_base.specs.Packets.{Packet, MoveData, MoveAck, MoveBytes, MoveRequest, MoveNegative}
+use Rattle.vk_base.specs.declared.step.Step.{Step}
 use Rattle.vk_base.specs.Settings.{Settings}
 use Rattle.vk_frame.specs.declared.header.Header.{Header}
+use Rattle.vk_packet.specs.Posts.{Posts}
 use Rattle.vk_procs.specs.declared.seat.Seat.{Seat}
 use Rattle.vk_rules.specs.Entries.{Delivered, Entry}
 use Rattle.vk_rules.specs.Frames.{Framed}
 use Rattle.vk_rules.specs.Readings.{Reading, reading_after}
 use Rattle.vk_rules.specs.Right.{answer_to, right_entry}
 use Rattle.vk_stands.specs.Fit.{AreFit}
-use Rattle.vk_stands.specs.Rules.{packets_in}
+use Rattle.vk_stands.specs.Rules.{packets_in, posted}
 use Rattle.vk_stands.specs.Stands.{Stands}
 use Rattle.vk_stands.specs.Tables.{Tables}
+use Rattle.vk_move.specs.Fitting.{KeepsFit}
 use Rattle.vk_move.specs.Moved.{Moved}
 use Rattle.vk_move.specs.Taken.{packet_taken}
 
@@ -50,3 +53,12 @@ IsSenderRule times now (MoveRequest from to number moving src total offset) seat
     IsMoveRule times now (MoveRequest from to number moving src total offset) seats
     (packet_taken times now (MoveRequest from to number moving src total offset) seats)
 IsSenderRule times now p seats = Unit {0}
+
+-- What comes of a packet: the processes, steps and packets that its rule makes, which fit as before, and that it is right.
+pub record IsTaken (times : Times) (now : ℕ) (p : Packet) (old new : List Seat) (before after : List Step) (sent out : Posts) : Type 0 where
+  pub seats : new ≡ (packet_taken times now p old).seats
+  pub steps : after ≡ before ++ (packet_taken times now p old).steps
+  pub packets : out ≡ posted sent (packet_taken times now p old).packets
+  pub fit : KeepsFit old new
+  pub mover : IsMoverRule times now p old
+  pub sender : IsSenderRule times now p old

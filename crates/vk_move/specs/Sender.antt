@@ -9,7 +9,6 @@ use Rattle.vk_base.specs.declared.pid.Pid.{Pid}
 use Rattle.vk_base.specs.declared.step.Step.{Step}
 use Rattle.vk_base.specs.declared.step.Step.TheVariants as steps
 use Rattle.vk_base.specs.Firsts.{change_first}
-use Rattle.vk_base.specs.Kernel.{name_of}
 use Rattle.vk_base.specs.Messages.{grants_read, grants_write, segment_of}
 use Rattle.vk_base.specs.Packets.{Packet, MoveAck, MoveNegative}
 use Rattle.vk_base.specs.Pids.{same_host}
@@ -20,6 +19,7 @@ use Rattle.vk_procs.specs.Seats.{is_seat, seat_in, written}
 use Rattle.vk_rules.specs.PacketOutcomes.{copies_bytes}
 use Rattle.vk_rules.specs.Rounds.{list_if}
 use Rattle.vk_rules.specs.Works.{is_last}
+use Rattle.vk_move.specs.declared.moves.Moving.{Moving}
 use Rattle.vk_move.specs.declared.sender.Piece.{Piece}
 use Rattle.vk_move.specs.declared.sender.Piece.TheVariants as pieces
 use Rattle.vk_move.specs.declared.sender.Sender.{Sender}
@@ -40,6 +40,9 @@ sender_doing pid mover number note d = made_by number note
 abbrev pub sender_by : Pid → Pid → ℕ → Option Seat → Sender
 sender_by pid mover number None = senders.Unknown
 sender_by pid mover number (Some s) = sender_doing pid mover number s.note s.doing
+
+abbrev pub sender_of : Moving → List Seat → Sender
+sender_of m seats = sender_by m.name.exchange.sender m.mover m.name.exchange.number (seat_in seats m.name.exchange.sender)
 
 -- What is done with a packet of its mover: nothing; it is told that the sender waits no longer; or the packet is of the open move, or of
 -- one that is opened by it, of which so many bytes are done.
@@ -89,10 +92,10 @@ data_moved name mover moving dest total offset bytes (pieces.Wanted opens before
       list_if (is_last total offset bytes) (MoveAck name.sender mover name.number moving (done_after offset before bytes) ∷ []);
 }
 
-abbrev pub data_taken : (from to : Pid) (number moving dest total offset : ℕ) (bytes : List ℕ) → List Seat → Moved
-data_taken from to number moving dest total offset bytes seats =
-    data_moved (name_of to number) from moving dest total offset bytes
-    (data_wanted moving dest total (sender_by to from number (seat_in seats to))) seats
+abbrev pub data_taken : Moving → (dest total offset : ℕ) (bytes : List ℕ) → List Seat → Moved
+data_taken m dest total offset bytes seats =
+    data_moved m.name.exchange m.mover m.name.number dest total offset bytes
+    (data_wanted m.name.number dest total (sender_of m seats)) seats
 
 -- a request, which is answered with all bytes from an offset on
 abbrev pub bytes_of : Name → Pid → ℕ → ℕ → ℕ → ℕ → Option Seat → List Packet
@@ -108,10 +111,10 @@ request_moved name mover moving src total offset (pieces.Wanted opens before) se
   packets = bytes_of name mover moving src total offset (seat_in seats name.sender);
 }
 
-abbrev pub request_taken : (from to : Pid) (number moving src total offset : ℕ) → List Seat → Moved
-request_taken from to number moving src total offset seats =
-    request_moved (name_of to number) from moving src total offset
-    (bytes_wanted moving src total (sender_by to from number (seat_in seats to))) seats
+abbrev pub request_taken : Moving → (src total offset : ℕ) → List Seat → Moved
+request_taken m src total offset seats =
+    request_moved m.name.exchange m.mover m.name.number src total offset
+    (bytes_wanted m.name.number src total (sender_of m seats)) seats
 
 -- the range lies in the memory of the process, if there is one
 abbrev pub IsReadable : ℕ → ℕ → Option Seat → Type 0

@@ -1,18 +1,19 @@
 //! A process begins a move.
 
-ghost use Rattle.std.specs.Prelude.{◌≡◌, ◌≤◌, ◌<◌, ◌+◌, ◌++◌, ◌∷◌, [], ◌^◌, true, length, option_copied, None};
+ghost use Rattle.std.specs.Prelude.{◌≡◌, ◌≤◌, ◌<◌, ◌+◌, ◌^◌, true, length, option_copied, None};
 ghost use Rattle.std.specs.List.{position};
 ghost use Rattle.vk_base.specs.Kernel.{is_move};
 ghost use Rattle.vk_local.specs.Rules.{may_call};
-ghost use Rattle.vk_move.specs.Begun.{CanBegin, HasFewMoves, HasFitAliens, IsBeginRule, begun_by, begun_note, counted, doing_in, grants_access, has_ranges, is_away, message_held, move_begun, moves_of, next_name, size_of, verdict_by, verdict_in, verdict_on, waiting_in, waiting_seats, way_begun};
+ghost use Rattle.vk_move.specs.Begun.{CanBegin, HasFewMoves, HasFitAliens, IsMoveBegun, begun_note, counted, doing_in, grants_access, has_ranges, is_away, message_held, moves_of, next_name, size_of, transfer_begun, transfer_by, verdict_by, verdict_in, verdict_on, waiting_in, waiting_seats};
 ghost use Rattle.vk_move.specs.Moved.{change_note};
 ghost use Rattle.vk_pool.specs.Aliens.{alien_from, is_alien_from};
 ghost use Rattle.vk_procs.specs.Seats.{seat_in};
 ghost use Rattle.vk_stands.specs.Rules.{posted};
 
+use crate::moves::{Tick, Transfer};
 use crate::rounds::post_round;
 use vk_base::limits::MOVE_BYTES;
-use vk_base::{Direction, Message, MoveName, Name, Outcome, Pid, Refusal, Step, Times, Waiting};
+use vk_base::{Direction, Message, MoveName, Name, Outcome, Pid, Refusal, Times, Waiting};
 use vk_brief::{BriefCall, BriefStep, CallView, Steps};
 use vk_packet::Outbox;
 use vk_pool::{Alien, AlienPool, AlienStage};
@@ -124,9 +125,16 @@ fn size_of(procs: &Procs, pid: Pid) -> u32
 }
 
 /// What a process that begins a move waits in.
-fn waiting_in(way: Direction, partner: Pid, dest: u32, src: u32, count: u32) -> Waiting
-    ensures { result ≡ waiting_in way partner dest src count }
+fn waiting_in(transfer: Transfer) -> Waiting
+    ensures { result ≡ waiting_in transfer.way transfer.partner transfer.dest transfer.src transfer.count }
 {
+    let Transfer {
+        way,
+        partner,
+        dest,
+        src,
+        count,
+    } = transfer;
     match way {
         Direction::To => Waiting::MoveTo {
             partner,
@@ -143,23 +151,33 @@ fn waiting_in(way: Direction, partner: Pid, dest: u32, src: u32, count: u32) -> 
     }
 }
 
-fn verdict_in(
-    procs: &Procs,
-    aliens: &AlienPool,
-    pid: Pid,
-    partner: Pid,
-    way: Direction,
-    dest: u32,
-    src: u32,
-    count: u32,
-) -> Verdict
-    ensures { result ≡ verdict_in procs.now aliens.now pid partner way dest src count }
+fn verdict_in(procs: &Procs, aliens: &AlienPool, pid: Pid, transfer: Transfer) -> Verdict
+    ensures { result ≡ verdict_in procs.now aliens.now pid transfer.partner transfer.way transfer.dest transfer.src transfer.count }
 {
-    let message = message_held(aliens.of(partner), pid);
+    let message = message_held(aliens.of(transfer.partner), pid);
     let size = size_of(procs, pid);
+    let way = transfer.way;
     match way {
-        Direction::To => verdict_by(message, way, size, dest, src, count),
-        Direction::From => verdict_by(message, way, size, src, dest, count),
+        Direction::To => {
+            verdict_by(
+                message,
+                way,
+                size,
+                transfer.dest,
+                transfer.src,
+                transfer.count,
+            )
+        }
+        Direction::From => {
+            verdict_by(
+                message,
+                way,
+                size,
+                transfer.src,
+                transfer.dest,
+                transfer.count,
+            )
+        }
     }
 }
 
@@ -181,15 +199,15 @@ fn next_name(aliens: &mut AlienPool, partner: Pid) -> Option<MoveName>
     })
 }
 
-fn note_begun(procs: &mut Procs, pid: Pid, now: u64, times: &Times, name: MoveName)
-    requires { now < 2 ^ 48 }
-    ensures { procs.new ≡ change_note pid (begun_note times.now now name) procs.old }
+fn note_begun(procs: &mut Procs, pid: Pid, tick: Tick, name: MoveName)
+    requires { tick.at < 2 ^ 48 }
+    ensures { procs.new ≡ change_note pid (begun_note tick.times tick.at name) procs.old }
 {
     if let Some(seat) = procs.seat(pid) {
         let note = ProcNote {
             moving: Some(name),
             tries: 1,
-            deadline: now + times.interval as u64,
+            deadline: tick.at + tick.times.interval as u64,
             offset: 0,
             fresh: false,
             ..seat.note
@@ -199,12 +217,12 @@ fn note_begun(procs: &mut Procs, pid: Pid, now: u64, times: &Times, name: MoveNa
 }
 
 /// The process waits in its move from now on.
-fn wait(procs: &mut Procs, pid: Pid, now: u64, times: &Times, waiting: Waiting, name: MoveName)
-    requires { now < 2 ^ 48 }
-    ensures { procs.new ≡ waiting_seats times.now now pid waiting name procs.old }
+fn wait(procs: &mut Procs, pid: Pid, tick: Tick, waiting: Waiting, name: MoveName)
+    requires { tick.at < 2 ^ 48 }
+    ensures { procs.new ≡ waiting_seats tick.times tick.at pid waiting name procs.old }
 {
     procs.wait(pid, waiting);
-    note_begun(procs, pid, now, times, name);
+    note_begun(procs, pid, tick, name);
 }
 
 /// The move is the next of its partner's Send, and its first round goes out.
@@ -212,62 +230,51 @@ fn wait(procs: &mut Procs, pid: Pid, now: u64, times: &Times, waiting: Waiting, 
 fn run(
     procs: &mut Procs,
     aliens: &mut AlienPool,
-    now: u64,
-    times: &Times,
+    tick: Tick,
     out: &mut Outbox,
     pid: Pid,
-    partner: Pid,
-    waiting: Waiting,
+    transfer: Transfer,
 )
-    requires now { now < 2 ^ 48 }
-    requires moves { moves_of aliens.old partner < 2 ^ 48 }
-    requires goes { CanBegin procs.old aliens.old pid partner waiting }
+    requires now { tick.at < 2 ^ 48 }
+    requires moves { moves_of aliens.old transfer.partner < 2 ^ 48 }
+    requires goes { CanBegin procs.old aliens.old pid transfer.partner
+        (waiting_in transfer.way transfer.partner transfer.dest transfer.src transfer.count) }
     requires room { length out.old.posts + 64 ≤ out.old.room }
-    ensures seats { procs.new ≡ (begun_by times.now now pid waiting
-        (position (is_alien_from partner) aliens.old) partner Verdict.Begins procs.old aliens.old).seats }
-    ensures slots { aliens.new ≡ (begun_by times.now now pid waiting
-        (position (is_alien_from partner) aliens.old) partner Verdict.Begins procs.old aliens.old).slots }
+    ensures seats { procs.new ≡ (transfer_by tick.times tick.at pid transfer Verdict.Begins procs.old aliens.old).seats }
+    ensures slots { aliens.new ≡ (transfer_by tick.times tick.at pid transfer Verdict.Begins procs.old aliens.old).slots }
     ensures packets { out.new ≡ posted out.old
-        (begun_by times.now now pid waiting
-        (position (is_alien_from partner) aliens.old) partner Verdict.Begins procs.old aliens.old).packets }
+        (transfer_by tick.times tick.at pid transfer Verdict.Begins procs.old aliens.old).packets }
 {
-    let Some(name) = next_name(aliens, partner) else {
+    let Some(name) = next_name(aliens, transfer.partner) else {
         return;
     };
-    wait(procs, pid, now, times, waiting, name);
+    wait(procs, pid, tick, waiting_in(transfer), name);
     post_round(procs, out, pid, 0);
 }
 
-/// A move that may begin does.
-fn begin_by(
+/// A move to a partner, or from one.
+fn begin_way(
     procs: &mut Procs,
     aliens: &mut AlienPool,
-    now: u64,
-    times: &Times,
+    tick: Tick,
     out: &mut Outbox,
     pid: Pid,
-    partner: Pid,
-    waiting: Waiting,
-    verdict: Verdict,
+    transfer: Transfer,
 ) -> Option<Outcome>
-    requires now { now < 2 ^ 48 }
-    requires moves { moves_of aliens.old partner < 2 ^ 48 }
-    requires goes { verdict ≡ Verdict.Begins → CanBegin procs.old aliens.old pid partner waiting }
+    requires now { tick.at < 2 ^ 48 }
+    requires moves { HasFewMoves aliens.old }
+    requires fit { HasFitAliens aliens.old }
     requires room { length out.old.posts + 64 ≤ out.old.room }
-    ensures answer { result ≡ (begun_by times.now now pid waiting
-        (position (is_alien_from partner) aliens.old) partner verdict procs.old aliens.old).answer }
-    ensures seats { procs.new ≡ (begun_by times.now now pid waiting
-        (position (is_alien_from partner) aliens.old) partner verdict procs.old aliens.old).seats }
-    ensures slots { aliens.new ≡ (begun_by times.now now pid waiting
-        (position (is_alien_from partner) aliens.old) partner verdict procs.old aliens.old).slots }
-    ensures packets { out.new ≡ posted out.old
-        (begun_by times.now now pid waiting (position (is_alien_from partner) aliens.old) partner verdict procs.old aliens.old).packets }
+    ensures answer { result ≡ (transfer_begun tick.times tick.at pid transfer procs.old aliens.old).answer }
+    ensures seats { procs.new ≡ (transfer_begun tick.times tick.at pid transfer procs.old aliens.old).seats }
+    ensures slots { aliens.new ≡ (transfer_begun tick.times tick.at pid transfer procs.old aliens.old).slots }
+    ensures packets { out.new ≡ posted out.old (transfer_begun tick.times tick.at pid transfer procs.old aliens.old).packets }
 {
-    match verdict {
+    match verdict_in(procs, aliens, pid, transfer) {
         Verdict::Refused { why } => Some(Outcome::Refused { why }),
         Verdict::Made => Some(Outcome::Ok),
         Verdict::Begins => {
-            run(procs, aliens, now, times, out, pid, partner, waiting);
+            run(procs, aliens, tick, out, pid, transfer);
             None
         }
     }
@@ -294,16 +301,13 @@ pub fn begin(
     requires fit { HasFitAliens aliens.old }
     requires packets { length out.old.posts + 64 ≤ out.old.room }
     requires room { length steps.old + 1 ≤ 40 }
-    ensures answer { result ≡ (move_begun times.now now pid call.now procs.old aliens.old).answer }
-    ensures seats { procs.new ≡ (move_begun times.now now pid call.now procs.old aliens.old).seats }
-    ensures slots { aliens.new ≡ (move_begun times.now now pid call.now procs.old aliens.old).slots }
-    ensures packets { out.new ≡ posted out.old (move_begun times.now now pid call.now procs.old aliens.old).packets }
-    ensures steps { steps.new ≡ steps.old ++ Step.Call pid call.now ∷ [] }
-    ensures right { IsBeginRule times.now now pid call.now result (doing_in procs.old aliens.old steps.old out.old)
+    ensures { IsMoveBegun times.now now pid call.now result (doing_in procs.old aliens.old steps.old out.old)
         (doing_in procs.new aliens.new steps.new out.new) }
 {
-    let to = Direction::To;
-    let from = Direction::From;
+    let tick = Tick {
+        at: now,
+        times: *times,
+    };
     let (call, _) = call.parts();
     match *call {
         BriefCall::MoveTo {
@@ -313,9 +317,15 @@ pub fn begin(
             count,
         } => {
             steps.push(BriefStep::Call { pid, call: *call });
-            begin_way(
-                procs, aliens, now, times, out, pid, to, partner, dest, src, count,
-            )
+            let way = Direction::To;
+            let transfer = Transfer {
+                way,
+                partner,
+                dest,
+                src,
+                count,
+            };
+            begin_way(procs, aliens, tick, out, pid, transfer)
         }
         BriefCall::MoveFrom {
             partner,
@@ -324,40 +334,16 @@ pub fn begin(
             count,
         } => {
             steps.push(BriefStep::Call { pid, call: *call });
-            begin_way(
-                procs, aliens, now, times, out, pid, from, partner, dest, src, count,
-            )
+            let way = Direction::From;
+            let transfer = Transfer {
+                way,
+                partner,
+                dest,
+                src,
+                count,
+            };
+            begin_way(procs, aliens, tick, out, pid, transfer)
         }
         _ => unreachable!(),
     }
-}
-
-/// A move to a partner, or from one.
-fn begin_way(
-    procs: &mut Procs,
-    aliens: &mut AlienPool,
-    now: u64,
-    times: &Times,
-    out: &mut Outbox,
-    pid: Pid,
-    way: Direction,
-    partner: Pid,
-    dest: u32,
-    src: u32,
-    count: u32,
-) -> Option<Outcome>
-    requires now { now < 2 ^ 48 }
-    requires moves { HasFewMoves aliens.old }
-    requires fit { HasFitAliens aliens.old }
-    requires room { length out.old.posts + 64 ≤ out.old.room }
-    ensures answer { result ≡ (way_begun times.now now pid way partner dest src count procs.old aliens.old).answer }
-    ensures seats { procs.new ≡ (way_begun times.now now pid way partner dest src count procs.old aliens.old).seats }
-    ensures slots { aliens.new ≡ (way_begun times.now now pid way partner dest src count procs.old aliens.old).slots }
-    ensures packets { out.new ≡ posted out.old (way_begun times.now now pid way partner dest src count procs.old aliens.old).packets }
-{
-    let verdict = verdict_in(procs, aliens, pid, partner, way, dest, src, count);
-    let waiting = waiting_in(way, partner, dest, src, count);
-    begin_by(
-        procs, aliens, now, times, out, pid, partner, waiting, verdict,
-    )
 }

@@ -8,6 +8,7 @@
 
 mod begun;
 mod mover;
+mod moves;
 mod places;
 mod rounds;
 mod sender;

@@ -10,10 +10,11 @@ ghost use Rattle.vk_base.specs.declared.limits.TheConstants.{MOVE_BYTES};
 ghost use Rattle.vk_procs.specs.Seats.{is_seat, seat_in};
 ghost use Rattle.vk_stands.specs.Rules.{posted};
 
-use crate::places::write_behind;
+use crate::moves::{Moving, Part, Tick, end_of};
+use crate::places::write_part;
 use crate::rounds::post_round;
 use vk_base::limits::DATA_BYTES;
-use vk_base::{Activity, Ending, Name, Outcome, Pid, Refusal, Times, Waiting};
+use vk_base::{Activity, Ending, MoveName, Outcome, Pid, Refusal, Waiting};
 use vk_brief::{BriefStep, Steps};
 use vk_packet::Outbox;
 use vk_procs::{ProcNote, Procs, Seat};
@@ -38,17 +39,17 @@ pub enum Brought {
 }
 
 /// Whether the process of this seat waits in this move.
-fn is_mover(seat: &Seat, name: Name, moving: u64) -> bool
-    ensures { result ≡ is_mover name moving seat.now }
+fn is_mover(seat: &Seat, name: MoveName) -> bool
+    ensures { result ≡ is_mover name.exchange name.number seat.now }
 {
     if !seat.doing.is_moving() {
         return false;
     }
     match seat.note.moving {
         Some(m) => {
-            m.exchange.sender == name.sender
-                && m.exchange.number == name.number
-                && m.number == moving
+            m.exchange.sender == name.exchange.sender
+                && m.exchange.number == name.exchange.number
+                && m.number == name.number
         }
         None => false,
     }
@@ -70,8 +71,8 @@ fn acked_by(note: &ProcNote, count: u32, received: u32) -> Acked
     }
 }
 
-fn acked_in(seat: Option<&Seat>, name: Name, moving: u64, received: u32) -> Acked
-    ensures { result ≡ acked_in name moving received (option_copied seat.entry) }
+fn acked_in(seat: Option<&Seat>, name: MoveName, received: u32) -> Acked
+    ensures { result ≡ acked_in name.exchange name.number received (option_copied seat.entry) }
 {
     let Some(seat) = seat else {
         return Acked::Nothing;
@@ -80,7 +81,7 @@ fn acked_in(seat: Option<&Seat>, name: Name, moving: u64, received: u32) -> Acke
         Activity::Blocked {
             waiting: Waiting::MoveTo { count, .. },
         } => {
-            if is_mover(seat, name, moving) {
+            if is_mover(seat, name) {
                 acked_by(&seat.note, count, received)
             } else {
                 Acked::Nothing
@@ -110,15 +111,8 @@ fn brought_by(note: &ProcNote, dest: u32, total: u32, offset: u32, end: u32) -> 
     }
 }
 
-fn brought_in(
-    seat: Option<&Seat>,
-    name: Name,
-    moving: u64,
-    total: u32,
-    offset: u32,
-    end: u32,
-) -> Brought
-    ensures { result ≡ brought_in name moving total offset end (option_copied seat.entry) }
+fn brought_in(seat: Option<&Seat>, name: MoveName, total: u32, offset: u32, end: u32) -> Brought
+    ensures { result ≡ brought_in name.exchange name.number total offset end (option_copied seat.entry) }
 {
     let Some(seat) = seat else {
         return Brought::Nothing;
@@ -127,7 +121,7 @@ fn brought_in(
         Activity::Blocked {
             waiting: Waiting::MoveFrom { dest, count, .. },
         } => {
-            if is_mover(seat, name, moving) && count == total {
+            if is_mover(seat, name) && count == total {
                 brought_by(&seat.note, dest, total, offset, end)
             } else {
                 Brought::Nothing
@@ -137,30 +131,30 @@ fn brought_in(
     }
 }
 
-/// The work of the process was answered at the tick `now`.
-pub fn answer(procs: &mut Procs, pid: Pid, now: u64, times: &Times)
-    requires { now < 2 ^ 48 }
-    ensures { procs.new ≡ change_note pid (answered times.now now) procs.old }
+/// The work of the process was answered at this tick.
+fn answer(procs: &mut Procs, pid: Pid, tick: Tick)
+    requires { tick.at < 2 ^ 48 }
+    ensures { procs.new ≡ change_note pid (answered tick.times tick.at) procs.old }
 {
     if let Some(seat) = procs.seat(pid) {
         let note = ProcNote {
             tries: 0,
-            deadline: now + times.interval as u64,
+            deadline: tick.at + tick.times.interval as u64,
             ..seat.note
         };
         procs.set_note(pid, note);
     }
 }
 
-/// A round of the process's move goes out at the tick `now` from an offset on, and was tried so often with this one.
-pub fn restart(procs: &mut Procs, pid: Pid, now: u64, times: &Times, tries: u32, offset: u32)
-    requires { now < 2 ^ 48 }
-    ensures { procs.new ≡ change_note pid (restarted times.now now tries offset) procs.old }
+/// A round of the process's move goes out at this tick from an offset on, and was tried so often with this one.
+fn restart(procs: &mut Procs, pid: Pid, tick: Tick, tries: u32, offset: u32)
+    requires { tick.at < 2 ^ 48 }
+    ensures { procs.new ≡ change_note pid (restarted tick.times tick.at tries offset) procs.old }
 {
     if let Some(seat) = procs.seat(pid) {
         let note = ProcNote {
             tries,
-            deadline: now + times.interval as u64,
+            deadline: tick.at + tick.times.interval as u64,
             offset,
             fresh: false,
             ..seat.note
@@ -169,15 +163,15 @@ pub fn restart(procs: &mut Procs, pid: Pid, now: u64, times: &Times, tries: u32,
     }
 }
 
-/// So many bytes of the process's move were received at the tick `now`.
-fn receive(procs: &mut Procs, pid: Pid, now: u64, times: &Times, offset: u32)
-    requires { now < 2 ^ 48 }
-    ensures { procs.new ≡ change_note pid (received times.now now offset) procs.old }
+/// So many bytes of the process's move were received at this tick.
+fn receive(procs: &mut Procs, pid: Pid, tick: Tick, offset: u32)
+    requires { tick.at < 2 ^ 48 }
+    ensures { procs.new ≡ change_note pid (received tick.times tick.at offset) procs.old }
 {
     if let Some(seat) = procs.seat(pid) {
         let note = ProcNote {
             tries: 0,
-            deadline: now + times.interval as u64,
+            deadline: tick.at + tick.times.interval as u64,
             offset,
             fresh: true,
             ..seat.note
@@ -206,150 +200,104 @@ pub fn end(procs: &mut Procs, steps: &mut Steps, pid: Pid, why: Ending)
     steps.push(BriefStep::End { pid, why });
 }
 
-/// A round of the process's move goes out at the tick `now` from an offset on, and was tried so often with this one.
-pub fn go_on(
-    procs: &mut Procs,
-    now: u64,
-    times: &Times,
-    out: &mut Outbox,
-    pid: Pid,
-    tries: u32,
-    from: u32,
-)
-    requires now { now < 2 ^ 48 }
+/// A round of the process's move goes out at this tick from an offset on, and was tried so often with this one.
+pub fn go_on(procs: &mut Procs, tick: Tick, out: &mut Outbox, pid: Pid, tries: u32, from: u32)
+    requires now { tick.at < 2 ^ 48 }
     requires goes { CanGoOn procs.old pid from }
     requires room { length out.old.posts + 64 ≤ out.old.room }
-    ensures seats { procs.new ≡ (goes_on times.now now tries pid from procs.old).seats }
-    ensures packets { out.new ≡ posted out.old (goes_on times.now now tries pid from procs.old).packets }
+    ensures seats { procs.new ≡ (goes_on tick.times tick.at tries pid from procs.old).seats }
+    ensures packets { out.new ≡ posted out.old (goes_on tick.times tick.at tries pid from procs.old).packets }
 {
     post_round(procs, out, pid, from);
-    restart(procs, pid, now, times, tries, from);
-}
-
-/// The next bytes of the process's move are written.
-fn write_next(
-    procs: &mut Procs,
-    steps: &mut Steps,
-    pid: Pid,
-    name: Name,
-    moving: u64,
-    dest: u32,
-    offset: u32,
-    bytes: &[u8],
-)
-    requires few { length bytes.now < 2 ^ 32 }
-    requires room { length steps.old + 1 ≤ 40 }
-    ensures seats { procs.new ≡ next_written pid dest offset bytes.now procs.old }
-    ensures steps { steps.new ≡ steps.old ++ copies_bytes name moving offset bytes.now ∷ [] }
-{
-    write_behind(procs, pid, dest, offset, bytes);
-    steps.push(BriefStep::Copy {
-        sender: name.sender,
-        number: name.number,
-        moving,
-        offset,
-        count: bytes.len() as u32,
-    });
+    restart(procs, pid, tick, tries, from);
 }
 
 /// An acknowledgement of a move to a partner.
 pub fn take_ack(
     procs: &mut Procs,
-    now: u64,
-    times: &Times,
+    tick: Tick,
     out: &mut Outbox,
     steps: &mut Steps,
-    from: Pid,
-    to: Pid,
-    number: u64,
-    moving: u64,
+    moving: Moving,
     received: u32,
 )
-    requires now { now < 2 ^ 48 }
+    requires now { tick.at < 2 ^ 48 }
     requires fit { HasFitSeats procs.old }
     requires packets { length out.old.posts + 64 ≤ out.old.room }
     requires room { length steps.old + 1 ≤ 40 }
-    ensures seats { procs.new ≡ (ack_taken times.now now from to number moving received procs.old).seats }
-    ensures steps { steps.new ≡ steps.old ++ (ack_taken times.now now from to number moving received procs.old).steps }
-    ensures packets { out.new ≡ posted out.old (ack_taken times.now now from to number moving received procs.old).packets }
+    ensures seats { procs.new ≡ (ack_taken tick.times tick.at moving received procs.old).seats }
+    ensures steps { steps.new ≡ steps.old ++ (ack_taken tick.times tick.at moving received procs.old).steps }
+    ensures packets { out.new ≡ posted out.old (ack_taken tick.times tick.at moving received procs.old).packets }
 {
-    let name = Name {
-        sender: from,
-        number,
-    };
-    match acked_in(procs.seat(to), name, moving, received) {
+    let pid = moving.mover;
+    match acked_in(procs.seat(pid), moving.name, received) {
         Acked::Nothing => {}
-        Acked::Answers => answer(procs, to, now, times),
-        Acked::Restarts => go_on(procs, now, times, out, to, 1, received),
-        Acked::Ends => end(procs, steps, to, Ending::Ok),
+        Acked::Answers => answer(procs, pid, tick),
+        Acked::Restarts => go_on(procs, tick, out, pid, 1, received),
+        Acked::Ends => end(procs, steps, pid, Ending::Ok),
     }
 }
 
 /// Bytes of a move from a partner.
 pub fn take_bytes(
     procs: &mut Procs,
-    now: u64,
-    times: &Times,
+    tick: Tick,
     out: &mut Outbox,
     steps: &mut Steps,
-    from: Pid,
-    to: Pid,
-    number: u64,
-    moving: u64,
-    total: u32,
-    offset: u32,
-    bytes: &[u8],
+    moving: Moving,
+    part: Part<'_>,
 )
-    requires now { now < 2 ^ 48 }
+    requires now { tick.at < 2 ^ 48 }
     requires fit { HasFitSeats procs.old }
-    requires few { offset + length bytes.now ≤ MOVE_BYTES }
+    requires few { part.offset + length part.bytes.now ≤ MOVE_BYTES }
     requires packets { length out.old.posts + 64 ≤ out.old.room }
     requires room { length steps.old + 2 ≤ 40 }
-    ensures seats { procs.new ≡ (bytes_taken times.now now from to number moving total offset bytes.now procs.old).seats }
+    ensures seats { procs.new ≡
+        (bytes_taken tick.times tick.at moving part.entry.total part.entry.offset part.entry.bytes.now procs.old).seats }
     ensures steps { steps.new ≡ steps.old
-        ++ (bytes_taken times.now now from to number moving total offset bytes.now procs.old).steps }
-    ensures packets { out.new ≡ posted out.old (bytes_taken times.now now from to number moving total offset bytes.now procs.old).packets }
+        ++ (bytes_taken tick.times tick.at moving part.entry.total part.entry.offset part.entry.bytes.now procs.old).steps }
+    ensures packets { out.new ≡ posted out.old
+        (bytes_taken tick.times tick.at moving part.entry.total part.entry.offset part.entry.bytes.now procs.old).packets }
 {
-    let name = Name {
-        sender: from,
-        number,
-    };
-    let end_of = offset + bytes.len() as u32;
-    match brought_in(procs.seat(to), name, moving, total, offset, end_of) {
+    let pid = moving.mover;
+    let end_at = end_of(part);
+    match brought_in(
+        procs.seat(pid),
+        moving.name,
+        part.total,
+        part.offset,
+        end_at,
+    ) {
         Brought::Nothing => {}
-        Brought::Answers => answer(procs, to, now, times),
-        Brought::Restarts { from: at } => go_on(procs, now, times, out, to, 1, at),
+        Brought::Answers => answer(procs, pid, tick),
+        Brought::Restarts { from } => go_on(procs, tick, out, pid, 1, from),
         Brought::Next { dest, last } => {
-            write_next(procs, steps, to, name, moving, dest, offset, bytes);
+            write_part(procs, steps, pid, moving.name, dest, part);
             if last {
-                end(procs, steps, to, Ending::Ok);
+                end(procs, steps, pid, Ending::Ok);
             } else {
-                receive(procs, to, now, times, end_of);
+                receive(procs, pid, tick, end_at);
             }
         }
     }
 }
 
 /// The partner of a move no longer waits.
-pub fn take_gone(procs: &mut Procs, steps: &mut Steps, from: Pid, to: Pid, number: u64, moving: u64)
+pub fn take_gone(procs: &mut Procs, steps: &mut Steps, moving: Moving)
     requires { length steps.old + 1 ≤ 40 }
-    ensures seats { procs.new ≡ (gone_taken from to number moving procs.old).seats }
-    ensures steps { steps.new ≡ steps.old ++ (gone_taken from to number moving procs.old).steps }
+    ensures seats { procs.new ≡ (gone_taken moving procs.old).seats }
+    ensures steps { steps.new ≡ steps.old ++ (gone_taken moving procs.old).steps }
 {
-    let name = Name {
-        sender: from,
-        number,
-    };
-    if is_moving(procs, to, name, moving) {
-        end(procs, steps, to, Ending::Gone);
+    if is_moving(procs, moving) {
+        end(procs, steps, moving.mover, Ending::Gone);
     }
 }
 
-fn is_moving(procs: &Procs, pid: Pid, name: Name, moving: u64) -> bool
-    ensures { result ≡ holds_of (is_mover name moving) (seat_in procs.now pid) }
+fn is_moving(procs: &Procs, moving: Moving) -> bool
+    ensures { result ≡ holds_of (is_mover moving.name.exchange moving.name.number) (seat_in procs.now moving.mover) }
 {
-    match procs.seat(pid) {
-        Some(seat) => is_mover(seat, name, moving),
+    match procs.seat(moving.mover) {
+        Some(seat) => is_mover(seat, moving.name),
         None => false,
     }
 }

@@ -1,11 +1,15 @@
-//! Bytes are written so far behind a place of a memory.
+//! Bytes of a move are written so far behind a place of a memory.
 
-ghost use Rattle.std.specs.Prelude.{◌≡◌, option_copied};
+ghost use Rattle.std.specs.Prelude.{◌≡◌, ◌≤◌, ◌<◌, ◌+◌, ◌++◌, ◌∷◌, [], ◌^◌, length, option_copied};
 ghost use Rattle.vk_base.specs.Firsts.{change_first};
 ghost use Rattle.vk_move.specs.Moved.{place_behind, place_in};
+ghost use Rattle.vk_move.specs.Mover.{next_written};
 ghost use Rattle.vk_procs.specs.Seats.{is_seat, written};
+ghost use Rattle.vk_rules.specs.PacketOutcomes.{copies_bytes};
 
-use vk_base::Pid;
+use crate::moves::Part;
+use vk_base::{MoveName, Pid};
+use vk_brief::{BriefStep, Steps};
 use vk_procs::{Procs, Seat};
 
 /// The place so far behind `start`, where the process has so much memory.
@@ -23,10 +27,35 @@ fn place_behind(seat: Option<&Seat>, start: u32, offset: u32) -> Option<u32>
 }
 
 /// Writes bytes into the memory of the process, `offset` behind `start`. Where they do not all lie in it, nothing changes.
-pub fn write_behind(procs: &mut Procs, pid: Pid, start: u32, offset: u32, bytes: &[u8])
+fn write_behind(procs: &mut Procs, pid: Pid, start: u32, offset: u32, bytes: &[u8])
     ensures { procs.new ≡ change_first (is_seat pid) (written (place_in start offset) bytes.now) procs.old }
 {
     if let Some(at) = place_behind(procs.seat(pid), start, offset) {
         procs.write(pid, at, bytes);
     }
+}
+
+/// The next bytes of a move are written into the memory of the process, of a range that starts at `dest`.
+pub fn write_part(
+    procs: &mut Procs,
+    steps: &mut Steps,
+    pid: Pid,
+    name: MoveName,
+    dest: u32,
+    part: Part<'_>,
+)
+    requires few { length part.bytes.now < 2 ^ 32 }
+    requires room { length steps.old + 1 ≤ 40 }
+    ensures seats { procs.new ≡ next_written pid dest part.entry.offset part.entry.bytes.now procs.old }
+    ensures steps { steps.new ≡ steps.old
+        ++ copies_bytes name.exchange name.number part.entry.offset part.entry.bytes.now ∷ [] }
+{
+    write_behind(procs, pid, dest, part.offset, part.bytes);
+    steps.push(BriefStep::Copy {
+        sender: name.exchange.sender,
+        number: name.exchange.number,
+        moving: name.number,
+        offset: part.offset,
+        count: part.bytes.len() as u32,
+    });
 }

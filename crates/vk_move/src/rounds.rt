@@ -8,8 +8,9 @@ ghost use Rattle.vk_move.specs.Moved.{CanGoOn, asked_packets, going, round_by, r
 ghost use Rattle.vk_procs.specs.Seats.{seat_in};
 ghost use Rattle.vk_stands.specs.Rules.{post_of, posted};
 
+use crate::moves::{Asked, Moving, Transfer};
 use vk_base::limits::DATA_BYTES;
-use vk_base::{Activity, Memory, MoveName, Name, Pid, Waiting};
+use vk_base::{Activity, Direction, Memory, Pid, Waiting};
 use vk_packet::{Outbox, PacketView};
 use vk_procs::{Procs, Seat};
 
@@ -30,34 +31,31 @@ fn pieces(total: u32, offset: u32) -> u32
 fn post_data_piece(
     memory: &Memory,
     out: &mut Outbox,
-    pid: Pid,
-    partner: Pid,
-    name: MoveName,
-    dest: u32,
-    src: u32,
-    count: u32,
+    moving: Moving,
+    transfer: Transfer,
     offset: u32,
 )
-    requires numbers { (is_number name.exchange.number && is_number name.number) ≡ true }
-    requires place { is_place count offset ≡ true }
-    requires inside { src + count ≤ length memory.now }
+    requires numbers { (is_number moving.name.exchange.number && is_number moving.name.number) ≡ true }
+    requires place { is_place transfer.count offset ≡ true }
+    requires inside { transfer.src + transfer.count ≤ length memory.now }
     requires room { length out.old.posts < out.old.room }
     ensures { out.new ≡ record out.old {
       posts = out.old.posts
-          ++ post_of (data_packet pid partner memory.now dest src count name offset) ∷ [];
+          ++ post_of (data_packet moving.mover transfer.partner memory.now
+          transfer.dest transfer.src transfer.count moving.name offset) ∷ [];
     } }
 {
     let _below_2_32 = memory.size();
-    let bytes = memory.bytes(src + offset, PIECE.min(count - offset));
+    let bytes = memory.bytes(transfer.src + offset, PIECE.min(transfer.count - offset));
     out.post(
-        partner.host,
+        transfer.partner.host,
         &PacketView::MoveData {
-            from: pid,
-            to: partner,
-            number: name.exchange.number,
-            moving: name.number,
-            dest,
-            total: count,
+            from: moving.mover,
+            to: transfer.partner,
+            number: moving.name.exchange.number,
+            moving: moving.name.number,
+            dest: transfer.dest,
+            total: transfer.count,
             offset,
             bytes,
         },
@@ -65,133 +63,82 @@ fn post_data_piece(
 }
 
 /// The bytes of a move to its partner, from `from` on.
-pub fn post_data(
-    memory: &Memory,
-    out: &mut Outbox,
-    pid: Pid,
-    partner: Pid,
-    name: MoveName,
-    dest: u32,
-    src: u32,
-    count: u32,
-    from: u32,
-)
-    requires numbers { (is_number name.exchange.number && is_number name.number) ≡ true }
-    requires place { is_place count from ≡ true }
-    requires inside { src + count ≤ length memory.now }
+fn post_data(memory: &Memory, out: &mut Outbox, moving: Moving, transfer: Transfer, from: u32)
+    requires numbers { (is_number moving.name.exchange.number && is_number moving.name.number) ≡ true }
+    requires place { is_place transfer.count from ≡ true }
+    requires inside { transfer.src + transfer.count ≤ length memory.now }
     requires room { length out.old.posts + 64 ≤ out.old.room }
-    ensures { out.new ≡ posted out.old (data_packets pid partner memory.now dest src count from name) }
+    ensures { out.new ≡ posted out.old (data_packets moving.mover transfer.partner memory.now transfer.dest transfer.src
+        transfer.count from moving.name) }
 {
-    let pieces = pieces(count, from);
+    let pieces = pieces(transfer.count, from);
     for piece in 0..pieces {
-        post_data_piece(
-            memory,
-            out,
-            pid,
-            partner,
-            name,
-            dest,
-            src,
-            count,
-            from + PIECE * piece,
-        );
+        post_data_piece(memory, out, moving, transfer, from + PIECE * piece);
     }
 }
 
 /// The request for the bytes of a move from its partner, from `from` on.
-pub fn post_request(
-    out: &mut Outbox,
-    pid: Pid,
-    partner: Pid,
-    name: MoveName,
-    src: u32,
-    count: u32,
-    from: u32,
-)
-    requires numbers { (is_number name.exchange.number && is_number name.number) ≡ true }
-    requires place { is_place count from ≡ true }
+fn post_request(out: &mut Outbox, moving: Moving, transfer: Transfer, from: u32)
+    requires numbers { (is_number moving.name.exchange.number && is_number moving.name.number) ≡ true }
+    requires place { is_place transfer.count from ≡ true }
     requires room { length out.old.posts < out.old.room }
-    ensures { out.new ≡ posted out.old (request_packet pid partner src count from name ∷ []) }
+    ensures { out.new ≡ posted out.old
+        (request_packet moving.mover transfer.partner transfer.src transfer.count from moving.name ∷ []) }
 {
     out.post(
-        partner.host,
+        transfer.partner.host,
         &PacketView::MoveRequest {
-            from: pid,
-            to: partner,
-            number: name.exchange.number,
-            moving: name.number,
-            src,
-            total: count,
+            from: moving.mover,
+            to: transfer.partner,
+            number: moving.name.exchange.number,
+            moving: moving.name.number,
+            src: transfer.src,
+            total: transfer.count,
             offset: from,
         },
     );
 }
 
 /// One packet of the bytes that a mover asked for, from `offset` on.
-fn post_bytes_piece(
-    memory: &Memory,
-    out: &mut Outbox,
-    name: Name,
-    mover: Pid,
-    moving: u64,
-    src: u32,
-    total: u32,
-    offset: u32,
-)
-    requires numbers { (is_number name.number && is_number moving) ≡ true }
-    requires place { is_place total offset ≡ true }
-    requires inside { src + total ≤ length memory.now }
+fn post_bytes_piece(memory: &Memory, out: &mut Outbox, moving: Moving, asked: Asked, offset: u32)
+    requires numbers { (is_number moving.name.exchange.number && is_number moving.name.number) ≡ true }
+    requires place { is_place asked.total offset ≡ true }
+    requires inside { asked.src + asked.total ≤ length memory.now }
     requires room { length out.old.posts < out.old.room }
     ensures { out.new ≡ record out.old {
       posts = out.old.posts
-          ++ post_of (bytes_packet name mover moving src total memory.now offset) ∷ [];
+          ++ post_of (bytes_packet moving.name.exchange moving.mover moving.name.number asked.src asked.total memory.now offset) ∷ [];
     } }
 {
     let _below_2_32 = memory.size();
-    let bytes = memory.bytes(src + offset, PIECE.min(total - offset));
+    let name = moving.name;
+    let bytes = memory.bytes(asked.src + offset, PIECE.min(asked.total - offset));
     out.post(
-        mover.host,
+        moving.mover.host,
         &PacketView::MoveBytes {
-            from: name.sender,
-            to: mover,
-            number: name.number,
-            moving,
-            total,
+            from: name.exchange.sender,
+            to: moving.mover,
+            number: name.exchange.number,
+            moving: name.number,
+            total: asked.total,
             offset,
             bytes,
         },
     );
 }
 
-/// The bytes that a mover asked for, from `from` on.
-pub fn post_bytes(
-    memory: &Memory,
-    out: &mut Outbox,
-    name: Name,
-    mover: Pid,
-    moving: u64,
-    src: u32,
-    total: u32,
-    from: u32,
-)
-    requires numbers { (is_number name.number && is_number moving) ≡ true }
-    requires place { is_place total from ≡ true }
-    requires inside { src + total ≤ length memory.now }
+/// The bytes that a mover asked for.
+pub fn post_bytes(memory: &Memory, out: &mut Outbox, moving: Moving, asked: Asked)
+    requires numbers { (is_number moving.name.exchange.number && is_number moving.name.number) ≡ true }
+    requires place { is_place asked.total asked.offset ≡ true }
+    requires inside { asked.src + asked.total ≤ length memory.now }
     requires room { length out.old.posts + 64 ≤ out.old.room }
-    ensures { out.new ≡ posted out.old (asked_packets name mover moving src total from memory.now) }
+    ensures { out.new ≡ posted out.old (asked_packets moving.name.exchange moving.mover moving.name.number asked.src asked.total
+        asked.offset memory.now) }
 {
-    let pieces = pieces(total, from);
+    let pieces = pieces(asked.total, asked.offset);
     for piece in 0..pieces {
-        post_bytes_piece(
-            memory,
-            out,
-            name,
-            mover,
-            moving,
-            src,
-            total,
-            from + PIECE * piece,
-        );
+        post_bytes_piece(memory, out, moving, asked, asked.offset + PIECE * piece);
     }
 }
 
@@ -215,6 +162,7 @@ fn post_round_of(seat: &Seat, out: &mut Outbox, pid: Pid, from: u32)
     let Some(name) = seat.note.moving else {
         return;
     };
+    let moving = Moving { name, mover: pid };
     match seat.doing {
         Activity::Blocked {
             waiting: Waiting::MoveTo {
@@ -223,25 +171,35 @@ fn post_round_of(seat: &Seat, out: &mut Outbox, pid: Pid, from: u32)
                 src,
                 count,
             },
-        } => post_data(
-            &seat.memory,
-            out,
-            pid,
-            partner,
-            name,
-            dest,
-            src,
-            count,
-            from,
-        ),
+        } => {
+            let way = Direction::To;
+            let transfer = Transfer {
+                way,
+                partner,
+                dest,
+                src,
+                count,
+            };
+            post_data(&seat.memory, out, moving, transfer, from);
+        }
         Activity::Blocked {
             waiting: Waiting::MoveFrom {
                 partner,
+                dest,
                 src,
                 count,
-                ..
             },
-        } => post_request(out, pid, partner, name, src, count, from),
+        } => {
+            let way = Direction::From;
+            let transfer = Transfer {
+                way,
+                partner,
+                dest,
+                src,
+                count,
+            };
+            post_request(out, moving, transfer, from);
+        }
         _ => {}
     }
 }

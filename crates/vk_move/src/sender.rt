@@ -4,7 +4,7 @@ ghost use Rattle.std.specs.Prelude.{◌≡◌, ◌≤◌, ◌<◌, ◌+◌, ◌+
 ghost use Rattle.vk_base.specs.declared.limits.TheConstants.{MOVE_BYTES};
 ghost use Rattle.vk_base.specs.Packets as packets;
 ghost use Rattle.vk_move.specs.Moved.{HasFitSeats, change_note, progressed};
-ghost use Rattle.vk_move.specs.Sender.{bytes_of, bytes_wanted, data_moved, data_taken, data_wanted, done_after, gone, made_by, may_read, may_write, opening, request_moved, request_taken, sender_by, wanted, written_if, IsReadable};
+ghost use Rattle.vk_move.specs.Sender.{bytes_of, bytes_wanted, data_taken, data_wanted, done_after, made_by, may_read, may_write, opening, request_taken, sender_by, wanted, written_if, IsReadable};
 ghost use Rattle.vk_packet.specs.Rules.{is_number, is_place};
 ghost use Rattle.vk_procs.specs.Seats.{seat_in};
 ghost use Rattle.vk_rules.specs.PacketOutcomes.{copies_bytes};
@@ -12,9 +12,10 @@ ghost use Rattle.vk_rules.specs.Rounds.{list_if};
 ghost use Rattle.vk_rules.specs.Works.{is_last};
 ghost use Rattle.vk_stands.specs.Rules.{posted};
 
-use crate::places::write_behind;
+use crate::moves::{Asked, Moving, Part, end_of};
+use crate::places::write_part;
 use crate::rounds::post_bytes;
-use vk_base::{Activity, Message, Name, Pid, Waiting};
+use vk_base::{Activity, Message, MoveName, Pid, Waiting};
 use vk_brief::{BriefStep, Steps};
 use vk_packet::{Outbox, PacketView};
 use vk_procs::{ProcNote, Procs, Seat};
@@ -51,12 +52,14 @@ fn made_by(number: u64, note: &ProcNote) -> Sender
     }
 }
 
-fn sender_by(seat: Option<&Seat>, pid: Pid, mover: Pid, number: u64) -> Sender
-    ensures { result ≡ sender_by pid mover number (option_copied seat.entry) }
+fn sender_by(seat: Option<&Seat>, moving: Moving) -> Sender
+    ensures { result ≡ sender_by moving.name.exchange.sender moving.mover moving.name.exchange.number
+        (option_copied seat.entry) }
 {
     let Some(seat) = seat else {
         return Sender::Unknown;
     };
+    let name = moving.name.exchange;
     match seat.doing {
         Activity::Blocked {
             waiting: Waiting::Send {
@@ -64,17 +67,20 @@ fn sender_by(seat: Option<&Seat>, pid: Pid, mover: Pid, number: u64) -> Sender
                 message,
             },
         } => {
-            if to.host == mover.host && pid.host != mover.host && seat.note.sends == number {
+            if to.host == moving.mover.host
+                && name.sender.host != moving.mover.host
+                && seat.note.sends == name.number
+            {
                 Sender::Waits {
                     message,
                     opened: seat.note.opened,
                     done: seat.note.done,
                 }
             } else {
-                made_by(number, &seat.note)
+                made_by(name.number, &seat.note)
             }
         }
-        _ => made_by(number, &seat.note),
+        _ => made_by(name.number, &seat.note),
     }
 }
 
@@ -147,62 +153,57 @@ fn bytes_wanted(sender: Sender, moving: u64, src: u32, total: u32) -> Piece
 }
 
 /// A mover is told that the sender does not wait for it any more.
-fn post_gone(out: &mut Outbox, name: Name, mover: Pid, moving: u64)
-    requires numbers { (is_number name.number && is_number moving) ≡ true }
+fn post_gone(out: &mut Outbox, moving: Moving)
+    requires numbers { (is_number moving.name.exchange.number && is_number moving.name.number) ≡ true }
     requires room { length out.old.posts < out.old.room }
-    ensures { out.new ≡ posted out.old (packets.MoveNegative name.sender mover name.number moving ∷ []) }
+    ensures { out.new ≡ posted out.old
+        (packets.MoveNegative moving.name.exchange.sender moving.mover moving.name.exchange.number moving.name.number ∷ []) }
 {
+    let name = moving.name;
     out.post(
-        mover.host,
+        moving.mover.host,
         &PacketView::MoveNegative {
-            from: name.sender,
-            to: mover,
-            number: name.number,
-            moving,
+            from: name.exchange.sender,
+            to: moving.mover,
+            number: name.exchange.number,
+            moving: name.number,
         },
     );
 }
 
 /// A move is opened, where it is not yet.
 #[tactic(auto, using(crate::proofs::Pieces::none_posted))]
-fn open_move(steps: &mut Steps, name: Name, moving: u64, opens: bool)
+fn open_move(steps: &mut Steps, name: MoveName, opens: bool)
     requires { length steps.old + 1 ≤ 40 }
-    ensures { steps.new ≡ steps.old ++ opening name moving opens }
+    ensures { steps.new ≡ steps.old ++ opening name.exchange name.number opens }
 {
     if opens {
         steps.push(BriefStep::OpenMove {
-            sender: name.sender,
-            number: name.number,
-            moving,
+            sender: name.exchange.sender,
+            number: name.exchange.number,
+            moving: name.number,
         });
     }
 }
 
 /// Bytes are written where they are the next ones.
-fn write_piece(
+fn write_next(
     procs: &mut Procs,
     steps: &mut Steps,
-    name: Name,
-    moving: u64,
+    name: MoveName,
     dest: u32,
-    offset: u32,
+    part: Part<'_>,
     before: u32,
-    bytes: &[u8],
 )
-    requires few { length bytes.now < 2 ^ 32 }
+    requires few { length part.bytes.now < 2 ^ 32 }
     requires room { length steps.old + 1 ≤ 40 }
-    ensures seats { procs.new ≡ written_if (offset == before) name.sender dest offset bytes.now procs.old }
-    ensures steps { steps.new ≡ steps.old ++ list_if (offset == before) (copies_bytes name moving offset bytes.now ∷ []) }
+    ensures seats { procs.new ≡ written_if (part.entry.offset == before) name.exchange.sender dest part.entry.offset
+        part.entry.bytes.now procs.old }
+    ensures steps { steps.new ≡ steps.old ++ list_if (part.entry.offset == before)
+        (copies_bytes name.exchange name.number part.entry.offset part.entry.bytes.now ∷ []) }
 {
-    if offset == before {
-        write_behind(procs, name.sender, dest, offset, bytes);
-        steps.push(BriefStep::Copy {
-            sender: name.sender,
-            number: name.number,
-            moving,
-            offset,
-            count: bytes.len() as u32,
-        });
+    if part.offset == before {
+        write_part(procs, steps, name.exchange.sender, name, dest, part);
     }
 }
 
@@ -222,166 +223,117 @@ fn progress(procs: &mut Procs, pid: Pid, moving: u64, done: u32)
 
 /// The last bytes of a move are acknowledged: so many are done.
 #[tactic(auto, using(crate::proofs::Pieces::none_posted))]
-fn acknowledge(out: &mut Outbox, name: Name, mover: Pid, moving: u64, done: u32, last: bool)
-    requires numbers { (is_number name.number && is_number moving) ≡ true }
+fn acknowledge(out: &mut Outbox, moving: Moving, done: u32, last: bool)
+    requires numbers { (is_number moving.name.exchange.number && is_number moving.name.number) ≡ true }
     requires few { done ≤ MOVE_BYTES }
     requires room { length out.old.posts < out.old.room }
-    ensures { out.new ≡ posted out.old (list_if last (packets.MoveAck name.sender mover name.number moving done ∷ [])) }
+    ensures { out.new ≡ posted out.old (list_if last
+        (packets.MoveAck moving.name.exchange.sender moving.mover moving.name.exchange.number moving.name.number done ∷ [])) }
 {
+    let name = moving.name;
     if last {
         out.post(
-            mover.host,
+            moving.mover.host,
             &PacketView::MoveAck {
-                from: name.sender,
-                to: mover,
-                number: name.number,
-                moving,
+                from: name.exchange.sender,
+                to: moving.mover,
+                number: name.exchange.number,
+                moving: name.number,
                 received: done,
             },
         );
     }
 }
 
-fn done_after(offset: u32, before: u32, bytes: &[u8]) -> u32
-    requires few { offset + length bytes.now ≤ MOVE_BYTES }
-    ensures { result ≡ done_after offset before bytes.now }
+fn done_after(part: Part<'_>, before: u32) -> u32
+    requires few { part.offset + length part.bytes.now ≤ MOVE_BYTES }
+    ensures { result ≡ done_after part.entry.offset before part.entry.bytes.now }
 {
-    if offset == before {
-        offset + bytes.len() as u32
+    if part.offset == before {
+        end_of(part)
     } else {
         before
     }
 }
 
-/// Data of a move, of which so many bytes are done before.
-fn put_data(
-    procs: &mut Procs,
-    out: &mut Outbox,
-    steps: &mut Steps,
-    name: Name,
-    mover: Pid,
-    moving: u64,
-    dest: u32,
-    total: u32,
-    offset: u32,
-    bytes: &[u8],
-    opens: bool,
-    before: u32,
-)
-    requires numbers { (is_number name.number && is_number moving) ≡ true }
-    requires few { offset + length bytes.now ≤ MOVE_BYTES }
-    requires low { before ≤ MOVE_BYTES }
-    requires packets { length out.old.posts < out.old.room }
-    requires room { length steps.old + 2 ≤ 40 }
-    ensures seats { procs.new ≡ (data_moved name mover moving dest total offset bytes.now (Piece.Wanted opens before) procs.old).seats }
-    ensures steps { steps.new ≡ steps.old
-        ++ (data_moved name mover moving dest total offset bytes.now (Piece.Wanted opens before) procs.old).steps }
-    ensures packets { out.new ≡ posted out.old
-        (data_moved name mover moving dest total offset bytes.now (Piece.Wanted opens before) procs.old).packets }
-{
-    let done = done_after(offset, before, bytes);
-    open_move(steps, name, moving, opens);
-    write_piece(procs, steps, name, moving, dest, offset, before, bytes);
-    progress(procs, name.sender, moving, done);
-    acknowledge(
-        out,
-        name,
-        mover,
-        moving,
-        done,
-        offset + bytes.len() as u32 == total,
-    );
-}
-
-/// Data of a move of which `to` is the sender.
+/// Data of a move for the range of its sender that starts at `dest`.
 pub fn take_data(
     procs: &mut Procs,
     out: &mut Outbox,
     steps: &mut Steps,
-    from: Pid,
-    to: Pid,
-    number: u64,
-    moving: u64,
+    moving: Moving,
     dest: u32,
-    total: u32,
-    offset: u32,
-    bytes: &[u8],
+    part: Part<'_>,
 )
-    requires numbers { (is_number number && is_number moving) ≡ true }
-    requires few { offset + length bytes.now ≤ MOVE_BYTES }
+    requires numbers { (is_number moving.name.exchange.number && is_number moving.name.number) ≡ true }
+    requires few { part.offset + length part.bytes.now ≤ MOVE_BYTES }
     requires fit { HasFitSeats procs.old }
     requires packets { length out.old.posts < out.old.room }
     requires room { length steps.old + 2 ≤ 40 }
-    ensures seats { procs.new ≡ (data_taken from to number moving dest total offset bytes.now procs.old).seats }
-    ensures steps { steps.new ≡ steps.old ++ (data_taken from to number moving dest total offset bytes.now procs.old).steps }
-    ensures packets { out.new ≡ posted out.old (data_taken from to number moving dest total offset bytes.now procs.old).packets }
+    ensures seats { procs.new ≡
+        (data_taken moving dest part.entry.total part.entry.offset part.entry.bytes.now procs.old).seats }
+    ensures steps { steps.new ≡ steps.old
+        ++ (data_taken moving dest part.entry.total part.entry.offset part.entry.bytes.now procs.old).steps }
+    ensures packets { out.new ≡ posted out.old
+        (data_taken moving dest part.entry.total part.entry.offset part.entry.bytes.now procs.old).packets }
 {
-    let name = Name { sender: to, number };
-    let sender = sender_by(procs.seat(to), to, from, number);
-    match data_wanted(sender, moving, dest, total) {
+    let name = moving.name;
+    let sender = sender_by(procs.seat(name.exchange.sender), moving);
+    match data_wanted(sender, name.number, dest, part.total) {
         Piece::Nothing => {}
-        Piece::Gone => post_gone(out, name, from, moving),
-        Piece::Wanted { opens, before } => put_data(
-            procs, out, steps, name, from, moving, dest, total, offset, bytes, opens, before,
-        ),
+        Piece::Gone => post_gone(out, moving),
+        Piece::Wanted { opens, before } => {
+            let done = done_after(part, before);
+            let last = end_of(part) == part.total;
+            open_move(steps, name, opens);
+            write_next(procs, steps, name, dest, part, before);
+            progress(procs, name.exchange.sender, name.number, done);
+            acknowledge(out, moving, done, last);
+        }
     }
 }
 
 /// All bytes that were asked for are posted.
 #[tactic(auto, using(crate::proofs::Pieces::none_posted))]
-fn post_asked(
-    procs: &Procs,
-    out: &mut Outbox,
-    name: Name,
-    mover: Pid,
-    moving: u64,
-    src: u32,
-    total: u32,
-    offset: u32,
-)
-    requires numbers { (is_number name.number && is_number moving) ≡ true }
-    requires place { is_place total offset ≡ true }
-    requires inside { IsReadable src total (seat_in procs.now name.sender) }
+fn post_asked(procs: &Procs, out: &mut Outbox, moving: Moving, asked: Asked)
+    requires numbers { (is_number moving.name.exchange.number && is_number moving.name.number) ≡ true }
+    requires place { is_place asked.total asked.offset ≡ true }
+    requires inside { IsReadable asked.src asked.total (seat_in procs.now moving.name.exchange.sender) }
     requires room { length out.old.posts + 64 ≤ out.old.room }
-    ensures { out.new ≡ posted out.old (bytes_of name mover moving src total offset (seat_in procs.now name.sender)) }
+    ensures { out.new ≡ posted out.old (bytes_of moving.name.exchange moving.mover moving.name.number
+        asked.src asked.total asked.offset (seat_in procs.now moving.name.exchange.sender)) }
 {
-    let Some(seat) = procs.seat(name.sender) else {
-        return;
-    };
-    post_bytes(&seat.memory, out, name, mover, moving, src, total, offset);
+    if let Some(seat) = procs.seat(moving.name.exchange.sender) {
+        post_bytes(&seat.memory, out, moving, asked);
+    }
 }
 
-/// A request for the bytes of a move of which `to` is the sender.
+/// A request for bytes of the sender of a move.
 pub fn take_request(
     procs: &mut Procs,
     out: &mut Outbox,
     steps: &mut Steps,
-    from: Pid,
-    to: Pid,
-    number: u64,
-    moving: u64,
-    src: u32,
-    total: u32,
-    offset: u32,
+    moving: Moving,
+    asked: Asked,
 )
-    requires numbers { (is_number number && is_number moving) ≡ true }
-    requires place { is_place total offset ≡ true }
+    requires numbers { (is_number moving.name.exchange.number && is_number moving.name.number) ≡ true }
+    requires place { is_place asked.total asked.offset ≡ true }
     requires fit { HasFitSeats procs.old }
     requires packets { length out.old.posts + 64 ≤ out.old.room }
     requires room { length steps.old + 1 ≤ 40 }
-    ensures seats { procs.new ≡ (request_taken from to number moving src total offset procs.old).seats }
-    ensures steps { steps.new ≡ steps.old ++ (request_taken from to number moving src total offset procs.old).steps }
-    ensures packets { out.new ≡ posted out.old (request_taken from to number moving src total offset procs.old).packets }
+    ensures seats { procs.new ≡ (request_taken moving asked.src asked.total asked.offset procs.old).seats }
+    ensures steps { steps.new ≡ steps.old ++ (request_taken moving asked.src asked.total asked.offset procs.old).steps }
+    ensures packets { out.new ≡ posted out.old (request_taken moving asked.src asked.total asked.offset procs.old).packets }
 {
-    let name = Name { sender: to, number };
-    let sender = sender_by(procs.seat(to), to, from, number);
-    match bytes_wanted(sender, moving, src, total) {
+    let name = moving.name;
+    let sender = sender_by(procs.seat(name.exchange.sender), moving);
+    match bytes_wanted(sender, name.number, asked.src, asked.total) {
         Piece::Nothing => {}
-        Piece::Gone => post_gone(out, name, from, moving),
+        Piece::Gone => post_gone(out, moving),
         Piece::Wanted { opens, before } => {
-            post_asked(procs, out, name, from, moving, src, total, offset);
-            open_move(steps, name, moving, opens);
-            progress(procs, to, moving, before);
+            post_asked(procs, out, moving, asked);
+            open_move(steps, name, opens);
+            progress(procs, name.exchange.sender, name.number, before);
         }
     }
 }

@@ -1,15 +1,15 @@
 //! A packet of a move comes.
 
 ghost use Rattle.std.specs.Prelude.{◌≡◌, ◌≤◌, ◌<◌, ◌+◌, ◌++◌, ◌^◌, true, length};
-ghost use Rattle.vk_move.specs.Fitting.{KeepsFit};
 ghost use Rattle.vk_move.specs.Moved.{HasFitSeats};
-ghost use Rattle.vk_move.specs.Right.{IsMoverRule, IsSenderRule};
-ghost use Rattle.vk_move.specs.Taken.{packet_taken};
+ghost use Rattle.vk_move.specs.Right.{IsTaken};
+ghost use Rattle.vk_move.specs.Taken.{mover_taken};
 ghost use Rattle.vk_packet.specs.Rules.{is_lawful};
 ghost use Rattle.vk_packet.specs.Views.{value_of};
 ghost use Rattle.vk_stands.specs.Rules.{posted};
 
 use crate::mover::{take_ack, take_bytes, take_gone};
+use crate::moves::{Asked, Part, Tick, moving_by};
 use crate::sender::{take_data, take_request};
 use vk_base::Times;
 use vk_brief::Steps;
@@ -31,33 +31,7 @@ pub fn take_packet(
     requires fit { HasFitSeats procs.old }
     requires packets { length out.old.posts + 64 ≤ out.old.room }
     requires room { length steps.old + 2 ≤ 40 }
-    ensures seats { procs.new ≡ (packet_taken times.now now (value_of packet.now) procs.old).seats }
-    ensures steps { steps.new ≡ steps.old ++ (packet_taken times.now now (value_of packet.now) procs.old).steps }
-    ensures packets { out.new ≡ posted out.old (packet_taken times.now now (value_of packet.now) procs.old).packets }
-    ensures fit { KeepsFit procs.old procs.new }
-    ensures mover { IsMoverRule times.now now (value_of packet.now) procs.old }
-    ensures sender { IsSenderRule times.now now (value_of packet.now) procs.old }
-{
-    take_any(procs, now, times, out, steps, packet);
-}
-
-/// What the packet does, by the tables.
-fn take_any(
-    procs: &mut Procs,
-    now: u64,
-    times: &Times,
-    out: &mut Outbox,
-    steps: &mut Steps,
-    packet: &PacketView,
-)
-    requires now { now < 2 ^ 48 }
-    requires lawful { is_lawful (value_of packet.now) ≡ true }
-    requires fit { HasFitSeats procs.old }
-    requires packets { length out.old.posts + 64 ≤ out.old.room }
-    requires room { length steps.old + 2 ≤ 40 }
-    ensures seats { procs.new ≡ (packet_taken times.now now (value_of packet.now) procs.old).seats }
-    ensures steps { steps.new ≡ steps.old ++ (packet_taken times.now now (value_of packet.now) procs.old).steps }
-    ensures packets { out.new ≡ posted out.old (packet_taken times.now now (value_of packet.now) procs.old).packets }
+    ensures { IsTaken times.now now (value_of packet.now) procs.old procs.new steps.old steps.new out.old out.new }
 {
     match *packet {
         PacketView::MoveData {
@@ -69,18 +43,15 @@ fn take_any(
             total,
             offset,
             bytes,
-        } => take_data(
-            procs, out, steps, from, to, number, moving, dest, total, offset, bytes,
-        ),
-        PacketView::MoveAck {
-            from,
-            to,
-            number,
-            moving,
-            received,
-        } => take_ack(
-            procs, now, times, out, steps, from, to, number, moving, received,
-        ),
+        } => {
+            let part = Part {
+                total,
+                offset,
+                bytes,
+            };
+            let moving = moving_by(from, to, number, moving);
+            take_data(procs, out, steps, moving, dest, part);
+        }
         PacketView::MoveRequest {
             from,
             to,
@@ -89,9 +60,49 @@ fn take_any(
             src,
             total,
             offset,
-        } => take_request(
-            procs, out, steps, from, to, number, moving, src, total, offset,
-        ),
+        } => {
+            let asked = Asked { src, total, offset };
+            let moving = moving_by(from, to, number, moving);
+            take_request(procs, out, steps, moving, asked);
+        }
+        _ => {
+            let tick = Tick {
+                at: now,
+                times: *times,
+            };
+            take_to_mover(procs, tick, out, steps, packet);
+        }
+    }
+}
+
+/// What a packet to a mover does.
+fn take_to_mover(
+    procs: &mut Procs,
+    tick: Tick,
+    out: &mut Outbox,
+    steps: &mut Steps,
+    packet: &PacketView,
+)
+    requires now { tick.at < 2 ^ 48 }
+    requires lawful { is_lawful (value_of packet.now) ≡ true }
+    requires fit { HasFitSeats procs.old }
+    requires packets { length out.old.posts + 64 ≤ out.old.room }
+    requires room { length steps.old + 2 ≤ 40 }
+    ensures seats { procs.new ≡ (mover_taken tick.times tick.at (value_of packet.now) procs.old).seats }
+    ensures steps { steps.new ≡ steps.old ++ (mover_taken tick.times tick.at (value_of packet.now) procs.old).steps }
+    ensures packets { out.new ≡ posted out.old (mover_taken tick.times tick.at (value_of packet.now) procs.old).packets }
+{
+    match *packet {
+        PacketView::MoveAck {
+            from,
+            to,
+            number,
+            moving,
+            received,
+        } => {
+            let moving = moving_by(to, from, number, moving);
+            take_ack(procs, tick, out, steps, moving, received);
+        }
         PacketView::MoveBytes {
             from,
             to,
@@ -100,15 +111,21 @@ fn take_any(
             total,
             offset,
             bytes,
-        } => take_bytes(
-            procs, now, times, out, steps, from, to, number, moving, total, offset, bytes,
-        ),
+        } => {
+            let part = Part {
+                total,
+                offset,
+                bytes,
+            };
+            let moving = moving_by(to, from, number, moving);
+            take_bytes(procs, tick, out, steps, moving, part);
+        }
         PacketView::MoveNegative {
             from,
             to,
             number,
             moving,
-        } => take_gone(procs, steps, from, to, number, moving),
+        } => take_gone(procs, steps, moving_by(to, from, number, moving)),
         _ => {}
     }
 }

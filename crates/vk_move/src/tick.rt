@@ -1,17 +1,16 @@
 //! A tick of the clock, for a process that waits in a move.
 
 ghost use Rattle.std.specs.Prelude.{◌≡◌, ◌≤◌, ◌<◌, ◌+◌, ◌++◌, ◌^◌, length, option_copied};
-ghost use Rattle.vk_move.specs.Due.{IsDueRule, due_moved, ticked_at, ticked_in};
-ghost use Rattle.vk_move.specs.Fitting.{KeepsFit};
+ghost use Rattle.vk_move.specs.Due.{IsDue, ticked_at, ticked_in};
 ghost use Rattle.vk_move.specs.Moved.{HasFitSeats};
-ghost use Rattle.vk_stands.specs.Rules.{posted};
 
 use crate::mover::{end, go_on};
+use crate::moves::Tick;
 use vk_base::{Ending, Pid, Times};
 use vk_brief::Steps;
 use vk_packet::Outbox;
-use vk_procs::{ProcNote, Procs, Seat};
-use vk_timer::{Due, Work};
+use vk_procs::{Procs, Seat};
+use vk_timer::Due;
 
 /// What a tick finds of a move: nothing; it was tried often enough, and ends; or its round goes out again, from this offset on, and was
 /// tried so often then.
@@ -22,20 +21,17 @@ pub enum Ticked {
     Again { tries: u32, from: u32 },
 }
 
-fn ticked_at(note: &ProcNote, now: u64, times: &Times) -> Ticked
+fn ticked_at(seat: &Seat, now: u64, times: &Times) -> Ticked
     requires { now < 2 ^ 48 }
-    ensures { result ≡ ticked_at times.now now note.now }
+    ensures { result ≡ ticked_at times.now now seat.now }
 {
-    let mut work = Work {
-        tries: note.tries,
-        deadline: note.deadline,
-    };
+    let mut work = seat.work();
     match work.due(now, times) {
         Due::NotDue => Ticked::Nothing,
         Due::GiveUp => Ticked::Ends,
         Due::Resend => Ticked::Again {
             tries: work.tries,
-            from: note.offset,
+            from: seat.note.offset,
         },
     }
 }
@@ -48,7 +44,7 @@ fn ticked_in(seat: Option<&Seat>, now: u64, times: &Times) -> Ticked
         return Ticked::Nothing;
     };
     if seat.doing.is_moving() {
-        ticked_at(&seat.note, now, times)
+        ticked_at(seat, now, times)
     } else {
         Ticked::Nothing
     }
@@ -69,28 +65,17 @@ pub fn due(
     requires fit { HasFitSeats procs.old }
     requires packets { length out.old.posts + 64 ≤ out.old.room }
     requires room { length steps.old + 1 ≤ 40 }
-    ensures seats { procs.new ≡ (due_moved times.now now pid procs.old).seats }
-    ensures steps { steps.new ≡ steps.old ++ (due_moved times.now now pid procs.old).steps }
-    ensures packets { out.new ≡ posted out.old (due_moved times.now now pid procs.old).packets }
-    ensures fit { KeepsFit procs.old procs.new }
-    ensures right { IsDueRule times.now now pid procs.old }
-{
-    tick(procs, now, times, out, steps, pid);
-}
-
-/// What the tick finds of the process, by the tables.
-fn tick(procs: &mut Procs, now: u64, times: &Times, out: &mut Outbox, steps: &mut Steps, pid: Pid)
-    requires now { now < 2 ^ 48 }
-    requires fit { HasFitSeats procs.old }
-    requires packets { length out.old.posts + 64 ≤ out.old.room }
-    requires room { length steps.old + 1 ≤ 40 }
-    ensures seats { procs.new ≡ (due_moved times.now now pid procs.old).seats }
-    ensures steps { steps.new ≡ steps.old ++ (due_moved times.now now pid procs.old).steps }
-    ensures packets { out.new ≡ posted out.old (due_moved times.now now pid procs.old).packets }
+    ensures { IsDue times.now now pid procs.old procs.new steps.old steps.new out.old out.new }
 {
     match ticked_in(procs.seat(pid), now, times) {
         Ticked::Nothing => {}
         Ticked::Ends => end(procs, steps, pid, Ending::TimedOut),
-        Ticked::Again { tries, from } => go_on(procs, now, times, out, pid, tries, from),
+        Ticked::Again { tries, from } => {
+            let tick = Tick {
+                at: now,
+                times: *times,
+            };
+            go_on(procs, tick, out, pid, tries, from);
+        }
     }
 }

@@ -1,5 +1,7 @@
 // A crew in memory whose second call fails.
 
+ghost use Rattle.std.specs.Prelude.{◌≤◌};
+
 use std::sync::Wait;
 use std::test::Fail;
 use std::thread::Threads;
@@ -25,6 +27,8 @@ impl Job for Next {
 struct Halts(u32);
 
 impl Halt for Halts {
+    ghost is_halted = { λ h. 1 ≤ h.0 };
+
     fn halt<R: Wait + Threads + Clock + Sync>(&mut self, _rt: &R) {
         self.0 = self.0.saturating_add(1);
     }

@@ -102,7 +102,7 @@ module _ (host : ℕ) (station : Cell StationHistory) (hub : Cell HubLog) (ticks
           met = AtHub (hub_events.Post stopped.frame);
           does = entered h stopped.count (omega arith) (subst (λ l. HasPosted g h (take stopped.count l)) frames_are stopped.posted);
           cut = (refl, few);
-          is_met = stopped.refused;
+          is_met = (refl, stopped.refused);
         }
 
   -- It was not.
@@ -114,14 +114,14 @@ module _ (host : ℕ) (station : Cell StationHistory) (hub : Cell HubLog) (ticks
   }
 
   pub refused : (s t : Sitting StationHistory StationEvent) (g : Sitting HubLog HubEvent) (e : StationEvent) (why : Room) → IsSameSeat s t →
-      HasLooked s t → is_full station.origin t.seen e ≡ is_room_full why →
+      HasLooked s t → is_ready station.origin t.seen e ≡ true → is_full station.origin t.seen e ≡ is_room_full why →
       IsRefused (port_at s g) (port_at t g) why [] (IsCutEvent station.origin e)
-  refused s t g e why same looked_on full = record {
+  refused s t g e why same looked_on ready full = record {
     last = [];
     met = AtStation e;
     does = looked s t g same looked_on;
     cut = refl;
-    is_met = full;
+    is_met = (ready, full);
   }
 
   -- A fetch.

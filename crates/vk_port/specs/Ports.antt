@@ -1,5 +1,5 @@
 -- What a port does with its two seats.
-use Rattle.std.specs.Prelude.{ℕ, ◌≡◌, ◌≤◌, ◌<◌, ◌⊎◌, Bool, true, false, List, [], ◌∷◌, ◌++◌, length, map, take}
+use Rattle.std.specs.Prelude.{ℕ, ◌≡◌, ◌≤◌, ◌<◌, ◌+◌, ◌⊎◌, Bool, true, false, List, [], ◌∷◌, ◌++◌, length, map, take}
 use mathlib.Core.List.{IsPrefix}
 use Rattle.turn_cell.specs.History.{events_of}
 use Rattle.turn_cell.specs.Rooms.{is_full as is_room_full}
@@ -16,7 +16,7 @@ use Rattle.vk_hub.specs.declared.event.Fetched.{Fetched}
 use Rattle.vk_hub.specs.declared.event.Fetched.TheVariants as fetched
 use Rattle.vk_hub.specs.declared.event.HubEvent.{HubEvent}
 use Rattle.vk_hub.specs.declared.event.HubEvent.TheVariants as hub_events
-use Rattle.vk_hub.specs.Hubs.{HubLog, fetched_from, is_at_limit, traffic_of}
+use Rattle.vk_hub.specs.Hubs.{HubLog, fetched_from, is_at_limit, is_ready as is_ready_at_hub, traffic_of}
 use Rattle.vk_hub.specs.Links.{Frame}
 use Rattle.vk_rules.specs.Each.{Each}
 use Rattle.vk_port.specs.declared.port.Collected.{Collected}
@@ -171,15 +171,18 @@ pub record HasHeard (old new : PortValue) (first : List Action) : Type 0 where
   pub heard : List (ℕ × HubEvent)
   pub does : Does old new (first ++ Hears heard ∷ [])
 
--- What met a Room: an event at the station, or one at the hub. It is told so that the history which the seat has then seen has no room
--- for the event exactly where the Room is Full.
+-- What met a Room: an event at the station, or one at the hub. It was ready after the history which the seat has then seen, and that
+-- history has no room for it exactly where the Room is Full.
 pub data Met : Type 0 where
   AtStation : StationEvent → Met
   AtHub : HubEvent → Met
 
 abbrev pub IsMet : PortValue → Room → Met → Type 0
-IsMet p why (AtStation e) = is_full p.station.origin p.seat.seen e ≡ is_room_full why
-IsMet p why (AtHub e) = is_at_limit p.hub_seat.seen e ≡ is_room_full why
+IsMet p why (AtStation e) =
+    (is_ready p.station.origin p.seat.seen e ≡ true) × (is_full p.station.origin p.seat.seen e ≡ is_room_full why)
+IsMet p why (AtHub e) =
+    (is_ready_at_hub p.hub.origin.programs (traffic_of p.hub.origin p.hub_seat.seen) e ≡ true)
+    × (is_at_limit p.hub_seat.seen e ≡ is_room_full why)
 
 -- What it did last on the way to an event of its own accord, when it met this: nothing where the event was refused, else it entered the
 -- event and posted some of its frames, but not all.
@@ -223,9 +226,10 @@ IsWaitRefused old new pid why =
     × IsRefused old new why first (λ last met. IsCutEvent old.station.origin (events.Collect pid) last met
     ⊎ IsCutPump old.station.origin old.host last met)
 
--- what a pump did
+-- What a pump did. Where it entered nothing, it had the hub's turn once, and no frame waited then.
 abbrev pub HasPumped : PortValue → PortValue → Pumped → Type 0
 HasPumped old new (pumped.Delivered answer) = HasDelivered old new answer
 HasPumped old new pumped.Nothing =
     Does old new [] × (fetched_from old.hub.origin.programs (traffic_of old.hub.origin new.hub_seat.seen) old.host ≡ fetched.Nothing)
+    × (new.hub_seat.turns ≡ old.hub_seat.turns + 1)
 HasPumped old new pumped.Stopped = HasHeard old new []

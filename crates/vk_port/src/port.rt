@@ -47,7 +47,7 @@ pub enum Collected {
 pub enum Pumped {
     /// It delivered a frame to the station, which answered this.
     Delivered { answer: EventAnswer },
-    /// No frame waited.
+    /// It asked the hub once, and no frame waited.
     Nothing,
     /// The hub has ended.
     Stopped,

@@ -52,11 +52,6 @@ use Rattle.vk_remote.proofs.FarCalls.{effect_is}
 use Rattle.vk_remote.proofs.FarHeld.{IsHeldThere, forward_decided, held_number, held_there_is}
 
 -- whatever names the station has
-moved_named : (t : Tables) (names : List Registration) (m : Message) (to : Pid) (o : Option ℕ) →
-    named names (moved_on t m to o) ≡ moved_on (named names t) m to o
-moved_named t names m to None = refl
-moved_named t names m to (Some slot) = refl
-
 pub named_over : (t : Tables) (names : List Registration) (from : Pid) (m : Message) (to : Pid) (P : Tables → List Step → Type 0)
     (pid : Pid) → P (after_forward (named names t) pid from m to) (forward_steps (named names t) pid from m to) →
     P (named names (after_forward t pid from m to)) (forward_steps t pid from m to)

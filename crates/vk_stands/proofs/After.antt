@@ -15,7 +15,7 @@ use Rattle.vk_rules.specs.Entries.{Entry, Input, is_tick, taken_packet}
 use Rattle.vk_rules.specs.Frames.{Frame, frames_of}
 use Rattle.vk_rules.specs.Readings.{Reading}
 unfoldable use Rattle.vk_rules.specs.Readings.{reading_after}
-use Rattle.vk_rules.specs.Right.{answer_to, outcome_of, tick_after}
+use Rattle.vk_rules.specs.Right.{answer_to, outcome_of}
 unfoldable use Rattle.vk_rules.specs.Right.{right_entry}
 use Rattle.vk_rules.specs.Rounds.{Outcome}
 use Rattle.vk_rules.specs.View.{after_steps}
@@ -60,10 +60,6 @@ module _ (c : Settings) (host : ℕ) (r : Reading) (i : Input) where
   pub view_is : reading_for.view ≡ after_steps r.view (taken_packet entry_for) entry_for.steps
   unfolding reading_after
   view_is = refl
-
-  pub now_is : reading_for.now ≡ tick_after r i
-  unfolding reading_after right_entry
-  now_is = refl
 
   pub events_are : reading_for.events ≡ r.events + 1
   unfolding reading_after
@@ -163,33 +159,6 @@ pub work_begun : (k : Kernel) (pid : Pid) (e : Entry) (w : Work) (answered resta
     IsDone k pid e w true answered true restarted 0 →
     work_after k pid e w ≡ record { since = e.tick; rounds = 1; acknowledged = 0; received = 0; fresh = false }
 work_begun k pid e w answered restarted d = work_is k pid e w d
-
--- it is answered, and bytes may have been copied
-pub work_answered : (k : Kernel) (pid : Pid) (e : Entry) (w : Work) (copied : ℕ) → IsDone k pid e w false true false false copied →
-    work_after k pid e w ≡ record w { since = e.tick; rounds = 0; received = w.received + copied; fresh = nat_lt 0 copied || w.fresh }
-work_answered k pid e w copied d = work_is k pid e w d
-
--- it is started anew
-pub work_restarted : (k : Kernel) (pid : Pid) (e : Entry) (w : Work) (answered : Bool) (copied : ℕ) →
-    IsDone k pid e w false answered true true copied →
-    work_after k pid e w ≡ record {
-      since = e.tick;
-      rounds = 1;
-      acknowledged = acknowledged_by (taken_packet e);
-      received = w.received + copied;
-      fresh = false;
-    }
-work_restarted k pid e w false copied d = work_is k pid e w d
-work_restarted k pid e w true copied d = work_is k pid e w d
-
--- bytes were copied, and that is all
-pub work_copied : (k : Kernel) (pid : Pid) (e : Entry) (w : Work) (copied : ℕ) → IsDone k pid e w false false false false copied →
-    work_after k pid e w ≡ record w { received = w.received + copied; fresh = nat_lt 0 copied || w.fresh }
-work_copied k pid e w copied d = work_is k pid e w d ∙ (λ i. record w {
-  rounds = plus_zero w.rounds i;
-  received = w.received + copied;
-  fresh = nat_lt 0 copied || w.fresh;
-})
 
 -- its round goes out again at a tick
 pub work_sent_again : (k : Kernel) (pid : Pid) (e : Entry) (w : Work) → IsDone k pid e w false false true false 0 →

@@ -6,7 +6,6 @@ use Rattle.std.proofs.lemmas.Bool.{cases_Bool}
 use Rattle.vk_base.specs.declared.activity.Activity.TheVariants as activities
 use Rattle.vk_base.specs.declared.activity.Waiting.{Waiting}
 use Rattle.vk_base.specs.declared.call.Call.{Call}
-use Rattle.vk_base.specs.declared.event.EventAnswer.TheVariants as events_answered
 use Rattle.vk_base.specs.declared.kernel.Name.{Name}
 use Rattle.vk_base.specs.declared.pid.Pid.{Pid}
 use Rattle.vk_base.specs.declared.step.Step.TheVariants as steps
@@ -27,7 +26,6 @@ use Rattle.vk_rules.specs.Rounds.{list_if}
 use Rattle.vk_stands.specs.Stands.{Stands}
 use Rattle.vk_stands.specs.Tables.{Tables, is_work, read_alien}
 use Rattle.vk_stands.proofs.After.{events_are, reading_for}
-use Rattle.vk_stands.proofs.AfterCalls.{begun_closes_none}
 use Rattle.vk_stands.proofs.AfterEntries.{answered_works, called_others, called_slots, called_view, collected_slots, collected_view, collected_works}
 use Rattle.vk_stands.proofs.Parts.{Carries, Part, stands_part}
 
@@ -65,12 +63,6 @@ module _ (c : Settings) (host : ℕ) (t u : Tables) (r : Reading) (h : Stands c.
           | inl same ↦ caller q s w (is_begun (answer_to c host r (Called pid call))) refl (same_pid_is pid q same) at blocked work
           | inr other ↦ called_others c host r pid call q other
         ]
-
-    -- one that is begun closes nothing
-    pub begun_none : answer_to c host r (Called pid call) ≡ events_answered.Begun → (name : Name) →
-        list_any (is_closing name) (packets_of r.view kernel r.slots pid call (answer_to c host r (Called pid call))) ≡ false
-    begun_none begun name = ap (λ a. list_any (is_closing name) (packets_of r.view kernel r.slots pid call a)) begun
-        ∙ begun_closes_none name r.view kernel r.slots pid call
 
   -- A collect.
   pub collect_stands : (pid : Pid) (e : Effect) → effect r.view (steps.Collect pid) ≡ Some e → Part host u e.after →

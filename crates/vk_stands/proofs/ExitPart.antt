@@ -111,9 +111,6 @@ module _ (host : ℕ) (t : Tables) (k : Kernel) (part : Part host t k) (pid : Pi
   abbrev l : Kernel
   l = exited k pid (process_of s)
 
-  names_left : List Registration → List Registration
-  names_left names = filter (λ (r : Registration). not (same_pid r.pid pid)) names
-
   -- its list is empty, and its names are gone
   abbrev pub after_exit : Tables
   after_exit = record {

@@ -119,9 +119,6 @@ module _ (host : ℕ) (t : Tables) (k : Kernel) (part : Part host t k) (pid : Pi
   abbrev l : Kernel
   l = exited k pid (process_of s)
 
-  abbrev f : Seat → Seat
-  f = left_behind pid
-
   pub proc_here : (q : Pid) → same_pid q pid ≡ true → l.procs q ≡ Some (process_of (killed s))
   unfolding exited
   proc_here q same = cond-true (same_pid q pid) (Some (process_of (killed s))) (option_map (released k pid q) (k.procs q)) same

@@ -1,5 +1,5 @@
 -- Tables still fit where an alien has changed, or a new one has a slot.
-use Rattle.std.proofs.Common.{◌≡◌, ◌≢◌, ℕ, ◌≤◌, Bool, true, false, ◌&&◌, nat_eq, List, length, get_or, set, refl, sym, ap, subst, ◌∙◌, Option, Some, None, arith}
+use Rattle.std.proofs.Common.{◌≡◌, ◌≢◌, ℕ, ◌≤◌, Bool, true, false, nat_eq, List, length, get_or, set, refl, sym, ap, subst, ◌∙◌, Option, Some, None, arith}
 use Rattle.std.specs.List.{position}
 use Rattle.std.specs.Option.{option_map, option_map_or}
 use Rattle.std.proofs.lemmas.Bool.{both_ways, eqb-true, eq-eqb}
@@ -8,7 +8,6 @@ use Rattle.std.proofs.lemmas.Option.{same_Some}
 use Rattle.vk_base.specs.declared.limits.TheConstants.{POOL, SEGMENT_BYTES}
 use Rattle.vk_base.specs.declared.message.Message.{Message}
 use Rattle.vk_base.specs.declared.pid.Pid.{Pid}
-use Rattle.vk_packet.specs.Rules.{is_number}
 use Rattle.vk_pool.specs.declared.alien.Alien.{Alien}
 use Rattle.vk_pool.specs.Aliens.{alien_at, changed_at, forwarded, heard, heard_of, is_alien_from, replied, taken}
 use Rattle.vk_stands.specs.Fit.{AreFit, IsFitAlien}
@@ -63,9 +62,6 @@ fit_heard host t fit sender stamp = fit_changed_where host t fit (heard stamp) (
   told = h.told;
   part = h.part;
 }) (position (is_alien_from sender) t.slots)
-
-lawful_by : (n : ℕ) (b : Bool) → is_number n ≡ true → b ≡ true → (is_number n && true && b) ≡ true
-lawful_by n b number t = rw (number, t) refl
 
 pub fit_replied : (host : ℕ) (t : Tables) → AreFit host t → (o : Option ℕ) (m : Message) (dest : ℕ) (bytes : List ℕ) (now : ℕ) →
     length bytes ≤ SEGMENT_BYTES →

@@ -263,9 +263,6 @@ module _ (host : ℕ) (t : Tables) (k : Kernel) (part : Part host t k) (to : Pid
   over : (w : Waiting) → (refused s).doing ≡ activities.Blocked w → ⊥
   over w blocked = let done : y.doing ≡ activities.Blocked w = ap (λ (z : Seat). z.doing) (sym is_y) ∙ blocked in cc
 
-  same_send : (v w : Waiting) → activities.Blocked v ≡ activities.Blocked w → v ≡ w
-  same_send v w is = cc
-
   -- it waits in no Send within the station
   no_local : (z : Exchange) → same_host s.pid z.target ≡ true → s.doing ≡ activities.Blocked (waitings.Send z.target z.message) → ⊥
   no_local z local blocked =

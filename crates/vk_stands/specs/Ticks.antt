@@ -17,6 +17,8 @@ use Rattle.vk_base.specs.Settings.{Settings}
 use Rattle.vk_pool.specs.Aliens.{kept}
 use Rattle.vk_procs.specs.declared.seat.Seat.{Seat}
 use Rattle.vk_procs.specs.Seats.{finished}
+-- the work of a process
+pub use Rattle.vk_procs.specs.Works.{work_in}
 use Rattle.vk_rules.specs.CallOutcomes.{work_failure}
 use Rattle.vk_rules.specs.Entries.{Ticked}
 use Rattle.vk_rules.specs.Readings.{Reading}
@@ -28,12 +30,7 @@ use Rattle.vk_stands.specs.Stands.{Stands}
 use Rattle.vk_stands.specs.Tables.{Tables, is_work}
 use Rattle.vk_timer.specs.declared.work.Due.{Due}
 use Rattle.vk_timer.specs.declared.work.Due.TheVariants as dues
-use Rattle.vk_timer.specs.declared.work.Work.{Work}
 use Rattle.vk_timer.specs.Works.{due_at}
-
--- the patience of a process's work
-abbrev pub work_in : Seat → Work
-work_in s = record { tries = s.note.tries; deadline = s.note.deadline }
 
 -- The round of a work: the Send with its part, the data or the request of a move from where it is, or the question of a lookup.
 abbrev pub work_round : Seat → Waiting → List Packet

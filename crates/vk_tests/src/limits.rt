@@ -163,3 +163,27 @@ fn configurations(rt: HostRuntime) -> Result<(), Fail> {
     assert!(rt; Memory::new(alloc, 131_072).is_ok());
     Ok(())
 }
+
+/// 16 stations of 32 processes.
+#[test]
+fn most_processes(rt: HostRuntime) -> Result<(), Fail> {
+    let alloc = rt.alloc();
+    let times = Times {
+        tries: 5,
+        interval: 4,
+        life: 8,
+    };
+    let mut specs = Vec::new(alloc);
+    for place in 0..512u16 {
+        let pid = Pid::new(1 + place / 32, 1 + place % 32).ok_or("no pid")?;
+        specs.push(ProcessSpec { pid, size: 64 })?;
+    }
+    match Config::new(alloc, times, 16, &specs) {
+        Ok(config) => {
+            assert_eq!(rt; config.station_count(), 16);
+            assert!(rt; config.copy(alloc).is_ok());
+        }
+        Err(_) => assert!(rt; false, "a lawful configuration"),
+    }
+    Ok(())
+}

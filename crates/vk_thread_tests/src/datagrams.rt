@@ -43,7 +43,7 @@ fn wires_in_memory_open_what_is_ready(rt: HostRuntime) -> Result<(), Fail> {
     let mut failing = Vec::new(alloc);
     failing.push(2)?;
     let mut links = Vec::new(alloc);
-    links.push(MemoryLink::new(datagrams, failing))?;
+    links.push(MemoryLink::new(alloc, datagrams, failing))?;
     let Ok(mut wire) = MemoryWire::new(alloc, links, Vec::new(alloc)) else {
         panic!(rt; "no memory")
     };

@@ -6,12 +6,13 @@ use Rattle.vk_base.specs.declared.event.EventAnswer.{EventAnswer}
 use Rattle.vk_base.specs.declared.event.StationEvent.{StationEvent}
 use Rattle.vk_base.specs.declared.event.StationEvent.TheVariants as events
 use Rattle.vk_hub.specs.declared.event.HubEvent.TheVariants as hub_events
-use Rattle.vk_port.specs.Ports.{Action, AtHub, AtStation, Delivers, Does, Drops, Enters, HasDelivered, HasMade, HasHeard as HeardOnce, Hears, IsCutEvent, IsCutPump, IsMet, IsRefused, Met, PortValue}
+use Rattle.vk_port.specs.declared.port.Pumped.{Pumped}
+use Rattle.vk_port.specs.Ports.{Action, AtHub, AtStation, Delivers, Does, Drops, Enters, HasDelivered, HasMade, HasHeard as HeardOnce, HasPumped, Hears, IsCutEvent, IsCutPump, IsMet, IsRefused, Met, PortValue}
 use Rattle.vk_port.specs.Stations.{frames_at}
 use Rattle.vk_port.proofs.Logs.{does_more, does_nothing}
 use Rattle.vk_rules.specs.Each.{Each}
 use Rattle.v_run.specs.Passages.{HasDropped, HasHeard, OnlyTicks, lost_count, tick_count}
-use Rattle.vk_threads.specs.Clocks.{AreTicked, HaveLooked, HaveRounds, HaveRoundsCut, HaveTicked, HaveTickedCut, OneFindsFull, OneHears, TickBetween, all_lost, may_tick}
+use Rattle.vk_threads.specs.Clocks.{AreTicked, FirstPumps, HaveLooked, HaveRounds, HaveRoundsCut, HaveTicked, HaveTickedCut, OneFindsFull, OneHears, TickBetween, all_lost, may_tick}
 use Rattle.vk_threads.specs.Works.{FindsFull}
 use Rattle.vk_threads.proofs.Playing.{heard_append, lost_append, met_own, met_pump}
 use Rattle.vk_threads.proofs.Full.{full_after}
@@ -306,6 +307,12 @@ pub first_delivers : (ps : List PortValue) (p q : PortValue) (a : EventAnswer) �
 first_delivers ps p q a low at it =
     first_does ps p q 0 (Delivers it.heard it.frame it.before (length (frames_at p.station.origin it.before (events.Deliver it.frame))) ∷ [])
     low at it.does tt refl (omega arith)
+
+-- and that is what it did
+pub first_pumps : (ps : List PortValue) (p q : PortValue) (given : Pumped) → 0 < length ps → get_or ps 0 p ≡ p → HasPumped p q given
+    → FirstPumps ps (slice_set ps 0 q)
+first_pumps [] p q given low at it = absurd (omega arith)
+first_pumps (x ∷ ps) p q given low at it = (given, subst (λ y. HasPumped y q given) (sym at) it)
 
 pub first_rests : (ps : List PortValue) (p q : PortValue) → 0 < length ps → get_or ps 0 p ≡ p → Does p q [] → HaveTicked 0 0 0 ps (slice_set ps 0 q)
 first_rests ps p q low at it = first_does ps p q 0 [] low at it tt refl (omega arith)

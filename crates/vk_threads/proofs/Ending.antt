@@ -1,5 +1,5 @@
 -- From what a job did through its one port, and what came behind that, to its end.
-use Rattle.std.proofs.Common.{◌≡◌, ◌≢◌, ℕ, ◌+◌, ◌≤◌, Bool, true, false, Option, Some, None, List, [], ◌∷◌, ◌++◌, length, refl, sym, ap, ◌∙◌, subst, arith, append-nil, ◌&&◌, ◌==◌, ◌⊎◌, inl, inr}
+use Rattle.std.proofs.Common.{◌≡◌, ◌≢◌, ℕ, ◌+◌, ◌≤◌, Bool, true, false, Option, Some, None, is_some, List, [], ◌∷◌, ◌++◌, length, refl, sym, ap, ◌∙◌, subst, arith, append-nil, ◌&&◌, ◌==◌, ◌⊎◌, inl, inr}
 use Rattle.std.proofs.lemmas.Bool.Decides.{nat_tests}
 use mathlib.Core.List.{IsPrefix}
 use Rattle.turn_cell.proofs.Histories.{prefix_self}
@@ -14,7 +14,7 @@ use Rattle.vk_base.specs.declared.pid.Pid.{Pid}
 use Rattle.vk_base.specs.Settings.{Settings, has_process}
 use Rattle.vk_hub.specs.declared.event.HubEvent.{HubEvent}
 use Rattle.vk_hub.specs.declared.event.HubEvent.TheVariants as hub_events
-use Rattle.vk_hub.specs.Hubs.{others}
+use Rattle.vk_hub.specs.Hubs.{has_halt, others}
 use Rattle.vk_port.specs.Ports.{Action, Berth, Does, IsLog, PortValue, Stand, after, berth_of, stand_of}
 use Rattle.vk_port.specs.Stations.{StationHistory, brings_last_number, is_process_of, is_used_up}
 use Rattle.vk_port.proofs.Fronts.{prefix_over}
@@ -23,7 +23,7 @@ use Rattle.v_run.specs.Jobs.{EndsRole, GoesOn, IsJobEnd, JobEnd, KeepsTime, MetF
 use Rattle.v_run.specs.Passages.{HasDropped, HasHeard, IsAtEnd, IsLast, IsRole, OnlyPumps, Passage, Plays, Pumps, Role, Runs, answers_by, calls_by, fresh_station, lost_count}
 use Rattle.vk_threads.specs.declared.end.Seats.{Seats}
 use Rattle.vk_threads.specs.Works.{FindsFull, HasClosed, HasEnded, HasFinished, HasHalted, HasPlayed, HasPlayedCut, HasPumped, HasPumpedCut}
-use Rattle.vk_threads.specs.Ends.{AreThrough, EndsProcess, FinishesOrWaits, IsOf, IsThrough, MayEnd}
+use Rattle.vk_threads.specs.Ends.{AreThrough, EndsProcess, FinishesOrWaits, IsOf, IsThrough, MayEnd, TicksAll}
 
 -- a log's end may have heard more
 pub log_later : (b : Berth) (s t : Stand) (acts : List Action) (looked : List (ℕ × HubEvent)) → IsLog b s acts t → IsPrefix t.heard looked
@@ -106,14 +106,17 @@ one_end : (p q : PortValue) (acts : List Action) (role : Role) (s : Seats) (last
     → ((c : Settings) → IsOf c p → EndsRole c (passage_of p q acts role last looked) role)
     → (met ≡ None → last ≢ hub_events.Halt ∷ []) → (met ≡ None → GoesOn (passage_of p q acts role last looked) role)
     → ((c : Settings) → IsOf c p → met ≡ Some rooms.Full → MetFull c (passage_of p q acts role last looked))
+    → TicksAll 0 (passage_of p q acts role last looked) role → (is_some met ≡ true → has_halt s.hub_seat.seen ≡ true)
     → (may : MayEnd (p ∷ []) (role ∷ []) 0 (s ∷ []) met) × (may.passages ≡ passage_of p q acts role last looked ∷ [])
-one_end p q acts role s last looked met does behind host keeps ends few short time at_end halts goes full = (
+one_end p q acts role s last looked met does behind host keeps ends few short time at_end halts goes full all halted = (
   record {
     passages = passage_of p q acts role last looked ∷ [];
     through = (is_through p q acts role s last looked does behind host keeps ends, tt);
     each = refl;
     done = 0;
     time = (time, tt);
+    whole = λ is. inl (all, tt);
+    halted = halted;
     job = λ c of. record {
       losses = omega arith;
       last_entries = omega arith;
@@ -150,17 +153,19 @@ cut_end : (p q : PortValue) (acts : List Action) (role : Role) (s : Seats) (look
     → ((last : List HubEvent) → KeepsTime 0 0 (passage_of p q acts role last looked) role)
     → ((c : Settings) (last : List HubEvent) → last ≢ hub_events.Finished ∷ [] → EndsRole c (passage_of p q acts role last looked) role)
     → ((c : Settings) (last : List HubEvent) → IsOf c p → why ≡ rooms.Full → MetFull c (passage_of p q acts role last looked))
+    → ((last : List HubEvent) → TicksAll 0 (passage_of p q acts role last looked) role) → has_halt s.hub_seat.seen ≡ true
     → (Behind q s [] looked) ⊎ (Behind q s (hub_events.Halt ∷ []) looked) → MayEnd (p ∷ []) (role ∷ []) 0 (s ∷ []) (Some why)
-cut_end p q acts role s looked why does host keeps few time at_end full (inl behind) =
+cut_end p q acts role s looked why does host keeps few time at_end full all halted (inl behind) =
     (one_end p q acts role s [] looked (Some why) does behind host keeps last_none few (omega arith) (time [])
-    (λ c of. at_end c [] none_finished) (λ is. absurd (cc is)) (λ is. absurd (cc is)) (λ c of is. full c [] of (some_is why rooms.Full is))).0
+    (λ c of. at_end c [] none_finished) (λ is. absurd (cc is)) (λ is. absurd (cc is)) (λ c of is. full c [] of (some_is why rooms.Full is))
+    (all []) (λ is. halted)).0
   where
     some_is : (x y : Room) → Some x ≡ Some y → x ≡ y
     some_is x y is = cc is
-cut_end p q acts role s looked why does host keeps few time at_end full (inr behind) =
+cut_end p q acts role s looked why does host keeps few time at_end full all halted (inr behind) =
     (one_end p q acts role s (hub_events.Halt ∷ []) looked (Some why) does behind host keeps last_halt few (omega arith) (time (hub_events.Halt ∷ []))
     (λ c of. at_end c (hub_events.Halt ∷ []) halt_finished) (λ is. absurd (cc is)) (λ is. absurd (cc is))
-    (λ c of is. full c (hub_events.Halt ∷ []) of (some_is why rooms.Full is))).0
+    (λ c of is. full c (hub_events.Halt ∷ []) of (some_is why rooms.Full is)) (all (hub_events.Halt ∷ [])) (λ is. halted)).0
   where
     some_is : (x y : Room) → Some x ≡ Some y → x ≡ y
     some_is x y is = cc is
@@ -174,7 +179,8 @@ module _ (p q : PortValue) (pid : Pid) (task : List Answer → Option Call) (s :
   pub process_stopped : HasPlayed p q pid task false → HasClosed q s.seat s.hub_seat None → EndsProcess p pid task (s ∷ []) None
   process_stopped played closed =
       let end = one_end p q played.0 (Runs pid task) s [] q.hub_seat.seen None played.1 (closed_behind q s closed) host (here, played.2) last_none played.4
-      (omega arith) tt (λ c of is. absurd (none_finished is)) (λ is. none_halt) (λ is. inr played.3) (λ c of is. absurd (cc is)) in
+      (omega arith) tt (λ c of is. absurd (none_finished is)) (λ is. none_halt) (λ is. inr played.3) (λ c of is. absurd (cc is)) tt
+      (λ is. absurd (cc is)) in
       record { may = end.0; waits = λ is. subst (Each (FinishesOrWaits p.station.origin)) (sym end.1) (inr played.5, tt) }
 
   -- it met a Room
@@ -184,6 +190,7 @@ module _ (p q : PortValue) (pid : Pid) (task : List Answer → Option Call) (s :
       halted why (cut_end p q played.0 (Runs pid task) s q.hub_seat.seen why played.1 host (here, played.2) played.3 (λ last. tt)
       (λ c last never is. absurd (never is))
       (λ c last of full. met_full c p q played.0 (Runs pid task) last of played.1 (played.4 full))
+      (λ last. tt) (closed.halted refl)
       (halted_behind q s q.hub_seat.seen why closed.seat closed.same (prefix_self q.hub_seat.seen) closed.heard closed.sent))
 
   -- it came to its end
@@ -193,7 +200,7 @@ module _ (p q : PortValue) (pid : Pid) (task : List Answer → Option Call) (s :
       (record { seat = ended.seat; same = ended.same; later = prefix_self q.hub_seat.seen; heard = ended.finished.1; sent = ended.finished.0 })
       host (here, played.2) last_finished (let none = played.4 in omega arith) (omega arith) tt
       (λ c of is. subst (λ o. IsAtEnd task (calls_by played.0) (answers_by o played.0)) of played.3)
-      (λ is. finished_halt) (λ is. inl refl) (λ c of is. absurd (cc is)) in
+      (λ is. finished_halt) (λ is. inl refl) (λ c of is. absurd (cc is)) tt (λ is. absurd (cc is)) in
       record { may = end.0; waits = λ is. subst (Each (FinishesOrWaits p.station.origin)) (sym end.1) (inl refl, tt) }
 
   -- it came to its end, but met a Room there
@@ -202,7 +209,7 @@ module _ (p q : PortValue) (pid : Pid) (task : List Answer → Option Call) (s :
   process_unfinished why played ended =
       let it = ended.finished in
       halted why (cut_end p q played.0 (Runs pid task) s it.0 why played.1 host (here, played.2) (let none = played.4 in omega arith) (λ last. tt)
-      (λ c last never is. absurd (never is)) (λ c last of full. inr (inr (it.4 full)))
+      (λ c last never is. absurd (never is)) (λ c last of full. inr (inr (it.4 full))) (λ last. tt) it.5
       (halted_behind q s it.0 why ended.seat ended.same it.1 it.2 it.3))
 
 -- however it ended
@@ -216,13 +223,14 @@ module _ (p q : PortValue) (s : Seats) (host : s.host ≡ p.host) where
   pub pump_stopped : HasPumped p q → HasClosed q s.seat s.hub_seat None → MayEnd (p ∷ []) (Pumps ∷ []) 0 (s ∷ []) None
   pump_stopped pumped closed =
       (one_end p q pumped.0 Pumps s [] q.hub_seat.seen None pumped.1 (closed_behind q s closed) host pumped.2 last_none pumped.3 (omega arith) tt
-      (λ c of. none_finished) (λ is. none_halt) (λ is. tt) (λ c of is. absurd (cc is))).0
+      (λ c of. none_finished) (λ is. none_halt) (λ is. pumped.4) (λ c of is. absurd (cc is)) tt (λ is. absurd (cc is))).0
 
   pub pump_cut : (why : Room) → HasPumpedCut p q why → HasClosed q s.seat s.hub_seat (Some why) → MayEnd (p ∷ []) (Pumps ∷ []) 0 (s ∷ []) (Some why)
   pump_cut why pumped closed =
       cut_end p q pumped.0 Pumps s q.hub_seat.seen why pumped.1 host pumped.2 pumped.3 (λ last. tt)
       (λ c last never. never)
       (λ c last of full. met_full c p q pumped.0 Pumps last of pumped.1 (pumped.4 full))
+      (λ last. tt) (closed.halted refl)
       (halted_behind q s q.hub_seat.seen why closed.seat closed.same (prefix_self q.hub_seat.seen) closed.heard closed.sent)
 
 -- a process of a station has its host

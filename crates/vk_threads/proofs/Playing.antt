@@ -118,8 +118,8 @@ at_limit n is = grind (arith, nat_tests)
 pub met_own : (p : PortValue) (acts : List Action) (o : StationHistory) (e : StationEvent) → brings_last_number e ≡ false → (last : List Action) (m : Met)
     → IsCutEvent o e last m → IsMet p rooms.Full m → FindsFull p acts
 met_own p acts o e plain [] m cut met =
-    let here : is_full p.station.origin p.seat.seen e ≡ true = subst (IsMet p rooms.Full) cut met in inl (or_used _ _ here plain)
-met_own p acts o e plain (Enters before x posted ∷ []) (AtHub (hub_events.Post frame)) cut met = inr (inr (at_limit (others p.hub_seat.seen) met))
+    let here : is_full p.station.origin p.seat.seen e ≡ true = (subst (IsMet p rooms.Full) cut met).1 in inl (or_used _ _ here plain)
+met_own p acts o e plain (Enters before x posted ∷ []) (AtHub (hub_events.Post frame)) cut met = inr (inr (at_limit (others p.hub_seat.seen) met.1))
 met_own p acts o e plain (Enters before x posted ∷ []) (AtHub (hub_events.Fetch h)) cut met = absurd cut
 met_own p acts o e plain (Enters before x posted ∷ []) (AtHub hub_events.Finished) cut met = absurd cut
 met_own p acts o e plain (Enters before x posted ∷ []) (AtHub hub_events.Halt) cut met = absurd cut
@@ -138,13 +138,13 @@ dropped_full p first heard frame (inr last) = inr (inl (frame, dropped_append fr
 pub met_pump : (p : PortValue) (first : List Action) (o : StationHistory) (host : ℕ) (last : List Action) (m : Met)
     → IsCutPump o host last m → IsMet p rooms.Full m → FindsFull p (first ++ last)
 met_pump p first o host [] m cut met =
-    let here : is_at_limit p.hub_seat.seen (hub_events.Fetch host) ≡ true = subst (IsMet p rooms.Full) cut met in
+    let here : is_at_limit p.hub_seat.seen (hub_events.Fetch host) ≡ true = (subst (IsMet p rooms.Full) cut met).1 in
     inr (inr (at_limit (others p.hub_seat.seen) here))
 met_pump p first o host (Drops heard frame ∷ []) m cut met =
-    let here : is_full p.station.origin p.seat.seen (events.Deliver frame) ≡ true = subst (IsMet p rooms.Full) cut met in
+    let here : is_full p.station.origin p.seat.seen (events.Deliver frame) ≡ true = (subst (IsMet p rooms.Full) cut met).1 in
     dropped_full p first heard frame (or_cases _ _ here)
 met_pump p first o host (Drops heard frame ∷ (y ∷ ys)) m cut met = absurd cut
-met_pump p first o host (Delivers heard frame before posted ∷ []) (AtHub (hub_events.Post f)) cut met = inr (inr (at_limit (others p.hub_seat.seen) met))
+met_pump p first o host (Delivers heard frame before posted ∷ []) (AtHub (hub_events.Post f)) cut met = inr (inr (at_limit (others p.hub_seat.seen) met.1))
 met_pump p first o host (Delivers heard frame before posted ∷ []) (AtHub (hub_events.Fetch h)) cut met = absurd cut
 met_pump p first o host (Delivers heard frame before posted ∷ []) (AtHub hub_events.Finished) cut met = absurd cut
 met_pump p first o host (Delivers heard frame before posted ∷ []) (AtHub hub_events.Halt) cut met = absurd cut

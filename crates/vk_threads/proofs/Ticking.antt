@@ -1,21 +1,21 @@
 -- From what the clock did with its ports, and how it closed them, to its end.
-use Rattle.std.proofs.Common.{◌≡◌, ◌≢◌, ℕ, ◌+◌, ◌≤◌, Option, Some, None, List, [], ◌∷◌, ◌++◌, ◌⊎◌, inl, inr, length, map, drop, take, get_or, zero, suc, refl, sym, ap, ◌∙◌, subst, arith}
+use Rattle.std.proofs.Common.{◌≡◌, ◌≢◌, ℕ, ◌+◌, ◌≤◌, true, Option, Some, None, List, [], ◌∷◌, ◌++◌, ◌⊎◌, inl, inr, length, map, drop, take, get_or, zero, suc, refl, sym, ap, ◌∙◌, subst, arith}
 use Rattle.std.proofs.lemmas.Grind.{common_steps}
 use Rattle.turn_cell.proofs.Histories.{prefix_self}
 use Rattle.turn_cell.specs.Seats.{Cell}
 use Rattle.turn_cell.specs.declared.replay.Room.{Room}
 use Rattle.turn_cell.specs.declared.replay.Room.TheVariants as rooms
 use Rattle.vk_base.specs.Settings.{Settings}
-use Rattle.vk_hub.specs.Hubs.{HubLog}
+use Rattle.vk_hub.specs.Hubs.{HubLog, has_halt}
 use Rattle.vk_hub.specs.declared.event.HubEvent.{HubEvent}
 use Rattle.vk_hub.specs.declared.event.HubEvent.TheVariants as hub_events
 use Rattle.vk_port.specs.Ports.{Action, Does, PortValue}
 use Rattle.vk_rules.specs.Each.{Each}
 use Rattle.v_run.specs.Jobs.{EndsRole, GoesOn, IsJobEnd, KeepsTime, MetFull, OneOf, last_entries, losses}
-use Rattle.v_run.specs.Passages.{OnlyTicks, Passage, Role, Ticks, tick_count}
+use Rattle.v_run.specs.Passages.{HasHeard, OnlyTicks, Passage, Role, Ticks, tick_count}
 use Rattle.vk_threads.specs.declared.end.Seats.{Seats}
-use Rattle.vk_threads.specs.Clocks.{AreTicked, HaveRounds, HaveRoundsCut, HaveTicked, HaveTickedCut, OneFindsFull, TickBetween, all_lost}
-use Rattle.vk_threads.specs.Ends.{AreThrough, ArePortsClosed, IsAt, IsOf, MayEnd, port_host, role_of, ticking}
+use Rattle.vk_threads.specs.Clocks.{AreTicked, HaveRounds, HaveRoundsCut, HaveTicked, HaveTickedCut, OneFindsFull, OneHears, TickBetween, all_lost}
+use Rattle.vk_threads.specs.Ends.{AreThrough, ArePortsClosed, GoesAllRounds, IsAt, IsOf, MayEnd, TicksAll, port_host, role_of, ticking}
 use Rattle.vk_threads.specs.Works.{HasClosed}
 use Rattle.vk_threads.proofs.Ending.{Behind, closed_behind, halt_finished, halted_behind, is_through, last_halt, last_none, met_full, none_finished, none_halt, passage_of}
 
@@ -104,6 +104,32 @@ quiet_goes [] [] (a ∷ all) does = absurd does
 quiet_goes (p ∷ ps) [] all does = absurd does
 quiet_goes (p ∷ ps) (x ∷ qs) [] does = absurd does
 
+-- they went all rounds, or one of them heard that the hub had ended
+quiet_all : (rounds : ℕ) (ps qs : List PortValue) (all : List (List Action)) → AreTicked ps qs all → TickBetween rounds rounds all
+    → Each (λ (g : Passage). TicksAll rounds g g.role) (quiet ps qs all)
+quiet_all rounds [] [] [] does ticks = tt
+quiet_all rounds (p ∷ ps) (q ∷ qs) (a ∷ all) does ticks =
+    let low = ticks.0 in let most = ticks.1 in (omega arith, quiet_all rounds ps qs all does.2 ticks.2)
+quiet_all rounds [] (x ∷ qs) all does ticks = absurd does
+quiet_all rounds [] [] (a ∷ all) does ticks = absurd does
+quiet_all rounds (p ∷ ps) [] all does ticks = absurd does
+quiet_all rounds (p ∷ ps) (x ∷ qs) [] does ticks = absurd does
+
+quiet_hears : (ps qs : List PortValue) (all : List (List Action)) → AreTicked ps qs all → OneHears all
+    → OneOf (λ (g : Passage). HasHeard g.actions) (quiet ps qs all)
+quiet_hears [] [] [] does hears = absurd hears
+quiet_hears (p ∷ ps) (q ∷ qs) (a ∷ all) does (inl has) = inl has
+quiet_hears (p ∷ ps) (q ∷ qs) (a ∷ all) does (inr rest) = inr (quiet_hears ps qs all does.2 rest)
+quiet_hears [] (x ∷ qs) all does hears = absurd does
+quiet_hears [] [] (a ∷ all) does hears = absurd does
+quiet_hears (p ∷ ps) [] all does hears = absurd does
+quiet_hears (p ∷ ps) (x ∷ qs) [] does hears = absurd does
+
+quiet_whole : (rounds done : ℕ) (ps qs : List PortValue) (all : List (List Action)) → AreTicked ps qs all → TickBetween done done all
+    → (done ≡ rounds) ⊎ OneHears all → GoesAllRounds rounds (quiet ps qs all)
+quiet_whole rounds done ps qs all does ticks (inl is) = inl (quiet_all rounds ps qs all does (subst (λ n. TickBetween n n all) is ticks))
+quiet_whole rounds done ps qs all does ticks (inr hears) = inr (quiet_hears ps qs all does hears)
+
 quiet_full : (c : Settings) (ps qs : List PortValue) (all : List (List Action)) → AreTicked ps qs all → Each (IsOf c) ps → OneFindsFull qs all
     → OneOf (MetFull c) (quiet ps qs all)
 quiet_full c [] [] [] does of full = absurd full
@@ -125,6 +151,8 @@ clock_done rounds ps qs ss it closed =
       each = quiet_roles ps qs t.acts t.does;
       done = it.done;
       time = quiet_time it.done it.done rounds ps qs t.acts (omega arith) it.few t.does t.ticks;
+      whole = λ is. quiet_whole rounds it.done ps qs t.acts t.does t.ticks it.all;
+      halted = λ is. absurd (cc is);
       job = λ c of. record {
         losses = (let lost = quiet_losses ps qs t.acts t.does in let few = t.few in omega arith);
         last_entries = (let none = quiet_last ps qs t.acts t.does in omega arith);
@@ -168,14 +196,16 @@ halted_full c p q ps qs a all last does of (inr full) = inr (quiet_full c ps qs 
 first_end : (rounds done high : ℕ) (p q : PortValue) (ps qs : List PortValue) (a : List Action) (all : List (List Action)) (s : Seats) (ss : List Seats)
     (why : Room) (last : List HubEvent) → AreHalted last → high ≤ done + 1 → high ≤ rounds → AreTicked (p ∷ ps) (q ∷ qs) (a ∷ all)
     → TickBetween done high (a ∷ all) → all_lost (a ∷ all) ≤ 1 → (why ≡ rooms.Full → OneFindsFull (q ∷ qs) (a ∷ all))
-    → Behind q s last q.hub_seat.seen → s.host ≡ q.host → ArePortsClosed qs ss None
+    → Behind q s last q.hub_seat.seen → has_halt s.hub_seat.seen ≡ true → s.host ≡ q.host → ArePortsClosed qs ss None
     → MayEnd (p ∷ ps) (ticking (p ∷ ps)) rounds (s ∷ ss) (Some why)
-first_end rounds done high p q ps qs a all s ss why last ends near few does ticks lost full behind host closed = record {
+first_end rounds done high p q ps qs a all s ss why last ends near few does ticks lost full behind halted host closed = record {
   passages = passage_of p q a Ticks last q.hub_seat.seen ∷ quiet ps qs all;
   through = halted_through p q ps qs a all s ss last ends does behind host closed;
   each = ap (λ l. Ticks ∷ l) (quiet_roles ps qs all does.2);
   done = done;
   time = (let most = ticks.1 in ((ticks.0, omega arith, omega arith), quiet_time done high rounds ps qs all near few does.2 ticks.2));
+  whole = λ is. absurd (cc is);
+  halted = λ is. halted;
   job = λ c of. record {
     losses = (let rest = quiet_losses ps qs all does.2 in omega arith);
     last_entries = (let none = quiet_last ps qs all does.2 in let one = halted_few last ends in omega arith);
@@ -195,6 +225,8 @@ cut_end rounds done high [] [] [] [] why near few does ticks lost full closed = 
   each = refl;
   done = done;
   time = tt;
+  whole = λ is. absurd (cc is);
+  halted = λ is. tt;
   job = λ c of. record {
     losses = omega arith;
     last_entries = omega arith;
@@ -212,9 +244,11 @@ cut_end rounds done high (p ∷ ps) (q ∷ qs) (a ∷ all) (s ∷ ss) why near f
     either : (Behind q s [] q.hub_seat.seen) ⊎ (Behind q s (hub_events.Halt ∷ []) q.hub_seat.seen)
         → MayEnd (p ∷ ps) (ticking (p ∷ ps)) rounds (s ∷ ss) (Some why)
     either (inl behind) =
-        first_end rounds done high p q ps qs a all s ss why [] (inl refl) near few does ticks lost full behind closed.0 closed.2
+        first_end rounds done high p q ps qs a all s ss why [] (inl refl) near few does ticks lost full behind
+        (closed.1.halted refl) closed.0 closed.2
     either (inr behind) =
-        first_end rounds done high p q ps qs a all s ss why (hub_events.Halt ∷ []) (inr refl) near few does ticks lost full behind closed.0 closed.2
+        first_end rounds done high p q ps qs a all s ss why (hub_events.Halt ∷ []) (inr refl) near few does ticks lost full behind
+        (closed.1.halted refl) closed.0 closed.2
 cut_end rounds done high [] (x ∷ qs) all ss why near few does ticks lost full closed = absurd does
 cut_end rounds done high [] [] (a ∷ all) ss why near few does ticks lost full closed = absurd does
 cut_end rounds done high (p ∷ ps) [] all ss why near few does ticks lost full closed = absurd does

@@ -2,7 +2,8 @@
 use Rattle.std.specs.Prelude.{ℕ, ◌≡◌, ◌≤◌, ◌+◌, ◌⊎◌, Bool, true, false, List, [], ◌∷◌}
 use Rattle.turn_cell.specs.declared.replay.Room.{Room}
 use Rattle.turn_cell.specs.declared.replay.Room.TheVariants as rooms
-use Rattle.vk_port.specs.Ports.{Action, Does, PortValue}
+use Rattle.vk_port.specs.declared.port.Pumped.{Pumped}
+use Rattle.vk_port.specs.Ports.{Action, Does, HasPumped, PortValue}
 use Rattle.v_run.specs.Passages.{HasHeard, OnlyTicks, lost_count, tick_count}
 use Rattle.vk_threads.specs.Works.{FindsFull}
 
@@ -48,10 +49,15 @@ pub record HaveTickedCut (low high lost : ℕ) (old new : List PortValue) (why :
   pub few : all_lost acts ≤ lost
   pub full : why ≡ rooms.Full → OneFindsFull new acts
 
+-- the first of these ports, where there is one, pumped once
+abbrev pub FirstPumps : List PortValue → List PortValue → Type 0
+FirstPumps (p ∷ ps) (q ∷ qs) = (given : Pumped) × HasPumped p q given
+FirstPumps ps qs = Unit {0}
+
 -- One look: it heard that the hub had ended, or did not.
 abbrev pub HaveLooked : List PortValue → List PortValue → Bool → Type 0
 HaveLooked old new true = (t : HaveTicked 0 0 1 old new) × OneHears t.acts
-HaveLooked old new false = HaveTicked 0 0 0 old new
+HaveLooked old new false = HaveTicked 0 0 0 old new × FirstPumps old new
 
 -- The clock went just so many rounds, or fewer where it heard that the hub had ended; and where it met a Room, a part of one more.
 pub record HaveRounds (rounds : ℕ) (old new : List PortValue) : Type 0 where

@@ -1,9 +1,9 @@
 -- What the end of a job may be.
-use Rattle.std.specs.Prelude.{ℕ, ◌≡◌, ◌+◌, ◌⊎◌, List, [], ◌∷◌, ◌++◌, Option, Some, None, length, map}
+use Rattle.std.specs.Prelude.{ℕ, ◌≡◌, ◌+◌, ◌⊎◌, true, List, [], ◌∷◌, ◌++◌, Option, Some, None, is_some, length, map}
 use mathlib.Core.List.{IsPrefix}
 use Rattle.turn_cell.specs.Seats.{Cell, IsSameSeat}
 use Rattle.vk_hub.specs.declared.event.HubEvent.TheVariants as hub_events
-use Rattle.vk_hub.specs.Hubs.{HubLog}
+use Rattle.vk_hub.specs.Hubs.{HubLog, has_halt}
 use Rattle.turn_cell.specs.declared.replay.Room.{Room}
 use Rattle.vk_base.specs.declared.answer.Answer.{Answer}
 use Rattle.vk_base.specs.declared.call.Call.{Call}
@@ -12,8 +12,8 @@ use Rattle.vk_base.specs.Settings.{Settings}
 use Rattle.vk_port.specs.Ports.{IsLog, PortValue, berth_of, stand_of}
 use Rattle.vk_port.specs.Stations.{StationHistory}
 use Rattle.vk_rules.specs.Each.{Each}
-use Rattle.v_run.specs.Jobs.{IsJobEnd, JobEnd, KeepsTime}
-use Rattle.v_run.specs.Passages.{IsLast, IsRole, Passage, Pumps, Role, Runs, Ticks, answers_by, calls_by, fresh_station}
+use Rattle.v_run.specs.Jobs.{IsJobEnd, JobEnd, KeepsTime, OneOf}
+use Rattle.v_run.specs.Passages.{HasHeard, IsLast, IsRole, Passage, Pumps, Role, Runs, Ticks, answers_by, calls_by, fresh_station, tick_count}
 use Rattle.vk_threads.specs.declared.end.Seats.{Seats}
 use Rattle.vk_threads.specs.Works.{HasClosed}
 
@@ -44,13 +44,28 @@ role_of g = g.role
 abbrev pub IsOf : Settings → PortValue → Type 0
 IsOf c p = p.station.origin ≡ fresh_station c p.host
 
--- A job with these ports, in these roles, may hand back these seats with this Room.
+-- The clock went all its rounds at each station, or heard that the hub had ended.
+abbrev pub TicksAll : ℕ → Passage → Role → Type 0
+TicksAll rounds g Ticks = tick_count g.actions ≡ rounds
+TicksAll rounds g role = Unit {0}
+
+abbrev pub GoesAllRounds : ℕ → List Passage → Type 0
+GoesAllRounds rounds gs = Each (λ (g : Passage). TicksAll rounds g g.role) gs ⊎ OneOf (λ (g : Passage). HasHeard g.actions) gs
+
+-- the first of these seats has seen the hub halted
+abbrev pub FirstSeesHalt : List Seats → Type 0
+FirstSeesHalt [] = Unit {0}
+FirstSeesHalt (s ∷ ss) = has_halt s.hub_seat.seen ≡ true
+
+-- A job with these ports, in these roles, may hand back these seats with this Room. Where it met one, the hub is halted.
 pub record MayEnd (ports : List PortValue) (roles : List Role) (rounds : ℕ) (seats : List Seats) (met : Option Room) : Type 0 where
   pub passages : List Passage
   pub through : AreThrough ports seats passages
   pub each : map role_of passages ≡ roles
   pub done : ℕ
   pub time : Each (λ (g : Passage). KeepsTime done rounds g g.role) passages
+  pub whole : met ≡ None → GoesAllRounds rounds passages
+  pub halted : is_some met ≡ true → FirstSeesHalt seats
   pub job : (c : Settings) → Each (IsOf c) ports → IsJobEnd c (record { passages = passages; met = met })
 
 -- The process of a passage finished, or its last call is not answered.

@@ -1,6 +1,7 @@
 //! The halt of a run.
-ghost use Rattle.std.specs.Prelude.{◌≡◌};
+ghost use Rattle.std.specs.Prelude.{◌≡◌, true};
 ghost use Rattle.turn_cell.specs.Seats.{IsSeatOf};
+ghost use Rattle.vk_hub.specs.Hubs.{has_halt};
 
 use std::marker::Model;
 use std::sync::Wait;
@@ -47,6 +48,8 @@ impl<'a> HubHalt<'a> {
 }
 
 impl<'a> Halt for HubHalt<'a> {
+    ghost is_halted = { λ h. has_halt h.seen ≡ true };
+
     fn halt<R: Wait + Threads + Clock + Sync>(&mut self, rt: &R) {
         self.hub.stop(rt, &mut self.seat);
     }

@@ -22,11 +22,11 @@ mod work;
 
 pub use clock::wait_once;
 pub use crew::ThreadCrew;
-pub use deal::{Stock, take_hub_seat};
+pub use deal::take_hub_seat;
 pub use end::{End, Seats};
 pub use gather::{Gathered, close_all, gather_all, has_met_full, has_met_no_memory};
 pub use halt::HubHalt;
-pub use opening::{Site, Spare, open_all};
+pub use opening::Site;
 pub use pacer::SleepPacer;
 pub use process::{ProcessWork, process_end};
 pub use record::{RunRecord, RunRefusal};

@@ -64,13 +64,14 @@ text_answer Unread Unwritten words a left rest old new s job outcome nothing = r
   useless = λ none. clash (jobs.OfText a) (job_of words) job none;
   done = λ is. asks words (jobs.OfText a) left (λ j i. IsJobDone j i old new) job (outcome.done is);
   not_a_run = λ step is. asks words (jobs.OfText a) left (λ j i. IsJobNotARun j i step old new) job (outcome.no step is);
-  whole = λ b same told. outcome.whole told;
+  whole = λ b same behind. outcome.whole behind;
   alone = λ n same. differ (jobs.OfText a) (jobs.Storm n) (job_of words) job same (λ e. absurd (cc));
   bad = λ line is. asks words (jobs.OfText a) left (λ j i. IsJobBadAt j i line) job (outcome.bad line is);
   stray = λ host event is. asks words (jobs.OfText a) left (λ j i. IsJobStrayAt j i host event) job (outcome.stray host event is);
   limit = λ is.
       asks words (jobs.OfText a) left (λ j i. (IsJobOverLimit j i × Unwritten) ⊎ IsJobCutShort j i old new) job (outcome.limit is);
-  limit_whole = λ is. outcome.read is;
+  limit_whole = λ b same is. outcome.limit_whole is;
+  reading = outcome.reading;
   memory = λ is. inr (outcome.memory is);
   complete = λ j same. decided_for j (jobs.OfText a) (job_of words) left s job same outcome.complete;
   writing = λ is. asks words (jobs.OfText a) left IsJobToWrite job (outcome.writing is);
@@ -92,7 +93,7 @@ storm_answer Unread Unwritten words n left old new s job unread answered nothing
       done = λ is. asks_anyhow words j left (λ k i. IsJobDone k i old new) job (λ i. answered.done is);
       not_a_run = λ step is.
           no_other s (status.NotARun step) answered.kinds is (λ e. grind (arith, e)) (λ e. grind (arith, e)) (λ e. grind (arith, e)) (λ e. grind (arith, e));
-      whole = λ a same told. differ j (jobs.OfText a) (job_of words) job same (λ e. absurd (cc));
+      whole = λ a same behind. differ j (jobs.OfText a) (job_of words) job same (λ e. absurd (cc));
       alone = λ m same. unread;
       bad = λ line is.
           no_other s (status.BadInput line) answered.kinds is (λ e. grind (arith, e)) (λ e. grind (arith, e)) (λ e. grind (arith, e)) (λ e. grind (arith, e));
@@ -100,7 +101,8 @@ storm_answer Unread Unwritten words n left old new s job unread answered nothing
           no_other s (status.Stray host event) answered.kinds is (λ e. grind (arith, e)) (λ e. grind (arith, e)) (λ e. grind (arith, e)) (λ e. grind (arith, e));
       limit = λ is. asks_anyhow words j left (λ k i. (IsJobOverLimit k i × Unwritten) ⊎ IsJobCutShort k i old new) job
           (λ i. inl (answered.limit is));
-      limit_whole = λ is. inl (answered.limit is).1;
+      limit_whole = λ a same is. differ j (jobs.OfText a) (job_of words) job same (λ e. absurd (cc));
+      reading = λ is. no_other s status.ReadFault answered.kinds is (λ e. grind (arith, e)) (λ e. grind (arith, e)) (λ e. grind (arith, e)) (λ e. grind (arith, e));
       memory = λ is. inl unread;
       complete = λ k same. decided_for k j (job_of words) left s job same answered.complete;
       writing = λ is. asks_anyhow words j left IsJobToWrite job (λ i. answered.writing is);
@@ -118,12 +120,13 @@ useless_answer Unread Unwritten words left old none unread unwritten = record {
   useless = λ is. (inl refl, unread, unwritten);
   done = λ is. absurd (grind (arith, is));
   not_a_run = λ step is. absurd (grind (arith, is));
-  whole = λ a same told. absurd told;
+  whole = λ a same behind. absurd behind;
   alone = λ n same. unread;
   bad = λ line is. absurd (grind (arith, is));
   stray = λ host event is. absurd (grind (arith, is));
   limit = λ is. absurd (grind (arith, is));
-  limit_whole = λ is. absurd (grind (arith, is));
+  limit_whole = λ a same is. absurd (grind (arith, is));
+  reading = λ is. absurd (grind (arith, is));
   memory = λ is. absurd (grind (arith, is));
   complete = λ j same. absurd (cc);
   writing = λ is. absurd (grind (arith, is));
@@ -147,12 +150,13 @@ wanting_answer Unread Unwritten words left old unread unwritten = record {
   useless = λ is. (inr refl, unread, unwritten);
   done = λ is. absurd (grind (arith, is));
   not_a_run = λ step is. absurd (grind (arith, is));
-  whole = λ a same told. absurd told;
+  whole = λ a same behind. absurd behind;
   alone = λ n same. unread;
   bad = λ line is. absurd (grind (arith, is));
   stray = λ host event is. absurd (grind (arith, is));
   limit = λ is. absurd (grind (arith, is));
-  limit_whole = λ is. absurd (grind (arith, is));
+  limit_whole = λ a same is. absurd (grind (arith, is));
+  reading = λ is. absurd (grind (arith, is));
   memory = λ is. inl unread;
   complete = λ j same. wanted j left;
   writing = λ is. absurd (grind (arith, is));

@@ -10,15 +10,11 @@ use Rattle.vk_base.specs.declared.config.ProcessSpec.{ProcessSpec}
 use Rattle.vk_base.specs.declared.event.StationEvent.{StationEvent}
 use Rattle.vk_base.specs.declared.event.StationEvent.TheVariants as events
 use Rattle.vk_base.specs.Settings.{Settings, has_station, or_else}
-use Rattle.vk_schedule.specs.declared.schedule.Schedule.{Schedule}
 use Rattle.vk_schedule.specs.declared.schedule.TextRefusal.{TextRefusal}
 use Rattle.vk_schedule.specs.declared.schedule.TextRefusal.TheVariants as texts
-use Rattle.vk_schedule.specs.declared.event.Event.{Event}
-use Rattle.vk_schedule.specs.Lawful.{IsLawful, IsReadableEvent, has_actors}
 use Rattle.vk_join.specs.declared.log.JoinRefusal.{JoinRefusal}
 use Rattle.vk_join.specs.declared.log.JoinRefusal.TheVariants as joins
 use Rattle.vk_schedule.specs.declared.log.StationLog.{StationLog}
-use Rattle.vk_join.specs.Joined.{IsJoined}
 use Rattle.vk_join.specs.Logs.{AreLogs, HostsRise, IsOfStation, byte_count, entries_at, event_count}
 use Rattle.vk_join.specs.Stray.{first_stray, is_over_limit, is_stray, join_refusal, stray_at, stray_behind}
 use Rattle.vk_event.specs.declared.node.NodeTexts.{NodeTexts}
@@ -28,7 +24,6 @@ use Rattle.vk_event.specs.Nodes.{HasNodeProcess, has_log, is_own, node_opening, 
 use Rattle.vk_rules.specs.Each.{Each}
 use Rattle.vk_rules.specs.Histories.{Logs}
 use Rattle.vk_text.specs.Lines.{lines_of}
-use Rattle.vk_text.specs.Openings.{IsTold}
 use Rattle.vk_top.proofs.Told.{empty_bad, join_bad}
 use Rattle.vk_top.specs.declared.status.Status.{Status}
 use Rattle.vk_top.specs.declared.status.Status.TheVariants as status
@@ -204,18 +199,6 @@ pub few_in_order : (n : NodeTexts) → IsLawfulNodes n → event_count (in_order
 few_in_order n lawful = omega (arith, count_sorted [] n.logs, lawful.few)
 
 -- A joined schedule is lawful.
-
-ranges_all : (es : List Event) → Each IsReadableEvent es → AllByRecursion IsReadableEvent es
-ranges_all [] each = tt
-ranges_all (e ∷ es) each = (each.0, ranges_all es each.1)
-
-pub joined_lawful : (n : NodeTexts) (s : Schedule) → IsLawfulNodes n → IsJoined n.config (in_order n.logs) s → IsLawful s
-joined_lawful n s lawful joined = record {
-  told = subst IsTold (sym joined.config) lawful.told;
-  ranges = ranges_all s.events joined.ranges;
-  events = subst (λ (c : Settings). list_all (has_actors c.specs) s.events ≡ true) (sym joined.config) joined.actors;
-  few = omega (arith, joined.count, few_in_order n lawful);
-}
 
 -- Why they are not joined.
 

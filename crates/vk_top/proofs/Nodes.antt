@@ -1,14 +1,13 @@
 -- The answer to a scenario for one station.
-use Rattle.std.proofs.Common.{◌≡◌, ℕ, ◌+◌, ◌≤◌, ◌==◌, min, IfOk, OnOk, ◌||◌, Bool, true, false, List, [], ◌∷◌, length, Result, Ok, Err, ◌⊎◌, inl, inr, ap, subst, sym, ◌∙◌, arith, refl}
-use Rattle.std.proofs.lemmas.Bool.{and_parts, cond-false, cond-true, eqb-true}
-use Rattle.std.proofs.lemmas.List.Sums.{sum_by-cons}
+use Rattle.std.proofs.Common.{◌≡◌, ℕ, ◌+◌, ◌<◌, ◌≤◌, ◌==◌, min, IfOk, OnOk, ◌||◌, Bool, true, false, List, [], ◌∷◌, length, Result, Ok, Err, ◌⊎◌, inl, inr, ap, subst, sym, arith, refl}
+use Rattle.std.proofs.lemmas.Bool.{and_parts, eqb-true}
 use Rattle.vk_base.specs.declared.config.ProcessSpec.{ProcessSpec}
 use Rattle.vk_base.specs.Settings.{has_process, has_station}
 use Rattle.vk_event.specs.declared.port.StationPort.{StationPort}
 use Rattle.vk_event.specs.declared.scenario.Scenario.{Scenario}
-use Rattle.vk_event.specs.NodeLaws.{IsLawfulLog, IsLawfulNodes, node_text, one_log}
-use Rattle.vk_event.specs.Nodes.{event_count, nodes_of}
-use Rattle.vk_event.specs.Ports.{ArePortsAbove, has_all_ports, has_port, have_ports, line_behind}
+use Rattle.vk_event.specs.NodeLaws.{node_text, one_log}
+use Rattle.vk_event.specs.Nodes.{nodes_of}
+use Rattle.vk_event.specs.Ports.{ArePortsAbove, has_all_ports, has_port, have_ports}
 use Rattle.vk_event.specs.Scenario.{HasScenarioProcess, scenario_of}
 use Rattle.vk_event.specs.ScenarioLaws.{IsLawfulScenario}
 use Rattle.vk_program.specs.declared.assigned.Assigned.{Assigned}
@@ -16,40 +15,51 @@ use Rattle.vk_rules.specs.Each.{Each}
 use Rattle.vk_schedule.specs.declared.schedule.TextRefusal.{TextRefusal}
 use Rattle.vk_schedule.specs.declared.schedule.TextRefusal.TheVariants as texts
 use Rattle.vk_schedule.specs.declared.log.StationLog.{StationLog}
-use Rattle.v_run.specs.Outcomes.{Assignment}
 use Rattle.vk_top.proofs.Runs.{no_limit, no_want, some_process}
 use Rattle.vk_top.proofs.Stations.{station_have, station_own}
 use Rattle.vk_top.specs.declared.program.TopProgram.{TopProgram}
 use Rattle.vk_top.specs.declared.status.Status.{Status}
 use Rattle.vk_top.specs.declared.status.Status.TheVariants as status
 use Rattle.vk_top.specs.declared.top.Work.{Work}
-use Rattle.vk_top.specs.Nodes.{Passed, TellsNode, for_station, jobs_at, node_asked, node_scenario}
+use Rattle.vk_top.specs.Nodes.{IsNodeFailure, Passed, TellsNode, for_station, jobs_at, node_asked, node_scenario}
 use Rattle.vk_top.specs.Programs.{AreTopPrograms, assignments_at, tasks_at}
-use Rattle.vk_top.specs.Statuses.{refused}
-use Rattle.vk_top.specs.Threaded.{IsThreadedRefusal, IsThreadedWork, ended, scenario_status}
-use Rattle.vk_udp.specs.Node.{HavePort, IsNodeRecord, IsProcessAt, IsRecordOf}
+use Rattle.vk_top.specs.Statuses.{refused, refused_node}
+use Rattle.vk_top.specs.Threaded.{IsTextRefusal, IsThreadedRefusal, IsThreadedWork, counted, ended, scenario_status}
+use Rattle.vk_udp.specs.Node.{HavePort, IsNodeRecord, IsProcessAt, TellsNodeJobs}
+use Rattle.vk_udp.specs.declared.record.NodeRefusal.{NodeRefusal}
+use Rattle.vk_udp.specs.declared.record.NodeRefusal.TheVariants as nodes
 
 -- Which scenario is one for the station.
 
-pub for_it : (host : ℕ) (text : List ℕ) (s : Scenario) → scenario_of text ≡ Ok s → has_all_ports s.config.specs s.ports host ≡ true →
-    node_scenario host text ≡ Ok s
-for_it host text s is has = ap (for_station host text) is ∙ cond-true _ (Ok s) (Err (texts.BadInput (line_behind text))) has
-
-pub not_for_it : (host : ℕ) (text : List ℕ) (s : Scenario) → scenario_of text ≡ Ok s → has_all_ports s.config.specs s.ports host ≡ false →
-    node_asked host false text ≡ status.BadInput (line_behind text)
-not_for_it host text s is lacks =
-    ap (scenario_status false)
-    (ap (for_station host text) is ∙ cond-false _ (Ok s) (Err (texts.BadInput (line_behind text))) lacks)
-
-pub refused_node : (host : ℕ) (text : List ℕ) (e : TextRefusal) →
+pub node_refused : (host : ℕ) (text : List ℕ) (e : TextRefusal) →
     ((e ≡ texts.NoMemory) × HasScenarioProcess text) ⊎ (scenario_of text ≡ Err e) →
-    IsThreadedRefusal (node_asked host) (Unit {0}) text (refused e)
-refused_node host text (texts.BadInput line) (inl wanted) = absurd (grind (arith, wanted))
-refused_node host text (texts.BadInput line) (inr bad) = ap (scenario_status false) (ap (for_station host text) bad)
-refused_node host text texts.Limit (inl wanted) = absurd (grind (arith, wanted))
-refused_node host text texts.Limit (inr bad) = absurd (no_limit text bad)
-refused_node host text texts.NoMemory (inl wanted) = some_process text wanted.1
-refused_node host text texts.NoMemory (inr bad) = absurd (no_want text bad)
+    IsTextRefusal (node_asked host) text (refused e)
+node_refused host text (texts.BadInput line) (inl wanted) = absurd (grind (arith, wanted))
+node_refused host text (texts.BadInput line) (inr bad) = ap (scenario_status false) (ap (for_station host text) bad)
+node_refused host text texts.Limit (inl wanted) = absurd (grind (arith, wanted))
+node_refused host text texts.Limit (inr bad) = absurd (no_limit text bad)
+node_refused host text texts.NoMemory (inl wanted) = some_process text wanted.1
+node_refused host text texts.NoMemory (inr bad) = absurd (no_want text bad)
+
+-- Where the run of the station came to no end.
+
+module _ (host : ℕ) (text : List ℕ) (s : Scenario) (before now : ℕ) (small : length text ≤ 16777216) (is : node_scenario host text ≡ Ok s) where
+  pub node_grown : now ≡ counted before (jobs_at host s) → IsNodeFailure host before now status.NoMemory text
+  node_grown grown = inr (jobs_at host s, record { small = small; scenario = s; text = is; count = refl }, grown)
+
+  node_left : (e : NodeRefusal) → TellsNodeJobs {T = Unit {0}} before (counted before (jobs_at host s)) now (Err e) →
+      IsNodeFailure host before now (refused_node e) text
+  node_left nodes.LinkFault left = (tt, (jobs_at host s, record { small = small; scenario = s; text = is; count = refl }, left))
+  node_left nodes.CrewFault left = (jobs_at host s, record { small = small; scenario = s; text = is; count = refl }, left)
+  node_left nodes.NoMemory (inl left) = inl left
+  node_left nodes.NoMemory (inr grown) = node_grown grown
+
+  pub node_failed : (Unasked : Type 0) (e : NodeRefusal) → 0 < length text →
+      TellsNodeJobs {T = Unit {0}} before (counted before (jobs_at host s)) now (Err e) →
+      IsThreadedRefusal (node_asked host) (IsNodeFailure host before now) Unasked text (refused_node e)
+  node_failed Unasked nodes.LinkFault some left = node_left nodes.LinkFault left
+  node_failed Unasked nodes.CrewFault some left = node_left nodes.CrewFault left
+  node_failed Unasked nodes.NoMemory some left = (some, node_left nodes.NoMemory left)
 
 -- What the run of the station asks for.
 
@@ -81,9 +91,6 @@ own_port ports host (p ∷ specs) there have =
     own_or ports host p.pid.host (p.pid.host == host) (has_station specs host) refl there parts.0
     (λ is. own_port ports host specs is parts.1)
 
-pub has_it : (s : Scenario) (host : ℕ) → has_all_ports s.config.specs s.ports host ≡ true → has_station s.config.specs host ≡ true
-has_it s host has = (and_parts (has_station s.config.specs host) (have_ports s.config.specs s.ports) has).0
-
 pub station_ports : (s : Scenario) (host : ℕ) → IsLawfulScenario s → has_all_ports s.config.specs s.ports host ≡ true →
     HavePort s.config.specs host s.ports
 station_ports s host lawful has =
@@ -94,19 +101,6 @@ station_ports s host lawful has =
     }
 
 -- What is written of a node.
-
-one_count : (log : StationLog) → event_count (record { host = log.host; events = log.events } ∷ []) ≡ length log.events
-one_count log = sum_by-cons (λ (l : StationLog). length l.events) (record { host = log.host; events = log.events }) [] ∙ omega arith
-
-pub log_is_lawful : (s : Scenario) (host rounds : ℕ) (tasks : List Assignment) (handed : List (List ℕ)) (limited : Bool) (log : StationLog) →
-    IsLawfulScenario s → IsRecordOf s.config host rounds tasks handed limited log → IsLawfulNodes (one_log s.config host log.events)
-log_is_lawful s host rounds tasks handed limited log lawful is = record {
-  told = lawful.told;
-  some = omega arith;
-  logs = (subst (λ h. IsLawfulLog s.config (record { host = h; events = log.events })) is.at is.lawful, tt);
-  differ = (refl, tt);
-  few = subst (λ n. n ≤ 100000) (sym (one_count log)) is.few;
-}
 
 pub node_told : (host : ℕ) (before now : Passed) (text : List ℕ) (s : Scenario) (limited : Bool) (log : StationLog) (r : Result Work Status) →
     length text ≤ 16777216 → node_scenario host text ≡ Ok s →

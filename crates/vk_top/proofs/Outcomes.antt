@@ -4,9 +4,9 @@ use Rattle.std.specs.Prelude.{IfSome}
 use Rattle.std.specs.Io.KnownBytes.{Consumes}
 use Rattle.std.proofs.lemmas.Bool.{cond-true, lt-ltb}
 use Rattle.std.proofs.lemmas.List.{append-nil}
-use Rattle.vk_io.specs.Causes.{LosesFront, Rose}
+use Rattle.vk_io.specs.Causes.{Rose}
 use Rattle.vk_top.proofs.Told.{nothing_more}
-use Rattle.vk_top.specs.Top.{IsDecided, IsEarly, IsOverLimit, OfInput, TellsFaults, status_of}
+use Rattle.vk_top.specs.Top.{IsDecided, IsEarly, IsOverLimit, IsReadOver, OfInput, TellsFaults, status_of}
 use Rattle.vk_top.specs.Work.{IsAnswered, IsLate, IsOutcome, IsReadCount, IsRefusal, IsUnread, IsWriteCount, IsWritten}
 use Rattle.vk_top.specs.declared.status.Status.{Status}
 use Rattle.vk_top.specs.declared.status.Status.TheVariants as status
@@ -135,7 +135,7 @@ pub all_taken : (left rest : Option (List ℕ)) (text : List ℕ) → IfSome lef
 all_taken None rest text h = tt
 all_taken (Some i) rest text h = subst (λ r. Consumes (Some i) r text) (sym h.1) (sym h.0 ∙ sym (append-nil text))
 
-pub too_many : (left rest : Option (List ℕ)) → LosesFront left rest (λ n. 16777216 < n) → OfInput left (λ i. 16777216 < length i)
+pub too_many : (left rest : Option (List ℕ)) → IsReadOver left rest → OfInput left (λ i. 16777216 < length i)
 too_many None rest lost = record { input = lost.bytes; all = tt; holds = lost.count }
 too_many (Some i) None lost = absurd lost.front
 too_many (Some i) (Some ys) lost =
@@ -189,11 +189,12 @@ answered_is Unchanged a left rest old new text s small read answered =
       kinds = (answered.kinds.0, answered.kinds.2, answered.kinds.3);
       done = λ is. record { input = text; all = all; holds = answered.done is };
       no = λ step is. record { input = text; all = all; holds = answered.no step is };
-      whole = λ is. told_whole left rest text read;
+      whole = λ behind. told_whole left rest text read;
       bad = λ line is. record { input = text; all = all; holds = answered.bad line is };
       stray = λ host event is. record { input = text; all = all; holds = answered.stray host event is };
       limit = λ is. record { input = text; all = all; holds = answered.limit is };
-      read = λ is. inr (told_whole left rest text read);
+      limit_whole = λ is. inr (told_whole left rest text read);
+      reading = λ is. absurd (answered.kinds.1 is);
       memory = λ is. record { bytes = text; front = all_taken left rest text read; count = (answered.memory is, small) };
       writing = λ is. record { input = text; all = all; holds = answered.writing is };
       complete = by_text a left text s all answered.complete;
@@ -222,11 +223,12 @@ unread_is Unchanged a left rest old status.ReadFault same why = record {
   kinds = (λ is. grind (arith, is), λ is. grind (arith, is), λ is. grind (arith, is));
   done = λ is. absurd (grind (arith, is));
   no = λ step is. absurd (grind (arith, is));
-  whole = λ told. absurd told;
+  whole = λ behind. absurd behind;
   bad = λ line is. absurd (grind (arith, is));
   stray = λ host event is. absurd (grind (arith, is));
   limit = λ is. absurd (grind (arith, is));
-  read = λ is. absurd (grind (arith, is));
+  limit_whole = λ is. absurd (grind (arith, is));
+  reading = λ is. why;
   memory = λ is. absurd (grind (arith, is));
   writing = λ is. absurd (grind (arith, is));
   complete = tt;
@@ -236,11 +238,12 @@ unread_is Unchanged a left rest old status.Limit same why = record {
   kinds = (λ is. grind (arith, is), λ is. grind (arith, is), λ is. grind (arith, is));
   done = λ is. absurd (grind (arith, is));
   no = λ step is. absurd (grind (arith, is));
-  whole = λ told. absurd told;
+  whole = λ behind. absurd behind;
   bad = λ line is. absurd (grind (arith, is));
   stray = λ host event is. absurd (grind (arith, is));
   limit = λ is. weaker left _ _ (λ i many. inl (over_limit a i many, same)) (too_many left rest why);
-  read = λ is. inl same;
+  limit_whole = λ is. inl (why, same);
+  reading = λ is. absurd (grind (arith, is));
   memory = λ is. absurd (grind (arith, is));
   writing = λ is. absurd (grind (arith, is));
   complete = weaker left _ _ (limit_status a) (too_many left rest why);
@@ -250,11 +253,12 @@ unread_is Unchanged a left rest old status.NoMemory same why = record {
   kinds = (λ is. grind (arith, is), λ is. grind (arith, is), λ is. grind (arith, is));
   done = λ is. absurd (grind (arith, is));
   no = λ step is. absurd (grind (arith, is));
-  whole = λ told. absurd told;
+  whole = λ behind. absurd behind;
   bad = λ line is. absurd (grind (arith, is));
   stray = λ host event is. absurd (grind (arith, is));
   limit = λ is. absurd (grind (arith, is));
-  read = λ is. absurd (grind (arith, is));
+  limit_whole = λ is. absurd (grind (arith, is));
+  reading = λ is. absurd (grind (arith, is));
   memory = λ is. why;
   writing = λ is. absurd (grind (arith, is));
   complete = tt;

@@ -1,5 +1,5 @@
 -- The answer to a scenario.
-use Rattle.std.proofs.Common.{◌≡◌, ℕ, ◌+◌, ◌<◌, false, List, [], ◌∷◌, length, map, Option, Some, None, Result, Ok, Err, ◌⊎◌, inl, inr, ap, subst, sym, ◌∙◌, arith, refl}
+use Rattle.std.proofs.Common.{◌≡◌, ℕ, ◌+◌, ◌<◌, ◌≤◌, false, List, [], ◌∷◌, length, map, Option, Some, None, Result, Ok, Err, ◌⊎◌, inl, inr, ap, subst, sym, ◌∙◌, arith, refl}
 use Rattle.std.specs.Option.{option_map_or}
 use Rattle.vk_base.specs.declared.config.ProcessSpec.{ProcessSpec}
 use Rattle.vk_base.specs.Settings.{Settings}
@@ -13,9 +13,13 @@ use Rattle.vk_event.specs.Ports.{ports_from}
 use Rattle.vk_event.specs.Tasks.{with_task_line}
 use Rattle.vk_text.specs.Lines.{lines_of}
 use Rattle.vk_text.specs.Openings.{line_number, opening_of}
-use Rattle.vk_top.specs.Runs.{run_asked}
-use Rattle.vk_top.specs.Statuses.{refused}
-use Rattle.vk_top.specs.Threaded.{IsThreadedRefusal, scenario_status}
+use Rattle.vk_top.specs.Runs.{IsRunFailure, jobs_of, run_asked}
+use Rattle.vk_top.specs.Statuses.{refused, refused_run}
+use Rattle.vk_top.specs.Threaded.{IsTextRefusal, IsThreadedRefusal, counted, scenario_status}
+use Rattle.vk_top.specs.declared.status.Status.TheVariants as status
+use Rattle.vk_threads.specs.Assigned.{LeavesJobs}
+use Rattle.vk_threads.specs.declared.record.RunRefusal.{RunRefusal}
+use Rattle.vk_threads.specs.declared.record.RunRefusal.TheVariants as runs
 
 -- A text that is no scenario has a bad line, and is not refused for anything else.
 
@@ -79,10 +83,26 @@ some_process [] some = absurd some
 some_process (b ∷ bs) some = omega arith
 
 pub refused_text : (text : List ℕ) (e : TextRefusal) → ((e ≡ texts.NoMemory) × HasScenarioProcess text) ⊎ (scenario_of text ≡ Err e) →
-    IsThreadedRefusal run_asked ⊥ text (refused e)
+    IsTextRefusal run_asked text (refused e)
 refused_text text (texts.BadInput line) (inl wanted) = absurd (grind (arith, wanted))
 refused_text text (texts.BadInput line) (inr bad) = ap (scenario_status false) bad
 refused_text text texts.Limit (inl wanted) = absurd (grind (arith, wanted))
 refused_text text texts.Limit (inr bad) = absurd (no_limit text bad)
 refused_text text texts.NoMemory (inl wanted) = some_process text wanted.1
 refused_text text texts.NoMemory (inr bad) = absurd (no_want text bad)
+
+-- Where the run of a scenario came to no end.
+
+module _ (text : List ℕ) (s : Scenario) (before now : ℕ) (small : length text ≤ 16777216) (is : scenario_of text ≡ Ok s) where
+  pub run_grown : now ≡ counted before (jobs_of s) → IsRunFailure before now status.NoMemory text
+  run_grown grown = inr (jobs_of s, record { small = small; scenario = s; text = is; count = refl }, grown)
+
+  run_left : (e : RunRefusal) → LeavesJobs before (counted before (jobs_of s)) now e → IsRunFailure before now (refused_run e) text
+  run_left runs.CrewFault left = (jobs_of s, record { small = small; scenario = s; text = is; count = refl }, left)
+  run_left runs.NoMemory (inl left) = inl left
+  run_left runs.NoMemory (inr grown) = run_grown grown
+
+  pub run_failed : (Unasked : Type 0) (e : RunRefusal) → LeavesJobs before (counted before (jobs_of s)) now e →
+      IsThreadedRefusal run_asked (IsRunFailure before now) Unasked text (refused_run e)
+  run_failed Unasked runs.CrewFault left = run_left runs.CrewFault left
+  run_failed Unasked runs.NoMemory left = (some_scenario text s is, run_left runs.NoMemory left)

@@ -3,13 +3,12 @@ use Rattle.std.proofs.Common.{◌≡◌, ℕ, ◌<◌, ◌≤◌, Bool, true, fa
 use Rattle.std.specs.Prelude.{IfSome}
 use Rattle.std.specs.Io.KnownBytes.{Appends}
 use Rattle.std.proofs.lemmas.Bool.{cond-false, cond-true, le-ltb, lt-ltb}
-use Rattle.vk_io.specs.Causes.{LosesFront}
-use Rattle.vk_top.proofs.Outcomes.{all_taken, tells_none, told_input, told_whole, too_many, weaker, written_late}
+use Rattle.vk_top.proofs.Outcomes.{all_taken, some_input, tells_none, told_input, told_whole, too_many, weaker, written_late}
 use Rattle.vk_top.specs.declared.status.Status.{Status}
 use Rattle.vk_top.specs.declared.status.Status.TheVariants as status
 use Rattle.vk_top.specs.declared.top.Work.{Work}
-use Rattle.vk_top.specs.Threaded.{IsBadScenario, IsRanInPart, IsRunDecided, IsThreadedAnswer, IsThreadedAnswered, IsThreadedRefusal, IsThreadedWork, asked_of, ended}
-use Rattle.vk_top.specs.Top.{IsEarly, OfInput, TellsFaults}
+use Rattle.vk_top.specs.Threaded.{IsBadScenario, IsFailure, IsRanInPart, IsRunDecided, IsTextRefusal, IsThreadedAnswer, IsThreadedAnswered, IsThreadedRefusal, IsThreadedWork, asked_of, ended}
+use Rattle.vk_top.specs.Top.{IsBehindText, IsEarly, IsReadOver, IsReadWithin, IsWanting, OfInput, TellsFaults}
 use Rattle.vk_top.specs.Work.{IsLate, IsUnread, IsWriteCount, IsWritten}
 
 -- The answer behind a write.
@@ -22,110 +21,111 @@ pub work_late : (Tells : Bool → List ℕ → List ℕ → Type 0) (asked : Boo
     IsThreadedWork Tells asked text w → IsLate w.status
 work_late Tells asked text w work = subst IsLate (sym work.status) (ended_late work.limited)
 
-module _ (Tells : Bool → List ℕ → List ℕ → Type 0) (asked : Bool → List ℕ → Status) (Linked : Type 0) where
+module _ (Tells : Bool → List ℕ → List ℕ → Type 0) (asked : Bool → List ℕ → Status) (Fails : Status → List ℕ → Type 0) where
   asked_for : (limited : Bool) (text : List ℕ) (s : Status) → length text ≤ 16777216 → s ≡ asked limited text → s ≡ asked_of asked limited text
   asked_for limited text s small is =
       is ∙ sym (cond-false _ status.Limit (asked limited text) (le-ltb 16777216 (length text) small))
 
-  all_written : (Unwritten : Type 0) (limited : Bool) (text : List ℕ) (output : List ℕ) (old new : Option (List ℕ)) → length text ≤ 16777216 →
-      Tells limited text output → ended limited ≡ asked limited text → Appends old new output →
-      IsThreadedAnswered Tells asked Linked Unwritten text old new (ended limited)
-  all_written Unwritten false text output old new small tells is written = record {
+  all_written : (Unwritten Unasked : Type 0) (limited : Bool) (text : List ℕ) (output : List ℕ) (old new : Option (List ℕ)) →
+      length text ≤ 16777216 → Tells limited text output → ended limited ≡ asked limited text → Appends old new output →
+      IsThreadedAnswered Tells asked Fails Unwritten Unasked text old new (ended limited)
+  all_written Unwritten Unasked false text output old new small tells is written = record {
     done = λ is. record { output = output; tells = tells; written = written };
     limit = λ is. absurd (grind (arith, is));
     writing = λ is. absurd (grind (arith, is));
     bad = λ line is. absurd (grind (arith, is));
     memory = λ is. absurd (grind (arith, is));
+    failed = λ failure. absurd failure;
     kinds = (λ is. grind (arith, is), λ step is. grind (arith, is), λ host event is. grind (arith, is));
-    link = λ is. absurd (grind (arith, is));
     reading = λ is. grind (arith, is);
     nothing = λ early. absurd early;
     complete = inr (inr (inr (inr (false, asked_for false text status.Done small is))));
   }
-  all_written Unwritten true text output old new small tells is written = record {
+  all_written Unwritten Unasked true text output old new small tells is written = record {
     done = λ is. absurd (grind (arith, is));
     limit = λ is. record { output = output; tells = tells; written = written };
     writing = λ is. absurd (grind (arith, is));
     bad = λ line is. absurd (grind (arith, is));
     memory = λ is. absurd (grind (arith, is));
+    failed = λ failure. absurd failure;
     kinds = (λ is. grind (arith, is), λ step is. grind (arith, is), λ host event is. grind (arith, is));
-    link = λ is. absurd (grind (arith, is));
     reading = λ is. grind (arith, is);
     nothing = λ early. absurd early;
     complete = inr (inr (inr (inr (true, asked_for true text status.Limit small is))));
   }
 
-  failed_is : (Unwritten : Type 0) (text : List ℕ) (old new : Option (List ℕ)) → IsRanInPart Tells text old new →
-      IsThreadedAnswered Tells asked Linked Unwritten text old new status.WriteFault
-  failed_is Unwritten text old new part = record {
+  failed_is : (Unwritten Unasked : Type 0) (text : List ℕ) (old new : Option (List ℕ)) → IsRanInPart Tells text old new →
+      IsThreadedAnswered Tells asked Fails Unwritten Unasked text old new status.WriteFault
+  failed_is Unwritten Unasked text old new part = record {
     done = λ is. absurd (grind (arith, is));
     limit = λ is. absurd (grind (arith, is));
     writing = λ is. part;
     bad = λ line is. absurd (grind (arith, is));
     memory = λ is. absurd (grind (arith, is));
+    failed = λ failure. absurd failure;
     kinds = (λ is. grind (arith, is), λ step is. grind (arith, is), λ host event is. grind (arith, is));
-    link = λ is. absurd (grind (arith, is));
     reading = λ is. grind (arith, is);
     nothing = λ early. absurd early;
     complete = inr (inl refl);
   }
 
-  pub work_written : (Unwritten : Type 0) (text : List ℕ) (w : Work) (old new : Option (List ℕ)) (s : Status) → length text ≤ 16777216 →
-      IsThreadedWork Tells asked text w → IsWritten w.text.items w.status old new s → (n : ℕ) × Appends old new (take n w.text.items) →
-      IsThreadedAnswered Tells asked Linked Unwritten text old new s
-  work_written Unwritten text w old new s small work (inl (same, written)) front =
-      subst (IsThreadedAnswered Tells asked Linked Unwritten text old new) (sym (same ∙ work.status))
-      (all_written Unwritten work.limited text w.text.items old new small work.tells work.asked_for written)
-  work_written Unwritten text w old new s small work (inr failed) (n, some) =
-      subst (IsThreadedAnswered Tells asked Linked Unwritten text old new) (sym failed)
-      (failed_is Unwritten text old new
+  pub work_written : (Unwritten Unasked : Type 0) (text : List ℕ) (w : Work) (old new : Option (List ℕ)) (s : Status) →
+      length text ≤ 16777216 → IsThreadedWork Tells asked text w → IsWritten w.text.items w.status old new s →
+      (n : ℕ) × Appends old new (take n w.text.items) → IsThreadedAnswered Tells asked Fails Unwritten Unasked text old new s
+  work_written Unwritten Unasked text w old new s small work (inl (same, written)) front =
+      subst (IsThreadedAnswered Tells asked Fails Unwritten Unasked text old new) (sym (same ∙ work.status))
+      (all_written Unwritten Unasked work.limited text w.text.items old new small work.tells work.asked_for written)
+  work_written Unwritten Unasked text w old new s small work (inr failed) (n, some) =
+      subst (IsThreadedAnswered Tells asked Fails Unwritten Unasked text old new) (sym failed)
+      (failed_is Unwritten Unasked text old new
       (record { limited = work.limited; output = w.text.items; tells = work.tells; count = n; written = some }))
 
-  refused_is : (Unwritten : Type 0) (text : List ℕ) (old : Option (List ℕ)) (s : Status) → Unwritten → ¬ (s ≡ status.Done) →
-      ¬ (s ≡ status.Limit) → ¬ (s ≡ status.WriteFault) → ((line : ℕ) → s ≡ status.BadInput line → IsBadScenario asked text line) →
-      (s ≡ status.NoMemory → 0 < length text) → ¬ (s ≡ status.Usage) → ((step : ℕ) → ¬ (s ≡ status.NotARun step)) →
-      ((host event : ℕ) → ¬ (s ≡ status.Stray host event)) → (s ≡ status.LinkFault → Linked) → ¬ (s ≡ status.ReadFault) →
+  refused_is : (Unwritten Unasked : Type 0) (text : List ℕ) (old : Option (List ℕ)) (s : Status) → Unwritten → ¬ (s ≡ status.Done) →
+      ¬ (s ≡ status.Limit) → ¬ (s ≡ status.WriteFault) →
+      ((line : ℕ) → s ≡ status.BadInput line → IsBadScenario asked text line × Unasked) →
+      (s ≡ status.NoMemory → 0 < length text) → (IsFailure s → Fails s text) → ¬ (s ≡ status.Usage) →
+      ((step : ℕ) → ¬ (s ≡ status.NotARun step)) → ((host event : ℕ) → ¬ (s ≡ status.Stray host event)) → ¬ (s ≡ status.ReadFault) →
       (s ≡ status.NoMemory) ⊎ (s ≡ status.WriteFault) ⊎ (s ≡ status.CrewFault) ⊎ (s ≡ status.LinkFault)
-      ⊎ ((limited : Bool) × (s ≡ asked_of asked limited text)) → IsThreadedAnswered Tells asked Linked Unwritten text old old s
-  refused_is Unwritten text old s same done limit fault bad memory usage refuted stray link reading complete = record {
+      ⊎ ((limited : Bool) × (s ≡ asked_of asked limited text)) → IsThreadedAnswered Tells asked Fails Unwritten Unasked text old old s
+  refused_is Unwritten Unasked text old s same done limit fault bad memory failed usage refuted stray reading complete = record {
     done = λ is. absurd (done is);
     limit = λ is. absurd (limit is);
     writing = λ is. absurd (fault is);
     bad = bad;
     memory = memory;
+    failed = failed;
     kinds = (usage, refuted, stray);
-    link = link;
     reading = reading;
     nothing = λ early. same;
     complete = complete;
   }
 
-  pub run_refused : (Unwritten : Type 0) (text : List ℕ) (old : Option (List ℕ)) (s : Status) → Unwritten → length text ≤ 16777216 →
-      IsThreadedRefusal asked Linked text s → IsThreadedAnswered Tells asked Linked Unwritten text old old s
-  run_refused Unwritten text old (status.BadInput line) same small why =
-      refused_is Unwritten text old (status.BadInput line) same (λ is. grind (arith, is)) (λ is. grind (arith, is)) (λ is. grind (arith, is))
-      (λ n is. record { small = small; bad = why ∙ is }) (λ is. absurd (grind (arith, is))) (λ is. grind (arith, is))
-      (λ step is. grind (arith, is)) (λ host event is. grind (arith, is)) (λ is. absurd (grind (arith, is))) (λ is. grind (arith, is))
-      (inr (inr (inr (inr (false, asked_for false text (status.BadInput line) small (sym why))))))
-  run_refused Unwritten text old status.NoMemory same small why =
-      refused_is Unwritten text old status.NoMemory same (λ is. grind (arith, is)) (λ is. grind (arith, is)) (λ is. grind (arith, is))
-      (λ n is. absurd (grind (arith, is))) (λ is. why) (λ is. grind (arith, is)) (λ step is. grind (arith, is))
-      (λ host event is. grind (arith, is)) (λ is. absurd (grind (arith, is))) (λ is. grind (arith, is)) (inl refl)
-  run_refused Unwritten text old status.CrewFault same small why =
-      refused_is Unwritten text old status.CrewFault same (λ is. grind (arith, is)) (λ is. grind (arith, is)) (λ is. grind (arith, is))
-      (λ n is. absurd (grind (arith, is))) (λ is. absurd (grind (arith, is))) (λ is. grind (arith, is)) (λ step is. grind (arith, is))
-      (λ host event is. grind (arith, is)) (λ is. absurd (grind (arith, is))) (λ is. grind (arith, is)) (inr (inr (inl refl)))
-  run_refused Unwritten text old status.LinkFault same small why =
-      refused_is Unwritten text old status.LinkFault same (λ is. grind (arith, is)) (λ is. grind (arith, is)) (λ is. grind (arith, is))
-      (λ n is. absurd (grind (arith, is))) (λ is. absurd (grind (arith, is))) (λ is. grind (arith, is)) (λ step is. grind (arith, is))
-      (λ host event is. grind (arith, is)) (λ is. why) (λ is. grind (arith, is)) (inr (inr (inr (inl refl))))
-  run_refused Unwritten text old status.Done same small why = absurd why
-  run_refused Unwritten text old (status.NotARun step) same small why = absurd why
-  run_refused Unwritten text old status.Usage same small why = absurd why
-  run_refused Unwritten text old status.ReadFault same small why = absurd why
-  run_refused Unwritten text old status.WriteFault same small why = absurd why
-  run_refused Unwritten text old status.Limit same small why = absurd why
-  run_refused Unwritten text old (status.Stray host event) same small why = absurd why
+  pub run_refused : (Unwritten Unasked : Type 0) (text : List ℕ) (old : Option (List ℕ)) (s : Status) → Unwritten → length text ≤ 16777216 →
+      IsThreadedRefusal asked Fails Unasked text s → IsThreadedAnswered Tells asked Fails Unwritten Unasked text old old s
+  run_refused Unwritten Unasked text old (status.BadInput line) same small why =
+      refused_is Unwritten Unasked text old (status.BadInput line) same (λ is. grind (arith, is)) (λ is. grind (arith, is))
+      (λ is. grind (arith, is)) (λ n is. (record { small = small; bad = why.0 ∙ is }, why.1)) (λ is. absurd (grind (arith, is)))
+      (λ failure. absurd failure) (λ is. grind (arith, is)) (λ step is. grind (arith, is)) (λ host event is. grind (arith, is))
+      (λ is. grind (arith, is)) (inr (inr (inr (inr (false, asked_for false text (status.BadInput line) small (sym why.0))))))
+  run_refused Unwritten Unasked text old status.NoMemory same small why =
+      refused_is Unwritten Unasked text old status.NoMemory same (λ is. grind (arith, is)) (λ is. grind (arith, is)) (λ is. grind (arith, is))
+      (λ n is. absurd (grind (arith, is))) (λ is. why.0) (λ failure. why.1) (λ is. grind (arith, is)) (λ step is. grind (arith, is))
+      (λ host event is. grind (arith, is)) (λ is. grind (arith, is)) (inl refl)
+  run_refused Unwritten Unasked text old status.CrewFault same small why =
+      refused_is Unwritten Unasked text old status.CrewFault same (λ is. grind (arith, is)) (λ is. grind (arith, is)) (λ is. grind (arith, is))
+      (λ n is. absurd (grind (arith, is))) (λ is. absurd (grind (arith, is))) (λ failure. why) (λ is. grind (arith, is))
+      (λ step is. grind (arith, is)) (λ host event is. grind (arith, is)) (λ is. grind (arith, is)) (inr (inr (inl refl)))
+  run_refused Unwritten Unasked text old status.LinkFault same small why =
+      refused_is Unwritten Unasked text old status.LinkFault same (λ is. grind (arith, is)) (λ is. grind (arith, is)) (λ is. grind (arith, is))
+      (λ n is. absurd (grind (arith, is))) (λ is. absurd (grind (arith, is))) (λ failure. why) (λ is. grind (arith, is))
+      (λ step is. grind (arith, is)) (λ host event is. grind (arith, is)) (λ is. grind (arith, is)) (inr (inr (inr (inl refl))))
+  run_refused Unwritten Unasked text old status.Done same small why = absurd why
+  run_refused Unwritten Unasked text old (status.NotARun step) same small why = absurd why
+  run_refused Unwritten Unasked text old status.Usage same small why = absurd why
+  run_refused Unwritten Unasked text old status.ReadFault same small why = absurd why
+  run_refused Unwritten Unasked text old status.WriteFault same small why = absurd why
+  run_refused Unwritten Unasked text old status.Limit same small why = absurd why
+  run_refused Unwritten Unasked text old (status.Stray host event) same small why = absurd why
 
   -- The answer to an input.
 
@@ -152,130 +152,154 @@ module _ (Tells : Bool → List ℕ → List ℕ → Type 0) (asked : Bool → L
   by_text left text s all (inr (inr (inr (inl is)))) = subst (IsRunDecided asked left) (sym is) tt
   by_text left text s all (inr (inr (inr (inr is)))) = decided left s (record { input = text; all = all; holds = is })
 
-  answered_is : (Unread Unwritten : Type 0) (left rest old new : Option (List ℕ)) (text : List ℕ) (s : Status) → length text ≤ 16777216 →
-      IfSome left (λ i. (text ≡ i) × (rest ≡ Some [])) → IsThreadedAnswered Tells asked Linked Unwritten text old new s →
-      IsThreadedAnswer Tells asked Linked Unread Unwritten left rest old new s
-  answered_is Unread Unwritten left rest old new text s small read answered =
+  answered_is : (Unread Unwritten Unasked : Type 0) (left rest old new : Option (List ℕ)) (text : List ℕ) (s : Status) →
+      length text ≤ 16777216 → IfSome left (λ i. (text ≡ i) × (rest ≡ Some [])) →
+      IsThreadedAnswered Tells asked Fails Unwritten Unasked text old new s →
+      IsThreadedAnswer Tells asked Fails Unread Unwritten Unasked left rest old new s
+  answered_is Unread Unwritten Unasked left rest old new text s small read answered =
       let all = told_input left rest text read in
+      let whole = told_whole left rest text read in
       record {
         done = λ is. record { input = text; all = all; holds = answered.done is };
-        limit = λ is. record { input = text; all = all; holds = inr (answered.limit is) };
+        limit = λ is. inr (whole, record { input = text; all = all; holds = answered.limit is });
         writing = λ is. record { input = text; all = all; holds = answered.writing is };
-        whole = λ is. told_whole left rest text read;
-        limit_whole = λ is. inr (told_whole left rest text read);
-        bad = λ line is. record { input = text; all = all; holds = answered.bad line is };
+        whole = λ behind. whole;
+        bad = λ line is. (record { input = text; all = all; holds = (answered.bad line is).0 }, (answered.bad line is).1);
+        reading = λ is. absurd (answered.reading is);
         memory = λ is. inr (record { bytes = text; front = all_taken left rest text read; count = (answered.memory is, small) });
+        failed = λ failure. record { input = text; all = all; holds = answered.failed failure };
         kinds = answered.kinds;
-        link = answered.link;
         nothing = answered.nothing;
         complete = by_text left text s all answered.complete;
       }
 
   -- the text that was read is the one that was answered to
-  pub run_served : (Unread Unwritten : Type 0) (left rest old new : Option (List ℕ)) (text seen : List ℕ) (s : Status) →
+  pub run_served : (Unread Unwritten Unasked : Type 0) (left rest old new : Option (List ℕ)) (text seen : List ℕ) (s : Status) →
       length text ≤ 16777216 → IfSome left (λ i. (text ≡ i) × (rest ≡ Some [])) → seen ≡ text →
-      IsThreadedAnswered Tells asked Linked Unwritten seen old new s → IsThreadedAnswer Tells asked Linked Unread Unwritten left rest old new s
-  run_served Unread Unwritten left rest old new text seen s small read same answered =
-      answered_is Unread Unwritten left rest old new text s small read
-      (subst (λ t. IsThreadedAnswered Tells asked Linked Unwritten t old new s) same answered)
+      IsThreadedAnswered Tells asked Fails Unwritten Unasked seen old new s →
+      IsThreadedAnswer Tells asked Fails Unread Unwritten Unasked left rest old new s
+  run_served Unread Unwritten Unasked left rest old new text seen s small read same answered =
+      answered_is Unread Unwritten Unasked left rest old new text s small read
+      (subst (λ t. IsThreadedAnswered Tells asked Fails Unwritten Unasked t old new s) same answered)
 
   limit_status : (i : List ℕ) → 16777216 < length i → (limited : Bool) × (status.Limit ≡ asked_of asked limited i)
   limit_status i many = (false, sym (cond-true _ _ _ (lt-ltb 16777216 (length i) many)))
 
   -- an answer without a run
-  nothing_ran : (Unread Unwritten : Type 0) (left rest old : Option (List ℕ)) (s : Status) → Unwritten →
-      ¬ (s ≡ status.Done) → ¬ (s ≡ status.WriteFault) → ((line : ℕ) → ¬ (s ≡ status.BadInput line)) → ¬ (s ≡ status.Usage) →
-      ((step : ℕ) → ¬ (s ≡ status.NotARun step)) → ((host event : ℕ) → ¬ (s ≡ status.Stray host event)) → ¬ (s ≡ status.LinkFault) →
-      (s ≡ status.Limit → LosesFront left rest (λ n. 16777216 < n)) →
-      (s ≡ status.NoMemory → Unread ⊎ LosesFront left rest (λ n. (0 < n) × (n ≤ 16777216))) → IsRunDecided asked left s →
-      IsThreadedAnswer Tells asked Linked Unread Unwritten left rest old old s
-  nothing_ran Unread Unwritten left rest old s same done fault bad usage refuted stray link limit memory complete = record {
-    done = λ is. absurd (done is);
-    limit = λ is. weaker left _ _ (λ i many. inl (many, same)) (too_many left rest (limit is));
-    writing = λ is. absurd (fault is);
-    whole = λ is. elim is [
-      | inl e ↦ absurd (done e)
-      | inr e ↦ absurd (fault e)
-    ];
-    limit_whole = λ is. inl same;
-    bad = λ line is. absurd (bad line is);
+  nothing_ran : (Unread Unwritten Unasked : Type 0) (left rest old : Option (List ℕ)) (s : Status) → Unwritten → Unasked →
+      ¬ (IsBehindText s) → ¬ (s ≡ status.Usage) → (s ≡ status.ReadFault → IsReadWithin left rest) →
+      (s ≡ status.Limit → IsReadOver left rest) → (s ≡ status.NoMemory → IsWanting Unread left rest) →
+      (IsFailure s → OfInput left (Fails s)) → IsRunDecided asked left s →
+      IsThreadedAnswer Tells asked Fails Unread Unwritten Unasked left rest old old s
+  nothing_ran Unread Unwritten Unasked left rest old s same idle early usage reading limit memory failed complete = record {
+    done = λ is. absurd (early (subst IsBehindText (sym is) tt));
+    limit = λ is. inl (limit is, same, idle);
+    writing = λ is. absurd (early (subst IsBehindText (sym is) tt));
+    whole = λ behind. absurd (early behind);
+    bad = λ line is. absurd (early (subst IsBehindText (sym is) tt));
+    reading = λ is. (reading is, idle);
     memory = memory;
-    kinds = (usage, refuted, stray);
-    link = λ is. absurd (link is);
+    failed = failed;
+    kinds =
+        (usage, λ step is. early (subst IsBehindText (sym is) tt), λ host event is. early (subst IsBehindText (sym is) tt));
     nothing = λ early. same;
     complete = complete;
   }
 
-  pub run_unread : (Unread Unwritten : Type 0) (left rest old : Option (List ℕ)) (s : Status) → Unwritten → IsUnread left rest s →
-      IsThreadedAnswer Tells asked Linked Unread Unwritten left rest old old s
-  run_unread Unread Unwritten left rest old status.ReadFault same why =
-      nothing_ran Unread Unwritten left rest old status.ReadFault same (λ is. grind (arith, is)) (λ is. grind (arith, is))
-      (λ line is. grind (arith, is)) (λ is. grind (arith, is)) (λ step is. grind (arith, is)) (λ host event is. grind (arith, is))
-      (λ is. grind (arith, is)) (λ is. absurd (grind (arith, is))) (λ is. absurd (grind (arith, is))) tt
-  run_unread Unread Unwritten left rest old status.Limit same why =
-      nothing_ran Unread Unwritten left rest old status.Limit same (λ is. grind (arith, is)) (λ is. grind (arith, is))
-      (λ line is. grind (arith, is)) (λ is. grind (arith, is)) (λ step is. grind (arith, is)) (λ host event is. grind (arith, is))
-      (λ is. grind (arith, is)) (λ is. why) (λ is. absurd (grind (arith, is))) (weaker left _ _ limit_status (too_many left rest why))
-  run_unread Unread Unwritten left rest old status.NoMemory same why =
-      nothing_ran Unread Unwritten left rest old status.NoMemory same (λ is. grind (arith, is)) (λ is. grind (arith, is))
-      (λ line is. grind (arith, is)) (λ is. grind (arith, is)) (λ step is. grind (arith, is)) (λ host event is. grind (arith, is))
-      (λ is. grind (arith, is)) (λ is. absurd (grind (arith, is))) (λ is. inr why) tt
-  run_unread Unread Unwritten left rest old status.Done same why = absurd why
-  run_unread Unread Unwritten left rest old (status.NotARun step) same why = absurd why
-  run_unread Unread Unwritten left rest old status.Usage same why = absurd why
-  run_unread Unread Unwritten left rest old (status.BadInput line) same why = absurd why
-  run_unread Unread Unwritten left rest old status.WriteFault same why = absurd why
-  run_unread Unread Unwritten left rest old status.CrewFault same why = absurd why
-  run_unread Unread Unwritten left rest old status.LinkFault same why = absurd why
-  run_unread Unread Unwritten left rest old (status.Stray host event) same why = absurd why
+  pub run_unread : (Unread Unwritten Unasked : Type 0) (left rest old : Option (List ℕ)) (s : Status) → Unwritten → Unasked →
+      ((i : List ℕ) → Fails status.NoMemory i) → IsUnread left rest s →
+      IsThreadedAnswer Tells asked Fails Unread Unwritten Unasked left rest old old s
+  run_unread Unread Unwritten Unasked left rest old status.ReadFault same idle wanting why =
+      nothing_ran Unread Unwritten Unasked left rest old status.ReadFault same idle (λ behind. behind) (λ is. grind (arith, is)) (λ is. why)
+      (λ is. absurd (grind (arith, is))) (λ is. absurd (grind (arith, is))) (λ failure. absurd failure) tt
+  run_unread Unread Unwritten Unasked left rest old status.Limit same idle wanting why =
+      nothing_ran Unread Unwritten Unasked left rest old status.Limit same idle (λ behind. behind) (λ is. grind (arith, is))
+      (λ is. absurd (grind (arith, is))) (λ is. why) (λ is. absurd (grind (arith, is))) (λ failure. absurd failure)
+      (weaker left _ _ limit_status (too_many left rest why))
+  run_unread Unread Unwritten Unasked left rest old status.NoMemory same idle wanting why =
+      nothing_ran Unread Unwritten Unasked left rest old status.NoMemory same idle (λ behind. behind) (λ is. grind (arith, is))
+      (λ is. absurd (grind (arith, is))) (λ is. absurd (grind (arith, is))) (λ is. inr why)
+      (λ failure. some_input left (Fails status.NoMemory) wanting) tt
+  run_unread Unread Unwritten Unasked left rest old status.Done same idle wanting why = absurd why
+  run_unread Unread Unwritten Unasked left rest old (status.NotARun step) same idle wanting why = absurd why
+  run_unread Unread Unwritten Unasked left rest old status.Usage same idle wanting why = absurd why
+  run_unread Unread Unwritten Unasked left rest old (status.BadInput line) same idle wanting why = absurd why
+  run_unread Unread Unwritten Unasked left rest old status.WriteFault same idle wanting why = absurd why
+  run_unread Unread Unwritten Unasked left rest old status.CrewFault same idle wanting why = absurd why
+  run_unread Unread Unwritten Unasked left rest old status.LinkFault same idle wanting why = absurd why
+  run_unread Unread Unwritten Unasked left rest old (status.Stray host event) same idle wanting why = absurd why
 
   -- Memory was wanting to read the words.
-  pub wanting_is : (Unread Unwritten : Type 0) (left old : Option (List ℕ)) (s : Status) → Unread → Unwritten → s ≡ status.NoMemory →
-      IsThreadedAnswer Tells asked Linked Unread Unwritten left left old old s
-  wanting_is Unread Unwritten left old s unread unwritten is =
-      subst (IsThreadedAnswer Tells asked Linked Unread Unwritten left left old old) (sym is)
-      (nothing_ran Unread Unwritten left left old status.NoMemory unwritten (λ e. grind (arith, e)) (λ e. grind (arith, e))
-      (λ line e. grind (arith, e)) (λ e. grind (arith, e)) (λ step e. grind (arith, e)) (λ host event e. grind (arith, e))
-      (λ e. grind (arith, e)) (λ e. absurd (grind (arith, e))) (λ e. inl unread) tt)
+  pub wanting_is : (Unread Unwritten Unasked : Type 0) (left old : Option (List ℕ)) (s : Status) → Unread → Unwritten → Unasked →
+      ((i : List ℕ) → Fails status.NoMemory i) → s ≡ status.NoMemory →
+      IsThreadedAnswer Tells asked Fails Unread Unwritten Unasked left left old old s
+  wanting_is Unread Unwritten Unasked left old s unread unwritten idle wanting is =
+      subst (IsThreadedAnswer Tells asked Fails Unread Unwritten Unasked left left old old) (sym is)
+      (nothing_ran Unread Unwritten Unasked left left old status.NoMemory unwritten idle (λ behind. behind) (λ e. grind (arith, e))
+      (λ e. absurd (grind (arith, e))) (λ e. absurd (grind (arith, e))) (λ e. inl unread)
+      (λ failure. some_input left (Fails status.NoMemory) wanting) tt)
 
   -- What was answered without a run, of which input and output are as they were.
   pub run_wanting : {Input Output : Type 0} (left_of : Input → Option (List ℕ)) (written_of : Output → Option (List ℕ)) (i0 i1 : Input)
-      (o0 o1 : Output) (r : Option Status) (s : Status) → r ≡ Some s →
+      (o0 o1 : Output) (Unasked : Type 0) (r : Option Status) (s : Status) → Unasked → ((i : List ℕ) → Fails status.NoMemory i) → r ≡ Some s →
       ((r ≡ None) ⊎ (r ≡ Some status.NoMemory)) × (i1 ≡ i0) × (o1 ≡ o0) →
-      IsThreadedAnswer Tells asked Linked (i1 ≡ i0) (o1 ≡ o0) (left_of i0) (left_of i1) (written_of o0) (written_of o1) s
-  run_wanting left_of written_of i0 i1 o0 o1 r s is (inl none, unread, unwritten) = absurd (cc)
-  run_wanting left_of written_of i0 i1 o0 o1 r s is (inr wanting, unread, unwritten) =
+      IsThreadedAnswer Tells asked Fails (i1 ≡ i0) (o1 ≡ o0) Unasked (left_of i0) (left_of i1) (written_of o0) (written_of o1) s
+  run_wanting left_of written_of i0 i1 o0 o1 Unasked r s idle wanting is (inl none, unread, unwritten) = absurd (cc)
+  run_wanting left_of written_of i0 i1 o0 o1 Unasked r s idle wanting is (inr memory, unread, unwritten) =
       let same : s ≡ status.NoMemory = cc in
-      subst (λ i. IsThreadedAnswer Tells asked Linked (i1 ≡ i0) (o1 ≡ o0) (left_of i0) (left_of i) (written_of o0) (written_of o1) s) (sym unread)
-      (subst (λ o. IsThreadedAnswer Tells asked Linked (i1 ≡ i0) (o1 ≡ o0) (left_of i0) (left_of i0) (written_of o0) (written_of o) s)
+      subst (λ i. IsThreadedAnswer Tells asked Fails (i1 ≡ i0) (o1 ≡ o0) Unasked (left_of i0) (left_of i) (written_of o0) (written_of o1) s)
+      (sym unread)
+      (subst (λ o. IsThreadedAnswer Tells asked Fails (i1 ≡ i0) (o1 ≡ o0) Unasked (left_of i0) (left_of i0) (written_of o0) (written_of o) s)
       (sym unwritten)
-      (wanting_is (i1 ≡ i0) (o1 ≡ o0) (left_of i0) (written_of o0) s unread unwritten same))
+      (wanting_is (i1 ≡ i0) (o1 ≡ o0) Unasked (left_of i0) (written_of o0) s unread unwritten idle wanting same))
 
   -- A run begins with input and output as they were before the words were read.
   pub run_begun : {Input Output : Type 0} (left_of : Input → Option (List ℕ)) (written_of : Output → Option (List ℕ)) (i0 i1 i2 : Input)
-      (o0 o1 o2 : Output) (s : Status) → (i1 ≡ i0) × (o1 ≡ o0) →
-      IsThreadedAnswer Tells asked Linked (i2 ≡ i1) (o2 ≡ o1) (left_of i1) (left_of i2) (written_of o1) (written_of o2) s →
-      IsThreadedAnswer Tells asked Linked (i2 ≡ i0) (o2 ≡ o0) (left_of i0) (left_of i2) (written_of o0) (written_of o2) s
-  run_begun left_of written_of i0 i1 i2 o0 o1 o2 s same answer =
-      subst (λ i. IsThreadedAnswer Tells asked Linked (i2 ≡ i) (o2 ≡ o0) (left_of i) (left_of i2) (written_of o0) (written_of o2) s) same.0
-      (subst (λ o. IsThreadedAnswer Tells asked Linked (i2 ≡ i1) (o2 ≡ o) (left_of i1) (left_of i2) (written_of o)
+      (o0 o1 o2 : Output) (Unasked : Type 0) (s : Status) → (i1 ≡ i0) × (o1 ≡ o0) →
+      IsThreadedAnswer Tells asked Fails (i2 ≡ i1) (o2 ≡ o1) Unasked (left_of i1) (left_of i2) (written_of o1) (written_of o2) s →
+      IsThreadedAnswer Tells asked Fails (i2 ≡ i0) (o2 ≡ o0) Unasked (left_of i0) (left_of i2) (written_of o0) (written_of o2) s
+  run_begun left_of written_of i0 i1 i2 o0 o1 o2 Unasked s same answer =
+      subst (λ i. IsThreadedAnswer Tells asked Fails (i2 ≡ i) (o2 ≡ o0) Unasked (left_of i) (left_of i2) (written_of o0) (written_of o2) s) same.0
+      (subst (λ o. IsThreadedAnswer Tells asked Fails (i2 ≡ i1) (o2 ≡ o) Unasked (left_of i1) (left_of i2) (written_of o)
       (written_of o2) s) same.1 answer)
+
+-- Where a text is not run.
+
+pub not_run : (asked : Bool → List ℕ → Status) (Fails : Status → List ℕ → Type 0) (Unasked : Type 0) (text : List ℕ) (s : Status) →
+    Unasked → Fails status.NoMemory text → IsTextRefusal asked text s → IsThreadedRefusal asked Fails Unasked text s
+not_run asked Fails Unasked text (status.BadInput line) same wanting why = (why, same)
+not_run asked Fails Unasked text status.NoMemory same wanting why = (why, wanting)
+not_run asked Fails Unasked text status.Done same wanting why = absurd why
+not_run asked Fails Unasked text (status.NotARun step) same wanting why = absurd why
+not_run asked Fails Unasked text status.Usage same wanting why = absurd why
+not_run asked Fails Unasked text status.ReadFault same wanting why = absurd why
+not_run asked Fails Unasked text status.WriteFault same wanting why = absurd why
+not_run asked Fails Unasked text status.CrewFault same wanting why = absurd why
+not_run asked Fails Unasked text status.Limit same wanting why = absurd why
+not_run asked Fails Unasked text status.LinkFault same wanting why = absurd why
+not_run asked Fails Unasked text (status.Stray host event) same wanting why = absurd why
 
 -- What is told of faults.
 
-pub refusal_count : (asked : Bool → List ℕ → Status) (Linked : Type 0) (text : List ℕ) (s : Status) (before : ℕ) →
-    IsThreadedRefusal asked Linked text s → IsWriteCount s before before
-refusal_count asked Linked text (status.BadInput line) before why = refl
-refusal_count asked Linked text status.NoMemory before why = refl
-refusal_count asked Linked text status.CrewFault before why = refl
-refusal_count asked Linked text status.LinkFault before why = refl
-refusal_count asked Linked text status.Done before why = absurd why
-refusal_count asked Linked text (status.NotARun step) before why = absurd why
-refusal_count asked Linked text status.Usage before why = absurd why
-refusal_count asked Linked text status.ReadFault before why = absurd why
-refusal_count asked Linked text status.WriteFault before why = absurd why
-refusal_count asked Linked text status.Limit before why = absurd why
-refusal_count asked Linked text (status.Stray host event) before why = absurd why
+pub refusal_count : (asked : Bool → List ℕ → Status) (Fails : Status → List ℕ → Type 0) (Unasked : Type 0) (text : List ℕ) (s : Status)
+    (before : ℕ) → IsThreadedRefusal asked Fails Unasked text s → IsWriteCount s before before
+refusal_count asked Fails Unasked text (status.BadInput line) before why = refl
+refusal_count asked Fails Unasked text status.NoMemory before why = refl
+refusal_count asked Fails Unasked text status.CrewFault before why = refl
+refusal_count asked Fails Unasked text status.LinkFault before why = refl
+refusal_count asked Fails Unasked text status.Done before why = absurd why
+refusal_count asked Fails Unasked text (status.NotARun step) before why = absurd why
+refusal_count asked Fails Unasked text status.Usage before why = absurd why
+refusal_count asked Fails Unasked text status.ReadFault before why = absurd why
+refusal_count asked Fails Unasked text status.WriteFault before why = absurd why
+refusal_count asked Fails Unasked text status.Limit before why = absurd why
+refusal_count asked Fails Unasked text (status.Stray host event) before why = absurd why
+
+-- no fault is told there, and none was counted
+pub not_run_tells : (asked : Bool → List ℕ → Status) (why : Status) (text : List ℕ) (s : Status) (before : ℕ) →
+    ¬ (IsTextRefusal asked text why) → IsTextRefusal asked text s → TellsFaults why s before before
+not_run_tells asked why text s before none refusal =
+    tells_none why s before before (λ is. none (subst (IsTextRefusal asked text) is refusal)) refl
 
 -- A fault that is told of nothing is told.
 

@@ -1,6 +1,6 @@
 -- What is answered and written without a runtime, by what the words ask for: something of a text, or a storm, which reads nothing. To the
 -- words of `run` and of `node H` the only answer here is that memory is wanting to read them.
-use Rattle.std.specs.Prelude.{ℕ, ◌≡◌, ◌⊎◌, List, [], take, Option, Some, None, IfSome, IsSomeAnd}
+use Rattle.std.specs.Prelude.{ℕ, ◌≡◌, ◌⊎◌, List, [], take, Option, Some, None, IsSomeAnd}
 use Rattle.clap.specs.Walk.{Text}
 use Rattle.std.specs.Io.KnownBytes.{Appends}
 use Rattle.vk_drive.specs.Storms.{Fits, IsTooMuch, summary_of}
@@ -10,7 +10,7 @@ use Rattle.vk_top.specs.declared.words.Asked.{Asked}
 use Rattle.vk_top.specs.declared.words.Job.{Job}
 use Rattle.vk_top.specs.declared.words.Job.TheVariants as jobs
 use Rattle.vk_top.specs.Storm.{storm_output, storm_status, summary_text}
-use Rattle.vk_top.specs.Top.{IsBadAt, IsCutShort, IsDecided, IsDone, IsEarly, IsNotARun, IsOverLimit, IsPart, IsStrayAt, IsTold, IsToWrite, IsWanting, OfInput}
+use Rattle.vk_top.specs.Top.{IsBadAt, IsBehindText, IsCutShort, IsDecided, IsDone, IsEarly, IsNotARun, IsOverLimit, IsPart, IsReadOver, IsReadWhole, IsReadWithin, IsStrayAt, IsToWrite, IsWanting, OfInput}
 use Rattle.vk_top.specs.Words.{job_of}
 
 -- the words ask for something, and this holds of it and of the input
@@ -109,8 +109,8 @@ pub record IsAloneAnswer (Unread Unwritten : Type 0) (words : List Text) (left r
   pub done : s ≡ status.Done → Asks words left (λ j i. IsJobDone j i old new)
   -- NotARun: `check` is asked for, all of the input is the text of a trace, the step is its first that is not allowed, and that is written.
   pub not_a_run : (step : ℕ) → s ≡ status.NotARun step → Asks words left (λ j i. IsJobNotARun j i step old new)
-  -- At Done and NotARun the input was read to its end, where something is asked of its text.
-  pub whole : (a : Asked) → job_of words ≡ Some (jobs.OfText a) → IsTold s → IfSome left (λ i. rest ≡ Some [])
+  -- Where something is asked of a text, at Done, NotARun, BadInput, Stray and WriteFault the input was read to its end.
+  pub whole : (a : Asked) → job_of words ≡ Some (jobs.OfText a) → IsBehindText s → IsReadWhole left rest
   -- A storm reads nothing.
   pub alone : (n : ℕ) → job_of words ≡ Some (jobs.Storm n) → Unread
   -- BadInput tells the first line of the input that is bad.
@@ -121,8 +121,11 @@ pub record IsAloneAnswer (Unread Unwritten : Type 0) (words : List Text) (left r
   -- where before an event of a storm, or by the stations of which texts tell, too many bytes were emitted, and then nothing is written; or
   -- where before an event of a schedule too many bytes were emitted, and then the events before it are written, of which the steps are a run.
   pub limit : s ≡ status.Limit → Asks words left (λ j i. (IsJobOverLimit j i × Unwritten) ⊎ IsJobCutShort j i old new)
-  -- If something was written then, the input was read to its end.
-  pub limit_whole : s ≡ status.Limit → Unwritten ⊎ IfSome left (λ i. rest ≡ Some [])
+  -- Where something is asked of a text, a byte too many was read then, and nothing is written, or the input was read to its end.
+  pub limit_whole : (a : Asked) → job_of words ≡ Some (jobs.OfText a) → s ≡ status.Limit →
+      (IsReadOver left rest × Unwritten) ⊎ IsReadWhole left rest
+  -- At ReadFault no byte too many was read before.
+  pub reading : s ≡ status.ReadFault → IsReadWithin left rest
   -- NoMemory comes only before anything was read, or where at least one byte was read and not one too many.
   pub memory : s ≡ status.NoMemory → IsWanting Unread left rest
   -- Where no fault is told and memory sufficed, words and input alone decide.

@@ -13,7 +13,7 @@ use Rattle.vk_schedule.specs.declared.schedule.TextRefusal.TheVariants as texts
 use Rattle.v_node.specs.Outcomes.{IsNodeRun}
 use Rattle.vk_top.specs.declared.status.Status.{Status}
 use Rattle.vk_top.specs.Programs.{assignments_at, tasks_at}
-use Rattle.vk_top.specs.Threaded.{IsThreadedAnswer, scenario_status}
+use Rattle.vk_top.specs.Threaded.{IsThreadedAnswer, LeavesCrew, scenario_status}
 use Rattle.vk_udp.specs.Node.{HandedOut}
 
 -- the scenario, where it has the station and a port of each; else the line behind the text's last is bad
@@ -59,9 +59,21 @@ pub record TellsNode (host : ℕ) (before now : Passed) (limited : Bool) (input 
 abbrev pub node_asked : ℕ → Bool → List ℕ → Status
 node_asked host limited text = scenario_status limited (node_scenario host text)
 
--- What the answer to the words of `node H` says. `Unread` and `Unwritten` are that input and output are as they were; of the input these
--- bytes were left, and are; so much was counted before, and now; to the output those bytes were written, and are.
-abbrev pub IsNodeAnswer : ℕ → (Unread Unwritten : Type 0) → (left rest : Option (List ℕ)) → (before now : Passed) →
+-- the input is the text of a scenario for this station, for whose run a crew has so many jobs
+pub record NeedsNode (host : ℕ) (input : List ℕ) (jobs : ℕ) : Type 0 where
+  pub small : length input ≤ INPUT_BYTES
+  pub scenario : Scenario
+  pub text : node_scenario host input ≡ Ok scenario
+  pub count : jobs ≡ jobs_at host scenario
+
+-- what is known where the run of the station came to no end
+abbrev pub IsNodeFailure : ℕ → (before now : ℕ) → Status → List ℕ → Type 0
+IsNodeFailure host before now s input = LeavesCrew (NeedsNode host) (Unit {0}) before now s input
+
+-- What the answer to the words of `node H` says. `Unread`, `Unwritten` and `Unasked` are that input, output, and crew with wire are as they
+-- were; of the input these bytes were left, and are; so much was counted before, and now; to the output those bytes were written, and are.
+abbrev pub IsNodeAnswer : ℕ → (Unread Unwritten Unasked : Type 0) → (left rest : Option (List ℕ)) → (before now : Passed) →
     (old new : Option (List ℕ)) → Status → Type 0
-IsNodeAnswer host Unread Unwritten left rest before now old new s =
-    IsThreadedAnswer (TellsNode host before now) (node_asked host) (Unit {0}) Unread Unwritten left rest old new s
+IsNodeAnswer host Unread Unwritten Unasked left rest before now old new s =
+    IsThreadedAnswer (TellsNode host before now) (node_asked host) (IsNodeFailure host before.jobs now.jobs) Unread Unwritten Unasked
+    left rest old new s

@@ -10,7 +10,7 @@ use Rattle.vk_schedule.specs.Spelling.{schedule_text}
 use Rattle.v_run.specs.Ran.{IsRun}
 use Rattle.vk_top.specs.declared.status.Status.{Status}
 use Rattle.vk_top.specs.Programs.{assignments_of}
-use Rattle.vk_top.specs.Threaded.{IsThreadedAnswer, scenario_status}
+use Rattle.vk_top.specs.Threaded.{IsThreadedAnswer, LeavesCrew, scenario_status}
 
 -- a job for each task and for each station, and one for the clock
 abbrev pub jobs_of : Scenario → ℕ
@@ -37,9 +37,21 @@ pub record TellsRun (before now : ℕ) (limited : Bool) (input output : List ℕ
 abbrev pub run_asked : Bool → List ℕ → Status
 run_asked limited text = scenario_status limited (scenario_of text)
 
--- What the answer to the words of `run` says. `Unread` and `Unwritten` are that input and output are as they were; of the input these bytes
--- were left, and are; the crew had run so many jobs before, and now; to the output those bytes were written, and are. There is no link.
-abbrev pub IsRunAnswer : (Unread Unwritten : Type 0) → (left rest : Option (List ℕ)) → (before now : ℕ) → (old new : Option (List ℕ)) →
-    Status → Type 0
-IsRunAnswer Unread Unwritten left rest before now old new s =
-    IsThreadedAnswer (TellsRun before now) run_asked ⊥ Unread Unwritten left rest old new s
+-- the input is the text of a scenario, for whose run a crew has so many jobs
+pub record NeedsRun (input : List ℕ) (jobs : ℕ) : Type 0 where
+  pub small : length input ≤ INPUT_BYTES
+  pub scenario : Scenario
+  pub text : scenario_of input ≡ Ok scenario
+  pub count : jobs ≡ jobs_of scenario
+
+-- what is known where a run came to no end
+abbrev pub IsRunFailure : (before now : ℕ) → Status → List ℕ → Type 0
+IsRunFailure before now s input = LeavesCrew NeedsRun ⊥ before now s input
+
+-- What the answer to the words of `run` says. `Unread`, `Unwritten` and `Unasked` are that input, output and crew are as they were; of the
+-- input these bytes were left, and are; the crew had run so many jobs before, and now; to the output those bytes were written, and are. There
+-- is no link.
+abbrev pub IsRunAnswer : (Unread Unwritten Unasked : Type 0) → (left rest : Option (List ℕ)) → (before now : ℕ) →
+    (old new : Option (List ℕ)) → Status → Type 0
+IsRunAnswer Unread Unwritten Unasked left rest before now old new s =
+    IsThreadedAnswer (TellsRun before now) run_asked (IsRunFailure before now) Unread Unwritten Unasked left rest old new s

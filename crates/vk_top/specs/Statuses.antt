@@ -2,6 +2,10 @@
 use Rattle.std.specs.Prelude.{ℕ, List, [], ◌++◌, codes, decimal}
 use Rattle.vk_schedule.specs.declared.schedule.TextRefusal.{TextRefusal}
 use Rattle.vk_schedule.specs.declared.schedule.TextRefusal.TheVariants as texts
+use Rattle.vk_threads.specs.declared.record.RunRefusal.{RunRefusal}
+use Rattle.vk_threads.specs.declared.record.RunRefusal.TheVariants as runs
+use Rattle.vk_udp.specs.declared.record.NodeRefusal.{NodeRefusal}
+use Rattle.vk_udp.specs.declared.record.NodeRefusal.TheVariants as nodes
 use Rattle.vk_top.specs.declared.status.Status.{Status}
 use Rattle.vk_top.specs.declared.status.Status.TheVariants as status
 
@@ -36,3 +40,14 @@ abbrev pub refused : TextRefusal → Status
 refused (texts.BadInput line) = status.BadInput line
 refused texts.Limit = status.Limit
 refused texts.NoMemory = status.NoMemory
+
+-- the answer where a run came to no end
+abbrev pub refused_run : RunRefusal → Status
+refused_run runs.CrewFault = status.CrewFault
+refused_run runs.NoMemory = status.NoMemory
+
+-- and where that of a node did
+abbrev pub refused_node : NodeRefusal → Status
+refused_node nodes.LinkFault = status.LinkFault
+refused_node nodes.CrewFault = status.CrewFault
+refused_node nodes.NoMemory = status.NoMemory

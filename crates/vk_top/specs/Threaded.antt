@@ -1,7 +1,7 @@
 -- What is answered and written where a scenario is read, run in threads, and what happened is told in a text. `Tells limited input output`
--- is what is known of such a text where the run was limited, or not; `asked limited input` is what the input asks for then. `Linked` is that
--- the run has a link, which may fail.
-use Rattle.std.specs.Prelude.{ℕ, ◌≡◌, ◌≤◌, ◌<◌, ◌⊎◌, nat_lt, Bool, true, false, List, [], length, take, Option, Some, IfSome, Result, Ok, Err, if◌then◌else◌}
+-- is what is known of such a text where the run was limited, or not; `asked limited input` is what the input asks for then. `Fails s input`
+-- is what is known where the run came to no end for the cause that s tells.
+use Rattle.std.specs.Prelude.{ℕ, ◌≡◌, ◌+◌, ◌-◌, ◌^◌, ◌≤◌, ◌<◌, ◌⊎◌, min, nat_lt, Bool, true, false, List, length, take, Option, Result, Ok, Err, if◌then◌else◌}
 use Rattle.std.specs.Io.KnownBytes.{Appends}
 use Rattle.vk_base.specs.declared.limits.TheConstants.{INPUT_BYTES}
 use Rattle.vk_event.specs.declared.scenario.Scenario.{Scenario}
@@ -10,7 +10,7 @@ use Rattle.vk_top.specs.declared.status.Status.{Status}
 use Rattle.vk_top.specs.declared.status.Status.TheVariants as status
 use Rattle.vk_top.specs.declared.top.Work.{Work}
 use Rattle.vk_top.specs.Statuses.{refused}
-use Rattle.vk_top.specs.Top.{IsEarly, IsWanting, OfInput}
+use Rattle.vk_top.specs.Top.{IsBehindText, IsEarly, IsReadOver, IsReadWhole, IsReadWithin, IsWanting, OfInput}
 
 -- the answer to a run
 abbrev pub ended : Bool → Status
@@ -53,27 +53,51 @@ IsRunDecided asked told status.LinkFault = Unit {0}
 IsRunDecided asked told status.NoMemory = Unit {0}
 IsRunDecided asked told s = OfInput told (λ i. (limited : Bool) × (s ≡ asked_of asked limited i))
 
--- What the answer says. `Unread` and `Unwritten` are that input and output are as they were; of the input these bytes were left, and are; to
--- the output those were written, and are.
-pub record IsThreadedAnswer (Tells : Bool → List ℕ → List ℕ → Type 0) (asked : Bool → List ℕ → Status) (Linked : Type 0)
-    (Unread Unwritten : Type 0) (left rest old new : Option (List ℕ)) (s : Status) : Type 0 where
+-- the answers where a run came to no end, if it was begun
+abbrev pub IsFailure : Status → Type 0
+IsFailure status.NoMemory = Unit {0}
+IsFailure status.CrewFault = Unit {0}
+IsFailure status.LinkFault = Unit {0}
+IsFailure s = ⊥
+
+-- a count of jobs behind a call of the crew with so many
+abbrev pub counted : (before jobs : ℕ) → ℕ
+counted before jobs = min (before + jobs) (2 ^ 64 - 1)
+
+-- The crew counted so many jobs before, and now. `Needs input jobs` is that the input is the text of a scenario, for whose run a crew has so
+-- many; `Linked` that the run has a link. Crew and link fail only behind such a text. Where the crew failed, no jobs were counted; the link
+-- may fail, and memory be wanting, before the crew's call or behind it.
+abbrev pub LeavesCrew : (Needs : List ℕ → ℕ → Type 0) (Linked : Type 0) (before now : ℕ) → Status → List ℕ → Type 0
+LeavesCrew Needs Linked before now status.CrewFault input = (jobs : ℕ) × Needs input jobs × (now ≡ before)
+LeavesCrew Needs Linked before now status.LinkFault input =
+    Linked × ((jobs : ℕ) × Needs input jobs × ((now ≡ before) ⊎ (now ≡ counted before jobs)))
+LeavesCrew Needs Linked before now status.NoMemory input = (now ≡ before) ⊎ ((jobs : ℕ) × Needs input jobs × (now ≡ counted before jobs))
+LeavesCrew Needs Linked before now s input = ⊥
+
+-- What the answer says. `Unread`, `Unwritten` and `Unasked` are that input, output, and crew with wire are as they were; of the input these
+-- bytes were left, and are; to the output those were written, and are.
+pub record IsThreadedAnswer (Tells : Bool → List ℕ → List ℕ → Type 0) (asked : Bool → List ℕ → Status) (Fails : Status → List ℕ → Type 0)
+    (Unread Unwritten Unasked : Type 0) (left rest old new : Option (List ℕ)) (s : Status) : Type 0 where
   -- Done: all of the input is the text of a scenario, and what happened in its run, which was not limited, is written.
   pub done : s ≡ status.Done → OfInput left (λ i. IsRan Tells false i old new)
-  -- Limit comes only where the input has too many bytes, and then nothing is written; or where the run was limited, and then all that
-  -- happened is written.
-  pub limit : s ≡ status.Limit → OfInput left (λ i. ((INPUT_BYTES < length i) × Unwritten) ⊎ IsRan Tells true i old new)
+  -- Limit comes only where a byte too many was read, and then nothing is written, and no crew and no wire is asked; or where the input was
+  -- read to its end and its run was limited, and then all that happened is written.
+  pub limit : s ≡ status.Limit →
+      (IsReadOver left rest × Unwritten × Unasked) ⊎ (IsReadWhole left rest × OfInput left (λ i. IsRan Tells true i old new))
   -- At WriteFault a run went well, limited or not, and a front of the text is written.
   pub writing : s ≡ status.WriteFault → OfInput left (λ i. IsRanInPart Tells i old new)
-  -- At Done and WriteFault the input was read to its end, and at Limit where something was written.
-  pub whole : (s ≡ status.Done) ⊎ (s ≡ status.WriteFault) → IfSome left (λ i. rest ≡ Some [])
-  pub limit_whole : s ≡ status.Limit → Unwritten ⊎ IfSome left (λ i. rest ≡ Some [])
-  -- BadInput tells the first line of the input that is bad.
-  pub bad : (line : ℕ) → s ≡ status.BadInput line → OfInput left (λ i. IsBadScenario asked i line)
+  -- At Done, BadInput, WriteFault, CrewFault and LinkFault the input was read to its end.
+  pub whole : IsBehindText s → IsReadWhole left rest
+  -- BadInput tells the first line of the input that is bad. No crew and no wire is asked.
+  pub bad : (line : ℕ) → s ≡ status.BadInput line → OfInput left (λ i. IsBadScenario asked i line) × Unasked
+  -- At ReadFault no byte too many was read before, and no crew and no wire is asked.
+  pub reading : s ≡ status.ReadFault → IsReadWithin left rest × Unasked
   -- NoMemory comes only before anything was read, or where at least one byte was read and not one too many.
   pub memory : s ≡ status.NoMemory → IsWanting Unread left rest
-  -- Usage, NotARun and Stray do not come, and LinkFault only where there is a link.
+  -- At CrewFault, LinkFault and NoMemory this is known of input and run.
+  pub failed : IsFailure s → OfInput left (Fails s)
+  -- Usage, NotARun and Stray do not come.
   pub kinds : ¬ (s ≡ status.Usage) × ((step : ℕ) → ¬ (s ≡ status.NotARun step)) × ((host event : ℕ) → ¬ (s ≡ status.Stray host event))
-  pub link : s ≡ status.LinkFault → Linked
   -- At BadInput, ReadFault, NoMemory, CrewFault and LinkFault nothing is written.
   pub nothing : IsEarly s → Unwritten
   -- Where no fault is told and memory sufficed, the input decides, and whether the run was limited.
@@ -88,24 +112,30 @@ pub record IsThreadedWork (Tells : Bool → List ℕ → List ℕ → Type 0) (a
   pub status : w.status ≡ ended limited
   pub asked_for : ended limited ≡ asked limited text
 
+-- why a text is not run
+abbrev pub IsTextRefusal : (Bool → List ℕ → Status) → List ℕ → Status → Type 0
+IsTextRefusal asked text (status.BadInput line) = asked false text ≡ status.BadInput line
+IsTextRefusal asked text status.NoMemory = 0 < length text
+IsTextRefusal asked text s = ⊥
+
 -- why nothing is written of a scenario
-abbrev pub IsThreadedRefusal : (Bool → List ℕ → Status) → Type 0 → List ℕ → Status → Type 0
-IsThreadedRefusal asked Linked text (status.BadInput line) = asked false text ≡ status.BadInput line
-IsThreadedRefusal asked Linked text status.NoMemory = 0 < length text
-IsThreadedRefusal asked Linked text status.CrewFault = Unit {0}
-IsThreadedRefusal asked Linked text status.LinkFault = Linked
-IsThreadedRefusal asked Linked text s = ⊥
+abbrev pub IsThreadedRefusal : (Bool → List ℕ → Status) → (Status → List ℕ → Type 0) → Type 0 → List ℕ → Status → Type 0
+IsThreadedRefusal asked Fails Unasked text (status.BadInput line) = (asked false text ≡ status.BadInput line) × Unasked
+IsThreadedRefusal asked Fails Unasked text status.NoMemory = (0 < length text) × Fails status.NoMemory text
+IsThreadedRefusal asked Fails Unasked text status.CrewFault = Fails status.CrewFault text
+IsThreadedRefusal asked Fails Unasked text status.LinkFault = Fails status.LinkFault text
+IsThreadedRefusal asked Fails Unasked text s = ⊥
 
 -- what the answer to a text says, which was read whole
-pub record IsThreadedAnswered (Tells : Bool → List ℕ → List ℕ → Type 0) (asked : Bool → List ℕ → Status) (Linked Unwritten : Type 0)
-    (text : List ℕ) (old new : Option (List ℕ)) (s : Status) : Type 0 where
+pub record IsThreadedAnswered (Tells : Bool → List ℕ → List ℕ → Type 0) (asked : Bool → List ℕ → Status) (Fails : Status → List ℕ → Type 0)
+    (Unwritten Unasked : Type 0) (text : List ℕ) (old new : Option (List ℕ)) (s : Status) : Type 0 where
   pub done : s ≡ status.Done → IsRan Tells false text old new
   pub limit : s ≡ status.Limit → IsRan Tells true text old new
   pub writing : s ≡ status.WriteFault → IsRanInPart Tells text old new
-  pub bad : (line : ℕ) → s ≡ status.BadInput line → IsBadScenario asked text line
+  pub bad : (line : ℕ) → s ≡ status.BadInput line → IsBadScenario asked text line × Unasked
   pub memory : s ≡ status.NoMemory → 0 < length text
+  pub failed : IsFailure s → Fails s text
   pub kinds : ¬ (s ≡ status.Usage) × ((step : ℕ) → ¬ (s ≡ status.NotARun step)) × ((host event : ℕ) → ¬ (s ≡ status.Stray host event))
-  pub link : s ≡ status.LinkFault → Linked
   pub reading : ¬ (s ≡ status.ReadFault)
   pub nothing : IsEarly s → Unwritten
   pub complete : (s ≡ status.NoMemory) ⊎ (s ≡ status.WriteFault) ⊎ (s ≡ status.CrewFault) ⊎ (s ≡ status.LinkFault)

@@ -1,5 +1,5 @@
 -- What is answered to a text, and what is written of it.
-use Rattle.std.specs.Prelude.{ℕ, ◌≡◌, ◌<◌, ◌≤◌, ◌⊎◌, nat_lt, true, List, [], length, take, Option, IfSome, Result, Ok, Err, if◌then◌else◌}
+use Rattle.std.specs.Prelude.{ℕ, ◌≡◌, ◌<◌, ◌≤◌, ◌⊎◌, nat_lt, true, List, [], length, take, Option, Some, IfSome, Result, Ok, Err, if◌then◌else◌}
 use Rattle.std.specs.Io.KnownBytes.{Appends}
 use Rattle.vk_base.specs.declared.limits.TheConstants.{INPUT_BYTES}
 use Rattle.vk_io.specs.Causes.{LosesFront, Rose}
@@ -168,9 +168,35 @@ IsRefusedLate (asked.Replay form) input = HasRefused input
 IsRefusedLate asked.Check input = ⊥
 IsRefusedLate asked.Join input = ⊥
 
+-- the answers that come only behind the end of the input; at Limit and NoMemory it depends on what is over a limit, or wanting
+abbrev pub IsBehindText : Status → Type 0
+IsBehindText status.Done = Unit {0}
+IsBehindText (status.NotARun step) = Unit {0}
+IsBehindText (status.BadInput line) = Unit {0}
+IsBehindText (status.Stray host event) = Unit {0}
+IsBehindText status.WriteFault = Unit {0}
+IsBehindText status.CrewFault = Unit {0}
+IsBehindText status.LinkFault = Unit {0}
+IsBehindText status.Usage = ⊥
+IsBehindText status.ReadFault = ⊥
+IsBehindText status.NoMemory = ⊥
+IsBehindText status.Limit = ⊥
+
 -- something is to be written
 abbrev pub IsToWrite : Asked → List ℕ → Type 0
 IsToWrite a input = IsTold (status_of a input) ⊎ ((length input ≤ INPUT_BYTES) × IsRefusedLate a input)
+
+-- the input was read to its end, which a source tells if it tells what is left
+abbrev pub IsReadWhole : (left rest : Option (List ℕ)) → Type 0
+IsReadWhole left rest = IfSome left (λ i. rest ≡ Some [])
+
+-- of the input more bytes were read than there may be
+abbrev pub IsReadOver : (left rest : Option (List ℕ)) → Type 0
+IsReadOver left rest = LosesFront left rest (λ n. INPUT_BYTES < n)
+
+-- of the input no more bytes were read than there may be
+abbrev pub IsReadWithin : (left rest : Option (List ℕ)) → Type 0
+IsReadWithin left rest = LosesFront left rest (λ n. n ≤ INPUT_BYTES)
 
 -- memory was wanted for the words, and then nothing was read; or some of the input was read, but no byte too many
 abbrev pub IsWanting : Type 0 → Option (List ℕ) → Option (List ℕ) → Type 0

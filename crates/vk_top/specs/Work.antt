@@ -1,5 +1,5 @@
 -- What the parts of the top call promise one another.
-use Rattle.std.specs.Prelude.{ℕ, ◌≡◌, ◌<◌, ◌≤◌, ◌⊎◌, List, [], length, Option, Some, IfSome}
+use Rattle.std.specs.Prelude.{ℕ, ◌≡◌, ◌<◌, ◌≤◌, ◌⊎◌, List, [], length, Option}
 use Rattle.std.specs.Io.KnownBytes.{Appends}
 use Rattle.vk_base.specs.declared.limits.TheConstants.{INPUT_BYTES}
 use Rattle.vk_io.specs.Causes.{LosesFront, Rose}
@@ -7,7 +7,7 @@ use Rattle.vk_top.specs.declared.status.Status.{Status}
 use Rattle.vk_top.specs.declared.status.Status.TheVariants as status
 use Rattle.vk_top.specs.declared.top.Work.{Work}
 use Rattle.vk_top.specs.declared.words.Asked.{Asked}
-use Rattle.vk_top.specs.Top.{IsBadAt, IsCutShort, IsDecided, IsDone, IsNotARun, IsOverLimit, IsPart, IsRefusedLate, IsStrayAt, IsTextOutput, IsToWrite, IsTold, OfInput, status_of, text_status}
+use Rattle.vk_top.specs.Top.{IsBadAt, IsBehindText, IsCutShort, IsDecided, IsDone, IsNotARun, IsOverLimit, IsPart, IsReadOver, IsReadWhole, IsReadWithin, IsRefusedLate, IsStrayAt, IsTextOutput, IsToWrite, IsTold, OfInput, status_of, text_status}
 
 -- the count of a source's faults: it rose where the answer is that a read failed, and else is as it was
 abbrev pub IsReadCount : Status → ℕ → ℕ → Type 0
@@ -21,8 +21,8 @@ IsWriteCount s before now = now ≡ before
 
 -- why the input was not read whole
 abbrev pub IsUnread : Option (List ℕ) → Option (List ℕ) → Status → Type 0
-IsUnread left rest status.ReadFault = Unit {0}
-IsUnread left rest status.Limit = LosesFront left rest (λ n. INPUT_BYTES < n)
+IsUnread left rest status.ReadFault = IsReadWithin left rest
+IsUnread left rest status.Limit = IsReadOver left rest
 IsUnread left rest status.NoMemory = LosesFront left rest (λ n. (0 < n) × (n ≤ INPUT_BYTES))
 IsUnread left rest s = ⊥
 
@@ -77,11 +77,12 @@ pub record IsOutcome (Unchanged : Type 0) (a : Asked) (left rest old new : Optio
   pub kinds : ¬ (s ≡ status.Usage) × ¬ (s ≡ status.CrewFault) × ¬ (s ≡ status.LinkFault)
   pub done : s ≡ status.Done → OfInput left (λ i. IsDone a i old new)
   pub no : (step : ℕ) → s ≡ status.NotARun step → OfInput left (λ i. IsNotARun a i step old new)
-  pub whole : IsTold s → IfSome left (λ i. rest ≡ Some [])
+  pub whole : IsBehindText s → IsReadWhole left rest
   pub bad : (line : ℕ) → s ≡ status.BadInput line → OfInput left (λ i. IsBadAt a i line)
   pub stray : (host event : ℕ) → s ≡ status.Stray host event → OfInput left (λ i. IsStrayAt a i host event)
   pub limit : s ≡ status.Limit → OfInput left (λ i. IsLimit Unchanged a i old new)
-  pub read : s ≡ status.Limit → Unchanged ⊎ IfSome left (λ i. rest ≡ Some [])
+  pub limit_whole : s ≡ status.Limit → (IsReadOver left rest × Unchanged) ⊎ IsReadWhole left rest
+  pub reading : s ≡ status.ReadFault → IsReadWithin left rest
   pub memory : s ≡ status.NoMemory → LosesFront left rest (λ n. (0 < n) × (n ≤ INPUT_BYTES))
   pub writing : s ≡ status.WriteFault → OfInput left (IsToWrite a)
   pub complete : IsDecided a left s

@@ -6,9 +6,9 @@ ghost use Rattle.vk_event.specs.NodeLaws.{IsLawfulNodes, node_text, one_log};
 ghost use Rattle.vk_event.specs.Nodes.{nodes_of};
 ghost use Rattle.vk_event.specs.Ports.{has_all_ports};
 ghost use Rattle.vk_event.specs.ScenarioLaws.{IsLawfulScenario};
-ghost use Rattle.vk_top.specs.Nodes.{IsNodeAnswer, Passed, TellsNode, jobs_at, node_asked, node_scenario};
+ghost use Rattle.vk_top.specs.Nodes.{IsNodeAnswer, IsNodeFailure, Passed, TellsNode, jobs_at, node_asked, node_scenario};
 ghost use Rattle.vk_top.specs.Programs.{assignments_at};
-ghost use Rattle.vk_top.specs.Threaded.{IsThreadedAnswered, IsThreadedRefusal, IsThreadedWork, ended};
+ghost use Rattle.vk_top.specs.Threaded.{IsTextRefusal, IsThreadedAnswered, IsThreadedRefusal, IsThreadedWork, ended};
 ghost use Rattle.vk_top.specs.Top.{TellsFaults};
 ghost use Rattle.vk_top.specs.Work.{IsReadCount, IsWriteCount};
 ghost use Rattle.vk_udp.specs.Node.{IsNodeRecord, TellsNodeFault, TellsNodeJobs};
@@ -32,8 +32,7 @@ fn read_for(alloc: Global, host: u16, text: &[u8]) -> Result<Scenario, Status>
     ensures lawful { IfOk result IsLawfulScenario }
     ensures ports { IfOk result (λ s. has_all_ports s.config.specs s.ports host ≡ true) }
     ensures some { OnOk result (0 < length text.now) }
-    ensures refused { IfErr result (IsThreadedRefusal (node_asked host) (Unit {0}) text.now) }
-    ensures kinds { IfErr result (λ s. ¬ (s ≡ Status.CrewFault) × ¬ (s ≡ Status.LinkFault)) }
+    ensures refused { IfErr result (IsTextRefusal (node_asked host) text.now) }
 {
     match read_scenario(alloc, text) {
         Ok(scenario) => {
@@ -89,7 +88,11 @@ fn run_station<C: Crew, P: Pacer + Send, W: Wire, R: Wait + Threads + Clock + Ne
         (C.job_count crew.new) result }
     ensures fault { TellsNodeFault (W.fault_count wire.old) (W.fault_count wire.new) (C.fault_count crew.old) (C.fault_count crew.new)
         result }
+    ensures crew_faults_never_fall { C.fault_count crew.old ≤ C.fault_count crew.new }
+    ensures link_faults_never_fall { W.fault_count wire.old ≤ W.fault_count wire.new }
 {
+    let _crew_faults = crew.faults();
+    let _link_faults = wire.faults();
     let Ok(config) = scenario.config.copy(alloc) else {
         return Err(NodeRefusal::NoMemory);
     };
@@ -124,10 +127,13 @@ fn node_work<C: Crew, P: Pacer + Send, W: Wire, R: Wait + Threads + Clock + Net 
     requires { length text.now ≤ INPUT_BYTES }
     ensures work { IfOk result (IsThreadedWork (TellsNode host (record { handed = W.handed wire.old; jobs = C.job_count crew.old })
         (record { handed = W.handed wire.new; jobs = C.job_count crew.new })) (node_asked host) text.now) }
-    ensures refused { IfErr result (IsThreadedRefusal (node_asked host) (Unit {0}) text.now) }
+    ensures refused { IfErr result (IsThreadedRefusal (node_asked host)
+        (IsNodeFailure host (C.job_count crew.old) (C.job_count crew.new)) ((crew.new ≡ crew.old) × (wire.new ≡ wire.old)) text.now) }
     ensures kept { OnOk result ((C.fault_count crew.new ≡ C.fault_count crew.old) × (W.fault_count wire.new ≡ W.fault_count wire.old)) }
     ensures crew_faults { IfErr result (λ s. TellsFaults Status.CrewFault s (C.fault_count crew.old) (C.fault_count crew.new)) }
     ensures link_faults { IfErr result (λ s. TellsFaults Status.LinkFault s (W.fault_count wire.old) (W.fault_count wire.new)) }
+    ensures crew_faults_never_fall { C.fault_count crew.old ≤ C.fault_count crew.new }
+    ensures link_faults_never_fall { W.fault_count wire.old ≤ W.fault_count wire.new }
 {
     let scenario = match read_for(alloc, host, text) {
         Ok(scenario) => scenario,
@@ -160,12 +166,16 @@ fn answer_node<K: Sink, C: Crew, P: Pacer + Send, W: Wire, R: Wait + Threads + C
 ) -> Status
     requires { length text.now ≤ INPUT_BYTES }
     ensures answered { IsThreadedAnswered (TellsNode host (record { handed = W.handed wire.old; jobs = C.job_count crew.old })
-        (record { handed = W.handed wire.new; jobs = C.job_count crew.new })) (node_asked host) (Unit {0}) (output.new ≡ output.old)
+        (record { handed = W.handed wire.new; jobs = C.job_count crew.new })) (node_asked host)
+        (IsNodeFailure host (C.job_count crew.old) (C.job_count crew.new))
+        (output.new ≡ output.old) ((crew.new ≡ crew.old) × (wire.new ≡ wire.old))
         text.now (K.written output.old) (K.written output.new) result }
     ensures write_count { IsWriteCount result (K.fault_count output.old) (K.fault_count output.new) }
     ensures crew_faults { TellsFaults Status.CrewFault result (C.fault_count crew.old) (C.fault_count crew.new) }
     ensures link_faults { TellsFaults Status.LinkFault result (W.fault_count wire.old) (W.fault_count wire.new) }
-    ensures never_falls { K.fault_count output.old ≤ K.fault_count output.new }
+    ensures write_faults_never_fall { K.fault_count output.old ≤ K.fault_count output.new }
+    ensures crew_faults_never_fall { C.fault_count crew.old ≤ C.fault_count crew.new }
+    ensures link_faults_never_fall { W.fault_count wire.old ≤ W.fault_count wire.new }
 {
     match node_work(rt, alloc, host, text, crew, pacer, wire) {
         Ok(work) => write_work(output, &work),
@@ -191,7 +201,8 @@ pub(crate) fn node<
     pacer: &mut P,
     wire: &mut W,
 ) -> Status
-    ensures answer { IsNodeAnswer host (input.new ≡ input.old) (output.new ≡ output.old) (S.left input.old) (S.left input.new)
+    ensures answer { IsNodeAnswer host (input.new ≡ input.old) (output.new ≡ output.old) ((crew.new ≡ crew.old) × (wire.new ≡ wire.old))
+        (S.left input.old) (S.left input.new)
         (record { handed = W.handed wire.old; jobs = C.job_count crew.old })
         (record { handed = W.handed wire.new; jobs = C.job_count crew.new }) (K.written output.old) (K.written output.new) result }
     ensures read_count { IsReadCount result (S.fault_count input.old) (S.fault_count input.new) }
@@ -200,6 +211,8 @@ pub(crate) fn node<
     ensures link_faults { TellsFaults Status.LinkFault result (W.fault_count wire.old) (W.fault_count wire.new) }
     ensures read_faults_never_fall { S.fault_count input.old ≤ S.fault_count input.new }
     ensures write_faults_never_fall { K.fault_count output.old ≤ K.fault_count output.new }
+    ensures crew_faults_never_fall { C.fault_count crew.old ≤ C.fault_count crew.new }
+    ensures link_faults_never_fall { W.fault_count wire.old ≤ W.fault_count wire.new }
 {
     match read_text(alloc, input) {
         Ok(text) => answer_node(rt, alloc, host, &text, output, crew, pacer, wire),

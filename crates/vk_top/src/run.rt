@@ -9,7 +9,7 @@ ghost use Rattle.vk_schedule.specs.Schedule.{schedule_of};
 ghost use Rattle.vk_schedule.specs.Spelling.{schedule_text};
 ghost use Rattle.vk_threads.specs.Assigned.{LeavesJobs, TellsRunFault};
 ghost use Rattle.vk_top.specs.Programs.{assignments_of};
-ghost use Rattle.vk_top.specs.Runs.{IsRunAnswer, TellsRun, jobs_of, run_asked};
+ghost use Rattle.vk_top.specs.Runs.{IsRunAnswer, IsRunFailure, TellsRun, jobs_of, run_asked};
 ghost use Rattle.vk_top.specs.Threaded.{IsThreadedAnswered, IsThreadedRefusal, IsThreadedWork, ended};
 ghost use Rattle.vk_top.specs.Top.{TellsFaults};
 ghost use Rattle.vk_top.specs.Work.{IsReadCount, IsWriteCount};
@@ -58,7 +58,9 @@ fn run_scenario<C: Crew, P: Pacer + Send, R: Wait + Threads + Clock + Sync>(
     ensures no_jobs { IfErr result (LeavesJobs (C.job_count crew.old)
         (min (C.job_count crew.old + jobs_of scenario) (2 ^ 64 - 1)) (C.job_count crew.new)) }
     ensures fault { TellsRunFault (C.fault_count crew.old) (C.fault_count crew.new) result }
+    ensures never_falls { C.fault_count crew.old ≤ C.fault_count crew.new }
 {
+    let _faults = crew.faults();
     let Scenario {
         config,
         tasks,
@@ -82,9 +84,11 @@ fn run_text<C: Crew, P: Pacer + Send, R: Wait + Threads + Clock + Sync>(
 ) -> Result<Work, Status>
     requires { length text.now ≤ INPUT_BYTES }
     ensures work { IfOk result (IsThreadedWork (TellsRun (C.job_count crew.old) (C.job_count crew.new)) run_asked text.now) }
-    ensures refused { IfErr result (IsThreadedRefusal run_asked ⊥ text.now) }
+    ensures refused { IfErr result (IsThreadedRefusal run_asked (IsRunFailure (C.job_count crew.old) (C.job_count crew.new))
+        (crew.new ≡ crew.old) text.now) }
     ensures kept { OnOk result (C.fault_count crew.new ≡ C.fault_count crew.old) }
     ensures faults { IfErr result (λ s. TellsFaults Status.CrewFault s (C.fault_count crew.old) (C.fault_count crew.new)) }
+    ensures never_falls { C.fault_count crew.old ≤ C.fault_count crew.new }
 {
     let scenario = match read_scenario(alloc, text) {
         Ok(scenario) => scenario,
@@ -107,11 +111,13 @@ fn answer_run<K: Sink, C: Crew, P: Pacer + Send, R: Wait + Threads + Clock + Syn
     pacer: &mut P,
 ) -> Status
     requires { length text.now ≤ INPUT_BYTES }
-    ensures answered { IsThreadedAnswered (TellsRun (C.job_count crew.old) (C.job_count crew.new)) run_asked ⊥ (output.new ≡ output.old)
+    ensures answered { IsThreadedAnswered (TellsRun (C.job_count crew.old) (C.job_count crew.new)) run_asked
+        (IsRunFailure (C.job_count crew.old) (C.job_count crew.new)) (output.new ≡ output.old) (crew.new ≡ crew.old)
         text.now (K.written output.old) (K.written output.new) result }
     ensures write_count { IsWriteCount result (K.fault_count output.old) (K.fault_count output.new) }
     ensures crew_faults { TellsFaults Status.CrewFault result (C.fault_count crew.old) (C.fault_count crew.new) }
-    ensures never_falls { K.fault_count output.old ≤ K.fault_count output.new }
+    ensures write_faults_never_fall { K.fault_count output.old ≤ K.fault_count output.new }
+    ensures crew_faults_never_fall { C.fault_count crew.old ≤ C.fault_count crew.new }
 {
     match run_text(rt, alloc, text, crew, pacer) {
         Ok(work) => write_work(output, &work),
@@ -128,13 +134,15 @@ pub(crate) fn run<S: Source, K: Sink, C: Crew, P: Pacer + Send, R: Wait + Thread
     crew: &mut C,
     pacer: &mut P,
 ) -> Status
-    ensures answer { IsRunAnswer (input.new ≡ input.old) (output.new ≡ output.old) (S.left input.old) (S.left input.new)
-        (C.job_count crew.old) (C.job_count crew.new) (K.written output.old) (K.written output.new) result }
+    ensures answer { IsRunAnswer (input.new ≡ input.old) (output.new ≡ output.old) (crew.new ≡ crew.old)
+        (S.left input.old) (S.left input.new) (C.job_count crew.old) (C.job_count crew.new)
+        (K.written output.old) (K.written output.new) result }
     ensures read_count { IsReadCount result (S.fault_count input.old) (S.fault_count input.new) }
     ensures write_count { IsWriteCount result (K.fault_count output.old) (K.fault_count output.new) }
     ensures crew_faults { TellsFaults Status.CrewFault result (C.fault_count crew.old) (C.fault_count crew.new) }
     ensures read_faults_never_fall { S.fault_count input.old ≤ S.fault_count input.new }
     ensures write_faults_never_fall { K.fault_count output.old ≤ K.fault_count output.new }
+    ensures crew_faults_never_fall { C.fault_count crew.old ≤ C.fault_count crew.new }
 {
     match read_text(alloc, input) {
         Ok(text) => answer_run(rt, alloc, &text, output, crew, pacer),

@@ -41,11 +41,12 @@ fn in_threads<
 ) -> Status
     requires { is_threaded (job_of (map string_bytes words.now)) ≡ true }
     ensures run { job_of (map string_bytes words.now) ≡ Some Job.Run →
-        IsRunAnswer (input.new ≡ input.old) (output.new ≡ output.old) (S.left input.old) (S.left input.new)
+        IsRunAnswer (input.new ≡ input.old) (output.new ≡ output.old) (crew.new ≡ crew.old) (S.left input.old) (S.left input.new)
         (C.job_count crew.old) (C.job_count crew.new) (K.written output.old) (K.written output.new) result }
     ensures unlinked { job_of (map string_bytes words.now) ≡ Some Job.Run → wire.new ≡ wire.old }
     ensures node { (host : ℕ) → job_of (map string_bytes words.now) ≡ Some (Job.Node host) →
-        IsNodeAnswer host (input.new ≡ input.old) (output.new ≡ output.old) (S.left input.old) (S.left input.new)
+        IsNodeAnswer host (input.new ≡ input.old) (output.new ≡ output.old) ((crew.new ≡ crew.old) × (wire.new ≡ wire.old))
+        (S.left input.old) (S.left input.new)
         (record { handed = W.handed wire.old; jobs = C.job_count crew.old })
         (record { handed = W.handed wire.new; jobs = C.job_count crew.new }) (K.written output.old) (K.written output.new) result }
     ensures read_faults { TellsFaults Status.ReadFault result (S.fault_count input.old) (S.fault_count input.new) }
@@ -54,6 +55,8 @@ fn in_threads<
     ensures link_faults { TellsFaults Status.LinkFault result (W.fault_count wire.old) (W.fault_count wire.new) }
     ensures read_faults_never_fall { S.fault_count input.old ≤ S.fault_count input.new }
     ensures write_faults_never_fall { K.fault_count output.old ≤ K.fault_count output.new }
+    ensures crew_faults_never_fall { C.fault_count crew.old ≤ C.fault_count crew.new }
+    ensures link_faults_never_fall { W.fault_count wire.old ≤ W.fault_count wire.new }
 {
     match read_words(alloc, words) {
         Ok(Some(Job::Run)) => run(rt, alloc, input, output, crew, pacer),
@@ -99,23 +102,26 @@ pub fn vkernel<
     ensures idle { is_threaded (job_of (map string_bytes words.now)) ≡ false → (crew.new ≡ crew.old) × (wire.new ≡ wire.old) }
     // The words of `run` have their own answers, without the wire.
     ensures run { job_of (map string_bytes words.now) ≡ Some Job.Run →
-        IsRunAnswer (input.new ≡ input.old) (output.new ≡ output.old) (S.left input.old) (S.left input.new)
+        IsRunAnswer (input.new ≡ input.old) (output.new ≡ output.old) (crew.new ≡ crew.old) (S.left input.old) (S.left input.new)
         (C.job_count crew.old) (C.job_count crew.new) (K.written output.old) (K.written output.new) result }
     ensures unlinked { job_of (map string_bytes words.now) ≡ Some Job.Run → wire.new ≡ wire.old }
     // And so have those of `node H`.
     ensures node { (host : ℕ) → job_of (map string_bytes words.now) ≡ Some (Job.Node host) →
-        IsNodeAnswer host (input.new ≡ input.old) (output.new ≡ output.old) (S.left input.old) (S.left input.new)
+        IsNodeAnswer host (input.new ≡ input.old) (output.new ≡ output.old) ((crew.new ≡ crew.old) × (wire.new ≡ wire.old))
+        (S.left input.old) (S.left input.new)
         (record { handed = W.handed wire.old; jobs = C.job_count crew.old })
         (record { handed = W.handed wire.new; jobs = C.job_count crew.new }) (K.written output.old) (K.written output.new) result }
 
     // ReadFault, WriteFault, CrewFault and LinkFault are answered only where a fault of the input, the output, the crew and the wire was
-    // counted, and every such fault is told so.
+    // counted, and every such fault is told so. The counts never fall.
     ensures read_faults { TellsFaults Status.ReadFault result (S.fault_count input.old) (S.fault_count input.new) }
     ensures write_faults { TellsFaults Status.WriteFault result (K.fault_count output.old) (K.fault_count output.new) }
     ensures crew_faults { TellsFaults Status.CrewFault result (C.fault_count crew.old) (C.fault_count crew.new) }
     ensures link_faults { TellsFaults Status.LinkFault result (W.fault_count wire.old) (W.fault_count wire.new) }
     ensures read_faults_never_fall { S.fault_count input.old ≤ S.fault_count input.new }
     ensures write_faults_never_fall { K.fault_count output.old ≤ K.fault_count output.new }
+    ensures crew_faults_never_fall { C.fault_count crew.old ≤ C.fault_count crew.new }
+    ensures link_faults_never_fall { W.fault_count wire.old ≤ W.fault_count wire.new }
 {
     match vkernel_alone(alloc, words, input, output) {
         Some(status) => status,

@@ -1,5 +1,5 @@
 -- The clock's port, one stretch behind the other.
-use Rattle.std.proofs.Common.{◌≡◌, ℕ, ◌+◌, ◌≤◌, inl, inr, true, false, Some, None, List, [], ◌∷◌, ◌++◌, length, refl, ◌∙◌, subst, arith}
+use Rattle.std.proofs.Common.{◌≡◌, ℕ, ◌+◌, ◌≤◌, inr, true, false, Some, None, List, [], ◌∷◌, ◌++◌, length, refl, ◌∙◌, subst, arith}
 use Rattle.turn_cell.specs.declared.replay.Room.{Room}
 use Rattle.turn_cell.specs.declared.replay.Room.TheVariants as rooms
 use Rattle.vk_base.specs.declared.event.EventAnswer.{EventAnswer}
@@ -57,18 +57,6 @@ clocks_looked n old mid new so it = rest_same n old new (clocks_more n 0 old mid
 
 pub still_ticks : (n : ℕ) (old new : PortValue) → ClocksSoFar n old new → old.ticks ≡ true → new.ticks ≡ true
 still_ticks n old new so may = so.does.same.ticks ∙ may
-
--- All rounds are over.
-pub clocks_end : (n rounds : ℕ) (old new : PortValue) → n ≡ rounds → ClocksSoFar n old new → HasClocked old new rounds None
-clocks_end n rounds old new whole so = record {
-  acts = so.acts;
-  does = so.does;
-  only = so.only;
-  few = (let was = so.ticks in omega arith);
-  all = λ none. inl (so.ticks ∙ whole);
-  losses = (let was = so.lost in omega arith);
-  full = λ is. absurd (cc is);
-}
 
 -- it heard that the hub had ended
 pub clocks_stopped : (n rounds : ℕ) (old mid new : PortValue) → n ≤ rounds → ClocksSoFar n old mid → HeardOnce mid new [] → HasClocked old new rounds None

@@ -5,7 +5,7 @@ use Rattle.turn_cell.proofs.Histories.{prefix_self}
 use Rattle.turn_cell.specs.declared.replay.Room.{Room}
 use Rattle.turn_cell.specs.declared.replay.Room.TheVariants as rooms
 use Rattle.turn_cell.specs.Seats.{IsSameSeat, Sitting}
-use Rattle.vk_base.specs.Settings.{Settings}
+use Rattle.vk_base.specs.Settings.{Settings, has_station}
 use Rattle.vk_hub.specs.declared.event.HubEvent.{HubEvent}
 use Rattle.vk_hub.specs.declared.event.HubEvent.TheVariants as hub_events
 use Rattle.vk_hub.specs.Hubs.{HubLog, has_halt}
@@ -19,14 +19,18 @@ use Rattle.v_node.specs.Seats.{IsLinkThrough, hub_stand_of}
 use Rattle.vk_threads.specs.declared.end.Seats.{Seats}
 use Rattle.vk_threads.specs.Ends.{IsOf}
 use Rattle.vk_threads.proofs.Ending.{Behind, halt_finished, halted_behind, is_through, last_halt, last_none, met_full, none_finished, passage_of}
-use Rattle.vk_udp.specs.Carried.{HasBrought, HasFetchedFor, HasHaltedBy, IsHubFull, IsPortFull, TellsStop, is_failed, met_by, stops_of}
+use Rattle.vk_rules.specs.Each.{Each}
+use Rattle.vk_udp.specs.Asked.{Ask, errands_in}
+use Rattle.vk_udp.specs.Carried.{HasBrought, HasGoneAround, HasHaltedBy, IsHubFull, IsPortFull, IsStationPort, TellsStop, is_failed, met_by, stops_of}
 use Rattle.vk_udp.specs.Clocked.{HasClocked, HasStopped}
 use Rattle.vk_io.specs.Causes.{Rose}
 use Rattle.vk_udp.specs.Jobs.{EndsCarrier, EndsClock}
 use Rattle.vk_udp.specs.Values.{CarrierDuty}
+use Rattle.vk_udp.specs.Wires.{Datagram}
 use Rattle.vk_udp.specs.declared.work.Carried.{Carried}
 use Rattle.vk_udp.specs.declared.carrier.Stop.{Stop}
 use Rattle.vk_udp.specs.declared.carrier.Stop.TheVariants as stops
+use Rattle.vk_udp.proofs.Asking.{asks_are_errands, asks_of, each_around}
 use Rattle.vk_udp.proofs.Fetching.{same_seat}
 
 -- THE CLOCK
@@ -129,9 +133,12 @@ failed_stop before now stops.Ended tells is = absurd (cc is)
 failed_stop before now stops.Failed tells is = tells
 failed_stop before now (stops.Met why) tells is = absurd (cc is)
 
-module _ {L : Type 0} (handed : L → Option (List Frame)) (faults : L → ℕ) (d : CarrierDuty L) (e : Carried L) (q : PortValue) (mid : HubSeat) (s : Seats)
+module _ {L : Type 0} (handed : L → Option (List Frame)) (given : L → Option (List Datagram)) (faults : L → ℕ) (d : CarrierDuty L) (e : Carried L) (q : PortValue) (mid : HubSeat) (s : Seats)
     (stop : Stop) (b : HasBrought handed d.port.host d.port q d.link e.link (met_by stop))
-    (f : HasFetchedFor d.port.hub.origin d.ports d.carrier mid (stops_of stop)) (r : (rest : List HubEvent) × IsRest mid e.hub_seat stop rest) where
+    (f : HasGoneAround given d.port.hub.origin d.ports d.carrier mid d.link e.link (stops_of stop)) (r : (rest : List HubEvent) × IsRest mid e.hub_seat stop rest) where
+  abbrev asks : List Ask
+  asks = f.fetched.asked.asks
+
   abbrev linked : LinkEnd
   linked = record {
     berth = berth_of d.port;
@@ -139,7 +146,7 @@ module _ {L : Type 0} (handed : L → Option (List Frame)) (faults : L → ℕ) 
     left = stand_of q;
     last = [];
     carrier = d.carrier.number;
-    errands = f.errands;
+    errands = errands_in asks;
     reached = hub_stand_of mid;
     rest = r.0;
     met = met_by stop;
@@ -152,12 +159,12 @@ module _ {L : Type 0} (handed : L → Option (List Frame)) (faults : L → ℕ) 
   link_full c of (inl (inr full)) = inr (inl full)
   link_full c of (inr full) = inr (inr full)
 
-  few_stops : stop_count f.errands ≤ 1
-  few_stops = let at_most = stops_few stop in let is = f.stopped in omega arith
+  few_stops : stop_count (errands_in asks) ≤ 1
+  few_stops = let at_most = stops_few stop in let is = f.fetched.stopped in omega arith
 
   link_ended : ((met_by stop ≡ None) × (is_failed stop ≡ false) × (stops_of stop ≡ 1)) ⊎ (has_halt e.hub_seat.seen ≡ true)
-      → ((met_by stop ≡ None) × (is_failed stop ≡ false) × (stop_count f.errands ≡ 1)) ⊎ (has_halt e.hub_seat.seen ≡ true)
-  link_ended (inl (none, sound, one)) = inl (none, sound, f.stopped ∙ one)
+      → ((met_by stop ≡ None) × (is_failed stop ≡ false) × (stop_count (errands_in asks) ≡ 1)) ⊎ (has_halt e.hub_seat.seen ≡ true)
+  link_ended (inl (none, sound, one)) = inl (none, sound, f.fetched.stopped ∙ one)
   link_ended (inr halted) = inr halted
 
   link_through : s.seat ≡ q.seat → s.hub_seat ≡ q.hub_seat → IsLinkThrough d.port d.carrier s.seat s.hub_seat e.hub_seat linked
@@ -172,15 +179,15 @@ module _ {L : Type 0} (handed : L → Option (List Frame)) (faults : L → ℕ) 
     heard = subst (λ (x : HubSeat). IsPrefix q.hub_seat.seen x.seen) (sym hub_seat) (prefix_self q.hub_seat.seen);
     sent = ap (λ (x : HubSeat). x.mine) hub_seat ∙ sym (append-nil q.hub_seat.mine);
     carrier = refl;
-    errands = f.are;
-    back = same_seat d.carrier mid e.hub_seat f.same r.1.same;
+    errands = asks_are_errands d.carrier.number d.port.hub.origin (hub_stand_of d.carrier) asks (hub_stand_of mid) f.fetched.asked.are;
+    back = same_seat d.carrier mid e.hub_seat f.fetched.same r.1.same;
     reached = r.1.later;
     carried = r.1.mine;
   }
 
   pub carried : (met_by stop ≡ Some rooms.Full → IsPortFull d.port q ⊎ IsHubFull mid) → TellsStop (faults d.link) (faults e.link) stop
       → e.end.met ≡ met_by stop → e.end.seats.items ≡ s ∷ [] → s.host ≡ d.port.host → s.seat ≡ q.seat → s.hub_seat ≡ q.hub_seat
-      → EndsCarrier handed faults d e
+      → EndsCarrier handed given faults d e
   carried full tells met seats host seat hub_seat = record {
     end = linked;
     seat = s;
@@ -189,10 +196,16 @@ module _ {L : Type 0} (handed : L → Option (List Frame)) (faults : L → ℕ) 
     through = link_through seat hub_seat;
     met = sym met;
     told = b.told;
+    carried = record {
+      around = record { rounds = f.rounds; last = f.last; front = f.front; asked = f.fetched.asked };
+      errands_are = refl;
+      sent = f.fetched.told;
+    };
     sound = sound_stop (faults d.link) (faults e.link) stop tells;
     failed = failed_stop (faults d.link) (faults e.link) stop tells;
     job = λ c of ports. record {
-      stations = f.stations c ports;
+      stations = asks_of (λ h. has_station c.specs h ≡ true) asks
+          (subst (Each (IsStationPort c)) (sym f.fetched.asked.there) (each_around (IsStationPort c) f.rounds d.ports f.last f.front ports));
       stops = few_stops;
       last = inl refl;
       rest = r.1.halts;

@@ -1,24 +1,26 @@
--- The fetches of one seat of the hub, one behind the other.
-use Rattle.std.proofs.Common.{◌≡◌, ◌≢◌, ℕ, zero, suc, ◌+◌, ◌≤◌, ◌<◌, Bool, true, false, cond, get_or, length, List, [], ◌∷◌, ◌++◌, refl, sym, ap, ◌∙◌, subst, arith}
+-- The fetches of one seat of the hub, one behind the other, and what the link was given to send for them.
+use Rattle.std.proofs.Common.{◌≡◌, ◌≢◌, ℕ, zero, suc, ◌+◌, ◌≤◌, ◌<◌, Bool, true, false, Option, Some, None, Result, Ok, Err, cond, get_or, take, length, map, List, [], ◌∷◌, ◌++◌, refl, sym, ap, ◌∙◌, subst, append-nil, arith}
 use mathlib.Core.List.{IsPrefix}
-use Rattle.std.proofs.lemmas.List.{append_cancel_right}
+use Rattle.std.proofs.lemmas.List.{append_cancel_right, take_all, take_more}
 use Rattle.turn_cell.proofs.Histories.{events_own, prefix_self}
+use Rattle.turn_cell.specs.declared.replay.Room.{Room}
 use Rattle.turn_cell.specs.History.{events_of}
 use Rattle.turn_cell.specs.Seats.{HasEntered, HasLooked, IsComplete, IsSameSeat, IsSeatOf, Sitting, Cell}
-use Rattle.vk_base.specs.Settings.{Settings, has_station}
+use Rattle.vk_event.specs.declared.port.StationPort.{StationPort}
 use Rattle.vk_hub.specs.declared.event.Fetched.{Fetched}
 use Rattle.vk_hub.specs.declared.event.Fetched.TheVariants as fetched
 use Rattle.vk_hub.specs.declared.event.HubEvent.{HubEvent}
 use Rattle.vk_hub.specs.declared.event.HubEvent.TheVariants as hub_events
 use Rattle.vk_hub.specs.Hubs.{HubLog, fetched_from, is_at_limit, traffic_of}
 use Rattle.vk_hub.specs.Links.{Frame}
-use Rattle.vk_port.proofs.Fronts.{prefix_over}
-use Rattle.vk_rules.proofs.Lists.{each_append}
-use Rattle.vk_rules.specs.Each.{Each}
-use Rattle.v_node.specs.Links.{AreErrands, Errand, HubStand, after_errand, is_stop, stop_count}
+use Rattle.vk_hub.specs.Posts.{IsFromPost}
+use Rattle.v_node.specs.Links.{is_stop}
 use Rattle.v_node.specs.Seats.{hub_stand_of}
-use Rattle.vk_udp.specs.Carried.{HasFetchedFor, IsAmong, IsStationPort}
-use Rattle.vk_event.specs.declared.port.StationPort.{StationPort}
+use Rattle.vk_udp.specs.Asked.{AreAsks, Ask, rounds_of, sending, sent_for}
+use Rattle.vk_udp.specs.Carried.{HasFetchedFor, HasGoneAround, HasGoneRound, room_in, stops_in}
+use Rattle.vk_udp.specs.Wires.{Datagram, IsMore}
+use Rattle.vk_udp.specs.declared.carrier.Sent.{Sent}
+use Rattle.vk_udp.proofs.Asking.{asks_append, asks_stops, more_more, sent_append, there_append}
 
 abbrev HubSeat : Type 0
 HubSeat = Sitting HubLog HubEvent
@@ -28,60 +30,6 @@ same_seat s t u one two = (two.0 ∙ one.0, two.1 ∙ one.1, two.2 ∙ one.2)
 
 pub seat_of : (hub : Cell HubLog) (s t : HubSeat) → IsSeatOf hub s → IsSameSeat s t → IsSeatOf hub t
 seat_of hub s t of same = (same.0 ∙ of.0, same.1 ∙ of.1)
-
-module _ (n : ℕ) (o : HubLog) where
-  errands_later : (s t : HubStand) (es : List Errand) (u : HubStand) → IsPrefix s.heard t.heard → t.sent ≡ s.sent → AreErrands n o t es u
-      → AreErrands n o s es u
-  errands_later s t [] u later sent are = (prefix_over s.heard t.heard u.heard later are.0, are.1 ∙ sent)
-  errands_later s t (e ∷ es) u later sent are = (
-    record {
-      later = prefix_over s.heard t.heard e.before later are.0.later;
-      mine = are.0.mine ∙ sent;
-      answered = are.0.answered;
-      some = are.0.some;
-    },
-    subst (λ l. AreErrands n o (record { heard = e.before ++ (n, hub_events.Fetch e.host) ∷ []; sent = l ++ hub_events.Fetch e.host ∷ [] }) es u) sent
-        are.1,
-  )
-
-errands_append : (n : ℕ) (o : HubLog) (s : HubStand) (xs : List Errand) (t : HubStand) (ys : List Errand) (u : HubStand) → AreErrands n o s xs t
-    → AreErrands n o t ys u → AreErrands n o s (xs ++ ys) u
-errands_append n o s [] t ys u one two = errands_later n o s t ys u one.0 one.1 two
-errands_append n o s (e ∷ es) t ys u one two = (one.0, errands_append n o (after_errand n o s e) es t ys u one.1 two)
-
-stops_append : (xs ys : List Errand) → stop_count (xs ++ ys) ≡ stop_count xs + stop_count ys
-stops_append [] ys = omega arith
-stops_append (e ∷ es) ys = let rest = stops_append es ys in omega arith
-
-pub fetched_none : (o : HubLog) (ports : List StationPort) (s : HubSeat) → HasFetchedFor o ports s s 0
-fetched_none o ports s = record {
-  errands = [];
-  same = (refl, refl, refl);
-  are = (prefix_self s.seen, refl);
-  stations = λ c each. tt;
-  stopped = omega arith;
-}
-
-pub fetched_more : (o : HubLog) (ports : List StationPort) (s t u : HubSeat) (n m : ℕ) → HasFetchedFor o ports s t n → HasFetchedFor o ports t u m
-    → HasFetchedFor o ports s u (n + m)
-fetched_more o ports s t u n m one two = record {
-  errands = one.errands ++ two.errands;
-  same = same_seat s t u one.same two.same;
-  are = errands_append s.number o (hub_stand_of s) one.errands (hub_stand_of t) two.errands (hub_stand_of u) one.are
-      (subst (λ k. AreErrands k o (hub_stand_of t) two.errands (hub_stand_of u)) one.same.2 two.are);
-  stations = λ c each. each_append (λ (e : Errand). has_station c.specs e.host ≡ true) one.errands two.errands (one.stations c each) (two.stations c each);
-  stopped = (let sum = stops_append one.errands two.errands in let x = one.stopped in let y = two.stopped in omega arith);
-}
-
--- it found nothing, or was refused
-pub fetched_nothing : (o : HubLog) (ports : List StationPort) (s t : HubSeat) → IsSameSeat s t → HasLooked s t → HasFetchedFor o ports s t 0
-fetched_nothing o ports s t same looked = record {
-  errands = [];
-  same = same;
-  are = looked;
-  stations = λ c each. tt;
-  stopped = omega arith;
-}
 
 -- what the seat had entered before its new entry
 own_before : (old new : HubSeat) (before : List (ℕ × HubEvent)) (e : HubEvent) → new.number ≡ old.number → IsComplete new →
@@ -94,55 +42,27 @@ own_before old new before e same complete seen mine =
     ∙ complete
     ∙ mine)
 
--- one fetch that was entered
-pub fetched_one : (o : HubLog) (ports : List StationPort) (s t : HubSeat) (host : ℕ) (f : Fetched) → IsSameSeat s t → IsComplete t → f ≢ fetched.Nothing
-    → HasEntered (λ before. (is_at_limit before (hub_events.Fetch host) ≡ false) × (f ≡ fetched_from o.programs (traffic_of o before) host)) s t
-    (hub_events.Fetch host)
-    → ((c : Settings) → Each (IsStationPort c) ports → has_station c.specs host ≡ true) → HasFetchedFor o ports s t (is_stop f)
-fetched_one o ports s t host f same complete some turn station = record {
-  errands = record { host = host; before = turn.before; answer = f } ∷ [];
-  same = same;
-  are = (
-    record {
-      later = turn.later;
-      mine = own_before s t turn.before (hub_events.Fetch host) same.2 complete turn.seen turn.mine;
-      answered = sym turn.gives.1;
-      some = some;
-    },
-    (
-      subst (IsPrefix (turn.before ++ (s.number, hub_events.Fetch host) ∷ [])) (sym turn.seen)
-          (prefix_self (turn.before ++ (s.number, hub_events.Fetch host) ∷ [])),
-      turn.mine,
-    ),
-  );
-  stations = λ c each. (station c each, tt);
-  stopped = omega arith;
-}
+-- What was fetched, in one turn.
+abbrev pub HasGot : HubLog → StationPort → HubSeat → HubSeat → Fetched → Type 0
+HasGot o p s t f =
+    HasEntered (λ before. (is_at_limit before (hub_events.Fetch p.host) ≡ false) × (f ≡ fetched_from o.programs (traffic_of o before) p.host)) s t
+    (hub_events.Fetch p.host)
 
-pub fetched_as : (o : HubLog) (ports : List StationPort) (s t : HubSeat) (p : StationPort) (f g : Fetched) → f ≡ g → g ≢ fetched.Nothing
-    → IsSameSeat s t → IsComplete t
-    → (f ≢ fetched.Nothing → HasEntered (λ before. (is_at_limit before (hub_events.Fetch p.host) ≡ false)
-    × (f ≡ fetched_from o.programs (traffic_of o before) p.host)) s t (hub_events.Fetch p.host))
-    → IsAmong ports p → HasFetchedFor o ports s t (is_stop g)
-fetched_as o ports s t p f g is some same complete entered among =
-    let P : Fetched → Type 0 = λ x. x ≢ fetched.Nothing → HasEntered (λ before. (is_at_limit before (hub_events.Fetch p.host) ≡ false)
-    × (x ≡ fetched_from o.programs (traffic_of o before) p.host)) s t (hub_events.Fetch p.host) in
-    fetched_one o ports s t p.host g same complete some (subst P is entered some) among
+-- A front of a list and one element more is a front.
+front_more : {A : Type 0} (xs : List A) (i : ℕ) (d : A) → i < length xs → IsPrefix (take i xs ++ get_or xs i d ∷ []) xs
+front_more [] i d low = absurd (omega arith)
+front_more (x ∷ xs) zero d low = (xs, refl)
+front_more (x ∷ xs) (suc i) d low = let rest = front_more xs i d (omega arith) in (rest.0, ap (λ l. x ∷ l) rest.1)
 
-pub frame_some : (f : Frame) → fetched.Frame f ≢ fetched.Nothing
-frame_some f e = absurd (cc e)
+pub front_at : {A : Type 0} (xs : List A) (i : ℕ) → IsPrefix (take i xs) xs
+front_at [] zero = ([], refl)
+front_at [] (suc i) = ([], refl)
+front_at (x ∷ xs) zero = (x ∷ xs, refl)
+front_at (x ∷ xs) (suc i) = let rest = front_at xs i in (rest.0, ap (λ l. x ∷ l) rest.1)
 
-pub stopped_some : fetched.Stopped ≢ fetched.Nothing
-stopped_some e = absurd (cc e)
-
-pub fetched_on : (o : HubLog) (ports : List StationPort) (s t u : HubSeat) (m n : ℕ) → HasFetchedFor o ports s t 0 → HasFetchedFor o ports t u m
-    → m ≡ n → HasFetchedFor o ports s u n
-fetched_on o ports s t u m n one two is = let e : 0 + m ≡ n = omega arith in subst (HasFetchedFor o ports s u) e (fetched_more o ports s t u 0 m one two)
-
-pub among_at : (ports : List StationPort) (i : ℕ) (d : StationPort) → i < length ports → IsAmong ports (get_or ports i d)
-among_at (p ∷ ps) zero d low = λ c each. each.0
-among_at (p ∷ ps) (suc i) d low = λ c each. among_at ps i d (omega arith) c each.1
-among_at [] i d low = absurd (omega arith)
+zero_cond : (ended : Bool) → ended ≡ true → ◌≡◌ {A = ℕ} (cond ended 1 0) 0 → ⊥
+zero_cond true is none = absurd (omega (arith, none))
+zero_cond false is none = absurd (cc is)
 
 pub going_on : (ended : Bool) → ended ≡ false → ◌≡◌ {A = ℕ} (cond ended 1 0) 0
 going_on false is = refl
@@ -151,3 +71,203 @@ going_on true is = absurd (cc is)
 pub gone : (ended : Bool) → ended ≡ true → ◌≡◌ {A = ℕ} (cond ended 1 0) 1
 gone true is = refl
 gone false is = absurd (cc is)
+
+module _ {L : Type 0} (sent : L → Option (List Datagram)) (o : HubLog) where
+  abbrev Fetches : List StationPort → HubSeat → HubSeat → L → L → ℕ → Type 0
+  Fetches = HasFetchedFor sent o
+
+  -- ONE FETCH: it was refused
+  pub fetched_refused : (s t : HubSeat) (l m : L) → IsSameSeat s t → HasLooked s t → IsMore (sent l) (sent m) [] → Fetches [] s t l m 0
+  fetched_refused s t l m same looked told = record {
+    same = same;
+    asked = record { asks = []; are = looked; there = refl };
+    stopped = omega arith;
+    told = told;
+  }
+
+  pub fetched_none : (s : HubSeat) (l : L) → IsMore (sent l) (sent l) [] → Fetches [] s s l l 0
+  fetched_none s l told = fetched_refused s s l l (refl, refl, refl) (prefix_self s.seen, refl) told
+
+  -- it found nothing
+  pub fetched_nothing : (p : StationPort) (s t : HubSeat) (l m : L) → IsSameSeat s t → IsComplete t → HasLooked s t
+      → fetched_from o.programs (traffic_of o t.seen) p.host ≡ fetched.Nothing → IsMore (sent l) (sent m) [] → Fetches (p ∷ []) s t l m 0
+  fetched_nothing p s t l m same complete looked nothing told = record {
+    same = same;
+    asked = record {
+      asks = record { there = p; before = t.seen; answer = fetched.Nothing } ∷ [];
+      are = (
+        record {
+          later = looked.0;
+          mine = ap (λ n. events_of n t.seen) (sym same.2) ∙ (complete ∙ looked.1);
+          answered = nothing;
+          posted = tt;
+        },
+        (prefix_self t.seen, looked.1),
+      );
+      there = refl;
+    };
+    stopped = omega arith;
+    told = told;
+  }
+
+  -- it was entered
+  fetched_given : (p : StationPort) (s t : HubSeat) (l m : L) (f : Fetched) → IsSameSeat s t → IsComplete t → f ≢ fetched.Nothing → HasGot o p s t f
+      → IsFromPost f p.host t.seen → IsMore (sent l) (sent m) (sending p f) → Fetches (p ∷ []) s t l m (is_stop f)
+  fetched_given p s t l m (fetched.Frame frame) same complete some turn posted told = record {
+    same = same;
+    asked = record {
+      asks = record { there = p; before = turn.before; answer = fetched.Frame frame } ∷ [];
+      are = (
+        record {
+          later = turn.later;
+          mine = own_before s t turn.before (hub_events.Fetch p.host) same.2 complete turn.seen turn.mine;
+          answered = sym turn.gives.1;
+          posted = subst (IsFromPost (fetched.Frame frame) p.host) turn.seen posted;
+        },
+        (
+          subst (IsPrefix (turn.before ++ (s.number, hub_events.Fetch p.host) ∷ [])) (sym turn.seen)
+              (prefix_self (turn.before ++ (s.number, hub_events.Fetch p.host) ∷ [])),
+          turn.mine,
+        ),
+      );
+      there = refl;
+    };
+    stopped = omega arith;
+    told = told;
+  }
+  fetched_given p s t l m fetched.Stopped same complete some turn posted told = record {
+    same = same;
+    asked = record {
+      asks = record { there = p; before = turn.before; answer = fetched.Stopped } ∷ [];
+      are = (
+        record {
+          later = turn.later;
+          mine = own_before s t turn.before (hub_events.Fetch p.host) same.2 complete turn.seen turn.mine;
+          answered = sym turn.gives.1;
+          posted = tt;
+        },
+        (
+          subst (IsPrefix (turn.before ++ (s.number, hub_events.Fetch p.host) ∷ [])) (sym turn.seen)
+              (prefix_self (turn.before ++ (s.number, hub_events.Fetch p.host) ∷ [])),
+          turn.mine,
+        ),
+      );
+      there = refl;
+    };
+    stopped = omega arith;
+    told = told;
+  }
+  fetched_given p s t l m fetched.Nothing same complete some turn posted told = absurd (some refl)
+
+  pub fetched_as : (p : StationPort) (s t : HubSeat) (l m : L) (f g : Fetched) → f ≡ g → g ≢ fetched.Nothing → IsSameSeat s t → IsComplete t
+      → (f ≢ fetched.Nothing → HasGot o p s t f) → IsFromPost f p.host t.seen → IsMore (sent l) (sent m) (sending p g)
+      → Fetches (p ∷ []) s t l m (is_stop g)
+  fetched_as p s t l m f g is some same complete turn posted told =
+      fetched_given p s t l m g same complete some (subst (λ x. x ≢ fetched.Nothing → HasGot o p s t x) is turn some)
+      (subst (λ x. IsFromPost x p.host t.seen) is posted) told
+
+  -- ONE BEHIND THE OTHER
+  pub fetched_on : (ps qs : List StationPort) (s t u : HubSeat) (k l m : L) (a b : ℕ) → Fetches ps s t k l 0 → Fetches qs t u l m a → a ≡ b
+      → Fetches (ps ++ qs) s u k m b
+  fetched_on ps qs s t u k l m a b one two is =
+      let xs = one.asked.asks in
+      let ys = two.asked.asks in
+      record {
+        same = same_seat s t u one.same two.same;
+        asked = record {
+          asks = xs ++ ys;
+          are = asks_append s.number o (hub_stand_of s) xs (hub_stand_of t) ys (hub_stand_of u) one.asked.are
+              (subst (λ n. AreAsks n o (hub_stand_of t) ys (hub_stand_of u)) one.same.2 two.asked.are);
+          there = there_append xs ys ∙ (ap (λ l. l ++ map (λ (x : Ask). x.there) ys) one.asked.there ∙ ap (λ l. ps ++ l) two.asked.there);
+        };
+        stopped = (let sum = asks_stops xs ys in let x = one.stopped in let y = two.stopped in omega arith);
+        told = subst (IsMore (sent k) (sent m)) (sym (sent_append xs ys))
+            (more_more (sent k) (sent l) (sent m) (sent_for xs) (sent_for ys) one.told two.told);
+      }
+
+  -- the link was given nothing more to send
+  pub fetched_still : (ps : List StationPort) (s t : HubSeat) (k l m : L) (n : ℕ) → Fetches ps s t k l n → sent m ≡ sent l → Fetches ps s t k m n
+  fetched_still ps s t k l m n it is = record {
+    same = it.same;
+    asked = it.asked;
+    stopped = it.stopped;
+    told = subst (λ x. IsMore (sent k) x (sent_for it.asked.asks)) (sym is) it.told;
+  }
+
+  -- ONE ROUND, of which so many ports are done
+  pub round_none : (ports : List StationPort) (s : HubSeat) (l : L) → IsMore (sent l) (sent l) [] → Fetches (take 0 ports) s s l l 0
+  round_none [] s l told = fetched_none s l told
+  round_none (p ∷ ps) s l told = fetched_none s l told
+
+  pub round_more : (ports : List StationPort) (i : ℕ) (d : StationPort) (s t u : HubSeat) (k l m : L) (a : ℕ) → i < length ports
+      → Fetches (take i ports) s t k l 0 → Fetches (get_or ports i d ∷ []) t u l m a → a ≡ 0 → Fetches (take (i + 1) ports) s u k m 0
+  round_more ports i d s t u k l m a low one two is =
+      subst (λ ps. Fetches ps s u k m 0) (sym (take_more ports i d low))
+      (fetched_on (take i ports) (get_or ports i d ∷ []) s t u k l m a 0 one two is)
+
+  pub round_ended : (ports : List StationPort) (i : ℕ) (d : StationPort) (s t u : HubSeat) (k l m : L) (answer : Sent) → i < length ports
+      → answer.ended ≡ true → Fetches (take i ports) s t k l 0 → Fetches (get_or ports i d ∷ []) t u l m (stops_in (Ok answer))
+      → HasGoneRound sent o ports s u k m (Ok answer)
+  round_ended ports i d s t u k l m answer low ended one two = record {
+    asked = take i ports ++ get_or ports i d ∷ [];
+    front = front_more ports i d low;
+    whole = λ none met. absurd (zero_cond answer.ended ended none);
+    fetched = fetched_on (take i ports) (get_or ports i d ∷ []) s t u k l m (cond answer.ended 1 0) (cond answer.ended 1 0) one two refl;
+  }
+
+  pub round_refused : (ports : List StationPort) (i : ℕ) (s t u : HubSeat) (k l m : L) (why : Room)
+      → Fetches (take i ports) s t k l 0 → Fetches [] t u l m 0 → HasGoneRound sent o ports s u k m (Err why)
+  round_refused ports i s t u k l m why one two = record {
+    asked = take i ports;
+    front = front_at ports i;
+    whole = λ none met. absurd (cc met);
+    fetched = subst (λ ps. Fetches ps s u k m 0) (append-nil (take i ports)) (fetched_on (take i ports) [] s t u k l m 0 0 one two refl);
+  }
+
+  pub round_whole : (ports : List StationPort) (i : ℕ) (s t : HubSeat) (k l : L) (answer : Sent) → length ports ≤ i → answer.ended ≡ false
+      → Fetches (take i ports) s t k l 0 → HasGoneRound sent o ports s t k l (Ok answer)
+  round_whole ports i s t k l answer all ended one = record {
+    asked = ports;
+    front = ([], append-nil ports);
+    whole = λ none met. refl;
+    fetched = subst (λ ps. Fetches ps s t k l (cond answer.ended 1 0)) (take_all i ports all)
+        (subst (Fetches (take i ports) s t k l) (sym (going_on answer.ended ended)) one);
+  }
+
+  -- ROUND AFTER ROUND
+  abbrev pub AreRounds : List StationPort → HubSeat → HubSeat → L → L → Type 0
+  AreRounds ports s t k l = (n : ℕ) × Fetches (rounds_of n ports) s t k l 0
+
+  pub rounds_on : (ports : List StationPort) (s t u : HubSeat) (k l m : L) (result : Result Sent Room) → AreRounds ports s t k l
+      → HasGoneRound sent o ports t u l m result → stops_in result ≡ 0 → room_in result ≡ None → AreRounds ports s u k m
+  rounds_on ports s t u k l m result one two stops met = (
+    suc one.0,
+    subst (λ ps. Fetches (rounds_of one.0 ports ++ ps) s u k m 0) (two.whole stops met)
+        (fetched_on (rounds_of one.0 ports) two.asked s t u k l m (stops_in result) 0 one.1 two.fetched stops),
+  )
+
+  pub rounds_still : (ports : List StationPort) (s t : HubSeat) (k l m : L) → AreRounds ports s t k l → sent m ≡ sent l → AreRounds ports s t k m
+  rounds_still ports s t k l m one is = (one.0, fetched_still (rounds_of one.0 ports) s t k l m 0 one.1 is)
+
+  pub around_cut : (ports : List StationPort) (s t u : HubSeat) (k l m : L) (result : Result Sent Room) (b : ℕ) → AreRounds ports s t k l
+      → HasGoneRound sent o ports t u l m result → stops_in result ≡ b → HasGoneAround sent o ports s u k m b
+  around_cut ports s t u k l m result b one two stops = record {
+    rounds = one.0;
+    last = two.asked;
+    front = two.front;
+    fetched = fetched_on (rounds_of one.0 ports) two.asked s t u k l m (stops_in result) b one.1 two.fetched stops;
+  }
+
+  pub around_whole : (ports : List StationPort) (s t : HubSeat) (k l : L) → AreRounds ports s t k l → HasGoneAround sent o ports s t k l 0
+  around_whole ports s t k l one = record {
+    rounds = one.0;
+    last = [];
+    front = (ports, refl);
+    fetched = subst (λ ps. Fetches ps s t k l 0) (sym (append-nil (rounds_of one.0 ports))) one.1;
+  }
+
+pub frame_some : (f : Frame) → fetched.Frame f ≢ fetched.Nothing
+frame_some f e = absurd (cc e)
+
+pub stopped_some : fetched.Stopped ≢ fetched.Nothing
+stopped_some e = absurd (cc e)

@@ -1,5 +1,6 @@
 mod Clocking
 mod Bringing
+mod Asking
 mod Fetching
 mod Ending
 mod Closed

@@ -2,19 +2,24 @@
 use Rattle.std.proofs.Common.{◌≡◌, ℕ, Bool, true, false, Option, Some, None, List, [], ◌∷◌, ◌++◌, map, refl, sym, ap, ◌∙◌, subst, arith}
 use Rattle.std.specs.Prelude.{option_map}
 use Rattle.turn_cell.specs.Seats.{Cell, Sitting}
-use Rattle.vk_base.specs.Settings.{Settings}
+use Rattle.vk_base.specs.Settings.{Settings, stations_of}
+use Rattle.vk_event.specs.declared.port.StationPort.{StationPort}
 use Rattle.vk_hub.specs.declared.event.HubEvent.{HubEvent}
 use Rattle.vk_hub.specs.Hubs.{HubLog}
 use Rattle.vk_hub.specs.Links.{Frame}
 use Rattle.vk_io.specs.Causes.{Rose}
-use Rattle.vk_port.specs.Stations.{StationHistory}
+use Rattle.vk_base.specs.declared.event.StationEvent.{StationEvent}
+use Rattle.vk_port.specs.Stations.{StationHistory, entries_after}
+use Rattle.v_node.specs.Links.{Errand}
+use Rattle.v_node.specs.Sent.{AreOwnFrames}
 use Rattle.vk_schedule.specs.declared.log.StationLog.{StationLog}
 use Rattle.v_run.specs.Outcomes.{Assignment}
 use Rattle.vk_threads.specs.declared.end.End.{End}
+use Rattle.vk_udp.specs.Asked.{sent_for}
 use Rattle.vk_udp.specs.Ended.{HasNodeEnds, HaveNodeEnded}
 use Rattle.vk_udp.specs.Gathered.{own_end}
-use Rattle.vk_udp.specs.Node.{HandedOut, IsNodeRecord, IsRecordOf}
-use Rattle.vk_udp.specs.Wires.{IsClosed, IsNewLink}
+use Rattle.vk_udp.specs.Node.{HandedOut, HasSent, IsNodeRecord, IsRecordOf}
+use Rattle.vk_udp.specs.Wires.{Datagram, HasNothing, IsClosed, IsMore, IsNewLink}
 use Rattle.vk_udp.specs.declared.work.Carried.{Carried}
 use Rattle.vk_udp.specs.declared.work.NodeEnd.{NodeEnd}
 use Rattle.vk_udp.specs.declared.work.NodeEnd.TheVariants as ends
@@ -42,6 +47,16 @@ handed_out (Some all) start link (Some now) faults own new told closed =
     let is : link ≡ Some own = told ∙ ap (option_map (λ l. l ++ own)) new.1 in
     subst (λ (l : Option (List Frame)). IsClosed (Some all) l (Some now)) is closed
 
+-- and the same of what the link was given to send
+sent_between : (before start link now : Option (List Datagram)) (own : List Datagram) → HasNothing before start → IsMore start link own
+    → IsClosed before link now → HandedOut before now own
+sent_between None start link None own new told closed = tt
+sent_between None start link (Some now) own new told closed = tt
+sent_between (Some all) start link None own new told closed = tt
+sent_between (Some all) start None (Some now) own new told closed = absurd closed
+sent_between (Some all) start (Some link) (Some now) own new told closed =
+    let is : link ≡ own = subst (λ x. IsMore x (Some link) own) new told in closed ∙ ap (λ l. all ++ l) is
+
 -- A link without a fault has not failed.
 not_failed : (failed : Bool) (before now : ℕ) → before ≡ 0 → now ≡ 0 → (failed ≡ true → Rose before now) → failed ≡ false
 not_failed false before now none sound rose = refl
@@ -49,9 +64,9 @@ not_failed true before now none sound rose =
     let up : Rose 0 0 = subst (λ (n : ℕ). Rose n 0) none (subst (Rose before) sound (rose refl)) in
     absurd (omega (arith, up))
 
-module _ {L : Type 0} (handed : L → Option (List Frame)) (faults : L → ℕ) (c : Settings) (host : ℕ) (cell : Cell StationHistory)
-    (hub : Cell HubLog) (rounds : ℕ) (tasks : List Assignment) (start : L) (all : List (NodeEnd L)) (halt : Sitting HubLog HubEvent)
-    (it : HasNodeEnds handed faults c host cell hub rounds tasks start all halt) (rest : List (NodeEnd L)) (x : Carried L)
+module _ {L : Type 0} (handed : L → Option (List Frame)) (given : L → Option (List Datagram)) (faults : L → ℕ) (c : Settings) (host : ℕ)
+    (cell : Cell StationHistory) (hub : Cell HubLog) (rounds : ℕ) (ports : List StationPort) (tasks : List Assignment) (start : L) (all : List (NodeEnd L)) (halt : Sitting HubLog HubEvent)
+    (it : HasNodeEnds handed given faults c host cell hub rounds ports tasks start all halt) (rest : List (NodeEnd L)) (x : Carried L)
     (are : all ≡ rest ++ ends.Carried x ∷ []) where
   parts : (it.front ≡ rest) × (ends.Carried it.last ≡ ends.Carried x)
   parts = same_front it.front rest (ends.Carried it.last) (ends.Carried x) (sym it.are ∙ are)
@@ -79,3 +94,21 @@ module _ {L : Type 0} (handed : L → Option (List Frame)) (faults : L → ℕ) 
           (ap (λ (y : Carried L). handed y.link) (sym last_is) ∙ it.told) closed;
       is = is;
     }
+
+  pub node_sent : (before now : Option (List Datagram)) (events : List StationEvent) → HasNothing before (given start)
+      → IsClosed before (given x.link) now → hub.origin.stations ≡ stations_of c.specs
+      → AreOwnFrames hub.origin.plan host it.n.link.errands (entries_after c host events)
+      → HasSent c host hub.origin.plan ports events before now
+  node_sent before now events new closed stations own =
+      let asks = it.carried.around.asked.asks in
+      record {
+        hub = hub.origin;
+        plan_is = refl;
+        stations = stations;
+        carrier = it.n.link.carrier;
+        reached = it.n.link.reached;
+        around = it.carried.around;
+        told = sent_between before (given start) (given x.link) now (sent_for asks) new
+            (subst (λ (y : Carried L). IsMore (given start) (given y.link) (sent_for asks)) last_is it.carried.sent) closed;
+        own = subst (λ (es : List Errand). AreOwnFrames hub.origin.plan host es (entries_after c host events)) it.carried.errands_are own;
+      }

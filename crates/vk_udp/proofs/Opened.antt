@@ -5,20 +5,22 @@ use Rattle.std.proofs.lemmas.Bool.{and_from}
 use Rattle.std.proofs.lemmas.List.{length-append}
 use Rattle.std.proofs.lemmas.Option.{same_Some}
 use Rattle.turn_cell.specs.Seats.{Cell, Sitting, fresh}
-use Rattle.vk_base.specs.Settings.{Settings, has_process}
+use Rattle.vk_base.specs.Settings.{Settings, has_process, stations_of}
+use Rattle.vk_event.specs.declared.port.StationPort.{StationPort}
 use Rattle.vk_hub.specs.declared.event.HubEvent.{HubEvent}
 use Rattle.vk_hub.specs.Hubs.{HubLog}
 use Rattle.vk_hub.specs.Links.{Frame}
 use Rattle.vk_port.specs.Stations.{StationHistory, is_process_of}
 use Rattle.vk_program.specs.declared.assigned.Assigned.{Assigned}
 use Rattle.vk_rules.specs.Each.{Each}
+use Rattle.vk_schedule.specs.declared.plan.LinkPlan.{LinkPlan}
 use Rattle.v_run.specs.Outcomes.{Assignment}
 use Rattle.v_run.specs.Passages.{fresh_station}
 use Rattle.vk_threads.proofs.Dealing.{each_front}
 use Rattle.vk_udp.specs.Dealt.{IsNewAt}
 use Rattle.vk_udp.specs.Ended.{HasNodeEnds}
-use Rattle.vk_udp.specs.Node.{IsNodeRecord, IsProcessAt, TellsCrew, TellsLink, TellsNodeFault}
-use Rattle.vk_udp.specs.Wires.{IsNewLink}
+use Rattle.vk_udp.specs.Node.{HasSent, IsNodeRecord, IsProcessAt, TellsCrew, TellsLink, TellsNodeFault}
+use Rattle.vk_udp.specs.Wires.{Datagram, HasNothing, IsNewLink}
 use Rattle.vk_udp.specs.declared.record.NodeRecord.{NodeRecord}
 use Rattle.vk_udp.specs.declared.record.NodeRefusal.{NodeRefusal}
 use Rattle.vk_udp.specs.declared.record.NodeRefusal.TheVariants as refusals
@@ -74,16 +76,31 @@ own_processes c host o (a ∷ others) is each = (
 )
 
 -- THE RECORD, from what its parts tell.
-pub ran_as : {L : Type 0} (handed : L → Option (List Frame)) (faults : L → ℕ) (c : Settings) (host : ℕ) (cell : Cell StationHistory)
-    (hub : Cell HubLog) (rounds : ℕ) (tasks : List Assignment) (start : L) (all : List (NodeEnd L)) (halt : Sitting HubLog HubEvent)
+pub ran_as : {L : Type 0} (handed : L → Option (List Frame)) (given : L → Option (List Datagram)) (faults : L → ℕ) (c : Settings) (host : ℕ)
+    (cell : Cell StationHistory) (hub : Cell HubLog) (rounds : ℕ) (ports : List StationPort) (tasks : List Assignment) (start : L) (all : List (NodeEnd L)) (halt : Sitting HubLog HubEvent)
     (before mid now : Option (List Frame)) (result : Result NodeRecord NodeRefusal) → mid ≡ before → IsNewLink mid (handed start) (faults start)
-    → HasNodeEnds handed faults c host cell hub rounds tasks start all halt
-    → IfOk result (λ r. (rounds : ℕ) (tasks : List Assignment) (start : L) → IsNewLink mid (handed start) (faults start)
-    → HasNodeEnds handed faults c host cell hub rounds tasks start all halt → IsNodeRecord c host rounds tasks mid now r.limited r.log)
+    → HasNodeEnds handed given faults c host cell hub rounds ports tasks start all halt
+    → IfOk result (λ r. (rounds : ℕ) (ports : List StationPort) (tasks : List Assignment) (start : L) → IsNewLink mid (handed start) (faults start)
+    → HasNodeEnds handed given faults c host cell hub rounds ports tasks start all halt → IsNodeRecord c host rounds tasks mid now r.limited r.log)
     → IfOk result (λ r. IsNodeRecord c host rounds tasks before now r.limited r.log)
-ran_as handed faults c host cell hub rounds tasks start all halt before mid now (Ok r) same new it ran =
-    subst (λ (told : Option (List Frame)). IsNodeRecord c host rounds tasks told now r.limited r.log) same (ran rounds tasks start new it)
-ran_as handed faults c host cell hub rounds tasks start all halt before mid now (Err why) same new it ran = tt
+ran_as handed given faults c host cell hub rounds ports tasks start all halt before mid now (Ok r) same new it ran =
+    subst (λ (told : Option (List Frame)). IsNodeRecord c host rounds tasks told now r.limited r.log) same (ran rounds ports tasks start new it)
+ran_as handed given faults c host cell hub rounds ports tasks start all halt before mid now (Err why) same new it ran = tt
+
+-- and what it sent
+pub sent_as : {L : Type 0} (handed : L → Option (List Frame)) (given : L → Option (List Datagram)) (faults : L → ℕ) (c : Settings) (host : ℕ)
+    (cell : Cell StationHistory) (hub : Cell HubLog) (rounds : ℕ) (ports : List StationPort) (tasks : List Assignment) (start : L)
+    (all : List (NodeEnd L)) (halt : Sitting HubLog HubEvent) (plan : LinkPlan) (before mid now : Option (List Datagram)) (result : Result NodeRecord NodeRefusal)
+    → mid ≡ before → HasNothing mid (given start) → HasNodeEnds handed given faults c host cell hub rounds ports tasks start all halt
+    → hub.origin.stations ≡ stations_of c.specs → hub.origin.plan ≡ plan
+    → IfOk result (λ r. (rounds : ℕ) (ports : List StationPort) (tasks : List Assignment) (start : L) → HasNothing mid (given start)
+    → HasNodeEnds handed given faults c host cell hub rounds ports tasks start all halt → hub.origin.stations ≡ stations_of c.specs
+    → HasSent c host hub.origin.plan ports r.log.events mid now)
+    → IfOk result (λ r. HasSent c host plan ports r.log.events before now)
+sent_as handed given faults c host cell hub rounds ports tasks start all halt plan before mid now (Ok r) same new it stations plan_is sent =
+    subst (λ (p : LinkPlan). HasSent c host p ports r.log.events before now) plan_is
+    (subst (λ (told : Option (List Datagram)). HasSent c host hub.origin.plan ports r.log.events told now) same (sent rounds ports tasks start new it stations))
+sent_as handed given faults c host cell hub rounds ports tasks start all halt plan before mid now (Err why) same new it stations plan_is sent = tt
 
 pub fault_as : {T : Type 0} (wire mid now crew crew_now : ℕ) (result : Result T NodeRefusal) → mid ≡ wire → crew_now ≡ crew
     → TellsLink mid now result → TellsNodeFault wire now crew crew_now result

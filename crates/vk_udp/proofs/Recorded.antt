@@ -18,13 +18,14 @@ use Rattle.vk_hub.specs.Hubs.{HubLog}
 use Rattle.vk_hub.specs.declared.event.HubEvent.{HubEvent}
 use Rattle.vk_hub.specs.Links.{Frame}
 use Rattle.vk_join.specs.Logs.{IsReadableEvent}
-use Rattle.vk_port.specs.Stations.{StationHistory, event_of, is_own}
+use Rattle.vk_port.specs.Stations.{StationHistory, entries_after, event_of, is_own}
 use Rattle.vk_rules.specs.Each.{Each}
 use Rattle.vk_schedule.specs.declared.log.StationLog.{StationLog}
 use Rattle.v_node.specs.Jobs.{NodeEnd as AllEnds}
 use Rattle.v_node.specs.Laws.{ClosedNodesAreRuns, IsHeld}
 use Rattle.v_node.specs.Links.{delivered_in}
 use Rattle.v_node.specs.Outcomes.{IsNodeRun}
+use Rattle.v_node.specs.Sent.{AreOwnFrames, NodesSendTheirOwn}
 use Rattle.v_run.specs.Outcomes.{Assignment}
 use Rattle.v_run.specs.Passages.{fresh_station}
 use Rattle.vk_threads.specs.declared.end.End.{End}
@@ -101,3 +102,11 @@ module _ (c : Settings) (host : ℕ) (cell : Cell StationHistory) (hub : Cell Hu
         };
         few = omega (arith, few, share, size);
       }
+
+  pub sends_own : NodesSendTheirOwn → AreLawful c → Each (λ (s : ProcessSpec). IsPid s.pid) c.specs → Each IsReadableEvent log.events
+      → AreOwnFrames hub.origin.plan host n.link.errands (entries_after c host log.events)
+  sends_own law are_lawful pids read =
+      let held : IsHeld c (map event_of past) = record { lawful = are_lawful; pids = pids; readable = subst (Each IsReadableEvent) same read } in
+      subst (λ (es : List StationEvent). AreOwnFrames hub.origin.plan host n.link.errands (entries_after c host es)) (sym same)
+      (law c host hub.origin rounds past closed.heard n (is_closed c host cell hub rounds tasks n ends fetches halt origin ended log closed)
+      ended.are_jobs (lawful c host cell hub rounds tasks n ends fetches halt origin ended log closed) held)

@@ -35,12 +35,14 @@ use Rattle.vk_threads.specs.Ended.{AllLeft, AreEndsOf, AreLeft, cell_at}
 use Rattle.vk_threads.specs.Ends.{AreThrough, EndsProcess, IsOf, role_of}
 use Rattle.vk_threads.specs.Ends.{FinishesOrWaits as FinishesOrWaitsAt}
 use Rattle.vk_threads.proofs.Dealt.{AreApartRoles, IsOwn, all_left, apart_roles, duties_apart, duty_role, duty_tasks, left_by, map_append, passages_by, passage_by, tasks_by, tasks_by_roles}
+use Rattle.vk_udp.specs.Asked.{HasCarried}
 use Rattle.vk_udp.specs.Carried.{IsStationPort}
 use Rattle.vk_udp.specs.Dealt.{AreProcesses, IsNodePort, IsProcessJob}
 use Rattle.vk_udp.specs.Ended.{HasFetched, HasNodeEnds, HasRunNodeJobs, clock_job, link_job, link_passage}
 use Rattle.vk_udp.specs.Gathered.{own_end, site_of}
 use Rattle.vk_udp.specs.Jobs.{EndsCarrier, EndsClock, ends_as}
 use Rattle.vk_udp.specs.Values.{CarrierDuty, ClockDuty}
+use Rattle.vk_udp.specs.Wires.{Datagram}
 use Rattle.vk_udp.specs.declared.work.Carried.{Carried}
 use Rattle.vk_udp.specs.declared.work.NodeEnd.{NodeEnd}
 use Rattle.vk_udp.specs.declared.work.NodeEnd.TheVariants as ends
@@ -157,8 +159,8 @@ module _ (c : Settings) (host : ℕ) (cell : Cell StationHistory) (hub : Cell Hu
       }
 
   -- THE LINK'S JOB
-  module _ {L : Type 0} (handed : L → Option (List Frame)) (faults : L → ℕ) where
-    pub record HasLinkEnd (start : L) (x : Carried L) : Type 0 where
+  module _ {L : Type 0} (handed : L → Option (List Frame)) (given : L → Option (List Datagram)) (faults : L → ℕ) where
+    pub record HasLinkEnd (ports : List StationPort) (start : L) (x : Carried L) : Type 0 where
       pub link : LinkEnd
       pub left : AllLeft sites hub x.end.seats.items (link_passage link ∷ [])
       pub met : x.end.met ≡ link.met
@@ -166,6 +168,7 @@ module _ (c : Settings) (host : ℕ) (cell : Cell StationHistory) (hub : Cell Hu
       pub is : IsLinkEnd c host link
       pub fetched : HasFetched hub link x.hub_seat
       pub told : handed x.link ≡ option_map (λ all. all ++ link.handed) (handed start)
+      pub carried : HasCarried link.carrier hub.origin nothing_heard ports link.reached link.errands (given start) (given x.link)
       pub failed : link.failed ≡ true → Rose (faults start) (faults x.link)
 
     -- its port's seats are left as those of a passage
@@ -193,7 +196,6 @@ module _ (c : Settings) (host : ℕ) (cell : Cell StationHistory) (hub : Cell Hu
     link_way p before a b s l port new t = record {
       at = ap (λ (x : Berth). x.host) t.berth ∙ port.at;
       station = ap (λ (x : Berth). x.station) t.berth ∙ (of_port false p port ∙ ap (fresh_station c) port.at);
-      hub = ap (λ (x : Berth). x.hub) t.berth ∙ ap (λ (x : Cell HubLog). x.origin) port.at_hub;
       log = subst (λ (x : Berth). IsLog x nowhere l.actions l.left) (sym t.berth)
           (subst (λ (st : Stand). IsLog (berth_of p) st l.actions l.left) port.new t.log);
       brings = t.brings;
@@ -211,9 +213,25 @@ module _ (c : Settings) (host : ℕ) (cell : Cell StationHistory) (hub : Cell Hu
       carried = t.carried;
     }
 
+    -- and what it carried are frames of this hub, for these ports
+    link_carried : (d : CarrierDuty L) (fetches : Sitting HubLog HubEvent) (ports : List StationPort) (start : L) (x : Carried L) (l : LinkEnd)
+        → IsNodePort cell hub host false d.port → d.carrier ≡ fetches → d.ports ≡ ports → d.link ≡ start → hub_stand_of fetches ≡ nothing_heard
+        → l.carrier ≡ d.carrier.number
+        → HasCarried d.carrier.number d.port.hub.origin (hub_stand_of d.carrier) d.ports l.reached l.errands (given d.link) (given x.link)
+        → HasCarried l.carrier hub.origin nothing_heard ports l.reached l.errands (given start) (given x.link)
+    link_carried d fetches ports start x l port seat to over new number it =
+        subst (λ (k : ℕ). HasCarried k hub.origin nothing_heard ports l.reached l.errands (given start) (given x.link)) (sym number)
+        (subst (λ (h : Cell HubLog). HasCarried d.carrier.number h.origin nothing_heard ports l.reached l.errands (given start) (given x.link)) port.at_hub
+        (subst (λ (s : HubStand). HasCarried d.carrier.number d.port.hub.origin s ports l.reached l.errands (given start) (given x.link))
+        (ap hub_stand_of seat ∙ new)
+        (subst (λ (ps : List StationPort). HasCarried d.carrier.number d.port.hub.origin (hub_stand_of d.carrier) ps l.reached l.errands (given start) (given
+        x.link)) to
+        (subst (λ (k : L). HasCarried d.carrier.number d.port.hub.origin (hub_stand_of d.carrier) d.ports l.reached l.errands (given k) (given x.link)) over
+        it))))
+
     link_end : (d : CarrierDuty L) (fetches : Sitting HubLog HubEvent) (ports : List StationPort) (start : L) (x : Carried L)
         → IsNodePort cell hub host false d.port → d.carrier ≡ fetches → d.ports ≡ ports → d.link ≡ start → IsSeatOf hub fetches
-        → hub_stand_of fetches ≡ nothing_heard → Each (IsStationPort c) ports → EndsCarrier handed faults d x → HasLinkEnd start x
+        → hub_stand_of fetches ≡ nothing_heard → Each (IsStationPort c) ports → EndsCarrier handed given faults d x → HasLinkEnd ports start x
     link_end d fetches ports start x port seat to over of new stations ended =
         let t = ended.through in
         let own = own_port false d.port port in
@@ -229,19 +247,20 @@ module _ (c : Settings) (host : ℕ) (cell : Cell StationHistory) (hub : Cell Hu
               (ended.job c (of_port false d.port port) (subst (Each (IsStationPort c)) (sym to) stations));
           fetched = link_fetched d.port d.carrier x.hub_seat ended.seat.hub_seat ended.seat ended.end seat_of t;
           told = ended.told ∙ ap (λ (l : L). option_map (λ all. all ++ ended.end.handed) (handed l)) over;
+          carried = link_carried d fetches ports start x ended.end port seat to over new t.carrier ended.carried;
           failed = λ is. subst (λ (l : L). Rose (faults l) (faults x.link)) over (ended.failed is);
         }
 
     -- ALL JOBS, with their ends
     module _ {G : Type 0} (task : G → List Answer → Option Call) where
       -- what the programs' jobs, the clock and the link came to
-      pub record HasParts (programs : List (Assigned G)) (rounds : ℕ) (start : L) (all : List (NodeEnd L)) : Type 0 where
+      pub record HasParts (programs : List (Assigned G)) (rounds : ℕ) (ports : List StationPort) (start : L) (all : List (NodeEnd L)) : Type 0 where
         pub js : List JobEnd
         pub own : End
         pub clock : HasClockEnd rounds own
         pub front : List (NodeEnd L)
         pub last : Carried L
-        pub link : HasLinkEnd start last
+        pub link : HasLinkEnd ports start last
         pub are : all ≡ front ++ ends.Carried last ∷ []
         pub each_end : AreEndsOf sites hub (map own_end front ++ last.end ∷ []) (js ++ clock_job clock.clock ∷ link_job link.link ∷ [])
         pub passages : Each (IsPassage c hub.origin) (passages_of js)
@@ -250,9 +269,9 @@ module _ (c : Settings) (host : ℕ) (cell : Cell StationHistory) (hub : Cell Hu
         pub roles : map role_of (passages_of js) ≡ map duty_role (map (runs_by task) programs)
         pub count : length js ≡ length programs
 
-      more_parts : (a : Assigned G) (others : List (Assigned G)) (rounds : ℕ) (start : L) (e : End) (es : List (NodeEnd L)) → HasEnd task a e
-          → HasParts others rounds start es → HasParts (a ∷ others) rounds start (ends.Own e ∷ es)
-      more_parts a others rounds start e es it rest = record {
+      more_parts : (a : Assigned G) (others : List (Assigned G)) (rounds : ℕ) (ports : List StationPort) (start : L) (e : End) (es : List (NodeEnd L)) → HasEnd task a e
+          → HasParts others rounds ports start es → HasParts (a ∷ others) rounds ports start (ends.Own e ∷ es)
+      more_parts a others rounds ports start e es it rest = record {
         js = it.job ∷ rest.js;
         own = rest.own;
         clock = rest.clock;
@@ -272,10 +291,10 @@ module _ (c : Settings) (host : ℕ) (cell : Cell StationHistory) (hub : Cell Hu
       module _ (P : Type 0) where
         abbrev pub EndEach : List (NodeWork G P L) → List (NodeEnd L) → Type 0
         EndEach [] [] = Unit {0}
-        EndEach (w ∷ ws) (e ∷ es) = ends_as task handed faults w e × EndEach ws es
+        EndEach (w ∷ ws) (e ∷ es) = ends_as task handed given faults w e × EndEach ws es
         EndEach ws es = ⊥
 
-        end_each : (ws : List (NodeWork G P L)) (es : List (NodeEnd L)) → AllEnd (ends_as task handed faults) ws es → EndEach ws es
+        end_each : (ws : List (NodeWork G P L)) (es : List (NodeEnd L)) → AllEnd (ends_as task handed given faults) ws es → EndEach ws es
         end_each [] [] all = tt
         end_each [] (e ∷ es) all = let n : suc (length es) ≡ 0 = all.0 in absurd (omega arith)
         end_each (w ∷ ws) [] all = let n : 0 ≡ suc (length ws) = all.0 in absurd (omega arith)
@@ -283,16 +302,16 @@ module _ (c : Settings) (host : ℕ) (cell : Cell StationHistory) (hub : Cell Hu
             let n : suc (length es) ≡ suc (length ws) = all.0 in
             (all.1 0 w e refl refl, end_each ws es (omega arith, λ k j x at_job at_end. all.1 (suc k) j x at_job at_end))
 
-        last_parts : (k : ClockDuty) (d : CarrierDuty L) (rounds : ℕ) (start : L) (es : List (NodeEnd L))
+        last_parts : (k : ClockDuty) (d : CarrierDuty L) (rounds : ℕ) (ports : List StationPort) (start : L) (es : List (NodeEnd L))
             → ((e : End) → EndsClock k.port k.rounds e.seats.items e.met → HasClockEnd rounds e)
-            → ((x : Carried L) → EndsCarrier handed faults d x → HasLinkEnd start x)
-            → EndEach (works.Clock k ∷ works.Carrier d ∷ []) es → HasParts [] rounds start es
-        last_parts k d rounds start [] of_clock of_link m = absurd m
-        last_parts k d rounds start (e ∷ []) of_clock of_link m = absurd m.1
-        last_parts k d rounds start (ends.Carried x ∷ f ∷ es) of_clock of_link m = absurd m.0
-        last_parts k d rounds start (ends.Own e ∷ ends.Own f ∷ es) of_clock of_link m = absurd m.1.0
-        last_parts k d rounds start (ends.Own e ∷ ends.Carried x ∷ f ∷ es) of_clock of_link m = absurd m.1.1
-        last_parts k d rounds start (ends.Own e ∷ ends.Carried x ∷ []) of_clock of_link m =
+            → ((x : Carried L) → EndsCarrier handed given faults d x → HasLinkEnd ports start x)
+            → EndEach (works.Clock k ∷ works.Carrier d ∷ []) es → HasParts [] rounds ports start es
+        last_parts k d rounds ports start [] of_clock of_link m = absurd m
+        last_parts k d rounds ports start (e ∷ []) of_clock of_link m = absurd m.1
+        last_parts k d rounds ports start (ends.Carried x ∷ f ∷ es) of_clock of_link m = absurd m.0
+        last_parts k d rounds ports start (ends.Own e ∷ ends.Own f ∷ es) of_clock of_link m = absurd m.1.0
+        last_parts k d rounds ports start (ends.Own e ∷ ends.Carried x ∷ f ∷ es) of_clock of_link m = absurd m.1.1
+        last_parts k d rounds ports start (ends.Own e ∷ ends.Carried x ∷ []) of_clock of_link m =
             let clock = of_clock e m.0 in
             let link = of_link x m.1.0 in
             record {
@@ -311,40 +330,40 @@ module _ (c : Settings) (host : ℕ) (cell : Cell StationHistory) (hub : Cell Hu
               count = refl;
             }
 
-        own_parts : (a : Assigned G) (others : List (Assigned G)) (rounds : ℕ) (start : L) (w : NodeWork G P L) (e : NodeEnd L) (es : List (NodeEnd L))
-            → IsProcessJob cell hub host a w → ends_as task handed faults w e → HasParts others rounds start es
-            → HasParts (a ∷ others) rounds start (e ∷ es)
-        own_parts a others rounds start w e es job ended rest =
-            by_end e (subst (λ (x : NodeWork G P L). ends_as task handed faults x e) job.is ended)
+        own_parts : (a : Assigned G) (others : List (Assigned G)) (rounds : ℕ) (ports : List StationPort) (start : L) (w : NodeWork G P L) (e : NodeEnd L) (es : List (NodeEnd L))
+            → IsProcessJob cell hub host a w → ends_as task handed given faults w e → HasParts others rounds ports start es
+            → HasParts (a ∷ others) rounds ports start (e ∷ es)
+        own_parts a others rounds ports start w e es job ended rest =
+            by_end e (subst (λ (x : NodeWork G P L). ends_as task handed given faults x e) job.is ended)
           where
-            by_end : (e : NodeEnd L) → ends_as {G = G} {P = P} task handed faults (works.Process job.duty) e → HasParts (a ∷ others) rounds start (e ∷ es)
+            by_end : (e : NodeEnd L) → ends_as {G = G} {P = P} task handed given faults (works.Process job.duty) e → HasParts (a ∷ others) rounds ports start (e ∷ es)
             by_end (ends.Own e) ended =
-                more_parts a others rounds start e es (program_end task a job.duty e job.pid job.program job.port ended) rest
+                more_parts a others rounds ports start e es (program_end task a job.duty e job.pid job.program job.port ended) rest
             by_end (ends.Carried x) ended = absurd ended
 
-        all_parts : (programs : List (Assigned G)) (first : List (NodeWork G P L)) (k : ClockDuty) (d : CarrierDuty L) (rounds : ℕ) (start : L)
+        all_parts : (programs : List (Assigned G)) (first : List (NodeWork G P L)) (k : ClockDuty) (d : CarrierDuty L) (rounds : ℕ) (ports : List StationPort) (start : L)
             (es : List (NodeEnd L)) → ((e : End) → EndsClock k.port k.rounds e.seats.items e.met → HasClockEnd rounds e)
-            → ((x : Carried L) → EndsCarrier handed faults d x → HasLinkEnd start x) → AreProcesses cell hub host programs first
-            → EndEach (first ++ works.Clock k ∷ works.Carrier d ∷ []) es → HasParts programs rounds start es
-        all_parts [] [] k d rounds start es of_clock of_link are m = last_parts k d rounds start es of_clock of_link m
-        all_parts [] (w ∷ ws) k d rounds start es of_clock of_link are m = absurd are
-        all_parts (a ∷ others) [] k d rounds start es of_clock of_link are m = absurd are
-        all_parts (a ∷ others) (w ∷ ws) k d rounds start [] of_clock of_link are m = absurd m
-        all_parts (a ∷ others) (w ∷ ws) k d rounds start (e ∷ es) of_clock of_link are m =
-            own_parts a others rounds start w e es are.0 m.0 (all_parts others ws k d rounds start es of_clock of_link are.1 m.1)
+            → ((x : Carried L) → EndsCarrier handed given faults d x → HasLinkEnd ports start x) → AreProcesses cell hub host programs first
+            → EndEach (first ++ works.Clock k ∷ works.Carrier d ∷ []) es → HasParts programs rounds ports start es
+        all_parts [] [] k d rounds ports start es of_clock of_link are m = last_parts k d rounds ports start es of_clock of_link m
+        all_parts [] (w ∷ ws) k d rounds ports start es of_clock of_link are m = absurd are
+        all_parts (a ∷ others) [] k d rounds ports start es of_clock of_link are m = absurd are
+        all_parts (a ∷ others) (w ∷ ws) k d rounds ports start [] of_clock of_link are m = absurd m
+        all_parts (a ∷ others) (w ∷ ws) k d rounds ports start (e ∷ es) of_clock of_link are m =
+            own_parts a others rounds ports start w e es are.0 m.0 (all_parts others ws k d rounds ports start es of_clock of_link are.1 m.1)
 
         -- THE WHOLE
         pub have_ended : (programs : List (Assigned G)) (rounds : ℕ) (ports : List StationPort) (fetches : Sitting HubLog HubEvent) (start : L)
             (es : List (NodeEnd L)) (halt : Sitting HubLog HubEvent) → cell.seats ≡ length programs + 2 → hub.seats ≡ length programs + 4
             → hub.origin.programs ≡ length programs + 1 → length programs ≤ 512 → AreDifferent (map pid_of programs) → IsSeatOf hub fetches
             → hub_stand_of fetches ≡ nothing_heard → Each (IsStationPort c) ports
-            → HasRunNodeJobs G P L task handed faults cell hub host programs rounds ports fetches start es halt
-            → HasNodeEnds handed faults c host cell hub rounds (map (program_task task) programs) start es halt
+            → HasRunNodeJobs G P L task handed given faults cell hub host programs rounds ports fetches start es halt
+            → HasNodeEnds handed given faults c host cell hub rounds ports (map (program_task task) programs) start es halt
         have_ended programs rounds ports fetches start es halt seats hub_seats one_more few different of new stations run =
             let d = run.dealt in
             let m = end_each (d.first ++ works.Clock d.clock ∷ works.Carrier d.last ∷ []) es
-            (subst (λ (l : List (NodeWork G P L)). AllEnd (ends_as task handed faults) l es) d.all run.each_end) in
-            let it = all_parts programs d.first d.clock d.last rounds start es
+            (subst (λ (l : List (NodeWork G P L)). AllEnd (ends_as task handed given faults) l es) d.all run.each_end) in
+            let it = all_parts programs d.first d.clock d.last rounds ports start es
             (λ e ended. clock_end d.clock rounds e d.clock_port d.so_many ended)
             (λ x ended. link_end d.last fetches ports start x d.port d.seat d.to d.over of new stations ended) d.each m in
             let gs = passages_of it.js in
@@ -382,5 +401,6 @@ module _ (c : Settings) (host : ℕ) (cell : Cell StationHistory) (hub : Cell Hu
                 unhalted = run.unhalted;
               };
               told = it.link.told;
+              carried = it.link.carried;
               failed = it.link.failed;
             }

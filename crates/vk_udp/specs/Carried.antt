@@ -14,8 +14,10 @@ use Rattle.vk_base.specs.declared.event.StationEvent.TheVariants as events
 use Rattle.vk_port.specs.Ports.{Action, Does, HasMade, IsCutEvent, IsRefused, PortValue}
 use Rattle.vk_port.specs.Stations.{is_used_up}
 use Rattle.vk_rules.specs.Each.{Each}
-use Rattle.v_node.specs.Links.{AreErrands, Errand, OnlyBrings, brought_by, is_kept, stop_count}
+use Rattle.v_node.specs.Links.{OnlyBrings, brought_by, is_kept, stop_count}
 use Rattle.v_node.specs.Seats.{hub_stand_of}
+use Rattle.vk_udp.specs.Asked.{HasAsked, errands_in, rounds_of, sent_for}
+use Rattle.vk_udp.specs.Wires.{Datagram, IsMore}
 use Rattle.vk_udp.specs.declared.carrier.Heard.{Heard}
 use Rattle.vk_udp.specs.declared.carrier.Heard.TheVariants as heard
 use Rattle.vk_udp.specs.declared.carrier.Sent.{Sent}
@@ -27,6 +29,11 @@ use Rattle.vk_event.specs.declared.port.StationPort.{StationPort}
 abbrev pub room_in : {T : Type 0} → Result T Room → Option Room
 room_in (Ok x) = None
 room_in (Err why) = Some why
+
+-- how often a round of fetches heard that the hub had ended
+abbrev pub stops_in : Result Sent Room → ℕ
+stops_in (Ok sent) = cond sent.ended 1 0
+stops_in (Err why) = 0
 
 -- The link handed out these datagrams, and of them the port delivered those that are kept, in order: all, where no Room was met.
 pub record HasBrought {L : Type 0} (handed : L → Option (List Frame)) (host : ℕ) (old new : PortValue) (before now : L) (met : Option Room)
@@ -64,22 +71,35 @@ TellsHeard before now (Err why) = now ≡ before
 abbrev pub IsStationPort : Settings → StationPort → Type 0
 IsStationPort c p = has_station c.specs p.host ≡ true
 
--- where these are ports of stations, so is this
-abbrev pub IsAmong : List StationPort → StationPort → Type 0
-IsAmong ports p = (c : Settings) → Each (IsStationPort c) ports → IsStationPort c p
-
--- The seat fetched so, for stations of these ports, and just so often heard that the hub had ended.
-pub record HasFetchedFor (o : HubLog) (ports : List StationPort) (old new : Sitting HubLog HubEvent) (stops : ℕ) : Type 0 where
-  pub errands : List Errand
+-- The seat asked for the stations of these ports, one behind the other, and just so often heard that the hub had ended. What the link was
+-- given to send are the frames that it was answered, in order, each for its station's port.
+pub record HasFetchedFor {L : Type 0} (sent : L → Option (List Datagram)) (o : HubLog) (ports : List StationPort)
+    (old new : Sitting HubLog HubEvent) (before now : L) (stops : ℕ) : Type 0 where
   pub same : IsSameSeat old new
-  pub are : AreErrands old.number o (hub_stand_of old) errands (hub_stand_of new)
-  pub stations : (c : Settings) → Each (IsStationPort c) ports → Each (λ (e : Errand). has_station c.specs e.host ≡ true) errands
-  pub stopped : stop_count errands ≡ stops
+  pub asked : HasAsked old.number o (hub_stand_of old) ports (hub_stand_of new)
+  pub stopped : stop_count (errands_in asked.asks) ≡ stops
+  pub told : IsMore (sent before) (sent now) (sent_for asked.asks)
 
--- how often a round of fetches heard that the hub had ended
-abbrev pub stops_in : Result Sent Room → ℕ
-stops_in (Ok sent) = cond sent.ended 1 0
-stops_in (Err why) = 0
+-- where the hub refuses the fetch, nothing was asked
+abbrev pub asked_by : StationPort → Result Sent Room → List StationPort
+asked_by there (Ok sent) = there ∷ []
+asked_by there (Err why) = []
+
+-- A round asks for the stations of all these ports, and leaves off only where it heard that the hub had ended, or met a Room.
+pub record HasGoneRound {L : Type 0} (sent : L → Option (List Datagram)) (o : HubLog) (ports : List StationPort)
+    (old new : Sitting HubLog HubEvent) (before now : L) (result : Result Sent Room) : Type 0 where
+  pub asked : List StationPort
+  pub front : IsPrefix asked ports
+  pub whole : stops_in result ≡ 0 → room_in result ≡ None → asked ≡ ports
+  pub fetched : HasFetchedFor sent o asked old new before now (stops_in result)
+
+-- Rounds one behind the other, and a last one that may have left off.
+pub record HasGoneAround {L : Type 0} (sent : L → Option (List Datagram)) (o : HubLog) (ports : List StationPort)
+    (old new : Sitting HubLog HubEvent) (before now : L) (stops : ℕ) : Type 0 where
+  pub rounds : ℕ
+  pub last : List StationPort
+  pub front : IsPrefix last ports
+  pub fetched : HasFetchedFor sent o (rounds_of rounds ports ++ last) old new before now stops
 
 -- the hub's history is at its limit
 abbrev pub IsHubFull : Sitting HubLog HubEvent → Type 0

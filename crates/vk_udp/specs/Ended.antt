@@ -17,6 +17,7 @@ use Rattle.vk_rules.specs.Each.{Each}
 use Rattle.v_node.specs.Closed.{IsLinkWay}
 use Rattle.v_node.specs.Jobs.{AreNodeJobs, ClockEnd, LinkEnd, passages_in}
 use Rattle.v_node.specs.Jobs.{NodeEnd as AllEnds}
+use Rattle.v_node.specs.Links.{nothing_heard}
 use Rattle.v_run.specs.Jobs.{JobEnd}
 use Rattle.v_run.specs.Outcomes.{Assignment}
 use Rattle.v_run.specs.Passages.{IsPassage, Passage, Pumps, host_of}
@@ -27,17 +28,20 @@ use Rattle.vk_udp.specs.declared.work.Carried.{Carried}
 use Rattle.vk_udp.specs.declared.work.NodeEnd.{NodeEnd}
 use Rattle.vk_udp.specs.declared.work.NodeEnd.TheVariants as ends
 use Rattle.vk_udp.specs.declared.work.NodeWork.{NodeWork}
+use Rattle.vk_udp.specs.Asked.{HasCarried}
 use Rattle.vk_udp.specs.Dealt.{AreNodeDealt}
 use Rattle.vk_udp.specs.Gathered.{own_end, site_of}
 use Rattle.vk_udp.specs.Jobs.{ends_as}
+use Rattle.vk_udp.specs.Wires.{Datagram}
 
 -- All jobs of a node were run, and ended so; the seat of the halt is as it was.
-pub record HasRunNodeJobs (G P L : Type 0) (task : G → List Answer → Option Call) (handed : L → Option (List Frame)) (faults : L → ℕ)
-    (cell : Cell StationHistory) (hub : Cell HubLog) (host : ℕ) (programs : List (Assigned G)) (rounds : ℕ) (ports : List StationPort)
-    (fetches : Sitting HubLog HubEvent) (link : L) (all : List (NodeEnd L)) (halt : Sitting HubLog HubEvent) : Type 0 where
+pub record HasRunNodeJobs (G P L : Type 0) (task : G → List Answer → Option Call) (handed : L → Option (List Frame))
+    (sent : L → Option (List Datagram)) (faults : L → ℕ) (cell : Cell StationHistory) (hub : Cell HubLog) (host : ℕ)
+    (programs : List (Assigned G)) (rounds : ℕ) (ports : List StationPort) (fetches : Sitting HubLog HubEvent) (link : L)
+    (all : List (NodeEnd L)) (halt : Sitting HubLog HubEvent) : Type 0 where
   pub jobs : List (NodeWork G P L)
   pub dealt : AreNodeDealt cell hub host programs rounds ports fetches link jobs
-  pub each_end : AllEnd (ends_as task handed faults) jobs all
+  pub each_end : AllEnd (ends_as task handed sent faults) jobs all
   pub seat : IsSeatOf hub halt
   pub unhalted : halt.mine ≡ []
 
@@ -77,14 +81,15 @@ pub record HaveNodeEnded (c : Settings) (host : ℕ) (cell : Cell StationHistory
   pub halt_seat : IsSeatOf hub halt
   pub unhalted : halt.mine ≡ []
 
--- and these are their ends, of which the last one's link was `start`
-pub record HasNodeEnds {L : Type 0} (handed : L → Option (List Frame)) (faults : L → ℕ) (c : Settings) (host : ℕ) (cell : Cell StationHistory)
-    (hub : Cell HubLog) (rounds : ℕ) (tasks : List Assignment) (start : L) (all : List (NodeEnd L)) (halt : Sitting HubLog HubEvent)
-    : Type 0 where
+-- and these are their ends, of which the last one's link was `start`, and carried frames to these ports
+pub record HasNodeEnds {L : Type 0} (handed : L → Option (List Frame)) (sent : L → Option (List Datagram)) (faults : L → ℕ) (c : Settings)
+    (host : ℕ) (cell : Cell StationHistory) (hub : Cell HubLog) (rounds : ℕ) (ports : List StationPort) (tasks : List Assignment)
+    (start : L) (all : List (NodeEnd L)) (halt : Sitting HubLog HubEvent) : Type 0 where
   pub n : AllEnds
   pub front : List (NodeEnd L)
   pub last : Carried L
   pub are : all ≡ front ++ ends.Carried last ∷ []
   pub ended : HaveNodeEnded c host cell hub rounds tasks n (map own_end front ++ last.end ∷ []) last.hub_seat halt
   pub told : handed last.link ≡ option_map (λ all. all ++ n.link.handed) (handed start)
+  pub carried : HasCarried n.link.carrier hub.origin nothing_heard ports n.link.reached n.link.errands (sent start) (sent last.link)
   pub failed : n.link.failed ≡ true → Rose (faults start) (faults last.link)

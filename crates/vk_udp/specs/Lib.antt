@@ -1,5 +1,6 @@
 pub mod Wires
 pub mod Values
+pub mod Asked
 pub mod Carried
 pub mod Clocked
 pub mod Jobs

@@ -1,18 +1,26 @@
 -- What the run of a node comes to, and what it does to its wire's and its crew's counts.
 use Rattle.std.specs.Prelude.{ℕ, ◌≡◌, ◌≤◌, ◌++◌, ◌⊎◌, Bool, true, Option, Some, List, length, Result, Ok, Err}
 use Rattle.vk_base.specs.declared.config.ProcessSpec.{ProcessSpec}
+use Rattle.vk_base.specs.declared.event.StationEvent.{StationEvent}
 use Rattle.vk_base.specs.declared.limits.TheConstants.{EVENTS}
-use Rattle.vk_base.specs.Settings.{Settings, has_process, has_station}
+use Rattle.vk_base.specs.Settings.{Settings, has_process, has_station, stations_of}
 use Rattle.vk_event.specs.declared.port.StationPort.{StationPort}
 use Rattle.vk_event.specs.NodeLaws.{IsLawfulLog}
 use Rattle.vk_event.specs.Ports.{has_port}
+use Rattle.vk_hub.specs.Hubs.{HubLog}
 use Rattle.vk_hub.specs.Links.{Frame}
 use Rattle.vk_io.specs.Causes.{Rose}
+use Rattle.vk_port.specs.Stations.{entries_after}
 use Rattle.vk_program.specs.declared.assigned.Assigned.{Assigned}
 use Rattle.vk_rules.specs.Each.{Each}
 use Rattle.vk_schedule.specs.declared.log.StationLog.{StationLog}
+use Rattle.vk_schedule.specs.declared.plan.LinkPlan.{LinkPlan}
+use Rattle.v_node.specs.Links.{HubStand, nothing_heard}
+use Rattle.v_node.specs.Sent.{AreOwnFrames}
 use Rattle.v_node.specs.Outcomes.{IsNodeRun}
 use Rattle.v_run.specs.Outcomes.{Assignment}
+use Rattle.vk_udp.specs.Asked.{HasAskedAround, errands_in, sent_for}
+use Rattle.vk_udp.specs.Wires.{Datagram}
 use Rattle.vk_udp.specs.declared.record.NodeRefusal.{NodeRefusal}
 use Rattle.vk_udp.specs.declared.record.NodeRefusal.TheVariants as refusals
 
@@ -25,8 +33,8 @@ pub record HavePort (specs : List ProcessSpec) (host : ℕ) (ports : List Statio
   pub stations : Each (λ (p : StationPort). has_station specs p.host ≡ true) ports
   pub own : has_port ports host ≡ true
 
--- Where a wire tells what its links handed out, before and now, it is this that they handed out in between.
-abbrev pub HandedOut : (before now : Option (List Frame)) → List Frame → Type 0
+-- Where a wire tells what its links handed out, or were given to send, before and now, it is this in between.
+abbrev pub HandedOut : {A : Type 0} → (before now : Option (List A)) → List A → Type 0
 HandedOut (Some before) (Some now) handed = now ≡ before ++ handed
 HandedOut before now handed = Unit {0}
 
@@ -44,6 +52,20 @@ pub record IsNodeRecord (c : Settings) (host rounds : ℕ) (tasks : List Assignm
   pub handed : List Frame
   pub told : HandedOut before now handed
   pub is : IsRecordOf c host rounds tasks handed limited log
+
+-- WHAT A NODE SENT: its carrier asked a hub with this link plan, round after round, for the stations of these ports. The frames that it was
+-- handed out were sent, each to its station's port, in order, and nothing else was. They are frames that the station made by these events, and
+-- none is for the station itself.
+pub record HasSent (c : Settings) (host : ℕ) (plan : LinkPlan) (ports : List StationPort) (events : List StationEvent)
+    (before now : Option (List Datagram)) : Type 0 where
+  pub hub : HubLog
+  pub plan_is : hub.plan ≡ plan
+  pub stations : hub.stations ≡ stations_of c.specs
+  pub carrier : ℕ
+  pub reached : HubStand
+  pub around : HasAskedAround carrier hub nothing_heard ports reached
+  pub told : HandedOut before now (sent_for around.asked.asks)
+  pub own : AreOwnFrames plan host (errands_in around.asked.asks) (entries_after c host events)
 
 -- the count of faults rose of what failed, the wire or the crew, and every other count is as it was
 abbrev pub TellsNodeFault : {T : Type 0} → (wire wire_now crew crew_now : ℕ) → Result T NodeRefusal → Type 0

@@ -2,8 +2,7 @@
 ghost use Rattle.std.specs.Prelude.{◌≡◌, ◌≤◌, ◌⊎◌, List, [], true, None, Some, IfErr, IfOk};
 ghost use Rattle.turn_cell.specs.Seats.{IsSameSeat, IsSeatOf};
 ghost use Rattle.v_node.specs.Links.{is_kept};
-ghost use Rattle.vk_udp.specs.Carried.{HasBrought, HasFetchedFor, HasHaltedBy, IsAmong, IsBrought, IsHubFull, IsPortFull, TellsHeard, TellsStop, is_failed, met_by, room_in, stops_in, stops_of};
-ghost use Rattle.vk_event.specs.declared.port.StationPort.{StationPort as ThePort};
+ghost use Rattle.vk_udp.specs.Carried.{HasBrought, HasFetchedFor, HasGoneAround, HasGoneRound, HasHaltedBy, IsBrought, IsHubFull, IsPortFull, TellsHeard, TellsStop, asked_by, is_failed, met_by, room_in, stops_in, stops_of};
 ghost use Rattle.vk_udp.specs.Jobs.{EndsCarrier};
 
 use crate::link::Link;
@@ -89,7 +88,7 @@ impl<'a, L: Link> Carrier<'a, L> {
 
 /// Does the work.
 pub fn carrier_end<L: Link, R: Wait + Clock>(rt: &R, work: Carrier<L>) -> Carried<L>
-    ensures { EndsCarrier L.handed L.fault_count work.entry result }
+    ensures { EndsCarrier L.handed L.sent L.fault_count work.entry result }
 {
     let Carrier {
         alloc,
@@ -182,7 +181,7 @@ fn carry_on<L: Link, R: Wait + Clock>(
 ) -> Stop
     requires seat { IsSeatOf hub.now hub_seat.old }
     ensures brought { HasBrought L.handed host port.old port.new link.old link.new (met_by result) }
-    ensures fetched { HasFetchedFor hub.now.origin ports.now hub_seat.old hub_seat.new (stops_of result) }
+    ensures fetched { HasGoneAround L.sent hub.now.origin ports.now hub_seat.old hub_seat.new link.old link.new (stops_of result) }
     ensures full { met_by result ≡ Some Room.Full → IsPortFull port.old port.new ⊎ IsHubFull hub_seat.new }
     ensures faults { TellsStop (L.fault_count link.old) (L.fault_count link.new) result }
 {
@@ -224,7 +223,7 @@ struct Sent {
     ended: bool,
 }
 
-/// Fetches once for each of these stations, and sends what it got to that station's port.
+/// Fetches once for each of these stations, in order, and sends what it got to that station's port.
 fn send_each<L: Link, R: Wait + Clock>(
     rt: &R,
     alloc: Global,
@@ -234,7 +233,7 @@ fn send_each<L: Link, R: Wait + Clock>(
     link: &mut L,
 ) -> Result<Sent, Room>
     requires { IsSeatOf hub.now hub_seat.old }
-    ensures fetched { HasFetchedFor hub.now.origin ports.now hub_seat.old hub_seat.new (stops_in result) }
+    ensures fetched { HasGoneRound L.sent hub.now.origin ports.now hub_seat.old hub_seat.new link.old link.new result }
     ensures full { room_in result ≡ Some Room.Full → IsHubFull hub_seat.new }
     ensures handed { L.handed link.new ≡ L.handed link.old }
     ensures faults { L.fault_count link.new ≡ L.fault_count link.old }
@@ -267,8 +266,8 @@ fn send_one<L: Link, R: Wait + Clock>(
     link: &mut L,
 ) -> Result<Sent, Room>
     requires { IsSeatOf hub.now hub_seat.old }
-    ensures fetched { (ports : List ThePort) → IsAmong ports there →
-        HasFetchedFor hub.now.origin ports hub_seat.old hub_seat.new (stops_in result) }
+    ensures fetched { HasFetchedFor L.sent hub.now.origin (asked_by there result) hub_seat.old hub_seat.new link.old link.new
+        (stops_in result) }
     ensures full { room_in result ≡ Some Room.Full → IsHubFull hub_seat.new }
     ensures handed { L.handed link.new ≡ L.handed link.old }
     ensures faults { L.fault_count link.new ≡ L.fault_count link.old }
@@ -313,6 +312,7 @@ fn hear<L: Link, R: Wait + Clock>(
 ) -> Result<Heard, Room>
     ensures brought { HasBrought L.handed host port.old port.new link.old link.new (room_in result) }
     ensures full { room_in result ≡ Some Room.Full → IsPortFull port.old port.new }
+    ensures sent { L.sent link.new ≡ L.sent link.old }
     ensures faults { TellsHeard (L.fault_count link.old) (L.fault_count link.new) result }
 {
     match link.receive(rt, datagram) {

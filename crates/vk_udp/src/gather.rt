@@ -1,6 +1,7 @@
 //! What comes back from the jobs of a node, and the histories that it closes.
 ghost use Rattle.std.specs.Prelude.{◌≡◌, ◌≤◌, ◌++◌, ◌∷◌, [], All, List, length, map, IfOk};
 ghost use Rattle.turn_cell.specs.Seats.{IsSeatOf};
+ghost use Rattle.vk_base.specs.declared.limits.TheConstants.{FRAME_BYTES};
 ghost use Rattle.vk_rules.specs.Each.{Each};
 ghost use Rattle.vk_schedule.specs.declared.log.StationLog.{StationLog as TheLog};
 ghost use Rattle.vk_threads.specs.Gathered.{AreReady, all_spares};
@@ -124,7 +125,7 @@ fn fits(event: &StationEvent)
 }
 
 fn frame_fits(frame: &FrameBytes)
-    ensures { length frame.now ≤ 1152 }
+    ensures { length frame.now ≤ FRAME_BYTES }
 {
     let _bytes = frame.as_slice();
 }

@@ -11,7 +11,7 @@ ghost use Rattle.vk_rules.specs.Each.{Each};
 ghost use Rattle.vk_threads.specs.Assigned.{AreDifferent, pid_of, program_task};
 ghost use Rattle.vk_udp.specs.Dealt.{IsStocked};
 ghost use Rattle.vk_udp.specs.Ended.{HasRunNodeJobs};
-ghost use Rattle.vk_udp.specs.Node.{HavePort, IsNodeRecord, IsProcessAt, TellsCrew, TellsNodeFault, TellsNodeJobs};
+ghost use Rattle.vk_udp.specs.Node.{HasSent, HavePort, IsNodeRecord, IsProcessAt, TellsCrew, TellsNodeFault, TellsNodeJobs};
 
 use crate::deal::{NodeStock, jobs_of};
 use crate::link::{Link, Wire};
@@ -59,8 +59,8 @@ fn run_jobs<
     requires processes { Each (λ (a : Assigned G). is_process_of stock.cell.now.origin a.pid ≡ true) programs.items }
     requires fresh { Each (λ (a : Assigned G). G.is_after a.program []) programs.items }
     requires seat { IsSeatOf stock.hub.now fetches }
-    ensures ended { IfOk result (λ r. HasRunNodeJobs G P L G.task L.handed L.fault_count stock.entry.cell.now stock.entry.hub.now
-        stock.entry.host programs.items rounds ports.now fetches link r.0.items r.1) }
+    ensures ended { IfOk result (λ r. HasRunNodeJobs G P L G.task L.handed L.sent L.fault_count stock.entry.cell.now
+        stock.entry.hub.now stock.entry.host programs.items rounds ports.now fetches link r.0.items r.1) }
     ensures crew { TellsCrew (C.fault_count crew.old) (C.fault_count crew.new) (C.job_count crew.old)
         (min (C.job_count crew.old + (length programs.items + 2)) (2 ^ 64 - 1)) (C.job_count crew.new) result }
 {
@@ -134,6 +134,7 @@ pub fn run_node<
     requires ports { HavePort config.specs host ports.now }
     ensures ran { IfOk result (λ r. IsNodeRecord config host rounds (map (program_task G.task) programs.items) (W.handed wire.old)
         (W.handed wire.new) r.limited r.log) }
+    ensures sent { IfOk result (λ r. HasSent config host plan ports.now r.log.events (W.sent wire.old) (W.sent wire.new)) }
     ensures jobs { TellsNodeJobs (C.job_count crew.old) (min (C.job_count crew.old + (length programs.items + 2)) (2 ^ 64 - 1))
         (C.job_count crew.new) result }
     ensures fault { TellsNodeFault (W.fault_count wire.old) (W.fault_count wire.new) (C.fault_count crew.old) (C.fault_count crew.new)

@@ -1,19 +1,23 @@
 //! The record of a node.
 ghost use Rattle.std.specs.Prelude.{◌≡◌, ◌++◌, ◌∷◌, [], false, ℕ, List, map, IfOk};
 ghost use Rattle.v_node.specs.Jobs.{NodeEnd as AllEnds};
+ghost use Rattle.vk_base.specs.Settings.{stations_of};
+ghost use Rattle.v_node.specs.Sent.{AreOwnFrames};
 ghost use Rattle.v_run.specs.Outcomes.{Assignment};
+ghost use Rattle.vk_event.specs.declared.port.StationPort.{StationPort as ThePort};
+ghost use Rattle.vk_port.specs.Stations.{entries_after};
 ghost use Rattle.v_run.specs.Passages.{fresh_station};
 ghost use Rattle.vk_udp.specs.Ended.{HasNodeEnds, HaveNodeEnded};
 ghost use Rattle.vk_udp.specs.Gathered.{own_end};
-ghost use Rattle.vk_udp.specs.Node.{IsNodeRecord, IsRecordOf, TellsLink};
-ghost use Rattle.vk_udp.specs.Wires.{IsNewLink};
+ghost use Rattle.vk_udp.specs.Node.{HasSent, IsNodeRecord, IsRecordOf, TellsLink};
+ghost use Rattle.vk_udp.specs.Wires.{HasNothing, IsNewLink};
 
 use crate::gather::{all_fit, close_node, own_ends, take_carried};
 use crate::link::{Link, Wire};
 use crate::work::{Carried, NodeEnd};
 use std::alloc::Global;
 use turn_cell::{TurnCell, TurnSeat};
-use v_node::closed_nodes_are_runs;
+use v_node::{closed_nodes_are_runs, nodes_send_their_own};
 use vk_base::{Config, NoMemory};
 use vk_cluster::pids_are;
 use vk_hub::{Hub, HubState};
@@ -54,13 +58,17 @@ fn whole_record(
     requires station { cell.origin ≡ fresh_station config.now host }
     requires ended { (rounds : ℕ) × (tasks : List Assignment) × (n : AllEnds) ×
         HaveNodeEnded config.now host cell hub rounds tasks n ends.items fetches halt }
-    ensures { IfOk result (λ r. (rounds : ℕ) (tasks : List Assignment) (n : AllEnds) →
+    ensures ran { IfOk result (λ r. (rounds : ℕ) (tasks : List Assignment) (n : AllEnds) →
         HaveNodeEnded config.now host cell hub rounds tasks n ends.items fetches halt → n.link.failed ≡ false →
         IsRecordOf config.now host rounds tasks n.link.handed r.limited r.log) }
+    ensures own { IfOk result (λ r. (rounds : ℕ) (tasks : List Assignment) (n : AllEnds) →
+        HaveNodeEnded config.now host cell hub rounds tasks n ends.items fetches halt →
+        AreOwnFrames hub.origin.plan host n.link.errands (entries_after config.now host r.log.events)) }
 {
     let _lawful = config.times();
     pids_are(config.specs());
     closed_nodes_are_runs();
+    nodes_send_their_own();
     let limited = has_met_full(&ends);
     if has_met_no_memory(&ends) {
         return Err(NoMemory);
@@ -92,12 +100,17 @@ pub fn record_of<W: Wire>(
     wire: &mut W,
 ) -> Result<NodeRecord, NodeRefusal>
     requires station { cell.origin ≡ fresh_station config.now host }
-    requires ended { (rounds : ℕ) × (tasks : List Assignment) × (start : W.L) ×
-        HasNodeEnds W.L.handed W.L.fault_count config.now host cell hub rounds tasks start ends.items halt }
-    ensures ran { IfOk result (λ r. (rounds : ℕ) (tasks : List Assignment) (start : W.L) →
+    requires ended { (rounds : ℕ) × (ports : List ThePort) × (tasks : List Assignment) × (start : W.L) ×
+        HasNodeEnds W.L.handed W.L.sent W.L.fault_count config.now host cell hub rounds ports tasks start ends.items halt }
+    ensures ran { IfOk result (λ r. (rounds : ℕ) (ports : List ThePort) (tasks : List Assignment) (start : W.L) →
         IsNewLink (W.handed wire.old) (W.L.handed start) (W.L.fault_count start) →
-        HasNodeEnds W.L.handed W.L.fault_count config.now host cell hub rounds tasks start ends.items halt →
+        HasNodeEnds W.L.handed W.L.sent W.L.fault_count config.now host cell hub rounds ports tasks start ends.items halt →
         IsNodeRecord config.now host rounds tasks (W.handed wire.old) (W.handed wire.new) r.limited r.log) }
+    ensures sent { IfOk result (λ r. (rounds : ℕ) (ports : List ThePort) (tasks : List Assignment) (start : W.L) →
+        HasNothing (W.sent wire.old) (W.L.sent start) →
+        HasNodeEnds W.L.handed W.L.sent W.L.fault_count config.now host cell hub rounds ports tasks start ends.items halt →
+        hub.origin.stations ≡ stations_of config.now.specs →
+        HasSent config.now host hub.origin.plan ports r.log.events (W.sent wire.old) (W.sent wire.new)) }
     ensures fault { TellsLink (W.fault_count wire.old) (W.fault_count wire.new) result }
 {
     let mut ends = ends;

@@ -1,4 +1,4 @@
-//! Links over the system's UDP sockets, on the loopback address. They tell nothing of what they hand out.
+//! Links over the system's UDP sockets, on the loopback address. They tell nothing of what they hand out and are given to send.
 ghost use Rattle.std.specs.Prelude.{◌≡◌, None};
 
 use crate::link::{Link, Wire};
@@ -22,6 +22,8 @@ pub struct UdpLink {
 
 impl Link for UdpLink {
     ghost handed = { λ l. None };
+
+    ghost sent = { λ l. None };
 
     ghost fault_count = { λ l. l.faults };
 
@@ -88,6 +90,8 @@ impl Wire for UdpWire {
     type L = UdpLink;
 
     ghost handed = { λ w. None };
+
+    ghost sent = { λ w. None };
 
     ghost fault_count = { λ w. w.faults };
 

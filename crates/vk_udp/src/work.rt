@@ -39,7 +39,7 @@ pub struct Carried<L: Link> {
 impl<'a, 'p, G: Program + Send, P: Pacer + Send, L: Link + Send> Job for NodeWork<'a, 'p, G, P, L> {
     type End = NodeEnd<L>;
 
-    ghost ends = { ends_as G.task L.handed L.fault_count };
+    ghost ends = { ends_as G.task L.handed L.sent L.fault_count };
 
     fn work<R: Wait + Threads + Clock + Sync>(self, rt: &R) -> NodeEnd<L> {
         match self {

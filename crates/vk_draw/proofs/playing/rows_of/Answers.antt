@@ -2,7 +2,7 @@ use Rattle.std.proofs.Common.{Err, ◌<◌, List, get_or, inr, length, refl, sub
 use Rattle.vk_schedule.specs.declared.event.Event.{Event}
 use Rattle.vk_picture.specs.declared.picture.Row.{Row}
 use Rattle.vk_draw.specs.Playing.{ArePlayed}
-use Rattle.vk_draw.proofs.Played.{acts, as_many, played_all, played_more, played_none, somewhere, too_large}
+use Rattle.vk_draw.proofs.Played.{acts, all_fit, played_all, played_more, played_none, somewhere, too_large}
 use Rattle.vk_draw.proofs.playing.rows_of.Goals as goal
 
 pub loop-event-init : goal.loop-event-init
@@ -36,7 +36,7 @@ loop-event-preserved c =
     played_more s c.loop-event.event-index c.loop-event.rows c.loop-event.cluster c.loop-event.invariant
     c.event-item.result (subst (λ (es : List Event). c.loop-event.event-index < length es) c.requires.events c.loop-event-test.true)
     (c.event-item.is ∙ ap (λ (es : List Event). get_or es c.loop-event.event-index c.event-item.result) c.requires.events)
-    c.put_event.new.rows c.put_event.new.cluster
+    c.put_event.new.rows c.put_event.new.cluster c.in-Ok.ensures.room
     (c.in-Ok.ensures.had s.config (take c.loop-event.event-index s.events) c.loop-event.invariant.stands)
 
 pub returns-in-Err-Limit-clause-refused : goal.returns-in-Err-Limit-clause-refused
@@ -56,4 +56,11 @@ returns-clause-rows c =
     let over = c.loop-event-test.false in
     let same = ap (λ (es : List Event). length es) c.requires.events in
     played_all c.args.schedule.now c.loop-event.event-index c.loop-event.rows c.loop-event.cluster c.loop-event.invariant
+    (omega (arith, over, same))
+
+pub returns-clause-fits : goal.returns-clause-fits
+returns-clause-fits c =
+    let over = c.loop-event-test.false in
+    let same = ap (λ (es : List Event). length es) c.requires.events in
+    all_fit c.args.schedule.now c.loop-event.event-index c.loop-event.rows c.loop-event.cluster c.loop-event.invariant
     (omega (arith, over, same))

@@ -1,6 +1,6 @@
 use Rattle.std.proofs.Common.{refl, subst, sym}
 use Rattle.vk_draw.specs.Top.{IsPicture}
-use Rattle.vk_draw.proofs.Answered.{refusal_count, refused_is, written_is}
+use Rattle.vk_draw.proofs.Answered.{refusal_count, refusal_not_done, refused_is, written_is}
 use Rattle.vk_draw.proofs.top.answer.Goals as goal
 
 pub returns-in-Ok-clause-answered : goal.returns-in-Ok-clause-answered
@@ -13,3 +13,6 @@ returns-in-Err-clause-answered g c = refused_is _ _ _ _ refl c.in-Err.ensures.re
 
 pub returns-in-Err-clause-count : goal.returns-in-Err-clause-count
 returns-in-Err-clause-count g c = refusal_count _ _ _ c.in-Err.ensures.refused
+
+pub returns-in-Err-clause-flushed : goal.returns-in-Err-clause-flushed
+returns-in-Err-clause-flushed g c = refusal_not_done _ _ _ c.in-Err.ensures.refused

@@ -18,7 +18,9 @@ picture_text-requires-clause-rows c =
 
 pub returns-in-Err-clause-refused : goal.returns-in-Err-clause-refused
 returns-in-Err-clause-refused c =
-    refusal_by c.args.text.now c.args.schedule.now c.in-Err.status c.requires c.in-Err.ensures.refused
+    let few = c.if-len-gt-ROWS.false in
+    let counted = c.len.ensures in
+    refusal_by c.args.text.now c.args.schedule.now c.in-Err.status c.requires (omega (arith, few, counted)) c.in-Err.ensures.refused
 
 pub returns-clause-refused : goal.returns-clause-refused
 returns-clause-refused c = spelled_some c.args.text.now c.args.schedule.now c.requires

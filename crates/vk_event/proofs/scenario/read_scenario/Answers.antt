@@ -1,13 +1,20 @@
 use Rattle.std.proofs.Common.{◌≡◌, ◌<◌, ◌∙◌, List, length, ap, arith, inr, sym}
 use Rattle.vk_base.specs.declared.config.ProcessSpec.{ProcessSpec}
 use Rattle.std.proofs.lemmas.Bool.{eqb-true}
+use Rattle.std.proofs.lemmas.Result.{IfErr-weaker}
 use Rattle.vk_event.proofs.ScenarioHeads.{refused_as, no_process, with_body, has_process, ok_of, err_of}
 use Rattle.vk_event.proofs.ScenarioRanges.{read_lawful}
+use Rattle.vk_event.proofs.ScenarioRefusals.{never_limit}
 use Rattle.vk_event.proofs.scenario.read_scenario.Goals as goal
 
 pub returns-in-Err-clause-refused : goal.returns-in-Err-clause-refused
 returns-in-Err-clause-refused c =
     refused_as c.args.text.now c.in-Err.refusal c.refused.result c.refused.ensures c.in-Err.ensures.refused
+
+pub returns-in-Err-clause-never_limit : goal.returns-in-Err-clause-never_limit
+returns-in-Err-clause-never_limit c =
+    never_limit c.args.text.now c.refused.result
+    (refused_as c.args.text.now c.in-Err.refusal c.refused.result c.refused.ensures c.in-Err.ensures.refused)
 
 pub returns-then-is_empty-clause-refused : goal.returns-then-is_empty-clause-refused
 returns-then-is_empty-clause-refused c =
@@ -28,6 +35,14 @@ returns-clause-refused c =
     err_of _ _ _ c.read_body.result (has_process c.args.text.now c.in-Ok.head.config c.in-Ok.head.line _ c.in-Ok.ensures.opening some)
     (with_body c.args.text.now c.in-Ok.head.config c.in-Ok.head.line _ c.in-Ok.ensures.opening c.in-Ok.ensures.line some)
     c.read_body.ensures.refused
+
+pub returns-clause-never_limit : goal.returns-clause-never_limit
+returns-clause-never_limit c =
+    let some : 0 < length c.in-Ok.head.config.specs = grind arith in
+    IfErr-weaker c.read_body.result _ _ (never_limit c.args.text.now)
+    (err_of _ _ _ c.read_body.result (has_process c.args.text.now c.in-Ok.head.config c.in-Ok.head.line _ c.in-Ok.ensures.opening some)
+    (with_body c.args.text.now c.in-Ok.head.config c.in-Ok.head.line _ c.in-Ok.ensures.opening c.in-Ok.ensures.line some)
+    c.read_body.ensures.refused)
 
 pub returns-clause-lawful : goal.returns-clause-lawful
 returns-clause-lawful c =

@@ -7,10 +7,10 @@ use Rattle.vk_local.proofs.moves.move_from.Goals as goal
 
 pub returns-clause-rule : goal.returns-clause-rule
 returns-clause-rule c =
-    let p = c.play_move in
+    let p = c.make_move in
     move_rule directions.From c.args.pid c.args.partner c.args.segment c.args.procs.now p.new.procs c.args.steps.now p.new.steps
     p.result c.requires.ready c.requires.near p.ensures
 
 pub returns-clause-pids : goal.returns-clause-pids
 returns-clause-pids c =
-    ap pids c.play_move.ensures.seats ∙ pids_moved directions.From c.args.procs.now c.args.pid c.args.partner c.args.segment
+    ap pids c.make_move.ensures.seats ∙ pids_moved directions.From c.args.procs.now c.args.pid c.args.partner c.args.segment

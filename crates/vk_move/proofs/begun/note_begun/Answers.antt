@@ -8,9 +8,9 @@ use Rattle.vk_move.proofs.begun.note_begun.Goals as goal
 pub returns-in-Some : goal.returns-in-Some
 returns-in-Some c =
     c.set_note.ensures ∙ with_note (is_seat c.args.pid)
-    (begun_note c.args.times.now c.args.now c.args.name) c.in-Some.seat.now c.args.procs.now (sym c.in-Some.ensures)
+    (begun_note c.args.tick.times c.args.tick.at c.args.name) c.in-Some.seat.now c.args.procs.now (sym c.in-Some.ensures)
 
 pub returns-in_default : goal.returns-in_default
 returns-in_default c =
-    with_none (is_seat c.args.pid) (begun_note c.args.times.now c.args.now c.args.name)
-    (renoted (begun_note c.args.times.now c.args.now c.args.name)) c.args.procs.now (sym c.in_default.ensures)
+    with_none (is_seat c.args.pid) (begun_note c.args.tick.times c.args.tick.at c.args.name)
+    (renoted (begun_note c.args.tick.times c.args.tick.at c.args.name)) c.args.procs.now (sym c.in_default.ensures)

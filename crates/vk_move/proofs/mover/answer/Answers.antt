@@ -6,10 +6,10 @@ use Rattle.vk_move.proofs.mover.answer.Goals as goal
 
 pub returns-in-Some : goal.returns-in-Some
 returns-in-Some c =
-    c.set_note.ensures ∙ with_note (is_seat c.args.pid) (answered c.args.times.now c.args.now) c.in-Some.seat.now c.args.procs.now
+    c.set_note.ensures ∙ with_note (is_seat c.args.pid) (answered c.args.tick.times c.args.tick.at) c.in-Some.seat.now c.args.procs.now
     (sym c.in-Some.ensures)
 
 pub returns-in_default : goal.returns-in_default
 returns-in_default c =
-    with_none (is_seat c.args.pid) (answered c.args.times.now c.args.now)
-    (renoted (answered c.args.times.now c.args.now)) c.args.procs.now (sym c.in_default.ensures)
+    with_none (is_seat c.args.pid) (answered c.args.tick.times c.args.tick.at)
+    (renoted (answered c.args.tick.times c.args.tick.at)) c.args.procs.now (sym c.in_default.ensures)

@@ -7,9 +7,9 @@ use Rattle.vk_move.proofs.mover.receive.Goals as goal
 pub returns-in-Some : goal.returns-in-Some
 returns-in-Some c =
     c.set_note.ensures ∙ with_note (is_seat c.args.pid)
-    (received c.args.times.now c.args.now c.args.offset) c.in-Some.seat.now c.args.procs.now (sym c.in-Some.ensures)
+    (received c.args.tick.times c.args.tick.at c.args.offset) c.in-Some.seat.now c.args.procs.now (sym c.in-Some.ensures)
 
 pub returns-in_default : goal.returns-in_default
 returns-in_default c =
-    with_none (is_seat c.args.pid) (received c.args.times.now c.args.now c.args.offset)
-    (renoted (received c.args.times.now c.args.now c.args.offset)) c.args.procs.now (sym c.in_default.ensures)
+    with_none (is_seat c.args.pid) (received c.args.tick.times c.args.tick.at c.args.offset)
+    (renoted (received c.args.tick.times c.args.tick.at c.args.offset)) c.args.procs.now (sym c.in_default.ensures)

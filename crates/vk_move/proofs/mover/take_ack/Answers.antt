@@ -1,10 +1,10 @@
 use Rattle.std.proofs.Common.{ap, ◌∙◌}
-use Rattle.vk_base.specs.Kernel.{name_of}
 use Rattle.vk_move.specs.Mover.{acked_in}
 use Rattle.vk_move.proofs.Going.{ack_goes_on}
 use Rattle.vk_move.proofs.mover.take_ack.Goals as goal
 
 pub go_on-requires-clause-goes : goal.go_on-requires-clause-goes
 go_on-requires-clause-goes c =
-    ack_goes_on c.args.procs.now c.requires.fit c.args.to (name_of c.args.from c.args.number) c.args.moving c.args.received
-    (c.in-Restarts.ensures ∙ ap (acked_in (name_of c.args.from c.args.number) c.args.moving c.args.received) c.seat.ensures)
+    let m = c.args.moving in
+    ack_goes_on c.args.procs.now c.requires.fit m.mover m.name.exchange m.name.number c.args.received
+    (c.in-Restarts.ensures ∙ ap (acked_in m.name.exchange m.name.number c.args.received) c.seat.ensures)

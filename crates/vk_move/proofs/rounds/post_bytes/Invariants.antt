@@ -6,4 +6,5 @@ use Rattle.vk_move.proofs.rounds.post_bytes.Given as goal
 
 abbrev pub invariant-loop-piece : goal.invariant-loop-piece
 invariant-loop-piece l = l.out ≡ posted l.initial.out
-    (map (bytes_packet l.name l.mover l.moving l.src l.total l.memory) (map (λ i. l.from + 1024 * i) (range_with_len 0 l.piece)))
+    (map (bytes_packet l.moving.name.exchange l.moving.mover l.moving.name.number l.asked.src l.asked.total l.memory)
+    (map (λ i. l.asked.offset + 1024 * i) (range_with_len 0 l.piece)))

@@ -9,7 +9,10 @@ pub post_data_piece-requires-clause-room : goal.post_data_piece-requires-clause-
 post_data_piece-requires-clause-room c =
     let few : length c.loop-piece.out.posts ≡ length c.args.out.now.posts + c.loop-piece.piece =
     ap (λ (o : Posts). length o.posts) c.loop-piece.invariant
-    ∙ how_many post_of (data_packet c.args.pid c.args.partner c.args.memory.now c.args.dest c.args.src c.args.count c.args.name) c.args.from c.loop-piece.piece c.args.out.now.posts in
+    ∙ how_many post_of
+    (data_packet c.args.moving.mover c.args.transfer.partner c.args.memory.now c.args.transfer.dest c.args.transfer.src
+    c.args.transfer.count c.args.moving.name)
+    c.args.from c.loop-piece.piece c.args.out.now.posts in
     let room = ap (λ (o : Posts). o.room) c.loop-piece.invariant in
     omega arith
 
@@ -18,7 +21,11 @@ loop-piece-preserved c =
     c.post_data_piece.ensures
     ∙ (λ i. record (c.loop-piece.invariant i) {
       posts = (ap (λ (o : Posts). o.posts
-          ++ post_of (data_packet c.args.pid c.args.partner c.args.memory.now c.args.dest c.args.src c.args.count c.args.name
+          ++ post_of (data_packet c.args.moving.mover c.args.transfer.partner c.args.memory.now c.args.transfer.dest c.args.transfer.src
+          c.args.transfer.count c.args.moving.name
           (c.args.from + 1024 * c.loop-piece.piece)) ∷ []) c.loop-piece.invariant
-          ∙ one_more post_of (data_packet c.args.pid c.args.partner c.args.memory.now c.args.dest c.args.src c.args.count c.args.name) c.args.from c.loop-piece.piece c.args.out.now.posts) i;
+          ∙ one_more post_of
+          (data_packet c.args.moving.mover c.args.transfer.partner c.args.memory.now c.args.transfer.dest c.args.transfer.src
+          c.args.transfer.count c.args.moving.name)
+          c.args.from c.loop-piece.piece c.args.out.now.posts) i;
     })

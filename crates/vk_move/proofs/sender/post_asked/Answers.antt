@@ -3,4 +3,4 @@ use Rattle.vk_move.specs.Sender.{IsReadable}
 use Rattle.vk_move.proofs.sender.post_asked.Goals as goal
 
 pub post_bytes-requires-clause-inside : goal.post_bytes-requires-clause-inside
-post_bytes-requires-clause-inside c = subst (IsReadable c.args.src c.args.total) (sym c.in-Some.ensures) c.requires.inside
+post_bytes-requires-clause-inside c = subst (IsReadable c.args.asked.src c.args.asked.total) (sym c.in-Some.ensures) c.requires.inside

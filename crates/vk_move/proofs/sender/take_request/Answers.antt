@@ -5,7 +5,8 @@ use Rattle.vk_move.proofs.sender.take_request.Goals as goal
 
 pub post_asked-requires-clause-inside : goal.post_asked-requires-clause-inside
 post_asked-requires-clause-inside c =
-    readable c.args.procs.now c.requires.fit c.args.to c.args.from c.args.number c.args.moving c.args.src c.args.total
-    c.in-Wanted.opens c.in-Wanted.before
-    (c.in-Wanted.ensures ∙ ap (bytes_wanted c.args.moving c.args.src c.args.total)
-    (c.sender_by-sender.ensures ∙ ap (sender_by c.args.to c.args.from c.args.number) c.seat.ensures))
+    let m = c.args.moving in
+    readable c.args.procs.now c.requires.fit m.name.exchange.sender m.mover m.name.exchange.number m.name.number c.args.asked.src
+    c.args.asked.total c.in-Wanted.opens c.in-Wanted.before
+    (c.in-Wanted.ensures ∙ ap (bytes_wanted m.name.number c.args.asked.src c.args.asked.total)
+    (c.sender_by-sender.ensures ∙ ap (sender_by m.name.exchange.sender m.mover m.name.exchange.number) c.seat.ensures))

@@ -1,18 +1,36 @@
-use Rattle.std.proofs.Common.{subst, sym}
+use Rattle.std.proofs.Common.{ap, sym, ◌∙◌}
+use Rattle.vk_packet.specs.declared.packet.PacketView.{PacketView}
 use Rattle.vk_packet.specs.Views.{value_of}
-use Rattle.vk_move.specs.Fitting.{KeepsFit}
-use Rattle.vk_move.proofs.Keeping.{packet_keeps}
-use Rattle.vk_move.proofs.MoverRules.{mover_rule}
-use Rattle.vk_move.proofs.SenderRules.{sender_rule}
+use Rattle.vk_move.specs.declared.moves.Moving.{Moving}
+use Rattle.vk_move.specs.Sender.{data_taken, request_taken}
+use Rattle.vk_move.specs.Taken.{mover_taken, packet_taken}
+use Rattle.vk_move.proofs.Taking.{is_taken, to_mover}
 use Rattle.vk_move.proofs.take.take_packet.Goals as goal
 
-pub returns-clause-fit : goal.returns-clause-fit
-returns-clause-fit c =
-    subst (KeepsFit c.args.procs.now) (sym c.take_any.ensures.seats)
-    (packet_keeps c.args.times.now c.args.now (value_of c.args.packet.now) c.args.procs.now c.requires.fit c.requires.lawful)
+pub returns-in-MoveData : goal.returns-in-MoveData
+returns-in-MoveData c =
+    let x = c.in-MoveData in
+    is_taken c.args.times.now c.args.now (value_of c.args.packet.now) c.args.procs.now c.take_data.new.procs c.args.steps.now
+    c.take_data.new.steps c.args.out.now c.take_data.new.out c.requires.fit c.requires.lawful
+    (data_taken c.moving_by-moving.result x.dest x.total x.offset x.bytes.now c.args.procs.now)
+    (ap (λ (m : Moving). data_taken m x.dest x.total x.offset x.bytes.now c.args.procs.now) c.moving_by-moving.ensures
+    ∙ sym (ap (λ (v : PacketView). packet_taken c.args.times.now c.args.now (value_of v) c.args.procs.now) x.is))
+    c.take_data.ensures.seats c.take_data.ensures.steps c.take_data.ensures.packets
 
-pub returns-clause-mover : goal.returns-clause-mover
-returns-clause-mover c = mover_rule c.args.times.now c.args.now (value_of c.args.packet.now) c.args.procs.now
+pub returns-in-MoveRequest : goal.returns-in-MoveRequest
+returns-in-MoveRequest c =
+    let x = c.in-MoveRequest in
+    is_taken c.args.times.now c.args.now (value_of c.args.packet.now) c.args.procs.now c.take_request.new.procs c.args.steps.now
+    c.take_request.new.steps c.args.out.now c.take_request.new.out c.requires.fit c.requires.lawful
+    (request_taken c.moving_by-moving-in-MoveRequest.result x.src x.total x.offset c.args.procs.now)
+    (ap (λ (m : Moving). request_taken m x.src x.total x.offset c.args.procs.now) c.moving_by-moving-in-MoveRequest.ensures
+    ∙ sym (ap (λ (v : PacketView). packet_taken c.args.times.now c.args.now (value_of v) c.args.procs.now) x.is))
+    c.take_request.ensures.seats c.take_request.ensures.steps c.take_request.ensures.packets
 
-pub returns-clause-sender : goal.returns-clause-sender
-returns-clause-sender c = sender_rule c.args.times.now c.args.now (value_of c.args.packet.now) c.args.procs.now
+pub returns-in_default : goal.returns-in_default
+returns-in_default c =
+    is_taken c.args.times.now c.args.now (value_of c.args.packet.now) c.args.procs.now c.take_to_mover.new.procs c.args.steps.now
+    c.take_to_mover.new.steps c.args.out.now c.take_to_mover.new.out c.requires.fit c.requires.lawful
+    (mover_taken c.args.times.now c.args.now (value_of c.args.packet.now) c.args.procs.now)
+    (to_mover c.args.times.now c.args.now c.args.packet.now c.args.procs.now c.in_default.not-MoveData c.in_default.not-MoveRequest)
+    c.take_to_mover.ensures.seats c.take_to_mover.ensures.steps c.take_to_mover.ensures.packets

@@ -27,8 +27,8 @@ loop-preserved g c =
     let last = subst (HaveLooked c.tick_each.new.ports c.has_ended.new.ports) c.in-Ok-false.field-0-test c.in-Ok-false.ensures.ended in
     record {
       so_far = rounds_more c.loop.counter c.args.ports.now c.loop.ports c.tick_each.new.ports c.has_ended.new.ports c.loop.invariant.so_far
-          c.in-Ok.ensures.ticked last;
-      may = still 0 0 0 c.tick_each.new.ports c.has_ended.new.ports last
+          c.in-Ok.ensures.ticked last.0;
+      may = still 0 0 0 c.tick_each.new.ports c.has_ended.new.ports last.0
           (still 1 1 0 c.loop.ports c.tick_each.new.ports c.in-Ok.ensures.ticked c.loop.invariant.may);
     }
 

@@ -1,5 +1,5 @@
 use Rattle.std.proofs.Common.{◌∙◌, ◌++◌, ◌∷◌, [], ap, subst, sym}
-use Rattle.vk_udp.specs.Carried.{HasBrought, HasFetchedFor, met_by, stops_of}
+use Rattle.vk_udp.specs.Carried.{HasBrought, HasGoneAround, met_by, stops_of}
 use Rattle.vk_udp.specs.declared.work.Carried.{Carried}
 use Rattle.vk_udp.specs.Jobs.{EndsCarrier}
 use Rattle.vk_udp.specs.Values.{CarrierDuty}
@@ -22,8 +22,9 @@ returns g c =
       link = on.new.link;
     } in
     let brought = subst (λ h. HasBrought g.L.Link.handed h w.port q w.link on.new.link (met_by stop)) c.work.invariant.1 on.ensures.brought in
-    let fetched = subst (λ hub. HasFetchedFor hub.origin w.ports.now w.hub_seat mid (stops_of stop)) (sym c.work.invariant.0) on.ensures.fetched in
-    subst (λ v. EndsCarrier g.L.Link.handed g.L.Link.fault_count v e) c.work.view_is
-    (carried g.L.Link.handed g.L.Link.fault_count d e q mid s stop brought fetched
+    let fetched = subst (λ hub. HasGoneAround g.L.Link.sent hub.origin w.ports.now w.hub_seat mid w.link on.new.link (stops_of stop)) (sym c.work.invariant.0)
+    on.ensures.fetched in
+    subst (λ v. EndsCarrier g.L.Link.handed g.L.Link.sent g.L.Link.fault_count v e) c.work.view_is
+    (carried g.L.Link.handed g.L.Link.sent g.L.Link.fault_count d e q mid s stop brought fetched
     (rest_of mid c.halt_by-met.new.hub_seat stop c.halt_by-met.ensures.halted) on.ensures.full on.ensures.faults c.halt_by-met.ensures.met
     (c.push_reserved.ensures.items ∙ ap (λ l. l ++ s ∷ []) c.work.invariant.3) c.work.invariant.1 c.end-seat.ensures.seat c.end-seat.ensures.hub_seat)

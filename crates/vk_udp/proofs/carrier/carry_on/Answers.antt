@@ -1,8 +1,9 @@
-use Rattle.std.proofs.Common.{◌∙◌, None, Some, cond, refl, subst}
+use Rattle.std.proofs.Common.{◌∙◌, Err, None, Some, refl, subst}
 use Rattle.std.specs.Prelude.{Ok}
 use Rattle.vk_udp.specs.Carried.{TellsHeard}
 use Rattle.vk_udp.proofs.Bringing.{brought_more, brought_none}
-use Rattle.vk_udp.proofs.Fetching.{fetched_none, fetched_on, going_on, gone}
+use Rattle.vk_udp.proofs.Asking.{more_none}
+use Rattle.vk_udp.proofs.Fetching.{around_cut, around_whole, fetched_none, going_on, gone, rounds_on, rounds_still}
 use Rattle.vk_udp.proofs.carrier.carry_on.Goals as goal
 
 pub loop-init : goal.loop-init
@@ -10,20 +11,19 @@ loop-init g c = record {
   next = tt;
   finite = tt;
   brought = brought_none g.L.Link.handed c.args.host c.args.port.now c.args.link.now c.args.link.now refl;
-  fetched = fetched_none c.args.hub.now.origin c.args.ports.now c.args.hub_seat.now;
+  fetched = (0, fetched_none g.L.Link.sent c.args.hub.now.origin c.args.hub_seat.now c.args.link.now (more_none (g.L.Link.sent c.args.link.now)));
   faults = refl;
 }
 
 pub returns-in-Err-clause-fetched : goal.returns-in-Err-clause-fetched
 returns-in-Err-clause-fetched g c =
-    let o = c.args.hub.now.origin in
-    let ports = c.args.ports.now in
-    fetched_on o ports c.args.hub_seat.now c.loop.hub_seat c.send_each.new.hub_seat 0 0 c.loop.invariant.fetched c.in-Err.ensures.fetched refl
+    around_cut g.L.Link.sent c.args.hub.now.origin c.args.ports.now c.args.hub_seat.now c.loop.hub_seat c.send_each.new.hub_seat c.args.link.now
+    c.loop.link c.send_each.new.link (Err c.in-Err.why) 0 c.loop.invariant.fetched c.in-Err.ensures.fetched refl
 
 pub returns-then-sent-clause-fetched : goal.returns-then-sent-clause-fetched
 returns-then-sent-clause-fetched g c =
-    fetched_on c.args.hub.now.origin c.args.ports.now c.args.hub_seat.now c.loop.hub_seat c.send_each.new.hub_seat (cond c.in-Ok.sent.ended 1 0) 1
-    c.loop.invariant.fetched c.in-Ok.ensures.fetched (gone c.in-Ok.sent.ended c.if-sent.true)
+    around_cut g.L.Link.sent c.args.hub.now.origin c.args.ports.now c.args.hub_seat.now c.loop.hub_seat c.send_each.new.hub_seat c.args.link.now
+    c.loop.link c.send_each.new.link (Ok c.in-Ok.sent) 1 c.loop.invariant.fetched c.in-Ok.ensures.fetched (gone c.in-Ok.sent.ended c.if-sent.true)
 
 pub loop-preserved-in-Ok-Nothing : goal.loop-preserved-in-Ok-Nothing
 loop-preserved-in-Ok-Nothing g c =
@@ -38,8 +38,11 @@ loop-preserved-in-Ok-Nothing g c =
       next = tt;
       finite = tt;
       brought = brought_more handed host c.args.port.now c.loop.port c.hear.new.port c.args.link.now mid c.hear.new.link None so c.in-Ok-Nothing.ensures.brought;
-      fetched = fetched_on c.args.hub.now.origin c.args.ports.now c.args.hub_seat.now c.loop.hub_seat c.send_each.new.hub_seat
-          (cond c.in-Ok.sent.ended 1 0) 0 was.fetched c.in-Ok.ensures.fetched (going_on c.in-Ok.sent.ended c.if-sent.false);
+      fetched = rounds_still g.L.Link.sent c.args.hub.now.origin c.args.ports.now c.args.hub_seat.now c.send_each.new.hub_seat c.args.link.now
+          c.send_each.new.link c.hear.new.link
+          (rounds_on g.L.Link.sent c.args.hub.now.origin c.args.ports.now c.args.hub_seat.now c.loop.hub_seat c.send_each.new.hub_seat c.args.link.now
+          c.loop.link c.send_each.new.link (Ok c.in-Ok.sent) c.loop.invariant.fetched c.in-Ok.ensures.fetched
+          (going_on c.in-Ok.sent.ended c.if-sent.false) refl) c.in-Ok-Nothing.ensures.sent;
       faults = subst (λ h. TellsHeard (faults mid) (faults c.hear.new.link) (Ok h)) c.in-Ok-Nothing.field-0-is c.in-Ok-Nothing.ensures.faults
           ∙ (c.in-Ok.ensures.faults ∙ was.faults);
     }
@@ -57,8 +60,11 @@ loop-preserved g c =
       next = tt;
       finite = tt;
       brought = brought_more handed host c.args.port.now c.loop.port c.hear.new.port c.args.link.now mid c.hear.new.link None so c.in-Ok-Datagram.ensures.brought;
-      fetched = fetched_on c.args.hub.now.origin c.args.ports.now c.args.hub_seat.now c.loop.hub_seat c.send_each.new.hub_seat
-          (cond c.in-Ok.sent.ended 1 0) 0 was.fetched c.in-Ok.ensures.fetched (going_on c.in-Ok.sent.ended c.if-sent.false);
+      fetched = rounds_still g.L.Link.sent c.args.hub.now.origin c.args.ports.now c.args.hub_seat.now c.send_each.new.hub_seat c.args.link.now
+          c.send_each.new.link c.hear.new.link
+          (rounds_on g.L.Link.sent c.args.hub.now.origin c.args.ports.now c.args.hub_seat.now c.loop.hub_seat c.send_each.new.hub_seat c.args.link.now
+          c.loop.link c.send_each.new.link (Ok c.in-Ok.sent) c.loop.invariant.fetched c.in-Ok.ensures.fetched
+          (going_on c.in-Ok.sent.ended c.if-sent.false) refl) c.in-Ok-Datagram.ensures.sent;
       faults = subst (λ h. TellsHeard (faults mid) (faults c.hear.new.link) (Ok h)) c.in-Ok-Datagram.field-0-is c.in-Ok-Datagram.ensures.faults
           ∙ (c.in-Ok.ensures.faults ∙ was.faults);
     }
@@ -74,10 +80,12 @@ returns-in-Ok-Failed-clause-brought g c =
 
 pub returns-in-Ok-Failed-clause-fetched : goal.returns-in-Ok-Failed-clause-fetched
 returns-in-Ok-Failed-clause-fetched g c =
-    let o = c.args.hub.now.origin in
-    let ports = c.args.ports.now in
-    fetched_on o ports c.args.hub_seat.now c.loop.hub_seat c.send_each.new.hub_seat (cond c.in-Ok.sent.ended 1 0) 0 c.loop.invariant.fetched
-    c.in-Ok.ensures.fetched (going_on c.in-Ok.sent.ended c.if-sent.false)
+    around_whole g.L.Link.sent c.args.hub.now.origin c.args.ports.now c.args.hub_seat.now c.send_each.new.hub_seat c.args.link.now c.hear.new.link
+    (rounds_still g.L.Link.sent c.args.hub.now.origin c.args.ports.now c.args.hub_seat.now c.send_each.new.hub_seat c.args.link.now
+    c.send_each.new.link c.hear.new.link
+    (rounds_on g.L.Link.sent c.args.hub.now.origin c.args.ports.now c.args.hub_seat.now c.loop.hub_seat c.send_each.new.hub_seat c.args.link.now
+    c.loop.link c.send_each.new.link (Ok c.in-Ok.sent) c.loop.invariant.fetched c.in-Ok.ensures.fetched
+    (going_on c.in-Ok.sent.ended c.if-sent.false) refl) c.in-Ok-Failed.ensures.sent)
 
 pub returns-in-Err-hear-clause-brought : goal.returns-in-Err-hear-clause-brought
 returns-in-Err-hear-clause-brought g c =
@@ -90,7 +98,9 @@ returns-in-Err-hear-clause-brought g c =
 
 pub returns-in-Err-hear-clause-fetched : goal.returns-in-Err-hear-clause-fetched
 returns-in-Err-hear-clause-fetched g c =
-    let o = c.args.hub.now.origin in
-    let ports = c.args.ports.now in
-    fetched_on o ports c.args.hub_seat.now c.loop.hub_seat c.send_each.new.hub_seat (cond c.in-Ok.sent.ended 1 0) 0 c.loop.invariant.fetched
-    c.in-Ok.ensures.fetched (going_on c.in-Ok.sent.ended c.if-sent.false)
+    around_whole g.L.Link.sent c.args.hub.now.origin c.args.ports.now c.args.hub_seat.now c.send_each.new.hub_seat c.args.link.now c.hear.new.link
+    (rounds_still g.L.Link.sent c.args.hub.now.origin c.args.ports.now c.args.hub_seat.now c.send_each.new.hub_seat c.args.link.now
+    c.send_each.new.link c.hear.new.link
+    (rounds_on g.L.Link.sent c.args.hub.now.origin c.args.ports.now c.args.hub_seat.now c.loop.hub_seat c.send_each.new.hub_seat c.args.link.now
+    c.loop.link c.send_each.new.link (Ok c.in-Ok.sent) c.loop.invariant.fetched c.in-Ok.ensures.fetched
+    (going_on c.in-Ok.sent.ended c.if-sent.false) refl) c.in-Err-hear.ensures.sent)

@@ -1,10 +1,11 @@
-use Rattle.std.proofs.Common.{◌∙◌, cond, refl}
-use Rattle.vk_udp.proofs.Fetching.{among_at, fetched_none, fetched_on, going_on, seat_of}
+use Rattle.std.proofs.Common.{◌∙◌, arith, cond, false, refl}
+use Rattle.vk_udp.proofs.Asking.{more_none}
+use Rattle.vk_udp.proofs.Fetching.{going_on, round_ended, round_more, round_none, round_refused, round_whole, seat_of}
 use Rattle.vk_udp.proofs.carrier.send_each.Goals as goal
 
 pub loop-there-init : goal.loop-there-init
 loop-there-init g c = record {
-  fetched = fetched_none c.args.hub.now.origin c.args.ports.now c.args.hub_seat.now;
+  fetched = round_none g.L.Link.sent c.args.hub.now.origin c.args.ports.now c.args.hub_seat.now c.args.link.now (more_none (g.L.Link.sent c.args.link.now));
   handed = refl;
   faults = refl;
 }
@@ -15,25 +16,26 @@ send_one-requires g c = seat_of c.args.hub.now c.args.hub_seat.now c.loop-there.
 pub loop-there-preserved : goal.loop-there-preserved
 loop-there-preserved g c =
     let was = c.loop-there.invariant in
-    let o = c.args.hub.now.origin in
-    let ports = c.args.ports.now in
     record {
-      fetched = fetched_on o ports c.args.hub_seat.now c.loop-there.hub_seat c.send_one.new.hub_seat (cond c.in-Ok.sent.ended 1 0) 0 was.fetched
-          (c.in-Ok.ensures.fetched ports (among_at ports c.loop-there.there-index _ c.loop-there-test.true)) (going_on c.in-Ok.sent.ended c.if-sent.false);
+      fetched = round_more g.L.Link.sent c.args.hub.now.origin c.args.ports.now c.loop-there.there-index _ c.args.hub_seat.now c.loop-there.hub_seat
+          c.send_one.new.hub_seat c.args.link.now c.loop-there.link c.send_one.new.link (cond c.in-Ok.sent.ended 1 0) c.loop-there-test.true was.fetched
+          c.in-Ok.ensures.fetched (going_on c.in-Ok.sent.ended c.if-sent.false);
       handed = c.in-Ok.ensures.handed ∙ was.handed;
       faults = c.in-Ok.ensures.faults ∙ was.faults;
     }
 
 pub returns-then-sent-clause-fetched : goal.returns-then-sent-clause-fetched
 returns-then-sent-clause-fetched g c =
-    let o = c.args.hub.now.origin in
-    let ports = c.args.ports.now in
-    fetched_on o ports c.args.hub_seat.now c.loop-there.hub_seat c.send_one.new.hub_seat (cond c.in-Ok.sent.ended 1 0) (cond c.in-Ok.sent.ended 1 0)
-    c.loop-there.invariant.fetched (c.in-Ok.ensures.fetched ports (among_at ports c.loop-there.there-index _ c.loop-there-test.true)) refl
+    round_ended g.L.Link.sent c.args.hub.now.origin c.args.ports.now c.loop-there.there-index _ c.args.hub_seat.now c.loop-there.hub_seat
+    c.send_one.new.hub_seat c.args.link.now c.loop-there.link c.send_one.new.link c.in-Ok.sent c.loop-there-test.true c.if-sent.true
+    c.loop-there.invariant.fetched c.in-Ok.ensures.fetched
 
 pub returns-in-Err-clause-fetched : goal.returns-in-Err-clause-fetched
 returns-in-Err-clause-fetched g c =
-    let o = c.args.hub.now.origin in
-    let ports = c.args.ports.now in
-    fetched_on o ports c.args.hub_seat.now c.loop-there.hub_seat c.send_one.new.hub_seat 0 0 c.loop-there.invariant.fetched
-    (c.in-Err.ensures.fetched ports (among_at ports c.loop-there.there-index _ c.loop-there-test.true)) refl
+    round_refused g.L.Link.sent c.args.hub.now.origin c.args.ports.now c.loop-there.there-index c.args.hub_seat.now c.loop-there.hub_seat
+    c.send_one.new.hub_seat c.args.link.now c.loop-there.link c.send_one.new.link c.in-Err.why c.loop-there.invariant.fetched c.in-Err.ensures.fetched
+
+pub returns-clause-fetched : goal.returns-clause-fetched
+returns-clause-fetched g c =
+    round_whole g.L.Link.sent c.args.hub.now.origin c.args.ports.now c.loop-there.there-index c.args.hub_seat.now c.loop-there.hub_seat c.args.link.now
+    c.loop-there.link (record { moved = c.loop-there.moved; ended = false }) (omega arith) refl c.loop-there.invariant.fetched

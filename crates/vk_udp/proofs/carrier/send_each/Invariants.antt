@@ -1,10 +1,10 @@
-use Rattle.std.proofs.Common.{◌≡◌}
+use Rattle.std.proofs.Common.{◌≡◌, take}
 use Rattle.vk_udp.specs.Carried.{HasFetchedFor}
 use Rattle.vk_udp.proofs.carrier.send_each.Given as goal
 
 abbrev pub invariant-loop-there : goal.invariant-loop-there
 invariant-loop-there g l = record {
-  fetched : HasFetchedFor l.hub.origin l.ports l.fn.hub_seat l.hub_seat 0;
+  fetched : HasFetchedFor g.L.Link.sent l.hub.origin (take l.there-index l.ports) l.fn.hub_seat l.hub_seat l.fn.link l.link 0;
   handed : g.L.Link.handed l.link ≡ g.L.Link.handed l.fn.link;
   faults : g.L.Link.fault_count l.link ≡ g.L.Link.fault_count l.fn.link;
 }

@@ -7,7 +7,7 @@ use Rattle.v_run.specs.Passages.{fresh_station}
 use Rattle.v_node.specs.Seats.{hub_stand_of}
 use Rattle.vk_threads.specs.Assigned.{program_task}
 use Rattle.vk_udp.proofs.Dealing.{new_seat}
-use Rattle.vk_udp.proofs.Opened.{all_new, crew_refused, fault_as, own_processes, ran_as, two_taken}
+use Rattle.vk_udp.proofs.Opened.{all_new, crew_refused, fault_as, own_processes, ran_as, sent_as, two_taken}
 use Rattle.vk_udp.proofs.WholeNode.{have_ended}
 use Rattle.vk_udp.proofs.node.run_node.Goals as goal
 
@@ -72,9 +72,10 @@ record_of-requires-clause-ended g c κs within =
     let origin = c.in-Ok-new-2.ensures.cell.0 ∙ ap (λ x. fresh_station x c.in-Ok-new.station.host) c.in-Ok-new.ensures.config
     ∙ ap (fresh_station c.args.config) c.in-Ok-new.ensures.host in (
       c.args.rounds,
+      c.args.ports.now,
       map (program_task g.G.Program.task) programs,
       c.in-Ok.link,
-      have_ended c.args.config c.args.host c.in-Ok-new-2.cell c.in-Ok-new-3.hub origin g.W.L.Link.handed g.W.L.Link.fault_count g.G.Program.task _ programs
+      have_ended c.args.config c.args.host c.in-Ok-new-2.cell c.in-Ok-new-3.hub origin g.W.L.Link.handed g.W.L.Link.sent g.W.L.Link.fault_count g.G.Program.task _ programs
           c.args.rounds c.args.ports.now c.take_hub_seat-fetches.result c.in-Ok.link c.in-Ok-run_jobs.ends.items c.in-Ok-run_jobs.halt
           (omega (arith, c.in-Ok-new-2.ensures.cell.1, counted)) (omega (arith, c.in-Ok-new-3.ensures.seats, counted))
           (omega (arith, c.in-Ok-new-3.ensures.programs, counted)) (omega (arith, counted, c.count_of-count.ensures.few)) c.requires.apart
@@ -92,16 +93,37 @@ returns-in-Ok-run_jobs-clause-ran g c =
     c.take_hub_seat-fetches.ensures in
     let origin = c.in-Ok-new-2.ensures.cell.0 ∙ ap (λ x. fresh_station x c.in-Ok-new.station.host) c.in-Ok-new.ensures.config
     ∙ ap (fresh_station c.args.config) c.in-Ok-new.ensures.host in
-    let it = have_ended c.args.config c.args.host c.in-Ok-new-2.cell c.in-Ok-new-3.hub origin g.W.L.Link.handed g.W.L.Link.fault_count g.G.Program.task _
+    let it = have_ended c.args.config c.args.host c.in-Ok-new-2.cell c.in-Ok-new-3.hub origin g.W.L.Link.handed g.W.L.Link.sent g.W.L.Link.fault_count g.G.Program.task _
     programs c.args.rounds c.args.ports.now c.take_hub_seat-fetches.result c.in-Ok.link c.in-Ok-run_jobs.ends.items c.in-Ok-run_jobs.halt
     (omega (arith, c.in-Ok-new-2.ensures.cell.1, counted)) (omega (arith, c.in-Ok-new-3.ensures.seats, counted))
     (omega (arith, c.in-Ok-new-3.ensures.programs, counted)) (omega (arith, counted, c.count_of-count.ensures.few)) c.requires.apart
     (new_seat c.in-Ok-new-3.hub c.take_hub_seat-fetches.result taken.fetches_new) (ap hub_stand_of taken.fetches_new.1) c.requires.ports.stations
     c.in-Ok-run_jobs.ensures.ended in
-    ran_as g.W.L.Link.handed g.W.L.Link.fault_count c.args.config c.args.host c.in-Ok-new-2.cell c.in-Ok-new-3.hub c.args.rounds
-    (map (program_task g.G.Program.task) programs) c.in-Ok.link c.in-Ok-run_jobs.ends.items c.in-Ok-run_jobs.halt (g.W.Wire.handed c.args.wire.now)
+    ran_as g.W.L.Link.handed g.W.L.Link.sent g.W.L.Link.fault_count c.args.config c.args.host c.in-Ok-new-2.cell c.in-Ok-new-3.hub c.args.rounds
+    c.args.ports.now (map (program_task g.G.Program.task) programs) c.in-Ok.link c.in-Ok-run_jobs.ends.items c.in-Ok-run_jobs.halt (g.W.Wire.handed c.args.wire.now)
     (g.W.Wire.handed c.open.new.self) (g.W.Wire.handed c.record_of.new.wire) c.record_of.result c.in-Ok.ensures.handed c.in-Ok.ensures.link it
     c.record_of.ensures.ran
+
+pub returns-in-Ok-run_jobs-clause-sent : goal.returns-in-Ok-run_jobs-clause-sent
+returns-in-Ok-run_jobs-clause-sent g c =
+    let programs = c.args.programs.items in
+    let counted = c.count_of-count.ensures.count ∙ ap length c.deref.ensures.value in
+    let taken = two_taken c.in-Ok-new-3.hub (c.count_of-count.result + 4) (c.count_of-count.result + 2) c.in-Ok-new-3.hub_seats.items
+    c.take_hub_seat-halt.new.seats.items c.take_hub_seat-fetches.new.seats.items c.take_hub_seat-halt.result c.take_hub_seat-fetches.result
+    (omega arith) (omega (arith, c.in-Ok-new-3.hub_seats.ok.0, c.in-Ok-new-3.ensures.count)) c.in-Ok-new-3.ensures.each c.take_hub_seat-halt.ensures
+    c.take_hub_seat-fetches.ensures in
+    let origin = c.in-Ok-new-2.ensures.cell.0 ∙ ap (λ x. fresh_station x c.in-Ok-new.station.host) c.in-Ok-new.ensures.config
+    ∙ ap (fresh_station c.args.config) c.in-Ok-new.ensures.host in
+    let it = have_ended c.args.config c.args.host c.in-Ok-new-2.cell c.in-Ok-new-3.hub origin g.W.L.Link.handed g.W.L.Link.sent g.W.L.Link.fault_count g.G.Program.task _
+    programs c.args.rounds c.args.ports.now c.take_hub_seat-fetches.result c.in-Ok.link c.in-Ok-run_jobs.ends.items c.in-Ok-run_jobs.halt
+    (omega (arith, c.in-Ok-new-2.ensures.cell.1, counted)) (omega (arith, c.in-Ok-new-3.ensures.seats, counted))
+    (omega (arith, c.in-Ok-new-3.ensures.programs, counted)) (omega (arith, counted, c.count_of-count.ensures.few)) c.requires.apart
+    (new_seat c.in-Ok-new-3.hub c.take_hub_seat-fetches.result taken.fetches_new) (ap hub_stand_of taken.fetches_new.1) c.requires.ports.stations
+    c.in-Ok-run_jobs.ensures.ended in
+    sent_as g.W.L.Link.handed g.W.L.Link.sent g.W.L.Link.fault_count c.args.config c.args.host c.in-Ok-new-2.cell c.in-Ok-new-3.hub c.args.rounds
+    c.args.ports.now (map (program_task g.G.Program.task) programs) c.in-Ok.link c.in-Ok-run_jobs.ends.items c.in-Ok-run_jobs.halt c.args.plan
+    (g.W.Wire.sent c.args.wire.now) (g.W.Wire.sent c.open.new.self) (g.W.Wire.sent c.record_of.new.wire) c.record_of.result c.in-Ok.ensures.sent
+    c.in-Ok.ensures.unsent it c.in-Ok-new-3.ensures.stations c.in-Ok-new-3.ensures.plan c.record_of.ensures.sent
 
 pub returns-in-Ok-run_jobs-clause-fault : goal.returns-in-Ok-run_jobs-clause-fault
 returns-in-Ok-run_jobs-clause-fault g c =

@@ -1,0 +1,68 @@
+//! What goes together of a move, as one value.
+
+ghost use Rattle.std.specs.Prelude.{◌≡◌, ◌≤◌, ◌+◌, length};
+ghost use Rattle.vk_base.specs.declared.limits.TheConstants.{MOVE_BYTES};
+ghost use Rattle.vk_move.specs.Moved.{moving_by};
+
+use vk_base::{Direction, MoveName, Name, Pid, Times};
+
+/// A tick of the clock, and how often and how long a station tries.
+#[derive(Clone, Copy)]
+pub struct Tick {
+    pub at: u64,
+    pub times: Times,
+}
+
+/// Which move a packet is of, and who makes it.
+#[derive(Clone, Copy)]
+pub struct Moving {
+    pub name: MoveName,
+    pub mover: Pid,
+}
+
+/// What a process calls for: a move of `count` bytes, to a partner or from one.
+#[derive(Clone, Copy)]
+pub struct Transfer {
+    pub way: Direction,
+    pub partner: Pid,
+    pub dest: u32,
+    pub src: u32,
+    pub count: u32,
+}
+
+/// Which bytes are asked for: of `total` in all, which start at `src`, those from `offset` on.
+#[derive(Clone, Copy)]
+pub struct Asked {
+    pub src: u32,
+    pub total: u32,
+    pub offset: u32,
+}
+
+/// The bytes of one packet: of `total` in all, those from `offset` on.
+#[derive(Clone, Copy)]
+pub struct Part<'a> {
+    pub total: u32,
+    pub offset: u32,
+    pub bytes: &'a [u8],
+}
+
+/// How many bytes of the move there are up to the end of these.
+pub fn end_of(part: Part<'_>) -> u32
+    requires { part.offset + length part.bytes.now ≤ MOVE_BYTES }
+    ensures { result ≡ part.entry.offset + length part.entry.bytes.now }
+{
+    part.offset + part.bytes.len() as u32
+}
+
+/// The move of this number in the Send of this number, which the mover makes.
+pub fn moving_by(mover: Pid, sender: Pid, number: u64, moving: u64) -> Moving
+    ensures { result ≡ moving_by mover sender number moving }
+{
+    Moving {
+        name: MoveName {
+            exchange: Name { sender, number },
+            number: moving,
+        },
+        mover,
+    }
+}
