@@ -1,5 +1,6 @@
 -- Giving the turn back keeps the rule, whether one event was entered or none.
-use Rattle.std.proofs.Common.{◌≡◌, ◌≢◌, ℕ, ◌+◌, ◌*◌, ◌<◌, ◌≤◌, Bool, true, false, true≢false, List, [], ◌∷◌, ◌++◌, length, get_or, set, refl, sym, ap, ◌∙◌, subst, arith, ⊎_elim, inl, inr, le_refl}
+use Rattle.std.proofs.Common.{◌≡◌, ◌≢◌, ℕ, ◌+◌, ◌*◌, ◌<◌, ◌≤◌, true, false, true≢false, List, [], ◌∷◌, ◌++◌, length, get_or, set, refl, sym, ap, ◌∙◌, subst, arith, ⊎_elim, inl, inr, le_refl}
+use Rattle.std.proofs.lemmas.Bool.{false_from_ne_true}
 use mathlib.Core.Option.{some, none, some-injective}
 use lib.ListN.{get_elem?}
 use Rattle.atomic_table.specs.Table.{State, Me, step, gives, stepped, Allows}
@@ -12,12 +13,8 @@ use Rattle.turn_cell.specs.Turns.{Turn, free, taken, bit, IsTaken, IsPlaced, Kep
 use Rattle.turn_cell.proofs.Histories.{accounts_more, events_other, prefix_more, prefix_self}
 use Rattle.turn_cell.proofs.Views.{each_set, apart_set}
 
-off : false ≡ true → ⊥
+pub off : false ≡ true → ⊥
 off e = true≢false (sym e)
-
-not_on : (b : Bool) → (b ≡ true → ⊥) → b ≡ false
-not_on true never = absurd (never refl)
-not_on false never = refl
 
 -- one slot has one state
 same_state : {S : Type 0} (x y : S) → ◌≡◌ {A = List (ℕ × S)} ((0, x) ∷ []) ((0, y) ∷ []) → x ≡ y
@@ -97,7 +94,7 @@ module _ {S E : Type 0} (history : S → List (ℕ × E)) (origin : S → S) (st
             history_is = refl;
             origin_is = mine.same (origin x) back.of_it;
             nobody = each_set (λ i d. d.holds ≡ false) s.views id w refl
-                (λ j d away e. not_on d.holds (λ holds. away (placed.alone j d e holds ∙ same)));
+                (λ j d away e. false_from_ne_true d.holds (λ holds. away (placed.alone j d e holds ∙ same)));
           };
           each = each_set (λ i d. Knows start seats next d) s.views id w
               record {

@@ -10,9 +10,7 @@ use Rattle.turn_cell.specs.Turns.{Turn, free, taken, IsPlaced, Kept}
 use Rattle.turn_cell.proofs.Histories.{accounts_both, different_both, number_of_both}
 use Rattle.turn_cell.proofs.Splitting.{not_holder}
 use Rattle.turn_cell.proofs.Views.{each_set, apart_joined}
-
-off : false ≡ true → ⊥
-off e = true≢false (sym e)
+use Rattle.turn_cell.proofs.Giving.{off}
 
 module _ {S E : Type 0} (history : S → List (ℕ × E)) (origin : S → S) (start : S) (seats : ℕ) where
   abbrev V : Type 0

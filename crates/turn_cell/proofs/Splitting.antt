@@ -9,9 +9,7 @@ use Rattle.turn_cell.specs.Accounts.{IsNumberOf}
 use Rattle.turn_cell.specs.Standings.{Knows, Owns, unsplit, with_first, without_first}
 use Rattle.turn_cell.specs.Turns.{Turn, free, taken, IsPlaced, Kept}
 use Rattle.turn_cell.proofs.Views.{each_set, each_end, apart_set, apart_end}
-
-off : false ≡ true → ⊥
-off e = true≢false (sym e)
+use Rattle.turn_cell.proofs.Giving.{off}
 
 module _ {S E : Type 0} where
   -- a seat that has no turn is not the one that has it

@@ -1,5 +1,5 @@
 -- Taking the turn keeps the rule.
-use Rattle.std.proofs.Common.{◌≡◌, ℕ, ◌+◌, ◌*◌, ◌%◌, ◌==◌, false, true, true≢false, Some, List, [], ◌∷◌, length, get_or, set, refl, sym, ap, ◌∙◌, subst, arith}
+use Rattle.std.proofs.Common.{◌≡◌, ℕ, ◌+◌, ◌*◌, ◌%◌, ◌==◌, true, true≢false, Some, List, [], ◌∷◌, length, get_or, set, refl, sym, ap, ◌∙◌, subst, arith}
 use mathlib.Core.Option.{some, none}
 use mathlib.Core.List.{IsPrefix}
 use lib.ListN.{get_elem?}
@@ -13,9 +13,7 @@ use Rattle.turn_cell.specs.Standings.{Knows, Owns, in_turn}
 use Rattle.turn_cell.specs.Turns.{Turn, free, taken, bit, IsFree, IsPlaced, Kept, Waits, Took, takes_turn}
 use Rattle.turn_cell.proofs.Histories.{prefix_self}
 use Rattle.turn_cell.proofs.Views.{each_set, apart_set, at_inside}
-
-off : false ≡ true → ⊥
-off e = true≢false (sym e)
+use Rattle.turn_cell.proofs.Giving.{off}
 
 module _ {S E : Type 0} (history : S → List (ℕ × E)) (origin : S → S) (start : S) (seats : ℕ) where
   abbrev V : Type 0

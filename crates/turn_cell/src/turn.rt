@@ -10,11 +10,28 @@ use crate::rule::{CellRule, Give, Setup, Standing, Take};
 use crate::seat::Place;
 use atomic_table::Shared;
 use std::alloc::Global;
+use std::hint::spin_loop;
 use std::sync::Wait;
 use std::thread::yield_now;
 
+/// How often it is looked whether the turn is free before other threads may have the processor: as long as most turns take.
+const LOOKS: u32 = 100;
+
 /// What a cell's seats share.
 pub type Board<S> = Shared<S, Standing<S, <S as Replay>::Event>, Setup<S>, CellRule<S>>;
+
+// Waits until the turn is free, for a short time; else lets other threads have the processor.
+fn stand_by<S: Replay>(board: &Board<S>)
+    requires { board.now.table_id.words ≡ 1 }
+{
+    for _ in 0..LOOKS {
+        if board.peek(0) % 2 == 0 {
+            return;
+        }
+        spin_loop();
+    }
+    yield_now();
+}
 
 // Waits for the turn, and answers the word that it found: twice the length of the history.
 fn take<S: Replay, R: Wait>(rt: &R, board: &Board<S>, seat: &mut Place<S>) -> u64
@@ -28,7 +45,7 @@ fn take<S: Replay, R: Wait>(rt: &R, board: &Board<S>, seat: &mut Place<S>) -> u6
         if word % 2 == 0 && board.compare_exchange::<Take>(seat, 0, word, word + 1) == word {
             return word;
         }
-        yield_now();
+        stand_by(board);
     }
     unreachable!()
 }

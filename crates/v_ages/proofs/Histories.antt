@@ -4,19 +4,15 @@ use Rattle.std.proofs.lemmas.Bool.{cases_Bool, eqb-true, both_ways, eq-eqb, cond
 use Rattle.std.proofs.lemmas.Option.{none-some, same_Some}
 use Rattle.std.specs.List.{filter_map, cons_option}
 use Rattle.std.specs.Option.{option_map_or}
-use Rattle.vk_base.specs.declared.config.ProcessSpec.{ProcessSpec}
-use Rattle.vk_base.specs.declared.kernel.Name.{Name}
-use Rattle.vk_base.specs.declared.kernel.Process.{Process}
-use Rattle.vk_base.specs.declared.message.Message.{Message}
-use Rattle.vk_base.specs.declared.pid.Pid.{Pid}
-use Rattle.vk_base.specs.declared.step.Step.{Step}
+use Rattle.vk_types.specs.Types.{Message, Name, Pid, Process, ProcessSpec, Step}
 use Rattle.vk_base.specs.declared.step.Step.TheVariants as steps
 use Rattle.vk_base.specs.Kernel.{name_of, ◌>>=◌, initial_process, blocked_in}
 use Rattle.vk_base.specs.Packets.{Send}
 use Rattle.vk_base.specs.Pids.{same_pid}
 use Rattle.vk_base.specs.Settings.{Settings, is_process, pool_of}
 use Rattle.vk_base.specs.Steps.{only_if, first_of}
-use Rattle.v_laws.proofs.Tables.{same_pid_is, same_pid_self}
+use Rattle.vk_base.proofs.PidLemmas.{same_pid_self}
+use Rattle.v_laws.proofs.Tables.{same_pid_is}
 use Rattle.vk_frame.specs.declared.header.Header.{Header}
 use Rattle.vk_schedule.specs.declared.event.Event.{Event}
 use Rattle.vk_schedule.specs.declared.event.Event.TheVariants as events
@@ -68,8 +64,8 @@ pub record IsAged (c : Settings) (logs : Logs) : Type 0 where
   pub ones : (host : ℕ) → Each (λ (d : Entry). One d.steps) (logs host)
 
 -- what is delivered was sent by the station that it names
-abbrev pub IsSent : Logs → Input → Type 0
-IsSent logs i = (h : Header) (p : Rattle.vk_base.specs.Packets.Packet) → i ≡ Delivered (Framed h p) →
+abbrev pub WasSent : Logs → Input → Type 0
+WasSent logs i = (h : Header) (p : Rattle.vk_base.specs.Packets.Packet) → i ≡ Delivered (Framed h p) →
     In (record { header = h; packet = p }) (emitted (logs h.source))
 
 other_log : (logs : Logs) (host h : ℕ) (e : Entry) → (h == host) ≡ false → with_entry logs host e h ≡ logs h
@@ -102,7 +98,7 @@ kept_more c host es e k i b h =
     kept_by c host es e i b (arrival_in e) refl k (came_from c.times e (reading c host es).slots (arrival_in e) i b h)
 
 -- A pair of stations.
-home_more : (c : Settings) (s : Pid) (q : ℕ) (logs : Logs) (i : Input) → IsSent logs i → AgedIn c s q (logs s.host) (logs q) →
+home_more : (c : Settings) (s : Pid) (q : ℕ) (logs : Logs) (i : Input) → WasSent logs i → AgedIn c s q (logs s.host) (logs q) →
     AgedIn c s q (entry_of c s.host (logs s.host) i ∷ logs s.host) (logs q)
 unfolding reading
 home_more c s q logs i sent k = home_step c.times s q (reading c s.host (logs s.host)) (reading c q (logs q)) (emitted (logs s.host))
@@ -110,7 +106,7 @@ home_more c s q logs i sent k = home_step c.times s q (reading c s.host (logs s.
     (home_entry c s q (reading c s.host (logs s.host)) (emitted (logs q)) i
     (λ h p e at_q. subst (λ n. In (record { header = h; packet = p }) (emitted (logs n))) at_q (sent h p e)))
 
-far_more : (c : Settings) (s : Pid) (q : ℕ) (logs : Logs) (i : Input) → IsSent logs i → IsKeen q (reading c q (logs q)) →
+far_more : (c : Settings) (s : Pid) (q : ℕ) (logs : Logs) (i : Input) → WasSent logs i → IsKeen q (reading c q (logs q)) →
     AgedIn c s q (logs s.host) (logs q) → AgedIn c s q (logs s.host) (entry_of c q (logs q) i ∷ logs q)
 unfolding reading
 far_more c s q logs i sent keen k = far_step c.times s q (reading c s.host (logs s.host)) (reading c q (logs q)) (emitted (logs s.host))
@@ -131,7 +127,7 @@ each_host P c logs host i step h k = elim (cases_Bool (h == host)) [
   | inr n ↦ subst (P h) (sym (other_log logs host h (entry_of c host (logs host) i) n)) k
 ]
 
-aged_more : (c : Settings) (logs : Logs) (host : ℕ) (i : Input) → IsSent logs i → ((h : ℕ) → IsKeen h (reading c h (logs h))) →
+aged_more : (c : Settings) (logs : Logs) (host : ℕ) (i : Input) → WasSent logs i → ((h : ℕ) → IsKeen h (reading c h (logs h))) →
     (s : Pid) (q : ℕ) → (s.host == q) ≡ false → AgedIn c s q (logs s.host) (logs q) →
     AgedIn c s q (after c logs host i s.host) (after c logs host i q)
 aged_more c logs host i sent keen s q apart k = elim (cases_Bool (s.host == host)) [
@@ -161,7 +157,7 @@ aged_more c logs host i sent keen s q apart k = elim (cases_Bool (s.host == host
   ]
 ]
 
-pub aged_entry : (c : Settings) (logs : Logs) (host : ℕ) (i : Input) → IsOwn host i → IsSent logs i → IsAged c logs →
+pub aged_entry : (c : Settings) (logs : Logs) (host : ℕ) (i : Input) → IsOwn host i → WasSent logs i → IsAged c logs →
     IsAged c (after c logs host i)
 aged_entry c logs host i own sent k = record {
   keen = λ h. each_host (λ h es. IsKeen h (reading c h es)) c logs host i (keen_more c host (logs host) i own) h (k.keen h);
@@ -240,12 +236,12 @@ in_find test (x ∷ xs) y h = found_in test (test x) x y xs h (in_find test xs y
 
 -- what an event does: nothing, or an entry of a station, of what was sent
 pub data Does (c : Settings) (logs : Logs) (h : Happened) : Type 0 where
-  Entered : (host event : ℕ) (i : Input) → h ≡ At host event (entry_of c host (logs host) i) → IsOwn host i → IsSent logs i → Does c logs h
+  Entered : (host event : ℕ) (i : Input) → h ≡ At host event (entry_of c host (logs host) i) → IsOwn host i → WasSent logs i → Does c logs h
   Nought : (host : ℕ) → h ≡ Missing host → Does c logs h
 
 sent_frame : (logs : Logs) (to from event output : ℕ) (f : Frame) →
     ((host : ℕ) → Each (λ (f : Frame). f.header.source ≡ host) (emitted (logs host))) → handed_over logs to from event output ≡ Some f →
-    IsSent logs (Delivered (Framed f.header f.packet))
+    WasSent logs (Delivered (Framed f.header f.packet))
 sent_frame logs to from event output f sources found h p e =
     let source : f.header.source ≡ from = each_find (λ (f : Frame). f.header.source ≡ from) (is_output to event output)
     (emitted (logs from)) f found (sources from) in
@@ -287,7 +283,7 @@ aged_from c [] logs k = k
 aged_from c (e ∷ es) logs k = aged_from c es (logs_after logs (happened c logs e)) (aged_event c logs e k)
 
 -- What arrives is above all that arrived before.
-pub above_all : (c : Settings) (logs : Logs) (q : ℕ) (i : Input) (name : Name) → IsOwn q i → IsSent logs i → IsAged c logs →
+pub above_all : (c : Settings) (logs : Logs) (q : ℕ) (i : Input) (name : Name) → IsOwn q i → WasSent logs i → IsAged c logs →
     arrival_in (entry_of c q (logs q) i) ≡ Some name → Each (BelowIn name.sender name.number) (logs q)
 above_all c logs q i name own sent k h =
     let s = name.sender in
@@ -434,7 +430,7 @@ arrive_by s n ss (OneComes name rest e h) g = first_by s n ss name rest e h (sub
   first_by s n ss name rest e h (inr g) = absurd (no_arrive s n rest h g)
 
 -- where a station lets a Send arrive, its number is above all of its sender that arrived there before
-pub new_above : (c : Settings) (logs : Logs) (q : ℕ) (i : Input) → IsOwn q i → IsSent logs i → IsAged c logs → (s : Pid) (n : ℕ) →
+pub new_above : (c : Settings) (logs : Logs) (q : ℕ) (i : Input) → IsOwn q i → WasSent logs i → IsAged c logs → (s : Pid) (n : ℕ) →
     In (steps.Arrive s n) (entry_of c q (logs q) i).steps
     → (d : Entry) → In d (logs q) → (m : ℕ) → In (steps.Arrive s m) d.steps → m < n
 new_above c logs q i own sent k s n arrives d old m arrived =
@@ -457,7 +453,7 @@ arrivals_are_new c es event q k e h = event_above c (logs_from c no_entries es) 
     (aged_from c es no_entries (aged_start c)) (does c (logs_from c no_entries es) event (aged_from c es no_entries (aged_start c))) h
 
 -- A copy of a Send that is taken, and is above the alien.
-taken_above : (c : Settings) (logs : Logs) (q : ℕ) (i : Input) → IsSent logs i → IsAged c logs → (s to : Pid) (n : ℕ)
+taken_above : (c : Settings) (logs : Logs) (q : ℕ) (i : Input) → WasSent logs i → IsAged c logs → (s to : Pid) (n : ℕ)
     (message : Message) (part : List ℕ) → taken_packet (entry_of c q (logs q) i) ≡ Some (Send s to n message part)
     → ((a : Alien) → alien_of (reading c q (logs q)).slots s ≡ Some a → a.name.number < n) → (d : Entry) → In d (logs q) → (m : ℕ) →
     In (steps.Arrive s m) d.steps → m < n

@@ -6,13 +6,9 @@ use Rattle.std.proofs.lemmas.List.{length-map}
 use Rattle.std.proofs.lemmas.Option.{same_Some, none-some}
 use Rattle.std.specs.List.{position, position_or_len}
 use Rattle.std.specs.Option.{option_map_or, option_or}
-use Rattle.vk_base.specs.declared.config.Times.{Times}
-use Rattle.vk_base.specs.declared.event.EventAnswer.{EventAnswer}
+use Rattle.vk_types.specs.Types.{EventAnswer, Exchange, Name, Pid, Times}
 use Rattle.vk_base.specs.declared.event.EventAnswer.TheVariants as events_answered
-use Rattle.vk_base.specs.declared.kernel.Exchange.{Exchange}
-use Rattle.vk_base.specs.declared.kernel.Name.{Name}
 use Rattle.vk_base.specs.declared.kernel.Stage.TheVariants as stages
-use Rattle.vk_base.specs.declared.pid.Pid.{Pid}
 use Rattle.vk_base.specs.declared.step.Step.TheVariants as steps
 use Rattle.vk_base.specs.Brought.{brought, posted}
 use Rattle.vk_base.specs.Calls.{unseen}
@@ -21,8 +17,9 @@ use Rattle.vk_base.specs.Packets.{Pending, Negative}
 use Rattle.vk_base.specs.Pids.{same_pid}
 use Rattle.vk_base.specs.Settings.{Settings}
 use Rattle.vk_base.specs.Steps.{after_arrival, after_effect, is_allowed, next, only_if, taken, taking, with_arrival, Taking}
+use Rattle.vk_base.proofs.PidLemmas.{same_pid_self}
 use Rattle.v_laws.proofs.StepLemmas.{taking_is}
-use Rattle.v_laws.proofs.Tables.{put_exchange_here, same_name_is, same_name_self, same_pid_self}
+use Rattle.v_laws.proofs.Tables.{put_exchange_here, same_name_is, same_name_self}
 use Rattle.v_sim.proofs.Made.{arriving_from}
 use Rattle.vk_frame.specs.declared.header.Header.{Header}
 use Rattle.vk_frame.specs.Rules.{is_young}
@@ -39,7 +36,7 @@ use Rattle.v_ages.proofs.FarSlots.{mapped}
 use Rattle.v_ages.proofs.Slots.{at, alien_there, at_past, at_set_same, position_map}
 use Rattle.v_ages.proofs.Taken.{brought_procs, from_is}
 use Rattle.v_whole.specs.EveryFrame.{EveryFrameHolds, HasAlien, HoldsAnyhow}
-use Rattle.v_due.specs.Arriving.{Arrives, HasFreeSlot, HasOlderAlien, IsWelcome, LaterSendsReplace, NewSendsArrive, Sent, comes, packet_with}
+use Rattle.v_due.specs.Arriving.{Arrives, HasFreeSlot, HasOlderAlien, IsSendWelcome, LaterSendsReplace, NewSendsArrive, Sent, comes, packet_with}
 use Rattle.v_due.specs.Failures.{reading_behind}
 
 -- Its message has come: it waits at its target, or was taken there.
@@ -135,7 +132,7 @@ outcome_arrives rd s slot new live place =
     (ap (λ p. is_none p) place)
 
 -- The entry.
-taken_answer : (c : Settings) (host : ℕ) (is : List Input) (s : Sent) → IsWelcome c host is s →
+taken_answer : (c : Settings) (host : ℕ) (is : List Input) (s : Sent) → IsSendWelcome c host is s →
     answer_to_frame host (reading_behind c host is).now c.times.life (Framed s.header (packet_with s)) ≡ events_answered.Taken
 taken_answer c host is s w =
     let last = cond (is_between s.header (packet_with s) && is_lawful (packet_with s)) events_answered.Taken events_answered.Bad in
@@ -155,7 +152,7 @@ arrival_entry c host rd s = record {
   steps = (arrival rd.view (packet_with s) (name_of s.from s.number) s.to).steps;
 }
 
-entry_is : (c : Settings) (host : ℕ) (is : List Input) (s : Sent) (slot : ℕ) → IsWelcome c host is s →
+entry_is : (c : Settings) (host : ℕ) (is : List Input) (s : Sent) (slot : ℕ) → IsSendWelcome c host is s →
     ((a : Alien) → alien_of (reading_behind c host is).slots s.from ≡ Some a → a.name.number < s.number) →
     place_for (reading_behind c host is).slots s.from ≡ Some slot →
     right_entry c host (reading_behind c host is) (comes s) ≡ arrival_entry c host (reading_behind c host is) s
@@ -301,7 +298,7 @@ receiver_here host h q t there = elim (or_cases (h.destination == host) (h.desti
     below : (q : Pid) → q.host ≡ every_station → ⊥
     below q e = let b : q.host < 65535 = q.one_host in omega arith
 
-target_apart : (c : Settings) (host : ℕ) (is : List Input) (s : Sent) → IsWelcome c host is s → same_pid s.to s.from ≡ false
+target_apart : (c : Settings) (host : ℕ) (is : List Input) (s : Sent) → IsSendWelcome c host is s → same_pid s.to s.from ≡ false
 target_apart c host is s w =
     let from = from_is host s.header (packet_with s) w.for w.between in
     ap (λ b. b && s.to.local == s.from.local) (ne_eqb s.to.host s.from.host (λ e. both_ways (s.from.host == host) from.away
@@ -327,7 +324,7 @@ alone_by c host is s slot holds alien own n has sender =
     let same = same_Some has.alien _ (sym has.is ∙ ap (at slots) place ∙ alien) in
     sym has.name ∙ ap (λ (z : Alien). z.name) same
 
-arrives : EveryFrameHolds → (c : Settings) (host : ℕ) (is : List Input) (s : Sent) (slot : ℕ) → IsWelcome c host is s →
+arrives : EveryFrameHolds → (c : Settings) (host : ℕ) (is : List Input) (s : Sent) (slot : ℕ) → IsSendWelcome c host is s →
     ((a : Alien) → alien_of (reading_behind c host is).slots s.from ≡ Some a → a.name.number < s.number) →
     place_for (reading_behind c host is).slots s.from ≡ Some slot → slot < length (reading_behind c host is).slots →
     Arrives c host is s slot

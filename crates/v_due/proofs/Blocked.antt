@@ -4,16 +4,10 @@ use Rattle.std.proofs.lemmas.Bool.{and_from, and_parts, both_ways, cond-true, co
 use Rattle.std.proofs.lemmas.Option.{same_Some, none-some}
 use Rattle.std.specs.List.{list_any}
 use Rattle.std.specs.Option.{option_map_or}
+use Rattle.vk_types.specs.Types.{Call, Name, Pid, Process, ProcessSpec, State, Step}
 use Rattle.vk_base.specs.declared.answer.Ending.TheVariants as endings
-use Rattle.vk_base.specs.declared.call.Call.{Call}
 use Rattle.vk_base.specs.declared.call.Call.TheVariants as calls
-use Rattle.vk_base.specs.declared.config.ProcessSpec.{ProcessSpec}
-use Rattle.vk_base.specs.declared.kernel.Name.{Name}
-use Rattle.vk_base.specs.declared.kernel.Process.{Process}
-use Rattle.vk_base.specs.declared.kernel.State.{State}
 use Rattle.vk_base.specs.declared.kernel.State.TheVariants as states
-use Rattle.vk_base.specs.declared.pid.Pid.{Pid}
-use Rattle.vk_base.specs.declared.step.Step.{Step}
 use Rattle.vk_base.specs.declared.step.Step.TheVariants as steps
 use Rattle.vk_base.specs.Brought.{brought}
 use Rattle.vk_base.specs.Calls.{call_step}
@@ -37,12 +31,12 @@ use Rattle.vk_rules.specs.View.{after_steps, first_view}
 use Rattle.vk_rules.specs.Works.{Work, acknowledged_by, begins, count_of_move, is_of_round, move_count, moves_to, restarts, work_after}
 use Rattle.vk_rules.proofs.Lists.{each_if, each_weaker}
 use Rattle.vk_rules.proofs.Taken.{outcome_by, packet_taken}
+use Rattle.vk_rules.proofs.OwnEvents.{none_taken}
 use Rattle.v_ages.proofs.Outcomes.{behind_no_call, failed_no_call, mild_packet}
 use Rattle.v_ages.proofs.Quiet.{NoCall}
 use Rattle.v_ages.proofs.Sent.{IsRound, round_is}
 use Rattle.v_ages.proofs.Taken.{brought_procs, any_each, settled_procs}
 use Rattle.v_ended.proofs.Spared.{doing, state_of}
-use Rattle.v_ended.proofs.Whole.{no_frame}
 use Rattle.v_due.specs.Failures.{reading_behind}
 use Rattle.v_due.proofs.Entries.{brings, untaken}
 use Rattle.v_due.proofs.Told.{view_after}
@@ -95,13 +89,13 @@ was_blocked c host rd (Called q d) r call here at =
     let e = right_entry c host rd (Called q d) in
     let a = answer_to c host rd (Called q d) in
     let l = next rd.view (steps.Call q d) in
-    let goes = without_frame rd.view e r _ (ap packet_taken (no_frame (Called q d) a refl)) at in
+    let goes = without_frame rd.view e r _ (ap packet_taken (none_taken (Called q d) a refl)) at in
     started c host rd q d r call (call_starts rd.view q d (call_step rd.view q d) r call refl
     (steps_calm l r (steps_behind l q d a) (behind_no_call l q d a) call goes))
 was_blocked c host rd (Collected q) r call here at =
     let e = right_entry c host rd (Collected q) in
     let a = answer_to c host rd (Collected q) in
-    let goes = without_frame rd.view e r _ (ap packet_taken (no_frame (Collected q) a refl)) at in
+    let goes = without_frame rd.view e r _ (ap packet_taken (none_taken (Collected q) a refl)) at in
     inl (steps_calm rd.view r _ (each_if NoCall (is_allowed rd.view (steps.Collect q)) (steps.Collect q ∷ []) (λ t. (refl, tt))) call goes)
 was_blocked c host rd Ticked r call here at =
     inl (steps_calm rd.view r _ (failed_no_call c.times (rd.now + 1) rd (own_pids c host)) call at)

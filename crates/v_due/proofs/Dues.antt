@@ -3,16 +3,10 @@ use Rattle.std.proofs.Common.{◌≡◌, ℕ, ◌+◌, Bool, true, false, cond, 
 use Rattle.std.proofs.lemmas.Bool.{eqb-true, not-true}
 use Rattle.std.proofs.lemmas.Option.{same_Some, none-some}
 use Rattle.std.specs.List.{list_any}
-use Rattle.vk_base.specs.declared.answer.Answer.{Answer}
+use Rattle.vk_types.specs.Types.{Answer, Call, Pid, Process, ProcessSpec, Refusal, State}
 use Rattle.vk_base.specs.declared.answer.Answer.TheVariants as answers
-use Rattle.vk_base.specs.declared.answer.Refusal.{Refusal}
-use Rattle.vk_base.specs.declared.call.Call.{Call}
 use Rattle.vk_base.specs.declared.call.Call.TheVariants as calls
-use Rattle.vk_base.specs.declared.config.ProcessSpec.{ProcessSpec}
-use Rattle.vk_base.specs.declared.kernel.Process.{Process}
-use Rattle.vk_base.specs.declared.kernel.State.{State}
 use Rattle.vk_base.specs.declared.kernel.State.TheVariants as states
-use Rattle.vk_base.specs.declared.pid.Pid.{Pid}
 use Rattle.vk_base.specs.Kernel.{◌>>=◌, finished_call, sending}
 use Rattle.vk_base.specs.Packets.{Packet}
 use Rattle.vk_base.specs.Pids.{same_pid, same_host}
@@ -32,7 +26,7 @@ use Rattle.v_ended.proofs.Spared as spared
 use Rattle.v_due.specs.Failures.{FailuresComeWhenDue, IsAtWork, IsBlocked, UnansweredWorksFail, failure_of, reading_behind}
 use Rattle.v_due.proofs.Named.{named_behind}
 use Rattle.v_due.proofs.Packets.{RefusedBy}
-use Rattle.v_due.proofs.Ticks.{Stands, all_failed}
+use Rattle.v_due.proofs.Ticks.{StandsAtWork, all_failed}
 use Rattle.v_due.proofs.Told.{Cause, Frame, Tick, refused_by, view_after}
 
 -- the processes of the station are on it
@@ -102,7 +96,7 @@ failures_come_when_due c host is i s call at refused =
 
 -- What a process at work has.
 pub stands_behind : (c : Settings) (host : ℕ) (is : List Input) (s : Pid) (call : Call) (o : Option Process) → IsAtWork c host is s call →
-    (reading_behind c host is).view.procs s ≡ o → Stands (reading_behind c host is).view s call
+    (reading_behind c host is).view.procs s ≡ o → StandsAtWork (reading_behind c host is).view s call
 stands_behind c host is s call None at there =
     absurd (none-some _ (sym (ap spared.state_of there) ∙ doing_behind c host is s call at.waits))
 stands_behind c host is s call (Some p) at there =

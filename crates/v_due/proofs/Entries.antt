@@ -1,7 +1,7 @@
 -- What an entry does, by what it takes: its packet, and the steps of that.
 use Rattle.std.proofs.Common.{◌≡◌, ℕ, ◌+◌, false, ◌==◌, [], Option, Some, None, refl, sym, ap, ◌∙◌}
 use Rattle.std.proofs.lemmas.Option.{same_Some, none-some}
-use Rattle.vk_base.specs.declared.pid.Pid.{Pid}
+use Rattle.vk_types.specs.Types.{Pid}
 use Rattle.vk_base.specs.Packets.{Packet}
 use Rattle.vk_base.specs.Pids.{same_pid}
 use Rattle.vk_base.specs.Settings.{Settings}
@@ -12,8 +12,8 @@ use Rattle.vk_rules.specs.Readings.{Reading}
 use Rattle.vk_rules.specs.Right.{answer_to, number_after, right_entry, tick_after}
 use Rattle.vk_rules.specs.Rounds.{Outcome}
 use Rattle.vk_rules.proofs.Taken.{outcome_by, packet_taken}
-use Rattle.v_ages.proofs.Taken.{Takes, Nothing, TakesFrame, from_is, takes}
-use Rattle.v_ended.proofs.Whole.{no_frame}
+use Rattle.vk_rules.proofs.OwnEvents.{none_taken}
+use Rattle.v_ages.proofs.Taken.{ComesOfFrame, Nothing, TakesFrame, from_is, takes}
 
 -- The packet that an entry takes is of a process of another station, and the entry has its steps.
 pub record Brings (c : Settings) (host : ℕ) (rd : Reading) (i : Input) (p : Packet) : Type 0 where
@@ -26,9 +26,9 @@ pub record Brings (c : Settings) (host : ℕ) (rd : Reading) (i : Input) (p : Pa
 none_in : (c : Settings) (host : ℕ) (rd : Reading) (i : Input) (p : Packet) → is_delivery i ≡ false →
     taken_packet (right_entry c host rd i) ≡ Some p → Brings c host rd i p
 unfolding right_entry
-none_in c host rd i p d e = absurd (none-some p (sym (ap packet_taken (no_frame i (answer_to c host rd i) d)) ∙ e))
+none_in c host rd i p d e = absurd (none-some p (sym (ap packet_taken (none_taken i (answer_to c host rd i) d)) ∙ e))
 
-delivery_brings : (c : Settings) (host : ℕ) (rd : Reading) (u : Unsealed) (p : Packet) → Takes host rd.now c.times.life u →
+delivery_brings : (c : Settings) (host : ℕ) (rd : Reading) (u : Unsealed) (p : Packet) → ComesOfFrame host rd.now c.times.life u →
     packet_taken (taken_in (Delivered u) (answer_to c host rd (Delivered u))) ≡ Some p → Brings c host rd (Delivered u) p
 unfolding right_entry
 delivery_brings c host rd u p (Nothing none) e = absurd (none-some p (sym (ap packet_taken none) ∙ e))

@@ -3,9 +3,8 @@ use Rattle.std.proofs.Common.{◌≡◌, ℕ, zero, suc, ◌+◌, true, false, n
 use Rattle.std.proofs.lemmas.Bool.{and_from, cond-true}
 use Rattle.std.proofs.lemmas.Option.{none-some}
 use Rattle.std.specs.Option.{option_map_or}
+use Rattle.vk_types.specs.Types.{Exchange, Process}
 use Rattle.vk_base.specs.declared.call.Call.TheVariants as calls
-use Rattle.vk_base.specs.declared.kernel.Exchange.{Exchange}
-use Rattle.vk_base.specs.declared.kernel.Process.{Process}
 use Rattle.vk_base.specs.declared.kernel.Stage.TheVariants as stages
 use Rattle.vk_base.specs.declared.step.Step.TheVariants as steps
 use Rattle.vk_base.specs.Calls.{call_step, dropped_at, exited, is_message_at, released}
@@ -14,7 +13,7 @@ use Rattle.vk_base.specs.Packets.{Packet, Negative}
 use Rattle.vk_base.specs.Pids.{same_pid}
 use Rattle.vk_base.specs.Settings.{Settings}
 use Rattle.vk_base.specs.Steps.{next}
-use Rattle.v_laws.proofs.Tables.{same_pid_self}
+use Rattle.vk_base.proofs.PidLemmas.{same_pid_self}
 use Rattle.vk_rules.specs.Aliens.{Alien}
 use Rattle.vk_rules.specs.CallOutcomes.{call_outcome, exit_packets, is_ok, negative_for}
 use Rattle.vk_rules.specs.Entries.{Called}
@@ -24,7 +23,7 @@ use Rattle.vk_rules.specs.Right.{answer_to, right_entry}
 use Rattle.vk_rules.specs.Rounds.{list_if, told_of, told_sender}
 use Rattle.v_ages.proofs.Slots.{at}
 use Rattle.v_due.specs.Failures.{reading_behind}
-use Rattle.v_due.specs.Holders.{ExitsTellSenders, IsSent}
+use Rattle.v_due.specs.Holders.{ExitsTellSenders, IsAmongSent}
 use Rattle.v_due.proofs.Nearby.{exit_is}
 
 -- what is sent is what the frames have
@@ -69,7 +68,7 @@ exit_tells k p a e sent waits =
 
 exit_sends : (c : Settings) (host : ℕ) (rd : Reading) (slot : ℕ) (a : Alien) (e : Exchange) → at rd.slots slot ≡ Some a →
     rd.view.exchanges a.name ≡ Some e → is_at_target e.stage ≡ true → is_ok (answer_to c host rd (Called e.at calls.Exit)) ≡ true →
-    IsSent (right_entry c host rd (Called e.at calls.Exit)) (Negative e.target a.name.sender a.name.number)
+    IsAmongSent (right_entry c host rd (Called e.at calls.Exit)) (Negative e.target a.name.sender a.name.number)
 unfolding right_entry call_outcome
 exit_sends c host rd slot a e there sent waits ok =
     let k = rd.view in
@@ -95,5 +94,5 @@ unfolding right_entry
 exits_tell_senders c host is i slot h =
     let rd = reading_behind c host is in
     let ok = ap (λ z. is_ok (right_entry c host rd z).answer) (sym h.exits) ∙ h.answered in
-    subst (λ z. IsSent (right_entry c host rd z) (Negative h.exchange.target h.alien.name.sender h.alien.name.number)) (sym h.exits)
+    subst (λ z. IsAmongSent (right_entry c host rd z) (Negative h.exchange.target h.alien.name.sender h.alien.name.number)) (sym h.exits)
     (exit_sends c host rd slot h.alien h.exchange h.there h.sent h.waits ok)

@@ -2,18 +2,10 @@
 use Rattle.std.proofs.Common.{◌≡◌, ℕ, true, false, List, [], ◌∷◌, fold, option_map, Option, Some, None, is_some, refl, sym, subst, find}
 use Rattle.std.proofs.lemmas.Bool.{both_ways, cond_both}
 use Rattle.std.proofs.lemmas.Option.{same_Some}
-use Rattle.vk_base.specs.declared.answer.Answer.{Answer}
-use Rattle.vk_base.specs.declared.answer.Refusal.{Refusal}
-use Rattle.vk_base.specs.declared.call.Call.{Call}
+use Rattle.vk_types.specs.Types.{Answer, Call, Move, Pid, Process, ProcessSpec, Refusal, State, Step}
 use Rattle.vk_base.specs.declared.call.Call.TheVariants as calls
-use Rattle.vk_base.specs.declared.config.ProcessSpec.{ProcessSpec}
 use Rattle.vk_base.specs.declared.kernel.Direction.TheVariants as directions
-use Rattle.vk_base.specs.declared.kernel.Move.{Move}
-use Rattle.vk_base.specs.declared.kernel.Process.{Process}
-use Rattle.vk_base.specs.declared.kernel.State.{State}
 use Rattle.vk_base.specs.declared.kernel.State.TheVariants as states
-use Rattle.vk_base.specs.declared.pid.Pid.{Pid}
-use Rattle.vk_base.specs.declared.step.Step.{Step}
 use Rattle.vk_base.specs.declared.step.Step.TheVariants as steps
 use Rattle.vk_base.specs.Brought.{brought, sender_heard, found_dead}
 use Rattle.vk_base.specs.Calls.{Effect, accepted, begin_move, call_refusal, called, copied_at_once, exited, forwarded, found_at_once, get_pid, is_at_once, is_bereft, lookup_begun, move_begun, new_move, released, replied, sent}
@@ -24,8 +16,8 @@ use Rattle.vk_base.specs.Pids.{same_pid}
 use Rattle.vk_base.specs.Ranges.{range_of, bytes_in}
 use Rattle.vk_base.specs.Settings.{Settings, is_process}
 use Rattle.vk_base.specs.Steps.{effect, next, after_effect, with_arrival, arriving, taking, taken, finishing, failing, opening_move, move_opened, copying, copied, ending, hearing, asking, finding, collecting}
-use Rattle.vk_base.proofs.OptionLemmas.{bind_is}
-use Rattle.v_laws.proofs.Options.{mapped_is, of_either}
+use Rattle.vk_base.proofs.OptionLemmas.{bind_is, mapped_is}
+use Rattle.v_laws.proofs.Options.{of_either}
 use Rattle.v_laws.proofs.StepLemmas.{copying_is}
 use Rattle.vk_rules.specs.Entries.{Input, taken_packet}
 use Rattle.vk_rules.specs.Readings.{reading, reading_after}

@@ -2,18 +2,11 @@
 use Rattle.std.proofs.Common.{◌≡◌, ℕ, true, false, cond, ◌==◌, ◌&&◌, not, List, [], ◌∷◌, length, option_map, Option, Some, None, is_some, refl, sym, ap, subst, ◌∙◌, inl, inr}
 use Rattle.std.proofs.lemmas.Bool.{and_from, and_parts, both_ways, cond-true, cond-false, eq-eqb, eqb-true, not-true, not_from_true}
 use Rattle.std.proofs.lemmas.Option.{same_Some}
+use Rattle.vk_types.specs.Types.{Call, EventAnswer, Exchange, Message, Pid, Process, Refusal, Step}
 use Rattle.vk_base.specs.declared.answer.Answer.TheVariants as answers
-use Rattle.vk_base.specs.declared.answer.Refusal.{Refusal}
 use Rattle.vk_base.specs.declared.answer.Refusal.TheVariants as refusals
-use Rattle.vk_base.specs.declared.call.Call.{Call}
 use Rattle.vk_base.specs.declared.call.Call.TheVariants as calls
-use Rattle.vk_base.specs.declared.event.EventAnswer.{EventAnswer}
-use Rattle.vk_base.specs.declared.kernel.Exchange.{Exchange}
-use Rattle.vk_base.specs.declared.kernel.Process.{Process}
 use Rattle.vk_base.specs.declared.kernel.State.TheVariants as states
-use Rattle.vk_base.specs.declared.message.Message.{Message}
-use Rattle.vk_base.specs.declared.pid.Pid.{Pid}
-use Rattle.vk_base.specs.declared.step.Step.{Step}
 use Rattle.vk_base.specs.declared.step.Step.TheVariants as steps
 use Rattle.vk_base.specs.Calls.{Effect, answered, call_refusal, call_step, called, exited, is_bereft, is_message_at, released, sent}
 use Rattle.vk_base.specs.Kernel.{◌>>=◌, Kernel, blocked_in, ended, finished_call, holds_of, is_at_target, is_live, is_ready, name_of, sending}
@@ -24,9 +17,10 @@ use Rattle.vk_base.specs.Ranges.{lies_in}
 use Rattle.vk_base.specs.Settings.{Settings}
 use Rattle.vk_base.specs.Steps.{after_effect, next}
 use Rattle.vk_base.proofs.OptionLemmas.{bind_is}
+use Rattle.vk_base.proofs.PidLemmas.{same_pid_self}
 use Rattle.v_laws.proofs.Options.{some_that_holds}
 use Rattle.v_laws.proofs.StepLemmas.{fit_is}
-use Rattle.v_laws.proofs.Tables.{same_pid_is, same_pid_self}
+use Rattle.v_laws.proofs.Tables.{same_pid_is}
 use Rattle.vk_rules.specs.CallOutcomes.{call_outcome, effect_answer, is_ok, seen_answer, steps_behind, take_where}
 use Rattle.vk_rules.specs.Each.{Each}
 use Rattle.vk_rules.specs.Entries.{Input, Called}
@@ -37,13 +31,13 @@ use Rattle.vk_rules.specs.View.{after_steps}
 use Rattle.vk_rules.specs.Works.{awaits, is_send_to}
 use Rattle.vk_rules.proofs.Lists.{each_if}
 use Rattle.vk_rules.proofs.Taken.{packet_taken}
+use Rattle.vk_rules.proofs.OwnEvents.{none_taken}
 use Rattle.v_ages.proofs.Outcomes.{behind_no_call}
 use Rattle.v_ages.proofs.Taken.{any_each}
 use Rattle.v_whole.proofs.AnyEntries.{view_entries}
 use Rattle.v_ended.proofs.Calling.{IsSoundView, Bereaves, call_left, ready_other}
 use Rattle.v_ended.proofs.Spared.{doing, doing_over, state_of}
 use Rattle.v_ended.proofs.Uncollected.{NoCollect}
-use Rattle.v_ended.proofs.Whole.{no_frame}
 use Rattle.v_due.specs.Failures.{reading_behind}
 use Rattle.v_due.specs.Near.{DeadTargetsAreRefused, ExitsEndNearSends, HolderExits, MaySend, NearSendsFailByExits, OtherSendsBegin, WaitsNear}
 use Rattle.v_due.proofs.Dues.{doing_behind, over_doing, own_here}
@@ -171,7 +165,7 @@ near_call c host is q s target m d near over =
     let l = next k (steps.Call q d) in
     let ss = steps_behind l q d a in
     let at = doing_behind c host is s call near.waits in
-    let goes = without_frame k s (Called q d) e _ (ap packet_taken (no_frame (Called q d) a refl)) over in
+    let goes = without_frame k s (Called q d) e _ (ap packet_taken (none_taken (Called q d) a refl)) over in
     let mute = mute_parts s refusals.NoProcess ss (behind_mute s refusals.NoProcess l q d a) in
     elim (call_left k s q d (call_step k q d) call at refl) [
       | inr b ↦ exit_of c host is q s target m d near b
@@ -255,7 +249,7 @@ exit_ends c host is s target m near x is_there e sent waits ok =
     let alone = is_left_alone k s target m x e (view_entries c host is near.waits.own).sound is_there state near.near sent waits in
     let a = answer_to c host rd (Called e.at calls.Exit) in
     let entry = right_entry c host rd (Called e.at calls.Exit) in
-    let untaken = ap packet_taken (no_frame (Called e.at calls.Exit) a refl) in
+    let untaken = ap packet_taken (none_taken (Called e.at calls.Exit) a refl) in
     ap (λ (q : Option Packet). doing (after_steps k q entry.steps) s) untaken
     ∙ ap (λ l. doing l s) exit.3
     ∙ bereft_over k s e.at exit.0 x target m is_there state other alone

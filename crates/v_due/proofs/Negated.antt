@@ -2,17 +2,12 @@
 use Rattle.std.proofs.Common.{◌≡◌, ℕ, true, false, cond, ◌==◌, ◌&&◌, not, option_map, List, [], ◌∷◌, Option, Some, None, is_none, is_some, refl, sym, ap, ◌∙◌}
 use Rattle.std.proofs.lemmas.Bool.{and_parts, both_ways, cond-true, eq-eqb, eqb-true, not-true, not_from_false}
 use Rattle.std.proofs.lemmas.Option.{same_Some}
+use Rattle.vk_types.specs.Types.{Call, Message, MoveName, Name, Pid, Process}
 use Rattle.vk_base.specs.declared.answer.Answer.TheVariants as answers
 use Rattle.vk_base.specs.declared.answer.Ending.TheVariants as endings
 use Rattle.vk_base.specs.declared.answer.Refusal.TheVariants as refusals
-use Rattle.vk_base.specs.declared.call.Call.{Call}
 use Rattle.vk_base.specs.declared.call.Call.TheVariants as calls
-use Rattle.vk_base.specs.declared.kernel.MoveName.{MoveName}
-use Rattle.vk_base.specs.declared.kernel.Name.{Name}
-use Rattle.vk_base.specs.declared.kernel.Process.{Process}
 use Rattle.vk_base.specs.declared.kernel.State.TheVariants as states
-use Rattle.vk_base.specs.declared.message.Message.{Message}
-use Rattle.vk_base.specs.declared.pid.Pid.{Pid}
 use Rattle.vk_base.specs.declared.step.Step.TheVariants as steps
 use Rattle.vk_base.specs.Brought.{brought, found_dead}
 use Rattle.vk_base.specs.Changes.{change_process}
@@ -21,10 +16,11 @@ use Rattle.vk_base.specs.Packets.{Packet, Negative, MoveNegative}
 use Rattle.vk_base.specs.Pids.{same_pid, same_host}
 use Rattle.vk_base.specs.Settings.{Settings}
 use Rattle.vk_base.proofs.OptionLemmas.{bind_is}
+use Rattle.vk_base.proofs.PidLemmas.{same_pid_self}
 use Rattle.vk_base.specs.Steps.{is_in_move, move_ending, next, only_if, same_move}
 use Rattle.v_laws.proofs.Options.{some_that_holds, some_there}
 use Rattle.v_laws.proofs.StepLemmas.{only_if_is}
-use Rattle.v_laws.proofs.Tables.{same_name_is, same_pid_is, same_pid_self}
+use Rattle.v_laws.proofs.Tables.{same_name_is, same_pid_is}
 use Rattle.v_sim.specs.AnyView.{IsView}
 use Rattle.v_sim.proofs.Puts.{bind_to}
 use Rattle.vk_rules.specs.Entries.{Input, taken_packet}

@@ -1,14 +1,9 @@
 -- With which refusal a packet ends what a process is blocked in: a Negative of its Send, and a MoveNegative of its move.
 use Rattle.std.proofs.Common.{◌≡◌, ℕ, Bool, true, false, ◌==◌, not, nat_lt, List, [], ◌∷◌, is_none, is_some, refl, sym, subst}
 use Rattle.std.proofs.lemmas.Bool.{both_ways}
+use Rattle.vk_types.specs.Types.{Exchange, Name, Pid, Process, Refusal, Step}
 use Rattle.vk_base.specs.declared.answer.Ending.TheVariants as endings
-use Rattle.vk_base.specs.declared.answer.Refusal.{Refusal}
 use Rattle.vk_base.specs.declared.answer.Refusal.TheVariants as refusals
-use Rattle.vk_base.specs.declared.kernel.Exchange.{Exchange}
-use Rattle.vk_base.specs.declared.kernel.Name.{Name}
-use Rattle.vk_base.specs.declared.kernel.Process.{Process}
-use Rattle.vk_base.specs.declared.pid.Pid.{Pid}
-use Rattle.vk_base.specs.declared.step.Step.{Step}
 use Rattle.vk_base.specs.declared.step.Step.TheVariants as steps
 use Rattle.vk_base.specs.Kernel.{Kernel, name_of, holds_of, is_live}
 use Rattle.vk_base.specs.Packets.{Packet, Send, Reply, Pending, Negative, MoveData, MoveAck, MoveRequest, MoveBytes, MoveNegative, AskPid, TellPid}

@@ -1,16 +1,14 @@
 -- The laws of packets that change nothing.
 use Rattle.std.proofs.Common.{◌≡◌, ℕ, ◌+◌, true, false, List, [], Option, Some, None, is_some, refl, sym, ap, ◌∙◌, arith}
 use Rattle.std.proofs.lemmas.Bool.{both_ways}
-use Rattle.vk_base.specs.declared.kernel.Name.{Name}
-use Rattle.vk_base.specs.declared.pid.Pid.{Pid}
-use Rattle.vk_base.specs.declared.step.Step.{Step}
+use Rattle.vk_types.specs.Types.{Name, Pid, Step}
 use Rattle.vk_base.specs.declared.step.Step.TheVariants as steps
 use Rattle.vk_base.specs.declared.answer.Ending.TheVariants as endings
 use Rattle.vk_base.specs.Kernel.{Kernel, holds_of, name_of}
 use Rattle.vk_base.specs.Packets.{Packet, Send, Reply, Pending, Negative}
 use Rattle.vk_base.specs.Pids.{same_pid}
 use Rattle.vk_base.specs.Settings.{Settings}
-use Rattle.v_laws.proofs.Tables.{same_pid_self}
+use Rattle.vk_base.proofs.PidLemmas.{same_pid_self}
 use Rattle.vk_rules.specs.Aliens.{Alien, alien_of, is_alien_of}
 use Rattle.vk_rules.specs.Entries.{Input}
 use Rattle.vk_rules.specs.Frames.{frames_of}

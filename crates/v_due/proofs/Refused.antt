@@ -3,33 +3,25 @@ use Rattle.std.proofs.Common.{◌≡◌, Bool, true, false, ◌||◌, not, List,
 use Rattle.std.proofs.lemmas.Bool.{cases_Bool, both_ways, or_right}
 use Rattle.std.proofs.lemmas.Option.{same_Some, none-some}
 use Rattle.std.specs.List.{list_any}
-use Rattle.vk_base.specs.declared.answer.Answer.{Answer}
+use Rattle.vk_types.specs.Types.{Answer, Call, Ending, Exchange, MoveName, Pid, Process, Refusal, Step}
 use Rattle.vk_base.specs.declared.answer.Answer.TheVariants as answers
-use Rattle.vk_base.specs.declared.answer.Ending.{Ending}
 use Rattle.vk_base.specs.declared.answer.Ending.TheVariants as endings
-use Rattle.vk_base.specs.declared.answer.Refusal.{Refusal}
 use Rattle.vk_base.specs.declared.answer.Refusal.TheVariants as refusals
-use Rattle.vk_base.specs.declared.call.Call.{Call}
-use Rattle.vk_base.specs.declared.kernel.Exchange.{Exchange}
-use Rattle.vk_base.specs.declared.kernel.MoveName.{MoveName}
-use Rattle.vk_base.specs.declared.kernel.Process.{Process}
 use Rattle.vk_base.specs.declared.kernel.State.TheVariants as states
-use Rattle.vk_base.specs.declared.pid.Pid.{Pid}
-use Rattle.vk_base.specs.declared.step.Step.{Step}
 use Rattle.vk_base.specs.declared.step.Step.TheVariants as steps
 use Rattle.vk_base.specs.Calls.{Effect}
-use Rattle.vk_base.specs.Kernel.{◌>>=◌, Kernel, name_of, ended, finished_call, is_live, is_moving, put_process, sending, waiting_on, holds_of}
+use Rattle.vk_base.specs.Kernel.{◌>>=◌, Kernel, name_of, ended, finished_call, is_live, is_moving, sending, waiting_on, holds_of}
 use Rattle.vk_base.specs.Pids.{same_pid, same_host}
 use Rattle.vk_base.specs.Steps.{effect, next, after_effect, finishing, failing, failure, ending, move_ending, asking, finding, only_if, is_complete}
 use Rattle.vk_base.proofs.OptionLemmas.{bind_is}
 use Rattle.v_laws.proofs.StepLemmas.{finishing_is, failing_is, ending_is, asking_is, finding_is, only_if_is}
 use Rattle.v_laws.proofs.States.{sending_is}
-use Rattle.v_laws.proofs.Tables.{put_process_at}
 use Rattle.vk_rules.specs.Each.{Each}
 use Rattle.v_ages.proofs.Quiet.{NoCall}
 use Rattle.v_ended.specs.Ends.{ends, is_work}
-use Rattle.v_ended.proofs.Spared.{Passes, after_leaves, doing, over_passes, same_blocked, state_at, state_of, work_passes}
+use Rattle.v_ended.proofs.Spared.{Passes, after_leaves, doing, over_passes, same_blocked, state_at, work_passes}
 use Rattle.v_ended.proofs.Uncollected.{NoCollect}
+use Rattle.v_ended.proofs.Ended.{put_over}
 
 -- the step ends the call of the process with this refusal
 abbrev pub refuses : Pid → Step → Refusal → Bool
@@ -66,10 +58,6 @@ record Ended (k : Kernel) (r : Pid) (call : Call) (s : Step) (after : Kernel) : 
 ended_by : (k : Kernel) (r : Pid) (call : Call) (s : Step) (f e : Effect) → Some f ≡ Some e → Ended k r call s f.after →
     Ended k r call s e.after
 ended_by k r call s f e g on = subst (λ (x : Effect). Ended k r call s x.after) (same_Some f e g) on
-
-put_over : (procs : Pid → Option Process) (pid : Pid) (after : Process) (r : Pid) (call : Call) (a : Answer) → same_pid r pid ≡ true →
-    after.state ≡ states.Done call a → state_of (put_process procs pid after r) ≡ Some (states.Done call a)
-put_over procs pid after r call a same is = ap state_of (put_process_at procs pid after r same) ∙ ap Some is
 
 fail_tells : (k : Kernel) (e : Exchange) (r q : Pid) (why : Ending) (x : Refusal) → same_pid r q ≡ true → failure k e why ≡ Some x →
     Tells r (steps.Fail q why) (answers.Refused x)

@@ -4,21 +4,17 @@ use Rattle.std.proofs.lemmas.Bool.{and_from, both_ways, cases_Bool, cond-true, c
 use Rattle.std.proofs.lemmas.List.Folds.{list_any-append}
 use Rattle.std.specs.List.{cons_option, list_any, filter_map, range_with_len}
 use Rattle.std.specs.Option.{option_map_or}
-use Rattle.vk_base.specs.declared.call.Call.{Call}
+use Rattle.vk_types.specs.Types.{Call, Exchange, Message, MoveName, Pid, Process, Times}
 use Rattle.vk_base.specs.declared.call.Call.TheVariants as calls
-use Rattle.vk_base.specs.declared.config.Times.{Times}
-use Rattle.vk_base.specs.declared.kernel.Exchange.{Exchange}
-use Rattle.vk_base.specs.declared.kernel.MoveName.{MoveName}
-use Rattle.vk_base.specs.declared.kernel.Process.{Process}
 use Rattle.vk_base.specs.declared.kernel.State.TheVariants as states
-use Rattle.vk_base.specs.declared.message.Message.{Message}
-use Rattle.vk_base.specs.declared.pid.Pid.{Pid}
 use Rattle.vk_base.specs.Kernel.{Kernel, blocked_in, is_moving, name_of}
 use Rattle.vk_base.specs.Packets.{Packet, Send, AskPid}
 use Rattle.vk_base.specs.Pids.{same_pid}
 use Rattle.vk_base.specs.Steps.{next}
+use Rattle.vk_base.proofs.BoolLemmas.{and_false}
+use Rattle.vk_base.proofs.PidLemmas.{same_pid_self}
 use Rattle.v_laws.proofs.Options.{some_there}
-use Rattle.v_laws.proofs.Tables.{same_pid_is, same_pid_self}
+use Rattle.v_laws.proofs.Tables.{same_pid_is}
 use Rattle.vk_rules.specs.CallOutcomes.{failed, failing_step, sent_again, tick_outcome}
 use Rattle.vk_rules.specs.Entries.{Ticked}
 use Rattle.vk_rules.specs.Readings.{Reading, reading, reading_after}
@@ -30,7 +26,7 @@ use Rattle.v_ended.proofs.Spared.{doing, doing_blocked, state_of}
 use Rattle.v_due.specs.Failures.{DueWorksGoOutAgain, reading_behind}
 use Rattle.v_due.proofs.Blocked.{frames_any, more_behind}
 use Rattle.v_due.proofs.Dues.{doing_behind, own_here, stands_behind}
-use Rattle.v_due.proofs.Ticks.{Stands, first_other}
+use Rattle.v_due.proofs.Ticks.{StandsAtWork, first_other}
 use Rattle.v_due.proofs.Told.{view_after}
 use Rattle.v_due.proofs.Waits.{HasMore}
 
@@ -62,7 +58,7 @@ data_round s partner memory dest src count from m less =
     ∙ first_of_round s (data_packet s partner memory dest src count m (from + 1024 * 0))
     (map (data_packet s partner memory dest src count m) (map (λ i. from + 1024 * i) (range_with_len (0 + 1) n.0))) (same_pid_self s)
 
-call_round : (k : Kernel) (w : Work) (s : Pid) (call : Call) (at : Stands k s call) → is_work s call ≡ true → HasMore w.acknowledged call →
+call_round : (k : Kernel) (w : Work) (s : Pid) (call : Call) (at : StandsAtWork k s call) → is_work s call ≡ true → HasMore w.acknowledged call →
     HasRound s (round_of_call k w s at.process call)
 call_round k w s (calls.Send target m) at work more =
     let e = at.sent target m refl in
@@ -87,7 +83,7 @@ call_round k w s (calls.Load start count) at work more = absurd (both_ways false
 call_round k w s (calls.Store start bytes) at work more = absurd (both_ways false refl work)
 call_round k w s calls.Exit at work more = absurd (both_ways false refl work)
 
-pub round_some : (k : Kernel) (w : Work) (s : Pid) (call : Call) (at : Stands k s call) → is_work s call ≡ true → HasMore w.acknowledged call →
+pub round_some : (k : Kernel) (w : Work) (s : Pid) (call : Call) (at : StandsAtWork k s call) → is_work s call ≡ true → HasMore w.acknowledged call →
     HasRound s (round k w s)
 unfolding round
 round_some k w s call at work more =
@@ -122,10 +118,6 @@ none_fails t now rd s call (q ∷ qs) k off at = elim (cases_Bool (same_pid s q)
       (λ l spared. none_fails t now rd s call qs l off (ap state_of spared.procs ∙ at))
 ]
 
-none_of : (b : Bool) → (b && false) ≡ false
-none_of true = refl
-none_of false = refl
-
 pub due_works_go_out_again : DueWorksGoOutAgain
 unfolding reading reading_after right_entry tick_outcome
 due_works_go_out_again c host is s call at due answered =
@@ -138,7 +130,7 @@ due_works_go_out_again c host is s call at due answered =
     (and_from (is_due t (rd.now + 1) (rd.work s)) (not (is_unanswered t (rd.work s))) due
     (not_from_false (is_unanswered t (rd.work s)) answered)) in
     let some = ap (λ ps. list_any (is_of_round s) ps) goes ∙ round_some rd.view (rd.work s) s call stands at.work more in
-    let off = ap (λ b. is_due t (rd.now + 1) (rd.work s) && b) answered ∙ none_of (is_due t (rd.now + 1) (rd.work s)) in
+    let off = ap (λ b. is_due t (rd.now + 1) (rd.work s) && b) answered ∙ and_false (is_due t (rd.now + 1) (rd.work s)) in
     let still = none_fails t (rd.now + 1) rd s call (own_pids c host) rd.view off (doing_behind c host is s call at.waits) in
     record {
       round = frames_any s host _ _ _ 1 (flat_map (sent_again t (rd.now + 1) rd) (own_pids c host))

@@ -3,24 +3,12 @@ use Rattle.std.proofs.Common.{◌≡◌, ℕ, true, false, ◌&&◌, ◌||◌, n
 use Rattle.std.proofs.lemmas.Bool.{and_from, both_ways, cases_Bool, cond-true}
 use Rattle.std.proofs.lemmas.Option.{same_Some, none-some}
 use Rattle.std.specs.List.{list_any, filter_map, cons_option}
+use Rattle.vk_types.specs.Types.{Answer, Call, Ending, Exchange, Message, MoveName, Name, Pid, Process, Refusal, State, Step, Times}
 use Rattle.vk_base.specs.declared.answer.Answer.TheVariants as answers
-use Rattle.vk_base.specs.declared.answer.Ending.{Ending}
 use Rattle.vk_base.specs.declared.answer.Ending.TheVariants as endings
-use Rattle.vk_base.specs.declared.answer.Refusal.{Refusal}
 use Rattle.vk_base.specs.declared.answer.Refusal.TheVariants as refusals
-use Rattle.vk_base.specs.declared.call.Call.{Call}
 use Rattle.vk_base.specs.declared.call.Call.TheVariants as calls
-use Rattle.vk_base.specs.declared.config.Times.{Times}
-use Rattle.vk_base.specs.declared.kernel.Exchange.{Exchange}
-use Rattle.vk_base.specs.declared.kernel.Process.{Process}
 use Rattle.vk_base.specs.declared.kernel.State.TheVariants as states
-use Rattle.vk_base.specs.declared.answer.Answer.{Answer}
-use Rattle.vk_base.specs.declared.message.Message.{Message}
-use Rattle.vk_base.specs.declared.kernel.MoveName.{MoveName}
-use Rattle.vk_base.specs.declared.kernel.Name.{Name}
-use Rattle.vk_base.specs.declared.kernel.State.{State}
-use Rattle.vk_base.specs.declared.pid.Pid.{Pid}
-use Rattle.vk_base.specs.declared.step.Step.{Step}
 use Rattle.vk_base.specs.declared.step.Step.TheVariants as steps
 use Rattle.vk_base.specs.Calls.{unseen}
 use Rattle.vk_base.specs.Kernel.{◌>>=◌, Kernel, name_of, ended, blocked_in, put_process, with_state, sending, is_moving, is_asking}
@@ -64,7 +52,7 @@ work_fails s (calls.Store start bytes) work = absurd (both_ways false refl work)
 work_fails s calls.Exit work = absurd (both_ways false refl work)
 
 -- What a process at work has in every kernel of the tick.
-pub record Stands (k : Kernel) (s : Pid) (call : Call) : Type 0 where
+pub record StandsAtWork (k : Kernel) (s : Pid) (call : Call) : Type 0 where
   pub process : Process
   pub is : k.procs s ≡ Some process
   pub state : process.state ≡ states.Blocked call
@@ -97,21 +85,21 @@ end_over k s call p name why a is state moves named ends =
     ap (λ o. doing (after_effect k (o >>= λ (e : Process × Answer). Some (unseen (with_state k s e.0 (ended e.0.state e.1))))) s) f
     ∙ over_put k.procs s p call a state
 
-send_over : (k : Kernel) (s target : Pid) (m : Message) → Stands k s (calls.Send target m) →
+send_over : (k : Kernel) (s target : Pid) (m : Message) → StandsAtWork k s (calls.Send target m) →
     IsOverBy k s (calls.Send target m) (the_failure s (calls.Send target m))
 unfolding the_failure
 send_over k s target m at =
     let e = at.sent target m refl in
     fail_over k s target m at.process e.0 endings.TimedOut refusals.TimedOut at.is at.state e.1 e.2 refl
 
-move_over : (k : Kernel) (s : Pid) (call : Call) → is_moving (states.Blocked call) ≡ true → Stands k s call →
+move_over : (k : Kernel) (s : Pid) (call : Call) → is_moving (states.Blocked call) ≡ true → StandsAtWork k s call →
     doing (next k (steps.End s endings.TimedOut)) s ≡ Some (states.Done call (answers.Refused refusals.TimedOut))
 move_over k s call moves at =
     let moving = ap is_moving at.state ∙ moves in
     let name = some_there at.process.moving (at.named moving) in
     end_over k s call at.process name.0 endings.TimedOut (answers.Refused refusals.TimedOut) at.is at.state moving name.1 refl
 
-lookup_over : (k : Kernel) (s : Pid) (call : Call) → is_asking (states.Blocked call) ≡ true → Stands k s call →
+lookup_over : (k : Kernel) (s : Pid) (call : Call) → is_asking (states.Blocked call) ≡ true → StandsAtWork k s call →
     doing (next k (steps.Lost s)) s ≡ Some (states.Done call (answers.Refused refusals.NotFound))
 lookup_over k s call asks at =
     let f = asking_from k s at.process at.is (ap is_asking at.state ∙ asks) in
@@ -119,7 +107,7 @@ lookup_over k s call asks at =
     (o >>= λ (p : Process). Some (unseen (with_state k s p (ended p.state (answers.Refused refusals.NotFound)))))) s) f
     ∙ over_put k.procs s at.process call (answers.Refused refusals.NotFound) at.state
 
-failure_over : (k : Kernel) (s : Pid) (call : Call) → is_work s call ≡ true → Stands k s call → IsOverBy k s call (the_failure s call)
+failure_over : (k : Kernel) (s : Pid) (call : Call) → is_work s call ≡ true → StandsAtWork k s call → IsOverBy k s call (the_failure s call)
 unfolding the_failure
 failure_over k s (calls.Send target m) work at = send_over k s target m at
 failure_over k s (calls.MoveTo partner dest src count) work at = move_over k s (calls.MoveTo partner dest src count) refl at
@@ -176,7 +164,7 @@ failed_spares t now rd k s q st other e =
     let call = bind_is (blocked_in p.0.state) (work_failure q) st p.2 in
     failure_spares k s q call.0 st other call.2
 
-stands_on : (k l : Kernel) (s : Pid) (call : Call) → IsSpared k l s → Stands k s call → Stands l s call
+stands_on : (k l : Kernel) (s : Pid) (call : Call) → IsSpared k l s → StandsAtWork k s call → StandsAtWork l s call
 stands_on k l s call spared at = record {
   process = at.process;
   is = spared.procs ∙ at.is;
@@ -212,7 +200,7 @@ first_other t now rd k s q qs a (Some st) other e rest = rest (next k st) (faile
 
 pub all_failed : (t : Times) (now : ℕ) (rd : Reading) (s : Pid) (call : Call) (pids : List Pid) (k : Kernel) → is_work s call ≡ true →
     doing rd.view s ≡ Some (states.Blocked call) → is_due t now (rd.work s) ≡ true → is_unanswered t (rd.work s) ≡ true →
-    list_any (same_pid s) pids ≡ true → Stands k s call →
+    list_any (same_pid s) pids ≡ true → StandsAtWork k s call →
     doing (fold next k (AllFailed t now rd pids)) s ≡ Some (states.Done call (answers.Refused (failure_of call)))
 all_failed t now rd s call [] k work at due late there stands = absurd (both_ways false refl there)
 all_failed t now rd s call (q ∷ qs) k work at due late there stands = elim (cases_Bool (same_pid s q)) [

@@ -3,19 +3,12 @@ use Rattle.std.proofs.Common.{◌≡◌, ℕ, ◌+◌, Bool, true, false, ◌&&�
 use Rattle.std.proofs.lemmas.Bool.{and_parts, both_ways}
 use Rattle.std.proofs.lemmas.Option.{same_Some, none-some}
 use Rattle.std.specs.List.{filter_map}
-use Rattle.vk_base.specs.declared.answer.Answer.{Answer}
+use Rattle.vk_types.specs.Types.{Answer, Call, Pid, Process, Refusal, State, Step, Times}
 use Rattle.vk_base.specs.declared.answer.Answer.TheVariants as answers
 use Rattle.vk_base.specs.declared.answer.Ending.TheVariants as endings
-use Rattle.vk_base.specs.declared.answer.Refusal.{Refusal}
 use Rattle.vk_base.specs.declared.answer.Refusal.TheVariants as refusals
-use Rattle.vk_base.specs.declared.call.Call.{Call}
 use Rattle.vk_base.specs.declared.call.Call.TheVariants as calls
-use Rattle.vk_base.specs.declared.config.Times.{Times}
-use Rattle.vk_base.specs.declared.kernel.Process.{Process}
-use Rattle.vk_base.specs.declared.kernel.State.{State}
 use Rattle.vk_base.specs.declared.kernel.State.TheVariants as states
-use Rattle.vk_base.specs.declared.pid.Pid.{Pid}
-use Rattle.vk_base.specs.declared.step.Step.{Step}
 use Rattle.vk_base.specs.declared.step.Step.TheVariants as steps
 use Rattle.vk_base.specs.Brought.{brought}
 use Rattle.vk_base.specs.Kernel.{◌>>=◌, Kernel, blocked_in, finished_call}
@@ -39,6 +32,7 @@ use Rattle.vk_rules.specs.Works.{is_due, is_unanswered}
 use Rattle.vk_rules.proofs.Lists.{each_filter_map}
 use Rattle.vk_rules.proofs.Failures.{each_failed}
 use Rattle.vk_rules.proofs.Taken.{packet_taken}
+use Rattle.vk_rules.proofs.OwnEvents.{none_taken}
 use Rattle.v_ages.proofs.Outcomes.{failed_no_call, mild_packet}
 use Rattle.v_ages.proofs.Quiet.{NoCall}
 use Rattle.v_ages.proofs.Taken.{brought_procs, any_each, settled_procs}
@@ -46,7 +40,6 @@ use Rattle.v_whole.specs.Delays.{IsGivenUp}
 use Rattle.v_ended.proofs.Calling.{IsSoundView, call_spares}
 use Rattle.v_ended.proofs.Spared.{IsAtWork, Passes, after_leaves, doing, state_of}
 use Rattle.v_ended.proofs.Uncollected.{NoCollect, packets_collect_none}
-use Rattle.v_ended.proofs.Whole.{no_frame}
 use Rattle.v_due.proofs.Entries.{brings, untaken}
 use Rattle.v_due.proofs.Packets.{ByPacket, RefusedBy, packet_refuses}
 use Rattle.v_due.proofs.Refused.{Waits, refuses, steps_told, work_waits}
@@ -183,7 +176,7 @@ refused_elsewhere c host rd (Called pid x) s call why none here waits at d is = 
 refused_elsewhere c host rd (Collected pid) s call why none here waits at d is =
     let e = right_entry c host rd (Collected pid) in
     let a = answer_to c host rd (Collected pid) in
-    let goes = without_frame rd.view s (Collected pid) e _ (ap packet_taken (no_frame (Collected pid) a refl)) is in
+    let goes = without_frame rd.view s (Collected pid) e _ (ap packet_taken (none_taken (Collected pid) a refl)) is in
     absurd (never_both (doing rd.view s) call d (answers.Refused why) at
     (sym (collect_leaves rd.view s pid call (is_allowed rd.view (steps.Collect pid)) at) ∙ goes))
 refused_elsewhere c host rd Ticked s call why none here waits at d is =
@@ -204,7 +197,7 @@ unfolding reading_after right_entry call_outcome
 refused_by c host rd (Called pid call) s why sound here at d is =
     let e = right_entry c host rd (Called pid call) in
     let a = answer_to c host rd (Called pid call) in
-    let goes = without_frame rd.view s (Called pid call) e _ (ap packet_taken (no_frame (Called pid call) a refl)) is in
+    let goes = without_frame rd.view s (Called pid call) e _ (ap packet_taken (none_taken (Called pid call) a refl)) is in
     absurd (never_both (doing rd.view s) at.call d (answers.Refused why) at.is (sym (call_spares rd.view s pid call sound at) ∙ goes))
 refused_by c host rd (Collected pid) s why sound here at d is =
     refused_elsewhere c host rd (Collected pid) s at.call why tt here (work_waits s at.call at.work) at.is d is

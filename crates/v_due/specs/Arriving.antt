@@ -1,9 +1,6 @@
 -- A young Send packet for a live process, which finds a slot, arrives in its event.
 use Rattle.std.specs.Prelude.{◌≡◌, ◌≢◌, ℕ, ◌<◌, true, false, List, [], ◌∷◌, length, Option, Some, None}
-use Rattle.vk_base.specs.declared.kernel.Exchange.{Exchange}
-use Rattle.vk_base.specs.declared.kernel.Name.{Name}
-use Rattle.vk_base.specs.declared.message.Message.{Message}
-use Rattle.vk_base.specs.declared.pid.Pid.{Pid}
+use Rattle.vk_types.specs.Types.{Exchange, Message, Name, Pid}
 use Rattle.vk_base.specs.Kernel.{name_of, is_at_target, is_live}
 use Rattle.vk_base.specs.Packets.{Packet, Send}
 use Rattle.vk_base.specs.Settings.{Settings}
@@ -34,7 +31,7 @@ abbrev pub comes : Sent → Input
 comes s = Delivered (Framed s.header (packet_with s))
 
 -- Its frame is for this station, from another, and young; its packet is a lawful one between the two, to a live process.
-pub record IsWelcome (c : Settings) (host : ℕ) (is : List Input) (s : Sent) : Type 0 where
+pub record IsSendWelcome (c : Settings) (host : ℕ) (is : List Input) (s : Sent) : Type 0 where
   pub own : AreOwnInputs host is
   pub for : is_for host s.header ≡ true
   pub young : is_young s.header (reading_behind c host is).now c.times.life ≡ true
@@ -76,10 +73,10 @@ pub record Arrives (c : Settings) (host : ℕ) (is : List Input) (s : Sent) (slo
       is_at_target x.stage ≡ true → n ≡ name_of s.from s.number
 
 abbrev pub NewSendsArrive : Type 0
-NewSendsArrive = (c : Settings) (host : ℕ) (is : List Input) (s : Sent) (slot : ℕ) → IsWelcome c host is s →
+NewSendsArrive = (c : Settings) (host : ℕ) (is : List Input) (s : Sent) (slot : ℕ) → IsSendWelcome c host is s →
     HasFreeSlot (reading_behind c host is).slots s.from slot → Arrives c host is s slot
 
 -- It replaces the older one.
 abbrev pub LaterSendsReplace : Type 0
-LaterSendsReplace = (c : Settings) (host : ℕ) (is : List Input) (s : Sent) (slot : ℕ) → IsWelcome c host is s →
+LaterSendsReplace = (c : Settings) (host : ℕ) (is : List Input) (s : Sent) (slot : ℕ) → IsSendWelcome c host is s →
     HasOlderAlien (reading_behind c host is).slots s.from s.number slot → Arrives c host is s slot

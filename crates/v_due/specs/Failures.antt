@@ -2,12 +2,10 @@
 -- newest is the first.
 use Rattle.std.specs.Prelude.{◌≡◌, ℕ, ◌+◌, true, false, List, ◌∷◌, Some}
 use Rattle.std.specs.List.{list_any}
+use Rattle.vk_types.specs.Types.{Call, Pid, Refusal}
 use Rattle.vk_base.specs.declared.answer.Answer.TheVariants as answers
-use Rattle.vk_base.specs.declared.answer.Refusal.{Refusal}
 use Rattle.vk_base.specs.declared.answer.Refusal.TheVariants as refusals
-use Rattle.vk_base.specs.declared.call.Call.{Call}
 use Rattle.vk_base.specs.declared.call.Call.TheVariants as calls
-use Rattle.vk_base.specs.declared.pid.Pid.{Pid}
 use Rattle.vk_base.specs.Pids.{same_pid}
 use Rattle.vk_base.specs.Settings.{Settings}
 use Rattle.vk_rules.specs.Entries.{Input, Ticked}
@@ -34,8 +32,8 @@ pub record IsAtWork (c : Settings) (host : ℕ) (is : List Input) (s : Pid) (cal
   pub work : is_work s call ≡ true
 
 -- what happens next ends the call with this refusal
-abbrev pub IsRefused : Settings → ℕ → List Input → Input → Pid → Call → Refusal → Type 0
-IsRefused c host is i s call why = finished_behind c host (entries_of c host (i ∷ is)) s ≡ Some (call, answers.Refused why)
+abbrev pub EndsRefused : Settings → ℕ → List Input → Input → Pid → Call → Refusal → Type 0
+EndsRefused c host is i s call why = finished_behind c host (entries_of c host (i ∷ is)) s ≡ Some (call, answers.Refused why)
 
 -- a lookup fails with NotFound, a Send and a move with TimedOut
 abbrev pub failure_of : Call → Refusal
@@ -45,12 +43,12 @@ failure_of call = refusals.TimedOut
 -- A work fails only at a due tick at which it is unanswered.
 abbrev pub FailuresComeWhenDue : Type 0
 FailuresComeWhenDue = (c : Settings) (host : ℕ) (is : List Input) (i : Input) (s : Pid) (call : Call) → IsAtWork c host is s call →
-    IsRefused c host is i s call (failure_of call) → IsGivenUp c.times (reading_behind c host is) i s
+    EndsRefused c host is i s call (failure_of call) → IsGivenUp c.times (reading_behind c host is) i s
 
 -- There it does.
 abbrev pub UnansweredWorksFail : Type 0
 UnansweredWorksFail = (c : Settings) (host : ℕ) (is : List Input) (i : Input) (s : Pid) (call : Call) → IsAtWork c host is s call →
-    IsGivenUp c.times (reading_behind c host is) i s → IsRefused c host is i s call (failure_of call)
+    IsGivenUp c.times (reading_behind c host is) i s → EndsRefused c host is i s call (failure_of call)
 
 -- a round of the process's work goes out at the next tick, and it is still blocked in its call
 pub record GoesOutAgain (c : Settings) (host : ℕ) (is : List Input) (s : Pid) (call : Call) : Type 0 where

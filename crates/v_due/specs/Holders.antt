@@ -1,7 +1,7 @@
 -- Where the process exits that has the message of another station's Send: its sender is told, by a Negative in the name of the target.
 use Rattle.std.specs.Prelude.{◌≡◌, ℕ, true, List, ◌∷◌, ◌++◌, map, Some}
+use Rattle.vk_types.specs.Types.{Exchange}
 use Rattle.vk_base.specs.declared.call.Call.TheVariants as calls
-use Rattle.vk_base.specs.declared.kernel.Exchange.{Exchange}
 use Rattle.vk_base.specs.Kernel.{is_at_target}
 use Rattle.vk_base.specs.Packets.{Packet, Negative}
 use Rattle.vk_base.specs.Settings.{Settings}
@@ -14,7 +14,7 @@ use Rattle.v_due.specs.Failures.{reading_behind}
 use Rattle.v_due.specs.Turns.{next_entry}
 
 -- the packet is one of those that the entry sends
-pub record IsSent (e : Entry) (p : Packet) : Type 0 where
+pub record IsAmongSent (e : Entry) (p : Packet) : Type 0 where
   pub before : List Packet
   pub after : List Packet
   pub is : map (λ (f : Frame). f.packet) e.frames ≡ before ++ p ∷ after
@@ -31,4 +31,4 @@ pub record HolderOfAlienExits (c : Settings) (host : ℕ) (is : List Input) (i :
 
 abbrev pub ExitsTellSenders : Type 0
 ExitsTellSenders = (c : Settings) (host : ℕ) (is : List Input) (i : Input) (slot : ℕ) → (h : HolderOfAlienExits c host is i slot) →
-    IsSent (next_entry c host is i) (Negative h.exchange.target h.alien.name.sender h.alien.name.number)
+    IsAmongSent (next_entry c host is i) (Negative h.exchange.target h.alien.name.sender h.alien.name.number)

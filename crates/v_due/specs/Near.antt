@@ -1,13 +1,10 @@
 -- Where a Send to a process of the same station ends as without a process.
 use Rattle.std.specs.Prelude.{◌≡◌, ℕ, true, false, ◌&&◌, not, List, length, Some}
+use Rattle.vk_types.specs.Types.{Exchange, Message, Pid, Process}
 use Rattle.vk_base.specs.declared.answer.Answer.TheVariants as answers
 use Rattle.vk_base.specs.declared.answer.Refusal.TheVariants as refusals
 use Rattle.vk_base.specs.declared.call.Call.TheVariants as calls
 use Rattle.vk_base.specs.declared.event.EventAnswer.TheVariants as events_answered
-use Rattle.vk_base.specs.declared.kernel.Exchange.{Exchange}
-use Rattle.vk_base.specs.declared.kernel.Process.{Process}
-use Rattle.vk_base.specs.declared.message.Message.{Message}
-use Rattle.vk_base.specs.declared.pid.Pid.{Pid}
 use Rattle.vk_base.specs.Kernel.{name_of, is_at_target, is_live, is_ready}
 use Rattle.vk_base.specs.Messages.{segment_of}
 use Rattle.vk_base.specs.Pids.{same_host}
@@ -17,7 +14,7 @@ use Rattle.vk_rules.specs.CallOutcomes.{is_ok}
 use Rattle.vk_rules.specs.Entries.{Input, Called}
 use Rattle.vk_rules.specs.Readings.{Reading}
 use Rattle.vk_rules.specs.Right.{answer_to}
-use Rattle.v_due.specs.Failures.{IsBlocked, IsRefused, reading_behind}
+use Rattle.v_due.specs.Failures.{IsBlocked, EndsRefused, reading_behind}
 use Rattle.v_due.specs.Turns.{next_entry}
 
 -- A process that is alive and ready calls for a Send, whose segment lies in its memory.
@@ -58,9 +55,9 @@ pub record HolderExits (c : Settings) (host : ℕ) (is : List Input) (i : Input)
 abbrev pub NearSendsFailByExits : Type 0
 NearSendsFailByExits = (c : Settings) (host : ℕ) (is : List Input) (i : Input) (s target : Pid) (m : Message) →
     WaitsNear c host is s target m →
-    IsRefused c host is i s (calls.Send target m) refusals.NoProcess → HolderExits c host is i s
+    EndsRefused c host is i s (calls.Send target m) refusals.NoProcess → HolderExits c host is i s
 
 abbrev pub ExitsEndNearSends : Type 0
 ExitsEndNearSends = (c : Settings) (host : ℕ) (is : List Input) (i : Input) (s target : Pid) (m : Message) →
     WaitsNear c host is s target m →
-    HolderExits c host is i s → IsRefused c host is i s (calls.Send target m) refusals.NoProcess
+    HolderExits c host is i s → EndsRefused c host is i s (calls.Send target m) refusals.NoProcess

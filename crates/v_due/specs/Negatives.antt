@@ -1,8 +1,7 @@
 -- Where a packet ends a work with a refusal: a MoveNegative ends a move as gone, a Negative a Send as without a process.
 use Rattle.std.specs.Prelude.{◌≡◌, ℕ, true, List, Some}
+use Rattle.vk_types.specs.Types.{Call, Pid}
 use Rattle.vk_base.specs.declared.answer.Refusal.TheVariants as refusals
-use Rattle.vk_base.specs.declared.call.Call.{Call}
-use Rattle.vk_base.specs.declared.pid.Pid.{Pid}
 use Rattle.vk_base.specs.Kernel.{name_of, holds_of}
 use Rattle.vk_base.specs.Packets.{Packet, Negative, MoveNegative}
 use Rattle.vk_base.specs.Settings.{Settings}
@@ -10,7 +9,7 @@ use Rattle.vk_base.specs.Steps.{is_in_move}
 use Rattle.vk_rules.specs.Entries.{Input, taken_packet}
 use Rattle.vk_rules.specs.Right.{entries_of, entry_of}
 use Rattle.vk_rules.specs.Works.{awaits}
-use Rattle.v_due.specs.Failures.{IsAtWork, IsRefused, reading_behind}
+use Rattle.v_due.specs.Failures.{IsAtWork, EndsRefused, reading_behind}
 
 -- what happens next is that the station takes this packet
 abbrev pub IsTakenNext : Settings → ℕ → List Input → Input → Packet → Type 0
@@ -27,11 +26,11 @@ pub record TakesMoveNegative (c : Settings) (host : ℕ) (is : List Input) (i : 
 -- A work ends as gone only by a MoveNegative of the move that runs; and by that it does.
 abbrev pub GoneComesByMoveNegatives : Type 0
 GoneComesByMoveNegatives = (c : Settings) (host : ℕ) (is : List Input) (i : Input) (s : Pid) (call : Call) → IsAtWork c host is s call →
-    IsRefused c host is i s call refusals.Gone → TakesMoveNegative c host is i s
+    EndsRefused c host is i s call refusals.Gone → TakesMoveNegative c host is i s
 
 abbrev pub MoveNegativesEndMoves : Type 0
 MoveNegativesEndMoves = (c : Settings) (host : ℕ) (is : List Input) (i : Input) (s : Pid) (call : Call) → IsAtWork c host is s call →
-    TakesMoveNegative c host is i s → IsRefused c host is i s call refusals.Gone
+    TakesMoveNegative c host is i s → EndsRefused c host is i s call refusals.Gone
 
 -- it takes a Negative of the Send in which the process waits, from the target of that
 pub record TakesNegative (c : Settings) (host : ℕ) (is : List Input) (i : Input) (s : Pid) : Type 0 where
@@ -43,8 +42,8 @@ pub record TakesNegative (c : Settings) (host : ℕ) (is : List Input) (i : Inpu
 -- A work ends as without a process only by a Negative of the Send in which the process waits; and by that it does.
 abbrev pub RemoteSendsFailByNegatives : Type 0
 RemoteSendsFailByNegatives = (c : Settings) (host : ℕ) (is : List Input) (i : Input) (s : Pid) (call : Call) → IsAtWork c host is s call →
-    IsRefused c host is i s call refusals.NoProcess → TakesNegative c host is i s
+    EndsRefused c host is i s call refusals.NoProcess → TakesNegative c host is i s
 
 abbrev pub NegativesEndSends : Type 0
 NegativesEndSends = (c : Settings) (host : ℕ) (is : List Input) (i : Input) (s : Pid) (call : Call) → IsAtWork c host is s call →
-    TakesNegative c host is i s → IsRefused c host is i s call refusals.NoProcess
+    TakesNegative c host is i s → EndsRefused c host is i s call refusals.NoProcess

@@ -1,13 +1,11 @@
 -- How long a work goes on. Its base is the entry that began, answered or restarted it last.
 use Rattle.std.specs.Prelude.{◌≡◌, ℕ, ◌+◌, ◌*◌, ◌<◌, ◌≤◌, Bool, true, false, List, [], ◌∷◌, ◌++◌, if◌then◌else◌}
-use Rattle.vk_base.specs.declared.call.Call.{Call}
-use Rattle.vk_base.specs.declared.config.Times.{Times}
-use Rattle.vk_base.specs.declared.pid.Pid.{Pid}
+use Rattle.vk_types.specs.Types.{Call, Pid, Times}
 use Rattle.vk_base.specs.Settings.{Settings}
 use Rattle.vk_rules.specs.Entries.{Entry, Input, Ticked}
 use Rattle.vk_rules.specs.Right.{entries_of, entry_of}
 use Rattle.vk_rules.specs.Works.{has_round, is_base}
-use Rattle.v_due.specs.Failures.{IsAtWork, IsRefused, failure_of, reading_behind}
+use Rattle.v_due.specs.Failures.{IsAtWork, EndsRefused, failure_of, reading_behind}
 
 -- the next entry is a base of the work of the process
 abbrev pub next_entry : Settings → ℕ → List Input → Input → Entry
@@ -42,14 +40,14 @@ FailuresComeInTurn = (c : Settings) (host : ℕ) (earlier : List Input) (first :
     (call : Call) →
     0 < c.times.tries → 0 < c.times.interval →
     IsSince c host earlier first later s → IsAtWork c host (later ++ first ∷ earlier) s call →
-    IsRefused c host (later ++ first ∷ earlier) i s call (failure_of call) → IsLastTick c host earlier first later i s
+    EndsRefused c host (later ++ first ∷ earlier) i s call (failure_of call) → IsLastTick c host earlier first later i s
 
 abbrev pub WorksFailInTurn : Type 0
 WorksFailInTurn = (c : Settings) (host : ℕ) (earlier : List Input) (first : Input) (later : List Input) (i : Input) (s : Pid)
     (call : Call) →
     0 < c.times.tries → 0 < c.times.interval →
     IsSince c host earlier first later s → IsAtWork c host (later ++ first ∷ earlier) s call →
-    IsLastTick c host earlier first later i s → IsRefused c host (later ++ first ∷ earlier) i s call (failure_of call)
+    IsLastTick c host earlier first later i s → EndsRefused c host (later ++ first ∷ earlier) i s call (failure_of call)
 
 -- The next due tick of a work lies ahead, and it has gone out no more often than there are tries.
 pub record IsPatient (c : Settings) (host : ℕ) (is : List Input) (s : Pid) : Type 0 where

@@ -1,7 +1,6 @@
 -- What changes nothing that a process sees: a Pending, a copy of a Send that has an alien, and a reply that comes late.
 use Rattle.std.specs.Prelude.{◌≡◌, ℕ, ◌≤◌, false, List, [], ◌∷◌, Some}
-use Rattle.vk_base.specs.declared.message.Message.{Message}
-use Rattle.vk_base.specs.declared.pid.Pid.{Pid}
+use Rattle.vk_types.specs.Types.{Message, Pid}
 use Rattle.vk_base.specs.Kernel.{holds_of}
 use Rattle.vk_base.specs.Packets.{Send, Reply, Pending, Negative}
 use Rattle.vk_base.specs.Settings.{Settings}

@@ -4,15 +4,11 @@ use Rattle.std.proofs.Common.{◌≡◌, true, false, ◌||◌, List, [], ◌∷
 use Rattle.std.proofs.lemmas.Bool.{cases_Bool, both_ways, or_right}
 use Rattle.std.proofs.lemmas.Option.{same_Some}
 use Rattle.std.specs.List.{list_any}
-use Rattle.vk_base.specs.declared.answer.Answer.{Answer}
+use Rattle.vk_types.specs.Types.{Answer, Call, Pid, Process, Step}
 use Rattle.vk_base.specs.declared.answer.Answer.TheVariants as answers
 use Rattle.vk_base.specs.declared.answer.Refusal.TheVariants as refusals
-use Rattle.vk_base.specs.declared.call.Call.{Call}
 use Rattle.vk_base.specs.declared.call.Call.TheVariants as calls
-use Rattle.vk_base.specs.declared.kernel.Process.{Process}
 use Rattle.vk_base.specs.declared.kernel.State.TheVariants as states
-use Rattle.vk_base.specs.declared.pid.Pid.{Pid}
-use Rattle.vk_base.specs.declared.step.Step.{Step}
 use Rattle.vk_base.specs.declared.step.Step.TheVariants as steps
 use Rattle.vk_base.specs.Calls.{Effect}
 use Rattle.vk_base.specs.Kernel.{Kernel, ended, put_process}
@@ -35,7 +31,7 @@ IsOver k r call = (a : Answer) × (doing k r ≡ Some (states.Done call a))
 over_by : (r : Pid) (call : Call) (f e : Effect) → Some f ≡ Some e → IsOver f.after r call → IsOver e.after r call
 over_by r call f e g on = subst (λ (x : Effect). IsOver x.after r call) (same_Some f e g) on
 
-put_over : (procs : Pid → Option Process) (pid : Pid) (after : Process) (r : Pid) (call : Call) (a : Answer) → same_pid r pid ≡ true →
+pub put_over : (procs : Pid → Option Process) (pid : Pid) (after : Process) (r : Pid) (call : Call) (a : Answer) → same_pid r pid ≡ true →
     after.state ≡ states.Done call a → state_of (put_process procs pid after r) ≡ Some (states.Done call a)
 put_over procs pid after r call a same is = ap state_of (put_process_at procs pid after r same) ∙ ap Some is
 

@@ -1,19 +1,12 @@
 -- What an entry does to a process that is blocked in its work, and the law.
-use Rattle.std.proofs.Common.{◌≡◌, ℕ, Bool, true, false, cond, option_map, List, [], ◌∷◌, ◌++◌, fold, Option, Some, None, refl, sym, ap, subst, ◌∙◌, inl, inr, ◌⊎◌}
+use Rattle.std.proofs.Common.{◌≡◌, ℕ, Bool, true, false, option_map, List, [], ◌∷◌, ◌++◌, fold, Option, Some, None, refl, sym, ap, subst, ◌∙◌, inl, inr, ◌⊎◌}
 use Rattle.std.proofs.lemmas.Bool.{both_ways, cond_both}
 use Rattle.std.proofs.lemmas.Option.{same_Some, none-some}
 use Rattle.std.specs.List.{list_any}
-use Rattle.vk_base.specs.declared.answer.Refusal.{Refusal}
-use Rattle.vk_base.specs.declared.call.Call.{Call}
+use Rattle.vk_types.specs.Types.{Call, EventAnswer, Move, Pid, Process, Refusal, State, Step}
 use Rattle.vk_base.specs.declared.call.Call.TheVariants as calls
-use Rattle.vk_base.specs.declared.event.EventAnswer.{EventAnswer}
 use Rattle.vk_base.specs.declared.kernel.Direction.TheVariants as directions
-use Rattle.vk_base.specs.declared.kernel.Move.{Move}
-use Rattle.vk_base.specs.declared.kernel.Process.{Process}
-use Rattle.vk_base.specs.declared.kernel.State.{State}
 use Rattle.vk_base.specs.declared.kernel.State.TheVariants as states
-use Rattle.vk_base.specs.declared.pid.Pid.{Pid}
-use Rattle.vk_base.specs.declared.step.Step.{Step}
 use Rattle.vk_base.specs.declared.step.Step.TheVariants as steps
 use Rattle.vk_base.specs.Brought.{brought, settled, sender_heard, found_dead}
 use Rattle.vk_base.specs.Calls.{Effect, accepted, called, call_refusal, call_step, sent, copied_at_once, begin_move, new_move, move_begun, is_at_once, get_pid, found_at_once, lookup_begun}
@@ -29,7 +22,7 @@ use Rattle.v_laws.proofs.Options.{of_either}
 use Rattle.v_laws.proofs.Tables.{same_pid_is, put_process_here}
 use Rattle.vk_rules.specs.CallOutcomes.{call_outcome, collect_outcome, tick_outcome, effect_answer, seen_answer, steps_behind}
 use Rattle.vk_rules.specs.Each.{Each}
-use Rattle.vk_rules.specs.Entries.{Entry, Input, Called, Collected, Ticked, Delivered, is_tick, is_delivery, is_begun, is_frame_taken, taken_frame, taken_in, taken_packet}
+use Rattle.vk_rules.specs.Entries.{Entry, Input, Called, Collected, Ticked, Delivered, is_tick, is_delivery, is_begun, taken_frame, taken_in, taken_packet}
 use Rattle.vk_rules.specs.Frames.{Frame, Unsealed, sender_of}
 use Rattle.vk_rules.specs.PacketOutcomes.{packet_outcome}
 use Rattle.vk_rules.specs.Readings.{Reading, reading, reading_after}
@@ -37,6 +30,7 @@ use Rattle.vk_rules.specs.Right.{answer_to, entries_of, entry_of, right_entry}
 use Rattle.vk_rules.specs.View.{after_steps}
 use Rattle.vk_rules.proofs.Lists.{each_if}
 use Rattle.vk_rules.proofs.Taken.{outcome_by, packet_taken}
+use Rattle.vk_rules.proofs.OwnEvents.{none_taken}
 use Rattle.v_ages.proofs.Outcomes.{mild_packet}
 use Rattle.v_ages.proofs.Quiet.{NoCall}
 use Rattle.v_whole.specs.EveryFrame.{AreOwnInputs}
@@ -109,28 +103,11 @@ frame_on k r p (s ∷ ss) none left at =
     ]
 
 -- An entry that takes no frame.
-pub no_frame : (i : Input) (a : EventAnswer) → is_delivery i ≡ false → taken_in i a ≡ None
-no_frame (Called pid c) a h = none_by (is_frame_taken a)
-  where
-    none_by : (b : Bool) → cond {A = Option Frame} b None None ≡ None
-    none_by true = refl
-    none_by false = refl
-no_frame (Collected pid) a h = none_by (is_frame_taken a)
-  where
-    none_by : (b : Bool) → cond {A = Option Frame} b None None ≡ None
-    none_by true = refl
-    none_by false = refl
-no_frame Ticked a h = none_by (is_frame_taken a)
-  where
-    none_by : (b : Bool) → cond {A = Option Frame} b None None ≡ None
-    none_by true = refl
-    none_by false = refl
-no_frame (Delivered u) a h = absurd (both_ways true h refl)
 
 without_frame : (k : Kernel) (r : Pid) (e : Entry) (o : Option State) → is_delivery e.input ≡ false → doing (fold next k e.steps) r ≡ o →
     doing (after_steps k (taken_packet e) e.steps) r ≡ o
 without_frame k r e o h is =
-    subst (λ f. doing (after_steps k (packet_taken f) e.steps) r ≡ o) (sym (no_frame e.input e.answer h)) is
+    subst (λ f. doing (after_steps k (packet_taken f) e.steps) r ≡ o) (sym (none_taken e.input e.answer h)) is
 
 -- What an entry comes to: it takes a frame and ends the work by a step, or the process does what it did.
 pub record Frees (c : Settings) (rd : Reading) (r : Pid) (call : Call) (e : Entry) : Type 0 where

@@ -2,9 +2,7 @@
 use Rattle.std.proofs.Common.{◌≡◌, ℕ, suc, ◌*◌, ◌<◌, ◌≤◌, ◌==◌, ◌&&◌, Bool, true, false, cond, nat_le, nat_lt, List, [], ◌∷◌, ◌++◌, length, take, Option, Some, None, refl, sym, ap, subst, ◌∙◌, arith}
 use Rattle.std.proofs.lemmas.Bool.{both_ways, eqb-true, ltb-false, ltb-true}
 use Rattle.std.proofs.lemmas.List.{take-take}
-use Rattle.vk_base.specs.declared.kernel.Process.{Process}
-use Rattle.vk_base.specs.declared.message.Message.{Message}
-use Rattle.vk_base.specs.declared.pid.Pid.{Pid}
+use Rattle.vk_types.specs.Types.{Message, Pid, Process}
 use Rattle.vk_base.specs.Kernel.{Kernel}
 use Rattle.vk_base.specs.Messages.{grants_of}
 use Rattle.vk_base.specs.Ranges.{range_of, bytes_in}

@@ -3,20 +3,13 @@ use Rattle.std.proofs.Common.{◌≡◌, ℕ, suc, ◌+◌, ◌*◌, ◌<◌, �
 use Rattle.std.proofs.lemmas.Bool.{and_parts, both_ways, cases_Bool, eq-eqb, eqb-true, leb-true, le-leb, or_cases}
 use Rattle.std.proofs.lemmas.List.{append-nil, length-take-le}
 use Rattle.std.proofs.lemmas.Option.{same_Some, none-some}
-use Rattle.vk_base.specs.declared.answer.Answer.{Answer}
+use Rattle.v_whole.proofs.Calls.{pushed_last}
+use Rattle.vk_types.specs.Types.{Answer, Call, Exchange, Move, Name, Pid, Process, ProcessSpec, Refusal}
 use Rattle.vk_base.specs.declared.answer.Answer.TheVariants as answers
-use Rattle.vk_base.specs.declared.answer.Refusal.{Refusal}
 use Rattle.vk_base.specs.declared.answer.Refusal.TheVariants as refusals
-use Rattle.vk_base.specs.declared.call.Call.{Call}
 use Rattle.vk_base.specs.declared.call.Call.TheVariants as calls
-use Rattle.vk_base.specs.declared.config.ProcessSpec.{ProcessSpec}
 use Rattle.vk_base.specs.declared.kernel.Direction.TheVariants as directions
-use Rattle.vk_base.specs.declared.kernel.Exchange.{Exchange}
-use Rattle.vk_base.specs.declared.kernel.Move.{Move}
-use Rattle.vk_base.specs.declared.kernel.Name.{Name}
-use Rattle.vk_base.specs.declared.kernel.Process.{Process}
 use Rattle.vk_base.specs.declared.kernel.State.TheVariants as states
-use Rattle.vk_base.specs.declared.pid.Pid.{Pid}
 use Rattle.vk_base.specs.declared.step.Step.TheVariants as steps
 use Rattle.vk_base.specs.Calls.{Effect, unseen, answered as seen_answered, begin_move, copied_at_once, exited, is_at_once, is_granted, is_own, may_write, move_begun, new_move}
 use Rattle.vk_base.specs.Kernel.{◌>>=◌, Kernel, held, held_exchange, holds_of, is_ready, is_taken, move_of, name_of, with_memory, with_state}
@@ -43,7 +36,7 @@ use Rattle.v_laws.specs.Sizes.{IsSized, size_in}
 use Rattle.v_laws.specs.Sound.{IsSound}
 use Rattle.v_laws.proofs.Changes.{taken_is_at_target}
 use Rattle.v_laws.proofs.Held.{holding_is}
-use Rattle.v_laws.proofs.MoveKept.{AreMoves, IsWritten, move_named}
+use Rattle.v_laws.proofs.MoveKept.{AreMoves, AreMovesWritten, move_named}
 use Rattle.v_laws.proofs.MoveLists.{no_move}
 use Rattle.v_laws.proofs.MoveSteps.{pushed}
 use Rattle.v_laws.proofs.OnceLemmas.{one_open}
@@ -56,14 +49,14 @@ use Rattle.v_pages.proofs.Lists.{read_back}
 use Rattle.v_pages.proofs.Touched.{near_target}
 use Rattle.v_files.specs.Volumes.{blocks_from, file_bytes}
 use Rattle.v_files.proofs.Asked.{answers_other, answers_otherwise, few_bytes, gathered_after, not_zero}
-use Rattle.v_files.proofs.Disks.{IsFit, blocks_more, front_more, server_more}
-use Rattle.v_files.proofs.Moved.{HoldsOnly, IsClosed, IsMoved, only_step}
+use Rattle.v_files.proofs.Disks.{IsServerFit, blocks_more, front_more, server_more}
+use Rattle.v_files.proofs.Moved.{HoldsOnly, IsExchangeClosed, IsMoved, only_step}
 use Rattle.v_files.proofs.Standing.{After, Doing, HasGathered, IsGathering, IsOther, ServerAt, Standing}
 
 -- What is known of every kernel that a run reaches.
-pub record IsKnown (specs : List ProcessSpec) (k : Kernel) : Type 0 where
+pub record IsKernelKnown (specs : List ProcessSpec) (k : Kernel) : Type 0 where
   pub sound : IsSound k
-  pub written : IsWritten k
+  pub written : AreMovesWritten k
   pub sized : IsSized (size_in specs) k
   pub reached : IsReached k
 
@@ -94,9 +87,9 @@ pub record IsAtCall (specs : List ProcessSpec) (blocks : List (List ℕ)) (reque
     Type 0 where
   pub server : server_after blocks requests telling given ≡ at_stage kept replies stage
   pub count : made ≡ length given
-  pub known : IsKnown specs k
+  pub known : IsKernelKnown specs k
   pub room : FILE_BYTES ≤ length p.memory
-  pub fit : IsFit (length blocks) (at_stage kept replies stage)
+  pub fit : IsServerFit (length blocks) (at_stage kept replies stage)
   pub call : IsCalling k r e p y
 
 -- and is answered at once
@@ -268,10 +261,10 @@ holds_only k r from number sound reached holds m y at held_y =
 
 -- an exchange of one station has no move
 local_closed : (n : Name) (x : Exchange) → AreMoves n x → same_host n.sender x.target ≡ true →
-    IsClosed x
+    IsExchangeClosed x
 local_closed n x are near = by_moves x.moves refl
   where
-    by_moves : (ms : List Move) → x.moves ≡ ms → IsClosed x
+    by_moves : (ms : List Move) → x.moves ≡ ms → IsExchangeClosed x
     by_moves [] none = record {
       last = let size = ap length none in omega arith;
       done = λ m is. absurd (none-some m (sym (no_move x x.opened none) ∙ is));
@@ -279,7 +272,7 @@ local_closed n x are near = by_moves x.moves refl
     by_moves (m ∷ ms) some =
         absurd (both_ways (same_host n.sender x.target) (are.each 1 m (ap (λ l. slice_get l 0) some)).remote near)
 
-granted_room : (specs : List ProcessSpec) (k : Kernel) (r from : Pid) (number dest count : ℕ) (q : Process) → IsKnown specs k →
+granted_room : (specs : List ProcessSpec) (k : Kernel) (r from : Pid) (number dest count : ℕ) (q : Process) → IsKernelKnown specs k →
     held k r from ≡ Some number → is_granted (held_exchange k r from) dest count ≡ true → k.procs from ≡ Some q →
     dest ≤ length q.memory
 granted_room specs k r from number dest count q known holds granted at =
@@ -295,7 +288,7 @@ granted_room specs k r from number dest count q known holds granted at =
     let size = known.sized.memory from q at in
     omega arith
 
-local_moved : (specs : List ProcessSpec) (k : Kernel) (r from : Pid) (number dest : ℕ) (bytes : List ℕ) (q : Process) → IsKnown specs k →
+local_moved : (specs : List ProcessSpec) (k : Kernel) (r from : Pid) (number dest : ℕ) (bytes : List ℕ) (q : Process) → IsKernelKnown specs k →
     held k r from ≡ Some number → same_host r from ≡ true → k.procs from ≡ Some q → dest ≤ length q.memory →
     IsMoved (with_memory k from q (with_bytes q.memory dest bytes)) r from dest bytes
 local_moved specs k r from number dest bytes q known holds near at room =
@@ -314,13 +307,9 @@ local_moved specs k r from number dest bytes q known holds near at room =
     })
     (same_pid_is h.exchange.at r h.at)
 
-pushed_here : (xs : List Move) (m : Move) → slice_get (xs ++ m ∷ []) (length xs) ≡ Some m
-pushed_here [] m = refl
-pushed_here (x ∷ xs) m = pushed_here xs m
-
 last_pushed : (x : Exchange) (m : Move) → move_of (pushed x m) (length x.moves + 1) ≡ Some m
 last_pushed x m = let one : length x.moves + 1 ≡ suc (length x.moves) = omega arith in
-    ap (move_of (pushed x m)) one ∙ pushed_here x.moves m
+    ap (move_of (pushed x m)) one ∙ pushed_last x.moves m
 
 -- what is left of it after a move that was made at once
 ready_left : (k : Kernel) (r from : Pid) (p q y : Process) (memory : List ℕ) → k.procs r ≡ Some p → p.state ≡ states.Ready →

@@ -3,13 +3,12 @@ use Rattle.std.proofs.Common.{◌≡◌, ℕ, zero, suc, ◌+◌, ◌<◌, ◌�
 use Rattle.std.proofs.lemmas.List.{length-append, length-take-le}
 use Rattle.std.proofs.lemmas.Option.{none-some}
 use Rattle.std.proofs.Math.Seq.{take-append_seam}
+use Rattle.vk_types.specs.Types.{Answer, Message, Pid}
 use Rattle.vk_base.specs.Messages.{grants_of}
-use Rattle.vk_base.specs.declared.answer.Answer.{Answer}
 use Rattle.vk_base.specs.declared.answer.Answer.TheVariants as answers
-use Rattle.vk_base.specs.declared.message.Message.{Message}
-use Rattle.vk_base.specs.declared.pid.Pid.{Pid}
 use Rattle.vk_base.specs.Ranges.{range_of, bytes_in, with_bytes}
-use Rattle.vk_files.proofs.Choices.{both, either, found_first, found_second, second}
+use Rattle.vk_base.proofs.BoolLemmas.{or_rest}
+use Rattle.vk_files.proofs.Choices.{both, either, found_first, found_second}
 use Rattle.vk_files.proofs.Placing.{after_placed, files_there, turn_fine}
 use Rattle.vk_files.specs.Disks.{block_at}
 use Rattle.vk_files.specs.Messages.{code_of, file_of, name_of, page_of}
@@ -178,13 +177,13 @@ turn_writes P files requests replies stages.Exit a such = tt
 turn_writes P files requests replies stages.Ended a such = tt
 
 -- What holds of a server after any answers.
-pub record IsFit (count : ℕ) (s : Server) : Type 0 where
+pub record IsServerFit (count : ℕ) (s : Server) : Type 0 where
   pub size : length s.blocks ≡ count
   pub whole : AreWhole s.blocks
   pub placed : IsPlaced count s.stage
 
-fit_step : (count : ℕ) (files : List Entry) (requests : ℕ) (s : Server) (t : Telling) (a : Answer) → AreOnDisk count files → IsFit count s →
-    IsFit count (answered files requests s t a)
+fit_step : (count : ℕ) (files : List Entry) (requests : ℕ) (s : Server) (t : Telling) (a : Answer) → AreOnDisk count files → IsServerFit count s →
+    IsServerFit count (answered files requests s t a)
 fit_step count files requests s t a on fit =
     let turn = turn_at files requests s.replies s.stage a in
     record {
@@ -195,14 +194,14 @@ fit_step count files requests s t a on fit =
     }
 
 fit_all : (count : ℕ) (files : List Entry) (requests : ℕ) (telling : List Answer → Telling) (s : Server) (behind given : List Answer) →
-    AreOnDisk count files → IsFit count s → IsFit count (answered_all files requests telling s behind given)
+    AreOnDisk count files → IsServerFit count s → IsServerFit count (answered_all files requests telling s behind given)
 fit_all count files requests telling s behind [] on fit = fit
 fit_all count files requests telling s behind (a ∷ rest) on fit =
     fit_all count files requests telling (answered files requests s (telling (behind ++ a ∷ [])) a) (behind ++ a ∷ []) rest on
     (fit_step count files requests s (telling (behind ++ a ∷ [])) a on fit)
 
 pub server_fit : (blocks : List (List ℕ)) (requests : ℕ) (telling : List Answer → Telling) (given : List Answer) → IsVolume blocks →
-    IsFit (length blocks) (server_after blocks requests telling given)
+    IsServerFit (length blocks) (server_after blocks requests telling given)
 server_fit blocks requests telling given volume =
     let count = length blocks in
     let files = files_of blocks in
@@ -223,7 +222,7 @@ lawful_blocks : (count number : ℕ) (before : List Entry) (e : Entry) (f : File
 lawful_blocks count number before e f fine is =
     let made : File = record { number = number; start = e.start; blocks = e.blocks; length = e.length } in
     let parts = found_second (is_free e) made f is in
-    let lawful = second (is_free e) (is_lawful count before e) fine parts.0 in
+    let lawful = or_rest (is_free e) (is_lawful count before e) fine parts.0 in
     let long = not (are_zeros e.name) && ends_in_zeros e.name && nat_le 1 e.start && nat_le e.length FILE_BYTES in
     let whole = long && e.blocks == blocks_for e.length in
     let a = both (whole && lies_on count e) (not (is_taken before e)) lawful in

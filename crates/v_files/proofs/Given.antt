@@ -2,20 +2,15 @@
 use Rattle.std.proofs.Common.{◌≡◌, ℕ, ◌*◌, ◌<◌, ◌==◌, Bool, true, false, List, [], length, slice_get, Some, None, refl, sym, ap, subst, ◌∙◌}
 use Rattle.std.proofs.lemmas.Bool.{both_ways, cond-true}
 use Rattle.std.proofs.lemmas.Option.{same_Some, none-some}
-use Rattle.vk_base.specs.declared.answer.Answer.{Answer}
-use Rattle.vk_base.specs.declared.call.Call.{Call}
+use Rattle.vk_types.specs.Types.{Answer, Call, Message, Pid, Process, ProcessSpec, Step}
 use Rattle.vk_base.specs.declared.call.Call.TheVariants as calls
-use Rattle.vk_base.specs.declared.config.ProcessSpec.{ProcessSpec}
-use Rattle.vk_base.specs.declared.kernel.Process.{Process}
 use Rattle.vk_base.specs.declared.kernel.State.TheVariants as states
-use Rattle.vk_base.specs.declared.message.Message.{Message}
-use Rattle.vk_base.specs.declared.pid.Pid.{Pid}
-use Rattle.vk_base.specs.declared.step.Step.{Step}
 use Rattle.vk_base.specs.declared.step.Step.TheVariants as steps
 use Rattle.vk_base.specs.Kernel.{◌>>=◌, Kernel, held, initial_kernel, is_move, name_of}
 use Rattle.vk_base.specs.Pids.{same_pid}
 use Rattle.vk_base.specs.Ranges.{range_of, bytes_in}
 use Rattle.vk_base.proofs.OptionLemmas.{bind_is}
+use Rattle.vk_base.proofs.PidLemmas.{same_pid_self}
 use Rattle.vk_files.specs.Messages.{code_of, reply_of}
 use Rattle.vk_files.specs.Servers.{stage_call}
 use Rattle.vk_files.specs.Tasks.{file_call, server_after}
@@ -26,8 +21,7 @@ use Rattle.vk_files.specs.declared.limits.TheConstants.{BLOCK_BYTES}
 use Rattle.vk_files.specs.declared.serving.Serving.{Serving}
 use Rattle.vk_files.specs.declared.serving.Serving.TheVariants as stages
 use Rattle.v_laws.specs.Places.{IsReplyAt, before, given_by, is_forward, taken_at}
-use Rattle.v_laws.proofs.Tables.{same_pid_self}
-use Rattle.v_pages.specs.Followed.{Follows, answers_before, call_at, call_by, calls_before}
+use Rattle.v_pages.specs.Followed.{FollowsTask, answers_before, call_at, call_by, calls_before}
 use Rattle.v_pages.specs.Requests.{Request, request_at, requests_before}
 use Rattle.v_pages.proofs.Places.{stands_before}
 use Rattle.v_pages.proofs.Staying.{NeverHands}
@@ -51,7 +45,7 @@ forwards_none stages.Exit m from to h = cc
 forwards_none stages.Ended m from to h = cc
 
 pub server_hands : (blocks : List (List ℕ)) (requests : ℕ) (telling : List Answer → Telling) (specs : List ProcessSpec) (ss : List Step)
-    (r : Pid) → Follows (file_call blocks requests telling) specs ss r → NeverHands ss r
+    (r : Pid) → FollowsTask (file_call blocks requests telling) specs ss r → NeverHands ss r
 server_hands blocks requests telling specs ss r follows i s is m from to step =
     let c : Call = calls.Forward m from to in
     let call : call_at ss r i ≡ Some c = ap (λ o. o >>= call_by r) is ∙ ap (call_by r) step
@@ -60,7 +54,7 @@ server_hands blocks requests telling specs ss r follows i s is m from to step =
 
 -- How it stands before each place.
 pub server_before : (blocks : List (List ℕ)) (requests : ℕ) (telling : List Answer → Telling) (specs : List ProcessSpec) (ss : List Step)
-    (r : Pid) → IsRoomy specs blocks r → Follows (file_call blocks requests telling) specs ss r → (i : ℕ) (k : Kernel) (p : Process) →
+    (r : Pid) → IsRoomy specs blocks r → FollowsTask (file_call blocks requests telling) specs ss r → (i : ℕ) (k : Kernel) (p : Process) →
     before specs ss i ≡ Some k → k.procs r ≡ Some p →
     ServerAt blocks requests telling r (length (calls_before ss r i)) (answers_before specs ss r i) (requests_before specs ss r i) k p
 server_before blocks requests telling specs ss r roomy follows =
@@ -179,7 +173,7 @@ pub record IsGivenTo (specs : List ProcessSpec) (ss : List Step) (r : Pid) (bloc
 
 pub given_to : (blocks : List (List ℕ)) (requests : ℕ) (telling : List Answer → Telling) (specs : List ProcessSpec) (ss : List Step)
     (r s : Pid) (i j number : ℕ) (reply : Message) (dest : ℕ) (bytes : List ℕ) → IsRoomy specs blocks r →
-    Follows (file_call blocks requests telling) specs ss r → IsReplyAt specs ss j s r number reply dest bytes →
+    FollowsTask (file_call blocks requests telling) specs ss r → IsReplyAt specs ss j s r number reply dest bytes →
     taken_at specs ss i ≡ Some (name_of s number) → slice_get ss i ≡ Some (steps.Take r) → i < j →
     IsGivenTo specs ss r blocks requests telling i j s number reply bytes
 given_to blocks requests telling specs ss r s i j number reply dest bytes roomy follows rep takes is less =

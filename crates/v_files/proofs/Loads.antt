@@ -2,17 +2,10 @@
 use Rattle.std.proofs.Common.{◌≡◌, ℕ, zero, suc, ◌+◌, ◌-◌, ◌<◌, ◌≤◌, ◌==◌, true, List, [], ◌∷◌, ◌++◌, length, slice_get, Option, Some, None, refl, sym, ap, subst, ◌∙◌, inl, inr, arith}
 use Rattle.std.proofs.lemmas.Bool.{and_from, both_ways, cases_eq, eq-eqb}
 use Rattle.std.proofs.lemmas.Option.{same_Some}
-use Rattle.vk_base.specs.declared.answer.Answer.{Answer}
+use Rattle.vk_types.specs.Types.{Answer, Exchange, Message, Pid, Process, ProcessSpec, State, Step}
 use Rattle.vk_base.specs.declared.answer.Answer.TheVariants as answers
 use Rattle.vk_base.specs.declared.call.Call.TheVariants as calls
-use Rattle.vk_base.specs.declared.config.ProcessSpec.{ProcessSpec}
-use Rattle.vk_base.specs.declared.kernel.Exchange.{Exchange}
-use Rattle.vk_base.specs.declared.kernel.Process.{Process}
-use Rattle.vk_base.specs.declared.kernel.State.{State}
 use Rattle.vk_base.specs.declared.kernel.State.TheVariants as states
-use Rattle.vk_base.specs.declared.message.Message.{Message}
-use Rattle.vk_base.specs.declared.pid.Pid.{Pid}
-use Rattle.vk_base.specs.declared.step.Step.{Step}
 use Rattle.vk_base.specs.declared.step.Step.TheVariants as steps
 use Rattle.vk_base.specs.Kernel.{◌>>=◌, Kernel, initial_kernel, is_taken, name_of, sending}
 use Rattle.vk_base.specs.Messages.{segment_of}
@@ -35,7 +28,7 @@ use Rattle.v_laws.proofs.MoveWritten.{waits_in}
 use Rattle.v_laws.proofs.OnceLemmas.{never_back}
 use Rattle.v_laws.proofs.PlaceLemmas.{along, before_after, before_next, before_sound, step_at}
 use Rattle.v_laws.proofs.SoundMoves.{with_no_bytes}
-use Rattle.v_pages.specs.Followed.{Follows, answer_at, answers_before, calls_before, up_to}
+use Rattle.v_pages.specs.Followed.{FollowsTask, answer_at, answers_before, calls_before, up_to}
 use Rattle.v_pages.specs.Requests.{Request, request_at, requests_before}
 use Rattle.v_pages.specs.Served.{RepliesToLast}
 use Rattle.v_pages.proofs.Collected.{was_there}
@@ -44,7 +37,7 @@ use Rattle.v_pages.proofs.Replied.{kept_reply}
 use Rattle.v_pages.proofs.Ended.{Collects, IsEnded, was_ended}
 use Rattle.v_pages.proofs.Senders.{asked_by, only_once, was_ended_by}
 use Rattle.v_pages.proofs.Taken.{one_take, request_is, request_taken}
-use Rattle.v_files.specs.Loaded.{HasFile, IsFileServer, IsLoaded, IsLoadedAlone}
+use Rattle.v_files.specs.Loaded.{HasFile, IsFileServer, IsFileLoaded, IsLoadedAlone}
 use Rattle.v_files.specs.Volumes.{disk_before, file_bytes}
 use Rattle.v_files.proofs.Disks.{blocks_still, server_more, turn_writes}
 use Rattle.v_files.proofs.Given.{IsGivenTo, given_to, server_before, server_hands}
@@ -110,7 +103,7 @@ there_before specs ss r i (suc j) k p up at is = elim (cases_eq i (suc j)) [
 -- at one place
 disk_step : (blocks : List (List ℕ)) (requests : ℕ) (telling : List Answer → Telling) (specs : List ProcessSpec) (ss : List Step)
     (r s : Pid) (i j l number : ℕ) (reply : Message) (bytes : List ℕ) → IsRoomy specs blocks r →
-    Follows (file_call blocks requests telling) specs ss r → (g : IsGivenTo specs ss r blocks requests telling i j s number reply bytes) →
+    FollowsTask (file_call blocks requests telling) specs ss r → (g : IsGivenTo specs ss r blocks requests telling i j s number reply bytes) →
     (code_of g.request.message == 6) ≡ true → i < l → l < j →
     disk_before blocks requests telling specs ss r (suc l) ≡ disk_before blocks requests telling specs ss r l
 disk_step blocks requests telling specs ss r s i j l number reply bytes roomy follows g load low high =
@@ -143,7 +136,7 @@ disk_step blocks requests telling specs ss r s i j l number reply bytes roomy fo
 
 disk_still : (blocks : List (List ℕ)) (requests : ℕ) (telling : List Answer → Telling) (specs : List ProcessSpec) (ss : List Step)
     (r s : Pid) (i j number : ℕ) (reply : Message) (bytes : List ℕ) → IsRoomy specs blocks r →
-    Follows (file_call blocks requests telling) specs ss r → (g : IsGivenTo specs ss r blocks requests telling i j s number reply bytes) →
+    FollowsTask (file_call blocks requests telling) specs ss r → (g : IsGivenTo specs ss r blocks requests telling i j s number reply bytes) →
     (code_of g.request.message == 6) ≡ true → (d l : ℕ) → i < l → l + d ≡ j →
     disk_before blocks requests telling specs ss r l ≡ disk_before blocks requests telling specs ss r j
 disk_still blocks requests telling specs ss r s i j number reply bytes roomy follows g load zero l low all =
@@ -236,7 +229,7 @@ loaded_by : (specs : List ProcessSpec) (ss : List Step) (whole : Run) (blocks : 
     IsFileServer specs ss r blocks requests telling → (c : Collects specs ss i s (calls.Send target message) (answers.Replied reply)) →
     (e : IsEnded specs ss i j s target r message reply c.sender) →
     IsGivenTo specs ss r blocks requests telling e.take_place j s e.waiter.sends reply e.bytes →
-    IsLoaded specs ss i j s r blocks requests telling reply
+    IsFileLoaded specs ss i j s r blocks requests telling reply
 loaded_by specs ss whole blocks requests telling i j s target r message reply runs fs c e g =
     let first = e.before_finish in
     let second = e.earlier in
@@ -265,7 +258,7 @@ pub loads_whole : (specs : List ProcessSpec) (ss : List Step) (whole : Run) (r :
     (telling : List Answer → Telling) (i j : ℕ) (s target : Pid) (message reply : Message) → run (initial_kernel specs) ss ≡ Some whole →
     IsFileServer specs ss r blocks requests telling → slice_get ss i ≡ Some (steps.Collect s) →
     seen_at specs ss i ≡ saw s (calls.Send target message) (answers.Replied reply) → RepliesToLast specs ss i j s r →
-    IsLoaded specs ss i j s r blocks requests telling reply
+    IsFileLoaded specs ss i j s r blocks requests telling reply
 loads_whole specs ss whole r blocks requests telling i j s target message reply runs fs is sees h =
     let w = was_ended specs ss whole r i j s target message reply runs is sees h in
     loaded_by specs ss whole blocks requests telling i j s target r message reply runs fs w.collects w.ended

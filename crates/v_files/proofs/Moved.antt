@@ -3,42 +3,32 @@ use Rattle.std.proofs.Common.{◌≡◌, ℕ, ◌+◌, ◌≤◌, Bool, true, fa
 use Rattle.std.proofs.lemmas.Bool.{both_ways, cases_Bool, cases_eq, eqb-true, ltb-true, or_cases, and_parts}
 use Rattle.std.proofs.lemmas.List.{take_all}
 use Rattle.std.proofs.lemmas.Option.{same_Some, none-some}
-use Rattle.vk_base.specs.declared.answer.Answer.{Answer}
+use Rattle.vk_types.specs.Types.{Answer, Call, Direction, Exchange, Message, Move, MoveName, Name, Pid, Process, Step}
 use Rattle.vk_base.specs.declared.answer.Answer.TheVariants as answers
 use Rattle.vk_base.specs.declared.answer.Ending.TheVariants as endings
-use Rattle.vk_base.specs.declared.call.Call.{Call}
 use Rattle.vk_base.specs.declared.call.Call.TheVariants as calls
-use Rattle.vk_base.specs.declared.kernel.Direction.{Direction}
 use Rattle.vk_base.specs.declared.kernel.Direction.TheVariants as directions
-use Rattle.vk_base.specs.declared.kernel.Exchange.{Exchange}
-use Rattle.vk_base.specs.declared.kernel.Move.{Move}
-use Rattle.vk_base.specs.declared.kernel.MoveName.{MoveName}
-use Rattle.vk_base.specs.declared.kernel.Name.{Name}
-use Rattle.vk_base.specs.declared.kernel.Process.{Process}
 use Rattle.vk_base.specs.declared.kernel.State.TheVariants as states
-use Rattle.vk_base.specs.declared.message.Message.{Message}
-use Rattle.vk_base.specs.declared.pid.Pid.{Pid}
-use Rattle.vk_base.specs.declared.step.Step.{Step}
 use Rattle.vk_base.specs.declared.step.Step.TheVariants as steps
 use Rattle.vk_base.specs.Calls.{Effect, accepted, begin_move, copied_at_once, is_at_once, move_begun, new_move}
 use Rattle.vk_base.specs.Kernel.{◌>>=◌, Kernel, held, holds_of, is_held_by, is_move, is_moving, is_ready, is_taken, move_of, name_of, sending, waiting_on}
 use Rattle.vk_base.specs.Pids.{same_host}
 use Rattle.vk_base.specs.Ranges.{range_of, bytes_in}
 use Rattle.vk_base.specs.Steps.{Copying, copying, effect, ending, is_complete, move_ending, noted_bytes, only_if}
-use Rattle.vk_base.proofs.OptionLemmas.{bind_is}
+use Rattle.vk_base.proofs.OptionLemmas.{bind_is, mapped_is}
 use Rattle.v_laws.specs.Moves.{move_call}
 use Rattle.v_laws.specs.Sound.{IsSound}
 use Rattle.v_laws.proofs.Changes.{taken_is_at_target}
 use Rattle.v_laws.proofs.Held.{holding_is}
 use Rattle.v_laws.proofs.Later.{exchange_later}
-use Rattle.v_laws.proofs.MoveKept.{IsRunning, IsWritten, move_named}
+use Rattle.v_laws.proofs.MoveKept.{RunsMove, AreMovesWritten, move_named}
 use Rattle.v_laws.proofs.MoveLists.{move_within, next_is, opened_here, opened_other, pushed_before}
 use Rattle.v_laws.proofs.MoveSteps.{IsMoveCall, MoveOn, all_moves, in_move, noted, opened_with, pushed, unstaged}
 use Rattle.v_laws.proofs.MoveWritten.{moving_of_move, waits_in}
-use Rattle.v_laws.proofs.Options.{mapped_is, of_either, some_that_holds}
+use Rattle.v_laws.proofs.Options.{of_either, some_that_holds}
 use Rattle.v_laws.proofs.ReplyLemmas.{taken_when}
 use Rattle.v_laws.proofs.SoundLemmas.{step_is}
-use Rattle.v_laws.proofs.StepLemmas.{copying_is, only_if_is, opening_is, waiting_is, IsWaiting}
+use Rattle.v_laws.proofs.StepLemmas.{copying_is, only_if_is, opening_is, waiting_is, IsSenderWaiting}
 use Rattle.v_laws.proofs.Tables.{put_process_here, same_pid_is}
 use Rattle.v_pages.proofs.Calling.{CallOutcome, outcome_of}
 use Rattle.v_pages.proofs.Collected.{was_there}
@@ -47,7 +37,7 @@ use Rattle.v_pages.proofs.Touched.{Kept, Touched, is_waiting, near_target, sendi
 use Rattle.v_pages.proofs.Waiting.{Back, copied_own, step_back}
 
 -- nothing is left to be copied of the moves of an exchange
-pub record IsClosed (e : Exchange) : Type 0 where
+pub record IsExchangeClosed (e : Exchange) : Type 0 where
   pub last : length e.moves ≤ e.opened
   pub done : (m : Move) → move_of e e.opened ≡ Some m → m.count ≤ e.done
 
@@ -59,7 +49,7 @@ AreThere k n dest bytes = (p : Process) → waiting_on k n ≡ Some p → bytes_
 pub record HasBytes (k : Kernel) (n : Name) (dest : ℕ) (bytes : List ℕ) : Type 0 where
   pub exchange : Exchange
   pub is : k.exchanges n ≡ Some exchange
-  pub closed : IsClosed exchange
+  pub closed : IsExchangeClosed exchange
   pub there : AreThere k n dest bytes
 
 -- the process that took the message calls for no move by this step
@@ -130,17 +120,17 @@ move_is directions.To partner dest src count = refl
 move_is directions.From partner dest src count = refl
 
 -- What is closed stays closed.
-closed_as : (x y : Exchange) → unstaged y ≡ unstaged x → IsClosed x → IsClosed y
-closed_as x y same closed = out y (subst IsClosed (sym same) (into x closed))
+closed_as : (x y : Exchange) → unstaged y ≡ unstaged x → IsExchangeClosed x → IsExchangeClosed y
+closed_as x y same closed = out y (subst IsExchangeClosed (sym same) (into x closed))
   where
-    into : (z : Exchange) → IsClosed z → IsClosed (unstaged z)
+    into : (z : Exchange) → IsExchangeClosed z → IsExchangeClosed (unstaged z)
     into z c = record { last = c.last; done = c.done }
 
-    out : (z : Exchange) → IsClosed (unstaged z) → IsClosed z
+    out : (z : Exchange) → IsExchangeClosed (unstaged z) → IsExchangeClosed z
     out z c = record { last = c.last; done = c.done }
 
 no_copy : (k : Kernel) (n : Name) (number offset count : ℕ) (c : Copying) → copying k n number offset count ≡ Some c →
-    IsClosed c.exchange → ⊥
+    IsExchangeClosed c.exchange → ⊥
 no_copy k n number offset count c g closed =
     let is = copying_is k n number offset count c g in
     let next = next_is c.exchange number c.move offset count is.next in
@@ -151,8 +141,8 @@ no_copy k n number offset count c g closed =
     omega arith
 
 closed_on : (k : Kernel) (s : Step) (e : Effect) (n : Name) (x : Exchange) (p : Option Exchange) → effect k s ≡ Some e →
-    k.exchanges n ≡ Some x → IsClosed x → MovesNot k s n → MoveOn k s e.after n (Some x) p →
-    (y : Exchange) × (p ≡ Some y) × IsClosed y
+    k.exchanges n ≡ Some x → IsExchangeClosed x → MovesNot k s n → MoveOn k s e.after n (Some x) p →
+    (y : Exchange) × (p ≡ Some y) × IsExchangeClosed y
 closed_on k s e n x p does at closed free (MoveOn.stays same none keeps) =
     let z = mapped_is unstaged p (unstaged x) same in
     (z.0, z.1, closed_as x z.0 z.2 closed)
@@ -166,21 +156,21 @@ closed_on k s e n x p does at closed free (MoveOn.opens number a step g was now)
     let op = opening_is k n number a g in
     let higher = ltb-true a.exchange.opened number op.later in
     let within = move_within a.exchange number a.move op.move in
-    let last = (subst IsClosed (same_Some x a.exchange was) closed).last in
+    let last = (subst IsExchangeClosed (same_Some x a.exchange was) closed).last in
     absurd (omega arith)
 closed_on k s e n x p does at closed free (MoveOn.copies number offset count c step g was now memory) =
-    absurd (no_copy k n number offset count c g (subst IsClosed (same_Some x c.exchange was) closed))
+    absurd (no_copy k n number offset count c g (subst IsExchangeClosed (same_Some x c.exchange was) closed))
 
 -- What stands there stays there.
 kept_memory : (k : Kernel) (s : Step) (n : Name) (x p : Process) (y : Pid × Message) (e : Exchange) → IsSound k → MovesNot k s n →
-    k.procs n.sender ≡ Some x → x.sends ≡ n.number → sending x.state ≡ Some y → k.exchanges n ≡ Some e → IsClosed e →
+    k.procs n.sender ≡ Some x → x.sends ≡ n.number → sending x.state ≡ Some y → k.exchanges n ≡ Some e → IsExchangeClosed e →
     Kept k s n.sender x p → p.memory ≡ x.memory
 kept_memory k s n x p y e sound free at last sends is closed (Kept.stays same) = same
 kept_memory k s n x p y e sound free at last sends is closed (Kept.copied_to m number offset count c g mine who) =
     let cp = copying_is k m number offset count c g in
     let name : m ≡ n = copied_own k n.sender y x m number c c.move.direction sends cp.written mine who ∙ ap (name_of n.sender) last in
     absurd (no_copy k m number offset count c g
-    (subst IsClosed (same_Some e c.exchange (sym is ∙ ap k.exchanges (sym name) ∙ cp.exchange)) closed))
+    (subst IsExchangeClosed (same_Some e c.exchange (sym is ∙ ap k.exchanges (sym name) ∙ cp.exchange)) closed))
 kept_memory k s n x p y e sound free at last sends is closed (Kept.moved pid dest src count number step holds near) =
     let c : Call = calls.MoveTo n.sender dest src count in
     let h = holding_is k pid n.sender number holds in
@@ -192,7 +182,7 @@ kept_memory k s n x p y e sound free at last sends is closed (Kept.moved pid des
 
 touched_memory : (k : Kernel) (s : Step) (n : Name) (x p : Process) (y z : Pid × Message) (e : Exchange) → IsSound k → MovesNot k s n →
     k.procs n.sender ≡ Some x → x.sends ≡ n.number → sending x.state ≡ Some y → sending p.state ≡ Some z → k.exchanges n ≡ Some e →
-    IsClosed e → Touched k s n.sender x p → p.memory ≡ x.memory
+    IsExchangeClosed e → Touched k s n.sender x p → p.memory ≡ x.memory
 touched_memory k s n x p y z e sound free at last sends now is closed (Touched.rests same) = ap (λ (w : Process). w.memory) same
 touched_memory k s n x p y z e sound free at last sends now is closed (Touched.makes c step idle none) =
     absurd (both_ways (is_waiting x.state) idle (sending_waits x.state y sends))
@@ -204,7 +194,7 @@ touched_memory k s n x p y z e sound free at last sends now is closed (Touched.f
 touched_memory k s n x p y z e sound free at last sends now is closed (Touched.waits w none kept on stays) =
     kept_memory k s n x p y e sound free at last sends is closed kept
 
-there_by : (k : Kernel) (s : Step) (e : Effect) (n : Name) (dest : ℕ) (bytes : List ℕ) (x p : Process) (w : IsWaiting e.after n p) →
+there_by : (k : Kernel) (s : Step) (e : Effect) (n : Name) (dest : ℕ) (bytes : List ℕ) (x p : Process) (w : IsSenderWaiting e.after n p) →
     IsSound k → effect k s ≡ Some e → HasBytes k n dest bytes → MovesNot k s n → k.procs n.sender ≡ Some x →
     Back s n.sender w.target w.message x p → bytes_in (range_of dest (length bytes)) p.memory ≡ bytes
 there_by k s e n dest bytes x p w sound does h free at (Back.here step sends memory) =
@@ -405,7 +395,7 @@ complete_is k r p n number x at named g =
       done = eqb-true y.0.done z.0.count z.2;
     }
 
-pub move_ended : (k : Kernel) (r from : Pid) (p : Process) (dest : ℕ) (bytes : List ℕ) (x : Process × Answer) → IsWritten k →
+pub move_ended : (k : Kernel) (r from : Pid) (p : Process) (dest : ℕ) (bytes : List ℕ) (x : Process × Answer) → AreMovesWritten k →
     k.procs r ≡ Some p → is_moving p.state ≡ true → IsMoving k r from p dest bytes → ending k r endings.Ok ≡ Some x →
     IsMoved k r from dest bytes
 move_ended k r from p dest bytes x written at moves m g =
@@ -419,7 +409,7 @@ move_ended k r from p dest bytes x written at moves m g =
     c : IsComplete k n m.turn
     c = complete_is k r p n m.turn x at m.named g
 
-    w : IsRunning k r (move_named n m.turn)
+    w : RunsMove k r (move_named n m.turn)
     w = written.running r p (move_named n m.turn) at (moving_of_move p.state moves) m.named
 
     mine : m.move.exchange ≡ c.exchange

@@ -1,14 +1,9 @@
 -- How a file server stands: the request that it serves, and, where that is for a load, what it has gathered and moved.
 use Rattle.std.proofs.Common.{◌≡◌, ℕ, ◌+◌, ◌*◌, ◌<◌, ◌==◌, true, false, List, [], ◌∷◌, ◌++◌, length, Some}
-use Rattle.vk_base.specs.declared.answer.Answer.{Answer}
+use Rattle.vk_types.specs.Types.{Answer, Call, Message, Pid, Process, State}
 use Rattle.vk_base.specs.declared.answer.Answer.TheVariants as answers
-use Rattle.vk_base.specs.declared.call.Call.{Call}
 use Rattle.vk_base.specs.declared.call.Call.TheVariants as calls
-use Rattle.vk_base.specs.declared.kernel.Process.{Process}
-use Rattle.vk_base.specs.declared.kernel.State.{State}
 use Rattle.vk_base.specs.declared.kernel.State.TheVariants as states
-use Rattle.vk_base.specs.declared.message.Message.{Message}
-use Rattle.vk_base.specs.declared.pid.Pid.{Pid}
 use Rattle.vk_base.specs.Kernel.{Kernel}
 use Rattle.vk_base.specs.Messages.{segment_of}
 use Rattle.vk_base.specs.Ranges.{range_of, bytes_in}
@@ -93,7 +88,7 @@ Standing count files r blocks all k p stages.Exit = Unit {0}
 Standing count files r blocks all k p stages.Ended = Unit {0}
 
 -- while it waits in a call: for a request, or for a move of the file
-pub record IsInMove (count : ℕ) (files : List Entry) (r : Pid) (blocks : List (List ℕ)) (all : List Request) (k : Kernel) (p : Process)
+pub record IsServerInMove (count : ℕ) (files : List Entry) (r : Pid) (blocks : List (List ℕ)) (all : List Request) (k : Kernel) (p : Process)
     (c : Call) (from : Pid) (f : File) (dest : ℕ) : Type 0 where
   pub call : c ≡ calls.MoveTo from dest 0 f.length
   pub load : IsForLoad count files all from f dest
@@ -102,7 +97,7 @@ pub record IsInMove (count : ℕ) (files : List Entry) (r : Pid) (blocks : List 
 
 abbrev pub Waits : ℕ → List Entry → Pid → List (List ℕ) → List Request → Kernel → Process → Call → Serving → Type 0
 Waits count files r blocks all k p c stages.Receive = c ≡ calls.ReceiveSegment 0 BLOCK_BYTES
-Waits count files r blocks all k p c (stages.Move from f dest) = IsInMove count files r blocks all k p c from f dest
+Waits count files r blocks all k p c (stages.Move from f dest) = IsServerInMove count files r blocks all k p c from f dest
 Waits count files r blocks all k p c _ = ⊥
 
 -- and when it has an answer to collect

@@ -3,21 +3,12 @@ use Rattle.std.proofs.Common.{◌≡◌, ℕ, suc, ◌+◌, ◌≤◌, true, fal
 use Rattle.std.proofs.lemmas.Bool.{both_ways, cases_Bool, cond-true}
 use Rattle.std.proofs.lemmas.List.{append-nil}
 use Rattle.std.proofs.lemmas.Option.{same_Some, none-some}
-use Rattle.vk_base.specs.declared.answer.Answer.{Answer}
+use Rattle.vk_types.specs.Types.{Answer, Call, Ending, MoveName, Pid, Process, ProcessSpec, Refusal, State, Step}
 use Rattle.vk_base.specs.declared.answer.Answer.TheVariants as answers
-use Rattle.vk_base.specs.declared.answer.Ending.{Ending}
 use Rattle.vk_base.specs.declared.answer.Ending.TheVariants as endings
-use Rattle.vk_base.specs.declared.answer.Refusal.{Refusal}
 use Rattle.vk_base.specs.declared.answer.Refusal.TheVariants as refusals
-use Rattle.vk_base.specs.declared.call.Call.{Call}
 use Rattle.vk_base.specs.declared.call.Call.TheVariants as calls
-use Rattle.vk_base.specs.declared.config.ProcessSpec.{ProcessSpec}
-use Rattle.vk_base.specs.declared.kernel.MoveName.{MoveName}
-use Rattle.vk_base.specs.declared.kernel.Process.{Process}
-use Rattle.vk_base.specs.declared.kernel.State.{State}
 use Rattle.vk_base.specs.declared.kernel.State.TheVariants as states
-use Rattle.vk_base.specs.declared.pid.Pid.{Pid}
-use Rattle.vk_base.specs.declared.step.Step.{Step}
 use Rattle.vk_base.specs.declared.step.Step.TheVariants as steps
 use Rattle.vk_base.specs.Calls.{Effect, unseen}
 use Rattle.vk_base.specs.Kernel.{◌>>=◌, Kernel, as_receive, ended, finished_call, is_moving, is_ready, receiving, sending, waiting_on, with_state}
@@ -25,6 +16,7 @@ use Rattle.vk_base.specs.Pids.{same_pid}
 use Rattle.vk_base.specs.Ranges.{range_of, bytes_in}
 use Rattle.vk_base.specs.Steps.{Taking, effect, ending, finishing, move_ending, only_if, received}
 use Rattle.vk_base.proofs.OptionLemmas.{bind_is}
+use Rattle.vk_base.proofs.PidLemmas.{same_pid_self}
 use Rattle.vk_event.specs.declared.task.TheConstants.{PAGE_BYTES}
 use Rattle.vk_files.specs.Servers.{Server, moved, received as received_turn}
 use Rattle.vk_files.specs.Tasks.{file_call, server_after}
@@ -41,7 +33,7 @@ use Rattle.v_laws.specs.Sound.{IsSound}
 use Rattle.v_laws.proofs.MovePlaces.{before_sized, before_written}
 use Rattle.v_laws.proofs.PlaceLemmas.{before_sound}
 use Rattle.v_laws.proofs.StepLemmas.{ending_is, finishing_is, only_if_is, taking_is}
-use Rattle.v_laws.proofs.Tables.{put_process_here, same_pid_self}
+use Rattle.v_laws.proofs.Tables.{put_process_here}
 use Rattle.v_pages.specs.Followed.{call_by}
 use Rattle.v_pages.specs.Requests.{Request}
 use Rattle.v_pages.proofs.Calling.{one_given, outcome_of, told}
@@ -52,12 +44,12 @@ use Rattle.v_pages.proofs.Touched.{Touched, is_waiting, touched}
 use Rattle.v_pages.proofs.Turns.{MayCall, collect_by, left_alone, request_by, take_by}
 use Rattle.v_files.specs.Volumes.{IsVolume, file_bytes}
 use Rattle.v_files.proofs.Asked.{answers_otherwise, asked, not_zero}
-use Rattle.v_files.proofs.Calling.{IsKnown, answered_with, at_stage, call_on}
+use Rattle.v_files.proofs.Calling.{IsKernelKnown, answered_with, at_stage, call_on}
 use Rattle.v_files.proofs.Disks.{file_on, server_fit}
 use Rattle.v_files.proofs.Moved.{IsMild, IsMoved, move_ended, moved_step, moving_step}
-use Rattle.v_files.proofs.Standing.{After, Doing, HasAnswer, IsInMove, IsOverMove, ServerAt, Standing, Waits}
+use Rattle.v_files.proofs.Standing.{After, Doing, HasAnswer, IsServerInMove, IsOverMove, ServerAt, Standing, Waits}
 
-pub known_at : (specs : List ProcessSpec) (ss : List Step) (i : ℕ) (k : Kernel) → before specs ss i ≡ Some k → IsKnown specs k
+pub known_at : (specs : List ProcessSpec) (ss : List Step) (i : ℕ) (k : Kernel) → before specs ss i ≡ Some k → IsKernelKnown specs k
 known_at specs ss i k at = record {
   sound = before_sound specs ss i k at;
   written = before_written specs ss i k at;
@@ -87,7 +79,7 @@ ready_when count files r s made given all k p (states.Blocked c) doing same = le
 ready_when count files r s made given all k p (states.Done c a) doing same = let more = doing.0 in absurd (omega arith)
 
 call_next : (specs : List ProcessSpec) (blocks : List (List ℕ)) (requests : ℕ) (telling : List Answer → Telling) (r : Pid) (made : ℕ)
-    (given : List Answer) (all : List Request) (k : Kernel) (c : Call) (e : Effect) (p y : Process) → IsKnown specs k →
+    (given : List Answer) (all : List Request) (k : Kernel) (c : Call) (e : Effect) (p y : Process) → IsKernelKnown specs k →
     IsRoomy specs blocks r → ServerAt blocks requests telling r made given all k p → length given ≡ made →
     file_call blocks requests telling given ≡ Some c → k.procs r ≡ Some p → e.after.procs r ≡ Some y →
     effect k (steps.Call r c) ≡ Some e → StandsNext (ServerAt blocks requests telling r) made given all (Some c) (told r e) None e.after y
@@ -362,9 +354,9 @@ end_mild r why = record { takes = λ e. not_take e; hands = λ m from to e. not_
     not_call c e = cc
 
 move_over : (specs : List ProcessSpec) (count : ℕ) (files : List Entry) (r : Pid) (s : Server) (made given : ℕ) (all : List Request)
-    (k : Kernel) (e : Effect) (p y : Process) (c : Call) (from : Pid) (f : File) (dest : ℕ) (why : Ending) → IsKnown specs k →
+    (k : Kernel) (e : Effect) (p y : Process) (c : Call) (from : Pid) (f : File) (dest : ℕ) (why : Ending) → IsKernelKnown specs k →
     k.procs r ≡ Some p → e.after.procs r ≡ Some y → effect k (steps.End r why) ≡ Some e → p.state ≡ states.Blocked c →
-    s.stage ≡ stages.Move from f dest → made ≡ given + 1 → IsInMove count files r s.blocks all k p c from f dest →
+    s.stage ≡ stages.Move from f dest → made ≡ given + 1 → IsServerInMove count files r s.blocks all k p c from f dest →
     Doing count files r s made given all e.after y y.state
 move_over specs count files r s made given all k e p y c from f dest why known there later does blocked stage more m =
     let x = bind_is (ending k r why) _ e does in
@@ -392,9 +384,9 @@ move_over specs count files r s made given all k e p y c from f dest why known t
 
 -- While it is in the move.
 in_move_on : (specs : List ProcessSpec) (count : ℕ) (files : List Entry) (r : Pid) (s : Server) (made given : ℕ) (all : List Request)
-    (k : Kernel) (t : Step) (e : Effect) (p y : Process) (c : Call) (from : Pid) (f : File) (dest : ℕ) → IsKnown specs k →
+    (k : Kernel) (t : Step) (e : Effect) (p y : Process) (c : Call) (from : Pid) (f : File) (dest : ℕ) → IsKernelKnown specs k →
     k.procs r ≡ Some p → e.after.procs r ≡ Some y → effect k t ≡ Some e → own_step r t ≡ false → p.state ≡ states.Blocked c →
-    s.stage ≡ stages.Move from f dest → made ≡ given + 1 → IsInMove count files r s.blocks all k p c from f dest → Touched k t r p y →
+    s.stage ≡ stages.Move from f dest → made ≡ given + 1 → IsServerInMove count files r s.blocks all k p c from f dest → Touched k t r p y →
     Doing count files r s made given all e.after y y.state
 in_move_on specs count files r s made given all k t e p y c from f dest known there later does other blocked stage more m touch =
     by_touch touch
@@ -435,7 +427,7 @@ in_move_on specs count files r s made given all k t e p y c from f dest known th
     ]
 
 waits_on : (specs : List ProcessSpec) (count : ℕ) (files : List Entry) (r : Pid) (s : Server) (made given : ℕ) (all : List Request)
-    (k : Kernel) (t : Step) (e : Effect) (p y : Process) (c : Call) (stage : Serving) → IsKnown specs k → k.procs r ≡ Some p →
+    (k : Kernel) (t : Step) (e : Effect) (p y : Process) (c : Call) (stage : Serving) → IsKernelKnown specs k → k.procs r ≡ Some p →
     e.after.procs r ≡ Some y → effect k t ≡ Some e → own_step r t ≡ false → p.state ≡ states.Blocked c → s.stage ≡ stage →
     made ≡ given + 1 → Waits count files r s.blocks all k p c stage → Touched k t r p y →
     Doing count files r s made given all e.after y y.state
@@ -462,7 +454,7 @@ waits_on specs count files r s made given all k t e p y c stages.Exit known ther
 waits_on specs count files r s made given all k t e p y c stages.Ended known there later does other blocked stage more w touch = absurd w
 
 others_on : (specs : List ProcessSpec) (count : ℕ) (files : List Entry) (r : Pid) (s : Server) (made given : ℕ) (all : List Request)
-    (k : Kernel) (t : Step) (e : Effect) (p y : Process) (state : State) → IsKnown specs k → k.procs r ≡ Some p →
+    (k : Kernel) (t : Step) (e : Effect) (p y : Process) (state : State) → IsKernelKnown specs k → k.procs r ≡ Some p →
     e.after.procs r ≡ Some y → effect k t ≡ Some e → own_step r t ≡ false → p.state ≡ state →
     Doing count files r s made given all k p state → Touched k t r p y → Doing count files r s made given all e.after y y.state
 others_on specs count files r s made given all k t e p y states.Ready known there later does other is doing touch =
@@ -479,7 +471,7 @@ others_on specs count files r s made given all k t e p y (states.Done c a) known
     (doing.0, answer_step count files r s.blocks all k t e a s.stage known.sound does (other_mild r t other) doing.1))
 
 others_next : (specs : List ProcessSpec) (blocks : List (List ℕ)) (requests : ℕ) (telling : List Answer → Telling) (r : Pid) (made : ℕ)
-    (given : List Answer) (all : List Request) (k : Kernel) (t : Step) (e : Effect) (p y : Process) → IsKnown specs k →
+    (given : List Answer) (all : List Request) (k : Kernel) (t : Step) (e : Effect) (p y : Process) → IsKernelKnown specs k →
     own_step r t ≡ false → ServerAt blocks requests telling r made given all k p → k.procs r ≡ Some p → e.after.procs r ≡ Some y →
     effect k t ≡ Some e → StandsNext (ServerAt blocks requests telling r) made given all None None None e.after y
 others_next specs blocks requests telling r made given all k t e p y known other at there later does =
@@ -492,7 +484,7 @@ others_next specs blocks requests telling r made given all k t e p y known other
 
 -- After any step.
 next_step : (specs : List ProcessSpec) (blocks : List (List ℕ)) (requests : ℕ) (telling : List Answer → Telling) (r : Pid) (made : ℕ)
-    (given : List Answer) (all : List Request) (k : Kernel) (s : Step) (e : Effect) (p y : Process) → OwnStep r s → IsKnown specs k →
+    (given : List Answer) (all : List Request) (k : Kernel) (s : Step) (e : Effect) (p y : Process) → OwnStep r s → IsKernelKnown specs k →
     IsRoomy specs blocks r → ServerAt blocks requests telling r made given all k p → k.procs r ≡ Some p → e.after.procs r ≡ Some y →
     effect k s ≡ Some e → MayCall (file_call blocks requests telling) made given (call_by r s) →
     StandsNext (ServerAt blocks requests telling r) made given all (call_by r s) (told r e) (request_by r k s e) e.after y

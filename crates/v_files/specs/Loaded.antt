@@ -1,13 +1,8 @@
 -- What the clients of a file server get that load a file, in the runs of the one-machine kernel.
 use Rattle.std.specs.Prelude.{ℕ, ◌≡◌, ◌<◌, ◌≤◌, List, slice_get, Some}
-use Rattle.vk_base.specs.declared.answer.Answer.{Answer}
+use Rattle.vk_types.specs.Types.{Answer, Message, Pid, Process, ProcessSpec, Step}
 use Rattle.vk_base.specs.declared.answer.Answer.TheVariants as answers
 use Rattle.vk_base.specs.declared.call.Call.TheVariants as calls
-use Rattle.vk_base.specs.declared.config.ProcessSpec.{ProcessSpec}
-use Rattle.vk_base.specs.declared.kernel.Process.{Process}
-use Rattle.vk_base.specs.declared.message.Message.{Message}
-use Rattle.vk_base.specs.declared.pid.Pid.{Pid}
-use Rattle.vk_base.specs.declared.step.Step.{Step}
 use Rattle.vk_base.specs.declared.step.Step.TheVariants as steps
 use Rattle.vk_base.specs.Kernel.{initial_kernel, name_of}
 use Rattle.vk_base.specs.Messages.{segment_of}
@@ -22,7 +17,7 @@ use Rattle.vk_files.specs.declared.limits.TheConstants.{FILE_BYTES}
 use Rattle.v_laws.specs.Places.{process_at, seen_at, taken_at}
 use Rattle.v_laws.specs.Reached.{saw}
 use Rattle.v_laws.specs.Sizes.{size_in}
-use Rattle.v_pages.specs.Followed.{Follows}
+use Rattle.v_pages.specs.Followed.{FollowsTask}
 use Rattle.v_pages.specs.Requests.{Request, request_at}
 use Rattle.v_pages.specs.Served.{RepliesToLast}
 use Rattle.v_files.specs.Volumes.{IsVolume, disk_before, file_bytes}
@@ -33,7 +28,7 @@ pub record IsFileServer (specs : List ProcessSpec) (ss : List Step) (r : Pid) (b
     (telling : List Answer → Telling) : Type 0 where
   pub room : FILE_BYTES ≤ size_in specs r
   pub volume : IsVolume blocks
-  pub follows : Follows (file_call blocks requests telling) specs ss r
+  pub follows : FollowsTask (file_call blocks requests telling) specs ss r
 
 -- The memory has the file that this message asks for, from the start of the segment that it grants on, as it stood on the disk from one
 -- place to another, between which no block of the disk changed. So these are the bytes that were fetched there.
@@ -50,7 +45,7 @@ pub record HasFile (specs : List ProcessSpec) (ss : List Step) (r : Pid) (blocks
 -- The last Send of s was taken by the server r at one place, and at no other, and the reply that r gave at the later place j is
 -- collected at the later place i. Where the message that r was shown asks for a load, and the reply has code 0, the memory of s has the
 -- file at its collect.
-pub record IsLoaded (specs : List ProcessSpec) (ss : List Step) (i j : ℕ) (s r : Pid) (blocks : List (List ℕ)) (requests : ℕ)
+pub record IsFileLoaded (specs : List ProcessSpec) (ss : List Step) (i j : ℕ) (s r : Pid) (blocks : List (List ℕ)) (requests : ℕ)
     (telling : List Answer → Telling) (reply : Message) : Type 0 where
   pub sender : Process
   pub now : process_at specs ss i s ≡ Some sender
@@ -71,7 +66,7 @@ pub record IsLoaded (specs : List ProcessSpec) (ss : List Step) (i j : ℕ) (s r
 pub record IsLoadedAlone (specs : List ProcessSpec) (ss : List Step) (i : ℕ) (s r : Pid) (blocks : List (List ℕ)) (requests : ℕ)
     (telling : List Answer → Telling) (message reply : Message) : Type 0 where
   pub reply_place : ℕ
-  pub loaded : IsLoaded specs ss i reply_place s r blocks requests telling reply
+  pub loaded : IsFileLoaded specs ss i reply_place s r blocks requests telling reply
   pub asked : loaded.request.message ≡ message
   pub alone : (l : ℕ) → taken_at specs ss l ≡ Some loaded.request.name → l ≡ loaded.place
 
@@ -81,7 +76,7 @@ LoadsAreWhole = (specs : List ProcessSpec) (ss : List Step) (whole : Run) (r : P
     (telling : List Answer → Telling) (i j : ℕ) (s target : Pid) (message reply : Message) →
     run (initial_kernel specs) ss ≡ Some whole → IsFileServer specs ss r blocks requests telling →
     slice_get ss i ≡ Some (steps.Collect s) → seen_at specs ss i ≡ saw s (calls.Send target message) (answers.Replied reply) →
-    RepliesToLast specs ss i j s r → IsLoaded specs ss i j s r blocks requests telling reply
+    RepliesToLast specs ss i j s r → IsFileLoaded specs ss i j s r blocks requests telling reply
 
 -- Who sent to r, and collects a reply, was served by r alone.
 abbrev pub SendersAreLoaded : Type 0

@@ -1,10 +1,8 @@
 -- The same, said of the history of a schedule.
 use Rattle.std.specs.Prelude.{ℕ, ◌≡◌, ◌≤◌, List, slice_get, Some}
-use Rattle.vk_base.specs.declared.answer.Answer.{Answer}
+use Rattle.vk_types.specs.Types.{Answer, Message, Pid}
 use Rattle.vk_base.specs.declared.answer.Answer.TheVariants as answers
 use Rattle.vk_base.specs.declared.call.Call.TheVariants as calls
-use Rattle.vk_base.specs.declared.message.Message.{Message}
-use Rattle.vk_base.specs.declared.pid.Pid.{Pid}
 use Rattle.vk_base.specs.declared.step.Step.TheVariants as steps
 use Rattle.vk_base.specs.Settings.{Settings}
 use Rattle.vk_schedule.specs.declared.event.Event.{Event}
@@ -17,7 +15,7 @@ use Rattle.v_laws.specs.Sizes.{size_in}
 use Rattle.v_whole.specs.HistoryLaws.{IsSchedule, steps_of}
 use Rattle.v_pages.specs.Scheduled.{FollowsIn}
 use Rattle.v_pages.specs.Served.{RepliesToLast}
-use Rattle.v_files.specs.Loaded.{IsLoaded, IsLoadedAlone}
+use Rattle.v_files.specs.Loaded.{IsFileLoaded, IsLoadedAlone}
 use Rattle.v_files.specs.Volumes.{IsVolume}
 
 -- the process has memory for the longest file, and follows the task of a file server in the history of these events
@@ -33,7 +31,7 @@ LoadsAreWholeIn = (c : Settings) (es : List Event) (r : Pid) (blocks : List (Lis
     (i j : ℕ) (s target : Pid) (message reply : Message) → IsSchedule c es → IsFileServerIn c es r blocks requests telling →
     slice_get (steps_of c es) i ≡ Some (steps.Collect s) →
     seen_at c.specs (steps_of c es) i ≡ saw s (calls.Send target message) (answers.Replied reply) →
-    RepliesToLast c.specs (steps_of c es) i j s r → IsLoaded c.specs (steps_of c es) i j s r blocks requests telling reply
+    RepliesToLast c.specs (steps_of c es) i j s r → IsFileLoaded c.specs (steps_of c es) i j s r blocks requests telling reply
 
 -- and who sent to r, and collects a reply, was served by r alone
 abbrev pub SendersAreLoadedIn : Type 0

@@ -1,9 +1,6 @@
 -- What a file server is made over, the bytes of a file there, and the blocks of its disk in the course of a run.
 use Rattle.std.specs.Prelude.{ℕ, zero, suc, ◌≡◌, ◌+◌, ◌<◌, List, [], ◌++◌, length, take, None}
-use Rattle.vk_base.specs.declared.answer.Answer.{Answer}
-use Rattle.vk_base.specs.declared.config.ProcessSpec.{ProcessSpec}
-use Rattle.vk_base.specs.declared.pid.Pid.{Pid}
-use Rattle.vk_base.specs.declared.step.Step.{Step}
+use Rattle.vk_types.specs.Types.{Answer, Pid, ProcessSpec, Step}
 use Rattle.vk_files.specs.Disks.{block_at}
 use Rattle.vk_files.specs.Tasks.{server_after}
 use Rattle.vk_files.specs.Volumes.{files_of, first_bad}

@@ -2,25 +2,19 @@
 use Rattle.std.proofs.Common.{◌≡◌, ℕ, false, List, slice_get, Option, Some, None, sym, ap, ◌∙◌, inl, inr}
 use Rattle.std.proofs.lemmas.Bool.{both_ways, cond-true}
 use Rattle.std.proofs.lemmas.Option.{same_Some, none-some}
-use Rattle.vk_base.specs.declared.answer.Answer.{Answer}
-use Rattle.vk_base.specs.declared.call.Call.{Call}
-use Rattle.vk_base.specs.declared.config.ProcessSpec.{ProcessSpec}
-use Rattle.vk_base.specs.declared.kernel.Observation.{Observation}
-use Rattle.vk_base.specs.declared.kernel.State.{State}
+use Rattle.vk_types.specs.Types.{Answer, Call, Observation, Pid, ProcessSpec, State, Step}
 use Rattle.vk_base.specs.declared.kernel.State.TheVariants as states
-use Rattle.vk_base.specs.declared.pid.Pid.{Pid}
-use Rattle.vk_base.specs.declared.step.Step.{Step}
 use Rattle.vk_base.specs.declared.step.Step.TheVariants as steps
 use Rattle.vk_base.specs.Calls.{Effect, unseen}
 use Rattle.vk_base.specs.Kernel.{◌>>=◌, Kernel, finished_call}
 use Rattle.vk_base.specs.Pids.{same_pid}
 use Rattle.vk_base.specs.Steps.{collecting, effect, taken, taking}
 use Rattle.vk_base.proofs.OptionLemmas.{bind_is}
+use Rattle.vk_base.proofs.PidLemmas.{same_pid_self}
 use Rattle.v_laws.specs.Places.{before, effect_at, seen_at}
 use Rattle.v_laws.specs.Reached.{saw}
 use Rattle.v_laws.proofs.StepLemmas.{collecting_is}
-use Rattle.v_laws.proofs.Tables.{same_pid_self}
-use Rattle.v_pages.specs.Followed.{Follows, answer_at, answer_in, answers_before}
+use Rattle.v_pages.specs.Followed.{FollowsTask, answer_at, answer_in, answers_before}
 use Rattle.v_pages.proofs.Calling.{own_told, told}
 use Rattle.v_pages.proofs.Own.{OwnStep, SeenBy, call_seen, other_told, which_step}
 use Rattle.v_group.proofs.Stepping.{IsPlainTask, in_call, is_slow}
@@ -51,7 +45,7 @@ own_seen specs ss r i a o e c is seen did got (inr some) = record {
 }
 
 pub own_answer : (task : List Answer → Option Call) (specs : List ProcessSpec) (ss : List Step) (r : Pid) → IsPlainTask task →
-    Follows task specs ss r → (i : ℕ) (a : Answer) (c : Call) → answer_at specs ss r i ≡ Some a →
+    FollowsTask task specs ss r → (i : ℕ) (a : Answer) (c : Call) → answer_at specs ss r i ≡ Some a →
     task (answers_before specs ss r i) ≡ Some c → is_slow c ≡ false → IsOwnAnswer specs ss r i a
 own_answer task specs ss r plain follows i a c answer next quick = by_step (which_step r s.0)
   where

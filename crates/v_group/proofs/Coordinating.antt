@@ -4,12 +4,9 @@ use Rattle.std.specs.Prelude.{IfSome, option_map, slice_get}
 use Rattle.std.specs.List.{list_all, list_any, position}
 use Rattle.std.proofs.lemmas.Bool.{both_ways, cases_Bool, cond-true, cond_both, or_parts}
 use Rattle.std.proofs.lemmas.Option.{same_Some, none-some}
-use Rattle.vk_base.specs.declared.answer.Answer.{Answer}
+use Rattle.vk_types.specs.Types.{Answer, Call, Message, Pid}
 use Rattle.vk_base.specs.declared.answer.Answer.TheVariants as answers
-use Rattle.vk_base.specs.declared.call.Call.{Call}
 use Rattle.vk_base.specs.declared.call.Call.TheVariants as calls
-use Rattle.vk_base.specs.declared.message.Message.{Message}
-use Rattle.vk_base.specs.declared.pid.Pid.{Pid}
 use Rattle.vk_base.specs.Messages.{grants_read, grants_write}
 use Rattle.vk_group.specs.declared.code.Code.{Code}
 use Rattle.vk_group.specs.declared.code.Code.TheVariants as codes
@@ -225,24 +222,24 @@ answered_due stages.Exit g a = tt
 answered_due stages.Ended g a = tt
 
 -- how it came to what it does: at first it does what it does between two requests
-pub data IsDue (pairs : List HelperPair) (replies : ℕ) (given : List Answer) (next : Stage) : Type 0 where
-  first : given ≡ [] → ((before : Stage) → IsDueAfter before next) → IsDue pairs replies given next
+pub data IsStageDue (pairs : List HelperPair) (replies : ℕ) (given : List Answer) (next : Stage) : Type 0 where
+  first : given ≡ [] → ((before : Stage) → IsDueAfter before next) → IsStageDue pairs replies given next
   after : (front : List Answer) (a : Answer) → given ≡ front ++ a ∷ [] →
-      IsDueAfter (group_after pairs replies front).stage next → IsDue pairs replies given next
+      IsDueAfter (group_after pairs replies front).stage next → IsStageDue pairs replies given next
 
 due_by : (pairs : List HelperPair) (replies : ℕ) (given : List Answer) → Ends given →
-    IsDue pairs replies given (group_after pairs replies given).stage
+    IsStageDue pairs replies given (group_after pairs replies given).stage
 due_by pairs replies given (Ends.none empty) =
-    IsDue.first empty (λ before. subst (λ l. IsDueAfter before (group_after pairs replies l).stage) (sym empty) (rest_due before at_first))
+    IsStageDue.first empty (λ before. subst (λ l. IsDueAfter before (group_after pairs replies l).stage) (sym empty) (rest_due before at_first))
   where
     at_first : Group
     at_first = record { members = map new_member pairs; asked = None; notes = []; waiting = None; left = replies; stage = stages.Receive }
 due_by pairs replies given (Ends.last front a split) =
     let g = group_after pairs replies front in
-    IsDue.after front a split (subst (λ (x : Group). IsDueAfter g.stage x.stage)
+    IsStageDue.after front a split (subst (λ (x : Group). IsDueAfter g.stage x.stage)
     (sym (ap (group_after pairs replies) split ∙ one_answer_more (new_group pairs replies) front a)) (answered_due g.stage g a))
 
-pub due : (pairs : List HelperPair) (replies : ℕ) (given : List Answer) → IsDue pairs replies given (group_after pairs replies given).stage
+pub due : (pairs : List HelperPair) (replies : ℕ) (given : List Answer) → IsStageDue pairs replies given (group_after pairs replies given).stage
 due pairs replies given = due_by pairs replies given (ends given)
 
 -- Where the current group Send began.

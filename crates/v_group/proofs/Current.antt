@@ -2,13 +2,9 @@
 use Rattle.std.proofs.Common.{◌≡◌, ℕ, List, Some, refl, sym, ap, subst, ◌∙◌}
 use Rattle.std.specs.Prelude.{IfSome}
 use Rattle.std.proofs.lemmas.Option.{none-some}
-use Rattle.vk_base.specs.declared.answer.Answer.{Answer}
+use Rattle.vk_types.specs.Types.{Answer, Exchange, Pid, ProcessSpec, Step}
 use Rattle.vk_base.specs.declared.call.Call.TheVariants as calls
-use Rattle.vk_base.specs.declared.config.ProcessSpec.{ProcessSpec}
 use Rattle.vk_base.specs.declared.limits.TheConstants.{MESSAGE_BYTES, SEGMENT_BYTES}
-use Rattle.vk_base.specs.declared.kernel.Exchange.{Exchange}
-use Rattle.vk_base.specs.declared.pid.Pid.{Pid}
-use Rattle.vk_base.specs.declared.step.Step.{Step}
 use Rattle.vk_base.specs.declared.step.Step.TheVariants as steps
 use Rattle.vk_base.specs.Kernel.{initial_kernel, name_of}
 use Rattle.vk_base.specs.Ranges.{range_of, bytes_in}
@@ -17,10 +13,10 @@ use Rattle.v_laws.specs.Places.{process_at}
 use Rattle.vk_event.specs.declared.pair.HelperPair.{HelperPair}
 use Rattle.vk_group.specs.declared.stage.Asked.{Asked}
 use Rattle.vk_group.specs.Accounts.{Account, Began, account_after, deed_of}
-use Rattle.vk_group.specs.Deeds.{IsBegun, IsDone}
+use Rattle.vk_group.specs.Deeds.{IsGroupSendBegun, IsDeedDone}
 use Rattle.vk_group.specs.Groups.{coordinator_call, group_after}
 use Rattle.vk_group.proofs.Done.{deeds_done}
-use Rattle.v_pages.specs.Followed.{Follows, answer_at, answers_before}
+use Rattle.v_pages.specs.Followed.{FollowsTask, answer_at, answers_before}
 use Rattle.v_group.specs.Grouped.{IsCurrentAt, IsDoneAt}
 use Rattle.v_group.proofs.Coordinating.{asked_or}
 use Rattle.v_group.proofs.Hearing.{IsHeard, IsSentBy, name_taken, sent_by}
@@ -32,15 +28,15 @@ use Rattle.v_group.proofs.Since.{IsDoneSince, deed_done, done_since}
 pub record IsBegunAt (specs : List ProcessSpec) (ss : List Step) (r : Pid) (pairs : List HelperPair) (replies i : ℕ) (asked : Asked) :
     Type 0 where
   pub since : IsDoneSince specs ss r pairs replies i (Began asked)
-  pub begun : IsBegun pairs replies (answers_before specs ss r since.place) since.done.answer asked
+  pub begun : IsGroupSendBegun pairs replies (answers_before specs ss r since.place) since.done.answer asked
   pub loaded : IsLoadedAt specs ss r since.place asked.client begun.asks MESSAGE_BYTES asked.message
 
 module _ (specs : List ProcessSpec) (ss : List Step) (whole : Run) (r : Pid) (pairs : List HelperPair) (replies : ℕ)
-    (g : run (initial_kernel specs) ss ≡ Some whole) (follows : Follows (coordinator_call pairs replies) specs ss r) where
+    (g : run (initial_kernel specs) ss ≡ Some whole) (follows : FollowsTask (coordinator_call pairs replies) specs ss r) where
   begun_there : (i : ℕ) (a : Answer) (asked : Asked) →
       deed_of (group_after pairs replies (answers_before specs ss r i)) a ≡ Some (Began asked) →
-      IsBegun pairs replies (answers_before specs ss r i) a asked
-  begun_there i a asked deed = subst (λ o. IfSome o (IsDone pairs replies (answers_before specs ss r i) a)) deed
+      IsGroupSendBegun pairs replies (answers_before specs ss r i) a asked
+  begun_there i a asked deed = subst (λ o. IfSome o (IsDeedDone pairs replies (answers_before specs ss r i) a)) deed
       (deeds_done pairs replies (answers_before specs ss r i) a)
 
   pub begun_at : (i : ℕ) (asked : Asked) → (account_after pairs replies (answers_before specs ss r i)).asked ≡ Some asked →
@@ -63,7 +59,7 @@ module _ (specs : List ProcessSpec) (ss : List Step) (whole : Run) (r : Pid) (pa
       s = done_since specs ss r pairs replies follows (λ (h : Account). h.asked ≡ Some asked) (Began asked) (λ h o. asked_or h o asked) done
           (none-some asked) i e
 
-      b : IsBegun pairs replies (answers_before specs ss r s.place) s.done.answer asked
+      b : IsGroupSendBegun pairs replies (answers_before specs ss r s.place) s.done.answer asked
       b = begun_there s.place s.done.answer asked s.done.deed
 
   -- the group Send that an account shows is the current one

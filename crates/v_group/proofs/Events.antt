@@ -1,6 +1,6 @@
 -- The same of histories.
 use Rattle.std.proofs.Common.{ℕ, List}
-use Rattle.vk_base.specs.declared.pid.Pid.{Pid}
+use Rattle.vk_types.specs.Types.{Pid}
 use Rattle.vk_base.specs.Settings.{Settings}
 use Rattle.vk_schedule.specs.declared.event.Event.{Event}
 use Rattle.vk_event.specs.declared.pair.HelperPair.{HelperPair}

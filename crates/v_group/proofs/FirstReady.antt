@@ -7,11 +7,10 @@ use Rattle.std.proofs.lemmas.Bool.{both_ways, cases_order, cond_both}
 use Rattle.std.proofs.lemmas.List.{length-map}
 use Rattle.std.proofs.lemmas.List.Quantifiers.{position-Some}
 use Rattle.std.proofs.lemmas.Option.{get_or_from_slice_get, slice_get-map}
-use Rattle.vk_base.specs.declared.answer.Answer.{Answer}
+use Rattle.vk_types.specs.Types.{Answer, Message, Pid}
 use Rattle.vk_base.specs.declared.answer.Answer.TheVariants as answers
-use Rattle.vk_base.specs.declared.message.Message.{Message}
-use Rattle.vk_base.specs.declared.pid.Pid.{Pid}
 use Rattle.vk_base.specs.Pids.{same_pid}
+use Rattle.vk_base.proofs.OptionLemmas.{mapped_is}
 use Rattle.vk_group.specs.declared.code.Code.{Code}
 use Rattle.vk_group.specs.declared.code.Code.TheVariants as codes
 use Rattle.vk_group.specs.declared.group.Group.{Group}
@@ -31,7 +30,6 @@ use Rattle.vk_group.specs.Messages.{message_in, request_in}
 use Rattle.vk_group.proofs.Constant.{constant_at, pairs_new}
 use Rattle.vk_group.proofs.Staged.{if_bound}
 use Rattle.vk_group.proofs.Works.{changed_here, unchanged}
-use Rattle.v_laws.proofs.Options.{mapped_is}
 use Rattle.v_laws.proofs.Tables.{same_pid_is}
 
 -- the first of these pairs that has this helper

@@ -1,20 +1,13 @@
 -- What a process loads behind a receive stood in the segment of the sender that it received from, when that called for its Send.
-use Rattle.std.proofs.Common.{◌≡◌, ℕ, zero, suc, ◌+◌, ◌<◌, ◌≤◌, Bool, true, false, min, List, [], ◌∷◌, ◌++◌, length, take, Option, Some, None, is_some, refl, sym, ap, ◌∙◌, inl, inr, arith}
+use Rattle.std.proofs.Common.{◌≡◌, ℕ, ◌+◌, ◌<◌, ◌≤◌, Bool, true, false, min, List, [], ◌∷◌, ◌++◌, length, take, Option, Some, None, is_some, refl, sym, ap, ◌∙◌, inl, inr, arith}
 use Rattle.std.proofs.lemmas.Bool.{cases_lt, cond-true, cond-false, le-leb, leb-true}
 use Rattle.std.proofs.lemmas.Option.{same_Some}
 use Rattle.std.proofs.Math.Nat.{min-eq_left, min-eq_right, min-le_left}
-use Rattle.vk_base.specs.declared.answer.Answer.{Answer}
+use Rattle.vk_types.specs.Types.{Answer, Call, Exchange, Message, Name, Pid, Process, ProcessSpec, Step}
 use Rattle.vk_base.specs.declared.answer.Answer.TheVariants as answers
-use Rattle.vk_base.specs.declared.call.Call.{Call}
 use Rattle.vk_base.specs.declared.call.Call.TheVariants as calls
-use Rattle.vk_base.specs.declared.config.ProcessSpec.{ProcessSpec}
-use Rattle.vk_base.specs.declared.kernel.Name.{Name}
-use Rattle.vk_base.specs.declared.kernel.Process.{Process}
 use Rattle.vk_base.specs.declared.kernel.State.TheVariants as states
 use Rattle.vk_base.specs.declared.limits.TheConstants.{MESSAGE_BYTES, SEGMENT_BYTES}
-use Rattle.vk_base.specs.declared.message.Message.{Message}
-use Rattle.vk_base.specs.declared.pid.Pid.{Pid}
-use Rattle.vk_base.specs.declared.step.Step.{Step}
 use Rattle.vk_base.specs.declared.step.Step.TheVariants as steps
 use Rattle.vk_base.specs.Calls.{first_part}
 use Rattle.vk_base.specs.Kernel.{Kernel, receiving}
@@ -28,10 +21,10 @@ use Rattle.v_laws.proofs.PlaceLemmas.{at_place, before_sound, turn}
 use Rattle.v_laws.proofs.Queues.{taken_was_queued}
 use Rattle.v_laws.proofs.StepLemmas.{taking_is}
 use Rattle.v_laws.proofs.Tables.{same_pid_is}
-use Rattle.vk_base.specs.declared.kernel.Exchange.{Exchange}
 use Rattle.vk_base.specs.Steps.{Taking}
+use Rattle.vk_base.proofs.ListLemmas.{take_all}
 use Rattle.std.specs.Prelude.{option_map}
-use Rattle.v_pages.specs.Followed.{Follows, answers_before}
+use Rattle.v_pages.specs.Followed.{FollowsTask, answers_before}
 use Rattle.v_pages.proofs.Lists.{read_back}
 use Rattle.v_pages.proofs.Sent.{IsMade, is_there, made_by}
 use Rattle.v_group.proofs.Stepping.{IsOwnTake, IsPlainTask, in_call, own_take}
@@ -71,7 +64,7 @@ heard_count : (s t : Pid) (m n : Message) (a b : ℕ) → answers.ReceivedSegmen
 heard_count s t m n a b e = cc
 
 pub heard_from : (task : List Answer → Option Call) (specs : List ProcessSpec) (ss : List Step) (r : Pid) → IsPlainTask task →
-    Follows task specs ss r → (i : ℕ) (k : Kernel) (p : Process) (g : List Answer) (from : Pid) (asks : Message) (count start room : ℕ) →
+    FollowsTask task specs ss r → (i : ℕ) (k : Kernel) (p : Process) (g : List Answer) (from : Pid) (asks : Message) (count start room : ℕ) →
     before specs ss i ≡ Some k → k.procs r ≡ Some p → p.state ≡ states.Ready →
     answers_before specs ss r i ≡ g ++ answers.ReceivedSegment from asks count ∷ [] →
     task g ≡ Some (calls.ReceiveSegment start room) → IsHeard specs ss r i p from asks count start room
@@ -126,12 +119,6 @@ no_more room n count few e = elim (cases_lt n room) [
   | inl less ↦ let le : n ≤ room = omega arith in sym (min-eq_right le) ∙ e
   | inr more ↦ let same : room ≡ count = sym (min-eq_left more) ∙ e in absurd (omega arith)
 ]
-
-take_all : {A : Type 0} (xs : List A) (n : ℕ) → length xs ≤ n → take n xs ≡ xs
-take_all [] zero few = refl
-take_all [] (suc n) few = refl
-take_all (x ∷ xs) zero few = absurd (omega arith)
-take_all (x ∷ xs) (suc n) few = ap (λ ys. x ∷ ys) (take_all xs n (omega arith))
 
 read_part : (memory part : List ℕ) (room : ℕ) → length part ≤ room →
     bytes_in (range_of 0 (length part)) (with_bytes memory 0 (take room part)) ≡ part

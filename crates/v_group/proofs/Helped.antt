@@ -2,13 +2,10 @@
 use Rattle.std.proofs.Common.{◌≡◌, Bool, true, false, ◌==◌, List, [], ◌∷◌, ◌++◌, length, slice_index, Option, Some, None, if◌then◌else◌, refl, sym, ap, ◌∙◌, inl, inr}
 use Rattle.std.proofs.lemmas.Bool.{both_ways, cases_Bool, cond-true, cond-false, cond_both, eqb-true}
 use Rattle.std.proofs.lemmas.Option.{same_Some, none-some}
-use Rattle.vk_base.specs.declared.answer.Answer.{Answer}
+use Rattle.vk_types.specs.Types.{Answer, Call, Message, Pid}
 use Rattle.vk_base.specs.declared.answer.Answer.TheVariants as answers
-use Rattle.vk_base.specs.declared.call.Call.{Call}
 use Rattle.vk_base.specs.declared.call.Call.TheVariants as calls
 use Rattle.vk_base.specs.declared.limits.TheConstants.{MESSAGE_BYTES}
-use Rattle.vk_base.specs.declared.message.Message.{Message}
-use Rattle.vk_base.specs.declared.pid.Pid.{Pid}
 use Rattle.vk_group.specs.declared.helping.Helping.{Helping}
 use Rattle.vk_group.specs.declared.helping.Helping.TheVariants as helpings
 use Rattle.vk_group.specs.Helpers.{helped, helped_all, helper_call, helping_call, is_job, sending, sent}
@@ -18,14 +15,14 @@ use Rattle.v_group.proofs.Listed.{Ends, ends}
 use Rattle.v_group.proofs.Stepping.{IsPlainTask, is_plain}
 
 -- What it does, by what it did before and was answered.
-pub record IsAfter (given : List Answer) (next : Helping) (P : Helping → Answer → Type 0) : Type 0 where
+pub record IsAfterAnswer (given : List Answer) (next : Helping) (P : Helping → Answer → Type 0) : Type 0 where
   pub front : List Answer
   pub answer : Answer
   pub split : given ≡ front ++ answer ∷ []
   pub before : P (helped_all helpings.Ready front) answer
 
 after_by : (given : List Answer) (next : Helping) (P : Helping → Answer → Type 0) → helped_all helpings.Ready given ≡ next →
-    (helpings.Ready ≡ next → ⊥) → ((stage : Helping) (a : Answer) → helped stage a ≡ next → P stage a) → Ends given → IsAfter given next P
+    (helpings.Ready ≡ next → ⊥) → ((stage : Helping) (a : Answer) → helped stage a ≡ next → P stage a) → Ends given → IsAfterAnswer given next P
 after_by given next P is not step (Ends.none empty) = absurd (not (ap (helped_all helpings.Ready) (sym empty) ∙ is))
 after_by given next P is not step (Ends.last front a split) = record {
   front = front;
@@ -75,7 +72,7 @@ stored_before helpings.Exit a e = cc
 stored_before helpings.Ended a e = cc
 
 pub reported_after : (given : List Answer) → helped_all helpings.Ready given ≡ helpings.Report true →
-    IsAfter given (helpings.Report true) IsStored
+    IsAfterAnswer given (helpings.Report true) IsStored
 reported_after given is = after_by given (helpings.Report true) IsStored is (λ x. cc) stored_before (ends given)
 
 -- to report that there is none, it sent the job
@@ -96,7 +93,7 @@ failed_before helpings.Exit a e = cc
 failed_before helpings.Ended a e = cc
 
 pub failed_after : (given : List Answer) → helped_all helpings.Ready given ≡ helpings.Report false →
-    IsAfter given (helpings.Report false) IsSentAs
+    IsAfterAnswer given (helpings.Report false) IsSentAs
 failed_after given is = after_by given (helpings.Report false) IsSentAs is (λ x. cc) failed_before (ends given)
 
 -- to store a reply, it sent the job and was replied with it
@@ -125,7 +122,7 @@ replied_before m helpings.Exit a e = cc
 replied_before m helpings.Ended a e = cc
 
 pub stored_after : (given : List Answer) (m : Message) → helped_all helpings.Ready given ≡ helpings.Store m →
-    IsAfter given (helpings.Store m) (IsRepliedTo m)
+    IsAfterAnswer given (helpings.Store m) (IsRepliedTo m)
 stored_after given m is = after_by given (helpings.Store m) (IsRepliedTo m) is (λ x. cc) (replied_before m) (ends given)
 
 -- to send the job, it loaded it
@@ -151,7 +148,7 @@ loaded_before job helpings.Exit a e = cc
 loaded_before job helpings.Ended a e = cc
 
 pub sending_after : (given : List Answer) (job : Message) → helped_all helpings.Ready given ≡ helpings.Send job →
-    IsAfter given (helpings.Send job) (IsLoadedAs job)
+    IsAfterAnswer given (helpings.Send job) (IsLoadedAs job)
 sending_after given job is = after_by given (helpings.Send job) (IsLoadedAs job) is (λ x. cc) (loaded_before job) (ends given)
 
 -- to load a job, it was told that there is one
@@ -182,7 +179,7 @@ told_before (helpings.Report b) a e = cc
 told_before helpings.Exit a e = cc
 told_before helpings.Ended a e = cc
 
-pub loading_after : (given : List Answer) → helped_all helpings.Ready given ≡ helpings.Load → IsAfter given helpings.Load IsToldJob
+pub loading_after : (given : List Answer) → helped_all helpings.Ready given ≡ helpings.Load → IsAfterAnswer given helpings.Load IsToldJob
 loading_after given is = after_by given helpings.Load IsToldJob is (λ x. cc) told_before (ends given)
 
 -- what is an answer by a job

@@ -3,17 +3,11 @@
 use Rattle.std.proofs.Common.{◌≡◌, ℕ, ◌+◌, ◌<◌, ◌≤◌, Bool, true, false, List, length, slice_get, slice_index, Option, Some, refl, sym, ap, ◌∙◌, inl, inr, arith}
 use Rattle.std.proofs.lemmas.Bool.{cases_lt, le-leb}
 use Rattle.std.proofs.lemmas.Option.{same_Some, none-some}
-use Rattle.vk_base.specs.declared.answer.Answer.{Answer}
+use Rattle.vk_types.specs.Types.{Answer, Message, Pid, Process, ProcessSpec, Refusal, Step}
 use Rattle.vk_base.specs.declared.answer.Answer.TheVariants as answers
-use Rattle.vk_base.specs.declared.answer.Refusal.{Refusal}
 use Rattle.vk_base.specs.declared.call.Call.TheVariants as calls
-use Rattle.vk_base.specs.declared.config.ProcessSpec.{ProcessSpec}
-use Rattle.vk_base.specs.declared.kernel.Process.{Process}
 use Rattle.vk_base.specs.declared.kernel.State.TheVariants as states
 use Rattle.vk_base.specs.declared.limits.TheConstants.{MESSAGE_BYTES}
-use Rattle.vk_base.specs.declared.message.Message.{Message}
-use Rattle.vk_base.specs.declared.pid.Pid.{Pid}
-use Rattle.vk_base.specs.declared.step.Step.{Step}
 use Rattle.vk_base.specs.declared.step.Step.TheVariants as steps
 use Rattle.vk_base.specs.Calls.{Effect, answered as seen_answered, sent, unseen}
 use Rattle.vk_base.specs.Kernel.{◌>>=◌, Kernel, initial_kernel, is_ready, name_of, with_memory}
@@ -24,7 +18,7 @@ use Rattle.v_laws.proofs.OnceLemmas.{go_on, taken_at_is, taken_between, taken_ov
 use Rattle.v_laws.proofs.PlaceLemmas.{before_sound}
 use Rattle.v_laws.proofs.ReplyLemmas.{own_reply}
 use Rattle.v_laws.proofs.Tables.{put_process_here}
-use Rattle.v_pages.specs.Followed.{Follows, answers_before}
+use Rattle.v_pages.specs.Followed.{FollowsTask, answers_before}
 use Rattle.v_pages.proofs.Calling.{CallOutcome, never_refused, outcome_of, own_told, told}
 use Rattle.v_pages.proofs.Collected.{finished_before}
 use Rattle.v_pages.proofs.Lists.{read_back}
@@ -43,7 +37,7 @@ use Rattle.v_group.proofs.Timeline.{IsSince, busy_at, collected_at, made_at, may
 use Rattle.v_group.specs.Grouped.{IsRepliedBy}
 
 -- A reply that is there to be collected.
-pub record IsAnswered (specs : List ProcessSpec) (ss : List Step) (s : Pid) (i : ℕ) (x : Process) (to : Pid) (sent_was got : Message) :
+pub record IsHelperAnswered (specs : List ProcessSpec) (ss : List Step) (s : Pid) (i : ℕ) (x : Process) (to : Pid) (sent_was got : Message) :
     Type 0 where
   pub finish : ℕ
   pub ended : finish < i
@@ -56,7 +50,7 @@ pub record IsAnswered (specs : List ProcessSpec) (ss : List Step) (s : Pid) (i :
 
 pub answered_by : (specs : List ProcessSpec) (ss : List Step) (whole : Run) (s : Pid) (i : ℕ) (k : Kernel) (x : Process) (target : Pid)
     (message reply : Message) → run (initial_kernel specs) ss ≡ Some whole → before specs ss i ≡ Some k → k.procs s ≡ Some x →
-    x.state ≡ states.Done (calls.Send target message) (answers.Replied reply) → IsAnswered specs ss s i x target message reply
+    x.state ≡ states.Done (calls.Send target message) (answers.Replied reply) → IsHelperAnswered specs ss s i x target message reply
 answered_by specs ss whole s i k x target message reply g at there state =
     let f = finished_before specs ss s i k x at there (ap has_reply state) in
     let o = own_reply specs ss whole f.place s g f.is in
@@ -164,7 +158,7 @@ pub record IsJobSent (specs : List ProcessSpec) (ss : List Step) (h member : Pid
   pub round : rounds_at specs ss h send ≡ rounds_at specs ss h i
 
 module _ (specs : List ProcessSpec) (ss : List Step) (whole : Run) (h coordinator member : Pid)
-    (g : run (initial_kernel specs) ss ≡ Some whole) (follows : Follows (helper_call coordinator member) specs ss h) where
+    (g : run (initial_kernel specs) ss ≡ Some whole) (follows : FollowsTask (helper_call coordinator member) specs ss h) where
   -- where it tells that its member replied
   pub reply_reported : (i : ℕ) (k : Kernel) (p : Process) → before specs ss i ≡ Some k → k.procs h ≡ Some p → p.state ≡ states.Ready →
       p.alive ≡ true → MESSAGE_BYTES ≤ length p.memory →

@@ -2,18 +2,11 @@
 use Rattle.std.proofs.Common.{◌≡◌, ℕ, zero, suc, ◌<◌, Bool, List, [], slice_get, slice_index, Some, None, refl, sym, ap, subst, ◌∙◌, arith}
 use Rattle.std.proofs.lemmas.Bool.{both_ways}
 use Rattle.std.proofs.lemmas.Option.{same_Some, none-some}
-use Rattle.vk_base.specs.declared.answer.Answer.{Answer}
+use Rattle.vk_types.specs.Types.{Answer, Call, Exchange, Message, Pid, Process, ProcessSpec, Step}
 use Rattle.vk_base.specs.declared.answer.Answer.TheVariants as answers
-use Rattle.vk_base.specs.declared.call.Call.{Call}
 use Rattle.vk_base.specs.declared.call.Call.TheVariants as calls
-use Rattle.vk_base.specs.declared.config.ProcessSpec.{ProcessSpec}
-use Rattle.vk_base.specs.declared.kernel.Exchange.{Exchange}
-use Rattle.vk_base.specs.declared.kernel.Process.{Process}
 use Rattle.vk_base.specs.declared.kernel.State.TheVariants as states
 use Rattle.vk_base.specs.declared.limits.TheConstants.{MESSAGE_BYTES, SEGMENT_BYTES}
-use Rattle.vk_base.specs.declared.message.Message.{Message}
-use Rattle.vk_base.specs.declared.pid.Pid.{Pid}
-use Rattle.vk_base.specs.declared.step.Step.{Step}
 use Rattle.vk_base.specs.declared.step.Step.TheVariants as steps
 use Rattle.vk_base.specs.Kernel.{Kernel, initial_kernel}
 use Rattle.vk_base.specs.Messages.{grants_read}
@@ -37,7 +30,7 @@ use Rattle.vk_group.specs.Messages.{reply_of, result_message}
 use Rattle.v_pages.specs.Followed.{answer_at, answers_before}
 use Rattle.v_pages.proofs.Staying.{NeverHands, as_sent, never_hands, task_keeps}
 use Rattle.v_group.specs.Grouped.{IsGroup, IsJobGiven}
-use Rattle.v_group.proofs.Coordinating.{IsDue, IsPlainMessage, begun_plain, coordinator_keeps, due, has_begun}
+use Rattle.v_group.proofs.Coordinating.{IsStageDue, IsPlainMessage, begun_plain, coordinator_keeps, due, has_begun}
 use Rattle.v_group.proofs.Hearing.{IsHeard, IsSentBy, sent_by, taken_there}
 use Rattle.v_group.proofs.Helped.{HelperSend, helper_plain, helper_send}
 use Rattle.v_group.proofs.Rounds.{rounds_at}
@@ -54,14 +47,14 @@ pub data IsJobReply (stage : Stage) (h : Pid) (dest : ℕ) (bytes : List ℕ) (c
   hands : (w : Wait) (n : Note) → stage ≡ stages.HandOver w n → w.client ≡ h → IsJobReply stage h dest bytes caller
 
 refuse_open : (pairs : List HelperPair) (replies : ℕ) (given : List Answer) (to : Pid) (code : Code) (counts : Bool) →
-    IsDue pairs replies given (stages.Refuse to code counts) → number_of code ≡ 0 → ⊥
-refuse_open pairs replies given to code counts (IsDue.first empty is) = is stages.Receive
-refuse_open pairs replies given to code counts (IsDue.after front a split is) = is
+    IsStageDue pairs replies given (stages.Refuse to code counts) → number_of code ≡ 0 → ⊥
+refuse_open pairs replies given to code counts (IsStageDue.first empty is) = is stages.Receive
+refuse_open pairs replies given to code counts (IsStageDue.after front a split is) = is
 
 end_open : (pairs : List HelperPair) (replies : ℕ) (given : List Answer) (client : Pid) (code : Code) →
-    IsDue pairs replies given (stages.EndWait client code) → number_of code ≡ 0 → ⊥
-end_open pairs replies given client code (IsDue.first empty is) = is stages.Receive
-end_open pairs replies given client code (IsDue.after front a split is) = is
+    IsStageDue pairs replies given (stages.EndWait client code) → number_of code ≡ 0 → ⊥
+end_open pairs replies given client code (IsStageDue.first empty is) = is stages.Receive
+end_open pairs replies given client code (IsStageDue.after front a split is) = is
 
 no_reply : (p : Process) (c d : Call) (x : Given) → c ≡ d → given_by p c ≡ None → given_by p d ≡ Some x → ⊥
 no_reply p c d x same none gives = none-some x (sym none ∙ ap (given_by p) same ∙ gives)
@@ -74,7 +67,7 @@ code_of_reply p to code member d h reply dest bytes same gives naught =
     (ap (λ (z : Given). slice_index z.1.0 1) one ∙ naught, ap (λ (z : Given). z.0) one)
 
 pub job_reply : (pairs : List HelperPair) (replies : ℕ) (given : List Answer) (stage : Stage) (p : Process) (c : Call) (h : Pid)
-    (reply : Message) (dest : ℕ) (bytes : List ℕ) → IsDue pairs replies given stage → stage_call stage ≡ Some c →
+    (reply : Message) (dest : ℕ) (bytes : List ℕ) → IsStageDue pairs replies given stage → stage_call stage ≡ Some c →
     given_by p c ≡ Some (h, reply, dest, bytes) → slice_index reply.0 1 ≡ 0 → IsJobReply stage h dest bytes p
 job_reply pairs replies given (stages.Refuse to code counts) p c h reply dest bytes due e gives naught =
     absurd (refuse_open pairs replies given to code counts due

@@ -3,21 +3,12 @@ use Rattle.std.proofs.Common.{◌≡◌, ℕ, ◌+◌, ◌<◌, ◌≤◌, Bool,
 use Rattle.std.specs.Prelude.{IfSome}
 use Rattle.std.proofs.lemmas.Bool.{and_parts, both_ways, cases_lt, leb-true}
 use Rattle.std.proofs.lemmas.Option.{same_Some}
-use Rattle.vk_base.specs.declared.answer.Answer.{Answer}
+use Rattle.vk_types.specs.Types.{Answer, Call, Exchange, Message, Name, Observation, Pid, Process, ProcessSpec, Step}
 use Rattle.vk_base.specs.declared.answer.Answer.TheVariants as answers
 use Rattle.vk_base.specs.declared.answer.Refusal.TheVariants as refusals
-use Rattle.vk_base.specs.declared.call.Call.{Call}
 use Rattle.vk_base.specs.declared.call.Call.TheVariants as calls
-use Rattle.vk_base.specs.declared.config.ProcessSpec.{ProcessSpec}
-use Rattle.vk_base.specs.declared.kernel.Exchange.{Exchange}
-use Rattle.vk_base.specs.declared.kernel.Name.{Name}
-use Rattle.vk_base.specs.declared.kernel.Observation.{Observation}
-use Rattle.vk_base.specs.declared.kernel.Process.{Process}
 use Rattle.vk_base.specs.declared.kernel.State.TheVariants as states
 use Rattle.vk_base.specs.declared.limits.TheConstants.{MESSAGE_BYTES, SEGMENT_BYTES}
-use Rattle.vk_base.specs.declared.message.Message.{Message}
-use Rattle.vk_base.specs.declared.pid.Pid.{Pid}
-use Rattle.vk_base.specs.declared.step.Step.{Step}
 use Rattle.vk_base.specs.declared.step.Step.TheVariants as steps
 use Rattle.vk_base.specs.Calls.{Effect, is_granted, is_own, may_write}
 use Rattle.vk_base.specs.Kernel.{◌>>=◌, Kernel, held, held_exchange, initial_kernel, name_of, receiving}
@@ -43,7 +34,7 @@ use Rattle.vk_group.specs.declared.stage.Stage.{Stage}
 use Rattle.vk_group.specs.declared.stage.Stage.TheVariants as stages
 use Rattle.vk_group.specs.declared.stage.Wait.{Wait}
 use Rattle.vk_group.specs.Accounts.{account_after, deed_at}
-use Rattle.vk_group.specs.Deeds.{IsBegun, IsDone, IsGiven}
+use Rattle.vk_group.specs.Deeds.{IsGroupSendBegun, IsDeedDone, IsGiven}
 use Rattle.vk_group.specs.Groups.{coordinator_call, group_after, is_client, stage_call}
 use Rattle.vk_group.specs.Helpers.{helper_call}
 use Rattle.vk_group.specs.Messages.{ready_message, reply_of, request_in}
@@ -56,7 +47,7 @@ use Rattle.v_pages.proofs.Senders.{sent_to}
 use Rattle.v_pages.proofs.Staying.{IsAsSent, as_sent}
 use Rattle.v_group.specs.Grouped.{IsGroup}
 use Rattle.v_group.proofs.Answered.{saw_own}
-use Rattle.v_group.proofs.Coordinating.{IsDue, coordinator_plain, due, has_begun}
+use Rattle.v_group.proofs.Coordinating.{IsStageDue, coordinator_plain, due, has_begun}
 use Rattle.v_group.proofs.Current.{IsBegunAt, begun_at, current_at}
 use Rattle.v_group.proofs.Hearing.{IsHeard, heard_from, name_taken, taken_there}
 use Rattle.v_group.proofs.Helped.{helper_plain, message_is}
@@ -101,14 +92,14 @@ report_due : (pairs : List HelperPair) (replies : ℕ) (given : List Answer) (st
 report_due pairs replies given stage number h replied is d =
     subst (IsDueTo pairs replies given (group_after pairs replies given).asked) is d
 
-thanked : (pairs : List HelperPair) (replies : ℕ) (given : List Answer) (h : Pid) → IsDue pairs replies given (stages.Thank h) →
+thanked : (pairs : List HelperPair) (replies : ℕ) (given : List Answer) (h : Pid) → IsStageDue pairs replies given (stages.Thank h) →
     (front : List Answer) × (a : Answer) × (number : ℕ) × (replied : Bool) × (given ≡ front ++ a ∷ [])
     × ((group_after pairs replies front).stage ≡ stages.LoadResult number h replied)
-thanked pairs replies given h (IsDue.first empty is) = absurd (other (is stages.Receive).0 (is stages.Receive).1 (is stages.Receive).2)
+thanked pairs replies given h (IsStageDue.first empty is) = absurd (other (is stages.Receive).0 (is stages.Receive).1 (is stages.Receive).2)
   where
     other : (n : ℕ) (b : Bool) → stages.Receive ≡ stages.LoadResult n h b → ⊥
     other n b e = cc
-thanked pairs replies given h (IsDue.after front a split is) = (front, a, is.0, is.1, split, is.2)
+thanked pairs replies given h (IsStageDue.after front a split is) = (front, a, is.0, is.1, split, is.2)
 
 module _ (specs : List ProcessSpec) (ss : List Step) (whole : Run) (r : Pid) (pairs : List HelperPair) (replies : ℕ)
     (g : run (initial_kernel specs) ss ≡ Some whole) (all : IsGroup specs ss r pairs replies) where
@@ -142,7 +133,7 @@ module _ (specs : List ProcessSpec) (ss : List Step) (whole : Run) (r : Pid) (pa
 
       d : (front : List Answer) × (a : Answer) × (number : ℕ) × (replied : Bool) × (given ≡ front ++ a ∷ [])
           × ((group_after pairs replies front).stage ≡ stages.LoadResult number h replied)
-      d = thanked pairs replies given h (subst (IsDue pairs replies given) is (due pairs replies given))
+      d = thanked pairs replies given h (subst (IsStageDue pairs replies given) is (due pairs replies given))
 
       report : IsReportOf pairs replies d.0 d.2 h d.3
       report = report_due pairs replies d.0 (group_after pairs replies d.0).stage d.2 h d.3 d.5 (tracked pairs replies d.0).due
@@ -247,8 +238,8 @@ module _ (specs : List ProcessSpec) (ss : List Step) (whole : Run) (r : Pid) (pa
       length asked.message.0 ≡ MESSAGE_BYTES
   asked_size given asked is =
       let b = has_begun pairs replies given asked is in
-      let begun : IsBegun pairs replies b.front b.answer asked =
-      subst (λ o. IfSome o (IsDone pairs replies b.front b.answer)) b.deed (deeds_done pairs replies b.front b.answer) in
+      let begun : IsGroupSendBegun pairs replies b.front b.answer asked =
+      subst (λ o. IfSome o (IsDeedDone pairs replies b.front b.answer)) b.deed (deeds_done pairs replies b.front b.answer) in
       (message_is b.answer asked.message begun.from_client.loaded).1
 
   given_at : (h : Pid) (x : ℕ) (p : Process) (q : IsAsking h x p) (c : Call) (e : Effect) (dest : ℕ) (bytes : List ℕ) (j : Job) →
@@ -277,7 +268,7 @@ module _ (specs : List ProcessSpec) (ss : List Step) (whole : Run) (r : Pid) (pa
           ∙ same_Some _ c (sym (ap stage_call stage) ∙ told)
 
       gave : IsGiven pairs replies given j.member
-      gave = subst (λ s. IfSome (deed_at s (group_after pairs replies given) answers.Ok) (IsDone pairs replies given answers.Ok)) stage
+      gave = subst (λ s. IfSome (deed_at s (group_after pairs replies given) answers.Ok) (IsDeedDone pairs replies given answers.Ok)) stage
           (deeds_done pairs replies given answers.Ok)
 
       fits : IsFit q.kernel r p (calls.ReplySegment (reply_of codes.Done 0) h dest 0 MESSAGE_BYTES)

@@ -2,12 +2,8 @@
 use Rattle.std.proofs.Common.{◌≡◌, ℕ, suc, ◌<◌, ◌≤◌, true, List, slice_get, Option, Some, None, take, sym, ap, ◌∙◌, inl, inr, arith}
 use Rattle.std.proofs.lemmas.Bool.{cases_order}
 use Rattle.std.proofs.lemmas.Option.{same_Some, none-some}
-use Rattle.vk_base.specs.declared.config.ProcessSpec.{ProcessSpec}
-use Rattle.vk_base.specs.declared.kernel.Exchange.{Exchange}
-use Rattle.vk_base.specs.declared.kernel.Process.{Process}
+use Rattle.vk_types.specs.Types.{Exchange, Pid, Process, ProcessSpec, Step}
 use Rattle.vk_base.specs.declared.kernel.Stage.TheVariants as kinds
-use Rattle.vk_base.specs.declared.pid.Pid.{Pid}
-use Rattle.vk_base.specs.declared.step.Step.{Step}
 use Rattle.vk_base.specs.declared.step.Step.TheVariants as steps
 use Rattle.vk_base.specs.Kernel.{◌>>=◌, Kernel, is_taken, name_of, receiving}
 use Rattle.vk_base.specs.Steps.{Taking, taking}

@@ -1,16 +1,11 @@
 -- What a coordinator loads behind a receive.
 use Rattle.std.proofs.Common.{◌≡◌, ℕ, List, Some, sym, ap, ◌∙◌}
 use Rattle.std.proofs.lemmas.Option.{same_Some}
-use Rattle.vk_base.specs.declared.answer.Answer.{Answer}
+use Rattle.vk_types.specs.Types.{Answer, Message, Pid, Process, ProcessSpec, Step}
 use Rattle.vk_base.specs.declared.answer.Answer.TheVariants as answers
 use Rattle.vk_base.specs.declared.call.Call.TheVariants as calls
-use Rattle.vk_base.specs.declared.config.ProcessSpec.{ProcessSpec}
-use Rattle.vk_base.specs.declared.kernel.Process.{Process}
 use Rattle.vk_base.specs.declared.kernel.State.TheVariants as states
 use Rattle.vk_base.specs.declared.limits.TheConstants.{MESSAGE_BYTES, SEGMENT_BYTES}
-use Rattle.vk_base.specs.declared.message.Message.{Message}
-use Rattle.vk_base.specs.declared.pid.Pid.{Pid}
-use Rattle.vk_base.specs.declared.step.Step.{Step}
 use Rattle.vk_base.specs.declared.step.Step.TheVariants as steps
 use Rattle.vk_base.specs.Calls.{Effect}
 use Rattle.vk_base.specs.Kernel.{◌>>=◌, initial_kernel}
@@ -22,7 +17,7 @@ use Rattle.vk_event.specs.declared.pair.HelperPair.{HelperPair}
 use Rattle.vk_group.specs.Accounts.{Deed}
 use Rattle.vk_group.specs.Deeds.{IsLoaded}
 use Rattle.vk_group.specs.Groups.{coordinator_call}
-use Rattle.v_pages.specs.Followed.{Follows, answers_before}
+use Rattle.v_pages.specs.Followed.{FollowsTask, answers_before}
 use Rattle.v_pages.proofs.Calling.{outcome_of, own_told, told}
 use Rattle.v_group.specs.Grouped.{IsDoneAt}
 use Rattle.v_group.proofs.Coordinating.{coordinator_plain}
@@ -39,7 +34,7 @@ pub record IsLoadedAt (specs : List ProcessSpec) (ss : List Step) (r : Pid) (i :
   pub bytes : m.0 ≡ bytes_in (range_of 0 MESSAGE_BYTES) process.memory
 
 pub loaded_at : (specs : List ProcessSpec) (ss : List Step) (whole : Run) (r : Pid) (pairs : List HelperPair) (replies : ℕ) →
-    run (initial_kernel specs) ss ≡ Some whole → Follows (coordinator_call pairs replies) specs ss r → (i : ℕ) (d : Deed)
+    run (initial_kernel specs) ss ≡ Some whole → FollowsTask (coordinator_call pairs replies) specs ss r → (i : ℕ) (d : Deed)
     (done : IsDoneAt specs ss r pairs replies i d) (from : Pid) (asks : Message) (count : ℕ) (m : Message) →
     IsLoaded pairs replies (answers_before specs ss r i) done.answer from asks count m → IsLoadedAt specs ss r i from asks count m
 loaded_at specs ss whole r pairs replies g follows i d done from asks count m loads = record {

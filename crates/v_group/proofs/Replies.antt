@@ -3,12 +3,9 @@ use Rattle.std.proofs.Common.{◌≡◌, ◌≤◌, ◌+◌, Bool, true, false, 
 use Rattle.std.specs.Prelude.{IfSome}
 use Rattle.std.proofs.lemmas.Bool.{leb-true}
 use Rattle.std.proofs.lemmas.Option.{same_Some, none-some}
-use Rattle.vk_base.specs.declared.answer.Answer.{Answer}
+use Rattle.vk_types.specs.Types.{Answer, Message, Process, Step}
 use Rattle.vk_base.specs.declared.call.Call.TheVariants as calls
-use Rattle.vk_base.specs.declared.kernel.Process.{Process}
 use Rattle.vk_base.specs.declared.limits.TheConstants.{MESSAGE_BYTES, SEGMENT_BYTES}
-use Rattle.vk_base.specs.declared.message.Message.{Message}
-use Rattle.vk_base.specs.declared.step.Step.{Step}
 use Rattle.vk_base.specs.declared.step.Step.TheVariants as steps
 use Rattle.vk_base.specs.Messages.{segment_of}
 use Rattle.vk_base.specs.Ranges.{range_of, bytes_in, lies_in}
@@ -18,7 +15,7 @@ use Rattle.vk_group.specs.declared.helping.Helping.TheVariants as helpings
 use Rattle.vk_event.specs.declared.pair.HelperPair.{HelperPair}
 use Rattle.vk_group.specs.declared.request.Request.TheVariants as requests
 use Rattle.vk_group.specs.Accounts.{Heard, reply_if}
-use Rattle.vk_group.specs.Deeds.{IsDone, IsReported}
+use Rattle.vk_group.specs.Deeds.{IsDeedDone, IsReported}
 use Rattle.vk_group.specs.Messages.{request_in, result_message}
 use Rattle.vk_group.proofs.Done.{deeds_done}
 use Rattle.v_pages.specs.Followed.{answers_before}
@@ -70,7 +67,7 @@ replies_members specs ss whole r pairs replies i heard m g all d replied = recor
     given = answers_before specs ss r i
 
     reported : IsReported pairs replies given d.answer heard
-    reported = subst (λ o. IfSome o (IsDone pairs replies given d.answer)) d.deed (deeds_done pairs replies given d.answer)
+    reported = subst (λ o. IfSome o (IsDeedDone pairs replies given d.answer)) d.deed (deeds_done pairs replies given d.answer)
 
     pair : HelperPair
     pair = reported.pair

@@ -2,17 +2,10 @@
 use Rattle.std.proofs.Common.{◌≡◌, ℕ, ◌+◌, ◌<◌, Bool, List, ◌∷◌, length, slice_get, Some, [], sym, ap, subst, ◌∙◌}
 use Rattle.std.specs.Prelude.{IfSome}
 use Rattle.std.proofs.lemmas.List.{length-append}
-use Rattle.vk_base.specs.declared.answer.Answer.{Answer}
+use Rattle.vk_types.specs.Types.{Answer, Call, Message, Name, Pid, Process, ProcessSpec, Step}
 use Rattle.vk_base.specs.declared.answer.Answer.TheVariants as answers
-use Rattle.vk_base.specs.declared.call.Call.{Call}
 use Rattle.vk_base.specs.declared.call.Call.TheVariants as calls
-use Rattle.vk_base.specs.declared.config.ProcessSpec.{ProcessSpec}
-use Rattle.vk_base.specs.declared.kernel.Name.{Name}
-use Rattle.vk_base.specs.declared.kernel.Process.{Process}
 use Rattle.vk_base.specs.declared.limits.TheConstants.{MESSAGE_BYTES, SEGMENT_BYTES}
-use Rattle.vk_base.specs.declared.message.Message.{Message}
-use Rattle.vk_base.specs.declared.pid.Pid.{Pid}
-use Rattle.vk_base.specs.declared.step.Step.{Step}
 use Rattle.vk_base.specs.declared.step.Step.TheVariants as steps
 use Rattle.vk_base.specs.Kernel.{initial_kernel}
 use Rattle.vk_base.specs.Steps.{Run, run}
@@ -21,7 +14,7 @@ use Rattle.v_laws.proofs.Tables.{same_pid_is}
 use Rattle.vk_group.specs.declared.helping.Helping.TheVariants as helpings
 use Rattle.vk_event.specs.declared.pair.HelperPair.{HelperPair}
 use Rattle.vk_group.specs.Accounts.{Heard, Report}
-use Rattle.vk_group.specs.Deeds.{IsDone, IsReported}
+use Rattle.vk_group.specs.Deeds.{IsDeedDone, IsReported}
 use Rattle.vk_group.specs.Helpers.{helped_all}
 use Rattle.vk_group.proofs.Done.{deeds_done}
 use Rattle.v_pages.specs.Followed.{answers_before}
@@ -107,7 +100,7 @@ report_on specs ss whole r pairs replies i heard g all d = record {
     given = answers_before specs ss r i
 
     reported : IsReported pairs replies given d.answer heard
-    reported = subst (λ o. IfSome o (IsDone pairs replies given d.answer)) d.deed (deeds_done pairs replies given d.answer)
+    reported = subst (λ o. IfSome o (IsDeedDone pairs replies given d.answer)) d.deed (deeds_done pairs replies given d.answer)
 
     pair : HelperPair
     pair = reported.pair

@@ -1,8 +1,8 @@
 -- What a request is, by its message and the count that came with it.
 use Rattle.std.proofs.Common.{◌≡◌, ℕ, Bool, true, false, ◌==◌, ◌&&◌, ◌||◌, refl, sym, ◌∙◌, inl, inr, if◌then◌else◌}
 use Rattle.std.proofs.lemmas.Bool.{and_parts, cases_Bool, cond-false, cond_both, eqb-true}
+use Rattle.vk_types.specs.Types.{Message}
 use Rattle.vk_base.specs.declared.limits.TheConstants.{MESSAGE_BYTES}
-use Rattle.vk_base.specs.declared.message.Message.{Message}
 use Rattle.vk_base.specs.Messages.{segment_of}
 use Rattle.vk_base.specs.Ranges.{range_of}
 use Rattle.vk_group.specs.declared.request.Request.{Request}

@@ -2,16 +2,12 @@
 use Rattle.std.proofs.Common.{◌≡◌, ℕ, suc, ◌+◌, ◌<◌, ◌≤◌, Bool, List, [], ◌∷◌, ◌++◌, length, slice_get, Option, Some, refl, sym, ap, ◌∙◌, inl, inr, arith}
 use Rattle.std.proofs.lemmas.Bool.{cases_order}
 use Rattle.std.proofs.lemmas.List.{append-nil, length-append}
-use Rattle.vk_base.specs.declared.answer.Answer.{Answer}
-use Rattle.vk_base.specs.declared.call.Call.{Call}
-use Rattle.vk_base.specs.declared.config.ProcessSpec.{ProcessSpec}
-use Rattle.vk_base.specs.declared.pid.Pid.{Pid}
-use Rattle.vk_base.specs.declared.step.Step.{Step}
+use Rattle.vk_types.specs.Types.{Answer, Call, Pid, ProcessSpec, Step}
 use Rattle.vk_base.specs.declared.step.Step.TheVariants as steps
 use Rattle.vk_group.specs.declared.helping.Helping.{Helping}
 use Rattle.vk_group.specs.declared.helping.Helping.TheVariants as helpings
 use Rattle.vk_group.specs.Helpers.{helped, helped_all}
-use Rattle.v_pages.specs.Followed.{Follows, answer_at, answers_before, call_at, calls_before}
+use Rattle.v_pages.specs.Followed.{FollowsTask, answer_at, answers_before, call_at, calls_before}
 use Rattle.v_pages.proofs.Lists.{up_to_later, up_to_some}
 use Rattle.v_pages.proofs.Places.{call_here}
 
@@ -26,7 +22,7 @@ not_none : (xs later : List Answer) (n : ℕ) → n ≡ length xs → n + 1 ≤ 
 not_none xs [] n same more = let size = ap length (append-nil xs) in absurd (omega arith)
 not_none xs (a ∷ rest) n same more = (a, rest, refl)
 
-pub answered_on : (task : List Answer → Option Call) (specs : List ProcessSpec) (ss : List Step) (h : Pid) → Follows task specs ss h →
+pub answered_on : (task : List Answer → Option Call) (specs : List ProcessSpec) (ss : List Step) (h : Pid) → FollowsTask task specs ss h →
     (i j : ℕ) (c d : Call) → slice_get ss i ≡ Some (steps.Call h c) → slice_get ss j ≡ Some (steps.Call h d) → i < j →
     IsAnsweredOn specs ss h i j
 answered_on task specs ss h follows i j c d is_i is_j less =
@@ -102,7 +98,7 @@ report_again specs ss h i j b x stage same =
     ∙ ap (λ s. rounds_at specs ss h i + rounds s (x.answer ∷ x.later)) stage) same
 
 -- of one round there is but one report
-pub one_report : (task : List Answer → Option Call) (specs : List ProcessSpec) (ss : List Step) (h : Pid) → Follows task specs ss h →
+pub one_report : (task : List Answer → Option Call) (specs : List ProcessSpec) (ss : List Step) (h : Pid) → FollowsTask task specs ss h →
     (i j : ℕ) (c d : Call) (a b : Bool) → slice_get ss i ≡ Some (steps.Call h c) → slice_get ss j ≡ Some (steps.Call h d) →
     helped_all helpings.Ready (answers_before specs ss h i) ≡ helpings.Report a →
     helped_all helpings.Ready (answers_before specs ss h j) ≡ helpings.Report b →

@@ -5,19 +5,11 @@ use Rattle.std.specs.Option.{is_some}
 use Rattle.std.proofs.lemmas.Bool.{both_ways, cases_lt, cases_order}
 use Rattle.std.proofs.lemmas.List.{length-append}
 use Rattle.std.proofs.lemmas.Option.{same_Some}
-use Rattle.vk_base.specs.declared.answer.Answer.{Answer}
+use Rattle.vk_types.specs.Types.{Answer, Call, Exchange, Message, Name, Pid, Process, ProcessSpec, Step}
 use Rattle.vk_base.specs.declared.answer.Answer.TheVariants as answers
-use Rattle.vk_base.specs.declared.call.Call.{Call}
 use Rattle.vk_base.specs.declared.call.Call.TheVariants as calls
-use Rattle.vk_base.specs.declared.config.ProcessSpec.{ProcessSpec}
-use Rattle.vk_base.specs.declared.kernel.Exchange.{Exchange}
-use Rattle.vk_base.specs.declared.kernel.Name.{Name}
-use Rattle.vk_base.specs.declared.kernel.Process.{Process}
 use Rattle.vk_base.specs.declared.kernel.Stage.TheVariants as kinds
 use Rattle.vk_base.specs.declared.limits.TheConstants.{MESSAGE_BYTES}
-use Rattle.vk_base.specs.declared.message.Message.{Message}
-use Rattle.vk_base.specs.declared.pid.Pid.{Pid}
-use Rattle.vk_base.specs.declared.step.Step.{Step}
 use Rattle.vk_base.specs.declared.step.Step.TheVariants as steps
 use Rattle.vk_base.specs.Kernel.{initial_kernel, name_of}
 use Rattle.vk_base.specs.Steps.{Run, run}
@@ -31,7 +23,7 @@ use Rattle.vk_group.specs.declared.member.Work.TheVariants as works
 use Rattle.vk_event.specs.declared.pair.HelperPair.{HelperPair}
 use Rattle.vk_group.specs.declared.stage.Asked.{Asked}
 use Rattle.vk_group.specs.Accounts.{Began, Gave, Heard, Report, deed_at, deed_of}
-use Rattle.vk_group.specs.Deeds.{IsDone, IsReported}
+use Rattle.vk_group.specs.Deeds.{IsDeedDone, IsReported}
 use Rattle.vk_group.specs.Groups.{answered, answered_at, coordinator_call, group_after, new_group}
 use Rattle.vk_group.specs.Helpers.{helper_call}
 use Rattle.vk_group.specs.Members.{is_given}
@@ -41,7 +33,7 @@ use Rattle.vk_group.proofs.Done.{deeds_done}
 use Rattle.vk_group.proofs.Staged.{IsStaged}
 use Rattle.vk_group.proofs.Tracked.{tracked}
 use Rattle.vk_group.proofs.Works.{work_at, work_given}
-use Rattle.v_pages.specs.Followed.{Follows, answer_at, answers_before}
+use Rattle.v_pages.specs.Followed.{FollowsTask, answer_at, answers_before}
 use Rattle.v_pages.proofs.Lists.{up_to_none, up_to_some}
 use Rattle.v_pages.proofs.Staying.{NeverHands, queued_reach, reach, stays_with}
 use Rattle.v_group.specs.Grouped.{IsDoneAt, IsGroup, IsSameSend}
@@ -51,7 +43,7 @@ use Rattle.v_pages.proofs.Taken.{take_same}
 use Rattle.v_group.proofs.Reported.{IsToldBy, report_on}
 use Rattle.v_group.proofs.Rounds.{answered_on, one_report, rounds_at}
 use Rattle.v_group.proofs.Since.{deed_done}
-use Rattle.v_group.proofs.Working.{GoesOn, IsAtWork, gave_not, goes_on, heard_not}
+use Rattle.v_group.proofs.Working.{GroupGoesOn, IsGroupAtWork, gave_not, goes_on, heard_not}
 
 -- who hands nothing on takes a message once
 taken_again : (specs : List ProcessSpec) (ss : List Step) (r : Pid) → NeverHands ss r → (i j : ℕ) (n : Name) →
@@ -98,7 +90,7 @@ module _ (specs : List ProcessSpec) (ss : List Step) (whole : Run) (r : Pid) (pa
       IsDoneAt specs ss r pairs replies i (Heard heard)
   report_done i a heard is deed =
       let reported : IsReported pairs replies (Before i) a heard =
-      subst (λ o. IfSome o (IsDone pairs replies (Before i) a)) deed (deeds_done pairs replies (Before i) a) in
+      subst (λ o. IfSome o (IsDeedDone pairs replies (Before i) a)) deed (deeds_done pairs replies (Before i) a) in
       deed_done specs ss r pairs replies all.coordinator i a (Heard heard) (calls.Load 0 MESSAGE_BYTES) is deed
       reported.from_helper.loads refl
 
@@ -120,30 +112,30 @@ module _ (specs : List ProcessSpec) (ss : List Step) (whole : Run) (r : Pid) (pa
     pub is_first : first_of pairs h ≡ Some n
     is_first = ap (first_of pairs) (sym own.helper) ∙ subst (IsFirstDue pairs) own.stage (are_first pairs replies (Before x)).due
 
-    begins : IsAtWork n (GroupAt (suc x))
-    begins = subst (IsAtWork n) (sym (group_next x answers.Ok own.answered))
-        (subst (λ s. IsAtWork n (answered_at s (GroupAt x) answers.Ok)) (sym own.stage) (
+    begins : IsGroupAtWork n (GroupAt (suc x))
+    begins = subst (IsGroupAtWork n) (sym (group_next x answers.Ok own.answered))
+        (subst (λ s. IsGroupAtWork n (answered_at s (GroupAt x) answers.Ok)) (sym own.stage) (
           work_given (GroupAt x).members n was_open,
           ap is_some (sym (tracked pairs replies (Before x)).asked ∙ own.given.given.current),
         ))
 
     -- its helper has the job as long as nothing is heard of it
-    goes_by : (z : ℕ) (o : Option Answer) → answer_at specs ss r z ≡ o → IsAtWork n (GroupAt z) →
-        ((heard : Report) → IsDoneAt specs ss r pairs replies z (Heard heard) → heard.member ≡ n → ⊥) → IsAtWork n (GroupAt (suc z))
-    goes_by z None is w not = subst (λ l. IsAtWork n (group_after pairs replies l)) (sym (up_to_none (answer_at specs ss r) z is)) w
-    goes_by z (Some a) is w not = subst (IsAtWork n) (sym (group_next z a is)) (by_deed (goes_on n (GroupAt z).stage (GroupAt z) a w))
+    goes_by : (z : ℕ) (o : Option Answer) → answer_at specs ss r z ≡ o → IsGroupAtWork n (GroupAt z) →
+        ((heard : Report) → IsDoneAt specs ss r pairs replies z (Heard heard) → heard.member ≡ n → ⊥) → IsGroupAtWork n (GroupAt (suc z))
+    goes_by z None is w not = subst (λ l. IsGroupAtWork n (group_after pairs replies l)) (sym (up_to_none (answer_at specs ss r) z is)) w
+    goes_by z (Some a) is w not = subst (IsGroupAtWork n) (sym (group_next z a is)) (by_deed (goes_on n (GroupAt z).stage (GroupAt z) a w))
       where
-        by_deed : GoesOn n (deed_of (GroupAt z) a) (answered (GroupAt z) a) → IsAtWork n (answered (GroupAt z) a)
-        by_deed (GoesOn.tells heard e same) = absurd (not heard (report_done z a heard is e) same)
-        by_deed (GoesOn.stays none now) = now
+        by_deed : GroupGoesOn n (deed_of (GroupAt z) a) (answered (GroupAt z) a) → IsGroupAtWork n (answered (GroupAt z) a)
+        by_deed (GroupGoesOn.tells heard e same) = absurd (not heard (report_done z a heard is e) same)
+        by_deed (GroupGoesOn.stays none now) = now
 
-    pub at_work : (z : ℕ) → x < z → NotHeard n x z → IsAtWork n (GroupAt z)
+    pub at_work : (z : ℕ) → x < z → NotHeard n x z → IsGroupAtWork n (GroupAt z)
     at_work zero more none = absurd (omega arith)
     at_work (suc z) more none = elim (cases_lt x z) [
       | inl less ↦
           goes_by z (answer_at specs ss r z) refl (at_work z less (λ l heard a b. none l heard a (omega arith)))
           (λ heard. none z heard less (omega arith))
-      | inr there ↦ let same : x ≡ z = omega arith in subst (λ l. IsAtWork n (GroupAt (suc l))) same begins
+      | inr there ↦ let same : x ≡ z = omega arith in subst (λ l. IsGroupAtWork n (GroupAt (suc l))) same begins
     ]
 
     -- so no group Send begins
@@ -152,9 +144,9 @@ module _ (specs : List ProcessSpec) (ss : List Step) (whole : Run) (r : Pid) (pa
     none_begins i none l asked more less d =
         by_deed (goes_on n (GroupAt l).stage (GroupAt l) d.answer (at_work l more (λ k heard a b. none k heard a (omega arith))))
       where
-        by_deed : GoesOn n (deed_of (GroupAt l) d.answer) (answered (GroupAt l) d.answer) → ⊥
-        by_deed (GoesOn.tells heard e same) = heard_not heard asked (same_Some (Heard heard) (Began asked) (sym e ∙ d.deed))
-        by_deed (GoesOn.stays not now) = not asked d.deed
+        by_deed : GroupGoesOn n (deed_of (GroupAt l) d.answer) (answered (GroupAt l) d.answer) → ⊥
+        by_deed (GroupGoesOn.tells heard e same) = heard_not heard asked (same_Some (Heard heard) (Began asked) (sym e ∙ d.deed))
+        by_deed (GroupGoesOn.stays not now) = not asked d.deed
 
   -- a report, with the job of its round
   pub record IsReportBy (h : Pid) (i : ℕ) : Type 0 where
@@ -166,7 +158,7 @@ module _ (specs : List ProcessSpec) (ss : List Step) (whole : Run) (r : Pid) (pa
     pub round : rounds_at specs ss h send ≡ rounds_at specs ss h by.tell
 
   -- there are no two reports of one job
-  one_round : (h : Pid) (task : List Answer → Option Call) → Follows task specs ss h → (l i : ℕ) (a : IsReportBy h l)
+  one_round : (h : Pid) (task : List Answer → Option Call) → FollowsTask task specs ss h → (l i : ℕ) (a : IsReportBy h l)
       (b : IsReportBy h i) → l < i → a.own.given.place ≡ b.own.given.place → ⊥
   one_round h task follows l i a b less same = elim (cases_order a.by.take b.by.take) [
     | inl one ↦

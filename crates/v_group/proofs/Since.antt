@@ -2,18 +2,14 @@
 use Rattle.std.proofs.Common.{◌≡◌, ◌⊎◌, ℕ, zero, suc, ◌<◌, false, List, [], ◌∷◌, ◌++◌, Option, Some, None, refl, sym, ap, subst, ◌∙◌, inl, inr, arith}
 use Rattle.std.proofs.lemmas.Bool.{cases_lt, cases_order}
 use Rattle.std.proofs.lemmas.Option.{same_Some, none-some}
-use Rattle.vk_base.specs.declared.answer.Answer.{Answer}
-use Rattle.vk_base.specs.declared.call.Call.{Call}
-use Rattle.vk_base.specs.declared.config.ProcessSpec.{ProcessSpec}
-use Rattle.vk_base.specs.declared.pid.Pid.{Pid}
-use Rattle.vk_base.specs.declared.step.Step.{Step}
+use Rattle.vk_types.specs.Types.{Answer, Call, Pid, ProcessSpec, Step}
 use Rattle.vk_base.specs.Kernel.{◌>>=◌}
 use Rattle.vk_group.specs.declared.group.Group.{Group}
 use Rattle.vk_group.specs.declared.stage.Asked.{Asked}
 use Rattle.vk_event.specs.declared.pair.HelperPair.{HelperPair}
 use Rattle.vk_group.specs.Accounts.{Account, Began, Deed, account_after, account_from, accounted, deed_of, nothing_for}
 use Rattle.vk_group.specs.Groups.{answered, answered_all, coordinator_call, group_after, new_group}
-use Rattle.v_pages.specs.Followed.{Follows, answer_at, answer_in, answers_before, up_to}
+use Rattle.v_pages.specs.Followed.{FollowsTask, answer_at, answer_in, answers_before, up_to}
 use Rattle.v_pages.proofs.Lists.{up_to_none, up_to_some}
 use Rattle.v_group.specs.Grouped.{IsDoneAt, IsSameSend}
 use Rattle.v_group.proofs.Answered.{own_answer, saw_own}
@@ -41,7 +37,7 @@ abbrev pub IsShownBy : (Account → Type 0) → Deed → Type 0
 IsShownBy P d = (h : Account) (o : Option Deed) → P (accounted h o) → (P h × ((asked : Asked) → o ≡ Some (Began asked) → ⊥)) ⊎ (o ≡ Some d)
 
 module _ (specs : List ProcessSpec) (ss : List Step) (r : Pid) (pairs : List HelperPair) (replies : ℕ)
-    (follows : Follows (coordinator_call pairs replies) specs ss r) where
+    (follows : FollowsTask (coordinator_call pairs replies) specs ss r) where
   abbrev Given : ℕ → List Answer
   Given i = answers_before specs ss r i
 

@@ -3,16 +3,11 @@ use Rattle.std.proofs.Common.{◌≡◌, ℕ, ◌+◌, Bool, true, false, List, 
 use Rattle.std.proofs.lemmas.Bool.{both_ways, cond-true}
 use Rattle.std.proofs.lemmas.List.{append-nil, length-append}
 use Rattle.std.proofs.lemmas.Option.{same_Some, none-some}
-use Rattle.vk_base.specs.declared.answer.Answer.{Answer}
+use Rattle.v_whole.proofs.Traced.{finished_is}
+use Rattle.vk_types.specs.Types.{Answer, Call, Message, Pid, Process, State, Step}
 use Rattle.vk_base.specs.declared.answer.Answer.TheVariants as answers
-use Rattle.vk_base.specs.declared.call.Call.{Call}
 use Rattle.vk_base.specs.declared.call.Call.TheVariants as calls
-use Rattle.vk_base.specs.declared.kernel.Process.{Process}
-use Rattle.vk_base.specs.declared.kernel.State.{State}
 use Rattle.vk_base.specs.declared.kernel.State.TheVariants as states
-use Rattle.vk_base.specs.declared.message.Message.{Message}
-use Rattle.vk_base.specs.declared.pid.Pid.{Pid}
-use Rattle.vk_base.specs.declared.step.Step.{Step}
 use Rattle.vk_base.specs.declared.step.Step.TheVariants as steps
 use Rattle.vk_base.specs.Calls.{Effect, answered as seen_answered, exited, replied, sent, unseen}
 use Rattle.vk_base.specs.Kernel.{Kernel, ended, finished_call, receiving, sending, with_memory, with_state}
@@ -20,14 +15,14 @@ use Rattle.vk_base.specs.Pids.{same_pid}
 use Rattle.vk_base.specs.Ranges.{range_of, bytes_in, with_bytes}
 use Rattle.vk_base.specs.Steps.{Taking, collecting, effect, finishing, received, taken, taking, with_part}
 use Rattle.vk_base.proofs.OptionLemmas.{bind_is}
+use Rattle.vk_base.proofs.PidLemmas.{same_pid_self}
 use Rattle.v_laws.specs.Sound.{IsSound}
 use Rattle.v_laws.proofs.StepLemmas.{collecting_is, finishing_is, taking_is}
-use Rattle.v_laws.proofs.Tables.{put_process_here, same_pid_self}
+use Rattle.v_laws.proofs.Tables.{put_process_here}
 use Rattle.v_pages.specs.Followed.{call_by}
-use Rattle.v_pages.proofs.Ended.{finished_is}
 use Rattle.v_pages.proofs.Calling.{CallOutcome, exited_ready, outcome_of, own_told, replied_same, told}
 use Rattle.v_pages.proofs.Own.{OwnStep, other_call, other_told, own_step, which_step}
-use Rattle.v_pages.proofs.Touched.{GoesOn, Touched, is_waiting, touched}
+use Rattle.v_pages.proofs.Touched.{ProcessGoesOn, Touched, is_waiting, touched}
 use Rattle.v_pages.proofs.Turns.{after_take}
 
 -- neither a Forward, nor a move, nor what has to do with names, nor a receive without a segment
@@ -196,9 +191,9 @@ finish_call k r e p y at later does =
 pub own_not : (r : Pid) (s t : Step) → s ≡ t → own_step r s ≡ false → own_step r t ≡ true → ⊥
 own_not r s t same other own = both_ways (own_step r s) other (ap (own_step r) same ∙ own)
 
-pub goes_call : (p y : Process) → GoesOn p y → (in_call y.state ≡ in_call p.state) × (y.sends ≡ p.sends)
-goes_call p y (GoesOn.still same sends) = (ap in_call same, sends)
-goes_call p y (GoesOn.over a same sends) = (ap in_call same ∙ ended_call p.state a, sends)
+pub goes_call : (p y : Process) → ProcessGoesOn p y → (in_call y.state ≡ in_call p.state) × (y.sends ≡ p.sends)
+goes_call p y (ProcessGoesOn.still same sends) = (ap in_call same, sends)
+goes_call p y (ProcessGoesOn.over a same sends) = (ap in_call same ∙ ended_call p.state a, sends)
 
 -- A Take, and a Collect, of its own.
 pub record IsOwnTake (k : Kernel) (r : Pid) (e : Effect) (p y : Process) : Type 0 where

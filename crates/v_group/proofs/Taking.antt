@@ -4,24 +4,18 @@ use Rattle.std.specs.Prelude.{find}
 use Rattle.std.proofs.lemmas.Bool.{both_ways, cases_lt}
 use Rattle.std.proofs.lemmas.List.{append-nil}
 use Rattle.std.proofs.lemmas.Option.{same_Some, none-some}
-use Rattle.vk_base.specs.declared.answer.Answer.{Answer}
-use Rattle.vk_base.specs.declared.call.Call.{Call}
+use Rattle.vk_types.specs.Types.{Answer, Call, Pid, Process, ProcessSpec, State, Step}
 use Rattle.vk_base.specs.declared.call.Call.TheVariants as calls
-use Rattle.vk_base.specs.declared.config.ProcessSpec.{ProcessSpec}
-use Rattle.vk_base.specs.declared.kernel.Process.{Process}
-use Rattle.vk_base.specs.declared.kernel.State.{State}
 use Rattle.vk_base.specs.declared.kernel.State.TheVariants as states
-use Rattle.vk_base.specs.declared.pid.Pid.{Pid}
-use Rattle.vk_base.specs.declared.step.Step.{Step}
 use Rattle.vk_base.specs.declared.step.Step.TheVariants as steps
 use Rattle.vk_base.specs.Kernel.{Kernel}
 use Rattle.vk_base.specs.Settings.{is_process}
 use Rattle.vk_base.specs.Steps.{effect}
+use Rattle.vk_base.proofs.PidLemmas.{same_pid_self}
 use Rattle.v_laws.specs.Places.{before, process_at}
 use Rattle.v_laws.proofs.PlaceLemmas.{before_first}
 use Rattle.v_laws.proofs.SoundLemmas.{initial_ready}
-use Rattle.v_laws.proofs.Tables.{same_pid_self}
-use Rattle.v_pages.specs.Followed.{Follows, answers_before, calls_before}
+use Rattle.v_pages.specs.Followed.{FollowsTask, answers_before, calls_before}
 use Rattle.v_pages.proofs.Calling.{outcome_of, told}
 use Rattle.v_pages.proofs.Own.{OwnStep, other_told, own_step, which_step}
 use Rattle.v_pages.proofs.Touched.{Touched, is_waiting, touched}
@@ -31,7 +25,7 @@ use Rattle.v_group.proofs.Timeline.{Earlier, IsStepOf, answers_on, earlier, may_
 
 -- What comes of its own call, at a place.
 call_here : (task : List Answer → Option Call) (specs : List ProcessSpec) (ss : List Step) (r : Pid) → IsPlainTask task →
-    Follows task specs ss r → (i : ℕ) (p y : Process) (s : IsStepOf specs ss r i p y) (c : Call) → s.step ≡ steps.Call r c →
+    FollowsTask task specs ss r → (i : ℕ) (p y : Process) (s : IsStepOf specs ss r i p y) (c : Call) → s.step ≡ steps.Call r c →
     (p.state ≡ states.Ready) × CallEnd r p c s.did y
 call_here task specs ss r plain follows i p y s c step =
     let may = may_call task specs ss r i p y follows s c (own_call r s.step c step) in (
@@ -102,7 +96,7 @@ CalledAt specs ss r c i = (k : Kernel) (p : Process) → before specs ss i ≡ S
     IsCalledSince specs ss r i p c
 
 called_step : (task : List Answer → Option Call) (specs : List ProcessSpec) (ss : List Step) (r : Pid) → IsPlainTask task →
-    Follows task specs ss r → (i : ℕ) (x y : Process) (s : IsStepOf specs ss r i x y) (c : Call) → OwnStep r s.step →
+    FollowsTask task specs ss r → (i : ℕ) (x y : Process) (s : IsStepOf specs ss r i x y) (c : Call) → OwnStep r s.step →
     in_call y.state ≡ Some c → CalledAt specs ss r c i → IsCalledSince specs ss r (suc i) y c
 called_step task specs ss r plain follows i x y s c (OwnStep.makes d step) call so_far =
     let h = call_here task specs ss r plain follows i x y s d step in called_by specs ss r i x y s c d step h.0 call h.1
@@ -121,7 +115,7 @@ called_step task specs ss r plain follows i x y s c (OwnStep.others other) call 
     (so_far s.kernel x s.at s.there (sym keeps.0 ∙ call))
 
 called_over : (task : List Answer → Option Call) (specs : List ProcessSpec) (ss : List Step) (r : Pid) → IsPlainTask task →
-    Follows task specs ss r → (i : ℕ) (y : Process) (c : Call) → Earlier specs ss r i y → in_call y.state ≡ Some c →
+    FollowsTask task specs ss r → (i : ℕ) (y : Process) (c : Call) → Earlier specs ss r i y → in_call y.state ≡ Some c →
     CalledAt specs ss r c i → IsCalledSince specs ss r (suc i) y c
 called_over task specs ss r plain follows i y c (Earlier.stepped x s) call so_far =
     called_step task specs ss r plain follows i x y s c (which_step r s.step) call so_far
@@ -134,7 +128,7 @@ not_at_first specs ss r k p at there =
     initial_ready (find (is_process r) specs) p (ap (λ (z : Kernel). z.procs r) (before_first specs ss k at) ∙ there)
 
 pub called_since : (task : List Answer → Option Call) (specs : List ProcessSpec) (ss : List Step) (r : Pid) → IsPlainTask task →
-    Follows task specs ss r → (c : Call) (i : ℕ) → CalledAt specs ss r c i
+    FollowsTask task specs ss r → (c : Call) (i : ℕ) → CalledAt specs ss r c i
 called_since task specs ss r plain follows c zero k p at there call =
     absurd (none-some c (ap in_call (sym (not_at_first specs ss r k p at there)) ∙ call))
 called_since task specs ss r plain follows c (suc i) k p at there call =
@@ -223,7 +217,7 @@ taken_other specs ss r i x y s start count other done now so_far (Touched.waits 
     (sym (goes_call x y on).0 ∙ done_call y.state (calls.ReceiveSegment start count) done))
 
 taken_step : (task : List Answer → Option Call) (specs : List ProcessSpec) (ss : List Step) (r : Pid) → IsPlainTask task →
-    Follows task specs ss r → (i : ℕ) (x y : Process) (s : IsStepOf specs ss r i x y) (start count : ℕ) → OwnStep r s.step →
+    FollowsTask task specs ss r → (i : ℕ) (x y : Process) (s : IsStepOf specs ss r i x y) (start count : ℕ) → OwnStep r s.step →
     done_in y.state ≡ Some (calls.ReceiveSegment start count) → process_at specs ss (suc i) r ≡ Some y → TakenAt specs ss r i →
     IsTakenSince specs ss r (suc i) y
 taken_step task specs ss r plain follows i x y s start count (OwnStep.makes d step) done now so_far =
@@ -248,7 +242,7 @@ taken_step task specs ss r plain follows i x y s start count (OwnStep.others oth
     (touched s.kernel s.step s.did sound s.does r x y s.there s.left)
 
 taken_over : (task : List Answer → Option Call) (specs : List ProcessSpec) (ss : List Step) (r : Pid) → IsPlainTask task →
-    Follows task specs ss r → (i : ℕ) (y : Process) (start count : ℕ) → Earlier specs ss r i y →
+    FollowsTask task specs ss r → (i : ℕ) (y : Process) (start count : ℕ) → Earlier specs ss r i y →
     done_in y.state ≡ Some (calls.ReceiveSegment start count) → process_at specs ss (suc i) r ≡ Some y → TakenAt specs ss r i →
     IsTakenSince specs ss r (suc i) y
 taken_over task specs ss r plain follows i y start count (Earlier.stepped x s) done now so_far =
@@ -257,7 +251,7 @@ taken_over task specs ss r plain follows i y start count (Earlier.idle k at ther
     taken_later specs ss r i y y refl now (no_answer specs ss r i k at none) (so_far k y start count at there done)
 
 pub taken_since : (task : List Answer → Option Call) (specs : List ProcessSpec) (ss : List Step) (r : Pid) → IsPlainTask task →
-    Follows task specs ss r → (i : ℕ) → TakenAt specs ss r i
+    FollowsTask task specs ss r → (i : ℕ) → TakenAt specs ss r i
 taken_since task specs ss r plain follows zero k p start count at there done =
     absurd (none-some (calls.ReceiveSegment start count)
     (ap (λ (z : State). done_in z) (sym (not_at_first specs ss r k p at there)) ∙ done))

@@ -4,13 +4,8 @@ use Rattle.std.specs.Prelude.{find}
 use Rattle.std.proofs.lemmas.Bool.{both_ways, cases_lt}
 use Rattle.std.proofs.lemmas.List.{append-nil, length-append}
 use Rattle.std.proofs.lemmas.Option.{same_Some, none-some}
-use Rattle.vk_base.specs.declared.answer.Answer.{Answer}
-use Rattle.vk_base.specs.declared.call.Call.{Call}
-use Rattle.vk_base.specs.declared.config.ProcessSpec.{ProcessSpec}
-use Rattle.vk_base.specs.declared.kernel.Process.{Process}
+use Rattle.vk_types.specs.Types.{Answer, Call, Pid, Process, ProcessSpec, Step}
 use Rattle.vk_base.specs.declared.kernel.State.TheVariants as states
-use Rattle.vk_base.specs.declared.pid.Pid.{Pid}
-use Rattle.vk_base.specs.declared.step.Step.{Step}
 use Rattle.vk_base.specs.declared.step.Step.TheVariants as steps
 use Rattle.vk_base.specs.Calls.{Effect}
 use Rattle.vk_base.specs.Kernel.{◌>>=◌, Kernel}
@@ -18,9 +13,9 @@ use Rattle.vk_base.specs.Settings.{is_process}
 use Rattle.vk_base.specs.Steps.{effect}
 use Rattle.v_laws.specs.Places.{before, process_at}
 use Rattle.v_laws.specs.Sound.{IsSound}
-use Rattle.v_laws.proofs.PlaceLemmas.{IsNext, before_first, before_next, before_sound}
+use Rattle.v_laws.proofs.PlaceLemmas.{ComesOfStep, before_first, before_next, before_sound}
 use Rattle.v_laws.proofs.SoundLemmas.{initial_ready}
-use Rattle.v_pages.specs.Followed.{Follows, answer_at, answer_in, answers_before, call_at, call_by, calls_before, up_to}
+use Rattle.v_pages.specs.Followed.{FollowsTask, answer_at, answer_in, answers_before, call_at, call_by, calls_before, up_to}
 use Rattle.v_pages.proofs.Calling.{outcome_of, told}
 use Rattle.v_pages.proofs.Collected.{was_there}
 use Rattle.v_pages.proofs.Lists.{end_same, front_same, not_empty, up_to_none}
@@ -57,7 +52,7 @@ calls_on specs ss r i p y s =
     ∙ ap (λ o. length (calls_before ss r i) + length (option_to_list (o >>= call_by r))) s.is
 
 pub may_call : (task : List Answer → Option Call) (specs : List ProcessSpec) (ss : List Step) (r : Pid) (i : ℕ) (p y : Process) →
-    Follows task specs ss r → (s : IsStepOf specs ss r i p y) →
+    FollowsTask task specs ss r → (s : IsStepOf specs ss r i p y) →
     MayCall task (answers_before specs ss r i) (length (calls_before ss r i)) (call_by r s.step)
 may_call task specs ss r i p y follows s c makes =
     let n = follows i c (ap (λ o. o >>= call_by r) s.is ∙ makes) in (n.answered, n.told)
@@ -67,7 +62,7 @@ pub data Earlier (specs : List ProcessSpec) (ss : List Step) (r : Pid) (i : ℕ)
   stepped : (p : Process) → IsStepOf specs ss r i p y → Earlier specs ss r i y
   idle : (k : Kernel) → before specs ss i ≡ Some k → k.procs r ≡ Some y → slice_get ss i ≡ None → Earlier specs ss r i y
 
-earlier_by : (specs : List ProcessSpec) (ss : List Step) (r : Pid) (i : ℕ) (l : Kernel) (y : Process) → IsNext specs ss i l →
+earlier_by : (specs : List ProcessSpec) (ss : List Step) (r : Pid) (i : ℕ) (l : Kernel) (y : Process) → ComesOfStep specs ss i l →
     l.procs r ≡ Some y → Earlier specs ss r i y
 earlier_by specs ss r i l y n there = elim n.how [
   | inl h ↦
@@ -97,7 +92,7 @@ abbrev pub TurnAt : (List Answer → Option Call) → List ProcessSpec → List 
 TurnAt task specs ss r i p = Turn task (answers_before specs ss r i) (length (calls_before ss r i)) p.state
 
 turn_over : (task : List Answer → Option Call) (specs : List ProcessSpec) (ss : List Step) (r : Pid) → IsPlainTask task →
-    Follows task specs ss r → (i : ℕ) (y : Process) → Earlier specs ss r i y →
+    FollowsTask task specs ss r → (i : ℕ) (y : Process) → Earlier specs ss r i y →
     ((k : Kernel) (p : Process) → before specs ss i ≡ Some k → k.procs r ≡ Some p → TurnAt task specs ss r i p) →
     TurnAt task specs ss r (suc i) y
 turn_over task specs ss r plain follows i y (Earlier.stepped p s) so_far =
@@ -117,7 +112,7 @@ unfolding up_to
 turn_first task specs ss r p ready = subst (TurnIn task [] 0) (sym (ap in_call ready)) refl
 
 pub turn_at : (task : List Answer → Option Call) (specs : List ProcessSpec) (ss : List Step) (r : Pid) → IsPlainTask task →
-    Follows task specs ss r → (i : ℕ) (k : Kernel) (p : Process) → before specs ss i ≡ Some k → k.procs r ≡ Some p →
+    FollowsTask task specs ss r → (i : ℕ) (k : Kernel) (p : Process) → before specs ss i ≡ Some k → k.procs r ≡ Some p →
     TurnAt task specs ss r i p
 turn_at task specs ss r plain follows zero k p at there = turn_first task specs ss r p
     (initial_ready (find (is_process r) specs) p (ap (λ (z : Kernel). z.procs r) (before_first specs ss k at) ∙ there))
@@ -127,7 +122,7 @@ turn_at task specs ss r plain follows (suc i) k p at there =
 
 -- where it calls, it is ready
 pub ready_at : (task : List Answer → Option Call) (specs : List ProcessSpec) (ss : List Step) (r : Pid) → IsPlainTask task →
-    Follows task specs ss r → (i : ℕ) (k : Kernel) (p : Process) (c : Call) → before specs ss i ≡ Some k → k.procs r ≡ Some p →
+    FollowsTask task specs ss r → (i : ℕ) (k : Kernel) (p : Process) (c : Call) → before specs ss i ≡ Some k → k.procs r ≡ Some p →
     slice_get ss i ≡ Some (steps.Call r c) → (p.state ≡ states.Ready) × (task (answers_before specs ss r i) ≡ Some c)
 ready_at task specs ss r plain follows i k p c at there is =
     let n = follows i c (ap (λ o. o >>= call_by r) is ∙ own_call r (steps.Call r c) c refl) in (
@@ -195,7 +190,7 @@ SinceAt specs ss r g a i = (k : Kernel) (p : Process) → before specs ss i ≡ 
     answers_before specs ss r i ≡ g ++ a ∷ [] → IsSince specs ss r i p g a
 
 since_by : (task : List Answer → Option Call) (specs : List ProcessSpec) (ss : List Step) (r : Pid) → IsPlainTask task →
-    Follows task specs ss r → (g : List Answer) (a : Answer) (i : ℕ) (x p : Process) (s : IsStepOf specs ss r i x p) (o : Option Answer) →
+    FollowsTask task specs ss r → (g : List Answer) (a : Answer) (i : ℕ) (x p : Process) (s : IsStepOf specs ss r i x p) (o : Option Answer) →
     told r s.did ≡ o → process_at specs ss (suc i) r ≡ Some p → in_call p.state ≡ None →
     answers_before specs ss r (suc i) ≡ g ++ a ∷ [] → SinceAt specs ss r g a i → IsSince specs ss r (suc i) p g a
 since_by task specs ss r plain follows g a i x p s (Some b) some now ready e so_far = since_here specs ss r i x p g a s b some e now
@@ -209,7 +204,7 @@ since_by task specs ss r plain follows g a i x p s None none now ready e so_far 
     (sym (append-nil given) ∙ sym (answers_on specs ss r i x p s ∙ ap (λ o. given ++ option_to_list o) none) ∙ e))
 
 since_over : (task : List Answer → Option Call) (specs : List ProcessSpec) (ss : List Step) (r : Pid) → IsPlainTask task →
-    Follows task specs ss r → (g : List Answer) (a : Answer) (i : ℕ) (p : Process) → Earlier specs ss r i p →
+    FollowsTask task specs ss r → (g : List Answer) (a : Answer) (i : ℕ) (p : Process) → Earlier specs ss r i p →
     process_at specs ss (suc i) r ≡ Some p → in_call p.state ≡ None → answers_before specs ss r (suc i) ≡ g ++ a ∷ [] →
     SinceAt specs ss r g a i → IsSince specs ss r (suc i) p g a
 since_over task specs ss r plain follows g a i p (Earlier.stepped x s) now ready e so_far =
@@ -218,7 +213,7 @@ since_over task specs ss r plain follows g a i p (Earlier.idle k at there none) 
     since_later specs ss r i p p g a refl now (so_far k p at there ready (sym (no_answer specs ss r i k at none) ∙ e))
 
 pub since : (task : List Answer → Option Call) (specs : List ProcessSpec) (ss : List Step) (r : Pid) → IsPlainTask task →
-    Follows task specs ss r → (g : List Answer) (a : Answer) (i : ℕ) → SinceAt specs ss r g a i
+    FollowsTask task specs ss r → (g : List Answer) (a : Answer) (i : ℕ) → SinceAt specs ss r g a i
 unfolding up_to
 since task specs ss r plain follows g a zero k p at there ready e = absurd (not_empty g a e)
 since task specs ss r plain follows g a (suc i) k p at there ready e =
@@ -238,7 +233,7 @@ pub record IsCollectedAt (task : List Answer → Option Call) (specs : List Proc
 
 -- what a task called for is what the process is in
 pub busy_at : (task : List Answer → Option Call) (specs : List ProcessSpec) (ss : List Step) (r : Pid) → IsPlainTask task →
-    Follows task specs ss r → (i : ℕ) (k : Kernel) (p : Process) (c : Call) → before specs ss i ≡ Some k → k.procs r ≡ Some p →
+    FollowsTask task specs ss r → (i : ℕ) (k : Kernel) (p : Process) (c : Call) → before specs ss i ≡ Some k → k.procs r ≡ Some p →
     in_call p.state ≡ Some c → (task (answers_before specs ss r i) ≡ Some c) × (is_slow c ≡ true)
 busy_at task specs ss r plain follows i k p c at there call =
     let busy : IsBusy task (answers_before specs ss r i) (length (calls_before ss r i)) c =
@@ -250,7 +245,7 @@ not_both : {A : Type 0} (o : Option A) (x : A) → o ≡ None → o ≡ Some x �
 not_both o x none some = none-some x (sym none ∙ some)
 
 collected_by : (task : List Answer → Option Call) (specs : List ProcessSpec) (ss : List Step) (r : Pid) → IsPlainTask task →
-    Follows task specs ss r → (i : ℕ) (p : Process) (g : List Answer) (a : Answer) → is_quick a ≡ false →
+    FollowsTask task specs ss r → (i : ℕ) (p : Process) (g : List Answer) (a : Answer) → is_quick a ≡ false →
     (s : IsSince specs ss r i p g a) → OwnStep r s.step.step → IsCollectedAt task specs ss r i p g a s
 collected_by task specs ss r plain follows i p g a slow s (OwnStep.makes c step) =
     let may = may_call task specs ss r s.place s.was p follows s.step c (own_call r s.step.step c step) in
@@ -281,7 +276,7 @@ collected_by task specs ss r plain follows i p g a slow s (OwnStep.others other)
     absurd (not_both (told r s.step.did) a (other_told r s.step.kernel s.step.step s.step.did other s.step.does) s.got)
 
 pub collected_at : (task : List Answer → Option Call) (specs : List ProcessSpec) (ss : List Step) (r : Pid) → IsPlainTask task →
-    Follows task specs ss r → (i : ℕ) (p : Process) (g : List Answer) (a : Answer) → is_quick a ≡ false →
+    FollowsTask task specs ss r → (i : ℕ) (p : Process) (g : List Answer) (a : Answer) → is_quick a ≡ false →
     (s : IsSince specs ss r i p g a) → IsCollectedAt task specs ss r i p g a s
 collected_at task specs ss r plain follows i p g a slow s =
     collected_by task specs ss r plain follows i p g a slow s (which_step r s.step.step)
@@ -294,7 +289,7 @@ pub record IsMadeAt (specs : List ProcessSpec) (ss : List Step) (r : Pid) (i : �
   pub ready : s.was.state ≡ states.Ready
 
 made_by : (task : List Answer → Option Call) (specs : List ProcessSpec) (ss : List Step) (r : Pid) → IsPlainTask task →
-    Follows task specs ss r → (i : ℕ) (p : Process) (g : List Answer) (a : Answer) (c : Call) → task g ≡ Some c → is_slow c ≡ false →
+    FollowsTask task specs ss r → (i : ℕ) (p : Process) (g : List Answer) (a : Answer) (c : Call) → task g ≡ Some c → is_slow c ≡ false →
     (s : IsSince specs ss r i p g a) → OwnStep r s.step.step → IsMadeAt specs ss r i p g a c s
 made_by task specs ss r plain follows i p g a c next quick s (OwnStep.makes d step) =
     let may = may_call task specs ss r s.place s.was p follows s.step d (own_call r s.step.step d step) in
@@ -318,7 +313,7 @@ made_by task specs ss r plain follows i p g a c next quick s (OwnStep.others oth
     absurd (not_both (told r s.step.did) a (other_told r s.step.kernel s.step.step s.step.did other s.step.does) s.got)
 
 pub made_at : (task : List Answer → Option Call) (specs : List ProcessSpec) (ss : List Step) (r : Pid) → IsPlainTask task →
-    Follows task specs ss r → (i : ℕ) (p : Process) (g : List Answer) (a : Answer) (c : Call) → task g ≡ Some c → is_slow c ≡ false →
+    FollowsTask task specs ss r → (i : ℕ) (p : Process) (g : List Answer) (a : Answer) (c : Call) → task g ≡ Some c → is_slow c ≡ false →
     (s : IsSince specs ss r i p g a) → IsMadeAt specs ss r i p g a c s
 made_at task specs ss r plain follows i p g a c next quick s =
     made_by task specs ss r plain follows i p g a c next quick s (which_step r s.step.step)

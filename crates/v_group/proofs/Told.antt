@@ -1,20 +1,16 @@
 -- What a coordinator's codes say is true where it makes the call.
 use Rattle.std.proofs.Common.{◌≡◌, ℕ, List, slice_get, Some, Option, refl, ap, ◌∙◌}
-use Rattle.vk_base.specs.declared.answer.Answer.{Answer}
-use Rattle.vk_base.specs.declared.call.Call.{Call}
-use Rattle.vk_base.specs.declared.config.ProcessSpec.{ProcessSpec}
-use Rattle.vk_base.specs.declared.pid.Pid.{Pid}
-use Rattle.vk_base.specs.declared.step.Step.{Step}
+use Rattle.vk_types.specs.Types.{Answer, Call, Pid, ProcessSpec, Step}
 use Rattle.vk_base.specs.declared.step.Step.TheVariants as steps
 use Rattle.vk_base.specs.Kernel.{◌>>=◌}
 use Rattle.vk_group.specs.Groups.{coordinator_call}
 use Rattle.vk_group.proofs.Told.{busy_is_true, handed_over_once, no_more_is_true, nobody_is_true}
-use Rattle.v_pages.specs.Followed.{Follows, answers_before, call_by}
+use Rattle.v_pages.specs.Followed.{FollowsTask, answers_before, call_by}
 use Rattle.v_group.specs.Codes.{CodesAreTrue}
 use Rattle.v_group.proofs.Stepping.{own_call}
 
 told_there : (task : List Answer → Option Call) (specs : List ProcessSpec) (ss : List Step) (r : Pid) (i : ℕ) (c : Call) →
-    Follows task specs ss r → slice_get ss i ≡ Some (steps.Call r c) → task (answers_before specs ss r i) ≡ Some c
+    FollowsTask task specs ss r → slice_get ss i ≡ Some (steps.Call r c) → task (answers_before specs ss r i) ≡ Some c
 told_there task specs ss r i c follows is =
     (follows i c (ap (λ o. o >>= call_by r) is ∙ own_call r (steps.Call r c) c refl)).told
 

@@ -1,9 +1,7 @@
 -- What the codes of a coordinator say, at the places of a run where it calls.
 use Rattle.std.specs.Prelude.{ℕ, ◌≡◌, ◌≢◌, ◌<◌, false, List, [], length, slice_get, Some}
+use Rattle.vk_types.specs.Types.{Pid, ProcessSpec, Step}
 use Rattle.vk_base.specs.declared.call.Call.TheVariants as calls
-use Rattle.vk_base.specs.declared.config.ProcessSpec.{ProcessSpec}
-use Rattle.vk_base.specs.declared.pid.Pid.{Pid}
-use Rattle.vk_base.specs.declared.step.Step.{Step}
 use Rattle.vk_base.specs.declared.step.Step.TheVariants as steps
 use Rattle.vk_group.specs.declared.code.Code.TheVariants as codes
 use Rattle.vk_event.specs.declared.pair.HelperPair.{HelperPair}
@@ -11,7 +9,7 @@ use Rattle.vk_group.specs.Accounts.{Account, account_after, replies as replies_i
 use Rattle.vk_group.specs.Groups.{coordinator_call}
 use Rattle.vk_group.specs.Laws.{AllReported, IsHandedOverOnce, is_among}
 use Rattle.vk_group.specs.Messages.{reply_of}
-use Rattle.v_pages.specs.Followed.{Follows, answers_before}
+use Rattle.v_pages.specs.Followed.{FollowsTask, answers_before}
 
 -- the account of a coordinator before this place: the current group Send, and what was done for it
 abbrev pub account_at : List ProcessSpec → List Step → Pid → List HelperPair → ℕ → ℕ → Account
@@ -34,4 +32,4 @@ pub record AreTrueCodes (specs : List ProcessSpec) (ss : List Step) (r : Pid) (p
 -- in each run in which r follows the task of a coordinator
 abbrev pub CodesAreTrue : Type 0
 CodesAreTrue = (specs : List ProcessSpec) (ss : List Step) (r : Pid) (pairs : List HelperPair) (replies : ℕ) →
-    Follows (coordinator_call pairs replies) specs ss r → AreTrueCodes specs ss r pairs replies
+    FollowsTask (coordinator_call pairs replies) specs ss r → AreTrueCodes specs ss r pairs replies

@@ -1,15 +1,8 @@
 -- What a coordinator and its helpers do for the members of a group, in the runs of the one-machine kernel.
 use Rattle.std.specs.Prelude.{ℕ, ◌≡◌, ◌+◌, ◌<◌, true, List, length, slice_get, Some}
-use Rattle.vk_base.specs.declared.answer.Answer.{Answer}
-use Rattle.vk_base.specs.declared.call.Call.{Call}
+use Rattle.vk_types.specs.Types.{Answer, Call, Message, Name, Pid, Process, ProcessSpec, Step}
 use Rattle.vk_base.specs.declared.call.Call.TheVariants as calls
-use Rattle.vk_base.specs.declared.config.ProcessSpec.{ProcessSpec}
-use Rattle.vk_base.specs.declared.kernel.Name.{Name}
-use Rattle.vk_base.specs.declared.kernel.Process.{Process}
 use Rattle.vk_base.specs.declared.limits.TheConstants.{MESSAGE_BYTES}
-use Rattle.vk_base.specs.declared.message.Message.{Message}
-use Rattle.vk_base.specs.declared.pid.Pid.{Pid}
-use Rattle.vk_base.specs.declared.step.Step.{Step}
 use Rattle.vk_base.specs.declared.step.Step.TheVariants as steps
 use Rattle.vk_base.specs.Messages.{segment_of}
 use Rattle.vk_base.specs.Ranges.{range_of, bytes_in}
@@ -27,13 +20,13 @@ use Rattle.vk_group.specs.Deeds.{IsGiven}
 use Rattle.vk_group.specs.Groups.{coordinator_call, group_after}
 use Rattle.vk_group.specs.Helpers.{helped_all, helper_call}
 use Rattle.vk_group.specs.Messages.{reply_of, result_message}
-use Rattle.v_pages.specs.Followed.{Follows, answers_before}
+use Rattle.v_pages.specs.Followed.{FollowsTask, answers_before}
 
 -- The process r follows the task of a coordinator of these pairs, and the helper of each follows that of a helper.
 pub record IsGroup (specs : List ProcessSpec) (ss : List Step) (r : Pid) (pairs : List HelperPair) (replies : ℕ) : Type 0 where
-  pub coordinator : Follows (coordinator_call pairs replies) specs ss r
+  pub coordinator : FollowsTask (coordinator_call pairs replies) specs ss r
   pub helpers : (number : ℕ) (pair : HelperPair) → slice_get pairs number ≡ Some pair →
-      Follows (helper_call r pair.member) specs ss pair.helper
+      FollowsTask (helper_call r pair.member) specs ss pair.helper
 
 -- At place i the coordinator r calls, and what it is answered brings this deed about.
 pub record IsDoneAt (specs : List ProcessSpec) (ss : List Step) (r : Pid) (pairs : List HelperPair) (replies i : ℕ) (d : Deed) :

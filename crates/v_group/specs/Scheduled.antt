@@ -1,7 +1,6 @@
 -- The same, said of the history of a schedule.
 use Rattle.std.specs.Prelude.{ℕ, ◌≡◌, ◌<◌, List, slice_get, Some}
-use Rattle.vk_base.specs.declared.message.Message.{Message}
-use Rattle.vk_base.specs.declared.pid.Pid.{Pid}
+use Rattle.vk_types.specs.Types.{Message, Pid}
 use Rattle.vk_base.specs.Settings.{Settings}
 use Rattle.vk_schedule.specs.declared.event.Event.{Event}
 use Rattle.vk_group.specs.declared.notes.Note.{Note}

@@ -2,24 +2,16 @@
 use Rattle.std.proofs.Common.{◌≡◌, ℕ, suc, ◌<◌, ◌≤◌, Bool, true, false, is_none, List, Some, IsSome, option_map, is_some, slice_get, refl, sym, ap, subst, ◌∙◌, inl, inr, arith}
 use Rattle.std.proofs.lemmas.Bool.{both_ways, cases_order, cond-true, eq-eqb, eqb-true}
 use Rattle.std.proofs.lemmas.Option.{same_Some, none-some}
+use Rattle.vk_types.specs.Types.{Call, Exchange, Message, Name, Pid, Process, ProcessSpec, Stage, Step}
 use Rattle.vk_base.specs.declared.answer.Answer.TheVariants as answers
-use Rattle.vk_base.specs.declared.call.Call.{Call}
 use Rattle.vk_base.specs.declared.call.Call.TheVariants as calls
-use Rattle.vk_base.specs.declared.config.ProcessSpec.{ProcessSpec}
-use Rattle.vk_base.specs.declared.kernel.Exchange.{Exchange}
-use Rattle.vk_base.specs.declared.kernel.Name.{Name}
-use Rattle.vk_base.specs.declared.kernel.Process.{Process}
-use Rattle.vk_base.specs.declared.kernel.Stage.{Stage}
 use Rattle.vk_base.specs.declared.kernel.Stage.TheVariants as stages
-use Rattle.vk_base.specs.declared.message.Message.{Message}
-use Rattle.vk_base.specs.declared.pid.Pid.{Pid}
-use Rattle.vk_base.specs.declared.step.Step.{Step}
 use Rattle.vk_base.specs.declared.step.Step.TheVariants as steps
 use Rattle.vk_base.specs.Calls.{Effect, unseen, call_refusal, called, forward}
 use Rattle.vk_base.specs.Kernel.{◌>>=◌, Kernel, initial_kernel, name_of, same_name, holds_of, is_posted, is_queued, is_at_target, held}
 use Rattle.vk_base.specs.Pids.{same_host}
 use Rattle.vk_base.specs.Steps.{Run, Taking, effect, only_if, run, arriving, with_arrival, taking, taken}
-use Rattle.vk_base.proofs.OptionLemmas.{bind_is}
+use Rattle.vk_base.proofs.OptionLemmas.{bind_is, mapped_is}
 use Rattle.v_laws.specs.Places.{IsForwardedBetween, before, brought_by, taken_by, taken_at}
 use Rattle.v_laws.specs.Reached.{IsReached, saw}
 use Rattle.v_laws.specs.Sound.{IsSound, is_settled}
@@ -31,7 +23,6 @@ use Rattle.v_laws.proofs.ReachedLemmas.{reached_sound}
 use Rattle.v_laws.proofs.SoundLemmas.{step_is}
 use Rattle.v_laws.proofs.StepLemmas.{IsFit, fit_refusal, arriving_is, taking_is}
 use Rattle.v_laws.proofs.Tables.{same_name_self, put_exchange_here}
-use Rattle.v_laws.proofs.Options.{mapped_is}
 
 -- Exchanges go on from place to place.
 pub go_on : (specs : List ProcessSpec) (ss : List Step) (i j : ℕ) (k l : Kernel) → i ≤ j → before specs ss i ≡ Some k →

@@ -2,34 +2,22 @@
 use Rattle.std.proofs.Common.{◌≡◌, ℕ, ◌+◌, true, false, ◌==◌, length, List, [], take, drop, not, nat_lt, is_none, option_map, Option, Some, None, refl, sym, ap, subst, subst₂, ◌∙◌, inl, inr}
 use Rattle.std.proofs.lemmas.Bool.{cases_Bool, or_cases, eqb-true, cond-true, cond-false, cond_both}
 use Rattle.std.proofs.lemmas.Option.{same_Some}
-use Rattle.vk_base.specs.declared.answer.Answer.{Answer}
+use Rattle.vk_types.specs.Types.{Answer, Call, Direction, Ending, Exchange, Message, Move, Name, Pid, Process, Refusal, Scope, Step}
 use Rattle.vk_base.specs.declared.answer.Answer.TheVariants as answers
-use Rattle.vk_base.specs.declared.answer.Ending.{Ending}
-use Rattle.vk_base.specs.declared.answer.Refusal.{Refusal}
 use Rattle.vk_base.specs.declared.answer.Refusal.TheVariants as refusals
-use Rattle.vk_base.specs.declared.call.Call.{Call}
 use Rattle.vk_base.specs.declared.call.Call.TheVariants as calls
-use Rattle.vk_base.specs.declared.call.Scope.{Scope}
-use Rattle.vk_base.specs.declared.kernel.Direction.{Direction}
 use Rattle.vk_base.specs.declared.kernel.Direction.TheVariants as directions
-use Rattle.vk_base.specs.declared.kernel.Exchange.{Exchange}
-use Rattle.vk_base.specs.declared.kernel.Move.{Move}
-use Rattle.vk_base.specs.declared.kernel.Name.{Name}
-use Rattle.vk_base.specs.declared.kernel.Process.{Process}
 use Rattle.vk_base.specs.declared.kernel.State.TheVariants as states
-use Rattle.vk_base.specs.declared.message.Message.{Message}
-use Rattle.vk_base.specs.declared.pid.Pid.{Pid}
-use Rattle.vk_base.specs.declared.step.Step.{Step}
 use Rattle.vk_base.specs.declared.step.Step.TheVariants as steps
 use Rattle.vk_base.specs.Calls.{Effect, accepted, called, call_refusal, sent, sent_exchange, replied, forward, forwarded, copied_at_once, begin_move, new_move, move_begun, is_at_once, get_pid, found_at_once, lookup_begun, exited, released, is_bereft, may_write, is_granted, is_own}
 use Rattle.vk_base.specs.Kernel.{◌>>=◌, Kernel, name_of, is_ready, receiving, ended, held, held_exchange, put_process, with_memory}
 use Rattle.vk_base.specs.Pids.{same_pid, same_host}
 use Rattle.vk_base.specs.Ranges.{range_of, bytes_in, with_bytes}
 use Rattle.vk_base.specs.Steps.{effect, Taking, taking, taken, received, with_part, arriving, with_arrival, Finishing, finishing, failing, opening_move, move_opened, Copying, copying, copied, ending, hearing, asking, finding, Collecting, collecting}
-use Rattle.vk_base.proofs.OptionLemmas.{bind_is}
+use Rattle.vk_base.proofs.OptionLemmas.{bind_is, mapped_is}
 use Rattle.v_laws.specs.Moves.{move_call}
 use Rattle.v_laws.proofs.MoveSteps.{called_bytes, in_move, pushed, with_copy}
-use Rattle.v_laws.proofs.Options.{of_either, mapped_is, some_not_none}
+use Rattle.v_laws.proofs.Options.{of_either, some_not_none}
 use Rattle.v_laws.proofs.SoundMoves.{with_no_bytes}
 use Rattle.v_laws.proofs.StepLemmas.{IsFit, fit_is, four_tests, taking_is, finishing_is, failing_is, copying_is, ending_is, asking_is, finding_is, collecting_is}
 use Rattle.v_laws.proofs.Tables.{same_pid_is, put_process_at, put_process_other, put_exchange_here, lookup_here}

@@ -2,11 +2,7 @@
 //! Places are those of the list of steps.
 
 ghost use Rattle.std.specs.Prelude.{◌≡◌, ◌<◌, ℕ, IsSome, List, Some, slice_get, true};
-ghost use Rattle.vk_base.specs.declared.config.ProcessSpec.{ProcessSpec};
-ghost use Rattle.vk_base.specs.declared.kernel.Exchange.{Exchange};
-ghost use Rattle.vk_base.specs.declared.kernel.Name.{Name};
-ghost use Rattle.vk_base.specs.declared.pid.Pid.{Pid};
-ghost use Rattle.vk_base.specs.declared.step.Step.{Step};
+ghost use Rattle.vk_types.specs.Types.{Exchange, Name, Pid, ProcessSpec, Step};
 ghost use Rattle.vk_base.specs.declared.step.Step.TheVariants as steps;
 ghost use Rattle.vk_base.specs.Kernel.{Kernel, is_at_target, name_of, initial_kernel};
 ghost use Rattle.vk_base.specs.Pids.{same_host};

@@ -1,7 +1,6 @@
 -- What a machine keeps after a step, and what it answers.
 use Rattle.std.proofs.Common.{◌≡◌, ℕ, ◌-◌, ◌≤◌, Option, Result, Ok, Err, refl, ap, ◌∙◌, arith}
-use Rattle.vk_base.specs.declared.kernel.Observation.{Observation}
-use Rattle.vk_base.specs.declared.step.Step.{Step}
+use Rattle.vk_types.specs.Types.{Observation, Step}
 use Rattle.vk_base.specs.Steps.{effect}
 use Rattle.v_laws.proofs.SizeLemmas.{sized_step}
 use Rattle.v_laws.proofs.SoundLemmas.{sound_step}

@@ -6,15 +6,13 @@ use Rattle.std.proofs.lemmas.List.Elements.{filter-append}
 use Rattle.std.proofs.lemmas.List.Folds.{list_any-append}
 use Rattle.std.proofs.lemmas.Option.{same_Some}
 use Rattle.std.specs.List.{list_any}
-use Rattle.vk_base.specs.declared.kernel.Exchange.{Exchange}
-use Rattle.vk_base.specs.declared.kernel.Name.{Name}
-use Rattle.vk_base.specs.declared.kernel.Stage.{Stage}
+use Rattle.vk_types.specs.Types.{Exchange, Name, Pid, Stage}
 use Rattle.vk_base.specs.declared.kernel.Stage.TheVariants as stages
-use Rattle.vk_base.specs.declared.pid.Pid.{Pid}
 use Rattle.vk_base.specs.Kernel.{name_of, same_name, without, holds_of, is_queued_at, is_queued, is_at_target, is_posted}
 use Rattle.vk_base.specs.Pids.{same_pid}
+use Rattle.vk_base.proofs.PidLemmas.{same_pid_self}
 use Rattle.v_laws.proofs.FilterLemmas.{filter_on}
-use Rattle.v_laws.proofs.Tables.{same_pid_is, same_pid_self, same_name_is, same_name_self}
+use Rattle.v_laws.proofs.Tables.{same_pid_is, same_name_is, same_name_self}
 use Rattle.v_laws.proofs.Without.{without_gone, anew_there}
 use Rattle.v_machine.specs.declared.tables.latest.Latest.{Latest}
 use Rattle.v_machine.specs.declared.tables.Store.{Store}

@@ -1,19 +1,18 @@
 -- Arrive: what the machine drops is what the kernel drops.
 use Rattle.std.proofs.Common.{◌≡◌, ℕ, ◌<◌, ◌≤◌, Bool, true, false, cond, ◌==◌, ◌&&◌, ◌||◌, nat_le, nat_lt, List, length, get_or, set, Option, Some, None, option_map, refl, sym, ap, subst, ◌∙◌, inl, inr, ◌⊎◌, arith}
 use Rattle.std.proofs.lemmas.Bool.{cases_Bool, both_ways, and_from, and_left, and_right, or_parts, eqb-true, eq-eqb, ltb-false, leb-false, cond-true, cond-false}
-use Rattle.std.proofs.lemmas.Option.{same_Some, none-some}
+use Rattle.std.proofs.lemmas.Option.{same_Some, none-some, slice_get-get_or}
 use Rattle.std.specs.List.{list_any}
-use Rattle.vk_base.specs.declared.kernel.Exchange.{Exchange}
-use Rattle.vk_base.specs.declared.kernel.Name.{Name}
-use Rattle.vk_base.specs.declared.kernel.Stage.{Stage}
+use Rattle.vk_types.specs.Types.{Exchange, Name, Pid, Stage}
 use Rattle.vk_base.specs.declared.kernel.Stage.TheVariants as stages
-use Rattle.vk_base.specs.declared.pid.Pid.{Pid}
 use Rattle.vk_base.specs.Calls.{unseen}
 use Rattle.vk_base.specs.Kernel.{Kernel, name_of, same_name, is_at_target, is_posted, is_live}
 use Rattle.vk_base.specs.Pids.{same_pid, same_host}
 use Rattle.vk_base.specs.Steps.{after_arrival, is_older, arriving, with_arrival, arrive_step, only_if}
-use Rattle.v_laws.proofs.Tables.{same_pid_is, same_pid_self, same_name_self}
-use Rattle.v_laws.proofs.Options.{mapped_is}
+use Rattle.vk_base.proofs.OptionLemmas.{mapped_is}
+use Rattle.vk_base.proofs.PidLemmas.{same_pid_self}
+use Rattle.v_laws.proofs.Tables.{same_pid_is, same_name_self}
+use Rattle.v_laws.proofs.MoveSteps.{arrival_place}
 use Rattle.v_machine.specs.declared.tables.Store.{Store}
 use Rattle.v_machine.specs.Kept.{IsKept, IsAt, IsLatest, IsNoNearer, arrived_in, kernel_in, latest_by}
 use Rattle.v_machine.specs.Places.{place_in, numbered}
@@ -22,7 +21,7 @@ use Rattle.v_machine.specs.Sends.{dropped_between, come_at}
 use Rattle.v_machine.specs.Tables.{exchanges_by}
 use Rattle.v_machine.proofs.Arrivals.{Others}
 use Rattle.v_machine.proofs.Indexes.{same_stage}
-use Rattle.v_machine.proofs.PlaceLemmas.{at_place_same, at_place_other, at_place_is, get_of_or}
+use Rattle.v_machine.proofs.PlaceLemmas.{at_place_same, at_place_other, at_place_is}
 use Rattle.v_machine.proofs.StepLemmas.{found}
 use Rattle.v_machine.proofs.TableLemmas.{exchanges_is, exchanges_same}
 
@@ -113,7 +112,7 @@ module _ (sender : Pid) (number latest : ℕ) (e : Exchange) where
     where
       before : (m : ℕ) → exchanges_by pids sends (name_of sender m) ≡ numbered s m
       before m = exchanges_is pids sends (name_of sender m) s
-          (at_place_is pids sends sender at s place (get_of_or sends at s low ∙ ap Some (sym there)))
+          (at_place_is pids sends sender at s place (slice_get-get_or sends at s low ∙ ap Some (sym there)))
 
       of_sender : (m : ℕ) → exchanges_by pids (set sends at s') (name_of sender m) ≡ option_map
           (after_arrival (name_of sender number) e (name_of sender m)) (exchanges_by pids sends (name_of sender m))
@@ -147,15 +146,6 @@ target_after name e n x = by_both (same_name n name) (is_older name e n x)
     by_both false true = refl
     by_both false false = refl
 
-at_after : (name : Name) (e : Exchange) (n : Name) (x : Exchange) → (after_arrival name e n x).at ≡ x.at
-at_after name e n x = by_both (same_name n name) (is_older name e n x)
-  where
-    by_both : (a b : Bool) →
-        (cond a (record x { stage = stages.Queued }) (cond b (record x { stage = stages.Dropped }) x)).at ≡ x.at
-    by_both true b = refl
-    by_both false true = refl
-    by_both false false = refl
-
 dropped_is_nearer : (s : Stage) → IsNoNearer s stages.Dropped
 dropped_is_nearer s = record {
   queued = λ t. absurd (both_ways false refl t);
@@ -185,7 +175,7 @@ module _ (s : Store) (name : Name) (at to : ℕ) (e : Exchange) (kept : IsKept s
         x.1,
         ap (λ (z : Exchange). z.target) (sym x.2) ∙ target_after name e n x.0,
         subst (λ (z : Exchange). IsNoNearer x.0.stage z.stage) x.2 (nearer_after name e n x.0 f),
-        ap (λ (z : Exchange). z.at) (sym x.2) ∙ at_after name e n x.0,
+        ap (λ (z : Exchange). z.at) (sym x.2) ∙ arrival_place name e n x.0,
       )
 
   pub arrive_new : list_any (same_name name) (arrived_in s) ≡ false

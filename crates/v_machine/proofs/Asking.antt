@@ -2,22 +2,17 @@
 use Rattle.std.proofs.Common.{◌≡◌, ℕ, suc, ◌+◌, ◌<◌, true, false, not, ◌==◌, ◌&&◌, List, [], ◌∷◌, ◌++◌, length, length-append, add-one, get_or, set, Some, None, option_map, refl, sym, ap, ◌∙◌, inl, inr, ◌⊎◌}
 use Rattle.std.proofs.lemmas.Bool.{cases_Bool, both_ways, and_parts, and_from, eq-eqb, eqb-true, cond-true, cond-false}
 use Rattle.std.proofs.lemmas.List.{set-get_or}
+use Rattle.std.proofs.lemmas.Option.{slice_get-get_or}
 use Rattle.std.specs.List.{slice_get, list_any}
+use Rattle.vk_types.specs.Types.{Call, Exchange, Lookup, Name, Pid, Process, Registration}
 use Rattle.vk_base.specs.declared.answer.Answer.TheVariants as answers
 use Rattle.vk_base.specs.declared.answer.Refusal.TheVariants as refusals
-use Rattle.vk_base.specs.declared.call.Call.{Call}
-use Rattle.vk_base.specs.declared.kernel.Lookup.{Lookup}
-use Rattle.vk_base.specs.declared.kernel.Name.{Name}
-use Rattle.vk_base.specs.declared.kernel.Process.{Process}
-use Rattle.vk_base.specs.declared.kernel.Registration.{Registration}
 use Rattle.vk_base.specs.declared.kernel.State.TheVariants as states
-use Rattle.vk_base.specs.declared.pid.Pid.{Pid}
 use Rattle.vk_base.specs.Calls.{lookup_begun, unseen}
 use Rattle.vk_base.specs.Kernel.{◌>>=◌, Kernel, put_process, put_lookup, is_told, is_asking, ended, with_state}
 use Rattle.vk_base.specs.Pids.{same_pid, same_host}
 use Rattle.vk_base.specs.Steps.{only_if, hearing, hear_step, asking, finding, found_step, lost_step}
 use Rattle.v_laws.proofs.Tables.{same_pid_is}
-use Rattle.vk_base.specs.declared.kernel.Exchange.{Exchange}
 use Rattle.v_machine.specs.declared.tables.proc.Proc.{Proc}
 use Rattle.v_machine.specs.declared.tables.Store.{Store}
 use Rattle.v_machine.specs.Kept.{IsIndexed, arrived_in}
@@ -29,7 +24,7 @@ use Rattle.v_machine.specs.Tables.{names_by, process_of, procs_by, lookups_by, k
 use Rattle.v_machine.proofs.Indexes.{indexed_same}
 use Rattle.v_machine.proofs.KernelLemmas.{proc_is}
 use Rattle.v_machine.proofs.Naming.{told_is}
-use Rattle.v_machine.proofs.PlaceLemmas.{get_of_or, at_place_same, at_place_other, at_place_is}
+use Rattle.v_machine.proofs.PlaceLemmas.{at_place_same, at_place_other, at_place_is}
 use Rattle.v_machine.proofs.StepLemmas.{found}
 use Rattle.v_machine.proofs.TableLemmas.{procs-put, procs-even, count_is, count-set_same, count-set_other, count-set_even, length-change, numbered-push, numbered-push_other, numbered-change, numbered-change_other}
 
@@ -77,7 +72,7 @@ lookups-put pids asked a a' pid at number x is low there new others = λ i q n.
         lookups_is pids (set asked at a') q n a' (ap (at_place pids (set asked at a')) same ∙ at_place_same pids asked pid at a' is low)
         ∙ others n apart
         ∙ sym (lookups_is pids asked q n a (ap (at_place pids asked) same
-        ∙ at_place_is pids asked pid at a is (get_of_or asked at a low ∙ ap Some (sym there))))
+        ∙ at_place_is pids asked pid at a is (slice_get-get_or asked at a low ∙ ap Some (sym there))))
     not_this q n f (inr g) = lookups_same pids (set asked at a') asked q n (at_place_other pids asked pid q at a' is g)
 
 -- one more lookup of a process, which does something else from now on
@@ -92,7 +87,7 @@ pub kernel-asked : (pids : List Pid) (procs : List Proc) (sends : List (List Exc
 unfolding lookup_begun
 kernel-asked pids procs sends asked names arrived pid at logical c p x x' a a' is low low_asked there there_asked at_pid pushed blocked =
     let new : Lookup = record { logical = logical; candidates = [] } in
-    let at_asked = get_of_or asked at a low_asked ∙ ap Some (sym there_asked) in
+    let at_asked = slice_get-get_or asked at a low_asked ∙ ap Some (sym there_asked) in
     let is_p = proc_is pids procs sends asked pid at x p is low there at_pid in
     let count : count_at asked at ≡ length a = count_is asked at a at_asked in
     let begun : p.lookups + 1 ≡ suc (length a) = ap (λ (q : Process). q.lookups + 1) (sym is_p) ∙ ap (λ n. n + 1) count
@@ -113,7 +108,7 @@ kernel-asked pids procs sends asked names arrived pid at logical c p x x' a a' i
 module _ (pids : List Pid) (procs : List Proc) (sends : List (List Exchange)) (asked : List (List Lookup)) (pid : Pid) (at number : ℕ)
     (a : List Lookup) (is : place_in pids pid ≡ Some at) (low : at < length asked) (there : a ≡ get_or asked at a) where
   at_asked : slice_get asked at ≡ Some a
-  at_asked = get_of_or asked at a low ∙ ap Some (sym there)
+  at_asked = slice_get-get_or asked at a low ∙ ap Some (sym there)
 
   pub lookup_there : lookups_by pids asked pid number ≡ numbered a number
   lookup_there = lookups_is pids asked pid number a (at_place_is pids asked pid at a is at_asked)

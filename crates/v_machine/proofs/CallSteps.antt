@@ -1,14 +1,10 @@
 -- The step that is a call, from what becomes of the call.
 use Rattle.std.proofs.Common.{◌≡◌, ℕ, Bool, true, false, not, List, [], ◌∷◌, Option, Some, None, is_none, Result, Ok, Err, arith, refl, sym, ap, subst, ◌∙◌, if◌then◌else◌}
 use Rattle.std.proofs.lemmas.Option.{none-some}
+use Rattle.vk_types.specs.Types.{Call, Observation, Pid, Process, Refusal}
 use Rattle.vk_base.specs.declared.answer.Answer.TheVariants as answers
-use Rattle.vk_base.specs.declared.answer.Refusal.{Refusal}
 use Rattle.vk_base.specs.declared.answer.Refusal.TheVariants as refusals
-use Rattle.vk_base.specs.declared.call.Call.{Call}
 use Rattle.vk_base.specs.declared.call.Call.TheVariants as calls
-use Rattle.vk_base.specs.declared.kernel.Observation.{Observation}
-use Rattle.vk_base.specs.declared.kernel.Process.{Process}
-use Rattle.vk_base.specs.declared.pid.Pid.{Pid}
 use Rattle.vk_base.specs.Calls.{Effect, answered, call_refusal, call_step, called, first_that_holds, tests_of}
 use Rattle.vk_base.specs.Kernel.{is_ready}
 use Rattle.v_machine.specs.declared.tables.Store.{Store}

@@ -2,16 +2,13 @@
 use Rattle.std.proofs.Common.{◌≡◌, ℕ, ◌+◌, ◌<◌, ◌≤◌, true, false, cond, ◌==◌, ◌&&◌, nat_le, nat_lt, List, Option, Some, None, option_map, refl, sym, ap, ◌∙◌, inl, inr, ◌⊎◌, arith}
 use Rattle.std.proofs.lemmas.Bool.{cases_Bool, both_ways, eqb-true, eq-eqb, le-leb, lt-ltb, le-ltb, and_right, cond-true, cond-false}
 use Rattle.std.proofs.lemmas.Bool.Decides.{nat_tests}
-use Rattle.vk_base.specs.declared.kernel.Exchange.{Exchange}
+use Rattle.vk_types.specs.Types.{Exchange}
 use Rattle.vk_base.specs.declared.kernel.Stage.TheVariants as stages
+use Rattle.vk_base.proofs.OptionLemmas.{map_map}
 use Rattle.v_machine.specs.Lists.{change_numbered}
 use Rattle.v_machine.specs.Places.{numbered}
 use Rattle.v_machine.specs.Sends.{at_stage, dropped_to, dropped_between, come_at}
 use Rattle.v_machine.proofs.TableLemmas.{numbered-change, numbered-change_other}
-
-map_map : {A B C : Type 0} (f : A → B) (g : B → C) (o : Option A) → option_map g (option_map f o) ≡ option_map (λ x. g (f x)) o
-map_map f g None = refl
-map_map f g (Some x) = refl
 
 map_same : {A B : Type 0} (f g : A → B) (o : Option A) → ((x : A) → f x ≡ g x) → option_map f o ≡ option_map g o
 map_same f g None same = refl

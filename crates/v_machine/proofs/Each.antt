@@ -1,10 +1,10 @@
 -- Changes of a list place by place.
 use Rattle.std.proofs.Common.{◌≡◌, ℕ, ◌+◌, ◌<◌, ◌==◌, nat_lt, List, length, get_or, set, Some, sym, ap, subst, ◌∙◌, inl, inr, arith}
 use Rattle.std.proofs.lemmas.Bool.{cases_Bool, both_ways, eq-eqb, eqb-true, ltb-true, ltb-false}
-use Rattle.std.proofs.lemmas.Option.{same_Some}
+use Rattle.std.proofs.lemmas.Option.{same_Some, slice_get-get_or}
 use Rattle.std.specs.List.{slice_get}
 use Rattle.v_machine.specs.Lists.{Each, Until}
-use Rattle.v_machine.proofs.PlaceLemmas.{get_of_or, get-set_same, get-set_other}
+use Rattle.v_machine.proofs.PlaceLemmas.{get-set_same, get-set_other}
 use Rattle.v_machine.proofs.TableLemmas.{get_low}
 
 module _ {X : Type 0} (Becomes : ℕ → X → X → Type 0) (xs : List X) where
@@ -16,7 +16,7 @@ module _ {X : Type 0} (Becomes : ℕ → X → X → Type 0) (xs : List X) where
         let was = each to x is in
         let kept : was.0 ≡ x = was.2.1 (omega arith) in
         let one : get_or ys at d ≡ x =
-        same_Some (get_or ys at d) x (sym (get_of_or ys at d low) ∙ ap (slice_get ys) (sym same) ∙ was.1 ∙ ap Some kept) in (
+        same_Some (get_or ys at d) x (sym (slice_get-get_or ys at d low) ∙ ap (slice_get ys) (sym same) ∙ was.1 ∙ ap Some kept) in (
           new,
           ap (slice_get (set ys at new)) same ∙ get-set_same ys at new low,
           (λ below. subst (λ i. Becomes i x new) (sym same) (subst (λ z. Becomes at z new) one becomes), λ far. absurd (omega arith)),

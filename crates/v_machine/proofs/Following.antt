@@ -2,8 +2,7 @@
 use Rattle.std.proofs.Common.{◌≡◌, ℕ, true, false, Option, Result, Ok, Err, refl, sym, subst, ◌∙◌, arith}
 use Rattle.std.proofs.lemmas.Bool.{both_ways}
 use Rattle.std.specs.Result.{is_ok}
-use Rattle.vk_base.specs.declared.kernel.Observation.{Observation}
-use Rattle.vk_base.specs.declared.step.Step.{Step}
+use Rattle.vk_types.specs.Types.{Observation, Step}
 use Rattle.vk_base.specs.Kernel.{Kernel}
 use Rattle.v_machine.specs.declared.refusal.ApplyRefusal.{ApplyRefusal}
 use Rattle.v_machine.specs.declared.refusal.ApplyRefusal.TheVariants as refused

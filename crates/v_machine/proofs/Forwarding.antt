@@ -1,14 +1,10 @@
 -- Forwards: what the machine's lists are after one.
 use Rattle.std.proofs.Common.{◌≡◌, ℕ, ◌<◌, ◌≤◌, ◌==◌, true, false, List, [], ◌∷◌, ◌++◌, length, get_or, set, length-set, Some, Option, refl, sym, ap, subst, ◌∙◌, inl, inr, arith, if◌then◌else◌}
 use Rattle.std.proofs.lemmas.Bool.{cases_Bool, both_ways, and_from, and_right, or_right, eq-eqb, eqb-true, cond-true, cond-false}
-use Rattle.std.proofs.lemmas.Option.{same_Some}
+use Rattle.std.proofs.lemmas.Option.{same_Some, slice_get-get_or}
 use Rattle.std.specs.List.{list_any}
-use Rattle.vk_base.specs.declared.kernel.Exchange.{Exchange}
-use Rattle.vk_base.specs.declared.kernel.Name.{Name}
-use Rattle.vk_base.specs.declared.kernel.Stage.{Stage}
+use Rattle.vk_types.specs.Types.{Exchange, Message, Name, Pid, Stage}
 use Rattle.vk_base.specs.declared.kernel.Stage.TheVariants as stages
-use Rattle.vk_base.specs.declared.message.Message.{Message}
-use Rattle.vk_base.specs.declared.pid.Pid.{Pid}
 use Rattle.vk_base.specs.Kernel.{Kernel, name_of, held, same_name, without, holds_of, is_taken, is_queued, is_queued_at, is_at_target, is_posted, put_exchange}
 use Rattle.vk_base.specs.Pids.{same_pid}
 use Rattle.v_laws.proofs.Held.{holding_is}
@@ -25,7 +21,7 @@ use Rattle.v_machine.specs.Tables.{kernel_of, exchanges_by}
 use Rattle.v_machine.proofs.Arrivals.{Others, indexed_arrived}
 use Rattle.v_machine.proofs.Indexes.{indexed_cleaned, list_at_is, same_stage}
 use Rattle.v_machine.proofs.KernelLemmas.{exchanges-change, set_self, sent_there}
-use Rattle.v_machine.proofs.PlaceLemmas.{get_of_or, get-set_same, some_at}
+use Rattle.v_machine.proofs.PlaceLemmas.{get-set_same, some_at}
 use Rattle.v_machine.proofs.TableLemmas.{length-change, numbered_low}
 
 -- a name that is not queued is taken out of a queue
@@ -53,7 +49,7 @@ pub way_absent : (queues : List (List Name)) (to : ℕ) (name : Name) (names ns 
 way_absent queues to name names ns low is =
     let left = without name names in
     let one = same_Some ns left (ap Some is
-    ∙ sym (get_of_or (set queues to left) to ns (subst (λ n. to < n) (sym (length-set queues to left)) low))
+    ∙ sym (slice_get-get_or (set queues to left) to ns (subst (λ n. to < n) (sym (length-set queues to left)) low))
     ∙ get-set_same queues to left low) in
     ap (list_any (same_name name)) one ∙ without_gone name names
 
@@ -126,7 +122,7 @@ module _ (s : Store) (at to : ℕ) (name : Name) (pid : Pid) (e : Exchange) (m :
       let x = some_at s.latest.items at here.latest in
       let l = x.0 in
       let mine : l ≡ get_or s.latest.items at l =
-      same_Some l (get_or s.latest.items at l) (sym x.1 ∙ get_of_or s.latest.items at l here.latest) in
+      same_Some l (get_or s.latest.items at l) (sym x.1 ∙ slice_get-get_or s.latest.items at l here.latest) in
       let number : latest_in l e.target.host ≡ name.number =
       ap (λ ls. latest_in ls e.target.host) (sym (list_at_is s.places s.latest.items name.sender at l here.place here.latest mine))
       ∙ sym latest_is in

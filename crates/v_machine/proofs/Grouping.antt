@@ -4,14 +4,15 @@ use Rattle.std.proofs.lemmas.Bool.{cases_Bool, both_ways, cond-true, cond-false,
 use Rattle.std.proofs.lemmas.Iterator.Adapters.{position_from-zero}
 use Rattle.std.proofs.lemmas.List.{length-replicate}
 use Rattle.std.proofs.lemmas.List.Folds.{find-append}
+use Rattle.std.proofs.lemmas.Option.{slice_get-get_or}
 use Rattle.std.specs.List.{slice_get, find, position_from}
 use Rattle.std.specs.Option.{option_or}
-use Rattle.vk_base.specs.declared.pid.Pid.{Pid}
+use Rattle.vk_types.specs.Types.{Pid}
 use Rattle.vk_base.specs.Pids.{same_pid}
 use Rattle.v_laws.proofs.Tables.{same_pid_is}
 use Rattle.v_machine.specs.declared.tables.groups.Placed.{Placed}
 use Rattle.v_machine.specs.Places.{place_in, found_in, group_of, AreGrouped}
-use Rattle.v_machine.proofs.PlaceLemmas.{get_of_or, get-set_same, get-set_other}
+use Rattle.v_machine.proofs.PlaceLemmas.{get-set_same, get-set_other}
 
 -- where one more stands behind the others
 abbrev this_or_none : Bool → ℕ → Option ℕ
@@ -82,7 +83,7 @@ grouped_more pids groups pid group is low grouped q =
     elim (cases_Bool (group_of q == group_of pid)) [
       | inl t ↦
           let same : group_of q ≡ group_of pid = eqb-true (group_of q) (group_of pid) t in
-          let old : slice_get groups (group_of q) ≡ Some group = ap (slice_get groups) same ∙ get_of_or groups (group_of pid) group low
+          let old : slice_get groups (group_of q) ≡ Some group = ap (slice_get groups) same ∙ slice_get-get_or groups (group_of pid) group low
           ∙ ap Some (sym is) in
           let new : slice_get (set groups (group_of pid) more) (group_of q) ≡ Some more =
           ap (slice_get (set groups (group_of pid) more)) same ∙ get-set_same groups (group_of pid) more low in

@@ -1,12 +1,9 @@
 -- The indexes of a store after a change.
 use Rattle.std.proofs.Common.{◌≡◌, ℕ, ◌<◌, ◌≤◌, Bool, true, false, cond, List, [], ◌∷◌, length, get_or, set, length-set, filter, Option, Some, None, IsSome, is_some, unwrap_or, ◌⊎◌, refl, sym, ap, subst, ◌∙◌, inl, inr, arith}
 use Rattle.std.proofs.lemmas.Bool.{cases_Bool, both_ways, and_parts, and_from, cond-true, cond-false}
-use Rattle.std.proofs.lemmas.Option.{same_Some, none-some}
+use Rattle.std.proofs.lemmas.Option.{same_Some, none-some, slice_get-get_or}
 use Rattle.std.specs.List.{list_any, slice_get}
-use Rattle.vk_base.specs.declared.kernel.Exchange.{Exchange}
-use Rattle.vk_base.specs.declared.kernel.Name.{Name}
-use Rattle.vk_base.specs.declared.kernel.Stage.{Stage}
-use Rattle.vk_base.specs.declared.pid.Pid.{Pid}
+use Rattle.vk_types.specs.Types.{Exchange, Name, Pid, Stage}
 use Rattle.vk_base.specs.Kernel.{same_name, holds_of, queue_of, is_queued_at, is_queued, put_exchange}
 use Rattle.vk_base.specs.Pids.{same_pid}
 use Rattle.vk_base.specs.Steps.{first_of}
@@ -15,7 +12,7 @@ use Rattle.v_machine.specs.declared.tables.Store.{Store}
 use Rattle.v_machine.specs.Kept.{IsIndexed, IsAt, IsWaiting, IsNoNearer, queued_at, latest_by, arrived_in, kernel_in}
 use Rattle.v_machine.specs.Places.{place_in, list_at}
 use Rattle.v_machine.specs.Tables.{exchanges_by}
-use Rattle.v_machine.proofs.PlaceLemmas.{get_of_or, at_place_same, at_place_other, at_place_is}
+use Rattle.v_machine.proofs.PlaceLemmas.{at_place_same, at_place_other, at_place_is}
 
 -- Filters by a test and by a narrower one.
 narrower_at : {X : Type 0} (f g : X → Bool) (x : X) (xs : List X) (b c : Bool) → g x ≡ b → f x ≡ c → (g x ≡ true → f x ≡ true) →
@@ -123,7 +120,7 @@ list_at-set_other pids xss pid q at xs is apart = ap (λ o. unwrap_or o []) (at_
 pub list_at_is : {X : Type 0} (pids : List Pid) (xss : List (List X)) (pid : Pid) (at : ℕ) (xs : List X) → place_in pids pid ≡ Some at →
     at < length xss → xs ≡ get_or xss at xs → list_at pids xss pid ≡ xs
 list_at_is pids xss pid at xs is low there =
-    ap (λ o. unwrap_or o []) (at_place_is pids xss pid at xs is (get_of_or xss at xs low ∙ ap Some (sym there)))
+    ap (λ o. unwrap_or o []) (at_place_is pids xss pid at xs is (slice_get-get_or xss at xs low ∙ ap Some (sym there)))
 
 pub waiting_same : (ex ex' : Name → Option Exchange) (arrived arrived' : List Name) (r : Pid) (names names' : List Name) → ex' ≡ ex →
     arrived' ≡ arrived → names' ≡ names → IsWaiting ex arrived r names → IsWaiting ex' arrived' r names'

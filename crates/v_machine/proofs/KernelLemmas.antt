@@ -1,18 +1,13 @@
 -- The kernel after a change of one process.
 use Rattle.std.proofs.Common.{◌≡◌, ℕ, zero, suc, ◌+◌, ◌<◌, ◌≤◌, List, [], ◌∷◌, ◌++◌, arith, add-one, length-append, length, get_or, set, refl, ap, sym, ◌∙◌, Some, option_map}
-use Rattle.std.proofs.lemmas.Option.{same_Some}
-use Rattle.vk_base.specs.declared.kernel.Exchange.{Exchange}
-use Rattle.vk_base.specs.declared.kernel.Lookup.{Lookup}
-use Rattle.vk_base.specs.declared.kernel.Name.{Name}
-use Rattle.vk_base.specs.declared.kernel.Process.{Process}
-use Rattle.vk_base.specs.declared.kernel.Registration.{Registration}
-use Rattle.vk_base.specs.declared.pid.Pid.{Pid}
+use Rattle.std.proofs.lemmas.Option.{same_Some, slice_get-get_or}
+use Rattle.vk_types.specs.Types.{Exchange, Lookup, Name, Pid, Process, Registration}
 use Rattle.vk_base.specs.Kernel.{name_of, put_process, put_exchange}
 use Rattle.v_machine.specs.declared.tables.proc.Proc.{Proc}
 use Rattle.v_machine.specs.Lists.{change_numbered}
 use Rattle.v_machine.specs.Places.{place_in, list_at, count_at, numbered}
 use Rattle.v_machine.specs.Tables.{process_of, procs_by, exchanges_by, kernel_by}
-use Rattle.v_machine.proofs.PlaceLemmas.{get_of_or, at_place_is, some_at}
+use Rattle.v_machine.proofs.PlaceLemmas.{at_place_is, some_at}
 use Rattle.v_machine.proofs.TableLemmas.{procs_is, procs-put, procs-even, exchanges_is, exchanges-put, count_is, count-set_same, count-set_other, count-set_even, length-even, length-change, numbered-push, numbered-push_other, numbered-change, numbered-change_other}
 
 module _ (pids : List Pid) (procs : List Proc) (sends : List (List Exchange)) (asked : List (List Lookup)) where
@@ -20,7 +15,7 @@ module _ (pids : List Pid) (procs : List Proc) (sends : List (List Exchange)) (a
   pub proc_there : (pid : Pid) (at : ℕ) (x : Proc) → place_in pids pid ≡ Some at → at < length procs → x ≡ get_or procs at x →
       procs_by pids procs sends asked pid ≡ Some (process_of x (count_at sends at) (count_at asked at))
   proc_there pid at x is low there =
-      procs_is pids procs sends sends asked asked pid at x is (get_of_or procs at x low ∙ ap Some (sym there))
+      procs_is pids procs sends sends asked asked pid at x is (slice_get-get_or procs at x low ∙ ap Some (sym there))
 
   pub proc_is : (pid : Pid) (at : ℕ) (x : Proc) (p : Process) → place_in pids pid ≡ Some at → at < length procs → x ≡ get_or procs at x →
       procs_by pids procs sends asked pid ≡ Some p → process_of x (count_at sends at) (count_at asked at) ≡ p
@@ -48,7 +43,7 @@ module _ (pids : List Pid) (procs : List Proc) (sends : List (List Exchange)) (a
   pub sent_there : (pid : Pid) (at : ℕ) (s : List Exchange) (number : ℕ) → place_in pids pid ≡ Some at → at < length sends →
       s ≡ get_or sends at s → exchanges_by pids sends (name_of pid number) ≡ (numbered s number)
   sent_there pid at s number is low there =
-      exchanges_is pids sends (name_of pid number) s (at_place_is pids sends pid at s is (get_of_or sends at s low ∙ ap Some (sym there)))
+      exchanges_is pids sends (name_of pid number) s (at_place_is pids sends pid at s is (slice_get-get_or sends at s low ∙ ap Some (sym there)))
 
   -- the exchange of this name is changed as G says
   pub exchanges-change : (f : Exchange → Exchange) (pid : Pid) (at number : ℕ) (s s' : List Exchange) (e : Exchange) →
@@ -59,13 +54,13 @@ module _ (pids : List Pid) (procs : List Proc) (sends : List (List Exchange)) (a
       let there_before : numbered s number ≡ Some e = sym (sent_there pid at s number is low there) ∙ at_name in
       let new : numbered s' number ≡ Some (f e) = ap (λ l. numbered l number) changed ∙ numbered-change f number s
       ∙ ap (option_map f) there_before in
-      exchanges-put pids sends s s' pid at number (f e) is (get_of_or sends at s low ∙ ap Some (sym there)) new
+      exchanges-put pids sends s s' pid at number (f e) is (slice_get-get_or sends at s low ∙ ap Some (sym there)) new
       (λ m apart. ap (λ l. numbered l m) changed ∙ numbered-change_other f number m s apart)
 
   pub counts-change : (f : Exchange → Exchange) (at number : ℕ) (s s' : List Exchange) → at < length sends → s ≡ get_or sends at s →
       s' ≡ change_numbered number f s → (to : ℕ) → count_at (set sends at s') to ≡ count_at sends to
   counts-change f at number s s' low there changed =
-      count-set_even sends at s s' (get_of_or sends at s low ∙ ap Some (sym there)) (ap length changed ∙ length-change f number s)
+      count-set_even sends at s s' (slice_get-get_or sends at s low ∙ ap Some (sym there)) (ap length changed ∙ length-change f number s)
 
   pub sends_even : (f : Exchange → Exchange) (at number : ℕ) (s s' : List Exchange) → at < length sends → s ≡ get_or sends at s →
       s' ≡ change_numbered number f s → (pid : Pid) → length (list_at pids sends pid) ≤ length (list_at pids (set sends at s') pid)
@@ -98,12 +93,12 @@ module _ (pids : List Pid) (procs : List Proc) (sends : List (List Exchange)) (a
       let y = some_at procs at low_procs in
       let same = same_Some (process_of y.0 (count_at sends at) (count_at asked at)) p
       (sym (procs_is pids procs sends sends asked asked pid at y.0 is y.1) ∙ at_pid) in
-      ap (λ n. n + 1) (ap (λ (q : Process). q.sends) (sym same) ∙ count_is sends at s (get_of_or sends at s low ∙ ap Some (sym there)))
+      ap (λ n. n + 1) (ap (λ (q : Process). q.sends) (sym same) ∙ count_is sends at s (slice_get-get_or sends at s low ∙ ap Some (sym there)))
 
   pub exchanges-pushed : exchanges_by pids (set sends at s') ≡ put_exchange (exchanges_by pids sends) (name_of pid (p.sends + 1)) x
   exchanges-pushed =
       let number : p.sends + 1 ≡ suc (length s) = count_pushed ∙ add-one (length s) in
-      exchanges-put pids sends s s' pid at (suc (length s)) x is (get_of_or sends at s low ∙ ap Some (sym there))
+      exchanges-put pids sends s s' pid at (suc (length s)) x is (slice_get-get_or sends at s low ∙ ap Some (sym there))
       (ap (λ l. numbered l (suc (length s))) pushed ∙ numbered-push s x)
       (λ m apart. ap (λ l. numbered l m) pushed ∙ numbered-push_other s x m apart)
       ∙ ap (λ n. put_exchange (exchanges_by pids sends) (name_of pid n) x) (sym number)
@@ -115,7 +110,7 @@ module _ (pids : List Pid) (procs : List Proc) (sends : List (List Exchange)) (a
       let same = same_Some (process_of y.0 (count_at sends at) (count_at asked at)) p
       (sym (procs_is pids procs sends sends asked asked pid at y.0 is y.1) ∙ at_pid) in
       let self : set procs at y.0 ≡ procs =
-      set_self procs at y.0 (same_Some y.0 (get_or procs at y.0) (sym y.1 ∙ get_of_or procs at y.0 low_procs)) in
+      set_self procs at y.0 (same_Some y.0 (get_or procs at y.0) (sym y.1 ∙ slice_get-get_or procs at y.0 low_procs)) in
       let count : count_at (set sends at s') at ≡ p.sends + 1 = count-set_same sends at s' low ∙ ap length pushed ∙ length-append s (x ∷ [])
       ∙ sym count_pushed in
       ap (λ ps. procs_by pids ps (set sends at s') asked) (sym self)

@@ -4,16 +4,11 @@ use Rattle.std.specs.List.{slice_get}
 use Rattle.std.proofs.lemmas.Bool.{cases_Bool, cases_lt, lt-ltb, le-leb, both_ways, and_from, or_left}
 use Rattle.std.proofs.lemmas.List.{length_push, length-set}
 use Rattle.std.proofs.lemmas.Option.{same_Some, none-some}
-use Rattle.vk_base.specs.declared.kernel.Exchange.{Exchange}
-use Rattle.vk_base.specs.declared.kernel.Move.{Move}
-use Rattle.vk_base.specs.declared.kernel.Name.{Name}
-use Rattle.vk_base.specs.declared.kernel.Stage.{Stage}
-use Rattle.vk_base.specs.declared.message.Message.{Message}
-use Rattle.vk_base.specs.declared.pid.Pid.{Pid}
+use Rattle.vk_types.specs.Types.{Exchange, Message, Move, Name, Pid, Stage}
 use Rattle.vk_base.specs.Kernel.{Kernel, same_name, move_of, put_exchange}
+use Rattle.vk_base.proofs.OptionLemmas.{mapped_is}
 use Rattle.v_laws.proofs.MoveLists.{no_move, move_within, pushed_cases, opened_other}
 use Rattle.v_laws.proofs.MoveSteps.{opened_with}
-use Rattle.v_laws.proofs.Options.{mapped_is}
 use Rattle.v_laws.proofs.Tables.{put_exchange_at, put_exchange_other}
 use Rattle.v_machine.specs.Lean.{IsLean, AreLean}
 use Rattle.v_machine.specs.Sends.{emptied_between, given_back, handed_on}

@@ -2,23 +2,18 @@
 use Rattle.std.proofs.Common.{◌≡◌, ℕ, ◌<◌, Bool, true, false, cond, ◌==◌, ◌&&◌, not, List, [], length, get_or, set, filter, refl, sym, ap, subst, ◌∙◌, arith, Option, Some, None, is_some, option_map, unwrap_or, inl, inr, length-set, if◌then◌else◌}
 use Rattle.std.proofs.lemmas.Bool.{cases_Bool, both_ways, and_parts, eq-eqb, eqb-true, cond-true, cond-false, false_from_ne_true}
 use Rattle.std.proofs.lemmas.List.Elements.{filter_agree}
-use Rattle.std.proofs.lemmas.Option.{same_Some, none-some}
+use Rattle.std.proofs.lemmas.Option.{same_Some, none-some, slice_get-get_or}
 use Rattle.std.specs.List.{slice_get}
+use Rattle.vk_types.specs.Types.{Exchange, Lookup, Name, Pid, Process, Registration, State}
 use Rattle.vk_base.specs.declared.answer.Answer.TheVariants as answers
 use Rattle.vk_base.specs.declared.answer.Refusal.TheVariants as refusals
 use Rattle.vk_base.specs.declared.call.Call.TheVariants as calls
-use Rattle.vk_base.specs.declared.kernel.Exchange.{Exchange}
-use Rattle.vk_base.specs.declared.kernel.Lookup.{Lookup}
-use Rattle.vk_base.specs.declared.kernel.Name.{Name}
-use Rattle.vk_base.specs.declared.kernel.Process.{Process}
-use Rattle.vk_base.specs.declared.kernel.Registration.{Registration}
 use Rattle.vk_base.specs.declared.kernel.Stage.TheVariants as stages
-use Rattle.vk_base.specs.declared.kernel.State.{State}
 use Rattle.vk_base.specs.declared.kernel.State.TheVariants as states
-use Rattle.vk_base.specs.declared.pid.Pid.{Pid}
 use Rattle.vk_base.specs.Calls.{exited, released, dropped_at, is_message_at, answered}
 use Rattle.vk_base.specs.Kernel.{◌>>=◌, Kernel, name_of, holds_of, is_ready, is_at_target, sending, ended, put_process}
 use Rattle.vk_base.specs.Pids.{same_pid, same_host}
+use Rattle.vk_base.proofs.BoolLemmas.{and_swap}
 use Rattle.v_laws.proofs.Tables.{same_pid_is, put_process_at, put_process_other}
 use Rattle.v_machine.specs.declared.tables.latest.Latest.{Latest}
 use Rattle.v_machine.specs.declared.tables.proc.Proc.{Proc}
@@ -32,7 +27,7 @@ use Rattle.v_machine.specs.Rules.{Goes}
 use Rattle.v_machine.specs.Tables.{is_of, process_of, procs_by, exchanges_by, lookups_by, names_by}
 use Rattle.v_machine.proofs.Indexes.{indexed_later, same_stage}
 use Rattle.v_machine.proofs.Naming.{filter_again}
-use Rattle.v_machine.proofs.PlaceLemmas.{get_of_or, place_get, place_low, at_place_is, nowhere, some_at}
+use Rattle.v_machine.proofs.PlaceLemmas.{place_get, place_low, at_place_is, nowhere, some_at}
 use Rattle.v_machine.proofs.TableLemmas.{procs_is, procs_nowhere, procs-put, procs-even, exchanges_is, exchanges_nowhere, numbered-change, numbered-change_other, length-change, length-even, count_is, get_low}
 
 -- beyond one list is beyond one of the same length
@@ -235,7 +230,7 @@ module _ (k : Kernel) (pids : List Pid) (procs after : List Proc) (sends : List 
       own =
           let was = some_at procs at (omega arith) in
           let now = each at was.0 was.1 in
-          let this : now.0 ≡ x = same_Some now.0 x (sym now.1 ∙ get_of_or after at x low ∙ ap Some (sym is)) in
+          let this : now.0 ≡ x = same_Some now.0 x (sym now.1 ∙ slice_get-get_or after at x low ∙ ap Some (sym is)) in
           let before : process_of was.0 (count_at sends at) (count_at asked at) ≡ p = same_Some _ p
           (sym (procs_is pids procs sends sends asked asked gone at was.0 place was.1) ∙ ap (λ f. f gone) (sym same_procs) ∙ there) in
           let ss = unwrap_or (slice_get sends at) [] in
@@ -247,11 +242,6 @@ module _ (k : Kernel) (pids : List Pid) (procs after : List Proc) (sends : List 
           ∙ ready_stays gone who ss p ready
 
 -- Names.
-swap : (a b : Bool) → (a && b) ≡ (b && a)
-swap true true = refl
-swap true false = refl
-swap false true = refl
-swap false false = refl
 
 pub names_left : (names : List Registration) (gone : Pid) →
     names_by (filter (λ r. not (same_pid r.pid gone)) names) ≡ (λ host. filter (λ r. not (same_pid r.pid gone)) (names_by names host))
@@ -259,7 +249,7 @@ unfolding names_by
 names_left names gone = λ i host. (
     filter_again (λ (r : Registration). not (same_pid r.pid gone)) (is_of host) names
     ∙ filter_agree (λ r. not (same_pid r.pid gone) && is_of host r) (λ r. is_of host r && not (same_pid r.pid gone))
-    (λ r. swap (not (same_pid r.pid gone)) (is_of host r)) names
+    (λ r. and_swap (not (same_pid r.pid gone)) (is_of host r)) names
     ∙ sym (filter_again (is_of host) (λ (r : Registration). not (same_pid r.pid gone)) names)) i
 
 -- The step.

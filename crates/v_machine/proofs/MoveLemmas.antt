@@ -2,7 +2,7 @@
 use Rattle.std.proofs.Common.{◌≡◌, ℕ, ◌<◌, List, length, get_or, set, length-set, refl, sym, ap, subst, ◌∙◌}
 use Rattle.std.proofs.lemmas.List.{set-get_or}
 use Rattle.std.specs.Vec.{with_item}
-use Rattle.vk_base.specs.declared.kernel.Exchange.{Exchange}
+use Rattle.vk_types.specs.Types.{Exchange}
 use Rattle.v_machine.specs.declared.tables.Store.{Store}
 use Rattle.v_machine.specs.Kept.{IsIndexed, IsNoNearer, tables_in, arrived_in}
 use Rattle.v_machine.specs.Lists.{change_numbered}

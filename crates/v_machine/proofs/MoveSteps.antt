@@ -4,16 +4,8 @@ use Rattle.std.specs.List.{slice_get}
 use Rattle.std.specs.Option.{IfSome}
 use Rattle.std.proofs.lemmas.Bool.{both_ways, and_parts, eqb-true, leb-true}
 use Rattle.std.proofs.lemmas.Option.{same_Some, none-some}
-use Rattle.vk_base.specs.declared.answer.Answer.{Answer}
-use Rattle.vk_base.specs.declared.answer.Ending.{Ending}
-use Rattle.vk_base.specs.declared.kernel.Direction.{Direction}
+use Rattle.vk_types.specs.Types.{Answer, Direction, Ending, Exchange, Move, MoveName, Name, Pid, Process}
 use Rattle.vk_base.specs.declared.kernel.Direction.TheVariants as directions
-use Rattle.vk_base.specs.declared.kernel.Exchange.{Exchange}
-use Rattle.vk_base.specs.declared.kernel.Move.{Move}
-use Rattle.vk_base.specs.declared.kernel.MoveName.{MoveName}
-use Rattle.vk_base.specs.declared.kernel.Name.{Name}
-use Rattle.vk_base.specs.declared.kernel.Process.{Process}
-use Rattle.vk_base.specs.declared.pid.Pid.{Pid}
 use Rattle.vk_base.specs.Calls.{unseen}
 use Rattle.vk_base.specs.Kernel.{Kernel, waiting_on, with_state, ended, is_moving, move_of}
 use Rattle.vk_base.specs.Steps.{only_if, ending, end_step, move_ending, opening_move, move_opened, open_step, noted_bytes, copying, copied, copy_step, is_next, is_in_move, written_process}

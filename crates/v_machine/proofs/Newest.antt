@@ -3,7 +3,7 @@ use Rattle.std.proofs.Common.{◌≡◌, Bool, true, false, cond, not, List, [],
 use Rattle.std.proofs.lemmas.Bool.{cond-true, cond-false, or_from}
 use Rattle.std.proofs.lemmas.List.Folds.{list_any-append}
 use Rattle.std.specs.List.{list_any}
-use Rattle.vk_base.specs.declared.kernel.Name.{Name}
+use Rattle.vk_types.specs.Types.{Name}
 use Rattle.vk_base.specs.Kernel.{same_name, without}
 use Rattle.v_laws.proofs.SoundSends.{any_kept, any_here}
 use Rattle.v_laws.proofs.Without.{without_none}

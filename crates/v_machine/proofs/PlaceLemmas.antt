@@ -2,12 +2,13 @@
 use Rattle.std.proofs.Common.{◌≡◌, ℕ, zero, suc, ◌<◌, true, false, List, [], ◌∷◌, length, get_or, set, refl, ap, sym, subst, ◌∙◌, arith, Option, Some, None}
 use Rattle.std.proofs.lemmas.Bool.{both_ways}
 use Rattle.std.proofs.lemmas.List.Quantifiers.{position-Some}
-use Rattle.std.proofs.lemmas.Option.{same_Some}
+use Rattle.std.proofs.lemmas.Option.{same_Some, slice_get-get_or}
 use Rattle.std.specs.List.{slice_get}
-use Rattle.vk_base.specs.declared.pid.Pid.{Pid}
+use Rattle.vk_types.specs.Types.{Pid}
 use Rattle.vk_base.specs.Options.{◌>>=◌}
 use Rattle.vk_base.specs.Pids.{same_pid}
-use Rattle.v_laws.proofs.Tables.{same_pid_is, same_pid_self}
+use Rattle.vk_base.proofs.PidLemmas.{same_pid_self}
+use Rattle.v_laws.proofs.Tables.{same_pid_is}
 use Rattle.v_machine.specs.Places.{place_in, at_place}
 
 -- the place of a process is below the number of processes, and it stands there
@@ -19,14 +20,9 @@ pub place_pid : (pids : List Pid) (pid : Pid) (at : ℕ) → place_in pids pid �
 unfolding place_in
 place_pid pids pid at is = same_pid_is (get_or pids at pid) pid (position-Some (λ q. same_pid q pid) pids at pid is).1
 
-pub get_of_or : {X : Type 0} (xs : List X) (at : ℕ) (d : X) → at < length xs → slice_get xs at ≡ Some (get_or xs at d)
-get_of_or [] at d low = absurd (omega arith)
-get_of_or (x ∷ xs) zero d low = refl
-get_of_or (x ∷ xs) (suc at) d low = get_of_or xs at d (omega arith)
-
 -- what stands at a place
 pub place_get : (pids : List Pid) (pid : Pid) (at : ℕ) → place_in pids pid ≡ Some at → slice_get pids at ≡ Some pid
-place_get pids pid at is = get_of_or pids at pid (place_low pids pid at is) ∙ ap Some (place_pid pids pid at is)
+place_get pids pid at is = slice_get-get_or pids at pid (place_low pids pid at is) ∙ ap Some (place_pid pids pid at is)
 
 -- two processes have one place only if they are one
 pub places_apart : (pids : List Pid) (p q : Pid) (at to : ℕ) → place_in pids p ≡ Some at → place_in pids q ≡ Some to →

@@ -2,20 +2,13 @@
 use Rattle.std.proofs.Common.{◌≡◌, ℕ, ◌+◌, ◌<◌, ◌≤◌, Bool, true, false, cond, not, ◌==◌, ◌&&◌, List, [], ◌∷◌, ◌++◌, length, get_or, set, take, Option, Some, None, IsSome, is_some, unwrap_or, Result, Ok, Err, refl, sym, ap, subst, ◌∙◌, inl, inr, ◌⊎◌, arith, length-set, if◌then◌else◌}
 use Rattle.std.proofs.lemmas.Bool.{cases_Bool, both_ways, and_right, eq-eqb, eqb-true, false_from_ne_true}
 use Rattle.std.proofs.lemmas.List.{set-set, take_at}
-use Rattle.std.proofs.lemmas.Option.{same_Some}
+use Rattle.std.proofs.lemmas.Option.{same_Some, slice_get-get_or}
 use Rattle.std.specs.List.{list_any, slice_get}
+use Rattle.vk_types.specs.Types.{Call, Exchange, Message, Name, Observation, Pid, Process, State}
 use Rattle.vk_base.specs.declared.answer.Refusal.TheVariants as refusals
-use Rattle.vk_base.specs.declared.call.Call.{Call}
 use Rattle.vk_base.specs.declared.call.Call.TheVariants as calls
-use Rattle.vk_base.specs.declared.kernel.Exchange.{Exchange}
-use Rattle.vk_base.specs.declared.kernel.Name.{Name}
-use Rattle.vk_base.specs.declared.kernel.Observation.{Observation}
-use Rattle.vk_base.specs.declared.kernel.Process.{Process}
 use Rattle.vk_base.specs.declared.kernel.Stage.TheVariants as stages
-use Rattle.vk_base.specs.declared.kernel.State.{State}
 use Rattle.vk_base.specs.declared.kernel.State.TheVariants as states
-use Rattle.vk_base.specs.declared.message.Message.{Message}
-use Rattle.vk_base.specs.declared.pid.Pid.{Pid}
 use Rattle.vk_base.specs.Calls.{Effect, first_that_holds, tests_of, sent, sent_exchange}
 use Rattle.vk_base.specs.Kernel.{◌>>=◌, Kernel, name_of, same_name, is_ready, is_live, is_queued, is_queued_at, is_at_target, is_posted, holds_of, put_process, put_exchange, with_state}
 use Rattle.vk_base.specs.Messages.{segment_of}
@@ -37,7 +30,7 @@ use Rattle.v_machine.specs.Rules.{Stays, posted, Answers, Judges, judged, seen_r
 use Rattle.v_machine.specs.Tables.{Tables, kernel_of, exchanges_by}
 use Rattle.v_machine.proofs.Arrivals.{Others, not_waiting, indexed_arrived}
 use Rattle.v_machine.proofs.KernelLemmas.{set_self}
-use Rattle.v_machine.proofs.PlaceLemmas.{get_of_or, get-set_same, get-set_other}
+use Rattle.v_machine.proofs.PlaceLemmas.{get-set_same, get-set_other}
 use Rattle.v_machine.proofs.Stores.{is_at}
 use Rattle.v_machine.proofs.Indexes.{alike_narrower, same_stage, waiting_same, list_at-set_same, list_at-set_other, list_at_is}
 
@@ -52,7 +45,7 @@ by_place latest at old new (Some to) low there same h = elim (cases_Bool (to == 
       ap (λ i. latest_in (unwrap_or (slice_get (set latest at new) i) []) h) one
       ∙ ap (λ o. latest_in (unwrap_or o []) h) (get-set_same latest at new low)
       ∙ same h
-      ∙ ap (λ o. latest_in (unwrap_or o []) h) (ap Some there ∙ sym (get_of_or latest at old low))
+      ∙ ap (λ o. latest_in (unwrap_or o []) h) (ap Some there ∙ sym (slice_get-get_or latest at old low))
       ∙ ap (λ i. latest_in (unwrap_or (slice_get latest i) []) h) (sym one)
   | inr f ↦ ap (λ o. latest_in (unwrap_or o []) h) (get-set_other latest at to new (λ e. both_ways (to == at) f (eq-eqb to at e)))
 ]
@@ -220,9 +213,9 @@ pub truncated : (qs : List (List Name)) (to len : ℕ) (q0 q0' q1 q1' q2 : List 
     q0' ≡ get_or qs to q0' → len ≡ length q0' → q1 ≡ q0 ++ n ∷ [] → q1' ≡ get_or (set qs to q1) to q1' → q2 ≡ take len q1' →
     set (set qs to q1) to q2 ≡ qs
 truncated qs to len q0 q0' q1 q1' q2 n low is is' count pushed read cut =
-    let one : q0' ≡ q0 = same_Some q0' q0 (sym (get_of_or qs to q0' low ∙ ap Some (sym is')) ∙ get_of_or qs to q0 low ∙ ap Some (sym is)) in
+    let one : q0' ≡ q0 = same_Some q0' q0 (sym (slice_get-get_or qs to q0' low ∙ ap Some (sym is')) ∙ slice_get-get_or qs to q0 low ∙ ap Some (sym is)) in
     let again : q1' ≡ q1 = same_Some q1' q1 (ap Some read
-    ∙ sym (get_of_or (set qs to q1) to q1' (subst (λ m. to < m) (sym (length-set qs to q1)) low)) ∙ get-set_same qs to q1 low) in
+    ∙ sym (slice_get-get_or (set qs to q1) to q1' (subst (λ m. to < m) (sym (length-set qs to q1)) low)) ∙ get-set_same qs to q1 low) in
     let back : q2 ≡ q0 = cut ∙ ap (take len) (again ∙ pushed) ∙ ap (λ m. take m (q0 ++ n ∷ [])) (count ∙ ap length one)
     ∙ take_at q0 (n ∷ []) (length q0) refl in
     set-set qs to q1 q2 ∙ ap (set qs to) back ∙ set_self qs to q0 is

@@ -3,8 +3,7 @@ use Rattle.std.proofs.Common.{◌≡◌, ℕ, zero, suc, ◌+◌, ◌<◌, ◌�
 use Rattle.std.specs.List.{slice_get}
 use Rattle.std.proofs.lemmas.Bool.{both_ways, and_parts, or_cases, or_left, eqb-true, ltb-true, lt-ltb}
 use Rattle.std.proofs.lemmas.Option.{same_Some, none-some}
-use Rattle.vk_base.specs.declared.kernel.Exchange.{Exchange}
-use Rattle.vk_base.specs.declared.kernel.Move.{Move}
+use Rattle.vk_types.specs.Types.{Exchange, Move}
 use Rattle.vk_base.specs.Kernel.{move_of}
 use Rattle.vk_base.specs.Steps.{only_if}
 use Rattle.v_machine.specs.Spent.{is_spent, emptied, all_emptied, lean}

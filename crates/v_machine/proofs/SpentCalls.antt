@@ -1,24 +1,14 @@
 -- Calls do the same, and see the same, without the bytes of spent moves.
 use Rattle.std.proofs.Common.{◌≡◌, ℕ, ◌+◌, Bool, false, cond, not, ◌&&◌, nat_lt, List, [], ◌∷◌, ◌++◌, filter, length, option_map, Option, Some, None, is_none, is_some, refl, ap, ◌∙◌}
+use Rattle.vk_types.specs.Types.{Call, Exchange, Message, Move, Name, Pid, Process, Refusal, Registration, Scope, State}
 use Rattle.vk_base.specs.declared.answer.Answer.TheVariants as answers
-use Rattle.vk_base.specs.declared.answer.Refusal.{Refusal}
 use Rattle.vk_base.specs.declared.answer.Refusal.TheVariants as refusals
-use Rattle.vk_base.specs.declared.call.Call.{Call}
 use Rattle.vk_base.specs.declared.call.Call.TheVariants as calls
-use Rattle.vk_base.specs.declared.call.Scope.{Scope}
 use Rattle.vk_base.specs.declared.call.Scope.TheVariants as scopes
 use Rattle.vk_base.specs.declared.kernel.Direction.TheVariants as directions
-use Rattle.vk_base.specs.declared.kernel.Exchange.{Exchange}
-use Rattle.vk_base.specs.declared.kernel.Move.{Move}
-use Rattle.vk_base.specs.declared.kernel.Name.{Name}
-use Rattle.vk_base.specs.declared.kernel.Process.{Process}
-use Rattle.vk_base.specs.declared.kernel.Registration.{Registration}
 use Rattle.vk_base.specs.declared.kernel.Stage.TheVariants as stages
-use Rattle.vk_base.specs.declared.kernel.State.{State}
 use Rattle.vk_base.specs.declared.kernel.State.TheVariants as states
 use Rattle.vk_base.specs.declared.limits.TheConstants.{MOVE_BYTES, SEGMENT_BYTES}
-use Rattle.vk_base.specs.declared.message.Message.{Message}
-use Rattle.vk_base.specs.declared.pid.Pid.{Pid}
 use Rattle.vk_base.specs.Calls.{first_that_holds, may_read, may_write, is_granted, is_own, is_local_scope, tests_of, call_refusal, sent_exchange, sent, replied, forward, forwarded, is_at_once, copied_at_once, new_move, move_begun, begin_move, move_to, move_from, lookup_begun, get_pid, found_at_once, is_message_at, dropped_at, released, exited, accepted, called, call_step}
 use Rattle.vk_base.specs.Kernel.{Kernel, name_of, is_live, is_ready, without, sending, ended, held, held_exchange, put_process, put_exchange, with_state, with_memory}
 use Rattle.vk_base.specs.Pids.{same_pid, same_host}

@@ -1,16 +1,7 @@
 -- Kernels without the bytes of spent moves: what is found in them, and what they are after a change.
 use Rattle.std.proofs.Common.{◌≡◌, ℕ, zero, suc, Bool, true, false, cond, List, filter, option_map, Option, Some, None, refl, sym, ap, ◌∙◌, inl, inr}
 use Rattle.std.proofs.lemmas.Bool.{cases_Bool}
-use Rattle.vk_base.specs.declared.answer.Answer.{Answer}
-use Rattle.vk_base.specs.declared.call.Call.{Call}
-use Rattle.vk_base.specs.declared.kernel.Exchange.{Exchange}
-use Rattle.vk_base.specs.declared.kernel.Lookup.{Lookup}
-use Rattle.vk_base.specs.declared.kernel.Name.{Name}
-use Rattle.vk_base.specs.declared.kernel.Process.{Process}
-use Rattle.vk_base.specs.declared.kernel.Registration.{Registration}
-use Rattle.vk_base.specs.declared.kernel.Stage.{Stage}
-use Rattle.vk_base.specs.declared.message.Message.{Message}
-use Rattle.vk_base.specs.declared.pid.Pid.{Pid}
+use Rattle.vk_types.specs.Types.{Answer, Call, Exchange, Lookup, Message, Name, Pid, Process, Registration, Stage}
 use Rattle.vk_base.specs.Calls.{Effect, unseen, answered}
 use Rattle.vk_base.specs.Kernel.{◌>>=◌, Kernel, name_of, same_name, holds_of, is_held_by, held_up_to, held, held_exchange, is_queued_at, queue_of, put_exchange, waiting_on, with_stage}
 use Rattle.vk_base.specs.Steps.{only_if}

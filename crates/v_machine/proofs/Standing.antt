@@ -1,17 +1,13 @@
 -- What kernels do that are the same but for the bytes of spent moves.
 use Rattle.std.proofs.Common.{◌≡◌, ℕ, List, Option, Some, None, IsSome, is_some, option_map, refl, sym, ap, ◌∙◌, arith}
 use Rattle.std.proofs.lemmas.Option.{none-some}
-use Rattle.vk_base.specs.declared.call.Call.{Call}
-use Rattle.vk_base.specs.declared.config.ProcessSpec.{ProcessSpec}
-use Rattle.vk_base.specs.declared.kernel.Exchange.{Exchange}
-use Rattle.vk_base.specs.declared.kernel.Move.{Move}
-use Rattle.vk_base.specs.declared.kernel.Observation.{Observation}
-use Rattle.vk_base.specs.declared.step.Step.{Step}
+use Rattle.vk_types.specs.Types.{Call, Exchange, Move, Observation, ProcessSpec, Step}
 use Rattle.vk_base.specs.declared.step.Step.TheVariants as steps
 use Rattle.vk_base.specs.Calls.{Effect, call_step}
 use Rattle.vk_base.specs.Kernel.{◌>>=◌, Kernel, initial_kernel, name_of, move_of}
 use Rattle.vk_base.specs.Steps.{effect}
-use Rattle.v_laws.proofs.Options.{mapped_is, mapped_some}
+use Rattle.vk_base.proofs.OptionLemmas.{mapped_is}
+use Rattle.v_laws.proofs.Options.{mapped_some}
 use Rattle.v_machine.specs.Apply.{noted_at_opening, noted_by_call, notes}
 use Rattle.v_machine.specs.Follows.{StandsFor}
 use Rattle.v_machine.specs.Lean.{IsAlike}

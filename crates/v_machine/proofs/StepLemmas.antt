@@ -2,20 +2,12 @@
 use Rattle.std.proofs.Common.{◌≡◌, ℕ, Bool, true, false, ◌&&◌, not, List, [], ◌∷◌, Option, Some, None, is_none, nat_lt, refl, sym, ap, ◌∙◌}
 use Rattle.std.proofs.lemmas.Bool.{both_ways}
 use Rattle.std.proofs.lemmas.Option.{same_Some, none-some}
-use Rattle.vk_base.specs.declared.answer.Answer.{Answer}
+use Rattle.vk_types.specs.Types.{Answer, Call, Ending, Exchange, Message, Pid, Process, Refusal, Stage}
 use Rattle.vk_base.specs.declared.answer.Answer.TheVariants as answers
-use Rattle.vk_base.specs.declared.answer.Ending.{Ending}
-use Rattle.vk_base.specs.declared.answer.Refusal.{Refusal}
 use Rattle.vk_base.specs.declared.answer.Refusal.TheVariants as refusals
-use Rattle.vk_base.specs.declared.call.Call.{Call}
 use Rattle.vk_base.specs.declared.call.Call.TheVariants as calls
-use Rattle.vk_base.specs.declared.kernel.Exchange.{Exchange}
-use Rattle.vk_base.specs.declared.kernel.Process.{Process}
-use Rattle.vk_base.specs.declared.kernel.Stage.{Stage}
 use Rattle.vk_base.specs.declared.kernel.Stage.TheVariants as stages
 use Rattle.vk_base.specs.declared.kernel.State.TheVariants as states
-use Rattle.vk_base.specs.declared.message.Message.{Message}
-use Rattle.vk_base.specs.declared.pid.Pid.{Pid}
 use Rattle.vk_base.specs.Calls.{answered, unseen, called, first_that_holds, replied, forwarded}
 use Rattle.vk_base.specs.Kernel.{◌>>=◌, Kernel, is_live, held, held_exchange, with_stage, name_of, with_state, put_process, sending, reply_of, finished_call, ended}
 use Rattle.vk_base.specs.Pids.{same_host}

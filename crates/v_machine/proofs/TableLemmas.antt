@@ -3,13 +3,10 @@ use Rattle.std.proofs.Common.{◌≡◌, ℕ, zero, suc, ◌<◌, ◌≤◌, tru
 use Rattle.std.proofs.lemmas.Bool.{cases_Bool, both_ways, and_from, eq-eqb, eqb-true}
 use Rattle.std.proofs.lemmas.Option.{none-some}
 use Rattle.std.specs.List.{slice_get}
-use Rattle.vk_base.specs.declared.kernel.Lookup.{Lookup}
-use Rattle.vk_base.specs.declared.kernel.Name.{Name}
-use Rattle.vk_base.specs.declared.pid.Pid.{Pid}
+use Rattle.vk_types.specs.Types.{Exchange, Lookup, Name, Pid}
 use Rattle.vk_base.specs.Kernel.{◌>>=◌, name_of, same_name, put_process, put_exchange}
 use Rattle.vk_base.specs.Pids.{same_pid}
 use Rattle.v_laws.proofs.Tables.{same_pid_is, same_name_is, put_process_at, put_process_other, put_exchange_at, put_exchange_other}
-use Rattle.vk_base.specs.declared.kernel.Exchange.{Exchange}
 use Rattle.v_machine.specs.declared.tables.proc.Proc.{Proc}
 use Rattle.v_machine.specs.Lists.{change_at, change_numbered}
 use Rattle.v_machine.specs.Places.{place_in, at_place, list_at, count_at, numbered}

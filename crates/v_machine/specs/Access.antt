@@ -1,10 +1,7 @@
 -- Internal: no public contract rests on this file. Access to a segment of a sender that is held.
 use Rattle.std.specs.Prelude.{◌≡◌, Bool, true, false, ◌&&◌, not, is_none, nat_lt, List, [], ◌∷◌, Option, Some, None, Result, Ok, Err}
-use Rattle.vk_base.specs.declared.answer.Refusal.{Refusal}
+use Rattle.vk_types.specs.Types.{Exchange, Pid, Process, Refusal}
 use Rattle.vk_base.specs.declared.answer.Refusal.TheVariants as refusals
-use Rattle.vk_base.specs.declared.kernel.Exchange.{Exchange}
-use Rattle.vk_base.specs.declared.kernel.Process.{Process}
-use Rattle.vk_base.specs.declared.pid.Pid.{Pid}
 use Rattle.vk_base.specs.Calls.{first_that_holds, may_write, may_read, is_granted, is_own}
 use Rattle.vk_base.specs.Kernel.{Kernel, held, held_exchange}
 use Rattle.v_machine.specs.declared.calls.access.Access.{Access}

@@ -1,7 +1,6 @@
 -- What a machine that gives the bytes of spent moves back answers to a step.
 use Rattle.std.specs.Prelude.{◌≡◌, ◌+◌, ◌≤◌, Option, Some, Result, Ok, Err}
-use Rattle.vk_base.specs.declared.kernel.Observation.{Observation}
-use Rattle.vk_base.specs.declared.step.Step.{Step}
+use Rattle.vk_types.specs.Types.{Observation, Step}
 use Rattle.vk_base.specs.Kernel.{Kernel}
 use Rattle.vk_base.specs.Steps.{effect}
 use Rattle.v_machine.specs.declared.refusal.ApplyRefusal.{ApplyRefusal}

@@ -1,10 +1,7 @@
 -- Internal: no public contract rests on this file. What holds of the tables of a machine, and of the indexes beside them.
 use Rattle.std.specs.Prelude.{ℕ, ◌≡◌, ◌≤◌, ◌<◌, Bool, true, List, [], ◌∷◌, length, filter, Option, Some, IsSome, if◌then◌else◌}
 use Rattle.std.specs.List.{list_any}
-use Rattle.vk_base.specs.declared.kernel.Exchange.{Exchange}
-use Rattle.vk_base.specs.declared.kernel.Name.{Name}
-use Rattle.vk_base.specs.declared.kernel.Stage.{Stage}
-use Rattle.vk_base.specs.declared.pid.Pid.{Pid}
+use Rattle.vk_types.specs.Types.{Exchange, Name, Pid, Stage}
 use Rattle.vk_base.specs.Kernel.{Kernel, same_name, holds_of, is_queued_at, is_queued, is_at_target, is_posted}
 use Rattle.v_laws.specs.Sizes.{IsSized}
 use Rattle.v_laws.specs.Sound.{IsSound}

@@ -1,9 +1,6 @@
 -- Internal: no public contract rests on this file. Kernels that have no bytes of spent moves, and what gives such bytes back.
 use Rattle.std.specs.Prelude.{ℕ, ◌≡◌, ◌≤◌, min, true, [], length, Option, Some, None}
-use Rattle.vk_base.specs.declared.kernel.Exchange.{Exchange}
-use Rattle.vk_base.specs.declared.kernel.Move.{Move}
-use Rattle.vk_base.specs.declared.kernel.Name.{Name}
-use Rattle.vk_base.specs.declared.step.Step.{Step}
+use Rattle.vk_types.specs.Types.{Exchange, Move, Name, Step}
 use Rattle.vk_base.specs.declared.step.Step.TheVariants as steps
 use Rattle.vk_base.specs.Kernel.{Kernel, name_of, move_of}
 use Rattle.v_machine.specs.Moves.{with_exchange}

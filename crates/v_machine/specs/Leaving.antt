@@ -1,14 +1,11 @@
 -- Internal: no public contract rests on this file. What an Exit changes at each place of the lists.
 use Rattle.std.specs.Prelude.{ℕ, ◌≡◌, Bool, ◌&&◌, List, [], length, slice_get, is_some, unwrap_or, if◌then◌else◌}
+use Rattle.vk_types.specs.Types.{Exchange, Pid, Process, State}
 use Rattle.vk_base.specs.declared.answer.Answer.TheVariants as answers
 use Rattle.vk_base.specs.declared.answer.Refusal.TheVariants as refusals
-use Rattle.vk_base.specs.declared.kernel.Process.{Process}
-use Rattle.vk_base.specs.declared.kernel.State.{State}
-use Rattle.vk_base.specs.declared.pid.Pid.{Pid}
 use Rattle.vk_base.specs.Calls.{is_message_at, dropped_at}
 use Rattle.vk_base.specs.Kernel.{holds_of, sending, ended}
 use Rattle.vk_base.specs.Pids.{same_host}
-use Rattle.vk_base.specs.declared.kernel.Exchange.{Exchange}
 use Rattle.v_machine.specs.declared.tables.latest.Latest.{Latest}
 use Rattle.v_machine.specs.declared.tables.proc.Proc.{Proc}
 use Rattle.v_machine.specs.Latest.{latest_in}

@@ -1,16 +1,9 @@
 -- Internal: no public contract rests on this file. Moves: what their calls, their steps and the changes that these make answer.
 use Rattle.std.specs.Prelude.{ℕ, ◌≡◌, ◌≤◌, ◌<◌, ◌+◌, List, length, true, Option, Some, None, Result, Ok, Err, if◌then◌else◌}
-use Rattle.vk_base.specs.declared.call.Call.{Call}
-use Rattle.vk_base.specs.declared.kernel.Direction.{Direction}
+use Rattle.vk_types.specs.Types.{Call, Direction, Exchange, Move, MoveName, Name, Pid, Process, Range}
+use Rattle.vk_base.specs.declared.call.Call.TheVariants as calls
 use Rattle.vk_base.specs.declared.kernel.Direction.TheVariants as directions
-use Rattle.vk_base.specs.declared.kernel.Exchange.{Exchange}
-use Rattle.vk_base.specs.declared.kernel.Move.{Move}
-use Rattle.vk_base.specs.declared.kernel.MoveName.{MoveName}
-use Rattle.vk_base.specs.declared.kernel.Name.{Name}
-use Rattle.vk_base.specs.declared.kernel.Process.{Process}
 use Rattle.vk_base.specs.declared.kernel.State.TheVariants as states
-use Rattle.vk_base.specs.declared.message.Range.{Range}
-use Rattle.vk_base.specs.declared.pid.Pid.{Pid}
 use Rattle.vk_base.specs.Calls.{move_begun}
 use Rattle.vk_base.specs.Kernel.{◌>>=◌, Kernel, name_of, is_ready, move_of, put_process, put_exchange, with_memory}
 use Rattle.vk_base.specs.Ranges.{range_of, lies_in, bytes_in, with_bytes}
@@ -80,6 +73,14 @@ Copies from to source dest old new =
     (kernel_in old).procs one ≡ Some p → (kernel_in old).procs two ≡ Some q → lies_in source (length p.memory) ≡ true →
     dest + source.len ≤ length q.memory →
     kernel_in new ≡ with_memory (kernel_in old) two q (with_bytes q.memory dest (bytes_in source p.memory))
+
+-- the call in which the mover waits for a move of this partner's segment
+abbrev pub move_call : Direction → (partner : Pid) → (dest src count : ℕ) → Call
+move_call directions.To partner dest src count = calls.MoveTo partner dest src count
+move_call directions.From partner dest src count = calls.MoveFrom partner dest src count
+
+abbrev pub call_moving : (partner : Pid) → Move → Call
+call_moving partner m = move_call m.direction partner m.dest m.src m.count
 
 -- the move is begun, and its mover waits in this call
 abbrev pub Begins : Pid → Call → Pid → (number : ℕ) → Move → Store → Store → Type 0

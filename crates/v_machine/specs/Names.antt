@@ -1,7 +1,6 @@
 -- Internal: no public contract rests on this file. What all stations have registered, in one list.
 use Rattle.std.specs.Prelude.{ℕ, ◌==◌, Bool, ◌&&◌, not, List, [], ◌∷◌, ◌++◌, filter}
-use Rattle.vk_base.specs.declared.kernel.Registration.{Registration}
-use Rattle.vk_base.specs.declared.pid.Pid.{Pid}
+use Rattle.vk_types.specs.Types.{Pid, Registration}
 use Rattle.vk_base.specs.Kernel.{is_found_here, is_found_there}
 use Rattle.vk_base.specs.Pids.{same_pid}
 use Rattle.v_machine.specs.Tables.{is_of}

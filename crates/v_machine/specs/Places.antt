@@ -1,7 +1,6 @@
 -- The places of processes in lists. Tables.antt rests on `place_in`, `at_place`, `count_at` and `numbered`; the rest is internal.
 use Rattle.std.specs.Prelude.{ℕ, zero, suc, ◌≡◌, ◌+◌, ◌*◌, ◌%◌, List, [], length, position, find, slice_get, Option, None, option_map, unwrap_or}
-use Rattle.vk_base.specs.declared.config.ProcessSpec.{ProcessSpec}
-use Rattle.vk_base.specs.declared.pid.Pid.{Pid}
+use Rattle.vk_types.specs.Types.{Pid, ProcessSpec}
 use Rattle.vk_base.specs.Options.{◌>>=◌}
 use Rattle.vk_base.specs.Pids.{same_pid}
 use Rattle.v_machine.specs.declared.tables.groups.Placed.{Placed}

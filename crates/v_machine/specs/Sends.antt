@@ -1,11 +1,7 @@
 -- Internal: no public contract rests on this file. What becomes of one Send of a process, which is an exchange of the kernel.
 use Rattle.std.specs.Prelude.{ℕ, ◌+◌, ◌==◌, ◌&&◌, ◌||◌, nat_le, nat_lt, List, [], ◌∷◌, ◌++◌, Option, Some, None, if◌then◌else◌}
-use Rattle.vk_base.specs.declared.kernel.Exchange.{Exchange}
-use Rattle.vk_base.specs.declared.kernel.Move.{Move}
-use Rattle.vk_base.specs.declared.kernel.Stage.{Stage}
+use Rattle.vk_types.specs.Types.{Exchange, Message, Move, Pid, Stage}
 use Rattle.vk_base.specs.declared.kernel.Stage.TheVariants as stages
-use Rattle.vk_base.specs.declared.message.Message.{Message}
-use Rattle.vk_base.specs.declared.pid.Pid.{Pid}
 use Rattle.vk_base.specs.Kernel.{is_posted, is_at_target}
 use Rattle.v_machine.specs.declared.tables.remote.Moving.{Moving}
 use Rattle.v_machine.specs.Lists.{change_numbered}

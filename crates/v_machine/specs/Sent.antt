@@ -1,10 +1,7 @@
 -- Internal: no public contract rests on this file. What an exchange in few bytes stands for.
 use Rattle.std.specs.Prelude.{Bool, true, [], Option, Some}
-use Rattle.vk_base.specs.declared.kernel.Exchange.{Exchange}
-use Rattle.vk_base.specs.declared.kernel.Stage.{Stage}
+use Rattle.vk_types.specs.Types.{Exchange, Message, Pid, Stage}
 use Rattle.vk_base.specs.declared.kernel.Stage.TheVariants as stages
-use Rattle.vk_base.specs.declared.message.Message.{Message}
-use Rattle.vk_base.specs.declared.pid.Pid.{Pid}
 use Rattle.v_machine.specs.Apart.{only_part}
 use Rattle.v_machine.specs.declared.tables.apart.Rare.{Rare}
 use Rattle.v_machine.specs.declared.tables.handed.Handing.{Handing}

@@ -1,7 +1,6 @@
 -- Bytes of remote moves that no step reads any more, and what a kernel is without them.
 use Rattle.std.specs.Prelude.{ℕ, ◌+◌, ◌==◌, nat_lt, Bool, ◌&&◌, ◌||◌, List, [], ◌∷◌, option_map, if◌then◌else◌}
-use Rattle.vk_base.specs.declared.kernel.Exchange.{Exchange}
-use Rattle.vk_base.specs.declared.kernel.Move.{Move}
+use Rattle.vk_types.specs.Types.{Exchange, Move}
 use Rattle.vk_base.specs.Kernel.{Kernel}
 
 -- A move is spent once a later one of its exchange was opened, or all its bytes were written. `opened` is the number of the

@@ -1,11 +1,6 @@
 -- What a machine keeps, as contracts see it, and the kernel that its tables spell.
 use Rattle.std.specs.Prelude.{ℕ, ◌==◌, Bool, List, [], ◌∷◌, ◌++◌, filter, slice_get, Option, Some}
-use Rattle.vk_base.specs.declared.kernel.Exchange.{Exchange}
-use Rattle.vk_base.specs.declared.kernel.Lookup.{Lookup}
-use Rattle.vk_base.specs.declared.kernel.Name.{Name}
-use Rattle.vk_base.specs.declared.kernel.Process.{Process}
-use Rattle.vk_base.specs.declared.kernel.Registration.{Registration}
-use Rattle.vk_base.specs.declared.pid.Pid.{Pid}
+use Rattle.vk_types.specs.Types.{Exchange, Lookup, Name, Pid, Process, Registration}
 use Rattle.vk_base.specs.Kernel.{◌>>=◌, Kernel}
 use Rattle.v_machine.specs.declared.tables.proc.Proc.{Proc}
 use Rattle.vk_base.specs.Activities.{state_of}

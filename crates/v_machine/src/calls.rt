@@ -7,6 +7,7 @@ ghost use Rattle.v_machine.specs.Kept.{IsKept, IsAt, kernel_in};
 ghost use Rattle.v_machine.specs.Rules.{Accepts, Answers, Counts, is_access, is_load, seen_by};
 
 pub mod access;
+pub mod caller;
 pub mod exiting;
 pub mod forwarding;
 pub mod held;

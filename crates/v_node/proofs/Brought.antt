@@ -1,7 +1,7 @@
 -- What is delivered at the station of a node are the datagrams that its link brought.
 use Rattle.std.proofs.Common.{◌≡◌, ℕ, ◌≤◌, ◌==◌, Bool, true, false, List, [], ◌∷◌, ◌++◌, map, cond, refl, sym, ap, ◌∙◌, arith}
+use Rattle.vk_types.specs.Types.{StationEvent}
 use Rattle.turn_cell.specs.History.{events_of}
-use Rattle.vk_base.specs.declared.event.StationEvent.{StationEvent}
 use Rattle.vk_base.specs.declared.event.StationEvent.TheVariants as events
 use Rattle.vk_base.specs.Settings.{Settings}
 use Rattle.vk_hub.specs.declared.event.HubEvent.{HubEvent}

@@ -3,7 +3,7 @@
 use Rattle.std.proofs.Common.{◌≡◌, ◌≢◌, ℕ, ◌+◌, ◌*◌, ◌≤◌, ◌==◌, ◌&&◌, eqb-true, Bool, true, false, List, [], ◌∷◌, ◌++◌, cond, length, refl, sym, ap, ◌∙◌, arith, inl, inr}
 use Rattle.std.proofs.Math.Nat.{mul-le-mul_right}
 use native.Mathlib.Nat.{add-mul, one-mul}
-use Rattle.vk_base.specs.declared.event.StationEvent.{StationEvent}
+use Rattle.vk_types.specs.Types.{StationEvent}
 use Rattle.vk_base.specs.Settings.{AreLawful, Settings, has_station, stations_of}
 use Rattle.vk_host.specs.Sealed.{sealed}
 use Rattle.vk_hub.specs.declared.event.Fetched.{Fetched}
@@ -19,6 +19,7 @@ use Rattle.vk_port.specs.Stations.{StationHistory, entries_at, entry_at, frames_
 use Rattle.vk_rules.specs.Each.{Each}
 use Rattle.vk_rules.specs.Entries.{Entry}
 use Rattle.vk_rules.specs.Laws.{AllRise}
+use Rattle.vk_rules.proofs.Lists.{each_behind}
 use Rattle.v_run.specs.Jobs.{IsJobEnd}
 use Rattle.v_run.specs.Outcomes.{frames_in}
 use Rattle.v_run.specs.Passages.{EntersOwn, IsLast, Passage, fresh_station, host_of, lost_count}
@@ -40,7 +41,6 @@ use Rattle.v_node.specs.Jobs.{AreNodeJobs, HaltsAtMost, IsProgramEnd, NodeEnd, p
 use Rattle.v_node.specs.Laws.{IsForOthers}
 use Rattle.v_node.specs.Links.{AreErrands, Errand, HubStand, OnlyBrings, after_errand, is_stop, nothing_heard, stop_count}
 use Rattle.v_node.proofs.Carried.{fetches_of}
-use Rattle.v_node.proofs.Following.{each_right}
 use Rattle.v_node.proofs.Own.{any, meant, no_deliveries, no_gets, posts_most}
 use Rattle.v_node.proofs.Sums.{DHere, all_here, at_hub, at_station, carrier_fetched, events_at_hub, sent_by}
 
@@ -241,7 +241,7 @@ module _ (c : Settings) (host : ℕ) (o : HubLog) (rounds : ℕ) (history : List
       let losses = few_losses c n.programs ends in
       let lasts = few_lasts c n.programs ends in
       let clock_losses = jobs.clock.losses in
-      let clock_last = one_last n.clock.passage.last (each_right H ps (n.clock.passage ∷ []) here).0.0.0.last in
+      let clock_last = one_last n.clock.passage.last (each_behind H ps (n.clock.passage ∷ []) here).0.0.0.last in
       let few = jobs.few in
       let link = sends_few other (λ f. 1) (λ f. refl) O host n.link.actions in
       let no_fetch = no_fetches n.link.actions k.link.brings in

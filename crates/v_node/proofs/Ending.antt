@@ -1,13 +1,14 @@
 -- Where no job met a Room and no receive failed, the clock does not hear that the hub has ended: nothing but its own halt ends it.
-use Rattle.std.proofs.Common.{◌≡◌, ◌≢◌, ℕ, ◌≤◌, ◌==◌, ◌||◌, nat_le, Bool, true, false, List, [], ◌∷◌, ◌++◌, length, map, take, refl, sym, ap, ◌∙◌, subst, arith, inl, inr}
+use Rattle.std.proofs.Common.{◌≡◌, ◌≢◌, ℕ, ◌≤◌, ◌==◌, ◌||◌, nat_le, true, false, List, [], ◌∷◌, ◌++◌, length, map, take, refl, sym, ap, ◌∙◌, subst, arith, inl, inr}
 use Rattle.std.proofs.lemmas.Bool.{leb-true}
 use Rattle.std.proofs.lemmas.List.{length-append}
 use Rattle.std.specs.List.{list_any}
 use mathlib.Core.List.{IsPrefix}
+use Rattle.vk_types.specs.Types.{StationEvent}
 use Rattle.turn_cell.specs.History.{events_of}
-use Rattle.vk_base.specs.declared.event.StationEvent.{StationEvent}
 use Rattle.vk_base.specs.declared.event.StationEvent.TheVariants as events
 use Rattle.vk_base.specs.Settings.{Settings}
+use Rattle.vk_base.proofs.BoolLemmas.{or_rest}
 use Rattle.vk_hub.specs.declared.event.HubEvent.{HubEvent}
 use Rattle.vk_hub.specs.declared.event.HubEvent.TheVariants as hub_events
 use Rattle.vk_hub.specs.Hubs.{HubLog, Traffic, first_traffic, is_stopped, traffic_of}
@@ -15,20 +16,19 @@ use Rattle.vk_hub.specs.Links.{Frame}
 use Rattle.vk_port.specs.Ports.{Action, Enters, Delivers, Drops, Hears, IsLog, Berth, Stand, entered_at, fetched_at, posts}
 use Rattle.vk_port.specs.Stations.{StationHistory, frames_at}
 use Rattle.vk_rules.specs.Each.{Each}
+use Rattle.vk_rules.proofs.Lists.{each_front, each_behind, each_both}
 use Rattle.v_run.specs.Jobs.{EndsRole, JobEnd}
 use Rattle.v_run.specs.Passages.{HasHeard, IsLast, Passage, Pumps, Role, Runs, Ticks, fresh_station, hub_number_of, nowhere}
 use Rattle.v_run.specs.Runs.{passages_of}
 use Rattle.v_run.proofs.Dealt.{all_once}
 use Rattle.v_run.proofs.Ended.{each_of, finish_few, finished_after, finishes, halted_after, halts, is_program, no_halt_last, no_sends, of_each, stopped_by, summed, summed_is, summed_prefix}
 use Rattle.v_run.proofs.Heard.{log_is_later, prefix_front, prefix_over, weight_of_events}
-use Rattle.v_run.proofs.Sums.{each_both}
 use Rattle.v_run.proofs.Totals.{added, added_append, added_map, by_seats, events_append, places, weight}
 use Rattle.v_run.proofs.Whole.{from_jobs}
 use Rattle.v_node.specs.Closed.{IsNodeClosed, numbers_at_hub}
 use Rattle.v_node.specs.Jobs.{AreNodeJobs, HaltsAtMost, IsProgramEnd, NodeEnd, NoneMet, passages_in}
 use Rattle.v_node.specs.Links.{Errand}
 use Rattle.v_node.proofs.Carried.{fetches_of}
-use Rattle.v_node.proofs.Following.{each_left, each_right}
 use Rattle.v_node.proofs.Sums.{DHere, all_here, carrier_sent, events_at_hub, link_sent, same_host, sent_by}
 
 posts_no_halt : (fs : List Frame) → added halts (map hub_events.Post fs) ≡ 0
@@ -92,10 +92,6 @@ one_program (Runs r task) = omega arith
 one_program Pumps = omega arith
 one_program Ticks = omega arith
 
-stop_parts : (a b : Bool) → (a || b) ≡ true → a ≡ false → b ≡ true
-stop_parts true b is none = absurd (cc none)
-stop_parts false b is none = is
-
 added_zero : {A : Type 0} (P : A → Type 0) (f : A → ℕ) (xs : List A) → ((x : A) → P x → f x ≡ 0) → Each P xs → added f xs ≡ 0
 added_zero P f [] none each = refl
 added_zero P f (x ∷ xs) none each = let one = none x each.0 in let rest = added_zero P f xs none each.1 in omega arith
@@ -128,10 +124,10 @@ module _ (c : Settings) (host : ℕ) (o : HubLog) (rounds : ℕ) (history : List
   here = all_here c host o history heard n k
 
   programs_here : Each H ps
-  programs_here = each_left H ps (n.clock.passage ∷ []) here
+  programs_here = each_front H ps (n.clock.passage ∷ []) here
 
   clock_here : H n.clock.passage
-  clock_here = (each_right H ps (n.clock.passage ∷ []) here).0
+  clock_here = (each_behind H ps (n.clock.passage ∷ []) here).0
 
   -- at most as many have finished as there are programs
   all_finished : summed finishes heard ≤ length n.programs
@@ -217,7 +213,7 @@ module _ (c : Settings) (host : ℕ) (o : HubLog) (rounds : ℕ) (history : List
     not_stopped stop =
         let t : Traffic = traffic_of o before in
         let going : t.halted ≡ false = halted_after o.plan o.programs (first_traffic o.plan o.stations) before no_halts in
-        let all : nat_le o.programs t.finished ≡ true = stop_parts t.halted (nat_le o.programs t.finished) stop going in
+        let all : nat_le o.programs t.finished ≡ true = or_rest t.halted (nat_le o.programs t.finished) stop going in
         let count : o.programs ≤ t.finished = leb-true o.programs t.finished all in
         let so_many = finished_after o.plan o.programs (first_traffic o.plan o.stations) before in
         let few = summed_prefix finishes before heard pre in

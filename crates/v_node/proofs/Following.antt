@@ -1,14 +1,12 @@
 -- Each program's process follows its task in the closed history of the node, and no other process calls or collects.
 use Rattle.std.proofs.Common.{◌≡◌, ℕ, ◌+◌, ◌≤◌, Bool, true, false, Option, None, List, [], ◌∷◌, ◌++◌, cond, length, refl, sym, ap, ◌∙◌, subst, arith, inl, inr}
 use Rattle.std.proofs.lemmas.Bool.{cases_Bool}
+use Rattle.vk_types.specs.Types.{Answer, Call, Pid, StationEvent}
 use Rattle.v_laws.proofs.Tables.{same_pid_is}
-use Rattle.vk_base.specs.declared.answer.Answer.{Answer}
-use Rattle.vk_base.specs.declared.call.Call.{Call}
-use Rattle.vk_base.specs.declared.event.StationEvent.{StationEvent}
 use Rattle.vk_base.specs.declared.event.StationEvent.TheVariants as events
-use Rattle.vk_base.specs.declared.pid.Pid.{Pid}
 use Rattle.vk_base.specs.Pids.{same_pid}
 use Rattle.vk_base.specs.Settings.{Settings}
+use Rattle.vk_base.proofs.PidLemmas.{same_pid_self}
 use Rattle.vk_host.specs.Values.{input_of}
 use Rattle.vk_hub.specs.declared.event.HubEvent.{HubEvent}
 use Rattle.vk_hub.specs.Hubs.{HubLog}
@@ -16,6 +14,7 @@ use Rattle.vk_port.specs.Ports.{Action, Enters, Delivers, Drops, Hears}
 use Rattle.vk_port.specs.Stations.{StationHistory, entries_at, entry_at}
 use Rattle.vk_rules.specs.Each.{Each}
 use Rattle.vk_rules.specs.Entries.{Entry}
+use Rattle.vk_rules.proofs.Lists.{each_front, each_behind, each_both}
 use Rattle.v_ended.specs.Answered.{answers_of, calls_of}
 use Rattle.v_run.specs.Jobs.{EndsRole, JobEnd, runs_pid}
 use Rattle.v_run.specs.Outcomes.{Assignment, DoesNothing, FollowsTask, is_doing_of}
@@ -25,22 +24,14 @@ use Rattle.v_run.proofs.Alone.{doing, doings, role_none}
 use Rattle.v_run.proofs.Ended.{Among, each_of, of_each}
 use Rattle.v_run.proofs.Entries.{by_entries, input_is, total_same}
 use Rattle.v_run.proofs.Playing.{NotOthers, Stands, whole}
-use Rattle.v_run.proofs.Sums.{added_same_each, each_both, placed_whole}
+use Rattle.v_run.proofs.Sums.{added_same_each, placed_whole}
 use Rattle.v_run.proofs.Totals.{added, added_append, added_none, places, total, weight}
-use Rattle.v_run.proofs.Whole.{among_left, from_jobs, from_tasks, same_self}
+use Rattle.v_run.proofs.Whole.{among_left, from_jobs, from_tasks}
 use Rattle.v_node.specs.Closed.{IsNodeClosed}
 use Rattle.v_node.specs.Jobs.{AreNodeJobs, FinishesOrWaits, IsProgramEnd, NodeEnd, passages_in}
 use Rattle.v_node.specs.Links.{IsDelivery, OnlyBrings}
 use Rattle.v_node.specs.Outcomes.{IsDoneOrWaits}
 use Rattle.v_node.proofs.Sums.{DHere, IsLightElsewhere, all_here, at_station, light_elsewhere}
-
-pub each_left : {A : Type 0} (P : A → Type 0) (xs ys : List A) → Each P (xs ++ ys) → Each P xs
-each_left P [] ys all = tt
-each_left P (x ∷ xs) ys all = (all.0, each_left P xs ys all.1)
-
-pub each_right : {A : Type 0} (P : A → Type 0) (xs ys : List A) → Each P (xs ++ ys) → Each P ys
-each_right P [] ys all = all
-each_right P (x ∷ xs) ys all = each_right P xs ys all.1
 
 not_doing : (b : Bool) → cond {A = ℕ} b 1 0 ≡ 0 → b ≡ false
 not_doing true none = absurd (cc none)
@@ -82,7 +73,7 @@ module _ (r : Pid) where
       | inl same ↦
           let none : same_pid r q ≡ false =
           ap (runs_pid q) (sym is) ∙ of_each (λ (x : Passage). runs_pid q x.role ≡ false) xs g apart among in
-          let here : same_pid r q ≡ true = subst (λ p. same_pid r p ≡ true) (sym (same_pid_is q r same)) (same_self r) in
+          let here : same_pid r q ≡ true = subst (λ p. same_pid r p ≡ true) (sym (same_pid_is q r same)) (same_pid_self r) in
           absurd (cc (none, here))
       | inr other ↦ other
     ]
@@ -109,7 +100,7 @@ module _ (r : Pid) where
   does_nothing (e ∷ es) none = (not_doing (is_doing_of r e.input) (omega arith), does_nothing es (omega arith))
 
   not_others : (task : List Answer → Option Call) (o : StationHistory) (m : ℕ) (xs : List (ℕ × StationEvent))
-      → Each (IsLightElsewhere (doing r) m) xs → NotOthers task r (same_self r) o m xs
+      → Each (IsLightElsewhere (doing r) m) xs → NotOthers task r (same_pid_self r) o m xs
   not_others task o m [] light = tt
   not_others task o m (x ∷ xs) light =
       ((λ other. not_doing (is_doing_of r (input_of x.1)) (light.0 other)), not_others task o m xs light.1)
@@ -138,7 +129,7 @@ module _ (c : Settings) (host : ℕ) (o : HubLog) (rounds : ℕ) (history : List
   clock_none : (r : Pid) → doings r n.clock.passage.actions ≡ 0
   clock_none r =
       let g = n.clock.passage in
-      let keeps = (each_right (KeepsRole r c) ps (g ∷ []) (keeps_all r)).0 in
+      let keeps = (each_behind (KeepsRole r c) ps (g ∷ []) (keeps_all r)).0 in
       role_none r g.role (fresh_station c (host_of g)) g.actions keeps (ap (runs_pid r) jobs.clock.role)
 
   all_doings : (r : Pid) → total (λ before e. doing r e) [] history ≡ added (λ (g : Passage). doings r g.actions) ps
@@ -151,19 +142,19 @@ module _ (c : Settings) (host : ℕ) (o : HubLog) (rounds : ℕ) (history : List
 
   -- a program's process
   stands : (g : Passage) → Among g ps → (r : Pid) (task : List Answer → Option Call) → g.role ≡ Runs r task
-      → Stands task r (same_self r) O history (calls_by g.actions) (answers_by O g.actions)
+      → Stands task r (same_pid_self r) O history (calls_by g.actions) (answers_by O g.actions)
   stands g among r task is =
       let d = of_each H (passages_in n) g here (among_left g ps (n.clock.passage ∷ []) among) in
       let m = number_of g in
       let placed = placed_whole c o (λ h. history) heard g d.0 in
-      let one = one_does r c task ps jobs.apart (each_left (KeepsRole r c) ps (n.clock.passage ∷ []) (keeps_all r)) g among is in
+      let one = one_does r c task ps jobs.apart (each_front (KeepsRole r c) ps (n.clock.passage ∷ []) (keeps_all r)) g among is in
       let own : weight (λ before e. doing r e) (places m [] history) ≡ doings r g.actions = ap (weight (λ before e. doing r e)) placed in
       let sum = all_doings r in
       let all : total (λ before e. doing r e) [] history ≤ weight (λ before e. doing r e) (places m [] history) = omega arith in
       let role : IsRole (Runs r task) O g.actions =
       subst (λ h. IsRole (Runs r task) (fresh_station c h) g.actions) d.1
       (subst (λ (x : Role). IsRole x (fresh_station c (host_of g)) g.actions) is d.0.0.role) in
-      whole task r (same_self r) O m g.actions history role.1 placed
+      whole task r (same_pid_self r) O m g.actions history role.1 placed
       (not_others r task O m history (light_elsewhere (doing r) m [] history all))
 
   abbrev pub Follows : Assignment → Type 0
@@ -185,7 +176,7 @@ module _ (c : Settings) (host : ℕ) (o : HubLog) (rounds : ℕ) (history : List
       → Each Ends (task_in role)
   ends_by g among at role ends (Runs r task) is = (subst P (λ i. (sym told.calls i, sym told.answers i)) (by ends), tt)
     where
-      told : Stands task r (same_self r) O history (calls_by g.actions) (answers_by O g.actions)
+      told : Stands task r (same_pid_self r) O history (calls_by g.actions) (answers_by O g.actions)
       told = stands g among r task is
 
       P : List Call × List Answer → Type 0
@@ -224,7 +215,7 @@ module _ (c : Settings) (host : ℕ) (o : HubLog) (rounds : ℕ) (history : List
   pub idle : (r : Pid) → Each (λ (a : Assignment). same_pid a.pid r ≡ false) (tasks_of ps) → DoesNothing r es
   idle r none =
       let sum = all_doings r in
-      let zero = none_does r c ps (each_left (KeepsRole r c) ps (n.clock.passage ∷ []) (keeps_all r)) (no_tasks r ps none) in
+      let zero = none_does r c ps (each_front (KeepsRole r c) ps (n.clock.passage ∷ []) (keeps_all r)) (no_tasks r ps none) in
       does_nothing r es
       (sym (by_entries c host history (λ (e : Entry). cond (is_doing_of r e.input) 1 0))
       ∙ (total_same (λ before e. cond (is_doing_of r (entry_at O before e).input) 1 0) (λ before e. doing r e) [] history

@@ -1,7 +1,6 @@
 -- A datagram that is kept has at least 33 bytes: those of a header, and something behind it.
 use Rattle.std.proofs.Common.{◌≡◌, ℕ, ◌+◌, ◌≤◌, ◌==◌, ◌&&◌, nat_le, not, Bool, true, List, drop, length, Option, Some, None, refl, ap, arith}
 use Rattle.std.proofs.lemmas.Bool.{and_parts, leb-true}
-use Rattle.std.proofs.lemmas.Grind.{common_steps}
 use Rattle.std.proofs.lemmas.List.{length-drop}
 use Rattle.std.proofs.lemmas.Option.{cond_some}
 use Rattle.byteorder.specs.Endian.{big_number}
@@ -13,6 +12,7 @@ unfoldable use Rattle.vk_frame.specs.Reading.{frame_of}
 use Rattle.vk_frame.specs.Reading.{opens}
 use Rattle.vk_frame.specs.Rules.{is_lawful}
 use Rattle.vk_frame.specs.Spelling.{mark}
+use Rattle.vk_frame.proofs.Opening.{filled_by}
 unfoldable use Rattle.vk_wire.specs.Fields.{number_at}
 
 field_length : (n : ℕ) (bytes : List ℕ) (r : ℕ × List ℕ) → number_at n bytes ≡ Some r → length bytes ≡ n + length r.1
@@ -23,9 +23,6 @@ field_length n bytes r is =
     let rest : length (drop n bytes) ≡ length r.1 = ap (λ (x : ℕ × List ℕ). length x.1) at.1 in
     let left = length-drop n bytes in
     omega arith
-
-some_behind : (rest : List ℕ) → not (length rest == 0) ≡ true → 1 ≤ length rest
-some_behind rest is = grind (arith, common_steps)
 
 all_fields : (l a b c d e f g : ℕ) → l ≡ 2 + a → a ≡ 2 + b → b ≡ 2 + c → c ≡ 8 + d → d ≡ 8 + e → e ≡ 8 + f → f ≡ 2 + g → 1 ≤ g → 33 ≤ l
 all_fields l a b c d e f g h i j m n o p some = omega arith
@@ -52,7 +49,7 @@ frame_long bytes r found =
     all_fields _ _ _ _ _ _ _ _ (field_length 2 bytes first.0 first.1) (field_length 2 first.0.1 source.0 source.1)
     (field_length 2 source.0.1 destination.0 destination.1) (field_length 8 destination.0.1 stamp.0 stamp.1)
     (field_length 8 stamp.0.1 number.0 number.1) (field_length 8 number.0.1 event.0 event.1) (field_length 2 event.0.1 output.0 output.1)
-    (some_behind output.0.1 (and_parts ((first.0.0 == mark) && is_lawful h) (not (length output.0.1 == 0)) is.0).1)
+    (filled_by output.0.1 (and_parts ((first.0.0 == mark) && is_lawful h) (not (length output.0.1 == 0)) is.0).1)
 
 pub opened_long : (bytes : List ℕ) (test : Header → Bool)
     → holds_of test (option_map (λ (h : Header × List ℕ). h.0) (frame_of bytes)) ≡ true → 33 ≤ length bytes

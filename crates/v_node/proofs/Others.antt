@@ -4,21 +4,12 @@ use Rattle.std.proofs.lemmas.Bool.{both_ways, eqb-true, eq-eqb, not-true}
 use Rattle.std.proofs.lemmas.Option.{same_Some, none-some}
 use Rattle.std.specs.Option.{option_map_or}
 use Rattle.std.specs.Prelude.{option_map}
-use Rattle.vk_base.specs.declared.call.Call.{Call}
+use Rattle.vk_host.proofs.FewFrames.{is_taken}
+use Rattle.vk_types.specs.Types.{Call, EventAnswer, Exchange, Message, Name, Pid, Process, ProcessSpec, Stage, State, Times}
 use Rattle.vk_base.specs.declared.call.Call.TheVariants as calls
-use Rattle.vk_base.specs.declared.config.ProcessSpec.{ProcessSpec}
-use Rattle.vk_base.specs.declared.config.Times.{Times}
-use Rattle.vk_base.specs.declared.event.EventAnswer.{EventAnswer}
 use Rattle.vk_base.specs.declared.event.EventAnswer.TheVariants as events_answered
-use Rattle.vk_base.specs.declared.kernel.Exchange.{Exchange}
-use Rattle.vk_base.specs.declared.kernel.Name.{Name}
-use Rattle.vk_base.specs.declared.kernel.Process.{Process}
-use Rattle.vk_base.specs.declared.kernel.Stage.{Stage}
 use Rattle.vk_base.specs.declared.kernel.Stage.TheVariants as stages
-use Rattle.vk_base.specs.declared.kernel.State.{State}
 use Rattle.vk_base.specs.declared.kernel.State.TheVariants as states
-use Rattle.vk_base.specs.declared.message.Message.{Message}
-use Rattle.vk_base.specs.declared.pid.Pid.{Pid}
 use Rattle.vk_base.specs.declared.step.Step.TheVariants as steps
 use Rattle.vk_base.specs.Kernel.{Kernel, blocked_in, held, holds_of, is_live, name_of}
 use Rattle.vk_base.specs.Packets.{Packet, Send, Reply, Pending, Negative, MoveData, MoveAck, MoveRequest, MoveBytes, MoveNegative, AskPid, TellPid}
@@ -55,14 +46,6 @@ each_of_flat Q P f (x ∷ xs) each all = each_append P (f x) (flat_map f xs) (al
 
 is_other : (a b : ℕ) → (a == b) ≡ false → a ≢ b
 is_other a b no_test same = both_ways (a == b) no_test (eq-eqb a b same)
-
-was_taken : (a : EventAnswer) → is_frame_taken a ≡ true → a ≡ events_answered.Taken
-was_taken events_answered.Begun is = absurd (cc is)
-was_taken (events_answered.Answered a) is = absurd (cc is)
-was_taken (events_answered.Ticked now) is = absurd (cc is)
-was_taken events_answered.Taken is = refl
-was_taken events_answered.Old is = absurd (cc is)
-was_taken events_answered.Bad is = absurd (cc is)
 
 module _ (h : ℕ) (low : h < 65535) where
   -- the packet is for another station, or for all
@@ -271,7 +254,7 @@ module _ (h : ℕ) (low : h < 65535) where
       frames_go _ _ _ _ (no_frame r (is_frame_taken (answer_to c h r (Delivered (Headed hd)))))
   entry_goes c r (Delivered (Framed hd p)) own aliens proper =
       frames_go _ _ _ _ (taken_goes r (record { header = hd; packet = p }) (is_frame_taken (answer_to c h r (Delivered (Framed hd p))))
-      (λ t. received c h r hd p (was_taken (answer_to c h r (Delivered (Framed hd p))) t)) proper)
+      (λ t. received c h r hd p (is_taken (answer_to c h r (Delivered (Framed hd p))) t)) proper)
 
   far_slots : (slots : List (Option Alien)) → ((i : ℕ) (a : Alien) → in_slot slots i ≡ Some a → (a.name.sender.host == h) ≡ false)
       → Each IsFarSlot slots

@@ -1,6 +1,6 @@
 -- No frame is posted for the station itself, so none that is fetched for it is given: the programs' jobs and the clock deliver nothing.
 use Rattle.std.proofs.Common.{◌≡◌, ◌≢◌, ℕ, ◌+◌, ◌*◌, ◌≤◌, ◌==◌, ◌&&◌, ◌||◌, not, eqb-true, eq-eqb, Bool, true, false, List, [], ◌∷◌, length, map, cond, refl, sym, ap, ◌∙◌, subst, arith, inl, inr}
-use Rattle.vk_base.specs.declared.event.StationEvent.{StationEvent}
+use Rattle.vk_types.specs.Types.{StationEvent}
 use Rattle.vk_base.specs.Settings.{Settings}
 use Rattle.vk_frame.specs.declared.header.Header.{Header}
 use Rattle.vk_host.specs.Sealed.{sealed}
@@ -23,8 +23,7 @@ use Rattle.v_run.proofs.Reasons.{at_least, dropped_weight}
 use Rattle.v_run.proofs.Roles.{own_role}
 use Rattle.v_run.proofs.Sound.{AreOpen, IsOpen}
 use Rattle.v_run.proofs.Sums.{added_most_each, fetched_whole}
-use Rattle.v_run.proofs.Totals.{added, places, total, weight}
-use Rattle.v_run.proofs.Unique.{added_over_map}
+use Rattle.v_run.proofs.Totals.{added, places, total, weight, added_map}
 use Rattle.v_node.specs.Closed.{IsNodeClosed}
 use Rattle.v_node.specs.Jobs.{HaltsAtMost, IsLinkEnd, NodeEnd}
 use Rattle.v_node.specs.Laws.{IsForOthers}
@@ -77,7 +76,7 @@ entries_none : (host : ℕ) (es : List Entry) → AllRise host es → AreOpen es
     → added (λ (e : Entry). added (meant host) (map sealed e.frames)) es ≡ 0
 entries_none host [] rise opens others = refl
 entries_none host (e ∷ es) rise opens others =
-    let same = added_over_map (meant host) sealed e.frames in
+    let same = added_map (meant host) sealed e.frames in
     let one = frames_none host e.tick e.number (length es + 1) 1 e.frames rise.0.frames opens.0 others.0 in
     let rest = entries_none host es rise.1 opens.1 others.1 in
     omega arith

@@ -1,6 +1,6 @@
 -- What a node's link fetches for other stations was posted for them, and what was posted its station made.
 use Rattle.std.proofs.Common.{◌≡◌, ℕ, ◌+◌, ◌*◌, ◌≤◌, ◌==◌, Bool, true, false, List, [], ◌∷◌, map, cond, refl, ap, arith}
-use Rattle.vk_base.specs.declared.event.StationEvent.{StationEvent}
+use Rattle.vk_types.specs.Types.{StationEvent}
 use Rattle.vk_base.specs.Settings.{Settings}
 use Rattle.vk_host.specs.Sealed.{sealed}
 use Rattle.vk_hub.specs.declared.event.Fetched.{Fetched}

@@ -1,18 +1,19 @@
 -- Sums over the closed histories of a node are sums over what its jobs did.
 use Rattle.std.proofs.Common.{◌≡◌, ℕ, ◌+◌, ◌≤◌, ◌==◌, Bool, true, false, List, [], ◌∷◌, ◌++◌, map, cond, refl, sym, ap, ◌∙◌, subst, arith, inl, inr}
-use Rattle.vk_base.specs.declared.event.StationEvent.{StationEvent}
+use Rattle.vk_types.specs.Types.{StationEvent}
 use Rattle.vk_base.specs.Settings.{Settings}
 use Rattle.vk_hub.specs.declared.event.HubEvent.{HubEvent}
 use Rattle.vk_hub.specs.declared.event.HubEvent.TheVariants as hub_events
 use Rattle.vk_hub.specs.Hubs.{HubLog}
 use Rattle.vk_rules.specs.Each.{Each}
+use Rattle.vk_rules.proofs.Lists.{each_both}
 use Rattle.v_run.specs.Closed.{IsClosed}
 use Rattle.v_run.specs.Passages.{IsPassage, Passage, fresh_station, host_of, hub_number_of, nowhere, number_of}
 use Rattle.v_run.proofs.Totals.{added, added_append, added_map, by_seats, places, total, weight}
 use Rattle.v_run.proofs.Dealt.{all_once}
 use Rattle.v_run.proofs.Heard.{IsNoFetch, IsOfFetches, sends, sent_is, weight_of_events}
 use Rattle.v_run.proofs.Logs.{entered_places, placed}
-use Rattle.v_run.proofs.Sums.{IsDone, added_same_each, each_both, placed_whole, sent_whole}
+use Rattle.v_run.proofs.Sums.{IsDone, added_same_each, placed_whole, sent_whole}
 use Rattle.v_node.specs.Closed.{IsNodeClosed, numbers_at_hub, numbers_at_station}
 use Rattle.v_node.specs.Jobs.{HaltsAtMost, IsLinkEnd, NodeEnd, passages_in}
 use Rattle.v_node.specs.Links.{Errand, nothing_heard}

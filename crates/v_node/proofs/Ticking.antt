@@ -1,6 +1,6 @@
 -- The station of a node ticks just as often as its clock did.
 use Rattle.std.proofs.Common.{◌≡◌, ℕ, List, [], ◌∷◌, refl, ◌∙◌, subst, arith}
-use Rattle.vk_base.specs.declared.event.StationEvent.{StationEvent}
+use Rattle.vk_types.specs.Types.{StationEvent}
 use Rattle.vk_base.specs.declared.event.StationEvent.TheVariants as events
 use Rattle.vk_base.specs.Settings.{Settings}
 use Rattle.vk_hub.specs.declared.event.HubEvent.{HubEvent}
@@ -8,19 +8,19 @@ use Rattle.vk_hub.specs.Hubs.{HubLog}
 use Rattle.vk_port.specs.Ports.{Action, Enters, Delivers, Drops, Hears}
 use Rattle.vk_port.specs.Stations.{StationHistory, entries_at}
 use Rattle.vk_rules.specs.Each.{Each}
+use Rattle.vk_rules.proofs.Lists.{each_front, each_behind, each_both}
 use Rattle.v_run.specs.Outcomes.{ticks_in}
 use Rattle.v_run.specs.Passages.{IsRole, Passage, Pumps, Role, Runs, Ticks, fresh_station, host_of, tick_count}
 use Rattle.v_run.specs.Runs.{passages_of}
 use Rattle.v_run.proofs.Clock.{only_ticks, plays_no_tick, ticks_by}
 use Rattle.v_run.proofs.Ended.{each_of, of_each}
 use Rattle.v_run.proofs.Entries.{tick_of, ticks_are}
-use Rattle.v_run.proofs.Sums.{added_same_each, each_both}
+use Rattle.v_run.proofs.Sums.{added_same_each}
 use Rattle.v_run.proofs.Totals.{added, added_append, added_none}
 use Rattle.v_run.proofs.Whole.{from_jobs}
 use Rattle.v_node.specs.Closed.{IsNodeClosed}
 use Rattle.v_node.specs.Jobs.{AreNodeJobs, IsProgramEnd, NodeEnd, RunsProcess, passages_in}
 use Rattle.v_node.specs.Links.{IsDelivery, OnlyBrings}
-use Rattle.v_node.proofs.Following.{each_left, each_right}
 use Rattle.v_node.proofs.Sums.{D, all_done, at_station}
 
 no_tick : (e : StationEvent) → IsDelivery e → tick_of e ≡ 0
@@ -60,13 +60,13 @@ module _ (c : Settings) (host : ℕ) (o : HubLog) (rounds : ℕ) (history : List
   programs_tick_not =
       added_same_each (λ (g : Passage). DN g × RunsProcess g.role) (λ (g : Passage). ticks_by g.actions) (λ (g : Passage). 0) ps
       (λ g d. program_no_tick g.role (fresh_station c (host_of g)) g.actions d.0.0.role d.1)
-      (each_both DN (λ (g : Passage). RunsProcess g.role) ps (each_left DN ps (n.clock.passage ∷ []) done) are_runs)
+      (each_both DN (λ (g : Passage). RunsProcess g.role) ps (each_front DN ps (n.clock.passage ∷ []) done) are_runs)
       ∙ added_none (λ (g : Passage). 0) ps (λ g. refl)
 
   clock_ticks : ticks_by n.clock.passage.actions ≡ tick_count n.clock.passage.actions
   clock_ticks =
       let g = n.clock.passage in
-      let d = (each_right DN ps (g ∷ []) done).0 in
+      let d = (each_behind DN ps (g ∷ []) done).0 in
       only_ticks g.actions (subst (λ (x : Role). IsRole x (fresh_station c (host_of g)) g.actions) jobs.clock.role d.0.role)
 
   pub ticks : ticks_in (entries_at (fresh_station c host) history) ≡ tick_count n.clock.passage.actions

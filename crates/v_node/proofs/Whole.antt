@@ -1,8 +1,8 @@
 -- What a node comes to: the parts put together.
 use Rattle.std.proofs.Common.{◌≡◌, ℕ, ◌≤◌, Bool, true, false, Some, List, [], ◌∷◌, cond, filter, length, map, refl, sym, ap, ◌∙◌, subst, arith, ◌⊎◌, inl, inr}
 use mathlib.Core.List.{IsPrefix}
+use Rattle.vk_types.specs.Types.{StationEvent}
 use Rattle.turn_cell.specs.declared.replay.Room.TheVariants as rooms
-use Rattle.vk_base.specs.declared.event.StationEvent.{StationEvent}
 use Rattle.vk_base.specs.Settings.{Settings, stations_of}
 use Rattle.vk_frame.specs.Law.{FramesAreSpelledOnce}
 use Rattle.vk_hub.specs.declared.event.HubEvent.{HubEvent}
@@ -14,7 +14,7 @@ use Rattle.vk_port.specs.Stations.{IsLawfulHistory, StationHistory, emitted_byte
 use Rattle.vk_rules.specs.Each.{Each}
 use Rattle.vk_rules.specs.Entries.{Entry}
 use Rattle.vk_rules.specs.Laws.{FramesUnsealAgain}
-use Rattle.vk_rules.proofs.Lists.{each_weaker}
+use Rattle.vk_rules.proofs.Lists.{each_weaker, each_front}
 use Rattle.v_ended.specs.Answered.{ComeInTime}
 use Rattle.v_run.specs.Jobs.{JobEnd, MetFull}
 use Rattle.v_run.specs.Laws.{closed_station}
@@ -42,7 +42,7 @@ use Rattle.v_node.proofs.Answered.{all_out}
 use Rattle.v_node.proofs.Brought.{delivered_is}
 use Rattle.v_node.proofs.Crowded.{others_few}
 use Rattle.v_node.proofs.Ending.{goes_on}
-use Rattle.v_node.proofs.Following.{each_left, ended, follows, idle}
+use Rattle.v_node.proofs.Following.{ended, follows, idle}
 use Rattle.v_node.proofs.Long.{opened_long}
 use Rattle.v_node.proofs.Own.{no_drops}
 use Rattle.v_node.proofs.Sending.{own_frames}
@@ -167,7 +167,7 @@ module _ (unseal : FramesUnsealAgain) (frames : FramesAreSpelledOnce) (packets :
 
   kept : Each (λ (frame : Frame). is_kept host frame ≡ true) (delivered_in (map event_of history))
   kept =
-      each_left (λ (frame : Frame). is_kept host frame ≡ true) (delivered_in (map event_of history)) brought.0
+      each_front (λ (frame : Frame). is_kept host frame ≡ true) (delivered_in (map event_of history)) brought.0
       (subst (Each (λ (frame : Frame). is_kept host frame ≡ true)) (sym brought.1) (each_kept (is_kept host) n.link.handed))
 
   long : Each (λ (frame : Frame). 33 ≤ length frame) (delivered_in (map event_of history))

@@ -2,8 +2,8 @@
 -- frames for all stations: for its own there are none, but it hears so that the hub has ended.
 use Rattle.std.specs.Prelude.{ℕ, ◌≡◌, ◌≢◌, ◌+◌, ◌==◌, ◌&&◌, ◌||◌, not, Bool, List, [], ◌∷◌, ◌++◌, flat_map}
 use mathlib.Core.List.{IsPrefix}
+use Rattle.vk_types.specs.Types.{StationEvent}
 use Rattle.turn_cell.specs.History.{events_of}
-use Rattle.vk_base.specs.declared.event.StationEvent.{StationEvent}
 use Rattle.vk_base.specs.declared.event.StationEvent.TheVariants as events
 use Rattle.vk_base.specs.Kernel.{holds_of}
 use Rattle.vk_frame.specs.declared.header.Header.{Header}

@@ -1,10 +1,7 @@
 -- What the run of a node comes to, said of its station's events, of which the oldest comes first, and of the entries that these make.
 use Rattle.std.specs.Prelude.{ℕ, ◌≡◌, ◌≤◌, ◌+◌, ◌*◌, ◌⊎◌, Bool, true, false, Option, List, filter, length}
 use mathlib.Core.List.{IsPrefix}
-use Rattle.vk_base.specs.declared.answer.Answer.{Answer}
-use Rattle.vk_base.specs.declared.call.Call.{Call}
-use Rattle.vk_base.specs.declared.event.StationEvent.{StationEvent}
-use Rattle.vk_base.specs.declared.pid.Pid.{Pid}
+use Rattle.vk_types.specs.Types.{Answer, Call, Pid, StationEvent}
 use Rattle.vk_base.specs.Pids.{same_pid}
 use Rattle.vk_base.specs.Settings.{Settings, stations_of}
 use Rattle.vk_hub.specs.Links.{Frame}

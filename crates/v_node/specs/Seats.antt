@@ -1,8 +1,8 @@
 -- What the link's job promises of the seats that it hands back.
 use Rattle.std.specs.Prelude.{◌≡◌, ◌++◌}
 use mathlib.Core.List.{IsPrefix}
+use Rattle.vk_types.specs.Types.{StationEvent}
 use Rattle.turn_cell.specs.Seats.{IsSameSeat, Sitting}
-use Rattle.vk_base.specs.declared.event.StationEvent.{StationEvent}
 use Rattle.vk_hub.specs.declared.event.HubEvent.{HubEvent}
 use Rattle.vk_hub.specs.Hubs.{HubLog}
 use Rattle.vk_port.specs.Ports.{IsLog, PortValue, berth_of, stand_of}

@@ -1,6 +1,6 @@
 -- What a node's link fetches for other stations are frames that the node's own station made.
 use Rattle.std.specs.Prelude.{ℕ, ◌≡◌, ◌≤◌, ◌+◌, ◌*◌, ◌==◌, ◌&&◌, Bool, true, List, [], ◌∷◌, cond, map}
-use Rattle.vk_base.specs.declared.event.StationEvent.{StationEvent}
+use Rattle.vk_types.specs.Types.{StationEvent}
 use Rattle.vk_base.specs.Settings.{Settings}
 use Rattle.vk_host.specs.Sealed.{sealed}
 use Rattle.vk_hub.specs.Counting.{copies, hits}

@@ -1,9 +1,7 @@
 -- What a page server does with a request that it collects.
 use Rattle.std.proofs.Common.{◌≡◌, ℕ, ◌≤◌, Bool, true, false, cond, ◌==◌, ◌&&◌, ◌||◌, not, nat_lt, nat_le, List, [], ◌∷◌, ◌++◌, length, if◌then◌else◌, refl, ap}
 use Rattle.std.proofs.lemmas.Bool.{both_ways, cond_both, eqb-true, not-true, not-false}
-use Rattle.vk_base.specs.declared.kernel.Process.{Process}
-use Rattle.vk_base.specs.declared.message.Message.{Message}
-use Rattle.vk_base.specs.declared.pid.Pid.{Pid}
+use Rattle.vk_types.specs.Types.{Message, Pid, Process}
 use Rattle.vk_base.specs.Messages.{grants_read, grants_write, segment_of}
 use Rattle.vk_base.specs.Ranges.{range_of, bytes_in}
 use Rattle.vk_event.specs.declared.task.TheConstants.{PAGE_BYTES}

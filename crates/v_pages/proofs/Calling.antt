@@ -3,16 +3,11 @@ use Rattle.std.proofs.Common.{◌≡◌, ℕ, suc, ◌+◌, ◌<◌, ◌≤◌, 
 use Rattle.std.proofs.lemmas.Bool.{and_parts, cond-true, cond-false, cond_both, eq-eqb, leb-true, le-leb, ltb-true, not-false}
 use Rattle.std.proofs.lemmas.List.{length-append}
 use Rattle.std.proofs.lemmas.Option.{same_Some, none-some}
-use Rattle.vk_base.specs.declared.answer.Answer.{Answer}
+use Rattle.vk_types.specs.Types.{Answer, Call, Message, Pid, Process, Refusal}
 use Rattle.vk_base.specs.declared.answer.Answer.TheVariants as answers
-use Rattle.vk_base.specs.declared.answer.Refusal.{Refusal}
 use Rattle.vk_base.specs.declared.answer.Refusal.TheVariants as refusals
-use Rattle.vk_base.specs.declared.call.Call.{Call}
 use Rattle.vk_base.specs.declared.call.Call.TheVariants as calls
-use Rattle.vk_base.specs.declared.kernel.Process.{Process}
 use Rattle.vk_base.specs.declared.kernel.State.TheVariants as states
-use Rattle.vk_base.specs.declared.message.Message.{Message}
-use Rattle.vk_base.specs.declared.pid.Pid.{Pid}
 use Rattle.vk_base.specs.declared.step.Step.TheVariants as steps
 use Rattle.vk_base.specs.Calls.{Effect, unseen, answered as seen_answered, accepted, called, call_refusal, replied as kernel_replied, exited, is_own, released}
 use Rattle.vk_base.specs.Kernel.{◌>>=◌, Kernel, name_of, held, is_ready, with_state, with_memory}
@@ -20,6 +15,7 @@ use Rattle.vk_base.specs.Pids.{same_pid}
 use Rattle.vk_base.specs.Ranges.{range_of, bytes_in, with_bytes}
 use Rattle.vk_base.specs.Steps.{effect}
 use Rattle.vk_base.proofs.OptionLemmas.{bind_is}
+use Rattle.vk_base.proofs.PidLemmas.{same_pid_self}
 use Rattle.vk_event.specs.declared.task.TheConstants.{PAGE_BYTES}
 use Rattle.vk_base.specs.Messages.{grants_write, segment_of}
 use Rattle.vk_pages.specs.Messages.{code_of, page_of, reply_of}
@@ -32,7 +28,7 @@ use Rattle.v_laws.specs.Reached.{saw}
 use Rattle.v_laws.proofs.MoveLists.{all_bytes}
 use Rattle.v_laws.proofs.Sizes.{length-with_bytes}
 use Rattle.v_laws.proofs.StepLemmas.{IsFit, fit_is, passes_first}
-use Rattle.v_laws.proofs.Tables.{same_pid_self, put_process_here}
+use Rattle.v_laws.proofs.Tables.{put_process_here}
 use Rattle.v_pages.specs.Followed.{answer_in}
 use Rattle.v_pages.specs.PageMap.{is_lawful_read, map_after}
 use Rattle.v_pages.specs.Requests.{Request}

@@ -1,10 +1,7 @@
 -- A sender that has a reply to collect has it of a Finish, and is since then as it was left.
 use Rattle.std.proofs.Common.{◌≡◌, ℕ, zero, suc, ◌<◌, true, List, slice_get, Some, sym, ap, ◌∙◌, inl, inr, arith}
 use Rattle.std.proofs.lemmas.Bool.{both_ways}
-use Rattle.vk_base.specs.declared.config.ProcessSpec.{ProcessSpec}
-use Rattle.vk_base.specs.declared.kernel.Process.{Process}
-use Rattle.vk_base.specs.declared.pid.Pid.{Pid}
-use Rattle.vk_base.specs.declared.step.Step.{Step}
+use Rattle.vk_types.specs.Types.{Pid, Process, ProcessSpec, Step}
 use Rattle.vk_base.specs.declared.step.Step.TheVariants as steps
 use Rattle.vk_base.specs.Calls.{Effect}
 use Rattle.vk_base.specs.Kernel.{◌>>=◌, Kernel}
@@ -14,7 +11,7 @@ use Rattle.std.specs.Prelude.{find}
 use Rattle.v_laws.specs.Places.{before, process_after}
 use Rattle.v_laws.specs.Sound.{IsSound}
 use Rattle.v_laws.proofs.Later.{IsLaterProcess, process_step}
-use Rattle.v_laws.proofs.PlaceLemmas.{IsNext, at_place, before_first, before_next, before_sound}
+use Rattle.v_laws.proofs.PlaceLemmas.{ComesOfStep, at_place, before_first, before_next, before_sound}
 use Rattle.v_laws.proofs.Related.{related_before}
 use Rattle.v_laws.proofs.SoundLemmas.{initial_ready}
 use Rattle.v_pages.proofs.Touched.{Touched, has_reply, touched}
@@ -62,7 +59,7 @@ by_touch specs ss s i k t e x p at is does there now has (Touched.finishes step 
 by_touch specs ss s i k t e x p at is does there now has (Touched.waits w none kept on stays) again =
     absurd (both_ways (has_reply p.state) none has)
 
-by_next : (specs : List ProcessSpec) (ss : List Step) (s : Pid) (i : ℕ) (l : Kernel) (p : Process) → IsNext specs ss i l →
+by_next : (specs : List ProcessSpec) (ss : List Step) (s : Pid) (i : ℕ) (l : Kernel) (p : Process) → ComesOfStep specs ss i l →
     l.procs s ≡ Some p → has_reply p.state ≡ true →
     ((m : Kernel) → before specs ss i ≡ Some m → m.procs s ≡ Some p → IsFinished specs ss i s p) → IsFinished specs ss (suc i) s p
 by_next specs ss s i l p n at has again = elim n.how [

@@ -1,21 +1,14 @@
 -- Where a reply that a sender collects was given, taken and brought.
 use Rattle.std.proofs.Common.{◌≡◌, ℕ, ◌<◌, List, slice_get, Option, Some, sym, ap, subst, ◌∙◌}
-use Rattle.std.proofs.lemmas.Option.{same_Some, none-some}
-use Rattle.vk_base.specs.declared.answer.Answer.{Answer}
+use Rattle.std.proofs.lemmas.Option.{same_Some}
+use Rattle.v_whole.proofs.Traced.{finished_is}
+use Rattle.vk_types.specs.Types.{Answer, Call, Message, Observation, Pid, Process, ProcessSpec, State, Step}
 use Rattle.vk_base.specs.declared.answer.Answer.TheVariants as answers
-use Rattle.vk_base.specs.declared.call.Call.{Call}
 use Rattle.vk_base.specs.declared.call.Call.TheVariants as calls
-use Rattle.vk_base.specs.declared.config.ProcessSpec.{ProcessSpec}
-use Rattle.vk_base.specs.declared.kernel.Observation.{Observation}
-use Rattle.vk_base.specs.declared.kernel.Process.{Process}
-use Rattle.vk_base.specs.declared.kernel.State.{State}
 use Rattle.vk_base.specs.declared.kernel.State.TheVariants as states
-use Rattle.vk_base.specs.declared.message.Message.{Message}
-use Rattle.vk_base.specs.declared.pid.Pid.{Pid}
-use Rattle.vk_base.specs.declared.step.Step.{Step}
 use Rattle.vk_base.specs.declared.step.Step.TheVariants as steps
 use Rattle.vk_base.specs.Calls.{Effect, answered as seen_answered}
-use Rattle.vk_base.specs.Kernel.{◌>>=◌, Kernel, finished_call, initial_kernel, name_of, with_state}
+use Rattle.vk_base.specs.Kernel.{◌>>=◌, Kernel, initial_kernel, name_of, with_state}
 use Rattle.vk_base.specs.Ranges.{with_bytes}
 use Rattle.vk_base.specs.Steps.{Run, effect, run, collecting}
 use Rattle.vk_base.proofs.OptionLemmas.{bind_is}
@@ -30,10 +23,6 @@ use Rattle.v_pages.proofs.Replied.{one_reply}
 use Rattle.v_pages.proofs.Touched.{has_reply}
 
 -- What a sender collects.
-pub finished_is : (t : State) (c : Call) (a : Answer) → finished_call t ≡ Some (c, a) → t ≡ states.Done c a
-finished_is states.Ready c a e = absurd (none-some (c, a) e)
-finished_is (states.Blocked d) c a e = absurd (none-some (c, a) e)
-finished_is (states.Done d b) c a e = ap (λ (z : Call × Answer). states.Done z.0 z.1) (same_Some (d, b) (c, a) e)
 
 pub record Collects (specs : List ProcessSpec) (ss : List Step) (i : ℕ) (s : Pid) (c : Call) (a : Answer) : Type 0 where
   pub kernel : Kernel

@@ -6,14 +6,9 @@ use Rattle.std.proofs.lemmas.List.{append-nil}
 use Rattle.std.proofs.lemmas.List.Concat.{flat_map-cons}
 use Rattle.std.proofs.lemmas.List.Elements.{filter_map-append}
 use Rattle.std.proofs.lemmas.Option.{none-some}
-use Rattle.vk_base.specs.declared.answer.Answer.{Answer}
+use Rattle.vk_types.specs.Types.{Answer, Call, Message, Pid, ProcessSpec, Step}
 use Rattle.vk_base.specs.declared.answer.Answer.TheVariants as answers
-use Rattle.vk_base.specs.declared.call.Call.{Call}
 use Rattle.vk_base.specs.declared.call.Call.TheVariants as calls
-use Rattle.vk_base.specs.declared.config.ProcessSpec.{ProcessSpec}
-use Rattle.vk_base.specs.declared.message.Message.{Message}
-use Rattle.vk_base.specs.declared.pid.Pid.{Pid}
-use Rattle.vk_base.specs.declared.step.Step.{Step}
 use Rattle.vk_base.specs.declared.step.Step.TheVariants as steps
 use Rattle.vk_base.specs.Kernel.{◌>>=◌, initial_kernel}
 use Rattle.vk_base.specs.Settings.{Settings}
@@ -39,7 +34,7 @@ use Rattle.v_laws.specs.Reached.{saw}
 use Rattle.v_whole.specs.HistoryLaws.{IsSchedule, steps_of}
 use Rattle.v_whole.specs.Schedules.{AreOfProcesses}
 use Rattle.v_whole.proofs.Histories.{schedules_run}
-use Rattle.v_pages.specs.Followed.{Follows, answers_before, call_by, calls_before}
+use Rattle.v_pages.specs.Followed.{FollowsTask, answers_before, call_by, calls_before}
 use Rattle.v_pages.specs.PageMap.{is_lawful_write}
 use Rattle.v_pages.specs.Requests.{Request, request_at}
 use Rattle.v_pages.specs.Written.{IsSentBefore}
@@ -219,7 +214,7 @@ callers_first specs (e ∷ es) zero of = tt
 callers_first specs (e ∷ es) (suc i) of = (of.0, callers_first specs es i of.1)
 
 pub follows_on : (task : List Answer → Option Call) (c : Settings) (es : List Event) (r : Pid) → IsSchedule c es → FollowsIn task c es r →
-    Follows task c.specs (steps_of c es) r
+    FollowsTask task c.specs (steps_of c es) r
 follows_on task c es r schedule follows i call is =
     let m = made c es no_entries r i call is in
     let next = follows m.event call m.is in

@@ -3,12 +3,9 @@
 use Rattle.std.proofs.Common.{◌≡◌, ℕ, zero, suc, List, [], ◌∷◌, Some, replicate, refl, lit<}
 use Rattle.std.specs.Prelude.{option_map}
 use Rattle.std.proofs.lemmas.Option.{none-some}
+use Rattle.vk_types.specs.Types.{Pid, Process, ProcessSpec, Step}
 use Rattle.vk_base.specs.declared.answer.Answer.TheVariants as answers
 use Rattle.vk_base.specs.declared.call.Call.TheVariants as calls
-use Rattle.vk_base.specs.declared.config.ProcessSpec.{ProcessSpec}
-use Rattle.vk_base.specs.declared.kernel.Process.{Process}
-use Rattle.vk_base.specs.declared.pid.Pid.{Pid}
-use Rattle.vk_base.specs.declared.step.Step.{Step}
 use Rattle.vk_base.specs.declared.step.Step.TheVariants as steps
 use Rattle.vk_base.specs.Calls.{call_refusal, forwarded, sent}
 use Rattle.vk_base.specs.Kernel.{name_of, put_process, put_exchange, queue_of, held, held_up_to}
@@ -18,7 +15,7 @@ use Rattle.vk_pages.specs.Messages.{request_of, reply_of}
 use Rattle.vk_pages.specs.Servers.{server_call}
 use Rattle.v_laws.specs.Places.{IsReplyAt, process_at, seen_at}
 use Rattle.v_laws.specs.Reached.{saw}
-use Rattle.v_pages.specs.Followed.{Follows, up_to}
+use Rattle.v_pages.specs.Followed.{FollowsTask, up_to}
 use Rattle.v_pages.specs.PageMap.{code_for, map_after}
 use Rattle.v_pages.specs.Requests.{requests_before}
 use Rattle.v_pages.specs.Served.{RepliesToLast}
@@ -114,7 +111,7 @@ unfolding up_to run processes server client nines written_and_read put_process p
 read = refl
 
 -- the server follows its task
-follows : Follows (server_call 2 5) processes written_and_read server
+follows : FollowsTask (server_call 2 5) processes written_and_read server
 unfolding up_to run processes server client nines written_and_read put_process put_exchange queue_of held held_up_to call_refusal sent
     taking taken finishing collecting
 follows zero c is = record { answered = refl; told = is }
@@ -190,7 +187,7 @@ unfolding up_to run processes three server client front zeros forwarded_read put
 collected = refl
 
 -- the server follows its task
-follows_forwarded : Follows (server_call 2 1) three forwarded_read server
+follows_forwarded : FollowsTask (server_call 2 1) three forwarded_read server
 unfolding up_to run processes three server client front zeros forwarded_read put_process put_exchange queue_of held held_up_to
     call_refusal sent forwarded taking taken finishing collecting
 follows_forwarded zero c is = record { answered = refl; told = is }

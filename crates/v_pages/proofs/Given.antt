@@ -2,13 +2,8 @@
 use Rattle.std.proofs.Common.{◌≡◌, ℕ, ◌+◌, ◌<◌, true, false, List, [], ◌∷◌, ◌++◌, length, slice_get, Option, Some, None, option_map, refl, sym, ap, subst, ◌∙◌, arith}
 use Rattle.std.proofs.lemmas.Bool.{both_ways, le-leb}
 use Rattle.std.proofs.lemmas.Option.{same_Some, none-some}
-use Rattle.vk_base.specs.declared.call.Call.{Call}
+use Rattle.vk_types.specs.Types.{Call, Message, Pid, Process, ProcessSpec, Step}
 use Rattle.vk_base.specs.declared.call.Call.TheVariants as calls
-use Rattle.vk_base.specs.declared.config.ProcessSpec.{ProcessSpec}
-use Rattle.vk_base.specs.declared.kernel.Process.{Process}
-use Rattle.vk_base.specs.declared.message.Message.{Message}
-use Rattle.vk_base.specs.declared.pid.Pid.{Pid}
-use Rattle.vk_base.specs.declared.step.Step.{Step}
 use Rattle.vk_base.specs.declared.step.Step.TheVariants as steps
 use Rattle.vk_base.specs.Kernel.{◌>>=◌, held, name_of}
 use Rattle.vk_base.specs.Messages.{segment_of}
@@ -22,7 +17,7 @@ use Rattle.vk_pages.specs.declared.serving.Serving.TheVariants as stages
 use Rattle.vk_pages.proofs.Answering.{called_after}
 use Rattle.v_laws.specs.Places.{IsReplyAt, before, given_by, taken_at}
 use Rattle.v_laws.proofs.MoveLists.{all_bytes}
-use Rattle.v_pages.specs.Followed.{Follows, answers_before, calls_before}
+use Rattle.v_pages.specs.Followed.{FollowsTask, answers_before, calls_before}
 use Rattle.v_pages.specs.PageMap.{is_lawful_read, map_after, reply_for}
 use Rattle.v_pages.specs.Requests.{Request, request_at, requests_before}
 use Rattle.v_pages.proofs.Asked.{read_done}
@@ -128,7 +123,7 @@ pub record IsGivenTo (specs : List ProcessSpec) (ss : List Step) (r : Pid) (page
   pub none : is_lawful_read pages request.message ≡ false → bytes ≡ []
 
 pub given_to : (pages requests : ℕ) (specs : List ProcessSpec) (ss : List Step) (r s : Pid) (i j number : ℕ) (reply : Message) (dest : ℕ)
-    (bytes : List ℕ) → Follows (server_call pages requests) specs ss r → IsReplyAt specs ss j s r number reply dest bytes →
+    (bytes : List ℕ) → FollowsTask (server_call pages requests) specs ss r → IsReplyAt specs ss j s r number reply dest bytes →
     taken_at specs ss i ≡ Some (name_of s number) → slice_get ss i ≡ Some (steps.Take r) → i < j →
     IsGivenTo specs ss r pages i s number reply dest bytes
 given_to pages requests specs ss r s i j number reply dest bytes follows rep takes is less =

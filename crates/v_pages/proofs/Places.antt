@@ -2,13 +2,8 @@
 use Rattle.std.proofs.Common.{◌≡◌, ℕ, zero, suc, ◌+◌, ◌==◌, List, [], ◌++◌, length, slice_get, Option, Some, None, option_to_list, refl, sym, ap, subst, ◌∙◌, inl, inr}
 use Rattle.std.proofs.lemmas.List.{length-append}
 use Rattle.std.specs.Prelude.{find}
-use Rattle.vk_base.specs.declared.answer.Answer.{Answer}
-use Rattle.vk_base.specs.declared.call.Call.{Call}
-use Rattle.vk_base.specs.declared.config.ProcessSpec.{ProcessSpec}
-use Rattle.vk_base.specs.declared.kernel.Process.{Process}
+use Rattle.vk_types.specs.Types.{Answer, Call, Pid, Process, ProcessSpec, Step}
 use Rattle.vk_base.specs.declared.kernel.State.TheVariants as states
-use Rattle.vk_base.specs.declared.pid.Pid.{Pid}
-use Rattle.vk_base.specs.declared.step.Step.{Step}
 use Rattle.vk_base.specs.declared.step.Step.TheVariants as steps
 use Rattle.vk_base.specs.Calls.{Effect}
 use Rattle.vk_base.specs.Kernel.{◌>>=◌, Kernel, initial_kernel}
@@ -16,17 +11,17 @@ use Rattle.vk_base.specs.Pids.{same_pid}
 use Rattle.vk_base.specs.Ranges.{range_of, bytes_in}
 use Rattle.vk_base.specs.Settings.{is_process}
 use Rattle.vk_base.specs.Steps.{effect}
+use Rattle.vk_base.proofs.PidLemmas.{same_pid_self}
 use Rattle.vk_event.specs.declared.task.TheConstants.{PAGE_BYTES}
 use Rattle.vk_pages.specs.Pages.{zero_pages}
 use Rattle.vk_pages.specs.Servers.{between, server_call}
 use Rattle.vk_pages.specs.declared.serving.Serving.TheVariants as stages
 use Rattle.v_laws.specs.Places.{before, process_after}
-use Rattle.v_laws.proofs.PlaceLemmas.{IsNext, at_place, before_first, before_next, before_sound}
+use Rattle.v_laws.proofs.PlaceLemmas.{ComesOfStep, at_place, before_first, before_next, before_sound}
 use Rattle.v_laws.proofs.SoundLemmas.{initial_ready}
 use Rattle.std.proofs.lemmas.Bool.{cond-true, cond_both}
 use Rattle.std.proofs.lemmas.List.{length-replicate}
-use Rattle.v_laws.proofs.Tables.{same_pid_self}
-use Rattle.v_pages.specs.Followed.{Follows, answer_at, answer_in, answers_before, call_at, call_by, calls_before, up_to}
+use Rattle.v_pages.specs.Followed.{FollowsTask, answer_at, answer_in, answers_before, call_at, call_by, calls_before, up_to}
 use Rattle.v_pages.specs.Requests.{Request, request_at, requests_before, taking_by}
 use Rattle.v_pages.proofs.Calling.{told}
 use Rattle.v_pages.proofs.Collected.{left_at, was_there}
@@ -113,7 +108,7 @@ none_there P specs ss r i k p at none is =
 
 step_there : (P : ℕ → List Answer → List Request → Kernel → Process → Type 0) (task : List Answer → Option Call)
     (specs : List ProcessSpec) (ss : List Step) (r : Pid) (i : ℕ) (k : Kernel) (s : Step) (e : Effect) (p y : Process) →
-    Follows task specs ss r → KeepsStanding P task specs ss r → before specs ss i ≡ Some k → slice_get ss i ≡ Some s →
+    FollowsTask task specs ss r → KeepsStanding P task specs ss r → before specs ss i ≡ Some k → slice_get ss i ≡ Some s →
     effect k s ≡ Some e → k.procs r ≡ Some p → e.after.procs r ≡ Some y → Stands P specs ss r i k p → Stands P specs ss r (suc i) e.after y
 step_there P task specs ss r i k s e p y follows keeps at is does there later so_far =
     let call = ap (λ o. o >>= call_by r) is in
@@ -123,8 +118,8 @@ step_there P task specs ss r i k s e p y follows keeps at is does there later so
     so_far (λ c makes. let n = follows i c (call ∙ makes) in (n.answered, n.told)))
 
 by_next : (P : ℕ → List Answer → List Request → Kernel → Process → Type 0) (task : List Answer → Option Call) (specs : List ProcessSpec)
-    (ss : List Step) (r : Pid) (i : ℕ) (l : Kernel) (y : Process) → Follows task specs ss r → KeepsStanding P task specs ss r →
-    IsNext specs ss i l → l.procs r ≡ Some y →
+    (ss : List Step) (r : Pid) (i : ℕ) (l : Kernel) (y : Process) → FollowsTask task specs ss r → KeepsStanding P task specs ss r →
+    ComesOfStep specs ss i l → l.procs r ≡ Some y →
     ((k : Kernel) (p : Process) → before specs ss i ≡ Some k → k.procs r ≡ Some p → Stands P specs ss r i k p) →
     Stands P specs ss r (suc i) l y
 by_next P task specs ss r i l y follows keeps n there so_far = elim n.how [
@@ -141,7 +136,7 @@ by_next P task specs ss r i l y follows keeps n there so_far = elim n.how [
 
 -- how it stands at first, and over each step, it stands at each place
 pub stands_before : (P : ℕ → List Answer → List Request → Kernel → Process → Type 0) (task : List Answer → Option Call)
-    (specs : List ProcessSpec) (ss : List Step) (r : Pid) → Follows task specs ss r →
+    (specs : List ProcessSpec) (ss : List Step) (r : Pid) → FollowsTask task specs ss r →
     ((p : Process) → p.state ≡ states.Ready → P 0 [] [] (initial_kernel specs) p) → KeepsStanding P task specs ss r → (i : ℕ) (k : Kernel)
     (p : Process) → before specs ss i ≡ Some k → k.procs r ≡ Some p → Stands P specs ss r i k p
 unfolding up_to
@@ -171,7 +166,7 @@ server_first pages requests p ready = record {
 }
 
 pub server_before : (pages requests : ℕ) (specs : List ProcessSpec) (ss : List Step) (r : Pid) →
-    Follows (server_call pages requests) specs ss r → (i : ℕ) (k : Kernel) (p : Process) → before specs ss i ≡ Some k →
+    FollowsTask (server_call pages requests) specs ss r → (i : ℕ) (k : Kernel) (p : Process) → before specs ss i ≡ Some k →
     k.procs r ≡ Some p → ServerBefore pages requests specs ss r i p
 server_before pages requests specs ss r follows =
     stands_before (λ made given all k p. ServerAt pages requests made given all p) (server_call pages requests) specs ss r follows

@@ -2,33 +2,22 @@
 use Rattle.std.proofs.Common.{◌≡◌, ℕ, suc, ◌+◌, ◌<◌, ◌≤◌, Bool, true, false, List, [], length, take, slice_get, Option, Some, None, refl, sym, ap, subst, ◌∙◌, inl, inr, arith}
 use Rattle.std.proofs.lemmas.Bool.{both_ways, cases_order, leb-true}
 use Rattle.std.proofs.lemmas.Option.{same_Some, none-some}
-use Rattle.vk_base.specs.declared.answer.Answer.{Answer}
+use Rattle.vk_types.specs.Types.{Answer, Call, Exchange, Message, Name, Observation, Pid, Process, ProcessSpec, Refusal, Step}
 use Rattle.vk_base.specs.declared.answer.Answer.TheVariants as answers
-use Rattle.vk_base.specs.declared.answer.Refusal.{Refusal}
-use Rattle.vk_base.specs.declared.call.Call.{Call}
 use Rattle.vk_base.specs.declared.call.Call.TheVariants as calls
-use Rattle.vk_base.specs.declared.config.ProcessSpec.{ProcessSpec}
-use Rattle.vk_base.specs.declared.kernel.Exchange.{Exchange}
-use Rattle.vk_base.specs.declared.kernel.Name.{Name}
-use Rattle.vk_base.specs.declared.kernel.Observation.{Observation}
-use Rattle.vk_base.specs.declared.kernel.Process.{Process}
 use Rattle.vk_base.specs.declared.kernel.Stage.TheVariants as stages
-use Rattle.vk_base.specs.declared.message.Message.{Message}
-use Rattle.vk_base.specs.declared.pid.Pid.{Pid}
-use Rattle.vk_base.specs.declared.step.Step.{Step}
 use Rattle.vk_base.specs.declared.step.Step.TheVariants as steps
 use Rattle.vk_base.specs.Calls.{Effect, accepted, call_refusal, called, replied}
 use Rattle.vk_base.specs.Kernel.{◌>>=◌, Kernel, held, initial_kernel, name_of, put_exchange}
 use Rattle.vk_base.specs.Ranges.{range_of, bytes_in}
 use Rattle.vk_base.specs.Steps.{Run, effect, run}
-use Rattle.vk_base.proofs.OptionLemmas.{bind_is}
+use Rattle.vk_base.proofs.OptionLemmas.{bind_is, mapped_is}
 use Rattle.v_laws.specs.Places.{IsReplyAt, before, effect_at, given_by}
 use Rattle.v_laws.specs.Reached.{saw}
 use Rattle.v_laws.specs.Sizes.{reply_fits, size_in}
 use Rattle.v_laws.proofs.Held.{holding_is}
 use Rattle.v_laws.proofs.Later.{rank, taken_rank}
 use Rattle.v_laws.proofs.OnceLemmas.{never_back}
-use Rattle.v_laws.proofs.Options.{mapped_is}
 use Rattle.v_laws.proofs.PlaceLemmas.{at_place, before_after}
 use Rattle.v_laws.proofs.SizeLemmas.{sized_run}
 use Rattle.v_laws.proofs.Tables.{put_exchange_here}

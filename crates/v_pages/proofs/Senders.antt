@@ -2,15 +2,10 @@
 use Rattle.std.proofs.Common.{◌≡◌, ℕ, ◌<◌, ◌≤◌, Bool, true, false, List, [], slice_get, length, Option, Some, refl, sym, ap, subst, ◌∙◌, inl, inr, arith}
 use Rattle.std.proofs.lemmas.Bool.{cases_lt, cases_order, cond-true, cond-false}
 use Rattle.std.proofs.lemmas.Option.{same_Some}
+use Rattle.vk_types.specs.Types.{Exchange, Message, Pid, Process, ProcessSpec, Step}
 use Rattle.vk_base.specs.declared.answer.Answer.TheVariants as answers
 use Rattle.vk_base.specs.declared.call.Call.TheVariants as calls
-use Rattle.vk_base.specs.declared.config.ProcessSpec.{ProcessSpec}
-use Rattle.vk_base.specs.declared.kernel.Exchange.{Exchange}
-use Rattle.vk_base.specs.declared.kernel.Process.{Process}
 use Rattle.vk_base.specs.declared.kernel.State.TheVariants as states
-use Rattle.vk_base.specs.declared.message.Message.{Message}
-use Rattle.vk_base.specs.declared.pid.Pid.{Pid}
-use Rattle.vk_base.specs.declared.step.Step.{Step}
 use Rattle.vk_base.specs.declared.step.Step.TheVariants as steps
 use Rattle.vk_base.specs.Kernel.{◌>>=◌, Kernel, held, initial_kernel, name_of, sending}
 use Rattle.vk_base.specs.Messages.{segment_of}
@@ -30,7 +25,7 @@ use Rattle.v_laws.proofs.ReplyLemmas.{own_reply}
 use Rattle.v_laws.proofs.SoundMoves.{with_no_bytes}
 use Rattle.v_laws.proofs.StepLemmas.{taking_is}
 use Rattle.v_laws.proofs.Tables.{same_pid_is}
-use Rattle.v_pages.specs.Followed.{Follows}
+use Rattle.v_pages.specs.Followed.{FollowsTask}
 use Rattle.v_pages.specs.PageMap.{PageMap, is_lawful_read, map_after, memory_after}
 use Rattle.v_pages.specs.Requests.{Request, request_at, requests_before}
 use Rattle.v_pages.specs.Served.{IsServed, IsServedAlone, RepliesToLast}
@@ -52,7 +47,7 @@ page_back m dest bytes page memory at room =
     ∙ read_back memory dest bytes room ∙ at.is
 
 served_by : (pages requests : ℕ) (specs : List ProcessSpec) (ss : List Step) (i j : ℕ) (s target r : Pid) (message reply : Message) →
-    Follows (server_call pages requests) specs ss r →
+    FollowsTask (server_call pages requests) specs ss r →
     (c : Collects specs ss i s (calls.Send target message) (answers.Replied reply)) →
     IsEnded specs ss i j s target r message reply c.sender → IsServed specs ss i j s r pages reply
 served_by pages requests specs ss i j s target r message reply follows c e =
@@ -85,7 +80,7 @@ served_by pages requests specs ss i j s target r message reply follows c e =
     }
 
 pub requests_served : (specs : List ProcessSpec) (ss : List Step) (whole : Run) (r : Pid) (pages requests i j : ℕ) (s target : Pid)
-    (message reply : Message) → run (initial_kernel specs) ss ≡ Some whole → Follows (server_call pages requests) specs ss r →
+    (message reply : Message) → run (initial_kernel specs) ss ≡ Some whole → FollowsTask (server_call pages requests) specs ss r →
     slice_get ss i ≡ Some (steps.Collect s) → seen_at specs ss i ≡ saw s (calls.Send target message) (answers.Replied reply) →
     RepliesToLast specs ss i j s r → IsServed specs ss i j s r pages reply
 requests_served specs ss whole r pages requests i j s target message reply g follows is sees h =
@@ -186,7 +181,7 @@ called_first specs ss i j s r m p q takes name c = elim (cases_lt c.place i) [
 ]
 
 served_alone : (pages requests : ℕ) (specs : List ProcessSpec) (ss : List Step) (i j : ℕ) (s r : Pid) (message reply : Message)
-    (p : Process) → Follows (server_call pages requests) specs ss r → process_at specs ss i s ≡ Some p →
+    (p : Process) → FollowsTask (server_call pages requests) specs ss r → process_at specs ss i s ≡ Some p →
     IsEnded specs ss i j s r r message reply p → IsServed specs ss i j s r pages reply → IsServedAlone specs ss i s r pages message reply
 served_alone pages requests specs ss i j s r message reply p follows now e v =
     let keeps = keeps_each pages requests specs ss r follows in
@@ -244,7 +239,7 @@ was_ended_by specs ss whole r i s message reply g never is sees =
     }
 
 pub senders_served : (specs : List ProcessSpec) (ss : List Step) (whole : Run) (r : Pid) (pages requests i : ℕ) (s : Pid)
-    (message reply : Message) → run (initial_kernel specs) ss ≡ Some whole → Follows (server_call pages requests) specs ss r →
+    (message reply : Message) → run (initial_kernel specs) ss ≡ Some whole → FollowsTask (server_call pages requests) specs ss r →
     slice_get ss i ≡ Some (steps.Collect s) → seen_at specs ss i ≡ saw s (calls.Send r message) (answers.Replied reply) →
     IsServedAlone specs ss i s r pages message reply
 senders_served specs ss whole r pages requests i s message reply g follows is sees =

@@ -4,16 +4,10 @@ use Rattle.std.proofs.lemmas.Bool.{both_ways, cond-true, not-false}
 use Rattle.std.proofs.lemmas.List.{append-nil}
 use Rattle.std.proofs.lemmas.Option.{same_Some}
 use Rattle.std.proofs.Math.Seq.{take-append_seam}
+use Rattle.vk_types.specs.Types.{Exchange, Message, Name, Pid, Process, ProcessSpec, Step}
 use Rattle.vk_base.specs.declared.answer.Refusal.TheVariants as refusals
 use Rattle.vk_base.specs.declared.call.Call.TheVariants as calls
-use Rattle.vk_base.specs.declared.config.ProcessSpec.{ProcessSpec}
-use Rattle.vk_base.specs.declared.kernel.Exchange.{Exchange}
-use Rattle.vk_base.specs.declared.kernel.Name.{Name}
-use Rattle.vk_base.specs.declared.kernel.Process.{Process}
 use Rattle.vk_base.specs.declared.limits.TheConstants.{SEGMENT_BYTES}
-use Rattle.vk_base.specs.declared.message.Message.{Message}
-use Rattle.vk_base.specs.declared.pid.Pid.{Pid}
-use Rattle.vk_base.specs.declared.step.Step.{Step}
 use Rattle.vk_base.specs.declared.step.Step.TheVariants as steps
 use Rattle.vk_base.specs.Calls.{first_part, unseen}
 use Rattle.vk_base.specs.Kernel.{◌>>=◌, Kernel, is_live}
@@ -33,7 +27,7 @@ use Rattle.v_laws.proofs.Queues.{taken_was_queued}
 use Rattle.v_laws.proofs.SoundLemmas.{step_is}
 use Rattle.v_laws.proofs.StepLemmas.{passes_first, taking_is}
 use Rattle.v_laws.proofs.Tables.{same_pid_is}
-use Rattle.v_pages.specs.Followed.{Follows, answers_before, calls_before}
+use Rattle.v_pages.specs.Followed.{FollowsTask, answers_before, calls_before}
 use Rattle.v_pages.specs.PageMap.{is_lawful_write}
 use Rattle.v_pages.specs.Requests.{Request, request_at, requests_before}
 use Rattle.v_pages.specs.Written.{IsSentBefore}
@@ -123,7 +117,7 @@ read_whole memory part size =
     all = ap (take (length part)) (sym (append-nil part)) ∙ take-append_seam part []
 
 pub writes_sent : (specs : List ProcessSpec) (ss : List Step) (r : Pid) (pages requests i : ℕ) (q : Request) →
-    Follows (server_call pages requests) specs ss r → request_at specs ss r i ≡ Some q → is_lawful_write pages q.message ≡ true →
+    FollowsTask (server_call pages requests) specs ss r → request_at specs ss r i ≡ Some q → is_lawful_write pages q.message ≡ true →
     IsSentBefore specs ss i r q
 writes_sent specs ss r pages requests i q follows takes lawful =
     let a = request_is specs ss r i q takes in

@@ -2,22 +2,15 @@
 use Rattle.std.proofs.Common.{◌≡◌, ℕ, zero, suc, ◌≤◌, Bool, true, false, List, slice_get, Option, Some, None, option_map, refl, sym, ap, subst, ◌∙◌, inl, inr, arith, le_of_eq}
 use Rattle.std.proofs.lemmas.Bool.{both_ways, cond-true}
 use Rattle.std.proofs.lemmas.Option.{same_Some, none-some}
-use Rattle.vk_base.specs.declared.answer.Answer.{Answer}
-use Rattle.vk_base.specs.declared.call.Call.{Call}
+use Rattle.vk_types.specs.Types.{Answer, Call, Exchange, Message, Name, Pid, ProcessSpec, Stage, Step}
 use Rattle.vk_base.specs.declared.call.Call.TheVariants as calls
-use Rattle.vk_base.specs.declared.config.ProcessSpec.{ProcessSpec}
-use Rattle.vk_base.specs.declared.kernel.Exchange.{Exchange}
-use Rattle.vk_base.specs.declared.kernel.Name.{Name}
-use Rattle.vk_base.specs.declared.kernel.Stage.{Stage}
 use Rattle.vk_base.specs.declared.kernel.Stage.TheVariants as kinds
-use Rattle.vk_base.specs.declared.message.Message.{Message}
-use Rattle.vk_base.specs.declared.pid.Pid.{Pid}
-use Rattle.vk_base.specs.declared.step.Step.{Step}
 use Rattle.vk_base.specs.declared.step.Step.TheVariants as steps
 use Rattle.vk_base.specs.Calls.{Effect}
 use Rattle.vk_base.specs.Kernel.{◌>>=◌, Kernel, initial_kernel, is_move, is_posted, is_queued}
 use Rattle.vk_base.specs.Pids.{same_pid}
 use Rattle.vk_base.specs.Steps.{effect}
+use Rattle.vk_base.proofs.PidLemmas.{same_pid_self}
 use Rattle.vk_pages.specs.Servers.{answered_all, new_server, server_call, stage_call}
 use Rattle.vk_pages.specs.declared.serving.Serving.{Serving}
 use Rattle.vk_pages.specs.declared.serving.Serving.TheVariants as stages
@@ -25,10 +18,9 @@ use Rattle.v_laws.specs.Places.{before}
 use Rattle.v_laws.specs.Sound.{IsSound}
 use Rattle.v_laws.proofs.Changes.{StageOn}
 use Rattle.v_laws.proofs.Later.{Becomes, exchange_before, exchange_later}
-use Rattle.v_laws.proofs.PlaceLemmas.{IsNext, along, before_first, before_next, before_sound}
+use Rattle.v_laws.proofs.PlaceLemmas.{ComesOfStep, along, before_first, before_next, before_sound}
 use Rattle.v_laws.proofs.SoundLemmas.{step_is}
-use Rattle.v_laws.proofs.Tables.{same_pid_self}
-use Rattle.v_pages.specs.Followed.{Follows, answers_before, call_at, call_by}
+use Rattle.v_pages.specs.Followed.{FollowsTask, answers_before, call_at, call_by}
 
 -- a call for a move, or a Forward
 abbrev pub gives_away : Call → Bool
@@ -58,14 +50,14 @@ KeepsEach ss r = (i : ℕ) (s : Step) → slice_get ss i ≡ Some s → KeepsAll
 
 -- as where none of the calls of the task of r is one
 pub task_keeps : (task : List Answer → Option Call) (specs : List ProcessSpec) (ss : List Step) (r : Pid) →
-    ((given : List Answer) (c : Call) → task given ≡ Some c → gives_away c ≡ false) → Follows task specs ss r → KeepsEach ss r
+    ((given : List Answer) (c : Call) → task given ≡ Some c → gives_away c ≡ false) → FollowsTask task specs ss r → KeepsEach ss r
 task_keeps task specs ss r keeps follows i s is c same =
     let call : call_at ss r i ≡ Some c = ap (λ o. o >>= call_by r) is ∙ ap (call_by r) same
     ∙ cond-true (same_pid r r) (Some c) None (same_pid_self r) in
     keeps (answers_before specs ss r i) c (follows i c call).told
 
 pub keeps_each : (pages requests : ℕ) (specs : List ProcessSpec) (ss : List Step) (r : Pid) →
-    Follows (server_call pages requests) specs ss r → KeepsEach ss r
+    FollowsTask (server_call pages requests) specs ss r → KeepsEach ss r
 keeps_each pages requests specs ss r = task_keeps (server_call pages requests) specs ss r
     (λ given c told.
     let server = answered_all requests (new_server pages requests) given in
@@ -86,7 +78,7 @@ never_hands ss r keeps i s is m from to step = both_ways true (keeps i s is (cal
 -- What holds at first, and over each step, holds at each place.
 next_place : (specs : List ProcessSpec) (ss : List Step) (Q : Kernel → Type 0) →
     ((i : ℕ) (k : Kernel) (s : Step) (e : Effect) → slice_get ss i ≡ Some s → before specs ss i ≡ Some k → IsSound k →
-    effect k s ≡ Some e → Q k → Q e.after) → (i : ℕ) (l : Kernel) → IsNext specs ss i l →
+    effect k s ≡ Some e → Q k → Q e.after) → (i : ℕ) (l : Kernel) → ComesOfStep specs ss i l →
     ((k : Kernel) → before specs ss i ≡ Some k → Q k) → Q l
 next_place specs ss Q over i l n so_far = elim n.how [
   | inl h ↦ subst Q h.4 (over i n.kernel h.0 h.1 h.2 n.at (before_sound specs ss i n.kernel n.at) h.3 (so_far n.kernel n.at))

@@ -2,33 +2,27 @@
 use Rattle.std.proofs.Common.{◌≡◌, ℕ, suc, ◌<◌, ◌≤◌, true, false, List, [], ◌∷◌, ◌++◌, slice_get, Some, None, option_map, refl, sym, ap, ◌∙◌, inl, inr, arith, take}
 use Rattle.std.proofs.lemmas.Bool.{both_ways, cases_order, cond-true, eq-eqb, eqb-true}
 use Rattle.std.proofs.lemmas.Option.{same_Some, none-some}
-use Rattle.vk_base.specs.declared.config.ProcessSpec.{ProcessSpec}
-use Rattle.vk_base.specs.declared.kernel.Exchange.{Exchange}
-use Rattle.vk_base.specs.declared.kernel.Name.{Name}
-use Rattle.vk_base.specs.declared.kernel.Process.{Process}
-use Rattle.vk_base.specs.declared.kernel.Stage.{Stage}
+use Rattle.vk_types.specs.Types.{Exchange, Name, Pid, Process, ProcessSpec, Stage, Step}
 use Rattle.vk_base.specs.declared.kernel.Stage.TheVariants as stages
 use Rattle.vk_base.specs.declared.kernel.State.TheVariants as states
-use Rattle.vk_base.specs.declared.pid.Pid.{Pid}
-use Rattle.vk_base.specs.declared.step.Step.{Step}
 use Rattle.vk_base.specs.declared.step.Step.TheVariants as steps
 use Rattle.vk_base.specs.Calls.{unseen}
 use Rattle.vk_base.specs.Kernel.{◌>>=◌, Kernel, initial_kernel, held, is_taken, name_of}
 use Rattle.vk_base.specs.Pids.{same_host, same_pid}
 use Rattle.vk_base.specs.Ranges.{range_of, bytes_in}
 use Rattle.vk_base.specs.Steps.{Run, Taking, run, taking, taken, received, with_part}
-use Rattle.vk_base.proofs.OptionLemmas.{bind_is}
+use Rattle.vk_base.proofs.OptionLemmas.{bind_is, mapped_is}
+use Rattle.vk_base.proofs.PidLemmas.{same_pid_self}
 use Rattle.vk_event.specs.declared.task.TheConstants.{PAGE_BYTES}
 use Rattle.v_laws.specs.Places.{before, process_after, taken_at, taken_by}
 use Rattle.v_laws.specs.Reached.{IsReached}
 use Rattle.v_laws.proofs.Changes.{taken_is_at_target}
 use Rattle.v_laws.proofs.Held.{holding_is}
 use Rattle.v_laws.proofs.OnceLemmas.{IsTakenAt, one_open, taken_at_is, taken_over}
-use Rattle.v_laws.proofs.Options.{mapped_is}
 use Rattle.v_laws.proofs.PlaceLemmas.{at_place, before_sound}
 use Rattle.v_laws.proofs.Queues.{taken_was_queued}
 use Rattle.v_laws.proofs.StepLemmas.{only_if_is}
-use Rattle.v_laws.proofs.Tables.{same_pid_is, same_pid_self, put_process_here}
+use Rattle.v_laws.proofs.Tables.{same_pid_is, put_process_here}
 use Rattle.v_pages.specs.Requests.{Request, request_at, requests_before, taking_by}
 use Rattle.v_pages.proofs.Lists.{IsLastAt, last_at}
 use Rattle.v_pages.proofs.Places.{request_here}

@@ -2,25 +2,13 @@
 use Rattle.std.proofs.Common.{◌≡◌, ◌⊎◌, ℕ, Bool, true, false, ◌&&◌, ◌||◌, is_none, is_some, Some, None, refl, sym, ap, subst, ◌∙◌, inl, inr}
 use Rattle.std.proofs.lemmas.Bool.{both_ways, or_left, or_right, and_parts, eqb-true, eq-eqb}
 use Rattle.std.proofs.lemmas.Option.{same_Some, none-some}
-use Rattle.vk_base.specs.declared.answer.Answer.{Answer}
+use Rattle.vk_types.specs.Types.{Answer, Call, Direction, Ending, Exchange, Message, MoveName, Name, Pid, Process, Refusal, State, Step}
 use Rattle.vk_base.specs.declared.answer.Answer.TheVariants as answers
-use Rattle.vk_base.specs.declared.answer.Ending.{Ending}
 use Rattle.vk_base.specs.declared.answer.Ending.TheVariants as endings
-use Rattle.vk_base.specs.declared.answer.Refusal.{Refusal}
 use Rattle.vk_base.specs.declared.answer.Refusal.TheVariants as refusals
-use Rattle.vk_base.specs.declared.call.Call.{Call}
 use Rattle.vk_base.specs.declared.call.Call.TheVariants as calls
-use Rattle.vk_base.specs.declared.kernel.Direction.{Direction}
 use Rattle.vk_base.specs.declared.kernel.Direction.TheVariants as directions
-use Rattle.vk_base.specs.declared.kernel.Exchange.{Exchange}
-use Rattle.vk_base.specs.declared.kernel.MoveName.{MoveName}
-use Rattle.vk_base.specs.declared.kernel.Name.{Name}
-use Rattle.vk_base.specs.declared.kernel.Process.{Process}
-use Rattle.vk_base.specs.declared.kernel.State.{State}
 use Rattle.vk_base.specs.declared.kernel.State.TheVariants as states
-use Rattle.vk_base.specs.declared.message.Message.{Message}
-use Rattle.vk_base.specs.declared.pid.Pid.{Pid}
-use Rattle.vk_base.specs.declared.step.Step.{Step}
 use Rattle.vk_base.specs.declared.step.Step.TheVariants as steps
 use Rattle.vk_base.specs.Calls.{Effect, is_bereft, is_message_at}
 use Rattle.vk_base.specs.Kernel.{Kernel, name_of, holds_of, is_moving, is_asking, is_ready, ended, sending, held, waiting_on, receiving, finished_call}
@@ -59,9 +47,9 @@ pub data Kept (k : Kernel) (s : Step) (q : Pid) (p after : Process) : Type 0 whe
       same_host pid q ≡ true → Kept k s q p after
 
 -- the call in which it waits goes on, or is over
-pub data GoesOn (p after : Process) : Type 0 where
-  still : after.state ≡ p.state → after.sends ≡ p.sends → GoesOn p after
-  over : (a : Answer) → after.state ≡ ended p.state a → after.sends ≡ p.sends → GoesOn p after
+pub data ProcessGoesOn (p after : Process) : Type 0 where
+  still : after.state ≡ p.state → after.sends ≡ p.sends → ProcessGoesOn p after
+  over : (a : Answer) → after.state ≡ ended p.state a → after.sends ≡ p.sends → ProcessGoesOn p after
 
 -- a process that waits in a move stays in it, unless the move ends
 abbrev pub StaysIn : Step → Pid → Process → Process → Type 0
@@ -74,7 +62,7 @@ pub data Touched (k : Kernel) (s : Step) (q : Pid) (p after : Process) : Type 0 
   takes : s ≡ steps.Take q → is_waiting p.state ≡ false → has_reply after.state ≡ false → Touched k s q p after
   collects : s ≡ steps.Collect q → is_waiting p.state ≡ false → has_reply after.state ≡ false → Touched k s q p after
   finishes : s ≡ steps.Finish q → sending after.state ≡ None → Touched k s q p after
-  waits : is_waiting p.state ≡ true → has_reply after.state ≡ false → Kept k s q p after → GoesOn p after → StaysIn s q p after →
+  waits : is_waiting p.state ≡ true → has_reply after.state ≡ false → Kept k s q p after → ProcessGoesOn p after → StaysIn s q p after →
       Touched k s q p after
 
 abbrev pub AllTouched : Kernel → Step → Kernel → Type 0
@@ -126,7 +114,7 @@ ended_no_reply (states.Done c b) a w f = absurd (both_ways false refl w)
 -- a call in which it waits is over
 ended_on : (k : Kernel) (s : Step) (q : Pid) (p : Process) (a : Answer) → is_waiting p.state ≡ true → is_reply a ≡ false →
     StaysIn s q p (record p { state = ended p.state a }) → Touched k s q p (record p { state = ended p.state a })
-ended_on k s q p a w none in_move = Touched.waits w (ended_no_reply p.state a w none) (Kept.stays refl) (GoesOn.over a refl refl) in_move
+ended_on k s q p a w none in_move = Touched.waits w (ended_no_reply p.state a w none) (Kept.stays refl) (ProcessGoesOn.over a refl refl) in_move
 
 -- in a Send or in a lookup it is in no move
 send_no_move : (t : State) (x : Pid × Message) → sending t ≡ Some x → is_moving t ≡ true → ⊥
@@ -156,7 +144,7 @@ near_on k s pid partner number dest src count q after step sound holds near at s
     let blocked : q.state ≡ states.Blocked (calls.Send h.exchange.target h.exchange.message) =
     ap (λ (z : Process). z.state) (same_Some q w.process (sym at ∙ w.is)) ∙ w.blocked in
     Touched.waits (ap is_waiting blocked) (ap has_reply (state ∙ blocked))
-    (Kept.moved pid dest src count number step holds near) (GoesOn.still state sends)
+    (Kept.moved pid dest src count number step holds near) (ProcessGoesOn.still state sends)
     (λ moves. absurd (send_no_move q.state (h.exchange.target, h.exchange.message) (ap sending blocked) moves))
 
 in_send : (k : Kernel) (pid q : Pid) (w : Process) → is_bereft k pid q w ≡ true → (x : Pid × Message) × (sending w.state ≡ Some x)
@@ -260,7 +248,7 @@ touched_on k s l q p after sound at (Touch.writes n number offset count c call g
     Touched.waits (ap (λ (z : Process). is_waiting z.state) same ∙ w)
     (ap (λ (z : Process). has_reply z.state) is ∙ waiting_no_reply c.process.state w)
     (Kept.copied_to n number offset count c g who (sym same))
-    (GoesOn.still state (ap (λ (z : Process). z.sends) is ∙ ap (λ (z : Process). z.sends) (sym same))) (λ moves. inl (state, moving))
+    (ProcessGoesOn.still state (ap (λ (z : Process). z.sends) is ∙ ap (λ (z : Process). z.sends) (sym same))) (λ moves. inl (state, moving))
 touched_on k s l q p after sound at (Touch.ends why x call g same is) =
     let w = ended_touched k q why x g in
     over_on k s q p after x.1 is (ap (λ (z : Process). is_waiting z.state) same ∙ w.0) w.1 (λ moves. inr (why, call))

@@ -3,15 +3,10 @@ use Rattle.std.proofs.Common.{◌≡◌, ℕ, suc, ◌+◌, ◌≤◌, true, fal
 use Rattle.std.proofs.lemmas.Bool.{both_ways, cond-true}
 use Rattle.std.proofs.lemmas.List.{append-nil, length-append}
 use Rattle.std.proofs.lemmas.Option.{same_Some, none-some}
-use Rattle.vk_base.specs.declared.answer.Answer.{Answer}
+use Rattle.vk_types.specs.Types.{Answer, Call, Pid, Process, State, Step}
 use Rattle.vk_base.specs.declared.answer.Answer.TheVariants as answers
-use Rattle.vk_base.specs.declared.call.Call.{Call}
 use Rattle.vk_base.specs.declared.call.Call.TheVariants as calls
-use Rattle.vk_base.specs.declared.kernel.Process.{Process}
-use Rattle.vk_base.specs.declared.kernel.State.{State}
 use Rattle.vk_base.specs.declared.kernel.State.TheVariants as states
-use Rattle.vk_base.specs.declared.pid.Pid.{Pid}
-use Rattle.vk_base.specs.declared.step.Step.{Step}
 use Rattle.vk_base.specs.declared.step.Step.TheVariants as steps
 use Rattle.vk_base.specs.Calls.{Effect, unseen, answered as seen_answered}
 use Rattle.vk_base.specs.Kernel.{◌>>=◌, Kernel, as_receive, receiving, finished_call, with_state}
@@ -19,6 +14,7 @@ use Rattle.vk_base.specs.Pids.{same_pid}
 use Rattle.vk_base.specs.Ranges.{range_of, bytes_in, with_bytes}
 use Rattle.vk_base.specs.Steps.{Taking, effect, taking, taken as kernel_taken, received, with_part, finishing, collecting}
 use Rattle.vk_base.proofs.OptionLemmas.{bind_is}
+use Rattle.vk_base.proofs.PidLemmas.{same_pid_self}
 use Rattle.vk_event.specs.declared.task.TheConstants.{PAGE_BYTES}
 use Rattle.vk_pages.specs.Servers.{IsServerAfter, seen, server_call, taken}
 use Rattle.vk_pages.specs.declared.serving.Serving.{Serving}
@@ -27,7 +23,7 @@ use Rattle.vk_pages.proofs.Answering.{called_after}
 use Rattle.v_laws.specs.Sound.{IsSound}
 use Rattle.v_laws.proofs.Sizes.{length-with_bytes, taken_most}
 use Rattle.v_laws.proofs.StepLemmas.{finishing_is, taking_is, collecting_is}
-use Rattle.v_laws.proofs.Tables.{same_pid_self, put_process_here}
+use Rattle.v_laws.proofs.Tables.{put_process_here}
 use Rattle.v_pages.specs.Followed.{call_by}
 use Rattle.v_pages.specs.Requests.{Request, taking_by}
 use Rattle.v_pages.proofs.Asked.{asked}
@@ -79,14 +75,14 @@ call_next pages requests made given all k r c e p y at count next there later do
     (called_after at.kept pages requests at.replies at.stage given at.is ∙ next) (outcome_of k r p c e there does)))
 
 -- It takes a request.
-pub record IsWaiting (pages : ℕ) (kept : List (List ℕ)) (all : List Request) (p : Process) (stage : Serving) (made given : ℕ) (c : Call) :
+pub record IsTakingNext (pages : ℕ) (kept : List (List ℕ)) (all : List Request) (p : Process) (stage : Serving) (made given : ℕ) (c : Call) :
     Type 0 where
   pub more : made ≡ given + 1
   pub call : c ≡ calls.ReceiveSegment 0 PAGE_BYTES
   pub is : IsReceiving pages kept all p stage c
 
 pub waiting_when : (pages : ℕ) (kept : List (List ℕ)) (all : List Request) (p : Process) (stage : Serving) (made given : ℕ) (t : State)
-    (c : Call) → Doing pages kept all p stage made given t → receiving t ≡ Some c → IsWaiting pages kept all p stage made given c
+    (c : Call) → Doing pages kept all p stage made given t → receiving t ≡ Some c → IsTakingNext pages kept all p stage made given c
 waiting_when pages kept all p stage made given states.Ready c doing is = absurd (none-some c is)
 waiting_when pages kept all p stage made given (states.Blocked d) c doing is =
     let same : calls.ReceiveSegment 0 PAGE_BYTES ≡ c =
@@ -213,7 +209,7 @@ take_next pages requests made given all k r e p y at there later does =
     t : Taking
     t = b.take
 
-    waits : IsWaiting pages at.kept all p at.stage made (length given) t.call
+    waits : IsTakingNext pages at.kept all p at.stage made (length given) t.call
     waits = waiting_when pages at.kept all p at.stage made (length given) p.state t.call at.doing
         (ap (λ (z : Process). receiving z.state) (sym b.own) ∙ (taking_is k r t b.takes).call)
 

@@ -3,17 +3,10 @@ use Rattle.std.proofs.Common.{◌≡◌, ℕ, zero, suc, ◌+◌, ◌<◌, true,
 use Rattle.std.specs.Prelude.{find}
 use Rattle.std.proofs.lemmas.Bool.{and_parts, both_ways, cases_Bool, eqb-true}
 use Rattle.std.proofs.lemmas.Option.{same_Some, none-some}
+use Rattle.vk_types.specs.Types.{Direction, Exchange, Message, Name, Pid, Process, ProcessSpec, Step}
 use Rattle.vk_base.specs.declared.call.Call.TheVariants as calls
-use Rattle.vk_base.specs.declared.config.ProcessSpec.{ProcessSpec}
-use Rattle.vk_base.specs.declared.kernel.Direction.{Direction}
 use Rattle.vk_base.specs.declared.kernel.Direction.TheVariants as directions
-use Rattle.vk_base.specs.declared.kernel.Exchange.{Exchange}
-use Rattle.vk_base.specs.declared.kernel.Name.{Name}
-use Rattle.vk_base.specs.declared.kernel.Process.{Process}
 use Rattle.vk_base.specs.declared.kernel.State.TheVariants as states
-use Rattle.vk_base.specs.declared.message.Message.{Message}
-use Rattle.vk_base.specs.declared.pid.Pid.{Pid}
-use Rattle.vk_base.specs.declared.step.Step.{Step}
 use Rattle.vk_base.specs.declared.step.Step.TheVariants as steps
 use Rattle.vk_base.specs.Calls.{Effect, forwarded, sent}
 use Rattle.vk_base.specs.Kernel.{Kernel, held, holds_of, is_moving, move_of, name_of, put_process, sending, waiting_on}
@@ -28,9 +21,9 @@ use Rattle.v_laws.proofs.Changes.{ProcessOn, taken_is_at_target}
 use Rattle.v_laws.proofs.Held.{holding_is}
 use Rattle.v_laws.proofs.MoveLists.{no_move}
 use Rattle.v_laws.proofs.MoveSteps.{MoveOn, all_moves, pushed, unstaged}
-use Rattle.v_laws.proofs.PlaceLemmas.{IsNext, before_first, before_next, before_sound}
+use Rattle.v_laws.proofs.PlaceLemmas.{ComesOfStep, before_first, before_next, before_sound}
 use Rattle.v_laws.proofs.Related.{related_after}
-use Rattle.v_laws.proofs.SoundCalls.{IsStep}
+use Rattle.v_laws.proofs.SoundCalls.{IsSoundStep}
 use Rattle.v_laws.proofs.SoundLemmas.{initial_ready, step_is}
 use Rattle.v_laws.proofs.States.{moving_sends_none}
 use Rattle.v_laws.proofs.StepLemmas.{copying_is, only_if_is, opening_is, waiting_is}
@@ -195,17 +188,17 @@ sent_back k t l s r m x p pid y target n at now sends step there after = elim (c
     procs = sym (sent_procs k pid y target n s) ∙ ap (λ (z : Kernel). z.procs s) (sym after)
 
 pub step_back : (k : Kernel) (t : Step) (l : Kernel) (r s : Pid) (m : Message) (x p : Process) → k.procs s ≡ Some x → l.procs s ≡ Some p →
-    sending p.state ≡ Some (r, m) → IsStep t k l → Back t s r m x p
-step_back k t l r s m x p at now sends (IsStep.goes on) =
+    sending p.state ≡ Some (r, m) → IsSoundStep t k l → Back t s r m x p
+step_back k t l r s m x p at now sends (IsSoundStep.goes on) =
     let y = related_after (ProcessOn t s) (k.procs s) (l.procs s) x (on.processes s) at in
     let later : ProcessOn t s x p = subst (ProcessOn t s x) (same_Some y.0 p (sym y.1 ∙ now)) y.2 in
     Back.waited (later.sent (r, m) sends) later.sends
-step_back k t l r s m x p at now sends (IsStep.sends pid y target n is there fit after) =
+step_back k t l r s m x p at now sends (IsSoundStep.sends pid y target n is there fit after) =
     sent_back k t l s r m x p pid y target n at now sends is there after
-step_back k t l r s m x p at now sends (IsStep.arrives n e is g after) =
+step_back k t l r s m x p at now sends (IsSoundStep.arrives n e is g after) =
     same_back t s r m x p
     (same_Some x p (sym at ∙ sym (arrived_procs k n e s) ∙ ap (λ (z : Kernel). z.procs s) (sym after) ∙ now)) sends
-step_back k t l r s m x p at now sends (IsStep.forwards pid y n from to is f) =
+step_back k t l r s m x p at now sends (IsSoundStep.forwards pid y n from to is f) =
     same_back t s r m x p
     (same_Some x p (sym at ∙ sym (forwarded_procs k (name_of from f.number) f.exchange n to s)
     ∙ ap (λ (z : Kernel). z.procs s) (sym f.after) ∙ now)) sends
@@ -257,7 +250,7 @@ call_by_back specs ss i k t s r m x p at is there (Back.waited still sends) kept
     later_call specs ss i s r m x p sends (kept still) (again still)
 
 call_by_next : (specs : List ProcessSpec) (ss : List Step) (i : ℕ) (s r : Pid) (m : Message) (l : Kernel)
-    (p : Process) → KeepsEach ss r → IsNext specs ss i l → l.procs s ≡ Some p →
+    (p : Process) → KeepsEach ss r → ComesOfStep specs ss i l → l.procs s ≡ Some p →
     sending p.state ≡ Some (r, m) →
     ((k : Kernel) (x : Process) → before specs ss i ≡ Some k → k.procs s ≡ Some x → sending x.state ≡ Some (r, m) →
     IsCalled specs ss i s r m x) → IsCalled specs ss (suc i) s r m p

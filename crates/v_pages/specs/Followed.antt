@@ -1,11 +1,6 @@
 -- What it is to follow a task: in a list of steps, each call of the process is the task's next one.
 use Rattle.std.specs.Prelude.{ℕ, zero, suc, ◌≡◌, List, [], ◌++◌, length, slice_get, Option, Some, None, option_to_list}
-use Rattle.vk_base.specs.declared.answer.Answer.{Answer}
-use Rattle.vk_base.specs.declared.call.Call.{Call}
-use Rattle.vk_base.specs.declared.config.ProcessSpec.{ProcessSpec}
-use Rattle.vk_base.specs.declared.kernel.Observation.{Observation}
-use Rattle.vk_base.specs.declared.pid.Pid.{Pid}
-use Rattle.vk_base.specs.declared.step.Step.{Step}
+use Rattle.vk_types.specs.Types.{Answer, Call, Observation, Pid, ProcessSpec, Step}
 use Rattle.vk_base.specs.declared.step.Step.TheVariants as steps
 use Rattle.vk_base.specs.Kernel.{◌>>=◌}
 use Rattle.vk_base.specs.Pids.{same_pid}
@@ -45,6 +40,6 @@ pub record IsNextCall (task : List Answer → Option Call) (earlier : List Call)
   pub told : task answers ≡ Some c
 
 -- the process follows a task: each call that it makes is the task's next one
-abbrev pub Follows : (List Answer → Option Call) → List ProcessSpec → List Step → Pid → Type 0
-Follows task specs ss r =
+abbrev pub FollowsTask : (List Answer → Option Call) → List ProcessSpec → List Step → Pid → Type 0
+FollowsTask task specs ss r =
     (i : ℕ) (c : Call) → call_at ss r i ≡ Some c → IsNextCall task (calls_before ss r i) (answers_before specs ss r i) c

@@ -1,6 +1,6 @@
 -- The map from page numbers to bytes that the requests of a server of so many pages make, and the reply of a request.
 use Rattle.std.specs.Prelude.{ℕ, Bool, ◌==◌, ◌&&◌, ◌||◌, not, nat_lt, nat_le, List, [], ◌∷◌, if◌then◌else◌}
-use Rattle.vk_base.specs.declared.message.Message.{Message}
+use Rattle.vk_types.specs.Types.{Message}
 use Rattle.vk_base.specs.Messages.{grants_read, grants_write, segment_of}
 use Rattle.vk_base.specs.Ranges.{with_bytes}
 use Rattle.vk_event.specs.declared.task.TheConstants.{PAGE_BYTES}

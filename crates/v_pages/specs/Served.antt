@@ -1,12 +1,8 @@
 -- What the clients of a page server get, in the runs of the one-machine kernel.
 use Rattle.std.specs.Prelude.{ℕ, ◌≡◌, ◌+◌, ◌<◌, true, false, List, [], slice_get, Some}
+use Rattle.vk_types.specs.Types.{Message, Pid, Process, ProcessSpec, Step}
 use Rattle.vk_base.specs.declared.answer.Answer.TheVariants as answers
 use Rattle.vk_base.specs.declared.call.Call.TheVariants as calls
-use Rattle.vk_base.specs.declared.config.ProcessSpec.{ProcessSpec}
-use Rattle.vk_base.specs.declared.kernel.Process.{Process}
-use Rattle.vk_base.specs.declared.message.Message.{Message}
-use Rattle.vk_base.specs.declared.pid.Pid.{Pid}
-use Rattle.vk_base.specs.declared.step.Step.{Step}
 use Rattle.vk_base.specs.declared.step.Step.TheVariants as steps
 use Rattle.vk_base.specs.Kernel.{initial_kernel, name_of}
 use Rattle.vk_base.specs.Messages.{segment_of}
@@ -17,7 +13,7 @@ use Rattle.vk_pages.specs.Messages.{page_of}
 use Rattle.vk_pages.specs.Servers.{server_call}
 use Rattle.v_laws.specs.Places.{IsReplyAt, process_at, seen_at, taken_at}
 use Rattle.v_laws.specs.Reached.{saw}
-use Rattle.v_pages.specs.Followed.{Follows}
+use Rattle.v_pages.specs.Followed.{FollowsTask}
 use Rattle.v_pages.specs.PageMap.{is_lawful_read, map_after, memory_after, reply_for}
 use Rattle.v_pages.specs.Requests.{Request, request_at, requests_before}
 
@@ -78,7 +74,7 @@ pub record IsServedAlone (specs : List ProcessSpec) (ss : List Step) (i : ℕ) (
 abbrev pub RequestsAreServed : Type 0
 RequestsAreServed = (specs : List ProcessSpec) (ss : List Step) (whole : Run) (r : Pid) (pages requests i j : ℕ) (s target : Pid)
     (message reply : Message) →
-    run (initial_kernel specs) ss ≡ Some whole → Follows (server_call pages requests) specs ss r →
+    run (initial_kernel specs) ss ≡ Some whole → FollowsTask (server_call pages requests) specs ss r →
     slice_get ss i ≡ Some (steps.Collect s) → seen_at specs ss i ≡ saw s (calls.Send target message) (answers.Replied reply) →
     RepliesToLast specs ss i j s r → IsServed specs ss i j s r pages reply
 
@@ -86,6 +82,6 @@ RequestsAreServed = (specs : List ProcessSpec) (ss : List Step) (whole : Run) (r
 abbrev pub SendersAreServed : Type 0
 SendersAreServed = (specs : List ProcessSpec) (ss : List Step) (whole : Run) (r : Pid) (pages requests i : ℕ) (s : Pid)
     (message reply : Message) →
-    run (initial_kernel specs) ss ≡ Some whole → Follows (server_call pages requests) specs ss r →
+    run (initial_kernel specs) ss ≡ Some whole → FollowsTask (server_call pages requests) specs ss r →
     slice_get ss i ≡ Some (steps.Collect s) → seen_at specs ss i ≡ saw s (calls.Send r message) (answers.Replied reply) →
     IsServedAlone specs ss i s r pages message reply

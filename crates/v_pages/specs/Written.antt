@@ -1,19 +1,15 @@
 -- Where the bytes of a lawful write come from.
 use Rattle.std.specs.Prelude.{ℕ, ◌≡◌, ◌+◌, ◌<◌, true, List, slice_get, Some}
+use Rattle.vk_types.specs.Types.{Message, Pid, Process, ProcessSpec, Step}
 use Rattle.vk_base.specs.declared.call.Call.TheVariants as calls
-use Rattle.vk_base.specs.declared.config.ProcessSpec.{ProcessSpec}
-use Rattle.vk_base.specs.declared.kernel.Process.{Process}
-use Rattle.vk_base.specs.declared.pid.Pid.{Pid}
-use Rattle.vk_base.specs.declared.step.Step.{Step}
 use Rattle.vk_base.specs.declared.step.Step.TheVariants as steps
-use Rattle.vk_base.specs.declared.message.Message.{Message}
 use Rattle.vk_base.specs.Messages.{grants_read, segment_of}
 use Rattle.vk_base.specs.Pids.{same_host}
 use Rattle.vk_base.specs.Ranges.{bytes_in}
 use Rattle.vk_event.specs.declared.task.TheConstants.{PAGE_BYTES}
 use Rattle.vk_pages.specs.Servers.{server_call}
 use Rattle.v_laws.specs.Places.{process_at}
-use Rattle.v_pages.specs.Followed.{Follows}
+use Rattle.v_pages.specs.Followed.{FollowsTask}
 use Rattle.v_pages.specs.PageMap.{is_lawful_write}
 use Rattle.v_pages.specs.Requests.{Request, request_at}
 
@@ -36,5 +32,5 @@ pub record IsSentBefore (specs : List ProcessSpec) (ss : List Step) (i : ℕ) (r
 -- Each lawful write that is taken has the bytes of its sender as they were at the Send.
 abbrev pub WritesAreSent : Type 0
 WritesAreSent = (specs : List ProcessSpec) (ss : List Step) (r : Pid) (pages requests i : ℕ) (q : Request) →
-    Follows (server_call pages requests) specs ss r → request_at specs ss r i ≡ Some q → is_lawful_write pages q.message ≡ true →
+    FollowsTask (server_call pages requests) specs ss r → request_at specs ss r i ≡ Some q → is_lawful_write pages q.message ≡ true →
     IsSentBefore specs ss i r q

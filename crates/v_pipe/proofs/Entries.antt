@@ -3,11 +3,11 @@ use Rattle.std.proofs.Common.{◌≡◌, ℕ, ◌==◌, ◌&&◌, ◌||◌, not,
 use Rattle.std.proofs.lemmas.Bool.{both_ways, cases_Bool, cond-true, cond-false}
 use Rattle.std.proofs.lemmas.List.Elements.{filter-append}
 use Rattle.std.proofs.lemmas.Option.{none-some, same_Some}
-use Rattle.vk_base.specs.declared.answer.Answer.{Answer}
+use Rattle.vk_types.specs.Types.{Answer, Message, Pid}
 use Rattle.vk_base.specs.declared.answer.Answer.TheVariants as answers
-use Rattle.vk_base.specs.declared.message.Message.{Message}
-use Rattle.vk_base.specs.declared.pid.Pid.{Pid}
 use Rattle.vk_base.specs.Pids.{same_pid}
+use Rattle.vk_base.proofs.ListLemmas.{cons_not_nil}
+use Rattle.vk_base.proofs.PidLemmas.{same_pid_self}
 use Rattle.vk_pipe.specs.declared.limits.TheConstants.{WAITING_REQUESTS}
 use Rattle.vk_pipe.specs.declared.news.News.{News}
 use Rattle.vk_pipe.specs.declared.news.News.TheVariants as brings
@@ -20,8 +20,8 @@ use Rattle.vk_pipe.specs.Pipes.{after_news, Ends, Pipe, Puts, Rule, Serves, by_r
 use Rattle.vk_pipe.specs.Requests.{is_close, is_read, is_request, is_write, read_of}
 use Rattle.vk_pipe.specs.Told.{put_by}
 use Rattle.vk_pipe.proofs.Rules.{either_way, judged_goes, settled_goes}
-use Rattle.v_laws.proofs.FilterLemmas.{same_head}
-use Rattle.v_laws.proofs.Tables.{same_pid_is, same_pid_self}
+use Rattle.v_laws.proofs.FilterLemmas.{same_head, same_tail}
+use Rattle.v_laws.proofs.Tables.{same_pid_is}
 use Rattle.v_pipe.specs.Waits.{NoneWaits, reads_of, writes_of}
 
 abbrev pub write_by : Pid → List ℕ → Write
@@ -85,12 +85,6 @@ without_first : {A : Type 0} (f : A → Bool) (xs : List A) (x : A) → slice_ge
     filter f xs ≡ filter f (drop 1 xs)
 without_first f xs x first n = ap (filter f) (first_is xs x first) ∙ cond-false (f x) (x ∷ filter f (drop 1 xs)) (filter f (drop 1 xs)) n
 
-pub never_empty : {A : Type 0} (x : A) (xs : List A) → x ∷ xs ≡ [] → ⊥
-never_empty x xs e = cc
-
-pub rest_same : {A : Type 0} (x y : A) (xs ys : List A) → x ∷ xs ≡ y ∷ ys → xs ≡ ys
-rest_same x y xs ys e = cc
-
 -- one more at the end, which is kept or is not
 with_last : {A : Type 0} (f : A → Bool) (xs : List A) (x : A) → f x ≡ true → filter f (xs ++ x ∷ []) ≡ filter f xs ++ x ∷ []
 with_last {A} f xs x t = filter-append f xs (x ∷ []) ∙ ap (λ (l : List A). filter f xs ++ l) (cond-true (f x) (x ∷ []) [] t)
@@ -114,13 +108,13 @@ HasBy s m b put p rule = Has s m b (put ++ put_by rule) (by_rule p rule).pipe (b
 put_own : (s : Pid) (m : Message) (b : List ℕ) (put : List Write) (p : Pipe) (w : Write) → slice_get p.writes 0 ≡ Some w →
     same_pid w.from s ≡ true → Waits s m b p.writes p.reads → HasBy s m b put p (Puts w)
 put_own s m b put p w first own (Waits.nothing a c) =
-    absurd (never_empty w (writes_of s (drop 1 p.writes)) (sym (with_first (λ (w : Write). same_pid w.from s) p.writes w first own) ∙ a))
+    absurd (cons_not_nil w (writes_of s (drop 1 p.writes)) (sym (with_first (λ (w : Write). same_pid w.from s) p.writes w first own) ∙ a))
 put_own s m b put p w first own (Waits.read is a c) =
-    absurd (never_empty w (writes_of s (drop 1 p.writes)) (sym (with_first (λ (w : Write). same_pid w.from s) p.writes w first own) ∙ a))
+    absurd (cons_not_nil w (writes_of s (drop 1 p.writes)) (sym (with_first (λ (w : Write). same_pid w.from s) p.writes w first own) ∙ a))
 put_own s m b put p w first own (Waits.write is a c) =
     let e = sym (with_first (λ (w : Write). same_pid w.from s) p.writes w first own) ∙ a in
     let same : w ≡ write_by s b = same_head w (write_by s b) (writes_of s (drop 1 p.writes)) [] e in
-    Has.serves own (rest_same w (write_by s b) (writes_of s (drop 1 p.writes)) [] e) c
+    Has.serves own (same_tail w (write_by s b) (writes_of s (drop 1 p.writes)) [] e) c
     (record {
       writes = is;
       last = record { earlier = put; is = ap (λ (x : Write). put ++ x ∷ []) same };
@@ -144,15 +138,15 @@ pub record IsFirst (s : Pid) (m : Message) (p : Pipe) (r : Read) : Type 0 where
 first_own : (s : Pid) (m : Message) (b : List ℕ) (p : Pipe) (r : Read) → slice_get p.reads 0 ≡ Some r → same_pid r.from s ≡ true →
     Waits s m b p.writes p.reads → IsFirst s m p r
 first_own s m b p r first own (Waits.nothing a c) =
-    absurd (never_empty r (reads_of s (drop 1 p.reads)) (sym (with_first (λ (x : Read). same_pid x.from s) p.reads r first own) ∙ c))
+    absurd (cons_not_nil r (reads_of s (drop 1 p.reads)) (sym (with_first (λ (x : Read). same_pid x.from s) p.reads r first own) ∙ c))
 first_own s m b p r first own (Waits.write is a c) =
-    absurd (never_empty r (reads_of s (drop 1 p.reads)) (sym (with_first (λ (x : Read). same_pid x.from s) p.reads r first own) ∙ c))
+    absurd (cons_not_nil r (reads_of s (drop 1 p.reads)) (sym (with_first (λ (x : Read). same_pid x.from s) p.reads r first own) ∙ c))
 first_own s m b p r first own (Waits.read is a c) =
     let e = sym (with_first (λ (x : Read). same_pid x.from s) p.reads r first own) ∙ c in
     record {
       asked = record { reads = is; is = same_head r (read_of s m) (reads_of s (drop 1 p.reads)) [] e };
       writes = a;
-      rest = rest_same r (read_of s m) (reads_of s (drop 1 p.reads)) [] e;
+      rest = same_tail r (read_of s m) (reads_of s (drop 1 p.reads)) [] e;
     }
 
 others_read : (s : Pid) (m : Message) (b : List ℕ) (p : Pipe) (r : Read) → slice_get p.reads 0 ≡ Some r → same_pid r.from s ≡ false →

@@ -2,17 +2,12 @@
 use Rattle.std.proofs.Common.{◌≡◌, ℕ, suc, ◌+◌, ◌≤◌, nat_lt, true, false, not, List, [], ◌∷◌, ◌++◌, length, Some, None, is_none, refl, sym, ap, subst, ◌∙◌, arith}
 use Rattle.std.proofs.lemmas.Bool.{both_ways, leb-true}
 use Rattle.std.proofs.lemmas.Option.{same_Some, none-some}
+use Rattle.vk_types.specs.Types.{Call, Message, Pid, Process, ProcessSpec, Step}
 use Rattle.vk_base.specs.declared.answer.Answer.TheVariants as answers
 use Rattle.vk_base.specs.declared.answer.Refusal.TheVariants as refusals
-use Rattle.vk_base.specs.declared.call.Call.{Call}
 use Rattle.vk_base.specs.declared.call.Call.TheVariants as calls
-use Rattle.vk_base.specs.declared.config.ProcessSpec.{ProcessSpec}
-use Rattle.vk_base.specs.declared.kernel.Process.{Process}
 use Rattle.vk_base.specs.declared.kernel.State.TheVariants as states
 use Rattle.vk_base.specs.declared.limits.TheConstants.{SEGMENT_BYTES}
-use Rattle.vk_base.specs.declared.message.Message.{Message}
-use Rattle.vk_base.specs.declared.pid.Pid.{Pid}
-use Rattle.vk_base.specs.declared.step.Step.{Step}
 use Rattle.vk_base.specs.declared.step.Step.TheVariants as steps
 use Rattle.vk_base.specs.Calls.{Effect, is_granted, is_own, may_write}
 use Rattle.vk_base.specs.Kernel.{Kernel, held, held_exchange}
@@ -23,7 +18,7 @@ use Rattle.v_laws.specs.Places.{IsReplyAt, before, effect_at, given_by}
 use Rattle.v_laws.specs.Reached.{saw}
 use Rattle.v_laws.proofs.PlaceLemmas.{at_place}
 use Rattle.v_laws.proofs.StepLemmas.{IsFit, four_tests}
-use Rattle.v_pages.specs.Followed.{Follows, answer_at, answers_before, calls_before}
+use Rattle.v_pages.specs.Followed.{FollowsTask, answer_at, answers_before, calls_before}
 use Rattle.v_pages.proofs.Calling.{CallOutcome, outcome_of, own_told}
 use Rattle.v_pages.proofs.Lists.{up_to_some}
 use Rattle.v_pages.proofs.Places.{answer_here, call_here}
@@ -48,7 +43,7 @@ never_gives q (stages.Reply to verdict) c e = ap gives_away (sym (same_Some _ c 
 never_gives q stages.Exit c e = ap gives_away (sym (same_Some _ c e))
 never_gives q stages.Ended c e = absurd (none-some c e)
 
-pub pipe_keeps : (requests : ℕ) (specs : List ProcessSpec) (ss : List Step) (r : Pid) → Follows (pipe_call requests) specs ss r →
+pub pipe_keeps : (requests : ℕ) (specs : List ProcessSpec) (ss : List Step) (r : Pid) → FollowsTask (pipe_call requests) specs ss r →
     NeverHands ss r
 pipe_keeps requests specs ss r follows = never_hands ss r (task_keeps (pipe_call requests) specs ss r
     (λ given c told.
@@ -137,7 +132,7 @@ pub record RepliesHere (requests : ℕ) (specs : List ProcessSpec) (ss : List St
   pub reply_is : let t = server_after requests (answers_before specs ss r j) in Reply t.pipe t.stage s reply dest bytes
 
 pub replies_here : (requests : ℕ) (specs : List ProcessSpec) (ss : List Step) (j : ℕ) (s r : Pid) (number : ℕ) (reply : Message)
-    (dest : ℕ) (bytes : List ℕ) → Follows (pipe_call requests) specs ss r → IsReplyAt specs ss j s r number reply dest bytes →
+    (dest : ℕ) (bytes : List ℕ) → FollowsTask (pipe_call requests) specs ss r → IsReplyAt specs ss j s r number reply dest bytes →
     RepliesHere requests specs ss j s r reply dest bytes
 replies_here requests specs ss j s r number reply dest bytes follows rep =
     let k = bind_is (before specs ss j) _ rep.caller rep.then in

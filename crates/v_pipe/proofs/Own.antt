@@ -2,30 +2,23 @@
 use Rattle.std.proofs.Common.{◌≡◌, ◌⊎◌, ℕ, suc, ◌<◌, ◌≤◌, ◌==◌, ◌&&◌, true, false, nat_lt, nat_le, List, ◌++◌, length, take, slice_get, Some, option_to_list, refl, sym, ap, subst, ◌∙◌, inl, inr, arith}
 use Rattle.std.proofs.lemmas.Bool.{and_parts, cases_Bool, eqb-true, ltb-true}
 use Rattle.std.proofs.lemmas.Option.{same_Some}
-use Rattle.vk_base.specs.declared.answer.Answer.{Answer}
+use Rattle.vk_types.specs.Types.{Answer, Call, Message, Name, Pid, Process, ProcessSpec, State, Step}
 use Rattle.vk_base.specs.declared.answer.Answer.TheVariants as answers
-use Rattle.vk_base.specs.declared.call.Call.{Call}
 use Rattle.vk_base.specs.declared.call.Call.TheVariants as calls
-use Rattle.vk_base.specs.declared.config.ProcessSpec.{ProcessSpec}
-use Rattle.vk_base.specs.declared.kernel.Name.{Name}
-use Rattle.vk_base.specs.declared.kernel.Process.{Process}
-use Rattle.vk_base.specs.declared.kernel.State.{State}
 use Rattle.vk_base.specs.declared.kernel.State.TheVariants as states
 use Rattle.vk_base.specs.declared.limits.TheConstants.{SEGMENT_BYTES}
-use Rattle.vk_base.specs.declared.message.Message.{Message}
-use Rattle.vk_base.specs.declared.pid.Pid.{Pid}
-use Rattle.vk_base.specs.declared.step.Step.{Step}
 use Rattle.vk_base.specs.declared.step.Step.TheVariants as steps
 use Rattle.vk_base.specs.Calls.{Effect, unseen}
 use Rattle.vk_base.specs.Kernel.{◌>>=◌, Kernel, held}
 use Rattle.vk_base.specs.Messages.{grants_read, grants_write, segment_of}
 use Rattle.vk_base.specs.Pids.{same_pid}
 use Rattle.vk_base.specs.Steps.{Taking, effect, taken as kernel_taken, taking}
+use Rattle.vk_base.proofs.PidLemmas.{same_pid_self}
 use Rattle.v_laws.specs.Places.{before}
 use Rattle.v_laws.proofs.PlaceLemmas.{along, before_after}
 use Rattle.v_laws.proofs.StepLemmas.{taking_is}
-use Rattle.v_laws.proofs.Tables.{same_pid_is, same_pid_self}
-use Rattle.v_pages.specs.Followed.{Follows, answer_at, answers_before, call_by, calls_before, up_to}
+use Rattle.v_laws.proofs.Tables.{same_pid_is}
+use Rattle.v_pages.specs.Followed.{FollowsTask, answer_at, answers_before, call_by, calls_before, up_to}
 use Rattle.v_pages.specs.Requests.{Request, request_at}
 use Rattle.v_pages.proofs.Calling.{told}
 use Rattle.v_pages.proofs.Collected.{was_there}
@@ -49,7 +42,7 @@ use Rattle.v_pipe.specs.Waits.{NoneWaits}
 use Rattle.v_pipe.proofs.Entries.{Has, IsAsked, Suits, about, suits_own}
 use Rattle.v_pipe.proofs.Given.{Reply, RepliesHere, pipe_keeps}
 use Rattle.v_pipe.proofs.Standing.{piece_size}
-use Rattle.v_pipe.proofs.Stocked.{IsStocked, stocked_after}
+use Rattle.v_pipe.proofs.Stocked.{IsPipeStocked, stocked_after}
 use Rattle.v_pipe.proofs.Tracked.{Tracked, TrackedBy, take_first, tracked_next}
 use Rattle.v_pipe.proofs.Turns.{pipe_before}
 
@@ -68,7 +61,7 @@ answers_here specs ss r i k s e at is does =
 
 -- no other request of s is taken until this one is replied to
 other_taken : (requests : ℕ) (specs : List ProcessSpec) (ss : List Step) (r : Pid) (i j a : ℕ) (q : Request) (l k : Kernel) (x : Taking) →
-    Follows (pipe_call requests) specs ss r → IsRequestAt specs ss r i q → i < a → a < j → before specs ss a ≡ Some l →
+    FollowsTask (pipe_call requests) specs ss r → IsRequestAt specs ss r i q → i < a → a < j → before specs ss a ≡ Some l →
     slice_get ss a ≡ Some (steps.Take r) → taking l r ≡ Some x → before specs ss j ≡ Some k →
     held k r q.name.sender ≡ Some q.name.number → same_pid x.name.sender q.name.sender ≡ false
 other_taken requests specs ss r i j a q l k x follows t less more at is takes at_j holds = by_test (cases_Bool
@@ -95,7 +88,7 @@ other_taken requests specs ss r i j a q l k x follows t less more at is takes at
 
 -- the request that was taken at place i is tracked to place j, where it is held
 tracked_to : (requests : ℕ) (specs : List ProcessSpec) (ss : List Step) (r : Pid) (i j : ℕ) (q : Request) (k : Kernel) (p : Process) →
-    Follows (pipe_call requests) specs ss r → (t : IsRequestAt specs ss r i q) → i < j → before specs ss j ≡ Some k →
+    FollowsTask (pipe_call requests) specs ss r → (t : IsRequestAt specs ss r i q) → i < j → before specs ss j ≡ Some k →
     k.procs r ≡ Some p → held k r q.name.sender ≡ Some q.name.number →
     NoneWaits q.name.sender (pipe_after requests (answers_before specs ss r i)) →
     TrackedBy requests q.name.sender q.message (take SEGMENT_BYTES t.take.exchange.part) (answers_before specs ss r j) p
@@ -191,14 +184,14 @@ pub suits_at : (s : Pid) (m : Message) (b : List ℕ) (put : List Write) (q : Pi
 suits_at s m b put q stage next has is mine = suits_own s m b put q next (subst (Has s m b put q) is has) mine
 
 own_by : (s : Pid) (m : Message) (b : List ℕ) (put : List Write) (q : Pipe) (stage : Serving) (reply : Message) (dest : ℕ)
-    (bytes : List ℕ) → Has s m b put q stage → IsStocked q stage → Reply q stage s reply dest bytes → IsOwnReply m reply dest bytes
+    (bytes : List ℕ) → Has s m b put q stage → IsPipeStocked q stage → Reply q stage s reply dest bytes → IsOwnReply m reply dest bytes
 own_by s m b put q stage reply dest bytes has stocked (Reply.of_read x is from told place same) =
     let asked : IsAsked s m x =
     suits_at s m b put q stage (stages.ReplyBytes x) has is (ap (λ t. same_pid t s) from ∙ same_pid_self s) in
     let size : length bytes ≡ piece_len q x = ap length same ∙ piece_size q x in
     let len : x.len ≡ (segment_of m).len = ap (λ (y : Read). y.len) asked.is in
     let room = read_room m asked.reads in
-    let there : 0 < length q.bytes = subst (IsStocked q) is stocked in
+    let there : 0 < length q.bytes = subst (IsPipeStocked q) is stocked in
     record {
       read = λ reads code. record {
         place = place ∙ ap (λ (y : Read). y.start) asked.is;
@@ -217,7 +210,7 @@ own_by s m b put q stage reply dest bytes has stocked (Reply.without verdict is 
     }
 
 pub kept_here : (requests : ℕ) (specs : List ProcessSpec) (ss : List Step) (r : Pid) (i j : ℕ) (q : Request) (reply : Message) (dest : ℕ)
-    (bytes : List ℕ) → Follows (pipe_call requests) specs ss r → (t : IsRequestAt specs ss r i q) → i < j →
+    (bytes : List ℕ) → FollowsTask (pipe_call requests) specs ss r → (t : IsRequestAt specs ss r i q) → i < j →
     RepliesHere requests specs ss j q.name.sender r reply dest bytes →
     (before specs ss j >>= λ k. held k r q.name.sender) ≡ Some q.name.number →
     NoneWaits q.name.sender (pipe_after requests (answers_before specs ss r i)) →
@@ -229,7 +222,7 @@ kept_here requests specs ss r i j q reply dest bytes follows t less here holds n
     (ap (λ o. o >>= λ k. held k r q.name.sender) (sym here.at) ∙ holds) none)
 
 pub own_here : (requests : ℕ) (specs : List ProcessSpec) (ss : List Step) (r : Pid) (i j : ℕ) (q : Request) (reply : Message) (dest : ℕ)
-    (bytes : List ℕ) → Follows (pipe_call requests) specs ss r → IsRequestAt specs ss r i q → i < j →
+    (bytes : List ℕ) → FollowsTask (pipe_call requests) specs ss r → IsRequestAt specs ss r i q → i < j →
     RepliesHere requests specs ss j q.name.sender r reply dest bytes →
     (before specs ss j >>= λ k. held k r q.name.sender) ≡ Some q.name.number →
     NoneWaits q.name.sender (pipe_after requests (answers_before specs ss r i)) → IsOwnReply q.message reply dest bytes

@@ -1,12 +1,8 @@
 -- What a reader of a pipe collects is a piece of what the server hands out.
 use Rattle.std.proofs.Common.{◌≡◌, ℕ, List, [], length, slice_get, Option, Some, sym, ap, subst, ◌∙◌, arith}
+use Rattle.vk_types.specs.Types.{Message, Name, Pid, ProcessSpec, Step}
 use Rattle.vk_base.specs.declared.answer.Answer.TheVariants as answers
 use Rattle.vk_base.specs.declared.call.Call.TheVariants as calls
-use Rattle.vk_base.specs.declared.config.ProcessSpec.{ProcessSpec}
-use Rattle.vk_base.specs.declared.kernel.Name.{Name}
-use Rattle.vk_base.specs.declared.message.Message.{Message}
-use Rattle.vk_base.specs.declared.pid.Pid.{Pid}
-use Rattle.vk_base.specs.declared.step.Step.{Step}
 use Rattle.vk_base.specs.declared.step.Step.TheVariants as steps
 use Rattle.vk_base.specs.Kernel.{◌>>=◌, Kernel, held, initial_kernel, name_of}
 use Rattle.vk_base.specs.Ranges.{range_of, bytes_in}
@@ -19,7 +15,7 @@ use Rattle.v_laws.proofs.ReplyLemmas.{own_reply}
 use Rattle.vk_base.proofs.OptionLemmas.{bind_is}
 use Rattle.v_whole.specs.HistoryLaws.{IsSchedule, steps_of}
 use Rattle.v_whole.proofs.Histories.{schedules_run}
-use Rattle.v_pages.specs.Followed.{Follows, answers_before}
+use Rattle.v_pages.specs.Followed.{FollowsTask, answers_before}
 use Rattle.v_pages.specs.Scheduled.{FollowsIn}
 use Rattle.v_pages.specs.Served.{RepliesToLast}
 use Rattle.v_pages.proofs.Collected.{finished_before}
@@ -49,7 +45,7 @@ counted q stage s reply dest bytes (Reply.of_read x is from told place same) som
 counted q stage s reply dest bytes (Reply.without verdict is told none) some = absurd (some none)
 
 handed_out : (specs : List ProcessSpec) (ss : List Step) (requests i j : ℕ) (s target r : Pid) (message reply : Message) →
-    Follows (pipe_call requests) specs ss r → (c : Collects specs ss i s (calls.Send target message) (answers.Replied reply)) →
+    FollowsTask (pipe_call requests) specs ss r → (c : Collects specs ss i s (calls.Send target message) (answers.Replied reply)) →
     IsEnded specs ss i j s target r message reply c.sender → IsHandedOut requests specs ss i j s r reply
 handed_out specs ss requests i j s target r message reply follows c e =
     let n : Name = name_of s e.waiter.sends in
@@ -82,7 +78,7 @@ handed_out specs ss requests i j s target r message reply follows c e =
     }
 
 pub reads_pieces : (specs : List ProcessSpec) (ss : List Step) (whole : Run) (r : Pid) (requests i j : ℕ) (s target : Pid)
-    (message reply : Message) → run (initial_kernel specs) ss ≡ Some whole → Follows (pipe_call requests) specs ss r →
+    (message reply : Message) → run (initial_kernel specs) ss ≡ Some whole → FollowsTask (pipe_call requests) specs ss r →
     slice_get ss i ≡ Some (steps.Collect s) → seen_at specs ss i ≡ saw s (calls.Send target message) (answers.Replied reply) →
     RepliesToLast specs ss i j s r → IsHandedOut requests specs ss i j s r reply
 reads_pieces specs ss whole r requests i j s target message reply g follows is sees h =
@@ -113,7 +109,7 @@ last_reply specs ss i j s target r message reply c e = record {
 }
 
 pub senders_answered : (specs : List ProcessSpec) (ss : List Step) (whole : Run) (r : Pid) (requests i : ℕ) (s : Pid)
-    (message reply : Message) → run (initial_kernel specs) ss ≡ Some whole → Follows (pipe_call requests) specs ss r →
+    (message reply : Message) → run (initial_kernel specs) ss ≡ Some whole → FollowsTask (pipe_call requests) specs ss r →
     slice_get ss i ≡ Some (steps.Collect s) → seen_at specs ss i ≡ saw s (calls.Send r message) (answers.Replied reply) →
     (j : ℕ) × RepliesToLast specs ss i j s r
 senders_answered specs ss whole r requests i s message reply g follows is sees =

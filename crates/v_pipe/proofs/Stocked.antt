@@ -1,8 +1,7 @@
 -- A pipe server serves a read only from a pipe that has bytes, which are there until its reply is answered.
 use Rattle.std.proofs.Common.{ℕ, ◌<◌, ◌==◌, List, [], ◌∷◌, length}
-use Rattle.vk_base.specs.declared.answer.Answer.{Answer}
+use Rattle.vk_types.specs.Types.{Answer, Pid}
 use Rattle.vk_base.specs.declared.answer.Answer.TheVariants as answers
-use Rattle.vk_base.specs.declared.pid.Pid.{Pid}
 use Rattle.vk_pipe.specs.declared.news.News.{News}
 use Rattle.vk_pipe.specs.declared.news.News.TheVariants as brings
 use Rattle.vk_pipe.specs.declared.serving.Serving.{Serving}
@@ -13,13 +12,13 @@ use Rattle.vk_pipe.specs.Requests.{read_of}
 use Rattle.vk_pipe.proofs.Rules.{either_way, judged_goes, settled_goes}
 
 -- what a read is served from has a byte
-abbrev pub IsStocked : Pipe → Serving → Type 0
-IsStocked p (stages.Store r) = 0 < length p.bytes
-IsStocked p (stages.ReplyBytes r) = 0 < length p.bytes
-IsStocked p stage = Unit {0}
+abbrev pub IsPipeStocked : Pipe → Serving → Type 0
+IsPipeStocked p (stages.Store r) = 0 < length p.bytes
+IsPipeStocked p (stages.ReplyBytes r) = 0 < length p.bytes
+IsPipeStocked p stage = Unit {0}
 
 abbrev IsStockedBy : Pipe → Rule → Type 0
-IsStockedBy p rule = IsStocked (by_rule p rule).pipe (by_rule p rule).stage
+IsStockedBy p rule = IsPipeStocked (by_rule p rule).pipe (by_rule p rule).stage
 
 abbrev IsStockedWith : Pipe → News → Type 0
 IsStockedWith p n = IsStockedBy (with_news p n) (rule_for (with_news p n) n)
@@ -45,7 +44,7 @@ delivered_stocked : (p : Pipe) (r : Read) (a : Answer) → IsStockedWith p (deli
 delivered_stocked p r answers.Ok = settled_stocked (with_news p (brings.Delivered r))
 delivered_stocked p r a = settled_stocked (with_news p brings.Replied)
 
-news_stocked : (p : Pipe) (stage : Serving) (a : Answer) → IsStocked p stage → IsStockedWith p (news_of p stage a)
+news_stocked : (p : Pipe) (stage : Serving) (a : Answer) → IsPipeStocked p stage → IsStockedWith p (news_of p stage a)
 news_stocked p stages.Receive a some = received_stocked p a
 news_stocked p (stages.Load from count) a some = loaded_stocked p from count a
 news_stocked p (stages.Store r) a some = some
@@ -55,11 +54,11 @@ news_stocked p stages.Exit a some = tt
 news_stocked p stages.Ended a some = tt
 
 -- All answers.
-all_stocked : (s : Server) (given : List Answer) → IsStocked s.pipe s.stage →
-    IsStocked (answered_all s given).pipe (answered_all s given).stage
+all_stocked : (s : Server) (given : List Answer) → IsPipeStocked s.pipe s.stage →
+    IsPipeStocked (answered_all s given).pipe (answered_all s given).stage
 all_stocked s [] some = some
 all_stocked s (a ∷ rest) some = all_stocked (answered s a) rest (news_stocked s.pipe s.stage a some)
 
 pub stocked_after : (requests : ℕ) (given : List Answer) →
-    IsStocked (server_after requests given).pipe (server_after requests given).stage
+    IsPipeStocked (server_after requests given).pipe (server_after requests given).stage
 stocked_after requests given = all_stocked (new_server requests) given (settled_stocked (empty_pipe requests))

@@ -4,16 +4,10 @@ use Rattle.std.specs.Prelude.{find}
 use Rattle.std.proofs.lemmas.Bool.{cond-true}
 use Rattle.std.proofs.lemmas.List.{length-append}
 use Rattle.std.proofs.lemmas.Option.{same_Some, none-some}
-use Rattle.vk_base.specs.declared.answer.Answer.{Answer}
-use Rattle.vk_base.specs.declared.call.Call.{Call}
+use Rattle.vk_types.specs.Types.{Answer, Call, Pid, Process, ProcessSpec, State, Step}
 use Rattle.vk_base.specs.declared.call.Call.TheVariants as calls
-use Rattle.vk_base.specs.declared.config.ProcessSpec.{ProcessSpec}
-use Rattle.vk_base.specs.declared.kernel.Process.{Process}
-use Rattle.vk_base.specs.declared.kernel.State.{State}
 use Rattle.vk_base.specs.declared.kernel.State.TheVariants as states
 use Rattle.vk_base.specs.declared.limits.TheConstants.{SEGMENT_BYTES}
-use Rattle.vk_base.specs.declared.pid.Pid.{Pid}
-use Rattle.vk_base.specs.declared.step.Step.{Step}
 use Rattle.vk_base.specs.declared.step.Step.TheVariants as steps
 use Rattle.vk_base.specs.Calls.{Effect, unseen, answered as seen_answered}
 use Rattle.vk_base.specs.Kernel.{◌>>=◌, Kernel, as_receive, finished_call, initial_kernel, receiving, with_state}
@@ -21,14 +15,15 @@ use Rattle.vk_base.specs.Pids.{same_pid}
 use Rattle.vk_base.specs.Settings.{is_process}
 use Rattle.vk_base.specs.Steps.{Run, collecting, effect, taken as kernel_taken, taking}
 use Rattle.vk_base.proofs.OptionLemmas.{bind_is}
+use Rattle.vk_base.proofs.PidLemmas.{same_pid_self}
 use Rattle.v_laws.specs.Places.{before}
 use Rattle.v_laws.specs.Sound.{IsSound}
 use Rattle.v_laws.proofs.PlaceLemmas.{along}
 use Rattle.v_laws.proofs.RunLemmas.{run_nothing}
 use Rattle.v_laws.proofs.SoundLemmas.{initial_ready}
 use Rattle.v_laws.proofs.StepLemmas.{collecting_is, taking_is}
-use Rattle.v_laws.proofs.Tables.{put_process_here, same_pid_self}
-use Rattle.v_pages.specs.Followed.{Follows, answer_at, answers_before, call_at, call_by, calls_before, up_to}
+use Rattle.v_laws.proofs.Tables.{put_process_here}
+use Rattle.v_pages.specs.Followed.{FollowsTask, answer_at, answers_before, call_at, call_by, calls_before, up_to}
 use Rattle.v_pages.proofs.Calling.{outcome_of, own_told, told}
 use Rattle.v_pages.proofs.Collected.{was_there}
 use Rattle.v_pages.proofs.Lists.{up_to_none}
@@ -209,7 +204,7 @@ none_there requests specs ss r i p none is =
     (sym (up_to_none (answer_at specs ss r) i (answer_none specs ss r i none))) is)
 
 step_there : (requests : ℕ) (specs : List ProcessSpec) (ss : List Step) (r : Pid) (i : ℕ) (k : Kernel) (s : Step) (e : Effect)
-    (p y : Process) → Follows (pipe_call requests) specs ss r → before specs ss i ≡ Some k → slice_get ss i ≡ Some s → IsSound k →
+    (p y : Process) → FollowsTask (pipe_call requests) specs ss r → before specs ss i ≡ Some k → slice_get ss i ≡ Some s → IsSound k →
     effect k s ≡ Some e → k.procs r ≡ Some p → e.after.procs r ≡ Some y → PipeBefore requests specs ss r i p →
     PipeBefore requests specs ss r (suc i) y
 step_there requests specs ss r i k s e p y follows at is sound does there later so_far =
@@ -230,7 +225,7 @@ pipe_first requests specs ss r p ready =
 abbrev AllBefore : ℕ → List ProcessSpec → List Step → Pid → ℕ → Kernel → Type 0
 AllBefore requests specs ss r i k = (p : Process) → k.procs r ≡ Some p → PipeBefore requests specs ss r i p
 
-pub pipe_before : (requests : ℕ) (specs : List ProcessSpec) (ss : List Step) (r : Pid) → Follows (pipe_call requests) specs ss r →
+pub pipe_before : (requests : ℕ) (specs : List ProcessSpec) (ss : List Step) (r : Pid) → FollowsTask (pipe_call requests) specs ss r →
     (i : ℕ) (k : Kernel) (p : Process) → before specs ss i ≡ Some k → k.procs r ≡ Some p → PipeBefore requests specs ss r i p
 pipe_before requests specs ss r follows i k p at there =
     along specs ss (λ a l. AllBefore requests specs ss r a l) 0 (initial_kernel specs)

@@ -2,16 +2,10 @@
 use Rattle.std.proofs.Common.{◌≡◌, ℕ, suc, ◌<◌, ◌≤◌, min, List, [], ◌∷◌, ◌++◌, drop, length, map, take, slice_get, Some, refl, sym, ap, subst, ◌∙◌, append_assoc, arith}
 use Rattle.std.proofs.lemmas.Bool.{cond_both}
 use Rattle.std.proofs.lemmas.List.{length-append, length-take, take_all}
-use Rattle.vk_base.specs.declared.answer.Answer.{Answer}
+use Rattle.vk_types.specs.Types.{Answer, Call, Message, Name, Pid, ProcessSpec, Step}
 use Rattle.vk_base.specs.declared.answer.Answer.TheVariants as answers
-use Rattle.vk_base.specs.declared.call.Call.{Call}
 use Rattle.vk_base.specs.declared.call.Call.TheVariants as calls
-use Rattle.vk_base.specs.declared.config.ProcessSpec.{ProcessSpec}
-use Rattle.vk_base.specs.declared.kernel.Name.{Name}
 use Rattle.vk_base.specs.declared.limits.TheConstants.{SEGMENT_BYTES}
-use Rattle.vk_base.specs.declared.message.Message.{Message}
-use Rattle.vk_base.specs.declared.pid.Pid.{Pid}
-use Rattle.vk_base.specs.declared.step.Step.{Step}
 use Rattle.vk_base.specs.declared.step.Step.TheVariants as steps
 use Rattle.vk_base.specs.Calls.{first_part}
 use Rattle.vk_base.specs.Kernel.{◌>>=◌, held, initial_kernel, name_of}
@@ -20,14 +14,16 @@ use Rattle.vk_base.specs.Pids.{same_pid}
 use Rattle.vk_base.specs.Ranges.{range_of, bytes_in}
 use Rattle.vk_base.specs.Settings.{Settings}
 use Rattle.vk_base.specs.Steps.{Run, run}
+use Rattle.vk_base.proofs.ListLemmas.{cons_not_nil}
+use Rattle.vk_base.proofs.PidLemmas.{same_pid_self}
 use Rattle.vk_schedule.specs.declared.event.Event.{Event}
 use Rattle.v_laws.specs.Places.{before, seen_at}
 use Rattle.v_laws.specs.Reached.{saw}
 use Rattle.v_laws.proofs.StepLemmas.{taking_is}
-use Rattle.v_laws.proofs.Tables.{same_pid_self}
+use Rattle.v_laws.proofs.FilterLemmas.{same_tail}
 use Rattle.v_whole.specs.HistoryLaws.{IsSchedule, steps_of}
 use Rattle.v_whole.proofs.Histories.{schedules_run}
-use Rattle.v_pages.specs.Followed.{Follows, answer_at, answers_before, call_at, calls_before, up_to}
+use Rattle.v_pages.specs.Followed.{FollowsTask, answer_at, answers_before, call_at, calls_before, up_to}
 use Rattle.v_pages.specs.Scheduled.{FollowsIn}
 use Rattle.v_pages.specs.Served.{RepliesToLast}
 use Rattle.v_pages.proofs.Events.{follows_on}
@@ -48,8 +44,8 @@ use Rattle.vk_pipe.proofs.Hearing.{one_more_answer}
 use Rattle.vk_pipe.proofs.Steps.{step}
 use Rattle.v_pipe.specs.Read.{IsHandedOut}
 use Rattle.v_pipe.specs.Waits.{NoneWaits}
-use Rattle.v_pipe.specs.Written.{IsWriteDone, IsWritten, writes_before}
-use Rattle.v_pipe.proofs.Entries.{Has, Suits, never_empty, rest_same, write_by}
+use Rattle.v_pipe.specs.Written.{IsSentWriteDone, IsWriteDone, writes_before}
+use Rattle.v_pipe.proofs.Entries.{Has, Suits, write_by}
 use Rattle.v_pages.proofs.Places.{call_here}
 use Rattle.v_pipe.proofs.Given.{Reply, RepliesHere, pipe_keeps, replies_here}
 use Rattle.v_pipe.proofs.Own.{close_code, kept_here, read_code, suits_at}
@@ -119,9 +115,9 @@ record IsOne {A : Type 0} (xs : List A) : Type 0 where
   is : xs ≡ one ∷ []
 
 mapped_one : {A B : Type 0} (f : A → B) (xs : List A) (y : B) → map f xs ≡ y ∷ [] → IsOne xs
-mapped_one f [] y e = absurd (never_empty y [] (sym e))
+mapped_one f [] y e = absurd (cons_not_nil y [] (sym e))
 mapped_one f (x ∷ []) y e = record { one = x; is = refl }
-mapped_one f (x ∷ z ∷ zs) y e = absurd (never_empty (f z) (map f zs) (rest_same (f x) y (f z ∷ map f zs) [] e))
+mapped_one f (x ∷ z ∷ zs) y e = absurd (cons_not_nil (f z) (map f zs) (same_tail (f x) y (f z ∷ map f zs) [] e))
 
 -- the answer before such a reply put its write in
 put_one : (t : Server) (a : Answer) (s : Pid) (count : ℕ) → (answered t a).stage ≡ stages.Reply s (verdicts.Written count) →
@@ -153,7 +149,7 @@ earlier_by requests given rest earlier s b count some stage put =
 
 -- a process that calls at both places got an answer between them
 answers_between : (requests : ℕ) (specs : List ProcessSpec) (ss : List Step) (r : Pid) (l j : ℕ) (c d : Call) →
-    Follows (pipe_call requests) specs ss r → call_at ss r l ≡ Some c → call_at ss r j ≡ Some d → l < j →
+    FollowsTask (pipe_call requests) specs ss r → call_at ss r l ≡ Some c → call_at ss r j ≡ Some d → l < j →
     (rest : List Answer) × (0 < length rest) × (answers_before specs ss r j ≡ answers_before specs ss r l ++ rest)
 answers_between requests specs ss r l j c d follows first second less =
     let rest = up_to_later (answer_at specs ss r) l j (omega (arith, less)) in
@@ -170,7 +166,7 @@ answers_between requests specs ss r l j c d follows first second less =
     (rest.0, omega (arith, a, b, one, here, all, sum, given, parts), rest.1)
 
 write_done : (requests : ℕ) (specs : List ProcessSpec) (ss : List Step) (j : ℕ) (s r : Pid) (reply : Message) (b : List ℕ) (d : Call) →
-    Follows (pipe_call requests) specs ss r → call_at ss r j ≡ Some d →
+    FollowsTask (pipe_call requests) specs ss r → call_at ss r j ≡ Some d →
     PutBy s b (writes_before requests specs ss r j) (server_after requests (answers_before specs ss r j)).stage reply →
     IsWriteDone requests specs ss j s r reply b
 write_done requests specs ss j s r reply b d follows here p = record {
@@ -193,7 +189,7 @@ part_most m memory =
     omega (arith, size)) (λ f. omega arith)
 
 written : (specs : List ProcessSpec) (ss : List Step) (requests i j : ℕ) (s r : Pid) (reply : Message) →
-    Follows (pipe_call requests) specs ss r → IsHandedOut requests specs ss i j s r reply → IsWritten requests specs ss i j s r reply
+    FollowsTask (pipe_call requests) specs ss r → IsHandedOut requests specs ss i j s r reply → IsSentWriteDone requests specs ss i j s r reply
 written specs ss requests i j s r reply follows h =
     let q = h.request in
     let t = request_is specs ss r h.place q h.takes in
@@ -237,16 +233,16 @@ written specs ss requests i j s r reply follows h =
     }
 
 pub writes_kept : (specs : List ProcessSpec) (ss : List Step) (whole : Run) (r : Pid) (requests i j : ℕ) (s target : Pid)
-    (message reply : Message) → run (initial_kernel specs) ss ≡ Some whole → Follows (pipe_call requests) specs ss r →
+    (message reply : Message) → run (initial_kernel specs) ss ≡ Some whole → FollowsTask (pipe_call requests) specs ss r →
     slice_get ss i ≡ Some (steps.Collect s) → seen_at specs ss i ≡ saw s (calls.Send target message) (answers.Replied reply) →
-    RepliesToLast specs ss i j s r → IsWritten requests specs ss i j s r reply
+    RepliesToLast specs ss i j s r → IsSentWriteDone requests specs ss i j s r reply
 writes_kept specs ss whole r requests i j s target message reply g follows is sees h =
     written specs ss requests i j s r reply follows (reads_pieces specs ss whole r requests i j s target message reply g follows is sees h)
 
 pub writes_kept_in : (c : Settings) (es : List Event) (r : Pid) (requests i j : ℕ) (s target : Pid) (message reply : Message) →
     IsSchedule c es → FollowsIn (pipe_call requests) c es r → slice_get (steps_of c es) i ≡ Some (steps.Collect s) →
     seen_at c.specs (steps_of c es) i ≡ saw s (calls.Send target message) (answers.Replied reply) →
-    RepliesToLast c.specs (steps_of c es) i j s r → IsWritten requests c.specs (steps_of c es) i j s r reply
+    RepliesToLast c.specs (steps_of c es) i j s r → IsSentWriteDone requests c.specs (steps_of c es) i j s r reply
 writes_kept_in c es r requests i j s target message reply schedule follows =
     let whole = schedules_run c es schedule.distinct schedule.callers in
     writes_kept c.specs (steps_of c es) _ r requests i j s target message reply whole.run

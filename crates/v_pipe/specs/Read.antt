@@ -1,13 +1,9 @@
 -- What the readers of a pipe get, in the runs of the one-machine kernel.
 use Rattle.std.specs.Prelude.{ℕ, suc, ◌≡◌, ◌+◌, ◌<◌, ◌≤◌, List, [], ◌++◌, length, slice_get, Some}
+use Rattle.vk_types.specs.Types.{Message, Pid, Process, ProcessSpec, Step}
 use Rattle.vk_base.specs.declared.answer.Answer.TheVariants as answers
 use Rattle.vk_base.specs.declared.call.Call.TheVariants as calls
-use Rattle.vk_base.specs.declared.config.ProcessSpec.{ProcessSpec}
-use Rattle.vk_base.specs.declared.kernel.Process.{Process}
 use Rattle.vk_base.specs.declared.limits.TheConstants.{SEGMENT_BYTES}
-use Rattle.vk_base.specs.declared.message.Message.{Message}
-use Rattle.vk_base.specs.declared.pid.Pid.{Pid}
-use Rattle.vk_base.specs.declared.step.Step.{Step}
 use Rattle.vk_base.specs.declared.step.Step.TheVariants as steps
 use Rattle.vk_base.specs.Kernel.{initial_kernel, name_of}
 use Rattle.vk_base.specs.Messages.{segment_of}
@@ -19,7 +15,7 @@ use Rattle.vk_pipe.specs.Requests.{code_of, reply_of}
 use Rattle.vk_pipe.specs.Told.{bytes_had, bytes_put}
 use Rattle.v_laws.specs.Places.{IsReplyAt, process_at, seen_at}
 use Rattle.v_laws.specs.Reached.{saw}
-use Rattle.v_pages.specs.Followed.{Follows, answers_before}
+use Rattle.v_pages.specs.Followed.{FollowsTask, answers_before}
 use Rattle.v_pages.specs.Requests.{Request, request_at}
 use Rattle.v_pages.specs.Served.{RepliesToLast}
 use Rattle.v_pipe.specs.Waits.{NoneWaits}
@@ -85,7 +81,7 @@ pub record IsHandedOut (requests : ℕ) (specs : List ProcessSpec) (ss : List St
 abbrev pub SendersAreAnswered : Type 0
 SendersAreAnswered = (specs : List ProcessSpec) (ss : List Step) (whole : Run) (r : Pid) (requests i : ℕ) (s : Pid)
     (message reply : Message) →
-    run (initial_kernel specs) ss ≡ Some whole → Follows (pipe_call requests) specs ss r →
+    run (initial_kernel specs) ss ≡ Some whole → FollowsTask (pipe_call requests) specs ss r →
     slice_get ss i ≡ Some (steps.Collect s) → seen_at specs ss i ≡ saw s (calls.Send r message) (answers.Replied reply) →
     (j : ℕ) × RepliesToLast specs ss i j s r
 
@@ -94,6 +90,6 @@ SendersAreAnswered = (specs : List ProcessSpec) (ss : List Step) (whole : Run) (
 abbrev pub ReadsArePieces : Type 0
 ReadsArePieces = (specs : List ProcessSpec) (ss : List Step) (whole : Run) (r : Pid) (requests i j : ℕ) (s target : Pid)
     (message reply : Message) →
-    run (initial_kernel specs) ss ≡ Some whole → Follows (pipe_call requests) specs ss r →
+    run (initial_kernel specs) ss ≡ Some whole → FollowsTask (pipe_call requests) specs ss r →
     slice_get ss i ≡ Some (steps.Collect s) → seen_at specs ss i ≡ saw s (calls.Send target message) (answers.Replied reply) →
     RepliesToLast specs ss i j s r → IsHandedOut requests specs ss i j s r reply

@@ -1,6 +1,6 @@
 -- What waits of one process at a pipe.
 use Rattle.std.specs.Prelude.{◌≡◌, List, [], filter}
-use Rattle.vk_base.specs.declared.pid.Pid.{Pid}
+use Rattle.vk_types.specs.Types.{Pid}
 use Rattle.vk_base.specs.Pids.{same_pid}
 use Rattle.vk_pipe.specs.declared.waiting.Read.{Read}
 use Rattle.vk_pipe.specs.declared.waiting.Write.{Write}

@@ -1,13 +1,8 @@
 -- What the writers of a pipe get, in the runs of the one-machine kernel.
 use Rattle.std.specs.Prelude.{ℕ, ◌≡◌, ◌+◌, ◌<◌, List, [], ◌∷◌, ◌++◌, length, slice_get, Some}
+use Rattle.vk_types.specs.Types.{Call, Message, Pid, Process, ProcessSpec, Step}
 use Rattle.vk_base.specs.declared.answer.Answer.TheVariants as answers
-use Rattle.vk_base.specs.declared.call.Call.{Call}
 use Rattle.vk_base.specs.declared.call.Call.TheVariants as calls
-use Rattle.vk_base.specs.declared.config.ProcessSpec.{ProcessSpec}
-use Rattle.vk_base.specs.declared.kernel.Process.{Process}
-use Rattle.vk_base.specs.declared.message.Message.{Message}
-use Rattle.vk_base.specs.declared.pid.Pid.{Pid}
-use Rattle.vk_base.specs.declared.step.Step.{Step}
 use Rattle.vk_base.specs.declared.step.Step.TheVariants as steps
 use Rattle.vk_base.specs.Calls.{first_part}
 use Rattle.vk_base.specs.Kernel.{initial_kernel}
@@ -19,7 +14,7 @@ use Rattle.vk_pipe.specs.Requests.{code_of, reply_of}
 use Rattle.vk_pipe.specs.Told.{writes_put}
 use Rattle.v_laws.specs.Places.{process_at, seen_at}
 use Rattle.v_laws.specs.Reached.{saw}
-use Rattle.v_pages.specs.Followed.{Follows, answers_before, call_at}
+use Rattle.v_pages.specs.Followed.{FollowsTask, answers_before, call_at}
 use Rattle.v_pages.specs.Served.{RepliesToLast}
 use Rattle.v_pipe.specs.Read.{IsHandedOut}
 use Rattle.v_pipe.specs.Waits.{NoneWaits}
@@ -42,7 +37,7 @@ pub record IsWriteDone (requests : ℕ) (specs : List ProcessSpec) (ss : List St
 -- What came of the Send, and where it was called for, by s, to r or to another process of its station that handed it on. By the message
 -- that r was shown, a reply of code 0 to a write is one of a write that is done, where nothing of s waited when r took the Send; and
 -- its bytes are the first part of the memory of s at the call, which came with the Send.
-pub record IsWritten (requests : ℕ) (specs : List ProcessSpec) (ss : List Step) (i j : ℕ) (s r : Pid) (reply : Message) : Type 0 where
+pub record IsSentWriteDone (requests : ℕ) (specs : List ProcessSpec) (ss : List Step) (i j : ℕ) (s r : Pid) (reply : Message) : Type 0 where
   pub handed : IsHandedOut requests specs ss i j s r reply
   -- s calls for the Send
   pub sent : ℕ
@@ -63,6 +58,6 @@ pub record IsWritten (requests : ℕ) (specs : List ProcessSpec) (ss : List Step
 abbrev pub WritesAreKept : Type 0
 WritesAreKept = (specs : List ProcessSpec) (ss : List Step) (whole : Run) (r : Pid) (requests i j : ℕ) (s target : Pid)
     (message reply : Message) →
-    run (initial_kernel specs) ss ≡ Some whole → Follows (pipe_call requests) specs ss r →
+    run (initial_kernel specs) ss ≡ Some whole → FollowsTask (pipe_call requests) specs ss r →
     slice_get ss i ≡ Some (steps.Collect s) → seen_at specs ss i ≡ saw s (calls.Send target message) (answers.Replied reply) →
-    RepliesToLast specs ss i j s r → IsWritten requests specs ss i j s r reply
+    RepliesToLast specs ss i j s r → IsSentWriteDone requests specs ss i j s r reply

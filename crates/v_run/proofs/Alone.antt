@@ -1,10 +1,7 @@
 -- No passage but its own calls or collects for a process.
 use Rattle.std.proofs.Common.{◌≡◌, ℕ, ◌+◌, ◌≤◌, ◌==◌, eqb-true, eq-eqb, Bool, true, false, Option, List, [], ◌∷◌, ◌++◌, cond, refl, sym, ap, ◌∙◌, subst, arith}
-use Rattle.vk_base.specs.declared.answer.Answer.{Answer}
-use Rattle.vk_base.specs.declared.call.Call.{Call}
-use Rattle.vk_base.specs.declared.event.StationEvent.{StationEvent}
+use Rattle.vk_types.specs.Types.{Answer, Call, Pid, StationEvent}
 use Rattle.vk_base.specs.declared.event.StationEvent.TheVariants as events
-use Rattle.vk_base.specs.declared.pid.Pid.{Pid}
 use Rattle.vk_base.specs.Pids.{same_pid}
 use Rattle.vk_base.specs.Settings.{Settings, has_station}
 use Rattle.vk_host.specs.Values.{input_of}
@@ -14,6 +11,7 @@ use Rattle.vk_port.specs.Ports.{Action, Enters, Delivers, Drops, Hears}
 use Rattle.vk_port.specs.Stations.{StationHistory, entries_at, entry_at}
 use Rattle.vk_rules.specs.Each.{Each}
 use Rattle.vk_rules.specs.Entries.{Entry}
+use Rattle.vk_rules.proofs.Lists.{each_both}
 use Rattle.v_run.specs.Closed.{AreClosed, numbers_at}
 use Rattle.v_run.specs.Jobs.{runs_pid}
 use Rattle.v_run.specs.Outcomes.{DoesNothing, is_doing_of}
@@ -21,7 +19,7 @@ use Rattle.v_run.specs.Passages.{IsNext, IsRole, IsTick, OnlyPumps, OnlyTicks, P
 use Rattle.v_run.proofs.Totals.{AllOnce, IsOnce, Place, added, added_none, places, total, weight}
 use Rattle.v_run.proofs.Dealt.{all_once}
 use Rattle.v_run.proofs.Logs.{entered_places}
-use Rattle.v_run.proofs.Sums.{IsDone, added_at, added_same_each, all_done, at_station, each_both, placed_whole}
+use Rattle.v_run.proofs.Sums.{IsDone, added_at, added_same_each, all_done, at_station, placed_whole}
 use Rattle.v_run.proofs.Entries.{by_entries, input_is, total_same}
 use Rattle.v_run.proofs.Playing.{NotOthers}
 

@@ -4,14 +4,9 @@ use Rattle.std.specs.List.{list_all}
 use Rattle.std.proofs.lemmas.Bool.{and_parts}
 use Rattle.std.proofs.lemmas.Grind.{flat_map-append}
 use Rattle.std.proofs.lemmas.Option.{same_Some}
-use Rattle.vk_base.specs.declared.answer.Answer.{Answer}
-use Rattle.vk_base.specs.declared.call.Call.{Call}
-use Rattle.vk_base.specs.declared.config.ProcessSpec.{ProcessSpec}
-use Rattle.vk_base.specs.declared.event.EventAnswer.{EventAnswer}
-use Rattle.vk_base.specs.declared.kernel.Observation.{Observation}
+use Rattle.vk_join.proofs.Joins.{told_entry}
+use Rattle.vk_types.specs.Types.{Answer, Call, EventAnswer, Observation, Pid, ProcessSpec, Step}
 use Rattle.vk_base.specs.declared.kernel.State.TheVariants as states
-use Rattle.vk_base.specs.declared.pid.Pid.{Pid}
-use Rattle.vk_base.specs.declared.step.Step.{Step}
 use Rattle.vk_base.specs.declared.step.Step.TheVariants as steps
 use Rattle.vk_base.specs.Calls.{Effect, answered}
 use Rattle.vk_base.specs.Kernel.{◌>>=◌, Kernel, initial_kernel, with_state}
@@ -19,14 +14,14 @@ use Rattle.vk_base.specs.Settings.{Settings, has_station}
 use Rattle.vk_base.specs.Steps.{Run, collecting, effect, is_allowed}
 unfoldable use Rattle.vk_base.specs.Steps.{run}
 use Rattle.vk_base.proofs.OptionLemmas.{bind_is}
-use Rattle.vk_cluster.proofs.Logs.{history_more, logs_next, with_here}
+use Rattle.vk_cluster.proofs.Logs.{history_more, logs_next}
 use Rattle.vk_cluster.specs.Standing.{logs_of}
 use Rattle.vk_schedule.specs.declared.event.Event.{Event}
 use Rattle.vk_schedule.specs.declared.event.Event.TheVariants as scheduled
 use Rattle.vk_schedule.specs.Lawful.{has_actors}
 unfoldable use Rattle.vk_rules.specs.CallOutcomes.{collect_outcome}
 use Rattle.vk_rules.specs.Each.{Each}
-use Rattle.vk_rules.specs.Entries.{Collected, Entry, Input}
+use Rattle.vk_rules.specs.Entries.{Collected, Entry}
 use Rattle.vk_rules.specs.Frames.{Frame}
 use Rattle.vk_rules.specs.Histories.{At, Happened, Logs, Missing, delivered, handed_over, history_of, logs_after, no_entries}
 unfoldable use Rattle.vk_rules.specs.Histories.{happened, history, logs_from}
@@ -35,6 +30,7 @@ unfoldable use Rattle.vk_rules.specs.Observed.{observed}
 use Rattle.vk_rules.specs.Readings.{reading}
 use Rattle.vk_rules.specs.Right.{entry_of}
 unfoldable use Rattle.vk_rules.specs.Right.{right_entry}
+use Rattle.vk_rules.proofs.OwnEvents.{own_log}
 use Rattle.v_ended.specs.Answered.{ComeInTime, IsInTime}
 use Rattle.v_laws.proofs.RunLemmas.{run-append, run_step}
 use Rattle.v_whole.proofs.Histories.{schedules_run}
@@ -89,10 +85,6 @@ steps_of_collect : (c : Settings) (h : ℕ) (es : List Entry) (pid : Pid) → is
     → (entry_of c h es (Collected pid)).steps ≡ steps.Collect pid ∷ []
 unfolding right_entry collect_outcome
 steps_of_collect c h es pid allowed = ap (λ (b : Bool). cond b (steps.Collect pid ∷ []) []) allowed
-
-pub input_of_entry : (c : Settings) (h : ℕ) (es : List Entry) (i : Input) → (entry_of c h es i).input ≡ i
-unfolding right_entry
-input_of_entry c h es i = refl
 
 -- Callers of a schedule's front.
 of_front : (specs : List ProcessSpec) (xs ys : List Event) → AreOfProcesses specs (xs ++ ys) → AreOfProcesses specs xs
@@ -170,7 +162,7 @@ module _ (c : Settings) (xs : List Event) (pid : Pid) (distinct : AreDistinct c.
       let count : length r.seen + length t.seen ≡ length r.seen + length told =
       sym (length-append r.seen t.seen) ∙ (ap length same ∙ length-append r.seen told) in
       let all : length told ≡ 1 = omega arith in
-      ap (λ i. length (option_to_list (seen_of last i entry.answer))) (sym (input_of_entry c pid.host es_before (Collected pid))) ∙ all
+      ap (λ i. length (option_to_list (seen_of last i entry.answer))) (sym (told_entry c pid.host es_before (Collected pid))) ∙ all
 
 -- the newest of some entries came in time
 came : (c : Settings) (h : ℕ) (later : List Entry) (x : Entry) (es : List Entry) → ComeInTime c h (later ++ x ∷ es)
@@ -203,10 +195,10 @@ module _ (c : Settings) (es : List Event) (distinct : AreDistinct c.specs) (acto
       let rest = grows c (logs_after (logs_of c xs) (At h (length (logs_of c xs h) + 1) x)) ys h in
       let all : logs_of c es h ≡ rest.0 ++ x ∷ logs_of c xs h =
       (λ i. ((ap (logs_of c) is ∙ logs_cut c no_entries xs (scheduled.Collect pid ∷ ys)) i) h)
-      ∙ (rest.1 ∙ ap (λ l. rest.0 ++ l) (with_here (logs_of c xs) h x)) in
+      ∙ (rest.1 ∙ ap (λ l. rest.0 ++ l) (own_log (logs_of c xs) h x)) in
       let it : IsInTime c h (logs_of c xs h) x.input =
       came c h rest.0 x (logs_of c xs h) (subst (ComeInTime c h) all (collected h there)) in
-      subst (IsInTime c h (logs_of c xs h)) (input_of_entry c h (logs_of c xs h) (Collected pid)) it
+      subst (IsInTime c h (logs_of c xs h)) (told_entry c h (logs_of c xs h) (Collected pid)) it
 
   pub sees_at : (xs : List Event) (pid : Pid) (ys : List Event) → es ≡ xs ++ scheduled.Collect pid ∷ ys
       → length (option_to_list (seen_of (last_behind no_call (history_of c xs)) (Collected pid)

@@ -1,24 +1,22 @@
 -- Ticks: each station has one passage of the clock, and only that ticks.
 use Rattle.std.proofs.Common.{◌≡◌, ℕ, ◌+◌, ◌*◌, ◌≤◌, ◌==◌, Bool, true, false, Option, List, [], ◌∷◌, ◌++◌, cond, refl, sym, ap, ◌∙◌, arith}
 use native.Mathlib.Nat.{add-mul, one-mul, zero-mul}
-use Rattle.vk_base.specs.declared.answer.Answer.{Answer}
-use Rattle.vk_base.specs.declared.call.Call.{Call}
-use Rattle.vk_base.specs.declared.event.StationEvent.{StationEvent}
+use Rattle.vk_types.specs.Types.{Answer, Call, Pid, StationEvent}
 use Rattle.vk_base.specs.declared.event.StationEvent.TheVariants as events
-use Rattle.vk_base.specs.declared.pid.Pid.{Pid}
 use Rattle.vk_base.specs.Settings.{Settings, has_station}
 use Rattle.vk_hub.specs.declared.event.HubEvent.{HubEvent}
 use Rattle.vk_hub.specs.Hubs.{HubLog}
 use Rattle.vk_port.specs.Ports.{Action, Enters, Delivers, Drops, Hears}
 use Rattle.vk_port.specs.Stations.{StationHistory, entries_at}
 use Rattle.vk_rules.specs.Each.{Each}
+use Rattle.vk_rules.proofs.Lists.{each_both}
 use Rattle.v_run.specs.Closed.{AreClosed}
 use Rattle.v_run.specs.Jobs.{KeepsTime, clocks_at, is_clock}
 use Rattle.v_run.specs.Outcomes.{ticks_in}
 use Rattle.v_run.specs.Passages.{IsNext, IsRole, IsTick, OnlyPumps, OnlyTicks, Passage, Plays, Pumps, Role, Runs, Ticks, answer_in, call_in, fresh_station, host_of, tick_count}
 use Rattle.v_run.proofs.Totals.{added, weight}
 use Rattle.v_run.proofs.Logs.{entered_places}
-use Rattle.v_run.proofs.Sums.{IsDone, added_most_each, all_done, at_station, each_both}
+use Rattle.v_run.proofs.Sums.{IsDone, added_most_each, all_done, at_station}
 use Rattle.v_run.proofs.Entries.{tick_of, ticks_are}
 
 abbrev pub ticks_by : List Action → ℕ

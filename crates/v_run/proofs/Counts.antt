@@ -1,16 +1,16 @@
 -- What passages deliver they fetched, what was fetched was posted, and what they post they made.
 use Rattle.std.proofs.Common.{◌≡◌, ℕ, zero, suc, ◌+◌, ◌*◌, ◌≤◌, ◌==◌, eq-eqb, Bool, true, false, List, [], ◌∷◌, ◌++◌, map, take, cond, refl, ap, ◌∙◌, arith}
 use native.Mathlib.Nat.{add-mul, one-mul}
-use Rattle.vk_base.specs.declared.event.StationEvent.{StationEvent}
+use Rattle.vk_types.specs.Types.{StationEvent}
 use Rattle.vk_base.specs.declared.event.StationEvent.TheVariants as events
-use Rattle.vk_schedule.specs.declared.plan.LinkPlan.{LinkPlan}
 use Rattle.vk_hub.specs.declared.event.Fetched.{Fetched}
 use Rattle.vk_hub.specs.declared.event.HubEvent.{HubEvent}
 use Rattle.vk_hub.specs.declared.event.HubEvent.TheVariants as hub_events
 use Rattle.vk_hub.specs.Counting.{all_gets, all_posts, copies, gets, hits}
 use Rattle.vk_hub.specs.Counting as counting
-use Rattle.vk_hub.specs.Hubs.{HubLog, Traffic, changed, fetched_from, first_traffic, is_halt, others, traffic_after, traffic_of}
+use Rattle.vk_hub.specs.Hubs.{HubLog, Traffic, fetched_from, first_traffic, is_halt, others, traffic_of}
 use Rattle.vk_hub.specs.Links.{Frame}
+use Rattle.vk_hub.proofs.Entries.{traffic_more}
 use Rattle.vk_port.specs.Ports.{Action, Enters, Delivers, Drops, Hears, IsLog, Berth, Stand, entered_at, fetched_at, posts}
 use Rattle.vk_port.specs.Stations.{StationHistory, frames_at}
 use Rattle.v_run.specs.Passages.{EntersOwn, IsOwn, lost_count}
@@ -30,10 +30,6 @@ not_own test events.Tick own = refl
 not_own test (events.Deliver f) own = absurd own
 
 -- The hub's counts as sums over its history.
-traffic_more : (plan : LinkPlan) (n k : ℕ) (e : HubEvent) (t : Traffic) (xs : List (ℕ × HubEvent))
-    → traffic_after plan n t (xs ++ (k, e) ∷ []) ≡ changed plan n (traffic_after plan n t xs) e
-traffic_more plan n k e t [] = refl
-traffic_more plan n k e t (x ∷ xs) = traffic_more plan n k e (changed plan n t x.1) xs
 
 module _ (o : HubLog) where
   pub gets_of_fetches : (test : Frame → Bool) (h : ℕ) → IsOfFetches (λ before e. gets test h o.programs (traffic_of o before) e)

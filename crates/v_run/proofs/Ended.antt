@@ -3,12 +3,10 @@ use Rattle.std.proofs.Common.{◌≡◌, ◌≢◌, ℕ, ◌+◌, ◌*◌, ◌<�
 use Rattle.std.proofs.lemmas.Bool.{leb-true}
 use mathlib.Core.List.{IsPrefix}
 use Rattle.std.specs.Prelude.{if◌then◌else◌}
-use Rattle.vk_base.specs.declared.answer.Answer.{Answer}
-use Rattle.vk_base.specs.declared.call.Call.{Call}
-use Rattle.vk_base.specs.declared.event.StationEvent.{StationEvent}
+use Rattle.vk_types.specs.Types.{Answer, Call, Pid, StationEvent}
 use Rattle.vk_base.specs.declared.event.StationEvent.TheVariants as events
-use Rattle.vk_base.specs.declared.pid.Pid.{Pid}
 use Rattle.vk_base.specs.Settings.{Settings}
+use Rattle.vk_base.proofs.BoolLemmas.{or_rest}
 use Rattle.vk_schedule.specs.declared.plan.LinkPlan.{LinkPlan}
 use Rattle.vk_hub.specs.declared.event.Fetched.TheVariants as fetched
 use Rattle.vk_hub.specs.declared.event.HubEvent.{HubEvent}
@@ -18,6 +16,7 @@ use Rattle.vk_hub.specs.Links.{Frame}
 use Rattle.vk_port.specs.Ports.{Action, Enters, Delivers, Drops, Hears, IsLog, Berth, Stand, entered_at, fetched_at}
 use Rattle.vk_port.specs.Stations.{StationHistory}
 use Rattle.vk_rules.specs.Each.{Each}
+use Rattle.vk_rules.proofs.Lists.{each_both}
 use Rattle.v_run.specs.Closed.{AreClosed}
 use Rattle.v_run.specs.Jobs.{EndsRole, GoesOn}
 use Rattle.v_run.specs.Passages.{HasHeard, IsAtEnd, IsLast, Passage, Pumps, Role, Runs, Ticks, answers_by, calls_by, fresh_station, host_of, nowhere}
@@ -26,7 +25,7 @@ use Rattle.v_run.proofs.Heard.{log_is_later, prefix_front, prefix_over, sends}
 use Rattle.vk_port.specs.Stations.{frames_at}
 use Rattle.v_run.proofs.Logs.{entered_places}
 use Rattle.v_run.proofs.Counts.{fetch_count, sends_few}
-use Rattle.v_run.proofs.Sums.{IsDone, added_most_each, added_same_each, all_done, each_both, events_at_hub}
+use Rattle.v_run.proofs.Sums.{IsDone, added_most_each, added_same_each, all_done, events_at_hub}
 
 abbrev pub finishes : HubEvent → ℕ
 finishes hub_events.Finished = 1
@@ -182,10 +181,6 @@ added_less f h (y ∷ ys) x most (inl is) less =
     added_most_list f h xs most = added_most_each (λ y. f y ≤ h y) f h xs (λ y few. few) most
 added_less f h (y ∷ ys) x most (inr among) less = let rest = added_less f h ys x most.1 among less in let one = most.0 in omega arith
 
-stop_parts : (a b : Bool) → (a || b) ≡ true → a ≡ false → b ≡ true
-stop_parts true b is none = absurd (cc none)
-stop_parts false b is none = is
-
 module _ (c : Settings) (o : HubLog) (histories : ℕ → List (ℕ × StationEvent)) (heard : List (ℕ × HubEvent)) (gs : List Passage)
     (k : AreClosed c o histories heard gs) (programs : o.programs ≡ added (λ (g : Passage). is_program g.role) gs)
     (roles : Each (λ (g : Passage). EndsRole c g g.role) gs) (no_halts : Each (λ (g : Passage). g.last ≢ hub_events.Halt ∷ []) gs)
@@ -238,7 +233,7 @@ module _ (c : Settings) (o : HubLog) (histories : ℕ → List (ℕ × StationEv
       let few_halts = summed_prefix halts before heard pre in
       let no_halt : summed halts before ≡ 0 = let all = halts_none in omega arith in
       let going : t.halted ≡ false = halted_after o.plan o.programs (first_traffic o.plan o.stations) before no_halt in
-      let all_finished : nat_le o.programs t.finished ≡ true = stop_parts t.halted (nat_le o.programs t.finished) stop going in
+      let all_finished : nat_le o.programs t.finished ≡ true = or_rest t.halted (nat_le o.programs t.finished) stop going in
       let count : o.programs ≤ t.finished = leb-true o.programs t.finished all_finished in
       let so_many = finished_after o.plan o.programs (first_traffic o.plan o.stations) before in
       let few = summed_prefix finishes before heard pre in

@@ -1,7 +1,7 @@
 -- Sums over a station's history are sums over its entries.
-use Rattle.std.proofs.Common.{◌≡◌, ℕ, ◌+◌, Bool, true, Option, Some, None, List, [], ◌∷◌, ◌++◌, length, map, cond, refl, sym, ap, ◌∙◌, arith, append_assoc, append-nil}
+use Rattle.std.proofs.Common.{◌≡◌, ℕ, ◌+◌, Bool, true, Option, Some, None, List, [], ◌∷◌, ◌++◌, length, cond, refl, sym, ap, ◌∙◌, arith, append_assoc, append-nil}
 use Rattle.std.specs.Option.{option_map}
-use Rattle.vk_base.specs.declared.event.StationEvent.{StationEvent}
+use Rattle.vk_types.specs.Types.{StationEvent}
 use Rattle.vk_base.specs.declared.event.StationEvent.TheVariants as events
 use Rattle.vk_base.specs.Kernel.{holds_of}
 use Rattle.vk_base.specs.Packets.{Packet}
@@ -11,30 +11,15 @@ use Rattle.vk_frame.specs.Reading.{frame_of}
 use Rattle.vk_packet.specs.Reading.{packet_of}
 use Rattle.vk_host.specs.Values.{input_of}
 use Rattle.vk_hub.specs.Links.{Frame, header_of}
-use Rattle.vk_port.specs.Stations.{StationHistory, entries_at, entries_from, entry_at, event_of}
+use Rattle.vk_port.specs.Stations.{StationHistory, entries_at, entry_at}
+use Rattle.vk_port.proofs.Histories.{entries_more}
 use Rattle.vk_rules.specs.Entries.{Entry, is_delivery, is_tick}
 use Rattle.vk_rules.specs.Frames.{unsealed_behind, unsealed_by}
-use Rattle.vk_rules.specs.Right.{entry_of}
 unfoldable use Rattle.vk_rules.specs.Right.{right_entry}
 use Rattle.v_run.specs.Outcomes.{brings, deliveries_in, frames_in, has_numbers, opens_with, ticks_in, times_taken}
 use Rattle.v_run.specs.Passages.{fresh_station}
 use Rattle.v_run.proofs.Totals.{added, total}
 use Rattle.v_run.proofs.Counts.{delivers}
-
-map_append : {A B : Type 0} (f : A → B) (xs ys : List A) → map f (xs ++ ys) ≡ map f xs ++ map f ys
-map_append f [] ys = refl
-map_append f (x ∷ xs) ys = ap (λ l. f x ∷ l) (map_append f xs ys)
-
-from_more : (c : Settings) (host : ℕ) (es : List Entry) (xs ys : List StationEvent)
-    → entries_from c host es (xs ++ ys) ≡ entries_from c host (entries_from c host es xs) ys
-from_more c host es [] ys = refl
-from_more c host es (x ∷ xs) ys = from_more c host (entry_of c host es (input_of x) ∷ es) xs ys
-
-pub entries_more : (o : StationHistory) (history : List (ℕ × StationEvent)) (x : ℕ × StationEvent)
-    → entries_at o (history ++ x ∷ []) ≡ entry_at o history x.1 ∷ entries_at o history
-entries_more o history x =
-    ap (entries_from o.config o.host []) (map_append event_of history (x ∷ []))
-    ∙ from_more o.config o.host [] (map event_of history) (x.1 ∷ [])
 
 pub input_is : (o : StationHistory) (before : List (ℕ × StationEvent)) (e : StationEvent) → (entry_at o before e).input ≡ input_of e
 unfolding right_entry

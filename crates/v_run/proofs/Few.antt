@@ -2,11 +2,11 @@
 use Rattle.std.proofs.Common.{◌≡◌, ◌≢◌, ℕ, suc, ◌+◌, ◌-◌, ◌^◌, ◌<◌, ◌≤◌, ◌==◌, eqb-true, eq-eqb, Bool, true, false, Option, Some, None, List, [], ◌∷◌, find, length, cond, refl, sym, ap, ◌∙◌, subst, arith, ◌⊎◌, inl, inr}
 use Rattle.std.proofs.lemmas.Bool.{cases_Bool}
 use Rattle.vk_base.specs.Settings.{Settings}
-use Rattle.vk_cluster.proofs.Logs.{with_here, with_other}
+use Rattle.vk_cluster.proofs.Logs.{with_other}
 use Rattle.vk_cluster.specs.Standing.{logs_of}
 use Rattle.vk_schedule.specs.declared.event.Event.{Event}
 use Rattle.vk_schedule.specs.declared.event.Event.TheVariants as scheduled
-use Rattle.vk_join.proofs.Numbers.{IsFew, few_later, few_next, number_came}
+use Rattle.vk_join.proofs.Numbers.{NoneAbove, few_later, few_next, number_came}
 use Rattle.vk_port.specs.declared.station.TheConstants.{LAST_NUMBER}
 use Rattle.vk_rules.specs.Each.{Each}
 use Rattle.vk_rules.specs.Entries.{Called, Collected, Delivered, Entry, Input, Ticked}
@@ -15,10 +15,11 @@ use Rattle.vk_rules.specs.Histories.{Logs, delivered, emitted, handed_over, is_o
 unfoldable use Rattle.vk_rules.specs.Histories.{happened, logs_from, with_entry}
 use Rattle.vk_rules.specs.Laws.{AllRise, last_number}
 use Rattle.vk_rules.specs.Right.{entry_of}
+use Rattle.vk_rules.proofs.OwnEvents.{own_log}
 use Rattle.v_run.proofs.Sound.{IsLow}
 
 abbrev AllFew : ℕ → Logs → Type 0
-AllFew n logs = (h : ℕ) → IsFew n (logs h)
+AllFew n logs = (h : ℕ) → NoneAbove n (logs h)
 
 few_with : (c : Settings) (n : ℕ) (logs : Logs) (host : ℕ) (i : Input) → AllFew n logs → number_came i ≤ n
     → AllFew (n + 1) (with_entry logs host (entry_of c host (logs host) i))
@@ -27,11 +28,11 @@ few_with c n logs host i few came q =
     elim (cases_Bool (q == host)) [
       | inl t ↦
           let same : q ≡ host = eqb-true q host t in
-          let here : with_entry logs host e q ≡ e ∷ logs host = ap (with_entry logs host e) same ∙ with_here logs host e in
-          subst (IsFew (n + 1)) (sym here) (few_next c host (logs host) i n (few host) came)
+          let here : with_entry logs host e q ≡ e ∷ logs host = ap (with_entry logs host e) same ∙ own_log logs host e in
+          subst (NoneAbove (n + 1)) (sym here) (few_next c host (logs host) i n (few host) came)
       | inr f ↦
           let other : q ≢ host = λ same. cc (f, eq-eqb q host same) in
-          subst (IsFew (n + 1)) (sym (with_other logs host e q other)) (few_later n (n + 1) (logs q) (omega arith) (few q))
+          subst (NoneAbove (n + 1)) (sym (with_other logs host e q other)) (few_later n (n + 1) (logs q) (omega arith) (few q))
     ]
 
 find_holds : (P : Frame → Type 0) (test : Frame → Bool) (fs : List Frame) (f : Frame) → Each P fs → find test fs ≡ Some f → P f
@@ -68,7 +69,7 @@ few_from c n logs (e ∷ es) few =
     λ q. few_later ((n + 1) + length es) (n + suc (length es)) (logs_from c (logs_after logs (happened c logs e)) es q) (omega arith)
     (rest q)
 
-pub schedule_few : (c : Settings) (es : List Event) (h : ℕ) → IsFew (length es) (logs_of c es h)
+pub schedule_few : (c : Settings) (es : List Event) (h : ℕ) → NoneAbove (length es) (logs_of c es h)
 schedule_few c es h =
     few_later (0 + length es) (length es) (logs_of c es h) (omega arith)
     (few_from c 0 no_entries es (λ q. record { last = omega arith; frames = tt }) h)

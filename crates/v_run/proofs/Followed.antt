@@ -5,17 +5,16 @@ use Rattle.std.specs.List.{cons_option, filter_map, list_all}
 use Rattle.std.specs.Prelude.{slice_get}
 use Rattle.std.proofs.lemmas.Bool.{cases_Bool}
 use Rattle.std.proofs.lemmas.Option.{none-some, same_Some}
-use Rattle.vk_base.specs.declared.answer.Answer.{Answer}
-use Rattle.vk_base.specs.declared.call.Call.{Call}
-use Rattle.vk_base.specs.declared.event.EventAnswer.{EventAnswer}
-use Rattle.vk_base.specs.declared.kernel.Observation.{Observation}
-use Rattle.vk_base.specs.declared.pid.Pid.{Pid}
+use Rattle.std.proofs.lemmas.List.Elements.{filter_map-append}
+use Rattle.vk_join.proofs.Joins.{told_entry}
+use Rattle.v_ages.proofs.Numbers.{cons_none}
+use Rattle.vk_types.specs.Types.{Answer, Call, EventAnswer, Observation, Pid}
 use Rattle.vk_base.specs.Kernel.{◌>>=◌}
 use Rattle.vk_base.specs.Pids.{same_pid}
 use Rattle.vk_base.specs.Settings.{Settings, has_station}
 use Rattle.vk_base.specs.Steps.{only_if}
 use Rattle.vk_base.proofs.OptionLemmas.{bind_is}
-use Rattle.vk_cluster.proofs.Logs.{history_more, logs_next, with_here, with_other}
+use Rattle.vk_cluster.proofs.Logs.{history_more, logs_next, with_other}
 use Rattle.vk_cluster.specs.Standing.{logs_of}
 use Rattle.vk_schedule.specs.declared.event.Event.{Event}
 use Rattle.vk_schedule.specs.declared.event.Event.TheVariants as scheduled
@@ -30,6 +29,7 @@ use Rattle.vk_rules.specs.Observed.{begun_after, handed_out, is_not_yet, no_call
 unfoldable use Rattle.vk_rules.specs.Observed.{observed}
 use Rattle.vk_rules.specs.Right.{entry_of}
 unfoldable use Rattle.vk_rules.specs.Right.{right_entry}
+use Rattle.vk_rules.proofs.OwnEvents.{own_log}
 use Rattle.v_ended.specs.Answered.{answers_of, called_by, calls_of, told_to}
 use Rattle.v_laws.proofs.Tables.{same_pid_is}
 use Rattle.v_pages.specs.Followed.{IsNextCall, answer_in}
@@ -40,25 +40,13 @@ use Rattle.v_whole.proofs.Distinct.{lawful_distinct}
 use Rattle.v_whole.specs.Schedules.{AreDistinct}
 use Rattle.v_laws.proofs.StepLemmas.{only_if_is}
 use Rattle.v_ended.specs.Answered.{ComeInTime}
-use Rattle.v_run.proofs.Answered.{input_of_entry, last_behind, of_actors, sees_at, sees_more}
+use Rattle.v_run.proofs.Answered.{last_behind, of_actors, sees_at, sees_more}
 use Rattle.v_run.proofs.Room.{grows, logs_cut}
 
 -- Lists that are mapped in part.
-mapped_append : {A B : Type 0} (f : A → Option B) (xs ys : List A) → filter_map f (xs ++ ys) ≡ filter_map f xs ++ filter_map f ys
-mapped_append f [] ys = refl
-mapped_append f (x ∷ xs) ys = by (f x) (mapped_append f xs ys)
-  where
-    by : (o : Option _) → filter_map f (xs ++ ys) ≡ filter_map f xs ++ filter_map f ys
-        → cons_option o (filter_map f (xs ++ ys)) ≡ cons_option o (filter_map f xs) ++ filter_map f ys
-    by None rest = rest
-    by (Some y) rest = ap (λ l. y ∷ l) rest
-
-one_of : {B : Type 0} (o : Option B) → cons_option o [] ≡ option_to_list o
-one_of None = refl
-one_of (Some y) = refl
 
 mapped_one : {A B : Type 0} (f : A → Option B) (x : A) → filter_map f (x ∷ []) ≡ option_to_list (f x)
-mapped_one f x = one_of (f x)
+mapped_one f x = cons_none (f x)
 
 -- what is seen of a collect that hands out an answer
 abbrev not_early : Answer → Option Answer
@@ -101,7 +89,7 @@ module _ (r : Pid) where
       told_more logs host x l here there = elim (cases_Bool (r.host == host)) [
         | inl t ↦
             let same : r.host ≡ host = eqb-true r.host host t in
-            ap of (ap (with_entry logs host x) same ∙ with_here logs host x)
+            ap of (ap (with_entry logs host x) same ∙ own_log logs host x)
             ∙ (more x (logs host) ∙ ((λ i. of (logs (sym same i)) ++ here same i)))
         | inr f ↦
             let apart : r.host ≢ host = λ same. cc (f, eq-eqb r.host host same) in
@@ -182,7 +170,7 @@ module _ (r : Pid) where
         ≡ filter_map (answer_in r) (observed last hs) ++ seen_at (last_behind last hs) x
     in_more last hs (At host event e) =
         ap (filter_map (answer_in r)) (sees_more last hs host event e)
-        ∙ mapped_append (answer_in r) (observed last hs) (option_to_list (seen_of (last_behind last hs) e.input e.answer))
+        ∙ filter_map-append (answer_in r) (observed last hs) (option_to_list (seen_of (last_behind last hs) e.input e.answer))
     in_more last hs (Missing host) =
         ap (filter_map (answer_in r)) (sees_none last hs host) ∙ sym (append-nil (filter_map (answer_in r) (observed last hs)))
 
@@ -236,7 +224,7 @@ module _ (r : Pid) where
           ∙ (calls_after c (logs_of c zs) e
           ∙ (ap (λ l. l ++ option_to_list (call_of r e)) same
           ∙ (ap (λ l. calls_in r zs ++ l) (sym (mapped_one (call_of r) e))
-          ∙ sym (mapped_append (call_of r) zs (e ∷ [])))))) [] xs ys is refl
+          ∙ sym (filter_map-append (call_of r) zs (e ∷ [])))))) [] xs ys is refl
 
       answers_are : (xs ys : List Event) → es ≡ xs ++ ys → answers_of r (logs_of c xs r.host) ≡ answers_in c r xs
       unfolding logs_from history observed
@@ -266,11 +254,11 @@ module _ (r : Pid) where
           let rest = grows c (logs_after (logs_of c xs) (At h (length (logs_of c xs h) + 1) x)) ys h in
           let all : logs_of c es h ≡ rest.0 ++ x ∷ logs_of c xs h =
           (λ i. ((ap (logs_of c) is ∙ logs_cut c no_entries xs (scheduled.Call pid call ∷ ys)) i) h)
-          ∙ (rest.1 ∙ ap (λ l. rest.0 ++ l) (with_here (logs_of c xs) h x)) in
+          ∙ (rest.1 ∙ ap (λ l. rest.0 ++ l) (own_log (logs_of c xs) h x)) in
           let at : FollowsTask task r (rest.0 ++ x ∷ logs_of c xs h) =
           subst (FollowsTask task r) all (subst (λ q. FollowsTask task r (logs_of c es q)) (sym home) follows) in
           let next : IsNextOf task r (logs_of c xs h) (Called pid call) =
-          subst (IsNextOf task r (logs_of c xs h)) (input_of_entry c h (logs_of c xs h) (Called pid call))
+          subst (IsNextOf task r (logs_of c xs h)) (told_entry c h (logs_of c xs h) (Called pid call))
           (follows_at task rest.0 x (logs_of c xs h) at) in
           subst (λ (p : List Call × List Answer). IsNextCall task p.0 p.1 call)
           (λ i. (

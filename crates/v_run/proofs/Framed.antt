@@ -1,9 +1,8 @@
 -- The works of a process that was answered as often as it called were ended by frames, where no tick ended one.
 use Rattle.std.proofs.Common.{◌≡◌, ℕ, ◌==◌, eqb-true, true, List, [], ◌∷◌, length, map, refl, sym, subst}
 use Rattle.std.proofs.lemmas.Bool.{and_parts}
-use Rattle.vk_base.specs.declared.event.StationEvent.{StationEvent}
+use Rattle.vk_types.specs.Types.{Pid, StationEvent}
 use Rattle.vk_base.specs.declared.event.StationEvent.TheVariants as events
-use Rattle.vk_base.specs.declared.pid.Pid.{Pid}
 use Rattle.vk_base.specs.Settings.{Settings, has_process}
 use Rattle.vk_host.specs.Values.{input_of}
 use Rattle.vk_port.specs.Stations.{StationHistory, entries_at, entries_from, event_of, is_own}

@@ -10,6 +10,7 @@ use Rattle.vk_hub.specs.Links.{Frame}
 use Rattle.vk_port.specs.Ports.{Action, Enters, Delivers, Drops, Hears, IsLog, Berth, Stand, entered_at, fetched_at, posts}
 use Rattle.vk_port.specs.Stations.{StationHistory, frames_at}
 use Rattle.vk_rules.specs.Each.{Each}
+use Rattle.vk_rules.proofs.Lists.{each_append}
 use Rattle.v_run.proofs.Totals.{Place, added, added_append, added_map, events_append, events_at_places, places, places_append, weight}
 use Rattle.v_run.proofs.Logs.{events_last, fetched_places, placed_last}
 
@@ -48,10 +49,6 @@ log_is_later p (Hears heard ∷ acts) s t log =
 abbrev pub IsNoFetch : HubEvent → Type 0
 IsNoFetch (hub_events.Fetch host) = ⊥
 IsNoFetch e = Unit {0}
-
-each_append : {A : Type 0} (P : A → Type 0) (xs ys : List A) → Each P xs → Each P ys → Each P (xs ++ ys)
-each_append P [] ys one two = two
-each_append P (x ∷ xs) ys one two = (one.0, each_append P xs ys one.1 two)
 
 posts_are : (fs : List Frame) → Each IsNoFetch (map hub_events.Post fs)
 posts_are [] = tt

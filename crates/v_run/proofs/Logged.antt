@@ -6,10 +6,9 @@ use Rattle.std.proofs.lemmas.Bool.{and_parts, cond-true, cond-false}
 use Rattle.std.proofs.lemmas.List.{length-map}
 use Rattle.std.proofs.lemmas.List.Sums.{sum_by-cons}
 use native.Mathlib.Nat.{add-mul, one-mul}
-use Rattle.vk_base.specs.declared.event.StationEvent.{StationEvent}
+use Rattle.vk_types.specs.Types.{Pid, StationEvent}
 use Rattle.vk_base.specs.declared.event.StationEvent.TheVariants as events
 use Rattle.vk_base.specs.declared.limits.TheConstants.{EVENTS}
-use Rattle.vk_base.specs.declared.pid.Pid.{Pid}
 use Rattle.vk_base.specs.Settings.{AreLawful, Settings, has_process, has_station, stations_of}
 use Rattle.vk_cluster.specs.declared.frames.TheConstants.{MOST_BYTES}
 use Rattle.vk_host.specs.Values.{input_of}
@@ -21,6 +20,7 @@ use Rattle.vk_port.specs.declared.station.TheConstants.{EMITTED_BYTES}
 use Rattle.vk_rules.specs.Each.{Each}
 use Rattle.vk_rules.specs.Entries.{Entry}
 use Rattle.vk_rules.specs.Right.{entry_of}
+use Rattle.vk_rules.proofs.Lists.{each_with}
 use Rattle.v_run.specs.Laws.{AreLogsOf, LogsMayBeJoined, closed_station, host_in}
 use Rattle.v_run.specs.Passages.{fresh_station}
 use Rattle.v_run.proofs.Seldom.{each_station}
@@ -50,10 +50,6 @@ own_events (l ∷ ls) rise = (same_events l ls, behind_first l ls ls rise.0 (own
 of_hosts : (P : ℕ → Type 0) (ls : List StationLog) → Each P (map host_in ls) → Each (λ (l : StationLog). P l.host) ls
 of_hosts P [] each = tt
 of_hosts P (l ∷ ls) each = (each.0, of_hosts P ls each.1)
-
-pub both : {A : Type 0} (P Q R : A → Type 0) (xs : List A) → ((x : A) → P x → Q x → R x) → Each P xs → Each Q xs → Each R xs
-both P Q R [] joins one two = tt
-both P Q R (x ∷ xs) joins one two = (joins x one.0 two.0, both P Q R xs joins one.1 two.1)
 
 -- The same entries.
 pub behind_is : (c : Settings) (h : ℕ) (es : List Entry) (xs : List StationEvent)
@@ -93,7 +89,7 @@ module _ (c : Settings) (histories : ℕ → List (ℕ × StationEvent)) (logs :
     may_be_joined = record {
       rise = rise;
       stations = of_stations (λ h. has_station c.specs h ≡ true) (λ h there. there);
-      own = both (λ (l : StationLog). Each (IsOfStation c.specs l.host) (events_at logs l.host))
+      own = each_with (λ (l : StationLog). Each (IsOfStation c.specs l.host) (events_at logs l.host))
           (λ (l : StationLog). l.events ≡ events_at logs l.host) (λ (l : StationLog). Each (IsOfStation c.specs l.host) l.events) logs
           (λ l all same. subst (Each (IsOfStation c.specs l.host)) (sym same) all)
           (of_stations (λ h. Each (IsOfStation c.specs h) (events_at logs h))
@@ -125,7 +121,7 @@ module _ (c : Settings) (histories : ℕ → List (ℕ × StationEvent)) (logs :
     pub few_events : event_count logs ≤ EVENTS
     few_events =
         all_shares (λ (l : StationLog). length l.events) EVENTS
-        (both (λ (l : StationLog). length (events_at logs l.host) ≤ most_entries c) (λ (l : StationLog). l.events ≡ events_at logs l.host)
+        (each_with (λ (l : StationLog). length (events_at logs l.host) ≤ most_entries c) (λ (l : StationLog). l.events ≡ events_at logs l.host)
         (λ (l : StationLog). length l.events ≤ most_entries c) logs
         (λ l few same. subst (λ (es : List StationEvent). length es ≤ most_entries c) (sym same) few)
         (of_stations (λ h. length (events_at logs h) ≤ most_entries c)
@@ -138,7 +134,7 @@ module _ (c : Settings) (histories : ℕ → List (ℕ × StationEvent)) (logs :
     pub few_bytes : byte_count c logs ≤ MOST_BYTES
     few_bytes =
         all_shares (λ (l : StationLog). bytes_in (entries_for c l.host l.events)) EMITTED_BYTES
-        (both (λ (l : StationLog). bytes_in (entries_for c l.host (events_at logs l.host)) ≤ share_of_bytes c)
+        (each_with (λ (l : StationLog). bytes_in (entries_for c l.host (events_at logs l.host)) ≤ share_of_bytes c)
         (λ (l : StationLog). l.events ≡ events_at logs l.host)
         (λ (l : StationLog). bytes_in (entries_for c l.host l.events) ≤ share_of_bytes c) logs
         (λ l few same. subst (λ (es : List StationEvent). bytes_in (entries_for c l.host es) ≤ share_of_bytes c) (sym same) few)

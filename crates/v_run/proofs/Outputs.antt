@@ -6,12 +6,12 @@ use Rattle.std.specs.Prelude.{slice_get}
 use Rattle.std.proofs.lemmas.Bool.{and_parts, or_parts}
 use Rattle.std.proofs.lemmas.Bool.Decides.{Decides-eqb}
 use Rattle.std.proofs.lemmas.Slice.Eq.{slice_eq-Decides}
-use Rattle.vk_base.specs.declared.event.StationEvent.{StationEvent}
+use Rattle.vk_types.specs.Types.{StationEvent}
 use Rattle.vk_base.specs.declared.event.StationEvent.TheVariants as events
 use Rattle.vk_base.specs.Packets.{Packet}
 use Rattle.vk_base.specs.Settings.{Settings, has_station, stations_of}
-use Rattle.vk_cluster.proofs.Handed.{opens_again}
-use Rattle.vk_cluster.proofs.Pieces.{each_at}
+use Rattle.vk_cluster.proofs.Handed.{opens_again, behind}
+use Rattle.vk_cluster.proofs.Arms.{each_emitted}
 use Rattle.vk_cluster.specs.Found as found
 use Rattle.vk_frame.specs.declared.header.Header.{Header}
 use Rattle.vk_frame.specs.Reading.{frame_of}
@@ -21,7 +21,7 @@ use Rattle.vk_hub.specs.declared.event.HubEvent.{HubEvent}
 use Rattle.vk_hub.specs.Hubs.{HubLog}
 use Rattle.vk_hub.specs.Links as links
 use Rattle.vk_hub.specs.Links.{header_of}
-use Rattle.vk_join.proofs.Given.{IsSound, each_emitted}
+use Rattle.vk_join.proofs.Given.{IsSound}
 use Rattle.vk_schedule.specs.declared.log.StationLog.{StationLog}
 use Rattle.vk_join.specs.Laws.{AreGiven, BringsOutput, IsOutput, OutputsAreJoined}
 use Rattle.vk_join.specs.Logs.{events_at}
@@ -30,10 +30,10 @@ use Rattle.vk_join.specs.Stray.{join_refusal}
 use Rattle.vk_packet.specs.Reading.{packet_of}
 use Rattle.vk_port.specs.declared.station.TheConstants.{LAST_NUMBER}
 use Rattle.vk_port.specs.Stations.{brings_last_number, entries_at, event_of, frames_at, is_used_up}
-use Rattle.vk_rules.proofs.Lists.{each_append}
+use Rattle.vk_rules.proofs.Lists.{each_append, each_at, each_with}
 use Rattle.vk_rules.specs.Each.{Each}
 use Rattle.vk_rules.specs.Entries.{Entry}
-use Rattle.vk_rules.specs.Frames.{Frame, Framed, number_in, unsealed_behind, unsealed_by, unsealed_of}
+use Rattle.vk_rules.specs.Frames.{Frame, Framed, number_in, unsealed_by, unsealed_of}
 use Rattle.vk_rules.specs.Histories.{emitted}
 use Rattle.vk_rules.specs.Laws.{AllRise, FramesUnsealAgain, HaveHeaders}
 use Rattle.v_lawful.specs.Sending.{IsLawfulEntry, IsLawfulFrame}
@@ -43,21 +43,17 @@ use Rattle.v_run.specs.Passages.{Passage, fresh_station}
 use Rattle.v_run.proofs.Counts.{delivers}
 use Rattle.v_run.proofs.Ended.{Among, each_of}
 use Rattle.v_run.proofs.Entries.{by_entries}
-use Rattle.v_run.proofs.Logged.{both, entries_are, few_bytes, few_events, of_stations, own_events}
+use Rattle.v_run.proofs.Logged.{entries_are, few_bytes, few_events, of_stations, own_events}
 use Rattle.v_run.proofs.Seldom.{taken_was_made}
 use Rattle.v_run.proofs.Sound.{AreOpen, IsOpen}
-use Rattle.v_run.proofs.Totals.{added, added_append, total}
-use Rattle.v_run.proofs.Unique.{added_over_map}
+use Rattle.v_run.proofs.Totals.{added, added_append, total, added_map}
 
 -- Frames open with their headers.
-header_behind : (g : Header) (o : Option Packet) (h : Header) (p : Packet) → unsealed_behind g o ≡ Framed h p → g ≡ h
-header_behind g None h p is = cc
-header_behind g (Some q) h p is = cc
 
 header_by : (o : Option (Header × List ℕ)) (h : Header) (p : Packet) → unsealed_by o ≡ Framed h p
     → option_map (λ (x : Header × List ℕ). x.0) o ≡ Some h
 header_by None h p is = cc
-header_by (Some x) h p is = ap Some (header_behind x.0 (packet_of x.1) h p is)
+header_by (Some x) h p is = ap Some (behind x.0 (packet_of x.1) h p is)
 
 opens : FramesUnsealAgain → (f : Frame) → IsLawfulFrame f → IsOpen f
 opens unseal f lawful = header_by (frame_of (sealed f)) f.header f.packet (opens_again unseal f lawful)
@@ -200,7 +196,7 @@ module _ (unseal : FramesUnsealAgain) (c : Settings) (o : HubLog) (histories : �
         let whole : made q ≡ added g (emitted es) =
         sum ∙ (ap (added (λ (e : Entry). added meant (map sealed e.frames))) same
         ∙ (added_by (λ (e : Entry). added meant (map sealed e.frames)) (λ (e : Entry). added g e.frames) es
-        (λ e. added_over_map meant sealed e.frames)
+        (λ e. added_map meant sealed e.frames)
         ∙ added_emitted g es)) in
         let some = at.2 in
         let it = some_placed g (emitted es) (omega arith) in
@@ -252,7 +248,7 @@ module _ (unseal : FramesUnsealAgain) (c : Settings) (o : HubLog) (histories : �
   pub are_joined : OutputsAreJoined → AreGiven c logs → join_refusal c logs ≡ None
   are_joined law given =
       law c logs given (few_events c histories logs are given.lawful) (few_bytes c histories logs are given.lawful)
-      (both (λ (l : StationLog). Each (BringsOutput (joined.entries_at c logs) l.host) (events_at logs l.host))
+      (each_with (λ (l : StationLog). Each (BringsOutput (joined.entries_at c logs) l.host) (events_at logs l.host))
       (λ (l : StationLog). l.events ≡ events_at logs l.host)
       (λ (l : StationLog). Each (BringsOutput (joined.entries_at c logs) l.host) l.events) logs
       (λ l all same. subst (Each (BringsOutput (joined.entries_at c logs) l.host)) (sym same) all)

@@ -1,18 +1,16 @@
 -- No tick ends a work before it came so often as a work has patience for: each round but the first of a base waits for an interval.
 use Rattle.std.proofs.Common.{◌≡◌, ℕ, ◌+◌, ◌*◌, ◌<◌, ◌≤◌, ◌&&◌, ◌||◌, not, nat_le, eqb-true, Bool, true, false, Option, None, List, [], ◌∷◌, ◌++◌, cond, if◌then◌else◌, refl, sym, ap, ◌∙◌, subst, arith, append_assoc, append-nil}
 use Rattle.std.specs.List.{filter_map, list_any}
-use Rattle.std.proofs.lemmas.Bool.{and_parts}
+use Rattle.std.proofs.lemmas.Bool.{and_parts, false_from_ne_true}
 use native.Mathlib.Nat.{add-mul, mul-le-mul_right, one-mul, zero-mul}
 use Rattle.std.specs.List.{flat_map}
 use Rattle.std.proofs.lemmas.Bool.Decides.{nat_tests}
-use Rattle.vk_base.specs.declared.event.EventAnswer.{EventAnswer}
+use Rattle.vk_join.proofs.Joins.{told_entry}
+use Rattle.vk_types.specs.Types.{EventAnswer, Pid, StationEvent, Step, Times}
 use Rattle.vk_base.specs.Pids.{same_pid}
 use Rattle.vk_rules.specs.CallOutcomes.{packets_of, sent_again}
 use Rattle.vk_rules.specs.Works.{answers}
 use Rattle.vk_rules.proofs.Lists.{each_weaker}
-use Rattle.vk_base.specs.declared.config.Times.{Times}
-use Rattle.vk_base.specs.declared.pid.Pid.{Pid}
-use Rattle.vk_base.specs.declared.step.Step.{Step}
 use Rattle.vk_base.specs.declared.step.Step.TheVariants as steps
 use Rattle.vk_base.specs.Kernel.{Kernel}
 use Rattle.vk_base.specs.Packets.{Packet}
@@ -33,10 +31,9 @@ use Rattle.v_ages.proofs.Outcomes.{OfCall, Other, First, OfTick, call_packets, t
 use Rattle.v_ended.specs.Ends.{NoTickEnds}
 use Rattle.v_run.specs.Outcomes.{ticks_in}
 use Rattle.v_run.specs.Passages.{fresh_station}
-use Rattle.v_run.proofs.Entries.{entries_more}
-use Rattle.vk_base.specs.declared.event.StationEvent.{StationEvent}
 use Rattle.vk_host.specs.Values.{input_of}
 use Rattle.vk_port.specs.Stations.{StationHistory, entries_at}
+use Rattle.vk_port.proofs.Histories.{entries_more}
 
 -- what one of a list shows
 any_shows : {A : Type 0} (test : A → Bool) (X : Type 0) (xs : List A) → Each (λ x. test x ≡ true → X) xs → list_any test xs ≡ true → X
@@ -153,17 +150,13 @@ early_by t now w patient early both =
     below_of : (m n : ℕ) → nat_le m n ≡ true → m ≤ n
     below_of m n is = grind (arith, nat_tests)
 
-not_both : (b : Bool) → (b ≡ true → ⊥) → b ≡ false
-not_both true never = absurd (never refl)
-not_both false never = refl
-
 none_failed : (c : Settings) (r : Reading) (pids : List Pid) → ((pid : Pid) → IsPatient c.times r.now (r.work pid))
     → r.now + 1 < c.times.tries * c.times.interval → filter_map (failed c.times (r.now + 1) r) pids ≡ []
 none_failed c r [] patient early = refl
 none_failed c r (pid ∷ pids) patient early =
     let no_fail : failed c.times (r.now + 1) r pid ≡ None =
     ap (λ b. only_if b (failing_step r.view pid))
-    (not_both (is_due c.times (r.now + 1) (r.work pid) && is_unanswered c.times (r.work pid)) (early_by c.times r.now (r.work pid)
+    (false_from_ne_true (is_due c.times (r.now + 1) (r.work pid) && is_unanswered c.times (r.work pid)) (early_by c.times r.now (r.work pid)
     (patient pid) early)) in
     filter_none (failed c.times (r.now + 1) r) pid pids no_fail ∙ none_failed c r pids patient early
   where
@@ -226,16 +219,12 @@ ticks_parts : (c : Settings) (host : ℕ) (e : Entry) (es : List Entry) (i : Inp
 ticks_parts c host e es i is tick = let one : ◌≡◌ {A = ℕ} (cond (is_tick e.input) 1 0) 1 = ap (λ (b : Bool). cond {A = ℕ} b 1 0) tick in
     omega arith
 
-input_of_entry : (c : Settings) (host : ℕ) (es : List Entry) (i : Input) → (entry_of c host es i).input ≡ i
-unfolding right_entry
-input_of_entry c host es i = refl
-
 one_early : (c : Settings) (host : ℕ) (e : Entry) (es : List Entry) → IsBuilt c host (e ∷ es)
     → ticks_in (e ∷ es) < c.times.tries * c.times.interval → is_tick e.input ≡ true → e.steps ≡ []
 one_early c host e es built early tick =
     let i = built.0.0 in
     let more = ticks_parts c host e es i built.0.1 tick in
-    let input : e.input ≡ i = ap (λ (x : Entry). x.input) built.0.1 ∙ input_of_entry c host es i in
+    let input : e.input ≡ i = ap (λ (x : Entry). x.input) built.0.1 ∙ told_entry c host es i in
     ap (λ (x : Entry). x.steps) built.0.1
     ∙ early_entry c host es built.1 (omega arith) i (ap is_tick (sym input) ∙ tick)
 

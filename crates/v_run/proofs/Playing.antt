@@ -1,16 +1,13 @@
 -- A process follows its task in the closed history of its station, since its passage does and no other passage calls or collects for it.
 use Rattle.std.proofs.Common.{◌≡◌, ℕ, ◌==◌, Bool, true, false, Option, List, [], ◌∷◌, ◌++◌, cond, refl, sym, ap, ◌∙◌, subst, append_assoc, append-nil}
 use Rattle.std.specs.Prelude.{option_to_list}
-use Rattle.vk_base.specs.declared.answer.Answer.{Answer}
-use Rattle.vk_base.specs.declared.call.Call.{Call}
-use Rattle.vk_base.specs.declared.event.EventAnswer.{EventAnswer}
-use Rattle.vk_base.specs.declared.event.StationEvent.{StationEvent}
+use Rattle.vk_types.specs.Types.{Answer, Call, EventAnswer, Pid, StationEvent}
 use Rattle.vk_base.specs.declared.event.StationEvent.TheVariants as events
-use Rattle.vk_base.specs.declared.pid.Pid.{Pid}
 use Rattle.vk_base.specs.Pids.{same_pid}
 use Rattle.vk_host.specs.Values.{input_of}
 use Rattle.vk_port.specs.Ports.{Action, Enters, Delivers, Drops, Hears}
 use Rattle.vk_port.specs.Stations.{StationHistory, entries_at, entry_at}
+use Rattle.vk_port.proofs.Histories.{entries_more}
 use Rattle.vk_rules.specs.CallOutcomes.{given}
 use Rattle.vk_rules.specs.Entries.{Called, Collected, Delivered, Entry, Input, Ticked}
 use Rattle.v_run.specs.Passages.{IsNextCall}
@@ -19,7 +16,7 @@ use Rattle.v_run.specs.Outcomes.{FollowsTask, IsNextOf, is_doing_of}
 use Rattle.v_run.specs.Passages.{IsNext, Plays, answer_in, answers_by, call_in, calls_by}
 use Rattle.v_run.proofs.Totals.{Place, places}
 use Rattle.v_run.proofs.Logs.{entered_places}
-use Rattle.v_run.proofs.Entries.{entries_more, input_is}
+use Rattle.v_run.proofs.Entries.{input_is}
 
 module _ (task : List Answer → Option Call) (r : Pid) (same : same_pid r r ≡ true) (o : StationHistory) where
   -- the same of places

@@ -1,6 +1,6 @@
 -- Closed runs are joined, and what they are joined to is a run.
 use Rattle.std.proofs.Common.{◌≡◌, ℕ, ◌-◌, ◌≤◌, true, List, length, sym, ◌∙◌, subst, arith}
-use Rattle.vk_base.specs.declared.event.StationEvent.{StationEvent}
+use Rattle.vk_types.specs.Types.{StationEvent}
 use Rattle.vk_base.specs.declared.limits.TheConstants.{EVENTS}
 use Rattle.vk_base.specs.Settings.{Settings, has_station}
 use Rattle.vk_cluster.specs.Standing.{logs_of}

@@ -1,15 +1,17 @@
 -- Each entry of a station was ready where it was made: each collect came in time.
 use Rattle.std.proofs.Common.{◌≡◌, ℕ, ◌==◌, ◌&&◌, not, eqb-true, Bool, true, false, List, [], ◌∷◌, ◌++◌, cond, refl, sym, ap, ◌∙◌, subst, arith, append_assoc, append-nil}
-use Rattle.vk_base.specs.declared.event.StationEvent.{StationEvent}
+use Rattle.vk_types.specs.Types.{StationEvent}
 use Rattle.vk_base.specs.declared.event.StationEvent.TheVariants as events
 use Rattle.vk_base.specs.declared.step.Step.TheVariants as steps
 use Rattle.vk_base.specs.Settings.{Settings, has_station}
 use Rattle.vk_base.specs.Steps.{is_allowed}
+use Rattle.vk_base.proofs.BoolLemmas.{and_second}
 use Rattle.vk_hub.specs.declared.event.HubEvent.{HubEvent}
 use Rattle.vk_hub.specs.Hubs.{HubLog}
 use Rattle.vk_host.specs.Values.{input_of}
 use Rattle.vk_port.specs.Ports.{Action, Enters, Delivers, Drops, Hears, Berth, IsLog, Stand, entered_at, fetched_at}
 use Rattle.vk_port.specs.Stations.{StationHistory, entries_at, is_full, is_own, is_ready}
+use Rattle.vk_port.proofs.Histories.{entries_more}
 use Rattle.vk_rules.specs.Readings.{reading}
 use Rattle.v_run.specs.Closed.{AreClosed}
 use Rattle.v_ended.specs.Answered.{ComeInTime, IsInTime}
@@ -17,7 +19,7 @@ use Rattle.v_run.specs.Passages.{Passage, fresh_station, host_of, nowhere}
 use Rattle.v_run.proofs.Totals.{added_none, total, weight}
 use Rattle.v_run.proofs.Logs.{entered_places}
 use Rattle.v_run.proofs.Sums.{IsDone, added_same_each, all_done, at_station}
-use Rattle.v_run.proofs.Entries.{entries_more, input_is}
+use Rattle.v_run.proofs.Entries.{input_is}
 
 -- weights that are nothing where the entry was the station's own, ready, and had room
 module _ (w : List (ℕ × StationEvent) → StationEvent → ℕ) where
@@ -47,10 +49,6 @@ is_early o before e = false
 
 abbrev pub early : StationHistory → List (ℕ × StationEvent) → StationEvent → ℕ
 early o before e = cond (is_early o before e) 1 0
-
-and_second : (a b : Bool) → (a && b) ≡ true → b ≡ true
-and_second true b is = is
-and_second false b is = absurd (cc is)
 
 not_early : (b : Bool) → b ≡ true → cond {A = ℕ} (not b) 1 0 ≡ 0
 not_early true is = refl

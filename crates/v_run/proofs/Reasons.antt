@@ -4,7 +4,8 @@ use mathlib.Core.List.{IsPrefix}
 use Rattle.std.proofs.lemmas.Bool.Decides.{nat_tests}
 use Rattle.std.proofs.lemmas.Option.{same_Some}
 use Rattle.std.proofs.lemmas.List.Sums.{sum_by-cons}
-use Rattle.vk_base.specs.declared.event.StationEvent.{StationEvent}
+use Rattle.std.proofs.lemmas.Bool.{or_cases, or_left, or_right}
+use Rattle.vk_types.specs.Types.{StationEvent}
 use Rattle.vk_base.specs.declared.event.StationEvent.TheVariants as events
 use Rattle.vk_base.specs.Settings.{Settings, has_station, stations_of}
 use Rattle.vk_base.specs.declared.limits.TheConstants.{EVENTS}
@@ -22,6 +23,7 @@ use Rattle.vk_host.specs.Sealed.{sealed}
 use Rattle.vk_port.specs.Ports.{Action, Enters, Delivers, Drops, Hears, Berth, IsLog, Stand, entered_at, fetched_at}
 use Rattle.vk_port.specs.Stations.{StationHistory, brings_last_number, bytes_of, emitted_bytes, entries_at, entry_at, frames_at, is_used_up, is_used_up_by}
 use Rattle.vk_port.specs.declared.station.TheConstants.{EMITTED_BYTES, EVENT_BYTES, LAST_NUMBER}
+use Rattle.vk_port.proofs.Histories.{entries_more}
 use Rattle.vk_rules.specs.Each.{Each}
 use Rattle.vk_rules.specs.Entries.{Entry}
 use Rattle.vk_rules.specs.Frames as rules
@@ -32,15 +34,14 @@ use Rattle.v_run.specs.Outcomes.{AreBusy, HasUsedUp}
 use Rattle.v_run.proofs.Sound.{AreOpen}
 use Rattle.v_run.specs.Passages.{HasDropped, Passage, fresh_station, host_of, lost_count, nowhere}
 use Rattle.v_run.specs.Runs.{passages_of}
-use Rattle.v_run.proofs.Totals.{added, added_none, total, weight}
+use Rattle.v_run.proofs.Totals.{added, added_none, total, weight, added_map}
 use Rattle.v_run.proofs.Logs.{fetched_places}
 use Rattle.v_run.proofs.Sums.{IsDone, added_same_each, all_done, fetches_at_hub}
 use Rattle.v_run.proofs.Counts.{gets_are, gets_of_fetches, got}
-use Rattle.v_run.proofs.Entries.{by_entries, entries_more}
+use Rattle.v_run.proofs.Entries.{by_entries}
 use Rattle.v_run.proofs.Ended.{Among, of_each}
 use Rattle.v_run.proofs.Limits.{few_lasts, few_losses, others_most, others_prefix}
 use Rattle.v_run.proofs.Seldom.{each_station, posted_most}
-use Rattle.v_run.proofs.Unique.{added_over_map}
 
 -- A history that is used up stays so.
 bytes_grow : (o : StationHistory) (xs ys : List (ℕ × StationEvent))
@@ -53,18 +54,6 @@ bytes_grow o xs (y ∷ ys) =
     ap emitted_bytes (entries_more o xs y) ∙ sum_by-cons bytes_of (entry_at o xs y.1) (entries_at o xs) in
     subst (λ l. emitted_bytes (entries_at o xs) ≤ emitted_bytes (entries_at o l)) (append_assoc xs (y ∷ []) ys) (omega arith)
 
-or_by : (a b : Bool) → (a || b) ≡ true → (a ≡ true) ⊎ (b ≡ true)
-or_by true b used = inl refl
-or_by false b used = inr used
-
-left_or : (a b : Bool) → a ≡ true → (a || b) ≡ true
-left_or true b is = refl
-left_or false b is = absurd (cc is)
-
-right_or : (a b : Bool) → b ≡ true → (a || b) ≡ true
-right_or true b is = refl
-right_or false b is = is
-
 le_more : (m a b : ℕ) → a ≤ b → nat_le m a ≡ true → nat_le m b ≡ true
 le_more m a b low is = grind (arith, nat_tests)
 
@@ -73,12 +62,12 @@ lt_more m a b low is = grind (arith, nat_tests)
 
 used_more_by : (entries bytes more_entries more_bytes stations : ℕ) → entries ≤ more_entries → bytes ≤ more_bytes
     → is_used_up_by entries bytes stations ≡ true → is_used_up_by more_entries more_bytes stations ≡ true
-used_more_by entries bytes more_entries more_bytes stations le less used = by (or_by _ _ used)
+used_more_by entries bytes more_entries more_bytes stations le less used = by (or_cases _ _ used)
   where
     by : (nat_le (EVENTS / stations) entries ≡ true) ⊎ (nat_lt (EMITTED_BYTES / stations - EVENT_BYTES) bytes ≡ true)
         → is_used_up_by more_entries more_bytes stations ≡ true
-    by (inl is) = left_or _ _ (le_more (EVENTS / stations) entries more_entries le is)
-    by (inr is) = right_or _ _ (lt_more (EMITTED_BYTES / stations - EVENT_BYTES) bytes more_bytes less is)
+    by (inl is) = or_left _ _ (le_more (EVENTS / stations) entries more_entries le is)
+    by (inr is) = or_right _ _ (lt_more (EMITTED_BYTES / stations - EVENT_BYTES) bytes more_bytes less is)
 
 entries_size : (o : StationHistory) (acc xs : List (ℕ × StationEvent))
     → length (entries_at o (acc ++ xs)) ≡ length (entries_at o acc) + length xs
@@ -145,7 +134,7 @@ module _ (to : ℕ) where
       → added (λ (e : Entry). added meant (map sealed e.frames)) es ≡ 0
   entries_none host [] rise opens low = refl
   entries_none host (e ∷ es) rise opens low =
-      let same = added_over_map meant sealed e.frames in
+      let same = added_map meant sealed e.frames in
       let one = frames_none host e.tick e.number (length es + 1) 1 e.frames rise.0.frames opens.0 low.0 in
       let rest = entries_none host es rise.1 opens.1 low.1 in
       omega arith

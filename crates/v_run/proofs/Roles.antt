@@ -1,10 +1,7 @@
 -- What follows from a passage's role.
 use Rattle.std.proofs.Common.{Option, List, [], ◌∷◌, ◌++◌}
-use Rattle.vk_base.specs.declared.answer.Answer.{Answer}
-use Rattle.vk_base.specs.declared.call.Call.{Call}
-use Rattle.vk_base.specs.declared.event.StationEvent.{StationEvent}
+use Rattle.vk_types.specs.Types.{Answer, Call, Pid, StationEvent}
 use Rattle.vk_base.specs.declared.event.StationEvent.TheVariants as events
-use Rattle.vk_base.specs.declared.pid.Pid.{Pid}
 use Rattle.vk_port.specs.Ports.{Action, Enters, Delivers, Drops, Hears}
 use Rattle.vk_port.specs.Stations.{StationHistory}
 use Rattle.v_run.specs.Passages.{EntersOwn, IsNext, IsOwn, IsRole, IsTick, OnlyPumps, OnlyTicks, Plays, Pumps, Role, Runs, Ticks, answer_in, call_in}

@@ -6,12 +6,11 @@ use Rattle.std.proofs.Math.Nat.{le-div_iff_mul-le, mul-div-le}
 use Rattle.std.proofs.lemmas.Bool.{and_from, and_parts, cases_Bool, ltb-false, or_parts}
 use Rattle.std.proofs.lemmas.List.Sums.{sum_by-append, sum_by-cons}
 use native.Mathlib.Nat.{add-mul, one-mul}
-use Rattle.vk_base.specs.declared.config.ProcessSpec.{ProcessSpec}
-use Rattle.vk_base.specs.declared.event.StationEvent.{StationEvent}
+use Rattle.vk_types.specs.Types.{ProcessSpec, StationEvent}
 use Rattle.vk_base.specs.Settings.{AreLawful, Settings, has_station, stations_of}
 use Rattle.vk_base.specs.declared.limits.TheConstants.{EVENTS}
 use Rattle.vk_base.proofs.SettingsLemmas.{among_stations}
-use Rattle.vk_cluster.proofs.Logs.{with_here, with_other}
+use Rattle.vk_cluster.proofs.Logs.{with_other}
 use Rattle.vk_cluster.proofs.Taking.{actor_station}
 use Rattle.vk_cluster.specs.declared.emitted.TheConstants.{LAST_BYTES}
 use Rattle.vk_cluster.specs.Standing.{logs_of}
@@ -25,13 +24,14 @@ use Rattle.vk_join.specs.Laws.{BytesAreOfStations}
 use Rattle.vk_join.specs.Logs.{bytes_in}
 use Rattle.vk_port.specs.declared.station.TheConstants.{EMITTED_BYTES, EVENT_BYTES}
 use Rattle.vk_port.specs.Stations.{HadRoom, StationHistory, brings_last_number, emitted_bytes, entries_at, share_of_bytes}
+use Rattle.vk_port.proofs.Histories.{entries_more}
 use Rattle.vk_rules.specs.Each.{Each}
 use Rattle.vk_rules.specs.Entries.{Entry}
 use Rattle.vk_rules.specs.Frames.{Frame}
 use Rattle.vk_rules.specs.Histories.{At, Happened, Logs, Missing, delivered, handed_over, history_of, logs_after, no_entries}
 unfoldable use Rattle.vk_rules.specs.Histories.{happened, history, logs_from, with_entry}
 use Rattle.vk_rules.specs.Laws.{station_of}
-use Rattle.v_run.proofs.Entries.{entries_more}
+use Rattle.vk_rules.proofs.OwnEvents.{own_log}
 use Rattle.v_run.proofs.Seldom.{each_station}
 use Rattle.v_run.proofs.Stations.{few_stations}
 
@@ -79,7 +79,7 @@ after_grows : (logs : Logs) (x : Happened) (h : ℕ) → (l : List Entry) × (lo
 after_grows logs (At host event e) h = elim (cases_Bool (h == host)) [
   | inl t ↦
       let same : h ≡ host = eqb-true h host t in
-      (e ∷ [], ap (with_entry logs host e) same ∙ (with_here logs host e ∙ ap (λ q. e ∷ logs q) (sym same)))
+      (e ∷ [], ap (with_entry logs host e) same ∙ (own_log logs host e ∙ ap (λ q. e ∷ logs q) (sym same)))
   | inr f ↦ let other : h ≢ host = λ same. cc (f, eq-eqb h host same) in ([], with_other logs host e h other)
 ]
 after_grows logs (Missing host) h = ([], refl)
@@ -113,14 +113,14 @@ there_cut c logs (x ∷ xs) e ys there = there_cut c (logs_after logs (happened 
 acts_delivered : (c : Settings) (logs : Logs) (to : ℕ) (o : Option Frame) → IsThere (delivered c logs to o)
     → (x : Entry) × (logs_after logs (delivered c logs to o) to ≡ x ∷ logs to)
 acts_delivered c logs to None there = absurd there
-acts_delivered c logs to (Some f) there = (_, with_here logs to _)
+acts_delivered c logs to (Some f) there = (_, own_log logs to _)
 
 acts : (c : Settings) (logs : Logs) (e : Event) → IsThere (happened c logs e)
     → (x : Entry) × (logs_after logs (happened c logs e) (station_of e) ≡ x ∷ logs (station_of e))
 unfolding happened
-acts c logs (scheduled.Call pid call) there = (_, with_here logs pid.host _)
-acts c logs (scheduled.Collect pid) there = (_, with_here logs pid.host _)
-acts c logs (scheduled.Tick host) there = (_, with_here logs host _)
+acts c logs (scheduled.Call pid call) there = (_, own_log logs pid.host _)
+acts c logs (scheduled.Collect pid) there = (_, own_log logs pid.host _)
+acts c logs (scheduled.Tick host) there = (_, own_log logs host _)
 acts c logs (scheduled.Deliver to from event output) there = acts_delivered c logs to (handed_over logs to from event output) there
 
 all_take : (test : Event → Bool) (n : ℕ) (es : List Event) → list_all test es ≡ true → list_all test (take n es) ≡ true

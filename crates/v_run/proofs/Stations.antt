@@ -1,17 +1,17 @@
 -- The stations of a configuration without a fault rise, and there are at most 16.
-use Rattle.std.proofs.Common.{append_assoc, append-nil, ◌≡◌, ℕ, ◌-◌, ◌<◌, ◌≤◌, ◌==◌, ◌&&◌, ◌||◌, not, nat_lt, eqb-true, eq-eqb, Bool, true, false, Option, Some, None, List, [], ◌∷◌, ◌++◌, length, map, cond, refl, sym, ap, ◌∙◌, subst, arith, ◌⊎◌, inl, inr}
+use Rattle.std.proofs.Common.{append_assoc, append-nil, ◌≡◌, ℕ, ◌-◌, ◌<◌, ◌≤◌, ◌==◌, ◌&&◌, ◌||◌, not, nat_lt, eqb-true, eq-eqb, Bool, true, false, Option, Some, None, List, [], ◌∷◌, ◌++◌, length, map, cond, refl, sym, ◌∙◌, subst, arith, ◌⊎◌, inl, inr}
 use Rattle.std.specs.List.{list_any}
 use Rattle.std.specs.Prelude.{slice_get}
 use Rattle.std.proofs.lemmas.Bool.{cases_lt, ltb-true, or_parts}
 use Rattle.std.proofs.lemmas.List.{length-append}
-use Rattle.vk_base.specs.declared.config.ConfigRefusal.{ConfigRefusal}
+use Rattle.vk_types.specs.Types.{Pid, ProcessSpec}
 use Rattle.vk_base.specs.declared.config.ConfigRefusal.TheVariants as refusals
-use Rattle.vk_base.specs.declared.config.ProcessSpec.{ProcessSpec}
-use Rattle.vk_base.specs.declared.pid.Pid.{Pid}
 use Rattle.vk_base.specs.Pids.{is_below}
 unfoldable use Rattle.vk_base.specs.Settings.{fault_of}
-use Rattle.vk_base.specs.Settings.{AreLawful, Settings, first_fault, is_too_many, or_else, rises, stations_of}
+use Rattle.vk_base.specs.Settings.{AreLawful, Settings, first_fault, rises, stations_of}
 use Rattle.vk_base.proofs.SettingsLemmas.{room_of_stations, stations_of-append}
+use Rattle.vk_base.proofs.Rising.{rises_here, last_of}
+use Rattle.vk_base.proofs.OptionLemmas.{or_none}
 use Rattle.vk_schedule.specs.declared.log.StationLog.{StationLog}
 use Rattle.vk_join.specs.Logs.{HostsRise}
 use Rattle.vk_rules.specs.Each.{Each}
@@ -56,21 +56,6 @@ abbrev IsUpTo : Option ProcessSpec → List ℕ → Type 0
 IsUpTo None hs = hs ≡ []
 IsUpTo (Some last) hs = Each (λ k. k ≤ last.pid.host) hs
 
-no_fault : (a b c : Bool) (x y z : ConfigRefusal) → cond a (Some x) (cond b (Some y) (cond c (Some z) None)) ≡ None → a ≡ false
-no_fault true b c x y z is = absurd (cc is)
-no_fault false b c x y z is = refl
-
-not_false : (b : Bool) → not b ≡ false → b ≡ true
-not_false true is = refl
-not_false false is = absurd (cc is)
-
-rises_behind : (before : List ProcessSpec) (s : ProcessSpec) → fault_of before s ≡ None
-    → rises (slice_get before (length before - 1)) s.pid ≡ true
-unfolding fault_of
-rises_behind before s fine =
-    not_false _ (no_fault (not (rises (slice_get before (length before - 1)) s.pid)) (nat_lt 131072 s.size) (is_too_many before s.pid.host)
-    (refusals.NotRising (length before)) (refusals.BadSize (length before)) (refusals.TooMany (length before)) fine)
-
 below_host : (p q : Pid) → is_below p q ≡ true → p.host ≤ q.host
 below_host p q is = by (nat_lt p.host q.host) refl is
   where
@@ -85,15 +70,6 @@ below_host p q is = by (nat_lt p.host q.host) refl is
 up_to_next : (o : Option ProcessSpec) (hs : List ℕ) (s : ProcessSpec) → IsUpTo o hs → rises o s.pid ≡ true → Each (λ k. k ≤ s.pid.host) hs
 up_to_next None hs s up rise = subst (Each (λ k. k ≤ s.pid.host)) (sym up) tt
 up_to_next (Some last) hs s up rise = most_later last.pid.host s.pid.host hs (below_host last.pid s.pid rise) up
-
-last_is : (before : List ProcessSpec) (s : ProcessSpec) → slice_get (before ++ s ∷ []) (length (before ++ s ∷ []) - 1) ≡ Some s
-last_is before s =
-    let size : length (before ++ s ∷ []) - 1 ≡ length before = let n = length-append before (s ∷ []) in omega arith in
-    ap (slice_get (before ++ s ∷ [])) size ∙ at before
-  where
-    at : (xs : List ProcessSpec) → slice_get (xs ++ s ∷ []) (length xs) ≡ Some s
-    at [] = refl
-    at (x ∷ xs) = at xs
 
 -- stations that rise, up to the last process, and are not too many
 record AreFine (before : List ProcessSpec) : Type 0 where
@@ -115,19 +91,15 @@ fine_more before s fine none =
     let hs = stations_of before in
     let h = s.pid.host in
     let b = list_any (λ k. k == h) hs in
-    let most = up_to_next (slice_get before (length before - 1)) hs s fine.up (rises_behind before s none) in
+    let most = up_to_next (slice_get before (length before - 1)) hs s fine.up (rises_here before s none) in
     let it = fine_if hs h b refl fine.ascend most fine.few (room_of_stations before s none) in
     let is : stations_of (before ++ s ∷ []) ≡ cond b hs (hs ++ h ∷ []) = stations_of-append before s b refl in
     record {
       ascend = subst Ascend (sym is) it.0;
-      up = subst (λ (o : Option ProcessSpec). IsUpTo o (stations_of (before ++ s ∷ []))) (sym (last_is before s))
+      up = subst (λ (o : Option ProcessSpec). IsUpTo o (stations_of (before ++ s ∷ []))) (sym (last_of before s))
           (subst (Each (λ k. k ≤ h)) (sym is) it.1);
       few = subst (λ (l : List ℕ). length l ≤ 16) (sym is) it.2;
     }
-
-or_none : {A : Type 0} (o other : Option A) → or_else o other ≡ None → (o ≡ None) × (other ≡ None)
-or_none None other is = (refl, is)
-or_none (Some x) other is = absurd (cc is)
 
 fine_on : (before rest : List ProcessSpec) → AreFine before → first_fault before rest ≡ None → AreFine (before ++ rest)
 fine_on before [] fine none = subst AreFine (sym (append-nil before)) fine

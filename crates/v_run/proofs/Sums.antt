@@ -1,10 +1,11 @@
 -- Sums over closed histories are sums over what the passages did.
 use Rattle.std.proofs.Common.{◌≡◌, ℕ, ◌+◌, ◌≤◌, ◌==◌, eqb-true, Bool, true, false, List, [], ◌∷◌, ◌++◌, map, cond, refl, sym, ap, ◌∙◌, subst, arith, inl, inr}
-use Rattle.vk_base.specs.declared.event.StationEvent.{StationEvent}
+use Rattle.vk_types.specs.Types.{StationEvent}
 use Rattle.vk_base.specs.Settings.{Settings, has_station}
 use Rattle.vk_hub.specs.declared.event.HubEvent.{HubEvent}
 use Rattle.vk_hub.specs.Hubs.{HubLog}
 use Rattle.vk_rules.specs.Each.{Each}
+use Rattle.vk_rules.proofs.Lists.{each_both}
 use Rattle.v_run.specs.Closed.{AreClosed, IsClosed, numbers_at}
 use Rattle.v_run.specs.Passages.{IsLast, IsPassage, Passage, fresh_station, host_of, hub_number_of, nowhere, number_of}
 use Rattle.v_run.proofs.Totals.{added, added_append, added_map, by_seats, places, total, weight}
@@ -23,10 +24,6 @@ pub added_most_each : {A : Type 0} (P : A → Type 0) (f g : A → ℕ) (xs : Li
 added_most_each P f g [] same each = omega arith
 added_most_each P f g (x ∷ xs) same each =
     let h = same x each.0 in let t = added_most_each P f g xs same each.1 in omega arith
-
-pub each_both : {A : Type 0} (P Q : A → Type 0) (xs : List A) → Each P xs → Each Q xs → Each (λ x. P x × Q x) xs
-each_both P Q [] one two = tt
-each_both P Q (x ∷ xs) one two = ((one.0, two.0), each_both P Q xs one.1 two.1)
 
 spread_by : (f : ℕ → ℕ) (b : Bool) (n : ℕ) (ns : List ℕ) → added f (cond b (n ∷ ns) ns) ≡ cond b (f n) 0 + added f ns
 spread_by f true n ns = refl

@@ -1,7 +1,7 @@
 -- An output has one place among all entries of all stations, and its frame has its header.
 use Rattle.std.proofs.Common.{◌≡◌, ℕ, suc, ◌+◌, ◌*◌, ◌≤◌, ◌==◌, ◌&&◌, nat_le, eqb-true, eq-eqb, Bool, true, false, Option, Some, List, [], ◌∷◌, length, map, cond, refl, sym, ap, ◌∙◌, arith}
 use Rattle.std.proofs.lemmas.Bool.Decides.{nat_tests}
-use Rattle.vk_base.specs.declared.event.StationEvent.{StationEvent}
+use Rattle.vk_types.specs.Types.{StationEvent}
 use Rattle.vk_base.specs.Kernel.{holds_of}
 use Rattle.vk_base.specs.Settings.{Settings, has_station, stations_of}
 use Rattle.vk_frame.specs.declared.header.Header.{Header}
@@ -19,16 +19,12 @@ use Rattle.v_run.specs.Closed.{AreClosed}
 use Rattle.v_run.specs.Outcomes.{has_numbers, times_taken}
 use Rattle.v_run.proofs.Sound.{AreOpen}
 use Rattle.v_run.specs.Passages.{Passage, fresh_station}
-use Rattle.v_run.proofs.Totals.{added, total}
+use Rattle.v_run.proofs.Totals.{added, total, added_map}
 use Rattle.v_run.proofs.Sums.{added_most_each}
 use Rattle.v_run.proofs.Counts.{delivers}
 use Rattle.v_run.proofs.Entries.{by_entries, is_named, times_are}
 use Rattle.v_run.proofs.Once.{stands_at_most_once}
 use Rattle.v_run.proofs.Seldom.{each_station, taken_was_made, times_most}
-
-pub added_over_map : {A B : Type 0} (f : B → ℕ) (g : A → B) (xs : List A) → added f (map g xs) ≡ added (λ x. f (g x)) xs
-added_over_map f g [] = refl
-added_over_map f g (x ∷ xs) = ap (λ n. f (g x) + n) (added_over_map f g xs)
 
 module _ (from event output : ℕ) (to : ℕ) where
   abbrev meant : Frame → ℕ
@@ -116,7 +112,7 @@ module _ (from event output : ℕ) (to : ℕ) where
       → added (λ (e : Entry). added meant (map sealed e.frames)) es ≤ among host (length es)
   entries_few host [] rise opens = omega arith
   entries_few host (e ∷ es) rise opens =
-      let same = added_over_map meant sealed e.frames in
+      let same = added_map meant sealed e.frames in
       let one = frames_few host e.tick e.number (length es + 1) 1 e.frames rise.0.frames opens.0 in
       let rest = entries_few host es rise.1 opens.1 in
       let step = among_step (host == from) (length es) in

@@ -1,18 +1,17 @@
 -- What jobs come to: the parts put together.
-use Rattle.std.proofs.Common.{◌≡◌, ℕ, ◌+◌, ◌*◌, ◌<◌, ◌==◌, ◌&&◌, eq-eqb, Bool, true, false, Option, Some, None, List, [], ◌∷◌, ◌++◌, length, refl, sym, ap, ◌∙◌, subst, arith, ◌⊎◌, inl, inr}
+use Rattle.std.proofs.Common.{◌≡◌, ℕ, ◌+◌, ◌*◌, ◌<◌, ◌==◌, ◌&&◌, Bool, true, false, Option, Some, None, List, [], ◌∷◌, ◌++◌, length, refl, sym, ap, ◌∙◌, subst, arith, ◌⊎◌, inl, inr}
+use Rattle.vk_types.specs.Types.{Answer, Call, Pid, StationEvent}
 use Rattle.turn_cell.specs.declared.replay.Room.TheVariants as rooms
-use Rattle.vk_base.specs.declared.answer.Answer.{Answer}
-use Rattle.vk_base.specs.declared.call.Call.{Call}
-use Rattle.vk_base.specs.declared.event.StationEvent.{StationEvent}
-use Rattle.vk_base.specs.declared.pid.Pid.{Pid}
 use Rattle.vk_base.specs.Pids.{same_pid}
 use Rattle.vk_base.specs.Settings.{Settings, has_station}
+use Rattle.vk_base.proofs.PidLemmas.{same_pid_self}
 use Rattle.v_laws.proofs.Tables.{same_pid_is}
 use Rattle.vk_hub.specs.declared.event.HubEvent.{HubEvent}
 use Rattle.vk_hub.specs.Hubs.{HubLog}
 use Rattle.vk_port.specs.Stations.{is_own}
 use Rattle.vk_rules.specs.Each.{Each}
 use Rattle.vk_rules.specs.Entries.{Entry}
+use Rattle.vk_rules.proofs.Lists.{each_append}
 use Rattle.v_run.specs.Closed.{AreClosed}
 use Rattle.v_run.specs.Jobs.{EndsRole, IsJobEnd, JobEnd, MetFull, OneOf, runs_pid}
 use Rattle.v_ended.specs.Answered.{AnsweredWorksEndByFrames, ComeInTime, answers_of, calls_of}
@@ -32,16 +31,6 @@ use Rattle.v_run.proofs.Framed.{framed}
 use Rattle.v_run.proofs.Ready.{in_time}
 use Rattle.v_run.proofs.Reasons.{reason}
 use Rattle.v_run.proofs.Unique.{seldom}
-
-pub same_self : (p : Pid) → same_pid p p ≡ true
-same_self p = both (p.host == p.host) (p.local == p.local) (eq-eqb p.host p.host refl) (eq-eqb p.local p.local refl)
-  where
-    both : (a b : Bool) → a ≡ true → b ≡ true → (a && b) ≡ true
-    both a b one two = ap (λ x. x && b) one ∙ two
-
-pub each_append : {A : Type 0} (P : A → Type 0) (xs ys : List A) → Each P xs → Each P ys → Each P (xs ++ ys)
-each_append P [] ys one two = two
-each_append P (x ∷ xs) ys one two = (one.0, each_append P xs ys one.1 two)
 
 -- what holds of the passages of each job holds of all
 pub from_jobs : (P : Passage → Type 0) (js : List JobEnd) → Each (λ (j : JobEnd). Each P j.passages) js → Each P (passages_of js)
@@ -130,16 +119,16 @@ module _ (c : Settings) (o : HubLog) (rounds : ℕ) (histories : ℕ → List (�
 
   -- one process
   stands_one : (g : Passage) → Among g gs → (r : Pid) (task : List Answer → Option Call) → g.role ≡ Runs r task
-      → Stands task r (same_self r) (fresh_station c (host_of g)) (histories (host_of g)) (calls_by g.actions)
+      → Stands task r (same_pid_self r) (fresh_station c (host_of g)) (histories (host_of g)) (calls_by g.actions)
       (answers_by (fresh_station c (host_of g)) g.actions)
   stands_one g among r task is =
       let d = of_each (IsDone c o histories heard) gs g (all_done c o histories heard gs k) among in
       let role : IsRole (Runs r task) (fresh_station c (host_of g)) g.actions =
       subst (λ (x : Role). IsRole x (fresh_station c (host_of g)) g.actions) is d.0.role in
-      whole task r (same_self r) (fresh_station c (host_of g)) (number_of g) g.actions (histories (host_of g)) role.1
+      whole task r (same_pid_self r) (fresh_station c (host_of g)) (number_of g) g.actions (histories (host_of g)) role.1
       (placed_whole c o histories heard g d)
       (alone.alone r c o histories heard gs k (number_of g) (host_of g) (of_each _ gs g k.stations among)
-      (run_by r task gs jobs.apart g among is (same_self r)) task (same_self r))
+      (run_by r task gs jobs.apart g among is (same_pid_self r)) task (same_pid_self r))
 
   home : (g : Passage) → Among g gs → (r : Pid) (task : List Answer → Option Call) → g.role ≡ Runs r task → r.host ≡ host_of g
   home g among r task is =

@@ -2,8 +2,8 @@
 use Rattle.std.specs.Prelude.{ℕ, ◌≡◌, ◌==◌, eqb, true, false, List, [], ◌∷◌, ◌++◌, map, cond}
 use Rattle.std.specs.List.{IsDistinct, list_any}
 use mathlib.Core.List.{IsPrefix}
+use Rattle.vk_types.specs.Types.{StationEvent}
 use Rattle.turn_cell.specs.History.{events_of}
-use Rattle.vk_base.specs.declared.event.StationEvent.{StationEvent}
 use Rattle.vk_base.specs.Settings.{Settings, has_station}
 use Rattle.vk_hub.specs.declared.event.HubEvent.{HubEvent}
 use Rattle.vk_hub.specs.Hubs.{HubLog}

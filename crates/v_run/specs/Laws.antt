@@ -1,7 +1,7 @@
 -- The laws: of closed histories, of their logs, and of the schedules that these are joined to.
 use Rattle.std.specs.Prelude.{ℕ, ◌≡◌, Bool, true, false, Some, None, List, map}
+use Rattle.vk_types.specs.Types.{StationEvent}
 use Rattle.turn_cell.specs.declared.replay.Room.TheVariants as rooms
-use Rattle.vk_base.specs.declared.event.StationEvent.{StationEvent}
 use Rattle.vk_base.specs.Settings.{AreLawful, Settings, has_station, stations_of}
 use Rattle.vk_schedule.specs.declared.event.Event.{Event}
 use Rattle.vk_schedule.specs.declared.plan.LinkPlan.{LinkPlan}

@@ -1,7 +1,7 @@
 -- What a run is that was told as a schedule.
 use Rattle.std.specs.Prelude.{ℕ, ◌≡◌, ◌≤◌, ◌<◌, Bool, true, List, length, take, is_some}
 use Rattle.std.specs.List.{list_all}
-use Rattle.vk_base.specs.declared.event.EventAnswer.{EventAnswer}
+use Rattle.vk_types.specs.Types.{EventAnswer}
 use Rattle.vk_base.specs.declared.limits.TheConstants.{EVENTS}
 use Rattle.vk_base.specs.Settings.{Settings}
 use Rattle.vk_schedule.specs.declared.plan.LinkPlan.{LinkPlan}

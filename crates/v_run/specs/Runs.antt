@@ -1,6 +1,6 @@
 -- All jobs of a run, and what comes of them.
 use Rattle.std.specs.Prelude.{ℕ, ◌≡◌, ◌≤◌, ◌*◌, true, false, List, [], ◌∷◌, ◌++◌, length}
-use Rattle.vk_base.specs.declared.event.StationEvent.{StationEvent}
+use Rattle.vk_types.specs.Types.{StationEvent}
 use Rattle.vk_base.specs.Settings.{Settings, has_station}
 use Rattle.vk_hub.specs.Hubs.{HubLog}
 use Rattle.vk_port.specs.Stations.{entries_at}

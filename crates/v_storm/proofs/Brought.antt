@@ -2,20 +2,16 @@
 use Rattle.std.proofs.Common.{◌≡◌, ℕ, true, false, ◌==◌, List, [], ◌∷◌, fold, Option, Some, None, option_map, refl, sym, ap, subst, ◌∙◌, inl, inr}
 use Rattle.std.proofs.lemmas.Bool.{both_ways, cases_Bool}
 use Rattle.std.proofs.lemmas.Option.{same_Some}
-use Rattle.vk_base.specs.declared.kernel.Exchange.{Exchange}
-use Rattle.vk_base.specs.declared.kernel.Name.{Name}
-use Rattle.vk_base.specs.declared.kernel.Process.{Process}
+use Rattle.vk_types.specs.Types.{Exchange, Message, Name, Pid, Process, Step}
 use Rattle.vk_base.specs.declared.kernel.Stage.TheVariants as stages
-use Rattle.vk_base.specs.declared.message.Message.{Message}
-use Rattle.vk_base.specs.declared.pid.Pid.{Pid}
-use Rattle.vk_base.specs.declared.step.Step.{Step}
 use Rattle.vk_base.specs.Brought.{answered_by, brought, found_dead, posted, sender_heard, settled}
 unfoldable use Rattle.vk_base.specs.Changes.{change_exchange, change_process}
 use Rattle.vk_base.specs.Kernel.{Kernel, name_of, same_name}
 use Rattle.vk_base.specs.Packets.{Packet, Send, Reply, Pending, Negative}
 use Rattle.vk_base.specs.Pids.{same_pid}
 use Rattle.vk_base.specs.Steps.{next}
-use Rattle.v_laws.proofs.Options.{mapped_is, of_either}
+use Rattle.vk_base.proofs.OptionLemmas.{mapped_is}
+use Rattle.v_laws.proofs.Options.{of_either}
 use Rattle.v_laws.proofs.StepLemmas.{IsNoCall}
 use Rattle.v_laws.proofs.Tables.{same_pid_is, put_process_at, put_process_other}
 use Rattle.vk_rules.specs.Each.{Each}

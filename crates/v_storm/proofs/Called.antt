@@ -4,22 +4,13 @@ use Rattle.std.proofs.lemmas.Bool.{cond-false, le-leb, le-ltb}
 use Rattle.std.proofs.lemmas.List.{length-drop, length-take}
 use Rattle.std.proofs.lemmas.Option.{none-some, same_Some}
 use Rattle.std.specs.Prelude.{nat_lt}
-use Rattle.vk_base.specs.declared.answer.Answer.{Answer}
+use Rattle.vk_types.specs.Types.{Answer, Call, EventAnswer, Exchange, Message, Pid, Process, Refusal, State, Step}
 use Rattle.vk_base.specs.declared.answer.Answer.TheVariants as answers
-use Rattle.vk_base.specs.declared.answer.Refusal.{Refusal}
 use Rattle.vk_base.specs.declared.answer.Refusal.TheVariants as refusals
-use Rattle.vk_base.specs.declared.call.Call.{Call}
 use Rattle.vk_base.specs.declared.call.Call.TheVariants as calls
-use Rattle.vk_base.specs.declared.event.EventAnswer.{EventAnswer}
 use Rattle.vk_base.specs.declared.event.EventAnswer.TheVariants as given
-use Rattle.vk_base.specs.declared.kernel.Exchange.{Exchange}
-use Rattle.vk_base.specs.declared.kernel.Process.{Process}
 use Rattle.vk_base.specs.declared.kernel.Stage.TheVariants as stages
-use Rattle.vk_base.specs.declared.kernel.State.{State}
 use Rattle.vk_base.specs.declared.kernel.State.TheVariants as states
-use Rattle.vk_base.specs.declared.message.Message.{Message}
-use Rattle.vk_base.specs.declared.pid.Pid.{Pid}
-use Rattle.vk_base.specs.declared.step.Step.{Step}
 use Rattle.vk_base.specs.declared.step.Step.TheVariants as steps
 use Rattle.vk_base.specs.Calls.{Effect, answered, call_refusal, called, is_own, sent}
 use Rattle.vk_base.specs.Kernel.{◌>>=◌, Kernel, finished_call, held, is_ready, name_of, with_stage, with_state}
@@ -42,10 +33,10 @@ IsAnswerTo (calls.Load start count) a = (bytes : List ℕ) × (a ≡ answers.Loa
 IsAnswerTo c a = Unit {0}
 
 -- the range of a receive and of a load lies in a memory of 1,024 bytes
-abbrev pub IsWithin : Call → Type 0
-IsWithin (calls.ReceiveSegment start count) = start + count ≤ 1024
-IsWithin (calls.Load start count) = (start + count ≤ 1024) × (count ≤ 1024)
-IsWithin c = Unit {0}
+abbrev pub LiesInMemory : Call → Type 0
+LiesInMemory (calls.ReceiveSegment start count) = start + count ≤ 1024
+LiesInMemory (calls.Load start count) = (start + count ≤ 1024) × (count ≤ 1024)
+LiesInMemory c = Unit {0}
 
 -- the process is there, and may call
 pub record MayCall (k : Kernel) (pid : Pid) (p : Process) : Type 0 where
@@ -55,10 +46,10 @@ pub record MayCall (k : Kernel) (pid : Pid) (p : Process) : Type 0 where
   pub size : length p.memory ≡ 1024
   pub bytes : IsBytes p.memory
 
-pub data IsCalled (c : Call) (pid : Pid) (a : EventAnswer) (k : Kernel) : Type 0 where
-  Begins : a ≡ given.Begun → IsWaited c → Does k pid (Some c) → IsCalled c pid a k
-  Tells : (x : Answer) → a ≡ given.Answered x → IsAnswerTo c x → Does k pid None → IsCalled c pid a k
-  Tells_nothing : a ≡ given.Answered (answers.Refused refusals.NotYet) → Does k pid None → IsCalled c pid a k
+pub data IsCallMade (c : Call) (pid : Pid) (a : EventAnswer) (k : Kernel) : Type 0 where
+  Begins : a ≡ given.Begun → IsWaited c → Does k pid (Some c) → IsCallMade c pid a k
+  Tells : (x : Answer) → a ≡ given.Answered x → IsAnswerTo c x → Does k pid None → IsCallMade c pid a k
+  Tells_nothing : a ≡ given.Answered (answers.Refused refusals.NotYet) → Does k pid None → IsCallMade c pid a k
 
 -- The process as it was.
 still : (k : Kernel) (pid : Pid) (p : Process) → MayCall k pid p → Does k pid None
@@ -92,7 +83,7 @@ load_fits k pid p start count may within few =
           ∙ cond-false (not (is_own p start count)) (Some refusals.BadRange) None (ap not own);
     })
 
-refused_answers : (k : Kernel) (pid : Pid) (p : Process) (c : Call) (why : Refusal) → MayCall k pid p → IsPlain c → IsWithin c →
+refused_answers : (k : Kernel) (pid : Pid) (p : Process) (c : Call) (why : Refusal) → MayCall k pid p → IsPlain c → LiesInMemory c →
     call_refusal k pid p c ≡ Some why → IsAnswerTo c (answers.Refused why)
 refused_answers k pid p (calls.ReceiveSegment start count) why may plain within is =
     absurd (none-some why (sym (receive_fits k pid p start count may within) ∙ is))
@@ -114,7 +105,7 @@ sent_called k pid p target m = record {
 }
 
 abbrev IsReplied : Kernel → Pid → Call → Option Effect → Type 0
-IsReplied k pid c o = IsCalled c pid (effect_answer o) (after_effect k o)
+IsReplied k pid c o = IsCallMade c pid (effect_answer o) (after_effect k o)
 
 replied_by : (k : Kernel) (pid : Pid) (c : Call) (to : Pid) (m : Message) (dest : ℕ) (bytes : List ℕ) (p : Process) → MayCall k pid p →
     ((a : Answer) → IsAnswerTo c a) → (held_at : Option ℕ) (e : (number : ℕ) → Option Exchange) →
@@ -136,7 +127,7 @@ loaded_bytes start count memory size within =
     let left = length-drop start memory in
     omega (arith, taken, left, size, within)
 
-accepted_is : (k : Kernel) (pid : Pid) (p : Process) (c : Call) → MayCall k pid p → IsPlain c → IsWithin c →
+accepted_is : (k : Kernel) (pid : Pid) (p : Process) (c : Call) → MayCall k pid p → IsPlain c → LiesInMemory c →
     IsReplied k pid c (called k pid p c None)
 accepted_is k pid p (calls.Send target m) may plain within = Begins refl plain (sent_called k pid p target m)
 accepted_is k pid p (calls.ReceiveSegment start count) may plain within = Begins refl tt (record {
@@ -161,14 +152,14 @@ accepted_is k pid p (calls.Store start bytes) may plain within = Tells answers.O
 })
 accepted_is k pid p c may plain within = absurd plain
 
-called_by : (k : Kernel) (pid : Pid) (p : Process) (c : Call) (why : Option Refusal) → MayCall k pid p → IsPlain c → IsWithin c →
+called_by : (k : Kernel) (pid : Pid) (p : Process) (c : Call) (why : Option Refusal) → MayCall k pid p → IsPlain c → LiesInMemory c →
     call_refusal k pid p c ≡ why → IsReplied k pid c (called k pid p c why)
 called_by k pid p c None may plain within is = accepted_is k pid p c may plain within
 called_by k pid p c (Some why) may plain within is =
     Tells (answers.Refused why) refl (refused_answers k pid p c why may plain within is) (still k pid p may)
 
-pub called_is : (k : Kernel) (pid : Pid) (p : Process) (c : Call) → MayCall k pid p → IsPlain c → IsWithin c →
-    IsCalled c pid (effect_answer (effect k (steps.Call pid c))) (after_effect k (effect k (steps.Call pid c)))
+pub called_is : (k : Kernel) (pid : Pid) (p : Process) (c : Call) → MayCall k pid p → IsPlain c → LiesInMemory c →
+    IsCallMade c pid (effect_answer (effect k (steps.Call pid c))) (after_effect k (effect k (steps.Call pid c)))
 called_is k pid p c may plain within =
     subst (IsReplied k pid c) (sym (ap (λ (o : Option Process). o >>= λ q. called k pid q c (call_refusal k pid q c)) may.at))
     (called_by k pid p c (call_refusal k pid p c) may plain within refl)

@@ -2,14 +2,10 @@
 use Rattle.std.proofs.Common.{◌≡◌, ℕ, true, ◌==◌, List, Option, Some, option_map, sym, ap, subst, ◌∙◌, inl, inr}
 use Rattle.std.proofs.lemmas.Bool.{cases_Bool}
 use Rattle.std.proofs.lemmas.Option.{same_Some}
-use Rattle.vk_base.specs.declared.kernel.Exchange.{Exchange}
-use Rattle.vk_base.specs.declared.kernel.Name.{Name}
-use Rattle.vk_base.specs.declared.kernel.Process.{Process}
-use Rattle.vk_base.specs.declared.kernel.Stage.{Stage}
-use Rattle.vk_base.specs.declared.pid.Pid.{Pid}
+use Rattle.vk_types.specs.Types.{Exchange, Name, Pid, Process, Stage}
 use Rattle.vk_base.specs.Kernel.{Kernel, same_name, put_process, put_exchange}
 use Rattle.vk_base.specs.Pids.{same_pid}
-use Rattle.v_laws.proofs.Options.{mapped_is}
+use Rattle.vk_base.proofs.OptionLemmas.{mapped_is}
 use Rattle.v_laws.proofs.Tables.{same_pid_is, same_name_is, put_process_at, put_process_other, put_exchange_at, put_exchange_other}
 use Rattle.v_storm.proofs.Views.{IsPlainExchange, IsPlainState, IsPlainView}
 

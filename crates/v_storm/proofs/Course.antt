@@ -4,14 +4,13 @@ use Rattle.std.proofs.lemmas.Bool.{both_ways, and_parts, and_from, cases_Bool, c
 use Rattle.std.proofs.lemmas.List.{append-nil}
 use Rattle.std.proofs.lemmas.Option.{none-some}
 use Rattle.std.specs.List.{list_all}
-use Rattle.vk_base.specs.declared.call.Call.{Call}
-use Rattle.vk_base.specs.declared.event.EventAnswer.{EventAnswer}
-use Rattle.vk_base.specs.declared.kernel.State.{State}
+use Rattle.vk_types.specs.Types.{Call, EventAnswer, State}
 use Rattle.vk_base.specs.declared.kernel.State.TheVariants as states
 use Rattle.vk_base.specs.Kernel.{Kernel}
 use Rattle.vk_base.specs.Pids.{same_pid}
+use Rattle.vk_base.proofs.PidLemmas.{same_pid_self}
 use Rattle.vk_cluster.specs.Standing.{logs_of}
-use Rattle.vk_cluster.proofs.Logs.{logs_next, with_here, with_other}
+use Rattle.vk_cluster.proofs.Logs.{logs_next, with_other}
 use Rattle.vk_drive.specs.Driving.{is_quiet}
 use Rattle.vk_drive.specs.Storms.{Choice, Storm, before_last, call_event, choice, chosen, delivery_choice, delivery_event, delivery_of, process_choice, process_event, tick_choice}
 unfoldable use Rattle.vk_drive.specs.Storms.{storm_after}
@@ -32,23 +31,23 @@ unfoldable use Rattle.vk_rules.specs.Histories.{happened, history, logs_from}
 unfoldable use Rattle.vk_rules.specs.Readings.{reading}
 unfoldable use Rattle.vk_rules.specs.Right.{right_entry}
 use Rattle.vk_rules.specs.Right.{answer_to, entry_of}
-use Rattle.vk_rules.proofs.Lists.{each_append, each_find}
+use Rattle.vk_rules.proofs.Lists.{each_append, each_find, each_at}
+use Rattle.vk_rules.proofs.OwnEvents.{own_log}
 use Rattle.vk_schedule.specs.declared.event.Event.{Event}
 use Rattle.vk_schedule.specs.declared.event.Event.TheVariants as events
 use Rattle.vk_schedule.specs.Lawful.{IsReadableEvent, has_actors}
 use Rattle.v_laws.specs.Sizes.{size_in}
-use Rattle.v_laws.proofs.Tables.{same_pid_self}
 use Rattle.v_lawful.specs.Sending.{IsSendable}
-use Rattle.v_lawful.proofs.Lists.{each_get}
+use Rattle.v_lawful.proofs.Schedules.{each_emitted}
 use Rattle.v_storm.proofs.Views.{IsPlainPacket}
 use Rattle.v_storm.proofs.Called.{MayCall}
 use Rattle.v_storm.proofs.Doing.{Does, doing}
 use Rattle.v_storm.proofs.Entries.{IsPlainLog, log_none}
-use Rattle.v_storm.proofs.Histories.{AreLogs, IsGoodHeader, IsPlainEvent, each_sendable, event_headers, event_log, fine}
+use Rattle.v_storm.proofs.Histories.{AreLogs, IsGoodHeader, IsPlainEvent, event_headers, event_log, fine}
 use Rattle.v_storm.proofs.Ours.{our_pid}
 use Rattle.v_storm.proofs.Programs.{going_calls, going_first}
 use Rattle.v_storm.proofs.Serving.{IsGoodCall}
-use Rattle.v_storm.proofs.Standing.{Stands, call_stands, called_last, collect_stands, delivery_does, tick_does}
+use Rattle.v_storm.proofs.Standing.{StandsInCall, call_stands, called_last, collect_stands, delivery_does, tick_does}
 
 -- the view of the station at which the process at this place is
 abbrev pub host_at : ℕ → ℕ
@@ -65,7 +64,7 @@ pub record IsLawfulSoFar (es : List Event) : Type 0 where
   pub acts : list_all (has_actors specs) es ≡ true
   pub logs : AreLogs (length es) (logs_of settings es)
   pub headers : Each IsGoodHeader (all_emitted (history_of settings es))
-  pub stands : (place : ℕ) → place < 4 → Stands (task_at place) (length es) (heard_at es place) (view_at (logs_of settings es) place)
+  pub stands : (place : ℕ) → place < 4 → StandsInCall (task_at place) (length es) (heard_at es place) (view_at (logs_of settings es) place)
 
 -- Lists with one more.
 all_more : (f : Event → Bool) (es : List Event) (e : Event) → list_all f es ≡ true → f e ≡ true → list_all f (es ++ e ∷ []) ≡ true
@@ -86,8 +85,8 @@ same_heard es e place none =
     ∙ answered_more (history_of settings es) h (task_at place).pid
     ∙ ap (λ l. heard_at es place ++ l) none ∙ append-nil (heard_at es place)
 
-later : (t : Task) (most : ℕ) (heard : List EventAnswer) (k l : Kernel) → Stands t most heard k → Does l t.pid (called_last t heard) →
-    Stands t (most + 1) heard l
+later : (t : Task) (most : ℕ) (heard : List EventAnswer) (k l : Kernel) → StandsInCall t most heard k → Does l t.pid (called_last t heard) →
+    StandsInCall t (most + 1) heard l
 later t most heard k l s does = let few = s.few in record { going = s.going; few = omega (arith, few); does = does }
 
 -- the view after an event that is none of this process: a tick or a delivery here, or what happens elsewhere
@@ -112,7 +111,7 @@ here_or_there logs place host event i on o d = elim (cases_Bool (host_at place =
       subst (λ h. Does (reading settings (host_at place) (logs_after logs (At h event (entry_of settings h (logs h) i)) (host_at place))).view
       (task_at place).pid o) (sym same)
       (subst (λ es. Does (reading settings (host_at place) es).view (task_at place).pid o)
-      (sym (with_here logs (host_at place) (entry_of settings (host_at place) (logs (host_at place)) i)))
+      (sym (own_log logs (host_at place) (entry_of settings (host_at place) (logs (host_at place)) i)))
       (on same o d))
   | inr f ↦ elsewhere logs place host event (entry_of settings host (logs host) i)
       (λ same. both_ways (host_at place == host) f (eq-eqb (host_at place) host same)) o d
@@ -138,7 +137,7 @@ each_sent : (most : ℕ) (logs : Logs) (from to event output : ℕ) (f : Frame) 
     handed_over logs to from event output ≡ Some f → IsSendable f.packet × IsPlainPacket f.packet
 each_sent most logs from to event output f are there = (
   each_find (λ (g : Frame). IsSendable g.packet) (is_output to event output) (emitted (logs from)) f there
-      (each_sendable (logs from) (are.each from).sent.entries),
+      (each_emitted (logs from) (are.each from).sent.entries),
   each_find (λ (g : Frame). IsPlainPacket g.packet) (is_output to event output) (emitted (logs from)) f there (are.each from).frames,
 )
 
@@ -165,7 +164,7 @@ record IsFit (es : List Event) (e : Event) : Type 0 where
   plain : IsPlainEvent e
   stands : AreLogs (length es + 1) (logs_after (logs_of settings es) (happened settings (logs_of settings es) e)) →
       (place : ℕ) → place < 4 →
-      Stands (task_at place) (length es + 1) (heard_at (es ++ e ∷ []) place)
+      StandsInCall (task_at place) (length es + 1) (heard_at (es ++ e ∷ []) place)
       (view_at (logs_after (logs_of settings es) (happened settings (logs_of settings es) e)) place)
 
 more : (es : List Event) (e : Event) → IsLawfulSoFar es → length es < 100000 → IsFit es e → IsLawfulSoFar (es ++ e ∷ [])
@@ -188,8 +187,8 @@ more es e so few fit =
           (each_append IsGoodHeader (all_emitted (history_of settings es)) (emitted_in h) so.headers
           (event_headers es e readable (omega (arith, long, few)) fit.readable fit.acts are));
       stands = λ place low.
-          subst (λ n. Stands (task_at place) n (heard_at (es ++ e ∷ []) place) (view_at (logs_of settings (es ++ e ∷ [])) place)) (sym long)
-          (subst (λ (l : Logs). Stands (task_at place) (length es + 1) (heard_at (es ++ e ∷ []) place) (view_at l place))
+          subst (λ n. StandsInCall (task_at place) n (heard_at (es ++ e ∷ []) place) (view_at (logs_of settings (es ++ e ∷ [])) place)) (sym long)
+          (subst (λ (l : Logs). StandsInCall (task_at place) (length es + 1) (heard_at (es ++ e ∷ []) place) (view_at l place))
           (sym (logs_next settings es e)) (fit.stands here place low));
     }
 
@@ -208,7 +207,7 @@ quiet_fit es e so readable acts quiet = record {
       let logs = logs_of settings es in
       let s = so.stands place low in
       let heard = same_heard es e place (quiet_tells settings logs e (task_at place).pid quiet) in
-      subst (λ l. Stands (task_at place) (length es + 1) l (view_at (logs_after logs (happened settings logs e)) place)) (sym heard)
+      subst (λ l. StandsInCall (task_at place) (length es + 1) l (view_at (logs_after logs (happened settings logs e)) place)) (sym heard)
       (later (task_at place) (length es) (heard_at es place) (view_at logs place) _ s
       (quiet_seen (length es) logs place e so.logs quiet (called_last (task_at place) (heard_at es place)) s.does));
 }
@@ -219,11 +218,11 @@ own_stands : (es : List Event) (place n : ℕ) (i : Input) (e : Event) (most : �
     At (host_at place) n (entry_of settings (host_at place) (logs_of settings es (host_at place)) i) →
     answered_in (task_at place).pid (happened settings (logs_of settings es) e) ≡
     answer_to settings (host_at place) (reading settings (host_at place) (logs_of settings es (host_at place))) i ∷ [] →
-    Stands (task_at place) most
+    StandsInCall (task_at place) most
     (heard_at es place ++ answer_to settings (host_at place) (reading settings (host_at place) (logs_of settings es (host_at place))) i ∷ [])
     (reading settings (host_at place)
     (entry_of settings (host_at place) (logs_of settings es (host_at place)) i ∷ logs_of settings es (host_at place))).view →
-    Stands (task_at place) most (heard_at (es ++ e ∷ []) place)
+    StandsInCall (task_at place) most (heard_at (es ++ e ∷ []) place)
     (view_at (logs_after (logs_of settings es) (happened settings (logs_of settings es) e)) place)
 own_stands es place n i e most is told_one s =
     let logs = logs_of settings es in
@@ -235,22 +234,22 @@ own_stands es place n i e most is told_one s =
     ∙ answered_more (history_of settings es) h (task_at place).pid
     ∙ ap (λ l. heard_at es place ++ l) told_one in
     let log : logs_after logs h (host_at place) ≡ entry ∷ logs (host_at place) =
-    ap (λ x. logs_after logs x (host_at place)) is ∙ with_here logs (host_at place) entry in
-    subst (λ l. Stands (task_at place) most l (view_at (logs_after logs h) place)) (sym heard)
-    (subst (λ l. Stands (task_at place) most (heard_at es place ++ a ∷ []) (reading settings (host_at place) l).view) (sym log) s)
+    ap (λ x. logs_after logs x (host_at place)) is ∙ own_log logs (host_at place) entry in
+    subst (λ l. StandsInCall (task_at place) most l (view_at (logs_after logs h) place)) (sym heard)
+    (subst (λ l. StandsInCall (task_at place) most (heard_at es place ++ a ∷ []) (reading settings (host_at place) l).view) (sym log) s)
 
 other_stands : (es : List Event) (place q n : ℕ) (e : Event) (entry : Entry) → place < 4 → q < 4 → q ≢ place →
     happened settings (logs_of settings es) e ≡ At (host_at place) n entry →
     answered_in (task_at q).pid (happened settings (logs_of settings es) e) ≡ [] →
-    Stands (task_at q) (length es) (heard_at es q) (view_at (logs_of settings es) q) →
-    Stands (task_at q) (length es + 1) (heard_at (es ++ e ∷ []) q)
+    StandsInCall (task_at q) (length es) (heard_at es q) (view_at (logs_of settings es) q) →
+    StandsInCall (task_at q) (length es + 1) (heard_at (es ++ e ∷ []) q)
     (view_at (logs_after (logs_of settings es) (happened settings (logs_of settings es) e)) q)
 unfolding IsSeen
 other_stands es place q n e entry low low_q apart is none s =
     let logs = logs_of settings es in
     let away : host_at q ≢ host_at place =
     λ same. let one = host_is place low in let other = host_is q low_q in apart (omega (arith, one, other, same)) in
-    subst (λ l. Stands (task_at q) (length es + 1) l (view_at (logs_after logs (happened settings logs e)) q)) (sym (same_heard es e q none))
+    subst (λ l. StandsInCall (task_at q) (length es + 1) l (view_at (logs_after logs (happened settings logs e)) q)) (sym (same_heard es e q none))
     (later (task_at q) (length es) (heard_at es q) (view_at logs q) _ s
     (subst (λ h. Does (view_at (logs_after logs h) q) (task_at q).pid (called_last (task_at q) (heard_at es q))) (sym is)
     (elsewhere logs q (host_at place) n entry away (called_last (task_at q) (heard_at es q)) s.does)))
@@ -297,7 +296,7 @@ collect_fit es place c low so few waits called =
       plain = tt;
       stands = λ after q low_q. elim (cases_Bool (q == place)) [
         | inl same ↦
-            subst (λ p. Stands (task_at p) (length es + 1) (heard_at (es ++ events.Collect t.pid ∷ []) p)
+            subst (λ p. StandsInCall (task_at p) (length es + 1) (heard_at (es ++ events.Collect t.pid ∷ []) p)
             (view_at (logs_after logs (happened settings logs (events.Collect t.pid))) p)) (sym (eqb-true q place same))
             (own_stands es place (length log + 1) (Collected t.pid) (events.Collect t.pid) (length es + 1) refl
             (cond-true (same_pid t.pid t.pid) (a ∷ []) [] (same_pid_self t.pid))
@@ -333,7 +332,7 @@ call_fit es place g low so few waits =
       plain = (there, g.plain);
       stands = λ after q low_q. elim (cases_Bool (q == place)) [
         | inl same ↦
-            subst (λ p. Stands (task_at p) (length es + 1) (heard_at (es ++ events.Call t.pid g.call ∷ []) p)
+            subst (λ p. StandsInCall (task_at p) (length es + 1) (heard_at (es ++ events.Call t.pid g.call ∷ []) p)
             (view_at (logs_after logs (happened settings logs (events.Call t.pid g.call))) p)) (sym (eqb-true q place same))
             (own_stands es place (length log + 1) (Called t.pid g.call) (events.Call t.pid g.call) (length es + 1) refl
             (cond-true (same_pid t.pid t.pid) (a ∷ []) [] (same_pid_self t.pid))
@@ -389,7 +388,7 @@ header_fit es h so good =
 delivery_fit : (es : List Event) (fs : List Header) (back : ℕ) (o : Option Header) → before_last fs back ≡ o → IsLawfulSoFar es →
     Each IsGoodHeader fs → IsFit es (delivery_event o)
 delivery_fit es fs back None is so good = tick_fit es 0 (omega arith) so
-delivery_fit es fs back (Some h) is so good = header_fit es h so (each_get IsGoodHeader fs (length fs - 1 - back) h good is)
+delivery_fit es fs back (Some h) is so good = header_fit es h so (each_at IsGoodHeader fs (length fs - 1 - back) h good is)
 
 -- What is chosen.
 choice_fit : (es : List Event) (x : ℕ) → IsLawfulSoFar es → length es < 100000 → IsFit es (choice x (history_of settings es)).event

@@ -2,17 +2,10 @@
 use Rattle.std.proofs.Common.{◌≡◌, ℕ, List, [], ◌∷◌, fold, Option, Some, None, refl, sym, ap, subst, ◌∙◌, inl, inr}
 use Rattle.std.proofs.lemmas.Bool.{cases_Bool}
 use Rattle.std.proofs.lemmas.Option.{none-some, same_Some}
-use Rattle.vk_base.specs.declared.answer.Answer.{Answer}
+use Rattle.vk_types.specs.Types.{Answer, Call, Exchange, Message, Name, Pid, Process, State, Step}
 use Rattle.vk_base.specs.declared.answer.Answer.TheVariants as answers
-use Rattle.vk_base.specs.declared.call.Call.{Call}
 use Rattle.vk_base.specs.declared.call.Call.TheVariants as calls
-use Rattle.vk_base.specs.declared.kernel.Exchange.{Exchange}
-use Rattle.vk_base.specs.declared.kernel.Process.{Process}
-use Rattle.vk_base.specs.declared.kernel.State.{State}
 use Rattle.vk_base.specs.declared.kernel.State.TheVariants as states
-use Rattle.vk_base.specs.declared.message.Message.{Message}
-use Rattle.vk_base.specs.declared.pid.Pid.{Pid}
-use Rattle.vk_base.specs.declared.step.Step.{Step}
 use Rattle.vk_base.specs.declared.step.Step.TheVariants as steps
 use Rattle.vk_base.specs.Calls.{Effect}
 use Rattle.vk_base.specs.Kernel.{Kernel, ended, name_of, put_process, receiving, sending, with_state}
@@ -25,7 +18,6 @@ use Rattle.v_laws.proofs.Tables.{same_pid_is, put_process_at, put_process_other}
 use Rattle.vk_rules.specs.Each.{Each}
 use Rattle.v_storm.proofs.Views.{IsPlainState, IsPlainView}
 use Rattle.v_storm.proofs.Steps.{rare_never, step_plain}
-use Rattle.vk_base.specs.declared.kernel.Name.{Name}
 
 -- the call that it began last and has not collected
 abbrev pub doing : State → Option Call

@@ -2,27 +2,25 @@
 use Rattle.std.proofs.Common.{◌≡◌, ℕ, ◌+◌, ◌^◌, ◌<◌, true, false, List, [], ◌∷◌, fold, find, length, Option, Some, None, option_map, refl, sym, subst, arith, cond}
 use Rattle.std.proofs.lemmas.Bool.{both_ways}
 use Rattle.std.proofs.lemmas.Option.{none-some, same_Some}
-use Rattle.vk_base.specs.declared.config.ProcessSpec.{ProcessSpec}
-use Rattle.vk_base.specs.declared.kernel.Process.{Process}
-use Rattle.vk_base.specs.declared.step.Step.{Step}
+use Rattle.vk_types.specs.Types.{EventAnswer, Process, ProcessSpec, Step}
 use Rattle.vk_base.specs.declared.step.Step.TheVariants as steps
 use Rattle.vk_base.specs.Kernel.{initial_process}
 use Rattle.vk_base.specs.Packets.{Packet}
 use Rattle.vk_base.specs.Settings.{is_process}
 use Rattle.vk_base.specs.Steps.{effect, is_allowed, next}
+use Rattle.vk_base.proofs.OptionLemmas.{mapped_is}
 use Rattle.v_ages.proofs.Outcomes.{mild_packet}
 use Rattle.v_ages.proofs.Quiet.{NoCall}
 use Rattle.v_laws.specs.Sizes.{size_in}
-use Rattle.v_laws.proofs.Options.{mapped_is}
 use Rattle.v_laws.proofs.StepLemmas.{IsNoCall}
 use Rattle.v_lawful.specs.Sending.{IsFaultless, IsInput}
 use Rattle.v_lawful.specs.Sizes.{HasSizes}
-use Rattle.v_lawful.proofs.Brought.{IsTaken}
+use Rattle.v_lawful.proofs.Brought.{IsForStation}
 use Rattle.v_lawful.proofs.CallEvents.{behind_quiet, tick_quiet}
 use Rattle.v_lawful.proofs.Entries.{IsSentLog, none_sent, one_more}
 use Rattle.v_lawful.proofs.Events.{no_packet}
 use Rattle.v_lawful.proofs.SizeEvents.{events_keep_sizes, memories_keep_their_sizes}
-use Rattle.v_lawful.proofs.Taken.{taken_is}
+use Rattle.v_lawful.proofs.Taken.{taken_is, none_by}
 use Rattle.vk_drive.specs.Tasks.{settings, specs}
 use Rattle.vk_rules.specs.CallOutcomes.{call_outcome, collect_outcome, effect_answer, steps_behind, tick_outcome}
 use Rattle.vk_rules.specs.Each.{Each}
@@ -41,7 +39,6 @@ use Rattle.v_storm.proofs.Calls.{call_plain}
 use Rattle.v_storm.proofs.Packets.{call_packets_plain, outcome_packets_plain, tick_packets_plain}
 use Rattle.v_storm.proofs.Steps.{steps_plain}
 use Rattle.std.specs.Prelude.{Bool}
-use Rattle.vk_base.specs.declared.event.EventAnswer.{EventAnswer}
 
 -- What comes to a station in a storm.
 abbrev pub IsPlainUnsealed : Unsealed → Type 0
@@ -65,7 +62,7 @@ taken_quiet host r None = tt
 taken_quiet host r (Some f) =
     let ss = (mild_packet host r f.packet (sender_of f.packet) 0).steps in each_weaker NoCall IsNoCall _ ss no_call_is
 
-outcome_view : (host : ℕ) (r : Reading) (o : Option Frame) → ((f : Frame) → o ≡ Some f → IsTaken host f.packet × IsPlainPacket f.packet) →
+outcome_view : (host : ℕ) (r : Reading) (o : Option Frame) → ((f : Frame) → o ≡ Some f → IsForStation host f.packet × IsPlainPacket f.packet) →
     IsPlainView host r.view → IsPlainView host (after_steps r.view (packet_taken o) (outcome_by host r o).steps)
 outcome_view host r None taken v = v
 outcome_view host r (Some f) taken v =
@@ -81,14 +78,10 @@ either_frame : (b : Bool) (f g : Frame) → cond b (Some f) None ≡ Some g → 
 either_frame true f g is = same_Some f g is
 either_frame false f g is = absurd (none-some g is)
 
-neither_frame : (b : Bool) (f : Frame) → cond b None None ≡ Some f → ⊥
-neither_frame true f is = none-some f is
-neither_frame false f is = none-some f is
-
 pub taken_plain : (a : EventAnswer) (o : Unsealed) (f : Frame) → IsPlainUnsealed o → taken_in (Delivered o) a ≡ Some f →
     IsPlainPacket f.packet
-taken_plain a Noise f plain is = absurd (neither_frame (is_frame_taken a) f is)
-taken_plain a (Headed h) f plain is = absurd (neither_frame (is_frame_taken a) f is)
+taken_plain a Noise f plain is = absurd (none_by (is_frame_taken a) f is)
+taken_plain a (Headed h) f plain is = absurd (none_by (is_frame_taken a) f is)
 taken_plain a (Framed h p) f plain is =
     subst (λ (z : Frame). IsPlainPacket z.packet) (either_frame (is_frame_taken a) (record { header = h; packet = p }) f is) plain
 

@@ -3,12 +3,12 @@ use Rattle.std.proofs.Common.{◌≡◌, ℕ, ◌+◌, ◌-◌, ◌^◌, ◌<◌
 use Rattle.std.proofs.lemmas.Bool.{and_parts, and_from, cases_Bool, cond-true, cond-false, eqb-true, eq-eqb, leb-true}
 use Rattle.std.proofs.lemmas.Grind.{common_steps}
 use Rattle.std.specs.Int.{is_in_range}
-use Rattle.vk_base.specs.declared.pid.Pid.{Pid}
+use Rattle.vk_types.specs.Types.{Pid}
 use Rattle.vk_base.specs.Packets.{Packet, Send, Reply, Pending, Negative}
 unfoldable use Rattle.vk_base.specs.Settings.{fault_of}
 use Rattle.vk_base.specs.Settings.{AreLawful, has_station}
 use Rattle.vk_cluster.specs.Standing.{logs_of, report_of}
-use Rattle.vk_cluster.proofs.Logs.{logs_next, with_here}
+use Rattle.vk_cluster.proofs.Logs.{logs_next}
 use Rattle.vk_drive.specs.Tasks.{settings, specs}
 use Rattle.vk_drive.specs.Told.{emitted_in, headers}
 use Rattle.vk_frame.specs.declared.header.Header.{Header}
@@ -20,15 +20,16 @@ use Rattle.vk_rules.specs.Histories.{At, Happened, Logs, Missing, delivered, emi
 unfoldable use Rattle.vk_rules.specs.Histories.{happened, with_entry}
 use Rattle.vk_rules.specs.Laws.{HaveHeaders, AllRise}
 use Rattle.vk_rules.specs.Right.{entry_of}
-use Rattle.vk_rules.proofs.Lists.{each_append, each_find}
+use Rattle.vk_rules.proofs.Lists.{each_find, each_front}
 use Rattle.vk_rules.proofs.Rising.{entries_rise}
+use Rattle.vk_rules.proofs.OwnEvents.{own_log}
 use Rattle.vk_schedule.specs.declared.event.Event.{Event}
 use Rattle.vk_schedule.specs.declared.event.Event.TheVariants as events
-use Rattle.vk_schedule.specs.Lawful.{IsOutput, IsReadableEvent, IsStation, has_actors}
+use Rattle.vk_schedule.specs.Lawful.{IsOutputNumber, IsReadableEvent, IsStation, has_actors}
 use Rattle.vk_text.specs.Laws.{IsOrdinal}
-use Rattle.v_lawful.specs.Sending.{IsFaultless, IsInput, IsLawfulEntry, IsLawfulFrame, IsSendable, IsSentEntry}
+use Rattle.v_lawful.specs.Sending.{IsFaultless, IsInput, IsLawfulEntry, IsLawfulFrame, IsSendable}
 use Rattle.v_lawful.proofs.Faultless.{configs_are_faultless}
-use Rattle.v_lawful.proofs.Schedules.{schedules_are_lawful}
+use Rattle.v_lawful.proofs.Schedules.{schedules_are_lawful, each_emitted}
 use Rattle.v_storm.proofs.Views.{IsOurs, IsPlain, IsPlainPacket}
 use Rattle.v_storm.proofs.Entries.{IsPlainInput, IsPlainLog, log_more}
 use Rattle.v_storm.proofs.Ours.{our_station}
@@ -71,10 +72,6 @@ put_log most logs host i are few input plain =
       ];
     }
 
-pub each_sendable : (es : List Entry) → Each IsSentEntry es → Each (λ (f : Frame). IsSendable f.packet) (emitted es)
-each_sendable [] h = tt
-each_sendable (e ∷ es) h = each_append (λ (f : Frame). IsSendable f.packet) e.frames (emitted es) h.0.packets (each_sendable es h.1)
-
 delivered_log : (most : ℕ) (logs : Logs) (to : ℕ) (o : Option Frame) → AreLogs most logs → most < 100000 →
     ((f : Frame) → o ≡ Some f → IsSendable f.packet × IsPlainPacket f.packet) →
     AreLogs (most + 1) (logs_after logs (delivered settings logs to o))
@@ -99,7 +96,7 @@ event_log most logs (events.Deliver to from event output) are few is plain =
     delivered_log most logs to (handed_over logs to from event output) are few
     (λ f there. (
       each_find (λ (g : Frame). IsSendable g.packet) (is_output to event output) (emitted (logs from)) f there
-          (each_sendable (logs from) (are.each from).sent.entries),
+          (each_emitted (logs from) (are.each from).sent.entries),
       each_find (λ (g : Frame). IsPlainPacket g.packet) (is_output to event output) (emitted (logs from)) f there (are.each from).frames,
     ))
 
@@ -108,7 +105,7 @@ pub record IsGoodHeader (h : Header) : Type 0 where
   pub to : IsStation h.destination
   pub from : IsStation h.source
   pub event : IsOrdinal h.event
-  pub output : IsOutput h.output
+  pub output : IsOutputNumber h.output
   pub acts : has_actors specs (events.Deliver h.destination h.source h.event h.output) ≡ true
 
 -- a plain packet is for one of the four processes
@@ -183,11 +180,6 @@ good_headers host stamp number event output (f ∷ fs) have lawful plain acts = 
   good_headers host stamp number event (output + 1) fs have.1 lawful.1 plain.1 acts,
 )
 
--- the frames of the newest entry
-each_front : {A : Type 0} (P : A → Type 0) (xs ys : List A) → Each P (xs ++ ys) → Each P xs
-each_front P [] ys h = tt
-each_front P (x ∷ xs) ys h = (h.0, each_front P xs ys h.1)
-
 newest_headers : (es : List Event) (host : ℕ) (e : Entry) (log : List Entry) → Each IsReadableEvent es → length es ≤ 100000 →
     has_station specs host ≡ true → IsStation host → logs_of settings es host ≡ e ∷ log → IsPlainLog host (e ∷ log) →
     Each IsGoodHeader (headers e.frames)
@@ -229,7 +221,7 @@ headers_by : (es : List Event) (logs : Logs) (h : Happened) → Each IsReadableE
 headers_by es logs (Missing host) readable few acts station is are = tt
 headers_by es logs (At host event e) readable few acts station is are =
     let here : logs_of settings es host ≡ e ∷ logs host =
-    ap (λ (l : Logs). l host) is ∙ with_here logs host e in
+    ap (λ (l : Logs). l host) is ∙ own_log logs host e in
     newest_headers es host e (logs host) readable few acts station here (subst (IsPlainLog host) here (are.each host))
 
 pub event_headers : (es : List Event) (e : Event) → Each IsReadableEvent (es ++ e ∷ []) → length (es ++ e ∷ []) ≤ 100000 →

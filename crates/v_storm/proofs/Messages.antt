@@ -2,8 +2,7 @@
 use Rattle.std.proofs.Common.{ℕ, zero, suc, ◌+◌, ◌^◌, ◌<◌, ◌||◌, List, [], ◌∷◌, ◌++◌, replicate, slice_index, refl, arith}
 use Rattle.std.proofs.lemmas.Bool.{cond_both}
 use Rattle.std.specs.Int.{byte_at, from_be_bytes, to_be_bytes, w32}
-use Rattle.vk_base.specs.declared.message.Message.{Message}
-use Rattle.vk_base.specs.declared.message.Range.{Range}
+use Rattle.vk_types.specs.Types.{Message, Range}
 use Rattle.vk_base.specs.Messages.{IsMessage, grants_read, grants_write, segment_of, word_at}
 use Rattle.vk_pages.specs.Messages.{reply_of, request_of}
 use Rattle.vk_wire.specs.Fields.{IsBytes}

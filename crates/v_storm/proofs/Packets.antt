@@ -1,20 +1,10 @@
 -- Stations whose views are plain send plain packets.
 use Rattle.std.proofs.Common.{ℕ, Bool, ◌&&◌, not, List, [], ◌∷◌, flat_map, map, filter, Option, Some, None, is_none, option_map, option_to_list, refl}
 use Rattle.std.specs.Option.{option_map_or}
-use Rattle.vk_base.specs.declared.call.Call.{Call}
+use Rattle.vk_types.specs.Types.{Call, EventAnswer, Exchange, Message, Name, Pid, Process, ProcessSpec, Stage, State, Times}
 use Rattle.vk_base.specs.declared.call.Call.TheVariants as calls
-use Rattle.vk_base.specs.declared.config.ProcessSpec.{ProcessSpec}
-use Rattle.vk_base.specs.declared.config.Times.{Times}
-use Rattle.vk_base.specs.declared.event.EventAnswer.{EventAnswer}
-use Rattle.vk_base.specs.declared.kernel.Exchange.{Exchange}
-use Rattle.vk_base.specs.declared.kernel.Name.{Name}
-use Rattle.vk_base.specs.declared.kernel.Process.{Process}
-use Rattle.vk_base.specs.declared.kernel.Stage.{Stage}
 use Rattle.vk_base.specs.declared.kernel.Stage.TheVariants as stages
-use Rattle.vk_base.specs.declared.kernel.State.{State}
 use Rattle.vk_base.specs.declared.kernel.State.TheVariants as states
-use Rattle.vk_base.specs.declared.message.Message.{Message}
-use Rattle.vk_base.specs.declared.pid.Pid.{Pid}
 use Rattle.vk_base.specs.Kernel.{Kernel, blocked_in, held, holds_of, is_live, name_of}
 use Rattle.vk_base.specs.Packets.{Packet, Send, Reply, Pending, Negative}
 use Rattle.vk_base.specs.Pids.{same_host}

@@ -1,10 +1,8 @@
 -- The programs of a storm: each goes on, and what it calls is such that code can hold it.
 use Rattle.std.proofs.Common.{◌≡◌, ℕ, ◌+◌, ◌*◌, ◌/◌, ◌%◌, ◌<◌, ◌==◌, cond, nat_lt, zero, suc, List, [], ◌∷◌, ◌++◌, length, replicate, Option, Some, None, refl, sym, subst, ◌∙◌, length-append, arith}
 use Rattle.std.proofs.lemmas.Bool.{cond-true, cond_both, lt-ltb}
-use Rattle.vk_base.specs.declared.answer.Answer.{Answer}
-use Rattle.vk_base.specs.declared.call.Call.{Call}
+use Rattle.vk_types.specs.Types.{Answer, Call, Pid}
 use Rattle.vk_base.specs.declared.call.Call.TheVariants as calls
-use Rattle.vk_base.specs.declared.pid.Pid.{Pid}
 use Rattle.vk_event.specs.declared.task.Task.{Task}
 use Rattle.vk_event.specs.declared.task.TaskKind.{TaskKind}
 use Rattle.vk_event.specs.declared.task.TaskKind.TheVariants as kinds
@@ -14,7 +12,7 @@ use Rattle.vk_pages.specs.Messages.{request_of}
 use Rattle.vk_pages.specs.Programs.{kind_call, task_call}
 use Rattle.vk_pages.specs.Servers.{answered_all, new_server, server_call}
 use Rattle.v_storm.proofs.Views.{IsOurs, IsPlain}
-use Rattle.v_storm.proofs.Called.{IsAnswerTo, IsWithin}
+use Rattle.v_storm.proofs.Called.{IsAnswerTo, LiesInMemory}
 use Rattle.v_storm.proofs.Messages.{filled_bytes, request_message}
 use Rattle.v_storm.proofs.Serving.{IsGoodCall, IsServing, answered_more, requests, serving_calls, serving_first, serving_more}
 use Rattle.vk_text.specs.Laws.{IsReadable}
@@ -36,7 +34,7 @@ going_first (suc (suc (suc zero))) low = (refl, refl)
 going_first (suc (suc (suc (suc place)))) low = absurd (omega arith)
 
 -- A client.
-good : (c : Call) → IsPlain c → IsWithin c → IsReadable c →
+good : (c : Call) → IsPlain c → LiesInMemory c → IsReadable c →
     IsGoodCall (Some c)
 good c plain within readable = record { call = c; is = refl; plain = plain; within = within; readable = readable }
 

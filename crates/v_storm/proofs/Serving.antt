@@ -1,19 +1,17 @@
 -- The page server in a storm: what it calls is such that code can hold it, and it never ends.
-use Rattle.std.proofs.Common.{◌≡◌, ◌≢◌, ℕ, zero, suc, ◌+◌, ◌^◌, ◌<◌, ◌≤◌, ◌==◌, ◌&&◌, ◌||◌, false, cond, not, nat_lt, nat_le, List, [], ◌∷◌, ◌++◌, length, replicate, slice_get, Option, Some, None, refl, sym, ap, subst, ◌∙◌, inl, inr, arith, option_map}
-use Rattle.std.proofs.lemmas.Bool.{cases_Bool, cond-true, cond_both, eq-eqb, eqb-true, ltb-true, not-false, both_ways}
+use Rattle.std.proofs.Common.{◌≡◌, ◌≢◌, ℕ, zero, suc, ◌+◌, ◌^◌, ◌<◌, ◌≤◌, ◌==◌, ◌&&◌, ◌||◌, false, cond, not, nat_lt, nat_le, List, [], ◌∷◌, ◌++◌, length, replicate, slice_get, Option, Some, None, refl, sym, ap, subst, ◌∙◌, arith, option_map}
+use Rattle.std.proofs.lemmas.Bool.{cond-true, cond_both, eq-eqb, ltb-true, not-false, both_ways, ne_eqb}
 use Rattle.std.proofs.lemmas.List.{length-set}
 use Rattle.std.proofs.lemmas.Option.{same_Some}
-use Rattle.vk_base.specs.declared.answer.Answer.{Answer}
+use Rattle.vk_types.specs.Types.{Answer, Call, Message, Pid}
 use Rattle.vk_base.specs.declared.answer.Answer.TheVariants as answers
-use Rattle.vk_base.specs.declared.call.Call.{Call}
 use Rattle.vk_base.specs.declared.call.Call.TheVariants as calls
-use Rattle.vk_base.specs.declared.message.Message.{Message}
-use Rattle.vk_base.specs.declared.pid.Pid.{Pid}
 use Rattle.vk_base.specs.Messages.{IsMessage, grants_of}
 use Rattle.vk_text.specs.Laws.{IsReadable}
 use Rattle.vk_rules.specs.Each.{Each}
+use Rattle.vk_rules.proofs.Lists.{each_at}
 use Rattle.v_lawful.proofs.Bytes.{zero_bytes}
-use Rattle.v_lawful.proofs.Lists.{each_get, each_set}
+use Rattle.v_lawful.proofs.Lists.{each_set}
 use Rattle.vk_pages.specs.declared.serving.Serving.{Serving}
 use Rattle.vk_pages.specs.declared.serving.Serving.TheVariants as stages
 use Rattle.vk_pages.specs.Messages.{code_of, page_of, reply_of}
@@ -21,7 +19,7 @@ use Rattle.vk_pages.specs.Pages.{zero_page}
 use Rattle.vk_pages.specs.Servers.{Server, answered, answered_all, answered_at, loaded, new_server, one_more, page_in, received, replied, stage_call, taken}
 use Rattle.vk_wire.specs.Fields.{IsBytes}
 use Rattle.v_storm.proofs.Views.{IsOurs, IsPlain, IsReceived}
-use Rattle.v_storm.proofs.Called.{IsAnswerTo, IsWithin}
+use Rattle.v_storm.proofs.Called.{IsAnswerTo, LiesInMemory}
 use Rattle.v_storm.proofs.Messages.{reply_message, start_small, word_small}
 use Rattle.v_storm.proofs.Ours.{our_pid}
 
@@ -87,15 +85,12 @@ IsAnswerAt stages.Receive a = IsReceived a
 IsAnswerAt (stages.Load from page) a = (bytes : List ℕ) × (a ≡ answers.Loaded bytes) × (length bytes ≡ 512) × IsBytes bytes
 IsAnswerAt stage a = Unit {0}
 
-not_equal : (n m : ℕ) → n ≢ m → (n == m) ≡ false
-not_equal n m apart = elim (cases_Bool (n == m)) [ inl t ↦ absurd (apart (eqb-true n m t)) | inr f ↦ f ]
-
 replied_on : (most : ℕ) (s : Server) → most + 1 < requests → length s.pages ≡ 16 → Each IsPage s.pages → s.replies ≤ most →
     IsServing (most + 1) (replied requests s)
 replied_on most s few count pages replies =
     let n : ℕ = one_more requests s.replies in
     let least : n ≤ most + 1 = omega (arith, replies) in
-    let apart : (n == requests) ≡ false = not_equal n requests (λ e. omega (arith, e, least, few)) in
+    let apart : (n == requests) ≡ false = ne_eqb n requests (λ e. omega (arith, e, least, few)) in
     record {
       count = count;
       pages = pages;
@@ -136,7 +131,7 @@ pub record IsGoodCall (o : Option Call) : Type 0 where
   pub call : Call
   pub is : o ≡ Some call
   pub plain : IsPlain call
-  pub within : IsWithin call
+  pub within : LiesInMemory call
   pub readable : IsReadable call
 
 stored_call : (o : Option (List ℕ)) → (bytes : List ℕ) → o ≡ Some bytes → IsPage bytes →
@@ -173,7 +168,7 @@ call_at (stages.Load from page) pages count all good = record {
 call_at (stages.Store from page dest) pages count all good =
     let below = good.1 in
     let b = there pages page (omega (arith, below, count)) in
-    stored_call (slice_get pages page) b.0 b.1 (each_get IsPage pages page b.0 all b.1)
+    stored_call (slice_get pages page) b.0 b.1 (each_at IsPage pages page b.0 all b.1)
 call_at (stages.ReplyPage from page dest) pages count all good = record {
   call = calls.ReplySegment (reply_of 0 page) from dest 0 512;
   is = refl;

@@ -1,26 +1,20 @@
 -- How a process stands at its station: behind each event its program and the station agree on which call is to be collected.
 use Rattle.std.proofs.Common.{◌≡◌, ℕ, ◌+◌, ◌<◌, ◌≤◌, ◌==◌, ◌&&◌, Bool, true, false, not, List, [], ◌∷◌, ◌++◌, fold, length, Option, Some, None, is_none, option_to_list, if◌then◌else◌, refl, sym, ap, subst, ◌∙◌, length-append, arith, inl, inr}
-use Rattle.std.proofs.lemmas.Bool.{both_ways, cases_Bool, cond-true, cond-false}
+use Rattle.std.proofs.lemmas.Bool.{cases_Bool, cond-true, cond-false}
 use Rattle.std.proofs.lemmas.List.{append-nil}
 use Rattle.std.proofs.lemmas.Option.{none-some, same_Some}
-use Rattle.vk_base.specs.declared.answer.Answer.{Answer}
+use Rattle.vk_types.specs.Types.{Answer, Call, EventAnswer, Name, Pid, Process, Step}
 use Rattle.vk_base.specs.declared.answer.Answer.TheVariants as answers
 use Rattle.vk_base.specs.declared.answer.Ending.TheVariants as endings
 use Rattle.vk_base.specs.declared.answer.Refusal.TheVariants as refusals
-use Rattle.vk_base.specs.declared.call.Call.{Call}
 use Rattle.vk_base.specs.declared.call.Call.TheVariants as calls
-use Rattle.vk_base.specs.declared.event.EventAnswer.{EventAnswer}
 use Rattle.vk_base.specs.declared.event.EventAnswer.TheVariants as told_as
-use Rattle.vk_base.specs.declared.kernel.Name.{Name}
-use Rattle.vk_base.specs.declared.kernel.Process.{Process}
-use Rattle.vk_base.specs.declared.pid.Pid.{Pid}
-use Rattle.vk_base.specs.declared.step.Step.{Step}
 use Rattle.vk_base.specs.declared.step.Step.TheVariants as steps
 use Rattle.vk_base.specs.Brought.{brought, found_dead, sender_heard, settled}
 unfoldable use Rattle.vk_base.specs.Changes.{change_process}
 use Rattle.vk_base.specs.Kernel.{Kernel, holds_of, is_live, name_of}
 use Rattle.vk_base.specs.Packets.{Packet, Send, Reply, Pending, Negative}
-use Rattle.vk_base.specs.Pids.{same_host, same_pid}
+use Rattle.vk_base.specs.Pids.{same_host}
 use Rattle.vk_base.specs.Steps.{after_effect, effect, is_allowed, next}
 use Rattle.vk_event.specs.declared.task.Task.{Task}
 use Rattle.vk_pages.specs.Programs.{task_call}
@@ -40,17 +34,18 @@ use Rattle.vk_rules.proofs.Lists.{each_append, each_if}
 use Rattle.vk_rules.proofs.Taken.{outcome_by, packet_taken}
 use Rattle.v_ages.proofs.Outcomes.{outcome_if}
 use Rattle.v_laws.proofs.StepLemmas.{only_if_is}
-use Rattle.v_laws.proofs.Tables.{changed_apart, put_process_other, same_pid_is}
+use Rattle.v_laws.proofs.Tables.{changed_apart, put_process_other}
 use Rattle.v_lawful.specs.Sending.{IsInput}
-use Rattle.v_lawful.proofs.Brought.{IsTaken}
+use Rattle.v_lawful.proofs.Brought.{IsForStation}
 use Rattle.v_lawful.proofs.Events.{no_packet}
 use Rattle.v_lawful.proofs.Taken.{taken_is}
+use Rattle.v_lawful.proofs.Bringing.{hosts_apart}
 use Rattle.vk_drive.specs.Tasks.{settings}
 use Rattle.vk_drive.specs.Told.{is_waiting, told, waits_after}
 use Rattle.vk_drive.proofs.Acting.{told_more, waits_more}
 use Rattle.v_storm.proofs.Views.{IsOurs, IsPlain, IsPlainPacket, IsPlainView}
 use Rattle.v_storm.proofs.Brought.{brought_plain}
-use Rattle.v_storm.proofs.Called.{IsCalled, IsCollected, MayCall, called_is, collected_is, made_where, IsAnswerTo}
+use Rattle.v_storm.proofs.Called.{IsCallMade, IsCollected, MayCall, called_is, collected_is, made_where, IsAnswerTo}
 use Rattle.v_storm.proofs.Calls.{call_plain}
 use Rattle.v_storm.proofs.Doing.{Does, IsQuiet, doing, steps_do}
 use Rattle.v_storm.proofs.Entries.{IsPlainInput, taken_plain}
@@ -62,7 +57,7 @@ abbrev pub called_last : Task → List EventAnswer → Option Call
 called_last t heard = if is_waiting heard then task_call t (told heard) else None
 
 -- The program goes on, and the process is in that call.
-pub record Stands (t : Task) (most : ℕ) (heard : List EventAnswer) (k : Kernel) : Type 0 where
+pub record StandsInCall (t : Task) (most : ℕ) (heard : List EventAnswer) (k : Kernel) : Type 0 where
   pub going : IsGoing t.kind (told heard)
   pub few : length (told heard) ≤ most
   pub does : Does k t.pid (called_last t heard)
@@ -70,7 +65,7 @@ pub record Stands (t : Task) (most : ℕ) (heard : List EventAnswer) (k : Kernel
 -- nothing was told, and the process waits or not as is said
 untold : (t : Task) (most : ℕ) (heard : List EventAnswer) (a : EventAnswer) (k : Kernel) (waits : Bool) → IsGoing t.kind (told heard) →
     length (told heard) ≤ most → handed_out a ≡ None → waits_after (is_waiting heard) a ≡ waits →
-    Does k t.pid (if waits then task_call t (told heard) else None) → Stands t (most + 1) (heard ++ a ∷ []) k
+    Does k t.pid (if waits then task_call t (told heard) else None) → StandsInCall t (most + 1) (heard ++ a ∷ []) k
 untold t most heard a k waits going few none then_waits does =
     let same : told (heard ++ a ∷ []) ≡ told heard =
     told_more heard a ∙ ap (λ o. told heard ++ option_to_list o) none ∙ append-nil (told heard) in
@@ -86,7 +81,7 @@ untold t most heard a k waits going few none then_waits does =
 told_one : (t : Task) (most : ℕ) (heard : List EventAnswer) (x : Answer) (c : Call) (k : Kernel) → IsGoing t.kind (told heard) →
     length (told heard) ≤ most → most + 1 < requests → task_call t (told heard) ≡ Some c → is_not_yet x ≡ false →
     IsAnswerTo c x → waits_after (is_waiting heard) (told_as.Answered x) ≡ false → Does k t.pid None →
-    Stands t (most + 1) (heard ++ told_as.Answered x ∷ []) k
+    StandsInCall t (most + 1) (heard ++ told_as.Answered x ∷ []) k
 told_one t most heard x c k going few small called tells for then_waits does =
     let a : EventAnswer = told_as.Answered x in
     let out : handed_out a ≡ Some x = cond-false (is_not_yet x) None (Some x) tells in
@@ -104,12 +99,12 @@ told_one t most heard x c k going few small called tells for then_waits does =
 -- A collect.
 collected_on : (t : Task) (most : ℕ) (heard : List EventAnswer) (c : Call) (a : EventAnswer) (k : Kernel) → IsGoing t.kind (told heard) →
     length (told heard) ≤ most → most + 1 < requests → is_waiting heard ≡ true → task_call t (told heard) ≡ Some c →
-    IsCollected c t.pid a k → Stands t (most + 1) (heard ++ a ∷ []) k
+    IsCollected c t.pid a k → StandsInCall t (most + 1) (heard ++ a ∷ []) k
 collected_on t most heard c a k going few small waits called (IsCollected.Comes_early is does) =
     untold t most heard a k true going few (ap handed_out is)
     ((λ i. waits_after (waits i) (is i))) (subst (Does k t.pid) (sym called) does)
 collected_on t most heard c a k going few small waits called (IsCollected.Ends x is tells for does) =
-    subst (λ z. Stands t (most + 1) (heard ++ z ∷ []) k) (sym is)
+    subst (λ z. StandsInCall t (most + 1) (heard ++ z ∷ []) k) (sym is)
     (told_one t most heard x c k going few small called tells for (cond-false (is_not_yet x) (is_waiting heard) false tells) does)
 
 -- A call.
@@ -122,18 +117,18 @@ never_waits x b is = by (is_not_yet x)
 
 called_on : (t : Task) (most : ℕ) (heard : List EventAnswer) (c : Call) (a : EventAnswer) (k : Kernel) → IsGoing t.kind (told heard) →
     length (told heard) ≤ most → most + 1 < requests → is_waiting heard ≡ false → task_call t (told heard) ≡ Some c →
-    IsCalled c t.pid a k → Stands t (most + 1) (heard ++ a ∷ []) k
-called_on t most heard c a k going few small waits called (IsCalled.Begins is waited does) =
+    IsCallMade c t.pid a k → StandsInCall t (most + 1) (heard ++ a ∷ []) k
+called_on t most heard c a k going few small waits called (IsCallMade.Begins is waited does) =
     untold t most heard a k true going few (ap handed_out is) (ap (waits_after (is_waiting heard)) is)
     (subst (Does k t.pid) (sym called) does)
-called_on t most heard c a k going few small waits called (IsCalled.Tells x is for does) =
-    subst (λ z. Stands t (most + 1) (heard ++ z ∷ []) k) (sym is) (elim (cases_Bool (is_not_yet x)) [
+called_on t most heard c a k going few small waits called (IsCallMade.Tells x is for does) =
+    subst (λ z. StandsInCall t (most + 1) (heard ++ z ∷ []) k) (sym is) (elim (cases_Bool (is_not_yet x)) [
       | inl early ↦
           untold t most heard (told_as.Answered x) k false going few (cond-true (is_not_yet x) None (Some x) early)
           (never_waits x (is_waiting heard) waits) does
       | inr tells ↦ told_one t most heard x c k going few small called tells for (never_waits x (is_waiting heard) waits) does
     ])
-called_on t most heard c a k going few small waits called (IsCalled.Tells_nothing is does) =
+called_on t most heard c a k going few small waits called (IsCallMade.Tells_nothing is does) =
     untold t most heard a k false going few (ap handed_out is)
     (ap (waits_after (is_waiting heard)) is ∙ never_waits (answers.Refused refusals.NotYet) (is_waiting heard) waits)
     does
@@ -186,17 +181,12 @@ packet_quiet host r (Negative from to number) plain = each_if IsQuiet _ (steps.F
 packet_quiet host r p plain = absurd plain
 
 -- What comes from another station changes no process of this one.
-apart_pid : (host : ℕ) (from pid : Pid) → (from.host == host) ≡ false → (pid.host == host) ≡ true → same_pid pid from ≡ false
-apart_pid host from pid far own = elim (cases_Bool (same_pid pid from)) [
-  | inl t ↦ absurd (both_ways (from.host == host) far (ap (λ (z : Pid). z.host == host) (sym (same_pid_is pid from t)) ∙ own))
-  | inr f ↦ f
-]
 
 brought_does : (host : ℕ) (k : Kernel) (p : Packet) (pid : Pid) (o : Option Call) → (source_of p == host) ≡ false →
     (pid.host == host) ≡ true → IsPlainPacket p → Does k pid o → Does (brought k p) pid o
 brought_does host k (Send from to number m part) pid o far own plain d = record {
   process = d.process;
-  at = put_process_other k.procs from (sender_heard number (k.procs from)) pid (apart_pid host from pid far own) ∙ d.at;
+  at = put_process_other k.procs from (sender_heard number (k.procs from)) pid (hosts_apart host from pid far own) ∙ d.at;
   does = d.does;
 }
 brought_does host k (Reply from to number m dest bytes) pid o far own plain d =
@@ -204,7 +194,7 @@ brought_does host k (Reply from to number m dest bytes) pid o far own plain d =
 brought_does host k (Pending from to number) pid o far own plain d = d
 brought_does host k (Negative from to number) pid o far own plain d = record {
   process = d.process;
-  at = changed_apart k.procs from found_dead pid (apart_pid host from pid far own) ∙ d.at;
+  at = changed_apart k.procs from found_dead pid (hosts_apart host from pid far own) ∙ d.at;
   does = d.does;
 }
 brought_does host k p pid o far own plain d = absurd plain
@@ -227,7 +217,7 @@ after_does host k p (y ∷ ys) pid o far own plain quiet v d =
     (brought_does host k p pid o far own plain d))
 
 outcome_does : (host : ℕ) (r : Reading) (o : Option Frame) (pid : Pid) (c : Option Call) → (pid.host == host) ≡ true →
-    ((f : Frame) → o ≡ Some f → IsTaken host f.packet × IsPlainPacket f.packet) → IsPlainView host r.view → Does r.view pid c →
+    ((f : Frame) → o ≡ Some f → IsForStation host f.packet × IsPlainPacket f.packet) → IsPlainView host r.view → Does r.view pid c →
     Does (after_steps r.view (packet_taken o) (outcome_by host r o).steps) pid c
 outcome_does host r None pid c own taken v d = d
 outcome_does host r (Some f) pid c own taken v d =
@@ -277,16 +267,16 @@ collected_view host r pid =
 
 -- the same answer, with the view after the whole entry
 moved_call : (c : Call) (pid : Pid) (a : EventAnswer) (k l : Kernel) → ((o : Option Call) → Does k pid o → Does l pid o) →
-    IsCalled c pid a k → IsCalled c pid a l
-moved_call c pid a k l on (IsCalled.Begins is waited does) = IsCalled.Begins is waited (on (Some c) does)
-moved_call c pid a k l on (IsCalled.Tells x is for does) = IsCalled.Tells x is for (on None does)
-moved_call c pid a k l on (IsCalled.Tells_nothing is does) = IsCalled.Tells_nothing is (on None does)
+    IsCallMade c pid a k → IsCallMade c pid a l
+moved_call c pid a k l on (IsCallMade.Begins is waited does) = IsCallMade.Begins is waited (on (Some c) does)
+moved_call c pid a k l on (IsCallMade.Tells x is for does) = IsCallMade.Tells x is for (on None does)
+moved_call c pid a k l on (IsCallMade.Tells_nothing is does) = IsCallMade.Tells_nothing is (on None does)
 
 pub call_stands : (host : ℕ) (r : Reading) (t : Task) (most : ℕ) (heard : List EventAnswer) (p : Process)
     (g : IsGoodCall (task_call t (told heard))) →
-    IsPlainView host r.view → IsOurs t.pid → Stands t most heard r.view → most + 1 < requests → is_waiting heard ≡ false →
+    IsPlainView host r.view → IsOurs t.pid → StandsInCall t most heard r.view → most + 1 < requests → is_waiting heard ≡ false →
     MayCall r.view t.pid p →
-    Stands t (most + 1) (heard ++ answer_to settings host r (Called t.pid g.call) ∷ [])
+    StandsInCall t (most + 1) (heard ++ answer_to settings host r (Called t.pid g.call) ∷ [])
     (reading_after settings.times r (right_entry settings host r (Called t.pid g.call))).view
 call_stands host r t most heard p g v ours s small waits may =
     called_on t most heard g.call _ _ s.going s.few small waits g.is
@@ -294,12 +284,12 @@ call_stands host r t most heard p g v ours s small waits may =
     (called_is r.view t.pid p g.call may g.plain g.within))
 
 pub collect_stands : (host : ℕ) (r : Reading) (t : Task) (most : ℕ) (heard : List EventAnswer) (c : Call) → IsPlainView host r.view →
-    Stands t most heard r.view → most + 1 < requests → is_waiting heard ≡ true → task_call t (told heard) ≡ Some c →
-    Stands t (most + 1) (heard ++ answer_to settings host r (Collected t.pid) ∷ [])
+    StandsInCall t most heard r.view → most + 1 < requests → is_waiting heard ≡ true → task_call t (told heard) ≡ Some c →
+    StandsInCall t (most + 1) (heard ++ answer_to settings host r (Collected t.pid) ∷ [])
     (reading_after settings.times r (right_entry settings host r (Collected t.pid))).view
 collect_stands host r t most heard c v s small waits called =
     let d = s.does in
     let does : doing d.process.state ≡ Some c =
     d.does ∙ cond-true (is_waiting heard) (task_call t (told heard)) None waits ∙ called in
-    subst (Stands t (most + 1) (heard ++ answer_to settings host r (Collected t.pid) ∷ [])) (sym (collected_view host r t.pid))
+    subst (StandsInCall t (most + 1) (heard ++ answer_to settings host r (Collected t.pid) ∷ [])) (sym (collected_view host r t.pid))
     (collected_on t most heard c _ _ s.going s.few small waits called (collected_is host r.view t.pid d.process c v d.at does))

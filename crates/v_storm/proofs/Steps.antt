@@ -1,28 +1,18 @@
 -- Each step that is no call leaves a plain view plain.
-use Rattle.std.proofs.Common.{◌≡◌, ℕ, zero, suc, true, false, cond, List, [], ◌∷◌, ◌++◌, fold, slice_get, Option, Some, None, option_map, refl, sym, ap, subst, ◌∙◌}
+use Rattle.std.proofs.Common.{◌≡◌, ℕ, true, false, cond, List, [], ◌∷◌, ◌++◌, fold, Option, Some, None, option_map, refl, sym, ap, subst, ◌∙◌}
 use Rattle.std.proofs.lemmas.Bool.{both_ways, cond_both}
 use Rattle.std.proofs.lemmas.Option.{none-some, same_Some}
-use Rattle.vk_base.specs.declared.answer.Answer.{Answer}
+use Rattle.v_lawful.proofs.Calls.{no_move as no_moves}
+use Rattle.vk_types.specs.Types.{Answer, Call, Ending, Exchange, Message, Name, Pid, Process, Refusal, State, Step}
 use Rattle.vk_base.specs.declared.answer.Answer.TheVariants as answers
-use Rattle.vk_base.specs.declared.answer.Ending.{Ending}
 use Rattle.vk_base.specs.declared.answer.Ending.TheVariants as endings
-use Rattle.vk_base.specs.declared.answer.Refusal.{Refusal}
 use Rattle.vk_base.specs.declared.answer.Refusal.TheVariants as refusals
-use Rattle.vk_base.specs.declared.call.Call.{Call}
 use Rattle.vk_base.specs.declared.call.Call.TheVariants as calls
-use Rattle.vk_base.specs.declared.kernel.Exchange.{Exchange}
-use Rattle.vk_base.specs.declared.kernel.Move.{Move}
-use Rattle.vk_base.specs.declared.kernel.Name.{Name}
-use Rattle.vk_base.specs.declared.kernel.Process.{Process}
 use Rattle.vk_base.specs.declared.kernel.Stage.TheVariants as stages
-use Rattle.vk_base.specs.declared.kernel.State.{State}
 use Rattle.vk_base.specs.declared.kernel.State.TheVariants as states
-use Rattle.vk_base.specs.declared.message.Message.{Message}
-use Rattle.vk_base.specs.declared.pid.Pid.{Pid}
-use Rattle.vk_base.specs.declared.step.Step.{Step}
 use Rattle.vk_base.specs.declared.step.Step.TheVariants as steps
 use Rattle.vk_base.specs.Calls.{Effect}
-use Rattle.vk_base.specs.Kernel.{◌>>=◌, Kernel, name_of, same_name, ended, is_asking, is_moving, move_of, receiving, sending, put_exchange, with_state}
+use Rattle.vk_base.specs.Kernel.{◌>>=◌, Kernel, name_of, same_name, ended, is_asking, is_moving, receiving, sending, put_exchange, with_state}
 use Rattle.vk_base.specs.Steps.{Collecting, Finishing, Taking, after_arrival, after_effect, arriving, asking, collecting, copying, effect, ending, failing, failure, finding, finished, finishing, hearing, is_older, next, only_if, opening_move, received, taken, taking, with_arrival, with_part}
 use Rattle.vk_base.specs.Ranges.{with_bytes}
 use Rattle.vk_base.proofs.OptionLemmas.{bind_is}
@@ -47,14 +37,6 @@ no_lookup (states.Done c a) plain t = both_ways false refl t
 no_lookup (states.Blocked (calls.Send target m)) plain t = both_ways false refl t
 no_lookup (states.Blocked (calls.ReceiveSegment start count)) plain t = both_ways false refl t
 no_lookup (states.Blocked c) plain t = absurd plain
-
-no_moves : (e : Exchange) (number : ℕ) (m : Move) → e.moves ≡ [] → move_of e number ≡ Some m → ⊥
-no_moves e zero m none is = none-some m is
-no_moves e (suc number) m none is = none-some m (sym (none_at number) ∙ ap (λ xs. slice_get xs number) (sym none) ∙ is)
-  where
-    none_at : (i : ℕ) → (let none : List Move = [] in slice_get none i) ≡ None
-    none_at zero = refl
-    none_at (suc i) = refl
 
 -- Arrive.
 arrival_plain : (name : Name) (e : Exchange) (n : Name) (x : Exchange) → IsPlainExchange n x → IsPlainExchange n (after_arrival name e n x)

@@ -1,15 +1,9 @@
 -- What holds of the view of a station in a storm, and of what stations send in it.
 use Rattle.std.specs.Prelude.{◌≡◌, ℕ, true, false, ◌==◌, [], Some, None}
-use Rattle.vk_base.specs.declared.answer.Answer.{Answer}
+use Rattle.vk_types.specs.Types.{Answer, Call, Exchange, Name, Pid, Process, State}
 use Rattle.vk_base.specs.declared.answer.Answer.TheVariants as answers
-use Rattle.vk_base.specs.declared.call.Call.{Call}
 use Rattle.vk_base.specs.declared.call.Call.TheVariants as calls
-use Rattle.vk_base.specs.declared.kernel.Exchange.{Exchange}
-use Rattle.vk_base.specs.declared.kernel.Name.{Name}
-use Rattle.vk_base.specs.declared.kernel.Process.{Process}
-use Rattle.vk_base.specs.declared.kernel.State.{State}
 use Rattle.vk_base.specs.declared.kernel.State.TheVariants as states
-use Rattle.vk_base.specs.declared.pid.Pid.{Pid}
 use Rattle.vk_base.specs.Kernel.{Kernel}
 use Rattle.vk_base.specs.Messages.{IsMessage}
 use Rattle.vk_base.specs.Packets.{Packet, Send, Reply, Pending, Negative}

@@ -1,7 +1,6 @@
 -- The laws of storms.
 use Rattle.std.specs.Prelude.{◌≡◌, ℕ, ◌<◌, ◌≤◌, true, List, take, Some, if◌then◌else◌}
-use Rattle.vk_base.specs.declared.call.Call.{Call}
-use Rattle.vk_base.specs.declared.event.EventAnswer.{EventAnswer}
+use Rattle.vk_types.specs.Types.{Call, EventAnswer}
 use Rattle.vk_base.specs.declared.limits.TheConstants.{EVENTS}
 use Rattle.vk_base.specs.Settings.{has_station}
 use Rattle.vk_drive.specs.Storms.{delivery_of, process_event, schedule_of, storm_after}

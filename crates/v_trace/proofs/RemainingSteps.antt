@@ -5,9 +5,8 @@ use Rattle.std.specs.Option.{option_map_or}
 use Rattle.std.proofs.lemmas.List.{length-drop}
 use Rattle.std.specs.Prelude.{option_map}
 use Rattle.std.proofs.lemmas.Option.{cond_some}
+use Rattle.vk_types.specs.Types.{ProcessSpec, Step}
 use Rattle.vk_base.specs.Settings.{Settings}
-use Rattle.vk_base.specs.declared.config.ProcessSpec.{ProcessSpec}
-use Rattle.vk_base.specs.declared.step.Step.{Step}
 use Rattle.vk_text.specs.Heads.{settings_of, head_of}
 use Rattle.vk_text.specs.Lines.{lines_of, words_from}
 use Rattle.v_trace.specs.Remaining.{Remaining, whole, behind, acting, end_of, left_by, steps_left}

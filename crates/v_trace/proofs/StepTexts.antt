@@ -1,9 +1,8 @@
 -- Steps as lines.
 use Rattle.std.proofs.Common.{◌≡◌, ℕ, ◌<◌, List, length, codes, Some, None, refl, arith, ap, sym, ◌∙◌}
 use Rattle.std.specs.List.{AllByRecursion}
-use Rattle.vk_base.specs.declared.answer.Ending.{Ending}
+use Rattle.vk_types.specs.Types.{Ending, Step}
 use Rattle.vk_base.specs.declared.answer.Ending.TheVariants as endings
-use Rattle.vk_base.specs.declared.step.Step.{Step}
 use Rattle.vk_base.specs.declared.step.Step.TheVariants as steps
 use Rattle.vk_text.specs.Heads.{process_of, HasNoFeed}
 use Rattle.vk_text.specs.Lines.{words_from}

@@ -1,11 +1,9 @@
 -- Steps have one spelling each.
 use Rattle.std.proofs.Common.{◌≡◌, ℕ, ◌-◌, ◌^◌, cond, List, [], ◌∷◌, decimal, codes, bytes_eq, true, Option, Some, refl, arith, ap, sym, ◌∙◌}
 use Rattle.std.proofs.lemmas.Option.{cond_some}
+use Rattle.vk_types.specs.Types.{Ending, Pid, Step}
 use Rattle.vk_base.specs.Options.{◌>>=◌}
-use Rattle.vk_base.specs.declared.answer.Ending.{Ending}
 use Rattle.vk_base.specs.declared.answer.Ending.TheVariants as endings
-use Rattle.vk_base.specs.declared.pid.Pid.{Pid}
-use Rattle.vk_base.specs.declared.step.Step.{Step}
 use Rattle.vk_base.specs.declared.step.Step.TheVariants as steps
 use Rattle.vk_base.proofs.OptionLemmas.{bind_is}
 use Rattle.vk_text.specs.Calls.{call_of}

@@ -2,8 +2,8 @@
 use Rattle.std.proofs.Common.{◌≡◌, ℕ, ◌+◌, ◌-◌, ◌<◌, ◌≤◌, Bool, true, false, cond, List, [], ◌∷◌, ◌++◌, length, Option, Some, None, Err, drop, codes, refl, ap, sym, ◌∙◌, ◌⊎◌, inl, inr, arith, length-append}
 use Rattle.std.specs.Option.{option_map_or}
 use Rattle.std.specs.Prelude.{IsSomeAnd}
+use Rattle.vk_types.specs.Types.{Step}
 use Rattle.vk_base.specs.Settings.{Settings}
-use Rattle.vk_base.specs.declared.step.Step.{Step}
 use Rattle.vk_text.specs.Heads.{HasProcess, settings_of, head_of}
 use Rattle.vk_text.proofs.HeadReading.{Parts}
 use Rattle.vk_text.specs.Lines.{lines_of, words_from}

@@ -3,8 +3,7 @@ use Rattle.std.proofs.Common.{◌≡◌, ℕ, cond, List, [], ◌∷◌, ◌++�
 use Rattle.std.specs.List.{AllByRecursion}
 use Rattle.std.specs.Option.{option_map_or}
 use Rattle.std.proofs.lemmas.Option.{cond_some}
-use Rattle.vk_base.specs.declared.config.ProcessSpec.{ProcessSpec}
-use Rattle.vk_base.specs.declared.step.Step.{Step}
+use Rattle.vk_types.specs.Types.{ProcessSpec, Step}
 use Rattle.vk_text.specs.Heads.{settings_of, head_of, process_text, HasNoFeed, BeginsWithNoProcess}
 use Rattle.vk_text.specs.Lines.{lines_of, words_from}
 use Rattle.vk_text.proofs.Bodies.{body_text, body_read, one_line_more, lines_text, text_spelled, title_plain}

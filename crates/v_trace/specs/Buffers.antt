@@ -1,7 +1,6 @@
 -- Of the code alone: what is in the room for a step.
 use Rattle.std.specs.Prelude.{[]}
-use Rattle.vk_base.specs.declared.call.Call.{Call}
-use Rattle.vk_base.specs.declared.step.Step.{Step}
+use Rattle.vk_types.specs.Types.{Call, Step}
 use Rattle.vk_base.specs.declared.step.Step.TheVariants as steps
 use Rattle.vk_brief.specs.Brief.{step_with}
 use Rattle.vk_brief.specs.declared.step.BriefStep.{BriefStep}

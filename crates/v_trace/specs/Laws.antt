@@ -1,11 +1,9 @@
 -- Reading is the inverse of writing.
 use Rattle.std.specs.Prelude.{◌≡◌, ℕ, ◌↔◌, ◌⊎◌, true, List, [], ◌++◌, codes, Some, None, Ok}
 use Rattle.std.specs.List.{AllByRecursion}
+use Rattle.vk_types.specs.Types.{Ending, ProcessSpec, Step}
 use Rattle.vk_base.specs.Settings.{first_fault}
-use Rattle.vk_base.specs.declared.answer.Ending.{Ending}
 use Rattle.vk_base.specs.declared.answer.Ending.TheVariants as endings
-use Rattle.vk_base.specs.declared.config.ProcessSpec.{ProcessSpec}
-use Rattle.vk_base.specs.declared.step.Step.{Step}
 use Rattle.vk_base.specs.declared.step.Step.TheVariants as steps
 use Rattle.vk_text.specs.Heads.{settings_of}
 use Rattle.vk_base.specs.Pids.{IsPid}

@@ -1,9 +1,8 @@
 -- What is left of a trace's text when its first steps were read.
 use Rattle.std.specs.Prelude.{◌≡◌, ℕ, ◌+◌, List, [], ◌∷◌, ◌++◌, length, Option, Some, None, Result, Ok, Err, if◌then◌else◌}
 use Rattle.std.specs.Option.{option_map_or}
+use Rattle.vk_types.specs.Types.{ProcessSpec, Step}
 use Rattle.vk_base.specs.Settings.{Settings}
-use Rattle.vk_base.specs.declared.config.ProcessSpec.{ProcessSpec}
-use Rattle.vk_base.specs.declared.step.Step.{Step}
 use Rattle.vk_text.specs.Lines.{words_from}
 use Rattle.v_trace.specs.Steps.{step_of}
 use Rattle.v_trace.specs.Traces.{has_actor}
@@ -26,9 +25,9 @@ abbrev pub behind : List Step → Remaining → Remaining
 behind ss r = record r { steps = ss ++ r.steps }
 
 -- the next step is the first of those that were left, and the others are left now; or none is left, and nothing changes
-abbrev pub IsNext : Remaining → Remaining → Option Step → Type 0
-IsNext old new None = (old.steps ≡ []) × (new ≡ old)
-IsNext old new (Some s) = old ≡ behind (s ∷ []) new
+abbrev pub IsNextStep : Remaining → Remaining → Option Step → Type 0
+IsNextStep old new None = (old.steps ≡ []) × (new ≡ old)
+IsNextStep old new (Some s) = old ≡ behind (s ∷ []) new
 
 -- Of the code alone from here on: no law rests on it.
 

@@ -1,10 +1,8 @@
 -- Steps as words.
 use Rattle.std.specs.Prelude.{ℕ, ◌-◌, ◌^◌, List, [], ◌∷◌, codes, bytes_eq, Option, Some, None, if◌then◌else◌}
+use Rattle.vk_types.specs.Types.{Ending, Pid, Step}
 use Rattle.vk_base.specs.Options.{◌>>=◌}
-use Rattle.vk_base.specs.declared.answer.Ending.{Ending}
 use Rattle.vk_base.specs.declared.answer.Ending.TheVariants as endings
-use Rattle.vk_base.specs.declared.pid.Pid.{Pid}
-use Rattle.vk_base.specs.declared.step.Step.{Step}
 use Rattle.vk_base.specs.declared.step.Step.TheVariants as steps
 use Rattle.vk_text.specs.Calls.{first_as, ended, call_of}
 use Rattle.vk_text.specs.Words.{positive_of, count_of, pid_of}

@@ -1,9 +1,8 @@
 -- The text of a trace.
 use Rattle.std.specs.Prelude.{ℕ, ◌+◌, ◌-◌, ◌<◌, Bool, true, List, [], ◌∷◌, ◌++◌, length, flat_map, codes, Option, Some, None, Result, Ok, Err, if◌then◌else◌}
 use Rattle.std.specs.Option.{option_map_or}
+use Rattle.vk_types.specs.Types.{ProcessSpec, Step}
 use Rattle.vk_base.specs.Settings.{has_process}
-use Rattle.vk_base.specs.declared.config.ProcessSpec.{ProcessSpec}
-use Rattle.vk_base.specs.declared.step.Step.{Step}
 use Rattle.vk_base.specs.declared.step.Step.TheVariants as steps
 use Rattle.vk_text.specs.Heads.{settings_of, head_of, line_text, head_text}
 use Rattle.vk_text.specs.Lines.{lines_of, words_from}

@@ -3,7 +3,7 @@
 ghost use Rattle.std.specs.Prelude.{◌≡◌, ◌≤◌, [], ◌∷◌, ◌++◌, codes, decimal, length, OnOk, OnErr};
 ghost use Rattle.vk_base.specs.declared.limits.TheConstants.{DATA_BYTES};
 ghost use Rattle.vk_base.specs.Activities.{answer_of};
-ghost use Rattle.vk_text.specs.Spelling.{Begins, spaced, pid_text, message_text, bytes_text};
+ghost use Rattle.vk_text.specs.Spelling.{StartsWith, spaced, pid_text, message_text, bytes_text};
 ghost use Rattle.v_trace.specs.Texts.{refusal_text, answer_text};
 
 use std::alloc::Global;
@@ -33,7 +33,7 @@ fn refusal_word(why: Refusal) -> &'static [u8]
 /// Appends `ok M`.
 fn write_replied(alloc: Global, into: &mut Vec<u8>, message: &Message) -> Result<(), NoMemory>
     ensures ok { OnOk result (into.new.items ≡ into.old.items ++ spaced (codes "ok") (message_text message.now ∷ [])) }
-    ensures front { OnErr result (Begins into.old.items into.new.items) }
+    ensures front { OnErr result (StartsWith into.old.items into.new.items) }
 {
     put(into, b"ok")?;
     write_message(alloc, into, message)
@@ -47,7 +47,7 @@ fn write_received(
     message: &Message,
 ) -> Result<(), NoMemory>
     ensures ok { OnOk result (into.new.items ≡ into.old.items ++ spaced (codes "ok") (pid_text from ∷ message_text message.now ∷ [])) }
-    ensures front { OnErr result (Begins into.old.items into.new.items) }
+    ensures front { OnErr result (StartsWith into.old.items into.new.items) }
 {
     put(into, b"ok")?;
     write_pid(alloc, into, from)?;
@@ -64,7 +64,7 @@ fn write_received_segment(
 ) -> Result<(), NoMemory>
     ensures ok { OnOk result (into.new.items ≡ into.old.items
         ++ spaced (codes "ok") (pid_text from ∷ message_text message.now ∷ decimal count ∷ [])) }
-    ensures front { OnErr result (Begins into.old.items into.new.items) }
+    ensures front { OnErr result (StartsWith into.old.items into.new.items) }
 {
     write_received(alloc, into, from, message)?;
     write_number(alloc, into, u64::from(count))
@@ -73,7 +73,7 @@ fn write_received_segment(
 /// Appends `ok PID`.
 fn write_found(alloc: Global, into: &mut Vec<u8>, pid: Pid) -> Result<(), NoMemory>
     ensures ok { OnOk result (into.new.items ≡ into.old.items ++ spaced (codes "ok") (pid_text pid ∷ [])) }
-    ensures front { OnErr result (Begins into.old.items into.new.items) }
+    ensures front { OnErr result (StartsWith into.old.items into.new.items) }
 {
     put(into, b"ok")?;
     write_pid(alloc, into, pid)
@@ -83,7 +83,7 @@ fn write_found(alloc: Global, into: &mut Vec<u8>, pid: Pid) -> Result<(), NoMemo
 fn write_loaded(alloc: Global, into: &mut Vec<u8>, bytes: &[u8]) -> Result<(), NoMemory>
     requires { length bytes.now ≤ DATA_BYTES }
     ensures ok { OnOk result (into.new.items ≡ into.old.items ++ spaced (codes "ok") (bytes_text bytes.now ∷ [])) }
-    ensures front { OnErr result (Begins into.old.items into.new.items) }
+    ensures front { OnErr result (StartsWith into.old.items into.new.items) }
 {
     put(into, b"ok")?;
     write_bytes(alloc, into, bytes)
@@ -93,7 +93,7 @@ fn write_loaded(alloc: Global, into: &mut Vec<u8>, bytes: &[u8]) -> Result<(), N
 #[tactic(auto, unfolding(crate::specs::Texts::answer_text))]
 fn write_outcome(alloc: Global, into: &mut Vec<u8>, outcome: &Outcome) -> Result<(), NoMemory>
     ensures ok { OnOk result (into.new.items ≡ into.old.items ++ answer_text (answer_of outcome.now)) }
-    ensures front { OnErr result (Begins into.old.items into.new.items) }
+    ensures front { OnErr result (StartsWith into.old.items into.new.items) }
 {
     match *outcome {
         Outcome::Ok => put(into, b"ok"),
@@ -141,7 +141,7 @@ pub fn put_loaded(alloc: Global, into: &mut Vec<u8>, bytes: &[u8]) -> Result<(),
 #[tactic(auto, unfolding(crate::specs::Texts::answer_text))]
 fn write_answer(alloc: Global, into: &mut Vec<u8>, answer: &Answer) -> Result<(), NoMemory>
     ensures ok { OnOk result (into.new.items ≡ into.old.items ++ answer_text answer.now) }
-    ensures front { OnErr result (Begins into.old.items into.new.items) }
+    ensures front { OnErr result (StartsWith into.old.items into.new.items) }
 {
     match *answer {
         Answer::Ok => put(into, b"ok"),

@@ -1,7 +1,7 @@
 //! The steps of a trace's text, one after another.
 
 ghost use Rattle.std.specs.Prelude.{◌≡◌, ◌+◌, ◌≤◌, ◌⊎◌, true, [], length, Some, None, Err, IfOk, IfErr, IfSome, if◌then◌else◌};
-ghost use Rattle.v_trace.specs.Remaining.{IsNext, whole};
+ghost use Rattle.v_trace.specs.Remaining.{IsNextStep, whole};
 ghost use Rattle.v_trace.specs.Traces.{KeepsLines, has_actor, trace_of};
 
 use crate::buffer::StepBuffer;
@@ -66,7 +66,7 @@ impl<'a> StepReader<'a> {
 
     /// Writes the next step over this one, and tells whether there is one. Where there is none, any may be left in its place.
     pub fn next(&mut self, step: &mut StepBuffer) -> bool
-        ensures next { IsNext self.old self.new (if result then Some step.new else None) }
+        ensures next { IsNextStep self.old self.new (if result then Some step.new else None) }
         ensures lawful { result ≡ true → has_actor self.old.config.specs step.new ≡ true }
     {
         let Some((line, next)) = next_line(self.text, self.at) else {

@@ -1,7 +1,7 @@
 //! The text of a step.
 
 ghost use Rattle.std.specs.Prelude.{◌≡◌, [], ◌∷◌, ◌++◌, codes, decimal, OnOk, OnErr};
-ghost use Rattle.vk_text.specs.Spelling.{Begins, spaced, pid_text, call_words};
+ghost use Rattle.vk_text.specs.Spelling.{StartsWith, spaced, pid_text, call_words};
 ghost use Rattle.v_trace.specs.Texts.{ending_text, step_text};
 
 use std::alloc::Global;
@@ -24,7 +24,7 @@ fn ending_word(why: Ending) -> &'static [u8]
 #[inline(always)]
 fn write_of(alloc: Global, into: &mut Vec<u8>, word: &[u8], pid: Pid) -> Result<(), NoMemory>
     ensures ok { OnOk result (into.new.items ≡ into.old.items ++ spaced word.now (pid_text pid ∷ [])) }
-    ensures front { OnErr result (Begins into.old.items into.new.items) }
+    ensures front { OnErr result (StartsWith into.old.items into.new.items) }
 {
     put(into, word)?;
     write_pid(alloc, into, pid)
@@ -33,7 +33,7 @@ fn write_of(alloc: Global, into: &mut Vec<u8>, word: &[u8], pid: Pid) -> Result<
 /// Appends `call PID CALL`.
 fn write_made(alloc: Global, into: &mut Vec<u8>, pid: Pid, call: &CallView) -> Result<(), NoMemory>
     ensures ok { OnOk result (into.new.items ≡ into.old.items ++ spaced (codes "call") (pid_text pid ∷ call_words call.now)) }
-    ensures front { OnErr result (Begins into.old.items into.new.items) }
+    ensures front { OnErr result (StartsWith into.old.items into.new.items) }
 {
     write_of(alloc, into, b"call", pid)?;
     write_call(alloc, into, call)
@@ -48,7 +48,7 @@ fn write_numbered(
     number: u64,
 ) -> Result<(), NoMemory>
     ensures ok { OnOk result (into.new.items ≡ into.old.items ++ spaced word.now (pid_text pid ∷ decimal number ∷ [])) }
-    ensures front { OnErr result (Begins into.old.items into.new.items) }
+    ensures front { OnErr result (StartsWith into.old.items into.new.items) }
 {
     write_of(alloc, into, word, pid)?;
     write_number(alloc, into, number)
@@ -63,7 +63,7 @@ fn write_ending(
     why: Ending,
 ) -> Result<(), NoMemory>
     ensures ok { OnOk result (into.new.items ≡ into.old.items ++ spaced word.now (pid_text pid ∷ ending_text why ∷ [])) }
-    ensures front { OnErr result (Begins into.old.items into.new.items) }
+    ensures front { OnErr result (StartsWith into.old.items into.new.items) }
 {
     write_of(alloc, into, word, pid)?;
     write_word(into, ending_word(why))
@@ -79,7 +79,7 @@ fn write_move(
     moving: u64,
 ) -> Result<(), NoMemory>
     ensures ok { OnOk result (into.new.items ≡ into.old.items ++ spaced word.now (pid_text sender ∷ decimal number ∷ decimal moving ∷ [])) }
-    ensures front { OnErr result (Begins into.old.items into.new.items) }
+    ensures front { OnErr result (StartsWith into.old.items into.new.items) }
 {
     write_numbered(alloc, into, word, sender, number)?;
     write_number(alloc, into, moving)
@@ -88,7 +88,7 @@ fn write_move(
 /// Appends ` OFFSET COUNT`.
 fn write_range(alloc: Global, into: &mut Vec<u8>, offset: u32, count: u32) -> Result<(), NoMemory>
     ensures ok { OnOk result (into.new.items ≡ into.old.items ++ 32 ∷ decimal offset ++ 32 ∷ decimal count) }
-    ensures front { OnErr result (Begins into.old.items into.new.items) }
+    ensures front { OnErr result (StartsWith into.old.items into.new.items) }
 {
     write_number(alloc, into, u64::from(offset))?;
     write_number(alloc, into, u64::from(count))
@@ -107,7 +107,7 @@ fn write_copy(
 ) -> Result<(), NoMemory>
     ensures ok { OnOk result (into.new.items ≡ into.old.items
         ++ spaced word.now (pid_text sender ∷ decimal number ∷ decimal moving ∷ decimal offset ∷ decimal count ∷ [])) }
-    ensures front { OnErr result (Begins into.old.items into.new.items) }
+    ensures front { OnErr result (StartsWith into.old.items into.new.items) }
 {
     write_move(alloc, into, word, sender, number, moving)?;
     write_range(alloc, into, offset, count)
@@ -123,7 +123,7 @@ fn write_heard(
 ) -> Result<(), NoMemory>
     ensures ok { OnOk result (into.new.items ≡ into.old.items
         ++ spaced (codes "hear") (pid_text asker ∷ decimal number ∷ pid_text pid ∷ [])) }
-    ensures front { OnErr result (Begins into.old.items into.new.items) }
+    ensures front { OnErr result (StartsWith into.old.items into.new.items) }
 {
     write_numbered(alloc, into, b"hear", asker, number)?;
     write_pid(alloc, into, pid)
@@ -132,7 +132,7 @@ fn write_heard(
 /// Appends `found ASKER PID`.
 fn write_found(alloc: Global, into: &mut Vec<u8>, asker: Pid, pid: Pid) -> Result<(), NoMemory>
     ensures ok { OnOk result (into.new.items ≡ into.old.items ++ spaced (codes "found") (pid_text asker ∷ pid_text pid ∷ [])) }
-    ensures front { OnErr result (Begins into.old.items into.new.items) }
+    ensures front { OnErr result (StartsWith into.old.items into.new.items) }
 {
     write_of(alloc, into, b"found", asker)?;
     write_pid(alloc, into, pid)
@@ -142,7 +142,7 @@ fn write_found(alloc: Global, into: &mut Vec<u8>, asker: Pid, pid: Pid) -> Resul
 #[tactic(auto, unfolding(crate::specs::Texts::step_text, crate::specs::Texts::step_words))]
 fn write_step(alloc: Global, into: &mut Vec<u8>, step: &StepView) -> Result<(), NoMemory>
     ensures ok { OnOk result (into.new.items ≡ into.old.items ++ step_text step.now) }
-    ensures front { OnErr result (Begins into.old.items into.new.items) }
+    ensures front { OnErr result (StartsWith into.old.items into.new.items) }
 {
     let (step, bytes) = step.parts();
     match *step {

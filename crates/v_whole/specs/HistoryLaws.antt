@@ -1,15 +1,9 @@
 -- The laws of the one-machine kernel, said of the steps of every history.
 use Rattle.std.specs.Prelude.{◌≡◌, ◌<◌, ℕ, false, List, Some, IsSome, All, slice_get}
+use Rattle.vk_types.specs.Types.{Exchange, Message, Name, Pid, Process, ProcessSpec, Step}
 use Rattle.vk_base.specs.declared.answer.Ending.TheVariants as endings
 use Rattle.vk_base.specs.declared.call.Call.TheVariants as calls
-use Rattle.vk_base.specs.declared.config.ProcessSpec.{ProcessSpec}
-use Rattle.vk_base.specs.declared.kernel.Exchange.{Exchange}
-use Rattle.vk_base.specs.declared.kernel.Name.{Name}
-use Rattle.vk_base.specs.declared.kernel.Process.{Process}
 use Rattle.vk_base.specs.declared.kernel.State.TheVariants as states
-use Rattle.vk_base.specs.declared.message.Message.{Message}
-use Rattle.vk_base.specs.declared.pid.Pid.{Pid}
-use Rattle.vk_base.specs.declared.step.Step.{Step}
 use Rattle.vk_base.specs.declared.step.Step.TheVariants as steps
 use Rattle.vk_base.specs.Kernel.{Kernel, name_of, is_live}
 use Rattle.vk_base.specs.Settings.{Settings}

@@ -9,8 +9,9 @@ use Rattle.vk_base.specs.declared.config.ConfigRefusal.TheVariants as refusals
 use Rattle.vk_base.specs.declared.config.ProcessSpec.{ProcessSpec}
 use Rattle.vk_base.specs.declared.config.Times.{Times}
 use Rattle.vk_base.specs.declared.limits.TheConstants.{POOL}
-use Rattle.vk_base.specs.Settings.{AreLawful, IsKept, Settings, fault_of, first_fault, has_station, pool_beside, pool_is_lawful, pool_of, put_beside, refusal_of, settings_refusal, stations_of, times_are_lawful, uniform, with_process}
-use Rattle.vk_base.proofs.SettingsLemmas.{among_stations, kept_more, none_of, stations_of-append}
+use Rattle.vk_base.specs.Settings.{AreLawful, AreSettingsKept, Settings, fault_of, first_fault, has_station, pool_beside, pool_is_lawful, pool_of, put_beside, refusal_of, settings_refusal, stations_of, times_are_lawful, uniform, with_process}
+use Rattle.vk_base.proofs.SettingsLemmas.{among_stations, kept_more, stations_of-append}
+use Rattle.vk_base.proofs.OptionLemmas.{or_none}
 
 -- A pool by its place among the stations.
 
@@ -64,7 +65,7 @@ found_by : (b : Bool) (n i : ℕ) → cond b (Some n) None ≡ Some i → (b ≡
 found_by true n i e = (refl, cc)
 found_by false n i e = cc
 
-not_found_by : (b : Bool) (n : ℕ) → cond b (Some n) None ≡ None → b ≡ false
+pub not_found_by : (b : Bool) (n : ℕ) → cond b (Some n) None ≡ None → b ≡ false
 not_found_by true n e = cc
 not_found_by false n e = refl
 
@@ -113,8 +114,8 @@ all_set test (y ∷ ys) (suc i) x all fine =
 
 -- another pool
 pub kept_pool : (t : Times) (pools hosts : List ℕ) (specs : List ProcessSpec) (i pool : ℕ) →
-    IsKept (record { times = t; pools = pools; specs = specs }) hosts → pool_is_lawful pool ≡ true →
-    IsKept (record { times = t; pools = set pools i pool; specs = specs }) hosts
+    AreSettingsKept (record { times = t; pools = pools; specs = specs }) hosts → pool_is_lawful pool ≡ true →
+    AreSettingsKept (record { times = t; pools = set pools i pool; specs = specs }) hosts
 kept_pool t pools hosts specs i pool kept fine = record {
   lawful = record {
     times = kept.lawful.times;
@@ -143,10 +144,10 @@ all_more pools pool true all fine = all
 all_more pools pool false all fine = list_all-append pool_is_lawful pools (pool ∷ []) ∙ rw (all, fine) refl
 
 module _ (t : Times) (pools hosts more : List ℕ) (specs after : List ProcessSpec) (s : ProcessSpec) (pool : ℕ) (b : Bool)
-    (kept : IsKept (record { times = t; pools = pools; specs = specs }) hosts) (among : list_any (λ h. h == s.pid.host) hosts ≡ b)
+    (kept : AreSettingsKept (record { times = t; pools = pools; specs = specs }) hosts) (among : list_any (λ h. h == s.pid.host) hosts ≡ b)
     (is : after ≡ specs ++ s ∷ []) (pools_are : more ≡ cond b pools (pools ++ pool ∷ [])) where
   pub kept_process : (grown : List ℕ) → fault_of specs s ≡ None → pool_is_lawful pool ≡ true →
-      grown ≡ cond b hosts (hosts ++ s.pid.host ∷ []) → IsKept (record { times = t; pools = more; specs = after }) grown
+      grown ≡ cond b hosts (hosts ++ s.pid.host ∷ []) → AreSettingsKept (record { times = t; pools = more; specs = after }) grown
   kept_process grown fine lawful hosts_are =
       let of_all = kept_more specs after hosts grown s b kept.kept fine among is hosts_are in
       let same = kept.lawful.one_each ∙ sym (ap length kept.kept.stations) in record {
@@ -196,7 +197,7 @@ both_by false b x y e = cc
 
 pub uniform_lawful : (t : Times) (pool : ℕ) (specs : List ProcessSpec) → refusal_of t pool specs ≡ None → AreLawful (uniform t pool specs)
 uniform_lawful t pool specs none =
-    let parts = none_of (settings_refusal t pool) (first_fault [] specs) none in
+    let parts = or_none (settings_refusal t pool) (first_fault [] specs) none in
     let both = both_by (times_are_lawful t) (pool_is_lawful pool) refusals.BadTimes refusals.BadPool parts.0 in record {
       times = both.0;
       one_each = length-replicate (length (stations_of specs)) pool;

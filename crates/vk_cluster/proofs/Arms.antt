@@ -3,11 +3,8 @@ use Rattle.std.proofs.Common.{◌≡◌, ℕ, suc, ◌+◌, ◌^◌, ◌<◌, �
 use Rattle.std.specs.Prelude.{slice_get, sum_by}
 use Rattle.std.proofs.lemmas.Bool.{cases_eq, eq-eqb}
 use Rattle.std.proofs.lemmas.Option.{none-some, same_Some, slice_get-map, slice_get_read, slice_get_within}
-use Rattle.vk_base.specs.declared.call.Call.{Call}
-use Rattle.vk_base.specs.declared.config.ProcessSpec.{ProcessSpec}
-use Rattle.vk_base.specs.declared.event.EventAnswer.{EventAnswer}
+use Rattle.vk_types.specs.Types.{Call, EventAnswer, Pid, ProcessSpec}
 use Rattle.vk_base.specs.declared.limits.TheConstants.{EVENTS}
-use Rattle.vk_base.specs.declared.pid.Pid.{Pid}
 use Rattle.vk_base.specs.Pids.{IsPid}
 use Rattle.vk_base.specs.Settings.{Settings, has_process, stations_of}
 use Rattle.vk_schedule.specs.declared.event.Event.{Event}
@@ -24,6 +21,7 @@ use Rattle.vk_rules.specs.Right.{entry_of}
 use Rattle.vk_rules.proofs.Headers.{headers_are_lawful}
 use Rattle.vk_rules.proofs.Lists.{each_append, each_find}
 use Rattle.vk_rules.proofs.Rising.{entries_rise, events_are}
+use Rattle.vk_rules.proofs.OwnEvents.{own_log}
 use Rattle.vk_text.specs.Laws.{IsReadable}
 use Rattle.v_lawful.specs.Sending.{IsInput, IsLawfulEntry, IsLawfulFrame, IsUnsealed}
 use Rattle.v_lawful.proofs.Faultless.{configs_are_faultless}
@@ -43,7 +41,7 @@ use Rattle.vk_cluster.specs.Piles.{AreFrames, shown}
 use Rattle.vk_cluster.specs.Standing.{AreAt, IsAdvance, IsFinished, IsNext, IsStep, ShowsLast, StandsFor, StandsSomewhere, Tells, bytes_of, logs_of, report_by, report_of}
 use Rattle.vk_cluster.specs.Values.{ClusterValue}
 use Rattle.vk_cluster.proofs.Handed.{found_bytes, opens_again}
-use Rattle.vk_cluster.proofs.Logs.{get_set_same, with_here, with_other}
+use Rattle.vk_cluster.proofs.Logs.{get_set_same, with_other}
 use Rattle.vk_cluster.proofs.Stations.{has_own, station_bounds}
 use Rattle.vk_cluster.proofs.Steps.{acted, as_many, as_many_events, few_bytes, few_frames, frames_are, host_at, next_stands, report_is, shows_last}
 
@@ -51,7 +49,7 @@ use Rattle.vk_cluster.proofs.Steps.{acted, as_many, as_many_events, few_bytes, f
 after_short : (logs : Logs) (h : Happened) (n : ℕ) → ((g : ℕ) → length (logs g) ≤ n) → (g : ℕ) → length (logs_after logs h g) ≤ n + 1
 after_short logs (At host event e) n short g = elim (cases_eq g host) [
   | inl same ↦
-      let is : with_entry logs host e g ≡ e ∷ logs host = ap (with_entry logs host e) same ∙ with_here logs host e in
+      let is : with_entry logs host e g ≡ e ∷ logs host = ap (with_entry logs host e) same ∙ own_log logs host e in
       let size : length (with_entry logs host e g) ≡ suc (length (logs host)) = ap length is in
       let low = short host in
       omega arith
@@ -251,7 +249,7 @@ call_input : (host : ℕ) (pid : Pid) (call : Call) → host ≡ pid.host → Is
 call_input host pid call same is readable = (eq-eqb pid.host host (sym same), is, readable)
 
 -- What a delivery finds.
-each_emitted : (es : List Entry) → Each IsLawfulEntry es → Each IsLawfulFrame (emitted es)
+pub each_emitted : (es : List Entry) → Each IsLawfulEntry es → Each IsLawfulFrame (emitted es)
 each_emitted [] h = tt
 each_emitted (e ∷ es) h = each_append IsLawfulFrame e.frames (emitted es) h.0.frames (each_emitted es h.1)
 

@@ -4,12 +4,13 @@ use Rattle.std.specs.Prelude.{sum_by}
 use Rattle.std.proofs.Math.ListN.{get_or-eq_default}
 use Rattle.std.proofs.lemmas.List.{length-append, map_push}
 use Rattle.std.proofs.lemmas.List.Sums.{sum_by-append}
+use Rattle.vk_frame.specs.Reading.{frame_of}
 use Rattle.vk_rules.specs.Each.{Each}
 use Rattle.vk_rules.proofs.Lists.{each_append, each_weaker}
 use Rattle.vk_cluster.specs.declared.emitted.Piece.{Piece}
 use Rattle.vk_cluster.specs.declared.frames.Place.{Place}
 use Rattle.vk_cluster.specs.declared.frames.TheConstants.{HALF_BYTES, MOST_BYTES}
-use Rattle.vk_cluster.specs.Blocks.{AreKept, IsIn, frame_in}
+use Rattle.vk_cluster.specs.Blocks.{AreKept, IsIn, frame_in, named_by}
 use Rattle.vk_cluster.specs.Piles.{IsWithin, piece}
 use Rattle.vk_cluster.proofs.Pieces.{last_piece, piece_more}
 
@@ -33,7 +34,10 @@ left_block (b ∷ bs) last (suc n) low = left_block bs last n (omega arith)
 
 -- The frames, where the last block grows.
 grown_in : (full : List (List ℕ)) (last f : List ℕ) (p : Place) → IsIn full last p → IsIn full (last ++ f) p
-grown_in full last f p within = let more = grown_length full last f p.block in (within.0, omega arith)
+grown_in full last f p within =
+    let more = grown_length full last f p.block in
+    let same = grown_piece full last f p.block (record { from = p.from; count = p.count }) within.1 in
+    (within.0, omega arith, ap (λ b. named_by (frame_of b)) same ∙ within.2)
 
 grown_frames : (full : List (List ℕ)) (last f : List ℕ) (ps : List Place) → Each (IsIn full last) ps →
     map (frame_in full (last ++ f)) ps ≡ map (frame_in full last) ps
@@ -47,6 +51,7 @@ pub record IsNewPlace (full : List (List ℕ)) (last f : List ℕ) (p : Place) :
   pub from : p.from ≡ length last
   pub count : p.count ≡ length f
   pub block : p.block ≡ length full
+  pub to : named_by (frame_of f) ≡ p.to
 
 new_block : (full : List (List ℕ)) (last f : List ℕ) (p : Place) → IsNewPlace full last f p → get_or full p.block (last ++ f) ≡ last ++ f
 new_block full last f p is = let low : length full ≤ p.block = let at = is.block in omega arith in get_or-eq_default full (last ++ f) low
@@ -62,7 +67,7 @@ new_in full last f p is =
     let from = is.from in
     let count = is.count in
     let block = is.block in
-    (omega arith, omega (arith, length-append last f))
+    (omega arith, omega (arith, length-append last f), ap (λ b. named_by (frame_of b)) (new_frame full last f p is) ∙ is.to)
 
 pub put_frames : (full : List (List ℕ)) (last f : List ℕ) (ps : List Place) (p : Place) → Each (IsIn full last) ps →
     IsNewPlace full last f p → map (frame_in full (last ++ f)) (ps ++ p ∷ []) ≡ map (frame_in full last) ps ++ f ∷ []
@@ -99,7 +104,9 @@ left_in full last p within =
     let long : length (get_or (full ++ last ∷ []) p.block []) ≡ length (get_or full p.block last) =
     ap length (left_block full last p.block within.0) in
     let low = within.0 in
-    (omega (arith, length-append full (last ∷ [])), omega arith)
+    let same : frame_in (full ++ last ∷ []) [] p ≡ frame_in full last p =
+    ap (λ b. take p.count (drop p.from b)) (left_block full last p.block within.0) in
+    (omega (arith, length-append full (last ∷ [])), omega arith, ap (λ b. named_by (frame_of b)) same ∙ within.2)
 
 pub left_frames : (full : List (List ℕ)) (last : List ℕ) (ps : List Place) → Each (IsIn full last) ps →
     map (frame_in (full ++ last ∷ []) []) ps ≡ map (frame_in full last) ps

@@ -1,7 +1,7 @@
 -- What is handed over is found by its position.
 use Rattle.std.proofs.Common.{◌≡◌, ◌≢◌, ℕ, zero, suc, ◌+◌, ◌<◌, Bool, true, false, cond, ◌==◌, ◌&&◌, List, [], ◌∷◌, ◌++◌, length, find, Option, Some, None, refl, sym, ap, subst, ◌∙◌, inl, inr, arith}
 use Rattle.std.specs.Prelude.{slice_get}
-use Rattle.std.proofs.lemmas.Bool.{cases_Bool, cond-false, eqb-true, eq-eqb}
+use Rattle.std.proofs.lemmas.Bool.{cases_Bool, cond-false, eqb-true, eq-eqb, ne_eqb}
 use Rattle.std.proofs.lemmas.List.{length-append}
 use Rattle.std.proofs.lemmas.List.Folds.{find-append}
 use Rattle.std.proofs.lemmas.Option.{slice_get_past}
@@ -20,7 +20,7 @@ not_head : (a b c : Bool) → a ≡ false → (a && b && c) ≡ false
 not_head true b c h = cc
 not_head false b c h = refl
 
-not_second : (a b c : Bool) → b ≡ false → (a && b && c) ≡ false
+pub not_second : (a b c : Bool) → b ≡ false → (a && b && c) ≡ false
 not_second true true c h = cc
 not_second true false c h = refl
 not_second false b c h = refl
@@ -29,9 +29,6 @@ third : (a b c : Bool) → a ≡ true → b ≡ true → (a && b && c) ≡ c
 third true true c h k = refl
 third true false c h k = cc
 third false b c h k = cc
-
-differs : (m n : ℕ) → m ≢ n → (m == n) ≡ false
-differs m n apart = elim (cases_Bool (m == n)) [ inl t ↦ absurd (apart (eqb-true m n t)) | inr f ↦ f ]
 
 skips : (test : Frame → Bool) (f : Frame) (fs : List Frame) → test f ≡ false → find test (f ∷ fs) ≡ find test fs
 skips test f fs no_f = cond-false (test f) (Some f) (find test fs) no_f
@@ -43,7 +40,7 @@ of_other_event host stamp number at first to event output (f ∷ fs) have apart 
     let event_is : f.header.event ≡ at = ap (λ (h : Header). h.event) have.0 in
     let differ : f.header.event ≢ event = λ e. apart (sym e ∙ event_is) in
     skips (is_output to event output) f fs
-    (not_head (f.header.event == event) (f.header.output == output) (is_addressed to f.header) (differs f.header.event event differ))
+    (not_head (f.header.event == event) (f.header.output == output) (is_addressed to f.header) (ne_eqb f.header.event event differ))
     ∙ of_other_event host stamp number at (first + 1) to event output fs have.1 apart
 
 below_first : (host stamp number at first : ℕ) (to event output : ℕ) (fs : List Frame) → HaveHeaders host stamp number at first fs →
@@ -53,7 +50,7 @@ below_first host stamp number at first to event output (f ∷ fs) have low =
     let output_is : f.header.output ≡ first = ap (λ (h : Header). h.output) have.0 in
     let differ : f.header.output ≢ output = λ e. omega arith in
     skips (is_output to event output) f fs
-    (not_second (f.header.event == event) (f.header.output == output) (is_addressed to f.header) (differs f.header.output output differ))
+    (not_second (f.header.event == event) (f.header.output == output) (is_addressed to f.header) (ne_eqb f.header.output output differ))
     ∙ below_first host stamp number at (first + 1) to event output fs have.1 (omega arith)
 
 with_first : (host stamp number event first : ℕ) (to output k : ℕ) (fs : List Frame) → HaveHeaders host stamp number event first fs →
@@ -73,7 +70,7 @@ with_first host stamp number event first to output (suc k) (f ∷ fs) have at =
     let output_is : f.header.output ≡ first = ap (λ (h : Header). h.output) have.0 in
     let differ : f.header.output ≢ output = λ e. omega arith in
     skips (is_output to event output) f fs
-    (not_second (f.header.event == event) (f.header.output == output) (is_addressed to f.header) (differs f.header.output output differ))
+    (not_second (f.header.event == event) (f.header.output == output) (is_addressed to f.header) (ne_eqb f.header.output output differ))
     ∙ with_first host stamp number event (first + 1) to output k fs have.1 (omega arith)
 
 pub of_this_event : (host stamp number event : ℕ) (to output : ℕ) (fs : List Frame) → HaveHeaders host stamp number event 1 fs →

@@ -1,6 +1,7 @@
 -- What is handed over, as the bytes that are kept of it.
-use Rattle.std.proofs.Common.{◌≡◌, ℕ, ◌*◌, ◌<◌, ◌≤◌, Bool, true, false, cond, List, [], ◌∷◌, ◌++◌, length, map, find, Option, Some, None, option_map, refl, sym, ap, ◌∙◌, arith}
+use Rattle.std.proofs.Common.{◌≡◌, ℕ, ◌*◌, ◌<◌, ◌≤◌, Bool, true, false, cond, ◌==◌, ◌&&◌, ◌||◌, not, List, [], ◌∷◌, ◌++◌, length, map, find, Option, Some, None, option_map, refl, sym, ap, ◌∙◌, arith}
 use Rattle.std.specs.Prelude.{slice_get, sum_by}
+use Rattle.std.proofs.lemmas.Bool.{both_ways}
 use Rattle.std.proofs.lemmas.List.{length-append}
 use Rattle.std.proofs.lemmas.List.Sums.{sum_by-cons}
 use Rattle.byteorder.specs.Endian.{big_bytes}
@@ -16,24 +17,43 @@ use Rattle.vk_packet.specs.Reading.{packet_of}
 use Rattle.vk_packet.specs.Spelling.{packet_bytes}
 use Rattle.vk_rules.specs.Each.{Each}
 use Rattle.vk_rules.specs.Entries.{Entry}
-use Rattle.vk_rules.specs.Frames.{Frame, Framed, unsealed_behind, unsealed_by, unsealed_of}
+use Rattle.vk_rules.specs.Frames.{Frame, Framed, every_station, unsealed_behind, unsealed_by, unsealed_of}
 use Rattle.vk_rules.specs.Histories.{is_output, emitted}
 use Rattle.vk_rules.specs.Laws.{AllRise, FramesUnsealAgain}
 use Rattle.vk_rules.proofs.Lengths.{frames_fit}
 use Rattle.vk_rules.proofs.Lists.{each_append, each_weaker}
 use Rattle.v_lawful.specs.Sending.{IsLawfulEntry, IsLawfulFrame, IsSendable}
-use Rattle.vk_host.specs.Sealed.{sealed}
-use Rattle.vk_cluster.specs.Blocks.{IsFrame}
+use Rattle.vk_host.specs.Sealed.{OpensAs, sealed}
+use Rattle.vk_cluster.specs.Blocks.{IsFrame, named_by}
 use Rattle.vk_cluster.specs.Found.{bytes_for, events_in, if_addressed, if_for, is_addressed, opens_for, sent_of}
 use Rattle.vk_cluster.specs.Piles.{from_one}
 use Rattle.vk_cluster.proofs.Found.{found_by_position}
 use Rattle.vk_cluster.proofs.Pieces.{each_one, from_one-map}
 
+-- The station that bytes name.
+
+-- what a station tells of a frame that it sent is what the frame's bytes name
+pub named_again : (bytes : List ℕ) (to output : ℕ) (packet : List ℕ) → OpensAs bytes to output packet → named_by (frame_of bytes) ≡ to
+named_again bytes to output packet opens = ap named_by opens.opens ∙ opens.named
+
+or_false : (a b : Bool) → b ≡ false → (a || b) ≡ a
+or_false true b is = refl
+or_false false b is = is
+
+-- where it is one station, the frame is for no other
+pub named_for : (to destination : ℕ) (o : Option (Header × List ℕ)) → named_by o ≡ destination → (destination == every_station) ≡ false →
+    (destination == to) ≡ opens_for to o
+named_for to destination None named one = absurd (both_ways (every_station == every_station) (ap (λ d. d == every_station) named ∙ one) refl)
+named_for to destination (Some x) named one =
+    ap (λ d. d == to) (sym named)
+    ∙ sym (or_false (x.0.destination == to) (x.0.destination == every_station && not (x.0.source == to))
+    (ap (λ d. d == every_station && not (x.0.source == to)) named ∙ ap (λ b. b && not (x.0.source == to)) one))
+
 -- The bytes of a lawful frame open as it.
 pub opens_again : FramesUnsealAgain → (f : Frame) → IsLawfulFrame f → unsealed_of (sealed f) ≡ Framed f.header f.packet
 opens_again unseal f lawful = unseal f.header f.packet lawful.header lawful.packet.packet lawful.packet.lawful
 
-behind : (g : Header) (o : Option Packet) (h : Header) (p : Packet) → unsealed_behind g o ≡ Framed h p → g ≡ h
+pub behind : (g : Header) (o : Option Packet) (h : Header) (p : Packet) → unsealed_behind g o ≡ Framed h p → g ≡ h
 behind g None h p e = cc
 behind g (Some q) h p e = cc
 

@@ -1,22 +1,18 @@
 -- Logs and histories with one event more.
 use Rattle.std.proofs.Common.{◌≡◌, ◌≢◌, ℕ, zero, suc, ◌+◌, ◌==◌, List, [], ◌∷◌, ◌++◌, set, Some, refl, ap, ◌∙◌, inl, inr, arith}
 use Rattle.std.specs.Prelude.{slice_get}
-use Rattle.std.proofs.lemmas.Bool.{cases_Bool, cond-true, cond-false, eqb-true, eq-eqb}
+use Rattle.std.proofs.lemmas.Bool.{cases_Bool, cond-false, eqb-true}
 use Rattle.std.proofs.lemmas.List.Sums.{sum_by-append}
 use Rattle.std.proofs.lemmas.Option.{none-some}
-use Rattle.vk_base.specs.declared.config.ProcessSpec.{ProcessSpec}
+use Rattle.vk_types.specs.Types.{ProcessSpec}
 use Rattle.vk_base.specs.Settings.{Settings}
 use Rattle.vk_schedule.specs.declared.event.Event.{Event}
 use Rattle.vk_rules.specs.Entries.{Entry}
 use Rattle.vk_rules.specs.Histories.{Logs, logs_after, no_entries}
 unfoldable use Rattle.vk_rules.specs.Histories.{with_entry, happened, history, logs_from}
 use Rattle.v_whole.specs.Schedules.{AreOfProcesses, IsOfProcess}
+use Rattle.v_whole.proofs.Histories.{logs_more}
 use Rattle.vk_cluster.specs.Standing.{bytes_of, emitted_bytes, logs_of}
-
--- the log of the station that acts, and those of the others
-pub with_here : (logs : Logs) (host : ℕ) (e : Entry) → with_entry logs host e host ≡ e ∷ logs host
-unfolding with_entry
-with_here logs host e = cond-true (host == host) (e ∷ logs host) (logs host) (eq-eqb host host refl)
 
 pub with_other : (logs : Logs) (host : ℕ) (e : Entry) (q : ℕ) → q ≢ host → with_entry logs host e q ≡ logs q
 unfolding with_entry
@@ -24,12 +20,6 @@ with_other logs host e q apart = elim (cases_Bool (q == host)) [
   | inl t ↦ absurd (apart (eqb-true q host t))
   | inr f ↦ cond-false (q == host) (e ∷ logs host) (logs q) f
 ]
-
-logs_more : (c : Settings) (es : List Event) (logs : Logs) (e : Event) →
-    logs_from c logs (es ++ e ∷ []) ≡ logs_after (logs_from c logs es) (happened c (logs_from c logs es) e)
-unfolding logs_from
-logs_more c [] logs e = refl
-logs_more c (x ∷ xs) logs e = logs_more c xs (logs_after logs (happened c logs x)) e
 
 pub logs_next : (c : Settings) (es : List Event) (e : Event) →
     logs_of c (es ++ e ∷ []) ≡ logs_after (logs_of c es) (happened c (logs_of c es) e)

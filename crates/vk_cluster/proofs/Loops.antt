@@ -6,13 +6,13 @@ use Rattle.std.proofs.lemmas.Bool.{cases_Bool, cases_eq, eqb-true, or_from}
 use Rattle.std.proofs.lemmas.List.{length-append, map_push, take_more}
 use Rattle.std.proofs.lemmas.List.Sums.{sum_by-cons}
 use Rattle.std.proofs.lemmas.Option.{get_or_from_slice_get, none-some, same_Some, slice_get-get_or, slice_get_within}
-use Rattle.vk_base.specs.declared.config.ProcessSpec.{ProcessSpec}
+use Rattle.vk_types.specs.Types.{ProcessSpec}
 use Rattle.vk_base.specs.Pids.{IsPid}
 use Rattle.vk_base.specs.Settings.{Settings, has_station, stations_of}
 use Rattle.vk_base.proofs.SettingsLemmas.{among_stations}
 use Rattle.vk_rules.specs.Each.{Each}
 use Rattle.vk_rules.proofs.Lists.{each_append}
-use Rattle.vk_host.specs.Standing.{IsAt}
+use Rattle.vk_host.specs.Standing.{StandsAt}
 use Rattle.vk_host.specs.Values.{StationValue}
 use Rattle.vk_cluster.specs.Piles.{IsAdding, Pile}
 use Rattle.vk_cluster.specs.Standing.{AreHosts}
@@ -56,7 +56,7 @@ is_among specs h n has all none =
 
 -- one station more
 pub host_more : (c : Settings) (hosts : List StationValue) (numbers : List ℕ) (n : ℕ) (s : StationValue) → n < length numbers →
-    AreHosts c hosts (take n numbers) → s.host ≡ slice_index numbers n → IsAt c [] s → AreHosts c (hosts ++ s ∷ []) (take (n + 1) numbers)
+    AreHosts c hosts (take n numbers) → s.host ≡ slice_index numbers n → StandsAt c [] s → AreHosts c (hosts ++ s ∷ []) (take (n + 1) numbers)
 host_more c hosts numbers n s low before number at = record {
   order =
       map_push (λ (v : StationValue). v.host) hosts s ∙ ap (λ l. l ++ s.host ∷ []) before.order
@@ -64,7 +64,7 @@ host_more c hosts numbers n s low before number at = record {
   at = λ place u there. elim (cases_eq place (length hosts)) [
     | inl same ↦
         let is : s ≡ u = same_Some s u (sym (pushed_last hosts s) ∙ ap (slice_get (hosts ++ s ∷ [])) (sym same) ∙ there) in
-        subst (IsAt c []) is at
+        subst (StandsAt c []) is at
     | inr other ↦ before.at place u (sym (pushed_other hosts s place other) ∙ there)
   ];
 }

@@ -1,18 +1,13 @@
 -- Pieces of a list, and of one that grows.
-use Rattle.std.proofs.Common.{◌≡◌, ℕ, zero, suc, ◌≤◌, List, [], ◌∷◌, ◌++◌, length, map, take, drop, Some, option_map, refl, ap, subst, ◌∙◌, arith}
-use Rattle.std.specs.Prelude.{slice_get}
+use Rattle.std.proofs.Common.{◌≡◌, ℕ, zero, suc, ◌≤◌, List, [], ◌∷◌, ◌++◌, length, map, take, drop, Some, option_map, refl, ap, ◌∙◌, arith}
 use Rattle.std.proofs.lemmas.List.{length-drop, take-append-le, drop-append-le, drop_at, take_all}
-use Rattle.std.proofs.lemmas.Option.{none-some, same_Some, slice_get-map}
+use Rattle.std.proofs.lemmas.Option.{none-some, slice_get-map}
 use Rattle.vk_rules.specs.Each.{Each}
-use Rattle.vk_rules.proofs.Lists.{each_weaker}
+use Rattle.vk_rules.proofs.Lists.{each_weaker, each_at}
 use Rattle.vk_cluster.specs.declared.emitted.Piece.{Piece}
 use Rattle.vk_cluster.specs.Piles.{IsWithin, from_one, piece}
 
 -- What holds of each element holds of the one at a place, and of one that is written.
-pub each_at : {A : Type 0} (P : A → Type 0) (xs : List A) (i : ℕ) (x : A) → Each P xs → slice_get xs i ≡ Some x → P x
-each_at P [] i x h found = absurd (none-some x found)
-each_at P (y ∷ ys) zero x h found = subst P (same_Some y x found) h.0
-each_at P (y ∷ ys) (suc i) x h found = each_at P ys i x h.1 found
 
 pub each_one : {A : Type 0} (P : A → Type 0) (xs : List A) (n : ℕ) (x : A) → Each P xs → from_one xs n ≡ Some x → P x
 each_one P xs zero x h found = absurd (none-some x found)

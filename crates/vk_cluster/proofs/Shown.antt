@@ -1,9 +1,9 @@
 -- What a cluster shows of the event that it had last: the station that acted, and its frames.
-use Rattle.std.proofs.Common.{◌≡◌, ℕ, zero, suc, ◌+◌, ◌<◌, ◌≤◌, true, List, [], ◌∷◌, ◌++◌, length, map, drop, Option, Some, None, refl, sym, ap, subst, ◌∙◌, arith}
+use Rattle.std.proofs.Common.{◌≡◌, ℕ, zero, suc, ◌+◌, ◌<◌, ◌≤◌, true, List, [], ◌∷◌, ◌++◌, length, map, drop, get_or, Option, Some, None, refl, sym, ap, subst, ◌∙◌, arith}
 use Rattle.std.specs.Prelude.{slice_get}
-use Rattle.std.proofs.lemmas.Option.{none-some, same_Some}
-use Rattle.vk_base.specs.declared.event.EventAnswer.{EventAnswer}
-use Rattle.vk_base.specs.Packets.{Packet}
+use Rattle.std.proofs.lemmas.Option.{none-some, same_Some, slice_get-get_or}
+use Rattle.vk_types.specs.Types.{EventAnswer}
+use Rattle.vk_base.specs.Packets.{Packet, Send, Reply, Pending, Negative, MoveData, MoveAck, MoveRequest, MoveBytes, MoveNegative, AskPid, TellPid}
 use Rattle.vk_base.specs.Settings.{Settings, has_station}
 use Rattle.vk_cluster.specs.declared.emitted.TheConstants.{EVENT_FRAMES}
 use Rattle.vk_cluster.specs.declared.report.ClusterAnswer.TheVariants as answers
@@ -16,12 +16,14 @@ use Rattle.vk_schedule.specs.declared.event.Event.{Event}
 use Rattle.vk_schedule.specs.declared.event.Event.TheVariants as scheduled
 use Rattle.vk_frame.specs.declared.header.Header.{Header}
 use Rattle.vk_frame.specs.Reading.{frame_of}
-use Rattle.vk_host.specs.Sealed.{sealed}
+use Rattle.vk_frame.proofs.Opening.{again}
+use Rattle.vk_host.specs.Sealed.{OpensAs, sealed}
 use Rattle.vk_host.specs.Standing.{Shows}
 use Rattle.vk_host.specs.Values.{StationValue}
 use Rattle.vk_packet.specs.Reading.{packet_of}
+use Rattle.vk_packet.specs.Spelling.{packet_bytes}
 use Rattle.vk_rules.specs.Each.{Each}
-use Rattle.vk_rules.specs.Entries.{Called, Collected, Delivered, Entry, Input, Ticked}
+use Rattle.vk_rules.specs.Entries.{Entry}
 use Rattle.vk_rules.specs.Frames.{Frame, Framed, unsealed_behind, unsealed_by, unsealed_of}
 use Rattle.vk_rules.specs.Histories.{At, Happened, Logs, Missing, delivered, handed_over, logs_after}
 unfoldable use Rattle.vk_rules.specs.Histories.{happened}
@@ -29,8 +31,8 @@ use Rattle.vk_rules.specs.Laws.{FramesUnsealAgain, station_of}
 use Rattle.vk_rules.proofs.Headers.{headers_are_lawful}
 use Rattle.vk_rules.proofs.OwnEvents.{own_log}
 use Rattle.vk_rules.proofs.Rising.{entries_rise}
-use Rattle.v_lawful.specs.Sending.{IsLawfulEntry, IsLawfulFrame, most_packets}
-use Rattle.v_lawful.proofs.Schedules.{lawful_log}
+use Rattle.v_lawful.specs.Sending.{IsLawfulEntry, IsLawfulFrame}
+use Rattle.v_lawful.proofs.Schedules.{lawful_log, most_is}
 use Rattle.vk_cluster.specs.Shown.{HasReported, IsLast, Sends}
 
 -- The bytes of a lawful frame open as its header and its packet.
@@ -61,6 +63,7 @@ opened unseal f bytes lawful is =
 
 pub record IsSent (fs : List Frame) (at : ℕ) (bytes : List ℕ) : Type 0 where
   pub frame : Frame
+  pub found : slice_get fs at ≡ Some frame
   pub left : drop at fs ≡ frame ∷ drop (at + 1) fs
   pub lawful : IsLawfulFrame frame
   pub bytes_are : bytes ≡ sealed frame
@@ -69,12 +72,13 @@ sent_at : (fs : List Frame) (at : ℕ) (bytes : List ℕ) → Each IsLawfulFrame
     IsSent fs at bytes
 sent_at [] at bytes lawful found = absurd (none-some bytes found)
 sent_at (f ∷ fs) zero bytes lawful found =
-    record { frame = f; left = refl; lawful = lawful.0; bytes_are = sym (same_Some (sealed f) bytes found) }
+    record { frame = f; found = refl; left = refl; lawful = lawful.0; bytes_are = sym (same_Some (sealed f) bytes found) }
 sent_at (f ∷ fs) (suc at) bytes lawful found =
     let rest = sent_at fs at bytes lawful.1 found in
     let same : suc (at + 1) ≡ suc at + 1 = omega arith in
     record {
       frame = rest.frame;
+      found = rest.found;
       left = rest.left ∙ ap (λ n. rest.frame ∷ drop n (f ∷ fs)) same;
       lawful = rest.lawful;
       bytes_are = rest.bytes_are;
@@ -84,6 +88,46 @@ pub sent : (s : StationValue) (fs : List Frame) (at : ℕ) (bytes : List ℕ) �
     IsSent fs at bytes
 sent s fs at bytes sends found =
     sent_at fs at bytes sends.lawful (ap (λ l. slice_get l at) (sym sends.frames) ∙ found)
+
+pub some_bytes : (p : Packet) → 1 ≤ length (packet_bytes p)
+some_bytes (Send from to number message part) = omega arith
+some_bytes (Reply from to number message dest bytes) = omega arith
+some_bytes (Pending from to number) = omega arith
+some_bytes (Negative from to number) = omega arith
+some_bytes (MoveData from to number moving dest total offset bytes) = omega arith
+some_bytes (MoveAck from to number moving received) = omega arith
+some_bytes (MoveRequest from to number moving src total offset) = omega arith
+some_bytes (MoveBytes from to number moving total offset bytes) = omega arith
+some_bytes (MoveNegative from to number moving) = omega arith
+some_bytes (AskPid asker lookup logical) = omega arith
+some_bytes (TellPid found asker lookup) = omega arith
+
+-- What the station tells of a frame, without its bytes.
+pub record IsFrameTold (fs : List Frame) (at to : ℕ) (packet : List ℕ) : Type 0 where
+  pub frame : Frame
+  pub found : slice_get fs at ≡ Some frame
+  pub destination : to ≡ frame.header.destination
+  pub output : at + 1 ≡ frame.header.output
+  pub packet_is : packet ≡ packet_bytes frame.packet
+
+pub told : (s : StationValue) (fs : List Frame) (at to : ℕ) (packet : List ℕ) → Sends s fs → at < length s.frames →
+    ((bytes : List ℕ) → slice_get s.frames at ≡ Some bytes → OpensAs bytes to (at + 1) packet) → IsFrameTold fs at to packet
+told s fs at to packet sends low opens =
+    let bytes : List ℕ = get_or s.frames at [] in
+    let there : slice_get s.frames at ≡ Some bytes = slice_get-get_or s.frames at [] low in
+    let one = sent s fs at bytes sends there in
+    let f : Frame = one.frame in
+    let o = opens bytes there in
+    let pair : (o.header, packet) ≡ (f.header, packet_bytes f.packet) =
+    same_Some (o.header, packet) (f.header, packet_bytes f.packet)
+    (sym o.opens ∙ ap frame_of one.bytes_are ∙ again f.header (packet_bytes f.packet) one.lawful.header (some_bytes f.packet)) in
+    record {
+      frame = f;
+      found = one.found;
+      destination = sym o.named ∙ ap (λ (x : Header × List ℕ). x.0.destination) pair;
+      output = sym o.numbered ∙ ap (λ (x : Header × List ℕ). x.0.output) pair;
+      packet_is = ap (λ (x : Header × List ℕ). x.1) pair;
+    }
 
 -- What is reported.
 
@@ -116,12 +160,6 @@ happened_host c logs (scheduled.Call pid call) = refl
 happened_host c logs (scheduled.Collect pid) = refl
 happened_host c logs (scheduled.Tick host) = refl
 happened_host c logs (scheduled.Deliver to from event output) = delivered_host c logs to (handed_over logs to from event output)
-
-most_is : (i : Input) → most_packets i ≤ 2048
-most_is (Called pid call) = omega arith
-most_is (Collected pid) = omega arith
-most_is Ticked = omega arith
-most_is (Delivered o) = omega arith
 
 module _ (c : Settings) (es : List Event) (now : ClusterValue) (e : Event) (r : StepReport) (reported : HasReported c es now e r) where
   pub is_station : has_station now.config.specs r.host ≡ true

@@ -1,15 +1,15 @@
 -- The stations of a configuration: each stands once, and has its processes.
-use Rattle.std.proofs.Common.{◌≡◌, ◌≢◌, ℕ, zero, suc, ◌<◌, Bool, true, false, cond, ◌==◌, ◌||◌, List, [], ◌∷◌, ◌++◌, map, set, filter, find, Option, Some, is_some, refl, sym, ap, subst, ◌∙◌, inl, inr}
+use Rattle.std.proofs.Common.{◌≡◌, ◌≢◌, ℕ, zero, suc, ◌<◌, Bool, true, false, cond, ◌==◌, ◌||◌, List, [], ◌∷◌, ◌++◌, map, set, filter, find, Some, is_some, refl, sym, ap, subst, ◌∙◌, inl, inr}
 use Rattle.std.specs.Prelude.{slice_get}
 use Rattle.std.specs.List.{list_any}
 use Rattle.std.proofs.lemmas.Bool.{and_parts, cases_Bool, eqb-true, eq-eqb, or_from, or_parts, or_right}
 use Rattle.std.proofs.lemmas.List.Folds.{list_any-append}
 use Rattle.std.proofs.lemmas.Option.{none-some, same_Some}
-use Rattle.vk_base.specs.declared.config.ProcessSpec.{ProcessSpec}
-use Rattle.vk_base.specs.declared.pid.Pid.{Pid}
+use Rattle.vk_types.specs.Types.{Pid, ProcessSpec}
 use Rattle.vk_base.specs.Pids.{same_pid}
 use Rattle.vk_base.specs.Settings.{Settings, has_process, is_on, is_process, stations_of, stations_with}
 use Rattle.vk_base.proofs.SettingsLemmas.{among_stations}
+use Rattle.vk_base.proofs.BoolLemmas.{or_rest, eqb_turned, is_some_or}
 use Rattle.vk_procs.specs.declared.seat.Seat.{Seat}
 use Rattle.vk_procs.specs.Seats.{is_seat, pids}
 use Rattle.vk_rules.specs.Right.{own_pids}
@@ -23,22 +23,12 @@ abbrev pub Apart : List ℕ → Type 0
 Apart [] = Unit {0}
 Apart (h ∷ hs) = (list_any (λ x. x == h) hs ≡ false) × Apart hs
 
-or_rest : (a b : Bool) → (a || b) ≡ true → a ≡ false → b ≡ true
-or_rest true b h k = cc
-or_rest false b h k = h
-
-other_way : (m n : ℕ) → (m == n) ≡ false → (n == m) ≡ false
-other_way m n f = elim (cases_Bool (n == m)) [
-  | inl t ↦ let same : (m == n) ≡ true = eq-eqb m n (sym (eqb-true n m t)) in cc
-  | inr g ↦ g
-]
-
 apart_more : (hs : List ℕ) (h : ℕ) → Apart hs → among hs h ≡ false → Apart (hs ++ h ∷ [])
 apart_more [] h a new = (refl, tt)
 apart_more (g ∷ gs) h a new =
     let parts : ((g == h) ≡ false) × (among gs h ≡ false) = or_parts (g == h) (among gs h) new in (
       list_any-append (λ x. x == g) gs (h ∷ [])
-          ∙ or_from (among gs g) (list_any (λ x. x == g) (h ∷ [])) a.0 (or_from (h == g) false (other_way g h parts.0) refl),
+          ∙ or_from (among gs g) (list_any (λ x. x == g) (h ∷ [])) a.0 (or_from (h == g) false (eqb_turned g h parts.0) refl),
       apart_more gs h a.1 parts.1,
     )
 
@@ -111,15 +101,11 @@ station_bounds specs i h found = bounds specs h (sym (among_stations specs h) �
 named : Pid → List Pid → Bool
 named pid ps = list_any (λ (p : Pid). same_pid p pid) ps
 
-found_some : {A : Type 0} (b r : Bool) (x : A) (o : Option A) → is_some o ≡ r → is_some (cond b (Some x) o) ≡ (b || r)
-found_some true r x o e = refl
-found_some false r x o e = e
-
 any_seat : (pid : Pid) (seats : List Seat) → is_some (find (is_seat pid) seats) ≡ named pid (pids seats)
 unfolding named
 any_seat pid [] = refl
 any_seat pid (s ∷ ss) =
-    found_some (is_seat pid s) (named pid (pids ss)) s (find (is_seat pid) ss) (any_seat pid ss)
+    is_some_or (is_seat pid s) (named pid (pids ss)) s (find (is_seat pid) ss) (any_seat pid ss)
 
 kept_on : (b : Bool) (pid : Pid) (s : ProcessSpec) (ss : List ProcessSpec) → named pid (map (λ (t : ProcessSpec). t.pid) ss) ≡ true →
     named pid (map (λ (t : ProcessSpec). t.pid) (cond b (s ∷ ss) ss)) ≡ true

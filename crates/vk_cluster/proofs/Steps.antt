@@ -5,19 +5,21 @@ use Rattle.std.proofs.Math.Seq.{map-set_same}
 use Rattle.std.proofs.lemmas.Bool.{cases_eq}
 use Rattle.std.proofs.lemmas.List.{length-map, length_push, map_push}
 use Rattle.std.proofs.lemmas.Option.{get_or_from_slice_get, same_Some, slice_get-map}
-use Rattle.vk_base.specs.declared.event.EventAnswer.{EventAnswer}
+use Rattle.vk_types.specs.Types.{EventAnswer}
 use Rattle.vk_base.specs.declared.limits.TheConstants.{EVENTS}
 use Rattle.vk_base.specs.Settings.{Settings, stations_of}
 use Rattle.vk_schedule.specs.declared.event.Event.{Event}
 use Rattle.vk_rules.specs.Each.{Each}
-use Rattle.vk_rules.specs.Entries.{Called, Collected, Delivered, Entry, Input, Ticked}
+use Rattle.vk_rules.specs.Entries.{Entry, Input}
 use Rattle.vk_rules.specs.Histories.{At, Happened, Logs, happened, happens_at, logs_after, with_entry}
 use Rattle.vk_rules.specs.Right.{entry_of}
+use Rattle.vk_rules.proofs.OwnEvents.{own_log}
 use Rattle.v_lawful.specs.Sending.{IsFaultless, IsInput, most_packets}
 use Rattle.v_lawful.proofs.Entries.{IsSentLog, one_more}
+use Rattle.v_lawful.proofs.Schedules.{most_is}
 use Rattle.v_whole.specs.Schedules.{IsOfProcess}
 use Rattle.vk_host.specs.Sealed.{sealed}
-use Rattle.vk_host.specs.Standing.{IsAt, IsEvent, Shows}
+use Rattle.vk_host.specs.Standing.{StandsAt, IsEvent, Shows}
 use Rattle.vk_host.specs.Values.{StationValue}
 use Rattle.vk_cluster.specs.declared.emitted.TheConstants.{EVENT_BYTES, EVENT_FRAMES}
 use Rattle.vk_cluster.specs.declared.report.ClusterAnswer.TheVariants as answers
@@ -27,7 +29,7 @@ use Rattle.vk_cluster.specs.Piles.{AreFrames, IsAdded, Pile, piece, shown, with_
 use Rattle.vk_cluster.specs.Standing.{AreAt, ShowsLast, ShowsNewest, StandsFor, bytes_of, logs_of, report_of}
 use Rattle.vk_cluster.specs.Values.{ClusterValue}
 use Rattle.vk_cluster.proofs.Handed.{sealed_frames, sealed_size}
-use Rattle.vk_cluster.proofs.Logs.{bytes_next, get_set_other, get_set_same, logs_next, processes_more, with_here, with_other}
+use Rattle.vk_cluster.proofs.Logs.{bytes_next, get_set_other, get_set_same, logs_next, processes_more, with_other}
 use Rattle.vk_cluster.proofs.Stations.{same_place, set_map, stations_apart}
 
 -- The station at a place has the number of the configuration's station there.
@@ -70,24 +72,18 @@ emitted_more c logs before place host e fs there is frames =
     get_or_from_slice_get (map f hs) place (f host) [] (slice_get-map f hs place
     ∙ ap (λ (o : Option ℕ). option_map f o) there) in
     let more : g host ≡ f host ++ map sealed e.frames ∷ [] =
-    ap sent_of (with_here logs host e) ∙ map_push (map sealed) (events_in (logs host)) e.frames in
+    ap sent_of (own_log logs host e) ∙ map_push (map sealed) (events_in (logs host)) e.frames in
     ap (λ l. with_event l place fs) is
     ∙ ap (with_event (map f hs) place) frames
     ∙ ap (λ l. set (map f hs) place (l ++ map sealed e.frames ∷ [])) old
     ∙ ap (set (map f hs) place) (sym more)
     ∙ set_map f g hs place host (stations_apart c.specs) there (λ q apart. ap sent_of (with_other logs host e q apart))
 
-most_is : (i : Input) → most_packets i ≤ 2048
-most_is (Called pid call) = omega arith
-most_is (Collected pid) = omega arith
-most_is Ticked = omega arith
-most_is (Delivered o) = omega arith
-
 -- One station has an event.
 module _ (c : Settings) (logs : Logs) (hosts : List StationValue) (before : Pile) (place : ℕ) (s t : StationValue) (i : Input)
     (given : EventAnswer) (fine : IsFaultless c s.host) (input : IsInput s.host i) (short : length (logs s.host) + 1 < 2 ^ 63)
     (all : AreAt c logs hosts before) (found : slice_get hosts place ≡ Some s) (event : IsEvent s t i given) where
-  here : IsAt c (logs s.host) s
+  here : StandsAt c (logs s.host) s
   here = all.at place s found
 
   log : IsSentLog c s.host (entry_of c s.host (logs s.host) i ∷ logs s.host)
@@ -127,22 +123,22 @@ module _ (c : Settings) (logs : Logs) (hosts : List StationValue) (before : Pile
       omega arith
 
   new_at : (q : ℕ) (u : StationValue) → slice_get (set hosts place t) q ≡ Some u →
-      IsAt c (with_entry logs s.host (entry_of c s.host (logs s.host) i) u.host) u
+      StandsAt c (with_entry logs s.host (entry_of c s.host (logs s.host) i) u.host) u
   new_at q u there = elim (cases_eq q place) [
     | inl same ↦
         let is : t ≡ u =
         same_Some t u (sym (get_set_same hosts place t s found) ∙ ap (slice_get (set hosts place t)) (sym same) ∙ there) in
         let log_is : with_entry logs s.host (entry_of c s.host (logs s.host) i) t.host ≡ entry_of c s.host (logs s.host) i ∷ logs s.host =
         ap (with_entry logs s.host (entry_of c s.host (logs s.host) i)) event.host
-        ∙ with_here logs s.host (entry_of c s.host (logs s.host) i) in
-        let P : StationValue → Type 0 = λ v. IsAt c (with_entry logs s.host (entry_of c s.host (logs s.host) i) v.host) v in
-        subst P is (subst (λ l. IsAt c l t) (sym log_is) (event.stands c (logs s.host) here))
+        ∙ own_log logs s.host (entry_of c s.host (logs s.host) i) in
+        let P : StationValue → Type 0 = λ v. StandsAt c (with_entry logs s.host (entry_of c s.host (logs s.host) i) v.host) v in
+        subst P is (subst (λ l. StandsAt c l t) (sym log_is) (event.stands c (logs s.host) here))
     | inr other ↦
         let was : slice_get hosts q ≡ Some u = sym (get_set_other hosts place q t other) ∙ there in
         let apart : u.host ≢ s.host =
         λ e. other (same_place (stations_of c.specs) q place s.host (stations_apart c.specs)
         (place_host c logs hosts before q u all was ∙ ap Some e) (place_host c logs hosts before place s all found)) in
-        subst (λ l. IsAt c l u) (sym (with_other logs s.host (entry_of c s.host (logs s.host) i) u.host apart)) (all.at q u was)
+        subst (λ l. StandsAt c l u) (sym (with_other logs s.host (entry_of c s.host (logs s.host) i) u.host apart)) (all.at q u was)
   ]
 
   -- it shows the new entry, and each other station its newest one
@@ -153,7 +149,7 @@ module _ (c : Settings) (logs : Logs) (hosts : List StationValue) (before : Pile
         let is : t ≡ u =
         same_Some t u (sym (get_set_same hosts place t s found) ∙ ap (slice_get (set hosts place t)) (sym same) ∙ there) in
         let e = entry_of c s.host (logs s.host) i in
-        let log_is : with_entry logs s.host e t.host ≡ e ∷ logs s.host = ap (with_entry logs s.host e) event.host ∙ with_here logs s.host e in
+        let log_is : with_entry logs s.host e t.host ≡ e ∷ logs s.host = ap (with_entry logs s.host e) event.host ∙ own_log logs s.host e in
         let shown = event.shows c (logs s.host) here in
         let P : StationValue → Type 0 = λ v. ShowsNewest (with_entry logs s.host e v.host) v in
         subst P is (subst (λ l. ShowsNewest l t) (sym log_is) (subst (λ a. Shows t a e) shown.answer shown))
@@ -170,7 +166,7 @@ module _ (c : Settings) (logs : Logs) (hosts : List StationValue) (before : Pile
     | inl same ↦
         let P : ℕ → Type 0 = λ h. IsSentLog c h (with_entry logs s.host (entry_of c s.host (logs s.host) i) h) in
         subst P (sym same)
-        (subst (IsSentLog c s.host) (sym (with_here logs s.host (entry_of c s.host (logs s.host) i))) log)
+        (subst (IsSentLog c s.host) (sym (own_log logs s.host (entry_of c s.host (logs s.host) i))) log)
     | inr other ↦
         subst (IsSentLog c host) (sym (with_other logs s.host (entry_of c s.host (logs s.host) i) host other))
         (record { entries = all.sent host; fitting = all.fitting host })

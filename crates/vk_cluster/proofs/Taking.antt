@@ -3,9 +3,8 @@ use Rattle.std.proofs.Common.{◌≡◌, ℕ, ◌+◌, ◌<◌, ◌≤◌, Bool,
 use Rattle.std.specs.Prelude.{slice_get}
 use Rattle.std.specs.List.{concat}
 use Rattle.std.proofs.lemmas.Bool.{and_parts, leb-false, ltb-false, or_cases, or_left, or_parts, or_right}
-use Rattle.vk_base.specs.declared.config.ProcessSpec.{ProcessSpec}
+use Rattle.vk_types.specs.Types.{Pid, ProcessSpec}
 use Rattle.vk_base.specs.declared.limits.TheConstants.{EVENTS}
-use Rattle.vk_base.specs.declared.pid.Pid.{Pid}
 use Rattle.vk_base.specs.Options.{◌>>=◌}
 use Rattle.vk_base.specs.Settings.{Settings, has_process, has_station, is_on, is_process}
 use Rattle.vk_schedule.specs.declared.event.Event.{Event}
@@ -13,7 +12,7 @@ use Rattle.vk_schedule.specs.declared.event.Event.TheVariants as events
 use Rattle.vk_schedule.specs.Lawful.{has_actors}
 use Rattle.vk_frame.specs.Reading.{frame_of}
 use Rattle.vk_rules.specs.Laws.{station_of}
-use Rattle.vk_host.specs.Standing.{IsAt}
+use Rattle.vk_host.specs.Standing.{StandsAt}
 use Rattle.vk_host.specs.Values.{StationValue}
 use Rattle.vk_cluster.specs.declared.cluster.Parts.{Parts}
 use Rattle.vk_cluster.specs.declared.emitted.Emitted.{Emitted}
@@ -57,8 +56,8 @@ same_value k e same = ap (λ p. record (value_of k) { pile = p }) same
 
 -- the station at a place stands for its entries
 pub station_at : (c : Settings) (es : List Event) (v : ClusterValue) (place host : ℕ) (s : StationValue) → StandsFor c es v →
-    slice_get v.hosts place ≡ Some s → s.host ≡ host → IsAt c (logs_of c es host) s
-station_at c es v place host s st found same = subst (λ h. IsAt c (logs_of c es h) s) same (st.stands.at place s found)
+    slice_get v.hosts place ≡ Some s → s.host ≡ host → StandsAt c (logs_of c es host) s
+station_at c es v place host s st found same = subst (λ h. StandsAt c (logs_of c es h) s) same (st.stands.at place s found)
 
 -- and shows the newest one
 pub newest_at : (c : Settings) (es : List Event) (v : ClusterValue) (place host : ℕ) (s : StationValue) → StandsFor c es v →

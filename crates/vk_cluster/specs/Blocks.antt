@@ -1,8 +1,12 @@
 -- Frames whose bytes stand in blocks.
-use Rattle.std.specs.Prelude.{ℕ, ◌≡◌, ◌+◌, ◌*◌, ◌<◌, ◌≤◌, List, length, map, take, drop, sum_by, slice_index_or}
+use Rattle.std.specs.Prelude.{ℕ, ◌≡◌, ◌+◌, ◌*◌, ◌<◌, ◌≤◌, List, length, map, take, drop, sum_by, slice_index_or, Option}
 use Rattle.std.specs.Global.{Vec}
+use Rattle.std.specs.Option.{option_map_or}
 use Rattle.vk_base.specs.declared.limits.TheConstants.{FRAME_BYTES}
+use Rattle.vk_frame.specs.declared.header.Header.{Header}
+use Rattle.vk_frame.specs.Reading.{frame_of}
 use Rattle.vk_rules.specs.Each.{Each}
+use Rattle.vk_rules.specs.Frames.{every_station}
 use Rattle.vk_cluster.specs.declared.frames.Place.{Place}
 use Rattle.vk_cluster.specs.declared.frames.TheConstants.{HALF_BYTES, MOST_BYTES}
 
@@ -24,12 +28,17 @@ bytes_of v = v.items
 abbrev pub block_at : List (List ℕ) → List ℕ → ℕ → List ℕ
 block_at full last n = slice_index_or full n last
 
--- the bytes of a frame that stands there, and that they lie within the block
+-- the station that a frame which was opened is for; every station, too, where the bytes open as none
+abbrev pub named_by : Option (Header × List ℕ) → ℕ
+named_by o = option_map_or (λ (f : Header × List ℕ). f.0.destination) o every_station
+
+-- the bytes of a frame that stands there, and that they lie within the block, and are for the station of the place
 abbrev pub frame_in : List (List ℕ) → List ℕ → Place → List ℕ
 frame_in full last p = take p.count (drop p.from (block_at full last p.block))
 
 abbrev pub IsIn : List (List ℕ) → List ℕ → Place → Type 0
 IsIn full last p = (p.block ≤ length full) × (p.from + p.count ≤ length (block_at full last p.block))
+    × (named_by (frame_of (frame_in full last p)) ≡ p.to)
 
 -- Each frame lies within its block, all bytes are those of frames, none of which is empty, and each full block is half used.
 pub record AreKept (full : List (List ℕ)) (last : List ℕ) (places : List Place) (size : ℕ) : Type 0 where

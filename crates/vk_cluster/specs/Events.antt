@@ -1,6 +1,6 @@
 -- What an event of a cluster is at its station.
 use Rattle.std.specs.Prelude.{ℕ, ◌≡◌, Bool, true, List, slice_get, Some, None}
-use Rattle.vk_base.specs.declared.config.ProcessSpec.{ProcessSpec}
+use Rattle.vk_types.specs.Types.{ProcessSpec}
 use Rattle.vk_base.specs.Pids.{IsPid}
 use Rattle.vk_base.specs.Settings.{stations_of}
 use Rattle.vk_schedule.specs.declared.event.Event.{Event}

@@ -1,6 +1,6 @@
 -- Of the code alone, no law rests on it: what a cluster tells and shows of the event that it had last.
 use Rattle.std.specs.Prelude.{◌≡◌, ◌≤◌, List, length, map, true}
-use Rattle.vk_base.specs.declared.event.EventAnswer.{EventAnswer}
+use Rattle.vk_types.specs.Types.{EventAnswer}
 use Rattle.vk_base.specs.Settings.{Settings}
 use Rattle.vk_cluster.specs.declared.emitted.TheConstants.{EVENT_FRAMES}
 use Rattle.vk_cluster.specs.declared.report.Advance.{Advance}

@@ -1,6 +1,6 @@
 -- When a cluster stands for the events so far, and what a step does.
 use Rattle.std.specs.Prelude.{ℕ, Bool, true, false, ◌≡◌, ◌+◌, ◌≤◌, List, [], ◌∷◌, ◌++◌, length, map, slice_get, sum_by, Some}
-use Rattle.vk_base.specs.declared.config.ProcessSpec.{ProcessSpec}
+use Rattle.vk_types.specs.Types.{ProcessSpec}
 use Rattle.vk_base.specs.declared.limits.TheConstants.{EVENTS}
 use Rattle.vk_base.specs.Pids.{IsPid}
 use Rattle.vk_base.specs.Settings.{AreLawful, Settings, stations_of}
@@ -15,7 +15,7 @@ use Rattle.v_whole.specs.Schedules.{AreOfProcesses}
 use Rattle.vk_host.specs.declared.response.Response.{Response}
 use Rattle.vk_host.specs.Responses.{answer_of}
 use Rattle.vk_host.specs.Sealed.{sealed}
-use Rattle.vk_host.specs.Standing.{IsAt, Shows}
+use Rattle.vk_host.specs.Standing.{StandsAt, Shows}
 use Rattle.vk_host.specs.Values.{StationValue}
 use Rattle.vk_cluster.specs.declared.report.Advance.{Advance}
 use Rattle.vk_cluster.specs.declared.report.Advance.TheVariants as advances
@@ -48,7 +48,7 @@ ShowsNewest (e ∷ es) s = Shows s e.answer e
 -- all. Whatever comes of an event of a process, each entry sends lawful packets.
 pub record AreAt (c : Settings) (logs : Logs) (hosts : List StationValue) (pile : Pile) : Type 0 where
   pub order : map (λ (s : StationValue). s.host) hosts ≡ stations_of c.specs
-  pub at : (place : ℕ) (s : StationValue) → slice_get hosts place ≡ Some s → IsAt c (logs s.host) s
+  pub at : (place : ℕ) (s : StationValue) → slice_get hosts place ≡ Some s → StandsAt c (logs s.host) s
   pub newest : (place : ℕ) (s : StationValue) → slice_get hosts place ≡ Some s → ShowsNewest (logs s.host) s
   pub kept : IsKept pile
   pub emitted : shown pile ≡ map (λ host. sent_of (logs host)) (stations_of c.specs)
@@ -69,7 +69,7 @@ pub record StandsFor (c : Settings) (es : List Event) (k : ClusterValue) : Type 
 -- the stations with these numbers, none of which had an event
 pub record AreHosts (c : Settings) (hosts : List StationValue) (numbers : List ℕ) : Type 0 where
   pub order : map (λ (s : StationValue). s.host) hosts ≡ numbers
-  pub at : (place : ℕ) (s : StationValue) → slice_get hosts place ≡ Some s → IsAt c [] s
+  pub at : (place : ℕ) (s : StationValue) → slice_get hosts place ≡ Some s → StandsAt c [] s
 
 -- it stands for some
 abbrev pub StandsSomewhere : ClusterValue → Type 0

@@ -9,10 +9,11 @@ ghost use Rattle.vk_frame.specs.Reading.{frame_of};
 ghost use Rattle.vk_rules.specs.Each.{Each};
 ghost use Rattle.vk_rules.specs.Laws.{station_of};
 ghost use Rattle.vk_host.specs.Responses.{answer_of};
-ghost use Rattle.vk_host.specs.Standing.{IsAt, IsEvent};
+ghost use Rattle.vk_host.specs.Standing.{StandsAt, IsEvent};
 ghost use Rattle.vk_host.specs.Values.{StationValue};
 ghost use Rattle.vk_base.specs.declared.config.ProcessSpec.{ProcessSpec as TheProcessSpec};
 ghost use Rattle.vk_cluster.specs.declared.report.StepReport.{StepReport as TheReport};
+ghost use Rattle.vk_cluster.specs.Blocks.{named_by};
 ghost use Rattle.vk_cluster.specs.Events.{ComesWith, FindsNone, input_with, is_own};
 ghost use Rattle.vk_cluster.specs.Found.{bytes_for, is_addressed, opens_for};
 ghost use Rattle.vk_cluster.specs.Piles.{AreFrames, HasRoom, IsAdded, IsKept, pile_of, shown};
@@ -148,7 +149,7 @@ impl Cluster {
         requires station { has_station self.now.config.specs host ≡ true }
         ensures host { result.now.host ≡ host }
         ensures found { (place : ℕ) × (slice_get self.now.hosts place ≡ Some result.now) }
-        ensures at { (c : Settings) (es : List TheEvent) → StandsFor c es self.now → IsAt c (logs_of c es host) result.now }
+        ensures at { (c : Settings) (es : List TheEvent) → StandsFor c es self.now → StandsAt c (logs_of c es host) result.now }
         ensures newest { (c : Settings) (es : List TheEvent) → StandsFor c es self.now →
             ShowsNewest (logs_of c es host) result.now }
     {
@@ -287,7 +288,8 @@ pub fn keep(emitted: &mut Emitted, host: &Host, place: usize)
 {
     let first = emitted.frames.len();
     for at in 0..host.frame_count() {
-        emitted.put(host.frame(at));
+        let (to, _) = host.packet(at);
+        emitted.put(host.frame(at), to);
     }
     emitted.end_event(place, first);
 }
@@ -306,12 +308,31 @@ pub fn handed_over<'a>(
         (λ r. bytes_for to (shown (pile_of emitted.now)) place event output ≡ Some r.now) }
 {
     match emitted.find(place, event, output) {
-        Some(bytes) => { if is_for(bytes, to) { Some(bytes) } else { None } }
+        Some((bytes, destination)) => {
+            if is_for(bytes, destination, to) {
+                Some(bytes)
+            } else {
+                None
+            }
+        }
         None => None,
     }
 }
 
-fn is_for(bytes: &[u8], to: u16) -> bool
+/// Whether a frame for this destination is for this station: only one that is for every station is opened.
+#[inline(always)]
+fn is_for(bytes: &[u8], destination: u16, to: u16) -> bool
+    requires { named_by (frame_of bytes.now) ≡ destination }
+    ensures { result ≡ opens_for to (frame_of bytes.now) }
+{
+    if destination == EVERY_STATION {
+        opens_for(bytes, to)
+    } else {
+        destination == to
+    }
+}
+
+fn opens_for(bytes: &[u8], to: u16) -> bool
     ensures { result ≡ opens_for to (frame_of bytes.now) }
 {
     match unseal(bytes) {

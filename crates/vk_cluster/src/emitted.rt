@@ -1,9 +1,10 @@
 //! The frames that were emitted, and which of them are of which event.
 
-ghost use Rattle.std.specs.Prelude.{◌≡◌, ◌<◌, ◌≤◌, ◌+◌, ◌-◌, ◌++◌, ◌∷◌, [], ℕ, List, None, Some, length, map, replicate, drop, slice_get, slice_set, slice_index_or, vec_len, vec_capacity, IfOk, OnOk, MatchOption};
+ghost use Rattle.std.specs.Prelude.{◌≡◌, ◌<◌, ◌≤◌, ◌+◌, ◌-◌, ◌++◌, ◌∷◌, [], ℕ, List, None, Some, length, map, replicate, drop, slice_get, slice_set, slice_index_or, vec_len, vec_capacity, IfOk, IfSome, OnOk, MatchOption};
 ghost use Rattle.std.specs.Global.{Vec as TheVec};
 ghost use Rattle.vk_cluster.specs.declared.emitted.Piece.{Piece as ThePiece};
-ghost use Rattle.vk_cluster.specs.Blocks.{IsFrame};
+ghost use Rattle.vk_frame.specs.Reading.{frame_of};
+ghost use Rattle.vk_cluster.specs.Blocks.{IsFrame, named_by};
 ghost use Rattle.vk_cluster.specs.declared.frames.TheConstants.{MOST_BYTES};
 ghost use Rattle.vk_cluster.specs.Piles.{HasRoom, IsKept, IsWithin, end_event, event_piece, frame_at, from_one, items_of, pile_of, piece, put_frame, shown, with_event};
 
@@ -72,8 +73,9 @@ impl Emitted {
         room_for_event(&mut self.events, place)
     }
 
-    /// One more frame, for which there is room, of the event that [`Emitted::end_event`] ends.
-    pub fn put(&mut self, frame: &[u8])
+    /// One more frame, for which there is room, of the event that [`Emitted::end_event`] ends; and the station that it is for.
+    pub fn put(&mut self, frame: &[u8], to: u16)
+        requires to { named_by (frame_of frame.now) ≡ to }
         requires frame { IsFrame frame.now }
         requires bytes { length frame.now ≤ self.old.frames.bytes }
         requires frames { 0 < self.old.frames.places }
@@ -83,7 +85,7 @@ impl Emitted {
         ensures frames { self.old.frames.places ≤ self.new.frames.places + 1 }
         ensures events { self.new.events ≡ self.old.events }
     {
-        self.frames.put(frame);
+        self.frames.put(frame, to);
     }
 
     /// The frames from the one numbered `first` on, counted from 0, are those of one event of the station at this place.
@@ -101,11 +103,13 @@ impl Emitted {
         push_event(&mut self.events, place, piece);
     }
 
-    /// The frame with this output number of the event with this number of the station at this place, each number counted from 1.
-    pub fn find(&self, place: usize, event: u64, output: u16) -> Option<&[u8]>
+    /// The frame with this output number of the event with this number of the station at this place, each number counted from 1; and
+    /// the station that it is for.
+    pub fn find(&self, place: usize, event: u64, output: u16) -> Option<(&[u8], u16)>
         requires { IsKept (pile_of self.now) }
-        ensures { MatchOption result (frame_at (shown (pile_of self.now)) place event output ≡ None)
-            (λ r. frame_at (shown (pile_of self.now)) place event output ≡ Some r.now) }
+        ensures frame { MatchOption result (frame_at (shown (pile_of self.now)) place event output ≡ None)
+            (λ r. frame_at (shown (pile_of self.now)) place event output ≡ Some r.0.now) }
+        ensures to { IfSome result (λ r. named_by (frame_of r.0.now) ≡ r.1) }
     {
         match self.event_piece(place, event) {
             Some(piece) => self.frame(piece, output as usize),
@@ -129,11 +133,12 @@ impl Emitted {
         }
     }
 
-    /// The frame of this number of an event, counted from 1.
-    fn frame(&self, event: Piece, output: usize) -> Option<&[u8]>
+    /// The frame of this number of an event, counted from 1, and the station that it is for.
+    fn frame(&self, event: Piece, output: usize) -> Option<(&[u8], u16)>
         requires { IsWithin (length self.now.frames.items) event }
-        ensures { MatchOption result (from_one (piece self.now.frames.items event) output ≡ None)
-            (λ r. from_one (piece self.now.frames.items event) output ≡ Some r.now) }
+        ensures frame { MatchOption result (from_one (piece self.now.frames.items event) output ≡ None)
+            (λ r. from_one (piece self.now.frames.items event) output ≡ Some r.0.now) }
+        ensures to { IfSome result (λ r. named_by (frame_of r.0.now) ≡ r.1) }
     {
         if output == 0 || output > event.count as usize {
             return None;

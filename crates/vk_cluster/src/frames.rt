@@ -1,7 +1,8 @@
-//! A list of frames, whose bytes are never copied again.
+//! A list of frames, whose bytes are never copied again, and the station that each is for.
 
-ghost use Rattle.std.specs.Prelude.{◌≡◌, ◌<◌, ◌≤◌, ◌+◌, ◌-◌, ◌++◌, ◌∷◌, [], None, Some, length, map, slice_get, slice_index_or, sum_by, vec_len, vec_capacity, IfOk, OnOk, OnErr, MatchOption};
-ghost use Rattle.vk_cluster.specs.Blocks.{AreKept, IsIn, bytes_of, frame_in};
+ghost use Rattle.std.specs.Prelude.{◌≡◌, ◌<◌, ◌≤◌, ◌+◌, ◌-◌, ◌++◌, ◌∷◌, [], None, Some, length, map, slice_get, slice_index_or, sum_by, vec_len, vec_capacity, IfOk, IfSome, OnOk, OnErr, MatchOption};
+ghost use Rattle.vk_frame.specs.Reading.{frame_of};
+ghost use Rattle.vk_cluster.specs.Blocks.{AreKept, IsIn, bytes_of, frame_in, named_by};
 
 use std::alloc::Global;
 use std::marker::Model;
@@ -16,12 +17,14 @@ pub const HALF_BYTES: usize = 4_194_304;
 /// The most bytes that all frames have.
 pub const MOST_BYTES: usize = 268_435_456;
 
-/// Where the bytes of a frame stand: from which one on, and how many they are, in the block with this number, counted from 0.
+/// Where the bytes of a frame stand: from which one on, and how many they are, in the block with this number, counted from 0; and
+/// the station that the frame is for, so that it is not opened to find it: 65,535 where it is for all, or opens as no frame.
 #[derive(Clone, Copy)]
 pub struct Place {
     pub from: u32,
     pub count: u16,
     pub block: u16,
+    pub to: u16,
 }
 
 /// Frames, one behind another. Their bytes stand in blocks, each frame in one of them whole: in the full ones, or in the last, behind which
@@ -88,8 +91,9 @@ impl Frames {
         Ok(())
     }
 
-    /// One more frame, for which there is room.
-    pub fn put(&mut self, frame: &[u8])
+    /// One more frame, for which there is room, and the station that it is for.
+    pub fn put(&mut self, frame: &[u8], to: u16)
+        requires to { named_by (frame_of frame.now) ≡ to }
         requires some { 0 < length frame.now }
         requires few { length frame.now ≤ FRAME_BYTES }
         requires bytes { length frame.now ≤ self.old.bytes }
@@ -103,18 +107,20 @@ impl Frames {
             from: self.last.len() as u32,
             count: frame.len() as u16,
             block: self.full.len() as u16,
+            to,
         };
         push_bytes(&mut self.last, frame);
         self.places.push_reserved(place);
         self.size += frame.len();
     }
 
-    /// The frame with this number, counted from 0, `None` behind the last.
-    pub fn get(&self, at: usize) -> Option<&[u8]>
-        ensures { MatchOption result (slice_get self.now.items at ≡ None) (λ r. slice_get self.now.items at ≡ Some r.now) }
+    /// The frame with this number, counted from 0, and the station that it is for; `None` behind the last.
+    pub fn get(&self, at: usize) -> Option<(&[u8], u16)>
+        ensures frame { MatchOption result (slice_get self.now.items at ≡ None) (λ r. slice_get self.now.items at ≡ Some r.0.now) }
+        ensures to { IfSome result (λ r. named_by (frame_of r.0.now) ≡ r.1) }
     {
         match self.places.get(at) {
-            Some(place) => Some(bytes_at(&self.full, &self.last, *place)),
+            Some(place) => Some((bytes_at(&self.full, &self.last, *place), place.to)),
             None => None,
         }
     }

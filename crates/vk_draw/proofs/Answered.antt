@@ -1,24 +1,31 @@
 -- From the picture of a text to the answer to an input.
-use Rattle.std.proofs.Common.{◌≡◌, ℕ, ◌+◌, ◌*◌, ◌<◌, ◌≤◌, ◌==◌, Bool, true, false, cond, List, [], ◌∷◌, length, take, Option, Some, None, Ok, Err, ◌⊎◌, inl, inr, refl, ap, subst, sym, ◌∙◌, arith, append-nil, length-append}
+use Rattle.std.proofs.Common.{◌≡◌, ℕ, ◌+◌, ◌*◌, ◌<◌, ◌≤◌, ◌==◌, Bool, true, false, cond, List, [], ◌∷◌, length, take, Option, Some, None, Ok, Err, ◌⊎◌, inl, inr, refl, ap, subst, sym, ◌∙◌, arith, length-append}
 use Rattle.std.specs.Prelude.{IfSome}
-use Rattle.std.specs.Io.KnownBytes.{Appends, Consumes}
-use Rattle.vk_base.specs.declared.config.ProcessSpec.{ProcessSpec}
+use Rattle.std.specs.Io.KnownBytes.{Appends}
+use Rattle.vk_cluster.specs.declared.report.ClusterRefusal.{ClusterRefusal}
+use Rattle.vk_cluster.specs.declared.report.ClusterRefusal.TheVariants as clusters
+use Rattle.vk_edge.proofs.Inputs.{is_all, partly, too_many}
+use Rattle.vk_edge.specs.Answers.{CountsFaults, IsWritten}
+use Rattle.vk_edge.specs.Inputs.{IsReadOver, IsText, IsUnread, OfInput}
+use Rattle.vk_types.specs.Types.{ProcessSpec}
 use Rattle.vk_base.specs.declared.limits.TheConstants.{INPUT_BYTES}
 use Rattle.vk_schedule.specs.declared.schedule.Schedule.{Schedule}
 use Rattle.vk_schedule.specs.declared.schedule.TextRefusal.{TextRefusal}
 use Rattle.vk_schedule.specs.declared.schedule.TextRefusal.TheVariants as schedules
 use Rattle.vk_schedule.specs.Schedule.{HasProcess, schedule_of}
-use Rattle.vk_io.specs.Causes.{LosesFront}
+use Rattle.vk_io.specs.Causes.{TellsFault}
+use Rattle.vk_io.specs.declared.whole.ReadRefusal.{ReadRefusal}
+use Rattle.vk_io.specs.declared.whole.ReadRefusal.TheVariants as reads
 use Rattle.vk_text.specs.Lines.{lines_of}
 use Rattle.vk_text.specs.Openings.{opening_of}
-use Rattle.vk_top.specs.Top.{OfInput}
 use Rattle.vk_picture.specs.declared.picture.Column.{Column}
 use Rattle.vk_picture.specs.declared.svg.TheConstants.{ROWS}
 use Rattle.vk_picture.specs.Places.{columns_of, place_behind, station_column}
 use Rattle.vk_draw.specs.declared.status.Status.{Status}
 use Rattle.vk_draw.specs.declared.status.Status.TheVariants as status
-use Rattle.vk_draw.specs.Top.{IsPicture, IsReadCount, IsRefusal, IsTooLarge, IsWriteCount}
-use Rattle.vk_draw.specs.Work.{IsAnswered, IsOutcome, IsUnread, IsWritten}
+use Rattle.vk_draw.specs.Statuses.{refused, refused_event, unread}
+use Rattle.vk_draw.specs.Top.{IsPicture, IsRefusal, IsTooLarge}
+use Rattle.vk_draw.specs.Work.{IsAnswered, IsOutcome}
 
 -- a process brings two columns at the most
 station_few : (column : Column) (b : Bool) → length (cond b [] (column ∷ [])) ≤ 1
@@ -50,11 +57,26 @@ spelled_some [] s spells = let bad = empty_bad in absurd (cc)
 spelled_some (b ∷ bs) s spells = omega arith
 
 -- memory is wanted only of a text that has some bytes
-pub wanted_some : (text : List ℕ) (e : TextRefusal) → e ≡ schedules.NoMemory
-    → ((e ≡ schedules.NoMemory) × HasProcess text) ⊎ (schedule_of text ≡ Err e) → 0 < length text
-wanted_some [] e is (inl h) = absurd (empty_bare h.1)
-wanted_some [] e is (inr h) = let bad = empty_bad in absurd (cc)
-wanted_some (b ∷ bs) e is h = omega arith
+wanted_some : (text : List ℕ) → HasProcess text ⊎ (schedule_of text ≡ Err schedules.NoMemory) → 0 < length text
+wanted_some [] (inl some) = absurd (empty_bare some)
+wanted_some [] (inr is) = let bad = empty_bad in absurd (cc)
+wanted_some (b ∷ bs) why = omega arith
+
+-- why a text is not read
+pub refused_text : (text : List ℕ) (e : TextRefusal) → ((e ≡ schedules.NoMemory) × HasProcess text) ⊎ (schedule_of text ≡ Err e)
+    → IsRefusal text (refused e)
+refused_text text (schedules.BadInput line) (inl wanted) = absurd (grind (arith, wanted))
+refused_text text (schedules.BadInput line) (inr is) = is
+refused_text text schedules.Limit (inl wanted) = absurd (grind (arith, wanted))
+refused_text text schedules.Limit (inr is) = inl is
+refused_text text schedules.NoMemory (inl wanted) = wanted_some text (inl wanted.1)
+refused_text text schedules.NoMemory (inr is) = wanted_some text (inr is)
+
+-- why its events are not played
+pub event_refused : (e : ClusterRefusal) (TooLarge : Type 0) → (e ≡ clusters.Limit → TooLarge)
+    → (refused_event e ≡ status.NoMemory) ⊎ ((refused_event e ≡ status.Limit) × TooLarge)
+event_refused clusters.Limit TooLarge large = inr (refl, large refl)
+event_refused clusters.NoMemory TooLarge large = inl refl
 
 -- why nothing is drawn of a schedule
 pub refusal_by : (text : List ℕ) (s : Schedule) (e : Status) → schedule_of text ≡ Ok s → length s.events ≤ ROWS
@@ -64,7 +86,7 @@ refusal_by text s e spells few (inr is) = subst (IsRefusal text) (sym is.0) (s, 
 
 -- all was written, or a write failed
 pub written_is : (Unchanged : Type 0) (text drawn : List ℕ) (old new : Option (List ℕ)) (s : Status) → length text ≤ INPUT_BYTES
-    → IsPicture text drawn → IsWritten drawn old new s → (n : ℕ) × Appends old new (take n drawn) → IsAnswered Unchanged text old new s
+    → IsPicture text drawn → IsWritten status.Done status.WriteFault drawn old new s → (n : ℕ) × Appends old new (take n drawn) → IsAnswered Unchanged text old new s
 written_is Unchanged text drawn old new s small picture (inl (is, written)) front =
     subst (IsAnswered Unchanged text old new) (sym is) (record {
       kinds = (λ e. grind (arith, e), λ e. grind (arith, e));
@@ -126,52 +148,35 @@ refused_is Unchanged text old status.WriteFault same why = absurd why
 
 -- the input
 
-told_input : (left rest : Option (List ℕ)) (text : List ℕ) → IfSome left (λ i. (text ≡ i) × (rest ≡ Some []))
-    → IfSome left (λ bytes. bytes ≡ text)
-told_input None rest text h = tt
-told_input (Some i) rest text h = sym h.0
-
-told_whole : (left rest : Option (List ℕ)) (text : List ℕ) → IfSome left (λ i. (text ≡ i) × (rest ≡ Some []))
+whole_by : (left rest : Option (List ℕ)) (text : List ℕ) → IfSome left (λ i. (text ≡ i) × (rest ≡ Some []))
     → IfSome left (λ i. length i ≤ INPUT_BYTES → rest ≡ Some [])
-told_whole None rest text h = tt
-told_whole (Some i) rest text h = λ small. h.1
+whole_by None rest text h = tt
+whole_by (Some i) rest text h = λ small. h.1
 
-all_taken : (left rest : Option (List ℕ)) (text : List ℕ) → IfSome left (λ i. (text ≡ i) × (rest ≡ Some [])) → Consumes left rest text
-all_taken None rest text h = tt
-all_taken (Some i) rest text h = subst (λ r. Consumes (Some i) r text) (sym h.1) (sym h.0 ∙ sym (append-nil text))
-
-too_many : (left rest : Option (List ℕ)) → LosesFront left rest (λ n. INPUT_BYTES < n) → OfInput left (λ i. INPUT_BYTES < length i)
-too_many None rest lost = record { input = lost.bytes; all = tt; holds = lost.count }
-too_many (Some i) None lost = absurd lost.front
-too_many (Some i) (Some ys) lost =
-    record { input = i; all = refl; holds = omega (arith, lost.count, ap length lost.front, length-append lost.bytes ys) }
-
-not_whole : (left rest : Option (List ℕ)) → LosesFront left rest (λ n. INPUT_BYTES < n)
-    → IfSome left (λ i. length i ≤ INPUT_BYTES → rest ≡ Some [])
+not_whole : (left rest : Option (List ℕ)) → IsReadOver left rest → IfSome left (λ i. length i ≤ INPUT_BYTES → rest ≡ Some [])
 not_whole None rest lost = tt
 not_whole (Some i) None lost = absurd lost.front
 not_whole (Some i) (Some ys) lost =
     λ small. absurd (omega (arith, small, lost.count, ap length lost.front, length-append lost.bytes ys))
 
-pub read_is : (Unchanged : Type 0) (left rest old new : Option (List ℕ)) (text seen : List ℕ) (s : Status) → length text ≤ INPUT_BYTES
-    → IfSome left (λ i. (text ≡ i) × (rest ≡ Some [])) → seen ≡ text → IsAnswered Unchanged seen old new s
-    → IsOutcome Unchanged left rest old new s
-read_is Unchanged left rest old new text seen s small read same given =
+pub read_is : (Unchanged : Type 0) (left rest old new : Option (List ℕ)) (text seen : List ℕ) (s : Status) → IsText left rest text
+    → seen ≡ text → IsAnswered Unchanged seen old new s → IsOutcome Unchanged left rest old new s
+read_is Unchanged left rest old new text seen s read same given =
     let answered = subst (λ t. IsAnswered Unchanged t old new s) same given in
-    let all = told_input left rest text read in
+    let all = is_all left rest text read in
     record {
       kinds = answered.kinds.0;
       done = λ is. record { input = text; all = all; holds = answered.done is };
-      whole = λ late. told_whole left rest text read;
-      refused = λ told. record { input = text; all = all; holds = inr (small, answered.refused told) };
-      memory = λ is. record { bytes = text; front = all_taken left rest text read; count = (answered.memory is, small) };
+      whole = λ late. whole_by left rest text read.all;
+      refused = λ told. record { input = text; all = all; holds = inr (read.small, answered.refused told) };
+      memory = λ is. partly left rest text read (answered.memory is);
       nothing = answered.nothing;
       front = λ is. record { input = text; all = all; holds = answered.front is };
     }
 
-pub unread_is : (Unchanged : Type 0) (left rest old : Option (List ℕ)) (s : Status) → Unchanged → IsUnread left rest s
-    → IsOutcome Unchanged left rest old old s
-unread_is Unchanged left rest old status.ReadFault same why = record {
+unread_as : (Unchanged : Type 0) (left rest old : Option (List ℕ)) (r : ReadRefusal) → Unchanged → IsUnread left rest r
+    → IsOutcome Unchanged left rest old old (unread r)
+unread_as Unchanged left rest old reads.Failed same why = record {
   kinds = λ e. grind (arith, e);
   done = λ e. absurd (grind (arith, e));
   whole = λ late. absurd late;
@@ -180,7 +185,7 @@ unread_is Unchanged left rest old status.ReadFault same why = record {
   nothing = λ early. same;
   front = λ e. absurd (grind (arith, e));
 }
-unread_is Unchanged left rest old status.Limit same why =
+unread_as Unchanged left rest old reads.TooLong same why =
     let many = too_many left rest why in record {
       kinds = λ e. grind (arith, e);
       done = λ e. absurd (grind (arith, e));
@@ -190,7 +195,7 @@ unread_is Unchanged left rest old status.Limit same why =
       nothing = λ early. same;
       front = λ e. absurd (grind (arith, e));
     }
-unread_is Unchanged left rest old status.NoMemory same why = record {
+unread_as Unchanged left rest old reads.NoMemory same why = record {
   kinds = λ e. grind (arith, e);
   done = λ e. absurd (grind (arith, e));
   whole = λ late. absurd late;
@@ -199,48 +204,38 @@ unread_is Unchanged left rest old status.NoMemory same why = record {
   nothing = λ early. same;
   front = λ e. absurd (grind (arith, e));
 }
-unread_is Unchanged left rest old status.Done same why = absurd why
-unread_is Unchanged left rest old status.Usage same why = absurd why
-unread_is Unchanged left rest old (status.BadInput line) same why = absurd why
-unread_is Unchanged left rest old status.WriteFault same why = absurd why
-unread_is Unchanged left rest old status.TooManyEvents same why = absurd why
 
--- counts of faults
+pub unread_is : (Unchanged : Type 0) (left rest old : Option (List ℕ)) (r : ReadRefusal) (s : Status) → s ≡ unread r → Unchanged
+    → IsUnread left rest r → IsOutcome Unchanged left rest old old s
+unread_is Unchanged left rest old r s is same why =
+    subst (IsOutcome Unchanged left rest old old) (sym is) (unread_as Unchanged left rest old r same why)
 
-pub refusal_count : (text : List ℕ) (s : Status) (before : ℕ) → IsRefusal text s → IsWriteCount s before before
-refusal_count text (status.BadInput line) before why = refl
-refusal_count text status.TooManyEvents before why = refl
-refusal_count text status.Limit before why = refl
-refusal_count text status.NoMemory before why = refl
-refusal_count text status.Done before why = absurd why
-refusal_count text status.Usage before why = absurd why
-refusal_count text status.ReadFault before why = absurd why
-refusal_count text status.WriteFault before why = absurd why
+-- what is told where the input was not read
 
-pub unread_count : (left rest : Option (List ℕ)) (s : Status) (before : ℕ) → IsUnread left rest s → IsWriteCount s before before
-unread_count left rest status.ReadFault before why = refl
-unread_count left rest status.Limit before why = refl
-unread_count left rest status.NoMemory before why = refl
-unread_count left rest status.Done before why = absurd why
-unread_count left rest status.Usage before why = absurd why
-unread_count left rest (status.BadInput line) before why = absurd why
-unread_count left rest status.WriteFault before why = absurd why
-unread_count left rest status.TooManyEvents before why = absurd why
+-- the answers to an input that was not read
+abbrev IsOfInput : Status → Type 0
+IsOfInput status.ReadFault = Unit {0}
+IsOfInput status.Limit = Unit {0}
+IsOfInput status.NoMemory = Unit {0}
+IsOfInput s = ⊥
 
--- no picture was written where none was made, or where the input was not read
+of_input : (r : ReadRefusal) → IsOfInput (unread r)
+of_input reads.Failed = tt
+of_input reads.TooLong = tt
+of_input reads.NoMemory = tt
 
-pub refusal_not_done : (Flushed : Type 0) (text : List ℕ) (s : Status) → IsRefusal text s → s ≡ status.Done → Flushed
-refusal_not_done Flushed text s why is = absurd (subst (IsRefusal text) is why)
+pub unread_other : (r : ReadRefusal) (s why : Status) → s ≡ unread r → ¬ (IsOfInput why) → ¬ (s ≡ why)
+unread_other r s why is none same = none (subst IsOfInput (sym is ∙ same) (of_input r))
 
-pub unread_not_done : (Flushed : Type 0) (left rest : Option (List ℕ)) (s : Status) → IsUnread left rest s → s ≡ status.Done → Flushed
-unread_not_done Flushed left rest s why is = absurd (subst (IsUnread left rest) is why)
+pub unread_counts : (r : ReadRefusal) (s : Status) (before now : ℕ) → s ≡ unread r → TellsFault before now (Err r)
+    → CountsFaults status.ReadFault s before now
+unread_counts reads.Failed s before now is rose = inl (is, rose)
+unread_counts reads.TooLong s before now is same =
+    inr (λ fault. let clash : status.Limit ≡ status.ReadFault = sym is ∙ fault in grind (arith, clash), same)
+unread_counts reads.NoMemory s before now is same =
+    inr (λ fault. let clash : status.NoMemory ≡ status.ReadFault = sym is ∙ fault in grind (arith, clash), same)
 
-pub read_kept : (s : Status) (before now : ℕ) → ¬ (s ≡ status.ReadFault) → now ≡ before → IsReadCount s before now
-read_kept status.ReadFault before now other same = absurd (other refl)
-read_kept status.Done before now other same = same
-read_kept status.Usage before now other same = same
-read_kept (status.BadInput line) before now other same = same
-read_kept status.WriteFault before now other same = same
-read_kept status.NoMemory before now other same = same
-read_kept status.Limit before now other same = same
-read_kept status.TooManyEvents before now other same = same
+-- at Done it was flushed, if it was wherever no write failed
+pub done_flushed : (Flushed : Type 0) (s : Status) → (¬ (s ≡ status.WriteFault) → Flushed) → s ≡ status.Done → Flushed
+done_flushed Flushed s flushed is =
+    flushed (λ failed. let clash : status.Done ≡ status.WriteFault = sym is ∙ failed in grind (arith, clash))

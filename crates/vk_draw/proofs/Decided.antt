@@ -2,12 +2,13 @@
 use Rattle.std.proofs.Common.{◌≡◌, ℕ, ◌<◌, ◌≤◌, true, false, nat_lt, cond, List, length, Option, inl, inr, refl, sym, ap, ◌∙◌, arith}
 use Rattle.std.proofs.lemmas.Bool.{cases_Bool, cond-true, cond-false, le-ltb, lt-ltb}
 use Rattle.vk_base.specs.declared.limits.TheConstants.{INPUT_BYTES}
+use Rattle.vk_edge.proofs.Inputs.{weaker}
+use Rattle.vk_edge.specs.Inputs.{OfInput}
 use Rattle.vk_schedule.specs.declared.schedule.Schedule.{Schedule}
 use Rattle.vk_schedule.specs.Schedule.{schedule_of}
 use Rattle.vk_picture.specs.declared.svg.TheConstants.{ROWS}
 use Rattle.vk_top.proofs.Fronts.{fits_all, full_before, refused_within}
 use Rattle.vk_top.specs.Report.{is_cut, taken_of}
-use Rattle.vk_top.specs.Top.{OfInput}
 use Rattle.vk_draw.specs.declared.status.Status.{Status}
 use Rattle.vk_draw.specs.declared.status.Status.TheVariants as status
 use Rattle.vk_draw.specs.Top.{Fits, HasTooLarge, HasTooMany, IsDecided, IsDrawn, IsFront, IsOfText, IsPicture, IsRefusal, IsRefused, IsTooLarge, schedule_status, status_of, text_status}
@@ -85,22 +86,19 @@ refused_asked i s told (inl long) = long_asked i long.1 ∙ sym long.0
 refused_asked i s told (inr short) = short_asked i short.0 ∙ refusal_asked i s told short.1
 
 -- from what holds of the input to what it asks for
-asked_of : (told : Option (List ℕ)) (P Q : List ℕ → Type 0) → ((i : List ℕ) → P i → Q i) → OfInput told P → OfInput told Q
-asked_of told P Q more is = record { input = is.input; all = is.all; holds = more is.input is.holds }
-
 module _ (Unchanged : Type 0) (left rest old new : Option (List ℕ)) where
   told_is : (s : Status) → IsOfText s → IsOutcome Unchanged left rest old new s → OfInput left (λ i. status_of i ≡ s)
-  told_is s told is = asked_of left (λ i. IsRefused i s) (λ i. status_of i ≡ s) (λ i. refused_asked i s told) (is.refused told)
+  told_is s told is = weaker left (λ i. IsRefused i s) (λ i. status_of i ≡ s) (λ i. refused_asked i s told) (is.refused told)
 
   pub decided_is : (s : Status) → IsOutcome Unchanged left rest old new s → IsDecided left s
   decided_is (status.BadInput line) is = told_is (status.BadInput line) tt is
   decided_is status.TooManyEvents is = told_is status.TooManyEvents tt is
   decided_is status.Limit is = told_is status.Limit tt is
   decided_is status.Done is =
-      asked_of left (λ i. IsDrawn i old new) (λ i. status_of i ≡ status.Done)
+      weaker left (λ i. IsDrawn i old new) (λ i. status_of i ≡ status.Done)
       (λ i drawn. picture_asked i drawn.drawn drawn.small drawn.picture) (is.done refl)
   decided_is status.WriteFault is =
-      asked_of left (λ i. IsFront i old new) (λ i. status_of i ≡ status.Done)
+      weaker left (λ i. IsFront i old new) (λ i. status_of i ≡ status.Done)
       (λ i front. picture_asked i front.drawn front.small front.picture) (is.front refl)
   decided_is status.Usage is = tt
   decided_is status.ReadFault is = tt

@@ -15,6 +15,7 @@ use Rattle.vk_schedule.specs.Lawful.{has_actors}
 use Rattle.vk_rules.specs.Histories.{Logs, history_of, logs_after, no_entries}
 unfoldable use Rattle.vk_rules.specs.Histories.{happened, logs_from}
 use Rattle.vk_top.proofs.Fronts.{taken_more}
+use Rattle.vk_top.proofs.Plays.{full_by}
 use Rattle.vk_picture.specs.declared.picture.Row.{Row}
 use Rattle.vk_draw.specs.Playing.{ArePlayed, IsHad, next_row}
 use Rattle.vk_draw.specs.Rows.{row_of, rows_of}
@@ -43,10 +44,6 @@ as_many c es = rows_many c es no_entries 0
 pub played_none : (c : Settings) (es : List Event) (now : ClusterValue) → StandsFor c [] now → ArePlayed c es 0 [] now
 unfolding rows_from
 played_none c es now stands = record { rows_are = refl; many = refl; stands = stands; fits = λ m low. absurd (omega (arith, low)) }
-
-full_by : (a b : Bool) → ¬ (a ≡ true) → (a || b) ≡ true → b ≡ true
-full_by true b not is = absurd (not refl)
-full_by false b not is = is
 
 -- what holds below a number and at it
 up_to : (P : ℕ → Type 0) (n : ℕ) → ((m : ℕ) → m < n → P m) → P n → (m : ℕ) → m < n + 1 → P m

@@ -1,13 +1,9 @@
 -- What is drawn of a history.
 use Rattle.std.specs.Prelude.{ℕ, ◌+◌, List, [], ◌∷◌, map, Option, Some, None}
-use Rattle.vk_base.specs.declared.answer.Answer.{Answer}
+use Rattle.vk_types.specs.Types.{Answer, Call, EventAnswer, Pid, Step}
 use Rattle.vk_base.specs.declared.answer.Answer.TheVariants as answers
-use Rattle.vk_base.specs.declared.call.Call.{Call}
 use Rattle.vk_base.specs.declared.call.Call.TheVariants as calls
-use Rattle.vk_base.specs.declared.event.EventAnswer.{EventAnswer}
 use Rattle.vk_base.specs.declared.event.EventAnswer.TheVariants as event_answers
-use Rattle.vk_base.specs.declared.pid.Pid.{Pid}
-use Rattle.vk_base.specs.declared.step.Step.{Step}
 use Rattle.vk_base.specs.declared.step.Step.TheVariants as steps
 use Rattle.vk_base.specs.Settings.{Settings}
 use Rattle.vk_schedule.specs.declared.event.Event.{Event}
@@ -15,7 +11,6 @@ use Rattle.vk_schedule.specs.declared.event.Event.TheVariants as events
 use Rattle.vk_schedule.specs.declared.schedule.Schedule.{Schedule}
 use Rattle.vk_rules.specs.Frames.{Frame}
 use Rattle.vk_rules.specs.Histories.{Happened, At, Missing, Logs, happened, logs_after, no_entries}
-use Rattle.vk_top.specs.Report.{kind_of}
 use Rattle.vk_picture.specs.declared.picture.Act.{Act}
 use Rattle.vk_picture.specs.declared.picture.Act.TheVariants as acts
 use Rattle.vk_picture.specs.declared.picture.CallKind.{CallKind}
@@ -28,6 +23,7 @@ use Rattle.vk_picture.specs.declared.picture.Said.TheVariants as said
 use Rattle.vk_picture.specs.declared.picture.StepKind.TheVariants as marks
 use Rattle.vk_picture.specs.declared.picture.StepMark.{StepMark}
 use Rattle.vk_picture.specs.Places.{columns_of}
+use Rattle.vk_report.specs.Report.{kind_of}
 
 abbrev pub call_kind : Call → CallKind
 call_kind (calls.Send target message) = kinds.Send

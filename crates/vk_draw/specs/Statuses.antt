@@ -1,16 +1,23 @@
--- The number and the text of each status.
+-- The number and the text of each status, and which one is answered for what.
 use Rattle.std.specs.Prelude.{ℕ, List, [], ◌++◌, codes, decimal}
+use Rattle.vk_cluster.specs.declared.report.ClusterRefusal.{ClusterRefusal}
+use Rattle.vk_cluster.specs.declared.report.ClusterRefusal.TheVariants as clusters
+use Rattle.vk_edge.specs.declared.numbers.TheConstants.{BAD_INPUT, DONE, LIMIT, NO_MEMORY, READ_FAULT, USAGE, WRITE_FAULT}
+use Rattle.vk_io.specs.declared.whole.ReadRefusal.{ReadRefusal}
+use Rattle.vk_io.specs.declared.whole.ReadRefusal.TheVariants as reads
+use Rattle.vk_schedule.specs.declared.schedule.TextRefusal.{TextRefusal}
+use Rattle.vk_schedule.specs.declared.schedule.TextRefusal.TheVariants as schedules
 use Rattle.vk_draw.specs.declared.status.Status.{Status}
 use Rattle.vk_draw.specs.declared.status.Status.TheVariants as status
 
 abbrev pub number_of : Status → ℕ
-number_of status.Done = 0
-number_of status.Usage = 2
-number_of (status.BadInput line) = 3
-number_of status.ReadFault = 4
-number_of status.WriteFault = 5
-number_of status.NoMemory = 6
-number_of status.Limit = 8
+number_of status.Done = DONE
+number_of status.Usage = USAGE
+number_of (status.BadInput line) = BAD_INPUT
+number_of status.ReadFault = READ_FAULT
+number_of status.WriteFault = WRITE_FAULT
+number_of status.NoMemory = NO_MEMORY
+number_of status.Limit = LIMIT
 number_of status.TooManyEvents = 9
 
 abbrev pub text_of : Status → List ℕ
@@ -22,3 +29,20 @@ text_of status.WriteFault = codes "vkdraw: writing failed"
 text_of status.NoMemory = codes "vkdraw: out of memory"
 text_of status.Limit = codes "vkdraw: limit reached"
 text_of status.TooManyEvents = codes "vkdraw: more than 500 events"
+
+-- the answer to an input that is not read whole
+abbrev pub unread : ReadRefusal → Status
+unread reads.Failed = status.ReadFault
+unread reads.TooLong = status.Limit
+unread reads.NoMemory = status.NoMemory
+
+-- the answer to a text that is not read; only code can want memory
+abbrev pub refused : TextRefusal → Status
+refused (schedules.BadInput line) = status.BadInput line
+refused schedules.Limit = status.TooManyEvents
+refused schedules.NoMemory = status.NoMemory
+
+-- the answer where an event is refused
+abbrev pub refused_event : ClusterRefusal → Status
+refused_event clusters.Limit = status.Limit
+refused_event clusters.NoMemory = status.NoMemory

@@ -2,7 +2,7 @@
 use Rattle.std.specs.Prelude.{ℕ, ◌≡◌, ◌<◌, ◌≤◌, ◌⊎◌, nat_lt, List, length, take, Option, Result, Ok, Err, if◌then◌else◌}
 use Rattle.std.specs.Io.KnownBytes.{Appends}
 use Rattle.vk_base.specs.declared.limits.TheConstants.{INPUT_BYTES}
-use Rattle.vk_io.specs.Causes.{Rose}
+use Rattle.vk_edge.specs.Inputs.{OfInput}
 use Rattle.vk_cluster.specs.declared.emitted.TheConstants.{LAST_BYTES}
 use Rattle.vk_cluster.specs.Standing.{emitted_bytes}
 use Rattle.vk_schedule.specs.declared.schedule.Schedule.{Schedule}
@@ -12,10 +12,10 @@ use Rattle.vk_schedule.specs.Schedule.{schedule_of}
 use Rattle.vk_picture.specs.declared.svg.TheConstants.{ROWS}
 use Rattle.vk_picture.specs.Svg.{picture_text}
 use Rattle.vk_top.specs.Report.{history_before, is_cut}
-use Rattle.vk_top.specs.Top.{OfInput}
 use Rattle.vk_draw.specs.declared.status.Status.{Status}
 use Rattle.vk_draw.specs.declared.status.Status.TheVariants as status
 use Rattle.vk_draw.specs.Rows.{picture_of}
+use Rattle.vk_draw.specs.Statuses.{refused}
 
 -- before an event of the schedule the emitted frames hold too many bytes
 abbrev pub IsTooLarge : Schedule → Type 0
@@ -75,9 +75,7 @@ schedule_status s = if nat_lt ROWS (length s.events) then status.TooManyEvents e
 -- what a text asks for; only code can want memory, so that no text has this refusal
 abbrev pub text_status : Result Schedule TextRefusal → Status
 text_status (Ok s) = schedule_status s
-text_status (Err (schedules.BadInput line)) = status.BadInput line
-text_status (Err schedules.Limit) = status.TooManyEvents
-text_status (Err schedules.NoMemory) = status.NoMemory
+text_status (Err why) = refused why
 
 -- what an input asks for
 abbrev pub status_of : List ℕ → Status
@@ -103,16 +101,6 @@ abbrev pub IsEarly : Status → Type 0
 IsEarly status.Done = ⊥
 IsEarly status.WriteFault = ⊥
 IsEarly s = Unit {0}
-
--- the count of a source's faults: it rose where the answer is that a read failed, and else is as it was
-abbrev pub IsReadCount : Status → ℕ → ℕ → Type 0
-IsReadCount status.ReadFault before now = Rose before now
-IsReadCount s before now = now ≡ before
-
--- that of a sink's
-abbrev pub IsWriteCount : Status → ℕ → ℕ → Type 0
-IsWriteCount status.WriteFault before now = Rose before now
-IsWriteCount s before now = now ≡ before
 
 -- so many bytes of a picture that the input asks for are written behind what stood written
 pub record IsFront (input : List ℕ) (old new : Option (List ℕ)) : Type 0 where

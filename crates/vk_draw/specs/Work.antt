@@ -1,23 +1,10 @@
 -- What the parts of the top call promise one another.
-use Rattle.std.specs.Prelude.{ℕ, ◌≡◌, ◌<◌, ◌≤◌, ◌⊎◌, List, [], length, Option, Some, IfSome}
-use Rattle.std.specs.Io.KnownBytes.{Appends}
+use Rattle.std.specs.Prelude.{ℕ, ◌≡◌, ◌<◌, ◌≤◌, List, [], length, Option, Some, IfSome}
 use Rattle.vk_base.specs.declared.limits.TheConstants.{INPUT_BYTES}
-use Rattle.vk_io.specs.Causes.{LosesFront}
-use Rattle.vk_top.specs.Top.{OfInput}
+use Rattle.vk_edge.specs.Inputs.{IsReadPartly, OfInput}
 use Rattle.vk_draw.specs.declared.status.Status.{Status}
 use Rattle.vk_draw.specs.declared.status.Status.TheVariants as status
 use Rattle.vk_draw.specs.Top.{IsDrawn, IsEarly, IsFront, IsLate, IsOfText, IsRefusal, IsRefused}
-
--- why the input was not read whole
-abbrev pub IsUnread : Option (List ℕ) → Option (List ℕ) → Status → Type 0
-IsUnread left rest status.ReadFault = Unit {0}
-IsUnread left rest status.Limit = LosesFront left rest (λ n. INPUT_BYTES < n)
-IsUnread left rest status.NoMemory = LosesFront left rest (λ n. (0 < n) × (n ≤ INPUT_BYTES))
-IsUnread left rest s = ⊥
-
--- all was written, or a write failed
-abbrev pub IsWritten : List ℕ → Option (List ℕ) → Option (List ℕ) → Status → Type 0
-IsWritten text old new s = ((s ≡ status.Done) × Appends old new text) ⊎ (s ≡ status.WriteFault)
 
 -- what the answer to a text says, which was read whole
 pub record IsAnswered (Unchanged : Type 0) (text : List ℕ) (old new : Option (List ℕ)) (s : Status) : Type 0 where
@@ -34,6 +21,6 @@ pub record IsOutcome (Unchanged : Type 0) (left rest old new : Option (List ℕ)
   pub done : s ≡ status.Done → OfInput left (λ i. IsDrawn i old new)
   pub whole : IsLate s → IfSome left (λ i. length i ≤ INPUT_BYTES → rest ≡ Some [])
   pub refused : IsOfText s → OfInput left (λ i. IsRefused i s)
-  pub memory : s ≡ status.NoMemory → LosesFront left rest (λ n. (0 < n) × (n ≤ INPUT_BYTES))
+  pub memory : s ≡ status.NoMemory → IsReadPartly left rest
   pub nothing : IsEarly s → Unchanged
   pub front : s ≡ status.WriteFault → OfInput left (λ i. IsFront i old new)

@@ -1,56 +1,27 @@
 //! What is drawn of the frames of an event.
 
-ghost use Rattle.std.specs.Prelude.{◌≡◌, List, map, IfOk};
-ghost use Rattle.vk_host.specs.Sealed.{sealed};
-ghost use Rattle.vk_packet.specs.Views.{value_of};
+ghost use Rattle.std.specs.Prelude.{◌≡◌, ◌<◌, List, length, map, slice_get, Some, IfOk};
 ghost use Rattle.vk_rules.specs.Frames.{Frame as TheFrame};
-ghost use Rattle.v_lawful.specs.Sending.{IsLawfulFrame};
 ghost use Rattle.vk_cluster.specs.Shown.{Sends};
-ghost use Rattle.vk_top.specs.Report.{kind_of};
 ghost use Rattle.vk_draw.specs.Rows.{frame_mark};
 
 use std::alloc::Global;
 use vk_base::{List, NoMemory};
-use vk_frame::unseal;
 use vk_host::Host;
-use vk_packet::{PacketView, decode};
 use vk_picture::FrameMark;
-use vk_report::PacketKind;
-use vk_rules::frames_unseal_again;
+use vk_report::kind_of;
 
-fn kind_of(packet: &PacketView) -> PacketKind
-    ensures { result ≡ kind_of (value_of packet.now) }
+/// The output number and the kind of frame number `at` of the station's last event, counted from 0: the kind is that of the packet's first
+/// byte, and the frame is not opened.
+fn frame_mark(station: &Host, at: u32) -> FrameMark
+    requires at { at < length station.now.frames }
+    requires sends { (fs : List TheFrame) × Sends station.now fs }
+    ensures { (fs : List TheFrame) → Sends station.now fs → slice_get (map frame_mark fs) at ≡ Some result }
 {
-    match packet {
-        PacketView::Send { .. } => PacketKind::Send,
-        PacketView::Reply { .. } => PacketKind::Reply,
-        PacketView::Pending { .. } => PacketKind::Pending,
-        PacketView::Negative { .. } => PacketKind::Negative,
-        PacketView::MoveData { .. } => PacketKind::MoveData,
-        PacketView::MoveAck { .. } => PacketKind::MoveAck,
-        PacketView::MoveRequest { .. } => PacketKind::MoveRequest,
-        PacketView::MoveBytes { .. } => PacketKind::MoveBytes,
-        PacketView::MoveNegative { .. } => PacketKind::MoveNegative,
-        PacketView::AskPid { .. } => PacketKind::AskPid,
-        PacketView::TellPid { .. } => PacketKind::TellPid,
-    }
-}
-
-/// The output number and the kind of a lawful frame with these bytes.
-fn frame_mark(bytes: &[u8]) -> FrameMark
-    requires { (f : TheFrame) × IsLawfulFrame f × (bytes.now ≡ sealed f) }
-    ensures { (f : TheFrame) → IsLawfulFrame f → bytes.now ≡ sealed f → result ≡ frame_mark f }
-{
-    frames_unseal_again();
-    let Some((header, rest)) = unseal(bytes) else {
-        unreachable!()
-    };
-    let Some(packet) = decode(rest) else {
-        unreachable!()
-    };
+    let (_, packet) = station.packet(at);
     FrameMark {
-        kind: kind_of(&packet),
-        output: header.output,
+        kind: kind_of(packet[0]),
+        output: at as u16 + 1,
     }
 }
 
@@ -61,7 +32,7 @@ pub(crate) fn frame_marks(alloc: Global, station: &Host) -> Result<List<FrameMar
 {
     let mut marks = List::empty(alloc);
     for at in 0..station.frame_count() {
-        marks.push(frame_mark(station.frame(at)))?;
+        marks.push(frame_mark(station, at))?;
     }
     Ok(marks)
 }

@@ -25,23 +25,23 @@ use vk_host::Host;
 use vk_picture::{Picture, ROWS, Row, Said, columns_of};
 use vk_schedule::{Event, Schedule};
 
-/// The station's last event, its own event `own`, which was answered so.
+/// The station's last event, of which the cluster reports, and which was answered so.
 fn station_row(
     alloc: Global,
     station: &Host,
     number: u16,
     event: &Event,
-    host: u16,
-    own: u64,
+    report: &StepReport,
     answer: &EventAnswer,
 ) -> Result<Row, NoMemory>
     requires { (e : Entry) × IsLast station.now answer.now e }
-    ensures { IfOk result (λ row. (e : Entry) → IsLast station.now answer.now e → row ≡ row_of number event.now (At host own e)) }
+    ensures { IfOk result (λ row. (e : Entry) → IsLast station.now answer.now e →
+        row ≡ row_of number event.now (At report.now.host report.now.event e)) }
 {
     Ok(Row {
         number,
-        host,
-        own,
+        host: report.host,
+        own: report.event,
         act: act_of(event),
         said: said_of(answer),
         steps: step_marks(alloc, station.steps())?,
@@ -80,15 +80,7 @@ fn row_by(
         ClusterAnswer::Missing => Ok(missing_row(alloc, number, event, report.host)),
         ClusterAnswer::Event { answer } => {
             let station = cluster.host(report.host);
-            station_row(
-                alloc,
-                station,
-                number,
-                event,
-                report.host,
-                report.event,
-                answer,
-            )
+            station_row(alloc, station, number, event, report, answer)
         }
     }
 }
@@ -153,11 +145,7 @@ fn rows_of(
 {
     let mut rows = List::empty(alloc);
     for event in events {
-        match put_event(alloc, cluster, &mut rows, event) {
-            Ok(()) => {}
-            Err(ClusterRefusal::Limit) => return Err(Status::Limit),
-            Err(ClusterRefusal::NoMemory) => return Err(Status::NoMemory),
-        }
+        put_event(alloc, cluster, &mut rows, event)?;
     }
     Ok(rows)
 }
@@ -171,14 +159,8 @@ pub(crate) fn picture_of(alloc: Global, schedule: &Schedule) -> Result<Picture, 
     ensures fits { OnOk result (Fits schedule.now) }
     ensures refused { IfErr result (λ e. (e ≡ Status.NoMemory) ⊎ ((e ≡ Status.Limit) × IsTooLarge schedule.now)) }
 {
-    let Ok(columns) = columns_of(alloc, schedule.config.specs()) else {
-        return Err(Status::NoMemory);
-    };
-    let Ok(mut cluster) = Cluster::new(alloc, &schedule.config) else {
-        return Err(Status::NoMemory);
-    };
-    match rows_of(alloc, &mut cluster, schedule, schedule.events.as_slice()) {
-        Ok(rows) => Ok(Picture { columns, rows }),
-        Err(status) => Err(status),
-    }
+    let columns = columns_of(alloc, schedule.config.specs())?;
+    let mut cluster = Cluster::new(alloc, &schedule.config)?;
+    let rows = rows_of(alloc, &mut cluster, schedule, schedule.events.as_slice())?;
+    Ok(Picture { columns, rows })
 }

@@ -1,9 +1,10 @@
-ghost use Rattle.std.specs.Prelude.{◌≡◌, ◌<◌, ◌≤◌, ◌⊎◌, ℕ, [], false, length, Ok, Some, map, take, string_bytes, IfSome, IfOk, IfErr, OnOk};
-ghost use Rattle.std.specs.Io.KnownBytes.{Appends};
+ghost use Rattle.std.specs.Prelude.{◌≡◌, ◌≤◌, ◌⊎◌, [], false, length, Ok, Some, map, string_bytes, IfSome, IfOk, IfErr};
+ghost use Rattle.vk_base.specs.declared.limits.TheConstants.{INPUT_BYTES};
+ghost use Rattle.vk_edge.specs.Answers.{CountsFaults};
+ghost use Rattle.vk_edge.specs.Inputs.{IsWanting, OfInput};
 ghost use Rattle.vk_schedule.specs.Schedule.{schedule_of};
-ghost use Rattle.vk_top.specs.Top.{IsWanting, OfInput};
-ghost use Rattle.vk_draw.specs.Top.{IsDecided, IsDrawn, IsEarly, IsLate, IsOfText, IsPicture, IsFront, IsReadCount, IsRefusal, IsRefused, IsWriteCount};
-ghost use Rattle.vk_draw.specs.Work.{IsAnswered, IsOutcome, IsUnread, IsWritten};
+ghost use Rattle.vk_draw.specs.Top.{IsDecided, IsDrawn, IsEarly, IsLate, IsOfText, IsPicture, IsFront, IsRefusal, IsRefused};
+ghost use Rattle.vk_draw.specs.Work.{IsAnswered, IsOutcome};
 ghost use Rattle.vk_draw.specs.Words.{are_good};
 
 use crate::playing::picture_of;
@@ -11,10 +12,10 @@ use crate::status::Status;
 use crate::words::read_words;
 use std::alloc::Global;
 use vk_base::NoMemory;
-use vk_base::limits::INPUT_BYTES;
-use vk_io::{Failed, ReadRefusal, Sink, Source, read_all, write_all};
+use vk_edge::{read_text, write_text};
+use vk_io::{Sink, Source};
 use vk_picture::{ROWS, picture_text};
-use vk_schedule::{Schedule, TextRefusal, read_schedule};
+use vk_schedule::{Schedule, read_schedule};
 
 /// The picture of the schedule that the text spells.
 fn draw_schedule(alloc: Global, text: &[u8], schedule: &Schedule) -> Result<Vec<u8>, Status>
@@ -25,14 +26,9 @@ fn draw_schedule(alloc: Global, text: &[u8], schedule: &Schedule) -> Result<Vec<
     if schedule.events.len() > ROWS {
         return Err(Status::TooManyEvents);
     }
-    let picture = match picture_of(alloc, schedule) {
-        Ok(picture) => picture,
-        Err(status) => return Err(status),
-    };
-    match picture_text(alloc, &picture) {
-        Ok(drawn) => Ok(drawn),
-        Err(NoMemory) => Err(Status::NoMemory),
-    }
+    let picture = picture_of(alloc, schedule)?;
+    let drawn = picture_text(alloc, &picture)?;
+    Ok(drawn)
 }
 
 /// The picture of the schedule that the text spells, where it spells one.
@@ -40,55 +36,19 @@ fn draw(alloc: Global, text: &[u8]) -> Result<Vec<u8>, Status>
     ensures drawn { IfOk result (λ drawn. IsPicture text.now drawn.items) }
     ensures refused { IfErr result (IsRefusal text.now) }
 {
-    match read_schedule(alloc, text) {
-        Ok(schedule) => draw_schedule(alloc, text, &schedule),
-        Err(TextRefusal::BadInput { line }) => Err(Status::BadInput { line }),
-        Err(TextRefusal::Limit) => Err(Status::TooManyEvents),
-        Err(TextRefusal::NoMemory) => Err(Status::NoMemory),
-    }
-}
-
-/// The text of the input, read to its end.
-fn read_text<S: Source>(alloc: Global, input: &mut S) -> Result<Vec<u8>, Status>
-    ensures text { IfOk result (λ text. (length text.items ≤ INPUT_BYTES)
-        × IfSome (S.left input.old) (λ i. (text.items ≡ i) × (S.left input.new ≡ Some []))) }
-    ensures refused { IfErr result (IsUnread (S.left input.old) (S.left input.new)) }
-    ensures kept { OnOk result (S.fault_count input.new ≡ S.fault_count input.old) }
-    ensures count { IfErr result (λ s. IsReadCount s (S.fault_count input.old) (S.fault_count input.new)) }
-{
-    match read_all(alloc, input, INPUT_BYTES) {
-        Ok(text) => Ok(text),
-        Err(ReadRefusal::Failed) => Err(Status::ReadFault),
-        Err(ReadRefusal::TooLong) => Err(Status::Limit),
-        Err(ReadRefusal::NoMemory) => Err(Status::NoMemory),
-    }
-}
-
-/// Writes the whole text and flushes.
-fn write_text<K: Sink>(output: &mut K, text: &[u8]) -> Status
-    ensures written { IsWritten text.now (K.written output.old) (K.written output.new) result }
-    ensures count { IsWriteCount result (K.fault_count output.old) (K.fault_count output.new) }
-    ensures front { (n : ℕ) × Appends (K.written output.old) (K.written output.new) (take n text.now) }
-    ensures flushed { result ≡ Status.Done → K.flushed output.new }
-{
-    if let Err(Failed) = write_all(output, text) {
-        return Status::WriteFault;
-    }
-    match output.flush() {
-        Ok(()) => Status::Done,
-        Err(Failed) => Status::WriteFault,
-    }
+    let schedule = read_schedule(alloc, text)?;
+    draw_schedule(alloc, text, &schedule)
 }
 
 /// The whole work on a text that was read.
 fn answer<K: Sink>(alloc: Global, text: &[u8], output: &mut K) -> Status
     requires { length text.now ≤ INPUT_BYTES }
     ensures answered { IsAnswered (output.new ≡ output.old) text.now (K.written output.old) (K.written output.new) result }
-    ensures count { IsWriteCount result (K.fault_count output.old) (K.fault_count output.new) }
+    ensures count { CountsFaults Status.WriteFault result (K.fault_count output.old) (K.fault_count output.new) }
     ensures flushed { result ≡ Status.Done → K.flushed output.new }
 {
     match draw(alloc, text) {
-        Ok(drawn) => write_text(output, &drawn),
+        Ok(drawn) => write_text(output, &drawn, Status::Done, Status::WriteFault),
         Err(status) => status,
     }
 }
@@ -99,12 +59,12 @@ fn serve<S: Source, K: Sink>(alloc: Global, input: &mut S, output: &mut K) -> St
         (K.written output.old) (K.written output.new) result }
     ensures decided { IsDecided (S.left input.old) result }
     ensures flushed { result ≡ Status.Done → K.flushed output.new }
-    ensures read_count { IsReadCount result (S.fault_count input.old) (S.fault_count input.new) }
-    ensures write_count { IsWriteCount result (K.fault_count output.old) (K.fault_count output.new) }
+    ensures read_count { CountsFaults Status.ReadFault result (S.fault_count input.old) (S.fault_count input.new) }
+    ensures write_count { CountsFaults Status.WriteFault result (K.fault_count output.old) (K.fault_count output.new) }
 {
     match read_text(alloc, input) {
         Ok(text) => answer(alloc, &text, output),
-        Err(status) => status,
+        Err(refusal) => Status::from(refusal),
     }
 }
 
@@ -137,8 +97,8 @@ pub fn vkdraw<S: Source, K: Sink>(
     ensures whole { IsLate result → IfSome (S.left input.old) (λ i. length i ≤ INPUT_BYTES → S.left input.new ≡ Some []) }
 
     // ReadFault is answered only where a fault of the input was counted, and every such fault is told so; WriteFault likewise.
-    ensures read_count { IsReadCount result (S.fault_count input.old) (S.fault_count input.new) }
-    ensures write_count { IsWriteCount result (K.fault_count output.old) (K.fault_count output.new) }
+    ensures read_count { CountsFaults Status.ReadFault result (S.fault_count input.old) (S.fault_count input.new) }
+    ensures write_count { CountsFaults Status.WriteFault result (K.fault_count output.old) (K.fault_count output.new) }
 
     // NoMemory comes before anything is read, where the words take it, or where some of the input was read, and not a byte too many.
     ensures memory { result ≡ Status.NoMemory → IsWanting (input.new ≡ input.old) (S.left input.old) (S.left input.new) }

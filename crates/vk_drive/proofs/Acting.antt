@@ -4,8 +4,7 @@ use Rattle.std.specs.Prelude.{option_to_list}
 use Rattle.std.proofs.lemmas.Bool.{cond-true, cond-false}
 use Rattle.std.proofs.lemmas.Grind.{flat_map-append}
 use Rattle.std.proofs.lemmas.List.{append-nil}
-use Rattle.vk_base.specs.declared.answer.Answer.{Answer}
-use Rattle.vk_base.specs.declared.event.EventAnswer.{EventAnswer}
+use Rattle.vk_types.specs.Types.{Answer, EventAnswer}
 use Rattle.vk_base.specs.declared.event.EventAnswer.TheVariants as given
 use Rattle.vk_cluster.specs.declared.report.ClusterAnswer.{ClusterAnswer}
 use Rattle.vk_cluster.specs.declared.report.ClusterAnswer.TheVariants as answers

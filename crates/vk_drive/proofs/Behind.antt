@@ -1,17 +1,17 @@
 -- A history with what happened at one event more.
-use Rattle.std.proofs.Common.{◌≡◌, ℕ, ◌+◌, ◌≤◌, Bool, cond, List, [], ◌∷◌, ◌++◌, length, sym, ap, subst, ◌∙◌, length-append, arith}
+use Rattle.std.proofs.Common.{◌≡◌, ℕ, ◌+◌, ◌≤◌, Bool, cond, List, [], ◌∷◌, ◌++◌, length, sym, ap, ◌∙◌, length-append, arith}
 use Rattle.std.proofs.lemmas.Grind.{flat_map-append}
 use Rattle.std.proofs.lemmas.List.{append-nil, length-map}
 use Rattle.std.proofs.lemmas.List.Sums.{sum_by-append, count_by-le-length}
+use Rattle.vk_base.proofs.BoolLemmas.{plus_zero}
 use Rattle.circular_buffer.specs.Buffer.{Buffer}
-use Rattle.vk_base.specs.declared.event.EventAnswer.{EventAnswer}
+use Rattle.vk_types.specs.Types.{EventAnswer, Pid}
 use Rattle.vk_frame.specs.declared.header.Header.{Header}
-use Rattle.vk_base.specs.declared.pid.Pid.{Pid}
 use Rattle.vk_schedule.specs.declared.event.Event.{Event}
 use Rattle.vk_rules.specs.Entries.{Entry, is_frame_taken}
 use Rattle.vk_rules.specs.Histories.{At, Happened, Missing, happened, history_of, no_entries}
 use Rattle.vk_cluster.specs.declared.report.StepReport.{StepReport}
-use Rattle.vk_cluster.specs.Standing.{IsNext, StandsFor, logs_of}
+use Rattle.vk_cluster.specs.Standing.{IsNext, logs_of}
 use Rattle.vk_cluster.proofs.Logs.{history_more}
 use Rattle.vk_drive.specs.declared.course.Course.{Course}
 use Rattle.vk_drive.specs.Tasks.{settings}
@@ -57,18 +57,15 @@ counts_at hs host event e =
       timedout = count_more hs h is_timed_out i;
     })
 
-none_more : (n : ℕ) → n + 0 ≡ n
-none_more n = omega arith
-
 pub counts_missing : (hs : List Happened) (host : ℕ) → counts_of (hs ++ Missing host ∷ []) ≡ counts_of hs
 counts_missing hs host =
     let h : Happened = Missing host in
     (λ i. record {
-      frames = (frames_count hs h ∙ none_more (length (all_emitted hs))) i;
-      taken = (count_more hs h is_frame_taken ∙ none_more (count_answered is_frame_taken hs)) i;
-      late = (count_more hs h is_old ∙ none_more (count_answered is_old hs)) i;
-      answers = (count_more hs h is_told ∙ none_more (count_answered is_told hs)) i;
-      timedout = (count_more hs h is_timed_out ∙ none_more (count_answered is_timed_out hs)) i;
+      frames = (frames_count hs h ∙ plus_zero (length (all_emitted hs))) i;
+      taken = (count_more hs h is_frame_taken ∙ plus_zero (count_answered is_frame_taken hs)) i;
+      late = (count_more hs h is_old ∙ plus_zero (count_answered is_old hs)) i;
+      answers = (count_more hs h is_told ∙ plus_zero (count_answered is_told hs)) i;
+      timedout = (count_more hs h is_timed_out ∙ plus_zero (count_answered is_timed_out hs)) i;
     })
 
 pub noted_missing : (hs : List Happened) (host : ℕ) (recent : Buffer Header) (counts : Counts) → IsNoted hs recent counts →
@@ -106,14 +103,11 @@ low hs recent counts noted few =
     }
 
 -- the event happened, and was noted
-pub course_next : (old new : Course) (e : Event) (r : StepReport) → IsCourse old → IsNext settings old.events new.cluster e r →
-    new.events ≡ old.events ++ e ∷ [] → IsNoted (history_of settings (old.events ++ e ∷ [])) new.recent new.counts →
-    new.counts.frames ≤ old.counts.frames + 4294967295 → IsCourse new
-course_next old new e r is happens events_are noted few = record {
-  stands = subst (λ es. StandsFor settings es new.cluster) (sym events_are) happens.stands;
-  noted = subst (λ es. IsNoted (history_of settings es) new.recent new.counts) (sym events_are) noted;
-  few =
-      let long : length new.events ≡ length old.events + 1 = ap length events_are ∙ length-append old.events (e ∷ []) in
-      let before = is.few in
-      omega (arith, few, before, long);
+pub course_next : (es : List Event) (old new : Course) (e : Event) (r : StepReport) → IsCourse es old → IsNext settings es new.cluster e r →
+    IsNoted (history_of settings (es ++ e ∷ [])) new.recent new.counts → new.counts.frames ≤ old.counts.frames + 4294967295 →
+    IsCourse (es ++ e ∷ []) new
+course_next es old new e r is happens noted few = record {
+  stands = happens.stands;
+  noted = noted;
+  few = let long = length-append es (e ∷ []) in let before = is.few in omega (arith, few, before, long);
 }

@@ -1,11 +1,10 @@
 -- The events of a storm are of its processes and stations; and what a history tells the processes of one more.
 use Rattle.std.proofs.Common.{◌≡◌, ◌≢◌, ℕ, zero, suc, ◌+◌, ◌<◌, ◌==◌, ◌&&◌, Bool, true, false, cond, List, [], ◌∷◌, Option, Some, None, refl, sym, ap, ◌∙◌, arith}
-use Rattle.std.proofs.lemmas.Bool.{cond-true, cond-false, eqb-true, eq-eqb}
-use Rattle.vk_base.specs.declared.call.Call.{Call}
-use Rattle.vk_base.specs.declared.event.EventAnswer.{EventAnswer}
-use Rattle.vk_base.specs.declared.pid.Pid.{Pid}
+use Rattle.std.proofs.lemmas.Bool.{cond-true, cond-false, eqb-true}
+use Rattle.vk_types.specs.Types.{Call, EventAnswer, Pid}
 use Rattle.vk_base.specs.Pids.{same_pid}
 use Rattle.vk_base.specs.Settings.{Settings, has_process}
+use Rattle.vk_base.proofs.PidLemmas.{same_pid_self}
 use Rattle.vk_cluster.specs.declared.report.ClusterAnswer.TheVariants as answers
 use Rattle.vk_cluster.specs.Standing.{report_of}
 use Rattle.vk_schedule.specs.declared.event.Event.{Event}
@@ -67,10 +66,6 @@ pub record IsHeard (c : Settings) (logs : Logs) (pid : Pid) (e : Event) : Type 0
   pub own : answered_in pid (happened c logs e) ≡ answer ∷ []
   pub others : (q : Pid) → same_pid pid q ≡ false → answered_in q (happened c logs e) ≡ []
 
-same_self : (pid : Pid) → same_pid pid pid ≡ true
-same_self pid =
-    ap (λ (b : Bool). b && (pid.local == pid.local)) (eq-eqb pid.host pid.host refl) ∙ eq-eqb pid.local pid.local refl
-
 heard_call : (c : Settings) (logs : Logs) (pid : Pid) (call : Call) → IsHeard c logs pid (events.Call pid call)
 unfolding happened right_entry
 heard_call c logs pid call =
@@ -78,7 +73,7 @@ heard_call c logs pid call =
     record {
       answer = a;
       reported = refl;
-      own = cond-true (same_pid pid pid) (a ∷ []) [] (same_self pid);
+      own = cond-true (same_pid pid pid) (a ∷ []) [] (same_pid_self pid);
       others = λ q apart. cond-false (same_pid pid q) (a ∷ []) [] apart;
     }
 
@@ -89,7 +84,7 @@ heard_collect c logs pid =
     record {
       answer = a;
       reported = refl;
-      own = cond-true (same_pid pid pid) (a ∷ []) [] (same_self pid);
+      own = cond-true (same_pid pid pid) (a ∷ []) [] (same_pid_self pid);
       others = λ q apart. cond-false (same_pid pid q) (a ∷ []) [] apart;
     }
 

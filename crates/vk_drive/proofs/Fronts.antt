@@ -1,10 +1,9 @@
 -- A storm of which the first events are told: they are the first of all.
-use Rattle.std.proofs.Common.{◌≡◌, ℕ, zero, suc, ◌+◌, ◌-◌, ◌<◌, ◌≤◌, Bool, true, false, nat_lt, List, [], ◌∷◌, length, take, refl, sym, ap, subst, ◌∙◌, length-append, arith}
+use Rattle.std.proofs.Common.{◌≡◌, ℕ, zero, suc, ◌+◌, ◌-◌, ◌<◌, ◌≤◌, Bool, true, false, nat_lt, [], ◌∷◌, length, take, refl, sym, ap, subst, ◌∙◌, length-append, arith}
 use Rattle.std.proofs.lemmas.Bool.{ltb-true, ltb-false}
 use Rattle.std.proofs.lemmas.List.{take-append-le, take_all}
 use Rattle.vk_cluster.specs.declared.emitted.TheConstants.{LAST_BYTES}
 use Rattle.vk_cluster.specs.Standing.{emitted_bytes}
-use Rattle.vk_schedule.specs.declared.event.Event.{Event}
 use Rattle.vk_rules.specs.Histories.{history_of}
 unfoldable use Rattle.vk_drive.specs.Storms.{storm_after}
 use Rattle.vk_drive.specs.Storms.{Fits, IsTooMuch, Storm, bytes_before, choice, one_more}
@@ -51,11 +50,9 @@ bytes_are n count low = ap (λ es. emitted_bytes (history_of settings es)) (fron
 abbrev pub FitsFront : ℕ → ℕ → Type 0
 FitsFront n most = (count : ℕ) → count < most → emitted_bytes (history_of settings (storm_after n count).events) ≤ LAST_BYTES
 
-pub fits_none : (n : ℕ) → FitsFront n 0
-fits_none n count low = absurd (omega arith)
-
-fits_by : (n most : ℕ) → FitsFront n most → emitted_bytes (history_of settings (storm_after n most).events) ≤ LAST_BYTES → FitsFront n (most + 1)
-fits_by n most before last count low = either (nat_lt count most) refl
+pub fits_more : (n most : ℕ) → FitsFront n most → emitted_bytes (history_of settings (storm_after n most).events) ≤ LAST_BYTES →
+    FitsFront n (most + 1)
+fits_more n most before last count low = either (nat_lt count most) refl
   where
     either : (b : Bool) → nat_lt count most ≡ b → emitted_bytes (history_of settings (storm_after n count).events) ≤ LAST_BYTES
     either true is = before count (ltb-true count most is)
@@ -64,20 +61,8 @@ fits_by n most before last count low = either (nat_lt count most) refl
         let same : count ≡ most = omega (arith, low) in
         subst (λ k. emitted_bytes (history_of settings (storm_after n k).events) ≤ LAST_BYTES) (sym same) last
 
-pub fits_more : (n most : ℕ) (es : List Event) → es ≡ (storm_after n most).events → FitsFront n most →
-    emitted_bytes (history_of settings es) ≤ LAST_BYTES → FitsFront n (most + 1)
-fits_more n most es is before last =
-    fits_by n most before (subst (λ l. emitted_bytes (history_of settings l) ≤ LAST_BYTES) is last)
-
 pub fits_all : (n : ℕ) → FitsFront n n → Fits n
 fits_all n fits count low = subst (λ k. k ≤ LAST_BYTES) (sym (bytes_are n count (omega arith))) (fits count low)
 
-pub too_much : (n count : ℕ) (es : List Event) → count < n → es ≡ (storm_after n count).events →
-    LAST_BYTES < emitted_bytes (history_of settings es) → IsTooMuch n
-too_much n count es low is over =
-    (count, low, subst (λ k. LAST_BYTES < k) (ap (λ l. emitted_bytes (history_of settings l)) is ∙ sym (bytes_are n count (omega arith))) over)
-
--- before the first event
-pub storm_first : (n : ℕ) → record { state = n; events = [] } ≡ storm_after n 0
-unfolding storm_after
-storm_first n = refl
+pub too_much : (n count : ℕ) → count < n → LAST_BYTES < emitted_bytes (history_of settings (storm_after n count).events) → IsTooMuch n
+too_much n count low over = (count, low, subst (λ k. LAST_BYTES < k) (sym (bytes_are n count (omega arith))) over)

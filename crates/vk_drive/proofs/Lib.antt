@@ -7,3 +7,4 @@ mod Opening
 mod Places
 mod Playing
 mod Recent
+mod SoFar

@@ -1,13 +1,16 @@
 -- What the cluster tells of an event in few bytes, and what is noted of it.
-use Rattle.std.proofs.Common.{◌≡◌, ℕ, true, List, [], ◌∷◌, ◌++◌, length, Some, refl, sym, ap, subst, ◌∙◌}
-use Rattle.std.specs.Prelude.{slice_get}
+use Rattle.std.proofs.Common.{◌≡◌, ℕ, true, false, nat_lt, List, [], ◌∷◌, ◌++◌, length, Some, refl, sym, ap, subst, ◌∙◌, arith}
+use Rattle.std.specs.Prelude.{nat_le, slice_get}
+use Rattle.std.proofs.lemmas.Bool.{ltb-false, or_parts}
 use Rattle.std.proofs.lemmas.List.{length-map}
 use Rattle.circular_buffer.specs.Buffer.{Buffer}
+use Rattle.vk_base.specs.declared.limits.TheConstants.{EVENTS}
+use Rattle.vk_cluster.specs.declared.emitted.TheConstants.{LAST_BYTES}
 use Rattle.vk_cluster.specs.declared.report.Advance.{Advance}
 use Rattle.vk_cluster.specs.declared.report.Advance.TheVariants as advances
 use Rattle.vk_cluster.specs.Shown.{HasAdvanced, HasReported, Sends}
 use Rattle.vk_cluster.specs.Standing.{IsAdvance, Tells, logs_of, report_by, report_of}
-use Rattle.vk_cluster.specs.Values.{ClusterValue}
+use Rattle.vk_cluster.specs.Values.{ClusterValue, is_full}
 use Rattle.vk_cluster.proofs.Shown.{IsEntry, reported_entry, reported_missing, sends}
 use Rattle.vk_cluster.proofs.Told.{report_told}
 use Rattle.vk_schedule.specs.declared.event.Event.{Event}
@@ -21,22 +24,29 @@ use Rattle.vk_rules.specs.Frames.{Frame}
 use Rattle.vk_rules.specs.Histories.{At, Missing, happened, history_of}
 use Rattle.vk_drive.specs.declared.counts.Counts.{Counts}
 use Rattle.vk_drive.specs.declared.course.Course.{Course}
-use Rattle.vk_drive.specs.Driving.{IsCourse, IsNoted, counted, last_of}
+use Rattle.vk_drive.specs.Driving.{IsBelow, IsCourse, IsNoted, counted, last_of}
 use Rattle.vk_drive.specs.Tasks.{settings, specs}
 use Rattle.vk_drive.specs.Told.{all_emitted, headers}
 use Rattle.vk_drive.proofs.Behind.{history_with, noted_at, noted_missing}
 
-pub advanced : (old : Course) (new : ClusterValue) (e : Event) (a : Advance) → IsCourse old → has_actors specs e ≡ true →
-    IsAdvance old.cluster new e a → HasAdvanced settings old.events new e a
-advanced old new e a is acts step = record {
+pub advanced : (es : List Event) (old : Course) (new : ClusterValue) (e : Event) (a : Advance) → IsCourse es old →
+    has_actors specs e ≡ true → IsAdvance old.cluster new e a → HasAdvanced settings es new e a
+advanced es old new e a is acts step = record {
   report = step.report;
   told = step.told;
-  reported = record { actors = acts; next = step.step settings old.events is.stands };
+  reported = record { actors = acts; next = step.step settings es is.stands };
 }
 
 pub tells : (es : List Event) (now : ClusterValue) (e : Event) (a : Advance) → HasAdvanced settings es now e a →
     Tells now a (report_of (happened settings (logs_of settings es) e))
 tells es now e a had = subst (Tells now a) had.reported.next.report had.told
+
+-- there was room for one event more
+pub below : (es : List Event) (c : Course) → IsCourse es c → is_full c.cluster ≡ false → IsBelow es
+below es c is not_full =
+    let low = ltb-false LAST_BYTES (length c.cluster.pile.bytes) (or_parts (nat_le EVENTS c.cluster.events) (nat_lt LAST_BYTES (length c.cluster.pile.bytes)) not_full).1 in
+    let bytes = is.stands.bytes in
+    omega (arith, low, bytes)
 
 -- there was nothing to deliver
 pub missing_noted : (es : List Event) (now : ClusterValue) (e : Event) (a : Advance) (host : ℕ) → HasAdvanced settings es now e a →

@@ -4,7 +4,7 @@ use Rattle.std.specs.Prelude.{slice_get}
 use Rattle.std.proofs.lemmas.Bool.{cases_Bool, eqb-true, eq-eqb}
 use Rattle.std.proofs.lemmas.List.{append-nil, length-set}
 use Rattle.std.proofs.lemmas.Option.{same_Some, slice_get_within}
-use Rattle.vk_base.specs.declared.event.EventAnswer.{EventAnswer}
+use Rattle.vk_types.specs.Types.{EventAnswer}
 use Rattle.vk_schedule.specs.declared.event.Event.{Event}
 use Rattle.vk_event.specs.declared.task.Task.{Task}
 use Rattle.vk_cluster.proofs.Logs.{get_set_same, get_set_other}

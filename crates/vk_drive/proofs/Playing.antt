@@ -1,36 +1,36 @@
 -- One event of a storm.
-use Rattle.std.proofs.Common.{◌≡◌, ℕ, ◌-◌, ◌%◌, ◌<◌, ◌≤◌, ◌==◌, min, nat_lt, false, cond, List, [], ◌∷◌, ◌++◌, length, Option, None, refl, sym, ap, subst, ◌∙◌, arith, inl, inr}
+use Rattle.std.proofs.Common.{◌≡◌, ℕ, ◌-◌, ◌%◌, ◌<◌, ◌==◌, min, nat_lt, false, cond, List, [], ◌∷◌, ◌++◌, length, Option, None, refl, sym, ap, subst, ◌∙◌, arith, inl, inr}
 use Rattle.std.specs.Prelude.{slice_get}
 use Rattle.std.proofs.lemmas.Bool.{cases_Bool, cond-true, cond-false, eqb-true, lt-ltb}
 use Rattle.circular_buffer.specs.Buffer.{Buffer}
-use Rattle.vk_cluster.specs.declared.emitted.TheConstants.{LAST_BYTES}
-use Rattle.vk_cluster.specs.Standing.{emitted_bytes, logs_of}
+use Rattle.vk_cluster.specs.declared.report.Advance.{Advance}
+use Rattle.vk_cluster.specs.Standing.{logs_of}
 use Rattle.vk_schedule.specs.declared.event.Event.{Event}
 use Rattle.vk_frame.specs.declared.header.Header.{Header}
 use Rattle.vk_generator.specs.Numbers.{drawn, next}
 use Rattle.vk_rules.specs.Histories.{Happened, happened, history_of}
 use Rattle.vk_drive.specs.declared.driver.Driver.{Driver}
-use Rattle.vk_drive.specs.Driving.{AreActors, IsCourse, IsDriver, IsPlayed, history_so_far, last_of}
+use Rattle.vk_drive.specs.Driving.{AreActors, HasHappened, IsDriver, IsPlayed, last_of}
 use Rattle.vk_drive.specs.Storms.{Choice, before_last, choice, chosen, delivery_choice, delivery_event, process_choice}
 use Rattle.vk_drive.specs.Tasks.{settings}
 use Rattle.vk_drive.proofs.Behind.{history_with}
 use Rattle.vk_drive.proofs.Recent.{recent_back, recent_count}
 
 -- the event of this choice happened, and the processes heard of it
-pub played : (old new : Driver) (c : Choice) (e : Event) → IsDriver old → new.config ≡ old.config → IsCourse new.course →
-    new.generator ≡ c.state → e ≡ c.event → new.course.events ≡ old.course.events ++ e ∷ [] →
-    AreActors new.actors.items (history_so_far old ++ happened settings (logs_of settings old.course.events) e ∷ []) →
-    emitted_bytes (history_so_far old) ≤ LAST_BYTES → IsPlayed old new c
-played old new c e is config course state event events_are actors fits = record {
-  driver = record {
-    config = config ∙ is.config;
-    course = course;
-    actors =
-        subst (AreActors new.actors.items)
-        (sym (ap (history_of settings) events_are ∙ history_with old.course.events e _ refl)) actors;
-  };
-  storm = (λ i. record { state = state i; events = (events_are ∙ ap (λ x. old.course.events ++ x ∷ []) event) i });
-  fits = fits;
+pub played : (es : List Event) (old new : Driver) (c : Choice) (e : Event) (a : Advance) → IsDriver es old → new.config ≡ old.config →
+    HasHappened es new.course e a → new.generator ≡ c.state → new.next ≡ e → e ≡ c.event →
+    AreActors new.actors.items (history_of settings es ++ happened settings (logs_of settings es) e ∷ []) → IsPlayed es new c
+played es old new c e a is config happens state next event actors = record {
+  driver =
+      subst (λ x. IsDriver (es ++ x ∷ []) new) event
+      (record {
+        config = config ∙ is.config;
+        course = happens.course;
+        actors = subst (AreActors new.actors.items) (sym (history_with es e _ refl)) actors;
+      });
+  state = state;
+  event = next ∙ event;
+  below = happens.below;
 }
 
 -- which frame a draw chooses

@@ -1,10 +1,11 @@
 -- Of the code alone, no law rests on it: what it keeps of a storm under way.
-use Rattle.std.specs.Prelude.{◌≡◌, ℕ, ◌+◌, ◌*◌, ◌<◌, ◌≤◌, ◌^◌, Bool, true, false, List, ◌++◌, length, slice_get, None, Some, if◌then◌else◌}
+use Rattle.std.specs.Prelude.{◌≡◌, ℕ, ◌+◌, ◌*◌, ◌<◌, ◌≤◌, ◌^◌, Bool, true, false, List, [], ◌∷◌, ◌++◌, length, slice_get, None, Some, if◌then◌else◌}
 use Rattle.circular_buffer.specs.Buffer.{Buffer, buffer, keep_last}
-use Rattle.vk_base.specs.declared.answer.Answer.{Answer}
-use Rattle.vk_base.specs.declared.event.EventAnswer.{EventAnswer}
+use Rattle.vk_types.specs.Types.{Answer, EventAnswer}
+use Rattle.vk_base.specs.declared.limits.TheConstants.{EVENTS}
 use Rattle.vk_cluster.specs.declared.emitted.TheConstants.{LAST_BYTES}
-use Rattle.vk_cluster.specs.Standing.{StandsFor, emitted_bytes}
+use Rattle.vk_cluster.specs.declared.report.Advance.{Advance}
+use Rattle.vk_cluster.specs.Standing.{StandsFor, Tells, emitted_bytes, logs_of, report_of}
 use Rattle.vk_schedule.specs.declared.event.Event.{Event}
 use Rattle.vk_schedule.specs.declared.event.Event.TheVariants as events
 use Rattle.vk_event.specs.declared.task.Task.{Task}
@@ -13,12 +14,12 @@ use Rattle.vk_pages.specs.Any.{IsAfter, call_by}
 use Rattle.vk_pages.specs.Programs.{task_call}
 use Rattle.vk_program.specs.Tasks.{told_by}
 use Rattle.vk_rules.specs.Entries.{is_frame_taken}
-use Rattle.vk_rules.specs.Histories.{Happened, history_of}
+use Rattle.vk_rules.specs.Histories.{Happened, happened, history_of}
 use Rattle.vk_drive.specs.declared.actor.Actor.{Actor}
 use Rattle.vk_drive.specs.declared.course.Course.{Course}
 use Rattle.vk_drive.specs.declared.counts.Counts.{Counts}
 use Rattle.vk_drive.specs.declared.driver.Driver.{Driver}
-use Rattle.vk_drive.specs.Storms.{Choice, Storm, process_event, with_choice}
+use Rattle.vk_drive.specs.Storms.{Choice, process_event, storm_after}
 use Rattle.vk_drive.specs.Tasks.{settings, task_at}
 use Rattle.vk_drive.specs.Told.{all_emitted, answered_to, count_answered, is_old, is_timed_out, is_told, is_waiting, told}
 
@@ -92,11 +93,24 @@ pub record IsNoted (hs : List Happened) (recent : Buffer Header) (counts : Count
   pub recent_is : recent ≡ last_of (all_emitted hs)
   pub counts_are : counts ≡ counts_of hs
 
--- what is kept of the history of the events so far
-pub record IsCourse (c : Course) : Type 0 where
-  pub stands : StandsFor settings c.events c.cluster
-  pub noted : IsNoted (history_of settings c.events) c.recent c.counts
-  pub few : c.counts.frames ≤ 4294967296 * length c.events
+-- the frames of these events hold too many bytes for one more to happen, or not
+abbrev pub IsOver : List Event → Type 0
+IsOver es = LAST_BYTES < emitted_bytes (history_of settings es)
+
+abbrev pub IsBelow : List Event → Type 0
+IsBelow es = emitted_bytes (history_of settings es) ≤ LAST_BYTES
+
+-- what is kept of the history of these events
+pub record IsCourse (es : List Event) (c : Course) : Type 0 where
+  pub stands : StandsFor settings es c.cluster
+  pub noted : IsNoted (history_of settings es) c.recent c.counts
+  pub few : c.counts.frames ≤ 4294967296 * length es
+
+-- one event more happened behind these, and so is told of it
+pub record HasHappened (es : List Event) (new : Course) (e : Event) (a : Advance) : Type 0 where
+  pub course : IsCourse (es ++ e ∷ []) new
+  pub told : Tells new.cluster a (report_of (happened settings (logs_of settings es) e))
+  pub below : IsBelow es
 
 -- the event is none of a process
 abbrev pub is_quiet : Event → Bool
@@ -105,20 +119,25 @@ is_quiet (events.Collect pid) = false
 is_quiet (events.Tick host) = true
 is_quiet (events.Deliver to from event output) = true
 
--- A storm under way.
-pub record IsDriver (d : Driver) : Type 0 where
+-- A storm under way, behind these events.
+pub record IsDriver (es : List Event) (d : Driver) : Type 0 where
   pub config : d.config ≡ settings
-  pub course : IsCourse d.course
-  pub actors : AreActors d.actors.items (history_of settings d.course.events)
+  pub course : IsCourse es d.course
+  pub actors : AreActors d.actors.items (history_of settings es)
 
-abbrev pub storm_of : Driver → Storm
-storm_of d = record { state = d.generator; events = d.course.events }
+-- behind some, of which there may be more
+abbrev pub IsOpen : Driver → Type 0
+IsOpen d = (es : List Event) × IsDriver es d × (length es < EVENTS)
 
-abbrev pub history_so_far : Driver → List Happened
-history_so_far d = history_of settings d.course.events
+-- the event of this choice happened behind these
+pub record IsPlayed (es : List Event) (new : Driver) (c : Choice) : Type 0 where
+  pub driver : IsDriver (es ++ c.event ∷ []) new
+  pub state : new.generator ≡ c.state
+  pub event : new.next ≡ c.event
+  pub below : IsBelow es
 
--- the event of this choice happened
-pub record IsPlayed (old new : Driver) (c : Choice) : Type 0 where
-  pub driver : IsDriver new
-  pub storm : storm_of new ≡ with_choice old.course.events c
-  pub fits : emitted_bytes (history_so_far old) ≤ LAST_BYTES
+-- the storm of this number, behind so many of its events
+pub record IsStorm (n count : ℕ) (d : Driver) : Type 0 where
+  pub driver : IsDriver (storm_after n count).events d
+  pub state : d.generator ≡ (storm_after n count).state
+  pub below : (before : ℕ) → before < count → IsBelow (storm_after n before).events

@@ -1,8 +1,6 @@
 -- The storm of a number: its events, each a function of the generator's draws and of the history so far, and what is told of it.
 use Rattle.std.specs.Prelude.{ℕ, zero, suc, ◌+◌, ◌-◌, ◌%◌, ◌==◌, ◌<◌, ◌≤◌, min, nat_lt, List, [], ◌∷◌, ◌++◌, length, slice_get, take, Option, Some, None, if◌then◌else◌}
-use Rattle.vk_base.specs.declared.call.Call.{Call}
-use Rattle.vk_base.specs.declared.event.EventAnswer.{EventAnswer}
-use Rattle.vk_base.specs.declared.pid.Pid.{Pid}
+use Rattle.vk_types.specs.Types.{Call, EventAnswer, Pid}
 use Rattle.vk_cluster.specs.declared.emitted.TheConstants.{LAST_BYTES}
 use Rattle.vk_cluster.specs.Standing.{emitted_bytes}
 use Rattle.vk_schedule.specs.declared.event.Event.{Event}
@@ -95,19 +93,18 @@ abbrev pub schedule_of : ℕ → Schedule
 schedule_of n = record { config = settings; events = (storm_after n n).events }
 
 -- what is told of the storm's history
-abbrev pub summary_by : ℕ → Schedule → List Happened → StormSummary
-summary_by n schedule hs = record {
+abbrev pub summary_by : ℕ → List Happened → StormSummary
+summary_by n hs = record {
   n = n;
   frames = length (all_emitted hs);
   taken = count_answered is_frame_taken hs;
   old = count_answered is_old hs;
   answers = count_answered is_told hs;
   timedout = count_answered is_timed_out hs;
-  schedule = schedule;
 }
 
 abbrev pub summary_of : ℕ → StormSummary
-summary_of n = summary_by n (schedule_of n) (history_of settings (schedule_of n).events)
+summary_of n = summary_by n (history_of settings (schedule_of n).events)
 
 -- the bytes of the frames that are emitted at the first so many events of a storm
 abbrev pub bytes_before : (count n : ℕ) → ℕ

@@ -1,8 +1,7 @@
 -- The processes of a storm, and what each of them does.
 use Rattle.std.specs.Prelude.{ℕ, ◌≡◌, true, nat_lt, List, [], ◌∷◌, map, slice_index_or, refl}
 use borrow.Author.Tests.{ltb-true}
-use Rattle.vk_base.specs.declared.config.ProcessSpec.{ProcessSpec}
-use Rattle.vk_base.specs.declared.pid.Pid.{Pid}
+use Rattle.vk_types.specs.Types.{Pid, ProcessSpec}
 use Rattle.vk_base.specs.Settings.{Settings}
 use Rattle.vk_event.specs.declared.task.Task.{Task}
 use Rattle.vk_event.specs.declared.task.TaskKind.TheVariants as kinds

@@ -1,6 +1,6 @@
 //! A process of a storm.
 
-ghost use Rattle.std.specs.Prelude.{◌≡◌, [], ◌∷◌, ◌++◌, List, None, IfOk};
+ghost use Rattle.std.specs.Prelude.{◌≡◌, [], ◌∷◌, ◌++◌, List, None, false, IfOk};
 ghost use Rattle.vk_base.specs.declared.event.EventAnswer.{EventAnswer as TheAnswer};
 ghost use Rattle.vk_base.specs.declared.event.EventAnswer.TheVariants as given;
 ghost use Rattle.vk_event.specs.declared.task.Task.{Task as TheTask};
@@ -9,13 +9,14 @@ ghost use Rattle.vk_pages.specs.Any.{IsTaskOf};
 ghost use Rattle.vk_rules.specs.Observed.{is_not_yet};
 ghost use Rattle.vk_drive.specs.Driving.{IsActor, IsNextEvent};
 
+use crate::next::NextEvent;
 use std::alloc::Global;
 use vk_base::{Answer, Config, EventAnswer, NoMemory, Pid, Refusal};
 use vk_event::Task;
 use vk_host::{Host, Response};
 use vk_pages::AnyProgram;
 use vk_program::Program;
-use vk_schedule::Event;
+use vk_schedule::EventKind;
 
 /// A process and its program.
 #[derive(Drop)]
@@ -57,18 +58,29 @@ impl Actor {
     }
 
     /// Its next event: it collects, or makes its program's next call.
-    pub fn next_event(&mut self) -> Event
-        ensures { (t : TheTask) (heard : List TheAnswer) → IsActor self.old t heard → IsNextEvent self.new t heard result }
+    pub fn choose(&mut self, next: &mut NextEvent)
+        ensures { (t : TheTask) (heard : List TheAnswer) → IsActor self.old t heard → IsNextEvent self.new t heard next.new }
+    {
+        if self.waits {
+            next.set(EventKind::Collect { pid: self.pid });
+        } else {
+            self.call(next);
+        }
+    }
+
+    /// It makes its program's next call, or collects at the program's end. A call has the room of a Store, so this is not put into its
+    /// caller.
+    #[inline(never)]
+    fn call(&mut self, next: &mut NextEvent)
+        requires { self.old.waits ≡ false }
+        ensures { (t : TheTask) (heard : List TheAnswer) → IsActor self.old t heard → IsNextEvent self.new t heard next.new }
     {
         let pid = self.pid;
-        if self.waits {
-            return Event::Collect { pid };
+        match self.program.next(self.told.as_ref()) {
+            Some(call) => next.set_call(pid, &call),
+            None => next.set(EventKind::Collect { pid }),
         }
-        let told = self.told.take();
-        match self.program.next(told.as_ref()) {
-            Some(call) => Event::Call { pid, call },
-            None => Event::Collect { pid },
-        }
+        self.told = None;
     }
 
     /// Its last call or collect was answered with this.

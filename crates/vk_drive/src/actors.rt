@@ -11,11 +11,11 @@ ghost use Rattle.vk_drive.specs.Tasks.{settings, task_at};
 ghost use Rattle.vk_drive.specs.Told.{answered_in};
 
 use crate::actor::Actor;
+use crate::next::NextEvent;
 use crate::tasks::tasks;
 use std::alloc::Global;
 use vk_base::{Config, NoMemory};
 use vk_cluster::{Advance, Cluster};
-use vk_schedule::Event;
 
 /// The processes before their first calls.
 pub fn new_actors(alloc: Global, config: &Config) -> Result<Vec<Actor>, NoMemory>
@@ -30,12 +30,12 @@ pub fn new_actors(alloc: Global, config: &Config) -> Result<Vec<Actor>, NoMemory
     Ok(actors)
 }
 
-/// The next event of the process at this place.
-pub fn next_event(actors: &mut Vec<Actor>, place: usize) -> Event
+/// The process at this place chooses its next event.
+pub fn choose(actors: &mut Vec<Actor>, place: usize, next: &mut NextEvent)
     requires { place < length actors.old.items }
-    ensures { (hs : List Happened) → AreActors actors.old.items hs → IsNextOf actors.new.items hs place result }
+    ensures { (hs : List Happened) → AreActors actors.old.items hs → IsNextOf actors.new.items hs place next.new }
 {
-    actors[place].next_event()
+    actors[place].choose(next);
 }
 
 /// The last event of the cluster, which was that of the process at this place, is told so.

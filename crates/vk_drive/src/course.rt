@@ -1,18 +1,15 @@
 //! What happens in a storm, and what is told of it.
 
-ghost use Rattle.std.specs.Prelude.{◌≡◌, ◌≤◌, ◌<◌, ◌+◌, ◌^◌, [], ◌∷◌, ◌++◌, List, length, true, false, Err, IfOk, IfErr, OnOk};
+ghost use Rattle.std.specs.Prelude.{◌≡◌, ◌≤◌, ◌<◌, ◌+◌, ◌^◌, [], ◌∷◌, ◌++◌, List, length, true, Err, IfOk};
 ghost use Rattle.vk_base.specs.declared.limits.TheConstants.{EVENTS};
-ghost use Rattle.vk_cluster.specs.declared.emitted.TheConstants.{LAST_BYTES};
-ghost use Rattle.vk_cluster.specs.Standing.{IsAdvance, Tells, emitted_bytes, is_limit, logs_of, report_of};
-ghost use Rattle.vk_cluster.specs.Values.{is_full};
 ghost use Rattle.vk_schedule.specs.declared.event.Event.{Event as TheEvent};
 ghost use Rattle.vk_schedule.specs.Lawful.{has_actors};
 ghost use Rattle.vk_frame.specs.declared.header.Header.{Header as TheHeader};
 ghost use Rattle.vk_host.specs.Sealed.{sealed};
 ghost use Rattle.vk_rules.specs.Frames.{Frame as TheFrame};
-ghost use Rattle.vk_rules.specs.Histories.{happened, history_of};
+ghost use Rattle.vk_rules.specs.Histories.{history_of};
 ghost use Rattle.v_lawful.specs.Sending.{IsLawfulFrame};
-ghost use Rattle.vk_drive.specs.Driving.{AreLow, IsCourse, IsNoted, last_of};
+ghost use Rattle.vk_drive.specs.Driving.{AreLow, HasHappened, IsBelow, IsCourse, IsNoted, IsOver, last_of};
 ghost use Rattle.vk_cluster.specs.Shown.{HasAdvanced, Sends};
 ghost use Rattle.vk_drive.specs.Tasks.{settings, specs};
 ghost use Rattle.vk_drive.specs.Told.{headers};
@@ -21,23 +18,22 @@ use crate::counts::Counts;
 use crate::summary::StormRefusal;
 use circular_buffer::HeapCircularBuffer;
 use std::alloc::Global;
-use vk_base::{Config, List, NoMemory};
-use vk_cluster::{Advance, Cluster, ClusterRefusal};
+use vk_base::{Config, NoMemory};
+use vk_cluster::{Advance, Cluster};
 use vk_frame::{Header, unseal};
 use vk_host::Host;
 use vk_rules::frames_unseal_again;
-use vk_schedule::{Event, EventKind, EventView};
+use vk_schedule::EventView;
 
 /// The frames of which a delivery chooses one.
 const RECENT: usize = 32;
 
-/// The stations, the frames that were emitted last, the numbers that are told, and the events so far.
+/// The stations, the frames that were emitted last, and the numbers that are told.
 #[derive(Drop)]
 pub struct Course {
     pub cluster: Cluster,
     pub recent: HeapCircularBuffer<Header>,
     pub counts: Counts,
-    pub events: List<Event>,
 }
 
 /// Puts the header of the frame of these bytes behind the others.
@@ -88,33 +84,20 @@ fn note(
     }
 }
 
-/// The cluster has this event, of which it tells in few bytes.
-fn advance(cluster: &mut Cluster, alloc: Global, event: &Event) -> Result<Advance, ClusterRefusal>
-    requires actors { has_actors cluster.old.config.specs event.now ≡ true }
-    ensures step { IfOk result (IsAdvance cluster.old cluster.new event.now) }
-    ensures room { IfOk result (λ _. is_full cluster.old ≡ false) }
-    ensures cause { IfErr result (λ e. is_full cluster.old ≡ is_limit e) }
-{
-    let (kind, call, bytes) = EventKind::of(event);
-    cluster.advance(alloc, &EventView::new(kind, &call, bytes))
-}
-
 impl Course {
-    /// Before the first event, with room for so many.
+    /// Before the first event.
     ///
     /// # Errors
     ///
     /// [`NoMemory`] where memory is wanting.
-    pub fn new(alloc: Global, config: &Config, events: u32) -> Result<Self, NoMemory>
+    pub fn new(alloc: Global, config: &Config) -> Result<Self, NoMemory>
         requires { config.now ≡ settings }
-        ensures course { IfOk result IsCourse }
-        ensures events { IfOk result (λ c. c.events ≡ []) }
+        ensures { IfOk result (IsCourse []) }
     {
         Ok(Course {
             cluster: Cluster::new(alloc, config)?,
             recent: HeapCircularBuffer::with_capacity(alloc, RECENT)?,
             counts: Counts::new(),
-            events: List::new(Vec::with_capacity(alloc, events as usize)?),
         })
     }
 
@@ -124,20 +107,14 @@ impl Course {
     ///
     /// [`StormRefusal::Limit`] exactly where the frames so far hold more than 266,076,160 bytes; [`StormRefusal::NoMemory`] only where
     /// they do not.
-    pub fn happen(&mut self, alloc: Global, event: Event) -> Result<Advance, StormRefusal>
-        requires course { IsCourse self.old }
-        requires few { length self.old.events < EVENTS }
-        requires actors { has_actors specs event ≡ true }
-        ensures course { OnOk result (IsCourse self.new) }
-        ensures events { OnOk result (self.new.events ≡ self.old.events ++ event ∷ []) }
-        ensures told { IfOk result (λ a. Tells self.new.cluster a
-            (report_of (happened settings (logs_of settings self.old.events) event))) }
-        ensures fits { OnOk result (emitted_bytes (history_of settings self.old.events) ≤ LAST_BYTES) }
-        ensures limit { result ≡ Err StormRefusal.Limit → LAST_BYTES < emitted_bytes (history_of settings self.old.events) }
-        ensures memory { result ≡ Err StormRefusal.NoMemory → emitted_bytes (history_of settings self.old.events) ≤ LAST_BYTES }
+    pub fn happen(&mut self, alloc: Global, event: &EventView) -> Result<Advance, StormRefusal>
+        requires course { (es : List TheEvent) × IsCourse es self.old × (length es < EVENTS) }
+        requires actors { has_actors specs event.now ≡ true }
+        ensures happened { (es : List TheEvent) → IsCourse es self.old → IfOk result (HasHappened es self.new event.now) }
+        ensures limit { (es : List TheEvent) → IsCourse es self.old → result ≡ Err StormRefusal.Limit → IsOver es }
+        ensures memory { (es : List TheEvent) → IsCourse es self.old → result ≡ Err StormRefusal.NoMemory → IsBelow es }
     {
-        let told = advance(&mut self.cluster, alloc, &event)?;
-        self.events.push(event)?;
+        let told = self.cluster.advance(alloc, event)?;
         note(&self.cluster, &mut self.recent, &mut self.counts, told);
         Ok(told)
     }

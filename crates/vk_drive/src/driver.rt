@@ -1,27 +1,29 @@
 //! The storm of a number.
 
 ghost use Rattle.std.specs.Prelude.{◌≡◌, ◌≤◌, ◌<◌, [], List, length, true, Err, IfOk, OnOk};
+ghost use Rattle.vk_base.specs.declared.call.Call.TheVariants as calls;
 ghost use Rattle.vk_base.specs.declared.limits.TheConstants.{EVENTS};
-ghost use Rattle.vk_cluster.specs.declared.emitted.TheConstants.{LAST_BYTES};
-ghost use Rattle.vk_cluster.specs.Standing.{emitted_bytes};
 ghost use Rattle.vk_schedule.specs.Lawful.{has_actors};
+ghost use Rattle.vk_schedule.specs.Views.{event_by};
+ghost use Rattle.vk_schedule.specs.declared.event.Event.{Event as TheEvent};
 ghost use Rattle.vk_rules.specs.Histories.{Happened, history_of};
-ghost use Rattle.vk_drive.specs.Driving.{IsCourse, IsDriver, IsPlayed, counts_of, history_so_far, is_quiet, storm_of};
-ghost use Rattle.vk_drive.specs.Storms.{Fits, IsTooMuch, choice, chosen, delivery_choice, delivery_of, process_choice, storm_after, summary_by, summary_of, tick_choice};
+ghost use Rattle.vk_drive.specs.Driving.{IsBelow, IsCourse, IsDriver, IsOpen, IsOver, IsPlayed, counts_of, is_quiet};
+ghost use Rattle.vk_drive.specs.Storms.{Fits, IsTooMuch, choice, chosen, delivery_choice, delivery_of, process_choice, schedule_of, summary_by, summary_of, tick_choice};
 ghost use Rattle.vk_drive.specs.Tasks.{settings, specs};
 ghost use Rattle.vk_drive.specs.Told.{all_emitted};
 
 use crate::actor::Actor;
-use crate::actors::{hear, new_actors, next_event};
+use crate::actors::{choose, hear, new_actors};
 use crate::counts::Counts;
 use crate::course::Course;
+use crate::next::NextEvent;
 use crate::summary::{StormRefusal, StormSummary};
 use crate::tasks::settings;
 use std::alloc::Global;
 use vk_base::{Config, List, NoMemory};
 use vk_frame::Header;
 use vk_generator::Generator;
-use vk_schedule::{Event, Schedule};
+use vk_schedule::{EventKind, Schedule};
 
 /// A storm under way.
 #[derive(Drop)]
@@ -30,45 +32,47 @@ struct Driver {
     generator: Generator,
     actors: Vec<Actor>,
     course: Course,
+    /// What happens next, once it is chosen; until then what happened last.
+    next: NextEvent,
 }
 
 /// The frame with this header comes to its destination, where that is a station of the configuration.
-fn delivery_of(config: &Config, header: &Header) -> Event
+fn delivery_of(config: &Config, header: &Header) -> EventKind
     requires { config.now ≡ settings }
-    ensures { result ≡ delivery_of header.now }
+    ensures { event_by result calls.Receive ≡ delivery_of header.now }
 {
     if config.has_station(header.destination) && config.has_station(header.source) {
-        Event::Deliver {
+        EventKind::Deliver {
             to: header.destination,
             from: header.source,
             event: header.event,
             output: header.output,
         }
     } else {
-        Event::Tick { host: 1 }
+        EventKind::Tick { host: 1 }
     }
 }
 
 /// One of the frames that were emitted last comes; or station 1 ticks, where there is none.
-fn delivery(generator: &mut Generator, config: &Config, course: &Course) -> Event
-    requires config { config.now ≡ settings }
-    requires course { IsCourse course.now }
-    ensures { chosen generator.new result ≡ delivery_choice generator.old (all_emitted (history_of settings course.now.events)) }
+fn delivery(generator: &mut Generator, config: &Config, course: &Course) -> EventKind
+    requires { config.now ≡ settings }
+    ensures { (es : List TheEvent) → IsCourse es course.now →
+        chosen generator.new (event_by result calls.Receive) ≡ delivery_choice generator.old (all_emitted (history_of settings es)) }
 {
     let count = course.recent.len();
     if count == 0 {
-        return Event::Tick { host: 1 };
+        return EventKind::Tick { host: 1 };
     }
     let back = generator.draw() as usize % count;
     match course.recent.nth_back(back) {
         Some(header) => delivery_of(config, header),
-        None => Event::Tick { host: 1 },
+        None => EventKind::Tick { host: 1 },
     }
 }
 
-/// What is told of a storm with these numbers and events.
-fn summary_by(n: u32, counts: Counts, config: Config, events: List<Event>) -> StormSummary
-    ensures { (hs : List Happened) → counts ≡ counts_of hs → result ≡ summary_by n (record { config = config; events = events }) hs }
+/// What is told of a storm with these numbers.
+fn summary_by(n: u32, counts: &Counts) -> StormSummary
+    ensures { (hs : List Happened) → counts.now ≡ counts_of hs → result ≡ summary_by n hs }
 {
     StormSummary {
         n,
@@ -77,88 +81,88 @@ fn summary_by(n: u32, counts: Counts, config: Config, events: List<Event>) -> St
         old: counts.late,
         answers: counts.answers,
         timedout: counts.timedout,
-        schedule: Schedule { config, events },
     }
 }
 
 impl Driver {
     /// The storm of this number before its first event.
     fn new(alloc: Global, n: u32) -> Result<Self, NoMemory>
-        ensures driver { IfOk result IsDriver }
-        ensures storm { IfOk result (λ d. storm_of d ≡ record { state = n; events = [] }) }
+        ensures driver { IfOk result (IsDriver []) }
+        ensures state { IfOk result (λ d. d.generator ≡ n) }
     {
         let config = settings(alloc)?;
         let actors = new_actors(alloc, &config)?;
-        let course = Course::new(alloc, &config, n)?;
+        let course = Course::new(alloc, &config)?;
         Ok(Driver {
             config,
             generator: Generator::new(u64::from(n)),
             actors,
             course,
+            next: NextEvent::new(),
         })
     }
 
-    /// An event of no process.
-    fn happen(&mut self, alloc: Global, event: Event) -> Result<(), StormRefusal>
-        requires driver { IsDriver self.old }
-        requires few { length self.old.course.events < EVENTS }
-        requires quiet { is_quiet event ≡ true }
-        requires actors { has_actors specs event ≡ true }
-        ensures played { OnOk result (IsPlayed self.old self.new (chosen self.old.generator event)) }
-        ensures limit { result ≡ Err StormRefusal.Limit → LAST_BYTES < emitted_bytes (history_so_far self.old) }
-        ensures memory { result ≡ Err StormRefusal.NoMemory → emitted_bytes (history_so_far self.old) ≤ LAST_BYTES }
+    /// What was chosen happens, an event of no process.
+    fn happen(&mut self, alloc: Global) -> Result<(), StormRefusal>
+        requires more { IsOpen self.old }
+        requires quiet { is_quiet self.old.next ≡ true }
+        requires actors { has_actors specs self.old.next ≡ true }
+        ensures played { (es : List TheEvent) → IsDriver es self.old →
+            OnOk result (IsPlayed es self.new (chosen self.old.generator self.old.next)) }
+        ensures limit { (es : List TheEvent) → IsDriver es self.old → result ≡ Err StormRefusal.Limit → IsOver es }
+        ensures memory { (es : List TheEvent) → IsDriver es self.old → result ≡ Err StormRefusal.NoMemory → IsBelow es }
     {
-        let _advance = self.course.happen(alloc, event)?;
+        let _advance = self.course.happen(alloc, &self.next.view())?;
         Ok(())
     }
 
     /// A process calls or collects.
     fn act(&mut self, alloc: Global) -> Result<(), StormRefusal>
-        requires driver { IsDriver self.old }
-        requires few { length self.old.course.events < EVENTS }
-        ensures played { OnOk result (IsPlayed self.old self.new (process_choice self.old.generator (history_so_far self.old))) }
-        ensures limit { result ≡ Err StormRefusal.Limit → LAST_BYTES < emitted_bytes (history_so_far self.old) }
-        ensures memory { result ≡ Err StormRefusal.NoMemory → emitted_bytes (history_so_far self.old) ≤ LAST_BYTES }
+        requires { IsOpen self.old }
+        ensures played { (es : List TheEvent) → IsDriver es self.old →
+            OnOk result (IsPlayed es self.new (process_choice self.old.generator (history_of settings es))) }
+        ensures limit { (es : List TheEvent) → IsDriver es self.old → result ≡ Err StormRefusal.Limit → IsOver es }
+        ensures memory { (es : List TheEvent) → IsDriver es self.old → result ≡ Err StormRefusal.NoMemory → IsBelow es }
     {
         let place = (self.generator.draw() % 4) as usize;
-        let event = next_event(&mut self.actors, place);
-        let advance = self.course.happen(alloc, event)?;
+        choose(&mut self.actors, place, &mut self.next);
+        let advance = self.course.happen(alloc, &self.next.view())?;
         hear(&mut self.actors, place, &self.course.cluster, advance);
         Ok(())
     }
 
     /// A frame comes.
     fn deliver(&mut self, alloc: Global) -> Result<(), StormRefusal>
-        requires driver { IsDriver self.old }
-        requires few { length self.old.course.events < EVENTS }
-        ensures played { OnOk result (IsPlayed self.old self.new
-            (delivery_choice self.old.generator (all_emitted (history_so_far self.old)))) }
-        ensures limit { result ≡ Err StormRefusal.Limit → LAST_BYTES < emitted_bytes (history_so_far self.old) }
-        ensures memory { result ≡ Err StormRefusal.NoMemory → emitted_bytes (history_so_far self.old) ≤ LAST_BYTES }
+        requires { IsOpen self.old }
+        ensures played { (es : List TheEvent) → IsDriver es self.old →
+            OnOk result (IsPlayed es self.new (delivery_choice self.old.generator (all_emitted (history_of settings es)))) }
+        ensures limit { (es : List TheEvent) → IsDriver es self.old → result ≡ Err StormRefusal.Limit → IsOver es }
+        ensures memory { (es : List TheEvent) → IsDriver es self.old → result ≡ Err StormRefusal.NoMemory → IsBelow es }
     {
-        let event = delivery(&mut self.generator, &self.config, &self.course);
-        self.happen(alloc, event)
+        let kind = delivery(&mut self.generator, &self.config, &self.course);
+        self.next.set(kind);
+        self.happen(alloc)
     }
 
     /// A station ticks.
     fn tick(&mut self, alloc: Global) -> Result<(), StormRefusal>
-        requires driver { IsDriver self.old }
-        requires few { length self.old.course.events < EVENTS }
-        ensures played { OnOk result (IsPlayed self.old self.new (tick_choice self.old.generator)) }
-        ensures limit { result ≡ Err StormRefusal.Limit → LAST_BYTES < emitted_bytes (history_so_far self.old) }
-        ensures memory { result ≡ Err StormRefusal.NoMemory → emitted_bytes (history_so_far self.old) ≤ LAST_BYTES }
+        requires { IsOpen self.old }
+        ensures played { (es : List TheEvent) → IsDriver es self.old → OnOk result (IsPlayed es self.new (tick_choice self.old.generator)) }
+        ensures limit { (es : List TheEvent) → IsDriver es self.old → result ≡ Err StormRefusal.Limit → IsOver es }
+        ensures memory { (es : List TheEvent) → IsDriver es self.old → result ≡ Err StormRefusal.NoMemory → IsBelow es }
     {
         let host = 1 + (self.generator.draw() % 4) as u16;
-        self.happen(alloc, Event::Tick { host })
+        self.next.set(EventKind::Tick { host });
+        self.happen(alloc)
     }
 
     /// The next event.
     fn advance(&mut self, alloc: Global) -> Result<(), StormRefusal>
-        requires driver { IsDriver self.old }
-        requires few { length self.old.course.events < EVENTS }
-        ensures played { OnOk result (IsPlayed self.old self.new (choice self.old.generator (history_so_far self.old))) }
-        ensures limit { result ≡ Err StormRefusal.Limit → LAST_BYTES < emitted_bytes (history_so_far self.old) }
-        ensures memory { result ≡ Err StormRefusal.NoMemory → emitted_bytes (history_so_far self.old) ≤ LAST_BYTES }
+        requires { IsOpen self.old }
+        ensures played { (es : List TheEvent) → IsDriver es self.old →
+            OnOk result (IsPlayed es self.new (choice self.old.generator (history_of settings es))) }
+        ensures limit { (es : List TheEvent) → IsDriver es self.old → result ≡ Err StormRefusal.Limit → IsOver es }
+        ensures memory { (es : List TheEvent) → IsDriver es self.old → result ≡ Err StormRefusal.NoMemory → IsBelow es }
     {
         let kind = self.generator.draw() % 8;
         if kind < 3 {
@@ -169,20 +173,10 @@ impl Driver {
             self.tick(alloc)
         }
     }
-
-    /// What is told of it.
-    fn into_summary(self, n: u32) -> StormSummary
-        requires { IsDriver self }
-        ensures { result ≡ summary_by n (record { config = settings; events = self.course.events }) (history_so_far self) }
-    {
-        let course = self.course;
-        let counts = course.counts;
-        summary_by(n, counts, self.config, course.events)
-    }
 }
 
-/// The storm of this number, at most 100,000: so many events from this seed, by a page server and three clients of it on four stations.
-/// They are a function of the number, and nothing is read.
+/// What is told of the storm of this number, at most 100,000: so many events from this seed, by a page server and three clients of it on
+/// four stations. They are a function of the number, nothing is read, and none is kept.
 ///
 /// # Errors
 ///
@@ -198,5 +192,28 @@ pub fn storm(alloc: Global, n: u32) -> Result<StormSummary, StormRefusal>
     for _event in 0..n {
         driver.advance(alloc)?;
     }
-    Ok(driver.into_summary(n))
+    Ok(summary_by(n, &driver.course.counts))
+}
+
+/// The events of the storm of this number, at most 100,000, and the configuration that every storm has.
+///
+/// # Errors
+///
+/// Those of [`storm`].
+pub fn storm_schedule(alloc: Global, n: u32) -> Result<Schedule, StormRefusal>
+    requires { n ≤ EVENTS }
+    ensures schedule { IfOk result (λ s. s ≡ schedule_of n) }
+    ensures fits { OnOk result (Fits n) }
+    ensures limit { result ≡ Err StormRefusal.Limit → IsTooMuch n }
+{
+    let mut driver = Driver::new(alloc, n)?;
+    let mut events = List::empty(alloc);
+    for _event in 0..n {
+        driver.advance(alloc)?;
+        events.push(driver.next.view().whole())?;
+    }
+    Ok(Schedule {
+        config: driver.config,
+        events,
+    })
 }

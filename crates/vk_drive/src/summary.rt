@@ -6,10 +6,9 @@ ghost use Rattle.vk_drive.specs.declared.summary.StormRefusal.TheVariants.{Limit
 
 use vk_base::NoMemory;
 use vk_cluster::ClusterRefusal;
-use vk_schedule::Schedule;
 
 /// What happened in a storm.
-#[derive(Drop)]
+#[derive(Clone, Copy, Debug, PartialEq, Eq)]
 pub struct StormSummary {
     /// Its number: the seed, and how many events it has.
     pub n: u32,
@@ -23,8 +22,6 @@ pub struct StormSummary {
     pub answers: u64,
     /// Of these, how many told that nobody answered in time.
     pub timedout: u64,
-    /// Its events, and the configuration that every storm has.
-    pub schedule: Schedule,
 }
 
 /// Why a storm is not told.

@@ -1,14 +1,13 @@
 -- Each lawful scenario has a text: lines for the tasks, one task after the other.
-use Rattle.std.proofs.Common.{◌≡◌, ◌<◌, ◌==◌, ◌⊎◌, Bool, true, false, cond, List, [], ◌∷◌, ◌++◌, map, Option, Some, None, refl, ap, sym, ◌∙◌, subst, inl, inr, arith, append_assoc, append-nil}
+use Rattle.std.proofs.Common.{◌≡◌, ◌<◌, ◌==◌, ◌⊎◌, Bool, true, false, cond, List, [], ◌∷◌, ◌++◌, map, Option, Some, None, refl, ap, sym, ◌∙◌, subst, append_assoc, append-nil}
 use Rattle.std.specs.List.{AllByRecursion, list_all}
 use Rattle.std.specs.Option.{option_map}
-use Rattle.std.proofs.lemmas.Bool.{and_from, and_parts, eq-eqb, eqb-true, false_from_ne_true}
+use Rattle.std.proofs.lemmas.Bool.{and_parts}
+use Rattle.vk_types.specs.Types.{Call, Pid, ProcessSpec}
 use Rattle.vk_base.specs.Options.{◌>>=◌}
 use Rattle.vk_base.specs.Pids.{IsPid, same_pid}
-use Rattle.vk_base.specs.declared.call.Call.{Call}
-use Rattle.vk_base.specs.declared.config.ProcessSpec.{ProcessSpec}
-use Rattle.vk_base.specs.declared.pid.Pid.{Pid}
-use Rattle.vk_base.proofs.Rising.{Below, AllAbove, AreRising, lawful_rise}
+use Rattle.vk_base.proofs.Rising.{AllAbove, AreSpecsRising, lawful_rise, below_apart}
+use Rattle.vk_base.proofs.PidLemmas.{same_pid_self}
 use Rattle.vk_text.specs.Laws.{IsReadable}
 use Rattle.vk_event.specs.declared.task.Given.{Given}
 use Rattle.vk_event.specs.declared.task.Given.TheVariants as givens
@@ -110,9 +109,6 @@ pass specs t ts (l ∷ ls) h =
 
 -- the lines for a task give it
 
-own_pid : (p : Pid) → same_pid p p ≡ true
-own_pid p = and_from (p.host == p.host) (p.local == p.local) (eq-eqb p.host p.host refl) (eq-eqb p.local p.local refl)
-
 task : Pid → TaskKind → Task
 task pid kind = record { pid = pid; kind = kind }
 
@@ -121,7 +117,7 @@ one_line : (specs : List ProcessSpec) (pid : Pid) (given : Given) (kind after : 
     → with_all_given specs (task pid kind ∷ ts) (record { pid = pid; given = given } ∷ rest)
     ≡ with_all_given specs (task pid after ∷ ts) rest
 unfolding task
-one_line specs pid given kind after ts rest room is = rw (room, own_pid pid, is) refl
+one_line specs pid given kind after ts rest room is = rw (room, same_pid_self pid, is) refl
 
 calls_given : (specs : List ProcessSpec) (pid : Pid) (done calls : List Call) (ts : List Task) (rest : List TaskLine)
     → has_memory specs pid 0 ≡ true → with_all_given specs (task pid (kinds.Script done) ∷ ts) (map (do_line pid) calls ++ rest)
@@ -163,14 +159,6 @@ task_given specs pid (kinds.GroupHelper coordinator member) ts rest room =
 
 -- the processes rise, so the lines for later tasks are of other processes
 
-apart : (p q : Pid) → Below p q → same_pid p q ≡ false
-apart p q b = false_from_ne_true (same_pid p q) (λ t. let parts = and_parts (p.host == q.host) (p.local == q.local) t in
-    by_cases (eqb-true p.host q.host parts.0) (eqb-true p.local q.local parts.1) b.is)
-  where
-    by_cases : p.host ≡ q.host → p.local ≡ q.local → (p.host < q.host) ⊎ ((p.host ≡ q.host) × (p.local < q.local)) → ⊥
-    by_cases h l (inl x) = omega arith
-    by_cases h l (inr x) = let y = x.1 in omega arith
-
 do_others : (pid own : Pid) (calls : List Call) → same_pid pid own ≡ false → AllByRecursion (IsOther pid) (map (do_line own) calls)
 unfolding do_line
 do_others pid own [] h = tt
@@ -207,10 +195,10 @@ lines_others pid [] (t ∷ ts) is above = absurd is
 lines_others pid (p ∷ ps) [] is above = absurd is
 lines_others pid (p ∷ ps) (t ∷ ts) is above =
     both_others pid (kind_lines t.pid t.kind) (all_lines ts)
-    (kind_others pid t.pid t.kind (subst (λ q. same_pid pid q ≡ false) (sym is.0) (apart pid p.pid above.0)))
+    (kind_others pid t.pid t.kind (subst (λ q. same_pid pid q ≡ false) (sym is.0) (below_apart pid p.pid above.0)))
     (lines_others pid ps ts is.1 above.1)
 
-all_given : (specs ps : List ProcessSpec) (ts : List Task) → AreOf ps ts → AreRising ps
+all_given : (specs ps : List ProcessSpec) (ts : List Task) → AreOf ps ts → AreSpecsRising ps
     → list_all (λ (t : Task). has_memory specs t.pid (memory_of t.kind)) ts ≡ true
     → with_all_given specs (map idle ps) (all_lines ts) ≡ Some ts
 unfolding all_lines onto task

@@ -7,11 +7,11 @@ use Rattle.std.proofs.lemmas.List.Folds.{list_any-append}
 use Rattle.std.proofs.lemmas.List.Sums.{AllPass-from_list_all, sum_by-append, sum_by-cons}
 use Rattle.std.proofs.lemmas.Slice.Eq.{bytes_eq-Decides}
 use Rattle.hex.specs.Hex.{encode_lower}
-use Rattle.vk_base.specs.declared.config.ProcessSpec.{ProcessSpec}
-use Rattle.vk_base.specs.declared.event.StationEvent.{StationEvent}
+use Rattle.vk_types.specs.Types.{ProcessSpec, StationEvent}
 use Rattle.vk_base.specs.declared.event.StationEvent.TheVariants as events
 use Rattle.vk_base.specs.Options.{◌>>=◌}
 use Rattle.vk_base.specs.Settings.{Settings, has_station, stations_of}
+use Rattle.vk_base.proofs.BoolLemmas.{eqb_turned}
 use Rattle.vk_text.specs.Heads.{HasNoFeed, line_text, process_of}
 use Rattle.vk_text.specs.Lines.{lines_of, words_from}
 use Rattle.vk_text.specs.Openings.{BeginsNoHead, line_number, pool_line_of, timed_lines}
@@ -19,26 +19,22 @@ use Rattle.vk_text.specs.Words.{is_lower_hex, positive_of}
 use Rattle.vk_text.proofs.Bodies.{title_plain}
 use Rattle.vk_text.proofs.CallWords.{call_read}
 use Rattle.vk_text.proofs.HexDigits.{all_lower, read_back}
-use Rattle.vk_text.proofs.OpeningLaws.{openings_back, openings_no_feed}
+use Rattle.vk_text.proofs.OpeningLaws.{openings_back, openings_no_feed, both_plain}
 use Rattle.vk_text.proofs.OpeningPools.{pools_written, stations_apart}
-use Rattle.vk_text.proofs.PlainWords.{IsPlain, call_plain, joined_no_feed, letters, no_feeds, no_spaces, number_plain, pid_plain}
+use Rattle.vk_text.proofs.PlainWords.{IsPlain, call_plain, joined_no_feed, letters, no_feeds, no_spaces, number_plain, pid_plain, hex_visible}
 use Rattle.vk_text.proofs.ReadBack.{joined_words}
 use Rattle.vk_text.proofs.Spelled.{pid_read, station_read as number_read}
 use Rattle.vk_schedule.specs.declared.schedule.TextRefusal.TheVariants as refusals
-use Rattle.vk_schedule.proofs.ReadAgain.{both_plain, lines_back}
+use Rattle.vk_schedule.proofs.ReadAgain.{lines_back}
 use Rattle.vk_event.specs.declared.node.NodeTexts.{NodeTexts}
 use Rattle.vk_schedule.specs.declared.log.StationLog.{StationLog}
 use Rattle.vk_event.specs.NodeLaws.{HostsDiffer, IsFrame, IsLawfulLog, IsLawfulNodes, IsNodeOpening, IsReadableOwn, NodesReadBack, log_lines, node_text, nodes_text, one_log, own_text, own_words, station_text}
 use Rattle.vk_event.specs.Nodes.{Reading, delivery_of, event_count, event_read, frame_of, has_log, host_of, is_own, line_read, named_of, node_opening, node_title, nodes_by, nodes_from, nodes_of, own_call_of, own_collect_of, own_event, station_event_of, station_read, where_new, where_own, with_own, without_own}
 use Rattle.vk_event.proofs.NodeFrames.{as_frame, frame_is}
-use Rattle.vk_event.proofs.NodeLawful.{same_apart}
 use Rattle.vk_event.proofs.NodeOpenings.{other, titled}
 use Rattle.vk_event.proofs.NodeReading.{line_more, no_more}
 
 -- Words.
-
-hex_visible : (c : ℕ) → is_lower_hex c ≡ true → 32 < c
-hex_visible c h = grind arith
 
 digits_plain : (frame : List ℕ) → IsFrame frame → IsPlain (encode_lower frame)
 digits_plain frame fits = λ k d l. hex_visible _ (AllPass-from_list_all is_lower_hex (encode_lower frame) (all_lower frame fits.bytes) k d l)
@@ -191,7 +187,7 @@ apart (d ∷ ds) l ls h =
     let later = or_parts (has_log ds d.host) (has_log (l ∷ ls) d.host)
     (sym (list_any-append (λ (x : StationLog). x.host == d.host) ds (l ∷ ls)) ∙ h.0) in
     let here = or_parts (l.host == d.host) (has_log ls d.host) later.1 in
-    or_from (d.host == l.host) (has_log ds l.host) (same_apart l.host d.host here.0) (apart ds l ls h.1)
+    or_from (d.host == l.host) (has_log ds l.host) (eqb_turned l.host d.host here.0) (apart ds l ls h.1)
 
 count_parts : (logs : List StationLog) (l : StationLog) (ls : List StationLog) →
     event_count (logs ++ l ∷ ls) ≡ event_count logs + (length l.events + event_count ls)

@@ -1,26 +1,22 @@
 -- What texts of stations tell is lawful.
 use Rattle.std.proofs.Common.{◌≡◌, ℕ, ◌+◌, ◌<◌, ◌≤◌, ◌==◌, ◌&&◌, ◌||◌, not, nat_lt, Bool, true, false, cond, List, [], ◌∷◌, ◌++◌, length, codes, bytes_eq, Option, Some, None, Result, Ok, Err, refl, ap, sym, subst, ◌∙◌, arith, lit≤, length-append}
 use Rattle.std.specs.List.{list_all, AllByRecursion}
-use Rattle.std.specs.Result.{result_ok}
-use Rattle.std.proofs.lemmas.Bool.{and_from, and_parts, eq-eqb, ltb-true, ne_eqb, not-true, or_from, or_parts, true≢false}
+use Rattle.std.proofs.lemmas.Bool.{and_from, and_parts, ltb-true, not-true, or_from, or_parts, true≢false}
 use Rattle.std.proofs.lemmas.List.Folds.{list_all-append, list_any-append}
 use Rattle.std.proofs.lemmas.List.Sums.{sum_by-append, sum_by-cons}
 use Rattle.std.proofs.lemmas.Option.{cond_some}
-use Rattle.hex.specs.Hex.{IsBytes, decode_of}
-use Rattle.hex.proofs.HexLemmas.{decode_of-ok}
-use Rattle.vk_base.specs.declared.config.ProcessSpec.{ProcessSpec}
-use Rattle.vk_base.specs.declared.event.StationEvent.{StationEvent}
+use Rattle.vk_types.specs.Types.{ProcessSpec, StationEvent}
 use Rattle.vk_base.specs.declared.event.StationEvent.TheVariants as events
 use Rattle.vk_base.specs.Pids.{IsPid}
 use Rattle.vk_base.specs.Settings.{Settings, has_station}
 use Rattle.vk_base.proofs.OptionLemmas.{bind_is}
+use Rattle.vk_base.proofs.BoolLemmas.{eqb_turned}
 use Rattle.vk_text.specs.Calls.{call_of}
 use Rattle.vk_text.specs.Lines.{lines_of, words_from}
-use Rattle.vk_text.specs.Openings.{IsTold, line_number}
+use Rattle.vk_text.specs.Openings.{IsTellable, line_number}
 use Rattle.vk_text.specs.Words.{is_lower_hex, pid_of}
 use Rattle.vk_text.proofs.Firsts.{ended_is, first_holds}
-use Rattle.vk_text.proofs.HexDigits.{ok_of}
-use Rattle.vk_text.proofs.Ranges.{call_fits, pid_fits}
+use Rattle.vk_text.proofs.Ranges.{call_fits, pid_fits, by_lower}
 use Rattle.vk_text.proofs.Spelled.{either_word}
 use Rattle.vk_schedule.specs.declared.schedule.TextRefusal.{TextRefusal}
 use Rattle.vk_schedule.specs.declared.schedule.TextRefusal.TheVariants as refusals
@@ -32,10 +28,6 @@ use Rattle.vk_event.proofs.NodeFrames.{frame_parts}
 use Rattle.vk_event.proofs.NodeOpenings.{told}
 
 -- Fields are in their range.
-
-by_lower : (b : Bool) (word bytes : List ℕ) → cond b (result_ok (decode_of word)) None ≡ Some bytes → IsBytes bytes
-by_lower true word bytes h = (decode_of-ok word bytes (ok_of (decode_of word) bytes h)).3
-by_lower false word bytes h = cc
 
 frame_fits : (frame word : List ℕ) → frame_of word ≡ Some frame → IsFrame frame
 frame_fits frame word h =
@@ -77,19 +69,19 @@ event_fits (w ∷ ws) e h =
 
 -- What is known of each reading.
 
-pub record AreLawful (c : Settings) (logs : List StationLog) : Type 0 where
+pub record AreLawfulLogs (c : Settings) (logs : List StationLog) : Type 0 where
   pub each : AllByRecursion (IsLawfulLog c) logs
   pub differ : HostsDiffer logs
   pub few : event_count logs ≤ 100000
 
 pub record MayEnd (c : Settings) (logs : List StationLog) (log : StationLog) : Type 0 where
-  pub ended : AreLawful c logs
+  pub ended : AreLawfulLogs c logs
   pub last : IsLawfulLog c log
   pub new : has_log logs log.host ≡ false
   pub few : event_count logs + length log.events ≤ 100000
 
 abbrev pub IsLawfulReading : Settings → Reading → Type 0
-IsLawfulReading c (Reading.Opening logs left) = AreLawful c logs
+IsLawfulReading c (Reading.Opening logs left) = AreLawfulLogs c logs
 IsLawfulReading c (Reading.Events logs log) = MayEnd c logs log
 
 -- one log more
@@ -98,9 +90,6 @@ each_more : (c : Settings) (logs : List StationLog) (log : StationLog) → AllBy
     AllByRecursion (IsLawfulLog c) (logs ++ log ∷ [])
 each_more c [] log h one = (one, tt)
 each_more c (l ∷ ls) log h one = (h.0, each_more c ls log h.1 one)
-
-pub same_apart : (a b : ℕ) → (a == b) ≡ false → (b == a) ≡ false
-same_apart a b h = ne_eqb b a (λ e. true≢false (sym (eq-eqb a b (sym e)) ∙ h))
 
 other_host : (ls : List StationLog) (log : StationLog) (host : ℕ) → has_log ls host ≡ false → (log.host == host) ≡ false →
     has_log (ls ++ log ∷ []) host ≡ false
@@ -112,14 +101,14 @@ differ_more : (logs : List StationLog) (log : StationLog) → HostsDiffer logs �
 differ_more [] log h new = (refl, tt)
 differ_more (l ∷ ls) log h new =
     let both = or_parts (l.host == log.host) (has_log ls log.host) new in
-    (other_host ls log l.host h.0 (same_apart l.host log.host both.0), differ_more ls log h.1 both.1)
+    (other_host ls log l.host h.0 (eqb_turned l.host log.host both.0), differ_more ls log h.1 both.1)
 
 pub count_more : (logs : List StationLog) (log : StationLog) → event_count (logs ++ log ∷ []) ≡ event_count logs + length log.events
 count_more logs log =
     let f : StationLog → ℕ = λ m. length m.events in
     omega (arith, sum_by-append f logs (log ∷ []), sum_by-cons f log [])
 
-log_ends : (c : Settings) (logs : List StationLog) (log : StationLog) → MayEnd c logs log → AreLawful c (logs ++ log ∷ [])
+log_ends : (c : Settings) (logs : List StationLog) (log : StationLog) → MayEnd c logs log → AreLawfulLogs c (logs ++ log ∷ [])
 log_ends c logs log may = record {
   each = each_more c logs log may.ended.each may.last;
   differ = differ_more logs log may.ended.differ may.new;
@@ -144,7 +133,7 @@ station_is specs logs (Some x) host h =
     let both = and_parts (has_station specs x) (not (has_log logs x)) got.0 in
     (subst (λ y. has_station specs y ≡ true) got.1 both.0, subst (λ y. has_log logs y ≡ false) got.1 (not-true (has_log logs x) both.1))
 
-begins : (c : Settings) (logs : List StationLog) (host : ℕ) → AreLawful c logs → has_station c.specs host ≡ true → has_log logs host ≡ false →
+begins : (c : Settings) (logs : List StationLog) (host : ℕ) → AreLawfulLogs c logs → has_station c.specs host ≡ true → has_log logs host ≡ false →
     MayEnd c logs (without_own host)
 begins c logs host is station new = record {
   ended = is;
@@ -153,7 +142,7 @@ begins c logs host is station new = record {
   few = omega (arith, is.few);
 }
 
-by_station : (c : Settings) (n : ℕ) (logs : List StationLog) (o : Option ℕ) (s : Reading) → AreLawful c logs →
+by_station : (c : Settings) (n : ℕ) (logs : List StationLog) (o : Option ℕ) (s : Reading) → AreLawfulLogs c logs →
     ((host : ℕ) → o ≡ Some host → (has_station c.specs host ≡ true) × (has_log logs host ≡ false)) → station_read n logs o ≡ Ok s →
     IsLawfulReading c s
 by_station c n logs None s is found h = cc
@@ -161,7 +150,7 @@ by_station c n logs (Some host) s is found h =
     let known = found host refl in
     subst (IsLawfulReading c) (whole (Reading.Events logs (without_own host)) s refusals.Limit h) (begins c logs host is known.0 known.1)
 
-by_same : (c : Settings) (n : ℕ) (logs : List StationLog) (left : List (List ℕ)) (b : Bool) (s : Reading) → AreLawful c logs →
+by_same : (c : Settings) (n : ℕ) (logs : List StationLog) (left : List (List ℕ)) (b : Bool) (s : Reading) → AreLawfulLogs c logs →
     ◌≡◌ {A = Result Reading TextRefusal} (cond b (Ok (Reading.Opening logs left)) (Err (refusals.BadInput n))) (Ok s) → IsLawfulReading c s
 by_same c n logs left true s is h = subst (IsLawfulReading c) (whole (Reading.Opening logs left) s refusals.Limit h) is
 by_same c n logs left false s is h = cc
@@ -225,7 +214,7 @@ line_lawful c opening n (Reading.Events logs log) s line is h =
 
 -- All lines.
 
-at_end : (c : Settings) (n : ℕ) (r : Reading) (m : NodeTexts) → IsTold c → IsLawfulReading c r → all_read c n r ≡ Ok m → IsLawfulNodes m
+at_end : (c : Settings) (n : ℕ) (r : Reading) (m : NodeTexts) → IsTellable c → IsLawfulReading c r → all_read c n r ≡ Ok m → IsLawfulNodes m
 at_end c n (Reading.Opening logs left) m is may h = cc
 at_end c n (Reading.Events logs log) m is may h =
     let ended = log_ends c logs log may in
@@ -243,7 +232,7 @@ by_line : (c : Settings) (r : Result Reading TextRefusal) (rest : Reading → Re
 by_line c (Ok s) rest m is after h = after s (is s refl) h
 by_line c (Err e) rest m is after h = cc
 
-from_lawful : (c : Settings) (opening : List (List ℕ)) (n : ℕ) (r : Reading) (lines : List (List ℕ)) (m : NodeTexts) → IsTold c →
+from_lawful : (c : Settings) (opening : List (List ℕ)) (n : ℕ) (r : Reading) (lines : List (List ℕ)) (m : NodeTexts) → IsTellable c →
     IsLawfulReading c r → nodes_from c opening n r lines ≡ Ok m → IsLawfulNodes m
 unfolding nodes_from
 from_lawful c opening n r [] m is may h = at_end c n r m is may h

@@ -5,11 +5,11 @@ use Rattle.std.proofs.lemmas.List.{length-append}
 use Rattle.std.proofs.lemmas.Bool.{and_parts, cond-false, eqb-true, not-true, not-false}
 use Rattle.std.proofs.lemmas.Fmt.{decimal_digit}
 use Rattle.std.proofs.lemmas.Slice.Eq.{bytes_eq-Decides}
+use Rattle.vk_types.specs.Types.{Times}
 use Rattle.vk_base.specs.Settings.{Settings, pool_of, stations_of}
-use Rattle.vk_base.specs.declared.config.Times.{Times}
 use Rattle.vk_text.specs.Heads.{line_text, process_text, usual_times}
 use Rattle.vk_text.specs.Lines.{lines_of}
-use Rattle.vk_text.specs.Openings.{HasProcesses, IsOpening, IsTold, has_usual_pool, is_usual, pool_text, line_number, opening_of, opening_text, pool_lines, same_times, timed_lines, timed_opening, times_text}
+use Rattle.vk_text.specs.Openings.{HasProcesses, IsOpening, IsTellable, has_usual_pool, is_usual, pool_text, line_number, opening_of, opening_text, pool_lines, same_times, timed_lines, timed_opening, times_text}
 use Rattle.vk_text.specs.declared.opening.OpeningRefusal.{OpeningRefusal}
 use Rattle.vk_text.specs.declared.opening.OpeningRefusal.TheVariants as openings
 use Rattle.vk_text.proofs.OpeningLaws.{openings_spelled}
@@ -91,8 +91,8 @@ some_lines lines rest c n h number =
         omega (arith, number, ap length whole, length-append fs rest, ap length is.2)
 
 -- what stands first is an opening in format 2, and the rest behind it
-pub record IsFront (lines rest : List (List ℕ)) (c : Settings) : Type 0 where
-  pub told : IsTold c
+pub record IsNodeFront (lines rest : List (List ℕ)) (c : Settings) : Type 0 where
+  pub told : IsTellable c
   pub opening : List (List ℕ)
   pub is : IsNodeOpening c opening
   pub whole : lines ≡ opening ++ rest
@@ -100,27 +100,27 @@ pub record IsFront (lines rest : List (List ℕ)) (c : Settings) : Type 0 where
 same_first : (x y : List ℕ) (xs ys : List (List ℕ)) → x ∷ xs ≡ y ∷ ys → x ≡ y
 same_first x y xs ys h = cc
 
-by_kind : (ls rest opening : List (List ℕ)) (c : Settings) → IsTold c → IsOpening other node_title c opening →
-    node_title ∷ ls ≡ opening ++ rest → IsFront (node_title ∷ ls) rest c
+by_kind : (ls rest opening : List (List ℕ)) (c : Settings) → IsTellable c → IsOpening other node_title c opening →
+    node_title ∷ ls ≡ opening ++ rest → IsNodeFront (node_title ∷ ls) rest c
 by_kind ls rest opening c told (inl is) whole =
     let title : node_title ≡ other = same_first node_title other ls _ (whole ∙ ap (λ x. x ++ rest) is.1) in
     absurd (omega (arith, ap length title))
 by_kind ls rest opening c told (inr is) whole = record { told = told; opening = opening; is = is; whole = whole }
 
-timed_front : (ls rest : List (List ℕ)) (c : Settings) → timed_opening ls ≡ Ok (c, rest) → IsFront (node_title ∷ ls) rest c
+timed_front : (ls rest : List (List ℕ)) (c : Settings) → timed_opening ls ≡ Ok (c, rest) → IsNodeFront (node_title ∷ ls) rest c
 unfolding opening_of
 timed_front ls rest c h =
     let front = openings_spelled other node_title (node_title ∷ ls) rest c h in
     by_kind ls rest front.1.0 c front.0 front.1.1 front.1.2
 
-pub front : (lines rest : List (List ℕ)) (c : Settings) → node_opening lines ≡ Ok (c, rest) → IsFront lines rest c
+pub front : (lines rest : List (List ℕ)) (c : Settings) → node_opening lines ≡ Ok (c, rest) → IsNodeFront lines rest c
 unfolding node_opening
 front [] rest c h = cc
 front (l ∷ ls) rest c h =
-    either_word (IsFront (l ∷ ls) rest c) l node_title (timed_opening ls) (Err 1) (Ok (c, rest))
-    (λ title read. subst (λ t. IsFront (t ∷ ls) rest c) (sym title) (timed_front ls rest c read)) (λ none. cc) h
+    either_word (IsNodeFront (l ∷ ls) rest c) l node_title (timed_opening ls) (Err 1) (Ok (c, rest))
+    (λ title read. subst (λ t. IsNodeFront (t ∷ ls) rest c) (sym title) (timed_front ls rest c read)) (λ none. cc) h
 
-pub told : (lines rest : List (List ℕ)) (c : Settings) → node_opening lines ≡ Ok (c, rest) → IsTold c
+pub told : (lines rest : List (List ℕ)) (c : Settings) → node_opening lines ≡ Ok (c, rest) → IsTellable c
 told lines rest c h = (front lines rest c h).told
 
 -- a test of the title in code

@@ -3,8 +3,8 @@ use Rattle.std.proofs.Common.{◌≡◌, ℕ, ◌<◌, true, false, List, [], �
 use Rattle.std.specs.List.{AllByRecursion, flat_map}
 use Rattle.std.specs.Option.{option_map}
 use Rattle.std.proofs.lemmas.Option.{cond_some}
+use Rattle.vk_types.specs.Types.{Pid}
 use Rattle.vk_base.specs.Options.{◌>>=◌}
-use Rattle.vk_base.specs.declared.pid.Pid.{Pid}
 use Rattle.vk_base.proofs.OptionLemmas.{bind_is}
 use Rattle.vk_text.specs.Lines.{is_end}
 use Rattle.vk_text.specs.Spelling.{pid_text}

@@ -3,7 +3,7 @@ use Rattle.std.proofs.Common.{◌≡◌, ℕ, ◌+◌, ◌<◌, ◌^◌, true, L
 use Rattle.std.specs.List.{AllByRecursion}
 use Rattle.std.specs.Option.{option_map_or}
 use Rattle.std.proofs.lemmas.Option.{cond_some}
-use Rattle.vk_base.specs.declared.config.ProcessSpec.{ProcessSpec}
+use Rattle.vk_types.specs.Types.{ProcessSpec}
 use Rattle.vk_base.proofs.OptionLemmas.{bind_is}
 use Rattle.vk_text.specs.Lines.{words_from}
 use Rattle.vk_text.specs.Spelling.{joined}
@@ -14,6 +14,7 @@ use Rattle.vk_text.proofs.PlainWords.{IsPlain, letters, number_plain, no_spaces,
 use Rattle.vk_text.proofs.ReadBack.{joined_words, line_joined}
 use Rattle.vk_text.proofs.Spelled.{either_word, positive_spelled, positive_read, station_spelled, station_read}
 use Rattle.vk_schedule.specs.Lawful.{IsStation}
+use Rattle.vk_schedule.proofs.Lawfulness.{station_fits}
 use Rattle.vk_event.specs.Ports.{ArePortsAbove, IsReadablePort, if_follows, may_follow, port_above, port_fields_of, port_of, port_text, port_words, ports_from, with_port}
 use Rattle.vk_event.specs.declared.port.StationPort.{StationPort}
 
@@ -21,9 +22,6 @@ use Rattle.vk_event.specs.declared.port.StationPort.{StationPort}
 
 host_spelled : (n : ℕ) (word : List ℕ) → station_of word ≡ Some n → word ≡ decimal n
 host_spelled n word h = (station_spelled n word h).0
-
-host_fits : (n : ℕ) (word : List ℕ) → station_of word ≡ Some n → IsStation n
-host_fits n word h = let read = station_spelled n word h in (read.1, read.2)
 
 abbrev IsPort : ℕ → Type 0
 IsPort n = (0 < n) × (n < 2 ^ 16)
@@ -40,7 +38,7 @@ fields_are : (ws : List (List ℕ)) (p : StationPort) → port_fields_of ws ≡ 
 unfolding port_fields_of
 fields_are ws p h =
     let host = first_spelled station_of decimal host_spelled _ p ws h in
-    let known = first_holds station_of IsStation host_fits _ p ws h in
+    let known = first_holds station_of IsStation station_fits _ p ws h in
     let port = first_spelled (positive_of 65535) decimal number_as _ p host.1 host.3 in
     let fits = first_holds (positive_of 65535) IsPort number_fits _ p known.1 known.3 in
     let end = ended_is port.1 _ p port.3 in

@@ -1,18 +1,17 @@
 -- What a text of a scenario spells is lawful.
-use Rattle.std.proofs.Common.{◌≡◌, ℕ, ◌<◌, ◌≤◌, ◌==◌, ◌&&◌, ◌||◌, length, nat_le, Bool, true, false, cond, List, [], ◌∷◌, ◌++◌, map, Option, Some, Result, Err, IfOk, None, Ok, refl, ap, sym, ◌∙◌, subst, append_assoc, arith}
+use Rattle.std.proofs.Common.{◌≡◌, ℕ, ◌<◌, ◌≤◌, ◌==◌, ◌&&◌, ◌||◌, length, nat_le, Bool, true, false, cond, List, [], ◌∷◌, ◌++◌, map, Some, Result, Err, IfOk, None, Ok, refl, ap, sym, ◌∙◌, subst, append_assoc, arith}
 use Rattle.std.specs.List.{AllByRecursion, list_all, list_any}
 use Rattle.std.specs.Option.{option_map}
-use Rattle.std.proofs.lemmas.Bool.{and_from, and_parts, eq-eqb, eqb-true, le-leb}
+use Rattle.std.proofs.lemmas.Bool.{and_from, and_parts, eqb-true, le-leb, or_right}
 use Rattle.std.proofs.lemmas.Option.{cond_some}
+use Rattle.vk_types.specs.Types.{Call, Pid, ProcessSpec}
 use Rattle.vk_base.specs.Pids.{same_pid}
 use Rattle.vk_base.specs.Settings.{Settings, is_process}
-use Rattle.vk_base.specs.declared.call.Call.{Call}
-use Rattle.vk_base.specs.declared.config.ProcessSpec.{ProcessSpec}
-use Rattle.vk_base.specs.declared.pid.Pid.{Pid}
-use Rattle.vk_base.proofs.OptionLemmas.{bind_is}
+use Rattle.vk_base.proofs.OptionLemmas.{bind_is, mapped_is}
+use Rattle.vk_base.proofs.PidLemmas.{same_pid_self}
 use Rattle.vk_text.specs.Laws.{IsReadable}
 use Rattle.vk_text.specs.Lines.{lines_of}
-use Rattle.vk_text.specs.Openings.{IsTold}
+use Rattle.vk_text.specs.Openings.{IsTellable}
 use Rattle.vk_text.proofs.OpeningLaws.{openings_spelled}
 use Rattle.vk_event.specs.declared.scenario.Scenario.{Scenario}
 use Rattle.vk_schedule.specs.declared.schedule.TextRefusal.{TextRefusal}
@@ -90,15 +89,11 @@ record Keeps (specs : List ProcessSpec) (before tasks : List Task) : Type 0 wher
   ranges : AllByRecursion (λ (t : Task). IsReadableKind t.kind) tasks
   memory : list_all (λ (t : Task). has_memory specs t.pid (memory_of t.kind)) tasks ≡ true
 
-mapped : {A B : Type 0} (f : A → B) (o : Option A) (b : B) → option_map f o ≡ Some b → (a : A) × (o ≡ Some a) × (f a ≡ b)
-mapped f None b h = cc
-mapped f (Some a) b h = (a, refl, (cond_some true (f a) b h).1)
-
 here_keeps : (specs : List ProcessSpec) (pid : Pid) (given : Given) (t : Task) (ts more : List Task) → same_pid t.pid pid ≡ true
     → option_map (λ kind. record t { kind = kind } ∷ ts) (given_kind given t.kind) ≡ Some more → IsReadableGiven given
     → has_memory specs pid (memory_for given) ≡ true → Keeps specs (t ∷ ts) (t ∷ ts) → Keeps specs (t ∷ ts) more
 here_keeps specs pid given t ts more same h one room is =
-    let found = mapped (λ kind. record t { kind = kind } ∷ ts) (given_kind given t.kind) more h in
+    let found = mapped_is (λ kind. record t { kind = kind } ∷ ts) (given_kind given t.kind) more h in
     let parts = and_parts (has_memory specs t.pid (memory_of t.kind)) _ is.memory in
     let fits : has_memory specs t.pid (memory_of found.0) ≡ true =
     sym (memory_as specs t.pid pid (memory_of found.0) same) ∙ kind_memory specs pid given t.kind found.0 found.1 room in
@@ -132,7 +127,7 @@ by_pid : (specs : List ProcessSpec) (pid : Pid) (given : Given) (t : Task) (ts m
     → Keeps specs (t ∷ ts) more
 by_pid specs pid given t ts more true same after h one room is = here_keeps specs pid given t ts more same h one room is
 by_pid specs pid given t ts more false same after h one room is =
-    let found = mapped (λ rest. t ∷ rest) (given_to pid given ts) more h in
+    let found = mapped_is (λ rest. t ∷ rest) (given_to pid given ts) more h in
     subst (Keeps specs (t ∷ ts)) found.2 (longer specs t ts found.0 is (after found.0 found.1))
 
 given_keeps : (specs : List ProcessSpec) (pid : Pid) (given : Given) (ts more : List Task) → given_to pid given ts ≡ Some more
@@ -164,13 +159,6 @@ all_keep specs tasks (t ∷ ts) more ranges h is =
 
 -- every process has the memory for a script
 
-or_from : (a b : Bool) → b ≡ true → (a || b) ≡ true
-or_from true b h = refl
-or_from false b h = h
-
-own_pid : (p : Pid) → same_pid p p ≡ true
-own_pid p = and_from (p.host == p.host) (p.local == p.local) (eq-eqb p.host p.host refl) (eq-eqb p.local p.local refl)
-
 idle_pids : (specs : List ProcessSpec) → map (λ (t : Task). t.pid) (map idle specs) ≡ map (λ (p : ProcessSpec). p.pid) specs
 idle_pids [] = refl
 idle_pids (s ∷ ss) = ap (λ l. s.pid ∷ l) (idle_pids ss)
@@ -180,8 +168,8 @@ idle_ranges [] = tt
 idle_ranges (s ∷ ss) = (tt, idle_ranges ss)
 
 last_among : (before : List ProcessSpec) (s : ProcessSpec) (rest : List ProcessSpec) → has_memory (before ++ s ∷ rest) s.pid 0 ≡ true
-last_among [] s rest = rw (own_pid s.pid, le-leb 0 s.size (omega arith)) refl
-last_among (x ∷ xs) s rest = or_from (is_process s.pid x && nat_le 0 x.size) (has_memory (xs ++ s ∷ rest) s.pid 0) (last_among xs s rest)
+last_among [] s rest = rw (same_pid_self s.pid, le-leb 0 s.size (omega arith)) refl
+last_among (x ∷ xs) s rest = or_right (is_process s.pid x && nat_le 0 x.size) (has_memory (xs ++ s ∷ rest) s.pid 0) (last_among xs s rest)
 
 idle_memory : (before rest : List ProcessSpec)
     → list_all (λ (t : Task). has_memory (before ++ rest) t.pid (memory_of t.kind)) (map idle rest) ≡ true
@@ -201,7 +189,7 @@ only_lawful text s h =
     let front = openings_spelled plain_title timed_title (lines_of text) w.body w.config w.found in
     let same : w.config ≡ s.config = sym w.told.config in
     record {
-      told = subst IsTold same front.0;
+      told = subst IsTellable same front.0;
       some = subst (λ (c : Settings). 0 < length c.specs) same w.some;
       tasks = tasks.pids ∙ idle_pids specs ∙ ap (λ (c : Settings). map (λ (p : ProcessSpec). p.pid) c.specs) same;
       ranges = tasks.ranges;

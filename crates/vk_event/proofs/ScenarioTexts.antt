@@ -3,16 +3,15 @@ use Rattle.std.proofs.Common.{◌≡◌, ℕ, ◌+◌, ◌<◌, ◌≤◌, ◌^�
 use Rattle.std.proofs.Math.Nat.{div-le_self}
 use Rattle.std.specs.List.{AllByRecursion}
 use Rattle.std.specs.Option.{option_map_or}
+use Rattle.vk_types.specs.Types.{Pid, ProcessSpec}
 use Rattle.vk_base.specs.Settings.{Settings, stations_of}
-use Rattle.vk_base.specs.declared.config.ProcessSpec.{ProcessSpec}
-use Rattle.vk_base.specs.declared.pid.Pid.{Pid}
 use Rattle.vk_base.proofs.OptionLemmas.{bind_is}
 use Rattle.vk_text.specs.Heads.{HasNoFeed, process_of}
 use Rattle.vk_text.specs.Lines.{lines_of, words_from}
 use Rattle.vk_text.specs.Openings.{BeginsNoHead, line_number, pool_line_of}
 use Rattle.vk_text.specs.Spelling.{joined}
 use Rattle.vk_text.proofs.Bodies.{text_spelled, title_plain}
-use Rattle.vk_text.proofs.OpeningLaws.{openings_back, openings_no_feed, openings_spelled}
+use Rattle.vk_text.proofs.OpeningLaws.{openings_back, openings_no_feed, openings_spelled, both_plain}
 use Rattle.vk_text.proofs.PlainWords.{no_spaces, no_feeds, joined_no_feed}
 use Rattle.vk_text.proofs.ReadBack.{joined_words, line_joined}
 use Rattle.vk_event.specs.declared.port.StationPort.{StationPort}
@@ -27,10 +26,10 @@ use Rattle.vk_event.specs.declared.task_line.TaskLine.{TaskLine}
 use Rattle.vk_event.specs.Endings.{at_last, plan_of, rounds_of, rounds_from, ending_from}
 use Rattle.vk_event.specs.Ports.{ArePortsAbove, port_of, port_text, ports_from}
 use Rattle.vk_event.specs.Scenario.{idle, most_rounds, opened, plain_title, scenario_by_ports, scenario_end, scenario_with, scenario_from, scenario_by, scenario_of, scenario_on, timed_title}
-use Rattle.vk_event.specs.ScenarioLaws.{GiveTasks, IsFront, IsLawfulScenario, IsPlan, IsReadableLine, ScenariosAreSpelled, ScenariosReadBack, body_lines, closing_lines, ending_lines, given_words, plan_words, rounds_words, scenario_text, task_text, task_words, with_all_given}
+use Rattle.vk_event.specs.ScenarioLaws.{GiveTasks, IsScenarioFront, IsLawfulScenario, IsPlan, IsReadableLine, ScenariosAreSpelled, ScenariosReadBack, body_lines, closing_lines, ending_lines, given_words, plan_words, rounds_words, scenario_text, task_text, task_words, with_all_given}
 use Rattle.vk_event.specs.Tasks.{task_line_of, with_given, with_task_line}
 use Rattle.vk_event.proofs.PortLines.{port_parts, ports_back, ports_feeds, ports_told}
-use Rattle.vk_schedule.proofs.ReadAgain.{both_plain, lines_back}
+use Rattle.vk_schedule.proofs.ReadAgain.{lines_back}
 use Rattle.vk_event.proofs.ScenarioHeads.{on_some}
 use Rattle.vk_event.proofs.TaskLines.{task_line_is, task_line_read, task_line_plain, plan_is, plan_read, plan_plain, plan_no_port, plan_no_task, port_no_task, rounds_is, rounds_read, rounds_plain}
 
@@ -193,7 +192,7 @@ scenarios_spelled text s h =
     let front = openings_spelled plain_title timed_title (lines_of text) w.body w.config w.found in
     let lines : lines_of text ≡ front.1.0 ++ body_lines s w.told.given = front.1.2 ∙ ap (λ k. front.1.0 ++ k) w.told.body in (
       front.1.0,
-      subst (λ (c : Settings). IsFront c front.1.0) (sym w.told.config) front.1.1,
+      subst (λ (c : Settings). IsScenarioFront c front.1.0) (sym w.told.config) front.1.1,
       (
         w.told.given,
         subst (λ (c : Settings). with_all_given c.specs (map idle c.specs) w.told.given ≡ Some s.tasks) (sym w.told.config) w.told.gives,
@@ -321,7 +320,7 @@ first_is_none s (t ∷ ts) h ports plan =
     let word = no_head_word t.pid t.given in
     (ap process_of (task_parts t h.0) ∙ word.0, ap pool_line_of (task_parts t h.0) ∙ word.1)
 
-back_by : (s : Scenario) (opening : List (List ℕ)) (given : List TaskLine) → IsLawfulScenario s → IsFront s.config opening →
+back_by : (s : Scenario) (opening : List (List ℕ)) (given : List TaskLine) → IsLawfulScenario s → IsScenarioFront s.config opening →
     AllByRecursion IsReadableLine given → GiveTasks s given → scenario_of (scenario_text s opening given) ≡ Ok s
 unfolding scenario_by
 back_by s opening given is front ranges gives =

@@ -2,14 +2,14 @@
 use Rattle.std.specs.Prelude.{◌≡◌, ℕ, ◌<◌, ◌≤◌, ◌⊎◌, true, false, List, [], ◌∷◌, ◌++◌, length, map, flat_map, decimal, codes, Ok}
 use Rattle.std.specs.List.{list_all, AllByRecursion}
 use Rattle.hex.specs.Hex.{IsBytes, encode_lower}
-use Rattle.vk_base.specs.declared.event.StationEvent.{StationEvent}
+use Rattle.vk_types.specs.Types.{StationEvent}
 use Rattle.vk_base.specs.declared.event.StationEvent.TheVariants as events
 use Rattle.vk_base.specs.declared.limits.TheConstants.{EVENTS, FRAME_BYTES, HEADER_BYTES}
 use Rattle.vk_base.specs.Pids.{IsPid}
 use Rattle.vk_base.specs.Settings.{Settings, has_station, stations_of}
 use Rattle.vk_text.specs.Heads.{line_text, process_text}
 use Rattle.vk_text.specs.Laws.{IsReadable}
-use Rattle.vk_text.specs.Openings.{IsTold, TellPools, timed_lines, times_text}
+use Rattle.vk_text.specs.Openings.{IsTellable, TellPools, timed_lines, times_text}
 use Rattle.vk_text.specs.Spelling.{call_words, joined, pid_text}
 use Rattle.vk_event.specs.declared.node.NodeTexts.{NodeTexts}
 use Rattle.vk_schedule.specs.declared.log.StationLog.{StationLog}
@@ -44,7 +44,7 @@ HostsDiffer (l ∷ ls) = (has_log ls l.host ≡ false) × HostsDiffer ls
 -- the configuration is one that a text can tell; there is a log; each is one of a station, and no two are of the same; there are not too
 -- many events in all
 pub record IsLawfulNodes (n : NodeTexts) : Type 0 where
-  pub told : IsTold n.config
+  pub told : IsTellable n.config
   pub some : 0 < length n.logs
   pub logs : AllByRecursion (IsLawfulLog n.config) n.logs
   pub differ : HostsDiffer n.logs

@@ -1,7 +1,7 @@
 -- Which pairs make a group.
 use Rattle.std.specs.Prelude.{Bool, ◌==◌, ◌&&◌, not, nat_le, List, length, count_by}
 use Rattle.std.specs.List.{list_all}
-use Rattle.vk_base.specs.declared.pid.Pid.{Pid}
+use Rattle.vk_types.specs.Types.{Pid}
 use Rattle.vk_base.specs.Pids.{same_pid}
 use Rattle.vk_event.specs.declared.pair.HelperPair.{HelperPair}
 use Rattle.vk_event.specs.declared.pair.TheConstants.{GROUP_MEMBERS}

@@ -1,8 +1,8 @@
 -- The scenario of a text.
 use Rattle.std.specs.Prelude.{ℕ, ◌+◌, ◌/◌, List, [], ◌∷◌, length, map, codes, Result, Ok, Err}
 use Rattle.std.specs.Option.{option_map_or}
+use Rattle.vk_types.specs.Types.{ProcessSpec}
 use Rattle.vk_base.specs.Settings.{Settings, stations_of}
-use Rattle.vk_base.specs.declared.config.ProcessSpec.{ProcessSpec}
 use Rattle.vk_text.specs.Lines.{lines_of}
 use Rattle.vk_text.specs.Openings.{HasProcesses, line_number, opening_of}
 use Rattle.vk_event.specs.declared.port.StationPort.{StationPort}

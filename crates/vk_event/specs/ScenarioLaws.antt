@@ -1,14 +1,13 @@
 -- Scenarios as texts: which there are, how they are spelled, and that reading is the inverse of spelling.
 use Rattle.std.specs.Prelude.{◌≡◌, ℕ, ◌<◌, ◌≤◌, ◌^◌, ◌⊎◌, true, List, [], ◌∷◌, ◌++◌, length, map, flat_map, decimal, codes, Option, Some, Ok}
 use Rattle.std.specs.List.{list_all, AllByRecursion}
+use Rattle.vk_types.specs.Types.{Pid, ProcessSpec}
 use Rattle.vk_base.specs.Options.{◌>>=◌}
 use Rattle.vk_base.specs.Pids.{IsPid}
 use Rattle.vk_base.specs.Settings.{Settings}
-use Rattle.vk_base.specs.declared.config.ProcessSpec.{ProcessSpec}
-use Rattle.vk_base.specs.declared.pid.Pid.{Pid}
 use Rattle.vk_text.specs.Heads.{line_text}
 use Rattle.vk_text.specs.Laws.{IsCount, IsReadable}
-use Rattle.vk_text.specs.Openings.{IsOpening, IsTold, opening_lines}
+use Rattle.vk_text.specs.Openings.{IsOpening, IsTellable, opening_lines}
 use Rattle.vk_text.specs.Spelling.{joined, pid_text, call_words}
 use Rattle.vk_event.specs.Pairs.{are_pairs}
 use Rattle.vk_event.specs.declared.pair.HelperPair.{HelperPair}
@@ -55,7 +54,7 @@ IsPlan plan = (plan.lose < 256) × (plan.double < 256) × (plan.hold < 256) × (
 -- the configuration is one that a text can tell, and there is a process; each process has a task, for which it has the memory; ports are
 -- of its stations, and rise; there are not too many rounds
 pub record IsLawfulScenario (s : Scenario) : Type 0 where
-  pub told : IsTold s.config
+  pub told : IsTellable s.config
   pub some : 0 < length s.config.specs
   pub tasks : map (λ t. t.pid) s.tasks ≡ map (λ p. p.pid) s.config.specs
   pub ranges : AllByRecursion (λ t. IsReadableKind t.kind) s.tasks
@@ -134,8 +133,8 @@ abbrev pub body_lines : Scenario → List TaskLine → List (List ℕ)
 body_lines s given = map task_text given ++ closing_lines s
 
 -- these lines are an opening of a scenario's configuration
-abbrev pub IsFront : Settings → List (List ℕ) → Type 0
-IsFront c opening = IsOpening plain_title timed_title c opening
+abbrev pub IsScenarioFront : Settings → List (List ℕ) → Type 0
+IsScenarioFront c opening = IsOpening plain_title timed_title c opening
 
 -- a text of the scenario, with this opening and these lines of tasks
 abbrev pub scenario_text : Scenario → List (List ℕ) → List TaskLine → List ℕ
@@ -145,14 +144,14 @@ scenario_text s opening given = flat_map line_text (opening ++ body_lines s give
 abbrev pub ScenariosAreSpelled : Type 0
 ScenariosAreSpelled =
     (text : List ℕ) (s : Scenario) → scenario_of text ≡ Ok s →
-    (opening : List (List ℕ)) × IsFront s.config opening
+    (opening : List (List ℕ)) × IsScenarioFront s.config opening
     × ((given : List TaskLine) × GiveTasks s given
     × ((text ≡ scenario_text s opening given) ⊎ (text ++ codes "\n" ≡ scenario_text s opening given)))
 
 -- each text of a lawful scenario reads as it
 abbrev pub ScenariosReadBack : Type 0
 ScenariosReadBack =
-    (s : Scenario) (opening : List (List ℕ)) (given : List TaskLine) → IsLawfulScenario s → IsFront s.config opening →
+    (s : Scenario) (opening : List (List ℕ)) (given : List TaskLine) → IsLawfulScenario s → IsScenarioFront s.config opening →
     AllByRecursion IsReadableLine given → GiveTasks s given → scenario_of (scenario_text s opening given) ≡ Ok s
 
 -- and no other scenario has a text
@@ -163,5 +162,5 @@ OnlyLawfulScenariosAreRead = (text : List ℕ) (s : Scenario) → scenario_of te
 abbrev pub LawfulScenariosHaveTexts : Type 0
 LawfulScenariosHaveTexts =
     (s : Scenario) → IsLawfulScenario s →
-    IsFront s.config (opening_lines plain_title timed_title s.config)
+    IsScenarioFront s.config (opening_lines plain_title timed_title s.config)
     × ((given : List TaskLine) × AllByRecursion IsReadableLine given × GiveTasks s given)

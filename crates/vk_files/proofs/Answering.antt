@@ -1,10 +1,10 @@
 -- A file server after one answer more.
 use Rattle.std.proofs.Common.{◌≡◌, ℕ, ◌+◌, Bool, true, false, cond, List, [], ◌∷◌, ◌++◌, drop, Option, Some, refl, ap, sym, subst, ◌∙◌, append_assoc, append-nil, add-zero, get_or-drop, drop-drop}
-use Rattle.vk_base.specs.declared.answer.Answer.{Answer}
-use Rattle.vk_files.specs.Ahead.{IsCalledIf, Reading, Works, ahead_after, calls_disk}
+use Rattle.vk_types.specs.Types.{Answer}
+use Rattle.vk_files.specs.Ahead.{IsCalledIf, DiskAhead, Works, ahead_after, calls_disk}
 use Rattle.vk_files.specs.Disks.{DiskState, IsForetold, told_at}
 use Rattle.vk_files.specs.Servers.{Server, answered, new_server, stage_call, turn_at, work_of}
-use Rattle.vk_files.specs.Tasks.{Course, FileState, IsAfter, IsStep, answered_all, course_of, file_task, new_course, server_of, stepped, stepped_all, telling_of}
+use Rattle.vk_files.specs.Tasks.{Course, FileState, IsAfter, IsServerStep, answered_all, course_of, file_task, new_course, server_of, stepped, stepped_all, telling_of}
 use Rattle.vk_files.specs.Volumes.{files_of}
 use Rattle.vk_files.specs.declared.disk.Telling.{Telling}
 use Rattle.vk_files.specs.declared.disk.Telling.TheVariants.{Done}
@@ -61,7 +61,7 @@ as_foretold false coming made t old new left is =
 
 -- one step, by the parts of both states
 step_parts : (first : DiskState) (requests : ℕ) (given : List Answer) (a : Answer) (t : Telling) (replies more : ℕ) (stage next : Serving)
-    (reading now : Reading)
+    (reading now : DiskAhead)
     → IsAfter (record { first = first; requests = requests; replies = replies; stage = stage; reading = reading }) given
     → Works (work_of (turn_at (files_of first.blocks) requests replies stage a)) t reading now
     → server_of (record { first = first; requests = requests; replies = more; stage = next; reading = now })
@@ -90,7 +90,7 @@ step_parts first requests given a t replies more stage next reading now is works
     }
 
 -- the same, with the disk and the requests of the new state, which are the old ones
-pub after_step : (old new : FileState) (given : List Answer) (a : Answer) → IsStep a old new → IsAfter old given
+pub after_step : (old new : FileState) (given : List Answer) (a : Answer) → IsServerStep a old new → IsAfter old given
     → IsAfter new (given ++ a ∷ [])
 after_step old new given a step is =
     let made = step_parts old.first old.requests given a step.told old.replies new.replies old.stage new.stage old.reading new.reading is

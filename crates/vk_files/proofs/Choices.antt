@@ -11,11 +11,6 @@ pub both : (a b : Bool) → (a && b) ≡ true → (a ≡ true) × (b ≡ true)
 both true b h = (refl, h)
 both false b h = absurd (cc)
 
--- where one of two tests holds and the first does not, it is the second
-pub second : (a b : Bool) → (a || b) ≡ true → a ≡ false → b ≡ true
-second true b h n = absurd (cc)
-second false b h n = h
-
 -- a choice with nothing on its other side
 pub found_first : {A : Type 0} (b : Bool) (o : Option A) (x : A) → cond b o (Some x) ≡ None → (b ≡ true) × (o ≡ None)
 found_first true o x h = (refl, h)

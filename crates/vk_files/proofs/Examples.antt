@@ -1,13 +1,10 @@
 -- The definitions, tried: directories, a page that is read ahead of a disk that fails, and a file that is loaded.
 use Rattle.std.proofs.Common.{◌≡◌, ℕ, zero, suc, List, [], ◌∷◌, ◌++◌, Option, Some, None, replicate, refl, lit<}
 use Rattle.std.specs.Int.{w32, to_be_bytes}
-use Rattle.vk_base.specs.declared.answer.Answer.{Answer}
+use Rattle.vk_types.specs.Types.{Answer, Call, Message, Pid}
 use Rattle.vk_base.specs.declared.answer.Answer.TheVariants as answers
 use Rattle.vk_base.specs.declared.answer.Refusal.TheVariants as refusals
-use Rattle.vk_base.specs.declared.call.Call.{Call}
 use Rattle.vk_base.specs.declared.call.Call.TheVariants as calls
-use Rattle.vk_base.specs.declared.message.Message.{Message}
-use Rattle.vk_base.specs.declared.pid.Pid.{Pid}
 use Rattle.vk_files.specs.Loaders.{loader_name}
 use Rattle.vk_files.specs.Messages.{load_of, open_of, page_request, reply_of}
 use Rattle.vk_files.specs.Tasks.{file_call, telling_of}

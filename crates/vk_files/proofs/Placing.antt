@@ -1,13 +1,12 @@
 -- What a server of a lawful directory asks for lies on its disk; and it replies that the disk failed only where the disk did.
 use Rattle.std.proofs.Common.{◌≡◌, ℕ, zero, suc, ◌+◌, ◌<◌, ◌≤◌, ◌==◌, ◌&&◌, ◌||◌, not, Bool, true, false, cond, nat_lt, nat_le, List, [], ◌∷◌, ◌++◌, slice_get, slice_index, option_and_then, Option, Some, None, refl, ap, subst, arith, ltb-true, leb-true, leb-false, eqb-true, ne_eqb}
+use Rattle.vk_types.specs.Types.{Answer, Message, Pid}
 use Rattle.vk_base.specs.Messages.{grants_of}
-use Rattle.vk_base.specs.declared.answer.Answer.{Answer}
 use Rattle.vk_base.specs.declared.answer.Answer.TheVariants as answers
 use Rattle.vk_base.specs.declared.call.Call.TheVariants as calls
-use Rattle.vk_base.specs.declared.message.Message.{Message}
-use Rattle.vk_base.specs.declared.pid.Pid.{Pid}
+use Rattle.vk_base.proofs.BoolLemmas.{or_rest}
 use Rattle.vk_io.specs.Causes.{Rose}
-use Rattle.vk_files.proofs.Choices.{either, both, second, found_first, found_second}
+use Rattle.vk_files.proofs.Choices.{either, both, found_first, found_second}
 use Rattle.vk_files.specs.Ahead.{IsCalledIf, calls_disk, is_ahead}
 use Rattle.vk_files.specs.Disks.{DiskState, is_done}
 use Rattle.vk_files.specs.Messages.{code_of, file_of, name_of, page_of, reply_of}
@@ -198,7 +197,7 @@ failure_asked (turns.FetchPage from f page dest) t blocks calm is block asked = 
 failure_asked (turns.FetchPart from f at dest) t blocks calm is block asked = cc
 failure_asked (turns.WritePage from f page bytes) t blocks calm is block asked = cc
 
--- the second byte of a reply is its code
+-- the or_rest byte of a reply is its code
 code_is : (code file number : ℕ) (from to : Pid)
     → Some (calls.Reply (reply_of code file number) from) ≡ Some (calls.Reply (reply_of 3 0 0) to)
     → code ≡ 3
@@ -225,7 +224,7 @@ few_blocks blocks length h few = omega arith
 lies_there : (start blocks count page : ℕ) → (blocks == 0 || nat_le (start + blocks) count) ≡ true → page < blocks → start + page < count
 lies_there start blocks count page h within =
     let some : (blocks == 0) ≡ false = ne_eqb blocks 0 (λ none. omega arith) in
-    let ends : start + blocks ≤ count = leb-true (start + blocks) count (second (blocks == 0) (nat_le (start + blocks) count) h some) in
+    let ends : start + blocks ≤ count = leb-true (start + blocks) count (or_rest (blocks == 0) (nat_le (start + blocks) count) h some) in
     omega arith
 
 -- a lawful entry
@@ -249,7 +248,7 @@ from_there : (count number : ℕ) (before : List Entry) (e : Entry) (f : File) �
 from_there count number before e f fine is =
     let made : File = record { number = number; start = e.start; blocks = e.blocks; length = e.length } in
     let parts = found_second (is_free e) made f is in
-    subst (IsOnDisk count) parts.1 (entry_there count number before e (second (is_free e) (is_lawful count before e) fine parts.0))
+    subst (IsOnDisk count) parts.1 (entry_there count number before e (or_rest (is_free e) (is_lawful count before e) fine parts.0))
 
 -- an entry that is free or lawful behind some others
 record IsFineEntry (count : ℕ) (e : Entry) : Type 0 where

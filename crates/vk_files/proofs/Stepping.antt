@@ -1,21 +1,19 @@
 -- One step of a file server, by its parts.
 use Rattle.std.proofs.Common.{◌≡◌, ℕ, List, length, Option, Some, None, refl, ap, sym, subst, ◌∙◌, length-set, ◌++◌}
 use Rattle.std.proofs.lemmas.Option.{same_Some}
-use Rattle.vk_base.specs.declared.answer.Answer.{Answer}
-use Rattle.vk_base.specs.declared.call.Call.{Call}
+use Rattle.vk_types.specs.Types.{Answer, Call, Pid}
 use Rattle.vk_base.specs.declared.call.Call.TheVariants as calls
-use Rattle.vk_base.specs.declared.pid.Pid.{Pid}
 use Rattle.vk_io.specs.Causes.{Rose}
 use Rattle.vk_program.specs.Tasks.{told_by}
 use Rattle.vk_files.proofs.Answering.{after_none, after_step, called_after}
 use Rattle.vk_files.proofs.Placing.{IsFine, after_placed, failure_asked, failure_called, failure_rose, files_there, turn_fine}
-use Rattle.vk_files.specs.Ahead.{Reading, Works}
+use Rattle.vk_files.specs.Ahead.{DiskAhead, Works}
 use Rattle.vk_files.specs.Disks.{DiskState}
 use Rattle.vk_files.specs.Messages.{reply_of}
 use Rattle.vk_files.specs.Opened.{IsServing}
 use Rattle.vk_files.specs.Placed.{AreOnDisk, IsPlaced}
-use Rattle.vk_files.specs.Servers.{Work, Rests, Fetches, Writes, FetchesAhead, blocks_after, is_failure, replies_after, stage_after, stage_call, turn_at, work_of}
-use Rattle.vk_files.specs.Tasks.{FileState, IsActed, IsAfter, IsStep, IsStepBy, asked_of_disk, file_task}
+use Rattle.vk_files.specs.Servers.{DiskWork, Rests, Fetches, Writes, FetchesAhead, blocks_after, is_failure, replies_after, stage_after, stage_call, turn_at, work_of}
+use Rattle.vk_files.specs.Tasks.{FileState, IsActed, IsAfter, IsServerStep, IsStepBy, asked_of_disk, file_task}
 use Rattle.vk_files.specs.Volumes.{files_of}
 use Rattle.vk_files.specs.declared.disk.Telling.{Telling}
 use Rattle.vk_files.specs.declared.disk.Telling.TheVariants.{Done, Lost, Landed}
@@ -24,7 +22,7 @@ use Rattle.vk_files.specs.declared.serving.Serving.{Serving}
 use Rattle.vk_files.specs.declared.serving.Turn.{Turn}
 
 -- the turn of a server asks for what lies on its disk
-pub serving_fine : (first : DiskState) (files seen : List Entry) (requests replies : ℕ) (stage : Serving) (reading : Reading) (a : Answer)
+pub serving_fine : (first : DiskState) (files seen : List Entry) (requests replies : ℕ) (stage : Serving) (reading : DiskAhead) (a : Answer)
     (turn : Turn) → IsServing first files stage reading → seen ≡ files → turn ≡ turn_at seen requests replies stage a
     → IsFine (length reading.disk.blocks) turn
 serving_fine first files seen requests replies stage reading a turn is same made =
@@ -34,7 +32,7 @@ serving_fine first files seen requests replies stage reading a turn is same made
     subst (λ (n : ℕ). IsFine n turn) (sym is.size) (subst (IsFine count) (sym made) fine)
 
 -- no call of a disk changes how many blocks there are
-same_count : (w : Work) (t : Telling) (blocks : List (List ℕ)) → length (blocks_after w t blocks) ≡ length blocks
+same_count : (w : DiskWork) (t : Telling) (blocks : List (List ℕ)) → length (blocks_after w t blocks) ≡ length blocks
 same_count Rests t blocks = refl
 same_count (Fetches block) t blocks = refl
 same_count (FetchesAhead block) t blocks = refl
@@ -43,7 +41,7 @@ same_count (Writes block bytes) Lost blocks = refl
 same_count (Writes block bytes) Landed blocks = length-set blocks block bytes
 
 -- what a server keeps to, after a turn
-pub still_serving : (first : DiskState) (files : List Entry) (stage next : Serving) (reading now : Reading) (turn : Turn)
+pub still_serving : (first : DiskState) (files : List Entry) (stage next : Serving) (reading now : DiskAhead) (turn : Turn)
     → IsServing first files stage reading → IsFine (length reading.disk.blocks) turn → IsActed turn reading now next
     → IsServing first files next now
 still_serving first files stage next reading now turn is fine acted =
@@ -58,10 +56,10 @@ still_serving first files stage next reading now turn is fine acted =
     }
 
 -- what a server does with an answer is its step
-pub step_made : (first : DiskState) (files seen : List Entry) (requests replies more : ℕ) (stage next : Serving) (reading now : Reading)
+pub step_made : (first : DiskState) (files seen : List Entry) (requests replies more : ℕ) (stage next : Serving) (reading now : DiskAhead)
     (a : Answer) (turn : Turn) → IsServing first files stage reading → seen ≡ files → turn ≡ turn_at seen requests replies stage a
     → more ≡ replies_after requests stage replies → IsActed turn reading now next
-    → IsStep a (record { first = first; requests = requests; replies = replies; stage = stage; reading = reading })
+    → IsServerStep a (record { first = first; requests = requests; replies = replies; stage = stage; reading = reading })
     (record { first = first; requests = requests; replies = more; stage = next; reading = now })
 step_made first files seen requests replies more stage next reading now a turn is same made counted acted =
     let blocks = reading.disk.blocks in

@@ -54,7 +54,7 @@ pub record IsCalled (t : Telling) (old new : DiskState) : Type 0 where
   pub foretold : IsForetold t old.coming new.coming
 
 -- A block was read: the bytes are those that stand there, unless the call failed. No block changed.
-pub record IsRead (block : ℕ) (old new : DiskState) (result : Result (Unit {0}) Failed) (into : List ℕ) : Type 0 where
+pub record IsBlockRead (block : ℕ) (old new : DiskState) (result : Result (Unit {0}) Failed) (into : List ℕ) : Type 0 where
   pub told : Telling
   pub called : IsCalled told old new
   pub answer : is_ok result ≡ is_done told
@@ -62,7 +62,7 @@ pub record IsRead (block : ℕ) (old new : DiskState) (result : Result (Unit {0}
   pub blocks : new.blocks ≡ old.blocks
 
 -- A block was written. Where the call failed, it has its old bytes or the new ones. No other block changed.
-pub record IsWritten (block : ℕ) (bytes : List ℕ) (old new : DiskState) (result : Result (Unit {0}) Failed) : Type 0 where
+pub record IsBlockWritten (block : ℕ) (bytes : List ℕ) (old new : DiskState) (result : Result (Unit {0}) Failed) : Type 0 where
   pub told : Telling
   pub called : IsCalled told old new
   pub answer : is_ok result ≡ is_done told

@@ -1,9 +1,7 @@
 -- The loader: it opens a file by its name, loads it whole to the beginning of its memory, and looks at the last bytes.
 use Rattle.std.specs.Prelude.{◌≡◌, ℕ, ◌+◌, ◌-◌, min, nat_lt, List, [], ◌∷◌, length, replicate, if◌then◌else◌}
-use Rattle.vk_base.specs.declared.answer.Answer.{Answer}
-use Rattle.vk_base.specs.declared.call.Call.{Call}
+use Rattle.vk_types.specs.Types.{Answer, Call, Pid}
 use Rattle.vk_base.specs.declared.call.Call.TheVariants as calls
-use Rattle.vk_base.specs.declared.pid.Pid.{Pid}
 use Rattle.vk_files.specs.Messages.{load_of, open_of}
 use Rattle.vk_files.specs.declared.limits.TheConstants.{FILE_BYTES}
 

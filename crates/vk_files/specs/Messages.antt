@@ -1,7 +1,7 @@
 -- File requests and their replies, as messages.
 use Rattle.std.specs.Prelude.{ℕ, ◌∷◌, ◌++◌, List, take, drop, replicate, slice_index}
 use Rattle.std.specs.Int.{w32, to_be_bytes}
-use Rattle.vk_base.specs.declared.message.Message.{Message}
+use Rattle.vk_types.specs.Types.{Message}
 use Rattle.vk_base.specs.Messages.{word_at}
 use Rattle.vk_files.specs.declared.limits.TheConstants.{NAME_BYTES}
 

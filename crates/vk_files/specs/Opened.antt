@@ -1,7 +1,7 @@
 -- File servers that were made, and disks that cannot be served.
 use Rattle.std.specs.Prelude.{◌≡◌, ℕ, ◌<◌, ◌^◌, List, length, Some, None}
 use Rattle.vk_io.specs.Causes.{Rose}
-use Rattle.vk_files.specs.Ahead.{Reading}
+use Rattle.vk_files.specs.Ahead.{DiskAhead}
 use Rattle.vk_files.specs.Disks.{DiskState, IsCalled}
 use Rattle.vk_files.specs.Placed.{IsPlaced}
 use Rattle.vk_files.specs.Servers.{between}
@@ -14,7 +14,7 @@ use Rattle.vk_files.specs.declared.volume.VolumeFault.{VolumeFault}
 use Rattle.vk_files.specs.declared.volume.VolumeFault.TheVariants as faults
 
 -- what a server keeps to, which was made over this disk: the directory is its first block and lawful, and what it does lies on the disk
-pub record IsServing (first : DiskState) (entries : List Entry) (doing : Serving) (reading : Reading) : Type 0 where
+pub record IsServing (first : DiskState) (entries : List Entry) (doing : Serving) (reading : DiskAhead) : Type 0 where
   pub few : length first.blocks < 2 ^ 32
   pub files : entries ≡ files_of first.blocks
   pub lawful : first_bad (length first.blocks) (files_of first.blocks) ≡ None
@@ -22,7 +22,7 @@ pub record IsServing (first : DiskState) (entries : List Entry) (doing : Serving
   pub stage : IsPlaced (length first.blocks) doing
 
 -- it was made over this disk, whose directory is lawful, has read it with one call, and done nothing else
-pub record IsOpened (disk : DiskState) (asked : ℕ) (s : FileState) : Type 0 where
+pub record IsServerOpened (disk : DiskState) (asked : ℕ) (s : FileState) : Type 0 where
   pub lawful : first_bad (length disk.blocks) (files_of disk.blocks) ≡ None
   pub first : s.first ≡ disk
   pub requests : s.requests ≡ asked
@@ -40,6 +40,6 @@ IsCause (faults.BadVolume entry) disk now =
 IsCause faults.NoMemory disk now = now.faults ≡ disk.faults
 
 -- the disk comes back with the same blocks
-pub record IsRefused (disk now : DiskState) (why : VolumeFault) : Type 0 where
+pub record IsVolumeRefused (disk now : DiskState) (why : VolumeFault) : Type 0 where
   pub cause : IsCause why disk now
   pub blocks : now.blocks ≡ disk.blocks

@@ -1,12 +1,9 @@
 -- The file server: one step of it, from its state, the last answer, and what the disk tells at that moment.
 use Rattle.std.specs.Prelude.{ℕ, ◌+◌, ◌*◌, Bool, false, ◌==◌, ◌&&◌, min, nat_lt, nat_le, List, length, Option, Some, None, if◌then◌else◌}
+use Rattle.vk_types.specs.Types.{Answer, Call, Message, Pid}
 use Rattle.vk_base.specs.Messages.{grants_of}
-use Rattle.vk_base.specs.declared.answer.Answer.{Answer}
 use Rattle.vk_base.specs.declared.answer.Answer.TheVariants as answers
-use Rattle.vk_base.specs.declared.call.Call.{Call}
 use Rattle.vk_base.specs.declared.call.Call.TheVariants as calls
-use Rattle.vk_base.specs.declared.message.Message.{Message}
-use Rattle.vk_base.specs.declared.pid.Pid.{Pid}
 use Rattle.vk_files.specs.Disks.{fetched, written}
 use Rattle.vk_files.specs.Messages.{code_of, file_of, name_of, page_of, reply_of}
 use Rattle.vk_files.specs.Volumes.{file_at, file_named}
@@ -122,13 +119,13 @@ replies_after requests (stages.Reply from code file number) replies = one_more r
 replies_after requests _ replies = replies
 
 -- what is asked of a disk: to fetch a block that is to be served, to write one, or to fetch one ahead
-pub data Work : Type 0 where
-  Rests : Work
-  Fetches : (block : ℕ) → Work
-  Writes : (block : ℕ) (bytes : List ℕ) → Work
-  FetchesAhead : (block : ℕ) → Work
+pub data DiskWork : Type 0 where
+  Rests : DiskWork
+  Fetches : (block : ℕ) → DiskWork
+  Writes : (block : ℕ) (bytes : List ℕ) → DiskWork
+  FetchesAhead : (block : ℕ) → DiskWork
 
-abbrev pub work_of : Turn → Work
+abbrev pub work_of : Turn → DiskWork
 work_of (turns.Goes next) = Rests
 work_of (turns.GoesAhead f page next) = FetchesAhead (f.start + page)
 work_of (turns.FetchPage from f page dest) = Fetches (f.start + page)
@@ -136,7 +133,7 @@ work_of (turns.FetchPart from f at dest) = Fetches (f.start + at)
 work_of (turns.WritePage from f page bytes) = Writes (f.start + page) bytes
 
 -- the blocks then, by what the disk told
-abbrev pub blocks_after : Work → Telling → List (List ℕ) → List (List ℕ)
+abbrev pub blocks_after : DiskWork → Telling → List (List ℕ) → List (List ℕ)
 blocks_after (Writes block bytes) t blocks = written t blocks block bytes
 blocks_after Rests t blocks = blocks
 blocks_after (Fetches block) t blocks = blocks

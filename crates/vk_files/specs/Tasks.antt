@@ -1,11 +1,10 @@
 -- The task of a file server, and when the server may have been given these answers.
 use Rattle.std.specs.Prelude.{◌≡◌, ℕ, ◌+◌, true, List, [], ◌∷◌, ◌++◌, drop, Option, Some, None, if◌then◌else◌}
-use Rattle.vk_base.specs.declared.answer.Answer.{Answer}
-use Rattle.vk_base.specs.declared.call.Call.{Call}
+use Rattle.vk_types.specs.Types.{Answer, Call}
 use Rattle.vk_io.specs.Causes.{Rose}
-use Rattle.vk_files.specs.Ahead.{Reading, Works, ahead_after, calls_disk}
+use Rattle.vk_files.specs.Ahead.{DiskAhead, Works, ahead_after, calls_disk}
 use Rattle.vk_files.specs.Disks.{DiskState, told_at}
-use Rattle.vk_files.specs.Servers.{FetchesAhead, Server, Work, answered, is_failure, new_server, stage_after, stage_call, turn_at, work_of}
+use Rattle.vk_files.specs.Servers.{FetchesAhead, Server, DiskWork, answered, is_failure, new_server, stage_after, stage_call, turn_at, work_of}
 use Rattle.vk_files.specs.Volumes.{files_of}
 use Rattle.vk_files.specs.declared.disk.Telling.{Telling}
 use Rattle.vk_files.specs.declared.disk.Telling.TheVariants.{Done}
@@ -37,7 +36,7 @@ pub record Course : Type 0 where
   pub told : Telling
 
 -- what comes of one answer that asks this of the disk
-abbrev pub told_by_disk : List Telling → Course → Work → Telling
+abbrev pub told_by_disk : List Telling → Course → DiskWork → Telling
 told_by_disk coming c w = if calls_disk c.ahead w then told_at coming c.made else Done
 
 abbrev pub stepped : List Entry → ℕ → List Telling → Course → Answer → Course
@@ -76,7 +75,7 @@ pub record FileState : Type 0 where
   pub requests : ℕ
   pub replies : ℕ
   pub stage : Serving
-  pub reading : Reading
+  pub reading : DiskAhead
 
 abbrev pub server_of : FileState → Server
 server_of s = record { blocks = s.reading.disk.blocks; replies = s.replies; stage = s.stage }
@@ -91,17 +90,17 @@ pub record IsAfter (s : FileState) (given : List Answer) : Type 0 where
   pub ahead : (course_of s.first.blocks s.requests coming given).ahead ≡ s.reading.ahead
 
 -- this turn was taken with the disk, and this is next
-pub record IsActed (turn : Turn) (old new : Reading) (stage : Serving) : Type 0 where
+pub record IsActed (turn : Turn) (old new : DiskAhead) (stage : Serving) : Type 0 where
   pub told : Telling
   pub works : Works (work_of turn) told old new
   pub next : stage ≡ stage_after turn told old.disk.blocks
 
 -- what it asks of its disk where its last call is answered so
-abbrev pub asked_of_disk : FileState → Answer → Work
+abbrev pub asked_of_disk : FileState → Answer → DiskWork
 asked_of_disk s a = work_of (turn_at (files_of s.first.blocks) s.requests s.replies s.stage a)
 
 -- One step, whatever the disk foretells: what is asked of the disk, what it told, and the server by that.
-pub record IsStep (a : Answer) (old new : FileState) : Type 0 where
+pub record IsServerStep (a : Answer) (old new : FileState) : Type 0 where
   pub told : Telling
   pub works : Works (asked_of_disk old a) told old.reading new.reading
   pub server : server_of new ≡ answered (files_of old.first.blocks) old.requests (server_of old) told a
@@ -114,4 +113,4 @@ pub record IsStep (a : Answer) (old new : FileState) : Type 0 where
 -- and before the first answer nothing changes
 abbrev pub IsStepBy : Option Answer → FileState → FileState → Type 0
 IsStepBy None old new = new ≡ old
-IsStepBy (Some a) old new = IsStep a old new
+IsStepBy (Some a) old new = IsServerStep a old new

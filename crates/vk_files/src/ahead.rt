@@ -1,7 +1,7 @@
 //! A disk of which one block is read ahead.
 
 ghost use Rattle.std.specs.Prelude.{◌≡◌, ◌<◌, ◌≤◌, ℕ, List, None, length};
-ghost use Rattle.vk_files.specs.Ahead.{IsFetched, IsFetchedAhead, IsPut, Reading};
+ghost use Rattle.vk_files.specs.Ahead.{IsFetched, IsFetchedAhead, IsPut, DiskAhead};
 
 use crate::disk::Disk;
 use crate::limits::BLOCK_BYTES;
@@ -17,10 +17,10 @@ pub struct ReadAhead<D: Disk> {
 
 impl<D: Disk> Model for ReadAhead<D> {
     ghost use Rattle.std.specs.Prelude.{◌≡◌, IfSome};
-    ghost use Rattle.vk_files.specs.Ahead.{Reading};
+    ghost use Rattle.vk_files.specs.Ahead.{DiskAhead};
     ghost use Rattle.vk_files.specs.Disks.{block_at};
 
-    ghost Value = { Reading };
+    ghost Value = { DiskAhead };
 
     ghost view = { λ r. record { disk = D.state r.disk; ahead = r.ahead } };
 

@@ -1,6 +1,6 @@
 // What every disk promises.
 ghost use Rattle.std.specs.Prelude.{◌≡◌, ◌<◌, ◌≤◌, length};
-ghost use Rattle.vk_files.specs.Disks.{DiskState, IsRead, IsWritten};
+ghost use Rattle.vk_files.specs.Disks.{DiskState, IsBlockRead, IsBlockWritten};
 
 use crate::limits::BLOCK_BYTES;
 use vk_io::Failed;
@@ -37,7 +37,7 @@ pub trait Disk: Drop {
     /// [`Failed`] only where the count of faults rose.
     fn read(&mut self, block: u32, into: &mut [u8; BLOCK_BYTES]) -> Result<(), Failed>
         requires { block < length (state self.old).blocks }
-        ensures told { IsRead block (state self.old) (state self.new) result into.new };
+        ensures told { IsBlockRead block (state self.old) (state self.new) result into.new };
 
     /// Makes these bytes a block. No other block changes.
     ///
@@ -46,5 +46,5 @@ pub trait Disk: Drop {
     /// [`Failed`] only where the count of faults rose; the block has its old bytes or the new ones.
     fn write(&mut self, block: u32, bytes: &[u8; BLOCK_BYTES]) -> Result<(), Failed>
         requires { block < length (state self.old).blocks }
-        ensures told { IsWritten block bytes.now (state self.old) (state self.new) result };
+        ensures told { IsBlockWritten block bytes.now (state self.old) (state self.new) result };
 }

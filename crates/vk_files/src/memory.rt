@@ -1,7 +1,7 @@
 //! Disks in memory.
 
 ghost use Rattle.std.specs.Prelude.{◌≡◌, ◌<◌, ◌≤◌, ◌+◌, ◌^◌, min, max, drop, length, slice_set, IfOk};
-ghost use Rattle.vk_files.specs.Disks.{Counts, IsRead, IsWritten, block_at, told_at};
+ghost use Rattle.vk_files.specs.Disks.{Counts, IsBlockRead, IsBlockWritten, block_at, told_at};
 ghost use Rattle.vk_files.specs.MemoryDisks.{after_write, begun, faults_after, memory_state, new_memory, sure_state};
 
 use crate::disk::{Disk, Telling};
@@ -204,7 +204,7 @@ impl Disk for MemoryDisk {
 
     fn read(&mut self, block: u32, into: &mut [u8; BLOCK_BYTES]) -> Result<(), Failed>
         requires { block < length self.old.blocks }
-        ensures told { IsRead block (memory_state self.old) (memory_state self.new) result into.new }
+        ensures told { IsBlockRead block (memory_state self.old) (memory_state self.new) result into.new }
 
         // the call is recorded, where there is room
         ensures now { self.new ≡ begun self.old (DiskCall.Read block) }
@@ -220,7 +220,7 @@ impl Disk for MemoryDisk {
 
     fn write(&mut self, block: u32, bytes: &[u8; BLOCK_BYTES]) -> Result<(), Failed>
         requires { block < length self.old.blocks }
-        ensures told { IsWritten block bytes.now (memory_state self.old) (memory_state self.new) result }
+        ensures told { IsBlockWritten block bytes.now (memory_state self.old) (memory_state self.new) result }
 
         // the call is recorded, where there is room
         ensures now { self.new ≡ after_write self.old block bytes.now }

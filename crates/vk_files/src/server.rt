@@ -8,10 +8,10 @@ ghost use Rattle.vk_program.specs.Tasks.{told_by};
 ghost use Rattle.vk_files.specs.Disks.{is_done};
 ghost use Rattle.vk_files.specs.declared.disk.Telling.{Telling as TheTelling};
 ghost use Rattle.vk_files.specs.Messages.{reply_of};
-ghost use Rattle.vk_files.specs.Opened.{IsOpened, IsRefused};
+ghost use Rattle.vk_files.specs.Opened.{IsServerOpened, IsVolumeRefused};
 ghost use Rattle.vk_files.specs.Placed.{IsInReach};
 ghost use Rattle.vk_files.specs.Servers.{FetchesAhead, answered_write, put_there, stage_call, stored};
-ghost use Rattle.vk_files.specs.Tasks.{IsActed, IsAfter, IsStep, IsStepBy, asked_of_disk, file_task};
+ghost use Rattle.vk_files.specs.Tasks.{IsActed, IsAfter, IsServerStep, IsStepBy, asked_of_disk, file_task};
 ghost use Rattle.vk_files.specs.declared.serving.Serving.TheVariants as stages;
 
 use crate::ahead::ReadAhead;
@@ -157,9 +157,9 @@ impl<D: Disk> FileServer<D> {
     ///
     /// [`VolumeRefusal`] with the disk, where it failed, where its directory is no lawful one, or where memory is wanting.
     pub fn new(alloc: Global, mut disk: D, requests: u32) -> Result<Self, VolumeRefusal<D>>
-        ensures opened { IfOk result (λ s. IsOpened (D.state disk) requests s) }
+        ensures opened { IfOk result (λ s. IsServerOpened (D.state disk) requests s) }
         ensures after { IfOk result (λ s. (coming : List TheTelling) → (D.state disk).coming ≡ Some coming → IsAfter s []) }
-        ensures refused { IfErr result (λ e. IsRefused (D.state disk) (D.state e.disk) e.why) }
+        ensures refused { IfErr result (λ e. IsVolumeRefused (D.state disk) (D.state e.disk) e.why) }
     {
         let first = Snapshot::of(&disk);
         let count = disk.blocks();
@@ -195,7 +195,7 @@ impl<D: Disk> FileServer<D> {
 
     /// After its last call was answered so.
     fn answer(&mut self, answer: &Answer)
-        ensures { IsStep answer.now self.old self.new }
+        ensures { IsServerStep answer.now self.old self.new }
     {
         let turn = turn(
             self.files.as_slice(),

@@ -14,7 +14,7 @@ use Rattle.vk_wire.specs.Fields.{IsBytes, number_at}
 use Rattle.vk_wire.proofs.Fronts.{number_stands, number_again}
 
 -- what stands where bytes open
-pub record IsOpened (bytes : List ℕ) (h : Header) (rest : List ℕ) : Type 0 where
+pub record IsFrameOpened (bytes : List ℕ) (h : Header) (rest : List ℕ) : Type 0 where
   pub bytes_are : bytes ≡ frame_bytes h rest
   pub lawful : IsTrue (is_lawful h)
   pub filled : 1 ≤ length rest
@@ -31,10 +31,10 @@ three true true c e = (refl, refl, e)
 three true false c e = absurd (grind (arith, e))
 three false b c e = absurd (grind (arith, e))
 
-filled_by : (rest : List ℕ) → not (length rest == 0) ≡ true → 1 ≤ length rest
+pub filled_by : (rest : List ℕ) → not (length rest == 0) ≡ true → 1 ≤ length rest
 filled_by rest e = grind (arith, common_steps)
 
-pub opened : (bytes : List ℕ) (r : Header × List ℕ) → IsBytes bytes → frame_of bytes ≡ Some r → IsOpened bytes r.0 r.1
+pub opened : (bytes : List ℕ) (r : Header × List ℕ) → IsBytes bytes → frame_of bytes ≡ Some r → IsFrameOpened bytes r.0 r.1
 unfolding frame_of
 opened bytes r b found =
     let first = bind_is (number_at 2 bytes) _ r found in
@@ -63,7 +63,7 @@ opened bytes r b found =
     let o = number_stands 2 event.0.1 output.0 e.rest_bytes output.1 in
     let marked : bytes ≡ big_bytes 2 mark ++ first.0.1 =
     subst (λ (m : ℕ). bytes ≡ big_bytes 2 m ++ first.0.1) (eqb-true first.0.0 mark tests.0) f.bytes_are in
-    subst (λ (r : Header × List ℕ). IsOpened bytes r.0 r.1) is.1 (record {
+    subst (λ (r : Header × List ℕ). IsFrameOpened bytes r.0 r.1) is.1 (record {
       bytes_are = joined bytes first.0.1 source.0.1 destination.0.1 stamp.0.1 number.0.1 event.0.1 output.0.1 h marked s.bytes_are
           d.bytes_are t.bytes_are n.bytes_are e.bytes_are o.bytes_are;
       lawful = tests.1;

@@ -1,36 +1,22 @@
 -- Which numbers stand in a list, and which members they are of.
-use Rattle.std.proofs.Common.{◌≡◌, ◌≢◌, ℕ, ◌<◌, Bool, true, false, ◌||◌, eqb, List, [], ◌∷◌, ◌++◌, length, get_or, Option, refl, ap, sym, subst, ◌∙◌, arith, length-append, inl, inr}
+use Rattle.std.proofs.Common.{◌≡◌, ◌≢◌, ℕ, ◌<◌, Bool, true, false, ◌||◌, eqb, List, [], ◌∷◌, ◌++◌, Option, refl, ap, sym, subst, ◌∙◌, inl, inr}
 use Rattle.std.specs.List.{IsDistinct}
 use Rattle.std.specs.Cmp.{nat_eq_equiv}
 use Rattle.std.proofs.lemmas.Bool.{eqb-true, eqb-false, eq-eqb, or_cases, or_left, or_right}
-use Rattle.std.proofs.lemmas.List.{get_or_append_left}
 use Rattle.std.proofs.lemmas.List.Folds.{list_any-append}
-use Rattle.std.proofs.lemmas.Map.Keys.{IsDistinct-from_apart, IsDistinct-push, apart_from_distinct}
+use Rattle.std.proofs.lemmas.Map.Keys.{IsDistinct-push}
+use Rattle.vk_base.proofs.BoolLemmas.{or_false}
 use Rattle.vk_group.specs.declared.member.Member.{Member}
 use Rattle.vk_group.specs.declared.member.Work.{Work}
 use Rattle.vk_group.specs.Laws.{is_among}
 use Rattle.vk_group.proofs.Works.{work_at}
-
-or_none : (b : Bool) → (b || false) ≡ b
-or_none true = refl
-or_none false = refl
 
 pub among_self : (ns : List ℕ) (n : ℕ) → is_among (n ∷ ns) n ≡ true
 among_self ns n = or_left (eqb n n) (is_among ns n) (eq-eqb n n refl)
 
 -- one number more
 among_more : (ns : List ℕ) (n i : ℕ) → is_among (ns ++ n ∷ []) i ≡ (is_among ns i || eqb i n)
-among_more ns n i = list_any-append (eqb i) ns (n ∷ []) ∙ ap (λ b. is_among ns i || b) (or_none (eqb i n))
-
--- the front of a list of different numbers
-pub front_distinct : (xs ys : List ℕ) → IsDistinct eqb (xs ++ ys) → IsDistinct eqb xs
-front_distinct xs ys apart =
-    IsDistinct-from_apart eqb xs (λ i j d before within.
-    let whole : j < length (xs ++ ys) = omega (arith, length-append xs ys) in
-    let first : i < length xs = omega arith in
-    ap (λ x. eqb x (get_or xs j d)) (sym (get_or_append_left xs ys d i first))
-    ∙ ap (λ y. eqb (get_or (xs ++ ys) i d) y) (sym (get_or_append_left xs ys d j within))
-    ∙ apart_from_distinct eqb (xs ++ ys) i j d apart before whole)
+among_more ns n i = list_any-append (eqb i) ns (n ∷ []) ∙ ap (λ b. is_among ns i || b) (or_false (eqb i n))
 
 pub push_distinct : (ns : List ℕ) (n : ℕ) → IsDistinct eqb ns → is_among ns n ≡ false → IsDistinct eqb (ns ++ n ∷ [])
 push_distinct ns n apart new = IsDistinct-push nat_eq_equiv ns n apart new
@@ -48,7 +34,7 @@ more_by : (was : Option Work → Bool) (ns : List ℕ) (n i : ℕ) (ms new : Lis
 more_by was ns n i ms new true e alike now those =
     among_more ns n i ∙ or_right (is_among ns i) (eqb i n) e ∙ sym now ∙ ap (λ k. was (work_at new k)) (sym (eqb-true i n e))
 more_by was ns n i ms new false e alike now those =
-    among_more ns n i ∙ ap (λ b. is_among ns i || b) e ∙ or_none (is_among ns i) ∙ those i ∙ ap was (sym (alike i (eqb-false i n e)))
+    among_more ns n i ∙ ap (λ b. is_among ns i || b) e ∙ or_false (is_among ns i) ∙ those i ∙ ap was (sym (alike i (eqb-false i n e)))
 
 pub one_more : (was : Option Work → Bool) (ns : List ℕ) (n : ℕ) (ms new : List Member) → AreAlike ms new n → was (work_at new n) ≡ true →
     AreThose was ns ms → AreThose was (ns ++ n ∷ []) new

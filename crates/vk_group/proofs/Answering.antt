@@ -1,6 +1,6 @@
 -- A group after one answer more.
 use Rattle.std.proofs.Common.{◌≡◌, List, [], ◌∷◌, ◌++◌, refl}
-use Rattle.vk_base.specs.declared.answer.Answer.{Answer}
+use Rattle.vk_types.specs.Types.{Answer}
 use Rattle.vk_group.specs.declared.group.Group.{Group}
 use Rattle.vk_group.specs.Groups.{answered, answered_all}
 

@@ -5,10 +5,8 @@ use Rattle.std.specs.List.{IsDistinct, filter_map}
 use Rattle.std.proofs.lemmas.Bool.{cond_both}
 use Rattle.std.proofs.lemmas.List.{map_push}
 use Rattle.std.proofs.lemmas.List.Elements.{filter_map-append}
-use Rattle.vk_base.specs.declared.answer.Answer.{Answer}
+use Rattle.vk_types.specs.Types.{Answer, Message, Pid}
 use Rattle.vk_base.specs.declared.answer.Answer.TheVariants as answers
-use Rattle.vk_base.specs.declared.message.Message.{Message}
-use Rattle.vk_base.specs.declared.pid.Pid.{Pid}
 use Rattle.vk_group.specs.declared.code.Code.{Code}
 use Rattle.vk_group.specs.declared.code.Code.TheVariants as codes
 use Rattle.vk_group.specs.declared.group.Group.{Group}
@@ -27,7 +25,7 @@ use Rattle.vk_group.specs.Groups.{answered, answered_all, answered_at, begun_by,
 use Rattle.vk_group.specs.Members.{given, holds_job, is_given, made_ready, new_member, reported, restarted, told}
 use Rattle.vk_group.specs.Messages.{message_in, request_in}
 use Rattle.vk_group.proofs.Amounts.{AreAlike, AreThose, one_more, push_distinct, still}
-use Rattle.vk_group.proofs.Staged.{IsStaged, IsTold, next_staged, verdict_staged}
+use Rattle.vk_group.proofs.Staged.{IsStaged, IsCodeRight, next_staged, verdict_staged}
 use Rattle.vk_group.proofs.Works.{none_done, none_given, none_replied, others_given, others_reported, was_done, was_given, was_replied, work_at, work_given, work_in, work_made_ready, work_reported, work_told}
 
 -- The members that were given the job, reported and replied are those of the account. The replies among the reports are those that were
@@ -163,21 +161,21 @@ books_handed ms notes h n is b =
     }
 
 -- A group keeps its books where they are right and it does what they allow.
-pub record IsKept (h : Account) (g : Group) : Type 0 where
+pub record KeepsBooks (h : Account) (g : Group) : Type 0 where
   pub books : Books g.members g.notes h
   pub staged : IsStaged g.members g.notes g.stage
 
-kept_rest : (g : Group) (h : Account) → Books g.members g.notes h → IsKept h (rest g)
+kept_rest : (g : Group) (h : Account) → Books g.members g.notes h → KeepsBooks h (rest g)
 kept_rest g h b = record { books = b; staged = next_staged g }
 
 kept_refused : (g : Group) (h : Account) (to : Pid) (code : Code) (counts : Bool) → Books g.members g.notes h →
-    IsTold g.members g.notes code → IsKept h (refused g to code counts)
+    IsCodeRight g.members g.notes code → KeepsBooks h (refused g to code counts)
 kept_refused g h to code counts b is = record { books = b; staged = is }
 
 -- a request
 
 kept_ready : (g : Group) (h : Account) (from : Pid) (dest : ℕ) (o : Option ℕ) → Books g.members g.notes h →
-    IsKept h (ready_from g from dest o)
+    KeepsBooks h (ready_from g from dest o)
 kept_ready g h from dest None b = record { books = b; staged = tt }
 kept_ready g h from dest (Some n) b =
     kept_rest (record g { members = made_ready n dest g.members }) h
@@ -194,31 +192,31 @@ holds_is None e = cc
 holds_is (Some m) e = ap Some (given_is m.work e)
 
 kept_result : (g : Group) (h : Account) (from : Pid) (replied : Bool) (o : Option ℕ) → Books g.members g.notes h →
-    IsKept h (result_from g from replied o)
+    KeepsBooks h (result_from g from replied o)
 kept_result g h from replied None b = record { books = b; staged = tt }
 kept_result g h from replied (Some n) b =
     cond_both (holds_job (slice_get g.members n)) (record g { stage = stages.LoadResult n from replied }) (refused_as g from (Some n))
-    (IsKept h) (λ e. record { books = b; staged = holds_is (slice_get g.members n) e }) (λ f. record { books = b; staged = tt })
+    (KeepsBooks h) (λ e. record { books = b; staged = holds_is (slice_get g.members n) e }) (λ f. record { books = b; staged = tt })
 
-kept_taken : (g : Group) (h : Account) (from : Pid) (request : Request) → Books g.members g.notes h → IsKept h (taken g from request)
+kept_taken : (g : Group) (h : Account) (from : Pid) (request : Request) → Books g.members g.notes h → KeepsBooks h (taken g from request)
 kept_taken g h from (requests.GroupSend dest) b =
-    cond_both (is_ending g) (refused g from codes.Bad true) (record g { stage = stages.LoadSend from dest }) (IsKept h)
+    cond_both (is_ending g) (refused g from codes.Bad true) (record g { stage = stages.LoadSend from dest }) (KeepsBooks h)
     (λ t. record { books = b; staged = tt }) (λ f. record { books = b; staged = tt })
 kept_taken g h from (requests.GetReply dest) b =
-    cond_both _ (refused g from codes.Bad true) (rest (record g { waiting = Some (record { client = from; dest = dest }) })) (IsKept h)
+    cond_both _ (refused g from codes.Bad true) (rest (record g { waiting = Some (record { client = from; dest = dest }) })) (KeepsBooks h)
     (λ t. record { books = b; staged = tt }) (λ f. kept_rest (record g { waiting = Some (record { client = from; dest = dest }) }) h b)
 kept_taken g h from (requests.Ready dest) b = kept_ready g h from dest (number_of g from) b
 kept_taken g h from (requests.Result replied) b = kept_result g h from replied (number_of g from) b
 kept_taken g h from requests.Bad b = record { books = b; staged = tt }
 
-kept_heard : (g : Group) (h : Account) (a : Answer) → Books g.members g.notes h → IsKept h (heard g a)
+kept_heard : (g : Group) (h : Account) (a : Answer) → Books g.members g.notes h → KeepsBooks h (heard g a)
 kept_heard g h (answers.ReceivedSegment from m count) b = kept_taken g h from (request_in m count) b
 kept_heard g h _ b = record { books = b; staged = tt }
 
 -- the message of a group Send, or what a member replied
 
-kept_begun : (g : Group) (h : Account) (client : Pid) (dest : ℕ) (m : Message) (o : Option Code) → IfSome o (IsTold g.members g.notes) →
-    Books g.members g.notes h → IsKept (accounted h (began client m o)) (begun_by g client dest m o)
+kept_begun : (g : Group) (h : Account) (client : Pid) (dest : ℕ) (m : Message) (o : Option Code) → IfSome o (IsCodeRight g.members g.notes) →
+    Books g.members g.notes h → KeepsBooks (accounted h (began client m o)) (begun_by g client dest m o)
 kept_begun g h client dest m None is b =
     kept_rest (record g {
       members = restarted g.members;
@@ -231,20 +229,20 @@ kept_begun g h client dest m None is b =
 kept_begun g h client dest m (Some code) is b = kept_refused g h client code true b is
 
 kept_send : (g : Group) (h : Account) (client : Pid) (dest : ℕ) (o : Option Message) → Books g.members g.notes h →
-    IsKept (accounted h (loaded g client o)) (loaded_send g client dest o)
+    KeepsBooks (accounted h (loaded g client o)) (loaded_send g client dest o)
 kept_send g h client dest None b = record { books = b; staged = tt }
 kept_send g h client dest (Some m) b = kept_begun g h client dest m (verdict g m) (verdict_staged g m) b
 
 kept_report : (g : Group) (h : Account) (n : ℕ) (helper : Pid) (replied : Bool) (o : Option Message) →
     work_at g.members n ≡ Some works.Given → Books g.members g.notes h →
-    IsKept (accounted h (option_map (report_of n replied) o)) (loaded_result g n helper replied o)
+    KeepsBooks (accounted h (option_map (report_of n replied) o)) (loaded_result g n helper replied o)
 kept_report g h n helper replied None is b = record { books = b; staged = tt }
 kept_report g h n helper true (Some m) is b = record { books = books_replied g.members g.notes h n m is b; staged = tt }
 kept_report g h n helper false (Some m) is b = record { books = books_failed g.members g.notes h n is b; staged = tt }
 
 -- a reply of a member went to a client
 kept_handed : (g : Group) (h : Account) (n : Note) (a : Answer) → g.notes ≡ n ∷ drop 1 g.notes → Books g.members g.notes h →
-    IsKept (accounted h (hands n a)) (rest (wait_over (record g { notes = notes_after a g.notes })))
+    KeepsBooks (accounted h (hands n a)) (rest (wait_over (record g { notes = notes_after a g.notes })))
 kept_handed g h n answers.Ok is b =
     kept_rest (wait_over (record g { notes = drop 1 g.notes })) (record h { handed_over = h.handed_over ++ n ∷ [] })
     (books_handed g.members g.notes h n is b)
@@ -253,7 +251,7 @@ kept_handed g h n _ is b = kept_rest (wait_over g) h b
 -- every answer keeps the books
 
 kept_at : (stage : Stage) (g : Group) (h : Account) (a : Answer) → Books g.members g.notes h → IsStaged g.members g.notes stage →
-    IsKept (accounted h (deed_at stage g a)) (answered_at stage g a)
+    KeepsBooks (accounted h (deed_at stage g a)) (answered_at stage g a)
 kept_at stages.Receive g h a b is = kept_heard g h a b
 kept_at (stages.LoadSend client dest) g h a b is = kept_send g h client dest (message_in a) b
 kept_at (stages.LoadResult number helper replied) g h a b is = kept_report g h number helper replied (message_in a) is b
@@ -272,7 +270,7 @@ kept_at (stages.Tell number helper) g h a b is =
 kept_at stages.Exit g h a b is = record { books = b; staged = tt }
 kept_at stages.Ended g h a b is = record { books = b; staged = tt }
 
-kept_from : (g : Group) (h : Account) (given : List Answer) → IsKept h g → IsKept (account_from g h given) (answered_all g given)
+kept_from : (g : Group) (h : Account) (given : List Answer) → KeepsBooks h g → KeepsBooks (account_from g h given) (answered_all g given)
 kept_from g h [] k = k
 kept_from g h (a ∷ rest) k = kept_from (answered g a) (accounted h (deed_of g a)) rest (kept_at g.stage g h a k.books k.staged)
 
@@ -293,7 +291,7 @@ new_replied (p ∷ ps) (suc i) = new_replied ps i
 
 -- of every coordinator, after all its answers
 pub kept : (pairs : List HelperPair) (requests : ℕ) (given : List Answer) →
-    IsKept (account_after pairs requests given) (group_after pairs requests given)
+    KeepsBooks (account_after pairs requests given) (group_after pairs requests given)
 kept pairs requests given =
     kept_from (new_group pairs requests) (nothing_for None) given
     (kept_rest (record {

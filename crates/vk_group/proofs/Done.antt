@@ -1,12 +1,10 @@
 -- Each deed of an account was called for and answered.
 use Rattle.std.proofs.Common.{◌≡◌, ℕ, Bool, true, List, Option, Some, None, refl, ap, subst, ◌∙◌}
 use Rattle.std.specs.Prelude.{IfSome, option_map}
-use Rattle.vk_base.specs.declared.answer.Answer.{Answer}
+use Rattle.vk_types.specs.Types.{Answer, Message, Pid}
 use Rattle.vk_base.specs.declared.answer.Answer.TheVariants as answers
 use Rattle.vk_base.specs.declared.call.Call.TheVariants as calls
 use Rattle.vk_base.specs.declared.limits.TheConstants.{MESSAGE_BYTES}
-use Rattle.vk_base.specs.declared.message.Message.{Message}
-use Rattle.vk_base.specs.declared.pid.Pid.{Pid}
 use Rattle.vk_group.specs.declared.code.Code.{Code}
 use Rattle.vk_group.specs.declared.code.Code.TheVariants as codes
 use Rattle.vk_group.specs.declared.group.Group.{Group}
@@ -19,14 +17,14 @@ use Rattle.vk_group.specs.declared.stage.Stage.{Stage}
 use Rattle.vk_group.specs.declared.stage.Stage.TheVariants as stages
 use Rattle.vk_group.specs.declared.stage.Wait.{Wait}
 use Rattle.vk_group.specs.Accounts.{Deed, Gave, account_after, began, deed_at, hands, loaded, report_of}
-use Rattle.vk_group.specs.Deeds.{DeedsAreDone, IsAfterCall, IsDone}
+use Rattle.vk_group.specs.Deeds.{DeedsAreDone, IsAfterCall, IsDeedDone}
 use Rattle.vk_group.specs.Groups.{coordinator_call, group_after, is_client, stage_call, verdict}
 use Rattle.vk_group.specs.Messages.{message_in, reply_of}
 use Rattle.vk_group.proofs.Tracked.{IsAskedBy, IsDueTo, IsJobFor, IsReportOf, IsStored, tracked}
 
 module _ (pairs : List HelperPair) (replies : ℕ) (before : List Answer) (a : Answer) where
   abbrev IsTrue : Deed → Type 0
-  IsTrue d = IsDone pairs replies before a d
+  IsTrue d = IsDeedDone pairs replies before a d
 
   begun_by_verdict : (client : Pid) (dest : ℕ) (m : Message) (o : Option Code) → message_in a ≡ Some m →
       coordinator_call pairs replies before ≡ Some (calls.Load 0 MESSAGE_BYTES) →

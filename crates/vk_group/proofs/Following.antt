@@ -2,7 +2,7 @@
 use Rattle.std.proofs.Common.{◌≡◌, ℕ, ◌≤◌, Bool, true, ◌==◌, ◌&&◌, not, nat_le, List, [], ◌∷◌, ◌++◌, length, refl, ap, sym, subst, ◌∙◌}
 use Rattle.std.proofs.lemmas.Bool.{and_parts, leb-true}
 use Rattle.std.proofs.lemmas.List.{length-map}
-use Rattle.vk_base.specs.declared.answer.Answer.{Answer}
+use Rattle.vk_types.specs.Types.{Answer}
 use Rattle.vk_group.specs.declared.group.Group.{Group}
 use Rattle.vk_group.specs.declared.helping.Helping.{Helping}
 use Rattle.vk_group.specs.declared.helping.Helping.TheVariants as helpings
@@ -10,7 +10,7 @@ use Rattle.vk_group.specs.declared.member.Member.{Member}
 use Rattle.vk_event.specs.declared.pair.HelperPair.{HelperPair}
 use Rattle.vk_event.specs.declared.pair.TheConstants.{GROUP_MEMBERS}
 use Rattle.vk_group.specs.Coordinators.{IsCoordinatorAfter}
-use Rattle.vk_group.specs.Groups.{HasRoom, answered, group_after, new_group}
+use Rattle.vk_group.specs.Groups.{HasRoomForNote, answered, group_after, new_group}
 use Rattle.vk_group.specs.Helpers.{IsHelperAfter, helped, helped_all}
 use Rattle.vk_group.specs.Members.{pair_of, pairs_of}
 use Rattle.vk_event.specs.Pairs.{are_different, are_pairs}
@@ -22,14 +22,14 @@ same_count : (ms ns : List Member) → pairs_of ms ≡ pairs_of ns → length ms
 same_count ms ns same = sym (length-map ms pair_of) ∙ ap length same ∙ length-map ns pair_of
 
 -- there is room for its next answer
-room : (requests : ℕ) (g : Group) (given : List Answer) → IsCoordinatorAfter requests g given → HasRoom g
+room : (requests : ℕ) (g : Group) (given : List Answer) → IsCoordinatorAfter requests g given → HasRoomForNote g
 room requests g given is =
-    subst HasRoom is.state
+    subst HasRoomForNote is.state
     (room_after (pairs_of g.members) requests given (subst (λ n. n ≤ GROUP_MEMBERS) (sym (length-map g.members pair_of)) is.few))
 
 -- as the code writes it
 pub after_last : (requests left : ℕ) (g new : Group) (a : Answer) (told given : List Answer) → left ≡ requests → told ≡ a ∷ [] →
-    pairs_of new.members ≡ pairs_of g.members → (HasRoom g → new ≡ answered g a) → IsCoordinatorAfter requests g given →
+    pairs_of new.members ≡ pairs_of g.members → (HasRoomForNote g → new ≡ answered g a) → IsCoordinatorAfter requests g given →
     IsCoordinatorAfter left new (given ++ told)
 after_last requests left g new a told given kept one same step is =
     rw (kept, one) (record {

@@ -6,7 +6,7 @@ use Rattle.std.specs.Option.{is_some}
 use Rattle.std.proofs.lemmas.Bool.{and_parts, cond_both, not-true}
 use Rattle.std.proofs.lemmas.List.Quantifiers.{position-Some}
 use Rattle.std.proofs.lemmas.Option.{get_or_from_slice_get, none-some, same_Some}
-use Rattle.vk_base.specs.declared.message.Message.{Message}
+use Rattle.vk_types.specs.Types.{Message}
 use Rattle.vk_base.specs.Options.{◌>>=◌}
 use Rattle.vk_group.specs.declared.code.Code.{Code}
 use Rattle.vk_group.specs.declared.code.Code.TheVariants as codes
@@ -24,13 +24,13 @@ use Rattle.vk_group.specs.Members.{has_replied, has_reported, is_due, is_open, w
 use Rattle.vk_group.proofs.Works.{work_at, work_in}
 
 -- what a code says of the members and of the replies that were not handed over
-abbrev pub IsTold : List Member → List Note → Code → Type 0
-IsTold ms notes codes.Busy = list_all has_reported ms ≡ false
-IsTold ms notes codes.Nobody = (list_all has_reported ms ≡ true) × (list_any has_replied ms ≡ false)
-IsTold ms notes codes.NoMore = (list_all has_reported ms ≡ true) × (notes ≡ []) × (list_any has_replied ms ≡ true)
-IsTold ms notes codes.Done = Unit {0}
-IsTold ms notes codes.End = Unit {0}
-IsTold ms notes codes.Bad = Unit {0}
+abbrev pub IsCodeRight : List Member → List Note → Code → Type 0
+IsCodeRight ms notes codes.Busy = list_all has_reported ms ≡ false
+IsCodeRight ms notes codes.Nobody = (list_all has_reported ms ≡ true) × (list_any has_replied ms ≡ false)
+IsCodeRight ms notes codes.NoMore = (list_all has_reported ms ≡ true) × (notes ≡ []) × (list_any has_replied ms ≡ true)
+IsCodeRight ms notes codes.Done = Unit {0}
+IsCodeRight ms notes codes.End = Unit {0}
+IsCodeRight ms notes codes.Bad = Unit {0}
 
 -- and what a stage rests on
 abbrev pub IsStaged : List Member → List Note → Stage → Type 0
@@ -39,8 +39,8 @@ IsStaged ms notes (stages.StoreJob j) = work_at ms j.member ≡ Some works.Open
 IsStaged ms notes (stages.GiveJob j) = work_at ms j.member ≡ Some works.Open
 IsStaged ms notes (stages.StoreReply w n) = notes ≡ n ∷ drop 1 notes
 IsStaged ms notes (stages.HandOver w n) = notes ≡ n ∷ drop 1 notes
-IsStaged ms notes (stages.Refuse to code counts) = IsTold ms notes code
-IsStaged ms notes (stages.EndWait client code) = IsTold ms notes code
+IsStaged ms notes (stages.Refuse to code counts) = IsCodeRight ms notes code
+IsStaged ms notes (stages.EndWait client code) = IsCodeRight ms notes code
 IsStaged ms notes stages.Receive = Unit {0}
 IsStaged ms notes (stages.LoadSend client dest) = Unit {0}
 IsStaged ms notes (stages.Thank helper) = Unit {0}
@@ -91,7 +91,7 @@ settled_staged g w (Some n) is = first_is g.notes n is
 settled_staged g w None is =
     cond_both (all_reported g) (stages.EndWait w.client (cond (list_any has_replied g.members) codes.NoMore codes.Nobody))
     (cond (is_ending g) (stages.EndWait w.client codes.Bad) stages.Receive) (IsStaged g.members g.notes)
-    (λ all. cond_both (list_any has_replied g.members) codes.NoMore codes.Nobody (IsTold g.members g.notes)
+    (λ all. cond_both (list_any has_replied g.members) codes.NoMore codes.Nobody (IsCodeRight g.members g.notes)
     (λ some. (all, none_left g.notes is, some)) (λ nobody. (all, nobody)))
     (λ busy. cond_both (is_ending g) (stages.EndWait w.client codes.Bad) stages.Receive (IsStaged g.members g.notes) (λ t. tt) (λ f. tt))
 
@@ -117,9 +117,9 @@ next_staged g =
     (λ t. waiting_staged g g.waiting) (λ f. by_job_staged g (job_due g) (job_staged g))
 
 -- why a group Send is refused
-pub verdict_staged : (g : Group) (m : Message) → IfSome (verdict g m) (IsTold g.members g.notes)
+pub verdict_staged : (g : Group) (m : Message) → IfSome (verdict g m) (IsCodeRight g.members g.notes)
 verdict_staged g m =
-    let P : Option Code → Type 0 = λ o. IfSome o (IsTold g.members g.notes) in
+    let P : Option Code → Type 0 = λ o. IfSome o (IsCodeRight g.members g.notes) in
     cond_both _ (Some codes.Bad) (cond (is_busy g) (Some codes.Busy) None) P (λ t. tt)
     (λ f. cond_both (is_busy g) (Some codes.Busy) None P
     (λ busy. not-true (all_reported g) (and_parts (is_some g.asked) (not (all_reported g)) busy).1)

@@ -6,10 +6,9 @@ use Rattle.std.proofs.lemmas.Bool.{and_cases, and_parts, false≢true, or_cases,
 use Rattle.std.proofs.lemmas.List.{length-map, map-append}
 use Rattle.std.proofs.lemmas.Map.Steps.{length-le_from_distinct_below}
 use Rattle.std.proofs.lemmas.Option.{none-some, same_Some}
-use Rattle.vk_base.specs.declared.answer.Answer.{Answer}
-use Rattle.vk_base.specs.declared.call.Call.{Call}
+use Rattle.vk_types.specs.Types.{Answer, Call, Pid}
 use Rattle.vk_base.specs.declared.call.Call.TheVariants as calls
-use Rattle.vk_base.specs.declared.pid.Pid.{Pid}
+use Rattle.vk_base.proofs.ListLemmas.{front_distinct}
 use Rattle.vk_group.specs.declared.code.Code.{Code}
 use Rattle.vk_group.specs.declared.code.Code.TheVariants as codes
 use Rattle.vk_group.specs.declared.member.Member.{Member}
@@ -22,14 +21,14 @@ use Rattle.vk_group.specs.declared.stage.Stage.{Stage}
 use Rattle.vk_group.specs.declared.stage.Stage.TheVariants as stages
 use Rattle.vk_group.specs.Accounts.{Account, account_after, note_member}
 use Rattle.vk_group.specs.Codes.{number_of}
-use Rattle.vk_group.specs.Groups.{HasRoom, HasRoomAt, group_after, new_group, stage_call}
+use Rattle.vk_group.specs.Groups.{HasRoomForNote, HasRoomAt, group_after, new_group, stage_call}
 use Rattle.vk_group.specs.Laws.{AllReported, BusyIsTrue, JobsAreGivenOnce, NobodyIsTrue, NoMoreIsTrue, RepliesAreHandedOverOnce, is_among}
 use Rattle.vk_group.specs.Members.{has_replied, has_reported, pair_of}
 use Rattle.vk_group.specs.Messages.{reply_of}
-use Rattle.vk_group.proofs.Amounts.{among_self, front_distinct, more_among, push_distinct}
+use Rattle.vk_group.proofs.Amounts.{among_self, more_among, push_distinct}
 use Rattle.vk_group.proofs.Books.{Books, kept}
 use Rattle.vk_group.proofs.Constant.{constant_all, pairs_new}
-use Rattle.vk_group.proofs.Staged.{IsStaged, IsTold}
+use Rattle.vk_group.proofs.Staged.{IsStaged, IsCodeRight}
 use Rattle.vk_group.proofs.Works.{was_done, was_given, was_replied, work_at}
 
 -- handed over, given and reported
@@ -134,19 +133,19 @@ module _ (c : Code) (only : (d : Code) → number_of d ≡ number_of c → d ≡
   told_by stages.Exit e = absurd (omega (arith, e, small))
   told_by stages.Ended e = absurd (omega (arith, e, small))
 
-is_told : (ms : List Member) (notes : List Note) (s : Stage) (c : Code) → told_in s ≡ Some c → IsStaged ms notes s → IsTold ms notes c
+is_told : (ms : List Member) (notes : List Note) (s : Stage) (c : Code) → told_in s ≡ Some c → IsStaged ms notes s → IsCodeRight ms notes c
 unfolding told_in
 is_told ms notes stages.Receive c e is = absurd (none-some c e)
 is_told ms notes (stages.LoadSend client dest) c e is = absurd (none-some c e)
 is_told ms notes (stages.LoadResult number helper replied) c e is = absurd (none-some c e)
-is_told ms notes (stages.Refuse to code counts) c e is = subst (IsTold ms notes) (same_Some code c e) is
-is_told ms notes (stages.Thank helper) c e is = subst (IsTold ms notes) (same_Some codes.Done c e) tt
+is_told ms notes (stages.Refuse to code counts) c e is = subst (IsCodeRight ms notes) (same_Some code c e) is
+is_told ms notes (stages.Thank helper) c e is = subst (IsCodeRight ms notes) (same_Some codes.Done c e) tt
 is_told ms notes (stages.StoreJob j) c e is = absurd (none-some c e)
 is_told ms notes (stages.GiveJob j) c e is = absurd (none-some c e)
 is_told ms notes (stages.StoreReply w n) c e is = absurd (none-some c e)
 is_told ms notes (stages.HandOver w n) c e is = absurd (none-some c e)
-is_told ms notes (stages.EndWait client code) c e is = subst (IsTold ms notes) (same_Some code c e) is
-is_told ms notes (stages.Tell number helper) c e is = subst (IsTold ms notes) (same_Some codes.End c e) tt
+is_told ms notes (stages.EndWait client code) c e is = subst (IsCodeRight ms notes) (same_Some code c e) is
+is_told ms notes (stages.Tell number helper) c e is = subst (IsCodeRight ms notes) (same_Some codes.End c e) tt
 is_told ms notes stages.Exit c e is = absurd (none-some c e)
 is_told ms notes stages.Ended c e is = absurd (none-some c e)
 
@@ -177,7 +176,7 @@ only_no_more codes.NoMore e = refl
 -- what is known where a coordinator tells a code
 told : (c : Code) → ((d : Code) → number_of d ≡ number_of c → d ≡ c) → number_of c < 100 → (pairs : List HelperPair) (requests : ℕ)
     (given : List Answer) (to : Pid) → stage_call (group_after pairs requests given).stage ≡ Some (calls.Reply (reply_of c 0) to) →
-    IsTold (group_after pairs requests given).members (group_after pairs requests given).notes c
+    IsCodeRight (group_after pairs requests given).members (group_after pairs requests given).notes c
 unfolding code_in
 told c only small pairs requests given to is =
     let g = group_after pairs requests given in
@@ -264,7 +263,7 @@ room_at (stages.LoadResult number helper replied) ms notes h few b is =
 room_at _ ms notes h few b is = tt
 
 pub room_after : (pairs : List HelperPair) (requests : ℕ) (given : List Answer) → length pairs ≤ GROUP_MEMBERS →
-    HasRoom (group_after pairs requests given)
+    HasRoomForNote (group_after pairs requests given)
 room_after pairs requests given few =
     let g = group_after pairs requests given in
     let k = kept pairs requests given in

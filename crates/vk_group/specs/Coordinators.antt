@@ -1,6 +1,6 @@
 -- A coordinator, as its group and the answers so far.
 use Rattle.std.specs.Prelude.{◌≡◌, ◌≤◌, ℕ, List, length}
-use Rattle.vk_base.specs.declared.answer.Answer.{Answer}
+use Rattle.vk_types.specs.Types.{Answer}
 use Rattle.vk_group.specs.declared.group.Group.{Group}
 use Rattle.vk_event.specs.declared.pair.TheConstants.{GROUP_MEMBERS}
 use Rattle.vk_group.specs.Groups.{group_after}

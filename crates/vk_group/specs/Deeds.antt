@@ -1,12 +1,9 @@
 -- What an account tells is what was called for and answered: of each deed, the calls and the answers that make it.
 use Rattle.std.specs.Prelude.{◌≡◌, ℕ, Bool, true, List, [], ◌∷◌, ◌++◌, slice_get, Some, IfSome}
-use Rattle.vk_base.specs.declared.answer.Answer.{Answer}
+use Rattle.vk_types.specs.Types.{Answer, Call, Message, Pid}
 use Rattle.vk_base.specs.declared.answer.Answer.TheVariants as answers
-use Rattle.vk_base.specs.declared.call.Call.{Call}
 use Rattle.vk_base.specs.declared.call.Call.TheVariants as calls
 use Rattle.vk_base.specs.declared.limits.TheConstants.{MESSAGE_BYTES, SEGMENT_BYTES}
-use Rattle.vk_base.specs.declared.message.Message.{Message}
-use Rattle.vk_base.specs.declared.pid.Pid.{Pid}
 use Rattle.vk_base.specs.Pids.{same_pid}
 use Rattle.vk_group.specs.declared.code.Code.TheVariants as codes
 use Rattle.vk_group.specs.declared.notes.Note.{Note}
@@ -24,7 +21,7 @@ pub record IsAfterCall (pairs : List HelperPair) (replies : ℕ) (given : List A
   pub called : coordinator_call pairs replies before ≡ Some c
 
 -- The last call put this message at the beginning of the memory, and the next brings it to this process.
-pub record IsBrought (pairs : List HelperPair) (replies : ℕ) (given : List Answer) (to : Pid) (member : ℕ) (m : Message) : Type 0 where
+pub record IsReplyBrought (pairs : List HelperPair) (replies : ℕ) (given : List Answer) (to : Pid) (member : ℕ) (m : Message) : Type 0 where
   pub last : Answer
   pub stored : IsAfterCall pairs replies given (calls.Store 0 m.0) last
   pub dest : ℕ
@@ -38,7 +35,7 @@ pub record IsLoaded (pairs : List HelperPair) (replies : ℕ) (given : List Answ
   pub loaded : message_in a ≡ Some m
 
 -- A group Send begins: its client asked for it, and its message was loaded.
-pub record IsBegun (pairs : List HelperPair) (replies : ℕ) (given : List Answer) (a : Answer) (asked : Asked) : Type 0 where
+pub record IsGroupSendBegun (pairs : List HelperPair) (replies : ℕ) (given : List Answer) (a : Answer) (asked : Asked) : Type 0 where
   pub asks : Message
   pub count : ℕ
   pub dest : ℕ
@@ -51,7 +48,7 @@ pub record IsGiven (pairs : List HelperPair) (replies : ℕ) (given : List Answe
   pub current : (account_after pairs replies given).asked ≡ Some asked
   pub pair : HelperPair
   pub its : slice_get pairs number ≡ Some pair
-  pub to_helper : IsBrought pairs replies given pair.helper 0 asked.message
+  pub to_helper : IsReplyBrought pairs replies given pair.helper 0 asked.message
 
 -- A report is made: by the helper of its member, with the bytes that were loaded where it says that the member replied.
 pub record IsReported (pairs : List HelperPair) (replies : ℕ) (given : List Answer) (a : Answer) (r : Report) : Type 0 where
@@ -71,16 +68,16 @@ pub record IsReported (pairs : List HelperPair) (replies : ℕ) (given : List An
 pub record IsHanded (pairs : List HelperPair) (replies : ℕ) (given : List Answer) (a : Answer) (n : Note) : Type 0 where
   pub client : Pid
   pub same : is_client (account_after pairs replies given).asked client ≡ true
-  pub to_client : IsBrought pairs replies given client n.member n.message
+  pub to_client : IsReplyBrought pairs replies given client n.member n.message
   pub done : a ≡ answers.Ok
 
-abbrev pub IsDone : List HelperPair → ℕ → List Answer → Answer → Deed → Type 0
-IsDone pairs replies given a (Began asked) = IsBegun pairs replies given a asked
-IsDone pairs replies given a (Gave number) = IsGiven pairs replies given number
-IsDone pairs replies given a (Heard r) = IsReported pairs replies given a r
-IsDone pairs replies given a (Handed n) = IsHanded pairs replies given a n
+abbrev pub IsDeedDone : List HelperPair → ℕ → List Answer → Answer → Deed → Type 0
+IsDeedDone pairs replies given a (Began asked) = IsGroupSendBegun pairs replies given a asked
+IsDeedDone pairs replies given a (Gave number) = IsGiven pairs replies given number
+IsDeedDone pairs replies given a (Heard r) = IsReported pairs replies given a r
+IsDeedDone pairs replies given a (Handed n) = IsHanded pairs replies given a n
 
 -- behind these answers one more does what it is said to do
 abbrev pub DeedsAreDone : Type 0
 DeedsAreDone = (pairs : List HelperPair) (replies : ℕ) (given : List Answer) (a : Answer) →
-    IfSome (deed_of (group_after pairs replies given) a) (IsDone pairs replies given a)
+    IfSome (deed_of (group_after pairs replies given) a) (IsDeedDone pairs replies given a)

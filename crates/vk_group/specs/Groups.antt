@@ -2,13 +2,10 @@
 use Rattle.std.specs.Prelude.{ℕ, Bool, true, false, ◌-◌, ◌==◌, ◌&&◌, ◌||◌, ◌<◌, not, List, [], ◌∷◌, length, map, drop, slice_get, Option, Some, None, if◌then◌else◌}
 use Rattle.std.specs.List.{list_any, list_all, position}
 use Rattle.std.specs.Option.{is_some}
-use Rattle.vk_base.specs.declared.answer.Answer.{Answer}
+use Rattle.vk_types.specs.Types.{Answer, Call, Message, Pid}
 use Rattle.vk_base.specs.declared.answer.Answer.TheVariants as answers
-use Rattle.vk_base.specs.declared.call.Call.{Call}
 use Rattle.vk_base.specs.declared.call.Call.TheVariants as calls
 use Rattle.vk_base.specs.declared.limits.TheConstants.{MESSAGE_BYTES, SEGMENT_BYTES}
-use Rattle.vk_base.specs.declared.message.Message.{Message}
-use Rattle.vk_base.specs.declared.pid.Pid.{Pid}
 use Rattle.vk_base.specs.Messages.{grants_read, grants_write}
 use Rattle.vk_base.specs.Options.{◌>>=◌}
 use Rattle.vk_base.specs.Pids.{same_pid}
@@ -240,5 +237,5 @@ abbrev pub HasRoomAt : Stage → ℕ → Type 0
 HasRoomAt (stages.LoadResult number helper replied) notes = notes < GROUP_MEMBERS
 HasRoomAt _ notes = Unit {0}
 
-abbrev pub HasRoom : Group → Type 0
-HasRoom g = HasRoomAt g.stage (length g.notes)
+abbrev pub HasRoomForNote : Group → Type 0
+HasRoomForNote g = HasRoomAt g.stage (length g.notes)

@@ -1,7 +1,7 @@
 -- The members of a group, and what happens to one.
 use Rattle.std.specs.Prelude.{ℕ, Bool, true, false, ◌&&◌, List, map, slice_get, slice_set, Option, Some, None}
 use Rattle.std.specs.Option.{is_some}
-use Rattle.vk_base.specs.declared.pid.Pid.{Pid}
+use Rattle.vk_types.specs.Types.{Pid}
 use Rattle.vk_base.specs.Pids.{same_pid}
 use Rattle.vk_group.specs.declared.member.Member.{Member}
 use Rattle.vk_group.specs.declared.member.Work.TheVariants as works

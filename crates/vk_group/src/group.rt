@@ -37,7 +37,7 @@ fn left_after(counts: bool, left: u32) -> u32
 
 impl Group {
     ghost use Rattle.std.specs.Prelude.{◌≡◌, ◌≤◌, ◌<◌, length, slice_get};
-    ghost use Rattle.vk_group.specs.Groups.{HasRoom, answered, begun, by_waiting, ended, heard, helper_due, is_busy, is_client, is_ending, job_due, left_after, loaded_result, loaded_send, new_group, next_stage, notes_after, refused, refused_as, rest, settled, stage_call, taken, verdict, wait_over};
+    ghost use Rattle.vk_group.specs.Groups.{HasRoomForNote, answered, begun, by_waiting, ended, heard, helper_due, is_busy, is_client, is_ending, job_due, left_after, loaded_result, loaded_send, new_group, next_stage, notes_after, refused, refused_as, rest, settled, stage_call, taken, verdict, wait_over};
     ghost use Rattle.vk_group.specs.Members.{given, holds_job, pairs_of, told};
     ghost use Rattle.vk_event.specs.declared.pair.TheConstants.{GROUP_MEMBERS};
 
@@ -380,7 +380,7 @@ impl Group {
 
     /// After its last call was answered so.
     pub fn answer(&mut self, answer: &Answer)
-        ensures state { HasRoom self.old → self.new ≡ answered self.old answer.now }
+        ensures state { HasRoomForNote self.old → self.new ≡ answered self.old answer.now }
         ensures pairs { pairs_of self.new.members ≡ pairs_of self.old.members }
     {
         match self.stage {

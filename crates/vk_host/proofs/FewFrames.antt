@@ -4,30 +4,16 @@ use Rattle.std.proofs.lemmas.Bool.{and_parts, both_ways, cond_both, leb-true, lt
 use Rattle.std.proofs.lemmas.List.{length-append, length-map}
 use Rattle.std.proofs.lemmas.Option.{none-some, same_Some}
 use Rattle.std.specs.Option.{option_map_or}
-use Rattle.vk_base.specs.declared.activity.Activity.{Activity}
+use Rattle.vk_types.specs.Types.{Activity, Answer, Call, EventAnswer, Exchange, Message, Move, MoveName, Name, Pid, Process, Refusal, Scope, Times, Waiting}
 use Rattle.vk_base.specs.declared.activity.Activity.TheVariants as activities
-use Rattle.vk_base.specs.declared.activity.Waiting.{Waiting}
 use Rattle.vk_base.specs.declared.activity.Waiting.TheVariants as waitings
-use Rattle.vk_base.specs.declared.answer.Answer.{Answer}
 use Rattle.vk_base.specs.declared.answer.Ending.TheVariants as endings
-use Rattle.vk_base.specs.declared.answer.Refusal.{Refusal}
 use Rattle.vk_base.specs.declared.answer.Refusal.TheVariants as refusals
-use Rattle.vk_base.specs.declared.call.Call.{Call}
 use Rattle.vk_base.specs.declared.call.Call.TheVariants as calls
 use Rattle.vk_base.specs.declared.answer.Answer.TheVariants as answers
-use Rattle.vk_base.specs.declared.call.Scope.{Scope}
-use Rattle.vk_base.specs.declared.config.Times.{Times}
-use Rattle.vk_base.specs.declared.event.EventAnswer.{EventAnswer}
 use Rattle.vk_base.specs.declared.event.EventAnswer.TheVariants as events_answered
 use Rattle.vk_base.specs.declared.kernel.Direction.TheVariants as directions
-use Rattle.vk_base.specs.declared.kernel.Exchange.{Exchange}
-use Rattle.vk_base.specs.declared.kernel.Move.{Move}
-use Rattle.vk_base.specs.declared.kernel.MoveName.{MoveName}
-use Rattle.vk_base.specs.declared.kernel.Name.{Name}
-use Rattle.vk_base.specs.declared.kernel.Process.{Process}
 use Rattle.vk_base.specs.declared.kernel.State.TheVariants as states
-use Rattle.vk_base.specs.declared.message.Message.{Message}
-use Rattle.vk_base.specs.declared.pid.Pid.{Pid}
 use Rattle.vk_base.specs.declared.step.Step.TheVariants as steps
 use Rattle.vk_base.specs.Activities.{call_of, state_of}
 unfoldable use Rattle.vk_base.specs.Calls.{copied_at_once, lookup_begun, move_begun, sent}
@@ -38,8 +24,8 @@ use Rattle.vk_base.specs.Pids.{same_host}
 use Rattle.vk_base.specs.Ranges.{bytes_in, lies_in, range_of}
 use Rattle.vk_base.specs.Settings.{Settings}
 use Rattle.vk_base.specs.Steps.{after_effect, effect, next}
-use Rattle.vk_base.proofs.OptionLemmas.{bind_is}
-use Rattle.v_laws.proofs.Options.{mapped_is, of_either}
+use Rattle.vk_base.proofs.OptionLemmas.{bind_is, mapped_is}
+use Rattle.v_laws.proofs.Options.{of_either}
 use Rattle.v_laws.proofs.StepLemmas.{IsFit, fit_is, passes_first}
 use Rattle.v_laws.proofs.Tables.{put_process_here}
 use Rattle.vk_frame.specs.declared.header.Header.{Header}
@@ -370,7 +356,7 @@ delivered_few host r Noise true few = omega arith
 delivered_few host r (Headed h) true few = omega arith
 delivered_few host r (Framed h p) true few = few h p refl refl
 
-is_taken : (a : EventAnswer) → is_frame_taken a ≡ true → a ≡ events_answered.Taken
+pub is_taken : (a : EventAnswer) → is_frame_taken a ≡ true → a ≡ events_answered.Taken
 is_taken events_answered.Begun is = cc
 is_taken (events_answered.Answered a) is = cc
 is_taken (events_answered.Ticked now) is = cc

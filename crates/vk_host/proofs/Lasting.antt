@@ -1,6 +1,6 @@
 -- A station that stands for some entries does so after each event.
 use Rattle.std.proofs.Common.{◌∷◌}
-use Rattle.vk_base.specs.declared.event.EventAnswer.{EventAnswer}
+use Rattle.vk_types.specs.Types.{EventAnswer}
 use Rattle.vk_rules.specs.Entries.{Input}
 use Rattle.vk_rules.specs.Right.{entry_of}
 use Rattle.vk_host.specs.Standing.{IsEvent, StandsSomewhere}

@@ -6,7 +6,7 @@ mod Counting
 mod Delivering
 mod Entries
 mod Events
-mod FewFrames
+pub mod FewFrames
 mod Happening
 mod Hearing
 mod InOrder

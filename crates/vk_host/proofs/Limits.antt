@@ -1,6 +1,6 @@
 -- How many frames an event of a station has at most.
 use Rattle.std.proofs.Common.{◌≡◌, ◌≤◌, ℕ, false, length, subst}
-use Rattle.vk_base.specs.declared.event.EventAnswer.{EventAnswer}
+use Rattle.vk_types.specs.Types.{EventAnswer}
 use Rattle.vk_packet.specs.Posts.{Posts, framed}
 use Rattle.vk_rules.specs.Entries.{Input, is_tick}
 use Rattle.vk_host.specs.declared.desk.Desk.{Desk}

@@ -1,6 +1,6 @@
 //! A station: its events.
 
-ghost use Rattle.std.specs.Prelude.{◌≡◌, ◌<◌, ◌≤◌, ◌+◌, ◌-◌, ◌^◌, List, [], length, max, min, slice_get, true, None, Some, IfOk};
+ghost use Rattle.std.specs.Prelude.{◌≡◌, ◌<◌, ◌≤◌, ◌+◌, ◌-◌, ◌^◌, ℕ, List, [], length, max, min, slice_get, true, None, Some, IfOk};
 ghost use Rattle.v_lawful.specs.Sending.{most_packets};
 ghost use Rattle.vk_base.specs.declared.limits.TheConstants.{DATA_BYTES, STEPS};
 ghost use Rattle.vk_base.specs.Settings.{Settings};
@@ -11,7 +11,8 @@ ghost use Rattle.vk_rules.specs.Frames.{number_in, unsealed_of};
 ghost use Rattle.vk_rules.specs.Readings.{reading};
 ghost use Rattle.vk_host.specs.Opened.{unsealed_as};
 ghost use Rattle.vk_host.specs.Responses.{answer_of, loaded};
-ghost use Rattle.vk_host.specs.Standing.{IsAt, IsEvent};
+ghost use Rattle.vk_host.specs.Sealed.{OpensAs};
+ghost use Rattle.vk_host.specs.Standing.{StandsAt, IsEvent};
 ghost use Rattle.vk_host.specs.Values.{has, input_of, is_own, most_before};
 
 use crate::desk::Desk;
@@ -55,7 +56,7 @@ impl Host {
     pub fn new(alloc: Global, config: &Config, host: u16) -> Result<Self, NoMemory>
         requires some_host { 0 < host }
         requires one_host { host < 65535 }
-        ensures stands { IfOk result (λ h. IsAt config.now [] h) }
+        ensures stands { IfOk result (λ h. StandsAt config.now [] h) }
         ensures host { IfOk result (λ h. h.host ≡ host) }
     {
         let _lawful = config.times();
@@ -225,6 +226,15 @@ impl Host {
         self.desk.out.framed(at)
     }
 
+    /// What frame number `at` of the last event, counted from 0, opens as: the station that it is for, and its packet.
+    pub fn packet(&self, at: u32) -> (u16, &[u8])
+        requires { at < length self.now.frames }
+        ensures opens { (bytes : List ℕ) → slice_get self.now.frames at ≡ Some bytes → OpensAs bytes result.0 (at + 1) result.1.now }
+        ensures some { 0 < length result.1.now }
+    {
+        self.desk.out.packet(at)
+    }
+
     /// Which station it is.
     pub fn host(&self) -> u16
         ensures { result ≡ self.now.host }
@@ -263,7 +273,7 @@ impl Host {
     /// Whether the process has an answer to collect.
     pub fn is_done(&self, pid: Pid) -> bool
         requires { has self.now pid ≡ true }
-        ensures { (c : Settings) (es : List Entry) → IsAt c es self.now →
+        ensures { (c : Settings) (es : List Entry) → StandsAt c es self.now →
             result ≡ is_allowed (reading c self.now.host es).view (Step.Collect pid) }
     {
         self.desk.procs.outcome(pid).is_some()

@@ -2,12 +2,12 @@
 use Rattle.std.proofs.Common.{◌≡◌, ℕ, ◌+◌, ◌-◌, ◌<◌, ◌≤◌, ◌||◌, Bool, true, false, List, [], ◌∷◌, ◌++◌, nat_le, cond, refl, sym, ap, ◌∙◌, subst, arith, length-append}
 use Rattle.std.proofs.lemmas.Bool.Decides.{nat_tests}
 use Rattle.vk_hub.specs.Hubs.{Traffic, changed, first_traffic, has_halt, is_at_limit, is_halt, others, traffic_after}
-use Rattle.vk_hub.specs.Kept.{IsKept, room_for}
+use Rattle.vk_hub.specs.Kept.{IsHubKept, room_for}
 use Rattle.vk_schedule.specs.declared.plan.LinkPlan.{LinkPlan}
 use Rattle.vk_hub.specs.declared.event.HubEvent.{HubEvent}
 use Rattle.vk_hub.specs.declared.event.HubEvent.TheVariants.{Post, Fetch, Finished, Halt}
 
-traffic_more : (plan : LinkPlan) (n k : ℕ) (e : HubEvent) (t : Traffic) (xs : List (ℕ × HubEvent))
+pub traffic_more : (plan : LinkPlan) (n k : ℕ) (e : HubEvent) (t : Traffic) (xs : List (ℕ × HubEvent))
     → traffic_after plan n t (xs ++ (k, e) ∷ []) ≡ changed plan n (traffic_after plan n t xs) e
 traffic_more plan n k e t [] = refl
 traffic_more plan n k e t (x ∷ xs) = traffic_more plan n k e (changed plan n t x.1) xs
@@ -43,9 +43,9 @@ below_limit : (n : ℕ) → nat_le 200000 n ≡ false → n < 200000
 below_limit n e = grind (arith, nat_tests)
 
 module _ (plan : LinkPlan) (stations : List ℕ) (n k : ℕ) (t : Traffic) (xs : List (ℕ × HubEvent)) (spare : ℕ)
-    (kept : IsKept plan stations n t xs spare) where
+    (kept : IsHubKept plan stations n t xs spare) where
   abbrev Next : HubEvent → Type 0
-  Next e = IsKept plan stations n (changed plan n t e) (xs ++ (k, e) ∷ []) (spare - 1)
+  Next e = IsHubKept plan stations n (changed plan n t e) (xs ++ (k, e) ∷ []) (spare - 1)
 
   replayed_more : (e : HubEvent) → changed plan n t e ≡ traffic_after plan n (first_traffic plan stations) (xs ++ (k, e) ∷ [])
   replayed_more e = ap (λ u. changed plan n u e) kept.replayed ∙ sym (traffic_more plan n k e (first_traffic plan stations) xs)

@@ -1,6 +1,7 @@
 -- After a stop there is a halt in what was seen, and what is stopped stays stopped.
 use Rattle.std.proofs.Common.{◌≡◌, ℕ, ◌+◌, ◌||◌, nat_le, not, Bool, true, false, List, [], ◌∷◌, ◌++◌, refl, sym, ap, ◌∙◌, append_assoc, arith, ◌⊎◌, inl, inr}
 use Rattle.std.proofs.lemmas.Bool.Decides.{nat_tests}
+use Rattle.std.proofs.lemmas.Bool.{not-false}
 use mathlib.Core.List.{IsPrefix}
 use Rattle.turn_cell.specs.Seats.{HasEntered, HasLooked, Sitting}
 use Rattle.turn_cell.specs.declared.cell.Ready.{Ready}
@@ -30,10 +31,6 @@ halted_after plan n t (x ∷ xs) =
     halted_after plan n (changed plan n t x.1) xs
     ∙ (ap (λ b. b || has_halt xs) (halted_step plan n x.1 t) ∙ or_assoc t.halted (is_halt x.1) (has_halt xs))
 
-not_false : (b : Bool) → not b ≡ false → b ≡ true
-not_false true e = refl
-not_false false e = absurd (cc e)
-
 pub stopped : (o : HubLog) (G : List (ℕ × HubEvent) → Type 0) (old new : Sitting HubLog HubEvent) (Out : Type 0) (r : Ready)
     → (r ≡ Done → HasEntered G old new Halt) → (r ≡ NotYet → HasLooked old new × Out × (not (traffic_of o new.seen).halted ≡ false))
     → IsPrefix old.seen new.seen × (has_halt new.seen ≡ true)
@@ -45,7 +42,7 @@ stopped o G old new Out Done done not_yet =
     )
 stopped o G old new Out NotYet done not_yet =
     let t = not_yet refl in
-    (t.0.0, sym (halted_after o.plan o.programs (first_traffic o.plan o.stations) new.seen) ∙ not_false (traffic_of o new.seen).halted t.2)
+    (t.0.0, sym (halted_after o.plan o.programs (first_traffic o.plan o.stations) new.seen) ∙ not-false (traffic_of o new.seen).halted t.2)
 
 -- a halt was entered where there was none, else nothing
 pub stopped_once : (G : List (ℕ × HubEvent) → Type 0) (old new : Sitting HubLog HubEvent) (Out Unready : Type 0) (r : Ready)

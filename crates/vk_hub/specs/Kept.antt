@@ -4,7 +4,7 @@ use Rattle.vk_hub.specs.Hubs.{Traffic, first_traffic, has_halt, others, traffic_
 use Rattle.vk_schedule.specs.declared.plan.LinkPlan.{LinkPlan}
 use Rattle.vk_hub.specs.declared.event.HubEvent.{HubEvent}
 
-pub record IsKept (plan : LinkPlan) (stations : List ℕ) (programs : ℕ) (traffic : Traffic) (history : List (ℕ × HubEvent)) (spare : ℕ)
+pub record IsHubKept (plan : LinkPlan) (stations : List ℕ) (programs : ℕ) (traffic : Traffic) (history : List (ℕ × HubEvent)) (spare : ℕ)
     : Type 0 where
   pub replayed : traffic ≡ traffic_after plan programs (first_traffic plan stations) history
   pub halts : has_halt history ≡ traffic.halted

@@ -29,7 +29,7 @@ pub struct HubState {
 impl Model for HubState {
     ghost use Rattle.std.specs.Prelude.{◌-◌, vec_len, vec_capacity};
     ghost use Rattle.vk_hub.specs.Hubs.{HubLog};
-    ghost use Rattle.vk_hub.specs.Kept.{IsKept};
+    ghost use Rattle.vk_hub.specs.Kept.{IsHubKept};
 
     ghost Value = { HubLog };
 
@@ -41,7 +41,7 @@ impl Model for HubState {
       spare = vec_capacity h.history - vec_len h.history;
     } };
 
-    ghost invariant = { λ h. IsKept h.plan h.stations.items h.programs h.links h.history.items
+    ghost invariant = { λ h. IsHubKept h.plan h.stations.items h.programs h.links h.history.items
         (vec_capacity h.history - vec_len h.history) };
 }
 

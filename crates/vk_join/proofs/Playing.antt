@@ -4,8 +4,7 @@ use Rattle.std.specs.Prelude.{slice_get, sum_by, unwrap_or}
 use Rattle.std.specs.Option.{option_map_or}
 use Rattle.std.proofs.lemmas.List.{length-set, map_push}
 use Rattle.std.proofs.lemmas.Option.{same_Some, slice_get_within}
-use Rattle.vk_base.specs.declared.event.EventAnswer.{EventAnswer}
-use Rattle.vk_base.specs.declared.event.StationEvent.{StationEvent}
+use Rattle.vk_types.specs.Types.{EventAnswer, StationEvent}
 use Rattle.vk_base.specs.declared.event.StationEvent.TheVariants as events
 use Rattle.vk_base.specs.Options.{◌>>=◌}
 use Rattle.vk_base.specs.Settings.{Settings, stations_of}
@@ -16,10 +15,11 @@ use Rattle.vk_rules.specs.Entries.{Entry}
 use Rattle.vk_rules.specs.Histories.{Logs, with_entry}
 use Rattle.vk_rules.specs.Right.{entry_of}
 use Rattle.vk_rules.proofs.Rising.{events_are}
+use Rattle.vk_rules.proofs.Lists.{each_at}
 use Rattle.v_lawful.specs.Sending.{IsFaultless, IsInput}
 use Rattle.v_lawful.proofs.Faultless.{configs_are_faultless}
 use Rattle.vk_host.specs.Sealed.{sealed}
-use Rattle.vk_host.specs.Standing.{IsAt, IsEvent}
+use Rattle.vk_host.specs.Standing.{StandsAt, IsEvent}
 use Rattle.vk_host.specs.Values.{StationValue, input_of, is_own, most_before}
 use Rattle.vk_cluster.specs.declared.emitted.TheConstants.{EVENT_BYTES}
 use Rattle.vk_cluster.specs.declared.frames.TheConstants.{MOST_BYTES}
@@ -28,7 +28,6 @@ use Rattle.vk_cluster.specs.Standing.{AreAt}
 use Rattle.vk_cluster.proofs.Arms.{found_at}
 use Rattle.vk_cluster.proofs.Logs.{get_set_same}
 use Rattle.vk_cluster.proofs.Loops.{take_get}
-use Rattle.vk_cluster.proofs.Pieces.{each_at}
 use Rattle.vk_cluster.proofs.Stations.{has_own}
 use Rattle.vk_cluster.proofs.Steps.{acted, as_many, as_many_events, few_bytes, few_frames, frames_are, host_at}
 use Rattle.vk_join.specs.declared.log.JoinRefusal.{JoinRefusal}
@@ -38,13 +37,13 @@ use Rattle.vk_join.specs.declared.replay.Replay.{Replay}
 use Rattle.vk_join.specs.Laws.{AreGiven}
 use Rattle.vk_join.specs.Logs.{IsOfStation, IsReadableEvent, byte_count, entries_at, entries_for}
 use Rattle.vk_join.specs.Merges.{Turn}
-use Rattle.vk_join.specs.Replays.{HasPlayed, IsNext, IsOver, event_for, front_of, host_for, turn_for, turns_of}
+use Rattle.vk_join.specs.Replays.{HasReplayed, IsNextPlayed, IsOverLimit, event_for, front_of, host_for, turn_for, turns_of}
 use Rattle.vk_join.proofs.Fronts.{all_below_at, bytes_next, bytes_start, bytes_within, entries_next, entries_own, entries_start, few_in, front_whole, turns_next, turns_start, AreBelow}
 use Rattle.vk_join.proofs.Given.{behind_length, input_is, map_count}
 
 -- before the first event of a log, and after its last
 pub played_start : (c : Settings) (all before : List StationLog) (l : StationLog) (r : Replay) → AreBelow before l.host →
-    HasPlayed c all before r → HasPlayed c all (front_of before l 0) r
+    HasReplayed c all before r → HasReplayed c all (front_of before l 0) r
 played_start c all before l r below played =
     let bytes = bytes_start c before l in
     let most = played.most in
@@ -56,12 +55,12 @@ played_start c all before l r below played =
     }
 
 pub played_whole : (c : Settings) (all : List StationLog) (n at : ℕ) (l : StationLog) (r : Replay) → slice_get all n ≡ Some l →
-    length l.events ≤ at → HasPlayed c all (front_of (take n all) l at) r → HasPlayed c all (take (n + 1) all) r
+    length l.events ≤ at → HasReplayed c all (front_of (take n all) l at) r → HasReplayed c all (take (n + 1) all) r
 played_whole c all n at l r found whole played =
-    subst (λ ls. HasPlayed c all ls r) (front_whole (take n all) l at whole ∙ sym (take_get all n l found)) played
+    subst (λ ls. HasReplayed c all ls r) (front_whole (take n all) l at whole ∙ sym (take_get all n l found)) played
 
 -- more bytes are over the limit too
-pub over_more : (m n : ℕ) (e : JoinRefusal) → m ≤ n → IsOver m e → IsOver n e
+pub over_more : (m n : ℕ) (e : JoinRefusal) → m ≤ n → IsOverLimit m e → IsOverLimit n e
 over_more m n e up (inl is) = inl is
 over_more m n e up (inr is) = let over = is.1 in inr (is.0, omega arith)
 
@@ -82,7 +81,7 @@ event_readable c all n at l e given found there =
     each_at IsReadableEvent l.events at e
     (each_at (λ (m : StationLog). Each IsReadableEvent m.events) all n l given.readable found) there
 
-own_event : (c : Settings) (s : StationValue) (host : ℕ) (es : List Entry) (e : StationEvent) → s.host ≡ host → IsAt c es s →
+own_event : (c : Settings) (s : StationValue) (host : ℕ) (es : List Entry) (e : StationEvent) → s.host ≡ host → StandsAt c es s →
     IsOfStation c.specs host e → is_own s e ≡ true
 own_event c s host es (events.Call pid call) same at own = has_own c s pid at.order (own.0 ∙ sym same) own.1
 own_event c s host es (events.Collect pid) same at own = has_own c s pid at.order (own.0 ∙ sym same) own.1
@@ -117,7 +116,7 @@ few_before (events.Deliver frame) n few = omega arith
 pub record IsPlaying (c : Settings) (all : List StationLog) (position : Position) (l : StationLog) (e : StationEvent) (r : Replay) : Type 0 where
   pub frames : FramesAreSpelledOnce
   pub packets : NothingElseIsRead
-  pub next : IsNext c all position l e r
+  pub next : IsNextPlayed c all position l e r
 
 module _ {c : Settings} {all : List StationLog} {position : Position} {l : StationLog} {e : StationEvent} {r : Replay}
     (p : IsPlaying c all position l e r) where
@@ -222,8 +221,8 @@ module _ {c : Settings} {all : List StationLog} {position : Position} {l : Stati
       ∙ sym (bytes_next c (take n all) l at e (all_below_at all n l p.next.given.asked.rise p.next.found) p.next.there)
 
   pub over_at : (s t u : StationValue) (answer : EventAnswer) {refused : JoinRefusal} → slice_get r.hosts.items place ≡ Some s →
-      IsEvent s t (input_of e) answer → u ≡ t → IsOver (length (pile_of r.emitted).bytes + sum_by length u.frames) refused →
-      IsOver (byte_count c all) refused
+      IsEvent s t (input_of e) answer → u ≡ t → IsOverLimit (length (pile_of r.emitted).bytes + sum_by length u.frames) refused →
+      IsOverLimit (byte_count c all) refused
   over_at s t u answer {refused} here event same over =
       let sum = bytes_are s t answer here event in
       let part = bytes_within c all n (at + 1) l p.next.found in
@@ -234,7 +233,7 @@ module _ {c : Settings} {all : List StationLog} {position : Position} {l : Stati
       IsEvent s t (input_of e) answer → IsAdded (pile_of r.emitted) (pile_of q.emitted) place t.frames →
       q.hosts.items ≡ set r.hosts.items place t → number ≡ t.number →
       q.keys.items ≡ r.keys.items ++ record { number = number; log = n; at = at } ∷ [] →
-      length (pile_of r.emitted).bytes + sum_by length t.frames ≤ MOST_BYTES → HasPlayed c all (front_of (take n all) l (at + 1)) q
+      length (pile_of r.emitted).bytes + sum_by length t.frames ≤ MOST_BYTES → HasReplayed c all (front_of (take n all) l (at + 1)) q
   played_next s t answer q number here event added hosts number_is keys most =
       let logs : Logs = before_event c all n l at in
       let below = all_below_at all n l p.next.given.asked.rise p.next.found in

@@ -1,7 +1,7 @@
 -- Of the code alone: logs that are played again.
 use Rattle.std.specs.Prelude.{ℕ, ◌≡◌, ◌⊎◌, ◌<◌, ◌≤◌, List, [], ◌∷◌, ◌++◌, flat_map, length, map, slice_get, take, unwrap_or, Some}
 use Rattle.std.specs.Option.{option_map_or}
-use Rattle.vk_base.specs.declared.event.StationEvent.{StationEvent}
+use Rattle.vk_types.specs.Types.{StationEvent}
 use Rattle.vk_base.specs.declared.event.StationEvent.TheVariants as events
 use Rattle.vk_base.specs.Options.{◌>>=◌}
 use Rattle.vk_base.specs.declared.limits.TheConstants.{EVENTS}
@@ -38,21 +38,21 @@ abbrev pub front_of : List StationLog → StationLog → ℕ → List StationLog
 front_of before l at = before ++ record { host = l.host; events = take at l.events } ∷ []
 
 -- The stations of the configuration had the events of these logs, which stand at their places among all.
-pub record HasPlayed (c : Settings) (all logs : List StationLog) (r : Replay) : Type 0 where
+pub record HasReplayed (c : Settings) (all logs : List StationLog) (r : Replay) : Type 0 where
   pub at : AreAt c (entries_at c logs) r.hosts.items (pile_of r.emitted)
   pub turns : map (turn_for all) r.keys.items ≡ turns_of c logs
   pub bytes : length (pile_of r.emitted).bytes ≡ byte_count c logs
   pub most : byte_count c logs ≤ MOST_BYTES
 
 -- The event of this log is the next that is played: it stands at this position, and all before it were played.
-pub record IsNext (c : Settings) (all : List StationLog) (p : Position) (l : StationLog) (e : StationEvent) (r : Replay) : Type 0 where
+pub record IsNextPlayed (c : Settings) (all : List StationLog) (p : Position) (l : StationLog) (e : StationEvent) (r : Replay) : Type 0 where
   pub given : AreGiven c all
   pub few : event_count all ≤ EVENTS
   pub found : slice_get all p.log ≡ Some l
   pub there : slice_get l.events p.at ≡ Some e
   pub station : slice_get (stations_of c.specs) p.place ≡ Some l.host
-  pub played : HasPlayed c all (front_of (take p.log all) l p.at) r
+  pub played : HasReplayed c all (front_of (take p.log all) l p.at) r
 
 -- why logs are not played to their end
-abbrev pub IsOver : ℕ → JoinRefusal → Type 0
-IsOver bytes e = (e ≡ refusals.NoMemory) ⊎ ((e ≡ refusals.Limit) × (MOST_BYTES < bytes))
+abbrev pub IsOverLimit : ℕ → JoinRefusal → Type 0
+IsOverLimit bytes e = (e ≡ refusals.NoMemory) ⊎ ((e ≡ refusals.Limit) × (MOST_BYTES < bytes))

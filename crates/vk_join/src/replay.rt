@@ -9,7 +9,7 @@ ghost use Rattle.vk_cluster.specs.Piles.{AreFrames, IsAdded, IsKept, pile_of};
 ghost use Rattle.vk_schedule.specs.declared.log.StationLog.{StationLog as TheLog};
 ghost use Rattle.vk_join.specs.Laws.{AreGiven};
 ghost use Rattle.vk_join.specs.Logs.{byte_count, event_count};
-ghost use Rattle.vk_join.specs.Replays.{HasPlayed, IsNext, IsOver, front_of};
+ghost use Rattle.vk_join.specs.Replays.{HasReplayed, IsNextPlayed, IsOverLimit, front_of};
 
 use crate::log::JoinRefusal;
 use std::alloc::Global;
@@ -41,6 +41,7 @@ pub struct Position {
 /// The stations of a configuration after the events of some logs, the frames that they emitted, and a key for each event.
 #[derive(Drop)]
 pub struct Replay {
+    pub alloc: Global,
     pub hosts: Vec<Host>,
     pub emitted: Emitted,
     pub keys: Vec<Key>,
@@ -54,12 +55,12 @@ pub struct Replay {
 pub fn replayed(alloc: Global, config: &Config, logs: &[StationLog]) -> Result<Replay, JoinRefusal>
     requires given { AreGiven config.now logs.now }
     requires few { event_count logs.now ≤ EVENTS }
-    ensures played { IfOk result (HasPlayed config.now logs.now logs.now) }
-    ensures refused { IfErr result (IsOver (byte_count config.now logs.now)) }
+    ensures played { IfOk result (HasReplayed config.now logs.now logs.now) }
+    ensures refused { IfErr result (IsOverLimit (byte_count config.now logs.now)) }
 {
     let mut replay = started(alloc, config)?;
     for at in 0..logs.len() {
-        replay.play_log(alloc, config, logs, at)?;
+        replay.play_log(config, logs, at)?;
     }
     Ok(replay)
 }
@@ -67,9 +68,10 @@ pub fn replayed(alloc: Global, config: &Config, logs: &[StationLog]) -> Result<R
 /// Before any event.
 fn started(alloc: Global, config: &Config) -> Result<Replay, NoMemory>
     requires { AreGiven config.now [] }
-    ensures { IfOk result (λ r. (all : List TheLog) → HasPlayed config.now all [] r) }
+    ensures { IfOk result (λ r. (all : List TheLog) → HasReplayed config.now all [] r) }
 {
     Ok(Replay {
+        alloc,
         hosts: new_hosts(alloc, config)?,
         emitted: Emitted::new(alloc, config.station_count() as usize)?,
         keys: Vec::new(alloc),
@@ -80,7 +82,6 @@ impl Replay {
     /// The log at this place, once those before it were played.
     fn play_log(
         &mut self,
-        alloc: Global,
         config: &Config,
         logs: &[StationLog],
         log: usize,
@@ -88,16 +89,16 @@ impl Replay {
         requires given { AreGiven config.now logs.now }
         requires few { event_count logs.now ≤ EVENTS }
         requires log { log < length logs.now }
-        requires played { HasPlayed config.now logs.now (take log logs.now) self.old }
-        ensures played { OnOk result (HasPlayed config.now logs.now (take (log + 1) logs.now) self.new) }
-        ensures refused { IfErr result (IsOver (byte_count config.now logs.now)) }
+        requires played { HasReplayed config.now logs.now (take log logs.now) self.old }
+        ensures played { OnOk result (HasReplayed config.now logs.now (take (log + 1) logs.now) self.new) }
+        ensures refused { IfErr result (IsOverLimit (byte_count config.now logs.now)) }
     {
         let entry = &logs[log];
         let place = place_of(config, entry.host);
         let events = entry.events.as_slice();
         for at in 0..events.len() {
             let position = Position { log, at, place };
-            self.play(alloc, config, logs, entry, &events[at], position)?;
+            self.play(config, logs, entry, &events[at], position)?;
         }
         Ok(())
     }
@@ -105,23 +106,22 @@ impl Replay {
     /// The event at this place of a log, once those before it were played.
     fn play(
         &mut self,
-        alloc: Global,
         config: &Config,
         logs: &[StationLog],
         entry: &StationLog,
         event: &StationEvent,
         position: Position,
     ) -> Result<(), JoinRefusal>
-        requires { IsNext config.now logs.now position entry.now event.now self.old }
+        requires { IsNextPlayed config.now logs.now position entry.now event.now self.old }
         ensures played { OnOk result
-            (HasPlayed config.now logs.now (front_of (take position.log logs.now) entry.now (position.at + 1)) self.new) }
-        ensures refused { IfErr result (IsOver (byte_count config.now logs.now)) }
+            (HasReplayed config.now logs.now (front_of (take position.log logs.now) entry.now (position.at + 1)) self.new) }
+        ensures refused { IfErr result (IsOverLimit (byte_count config.now logs.now)) }
     {
         frames_are_spelled_once();
         packets_are_spelled_once();
         let Position { log, at, place } = position;
         let _answer = self.hosts[place].event(event);
-        keep_frames(alloc, &mut self.emitted, &self.hosts[place], place)?;
+        keep_frames(self.alloc, &mut self.emitted, &self.hosts[place], place)?;
         let number = self.hosts[place].number();
         push_key(&mut self.keys, Key { number, log, at })?;
         Ok(())
@@ -146,7 +146,7 @@ fn keep_frames(
     requires bytes { sum_by length host.now.frames ≤ EVENT_BYTES }
     ensures added { OnOk result (IsAdded (pile_of emitted.old) (pile_of emitted.new) place host.now.frames) }
     ensures most { OnOk result (length (pile_of emitted.old).bytes + sum_by length host.now.frames ≤ MOST) }
-    ensures refused { IfErr result (IsOver (length (pile_of emitted.old).bytes + sum_by length host.now.frames)) }
+    ensures refused { IfErr result (IsOverLimit (length (pile_of emitted.old).bytes + sum_by length host.now.frames)) }
 {
     let bytes = frame_bytes(host);
     if bytes > MOST_BYTES - emitted.size() {

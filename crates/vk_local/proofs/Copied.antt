@@ -1,14 +1,13 @@
 -- Bytes of one process come into the memory of another.
 use Rattle.std.proofs.Common.{◌≡◌, ◌≤◌, ℕ, ◌+◌, true, false, nat_le, List, length, Some, sym, ap, subst, ◌∙◌, arith}
 use Rattle.std.proofs.lemmas.Bool.{and_parts, cond-true, cond-false, leb-true, le-leb}
-use Rattle.std.proofs.lemmas.Grind.{common_steps}
-use Rattle.vk_base.specs.declared.message.Range.{Range}
-use Rattle.vk_base.specs.declared.pid.Pid.{Pid}
+use Rattle.vk_types.specs.Types.{Pid, Range}
 use Rattle.vk_base.specs.Firsts.{change_first}
 use Rattle.vk_base.specs.Kernel.{Kernel, with_memory}
 use Rattle.vk_base.specs.Pids.{same_pid}
 use Rattle.vk_base.specs.Ranges.{bytes_in, lies_in, lies_within, range_of, with_bytes}
 use Rattle.v_laws.specs.Sound.{IsSoundAt}
+use Rattle.v_laws.proofs.MoveLists.{all_bytes}
 use Rattle.vk_procs.specs.declared.seat.Seat.{Seat}
 use Rattle.vk_procs.specs.declared.seat.Passed.TheVariants as gifts
 use Rattle.vk_procs.specs.Seats.{got, is_seat, passed_by, process_of, seat_in, written}
@@ -19,12 +18,6 @@ use Rattle.vk_stands.proofs.Parts.{Carries, Part}
 use Rattle.vk_stands.proofs.Seats.{change_agree}
 use Rattle.vk_local.specs.declared.access.Segment.{Segment}
 use Rattle.vk_local.specs.Calls.{bytes_passed}
-
-pub taken_length : (start count : ℕ) (memory : List ℕ) → lies_in (range_of start count) (length memory) ≡ true →
-    length (bytes_in (range_of start count) memory) ≡ count
-taken_length start count memory lies =
-    let low : start + count ≤ length memory = leb-true (start + count) (length memory) lies in
-    grind (arith, common_steps)
 
 -- what lies in a segment that lies in a memory
 pub within_lies : (start count size : ℕ) (outer : Range) → lies_within (range_of start count) outer ≡ true → lies_in outer size ≡ true →
@@ -48,7 +41,7 @@ module _ (host : ℕ) (t : Tables) (k : Kernel) (part : Part host t k) (from to 
   memory = with_bytes s.memory g.dest bytes
 
   count_is : length bytes ≡ g.count
-  count_is = taken_length g.src g.count x.memory source
+  count_is = all_bytes g.src g.count x.memory source
 
   fits : lies_in (range_of g.dest (length bytes)) (length s.memory) ≡ true
   fits = ap (λ n. lies_in (range_of g.dest n) (length s.memory)) count_is ∙ dest

@@ -3,18 +3,12 @@ use Rattle.std.proofs.Common.{◌≡◌, ℕ, Bool, true, false, cond, ◌&&◌,
 use Rattle.std.specs.Option.{is_none, option_map}
 use Rattle.std.proofs.lemmas.Bool.{both_ways, eq-eqb, eqb-true}
 use Rattle.std.proofs.lemmas.Option.{none-some}
+use Rattle.vk_types.specs.Types.{Call, Direction, Message, Pid, Refusal, Times, Waiting}
 use Rattle.vk_base.specs.declared.activity.Activity.TheVariants as activities
-use Rattle.vk_base.specs.declared.activity.Waiting.{Waiting}
 use Rattle.vk_base.specs.declared.activity.Waiting.TheVariants as waitings
-use Rattle.vk_base.specs.declared.answer.Refusal.{Refusal}
 use Rattle.vk_base.specs.declared.answer.Refusal.TheVariants as refusals
-use Rattle.vk_base.specs.declared.call.Call.{Call}
 use Rattle.vk_base.specs.declared.call.Call.TheVariants as calls
-use Rattle.vk_base.specs.declared.config.Times.{Times}
-use Rattle.vk_base.specs.declared.kernel.Direction.{Direction}
 use Rattle.vk_base.specs.declared.kernel.Direction.TheVariants as directions
-use Rattle.vk_base.specs.declared.message.Message.{Message}
-use Rattle.vk_base.specs.declared.pid.Pid.{Pid}
 use Rattle.vk_base.specs.Activities.{as_receive, call_of, state_of}
 use Rattle.vk_base.specs.Calls.{first_that_holds, is_granted, is_own, tests_of}
 unfoldable use Rattle.vk_base.specs.Calls.{call_refusal}
@@ -58,7 +52,7 @@ own_is : (seats : List Seat) (pid : Pid) (s : Seat) (start count : ℕ) → seat
     own_range seats pid start count ≡ is_own (process_of s) start count
 own_is seats pid s start count found = ap (holds_of (has_range start count)) found
 
-live_is : (o : Option Seat) → is_live (option_map process_of o) ≡ is_live_in o
+pub live_is : (o : Option Seat) → is_live (option_map process_of o) ≡ is_live_in o
 live_is None = refl
 live_is (Some s) = refl
 

@@ -1,10 +1,7 @@
 -- The rule of a Forward of a process of the station, as the code has it.
 use Rattle.std.proofs.Common.{◌≡◌, ℕ, true, List, ◌++◌, Option, refl, sym, subst}
-use Rattle.vk_base.specs.declared.activity.Outcome.{Outcome}
+use Rattle.vk_types.specs.Types.{Message, Outcome, Pid, Step}
 use Rattle.vk_base.specs.declared.call.Call.TheVariants as calls
-use Rattle.vk_base.specs.declared.message.Message.{Message}
-use Rattle.vk_base.specs.declared.pid.Pid.{Pid}
-use Rattle.vk_base.specs.declared.step.Step.{Step}
 use Rattle.vk_base.specs.Pids.{same_host}
 use Rattle.vk_pool.specs.declared.alien.Alien.{Alien}
 use Rattle.vk_procs.specs.declared.seat.Seat.{Seat}
@@ -13,7 +10,7 @@ use Rattle.vk_local.specs.Calls.{after_forward, done_by, forward_refusal, forwar
 use Rattle.vk_local.specs.Done.{IsForward}
 use Rattle.vk_local.specs.Rules.{IsTablesRule, may_call, named}
 use Rattle.vk_local.proofs.Forwarded.{forward_is}
-use Rattle.vk_local.proofs.Rules.{IsPlayed, named_unless, tables_rule}
+use Rattle.vk_local.proofs.Rules.{IsCallPlayed, named_unless, tables_rule}
 
 pub forward_rule : (pid from : Pid) (m : Message) (to : Pid) (t : Tables) (seats : List Seat) (lists : List (List ℕ))
     (slots : List (Option Alien)) (before after : List Step) (p : Option Outcome) → may_call t.seats pid ≡ true →
@@ -22,7 +19,7 @@ pub forward_rule : (pid from : Pid) (m : Message) (to : Pid) (t : Tables) (seats
 forward_rule pid from m to t seats lists slots before after p may near is =
     tables_rule pid (calls.Forward m from to) (done_by (forward_refusal t.seats pid from to)) (after_forward t pid from m to)
     (forward_steps t pid from m to) p t seats lists slots before after may is (λ c r s names out h fit can.
-    subst (λ u. IsPlayed c pid.host r pid (calls.Forward m from to) (named names t) before out
+    subst (λ u. IsCallPlayed c pid.host r pid (calls.Forward m from to) (named names t) before out
     (done_by (forward_refusal t.seats pid from to)) u (before ++ forward_steps t pid from m to))
     (sym (named_unless names (forward_refusal t.seats pid from to) (handed_over t from m to) t))
     (forward_is c pid.host (named names t) r h fit pid refl s can from near m to before out))

@@ -4,17 +4,11 @@ use Rattle.std.specs.List.{position}
 use Rattle.std.specs.Option.{is_none, option_map}
 use Rattle.std.proofs.lemmas.Bool.{eqb-true}
 use Rattle.std.proofs.lemmas.Option.{none-some}
+use Rattle.vk_types.specs.Types.{Call, Exchange, Message, Pid, Process, Refusal, Step}
 use Rattle.vk_base.specs.declared.activity.Outcome.TheVariants as outcomes
 use Rattle.vk_base.specs.declared.answer.Answer.TheVariants as answers
-use Rattle.vk_base.specs.declared.answer.Refusal.{Refusal}
 use Rattle.vk_base.specs.declared.answer.Refusal.TheVariants as refusals
-use Rattle.vk_base.specs.declared.call.Call.{Call}
 use Rattle.vk_base.specs.declared.call.Call.TheVariants as calls
-use Rattle.vk_base.specs.declared.kernel.Exchange.{Exchange}
-use Rattle.vk_base.specs.declared.kernel.Process.{Process}
-use Rattle.vk_base.specs.declared.message.Message.{Message}
-use Rattle.vk_base.specs.declared.pid.Pid.{Pid}
-use Rattle.vk_base.specs.declared.step.Step.{Step}
 use Rattle.vk_base.specs.declared.step.Step.TheVariants as steps
 use Rattle.vk_base.specs.Calls.{answered, call_refusal, called, first_that_holds, forward, forwarded}
 use Rattle.vk_base.specs.Kernel.{◌>>=◌, Kernel, name_of}
@@ -42,7 +36,7 @@ use Rattle.vk_local.specs.Calls.{after_forward, done_by, forward_refusal, forwar
 use Rattle.vk_local.specs.Takes.{served}
 use Rattle.vk_local.proofs.Decided.{MayCall, forward_decided}
 use Rattle.vk_local.proofs.ReplyRules.{IsReplied, replied_is}
-use Rattle.vk_local.proofs.Rules.{IsPlayed, ok_makes, refused_makes}
+use Rattle.vk_local.proofs.Rules.{IsCallPlayed, ok_makes, refused_makes}
 use Rattle.vk_local.proofs.Taken.{IsServed, is_served}
 
 -- What is known where it is not refused.
@@ -133,7 +127,7 @@ module _ (c : Settings) (host : ℕ) (t : Tables) (r : Reading) (h : Stands c.ti
     taken : IsServed host (locals.forwarded t from m to) l to (handed_over t from m to) (steps_of (locals.forwarded t from m to) to)
     taken = then_served (locals.forwarded t from m to) tables_are
 
-    accepted : IsPlayed c host r pid call t before out (Some outcomes.Ok) (handed_over t from m to)
+    accepted : IsCallPlayed c host r pid call t before out (Some outcomes.Ok) (handed_over t from m to)
         (before ++ (steps.Call pid call ∷ steps_of (locals.forwarded t from m to) to))
     accepted = record {
       answer = sym (ap effect_answer does);
@@ -147,7 +141,7 @@ module _ (c : Settings) (host : ℕ) (t : Tables) (r : Reading) (h : Stands c.ti
       fits = taken.part.fit;
     }
 
-  by_refusal : (o : Option Refusal) → forward_refusal t.seats pid from to ≡ o → IsPlayed c host r pid call t before out (done_by o)
+  by_refusal : (o : Option Refusal) → forward_refusal t.seats pid from to ≡ o → IsCallPlayed c host r pid call t before out (done_by o)
       (unless o (handed_over t from m to) t)
       (before ++ (steps.Call pid call ∷ unless o (steps_of (locals.forwarded t from m to) to) []))
   by_refusal None free = accepted free
@@ -159,6 +153,6 @@ module _ (c : Settings) (host : ℕ) (t : Tables) (r : Reading) (h : Stands c.ti
         fits = fit;
       }
 
-  pub forward_is : IsPlayed c host r pid call t before out (done_by (forward_refusal t.seats pid from to)) (after_forward t pid from m to)
+  pub forward_is : IsCallPlayed c host r pid call t before out (done_by (forward_refusal t.seats pid from to)) (after_forward t pid from m to)
       (before ++ forward_steps t pid from m to)
   forward_is = by_refusal (forward_refusal t.seats pid from to) refl

@@ -5,7 +5,7 @@ use Rattle.std.specs.Option.{option_map}
 use Rattle.std.proofs.lemmas.Grind.{common_steps}
 use Rattle.std.proofs.lemmas.List.{append-nil, get_or-set_same, length-append, length-set, length-map, map-append, take_all}
 use Rattle.std.proofs.lemmas.Option.{none-some}
-use Rattle.vk_base.specs.declared.pid.Pid.{Pid}
+use Rattle.vk_types.specs.Types.{Pid}
 use Rattle.vk_base.specs.Packets.{Packet}
 use Rattle.vk_packet.specs.Posts.{Posts}
 use Rattle.vk_pool.specs.declared.alien.Alien.{Alien}

@@ -10,7 +10,7 @@ mod MoveRules
 mod Moved
 pub mod PidsStay
 mod ReceiveRules
-mod Received
+pub mod Received
 mod Replied
 mod ReplyRules
 pub mod Rules

@@ -2,14 +2,9 @@
 use Rattle.std.proofs.Common.{◌≡◌, ℕ, true, false, List, [], ◌∷◌, ◌++◌, length, Option, Some, None, refl, sym, ap, subst, ◌∙◌}
 use Rattle.std.specs.Option.{option_map}
 use Rattle.std.proofs.lemmas.Bool.{eqb-true}
-use Rattle.vk_base.specs.declared.activity.Outcome.{Outcome}
+use Rattle.vk_types.specs.Types.{Call, Direction, Outcome, Pid, Refusal, Step}
 use Rattle.vk_base.specs.declared.answer.Answer.TheVariants as answers
-use Rattle.vk_base.specs.declared.answer.Refusal.{Refusal}
-use Rattle.vk_base.specs.declared.call.Call.{Call}
-use Rattle.vk_base.specs.declared.kernel.Direction.{Direction}
 use Rattle.vk_base.specs.declared.kernel.Direction.TheVariants as directions
-use Rattle.vk_base.specs.declared.pid.Pid.{Pid}
-use Rattle.vk_base.specs.declared.step.Step.{Step}
 use Rattle.vk_base.specs.declared.step.Step.TheVariants as steps
 use Rattle.vk_base.specs.Calls.{answered}
 use Rattle.vk_base.specs.Kernel.{Kernel, with_memory}
@@ -38,7 +33,7 @@ use Rattle.vk_local.specs.Rules.{IsSeatsRule, may_call}
 use Rattle.vk_local.proofs.Copied.{copied_carries, copied_part}
 use Rattle.vk_local.proofs.Decided.{MayCall, move_decided}
 use Rattle.vk_local.proofs.Moved.{IsPartner, mine_is, moved_from, moved_to, partner_apart, partner_is}
-use Rattle.vk_local.proofs.Rules.{IsDone, ok_makes, refused_done, seats_rule}
+use Rattle.vk_local.proofs.Rules.{IsRuleDone, ok_makes, refused_done, seats_rule}
 
 -- the kernel stays sound over an allowed call
 sound_call : (k l : Kernel) (pid : Pid) (call : Call) → IsSoundAt (λ g. false) k →
@@ -73,7 +68,7 @@ module _ (c : Settings) (host : ℕ) (t : Tables) (r : Reading) (h : Stands c.ti
 
   abbrev Done : Direction → Option Refusal → List Seat → Type 0
   Done way o seats =
-      IsDone c host r pid (move_call way to g) t before out (done_by o) seats (before ++ steps.Call pid (move_call way to g) ∷ [])
+      IsRuleDone c host r pid (move_call way to g) t before out (done_by o) seats (before ++ steps.Call pid (move_call way to g) ∷ [])
 
   module _ (free : access_refusal t.seats pid to to_access ≡ None) where
     partner : IsPartner t.seats pid to to_access

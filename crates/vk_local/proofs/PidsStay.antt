@@ -2,15 +2,11 @@
 use Rattle.std.proofs.Common.{◌≡◌, ℕ, ◌-◌, List, map, Option, Some, None, refl, ◌∙◌}
 use Rattle.std.specs.List.{slice_get}
 use Rattle.std.specs.Prelude.{nat_lt}
+use Rattle.vk_types.specs.Types.{Direction, Message, Pid, Refusal, Waiting}
 use Rattle.vk_base.specs.declared.activity.Activity.TheVariants as activities
 use Rattle.vk_base.specs.declared.activity.Outcome.TheVariants as outcomes
-use Rattle.vk_base.specs.declared.activity.Waiting.{Waiting}
-use Rattle.vk_base.specs.declared.answer.Refusal.{Refusal}
-use Rattle.vk_base.specs.declared.kernel.Direction.{Direction}
 use Rattle.vk_base.specs.declared.kernel.Direction.TheVariants as directions
 use Rattle.vk_base.specs.declared.limits.TheConstants.{STATION_PROCESSES}
-use Rattle.vk_base.specs.declared.message.Message.{Message}
-use Rattle.vk_base.specs.declared.pid.Pid.{Pid}
 use Rattle.vk_base.specs.Firsts.{change_first}
 use Rattle.vk_pool.specs.declared.alien.Alien.{Alien}
 use Rattle.vk_pool.specs.Aliens.{alien_at}

@@ -2,18 +2,12 @@
 use Rattle.std.proofs.Common.{◌≡◌, ℕ, Bool, true, false, not, List, [], ◌∷◌, ◌++◌, length, Option, Some, None, refl, sym, ap, subst, ◌∙◌}
 use Rattle.std.specs.Option.{option_map, option_map_or}
 use Rattle.std.proofs.lemmas.Option.{none-some}
+use Rattle.vk_types.specs.Types.{Message, Pid, Process, Refusal, Scope, Step, Waiting}
 use Rattle.vk_base.specs.declared.activity.Activity.TheVariants as activities
-use Rattle.vk_base.specs.declared.activity.Waiting.{Waiting}
 use Rattle.vk_base.specs.declared.activity.Waiting.TheVariants as waitings
-use Rattle.vk_base.specs.declared.answer.Refusal.{Refusal}
 use Rattle.vk_base.specs.declared.answer.Refusal.TheVariants as refusals
-use Rattle.vk_base.specs.declared.call.Scope.{Scope}
 use Rattle.vk_base.specs.declared.event.EventAnswer.TheVariants as events_answered
-use Rattle.vk_base.specs.declared.kernel.Process.{Process}
 use Rattle.vk_base.specs.declared.kernel.State.TheVariants as states
-use Rattle.vk_base.specs.declared.message.Message.{Message}
-use Rattle.vk_base.specs.declared.pid.Pid.{Pid}
-use Rattle.vk_base.specs.declared.step.Step.{Step}
 use Rattle.vk_base.specs.declared.step.Step.TheVariants as steps
 use Rattle.vk_base.specs.Activities.{as_receive, call_of}
 use Rattle.vk_base.specs.Calls.{accepted, call_refusal, called, first_that_holds, unseen}
@@ -34,7 +28,7 @@ use Rattle.vk_rules.specs.Works.{no_work}
 use Rattle.vk_stands.specs.Fit.{AreFit, may_go_on, may_wait}
 use Rattle.vk_stands.specs.Stands.{IsWaiting, Stands}
 use Rattle.vk_stands.specs.Tables.{Tables, is_work}
-use Rattle.vk_stands.proofs.Doing.{CanBegin, begun_carries, begun_part}
+use Rattle.vk_stands.proofs.Doing.{MayBegin, begun_carries, begun_part}
 use Rattle.vk_stands.proofs.OneSeat.{seated}
 use Rattle.vk_stands.proofs.Parts.{Part, carries_then, part_of}
 use Rattle.vk_stands.proofs.Seats.{find-changed}
@@ -42,7 +36,7 @@ use Rattle.vk_stands.proofs.Whole.{sound_next}
 use Rattle.vk_local.specs.Access.{has_range, own_range}
 use Rattle.vk_local.specs.Calls.{after_receive, awaited, begun_by, receive_refusal, receive_steps, steps_of, unless}
 use Rattle.vk_local.proofs.Decided.{MayCall, receive_decided}
-use Rattle.vk_local.proofs.Rules.{IsPlayed, begun_played, more_carried, refused_makes}
+use Rattle.vk_local.proofs.Rules.{IsCallPlayed, begun_played, more_carried, refused_makes}
 use Rattle.vk_local.proofs.Taken.{IsServed, is_served}
 use Rattle.vk_stands.proofs.Quiet.{refused_answer}
 
@@ -91,7 +85,7 @@ receive_of_kind k pid s waitings.Receive is = plain k pid s
 receive_of_kind k pid s (waitings.ReceiveSegment start count) is = with_segment k pid s start count
 receive_of_kind k pid s w is = absurd (none-some w is)
 
-range_is : (b : Bool) → first_that_holds ((not b, refusals.BadRange) ∷ []) ≡ None → b ≡ true
+pub range_is : (b : Bool) → first_that_holds ((not b, refusals.BadRange) ∷ []) ≡ None → b ≡ true
 range_is true is = refl
 range_is false is = absurd (none-some refusals.BadRange (sym is))
 
@@ -128,7 +122,7 @@ module _ (c : Settings) (host : ℕ) (t : Tables) (r : Reading) (h : Stands c.ti
     part : Part host t r.view
     part = part_of c.times host t r fit h
 
-    begins : CanBegin host r.view s w
+    begins : MayBegin host r.view s w
     begins = record {
       ready = may.ready;
       waiting = kind.waiting;
@@ -149,7 +143,7 @@ module _ (c : Settings) (host : ℕ) (t : Tables) (r : Reading) (h : Stands c.ti
     taken : IsServed host u l pid (awaited t pid w) (steps_of u pid)
     taken = is_served host u l waiting_part pid own (doing_now (activities.Blocked w) s) found_then
 
-    accepted_played : IsPlayed c host r pid (call_of w) t before out None (awaited t pid w) (before ++ (steps.Call pid
+    accepted_played : IsCallPlayed c host r pid (call_of w) t before out None (awaited t pid w) (before ++ (steps.Call pid
         (call_of w) ∷ steps_of u pid))
     accepted_played = begun_played c host t r h pid (call_of w) before out s may l (steps_of u pid) (awaited t pid w) does
         (kind.takes l ∙ taken.listed)
@@ -161,7 +155,7 @@ module _ (c : Settings) (host : ℕ) (t : Tables) (r : Reading) (h : Stands c.ti
         (begun_carries host t r.view part pid own s may.found w begins kind.no_work) taken.carries))
         taken.read
 
-  by_refusal : (o : Option Refusal) → receive_refusal t.seats pid w ≡ o → IsPlayed c host r pid (call_of w) t before out (begun_by o)
+  by_refusal : (o : Option Refusal) → receive_refusal t.seats pid w ≡ o → IsCallPlayed c host r pid (call_of w) t before out (begun_by o)
       (unless o (awaited t pid w) t) (before ++ (steps.Call pid (call_of w) ∷ unless o (steps_of u pid) []))
   by_refusal None free = accepted_played free
   by_refusal (Some why) refused = record {
@@ -172,6 +166,6 @@ module _ (c : Settings) (host : ℕ) (t : Tables) (r : Reading) (h : Stands c.ti
     fits = fit;
   }
 
-  pub receive_is : IsPlayed c host r pid (call_of w) t before out (begun_by (receive_refusal t.seats pid w)) (after_receive t pid w)
+  pub receive_is : IsCallPlayed c host r pid (call_of w) t before out (begun_by (receive_refusal t.seats pid w)) (after_receive t pid w)
       (before ++ receive_steps t pid w)
   receive_is = by_refusal (receive_refusal t.seats pid w) refl

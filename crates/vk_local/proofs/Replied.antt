@@ -3,18 +3,12 @@ use Rattle.std.proofs.Common.{◌≡◌, ℕ, Bool, true, false, not, List, [], 
 use Rattle.std.specs.Option.{is_none, option_map, option_map_or}
 use Rattle.std.proofs.lemmas.Bool.{eqb-true, le-leb}
 use Rattle.std.proofs.lemmas.Option.{none-some}
-use Rattle.vk_base.specs.declared.activity.Outcome.{Outcome}
+use Rattle.vk_types.specs.Types.{Call, Message, Outcome, Pid, Process, Refusal, Step}
 use Rattle.vk_base.specs.declared.activity.Outcome.TheVariants as outcomes
 use Rattle.vk_base.specs.declared.answer.Answer.TheVariants as answers
-use Rattle.vk_base.specs.declared.answer.Refusal.{Refusal}
 use Rattle.vk_base.specs.declared.answer.Refusal.TheVariants as refusals
-use Rattle.vk_base.specs.declared.call.Call.{Call}
 use Rattle.vk_base.specs.declared.call.Call.TheVariants as calls
 use Rattle.vk_base.specs.declared.event.EventAnswer.TheVariants as events_answered
-use Rattle.vk_base.specs.declared.kernel.Process.{Process}
-use Rattle.vk_base.specs.declared.message.Message.{Message}
-use Rattle.vk_base.specs.declared.pid.Pid.{Pid}
-use Rattle.vk_base.specs.declared.step.Step.{Step}
 use Rattle.vk_base.specs.declared.step.Step.TheVariants as steps
 use Rattle.vk_base.specs.Calls.{call_refusal, called, first_that_holds, replied}
 use Rattle.vk_base.specs.Firsts.{change_first}
@@ -41,7 +35,7 @@ use Rattle.vk_local.specs.Done.{IsReply}
 use Rattle.vk_local.specs.Rules.{IsSeatsRule, may_call}
 use Rattle.vk_local.proofs.Decided.{MayCall, reply_decided}
 use Rattle.vk_local.proofs.ReplyRules.{IsReplied, replied_is, reply_answer, reply_fits, reply_makes}
-use Rattle.vk_local.proofs.Rules.{IsDone, refused_done, seats_rule}
+use Rattle.vk_local.proofs.Rules.{IsRuleDone, refused_done, seats_rule}
 
 awaited_is : (b : Bool) → first_that_holds ((b, refusals.NotAwaiting) ∷ []) ≡ None → b ≡ false
 awaited_is true is = absurd (none-some refusals.NotAwaiting (sym is))
@@ -80,7 +74,7 @@ module _ (c : Settings) (host : ℕ) (t : Tables) (r : Reading) (h : Stands c.ti
     seats_are = change_agree (is_seat to) (finished (outcomes.Replied m)) (answered_with m 0 []) t.seats x.seat x.found
         (ap (finished (outcomes.Replied m)) (sym (written_none x.seat)))
 
-    accepted : IsDone c host r pid call t before out (Some outcomes.Ok) (change_first (is_seat to) (answered_with m 0 []) t.seats)
+    accepted : IsRuleDone c host r pid call t before out (Some outcomes.Ok) (change_first (is_seat to) (answered_with m 0 []) t.seats)
         (before ++ (steps.Call pid call ∷ steps.Finish to ∷ []))
     accepted = record {
       answer = reply_answer c host t r h fit pid own s may to near x call m 0 [] lies asks behind_is none;
@@ -89,14 +83,14 @@ module _ (c : Settings) (host : ℕ) (t : Tables) (r : Reading) (h : Stands c.ti
     }
 
   by_refusal : (o : Option Refusal) → not_awaiting t.seats pid to ≡ o →
-      IsDone c host r pid call t before out (done_by o) (unless o (replied_seats t.seats to m) t.seats)
+      IsRuleDone c host r pid call t before out (done_by o) (unless o (replied_seats t.seats to m) t.seats)
       (before ++ (steps.Call pid call ∷ finish_steps o to))
-  by_refusal None free = subst (λ xs. IsDone c host r pid call t before out (Some outcomes.Ok) xs
+  by_refusal None free = subst (λ xs. IsRuleDone c host r pid call t before out (Some outcomes.Ok) xs
       (before ++ (steps.Call pid call ∷ steps.Finish to ∷ []))) (sym (seats_are free)) (accepted free)
   by_refusal (Some why) is = refused_done c host t r h fit pid call before out (process_of s) why here
       (sym is ∙ reply_decided c.times host t r h fit pid own s may to m there)
 
-  pub reply_is : IsDone c host r pid call t before out (done_by (not_awaiting t.seats pid to)) (after_reply t.seats pid to m)
+  pub reply_is : IsRuleDone c host r pid call t before out (done_by (not_awaiting t.seats pid to)) (after_reply t.seats pid to m)
       (before ++ reply_steps t.seats pid to m)
   reply_is = by_refusal (not_awaiting t.seats pid to) refl
 

@@ -2,16 +2,12 @@
 use Rattle.std.proofs.Common.{◌≡◌, ℕ, true, false, List, [], ◌∷◌, ◌++◌, length, Option, Some, None, refl, sym, ap, subst, ◌∙◌, inl}
 use Rattle.std.specs.Option.{is_none}
 use Rattle.std.proofs.lemmas.Bool.{eq-eqb, eqb-true}
+use Rattle.vk_types.specs.Types.{Call, Exchange, Message, Pid, Step}
 use Rattle.vk_base.specs.declared.activity.Activity.TheVariants as activities
 use Rattle.vk_base.specs.declared.activity.Waiting.TheVariants as waitings
 use Rattle.vk_base.specs.declared.answer.Answer.TheVariants as answers
-use Rattle.vk_base.specs.declared.call.Call.{Call}
 use Rattle.vk_base.specs.declared.event.EventAnswer.TheVariants as events_answered
-use Rattle.vk_base.specs.declared.kernel.Exchange.{Exchange}
 use Rattle.vk_base.specs.declared.kernel.Stage.TheVariants as stages
-use Rattle.vk_base.specs.declared.message.Message.{Message}
-use Rattle.vk_base.specs.declared.pid.Pid.{Pid}
-use Rattle.vk_base.specs.declared.step.Step.{Step}
 use Rattle.vk_base.specs.declared.step.Step.TheVariants as steps
 use Rattle.vk_base.specs.Calls.{answered, replied}
 use Rattle.vk_base.specs.Kernel.{◌>>=◌, Kernel, held, is_taken, name_of, with_stage}
@@ -30,7 +26,7 @@ use Rattle.vk_rules.specs.Right.{answer_to, right_entry}
 use Rattle.vk_stands.specs.Fit.{AreFit}
 use Rattle.vk_stands.specs.Held.{Holding, local_holding}
 use Rattle.vk_stands.specs.Rules.{Makes}
-use Rattle.vk_stands.specs.Stands.{IsSent, Stands}
+use Rattle.vk_stands.specs.Stands.{IsSending, Stands}
 use Rattle.vk_stands.specs.Tables.{Spot, Tables, seat_name}
 use Rattle.vk_stands.proofs.Found.{seat_found}
 use Rattle.vk_stands.proofs.Held.{IsHolding, held_here}
@@ -65,7 +61,7 @@ module _ (c : Settings) (host : ℕ) (t : Tables) (r : Reading) (h : Stands c.ti
   replied_by None is some holds = cc
   replied_by (Some g) is some holds =
       let x = seat_of t.seats pid to g is in
-      let v : IsSent r.view x.0 x.2.target g.message = h.waiting to x.0 (waitings.Send x.2.target g.message) x.1 x.2.waits in
+      let v : IsSending r.view x.0 x.2.target g.message = h.waiting to x.0 (waitings.Send x.2.target g.message) x.1 x.2.waits in
       let at : v.exchange.at ≡ pid = ap (λ (z : Spot). z.at) v.spot_is ∙ x.2.at in
       record {
         seat = x.0;

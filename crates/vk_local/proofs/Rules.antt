@@ -5,20 +5,11 @@ use Rattle.std.specs.Option.{option_map}
 use Rattle.std.proofs.lemmas.Bool.{and_parts}
 use Rattle.std.proofs.lemmas.List.{append-nil}
 use Rattle.std.proofs.lemmas.Option.{same_Some}
-use Rattle.vk_base.specs.declared.activity.Activity.{Activity}
+use Rattle.vk_types.specs.Types.{Activity, Call, EventAnswer, Outcome, Pid, Process, Refusal, Registration, Step, Times}
 use Rattle.vk_base.specs.declared.activity.Activity.TheVariants as activities
-use Rattle.vk_base.specs.declared.activity.Outcome.{Outcome}
 use Rattle.vk_base.specs.declared.activity.Outcome.TheVariants as outcomes
 use Rattle.vk_base.specs.declared.answer.Answer.TheVariants as answers
-use Rattle.vk_base.specs.declared.answer.Refusal.{Refusal}
-use Rattle.vk_base.specs.declared.call.Call.{Call}
-use Rattle.vk_base.specs.declared.config.Times.{Times}
-use Rattle.vk_base.specs.declared.event.EventAnswer.{EventAnswer}
 use Rattle.vk_base.specs.declared.event.EventAnswer.TheVariants as events_answered
-use Rattle.vk_base.specs.declared.kernel.Process.{Process}
-use Rattle.vk_base.specs.declared.kernel.Registration.{Registration}
-use Rattle.vk_base.specs.declared.pid.Pid.{Pid}
-use Rattle.vk_base.specs.declared.step.Step.{Step}
 use Rattle.vk_base.specs.declared.step.Step.TheVariants as steps
 use Rattle.vk_base.specs.Activities.{state_of}
 use Rattle.vk_base.specs.Calls.{answered, call_refusal, unseen}
@@ -61,7 +52,7 @@ may_be seats pid t =
     let parts = and_parts found.0.alive (is_ready (state_of found.0.doing)) found.2 in
     (found.0, record { found = found.1; alive = parts.0; ready = ready_is found.0.doing parts.1 })
 
-posted_none : (out : Posts) → posted out [] ≡ out
+pub posted_none : (out : Posts) → posted out [] ≡ out
 posted_none out = ap (λ posts. record out { posts = posts }) (append-nil out.posts)
 
 pub more_carried : (t u : Tables) → Carries 0 t u → Carries 1 t u
@@ -139,7 +130,7 @@ module _ (c : Settings) (host : ℕ) (t : Tables) (r : Reading) (h : Stands c.ti
       }
 
 -- A call of this answer, after which the processes are these and the steps those.
-pub record IsDone (c : Settings) (host : ℕ) (r : Reading) (pid : Pid) (call : Call) (t : Tables) (before : List Step) (out : Posts)
+pub record IsRuleDone (c : Settings) (host : ℕ) (r : Reading) (pid : Pid) (call : Call) (t : Tables) (before : List Step) (out : Posts)
     (o : Option Outcome) (seats : List Seat) (after : List Step) : Type 0 where
   pub answer : given_by o ≡ answer_to c host r (Called pid call)
   pub makes : Makes c host r (right_entry c host r (Called pid call)) (record { tables = t; steps = before; out = out })
@@ -149,17 +140,17 @@ pub record IsDone (c : Settings) (host : ℕ) (r : Reading) (pid : Pid) (call : 
 -- the same of what the code leaves
 done_as : (c : Settings) (host : ℕ) (r : Reading) (pid : Pid) (call : Call) (t : Tables) (before : List Step) (out : Posts)
     (due : Option Outcome) (left : List Seat) (made : List Step) (p : Option Outcome) (new : List Seat) (after : List Step) →
-    IsDone c host r pid call t before out due left (before ++ made) → LeavesSeats due left made p new before after →
-    IsDone c host r pid call t before out p new after
+    IsRuleDone c host r pid call t before out due left (before ++ made) → LeavesSeats due left made p new before after →
+    IsRuleDone c host r pid call t before out p new after
 done_as c host r pid call t before out due left made p new after h is =
-    subst (λ x. IsDone c host r pid call t before out x new after) (sym is.outcome)
-    (subst (λ x. IsDone c host r pid call t before out due x after) (sym is.seats)
-    (subst (λ x. IsDone c host r pid call t before out due left x) (sym is.steps) h))
+    subst (λ x. IsRuleDone c host r pid call t before out x new after) (sym is.outcome)
+    (subst (λ x. IsRuleDone c host r pid call t before out due x after) (sym is.seats)
+    (subst (λ x. IsRuleDone c host r pid call t before out due left x) (sym is.steps) h))
 
 pub refused_done : (c : Settings) (host : ℕ) (t : Tables) (r : Reading) (h : Stands c.times host t r) (fit : AreFit host t) (pid : Pid)
     (call : Call) (before : List Step) (out : Posts) (p : Process) (why : Refusal) → r.view.procs pid ≡ Some p →
     Some why ≡ call_refusal r.view pid p call →
-    IsDone c host r pid call t before out (Some (outcomes.Refused why)) t.seats (before ++ steps.Call pid call ∷ [])
+    IsRuleDone c host r pid call t before out (Some (outcomes.Refused why)) t.seats (before ++ steps.Call pid call ∷ [])
 refused_done c host t r h fit pid call before out p why at is = record {
   answer = sym (refused_answer c host r pid call p why at (sym is));
   makes = refused_makes c host t r h pid call before out p why at (sym is);
@@ -174,7 +165,7 @@ pub seats_rule : (pid : Pid) (call : Call) (due : List Seat → Option Outcome) 
     (made : List Seat → List Step) (p : Option Outcome) (seats new : List Seat) (before after : List Step) →
     may_call seats pid ≡ true → LeavesSeats (due seats) (left seats) (made seats) p new before after →
     ((c : Settings) (t : Tables) (r : Reading) (s : Seat) (out : Posts) → Stands c.times pid.host t r → AreFit pid.host t →
-    MayCall t.seats pid s → IsDone c pid.host r pid call t before out (due t.seats) (left t.seats) (before ++ made t.seats)) →
+    MayCall t.seats pid s → IsRuleDone c pid.host r pid call t before out (due t.seats) (left t.seats) (before ++ made t.seats)) →
     IsSeatsRule pid call p seats new before after
 seats_rule pid call due left made p seats new before after may is f = λ times now t out same fit. (
   λ c r times_is now_is h.
@@ -184,14 +175,14 @@ seats_rule pid call due left made p seats new before after may is f = λ times n
 )
   where
     done : (c : Settings) (t : Tables) (r : Reading) (out : Posts) → t.seats ≡ seats → AreFit pid.host t → Stands c.times pid.host t r →
-        IsDone c pid.host r pid call t before out p new after
+        IsRuleDone c pid.host r pid call t before out p new after
     done c t r out same fit h =
         let s = may_be t.seats pid (ap (λ xs. may_call xs pid) same ∙ may) in
         done_as c pid.host r pid call t before out (due t.seats) (left t.seats) (made t.seats) p new after (f c t r s.0 out h fit s.1)
         (subst (λ xs. LeavesSeats (due xs) (left xs) (made xs) p new before after) (sym same) is)
 
 -- A call of this answer, after which the tables are these and the steps those.
-pub record IsPlayed (c : Settings) (host : ℕ) (r : Reading) (pid : Pid) (call : Call) (t : Tables) (before : List Step) (out : Posts)
+pub record IsCallPlayed (c : Settings) (host : ℕ) (r : Reading) (pid : Pid) (call : Call) (t : Tables) (before : List Step) (out : Posts)
     (o : Option Outcome) (u : Tables) (after : List Step) : Type 0 where
   pub answer : given_by o ≡ answer_to c host r (Called pid call)
   pub makes : Makes c host r (right_entry c host r (Called pid call)) (record { tables = t; steps = before; out = out })
@@ -217,7 +208,7 @@ module _ (c : Settings) (host : ℕ) (t : Tables) (r : Reading) (h : Stands c.ti
   no_packets : packets_of r.view (next r.view (steps.Call pid call)) r.slots pid call (answer_to c host r (Called pid call)) ≡ []
   no_packets = (λ i. packets_of r.view (kernel_then i) r.slots pid call (begun_is i)) ∙ none
 
-  pub begun_played : IsPlayed c host r pid call t before out None u (before ++ (steps.Call pid call ∷ behind))
+  pub begun_played : IsCallPlayed c host r pid call t before out None u (before ++ (steps.Call pid call ∷ behind))
   unfolding call_outcome
   begun_played = record {
     answer = sym begun_is;
@@ -238,12 +229,12 @@ module _ (c : Settings) (host : ℕ) (t : Tables) (r : Reading) (h : Stands c.ti
   }
 
 played_as : (c : Settings) (host : ℕ) (r : Reading) (pid : Pid) (call : Call) (t : Tables) (before : List Step) (out : Posts)
-    (o p : Option Outcome) (u new : Tables) (ss after : List Step) → IsPlayed c host r pid call t before out o u ss →
-    p ≡ o → new ≡ u → after ≡ ss → IsPlayed c host r pid call t before out p new after
+    (o p : Option Outcome) (u new : Tables) (ss after : List Step) → IsCallPlayed c host r pid call t before out o u ss →
+    p ≡ o → new ≡ u → after ≡ ss → IsCallPlayed c host r pid call t before out p new after
 played_as c host r pid call t before out o p u new ss after h outcome is listed =
-    subst (λ x. IsPlayed c host r pid call t before out x new after) (sym outcome)
-    (subst (λ x. IsPlayed c host r pid call t before out o x after) (sym is)
-    (subst (λ x. IsPlayed c host r pid call t before out o u x) (sym listed) h))
+    subst (λ x. IsCallPlayed c host r pid call t before out x new after) (sym outcome)
+    (subst (λ x. IsCallPlayed c host r pid call t before out o x after) (sym is)
+    (subst (λ x. IsCallPlayed c host r pid call t before out o u x) (sym listed) h))
 
 -- what is done whatever names there are is a rule
 pub tables_rule : (pid : Pid) (call : Call) (due : Option Outcome) (left : Tables) (made : List Step) (p : Option Outcome) (t : Tables)
@@ -251,7 +242,7 @@ pub tables_rule : (pid : Pid) (call : Call) (due : Option Outcome) (left : Table
     LeavesTables due left made p (tables_of seats lists slots) before after →
     ((c : Settings) (r : Reading) (s : Seat) (names : List Registration) (out : Posts) → Stands c.times pid.host (named names t) r →
     AreFit pid.host (named names t) → MayCall t.seats pid s →
-    IsPlayed c pid.host r pid call (named names t) before out due (named names left) (before ++ made)) →
+    IsCallPlayed c pid.host r pid call (named names t) before out due (named names left) (before ++ made)) →
     IsTablesRule pid call p t (tables_of seats lists slots) before after
 tables_rule pid call due left made p t seats lists slots before after may is f = λ times now names out fit. (
   λ c r times_is now_is h.
@@ -265,7 +256,7 @@ tables_rule pid call due left made p t seats lists slots before after may is f =
 
     done : (c : Settings) (r : Reading) (names : List Registration) (out : Posts) → AreFit pid.host (named names t) →
         Stands c.times pid.host (named names t) r →
-        IsPlayed c pid.host r pid call (named names t) before out p (named names (tables_of seats lists slots)) after
+        IsCallPlayed c pid.host r pid call (named names t) before out p (named names (tables_of seats lists slots)) after
     done c r names out fit h =
         let s = may_be t.seats pid may in
         played_as c pid.host r pid call (named names t) before out due p (named names left) (named names (tables_of seats lists slots))

@@ -3,17 +3,12 @@ use Rattle.std.proofs.Common.{◌≡◌, ℕ, true, false, not, List, [], ◌∷
 use Rattle.std.specs.Option.{option_map, option_map_or}
 use Rattle.std.proofs.lemmas.Bool.{cond-false, eqb-true}
 use Rattle.std.proofs.lemmas.Option.{same_Some}
-use Rattle.vk_base.specs.declared.activity.Outcome.{Outcome}
+use Rattle.v_laws.proofs.MoveLists.{all_bytes}
+use Rattle.vk_types.specs.Types.{Call, Message, Outcome, Pid, Process, Refusal, Step}
 use Rattle.vk_base.specs.declared.activity.Outcome.TheVariants as outcomes
 use Rattle.vk_base.specs.declared.answer.Answer.TheVariants as answers
-use Rattle.vk_base.specs.declared.answer.Refusal.{Refusal}
-use Rattle.vk_base.specs.declared.call.Call.{Call}
 use Rattle.vk_base.specs.declared.call.Call.TheVariants as calls
 use Rattle.vk_base.specs.declared.event.EventAnswer.TheVariants as events_answered
-use Rattle.vk_base.specs.declared.kernel.Process.{Process}
-use Rattle.vk_base.specs.declared.message.Message.{Message}
-use Rattle.vk_base.specs.declared.pid.Pid.{Pid}
-use Rattle.vk_base.specs.declared.step.Step.{Step}
 use Rattle.vk_base.specs.declared.step.Step.TheVariants as steps
 use Rattle.vk_base.specs.Calls.{call_refusal, called, replied}
 use Rattle.vk_base.specs.Firsts.{change_first}
@@ -39,11 +34,10 @@ use Rattle.vk_local.specs.Access.{access_refusal}
 use Rattle.vk_local.specs.Calls.{after_reply_segment, bytes_passed, done_by, finish_steps, replied_seats, reply_access, reply_segment_steps, unless}
 use Rattle.vk_local.specs.Done.{IsReplySegment}
 use Rattle.vk_local.specs.Rules.{IsSeatsRule, may_call}
-use Rattle.vk_local.proofs.Copied.{taken_length}
 use Rattle.vk_local.proofs.Decided.{MayCall, segment_decided}
 use Rattle.vk_local.proofs.Moved.{IsPartner, is_held, mine_is, partner_apart, partner_is}
 use Rattle.vk_local.proofs.ReplyRules.{IsReplied, replied_is, reply_answer, reply_fits, reply_makes}
-use Rattle.vk_local.proofs.Rules.{IsDone, refused_done, seats_rule}
+use Rattle.vk_local.proofs.Rules.{IsRuleDone, refused_done, seats_rule}
 
 module _ (c : Settings) (host : ℕ) (t : Tables) (r : Reading) (h : Stands c.times host t r) (fit : AreFit host t) (pid : Pid)
     (own : pid.host ≡ host) (s : Seat) (may : MayCall t.seats pid s) (to : Pid) (near : same_host pid to ≡ true) (m : Message)
@@ -80,7 +74,7 @@ module _ (c : Settings) (host : ℕ) (t : Tables) (r : Reading) (h : Stands c.ti
 
     lies : lies_in (range_of g.dest (length bytes)) (length x.seat.memory) ≡ true
     lies = ap (λ n. lies_in (range_of g.dest n) (length x.seat.memory))
-        (taken_length g.src g.count s.memory (mine_is host t fit pid s may to (reply_access g) free))
+        (all_bytes g.src g.count s.memory (mine_is host t fit pid s may to (reply_access g) free))
         ∙ ap (λ (z : Seat). lies_in (range_of g.dest g.count) (length z.memory))
         (same_Some x.seat partner.seat (sym x.found ∙ partner.found))
         ∙ partner.granted
@@ -95,7 +89,7 @@ module _ (c : Settings) (host : ℕ) (t : Tables) (r : Reading) (h : Stands c.ti
         ∙ ap (λ o. passed_by o to (gifts.Bytes g.src g.count g.dest) t.seats) may.found)
         ∙ change_twice (is_seat to) (written g.dest bytes) (finished (outcomes.Replied m)) (λ z. refl) t.seats
 
-    accepted : IsDone c host r pid call t before out (Some outcomes.Ok) (change_first (is_seat to) (answered_with m g.dest bytes) t.seats)
+    accepted : IsRuleDone c host r pid call t before out (Some outcomes.Ok) (change_first (is_seat to) (answered_with m g.dest bytes) t.seats)
         (before ++ (steps.Call pid call ∷ steps.Finish to ∷ []))
     accepted = record {
       answer = reply_answer c host t r h fit pid own s may to near x call m g.dest bytes lies asks behind_is none;
@@ -104,14 +98,14 @@ module _ (c : Settings) (host : ℕ) (t : Tables) (r : Reading) (h : Stands c.ti
     }
 
   by_refusal : (o : Option Refusal) → access_refusal t.seats pid to (reply_access g) ≡ o →
-      IsDone c host r pid call t before out (done_by o) (unless o (replied_seats (bytes_passed t.seats pid to g) to m) t.seats)
+      IsRuleDone c host r pid call t before out (done_by o) (unless o (replied_seats (bytes_passed t.seats pid to g) to m) t.seats)
       (before ++ (steps.Call pid call ∷ finish_steps o to))
-  by_refusal None free = subst (λ xs. IsDone c host r pid call t before out (Some outcomes.Ok) xs
+  by_refusal None free = subst (λ xs. IsRuleDone c host r pid call t before out (Some outcomes.Ok) xs
       (before ++ (steps.Call pid call ∷ steps.Finish to ∷ []))) (sym (seats_are free)) (accepted free)
   by_refusal (Some why) is = refused_done c host t r h fit pid call before out (process_of s) why here
       (sym is ∙ segment_decided c.times host t r h fit pid own s may to m g there)
 
-  pub segment_is : IsDone c host r pid call t before out (done_by (access_refusal t.seats pid to (reply_access g)))
+  pub segment_is : IsRuleDone c host r pid call t before out (done_by (access_refusal t.seats pid to (reply_access g)))
       (after_reply_segment t.seats pid to m g) (before ++ reply_segment_steps t.seats pid to m g)
   segment_is = by_refusal (access_refusal t.seats pid to (reply_access g)) refl
 

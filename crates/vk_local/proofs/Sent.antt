@@ -4,16 +4,11 @@ use Rattle.std.specs.List.{position}
 use Rattle.std.specs.Option.{option_map, option_map_or}
 use Rattle.std.proofs.lemmas.Bool.{eqb-true}
 use Rattle.std.proofs.lemmas.Option.{none-some}
-use Rattle.vk_base.specs.declared.answer.Refusal.{Refusal}
+use Rattle.vk_types.specs.Types.{Call, Message, Pid, Process, Refusal, Step}
 use Rattle.vk_base.specs.declared.answer.Refusal.TheVariants as refusals
-use Rattle.vk_base.specs.declared.call.Call.{Call}
 use Rattle.vk_base.specs.declared.call.Call.TheVariants as calls
 use Rattle.vk_base.specs.declared.event.EventAnswer.TheVariants as events_answered
-use Rattle.vk_base.specs.declared.kernel.Process.{Process}
 use Rattle.vk_base.specs.declared.kernel.State.TheVariants as states
-use Rattle.vk_base.specs.declared.message.Message.{Message}
-use Rattle.vk_base.specs.declared.pid.Pid.{Pid}
-use Rattle.vk_base.specs.declared.step.Step.{Step}
 use Rattle.vk_base.specs.declared.step.Step.TheVariants as steps
 use Rattle.vk_base.specs.Calls.{call_refusal, called, first_that_holds, unseen}
 unfoldable use Rattle.vk_base.specs.Calls.{sent}
@@ -46,7 +41,7 @@ use Rattle.vk_local.specs.Calls as locals
 use Rattle.vk_local.specs.Takes.{served}
 use Rattle.vk_local.specs.Calls.{after_send, begun, begun_by, queued_by, send_refusal, send_steps, sent_seats, steps_of, unless}
 use Rattle.vk_local.proofs.Decided.{MayCall, send_decided}
-use Rattle.vk_local.proofs.Rules.{IsPlayed, begun_played, refused_makes}
+use Rattle.vk_local.proofs.Rules.{IsCallPlayed, begun_played, refused_makes}
 use Rattle.vk_local.proofs.Taken.{IsServed, is_served}
 
 -- What is known where it is not refused.
@@ -135,7 +130,7 @@ module _ (c : Settings) (host : ℕ) (t : Tables) (r : Reading) (h : Stands c.ti
     none = ap (λ o. option_map_or (round_of l no_work pid) o []) sender_is
         ∙ ap (λ b. list_if (not b) (send_packets l pid after target m)) near
 
-    accepted_played : IsPlayed c host r pid call t before out None (begun t pid target m)
+    accepted_played : IsCallPlayed c host r pid call t before out None (begun t pid target m)
         (before ++ (steps.Call pid call ∷ steps_of (locals.sent t pid target m) target))
     accepted_played = begun_played c host t r h pid call before out s may l (steps_of (locals.sent t pid target m) target)
         (begun t pid target m) does
@@ -145,7 +140,7 @@ module _ (c : Settings) (host : ℕ) (t : Tables) (r : Reading) (h : Stands c.ti
         (sent_carries host t r.view part pid own s may.found target m can near at.0 slot.0 at.1 slot.1)) taken.carries)
         taken.read
 
-  by_refusal : (o : Option Refusal) → send_refusal t.seats pid target m ≡ o → IsPlayed c host r pid call t before out (begun_by o)
+  by_refusal : (o : Option Refusal) → send_refusal t.seats pid target m ≡ o → IsCallPlayed c host r pid call t before out (begun_by o)
       (unless o (begun t pid target m) t)
       (before ++ (steps.Call pid call ∷ unless o (steps_of (locals.sent t pid target m) target) []))
   by_refusal None free = accepted_played free
@@ -157,6 +152,6 @@ module _ (c : Settings) (host : ℕ) (t : Tables) (r : Reading) (h : Stands c.ti
     fits = fit;
   }
 
-  pub send_is : IsPlayed c host r pid call t before out (begun_by (send_refusal t.seats pid target m)) (after_send t pid target m)
+  pub send_is : IsCallPlayed c host r pid call t before out (begun_by (send_refusal t.seats pid target m)) (after_send t pid target m)
       (before ++ send_steps t pid target m)
   send_is = by_refusal (send_refusal t.seats pid target m) refl

@@ -1,9 +1,7 @@
 -- Why a reply or a move within the station is refused, by the tables.
 use Rattle.std.specs.Prelude.{ℕ, Bool, ◌&&◌, not, nat_lt, List, [], ◌∷◌, is_none, length, Option, if◌then◌else◌}
-use Rattle.vk_base.specs.declared.answer.Refusal.{Refusal}
+use Rattle.vk_types.specs.Types.{Message, Pid, Refusal}
 use Rattle.vk_base.specs.declared.answer.Refusal.TheVariants as refusals
-use Rattle.vk_base.specs.declared.message.Message.{Message}
-use Rattle.vk_base.specs.declared.pid.Pid.{Pid}
 use Rattle.vk_base.specs.Calls.{first_that_holds}
 use Rattle.vk_base.specs.Kernel.{holds_of}
 use Rattle.vk_base.specs.Messages.{grants_read, grants_write, segment_of}

@@ -1,13 +1,8 @@
 -- What each rule leaves by the tables, whatever these stand for: its answer, the tables, and the steps and packets behind those before.
 use Rattle.std.specs.Prelude.{ℕ, ◌≡◌, List, [], ◌∷◌, ◌++◌, Option, Some}
-use Rattle.vk_base.specs.declared.activity.Outcome.{Outcome}
+use Rattle.vk_types.specs.Types.{Direction, Message, Outcome, Pid, Step, Waiting}
 use Rattle.vk_base.specs.declared.activity.Outcome.TheVariants as outcomes
-use Rattle.vk_base.specs.declared.activity.Waiting.{Waiting}
 use Rattle.vk_base.specs.declared.call.Call.TheVariants as calls
-use Rattle.vk_base.specs.declared.kernel.Direction.{Direction}
-use Rattle.vk_base.specs.declared.message.Message.{Message}
-use Rattle.vk_base.specs.declared.pid.Pid.{Pid}
-use Rattle.vk_base.specs.declared.step.Step.{Step}
 use Rattle.vk_base.specs.declared.step.Step.TheVariants as steps
 use Rattle.vk_packet.specs.Posts.{Posts}
 use Rattle.vk_procs.specs.declared.seat.Seat.{Seat}
@@ -48,8 +43,8 @@ pub record LeavesTables (due : Option Outcome) (left : Tables) (made : List Step
   pub slots : new.slots ≡ left.slots
   pub steps : after ≡ before ++ made
 
-abbrev pub IsSend : Pid → Pid → Message → Option Outcome → (old new : Tables) → (before after : List Step) → Type 0
-IsSend pid target m answer old new before after =
+abbrev pub IsSendDone : Pid → Pid → Message → Option Outcome → (old new : Tables) → (before after : List Step) → Type 0
+IsSendDone pid target m answer old new before after =
     LeavesTables (begun_by (send_refusal old.seats pid target m)) (after_send old pid target m) (send_steps old pid target m)
     answer new before after
 

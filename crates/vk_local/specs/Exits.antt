@@ -1,8 +1,7 @@
 -- What an exit comes to, by the tables.
 use Rattle.std.specs.Prelude.{ℕ, Bool, ◌&&◌, not, List, [], ◌∷◌, filter, flat_map, map, slice_set, Option, Some, None, option_map, if◌then◌else◌}
 use Rattle.std.specs.List.{position}
-use Rattle.vk_base.specs.declared.kernel.Registration.{Registration}
-use Rattle.vk_base.specs.declared.pid.Pid.{Pid}
+use Rattle.vk_types.specs.Types.{Pid, Registration}
 use Rattle.vk_base.specs.Firsts.{change_first}
 use Rattle.vk_base.specs.Kernel.{◌>>=◌, is_at_target}
 use Rattle.vk_base.specs.Packets.{Packet, Negative}

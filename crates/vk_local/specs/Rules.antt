@@ -1,12 +1,7 @@
 -- What a call of a process promises that changes the processes of its station alone.
 use Rattle.std.specs.Prelude.{ℕ, ◌≡◌, Bool, ◌&&◌, List, Option}
-use Rattle.vk_base.specs.declared.activity.Outcome.{Outcome}
-use Rattle.vk_base.specs.declared.call.Call.{Call}
+use Rattle.vk_types.specs.Types.{Call, Outcome, Pid, Registration, Step, Times}
 use Rattle.vk_base.specs.declared.call.Call.TheVariants as calls
-use Rattle.vk_base.specs.declared.config.Times.{Times}
-use Rattle.vk_base.specs.declared.kernel.Registration.{Registration}
-use Rattle.vk_base.specs.declared.pid.Pid.{Pid}
-use Rattle.vk_base.specs.declared.step.Step.{Step}
 use Rattle.vk_base.specs.Activities.{state_of}
 use Rattle.vk_base.specs.Kernel.{holds_of, is_ready}
 use Rattle.vk_base.specs.Settings.{Settings}

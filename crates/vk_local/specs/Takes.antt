@@ -1,10 +1,8 @@
 -- What a Take comes to, by the tables.
 use Rattle.std.specs.Prelude.{ℕ, ◌-◌, nat_lt, List, [], ◌∷◌, drop, slice_get, slice_set, Option, Some, None, if◌then◌else◌}
 use Rattle.std.specs.List.{position}
-use Rattle.vk_base.specs.declared.activity.Waiting.{Waiting}
+use Rattle.vk_types.specs.Types.{Pid, Step, Waiting}
 use Rattle.vk_base.specs.declared.limits.TheConstants.{STATION_PROCESSES}
-use Rattle.vk_base.specs.declared.pid.Pid.{Pid}
-use Rattle.vk_base.specs.declared.step.Step.{Step}
 use Rattle.vk_base.specs.declared.step.Step.TheVariants as steps
 use Rattle.vk_base.specs.Firsts.{change_first}
 use Rattle.vk_pool.specs.declared.alien.Alien.{Alien}

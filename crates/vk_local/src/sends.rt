@@ -6,7 +6,7 @@ ghost use Rattle.vk_base.specs.Pids.{same_host};
 ghost use Rattle.vk_procs.specs.declared.seat.Seat.{Seat as TheSeat};
 ghost use Rattle.vk_procs.specs.Seats.{pids, seat_in};
 ghost use Rattle.vk_local.specs.Calls.{queued, send_refusal, tables_of};
-ghost use Rattle.vk_local.specs.Done.{IsSend};
+ghost use Rattle.vk_local.specs.Done.{IsSendDone};
 ghost use Rattle.vk_local.specs.Rules.{IsTablesRule, may_call};
 
 use crate::access::own_range;
@@ -62,7 +62,7 @@ pub fn send(
     requires lists { length queues.old.lists ≡ STATION_PROCESSES }
     requires slots { STATION_PROCESSES ≤ queues.old.slots }
     requires room { length steps.old + 2 ≤ STEPS }
-    ensures done { IsSend pid target message.now result (tables_of procs.old queues.old.lists aliens.old)
+    ensures done { IsSendDone pid target message.now result (tables_of procs.old queues.old.lists aliens.old)
         (tables_of procs.new queues.new.lists aliens.new) steps.old steps.new }
     ensures rule { IsTablesRule pid (Call.Send target message.now) result (tables_of procs.old queues.old.lists aliens.old)
         (tables_of procs.new queues.new.lists aliens.new) steps.old steps.new }

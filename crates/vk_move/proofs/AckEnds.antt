@@ -4,22 +4,14 @@ use Rattle.std.specs.List.{list_any, list_all, filter_map, sum_by}
 use Rattle.std.specs.Option.{option_map, option_map_or}
 use Rattle.std.proofs.lemmas.Bool.{and_parts, cond-true, eqb-true, ltb-true}
 use Rattle.std.proofs.lemmas.Option.{same_Some}
-use Rattle.vk_base.specs.declared.activity.Activity.{Activity}
+use Rattle.vk_types.specs.Types.{Activity, Exchange, Move, MoveName, Name, Pid, Process, Times, Waiting}
 use Rattle.vk_base.specs.declared.activity.Activity.TheVariants as activities
 use Rattle.vk_base.specs.declared.activity.Outcome.TheVariants as outcomes
-use Rattle.vk_base.specs.declared.activity.Waiting.{Waiting}
 use Rattle.vk_base.specs.declared.activity.Waiting.TheVariants as waitings
 use Rattle.vk_base.specs.declared.answer.Answer.TheVariants as answers
 use Rattle.vk_base.specs.declared.answer.Ending.TheVariants as endings
-use Rattle.vk_base.specs.declared.config.Times.{Times}
 use Rattle.vk_base.specs.declared.event.EventAnswer.TheVariants as events_answered
 use Rattle.vk_base.specs.declared.kernel.Direction.TheVariants as directions
-use Rattle.vk_base.specs.declared.kernel.Exchange.{Exchange}
-use Rattle.vk_base.specs.declared.kernel.Move.{Move}
-use Rattle.vk_base.specs.declared.kernel.MoveName.{MoveName}
-use Rattle.vk_base.specs.declared.kernel.Name.{Name}
-use Rattle.vk_base.specs.declared.kernel.Process.{Process}
-use Rattle.vk_base.specs.declared.pid.Pid.{Pid}
 use Rattle.vk_base.specs.declared.step.Step.TheVariants as steps
 use Rattle.vk_base.specs.Activities.{state_of}
 use Rattle.vk_base.specs.Calls.{new_move}
@@ -31,8 +23,9 @@ use Rattle.vk_base.specs.Packets.{Packet, MoveAck}
 use Rattle.vk_base.specs.Pids.{same_pid}
 use Rattle.vk_base.specs.Settings.{Settings}
 use Rattle.vk_base.specs.Steps.{first_of, move_ending, only_if}
+use Rattle.vk_base.proofs.PidLemmas.{same_pid_self}
 use Rattle.v_laws.specs.Sound.{IsSoundAt}
-use Rattle.v_laws.proofs.Tables.{same_name_is, same_pid_laws, same_pid_self}
+use Rattle.v_laws.proofs.Tables.{same_name_is, same_pid_laws}
 use Rattle.vk_frame.specs.declared.header.Header.{Header}
 use Rattle.vk_packet.specs.Rules.{fits, is_number}
 use Rattle.vk_procs.specs.declared.seat.ProcNote.{ProcNote}
@@ -56,16 +49,16 @@ use Rattle.vk_stands.proofs.AfterFrames.{came_outcome, came_slots_still, came_st
 use Rattle.vk_stands.proofs.Found.{seat_found}
 use Rattle.vk_stands.proofs.MoverLeft.{acknowledged, left_acknowledged, owned, settled_exchanges, sound_over}
 use Rattle.vk_stands.proofs.MovesAllowed as allowed
-use Rattle.vk_stands.proofs.MovesEnded.{IsInMove, next_ending, stands_over}
+use Rattle.vk_stands.proofs.MovesEnded.{IsSeatInMove, next_ending, stands_over}
 use Rattle.vk_stands.proofs.MovesExchange.{HasOtherMoves, part_moved}
 use Rattle.vk_stands.proofs.MovesOwn.{left_long}
 use Rattle.vk_stands.proofs.Parts.{Part, part_of}
 use Rattle.vk_stands.proofs.Received.{received}
 use Rattle.vk_move.specs.declared.mover.Acked.{Acked}
 use Rattle.vk_move.specs.declared.mover.Acked.TheVariants as acks
-use Rattle.vk_move.specs.Moved.{moving_by}
+use Rattle.vk_move.specs.Moved.{subject_by}
 use Rattle.vk_move.specs.Mover.{ack_moved, ack_taken, acked_doing, acked_in, is_mover}
-use Rattle.vk_move.specs.Right.{IsMoveRule, IsRight}
+use Rattle.vk_move.specs.Right.{IsMoveRule, IsMoveRight}
 use Rattle.vk_move.proofs.Acks.{answers_right, decided, goes_right, nothing_right, outcome}
 use Rattle.vk_move.proofs.Acks as acks_to
 use Rattle.vk_move.proofs.Still.{IsToMover, quiet, right_packets, right_steps}
@@ -191,7 +184,7 @@ module _ (c : Settings) (host : ℕ) (r : Reading) (h : Header) (from to : Pid) 
     abbrev k : Kernel
     k = record r.view { exchanges = put_exchange r.view.exchanges name then_is }
 
-    abbrev in_move : IsInMove s
+    abbrev in_move : IsSeatInMove s
     in_move = record { waiting = waiting; state = state; moves = refl }
 
     ended_is : move_ending l moves.name endings.Ok ≡ Some answers.Ok
@@ -235,7 +228,7 @@ module _ (c : Settings) (host : ℕ) (r : Reading) (h : Header) (from to : Pid) 
         (ap (λ (o : Outcome). list_any (is_of_round q) o.packets) out)
         (ap (λ (o : Outcome). cond (is_packet_to q packet) (sum_by count_in o.steps) 0) out ∙ uncopied (is_packet_to q packet) to)
 
-    pub ends_right : IsRight c host t r (entry_for c host r (Delivered (Framed h packet)))
+    pub ends_right : IsMoveRight c host t r (entry_for c host r (Delivered (Framed h packet)))
         (ack_moved c.times r.now to got acks.Ends t.seats)
     ends_right = record {
       steps = sym (came_steps c host r h packet taken ∙ ap (λ (o : Outcome). o.steps) out);
@@ -262,7 +255,7 @@ module _ (c : Settings) (host : ℕ) (r : Reading) (h : Header) (from to : Pid) 
   none_out f = ap (λ o. option_map_or (ack_outcome r.view (r.work to) to got) o nothing) (none_runs (r.view.procs to) f)
 
   abbrev Right : Acked → Type 0
-  Right a = IsRight c host t r (entry_for c host r (Delivered (Framed h packet))) (ack_moved c.times r.now to got a t.seats)
+  Right a = IsMoveRight c host t r (entry_for c host r (Delivered (Framed h packet))) (ack_moved c.times r.now to got a t.seats)
 
   idles : holds_of (λ p. moves_to p name moving) (r.view.procs to) ≡ false → Right acks.Nothing
   idles f =
@@ -336,18 +329,18 @@ module _ (c : Settings) (host : ℕ) (r : Reading) (h : Header) (from to : Pid) 
       (idles (ap (holds_of (λ p. moves_to p name moving)) (stands.procs to own ∙ ap (option_map process_of) none)))
   by_seat (Some s) found = by_mover s found (is_mover name moving s) refl
 
-  pub ack_right : IsRight c host t r (entry_for c host r (Delivered (Framed h packet)))
-      (ack_taken c.times r.now (moving_by to from number moving) got t.seats)
+  pub ack_right : IsMoveRight c host t r (entry_for c host r (Delivered (Framed h packet)))
+      (ack_taken c.times r.now (subject_by to from number moving) got t.seats)
   ack_right = by_seat (seat_in t.seats to) refl
 
 pub ack_rule : (times : Times) (now : ℕ) (from to : Pid) (number moving got : ℕ) (seats : List Seat) →
-    IsMoveRule times now (MoveAck from to number moving got) seats (ack_taken times now (moving_by to from number moving) got seats)
+    IsMoveRule times now (MoveAck from to number moving got) seats (ack_taken times now (subject_by to from number moving) got seats)
 ack_rule times now from to number moving got seats c host t r h same at fit stands taken =
-    subst (λ x. IsRight c host (record t { seats = seats }) r
+    subst (λ x. IsMoveRight c host (record t { seats = seats }) r
     (entry_for c host r (Delivered (Framed h (MoveAck from to number moving got))))
-    (ack_taken x now (moving_by to from number moving) got seats)) same
-    (subst (λ n. IsRight c host (record t { seats = seats }) r
+    (ack_taken x now (subject_by to from number moving) got seats)) same
+    (subst (λ n. IsMoveRight c host (record t { seats = seats }) r
     (entry_for c host r (Delivered (Framed h (MoveAck from to number moving got))))
-    (ack_taken c.times n (moving_by to from number moving) got seats)) at
+    (ack_taken c.times n (subject_by to from number moving) got seats)) at
     (ack_right c host r h from to number moving got taken (record t { seats = seats }) fit
     (subst (λ x. Stands x host (record t { seats = seats }) r) (sym same) stands)))

@@ -3,15 +3,11 @@ use Rattle.std.proofs.Common.{◌≡◌, ℕ, zero, suc, ◌+◌, ◌-◌, ◌*�
 use Rattle.std.specs.List.{list_any, range_with_len}
 use Rattle.std.specs.Option.{option_map, option_map_or}
 use Rattle.std.proofs.lemmas.Bool.{and_from, and_parts, ltb-true}
+use Rattle.vk_types.specs.Types.{MoveName, Name, Pid, Process, Waiting}
 use Rattle.vk_base.specs.declared.activity.Activity.TheVariants as activities
-use Rattle.vk_base.specs.declared.activity.Waiting.{Waiting}
 use Rattle.vk_base.specs.declared.activity.Waiting.TheVariants as waitings
 use Rattle.vk_base.specs.declared.answer.Ending.TheVariants as endings
 use Rattle.vk_base.specs.declared.event.EventAnswer.TheVariants as events_answered
-use Rattle.vk_base.specs.declared.kernel.MoveName.{MoveName}
-use Rattle.vk_base.specs.declared.kernel.Name.{Name}
-use Rattle.vk_base.specs.declared.kernel.Process.{Process}
-use Rattle.vk_base.specs.declared.pid.Pid.{Pid}
 use Rattle.vk_base.specs.declared.step.Step.TheVariants as steps
 use Rattle.vk_base.specs.Activities.{state_of}
 use Rattle.vk_base.specs.Kernel.{◌>>=◌, blocked_in, holds_of, is_moving, name_of}
@@ -19,7 +15,7 @@ use Rattle.vk_base.specs.Packets.{Packet, MoveAck}
 use Rattle.vk_base.specs.Pids.{same_pid}
 use Rattle.vk_base.specs.Settings.{Settings}
 use Rattle.vk_base.specs.Steps.{only_if, same_move}
-use Rattle.v_laws.proofs.Tables.{same_pid_self}
+use Rattle.vk_base.proofs.PidLemmas.{same_pid_self}
 use Rattle.vk_frame.specs.declared.header.Header.{Header}
 use Rattle.vk_procs.specs.declared.seat.Seat.{Seat}
 use Rattle.vk_procs.specs.Seats.{process_of, seat_in}
@@ -43,9 +39,10 @@ use Rattle.vk_stands.proofs.MovesNoted.{worked}
 use Rattle.vk_stands.proofs.Received.{received}
 use Rattle.vk_move.specs.declared.mover.Acked.{Acked}
 use Rattle.vk_move.specs.declared.mover.Acked.TheVariants as acks
+use Rattle.vk_timer.specs.Works.{started}
 use Rattle.vk_move.specs.Moved.{restarted, answered, round_by, round_from}
 use Rattle.vk_move.specs.Mover.{ack_moved, acked_by, acked_doing, acked_in, is_mover}
-use Rattle.vk_move.specs.Right.{IsRight}
+use Rattle.vk_move.specs.Right.{IsMoveRight}
 use Rattle.vk_move.proofs.Dues.{move_work, round_call}
 use Rattle.vk_move.proofs.Still.{IsToMover, noted_stands, quiet, right_packets, right_steps, work_here}
 
@@ -132,7 +129,7 @@ module _ (c : Settings) (host : ℕ) (r : Reading) (h : Header) (from to : Pid) 
         ∙ ap (λ b. cond b (acked_by s.note count got) acks.Nothing) mover
 
     abbrev Right : Acked → Type 0
-    Right a = IsRight c host t r (entry_for c host r (Delivered (Framed h packet))) (ack_moved c.times r.now to got a t.seats)
+    Right a = IsMoveRight c host t r (entry_for c host r (Delivered (Framed h packet))) (ack_moved c.times r.now to got a t.seats)
 
     -- it goes on from there
     module _ (unlike : (got == count) ≡ false) (further : more ≡ true) where
@@ -183,7 +180,7 @@ module _ (c : Settings) (host : ℕ) (r : Reading) (h : Header) (from to : Pid) 
             (got == w.acknowledged) true answers_by sent
             ∙ restart_work r.now got (got == w.acknowledged) w))
             (record { tries = refl; deadline = refl; far = refl }))
-            (restarted c.times r.now 1 got) refl;
+            (restarted (started c.times r.now) got) refl;
       }
 
     -- it changes nothing but the work, or not even that

@@ -1,32 +1,27 @@
 -- The first round of a move may go out.
-use Rattle.std.proofs.Common.{◌≡◌, ℕ, ◌+◌, ◌<◌, ◌≤◌, ◌^◌, zero, suc, Bool, true, false, cond, ◌==◌, not, List, length, refl, ap, sym, ◌∙◌, Option, Some, None, ltb, arith, subst}
+use Rattle.std.proofs.Common.{◌≡◌, ℕ, ◌+◌, ◌<◌, ◌≤◌, ◌^◌, Bool, true, false, cond, ◌==◌, not, List, length, refl, ap, sym, ◌∙◌, Option, Some, None, ltb, arith, subst}
 use Rattle.std.specs.List.{position}
 use Rattle.std.specs.Option.{option_map, option_map_or}
 use Rattle.std.specs.Cmp.Derive.{both_true}
-use Rattle.std.proofs.lemmas.Bool.{and_parts, lt-ltb, both_ways}
+use Rattle.std.proofs.lemmas.Bool.{and_parts, lt-ltb}
 use Rattle.std.proofs.lemmas.Option.{same_Some, none-some}
+use Rattle.vk_types.specs.Types.{Direction, Message, MoveName, Pid, Refusal, Times, Waiting}
 use Rattle.vk_base.specs.declared.activity.Activity.TheVariants as activities
-use Rattle.vk_base.specs.declared.activity.Waiting.{Waiting}
-use Rattle.vk_base.specs.declared.answer.Refusal.{Refusal}
 use Rattle.vk_base.specs.declared.answer.Refusal.TheVariants as refusals
 use Rattle.vk_base.specs.Firsts.{change_first}
-use Rattle.vk_base.specs.declared.config.Times.{Times}
-use Rattle.vk_base.specs.declared.kernel.Direction.{Direction}
 use Rattle.vk_base.specs.declared.kernel.Direction.TheVariants as directions
-use Rattle.vk_base.specs.declared.kernel.MoveName.{MoveName}
-use Rattle.vk_base.specs.declared.message.Message.{Message}
-use Rattle.vk_base.specs.declared.pid.Pid.{Pid}
 use Rattle.vk_base.specs.Kernel.{name_of}
 use Rattle.vk_base.specs.Messages.{segment_of}
 use Rattle.vk_base.specs.Ranges.{range_of, lies_in, lies_within}
+use Rattle.vk_base.proofs.BoolLemmas.{not_zero}
+use Rattle.vk_base.proofs.OptionLemmas.{mapped_is}
 use Rattle.vk_packet.specs.Rules.{is_number, is_place}
 use Rattle.vk_pool.specs.declared.alien.Alien.{Alien}
 use Rattle.vk_pool.specs.Aliens.{alien_at, alien_from, is_alien_from, moves_at}
 use Rattle.vk_procs.specs.declared.seat.Seat.{Seat}
 use Rattle.vk_procs.specs.Seats.{doing_now, is_seat, seat_in}
-use Rattle.vk_stands.proofs.Placed.{IsAt, alien_is_at}
+use Rattle.vk_stands.proofs.Placed.{IsAlienAt, alien_is_at}
 use Rattle.vk_stands.proofs.Seats.{find-changed}
-use Rattle.v_laws.proofs.Options.{mapped_is}
 use Rattle.vk_move.specs.declared.begun.Verdict.{Verdict}
 use Rattle.vk_move.specs.declared.begun.Verdict.TheVariants as verdicts
 use Rattle.vk_move.specs.Begun.{CanBegin, HasFewMoves, HasFitAliens, begun_note, grants_access, has_ranges, message_held, moves_of, next_name, own_of, size_of, theirs_of, verdict_by, verdict_in, verdict_on, waiting_in, waiting_seats}
@@ -85,10 +80,6 @@ on_by true true false is = (refl, refl)
 on_by true false c is = cc
 on_by false b c is = cc
 
-some_by : (count : ℕ) → (count == 0) ≡ false → 0 < count
-some_by zero is = absurd (both_ways (0 == 0) is refl)
-some_by (suc n) is = omega arith
-
 few_of : (count : ℕ) → ltb 65536 count ≡ false → count ≤ 65536
 few_of count f = grind arith
 
@@ -100,7 +91,7 @@ begins_by way size theirs own count o is = with_test (ltb 65536 count) o refl is
     with_some m f is =
         let x = on_by (grants_access way m) (has_ranges m size theirs own count) (count == 0) is in
         let parts = and_parts (lies_within (range_of theirs count) (segment_of m)) (lies_in (range_of own count) size) x.0 in
-        let some = some_by count x.1 in
+        let some = not_zero count x.1 in
         record {
           place = is_at count 0 (record { some = some; few = few_of count f; multiple = refl; inside = some });
           lies = parts.1;
@@ -140,7 +131,7 @@ begins_some way size theirs own count None is = let never = never_without (ltb 6
 begins_some way size theirs own count (Some m) is = (m, refl)
 
 pub begins_held : (seats : List Seat) (slots : List (Option Alien)) (pid partner : Pid) (way : Direction) (dest src count : ℕ) →
-    verdict_in seats slots pid partner way dest src count ≡ verdicts.Begins → (a : Alien) × IsAt slots partner a
+    verdict_in seats slots pid partner way dest src count ≡ verdicts.Begins → (a : Alien) × IsAlienAt slots partner a
 begins_held seats slots pid partner way dest src count is =
     let m = begins_some way (size_of (seat_in seats pid)) (theirs_of way dest src) (own_of way dest src) count
     (message_held pid (alien_from slots partner)) is in

@@ -2,12 +2,8 @@
 use Rattle.std.proofs.Common.{◌≡◌, ℕ, Bool, true, false, cond, ◌&&◌, ◌==◌, [], ◌∷◌, ◌++◌, length, set, refl, sym, ap, subst, ◌∙◌, Some, inl, inr}
 use Rattle.std.specs.Option.{option_map}
 use Rattle.std.proofs.lemmas.Option.{same_Some}
+use Rattle.vk_types.specs.Types.{Exchange, Move, Name, Pid, Waiting}
 use Rattle.vk_base.specs.declared.activity.Activity.TheVariants as activities
-use Rattle.vk_base.specs.declared.activity.Waiting.{Waiting}
-use Rattle.vk_base.specs.declared.kernel.Exchange.{Exchange}
-use Rattle.vk_base.specs.declared.kernel.Move.{Move}
-use Rattle.vk_base.specs.declared.kernel.Name.{Name}
-use Rattle.vk_base.specs.declared.pid.Pid.{Pid}
 use Rattle.vk_base.specs.Kernel.{Kernel}
 use Rattle.vk_base.specs.Pids.{same_pid}
 use Rattle.v_laws.proofs.Tables.{put_exchange_here, put_exchange_other, same_pid_is, same_pid_laws}
@@ -20,7 +16,7 @@ use Rattle.vk_procs.specs.declared.seat.Seat.{Seat}
 use Rattle.vk_procs.specs.Seats.{seat_in}
 use Rattle.vk_queue.specs.Lists.{queue_at}
 use Rattle.vk_stands.specs.Fit.{AreFit, IsFitAlien}
-use Rattle.vk_stands.specs.Stands.{IsHome, IsKept}
+use Rattle.vk_stands.specs.Stands.{IsHome, IsAlienKept}
 use Rattle.vk_stands.specs.Tables.{Tables, alien_name, names_at, slot_name, told_by, spot_of}
 use Rattle.vk_stands.proofs.Aliens.{of_at}
 use Rattle.vk_stands.proofs.FitSlots.{fit_changed_at}
@@ -97,9 +93,9 @@ module _ (host : ℕ) (t : Tables) (k : Kernel) (part : Part host t k) (i : ℕ)
   aliens : (q : Pid) → alien_from u.slots q ≡ cond (same_pid a.sender q) (Some (with_moves n a)) (alien_from t.slots q)
   aliens q = aliens_then t i n a here place q
 
-  kept_here : IsKept l (with_moves n a)
+  kept_here : IsAlienKept l (with_moves n a)
   kept_here =
-      let v : IsKept k a = part.view.kept a.sender a found in
+      let v : IsAlienKept k a = part.view.kept a.sender a found in
       let one : v.exchange ≡ e = same_Some v.exchange e (sym v.is ∙ is) in
       record {
         exchange = y;
@@ -114,7 +110,7 @@ module _ (host : ℕ) (t : Tables) (k : Kernel) (part : Part host t k) (i : ℕ)
         refused = v.refused;
       }
 
-  kept_other : (x : Alien) → same_pid x.sender a.sender ≡ false → IsKept k x → IsKept l x
+  kept_other : (x : Alien) → same_pid x.sender a.sender ≡ false → IsAlienKept k x → IsAlienKept l x
   kept_other x other v = record {
     exchange = v.exchange;
     is = put_exchange_other k.exchanges name y (alien_name x) (ap (λ c. c && x.number == a.number) other) ∙ v.is;
@@ -129,13 +125,13 @@ module _ (host : ℕ) (t : Tables) (k : Kernel) (part : Part host t k) (i : ℕ)
   }
 
   kept_by : (q : Pid) (x : Alien) (c : Bool) → same_pid a.sender q ≡ c → cond c (Some (with_moves n a)) (alien_from t.slots q) ≡ Some x →
-      IsKept l x
-  kept_by q x true near at = subst (IsKept l) (same_Some (with_moves n a) x at) kept_here
+      IsAlienKept l x
+  kept_by q x true near at = subst (IsAlienKept l) (same_Some (with_moves n a) x at) kept_here
   kept_by q x false other at =
       let from : x.sender ≡ q = (alien_found t.slots q x at).from in
       kept_other x (ap (λ p. same_pid p a.sender) from ∙ same_pid_laws.symm q a.sender ∙ other) (part.view.kept q x at)
 
-  kept : (q : Pid) (x : Alien) → alien_from u.slots q ≡ Some x → IsKept l x
+  kept : (q : Pid) (x : Alien) → alien_from u.slots q ≡ Some x → IsAlienKept l x
   kept q x at = kept_by q x (same_pid a.sender q) refl (sym (aliens q) ∙ at)
 
   -- who sent what waits here or was taken

@@ -4,18 +4,11 @@ use Rattle.std.specs.List.{list_any}
 use Rattle.std.specs.Option.{option_map, option_map_or}
 use Rattle.std.proofs.lemmas.List.{length-append}
 use Rattle.std.proofs.lemmas.Option.{same_Some}
+use Rattle.vk_types.specs.Types.{Call, Direction, Exchange, Move, MoveName, Pid, Step, Waiting}
 use Rattle.v_laws.specs.Sound.{IsSoundAt}
 use Rattle.v_laws.proofs.Tables.{put_exchange_here, put_process_here, same_pid_laws}
-use Rattle.vk_base.specs.declared.activity.Waiting.{Waiting}
-use Rattle.vk_base.specs.declared.call.Call.{Call}
 use Rattle.vk_base.specs.declared.event.EventAnswer.TheVariants as events_answered
-use Rattle.vk_base.specs.declared.kernel.Direction.{Direction}
-use Rattle.vk_base.specs.declared.kernel.Exchange.{Exchange}
-use Rattle.vk_base.specs.declared.kernel.Move.{Move}
-use Rattle.vk_base.specs.declared.kernel.MoveName.{MoveName}
 use Rattle.vk_base.specs.declared.kernel.State.TheVariants as states
-use Rattle.vk_base.specs.declared.pid.Pid.{Pid}
-use Rattle.vk_base.specs.declared.step.Step.{Step}
 use Rattle.vk_base.specs.declared.step.Step.TheVariants as steps
 use Rattle.vk_base.specs.Calls.{call_refusal, unseen}
 unfoldable use Rattle.vk_base.specs.Calls.{move_begun}
@@ -23,6 +16,7 @@ use Rattle.vk_base.specs.Kernel.{Kernel, held, put_exchange, put_process}
 use Rattle.vk_base.specs.Pids.{same_host, same_pid}
 use Rattle.vk_base.specs.Settings.{Settings}
 use Rattle.vk_base.specs.Steps.{after_effect, effect, next}
+use Rattle.vk_base.proofs.BoolLemmas.{not_zero}
 use Rattle.vk_local.proofs.Decided.{MayCall}
 use Rattle.vk_packet.specs.Posts.{Posts}
 use Rattle.vk_pool.specs.declared.alien.Alien.{Alien}
@@ -38,7 +32,7 @@ use Rattle.vk_rules.specs.Rounds.{round}
 use Rattle.vk_rules.specs.Works.{Work, is_of_round, no_work}
 use Rattle.vk_stands.specs.Fit.{AreFit}
 use Rattle.vk_stands.specs.Rules.{Makes, given_by, posted}
-use Rattle.vk_stands.specs.Stands.{IsKept, IsMoving, IsOwnMove, IsWaiting, IsWorking, Stands}
+use Rattle.vk_stands.specs.Stands.{IsAlienKept, IsMoving, IsOwnMove, IsWaiting, IsWorking, Stands}
 use Rattle.vk_stands.specs.Tables.{Tables, alien_name, read_alien}
 use Rattle.vk_stands.proofs.After.{events_are, packets_are, reading_for}
 use Rattle.vk_stands.proofs.AfterEntries.{begun_slots, begun_work, called_others, called_steps, called_view}
@@ -53,7 +47,7 @@ use Rattle.vk_stands.proofs.Seats.{find-changed}
 use Rattle.vk_stands.proofs.SentMoves.{with_send}
 use Rattle.vk_stands.proofs.Whole.{sound_next}
 use Rattle.vk_move.specs.declared.begun.Verdict.TheVariants as verdicts
-use Rattle.vk_move.specs.Begun.{Begun, HasFewMoves, verdict_in, waiting_in, way_begun}
+use Rattle.vk_move.specs.Begun.{Begun, HasFewMoves, verdict_in, waiting_in, begun_by_fields}
 use Rattle.vk_move.specs.Moved.{round_from}
 use Rattle.vk_move.proofs.BegunAlien.{aliens_then, part_more}
 use Rattle.vk_move.proofs.BegunFits.{away_is, begun_as, begun_is, begun_seat, begun_tables, fits_begun, some_is}
@@ -64,7 +58,7 @@ use Rattle.vk_move.proofs.BegunSeat.{part_waits}
 use Rattle.vk_move.proofs.Verdicts.{call_in, refusal_in, verdict_decided}
 
 -- what the rule makes of the call is right
-pub record IsBegun (c : Settings) (host : ℕ) (r : Reading) (pid : Pid) (call : Call) (t : Tables) (before : List Step) (out : Posts)
+pub record IsBeginRight (c : Settings) (host : ℕ) (r : Reading) (pid : Pid) (call : Call) (t : Tables) (before : List Step) (out : Posts)
     (b : Begun) : Type 0 where
   pub answer : given_by b.answer ≡ answer_to c host r (Called pid call)
   pub makes : Makes c host r (right_entry c host r (Called pid call)) (record { tables = t; steps = before; out = out })
@@ -77,9 +71,6 @@ pub record IsBegun (c : Settings) (host : ℕ) (r : Reading) (pid : Pid) (call :
 own_move : (way : Direction) (pid : Pid) (dest src count : ℕ) (memory : List ℕ) → IsOwnMove way dest count (move_in way pid dest src count
     memory)
 own_move way pid dest src count memory = record { direction_is = refl; dest_is = refl; count_is = refl }
-
-some_more : (count : ℕ) → (count == 0) ≡ false → 0 < count
-some_more count some = grind arith
 
 module _ (c : Settings) (host : ℕ) (t : Tables) (r : Reading) (h : Stands c.times host t r) (fit : AreFit host t)
     (few : HasFewMoves t.slots) (pid : Pid) (own : pid.host ≡ host) (s : Seat) (may : MayCall t.seats pid s) (i : ℕ) (a : Alien)
@@ -111,7 +102,7 @@ module _ (c : Settings) (host : ℕ) (t : Tables) (r : Reading) (h : Stands c.ti
   found : alien_from t.slots a.sender ≡ Some a
   found = of_at t.slots i a fit.apart here
 
-  kept : IsKept r.view a
+  kept : IsAlienKept r.view a
   kept = h.kept a.sender a found
 
   abbrev e : Exchange
@@ -178,8 +169,6 @@ module _ (c : Settings) (host : ℕ) (t : Tables) (r : Reading) (h : Stands c.ti
   part : Part host u l
   part = part_waits host (slotted t i (with_moves n)) k part_sent pid own s may.found f (λ x. refl) (record {
     ready = may.ready;
-    taken = refl;
-    spot = refl;
     alive = refl;
     waits = λ v at. subst (IsWaiting l (f s)) (same_wait waiting v at) (waits_moving way l (f s) a.sender dest src count waits_here);
     fits = fits_begun host t fit few c.times r.now pid own s may.found i a here way dest src count is;
@@ -202,7 +191,7 @@ module _ (c : Settings) (host : ℕ) (t : Tables) (r : Reading) (h : Stands c.ti
       (answer_to c host r (Called pid call))) ≡ true
   sent = ap (list_any (is_of_round pid)) packets_then
       ∙ first_sent l pid u.seats (f s) seat_then (put_process_here k.procs pid (process_of (f s))) way a.sender dest src count refl name
-      refl refl refl (some_more count some)
+      refl refl refl (not_zero count some)
 
   -- The reading after it.
   abbrev after : Reading
@@ -247,7 +236,7 @@ module _ (c : Settings) (host : ℕ) (t : Tables) (r : Reading) (h : Stands c.ti
       (subst (IsWorking c.times (f s) started) (same_wait waiting v at) working))
 
   module _ (before : List Step) (out : Posts) where
-    begins_as : IsBegun c host r pid call t before out
+    begins_as : IsBeginRight c host r pid call t before out
         (begun_as host t fit few c.times r.now pid own s may.found i a here way dest src count is)
     unfolding call_outcome
     begins_as = record {
@@ -261,6 +250,6 @@ module _ (c : Settings) (host : ℕ) (t : Tables) (r : Reading) (h : Stands c.ti
       };
     }
 
-    pub begins_right : IsBegun c host r pid call t before out (way_begun c.times r.now pid way a.sender dest src count t.seats t.slots)
-    begins_right = subst (IsBegun c host r pid call t before out)
+    pub begins_right : IsBeginRight c host r pid call t before out (begun_by_fields c.times r.now pid way a.sender dest src count t.seats t.slots)
+    begins_right = subst (IsBeginRight c host r pid call t before out)
         (sym (begun_is host t fit few c.times r.now pid own s may.found i a here way dest src count is)) begins_as

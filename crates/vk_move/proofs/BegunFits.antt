@@ -5,20 +5,14 @@ use Rattle.std.specs.List.{position}
 use Rattle.std.specs.Option.{option_map}
 use Rattle.std.proofs.lemmas.Bool.{eqb-true, false_from_ne_true, le-leb, lt-ltb}
 use Rattle.std.proofs.lemmas.Option.{same_Some}
-use Rattle.v_laws.proofs.Tables.{same_pid_self}
+use Rattle.vk_types.specs.Types.{Direction, Message, MoveName, Pid, Scope, Times, Waiting}
 use Rattle.vk_base.specs.declared.activity.Activity.TheVariants as activities
-use Rattle.vk_base.specs.declared.activity.Waiting.{Waiting}
 use Rattle.vk_base.specs.declared.activity.Waiting.TheVariants as waitings
-use Rattle.vk_base.specs.declared.config.Times.{Times}
-use Rattle.vk_base.specs.declared.call.Scope.{Scope}
-use Rattle.vk_base.specs.declared.kernel.Direction.{Direction}
 use Rattle.vk_base.specs.declared.kernel.Direction.TheVariants as directions
-use Rattle.vk_base.specs.declared.kernel.MoveName.{MoveName}
-use Rattle.vk_base.specs.declared.message.Message.{Message}
-use Rattle.vk_base.specs.declared.pid.Pid.{Pid}
 use Rattle.vk_base.specs.Kernel.{name_of}
 use Rattle.vk_base.specs.Pids.{same_host}
 use Rattle.vk_base.specs.Ranges.{range_of, lies_in}
+use Rattle.vk_base.proofs.PidLemmas.{same_pid_self}
 use Rattle.vk_pool.specs.declared.alien.Alien.{Alien}
 use Rattle.vk_pool.specs.Aliens.{alien_at, is_alien_from, moves_at, with_moves}
 use Rattle.vk_procs.specs.declared.seat.ProcNote.{ProcNote}
@@ -33,7 +27,7 @@ use Rattle.vk_stands.proofs.OneAlien.{slotted}
 use Rattle.vk_stands.proofs.OneSeat.{seated}
 use Rattle.vk_stands.proofs.Seats.{change_twice}
 use Rattle.vk_move.specs.declared.begun.Verdict.TheVariants as verdicts
-use Rattle.vk_move.specs.Begun.{Begun, HasFewMoves, begun_by, begun_note, begun_packets, begun_seats, next_name, one_more, own_of, size_of, verdict_in, waiting_in, way_begun}
+use Rattle.vk_move.specs.Begun.{Begun, HasFewMoves, begun_by, begun_note, begun_packets, begun_seats, next_name, one_more, own_of, size_of, verdict_in, waiting_in, begun_by_fields}
 use Rattle.vk_move.specs.Moved.{renoted, round_from}
 use Rattle.vk_move.proofs.Begins.{HasNumbers, MayBegin, may_begin, numbers_at}
 use Rattle.vk_move.proofs.BegunAlien.{fit_moves}
@@ -141,7 +135,7 @@ module _ (host : ℕ) (t : Tables) (fit : AreFit host t) (few : HasFewMoves t.sl
     packets = round_from pid 0 (seat_in begun_tables.seats pid);
   }
 
-  pub begun_is : way_begun times now pid way a.sender dest src count t.seats t.slots ≡ begun_as
+  pub begun_is : begun_by_fields times now pid way a.sender dest src count t.seats t.slots ≡ begun_as
   begun_is =
       ap (λ v. begun_by times now pid waiting (position (is_alien_from a.sender) t.slots) a.sender v t.seats t.slots) is
       ∙ ap (λ o. begun_by times now pid waiting o a.sender verdicts.Begins t.seats t.slots) (fit.apart i a here)

@@ -3,17 +3,11 @@ use Rattle.std.proofs.Common.{◌≡◌, ℕ, true, false, not, List, [], ◌∷
 use Rattle.std.specs.List.{position}
 use Rattle.std.specs.Option.{is_none, option_map}
 use Rattle.std.proofs.lemmas.Bool.{both_ways, eq-eqb}
-use Rattle.vk_base.specs.declared.activity.Outcome.{Outcome}
+use Rattle.vk_types.specs.Types.{Call, Direction, Outcome, Pid, Refusal, Step, Times}
 use Rattle.vk_base.specs.declared.answer.Answer.TheVariants as answers
-use Rattle.vk_base.specs.declared.answer.Refusal.{Refusal}
-use Rattle.vk_base.specs.declared.call.Call.{Call}
 use Rattle.vk_base.specs.declared.call.Call.TheVariants as calls
-use Rattle.vk_base.specs.declared.config.Times.{Times}
 use Rattle.vk_base.specs.declared.event.EventAnswer.TheVariants as events_answered
-use Rattle.vk_base.specs.declared.kernel.Direction.{Direction}
 use Rattle.vk_base.specs.declared.kernel.Direction.TheVariants as directions
-use Rattle.vk_base.specs.declared.pid.Pid.{Pid}
-use Rattle.vk_base.specs.declared.step.Step.{Step}
 use Rattle.vk_base.specs.declared.step.Step.TheVariants as steps
 use Rattle.vk_base.proofs.OptionLemmas.{bind_is}
 use Rattle.vk_base.specs.Calls.{answered, call_refusal}
@@ -38,13 +32,13 @@ use Rattle.vk_stands.specs.Stands.{Stands}
 use Rattle.vk_stands.specs.Tables.{Tables}
 use Rattle.vk_stands.proofs.Held.{IsHolding, held_alien, held_there}
 use Rattle.vk_stands.proofs.Parts.{part_of}
-use Rattle.vk_stands.proofs.Placed.{IsAt, alien_is_at}
+use Rattle.vk_stands.proofs.Placed.{IsAlienAt, alien_is_at}
 use Rattle.vk_stands.proofs.Quiet.{refused_answer}
 use Rattle.vk_move.specs.declared.begun.Verdict.{Verdict}
 use Rattle.vk_move.specs.declared.begun.Verdict.TheVariants as verdicts
-use Rattle.vk_move.specs.Begun.{Begun, HasFewMoves, IsBeginRule, IsMoveBegun, begun_by, doing_in, is_away, move_begun, verdict_in, waiting_in, way_begun}
+use Rattle.vk_move.specs.Begun.{Begun, HasFewMoves, IsBeginRule, IsMoveBegun, begun_by, doing_of, is_away, move_begun, verdict_in, waiting_in, begun_by_fields}
 use Rattle.vk_move.proofs.Begins.{begins_held, made_empty}
-use Rattle.vk_move.proofs.BegunEntry.{IsBegun, begins_right}
+use Rattle.vk_move.proofs.BegunEntry.{IsBeginRight, begins_right}
 use Rattle.vk_move.proofs.BegunFits.{begun_is, fit_begun}
 use Rattle.vk_move.proofs.BegunKernel.{known_held, made_at_once}
 use Rattle.vk_move.proofs.BegunRound.{no_packets_are, nothing_behind}
@@ -58,7 +52,7 @@ pub record IsHeldPartner (t : Tables) (pid partner : Pid) : Type 0 where
   pub alien : Alien
   pub found : alien_from t.slots partner ≡ Some alien
   pub number : holding.number ≡ alien.number
-  pub place : IsAt t.slots partner alien
+  pub place : IsAlienAt t.slots partner alien
 
 held_by : (t : Tables) (pid partner : Pid) (o : Option Holding) → remote_holding t.slots pid partner ≡ o → is_none o ≡ false →
     IsHeldPartner t pid partner
@@ -105,7 +99,7 @@ module _ (c : Settings) (host : ℕ) (t : Tables) (r : Reading) (h : Stands c.ti
       ∙ ap Some p.number
 
   abbrev Right : Begun → Type 0
-  Right b = IsBegun c host r pid call t before out b
+  Right b = IsBeginRight c host r pid call t before out b
 
   abbrev by : Verdict → Begun
   by v = begun_by c.times r.now pid (waiting_in way partner dest src count) (position (is_alien_from partner) t.slots) partner v t.seats
@@ -136,11 +130,11 @@ module _ (c : Settings) (host : ℕ) (t : Tables) (r : Reading) (h : Stands c.ti
         makes = record { steps = makes.steps; packets = sym (none_posted out) ∙ makes.packets; stands = makes.stands };
       }
 
-  begun : verdict ≡ verdicts.Begins → Right (way_begun c.times r.now pid way partner dest src count t.seats t.slots)
+  begun : verdict ≡ verdicts.Begins → Right (begun_by_fields c.times r.now pid way partner dest src count t.seats t.slots)
   begun is =
       let p = partner_held (ap refusal_in is) in
-      subst (λ (x : Pid). IsBegun c host r pid (call_in way x dest src count) t before out
-      (way_begun c.times r.now pid way x dest src count t.seats t.slots)) p.place.sender
+      subst (λ (x : Pid). IsBeginRight c host r pid (call_in way x dest src count) t before out
+      (begun_by_fields c.times r.now pid way x dest src count t.seats t.slots)) p.place.sender
       (begins_right c host t r h fit few pid own s may p.place.at p.alien p.place.here way dest src count
       (ap (λ (x : Pid). verdict_in t.seats t.slots pid x way dest src count) p.place.sender ∙ is)
       (ap (held r.view pid) p.place.sender ∙ held_is p) before out)
@@ -150,7 +144,7 @@ module _ (c : Settings) (host : ℕ) (t : Tables) (r : Reading) (h : Stands c.ti
   by_verdict verdicts.Made is = made is
   by_verdict verdicts.Begins is = subst (λ v. Right (by v)) is (begun is)
 
-  pub way_right : Right (way_begun c.times r.now pid way partner dest src count t.seats t.slots)
+  pub way_right : Right (begun_by_fields c.times r.now pid way partner dest src count t.seats t.slots)
   way_right = by_verdict verdict refl
 
 -- The tables fit afterwards.
@@ -168,12 +162,12 @@ module _ (host : ℕ) (t : Tables) (fit : AreFit host t) (few : HasFewMoves t.sl
       let p = begins_held t.seats t.slots pid partner way dest src count is in
       subst (λ v. Fits (begun_by times now pid (waiting_in way partner dest src count) (position (is_alien_from partner) t.slots) partner v
       t.seats t.slots)) is
-      (subst (λ (x : Pid). Fits (way_begun times now pid way x dest src count t.seats t.slots)) p.1.sender
+      (subst (λ (x : Pid). Fits (begun_by_fields times now pid way x dest src count t.seats t.slots)) p.1.sender
       (let there = ap (λ (x : Pid). verdict_in t.seats t.slots pid x way dest src count) p.1.sender ∙ is in
       subst Fits (sym (begun_is host t fit few times now pid own s found p.1.at p.0 p.1.here way dest src count there))
       (fit_begun host t fit few times now pid own s found p.1.at p.0 p.1.here way dest src count there)))
 
-  pub way_fits : Fits (way_begun times now pid way partner dest src count t.seats t.slots)
+  pub way_fits : Fits (begun_by_fields times now pid way partner dest src count t.seats t.slots)
   way_fits = fits_by (verdict_in t.seats t.slots pid partner way dest src count) refl
 
 -- A call of a move is of a direction.
@@ -185,7 +179,7 @@ of_move P pid each (calls.MoveFrom partner dest src count) moves away = each dir
 of_move P pid each c moves away = cc
 
 same_begun : (times : Times) (now : ℕ) (pid : Pid) (way : Direction) (partner : Pid) (dest src count : ℕ) (seats : List Seat)
-    (slots : List (Option Alien)) → way_begun times now pid way partner dest src count seats slots
+    (slots : List (Option Alien)) → begun_by_fields times now pid way partner dest src count seats slots
     ≡ move_begun times now pid (call_in way partner dest src count) seats slots
 same_begun times now pid directions.To partner dest src count seats slots = refl
 same_begun times now pid directions.From partner dest src count seats slots = refl
@@ -194,11 +188,11 @@ same_begun times now pid directions.From partner dest src count seats slots = re
 module _ (times : Times) (now : ℕ) (pid : Pid) (seats : List Seat) (slots : List (Option Alien)) (few : HasFewMoves slots)
     (may : may_call seats pid ≡ true) (before : List Step) (out : Posts) where
   abbrev Rule : Call → Begun → Type 0
-  Rule call b = IsBeginRule times now pid call b.answer (doing_in seats slots before out)
-      (doing_in b.seats b.slots (before ++ steps.Call pid call ∷ []) (posted out b.packets))
+  Rule call b = IsBeginRule times now pid call b.answer (doing_of seats slots before out)
+      (doing_of b.seats b.slots (before ++ steps.Call pid call ∷ []) (posted out b.packets))
 
   way_rule : (way : Direction) (partner : Pid) (dest src count : ℕ) → not (same_host pid partner) ≡ true →
-      Rule (call_in way partner dest src count) (way_begun times now pid way partner dest src count seats slots)
+      Rule (call_in way partner dest src count) (begun_by_fields times now pid way partner dest src count seats slots)
   way_rule way partner dest src count away t fit =
       let u : Tables = record t { seats = seats; slots = slots } in
       let s = may_be seats pid may in
@@ -207,10 +201,10 @@ module _ (times : Times) (now : ℕ) (pid : Pid) (seats : List Seat) (slots : Li
         λ c r times_is now_is h.
             let x = way_right c pid.host u r (subst (λ z. Stands z pid.host u r) (sym times_is) h) fit few pid refl s.0 s.1 partner far way
             dest src count before out in
-            let y = subst (λ n. IsBegun c pid.host r pid (call_in way partner dest src count) u before out
-            (way_begun times n pid way partner dest src count seats slots)) now_is
-            (subst (λ z. IsBegun c pid.host r pid (call_in way partner dest src count) u before out
-            (way_begun z r.now pid way partner dest src count seats slots)) times_is x) in
+            let y = subst (λ n. IsBeginRight c pid.host r pid (call_in way partner dest src count) u before out
+            (begun_by_fields times n pid way partner dest src count seats slots)) now_is
+            (subst (λ z. IsBeginRight c pid.host r pid (call_in way partner dest src count) u before out
+            (begun_by_fields z r.now pid way partner dest src count seats slots)) times_is x) in
             (y.answer, y.makes),
         way_fits pid.host u fit few times now pid refl s.0 s.1.found partner way dest src count,
       )
@@ -225,7 +219,7 @@ module _ (times : Times) (now : ℕ) (pid : Pid) (seats : List Seat) (slots : Li
       (then_slots : List (Option Alien)) (after : List Step) (sent : Posts) → answer ≡ (move_begun times now pid call seats slots).answer →
       new ≡ (move_begun times now pid call seats slots).seats → then_slots ≡ (move_begun times now pid call seats slots).slots →
       after ≡ before ++ steps.Call pid call ∷ [] → sent ≡ posted out (move_begun times now pid call seats slots).packets →
-      IsMoveBegun times now pid call answer (doing_in seats slots before out) (doing_in new then_slots after sent)
+      IsMoveBegun times now pid call answer (doing_of seats slots before out) (doing_of new then_slots after sent)
   begun_rule call moves away answer new then_slots after sent answered seated slotted listed posts = record {
     answer = answered;
     seats = seated;
@@ -233,7 +227,7 @@ module _ (times : Times) (now : ℕ) (pid : Pid) (seats : List Seat) (slots : Li
     packets = posts;
     steps = listed;
     right =
-        subst (λ (x : Option Outcome × Doing). IsBeginRule times now pid call x.0 (doing_in seats slots before out) x.1)
-        (λ i. (sym answered i, doing_in (sym seated i) (sym slotted i) (sym listed i) (sym posts i)))
+        subst (λ (x : Option Outcome × Doing). IsBeginRule times now pid call x.0 (doing_of seats slots before out) x.1)
+        (λ i. (sym answered i, doing_of (sym seated i) (sym slotted i) (sym listed i) (sym posts i)))
         (begin_rule call moves away);
   }

@@ -3,15 +3,11 @@ use Rattle.std.proofs.Common.{◌≡◌, ℕ, ◌+◌, Bool, true, false, cond, 
 use Rattle.std.specs.List.{list_any}
 use Rattle.std.specs.Option.{option_map, option_map_or}
 use Rattle.std.proofs.lemmas.Bool.{and_from, and_parts, cond-false}
+use Rattle.vk_types.specs.Types.{MoveName, Name, Pid, Process, Waiting}
 use Rattle.vk_base.specs.declared.activity.Activity.TheVariants as activities
-use Rattle.vk_base.specs.declared.activity.Waiting.{Waiting}
 use Rattle.vk_base.specs.declared.activity.Waiting.TheVariants as waitings
 use Rattle.vk_base.specs.declared.answer.Ending.TheVariants as endings
 use Rattle.vk_base.specs.declared.event.EventAnswer.TheVariants as events_answered
-use Rattle.vk_base.specs.declared.kernel.MoveName.{MoveName}
-use Rattle.vk_base.specs.declared.kernel.Name.{Name}
-use Rattle.vk_base.specs.declared.kernel.Process.{Process}
-use Rattle.vk_base.specs.declared.pid.Pid.{Pid}
 use Rattle.vk_base.specs.declared.step.Step.TheVariants as steps
 use Rattle.vk_base.specs.Activities.{state_of}
 use Rattle.vk_base.specs.Kernel.{◌>>=◌, blocked_in, holds_of, is_moving, name_of}
@@ -19,7 +15,7 @@ use Rattle.vk_base.specs.Packets.{Packet, MoveBytes}
 use Rattle.vk_base.specs.Pids.{same_pid}
 use Rattle.vk_base.specs.Settings.{Settings}
 use Rattle.vk_base.specs.Steps.{only_if, same_move}
-use Rattle.v_laws.proofs.Tables.{same_pid_self}
+use Rattle.vk_base.proofs.PidLemmas.{same_pid_self}
 use Rattle.vk_frame.specs.declared.header.Header.{Header}
 use Rattle.vk_procs.specs.declared.seat.Seat.{Seat}
 use Rattle.vk_procs.specs.Seats.{process_of, seat_in}
@@ -43,9 +39,10 @@ use Rattle.vk_stands.proofs.MovesNoted.{worked}
 use Rattle.vk_stands.proofs.Received.{received}
 use Rattle.vk_move.specs.declared.mover.Brought.{Brought}
 use Rattle.vk_move.specs.declared.mover.Brought.TheVariants as brought
+use Rattle.vk_timer.specs.Works.{started}
 use Rattle.vk_move.specs.Moved.{answered, restarted, round_by, round_from}
 use Rattle.vk_move.specs.Mover.{bytes_moved, brought_by, brought_doing, brought_in, is_mover}
-use Rattle.vk_move.specs.Right.{IsRight}
+use Rattle.vk_move.specs.Right.{IsMoveRight}
 use Rattle.vk_move.proofs.Dues.{move_work, round_call}
 use Rattle.vk_move.proofs.Still.{IsToMover, noted_stands, quiet, right_packets, right_steps, work_here}
 
@@ -136,7 +133,7 @@ module _ (c : Settings) (host : ℕ) (r : Reading) (h : Header) (from to : Pid) 
         ∙ (λ i. cond (mover i && sized i) (brought_by s.note dest total offset (offset + length bytes)) brought.Nothing)
 
     abbrev Right : Brought → Type 0
-    Right b = IsRight c host t r (entry_for c host r (Delivered (Framed h packet)))
+    Right b = IsMoveRight c host t r (entry_for c host r (Delivered (Framed h packet)))
         (bytes_moved c.times r.now to name moving offset bytes b t.seats)
 
     module _ (unlike : (offset == s.note.offset) ≡ false) where
@@ -186,7 +183,7 @@ module _ (c : Settings) (host : ℕ) (r : Reading) (h : Header) (from to : Pid) 
               (sym (work_here c host r h packet taken t stands to to_mover again out closes others false true
               (answered_if false (λ i. behind i && not (fresh i))) sent ∙ restart_work r.now w))
               (record { tries = refl; deadline = refl; far = (works.far.0 ∙ plus_zero w.received, refl) }))
-              (restarted c.times r.now 1 s.note.offset) refl;
+              (restarted (started c.times r.now) s.note.offset) refl;
         }
 
       -- its work has new patience

@@ -1,20 +1,16 @@
 -- Bytes that come to a mover, whichever they are, by the tables and by the rules.
 use Rattle.std.proofs.Common.{◌≡◌, ℕ, Bool, true, false, cond, ◌&&◌, ◌==◌, List, [], length, ◌+◌, refl, ap, sym, ◌∙◌, subst, Option, Some, None, ltb}
 use Rattle.std.specs.Option.{option_map, option_map_or}
-use Rattle.vk_base.specs.declared.activity.Activity.{Activity}
+use Rattle.vk_types.specs.Types.{Activity, Name, Pid, Process, Times}
 use Rattle.vk_base.specs.declared.activity.Activity.TheVariants as activities
 use Rattle.vk_base.specs.declared.activity.Waiting.TheVariants as waitings
-use Rattle.vk_base.specs.declared.config.Times.{Times}
 use Rattle.vk_base.specs.declared.event.EventAnswer.TheVariants as events_answered
-use Rattle.vk_base.specs.declared.kernel.Name.{Name}
-use Rattle.vk_base.specs.declared.kernel.Process.{Process}
-use Rattle.vk_base.specs.declared.pid.Pid.{Pid}
 use Rattle.vk_base.specs.Activities.{state_of}
 use Rattle.vk_base.specs.Kernel.{◌>>=◌, blocked_in, holds_of, name_of}
 use Rattle.vk_base.specs.Packets.{Packet, MoveBytes}
 use Rattle.vk_base.specs.Settings.{Settings}
 use Rattle.vk_base.specs.Steps.{only_if}
-use Rattle.v_laws.proofs.Tables.{same_pid_self}
+use Rattle.vk_base.proofs.PidLemmas.{same_pid_self}
 use Rattle.vk_frame.specs.declared.header.Header.{Header}
 use Rattle.vk_procs.specs.declared.seat.ProcNote.{ProcNote}
 use Rattle.vk_procs.specs.declared.seat.Seat.{Seat}
@@ -34,9 +30,9 @@ use Rattle.vk_stands.proofs.After.{entry_for}
 use Rattle.vk_stands.proofs.Received.{received}
 use Rattle.vk_move.specs.declared.mover.Brought.{Brought}
 use Rattle.vk_move.specs.declared.mover.Brought.TheVariants as brought
-use Rattle.vk_move.specs.Moved.{moving_by}
+use Rattle.vk_move.specs.Moved.{subject_by}
 use Rattle.vk_move.specs.Mover.{brought_by, brought_doing, brought_in, bytes_moved, bytes_taken, is_mover}
-use Rattle.vk_move.specs.Right.{IsMoveRule, IsRight}
+use Rattle.vk_move.specs.Right.{IsMoveRule, IsMoveRight}
 use Rattle.vk_move.proofs.AckEnds.{either_way}
 use Rattle.vk_move.proofs.Bytes.{answers_right, asks_right, decided, nothing_right}
 use Rattle.vk_move.proofs.Bytes as bytes_to
@@ -60,7 +56,7 @@ module _ (c : Settings) (host : ℕ) (r : Reading) (h : Header) (from to : Pid) 
   own = (received c host r h packet taken).own to refl
 
   abbrev Right : Brought → Type 0
-  Right b = IsRight c host t r (entry_for c host r (Delivered (Framed h packet)))
+  Right b = IsMoveRight c host t r (entry_for c host r (Delivered (Framed h packet)))
       (bytes_moved c.times r.now to name moving offset bytes b t.seats)
 
   abbrev row : Option Seat → Brought
@@ -180,19 +176,19 @@ module _ (c : Settings) (host : ℕ) (r : Reading) (h : Header) (from to : Pid) 
       (idles (ap (holds_of (λ p. moves_from p name moving total)) (stands.procs to own ∙ ap (option_map process_of) none)))
   by_seat (Some s) found = by_mover s found (is_mover name moving s) refl
 
-  pub bytes_right : IsRight c host t r (entry_for c host r (Delivered (Framed h packet)))
-      (bytes_taken c.times r.now (moving_by to from number moving) total offset bytes t.seats)
+  pub bytes_right : IsMoveRight c host t r (entry_for c host r (Delivered (Framed h packet)))
+      (bytes_taken c.times r.now (subject_by to from number moving) total offset bytes t.seats)
   bytes_right = by_seat (seat_in t.seats to) refl
 
 pub bytes_rule : (times : Times) (now : ℕ) (from to : Pid) (number moving total offset : ℕ) (bytes : List ℕ) (seats : List Seat) →
     IsMoveRule times now (MoveBytes from to number moving total offset bytes) seats
-    (bytes_taken times now (moving_by to from number moving) total offset bytes seats)
+    (bytes_taken times now (subject_by to from number moving) total offset bytes seats)
 bytes_rule times now from to number moving total offset bytes seats c host t r h same at fit stands taken =
-    subst (λ x. IsRight c host (record t { seats = seats }) r
+    subst (λ x. IsMoveRight c host (record t { seats = seats }) r
     (entry_for c host r (Delivered (Framed h (MoveBytes from to number moving total offset bytes))))
-    (bytes_taken x now (moving_by to from number moving) total offset bytes seats)) same
-    (subst (λ n. IsRight c host (record t { seats = seats }) r
+    (bytes_taken x now (subject_by to from number moving) total offset bytes seats)) same
+    (subst (λ n. IsMoveRight c host (record t { seats = seats }) r
     (entry_for c host r (Delivered (Framed h (MoveBytes from to number moving total offset bytes))))
-    (bytes_taken c.times n (moving_by to from number moving) total offset bytes seats)) at
+    (bytes_taken c.times n (subject_by to from number moving) total offset bytes seats)) at
     (bytes_right c host r h from to number moving total offset bytes taken (record t { seats = seats }) fit
     (subst (λ x. Stands x host (record t { seats = seats }) r) (sym same) stands)))

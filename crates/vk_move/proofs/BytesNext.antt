@@ -5,21 +5,14 @@ use Rattle.std.specs.List.{list_all, list_any, filter_map, slice_get, sum_by}
 use Rattle.std.specs.Option.{option_map}
 use Rattle.std.proofs.lemmas.Bool.{and_from, and_parts, both_ways, cond-false, cond-true, eq-eqb, eqb-true, le-leb, leb-true, lt-ltb}
 use Rattle.std.proofs.lemmas.Option.{same_Some}
+use Rattle.vk_types.specs.Types.{Exchange, Message, Move, Name, Pid, Process, Step, Waiting}
 use Rattle.vk_base.specs.declared.activity.Activity.TheVariants as activities
 use Rattle.vk_base.specs.declared.activity.Outcome.TheVariants as outcomes
-use Rattle.vk_base.specs.declared.activity.Waiting.{Waiting}
 use Rattle.vk_base.specs.declared.activity.Waiting.TheVariants as waitings
 use Rattle.vk_base.specs.declared.answer.Answer.TheVariants as answers
 use Rattle.vk_base.specs.declared.answer.Ending.TheVariants as endings
 use Rattle.vk_base.specs.declared.event.EventAnswer.TheVariants as events_answered
 use Rattle.vk_base.specs.declared.kernel.Direction.TheVariants as directions
-use Rattle.vk_base.specs.declared.kernel.Exchange.{Exchange}
-use Rattle.vk_base.specs.declared.kernel.Move.{Move}
-use Rattle.vk_base.specs.declared.kernel.Name.{Name}
-use Rattle.vk_base.specs.declared.kernel.Process.{Process}
-use Rattle.vk_base.specs.declared.message.Message.{Message}
-use Rattle.vk_base.specs.declared.pid.Pid.{Pid}
-use Rattle.vk_base.specs.declared.step.Step.{Step}
 use Rattle.vk_base.specs.declared.step.Step.TheVariants as steps
 use Rattle.vk_base.specs.Activities.{done_with, state_of}
 use Rattle.vk_base.specs.Brought.{as_many_moves, brought, bytes_from, running_move, with_bytes_of, with_running, without_running}
@@ -32,9 +25,10 @@ use Rattle.vk_base.specs.Ranges.{range_of, lies_in, with_bytes}
 use Rattle.vk_base.specs.Settings.{Settings}
 use Rattle.vk_base.specs.Steps.{after_effect, first_of, is_complete, move_ending, next, only_if}
 unfoldable use Rattle.vk_base.specs.Steps.{copied}
+use Rattle.vk_base.proofs.OptionLemmas.{mapped_is}
+use Rattle.vk_base.proofs.PidLemmas.{same_pid_self}
 use Rattle.v_laws.specs.Sound.{IsSoundAt}
-use Rattle.v_laws.proofs.Options.{mapped_is}
-use Rattle.v_laws.proofs.Tables.{put_exchange_at, put_exchange_here, put_exchange_other, put_process_here, same_pid_is, same_pid_laws, same_pid_self}
+use Rattle.v_laws.proofs.Tables.{put_exchange_at, put_exchange_here, put_exchange_other, put_process_here, same_pid_is, same_pid_laws}
 use Rattle.vk_frame.specs.declared.header.Header.{Header}
 use Rattle.vk_packet.specs.Rules.{fits, is_number, is_place, numbers_of}
 use Rattle.vk_procs.specs.declared.seat.ProcNote.{ProcNote}
@@ -59,7 +53,7 @@ use Rattle.vk_stands.proofs.Found.{seat_found}
 use Rattle.vk_stands.proofs.MoverLeft.{left_written, owned, put_process_twice, same_wait, settled_exchanges, sound_over, written_long, written_to}
 use Rattle.vk_stands.proofs.MoverSeated.{stands_seated}
 use Rattle.vk_stands.proofs.MovesAllowed as allowed
-use Rattle.vk_stands.proofs.MovesEnded.{IsInMove, next_ending}
+use Rattle.vk_stands.proofs.MovesEnded.{IsSeatInMove, next_ending}
 use Rattle.vk_stands.proofs.MovesExchange.{HasOtherMoves, part_moved}
 use Rattle.vk_stands.proofs.OneSeat.{seated}
 use Rattle.vk_stands.proofs.Parts.{Part, carries_seated, part_of, same_more, stands_part}
@@ -72,7 +66,7 @@ use Rattle.vk_move.specs.declared.mover.Brought.{Brought}
 use Rattle.vk_move.specs.declared.mover.Brought.TheVariants as brought_bytes
 use Rattle.vk_move.specs.Moved.{received, renoted}
 use Rattle.vk_move.specs.Mover.{bytes_moved, is_mover}
-use Rattle.vk_move.specs.Right.{IsRight}
+use Rattle.vk_move.specs.Right.{IsMoveRight}
 use Rattle.vk_move.proofs.AckEnds.{first_number, noted_move}
 use Rattle.vk_move.proofs.Bytes.{answers_by, outcome, to_mover, works}
 use Rattle.vk_move.proofs.Fitting.{fit_finished, fit_noted, fit_written}
@@ -274,7 +268,7 @@ module _ (c : Settings) (host : ℕ) (r : Reading) (h : Header) (from to : Pid) 
       ∙ ap (λ (o : Outcome). o.packets) out)
 
   abbrev Right : Brought → Type 0
-  Right b = IsRight c host t r (entry_for c host r (Delivered (Framed h packet)))
+  Right b = IsMoveRight c host t r (entry_for c host r (Delivered (Framed h packet)))
       (bytes_moved c.times r.now to name moving offset bytes b t.seats)
 
   -- They are the last.
@@ -285,7 +279,7 @@ module _ (c : Settings) (host : ℕ) (r : Reading) (h : Header) (from to : Pid) 
     abbrev sw : Seat
     sw = record s { memory = memory }
 
-    abbrev in_move : IsInMove sw
+    abbrev in_move : IsSeatInMove sw
     in_move = record { waiting = waiting; state = state; moves = refl }
 
     abbrev pd : Process

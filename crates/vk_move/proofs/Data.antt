@@ -3,17 +3,11 @@ use Rattle.std.proofs.Common.{◌≡◌, ◌≤◌, ◌<◌, ℕ, ◌+◌, ◌==
 use Rattle.std.specs.List.{list_all, list_any, filter_map}
 use Rattle.std.specs.Option.{option_map_or}
 use Rattle.std.proofs.lemmas.Bool.{and_parts, eqb-true, leb-true, le-leb, leb-false, ltb-true, ltb-false}
+use Rattle.v_laws.proofs.MoveLists.{put_move_here}
+use Rattle.vk_types.specs.Types.{Exchange, Message, Move, Name, Pid, Process, Step, Times}
 use Rattle.vk_base.specs.declared.activity.Waiting.TheVariants as waitings
-use Rattle.vk_base.specs.declared.config.Times.{Times}
 use Rattle.vk_base.specs.declared.event.EventAnswer.TheVariants as events_answered
-use Rattle.vk_base.specs.declared.kernel.Exchange.{Exchange}
-use Rattle.vk_base.specs.declared.kernel.Move.{Move}
-use Rattle.vk_base.specs.declared.kernel.Name.{Name}
-use Rattle.vk_base.specs.declared.kernel.Process.{Process}
 use Rattle.vk_base.specs.declared.limits.TheConstants.{MOVE_BYTES}
-use Rattle.vk_base.specs.declared.message.Message.{Message}
-use Rattle.vk_base.specs.declared.pid.Pid.{Pid}
-use Rattle.vk_base.specs.declared.step.Step.{Step}
 use Rattle.vk_base.specs.declared.step.Step.TheVariants as steps
 use Rattle.vk_base.specs.Brought.{brought, move_to_sender, with_data}
 use Rattle.vk_base.specs.Firsts.{change_first}
@@ -23,6 +17,7 @@ use Rattle.vk_base.specs.Packets.{Packet, MoveAck, MoveData, MoveNegative}
 use Rattle.vk_base.specs.Ranges.{lies_in, lies_within, range_of, with_bytes}
 use Rattle.vk_base.specs.Settings.{Settings}
 use Rattle.vk_base.specs.Steps.{first_of, next as stepped}
+use Rattle.vk_base.proofs.BoolLemmas.{plus_zero}
 use Rattle.vk_frame.specs.declared.header.Header.{Header}
 use Rattle.vk_packet.specs.Rules.{is_number, is_place, piece_len}
 use Rattle.vk_procs.specs.declared.seat.Seat.{Seat}
@@ -42,18 +37,18 @@ use Rattle.vk_stands.specs.Stands.{Stands}
 use Rattle.vk_stands.specs.Tables.{Tables}
 use Rattle.vk_stands.proofs.After.{entry_for, reading_for}
 use Rattle.vk_stands.proofs.Found.{seat_found}
-use Rattle.vk_stands.proofs.MovesAllowed.{put_own}
 use Rattle.vk_stands.proofs.MovesOwn.{moved_long}
 use Rattle.vk_stands.proofs.Parts.{Carries, Part}
 use Rattle.vk_stands.proofs.Received.{received}
 use Rattle.vk_stands.proofs.SentMoves.{HasMoreMoves, with_send}
 use Rattle.vk_stands.proofs.SentStands.{IsCalm, IsPlain, sends_are, stands_moved, stands_quiet, steps_are}
-use Rattle.vk_stands.proofs.SentSteps.{change_is, copies, moved_there, opened, opens}
-use Rattle.vk_move.specs.declared.sender.Piece.TheVariants as pieces
+use Rattle.vk_stands.proofs.SentSteps.{copies, moved_there, opened, opens}
+use Rattle.vk_stands.proofs.RemoteReply.{changed_is_put}
+use Rattle.vk_move.specs.declared.sender.Demand.TheVariants as demands
 use Rattle.vk_move.specs.declared.sender.Sender.{Sender}
 use Rattle.vk_move.specs.declared.sender.Sender.TheVariants as senders
-use Rattle.vk_move.specs.Moved.{Moved, change_note, moving_by, place_in, progressed, still}
-use Rattle.vk_move.specs.Right.{IsMoveRule, IsRight}
+use Rattle.vk_move.specs.Moved.{Moved, change_note, subject_by, place_in, progressed, still}
+use Rattle.vk_move.specs.Right.{IsMoveRule, IsMoveRight}
 use Rattle.vk_move.specs.Sender.{data_moved, data_taken, data_wanted, may_write, sender_by}
 use Rattle.vk_move.proofs.Keeping.{IsPiece, piece_of}
 use Rattle.vk_move.proofs.Pieces.{place_is}
@@ -63,9 +58,6 @@ use Rattle.vk_move.proofs.Waiters.{carries_copied, carries_noted, here, more_ope
 pub never : (x : Option Process) (b : Process → Bool) → ((p : Process) → b p ≡ false) → holds_of b x ≡ false
 never None b none = refl
 never (Some p) b none = none p
-
-pub plus_zero : (n : ℕ) → n + 0 ≡ n
-plus_zero n = omega arith
 
 -- the number of a move in a lawful packet
 pub some_number : (number moving : ℕ) → list_all is_number (number ∷ moving ∷ []) ≡ true → 0 < moving
@@ -113,7 +105,7 @@ module _ (c : Settings) (host : ℕ) (r : Reading) (h : Header) (from to : Pid) 
   plain = record { copy = λ n. refl; answer = λ q w x. never x (is_answer q w packet) (λ p. refl); receiver = λ q. refl }
 
   abbrev Right : Moved → Type 0
-  Right mm = IsRight c host t r (entry_for c host r (Delivered (Framed h packet))) mm
+  Right mm = IsMoveRight c host t r (entry_for c host r (Delivered (Framed h packet))) mm
 
   right : (o : Outcome) → packet_outcome host r packet ≡ o → IsCalm o → (mm : Moved) → mm.steps ≡ o.steps → mm.packets ≡ o.packets →
       Stands c.times host (record t { seats = mm.seats }) after → Right mm
@@ -207,10 +199,10 @@ module _ (c : Settings) (host : ℕ) (r : Reading) (h : Header) (from to : Pid) 
     e0 = with_data moving mv e
 
     brought_is : brought r.view packet ≡ with_send r.view name e0
-    brought_is = λ i. record r.view { exchanges = change_is r.view.exchanges name (with_data moving mv) e w.is i }
+    brought_is = λ i. record r.view { exchanges = changed_is_put r.view.exchanges name (with_data moving mv) e w.is i }
 
     at0 : move_of e0 moving ≡ Some mv
-    at0 = put_own e moving mv some
+    at0 = put_move_here e moving mv some
 
     more0 : HasMoreMoves e e0
     more0 = record { target = refl; message = refl; part = refl; spot = refl; stage = refl; moves = moved_long e.moves moving mv }
@@ -338,7 +330,7 @@ module _ (c : Settings) (host : ℕ) (r : Reading) (h : Header) (from to : Pid) 
 
     right_tests : (g far later : Bool) → may_write m dest total ≡ g → leb current moving ≡ far → ltb current moving ≡ later →
         Right (data_moved name from moving dest total offset bytes
-        (cond (g && far) (pieces.Wanted later (cond later 0 done)) pieces.Nothing) t.seats)
+        (cond (g && far) (demands.Wanted later (cond later 0 done)) demands.Nothing) t.seats)
     right_tests false far later granted reached higher =
         nothing_out (out_waits ∙ ap (λ b. cond b (data_outcome name from moving total offset bytes e) nothing) granted)
     right_tests true false true granted reached higher =
@@ -361,12 +353,12 @@ module _ (c : Settings) (host : ℕ) (r : Reading) (h : Header) (from to : Pid) 
   right_sender senders.Gone d = quiet (MoveNegative to from number moving ∷ []) (out_by None d.0 ∙ made true d.1) calm_gone
   right_sender (senders.Waits m current done) w = right_waits m current done w
 
-  pub data_right : Right (data_taken (moving_by from to number moving) dest total offset bytes t.seats)
+  pub data_right : Right (data_taken (subject_by from to number moving) dest total offset bytes t.seats)
   data_right = right_sender (sender_by to from number (seat_in t.seats to)) (decided c.times host t r stands from to own number)
 
 pub data_rule : (times : Times) (now : ℕ) (from to : Pid) (number moving dest total offset : ℕ) (bytes : List ℕ) (seats : List Seat) →
     IsMoveRule times now (MoveData from to number moving dest total offset bytes) seats
-    (data_taken (moving_by from to number moving) dest total offset bytes seats)
+    (data_taken (subject_by from to number moving) dest total offset bytes seats)
 data_rule times now from to number moving dest total offset bytes seats c host t r h same at fit stands taken =
     data_right c host r h from to number moving dest total offset bytes taken (record t { seats = seats }) fit
     (subst (λ x. Stands x host (record t { seats = seats }) r) (sym same) stands)

@@ -2,14 +2,10 @@
 use Rattle.std.proofs.Common.{◌≡◌, ℕ, ◌+◌, Bool, true, false, cond, not, ◌==◌, ◌&&◌, List, [], ◌∷◌, length, refl, ap, sym, ◌∙◌, Option, Some, None, leb, ltb}
 use Rattle.std.specs.Option.{option_map, option_map_or, option_to_list}
 use Rattle.std.proofs.lemmas.Bool.{and_parts}
-use Rattle.vk_base.specs.declared.activity.Activity.{Activity}
+use Rattle.vk_types.specs.Types.{Activity, MoveName, Pid, Times, Waiting}
 use Rattle.vk_base.specs.declared.activity.Activity.TheVariants as activities
-use Rattle.vk_base.specs.declared.activity.Waiting.{Waiting}
 use Rattle.vk_base.specs.declared.activity.Waiting.TheVariants as waitings
 use Rattle.vk_base.specs.declared.answer.Ending.TheVariants as endings
-use Rattle.vk_base.specs.declared.config.Times.{Times}
-use Rattle.vk_base.specs.declared.kernel.MoveName.{MoveName}
-use Rattle.vk_base.specs.declared.pid.Pid.{Pid}
 use Rattle.vk_base.specs.declared.step.Step.TheVariants as steps
 use Rattle.vk_base.specs.Activities.{call_of, state_of}
 use Rattle.vk_base.specs.Kernel.{◌>>=◌, Kernel, blocked_in, holds_of, is_moving}
@@ -18,7 +14,6 @@ use Rattle.vk_base.specs.Ranges.{range_of, lies_in}
 use Rattle.vk_base.specs.Steps.{only_if}
 use Rattle.vk_procs.specs.declared.seat.Seat.{Seat}
 use Rattle.vk_procs.specs.Seats.{process_of, seat_in}
-use Rattle.vk_procs.specs.Works.{work_in}
 use Rattle.vk_rules.specs.CallOutcomes.{failing_step, work_failure}
 use Rattle.vk_rules.specs.Readings.{Reading}
 unfoldable use Rattle.vk_rules.specs.Rounds.{round}
@@ -29,6 +24,7 @@ use Rattle.vk_stands.specs.Stands.{IsFar, IsWorking, Stands}
 use Rattle.vk_stands.specs.Tables.{Tables, is_work}
 use Rattle.vk_stands.proofs.Found.{seat_found}
 use Rattle.vk_timer.specs.declared.work.Due.TheVariants as dues
+use Rattle.vk_timer.specs.declared.work.Work as timed
 use Rattle.vk_timer.specs.Works.{work_at}
 use Rattle.vk_move.specs.declared.tick.Ticked.TheVariants as ticks
 use Rattle.vk_move.specs.Due.{IsDueRule, IsRightDue, due_moved, tick_moved, ticked_at, ticked_by, ticked_in}
@@ -45,19 +41,19 @@ moving_is s (activities.Done w o) is t = cc
 moving_is s (activities.Blocked w) is t = (w, record { state = is; moves = t })
 
 -- the test of a tick, and what comes of it
-tick_steps : (t : Times) (now : ℕ) (pid : Pid) (seats : List Seat) (a b : Bool) (n from : ℕ) →
-    (tick_moved t now pid (ticked_by (cond a (cond b dues.GiveUp dues.Resend) dues.NotDue) n from) seats).steps
+tick_steps : (t : Times) (now : ℕ) (pid : Pid) (seats : List Seat) (a b : Bool) (work : timed.Work) (from : ℕ) →
+    (tick_moved t now pid (ticked_by (cond a (cond b dues.GiveUp dues.Resend) dues.NotDue) work from) seats).steps
     ≡ option_to_list (only_if (a && b) (Some (steps.End pid endings.TimedOut)))
-tick_steps t now pid seats true true n from = refl
-tick_steps t now pid seats true false n from = refl
-tick_steps t now pid seats false b n from = refl
+tick_steps t now pid seats true true work from = refl
+tick_steps t now pid seats true false work from = refl
+tick_steps t now pid seats false b work from = refl
 
-tick_packets : (t : Times) (now : ℕ) (pid : Pid) (seats : List Seat) (a b : Bool) (n from : ℕ) →
-    (tick_moved t now pid (ticked_by (cond a (cond b dues.GiveUp dues.Resend) dues.NotDue) n from) seats).packets
+tick_packets : (t : Times) (now : ℕ) (pid : Pid) (seats : List Seat) (a b : Bool) (work : timed.Work) (from : ℕ) →
+    (tick_moved t now pid (ticked_by (cond a (cond b dues.GiveUp dues.Resend) dues.NotDue) work from) seats).packets
     ≡ list_if (a && not b) (round_from pid from (seat_in seats pid))
-tick_packets t now pid seats true true n from = refl
-tick_packets t now pid seats true false n from = refl
-tick_packets t now pid seats false b n from = refl
+tick_packets t now pid seats true true work from = refl
+tick_packets t now pid seats true false work from = refl
+tick_packets t now pid seats false b work from = refl
 
 -- a round by the tables is that of the rules
 pub round_call : (k : Kernel) (pid : Pid) (s : Seat) (v : Work) (w : Waiting) (m : Option MoveName) → s.note.moving ≡ m →
@@ -120,10 +116,10 @@ module _ (times : Times) (now : ℕ) (pid : Pid) (seats : List Seat) (host : ℕ
         (ap (λ p. may_wait p (length s.memory) w) (sym at.named) ∙ (fit.seats at.at s at.here).waits w m.state))
 
     abbrev a : Bool
-    a = now == s.note.deadline
+    a = now == s.note.work.deadline
 
     abbrev b : Bool
-    b = leb times.tries s.note.tries
+    b = leb times.tries s.note.work.tries
 
     due_is : (now == (r.work pid).since + times.interval) ≡ a
     due_is = ap (λ n. now == n) (sym work.deadline)
@@ -132,7 +128,7 @@ module _ (times : Times) (now : ℕ) (pid : Pid) (seats : List Seat) (host : ℕ
     tried_is = ap (λ n. leb times.tries n) (sym work.tries)
 
     ticks_at : ticked_in times now (seat_in seats pid) ≡ ticked_by (cond a (cond b dues.GiveUp dues.Resend) dues.NotDue)
-        (work_at times now (work_in s)).tries s.note.offset
+        (work_at times now s.note.work) s.note.offset
     ticks_at = ap (ticked_in times now) found ∙ ap (λ d. cond (is_moving (state_of d)) (ticked_at times now s) ticks.Nothing) m.state
         ∙ ap (λ x. cond x (ticked_at times now s) ticks.Nothing) m.moves
 
@@ -154,11 +150,11 @@ module _ (times : Times) (now : ℕ) (pid : Pid) (seats : List Seat) (host : ℕ
     due_of = record {
       steps =
           ap (λ x. (tick_moved times now pid x seats).steps) ticks_at
-          ∙ tick_steps times now pid seats a b (work_at times now (work_in s)).tries s.note.offset
+          ∙ tick_steps times now pid seats a b (work_at times now s.note.work) s.note.offset
           ∙ sym (λ i. option_to_list (only_if (due_is i && tried_is i) (failing i)));
       packets =
           ap (λ x. (tick_moved times now pid x seats).packets) ticks_at
-          ∙ tick_packets times now pid seats a b (work_at times now (work_in s)).tries s.note.offset
+          ∙ tick_packets times now pid seats a b (work_at times now s.note.work) s.note.offset
           ∙ sym (λ i. list_if (due_is i && not (tried_is i)) (sym rounds i));
     }
 

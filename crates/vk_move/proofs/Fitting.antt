@@ -2,19 +2,12 @@
 use Rattle.std.proofs.Common.{◌≡◌, ◌≤◌, ◌<◌, ℕ, ◌+◌, Bool, true, false, cond, ◌&&◌, List, length, refl, ap, sym, ◌∙◌, subst, Option, Some, None}
 use Rattle.std.proofs.lemmas.Bool.{and_parts, leb-true}
 use Rattle.std.specs.Cmp.Derive.{both_true}
-use Rattle.vk_base.specs.declared.activity.Activity.{Activity}
+use Rattle.vk_types.specs.Types.{Activity, Ending, MoveName, Outcome, Pid, Times, Waiting}
 use Rattle.vk_base.specs.declared.activity.Activity.TheVariants as activities
-use Rattle.vk_base.specs.declared.activity.Outcome.{Outcome}
 use Rattle.vk_base.specs.declared.activity.Outcome.TheVariants as outcomes
-use Rattle.vk_base.specs.declared.activity.Waiting.{Waiting}
 use Rattle.vk_base.specs.declared.activity.Waiting.TheVariants as waitings
-use Rattle.vk_base.specs.declared.answer.Ending.{Ending}
 use Rattle.vk_base.specs.declared.answer.Ending.TheVariants as endings
 use Rattle.vk_base.specs.declared.answer.Refusal.TheVariants as refusals
-use Rattle.vk_base.specs.declared.config.Times.{Times}
-use Rattle.vk_base.specs.declared.kernel.MoveName.{MoveName}
-use Rattle.vk_base.specs.declared.pid.Pid.{Pid}
-use Rattle.vk_base.specs.Activities.{done_with}
 use Rattle.vk_base.specs.Firsts.{change_first}
 use Rattle.vk_base.specs.Kernel.{holds_of}
 use Rattle.vk_packet.specs.Rules.{is_number, is_place}
@@ -25,27 +18,23 @@ use Rattle.vk_procs.specs.declared.seat.Seat.{Seat}
 use Rattle.vk_procs.specs.Seats.{finished, is_seat, overwritten, seat_in, written}
 use Rattle.vk_stands.specs.Fit.{IsFitSeat, is_move_of, may_go_on, may_wait}
 use Rattle.vk_stands.proofs.Fits.{fit_seated}
+use Rattle.vk_stands.proofs.FitSeats.{not_blocked}
 use Rattle.vk_move.specs.Fitting.{KeepsFit}
+use Rattle.vk_timer.specs.declared.work.Work.{Work}
 use Rattle.vk_move.specs.Moved.{CanGoOn, answered, change_note, going, progressed, renoted, restarted}
 use Rattle.vk_move.specs.Mover.{ended_seats}
-
--- what is over is not waited in
-never_blocked : (d : Activity) (o : Outcome) (w : Waiting) → done_with d o ≡ activities.Blocked w → ⊥
-never_blocked activities.Ready o w is = cc
-never_blocked (activities.Blocked v) o w is = cc
-never_blocked (activities.Done v old) o w is = cc
 
 pub fit_finished : (host : ℕ) (o : Outcome) (s : Seat) → IsFitSeat host s → IsFitSeat host (finished o s)
 fit_finished host o s f = record {
   own = f.own;
-  waits = λ w is. absurd (never_blocked s.doing o w is);
-  moves = λ w is. absurd (never_blocked s.doing o w is);
+  waits = λ w is. absurd (not_blocked s.doing o w is);
+  moves = λ w is. absurd (not_blocked s.doing o w is);
   done = f.done;
-  part = λ target m is. absurd (never_blocked s.doing o (waitings.Send target m) is);
+  part = λ target m is. absurd (not_blocked s.doing o (waitings.Send target m) is);
   few = f.few;
-  away = λ target m is far. absurd (never_blocked s.doing o (waitings.Send target m) is);
-  begun = λ target m is. absurd (never_blocked s.doing o (waitings.Send target m) is);
-  asked = λ logical scope is. absurd (never_blocked s.doing o (waitings.GetPid logical scope) is);
+  away = λ target m is far. absurd (not_blocked s.doing o (waitings.Send target m) is);
+  begun = λ target m is. absurd (not_blocked s.doing o (waitings.Send target m) is);
+  asked = λ logical scope is. absurd (not_blocked s.doing o (waitings.GetPid logical scope) is);
 }
 
 -- a note that changes no number of Sends and lookups, where what goes on may
@@ -143,15 +132,15 @@ goes_at size from n waitings.Receive t is = refl
 goes_at size from n (waitings.ReceiveSegment start count) t is = refl
 goes_at size from n (waitings.GetPid logical scope) t is = refl
 
-at_offset : (t : Times) (now tries from : ℕ) (n : ProcNote) (w : Waiting) →
-    may_go_on (restarted t now tries from n) w ≡ may_go_on (record n { offset = from }) w
-at_offset t now tries from n w = refl
+at_offset : (work : Work) (from : ℕ) (n : ProcNote) (w : Waiting) →
+    may_go_on (restarted work from n) w ≡ may_go_on (record n { offset = from }) w
+at_offset work from n w = refl
 
-pub kept_restarted : (seats : List Seat) (pid : Pid) (t : Times) (now tries from : ℕ) → CanGoOn seats pid from →
-    KeepsFit seats (change_note pid (restarted t now tries from) seats)
-kept_restarted seats pid t now tries from goes = kept_change seats pid (renoted (restarted t now tries from)) (λ x. refl)
-    (λ host s found f. fit_noted host (restarted t now tries from) s refl refl f.done
-    (λ w is. at_offset t now tries from s.note w
+pub kept_restarted : (seats : List Seat) (pid : Pid) (work : Work) (from : ℕ) → CanGoOn seats pid from →
+    KeepsFit seats (change_note pid (restarted work from) seats)
+kept_restarted seats pid work from goes = kept_change seats pid (renoted (restarted work from)) (λ x. refl)
+    (λ host s found f. fit_noted host (restarted work from) s refl refl f.done
+    (λ w is. at_offset work from s.note w
     ∙ goes_at (length s.memory) from s.note w (f.moves w is) (ap (going (length s.memory) from s.note.moving) (sym is) ∙ goes s found)) f)
 
 same_progress : (moving done : ℕ) (n : ProcNote) (w : Waiting) → may_go_on (progressed moving done n) w ≡ may_go_on n w

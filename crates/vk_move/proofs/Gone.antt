@@ -3,17 +3,12 @@ use Rattle.std.proofs.Common.{◌≡◌, ℕ, Bool, true, false, cond, ◌==◌,
 use Rattle.std.specs.List.{list_any, filter_map, sum_by}
 use Rattle.std.specs.Option.{option_map}
 use Rattle.std.proofs.lemmas.Bool.{and_parts}
-use Rattle.vk_base.specs.declared.activity.Activity.{Activity}
+use Rattle.vk_types.specs.Types.{Activity, MoveName, Name, Pid, Process, Times}
 use Rattle.vk_base.specs.declared.activity.Activity.TheVariants as activities
 use Rattle.vk_base.specs.declared.activity.Outcome.TheVariants as outcomes
 use Rattle.vk_base.specs.declared.answer.Ending.TheVariants as endings
 use Rattle.vk_base.specs.declared.answer.Refusal.TheVariants as refusals
-use Rattle.vk_base.specs.declared.config.Times.{Times}
 use Rattle.vk_base.specs.declared.event.EventAnswer.TheVariants as events_answered
-use Rattle.vk_base.specs.declared.kernel.MoveName.{MoveName}
-use Rattle.vk_base.specs.declared.kernel.Name.{Name}
-use Rattle.vk_base.specs.declared.kernel.Process.{Process}
-use Rattle.vk_base.specs.declared.pid.Pid.{Pid}
 use Rattle.vk_base.specs.declared.step.Step.TheVariants as steps
 use Rattle.vk_base.specs.Activities.{state_of}
 use Rattle.vk_base.specs.Kernel.{Kernel, holds_of, is_moving, name_of, same_name}
@@ -40,12 +35,12 @@ use Rattle.vk_stands.specs.Stands.{Stands}
 use Rattle.vk_stands.specs.Tables.{Tables}
 use Rattle.vk_stands.proofs.After.{entry_for, events_are, packets_are, reading_for}
 use Rattle.vk_stands.proofs.AfterFrames.{came_outcome, came_slots_still, came_steps, came_view, came_work_still}
-use Rattle.vk_stands.proofs.MovesEnded.{IsInMove, gone_ends, next_ended, stands_ended}
+use Rattle.vk_stands.proofs.MovesEnded.{IsSeatInMove, gone_ends, next_ended, stands_ended}
 use Rattle.vk_stands.proofs.Received.{received}
 use Rattle.vk_stands.proofs.Whole.{sound_next, stands_same}
-use Rattle.vk_move.specs.Moved.{moving_by, still}
+use Rattle.vk_move.specs.Moved.{subject_by, still}
 use Rattle.vk_move.specs.Mover.{ended, gone_taken, is_mover}
-use Rattle.vk_move.specs.Right.{IsMoveRule, IsRight}
+use Rattle.vk_move.specs.Right.{IsMoveRule, IsMoveRight}
 
 none_answered : (q : Pid) (w : Work) (from to : Pid) (number moving : ℕ) (o : Option Process) →
     holds_of (is_answer q w (MoveNegative from to number moving)) o ≡ false
@@ -74,7 +69,7 @@ test_by name moving (Some s) = refl
 
 -- a process that waits in this move
 pub record IsMover (name : Name) (moving : ℕ) (s : Seat) : Type 0 where
-  pub move : IsInMove s
+  pub move : IsSeatInMove s
   pub noted : MoveName
   pub is : s.note.moving ≡ Some noted
   pub same : same_move noted name moving ≡ true
@@ -84,7 +79,7 @@ noted_by : (o : Option MoveName) (name : Name) (moving : ℕ) → holds_of (λ m
 noted_by None name moving t = cc
 noted_by (Some m) name moving t = (m, refl, t)
 
-in_move : (s : Seat) (d : Activity) → s.doing ≡ d → is_moving (state_of d) ≡ true → IsInMove s
+in_move : (s : Seat) (d : Activity) → s.doing ≡ d → is_moving (state_of d) ≡ true → IsSeatInMove s
 in_move s activities.Ready is t = cc
 in_move s (activities.Done w o) is t = cc
 in_move s (activities.Blocked w) is t = record { waiting = w; state = is; moves = t }
@@ -173,7 +168,7 @@ module _ (c : Settings) (host : ℕ) (r : Reading) (h : Header) (from to : Pid) 
   packets_by true = refl
   packets_by false = refl
 
-  gone_right : IsRight c host t r (entry_for c host r (Delivered (Framed h packet))) (gone_taken (moving_by to from number moving) t.seats)
+  gone_right : IsMoveRight c host t r (entry_for c host r (Delivered (Framed h packet))) (gone_taken (subject_by to from number moving) t.seats)
   gone_right = record {
     steps = steps_by gone ∙ sym steps_are ∙ sym (came_steps c host r h packet taken);
     packets = packets_by gone ∙ sym (ap (λ (o : Outcome). o.packets) outcome_is)
@@ -183,7 +178,7 @@ module _ (c : Settings) (host : ℕ) (r : Reading) (h : Header) (from to : Pid) 
   }
 
 pub gone_rule : (times : Times) (now : ℕ) (from to : Pid) (number moving : ℕ) (seats : List Seat) →
-    IsMoveRule times now (MoveNegative from to number moving) seats (gone_taken (moving_by to from number moving) seats)
+    IsMoveRule times now (MoveNegative from to number moving) seats (gone_taken (subject_by to from number moving) seats)
 gone_rule times now from to number moving seats c host t r h same at fit stands taken =
     gone_right c host r h from to number moving taken (record t { seats = seats }) fit
     (subst (λ x. Stands x host (record t { seats = seats }) r) (sym same) stands)

@@ -3,16 +3,14 @@ use Rattle.std.proofs.Common.{◌≡◌, ◌≤◌, ℕ, ◌+◌, Bool, true, fa
 use Rattle.std.specs.Cmp.Derive.{both_true}
 use Rattle.std.specs.List.{list_all}
 use Rattle.std.proofs.lemmas.Bool.{and_parts, eqb-true, both_ways, eq-eqb}
+use Rattle.vk_types.specs.Types.{Pid, Times, Waiting}
 use Rattle.vk_base.specs.declared.activity.Activity.TheVariants as activities
-use Rattle.vk_base.specs.declared.activity.Waiting.{Waiting}
 use Rattle.vk_base.specs.declared.activity.Waiting.TheVariants as waitings
 use Rattle.vk_base.specs.declared.answer.Ending.TheVariants as endings
-use Rattle.vk_base.specs.declared.config.Times.{Times}
-use Rattle.vk_base.specs.declared.pid.Pid.{Pid}
 use Rattle.vk_base.specs.Firsts.{change_first}
 use Rattle.vk_base.specs.Kernel.{holds_of, name_of}
 use Rattle.vk_base.specs.Packets.{Packet, Send, Reply, Pending, Negative, MoveData, MoveAck, MoveRequest, MoveBytes, MoveNegative, AskPid, TellPid}
-use Rattle.v_laws.proofs.Options.{mapped_is}
+use Rattle.vk_base.proofs.OptionLemmas.{mapped_is}
 use Rattle.vk_packet.specs.Rules.{is_lawful, is_number, is_place, numbers_of, piece_len}
 use Rattle.vk_procs.specs.declared.seat.ProcNote.{ProcNote}
 use Rattle.vk_procs.specs.declared.seat.Seat.{Seat}
@@ -25,13 +23,14 @@ use Rattle.vk_move.specs.declared.mover.Acked.{Acked}
 use Rattle.vk_move.specs.declared.mover.Acked.TheVariants as acks
 use Rattle.vk_move.specs.declared.mover.Brought.{Brought}
 use Rattle.vk_move.specs.declared.mover.Brought.TheVariants as brought
-use Rattle.vk_move.specs.declared.sender.Piece.{Piece}
-use Rattle.vk_move.specs.declared.sender.Piece.TheVariants as pieces
+use Rattle.vk_move.specs.declared.sender.Demand.{Demand}
+use Rattle.vk_move.specs.declared.sender.Demand.TheVariants as demands
 use Rattle.vk_move.specs.Due.{due_moved, tick_moved, ticked_in}
 use Rattle.vk_move.specs.Fitting.{KeepsFit}
-use Rattle.vk_move.specs.Moved.{HasFitSeats, change_note, moving_by, place_in, received, renoted, still}
-use Rattle.vk_move.specs.Mover.{ack_moved, ack_taken, acked_in, brought_by, brought_doing, brought_in, bytes_moved, bytes_taken, gone_taken, is_mover, next_written, ended}
-use Rattle.vk_move.specs.Sender.{bytes_wanted, data_moved, data_taken, data_wanted, done_after, request_moved, request_taken, sender_by, written_if}
+use Rattle.vk_timer.specs.Works.{started}
+use Rattle.vk_move.specs.Moved.{HasFitSeats, change_note, subject_by, place_in, received, renoted, still}
+use Rattle.vk_move.specs.Mover.{ack_moved, ack_taken, acked_in, brought_by, brought_doing, brought_in, bytes_moved, bytes_taken, gone_taken, is_mover, piece_written, ended}
+use Rattle.vk_move.specs.Sender.{bytes_wanted, data_moved, data_taken, data_wanted, done_after, request_moved, request_taken, sender_by, written_if_next}
 use Rattle.vk_move.specs.Taken.{packet_taken}
 use Rattle.vk_move.proofs.Fitting.{fit_noted, kept_answered, kept_change, kept_ended, kept_progressed, kept_restarted, kept_same, kept_then, kept_written}
 use Rattle.vk_move.proofs.Going.{ack_goes_on, bytes_go_on}
@@ -60,10 +59,10 @@ module _ (t : Times) (now : ℕ) (seats : List Seat) (fit : HasFitSeats seats) (
       KeepsFit seats (ack_moved t now to got a seats).seats
   by_ack got acks.Nothing is = kept_same seats
   by_ack got acks.Answers is = kept_answered seats to t now
-  by_ack got acks.Restarts is = kept_restarted seats to t now 1 got (ack_goes_on seats fit to (name_of from number) moving got is)
+  by_ack got acks.Restarts is = kept_restarted seats to (started t now) got (ack_goes_on seats fit to (name_of from number) moving got is)
   by_ack got acks.Ends is = kept_ended seats to endings.Ok
 
-  pub ack_keeps : (got : ℕ) → KeepsFit seats (ack_taken t now (moving_by to from number moving) got seats).seats
+  pub ack_keeps : (got : ℕ) → KeepsFit seats (ack_taken t now (subject_by to from number moving) got seats).seats
   ack_keeps got = by_ack got (acked_in (name_of from number) moving got (seat_in seats to)) refl
 
   -- Bytes: the next place is one, where they are not the last.
@@ -142,16 +141,16 @@ module _ (t : Times) (now : ℕ) (seats : List Seat) (fit : HasFitSeats seats) (
   by_brought total offset bytes p brought.Nothing is = kept_same seats
   by_brought total offset bytes p brought.Answers is = kept_answered seats to t now
   by_brought total offset bytes p (brought.Restarts at) is =
-      kept_restarted seats to t now 1 at (bytes_go_on seats fit to (name_of from number) moving total offset (offset + length bytes) at is)
+      kept_restarted seats to (started t now) at (bytes_go_on seats fit to (name_of from number) moving total offset (offset + length bytes) at is)
   by_brought total offset bytes p (brought.Next dest true) is =
-      kept_then seats (next_written to dest offset bytes seats) _ (kept_written seats to (place_in dest offset) bytes)
-      (kept_ended (next_written to dest offset bytes seats) to endings.Ok)
+      kept_then seats (piece_written to dest offset bytes seats) _ (kept_written seats to (place_in dest offset) bytes)
+      (kept_ended (piece_written to dest offset bytes seats) to endings.Ok)
   by_brought total offset bytes p (brought.Next dest false) is =
-      kept_then seats (next_written to dest offset bytes seats) _ (kept_written seats to (place_in dest offset) bytes)
+      kept_then seats (piece_written to dest offset bytes seats) _ (kept_written seats to (place_in dest offset) bytes)
       (kept_received total offset dest (place_in dest offset) bytes p is)
 
   pub bytes_keep : (total offset : ℕ) (bytes : List ℕ) → IsPiece total offset bytes →
-      KeepsFit seats (bytes_taken t now (moving_by to from number moving) total offset bytes seats).seats
+      KeepsFit seats (bytes_taken t now (subject_by to from number moving) total offset bytes seats).seats
   bytes_keep total offset bytes p = by_brought total offset bytes p
       (brought_in (name_of from number) moving total offset (offset + length bytes) (seat_in seats to)) refl
 
@@ -159,38 +158,38 @@ module _ (t : Times) (now : ℕ) (seats : List Seat) (fit : HasFitSeats seats) (
   by_gone true = kept_ended seats to endings.Gone
   by_gone false = kept_same seats
 
-  pub gone_keeps : KeepsFit seats (gone_taken (moving_by to from number moving) seats).seats
+  pub gone_keeps : KeepsFit seats (gone_taken (subject_by to from number moving) seats).seats
   gone_keeps = by_gone (holds_of (is_mover (name_of from number) moving) (seat_in seats to))
 
   -- At the sender's.
-  kept_if : (b : Bool) (pid : Pid) (dest offset : ℕ) (bytes : List ℕ) → KeepsFit seats (written_if b pid dest offset bytes seats)
+  kept_if : (b : Bool) (pid : Pid) (dest offset : ℕ) (bytes : List ℕ) → KeepsFit seats (written_if_next b pid dest offset bytes seats)
   kept_if true pid dest offset bytes = kept_written seats pid (place_in dest offset) bytes
   kept_if false pid dest offset bytes = kept_same seats
 
-  by_data : (dest total offset : ℕ) (bytes : List ℕ) → IsPiece total offset bytes → (p : Piece) →
+  by_data : (dest total offset : ℕ) (bytes : List ℕ) → IsPiece total offset bytes → (p : Demand) →
       p ≡ data_wanted moving dest total (sender_by to from number (seat_in seats to)) →
       KeepsFit seats (data_moved (name_of to number) from moving dest total offset bytes p seats).seats
-  by_data dest total offset bytes piece pieces.Nothing is = kept_same seats
-  by_data dest total offset bytes piece pieces.Gone is = kept_same seats
-  by_data dest total offset bytes piece (pieces.Wanted opens before) is =
-      kept_then seats (written_if (offset == before) to dest offset bytes seats) _ (kept_if (offset == before) to dest offset bytes)
-      (kept_progressed (written_if (offset == before) to dest offset bytes seats) to moving (done_after offset before bytes)
+  by_data dest total offset bytes piece demands.Nothing is = kept_same seats
+  by_data dest total offset bytes piece demands.Gone is = kept_same seats
+  by_data dest total offset bytes piece (demands.Wanted opens before) is =
+      kept_then seats (written_if_next (offset == before) to dest offset bytes seats) _ (kept_if (offset == before) to dest offset bytes)
+      (kept_progressed (written_if_next (offset == before) to dest offset bytes seats) to moving (done_after offset before bytes)
       (done_low (offset == before) (offset + length bytes) before (end_low total offset bytes piece)
       (low_before seats fit to from number moving dest total opens before is)))
 
   pub data_keeps : (dest total offset : ℕ) (bytes : List ℕ) → IsPiece total offset bytes →
-      KeepsFit seats (data_taken (moving_by from to number moving) dest total offset bytes seats).seats
+      KeepsFit seats (data_taken (subject_by from to number moving) dest total offset bytes seats).seats
   data_keeps dest total offset bytes piece = by_data dest total offset bytes piece
       (data_wanted moving dest total (sender_by to from number (seat_in seats to))) refl
 
-  by_request : (src total offset : ℕ) (p : Piece) → p ≡ bytes_wanted moving src total (sender_by to from number (seat_in seats to)) →
+  by_request : (src total offset : ℕ) (p : Demand) → p ≡ bytes_wanted moving src total (sender_by to from number (seat_in seats to)) →
       KeepsFit seats (request_moved (name_of to number) from moving src total offset p seats).seats
-  by_request src total offset pieces.Nothing is = kept_same seats
-  by_request src total offset pieces.Gone is = kept_same seats
-  by_request src total offset (pieces.Wanted opens before) is =
+  by_request src total offset demands.Nothing is = kept_same seats
+  by_request src total offset demands.Gone is = kept_same seats
+  by_request src total offset (demands.Wanted opens before) is =
       kept_progressed seats to moving before (low_asked seats fit to from number moving src total opens before is)
 
-  pub request_keeps : (src total offset : ℕ) → KeepsFit seats (request_taken (moving_by from to number moving) src total offset seats).seats
+  pub request_keeps : (src total offset : ℕ) → KeepsFit seats (request_taken (subject_by from to number moving) src total offset seats).seats
   request_keeps src total offset = by_request src total offset
       (bytes_wanted moving src total (sender_by to from number (seat_in seats to))) refl
 
@@ -220,8 +219,8 @@ by_tick : (t : Times) (now : ℕ) (pid : Pid) (seats : List Seat) (fit : HasFitS
     KeepsFit seats (tick_moved t now pid x seats).seats
 by_tick t now pid seats fit ticks.Nothing is = kept_same seats
 by_tick t now pid seats fit ticks.Ends is = kept_ended seats pid endings.TimedOut
-by_tick t now pid seats fit (ticks.Again tries from) is = kept_restarted seats pid t now tries from
-    (tick_goes_on seats fit pid t now tries from is)
+by_tick t now pid seats fit (ticks.Again work from) is = kept_restarted seats pid work from
+    (tick_goes_on seats fit pid t now work from is)
 
 pub tick_keeps : (t : Times) (now : ℕ) (pid : Pid) (seats : List Seat) → HasFitSeats seats →
     KeepsFit seats (due_moved t now pid seats).seats

@@ -1,20 +1,14 @@
 -- The rules of moves between stations keep whose processes a station has, in their order.
 use Rattle.std.proofs.Common.{◌≡◌, ◌==◌, ℕ, ◌+◌, Bool, true, false, cond, List, length, Option, Some, None, refl, ◌∙◌}
 use Rattle.std.specs.List.{position}
+use Rattle.vk_types.specs.Types.{Call, Ending, MoveName, Name, Pid, Times, Waiting}
 use Rattle.vk_base.specs.declared.activity.Activity.TheVariants as activities
 use Rattle.vk_base.specs.declared.activity.Outcome.TheVariants as outcomes
-use Rattle.vk_base.specs.declared.activity.Waiting.{Waiting}
 use Rattle.vk_base.specs.declared.activity.Waiting.TheVariants as waitings
-use Rattle.vk_base.specs.declared.answer.Ending.{Ending}
 use Rattle.vk_base.specs.declared.answer.Ending.TheVariants as endings
 use Rattle.vk_base.specs.declared.answer.Refusal.TheVariants as refusals
-use Rattle.vk_base.specs.declared.call.Call.{Call}
 use Rattle.vk_base.specs.declared.call.Call.TheVariants as calls
-use Rattle.vk_base.specs.declared.config.Times.{Times}
 use Rattle.vk_base.specs.declared.kernel.Direction.TheVariants as directions
-use Rattle.vk_base.specs.declared.kernel.MoveName.{MoveName}
-use Rattle.vk_base.specs.declared.kernel.Name.{Name}
-use Rattle.vk_base.specs.declared.pid.Pid.{Pid}
 use Rattle.vk_base.specs.Firsts.{change_first}
 use Rattle.vk_base.specs.Kernel.{holds_of, name_of}
 use Rattle.vk_base.specs.Packets.{Packet, MoveData, MoveAck, MoveRequest, MoveBytes, MoveNegative}
@@ -30,12 +24,13 @@ use Rattle.vk_move.specs.declared.mover.Acked.{Acked}
 use Rattle.vk_move.specs.declared.mover.Acked.TheVariants as acks
 use Rattle.vk_move.specs.declared.mover.Brought.{Brought}
 use Rattle.vk_move.specs.declared.mover.Brought.TheVariants as brought
-use Rattle.vk_move.specs.declared.sender.Piece.{Piece}
-use Rattle.vk_move.specs.declared.sender.Piece.TheVariants as pieces
+use Rattle.vk_move.specs.declared.sender.Demand.{Demand}
+use Rattle.vk_move.specs.declared.sender.Demand.TheVariants as demands
 use Rattle.vk_move.specs.Begun.{begun_by, begun_note, begun_seats, move_begun, next_name, verdict_in}
+use Rattle.vk_timer.specs.Works.{started}
 use Rattle.vk_move.specs.Moved.{Moved, answered, change_note, place_in, progressed, received, renoted, restarted, still}
-use Rattle.vk_move.specs.Mover.{ack_moved, acked_in, brought_in, bytes_moved, ended, ended_seats, is_mover, next_written}
-use Rattle.vk_move.specs.Sender.{bytes_wanted, data_moved, data_wanted, done_after, request_moved, sender_by, written_if}
+use Rattle.vk_move.specs.Mover.{ack_moved, acked_in, brought_in, bytes_moved, ended, ended_seats, is_mover, piece_written}
+use Rattle.vk_move.specs.Sender.{bytes_wanted, data_moved, data_wanted, done_after, request_moved, sender_by, written_if_next}
 use Rattle.vk_move.specs.Taken.{packet_taken}
 
 pids_noted : (pid : Pid) (f : ProcNote → ProcNote) (seats : List Seat) → pids (change_note pid f seats) ≡ pids seats
@@ -52,20 +47,20 @@ pids_acked : (t : Times) (now : ℕ) (pid : Pid) (got : ℕ) (a : Acked) (seats 
     pids (ack_moved t now pid got a seats).seats ≡ pids seats
 pids_acked t now pid got acks.Nothing seats = refl
 pids_acked t now pid got acks.Answers seats = pids_noted pid (answered t now) seats
-pids_acked t now pid got acks.Restarts seats = pids_noted pid (restarted t now 1 got) seats
+pids_acked t now pid got acks.Restarts seats = pids_noted pid (restarted (started t now) got) seats
 pids_acked t now pid got acks.Ends seats = pids_ended pid endings.Ok seats
 
 pids_written : (pid : Pid) (dest offset : ℕ) (bytes : List ℕ) (seats : List Seat) →
-    pids (next_written pid dest offset bytes seats) ≡ pids seats
+    pids (piece_written pid dest offset bytes seats) ≡ pids seats
 pids_written pid dest offset bytes seats = pids_changed (written (place_in dest offset) bytes) (λ s. refl) (is_seat pid) seats
 
 pids_brought : (t : Times) (now : ℕ) (pid : Pid) (name : Name) (moving offset : ℕ) (bytes : List ℕ) (b : Brought) (seats : List Seat) →
     pids (bytes_moved t now pid name moving offset bytes b seats).seats ≡ pids seats
 pids_brought t now pid name moving offset bytes brought.Nothing seats = refl
 pids_brought t now pid name moving offset bytes brought.Answers seats = pids_noted pid (answered t now) seats
-pids_brought t now pid name moving offset bytes (brought.Restarts from) seats = pids_noted pid (restarted t now 1 from) seats
+pids_brought t now pid name moving offset bytes (brought.Restarts from) seats = pids_noted pid (restarted (started t now) from) seats
 pids_brought t now pid name moving offset bytes (brought.Next dest last) seats =
-    let next : List Seat = next_written pid dest offset bytes seats in
+    let next : List Seat = piece_written pid dest offset bytes seats in
     pids_if last (ended_seats pid endings.Ok next) (change_note pid (received t now (offset + length bytes)) next) seats
     (pids_ended pid endings.Ok next ∙ pids_written pid dest offset bytes seats)
     (pids_noted pid (received t now (offset + length bytes)) next ∙ pids_written pid dest offset bytes seats)
@@ -76,22 +71,22 @@ pids_either true m n seats one other = one
 pids_either false m n seats one other = other
 
 -- At the sender's station.
-pids_data : (name : Name) (mover : Pid) (moving dest total offset : ℕ) (bytes : List ℕ) (p : Piece) (seats : List Seat) →
+pids_data : (name : Name) (mover : Pid) (moving dest total offset : ℕ) (bytes : List ℕ) (p : Demand) (seats : List Seat) →
     pids (data_moved name mover moving dest total offset bytes p seats).seats ≡ pids seats
-pids_data name mover moving dest total offset bytes pieces.Nothing seats = refl
-pids_data name mover moving dest total offset bytes pieces.Gone seats = refl
-pids_data name mover moving dest total offset bytes (pieces.Wanted opens before) seats =
+pids_data name mover moving dest total offset bytes demands.Nothing seats = refl
+pids_data name mover moving dest total offset bytes demands.Gone seats = refl
+pids_data name mover moving dest total offset bytes (demands.Wanted opens before) seats =
     let next : List Seat = change_first (is_seat name.sender) (written (place_in dest offset) bytes) seats in
     pids_noted name.sender (progressed moving (done_after offset before bytes))
-    (written_if (offset == before) name.sender dest offset bytes seats)
+    (written_if_next (offset == before) name.sender dest offset bytes seats)
     ∙ pids_if (offset == before) next seats seats
     (pids_changed (written (place_in dest offset) bytes) (λ s. refl) (is_seat name.sender) seats) refl
 
-pids_request : (name : Name) (mover : Pid) (moving src total offset : ℕ) (p : Piece) (seats : List Seat) →
+pids_request : (name : Name) (mover : Pid) (moving src total offset : ℕ) (p : Demand) (seats : List Seat) →
     pids (request_moved name mover moving src total offset p seats).seats ≡ pids seats
-pids_request name mover moving src total offset pieces.Nothing seats = refl
-pids_request name mover moving src total offset pieces.Gone seats = refl
-pids_request name mover moving src total offset (pieces.Wanted opens before) seats =
+pids_request name mover moving src total offset demands.Nothing seats = refl
+pids_request name mover moving src total offset demands.Gone seats = refl
+pids_request name mover moving src total offset (demands.Wanted opens before) seats =
     pids_noted name.sender (progressed moving before) seats
 
 -- A packet, at either end.

@@ -10,20 +10,20 @@ use Rattle.vk_packet.specs.Rules.{is_place}
 use Rattle.vk_stands.specs.Rules.{posted}
 
 -- where a packet of a move may start
-pub record IsAt (total offset : ℕ) : Type 0 where
+pub record IsPacketStart (total offset : ℕ) : Type 0 where
   pub some : 0 < total
   pub few : total ≤ 65536
   pub multiple : offset % 1024 ≡ 0
   pub inside : offset < total
 
-pub place_is : (total offset : ℕ) → is_place total offset ≡ true → IsAt total offset
+pub place_is : (total offset : ℕ) → is_place total offset ≡ true → IsPacketStart total offset
 place_is total offset t =
     let a = and_parts _ _ t in
     let b = and_parts _ _ a.0 in
     let c = and_parts _ _ b.0 in
     record { some = ltb-true _ _ c.0; few = leb-true _ _ c.1; multiple = eqb-true _ _ b.1; inside = ltb-true _ _ a.1 }
 
-pub is_at : (total offset : ℕ) → IsAt total offset → is_place total offset ≡ true
+pub is_at : (total offset : ℕ) → IsPacketStart total offset → is_place total offset ≡ true
 is_at total offset h =
     both_true (both_true (both_true (lt-ltb 0 total h.some) (le-leb total 65536 h.few)) (eq-eqb (offset % 1024) 0 h.multiple))
     (lt-ltb offset total h.inside)

@@ -3,15 +3,9 @@ use Rattle.std.proofs.Common.{◌≡◌, ◌<◌, ℕ, ◌&&◌, ◌||◌, Bool,
 use Rattle.std.specs.List.{list_all, list_any, filter_map}
 use Rattle.std.specs.Option.{option_map_or}
 use Rattle.std.proofs.lemmas.Bool.{and_parts, leb-true, leb-false, ltb-true, ltb-false}
-use Rattle.vk_base.specs.declared.config.Times.{Times}
+use Rattle.v_laws.proofs.MoveLists.{put_move_here}
+use Rattle.vk_types.specs.Types.{Exchange, Message, Move, Name, Pid, Process, Step, Times}
 use Rattle.vk_base.specs.declared.event.EventAnswer.TheVariants as events_answered
-use Rattle.vk_base.specs.declared.kernel.Exchange.{Exchange}
-use Rattle.vk_base.specs.declared.kernel.Move.{Move}
-use Rattle.vk_base.specs.declared.kernel.Name.{Name}
-use Rattle.vk_base.specs.declared.kernel.Process.{Process}
-use Rattle.vk_base.specs.declared.message.Message.{Message}
-use Rattle.vk_base.specs.declared.pid.Pid.{Pid}
-use Rattle.vk_base.specs.declared.step.Step.{Step}
 use Rattle.vk_base.specs.declared.step.Step.TheVariants as steps
 use Rattle.vk_base.specs.Brought.{brought, move_from_sender, put_move, with_data, with_request}
 use Rattle.vk_base.specs.Kernel.{move_of, name_of, sending}
@@ -35,18 +29,18 @@ use Rattle.vk_stands.specs.Fit.{AreFit}
 use Rattle.vk_stands.specs.Stands.{Stands}
 use Rattle.vk_stands.specs.Tables.{Tables}
 use Rattle.vk_stands.proofs.After.{entry_for, reading_for}
-use Rattle.vk_stands.proofs.MovesAllowed.{put_own}
 use Rattle.vk_stands.proofs.MovesOwn.{moved_long}
 use Rattle.vk_stands.proofs.Parts.{Part}
 use Rattle.vk_stands.proofs.Received.{received}
 use Rattle.vk_stands.proofs.SentMoves.{HasMoreMoves, with_send}
 use Rattle.vk_stands.proofs.SentStands.{IsCalm, IsPlain, sends_are, stands_moved, stands_quiet, steps_are}
-use Rattle.vk_stands.proofs.SentSteps.{change_is, opened, opens}
-use Rattle.vk_move.specs.declared.sender.Piece.TheVariants as pieces
+use Rattle.vk_stands.proofs.SentSteps.{opened, opens}
+use Rattle.vk_stands.proofs.RemoteReply.{changed_is_put}
+use Rattle.vk_move.specs.declared.sender.Demand.TheVariants as demands
 use Rattle.vk_move.specs.declared.sender.Sender.{Sender}
 use Rattle.vk_move.specs.declared.sender.Sender.TheVariants as senders
-use Rattle.vk_move.specs.Moved.{Moved, change_note, moving_by, progressed, still}
-use Rattle.vk_move.specs.Right.{IsMoveRule, IsRight}
+use Rattle.vk_move.specs.Moved.{Moved, change_note, subject_by, progressed, still}
+use Rattle.vk_move.specs.Right.{IsMoveRule, IsMoveRight}
 use Rattle.vk_move.specs.Sender.{bytes_of, bytes_wanted, may_read, request_moved, request_taken, sender_by}
 use Rattle.vk_move.proofs.Data.{never, some_number}
 use Rattle.vk_move.proofs.Senders.{Decided, IsWaiter, decided}
@@ -84,7 +78,7 @@ module _ (c : Settings) (host : ℕ) (r : Reading) (h : Header) (from to : Pid) 
   plain = record { copy = λ n. refl; answer = λ q w x. never x (is_answer q w packet) (λ p. refl); receiver = λ q. refl }
 
   abbrev Right : Moved → Type 0
-  Right mm = IsRight c host t r (entry_for c host r (Delivered (Framed h packet))) mm
+  Right mm = IsMoveRight c host t r (entry_for c host r (Delivered (Framed h packet))) mm
 
   right : (o : Outcome) → packet_outcome host r packet ≡ o → IsCalm o → (mm : Moved) → mm.steps ≡ o.steps → mm.packets ≡ o.packets →
       Stands c.times host (record t { seats = mm.seats }) after → Right mm
@@ -183,11 +177,11 @@ module _ (c : Settings) (host : ℕ) (r : Reading) (h : Header) (from to : Pid) 
       later_there = ap (λ n. ltb n moving) w.open_is ∙ later
 
       brought_is : brought r.view packet ≡ with_send r.view name e0
-      brought_is = (λ i. record r.view { exchanges = change_is r.view.exchanges name (with_request moving mv) e w.is i })
+      brought_is = (λ i. record r.view { exchanges = changed_is_put r.view.exchanges name (with_request moving mv) e w.is i })
           ∙ ap (λ b. with_send r.view name (record e { moves = cond b (put_move e.moves moving mv) e.moves })) later_there
 
       at0 : move_of e0 moving ≡ Some mv
-      at0 = put_own e moving mv some
+      at0 = put_move_here e moving mv some
 
       more0 : HasMoreMoves e e0
       more0 = record { target = refl; message = refl; part = refl; spot = refl; stage = refl; moves = moved_long e.moves moving mv }
@@ -227,7 +221,7 @@ module _ (c : Settings) (host : ℕ) (r : Reading) (h : Header) (from to : Pid) 
 
     right_tests : (g far later : Bool) → may_read m src total ≡ g → leb current moving ≡ far → ltb current moving ≡ later →
         Right (request_moved name from moving src total offset
-        (cond (g && far) (pieces.Wanted later (cond later 0 done)) pieces.Nothing) t.seats)
+        (cond (g && far) (demands.Wanted later (cond later 0 done)) demands.Nothing) t.seats)
     right_tests false far later granted reached higher =
         nothing_out (out_waits
         ∙ ap (λ b. cond b (request_outcome name from moving src total offset (record { process = p; message = m; exchange = e })) nothing)
@@ -248,12 +242,12 @@ module _ (c : Settings) (host : ℕ) (r : Reading) (h : Header) (from to : Pid) 
   right_sender senders.Gone d = quiet (MoveNegative to from number moving ∷ []) (out_by None d.0 ∙ made true d.1) calm_gone
   right_sender (senders.Waits m current done) w = right_waits m current done w
 
-  pub request_right : Right (request_taken (moving_by from to number moving) src total offset t.seats)
+  pub request_right : Right (request_taken (subject_by from to number moving) src total offset t.seats)
   request_right = right_sender (sender_by to from number (seat_in t.seats to)) (decided c.times host t r stands from to own number)
 
 pub request_rule : (times : Times) (now : ℕ) (from to : Pid) (number moving src total offset : ℕ) (seats : List Seat) →
     IsMoveRule times now (MoveRequest from to number moving src total offset) seats
-    (request_taken (moving_by from to number moving) src total offset seats)
+    (request_taken (subject_by from to number moving) src total offset seats)
 request_rule times now from to number moving src total offset seats c host t r h same at fit stands taken =
     request_right c host r h from to number moving src total offset taken (record t { seats = seats }) fit
     (subst (λ x. Stands x host (record t { seats = seats }) r) (sym same) stands)

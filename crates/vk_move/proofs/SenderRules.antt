@@ -1,6 +1,6 @@
 -- The packets of a mover at the station of its partner, by the tables and by the rules.
 use Rattle.std.proofs.Common.{ℕ, List}
-use Rattle.vk_base.specs.declared.config.Times.{Times}
+use Rattle.vk_types.specs.Types.{Times}
 use Rattle.vk_base.specs.Packets.{Packet, Send, Reply, Pending, Negative, MoveData, MoveAck, MoveRequest, MoveBytes, MoveNegative, AskPid, TellPid}
 use Rattle.vk_procs.specs.declared.seat.Seat.{Seat}
 use Rattle.vk_move.specs.Right.{IsSenderRule}

@@ -2,15 +2,9 @@
 use Rattle.std.proofs.Common.{◌≡◌, ℕ, ◌==◌, ◌&&◌, Bool, true, false, cond, not, refl, sym, ap, ◌∙◌, Option, Some, None, leb}
 use Rattle.std.specs.Option.{option_map}
 use Rattle.std.proofs.lemmas.Bool.{and_parts, eqb-true}
-use Rattle.vk_base.specs.declared.activity.Activity.{Activity}
+use Rattle.vk_types.specs.Types.{Activity, Exchange, Message, Name, Pid, Process, Times}
 use Rattle.vk_base.specs.declared.activity.Activity.TheVariants as activities
 use Rattle.vk_base.specs.declared.activity.Waiting.TheVariants as waitings
-use Rattle.vk_base.specs.declared.config.Times.{Times}
-use Rattle.vk_base.specs.declared.kernel.Exchange.{Exchange}
-use Rattle.vk_base.specs.declared.kernel.Name.{Name}
-use Rattle.vk_base.specs.declared.kernel.Process.{Process}
-use Rattle.vk_base.specs.declared.message.Message.{Message}
-use Rattle.vk_base.specs.declared.pid.Pid.{Pid}
 use Rattle.vk_base.specs.Activities.{state_of}
 use Rattle.vk_base.specs.Kernel.{◌>>=◌, blocked_in, holds_of, name_of, sending}
 use Rattle.vk_base.specs.Pids.{same_host}
@@ -21,7 +15,7 @@ use Rattle.vk_rules.specs.PacketOutcomes.{FarSender, has_made}
 unfoldable use Rattle.vk_rules.specs.PacketOutcomes.{far_partner}
 use Rattle.vk_rules.specs.Readings.{Reading}
 use Rattle.vk_rules.specs.Works.{awaits_near, is_send_near}
-use Rattle.vk_stands.specs.Stands.{IsSent, Stands}
+use Rattle.vk_stands.specs.Stands.{IsSending, Stands}
 use Rattle.vk_stands.specs.Tables.{Tables}
 use Rattle.vk_stands.proofs.Found.{seat_found}
 use Rattle.vk_move.specs.declared.sender.Sender.{Sender}
@@ -101,7 +95,7 @@ module _ (times : Times) (host : ℕ) (t : Tables) (r : Reading) (h : Stands tim
         Decided t r from to number (cond b (senders.Waits m s.note.opened s.note.done) (made_by number s.note))
     by_send target m true is test =
         let a = and_parts (same_host target from && not (same_host to from)) (s.note.sends == number) test in
-        let v : IsSent r.view s target m = h.waiting to s (waitings.Send target m) found is in
+        let v : IsSending r.view s target m = h.waiting to s (waitings.Send target m) found is in
         let at : r.view.exchanges name ≡ Some v.exchange =
         sym (ap r.view.exchanges (λ i. name_of ((seat_found t.seats to s found).named i) (eqb-true s.note.sends number a.1 i))) ∙ v.is in
         let next : Exchange → Option FarSender = λ e. Some (record { process = process_of s; message = m; exchange = e }) in

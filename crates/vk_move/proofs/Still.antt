@@ -2,17 +2,15 @@
 use Rattle.std.proofs.Common.{◌≡◌, ℕ, ◌+◌, Bool, false, cond, List, [], ap, sym, ◌∙◌, subst, Option, Some, inl, inr}
 use Rattle.std.specs.List.{list_any, filter_map, sum_by}
 use Rattle.std.proofs.lemmas.Bool.{cases_Bool}
+use Rattle.vk_types.specs.Types.{Name, Pid, Process, Waiting}
 use Rattle.vk_base.specs.declared.activity.Activity.TheVariants as activities
-use Rattle.vk_base.specs.declared.activity.Waiting.{Waiting}
 use Rattle.vk_base.specs.declared.event.EventAnswer.TheVariants as events_answered
-use Rattle.vk_base.specs.declared.kernel.Name.{Name}
-use Rattle.vk_base.specs.declared.kernel.Process.{Process}
-use Rattle.vk_base.specs.declared.pid.Pid.{Pid}
 use Rattle.vk_base.specs.Kernel.{holds_of}
 use Rattle.vk_base.specs.Packets.{Packet}
 use Rattle.vk_base.specs.Pids.{same_pid}
 use Rattle.vk_base.specs.Settings.{Settings}
 use Rattle.vk_base.specs.Steps.{first_of}
+use Rattle.vk_base.proofs.BoolLemmas.{cond_same}
 use Rattle.v_laws.proofs.Tables.{same_pid_is, same_pid_laws}
 use Rattle.vk_frame.specs.declared.header.Header.{Header}
 use Rattle.vk_procs.specs.declared.seat.ProcNote.{ProcNote}
@@ -34,13 +32,10 @@ use Rattle.vk_stands.specs.Tables.{Tables}
 use Rattle.vk_stands.proofs.After.{entry_for, events_are, packets_are, reading_for, work_by}
 use Rattle.vk_stands.proofs.AfterFrames.{came_outcome, came_slots_still, came_steps, came_view, came_work, came_work_still}
 use Rattle.vk_stands.proofs.Seats.{change_agree}
-use Rattle.vk_stands.proofs.SentStands.{same_both}
 use Rattle.vk_stands.proofs.MovesNoted.{stands_worked, worked}
 use Rattle.vk_stands.proofs.Whole.{stands_same}
+use Rattle.vk_stands.proofs.MoverLeft.{same_wait}
 use Rattle.vk_move.specs.Moved.{change_note, renoted}
-
-one_wait : (v w : Waiting) → activities.Blocked v ≡ activities.Blocked w → v ≡ w
-one_wait v w is = cc
 
 -- a packet to a mover: it answers no work of others, and is no copy of a Send
 pub record IsToMover (to : Pid) (p : Packet) : Type 0 where
@@ -67,7 +62,7 @@ module _ (c : Settings) (host : ℕ) (r : Reading) (h : Header) (packet : Packet
       (λ i a at. (is.copies a.name, ap (λ (o : Outcome). list_any (is_closing a.name) o.packets) out ∙ closes a.name))
 
   copied : (q : Pid) → cond (is_packet_to q packet) (sum_by count_in (packet_outcome host r packet).steps) 0 ≡ 0
-  copied q = ap (λ (o : Outcome). cond (is_packet_to q packet) (sum_by count_in o.steps) 0) out ∙ same_both (is_packet_to q packet) 0
+  copied q = ap (λ (o : Outcome). cond (is_packet_to q packet) (sum_by count_in o.steps) 0) out ∙ cond_same (is_packet_to q packet) 0
 
   work_other : (q : Pid) → same_pid q to ≡ false → after.work q ≡ r.work q
   work_other q apart =
@@ -113,4 +108,4 @@ module _ (c : Settings) (host : ℕ) (r : Reading) (h : Header) (packet : Packet
       (stands_worked c.times host t r stands fit to own s found tries (r.now + c.times.interval) offset fresh after
       view_same slots_same (events_are c host r (Delivered (Framed h packet))) work_other
       (λ v at work. subst (IsWorking c.times (worked tries (r.now + c.times.interval) offset fresh s) (after.work to))
-      (one_wait waiting v (sym state ∙ at)) working))
+      (same_wait waiting v (sym state ∙ at)) working))

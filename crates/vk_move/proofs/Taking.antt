@@ -1,8 +1,6 @@
 -- What comes of a packet, once its processes, steps and packets are known.
 use Rattle.std.proofs.Common.{◌≡◌, ℕ, List, ◌++◌, true, ap, refl, subst, sym, ◌∙◌, Bor}
-use Rattle.vk_base.specs.declared.config.Times.{Times}
-use Rattle.vk_base.specs.declared.pid.Pid.{Pid}
-use Rattle.vk_base.specs.declared.step.Step.{Step}
+use Rattle.vk_types.specs.Types.{Pid, Step, Times}
 use Rattle.vk_base.specs.Packets.{Packet}
 use Rattle.vk_packet.specs.declared.packet.PacketView.{PacketView}
 use Rattle.vk_packet.specs.declared.packet.PacketView.TheVariants as views
@@ -13,7 +11,7 @@ use Rattle.vk_procs.specs.declared.seat.Seat.{Seat}
 use Rattle.vk_stands.specs.Rules.{posted}
 use Rattle.vk_move.specs.Fitting.{KeepsFit}
 use Rattle.vk_move.specs.Moved.{HasFitSeats, Moved}
-use Rattle.vk_move.specs.Right.{IsTaken}
+use Rattle.vk_move.specs.Right.{IsPacketTaken}
 use Rattle.vk_move.specs.Taken.{mover_taken, packet_taken}
 use Rattle.vk_move.proofs.Keeping.{packet_keeps}
 use Rattle.vk_move.proofs.MoverRules.{mover_rule}
@@ -21,7 +19,7 @@ use Rattle.vk_move.proofs.SenderRules.{sender_rule}
 
 pub is_taken : (times : Times) (now : ℕ) (p : Packet) (old new : List Seat) (before after : List Step) (sent out : Posts) →
     HasFitSeats old → is_lawful p ≡ true → (m : Moved) → m ≡ packet_taken times now p old → new ≡ m.seats →
-    after ≡ before ++ m.steps → out ≡ posted sent m.packets → IsTaken times now p old new before after sent out
+    after ≡ before ++ m.steps → out ≡ posted sent m.packets → IsPacketTaken times now p old new before after sent out
 is_taken times now p old new before after sent out fit lawful m is seats made posts =
     let seated : new ≡ (packet_taken times now p old).seats = seats ∙ ap (λ (x : Moved). x.seats) is in
     record {

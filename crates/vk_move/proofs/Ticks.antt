@@ -1,12 +1,9 @@
 -- A tick at which a round goes out again: it may, where the seats fit.
 use Rattle.std.proofs.Common.{◌≡◌, ℕ, Bool, true, false, cond, List, length, refl, ap, sym, ◌∙◌}
 use Rattle.std.proofs.lemmas.Bool.{and_parts}
-use Rattle.vk_base.specs.declared.activity.Activity.{Activity}
+use Rattle.vk_types.specs.Types.{Activity, Pid, Times, Waiting}
 use Rattle.vk_base.specs.declared.activity.Activity.TheVariants as activities
-use Rattle.vk_base.specs.declared.activity.Waiting.{Waiting}
 use Rattle.vk_base.specs.declared.activity.Waiting.TheVariants as waitings
-use Rattle.vk_base.specs.declared.config.Times.{Times}
-use Rattle.vk_base.specs.declared.pid.Pid.{Pid}
 use Rattle.vk_base.specs.Activities.{state_of}
 use Rattle.vk_base.specs.Kernel.{holds_of, is_moving}
 use Rattle.vk_base.specs.Ranges.{range_of, lies_in}
@@ -14,10 +11,10 @@ use Rattle.vk_packet.specs.Rules.{is_place}
 use Rattle.vk_procs.specs.declared.seat.ProcNote.{ProcNote}
 use Rattle.vk_procs.specs.declared.seat.Seat.{Seat}
 use Rattle.vk_procs.specs.Seats.{seat_in}
-use Rattle.vk_procs.specs.Works.{work_in}
 use Rattle.vk_stands.specs.Fit.{is_move_of, is_remote_move, may_go_on, may_wait}
 use Rattle.vk_timer.specs.declared.work.Due.{Due}
 use Rattle.vk_timer.specs.declared.work.Due.TheVariants as dues
+use Rattle.vk_timer.specs.declared.work.Work.{Work}
 use Rattle.vk_timer.specs.Works.{due_at, work_at}
 use Rattle.vk_move.specs.declared.tick.Ticked.TheVariants as ticks
 use Rattle.vk_move.specs.Due.{ticked_at, ticked_by, ticked_in}
@@ -46,21 +43,21 @@ goes_still (activities.Blocked (waitings.MoveFrom partner dest src count)) pid s
     (moves (waitings.MoveFrom partner dest src count) refl) in
     goes_from note.moving partner size dest src count note.offset moved.0 moved.1
 
-from_by : (d : Due) (n offset tries from : ℕ) → ticked_by d n offset ≡ ticks.Again tries from → offset ≡ from
-from_by dues.NotDue n offset tries from is = cc
-from_by dues.GiveUp n offset tries from is = cc
-from_by dues.Resend n offset tries from is = cc
+from_by : (d : Due) (w : Work) (offset : ℕ) (work : Work) (from : ℕ) → ticked_by d w offset ≡ ticks.Again work from → offset ≡ from
+from_by dues.NotDue w offset work from is = cc
+from_by dues.GiveUp w offset work from is = cc
+from_by dues.Resend w offset work from is = cc
 
-moving_by : (b : Bool) (t : Times) (now : ℕ) (s : Seat) (tries from : ℕ) →
-    cond b (ticked_at t now s) ticks.Nothing ≡ ticks.Again tries from → (b ≡ true) × (s.note.offset ≡ from)
-moving_by true t now s tries from is =
-    (refl, from_by (due_at t now (work_in s)) (work_at t now (work_in s)).tries s.note.offset tries from is)
-moving_by false t now s tries from is = cc
+moving_by : (b : Bool) (t : Times) (now : ℕ) (s : Seat) (work : Work) (from : ℕ) →
+    cond b (ticked_at t now s) ticks.Nothing ≡ ticks.Again work from → (b ≡ true) × (s.note.offset ≡ from)
+moving_by true t now s work from is =
+    (refl, from_by (due_at t now s.note.work) (work_at t now s.note.work) s.note.offset work from is)
+moving_by false t now s work from is = cc
 
-pub tick_goes_on : (seats : List Seat) (fit : HasFitSeats seats) (pid : Pid) (t : Times) (now tries from : ℕ) →
-    ticks.Again tries from ≡ ticked_in t now (seat_in seats pid) → CanGoOn seats pid from
-tick_goes_on seats fit pid t now tries from is s found =
+pub tick_goes_on : (seats : List Seat) (fit : HasFitSeats seats) (pid : Pid) (t : Times) (now : ℕ) (work : Work) (from : ℕ) →
+    ticks.Again work from ≡ ticked_in t now (seat_in seats pid) → CanGoOn seats pid from
+tick_goes_on seats fit pid t now work from is s found =
     let f = found_fits seats fit pid s found in
-    let x = moving_by (is_moving (state_of s.doing)) t now s tries from (ap (ticked_in t now) (sym found) ∙ sym is) in
+    let x = moving_by (is_moving (state_of s.doing)) t now s work from (ap (ticked_in t now) (sym found) ∙ sym is) in
     ap (λ n. going (length s.memory) n s.note.moving s.doing) (sym x.1)
     ∙ goes_still s.doing s.pid (length s.memory) s.note f.waits f.moves x.0

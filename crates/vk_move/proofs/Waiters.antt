@@ -4,16 +4,9 @@ use Rattle.std.proofs.Common.{◌≡◌, ◌≤◌, ℕ, ◌-◌, true, List, le
 use Rattle.std.specs.Option.{option_map}
 use Rattle.std.proofs.lemmas.Bool.{eqb-true}
 use Rattle.std.proofs.lemmas.List.{length-set}
-use Rattle.vk_base.specs.declared.activity.Waiting.{Waiting}
+use Rattle.vk_types.specs.Types.{Exchange, Message, Move, Name, Pid, Process, Times, Waiting}
 use Rattle.vk_base.specs.declared.activity.Waiting.TheVariants as waitings
-use Rattle.vk_base.specs.declared.config.Times.{Times}
-use Rattle.vk_base.specs.declared.kernel.Exchange.{Exchange}
-use Rattle.vk_base.specs.declared.kernel.Move.{Move}
-use Rattle.vk_base.specs.declared.kernel.Name.{Name}
-use Rattle.vk_base.specs.declared.kernel.Process.{Process}
 use Rattle.vk_base.specs.declared.limits.TheConstants.{MOVE_BYTES}
-use Rattle.vk_base.specs.declared.message.Message.{Message}
-use Rattle.vk_base.specs.declared.pid.Pid.{Pid}
 use Rattle.vk_base.specs.Activities.{state_of}
 use Rattle.vk_base.specs.Firsts.{change_first}
 use Rattle.vk_base.specs.Kernel.{Kernel, name_of, sending, with_memory}
@@ -82,7 +75,7 @@ module _ (times : Times) (host : ℕ) (t : Tables) (r : Reading) (h : Stands tim
 
   pub carries_noted : (d : ℕ) → Carries 1 t (noted d)
   carries_noted d = carries_seated 1 t to s w.found (moved_on moving d) (λ x. refl) (same_more 1 s.note.sends) (same_more 1 s.note.lookups)
-      (λ v is work. (is, record { tries = refl; deadline = refl; offset = refl; fresh = refl }))
+      (λ v is work. (is, record { work = refl; offset = refl; fresh = refl }))
 
   -- nothing changes where so many bytes of the open move are done already
   pub still_noted : current ≡ moving → change_note to (progressed moving done) t.seats ≡ t.seats
@@ -134,4 +127,4 @@ module _ (times : Times) (host : ℕ) (t : Tables) (r : Reading) (h : Stands tim
         subst (λ xs. Carries 1 t (record t { seats = xs }))
         (sym (change_twice (is_seat to) (written at bytes) (moved_on moving d) (λ x. refl) t.seats))
         (carries_seated 1 t to s w.found (λ x. moved_on moving d (written at bytes x)) (λ x. refl) (same_more 1 s.note.sends)
-        (same_more 1 s.note.lookups) (λ v is work. (is, record { tries = refl; deadline = refl; offset = refl; fresh = refl })))
+        (same_more 1 s.note.lookups) (λ v is work. (is, record { work = refl; offset = refl; fresh = refl })))

@@ -1,23 +1,21 @@
 -- What is known where a packet of a mover is wanted.
 use Rattle.std.proofs.Common.{◌≡◌, ℕ, ◌+◌, ◌≤◌, Bool, true, false, cond, ◌==◌, ◌&&◌, not, List, length, refl, ap, sym, Option, Some, None, ltb, leb, arith}
 use Rattle.std.proofs.lemmas.Bool.{and_parts, leb-true}
-use Rattle.vk_base.specs.declared.activity.Activity.{Activity}
+use Rattle.vk_types.specs.Types.{Activity, Message, Pid}
 use Rattle.vk_base.specs.declared.activity.Activity.TheVariants as activities
 use Rattle.vk_base.specs.declared.activity.Waiting.TheVariants as waitings
-use Rattle.vk_base.specs.declared.message.Message.{Message}
-use Rattle.vk_base.specs.declared.pid.Pid.{Pid}
 use Rattle.vk_base.specs.Messages.{grants_read, segment_of}
 use Rattle.vk_base.specs.Pids.{same_host}
 use Rattle.vk_base.specs.Ranges.{range_of, lies_within}
 use Rattle.vk_procs.specs.declared.seat.ProcNote.{ProcNote}
 use Rattle.vk_procs.specs.declared.seat.Seat.{Seat}
 use Rattle.vk_procs.specs.Seats.{seat_in}
-use Rattle.vk_move.specs.declared.sender.Piece.{Piece}
-use Rattle.vk_move.specs.declared.sender.Piece.TheVariants as pieces
+use Rattle.vk_move.specs.declared.sender.Demand.{Demand}
+use Rattle.vk_move.specs.declared.sender.Demand.TheVariants as demands
 use Rattle.vk_move.specs.declared.sender.Sender.{Sender}
 use Rattle.vk_move.specs.declared.sender.Sender.TheVariants as senders
 use Rattle.vk_move.specs.Moved.{HasFitSeats}
-use Rattle.vk_move.specs.Sender.{IsReadable, bytes_wanted, data_wanted, may_read, sender_by, sender_doing}
+use Rattle.vk_move.specs.Sender.{IsSourceReadable, bytes_wanted, data_wanted, may_read, sender_by, sender_doing}
 use Rattle.vk_move.proofs.Going.{found_fits}
 
 -- A process that waits in its Send to a process of the mover's station.
@@ -60,7 +58,7 @@ is_sending pid target number note (activities.Blocked (waitings.GetPid logical s
 
 -- what is done before is what was, or nothing
 before_by : (g a : Bool) (done before : ℕ) (opens : Bool) →
-    cond g (pieces.Wanted a (cond a 0 done)) pieces.Nothing ≡ pieces.Wanted opens before → done ≤ 65536 → before ≤ 65536
+    cond g (demands.Wanted a (cond a 0 done)) demands.Nothing ≡ demands.Wanted opens before → done ≤ 65536 → before ≤ 65536
 before_by true true done before opens is low = let e : 0 ≡ before = cc in omega arith
 before_by true false done before opens is low = let e : done ≡ before = cc in omega arith
 before_by false a done before opens is low = cc
@@ -72,13 +70,13 @@ done_low false end before low so_far = so_far
 
 low_by : (x : Sender) (moving dest total : ℕ) (opens : Bool) (before : ℕ) →
     ((m : Message) (opened done : ℕ) → x ≡ senders.Waits m opened done → done ≤ 65536) →
-    data_wanted moving dest total x ≡ pieces.Wanted opens before → before ≤ 65536
+    data_wanted moving dest total x ≡ demands.Wanted opens before → before ≤ 65536
 low_by senders.Unknown moving dest total opens before low is = cc
 low_by senders.Gone moving dest total opens before low is = cc
 low_by (senders.Waits m opened done) moving dest total opens before low is =
     before_by _ (ltb opened moving) done before opens is (low m opened done refl)
 
-granted_by : (g a : Bool) (p : Piece) (opens : Bool) (before : ℕ) → cond (g && a) p pieces.Nothing ≡ pieces.Wanted opens before → g ≡ true
+granted_by : (g a : Bool) (p : Demand) (opens : Bool) (before : ℕ) → cond (g && a) p demands.Nothing ≡ demands.Wanted opens before → g ≡ true
 granted_by true a p opens before is = refl
 granted_by false a p opens before is = cc
 
@@ -101,12 +99,12 @@ module _ (seats : List Seat) (fit : HasFitSeats seats) (pid target : Pid) (numbe
       omega (arith, x.done_is, f.done)
 
   pub low_before : (moving dest total : ℕ) (opens : Bool) (before : ℕ) →
-      pieces.Wanted opens before ≡ data_wanted moving dest total (sender_by pid target number (seat_in seats pid)) → before ≤ 65536
+      demands.Wanted opens before ≡ data_wanted moving dest total (sender_by pid target number (seat_in seats pid)) → before ≤ 65536
   low_before moving dest total opens before is =
       low_by (sender_by pid target number (seat_in seats pid)) moving dest total opens before (low_seat (seat_in seats pid) refl) (sym is)
 
   readable_by : (s : Seat) (x : Sender) (moving src total : ℕ) (opens : Bool) (before : ℕ) → seat_in seats pid ≡ Some s →
-      sender_doing pid target number s.note s.doing ≡ x → bytes_wanted moving src total x ≡ pieces.Wanted opens before →
+      sender_doing pid target number s.note s.doing ≡ x → bytes_wanted moving src total x ≡ demands.Wanted opens before →
       src + total ≤ length s.memory
   readable_by s senders.Unknown moving src total opens before found by is = cc
   readable_by s senders.Gone moving src total opens before found by is = cc
@@ -117,25 +115,25 @@ module _ (seats : List Seat) (fit : HasFitSeats seats) (pid target : Pid) (numbe
       (leb-true _ _ (f.waits (waitings.Send x.to m) x.state))
 
   readable_seat : (o : Option Seat) (moving src total : ℕ) (opens : Bool) (before : ℕ) → seat_in seats pid ≡ o →
-      bytes_wanted moving src total (sender_by pid target number o) ≡ pieces.Wanted opens before → IsReadable src total o
+      bytes_wanted moving src total (sender_by pid target number o) ≡ demands.Wanted opens before → IsSourceReadable src total o
   readable_seat None moving src total opens before found is = cc
   readable_seat (Some s) moving src total opens before found is =
       readable_by s (sender_doing pid target number s.note s.doing) moving src total opens before found refl is
 
   pub readable : (moving src total : ℕ) (opens : Bool) (before : ℕ) →
-      pieces.Wanted opens before ≡ bytes_wanted moving src total (sender_by pid target number (seat_in seats pid)) →
-      IsReadable src total (seat_in seats pid)
+      demands.Wanted opens before ≡ bytes_wanted moving src total (sender_by pid target number (seat_in seats pid)) →
+      IsSourceReadable src total (seat_in seats pid)
   readable moving src total opens before is = readable_seat (seat_in seats pid) moving src total opens before refl (sym is)
 
   asked_by : (x : Sender) (moving src total : ℕ) (opens : Bool) (before : ℕ) →
       ((m : Message) (opened done : ℕ) → x ≡ senders.Waits m opened done → done ≤ 65536) →
-      bytes_wanted moving src total x ≡ pieces.Wanted opens before → before ≤ 65536
+      bytes_wanted moving src total x ≡ demands.Wanted opens before → before ≤ 65536
   asked_by senders.Unknown moving src total opens before low is = cc
   asked_by senders.Gone moving src total opens before low is = cc
   asked_by (senders.Waits m opened done) moving src total opens before low is =
       before_by _ (ltb opened moving) done before opens is (low m opened done refl)
 
   pub low_asked : (moving src total : ℕ) (opens : Bool) (before : ℕ) →
-      pieces.Wanted opens before ≡ bytes_wanted moving src total (sender_by pid target number (seat_in seats pid)) → before ≤ 65536
+      demands.Wanted opens before ≡ bytes_wanted moving src total (sender_by pid target number (seat_in seats pid)) → before ≤ 65536
   low_asked moving src total opens before is =
       asked_by (sender_by pid target number (seat_in seats pid)) moving src total opens before (low_seat (seat_in seats pid) refl) (sym is)

@@ -2,22 +2,14 @@
 use Rattle.std.specs.Prelude.{ℕ, ◌≡◌, ◌<◌, ◌^◌, ◌+◌, Bool, true, false, ◌==◌, ◌&&◌, not, nat_lt, List, [], ◌∷◌, ◌++◌, length, Option, Some, None, option_map, if◌then◌else◌}
 use Rattle.std.specs.List.{position}
 use Rattle.std.specs.Option.{option_map_or}
+use Rattle.vk_types.specs.Types.{Call, Direction, Message, MoveName, Outcome, Pid, Step, Times, Waiting}
 use Rattle.vk_base.specs.declared.activity.Activity.TheVariants as activities
-use Rattle.vk_base.specs.declared.activity.Outcome.{Outcome}
 use Rattle.vk_base.specs.declared.activity.Outcome.TheVariants as outcomes
-use Rattle.vk_base.specs.declared.activity.Waiting.{Waiting}
 use Rattle.vk_base.specs.declared.activity.Waiting.TheVariants as waitings
 use Rattle.vk_base.specs.declared.answer.Refusal.TheVariants as refusals
-use Rattle.vk_base.specs.declared.call.Call.{Call}
 use Rattle.vk_base.specs.declared.call.Call.TheVariants as calls
-use Rattle.vk_base.specs.declared.config.Times.{Times}
-use Rattle.vk_base.specs.declared.kernel.Direction.{Direction}
 use Rattle.vk_base.specs.declared.kernel.Direction.TheVariants as directions
-use Rattle.vk_base.specs.declared.kernel.MoveName.{MoveName}
 use Rattle.vk_base.specs.declared.limits.TheConstants.{MOVE_BYTES}
-use Rattle.vk_base.specs.declared.message.Message.{Message}
-use Rattle.vk_base.specs.declared.pid.Pid.{Pid}
-use Rattle.vk_base.specs.declared.step.Step.{Step}
 use Rattle.vk_base.specs.declared.step.Step.TheVariants as made
 use Rattle.vk_base.specs.Firsts.{change_first}
 use Rattle.vk_base.specs.Kernel.{name_of}
@@ -35,6 +27,7 @@ use Rattle.vk_stands.specs.Fit.{AreFit, IsFitAlien}
 use Rattle.vk_stands.specs.Held.{Holding, alien_holding}
 use Rattle.vk_stands.specs.Rules.{Doing, IsCallRule, given_by, posted}
 use Rattle.vk_stands.specs.Tables.{Tables}
+use Rattle.vk_timer.specs.Works.{started}
 use Rattle.vk_move.specs.declared.begun.Verdict.{Verdict}
 use Rattle.vk_move.specs.declared.begun.Verdict.TheVariants as verdicts
 use Rattle.vk_move.specs.declared.moves.Transfer.{Transfer}
@@ -92,7 +85,7 @@ moves_of slots partner = option_map_or (moves_at slots) (position (is_alien_from
 
 -- the process waits in it
 abbrev pub begun_note : Times → ℕ → MoveName → ProcNote → ProcNote
-begun_note t now m n = record n { moving = Some m; tries = 1; deadline = now + t.interval; offset = 0; fresh = false }
+begun_note t now m n = record n { moving = Some m; work = started t now; offset = 0; fresh = false }
 
 abbrev pub waiting_seats : Times → ℕ → Pid → Waiting → MoveName → List Seat → List Seat
 waiting_seats t now pid w m seats =
@@ -144,8 +137,8 @@ verdict_in seats slots pid partner way dest src count =
     verdict_by way (size_of (seat_in seats pid)) (theirs_of way dest src) (own_of way dest src) count
     (message_held pid (alien_from slots partner))
 
-abbrev pub way_begun : Times → ℕ → Pid → Direction → Pid → (dest src count : ℕ) → List Seat → List (Option Alien) → Begun
-way_begun t now pid way partner dest src count seats slots =
+abbrev pub begun_by_fields : Times → ℕ → Pid → Direction → Pid → (dest src count : ℕ) → List Seat → List (Option Alien) → Begun
+begun_by_fields t now pid way partner dest src count seats slots =
     begun_by t now pid (waiting_in way partner dest src count) (position (is_alien_from partner) slots) partner
     (verdict_in seats slots pid partner way dest src count) seats slots
 
@@ -160,10 +153,10 @@ transfer_begun t now pid x seats slots =
     transfer_by t now pid x (verdict_in seats slots pid x.partner x.way x.dest x.src x.count) seats slots
 
 abbrev pub move_begun : Times → ℕ → Pid → Call → List Seat → List (Option Alien) → Begun
-move_begun t now pid (calls.MoveTo partner dest src count) seats slots = way_begun t now pid directions.To partner dest src count seats
+move_begun t now pid (calls.MoveTo partner dest src count) seats slots = begun_by_fields t now pid directions.To partner dest src count seats
     slots
 move_begun t now pid (calls.MoveFrom partner dest src count) seats slots =
-    way_begun t now pid directions.From partner dest src count seats slots
+    begun_by_fields t now pid directions.From partner dest src count seats slots
 move_begun t now pid c seats slots = record { answer = None; seats = seats; slots = slots; packets = [] }
 
 -- the first round of this move may go out
@@ -188,8 +181,8 @@ is_away pid c = false
 
 -- Whatever queues and names there are that fit these processes and aliens: for every reading that the tables stand for the call is its
 -- right entry, and they fit afterwards.
-abbrev pub doing_in : List Seat → List (Option Alien) → List Step → Posts → Doing
-doing_in seats slots ss out =
+abbrev pub doing_of : List Seat → List (Option Alien) → List Step → Posts → Doing
+doing_of seats slots ss out =
     record { tables = record { seats = seats; lists = []; slots = slots; names = [] }; steps = ss; out = out }
 
 abbrev pub beside : Tables → Doing → Doing

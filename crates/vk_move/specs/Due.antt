@@ -1,15 +1,12 @@
 -- What a tick finds of the move that a process waits in.
 use Rattle.std.specs.Prelude.{ℕ, ◌≡◌, ◌++◌, Bool, true, List, option_to_list, Option, Some, None, if◌then◌else◌}
+use Rattle.vk_types.specs.Types.{Pid, Step, Times}
 use Rattle.vk_base.specs.declared.answer.Ending.TheVariants as endings
-use Rattle.vk_base.specs.declared.config.Times.{Times}
-use Rattle.vk_base.specs.declared.pid.Pid.{Pid}
-use Rattle.vk_base.specs.declared.step.Step.{Step}
 use Rattle.vk_base.specs.Activities.{state_of}
 use Rattle.vk_base.specs.Kernel.{holds_of, is_moving}
 use Rattle.vk_packet.specs.Posts.{Posts}
 use Rattle.vk_procs.specs.declared.seat.Seat.{Seat}
 use Rattle.vk_procs.specs.Seats.{seat_in}
-use Rattle.vk_procs.specs.Works.{work_in}
 use Rattle.vk_rules.specs.CallOutcomes.{failed, sent_again}
 use Rattle.vk_rules.specs.Readings.{Reading}
 use Rattle.vk_stands.specs.Fit.{AreFit}
@@ -18,6 +15,7 @@ use Rattle.vk_stands.specs.Stands.{Stands}
 use Rattle.vk_stands.specs.Tables.{Tables}
 use Rattle.vk_timer.specs.declared.work.Due.{Due}
 use Rattle.vk_timer.specs.declared.work.Due.TheVariants as dues
+use Rattle.vk_timer.specs.declared.work.Work.{Work}
 use Rattle.vk_timer.specs.Works.{due_at, work_at}
 use Rattle.vk_move.specs.declared.tick.Ticked.{Ticked}
 use Rattle.vk_move.specs.declared.tick.Ticked.TheVariants as ticks
@@ -25,13 +23,13 @@ use Rattle.vk_move.specs.Fitting.{KeepsFit}
 use Rattle.vk_move.specs.Moved.{Moved, still}
 use Rattle.vk_move.specs.Mover.{ended, goes_on}
 
-abbrev pub ticked_by : Due → ℕ → ℕ → Ticked
-ticked_by dues.NotDue tries from = ticks.Nothing
-ticked_by dues.GiveUp tries from = ticks.Ends
-ticked_by dues.Resend tries from = ticks.Again tries from
+abbrev pub ticked_by : Due → Work → ℕ → Ticked
+ticked_by dues.NotDue work from = ticks.Nothing
+ticked_by dues.GiveUp work from = ticks.Ends
+ticked_by dues.Resend work from = ticks.Again work from
 
 abbrev pub ticked_at : Times → ℕ → Seat → Ticked
-ticked_at t now s = ticked_by (due_at t now (work_in s)) (work_at t now (work_in s)).tries s.note.offset
+ticked_at t now s = ticked_by (due_at t now s.note.work) (work_at t now s.note.work) s.note.offset
 
 abbrev pub ticked_in : Times → ℕ → Option Seat → Ticked
 ticked_in t now None = ticks.Nothing
@@ -40,7 +38,7 @@ ticked_in t now (Some s) = if is_moving (state_of s.doing) then ticked_at t now 
 abbrev pub tick_moved : Times → ℕ → Pid → Ticked → List Seat → Moved
 tick_moved t now pid ticks.Nothing seats = still seats
 tick_moved t now pid ticks.Ends seats = ended pid endings.TimedOut seats
-tick_moved t now pid (ticks.Again tries from) seats = goes_on t now tries pid from seats
+tick_moved t now pid (ticks.Again work from) seats = goes_on work pid from seats
 
 -- of one process: its seat alone changes
 abbrev pub due_moved : Times → ℕ → Pid → List Seat → Moved

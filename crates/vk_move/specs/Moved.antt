@@ -1,13 +1,8 @@
 -- What a rule of moves does, by the tables: the seats then, the steps and the packets.
 use Rattle.std.specs.Prelude.{ℕ, ◌≡◌, ◌+◌, List, [], ◌∷◌, map, length, slice_get, nat_le, Bool, true, false, ◌&&◌, Option, Some, None, if◌then◌else◌}
-use Rattle.vk_base.specs.declared.activity.Activity.{Activity}
+use Rattle.vk_types.specs.Types.{Activity, MoveName, Name, Pid, Step, Times}
 use Rattle.vk_base.specs.declared.activity.Activity.TheVariants as activities
 use Rattle.vk_base.specs.declared.activity.Waiting.TheVariants as waitings
-use Rattle.vk_base.specs.declared.config.Times.{Times}
-use Rattle.vk_base.specs.declared.kernel.MoveName.{MoveName}
-use Rattle.vk_base.specs.declared.kernel.Name.{Name}
-use Rattle.vk_base.specs.declared.pid.Pid.{Pid}
-use Rattle.vk_base.specs.declared.step.Step.{Step}
 use Rattle.vk_base.specs.Firsts.{change_first}
 use Rattle.vk_base.specs.Kernel.{name_of}
 use Rattle.vk_base.specs.Packets.{Packet}
@@ -19,7 +14,9 @@ use Rattle.vk_procs.specs.Seats.{is_seat, seat_in}
 use Rattle.vk_rules.specs.PacketOutcomes.{bytes_packet}
 use Rattle.vk_rules.specs.Rounds.{data_packets, offsets, request_packet}
 use Rattle.vk_stands.specs.Fit.{IsFitSeat}
-use Rattle.vk_move.specs.declared.moves.Moving.{Moving}
+use Rattle.vk_timer.specs.declared.work.Work.{Work}
+use Rattle.vk_timer.specs.Works as works
+use Rattle.vk_move.specs.declared.moves.Subject.{Subject}
 
 pub record Moved : Type 0 where
   pub seats : List Seat
@@ -30,8 +27,8 @@ abbrev pub still : List Seat → Moved
 still seats = record { seats = seats; steps = []; packets = [] }
 
 -- the move of this number in the Send of this number, which the mover makes
-abbrev pub moving_by : (mover sender : Pid) (number moving : ℕ) → Moving
-moving_by mover sender number moving = record { name = record { exchange = name_of sender number; number = moving }; mover = mover }
+abbrev pub subject_by : (mover sender : Pid) (number moving : ℕ) → Subject
+subject_by mover sender number moving = record { name = record { exchange = name_of sender number; number = moving }; mover = mover }
 
 -- the packets of the bytes that a request asks for
 abbrev pub asked_packets : Name → (mover : Pid) (moving src total from : ℕ) (memory : List ℕ) → List Packet
@@ -58,15 +55,15 @@ change_note pid f seats = change_first (is_seat pid) (renoted f) seats
 
 -- its work was answered
 abbrev pub answered : Times → ℕ → ProcNote → ProcNote
-answered t now n = record n { tries = 0; deadline = now + t.interval }
+answered t now n = record n { work = works.answered t now }
 
--- a round of its move goes out from this offset on, the first of so many since
-abbrev pub restarted : Times → ℕ → ℕ → ℕ → ProcNote → ProcNote
-restarted t now tries offset n = record n { tries = tries; deadline = now + t.interval; offset = offset; fresh = false }
+-- a round of its move goes out from this offset on, and its work is this one then
+abbrev pub restarted : Work → ℕ → ProcNote → ProcNote
+restarted work offset n = record n { work = work; offset = offset; fresh = false }
 
 -- so many bytes of its move were received
 abbrev pub received : Times → ℕ → ℕ → ProcNote → ProcNote
-received t now offset n = record n { tries = 0; deadline = now + t.interval; offset = offset; fresh = true }
+received t now offset n = record n { work = works.answered t now; offset = offset; fresh = true }
 
 -- so many bytes of this move, which is open, are done
 abbrev pub progressed : ℕ → ℕ → ProcNote → ProcNote

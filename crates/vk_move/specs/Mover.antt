@@ -1,16 +1,12 @@
 -- At the mover's station: what its partner's packets do to a move.
 use Rattle.std.specs.Prelude.{ℕ, ◌+◌, ◌%◌, Bool, ◌==◌, ◌&&◌, nat_lt, List, [], ◌∷◌, length, Option, Some, None, if◌then◌else◌}
-use Rattle.vk_base.specs.declared.activity.Activity.{Activity}
+use Rattle.vk_types.specs.Types.{Activity, Ending, Name, Pid, Times}
 use Rattle.vk_base.specs.declared.activity.Activity.TheVariants as activities
 use Rattle.vk_base.specs.declared.activity.Outcome.TheVariants as outcomes
 use Rattle.vk_base.specs.declared.activity.Waiting.TheVariants as waitings
-use Rattle.vk_base.specs.declared.answer.Ending.{Ending}
 use Rattle.vk_base.specs.declared.answer.Ending.TheVariants as endings
 use Rattle.vk_base.specs.declared.answer.Refusal.TheVariants as refusals
-use Rattle.vk_base.specs.declared.config.Times.{Times}
-use Rattle.vk_base.specs.declared.kernel.Name.{Name}
 use Rattle.vk_base.specs.declared.limits.TheConstants.{DATA_BYTES}
-use Rattle.vk_base.specs.declared.pid.Pid.{Pid}
 use Rattle.vk_base.specs.declared.step.Step.TheVariants as steps
 use Rattle.vk_base.specs.Firsts.{change_first}
 use Rattle.vk_base.specs.Kernel.{holds_of}
@@ -19,7 +15,9 @@ use Rattle.vk_procs.specs.declared.seat.ProcNote.{ProcNote}
 use Rattle.vk_procs.specs.declared.seat.Seat.{Seat}
 use Rattle.vk_procs.specs.Seats.{finished, is_seat, process_of, seat_in, written}
 use Rattle.vk_rules.specs.PacketOutcomes.{copies_bytes}
-use Rattle.vk_move.specs.declared.moves.Moving.{Moving}
+use Rattle.vk_timer.specs.declared.work.Work.{Work}
+use Rattle.vk_timer.specs.Works.{started}
+use Rattle.vk_move.specs.declared.moves.Subject.{Subject}
 use Rattle.vk_move.specs.declared.mover.Acked.{Acked}
 use Rattle.vk_move.specs.declared.mover.Acked.TheVariants as acks
 use Rattle.vk_move.specs.declared.mover.Brought.{Brought}
@@ -57,9 +55,9 @@ ended_seats pid endings.NoProcess seats = seats
 abbrev pub ended : Pid → Ending → List Seat → Moved
 ended pid why seats = record { seats = ended_seats pid why seats; steps = steps.End pid why ∷ []; packets = [] }
 
-abbrev pub goes_on : Times → ℕ → ℕ → Pid → ℕ → List Seat → Moved
-goes_on t now tries pid from seats = record {
-  seats = change_note pid (restarted t now tries from) seats;
+abbrev pub goes_on : Work → Pid → ℕ → List Seat → Moved
+goes_on work pid from seats = record {
+  seats = change_note pid (restarted work from) seats;
   steps = [];
   packets = round_from pid from (seat_in seats pid);
 }
@@ -67,10 +65,10 @@ goes_on t now tries pid from seats = record {
 abbrev pub ack_moved : Times → ℕ → Pid → ℕ → Acked → List Seat → Moved
 ack_moved t now pid got acks.Nothing seats = still seats
 ack_moved t now pid got acks.Answers seats = record { seats = change_note pid (answered t now) seats; steps = []; packets = [] }
-ack_moved t now pid got acks.Restarts seats = goes_on t now 1 pid got seats
+ack_moved t now pid got acks.Restarts seats = goes_on (started t now) pid got seats
 ack_moved t now pid got acks.Ends seats = ended pid endings.Ok seats
 
-abbrev pub ack_taken : Times → ℕ → Moving → ℕ → List Seat → Moved
+abbrev pub ack_taken : Times → ℕ → Subject → ℕ → List Seat → Moved
 ack_taken t now m got seats = ack_moved t now m.mover got (acked_in m.name.exchange m.name.number got (seat_in seats m.mover)) seats
 
 -- Bytes that come: the next ones, which may be the last; or the last behind a gap, where the move goes on from the gap if some
@@ -90,29 +88,29 @@ abbrev pub brought_in : Name → ℕ → ℕ → ℕ → ℕ → Option Seat →
 brought_in name moving total offset end None = brought.Nothing
 brought_in name moving total offset end (Some s) = brought_doing (is_mover name moving s) s.note total offset end s.doing
 
-abbrev pub next_written : Pid → ℕ → ℕ → List ℕ → List Seat → List Seat
-next_written pid dest offset bytes seats = change_first (is_seat pid) (written (place_in dest offset) bytes) seats
+abbrev pub piece_written : Pid → ℕ → ℕ → List ℕ → List Seat → List Seat
+piece_written pid dest offset bytes seats = change_first (is_seat pid) (written (place_in dest offset) bytes) seats
 
 abbrev pub bytes_moved : Times → ℕ → Pid → Name → ℕ → ℕ → List ℕ → Brought → List Seat → Moved
 bytes_moved t now pid name moving offset bytes brought.Nothing seats = still seats
 bytes_moved t now pid name moving offset bytes brought.Answers seats =
     record { seats = change_note pid (answered t now) seats; steps = []; packets = [] }
-bytes_moved t now pid name moving offset bytes (brought.Restarts from) seats = goes_on t now 1 pid from seats
+bytes_moved t now pid name moving offset bytes (brought.Restarts from) seats = goes_on (started t now) pid from seats
 bytes_moved t now pid name moving offset bytes (brought.Next dest last) seats = record {
   seats =
-      if last then ended_seats pid endings.Ok (next_written pid dest offset bytes seats)
-      else change_note pid (received t now (offset + length bytes)) (next_written pid dest offset bytes seats);
+      if last then ended_seats pid endings.Ok (piece_written pid dest offset bytes seats)
+      else change_note pid (received t now (offset + length bytes)) (piece_written pid dest offset bytes seats);
   steps = copies_bytes name moving offset bytes ∷ (if last then steps.End pid endings.Ok ∷ [] else []);
   packets = [];
 }
 
-abbrev pub bytes_taken : Times → ℕ → Moving → (total offset : ℕ) (bytes : List ℕ) → List Seat → Moved
+abbrev pub bytes_taken : Times → ℕ → Subject → (total offset : ℕ) (bytes : List ℕ) → List Seat → Moved
 bytes_taken t now m total offset bytes seats =
     bytes_moved t now m.mover m.name.exchange m.name.number offset bytes
     (brought_in m.name.exchange m.name.number total offset (offset + length bytes) (seat_in seats m.mover)) seats
 
 -- The partner no longer waits.
-abbrev pub gone_taken : Moving → List Seat → Moved
+abbrev pub gone_taken : Subject → List Seat → Moved
 gone_taken m seats =
     if holds_of (is_mover m.name.exchange m.name.number) (seat_in seats m.mover) then ended m.mover endings.Gone seats
     else still seats

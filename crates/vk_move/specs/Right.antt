@@ -1,10 +1,9 @@
 -- What it means that a rule of moves is right: for every reading that the tables stand for it makes the steps and the packets of the right
 -- entry, and the tables then stand for the reading after it.
 use Rattle.std.specs.Prelude.{ℕ, ◌≡◌, ◌++◌, List}
-use Rattle.vk_base.specs.declared.config.Times.{Times}
+use Rattle.vk_types.specs.Types.{Step, Times}
 use Rattle.vk_base.specs.declared.event.EventAnswer.TheVariants as events_answered
 use Rattle.vk_base.specs.Packets.{Packet, MoveData, MoveAck, MoveBytes, MoveRequest, MoveNegative}
-use Rattle.vk_base.specs.declared.step.Step.{Step}
 use Rattle.vk_base.specs.Settings.{Settings}
 use Rattle.vk_frame.specs.declared.header.Header.{Header}
 use Rattle.vk_packet.specs.Posts.{Posts}
@@ -21,7 +20,7 @@ use Rattle.vk_move.specs.Fitting.{KeepsFit}
 use Rattle.vk_move.specs.Moved.{Moved}
 use Rattle.vk_move.specs.Taken.{packet_taken}
 
-pub record IsRight (c : Settings) (host : ℕ) (t : Tables) (r : Reading) (e : Entry) (m : Moved) : Type 0 where
+pub record IsMoveRight (c : Settings) (host : ℕ) (t : Tables) (r : Reading) (e : Entry) (m : Moved) : Type 0 where
   pub steps : m.steps ≡ e.steps
   pub packets : m.packets ≡ packets_in e
   pub stands : Stands c.times host (record t { seats = m.seats }) (reading_after c.times r e)
@@ -31,7 +30,7 @@ IsMoveRule times now p seats m =
     (c : Settings) (host : ℕ) (t : Tables) (r : Reading) (h : Header) → c.times ≡ times → r.now ≡ now →
     AreFit host (record t { seats = seats }) →
     Stands times host (record t { seats = seats }) r → answer_to c host r (Delivered (Framed h p)) ≡ events_answered.Taken →
-    IsRight c host (record t { seats = seats }) r (right_entry c host r (Delivered (Framed h p))) m
+    IsMoveRight c host (record t { seats = seats }) r (right_entry c host r (Delivered (Framed h p))) m
 
 -- of the packets to a mover: an acknowledgement, bytes, and that its partner no longer waits
 abbrev pub IsMoverRule : Times → ℕ → Packet → List Seat → Type 0
@@ -55,7 +54,7 @@ IsSenderRule times now (MoveRequest from to number moving src total offset) seat
 IsSenderRule times now p seats = Unit {0}
 
 -- What comes of a packet: the processes, steps and packets that its rule makes, which fit as before, and that it is right.
-pub record IsTaken (times : Times) (now : ℕ) (p : Packet) (old new : List Seat) (before after : List Step) (sent out : Posts) : Type 0 where
+pub record IsPacketTaken (times : Times) (now : ℕ) (p : Packet) (old new : List Seat) (before after : List Step) (sent out : Posts) : Type 0 where
   pub seats : new ≡ (packet_taken times now p old).seats
   pub steps : after ≡ before ++ (packet_taken times now p old).steps
   pub packets : out ≡ posted sent (packet_taken times now p old).packets

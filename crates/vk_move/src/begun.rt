@@ -4,7 +4,7 @@ ghost use Rattle.std.specs.Prelude.{◌≡◌, ◌≤◌, ◌<◌, ◌+◌, ◌^
 ghost use Rattle.std.specs.List.{position};
 ghost use Rattle.vk_base.specs.Kernel.{is_move};
 ghost use Rattle.vk_local.specs.Rules.{may_call};
-ghost use Rattle.vk_move.specs.Begun.{CanBegin, HasFewMoves, HasFitAliens, IsMoveBegun, begun_note, counted, doing_in, grants_access, has_ranges, is_away, message_held, moves_of, next_name, size_of, transfer_begun, transfer_by, verdict_by, verdict_in, verdict_on, waiting_in, waiting_seats};
+ghost use Rattle.vk_move.specs.Begun.{CanBegin, HasFewMoves, HasFitAliens, IsMoveBegun, begun_note, counted, doing_of, grants_access, has_ranges, is_away, message_held, moves_of, next_name, size_of, transfer_begun, transfer_by, verdict_by, verdict_in, verdict_on, waiting_in, waiting_seats};
 ghost use Rattle.vk_move.specs.Moved.{change_note};
 ghost use Rattle.vk_pool.specs.Aliens.{alien_from, is_alien_from};
 ghost use Rattle.vk_procs.specs.Seats.{seat_in};
@@ -18,6 +18,7 @@ use vk_brief::{BriefCall, BriefStep, CallView, Steps};
 use vk_packet::Outbox;
 use vk_pool::{Alien, AlienPool, AlienStage};
 use vk_procs::{ProcNote, Procs, Seat};
+use vk_timer::Work;
 
 /// Whether a move may be made: it is refused; it is made at once, of no bytes; or it begins.
 #[derive(Clone, Copy)]
@@ -206,8 +207,7 @@ fn note_begun(procs: &mut Procs, pid: Pid, tick: Tick, name: MoveName)
     if let Some(seat) = procs.seat(pid) {
         let note = ProcNote {
             moving: Some(name),
-            tries: 1,
-            deadline: tick.at + tick.times.interval as u64,
+            work: Work::start(tick.at, &tick.times),
             offset: 0,
             fresh: false,
             ..seat.note
@@ -301,8 +301,8 @@ pub fn begin(
     requires fit { HasFitAliens aliens.old }
     requires packets { length out.old.posts + 64 ≤ out.old.room }
     requires room { length steps.old + 1 ≤ 40 }
-    ensures { IsMoveBegun times.now now pid call.now result (doing_in procs.old aliens.old steps.old out.old)
-        (doing_in procs.new aliens.new steps.new out.new) }
+    ensures { IsMoveBegun times.now now pid call.now result (doing_of procs.old aliens.old steps.old out.old)
+        (doing_of procs.new aliens.new steps.new out.new) }
 {
     let tick = Tick {
         at: now,

@@ -4,20 +4,21 @@ ghost use Rattle.std.specs.Prelude.{◌≡◌, ◌≤◌, ◌<◌, ◌+◌, ◌+
 ghost use Rattle.vk_base.specs.Firsts.{change_first};
 ghost use Rattle.vk_base.specs.Kernel.{holds_of};
 ghost use Rattle.vk_move.specs.Moved.{CanGoOn, HasFitSeats, answered, change_note, received, restarted};
-ghost use Rattle.vk_move.specs.Mover.{ack_moved, ack_taken, acked_by, acked_in, brought_by, brought_in, bytes_moved, bytes_taken, ended, ended_seats, gone_taken, goes_on, is_mover, next_written};
+ghost use Rattle.vk_move.specs.Mover.{ack_moved, ack_taken, acked_by, acked_in, brought_by, brought_in, bytes_moved, bytes_taken, ended, ended_seats, gone_taken, goes_on, is_mover, piece_written};
 ghost use Rattle.vk_rules.specs.PacketOutcomes.{copies_bytes};
 ghost use Rattle.vk_base.specs.declared.limits.TheConstants.{MOVE_BYTES};
 ghost use Rattle.vk_procs.specs.Seats.{is_seat, seat_in};
 ghost use Rattle.vk_stands.specs.Rules.{posted};
 
-use crate::moves::{Moving, Part, Tick, end_of};
-use crate::places::write_part;
+use crate::moves::{Piece, Subject, Tick, end_of};
+use crate::places::write_piece;
 use crate::rounds::post_round;
 use vk_base::limits::DATA_BYTES;
 use vk_base::{Activity, Ending, MoveName, Outcome, Pid, Refusal, Waiting};
 use vk_brief::{BriefStep, Steps};
 use vk_packet::Outbox;
 use vk_procs::{ProcNote, Procs, Seat};
+use vk_timer::Work;
 
 /// What an acknowledgement does to a move: nothing; its work has new patience; it goes on from the acknowledged bytes; or it ends.
 #[derive(Clone, Copy)]
@@ -137,24 +138,19 @@ fn answer(procs: &mut Procs, pid: Pid, tick: Tick)
     ensures { procs.new ≡ change_note pid (answered tick.times tick.at) procs.old }
 {
     if let Some(seat) = procs.seat(pid) {
-        let note = ProcNote {
-            tries: 0,
-            deadline: tick.at + tick.times.interval as u64,
-            ..seat.note
-        };
-        procs.set_note(pid, note);
+        let mut work = seat.note.work;
+        work.answered(tick.at, &tick.times);
+        procs.set_work(pid, work);
     }
 }
 
-/// A round of the process's move goes out at this tick from an offset on, and was tried so often with this one.
-fn restart(procs: &mut Procs, pid: Pid, tick: Tick, tries: u32, offset: u32)
-    requires { tick.at < 2 ^ 48 }
-    ensures { procs.new ≡ change_note pid (restarted tick.times tick.at tries offset) procs.old }
+/// A round of the process's move goes out from an offset on, and its work is this one then.
+fn restart(procs: &mut Procs, pid: Pid, work: Work, offset: u32)
+    ensures { procs.new ≡ change_note pid (restarted work offset) procs.old }
 {
     if let Some(seat) = procs.seat(pid) {
         let note = ProcNote {
-            tries,
-            deadline: tick.at + tick.times.interval as u64,
+            work,
             offset,
             fresh: false,
             ..seat.note
@@ -169,9 +165,10 @@ fn receive(procs: &mut Procs, pid: Pid, tick: Tick, offset: u32)
     ensures { procs.new ≡ change_note pid (received tick.times tick.at offset) procs.old }
 {
     if let Some(seat) = procs.seat(pid) {
+        let mut work = seat.note.work;
+        work.answered(tick.at, &tick.times);
         let note = ProcNote {
-            tries: 0,
-            deadline: tick.at + tick.times.interval as u64,
+            work,
             offset,
             fresh: true,
             ..seat.note
@@ -200,16 +197,15 @@ pub fn end(procs: &mut Procs, steps: &mut Steps, pid: Pid, why: Ending)
     steps.push(BriefStep::End { pid, why });
 }
 
-/// A round of the process's move goes out at this tick from an offset on, and was tried so often with this one.
-pub fn go_on(procs: &mut Procs, tick: Tick, out: &mut Outbox, pid: Pid, tries: u32, from: u32)
-    requires now { tick.at < 2 ^ 48 }
+/// A round of the process's move goes out from an offset on, and its work is this one then.
+pub fn go_on(procs: &mut Procs, out: &mut Outbox, pid: Pid, work: Work, from: u32)
     requires goes { CanGoOn procs.old pid from }
     requires room { length out.old.posts + 64 ≤ out.old.room }
-    ensures seats { procs.new ≡ (goes_on tick.times tick.at tries pid from procs.old).seats }
-    ensures packets { out.new ≡ posted out.old (goes_on tick.times tick.at tries pid from procs.old).packets }
+    ensures seats { procs.new ≡ (goes_on work pid from procs.old).seats }
+    ensures packets { out.new ≡ posted out.old (goes_on work pid from procs.old).packets }
 {
     post_round(procs, out, pid, from);
-    restart(procs, pid, tick, tries, from);
+    restart(procs, pid, work, from);
 }
 
 /// An acknowledgement of a move to a partner.
@@ -218,22 +214,25 @@ pub fn take_ack(
     tick: Tick,
     out: &mut Outbox,
     steps: &mut Steps,
-    moving: Moving,
+    subject: Subject,
     received: u32,
 )
     requires now { tick.at < 2 ^ 48 }
     requires fit { HasFitSeats procs.old }
     requires packets { length out.old.posts + 64 ≤ out.old.room }
     requires room { length steps.old + 1 ≤ 40 }
-    ensures seats { procs.new ≡ (ack_taken tick.times tick.at moving received procs.old).seats }
-    ensures steps { steps.new ≡ steps.old ++ (ack_taken tick.times tick.at moving received procs.old).steps }
-    ensures packets { out.new ≡ posted out.old (ack_taken tick.times tick.at moving received procs.old).packets }
+    ensures seats { procs.new ≡ (ack_taken tick.times tick.at subject received procs.old).seats }
+    ensures steps { steps.new ≡ steps.old ++ (ack_taken tick.times tick.at subject received procs.old).steps }
+    ensures packets { out.new ≡ posted out.old (ack_taken tick.times tick.at subject received procs.old).packets }
 {
-    let pid = moving.mover;
-    match acked_in(procs.seat(pid), moving.name, received) {
+    let pid = subject.mover;
+    match acked_in(procs.seat(pid), subject.name, received) {
         Acked::Nothing => {}
         Acked::Answers => answer(procs, pid, tick),
-        Acked::Restarts => go_on(procs, tick, out, pid, 1, received),
+        Acked::Restarts => {
+            let work = Work::start(tick.at, &tick.times);
+            go_on(procs, out, pid, work, received);
+        }
         Acked::Ends => end(procs, steps, pid, Ending::Ok),
     }
 }
@@ -244,35 +243,38 @@ pub fn take_bytes(
     tick: Tick,
     out: &mut Outbox,
     steps: &mut Steps,
-    moving: Moving,
-    part: Part<'_>,
+    subject: Subject,
+    piece: Piece<'_>,
 )
     requires now { tick.at < 2 ^ 48 }
     requires fit { HasFitSeats procs.old }
-    requires few { part.offset + length part.bytes.now ≤ MOVE_BYTES }
+    requires few { piece.offset + length piece.bytes.now ≤ MOVE_BYTES }
     requires packets { length out.old.posts + 64 ≤ out.old.room }
     requires room { length steps.old + 2 ≤ 40 }
     ensures seats { procs.new ≡
-        (bytes_taken tick.times tick.at moving part.entry.total part.entry.offset part.entry.bytes.now procs.old).seats }
+        (bytes_taken tick.times tick.at subject piece.entry.total piece.entry.offset piece.entry.bytes.now procs.old).seats }
     ensures steps { steps.new ≡ steps.old
-        ++ (bytes_taken tick.times tick.at moving part.entry.total part.entry.offset part.entry.bytes.now procs.old).steps }
+        ++ (bytes_taken tick.times tick.at subject piece.entry.total piece.entry.offset piece.entry.bytes.now procs.old).steps }
     ensures packets { out.new ≡ posted out.old
-        (bytes_taken tick.times tick.at moving part.entry.total part.entry.offset part.entry.bytes.now procs.old).packets }
+        (bytes_taken tick.times tick.at subject piece.entry.total piece.entry.offset piece.entry.bytes.now procs.old).packets }
 {
-    let pid = moving.mover;
-    let end_at = end_of(part);
+    let pid = subject.mover;
+    let end_at = end_of(piece);
     match brought_in(
         procs.seat(pid),
-        moving.name,
-        part.total,
-        part.offset,
+        subject.name,
+        piece.total,
+        piece.offset,
         end_at,
     ) {
         Brought::Nothing => {}
         Brought::Answers => answer(procs, pid, tick),
-        Brought::Restarts { from } => go_on(procs, tick, out, pid, 1, from),
+        Brought::Restarts { from } => {
+            let work = Work::start(tick.at, &tick.times);
+            go_on(procs, out, pid, work, from);
+        }
         Brought::Next { dest, last } => {
-            write_part(procs, steps, pid, moving.name, dest, part);
+            write_piece(procs, steps, pid, subject.name, dest, piece);
             if last {
                 end(procs, steps, pid, Ending::Ok);
             } else {
@@ -283,21 +285,21 @@ pub fn take_bytes(
 }
 
 /// The partner of a move no longer waits.
-pub fn take_gone(procs: &mut Procs, steps: &mut Steps, moving: Moving)
+pub fn take_gone(procs: &mut Procs, steps: &mut Steps, subject: Subject)
     requires { length steps.old + 1 ≤ 40 }
-    ensures seats { procs.new ≡ (gone_taken moving procs.old).seats }
-    ensures steps { steps.new ≡ steps.old ++ (gone_taken moving procs.old).steps }
+    ensures seats { procs.new ≡ (gone_taken subject procs.old).seats }
+    ensures steps { steps.new ≡ steps.old ++ (gone_taken subject procs.old).steps }
 {
-    if is_moving(procs, moving) {
-        end(procs, steps, moving.mover, Ending::Gone);
+    if is_moving(procs, subject) {
+        end(procs, steps, subject.mover, Ending::Gone);
     }
 }
 
-fn is_moving(procs: &Procs, moving: Moving) -> bool
-    ensures { result ≡ holds_of (is_mover moving.name.exchange moving.name.number) (seat_in procs.now moving.mover) }
+fn is_moving(procs: &Procs, subject: Subject) -> bool
+    ensures { result ≡ holds_of (is_mover subject.name.exchange subject.name.number) (seat_in procs.now subject.mover) }
 {
-    match procs.seat(moving.mover) {
-        Some(seat) => is_mover(seat, moving.name),
+    match procs.seat(subject.mover) {
+        Some(seat) => is_mover(seat, subject.name),
         None => false,
     }
 }

@@ -2,7 +2,7 @@
 
 ghost use Rattle.std.specs.Prelude.{◌≡◌, ◌≤◌, ◌+◌, length};
 ghost use Rattle.vk_base.specs.declared.limits.TheConstants.{MOVE_BYTES};
-ghost use Rattle.vk_move.specs.Moved.{moving_by};
+ghost use Rattle.vk_move.specs.Moved.{subject_by};
 
 use vk_base::{Direction, MoveName, Name, Pid, Times};
 
@@ -13,9 +13,9 @@ pub struct Tick {
     pub times: Times,
 }
 
-/// Which move a packet is of, and who makes it.
+/// What a packet is about: which move, and who makes it. `moving` is the number of a move, as in packets and steps.
 #[derive(Clone, Copy)]
-pub struct Moving {
+pub struct Subject {
     pub name: MoveName,
     pub mover: Pid,
 }
@@ -40,25 +40,25 @@ pub struct Asked {
 
 /// The bytes of one packet: of `total` in all, those from `offset` on.
 #[derive(Clone, Copy)]
-pub struct Part<'a> {
+pub struct Piece<'a> {
     pub total: u32,
     pub offset: u32,
     pub bytes: &'a [u8],
 }
 
 /// How many bytes of the move there are up to the end of these.
-pub fn end_of(part: Part<'_>) -> u32
-    requires { part.offset + length part.bytes.now ≤ MOVE_BYTES }
-    ensures { result ≡ part.entry.offset + length part.entry.bytes.now }
+pub fn end_of(piece: Piece<'_>) -> u32
+    requires { piece.offset + length piece.bytes.now ≤ MOVE_BYTES }
+    ensures { result ≡ piece.entry.offset + length piece.entry.bytes.now }
 {
-    part.offset + part.bytes.len() as u32
+    piece.offset + piece.bytes.len() as u32
 }
 
 /// The move of this number in the Send of this number, which the mover makes.
-pub fn moving_by(mover: Pid, sender: Pid, number: u64, moving: u64) -> Moving
-    ensures { result ≡ moving_by mover sender number moving }
+pub fn subject_by(mover: Pid, sender: Pid, number: u64, moving: u64) -> Subject
+    ensures { result ≡ subject_by mover sender number moving }
 {
-    Moving {
+    Subject {
         name: MoveName {
             exchange: Name { sender, number },
             number: moving,

@@ -3,11 +3,11 @@
 ghost use Rattle.std.specs.Prelude.{◌≡◌, ◌≤◌, ◌<◌, ◌+◌, ◌++◌, ◌∷◌, [], ◌^◌, length, option_copied};
 ghost use Rattle.vk_base.specs.Firsts.{change_first};
 ghost use Rattle.vk_move.specs.Moved.{place_behind, place_in};
-ghost use Rattle.vk_move.specs.Mover.{next_written};
+ghost use Rattle.vk_move.specs.Mover.{piece_written};
 ghost use Rattle.vk_procs.specs.Seats.{is_seat, written};
 ghost use Rattle.vk_rules.specs.PacketOutcomes.{copies_bytes};
 
-use crate::moves::Part;
+use crate::moves::Piece;
 use vk_base::{MoveName, Pid};
 use vk_brief::{BriefStep, Steps};
 use vk_procs::{Procs, Seat};
@@ -36,26 +36,26 @@ fn write_behind(procs: &mut Procs, pid: Pid, start: u32, offset: u32, bytes: &[u
 }
 
 /// The next bytes of a move are written into the memory of the process, of a range that starts at `dest`.
-pub fn write_part(
+pub fn write_piece(
     procs: &mut Procs,
     steps: &mut Steps,
     pid: Pid,
     name: MoveName,
     dest: u32,
-    part: Part<'_>,
+    piece: Piece<'_>,
 )
-    requires few { length part.bytes.now < 2 ^ 32 }
+    requires few { length piece.bytes.now < 2 ^ 32 }
     requires room { length steps.old + 1 ≤ 40 }
-    ensures seats { procs.new ≡ next_written pid dest part.entry.offset part.entry.bytes.now procs.old }
+    ensures seats { procs.new ≡ piece_written pid dest piece.entry.offset piece.entry.bytes.now procs.old }
     ensures steps { steps.new ≡ steps.old
-        ++ copies_bytes name.exchange name.number part.entry.offset part.entry.bytes.now ∷ [] }
+        ++ copies_bytes name.exchange name.number piece.entry.offset piece.entry.bytes.now ∷ [] }
 {
-    write_behind(procs, pid, dest, part.offset, part.bytes);
+    write_behind(procs, pid, dest, piece.offset, piece.bytes);
     steps.push(BriefStep::Copy {
         sender: name.exchange.sender,
         number: name.exchange.number,
         moving: name.number,
-        offset: part.offset,
-        count: part.bytes.len() as u32,
+        offset: piece.offset,
+        count: piece.bytes.len() as u32,
     });
 }

@@ -8,14 +8,14 @@ ghost use Rattle.vk_move.specs.Moved.{CanGoOn, asked_packets, going, round_by, r
 ghost use Rattle.vk_procs.specs.Seats.{seat_in};
 ghost use Rattle.vk_stands.specs.Rules.{post_of, posted};
 
-use crate::moves::{Asked, Moving, Transfer};
+use crate::moves::{Asked, Subject, Transfer};
 use vk_base::limits::DATA_BYTES;
 use vk_base::{Activity, Direction, Memory, Pid, Waiting};
 use vk_packet::{Outbox, PacketView};
 use vk_procs::{Procs, Seat};
 
 /// The bytes of a packet are at most this many.
-const PIECE: u32 = DATA_BYTES as u32;
+const PIECE_BYTES: u32 = DATA_BYTES as u32;
 
 /// How many packets there are from `offset` on of a move of `total` bytes.
 fn pieces(total: u32, offset: u32) -> u32
@@ -24,36 +24,39 @@ fn pieces(total: u32, offset: u32) -> u32
     ensures inside { (i : ℕ) → i < result → offset + 1024 * i < total }
     ensures few { result ≤ 64 }
 {
-    (total - offset + (PIECE - 1)) / PIECE
+    (total - offset + (PIECE_BYTES - 1)) / PIECE_BYTES
 }
 
 /// One packet of a move to its partner, from `offset` on.
 fn post_data_piece(
     memory: &Memory,
     out: &mut Outbox,
-    moving: Moving,
+    subject: Subject,
     transfer: Transfer,
     offset: u32,
 )
-    requires numbers { (is_number moving.name.exchange.number && is_number moving.name.number) ≡ true }
+    requires numbers { (is_number subject.name.exchange.number && is_number subject.name.number) ≡ true }
     requires place { is_place transfer.count offset ≡ true }
     requires inside { transfer.src + transfer.count ≤ length memory.now }
     requires room { length out.old.posts < out.old.room }
     ensures { out.new ≡ record out.old {
       posts = out.old.posts
-          ++ post_of (data_packet moving.mover transfer.partner memory.now
-          transfer.dest transfer.src transfer.count moving.name offset) ∷ [];
+          ++ post_of (data_packet subject.mover transfer.partner memory.now
+          transfer.dest transfer.src transfer.count subject.name offset) ∷ [];
     } }
 {
     let _below_2_32 = memory.size();
-    let bytes = memory.bytes(transfer.src + offset, PIECE.min(transfer.count - offset));
+    let bytes = memory.bytes(
+        transfer.src + offset,
+        PIECE_BYTES.min(transfer.count - offset),
+    );
     out.post(
         transfer.partner.host,
         &PacketView::MoveData {
-            from: moving.mover,
+            from: subject.mover,
             to: transfer.partner,
-            number: moving.name.exchange.number,
-            moving: moving.name.number,
+            number: subject.name.exchange.number,
+            moving: subject.name.number,
             dest: transfer.dest,
             total: transfer.count,
             offset,
@@ -63,35 +66,35 @@ fn post_data_piece(
 }
 
 /// The bytes of a move to its partner, from `from` on.
-fn post_data(memory: &Memory, out: &mut Outbox, moving: Moving, transfer: Transfer, from: u32)
-    requires numbers { (is_number moving.name.exchange.number && is_number moving.name.number) ≡ true }
+fn post_data(memory: &Memory, out: &mut Outbox, subject: Subject, transfer: Transfer, from: u32)
+    requires numbers { (is_number subject.name.exchange.number && is_number subject.name.number) ≡ true }
     requires place { is_place transfer.count from ≡ true }
     requires inside { transfer.src + transfer.count ≤ length memory.now }
     requires room { length out.old.posts + 64 ≤ out.old.room }
-    ensures { out.new ≡ posted out.old (data_packets moving.mover transfer.partner memory.now transfer.dest transfer.src
-        transfer.count from moving.name) }
+    ensures { out.new ≡ posted out.old (data_packets subject.mover transfer.partner memory.now transfer.dest transfer.src
+        transfer.count from subject.name) }
 {
     let pieces = pieces(transfer.count, from);
     for piece in 0..pieces {
-        post_data_piece(memory, out, moving, transfer, from + PIECE * piece);
+        post_data_piece(memory, out, subject, transfer, from + PIECE_BYTES * piece);
     }
 }
 
 /// The request for the bytes of a move from its partner, from `from` on.
-fn post_request(out: &mut Outbox, moving: Moving, transfer: Transfer, from: u32)
-    requires numbers { (is_number moving.name.exchange.number && is_number moving.name.number) ≡ true }
+fn post_request(out: &mut Outbox, subject: Subject, transfer: Transfer, from: u32)
+    requires numbers { (is_number subject.name.exchange.number && is_number subject.name.number) ≡ true }
     requires place { is_place transfer.count from ≡ true }
     requires room { length out.old.posts < out.old.room }
     ensures { out.new ≡ posted out.old
-        (request_packet moving.mover transfer.partner transfer.src transfer.count from moving.name ∷ []) }
+        (request_packet subject.mover transfer.partner transfer.src transfer.count from subject.name ∷ []) }
 {
     out.post(
         transfer.partner.host,
         &PacketView::MoveRequest {
-            from: moving.mover,
+            from: subject.mover,
             to: transfer.partner,
-            number: moving.name.exchange.number,
-            moving: moving.name.number,
+            number: subject.name.exchange.number,
+            moving: subject.name.number,
             src: transfer.src,
             total: transfer.count,
             offset: from,
@@ -100,24 +103,24 @@ fn post_request(out: &mut Outbox, moving: Moving, transfer: Transfer, from: u32)
 }
 
 /// One packet of the bytes that a mover asked for, from `offset` on.
-fn post_bytes_piece(memory: &Memory, out: &mut Outbox, moving: Moving, asked: Asked, offset: u32)
-    requires numbers { (is_number moving.name.exchange.number && is_number moving.name.number) ≡ true }
+fn post_bytes_piece(memory: &Memory, out: &mut Outbox, subject: Subject, asked: Asked, offset: u32)
+    requires numbers { (is_number subject.name.exchange.number && is_number subject.name.number) ≡ true }
     requires place { is_place asked.total offset ≡ true }
     requires inside { asked.src + asked.total ≤ length memory.now }
     requires room { length out.old.posts < out.old.room }
     ensures { out.new ≡ record out.old {
       posts = out.old.posts
-          ++ post_of (bytes_packet moving.name.exchange moving.mover moving.name.number asked.src asked.total memory.now offset) ∷ [];
+          ++ post_of (bytes_packet subject.name.exchange subject.mover subject.name.number asked.src asked.total memory.now offset) ∷ [];
     } }
 {
     let _below_2_32 = memory.size();
-    let name = moving.name;
-    let bytes = memory.bytes(asked.src + offset, PIECE.min(asked.total - offset));
+    let name = subject.name;
+    let bytes = memory.bytes(asked.src + offset, PIECE_BYTES.min(asked.total - offset));
     out.post(
-        moving.mover.host,
+        subject.mover.host,
         &PacketView::MoveBytes {
             from: name.exchange.sender,
-            to: moving.mover,
+            to: subject.mover,
             number: name.exchange.number,
             moving: name.number,
             total: asked.total,
@@ -128,17 +131,23 @@ fn post_bytes_piece(memory: &Memory, out: &mut Outbox, moving: Moving, asked: As
 }
 
 /// The bytes that a mover asked for.
-pub fn post_bytes(memory: &Memory, out: &mut Outbox, moving: Moving, asked: Asked)
-    requires numbers { (is_number moving.name.exchange.number && is_number moving.name.number) ≡ true }
+pub fn post_bytes(memory: &Memory, out: &mut Outbox, subject: Subject, asked: Asked)
+    requires numbers { (is_number subject.name.exchange.number && is_number subject.name.number) ≡ true }
     requires place { is_place asked.total asked.offset ≡ true }
     requires inside { asked.src + asked.total ≤ length memory.now }
     requires room { length out.old.posts + 64 ≤ out.old.room }
-    ensures { out.new ≡ posted out.old (asked_packets moving.name.exchange moving.mover moving.name.number asked.src asked.total
+    ensures { out.new ≡ posted out.old (asked_packets subject.name.exchange subject.mover subject.name.number asked.src asked.total
         asked.offset memory.now) }
 {
     let pieces = pieces(asked.total, asked.offset);
     for piece in 0..pieces {
-        post_bytes_piece(memory, out, moving, asked, asked.offset + PIECE * piece);
+        post_bytes_piece(
+            memory,
+            out,
+            subject,
+            asked,
+            asked.offset + PIECE_BYTES * piece,
+        );
     }
 }
 
@@ -162,7 +171,7 @@ fn post_round_of(seat: &Seat, out: &mut Outbox, pid: Pid, from: u32)
     let Some(name) = seat.note.moving else {
         return;
     };
-    let moving = Moving { name, mover: pid };
+    let subject = Subject { name, mover: pid };
     match seat.doing {
         Activity::Blocked {
             waiting: Waiting::MoveTo {
@@ -180,7 +189,7 @@ fn post_round_of(seat: &Seat, out: &mut Outbox, pid: Pid, from: u32)
                 src,
                 count,
             };
-            post_data(&seat.memory, out, moving, transfer, from);
+            post_data(&seat.memory, out, subject, transfer, from);
         }
         Activity::Blocked {
             waiting: Waiting::MoveFrom {
@@ -198,7 +207,7 @@ fn post_round_of(seat: &Seat, out: &mut Outbox, pid: Pid, from: u32)
                 src,
                 count,
             };
-            post_request(out, moving, transfer, from);
+            post_request(out, subject, transfer, from);
         }
         _ => {}
     }

@@ -4,7 +4,7 @@ ghost use Rattle.std.specs.Prelude.{◌≡◌, ◌≤◌, ◌<◌, ◌+◌, ◌+
 ghost use Rattle.vk_base.specs.declared.limits.TheConstants.{MOVE_BYTES};
 ghost use Rattle.vk_base.specs.Packets as packets;
 ghost use Rattle.vk_move.specs.Moved.{HasFitSeats, change_note, progressed};
-ghost use Rattle.vk_move.specs.Sender.{bytes_of, bytes_wanted, data_taken, data_wanted, done_after, made_by, may_read, may_write, opening, request_taken, sender_by, wanted, written_if, IsReadable};
+ghost use Rattle.vk_move.specs.Sender.{bytes_of, bytes_wanted, data_taken, data_wanted, done_after, made_by, may_read, may_write, opening, request_taken, sender_by, wanted, written_if_next, IsSourceReadable};
 ghost use Rattle.vk_packet.specs.Rules.{is_number, is_place};
 ghost use Rattle.vk_procs.specs.Seats.{seat_in};
 ghost use Rattle.vk_rules.specs.PacketOutcomes.{copies_bytes};
@@ -12,8 +12,8 @@ ghost use Rattle.vk_rules.specs.Rounds.{list_if};
 ghost use Rattle.vk_rules.specs.Works.{is_last};
 ghost use Rattle.vk_stands.specs.Rules.{posted};
 
-use crate::moves::{Asked, Moving, Part, end_of};
-use crate::places::write_part;
+use crate::moves::{Asked, Piece, Subject, end_of};
+use crate::places::write_piece;
 use crate::rounds::post_bytes;
 use vk_base::{Activity, Message, MoveName, Pid, Waiting};
 use vk_brief::{BriefStep, Steps};
@@ -36,7 +36,7 @@ pub enum Sender {
 /// What a packet of a mover is: nothing that is wanted; of a Send that is over; or of a move that is open, or is opened by it, of
 /// which so many bytes are done before it.
 #[derive(Clone, Copy)]
-pub enum Piece {
+pub enum Demand {
     Nothing,
     Gone,
     Wanted { opens: bool, before: u32 },
@@ -52,14 +52,14 @@ fn made_by(number: u64, note: &ProcNote) -> Sender
     }
 }
 
-fn sender_by(seat: Option<&Seat>, moving: Moving) -> Sender
-    ensures { result ≡ sender_by moving.name.exchange.sender moving.mover moving.name.exchange.number
+fn sender_by(seat: Option<&Seat>, subject: Subject) -> Sender
+    ensures { result ≡ sender_by subject.name.exchange.sender subject.mover subject.name.exchange.number
         (option_copied seat.entry) }
 {
     let Some(seat) = seat else {
         return Sender::Unknown;
     };
-    let name = moving.name.exchange;
+    let name = subject.name.exchange;
     match seat.doing {
         Activity::Blocked {
             waiting: Waiting::Send {
@@ -67,8 +67,8 @@ fn sender_by(seat: Option<&Seat>, moving: Moving) -> Sender
                 message,
             },
         } => {
-            if to.host == moving.mover.host
-                && name.sender.host != moving.mover.host
+            if to.host == subject.mover.host
+                && name.sender.host != subject.mover.host
                 && seat.note.sends == name.number
             {
                 Sender::Waits {
@@ -104,32 +104,32 @@ fn may_read(message: &Message, start: u32, count: u32) -> bool
     grants.read && low <= start as u64 && start as u64 + count as u64 <= high
 }
 
-fn wanted(granted: bool, opened: u64, done: u32, moving: u64) -> Piece
+fn wanted(granted: bool, opened: u64, done: u32, moving: u64) -> Demand
     ensures { result ≡ wanted granted opened done moving }
 {
     if granted && opened <= moving {
         if opened < moving {
-            Piece::Wanted {
+            Demand::Wanted {
                 opens: true,
                 before: 0,
             }
         } else {
-            Piece::Wanted {
+            Demand::Wanted {
                 opens: false,
                 before: done,
             }
         }
     } else {
-        Piece::Nothing
+        Demand::Nothing
     }
 }
 
-fn data_wanted(sender: Sender, moving: u64, dest: u32, total: u32) -> Piece
+fn data_wanted(sender: Sender, moving: u64, dest: u32, total: u32) -> Demand
     ensures { result ≡ data_wanted moving dest total sender }
 {
     match sender {
-        Sender::Unknown => Piece::Nothing,
-        Sender::Gone => Piece::Gone,
+        Sender::Unknown => Demand::Nothing,
+        Sender::Gone => Demand::Gone,
         Sender::Waits {
             message,
             opened,
@@ -138,12 +138,12 @@ fn data_wanted(sender: Sender, moving: u64, dest: u32, total: u32) -> Piece
     }
 }
 
-fn bytes_wanted(sender: Sender, moving: u64, src: u32, total: u32) -> Piece
+fn bytes_wanted(sender: Sender, moving: u64, src: u32, total: u32) -> Demand
     ensures { result ≡ bytes_wanted moving src total sender }
 {
     match sender {
-        Sender::Unknown => Piece::Nothing,
-        Sender::Gone => Piece::Gone,
+        Sender::Unknown => Demand::Nothing,
+        Sender::Gone => Demand::Gone,
         Sender::Waits {
             message,
             opened,
@@ -153,18 +153,18 @@ fn bytes_wanted(sender: Sender, moving: u64, src: u32, total: u32) -> Piece
 }
 
 /// A mover is told that the sender does not wait for it any more.
-fn post_gone(out: &mut Outbox, moving: Moving)
-    requires numbers { (is_number moving.name.exchange.number && is_number moving.name.number) ≡ true }
+fn post_gone(out: &mut Outbox, subject: Subject)
+    requires numbers { (is_number subject.name.exchange.number && is_number subject.name.number) ≡ true }
     requires room { length out.old.posts < out.old.room }
     ensures { out.new ≡ posted out.old
-        (packets.MoveNegative moving.name.exchange.sender moving.mover moving.name.exchange.number moving.name.number ∷ []) }
+        (packets.MoveNegative subject.name.exchange.sender subject.mover subject.name.exchange.number subject.name.number ∷ []) }
 {
-    let name = moving.name;
+    let name = subject.name;
     out.post(
-        moving.mover.host,
+        subject.mover.host,
         &PacketView::MoveNegative {
             from: name.exchange.sender,
-            to: moving.mover,
+            to: subject.mover,
             number: name.exchange.number,
             moving: name.number,
         },
@@ -187,23 +187,23 @@ fn open_move(steps: &mut Steps, name: MoveName, opens: bool)
 }
 
 /// Bytes are written where they are the next ones.
-fn write_next(
+fn write_if_next(
     procs: &mut Procs,
     steps: &mut Steps,
     name: MoveName,
     dest: u32,
-    part: Part<'_>,
+    piece: Piece<'_>,
     before: u32,
 )
-    requires few { length part.bytes.now < 2 ^ 32 }
+    requires few { length piece.bytes.now < 2 ^ 32 }
     requires room { length steps.old + 1 ≤ 40 }
-    ensures seats { procs.new ≡ written_if (part.entry.offset == before) name.exchange.sender dest part.entry.offset
-        part.entry.bytes.now procs.old }
-    ensures steps { steps.new ≡ steps.old ++ list_if (part.entry.offset == before)
-        (copies_bytes name.exchange name.number part.entry.offset part.entry.bytes.now ∷ []) }
+    ensures seats { procs.new ≡ written_if_next (piece.entry.offset == before) name.exchange.sender dest piece.entry.offset
+        piece.entry.bytes.now procs.old }
+    ensures steps { steps.new ≡ steps.old ++ list_if (piece.entry.offset == before)
+        (copies_bytes name.exchange name.number piece.entry.offset piece.entry.bytes.now ∷ []) }
 {
-    if part.offset == before {
-        write_part(procs, steps, name.exchange.sender, name, dest, part);
+    if piece.offset == before {
+        write_piece(procs, steps, name.exchange.sender, name, dest, piece);
     }
 }
 
@@ -223,20 +223,20 @@ fn progress(procs: &mut Procs, pid: Pid, moving: u64, done: u32)
 
 /// The last bytes of a move are acknowledged: so many are done.
 #[tactic(auto, using(crate::proofs::Pieces::none_posted))]
-fn acknowledge(out: &mut Outbox, moving: Moving, done: u32, last: bool)
-    requires numbers { (is_number moving.name.exchange.number && is_number moving.name.number) ≡ true }
+fn acknowledge(out: &mut Outbox, subject: Subject, done: u32, last: bool)
+    requires numbers { (is_number subject.name.exchange.number && is_number subject.name.number) ≡ true }
     requires few { done ≤ MOVE_BYTES }
     requires room { length out.old.posts < out.old.room }
     ensures { out.new ≡ posted out.old (list_if last
-        (packets.MoveAck moving.name.exchange.sender moving.mover moving.name.exchange.number moving.name.number done ∷ [])) }
+        (packets.MoveAck subject.name.exchange.sender subject.mover subject.name.exchange.number subject.name.number done ∷ [])) }
 {
-    let name = moving.name;
+    let name = subject.name;
     if last {
         out.post(
-            moving.mover.host,
+            subject.mover.host,
             &PacketView::MoveAck {
                 from: name.exchange.sender,
-                to: moving.mover,
+                to: subject.mover,
                 number: name.exchange.number,
                 moving: name.number,
                 received: done,
@@ -245,12 +245,12 @@ fn acknowledge(out: &mut Outbox, moving: Moving, done: u32, last: bool)
     }
 }
 
-fn done_after(part: Part<'_>, before: u32) -> u32
-    requires few { part.offset + length part.bytes.now ≤ MOVE_BYTES }
-    ensures { result ≡ done_after part.entry.offset before part.entry.bytes.now }
+fn done_after(piece: Piece<'_>, before: u32) -> u32
+    requires few { piece.offset + length piece.bytes.now ≤ MOVE_BYTES }
+    ensures { result ≡ done_after piece.entry.offset before piece.entry.bytes.now }
 {
-    if part.offset == before {
-        end_of(part)
+    if piece.offset == before {
+        end_of(piece)
     } else {
         before
     }
@@ -261,50 +261,50 @@ pub fn take_data(
     procs: &mut Procs,
     out: &mut Outbox,
     steps: &mut Steps,
-    moving: Moving,
+    subject: Subject,
     dest: u32,
-    part: Part<'_>,
+    piece: Piece<'_>,
 )
-    requires numbers { (is_number moving.name.exchange.number && is_number moving.name.number) ≡ true }
-    requires few { part.offset + length part.bytes.now ≤ MOVE_BYTES }
+    requires numbers { (is_number subject.name.exchange.number && is_number subject.name.number) ≡ true }
+    requires few { piece.offset + length piece.bytes.now ≤ MOVE_BYTES }
     requires fit { HasFitSeats procs.old }
     requires packets { length out.old.posts < out.old.room }
     requires room { length steps.old + 2 ≤ 40 }
     ensures seats { procs.new ≡
-        (data_taken moving dest part.entry.total part.entry.offset part.entry.bytes.now procs.old).seats }
+        (data_taken subject dest piece.entry.total piece.entry.offset piece.entry.bytes.now procs.old).seats }
     ensures steps { steps.new ≡ steps.old
-        ++ (data_taken moving dest part.entry.total part.entry.offset part.entry.bytes.now procs.old).steps }
+        ++ (data_taken subject dest piece.entry.total piece.entry.offset piece.entry.bytes.now procs.old).steps }
     ensures packets { out.new ≡ posted out.old
-        (data_taken moving dest part.entry.total part.entry.offset part.entry.bytes.now procs.old).packets }
+        (data_taken subject dest piece.entry.total piece.entry.offset piece.entry.bytes.now procs.old).packets }
 {
-    let name = moving.name;
-    let sender = sender_by(procs.seat(name.exchange.sender), moving);
-    match data_wanted(sender, name.number, dest, part.total) {
-        Piece::Nothing => {}
-        Piece::Gone => post_gone(out, moving),
-        Piece::Wanted { opens, before } => {
-            let done = done_after(part, before);
-            let last = end_of(part) == part.total;
+    let name = subject.name;
+    let sender = sender_by(procs.seat(name.exchange.sender), subject);
+    match data_wanted(sender, name.number, dest, piece.total) {
+        Demand::Nothing => {}
+        Demand::Gone => post_gone(out, subject),
+        Demand::Wanted { opens, before } => {
+            let done = done_after(piece, before);
+            let last = end_of(piece) == piece.total;
             open_move(steps, name, opens);
-            write_next(procs, steps, name, dest, part, before);
+            write_if_next(procs, steps, name, dest, piece, before);
             progress(procs, name.exchange.sender, name.number, done);
-            acknowledge(out, moving, done, last);
+            acknowledge(out, subject, done, last);
         }
     }
 }
 
 /// All bytes that were asked for are posted.
 #[tactic(auto, using(crate::proofs::Pieces::none_posted))]
-fn post_asked(procs: &Procs, out: &mut Outbox, moving: Moving, asked: Asked)
-    requires numbers { (is_number moving.name.exchange.number && is_number moving.name.number) ≡ true }
+fn post_asked(procs: &Procs, out: &mut Outbox, subject: Subject, asked: Asked)
+    requires numbers { (is_number subject.name.exchange.number && is_number subject.name.number) ≡ true }
     requires place { is_place asked.total asked.offset ≡ true }
-    requires inside { IsReadable asked.src asked.total (seat_in procs.now moving.name.exchange.sender) }
+    requires inside { IsSourceReadable asked.src asked.total (seat_in procs.now subject.name.exchange.sender) }
     requires room { length out.old.posts + 64 ≤ out.old.room }
-    ensures { out.new ≡ posted out.old (bytes_of moving.name.exchange moving.mover moving.name.number
-        asked.src asked.total asked.offset (seat_in procs.now moving.name.exchange.sender)) }
+    ensures { out.new ≡ posted out.old (bytes_of subject.name.exchange subject.mover subject.name.number
+        asked.src asked.total asked.offset (seat_in procs.now subject.name.exchange.sender)) }
 {
-    if let Some(seat) = procs.seat(moving.name.exchange.sender) {
-        post_bytes(&seat.memory, out, moving, asked);
+    if let Some(seat) = procs.seat(subject.name.exchange.sender) {
+        post_bytes(&seat.memory, out, subject, asked);
     }
 }
 
@@ -313,25 +313,25 @@ pub fn take_request(
     procs: &mut Procs,
     out: &mut Outbox,
     steps: &mut Steps,
-    moving: Moving,
+    subject: Subject,
     asked: Asked,
 )
-    requires numbers { (is_number moving.name.exchange.number && is_number moving.name.number) ≡ true }
+    requires numbers { (is_number subject.name.exchange.number && is_number subject.name.number) ≡ true }
     requires place { is_place asked.total asked.offset ≡ true }
     requires fit { HasFitSeats procs.old }
     requires packets { length out.old.posts + 64 ≤ out.old.room }
     requires room { length steps.old + 1 ≤ 40 }
-    ensures seats { procs.new ≡ (request_taken moving asked.src asked.total asked.offset procs.old).seats }
-    ensures steps { steps.new ≡ steps.old ++ (request_taken moving asked.src asked.total asked.offset procs.old).steps }
-    ensures packets { out.new ≡ posted out.old (request_taken moving asked.src asked.total asked.offset procs.old).packets }
+    ensures seats { procs.new ≡ (request_taken subject asked.src asked.total asked.offset procs.old).seats }
+    ensures steps { steps.new ≡ steps.old ++ (request_taken subject asked.src asked.total asked.offset procs.old).steps }
+    ensures packets { out.new ≡ posted out.old (request_taken subject asked.src asked.total asked.offset procs.old).packets }
 {
-    let name = moving.name;
-    let sender = sender_by(procs.seat(name.exchange.sender), moving);
+    let name = subject.name;
+    let sender = sender_by(procs.seat(name.exchange.sender), subject);
     match bytes_wanted(sender, name.number, asked.src, asked.total) {
-        Piece::Nothing => {}
-        Piece::Gone => post_gone(out, moving),
-        Piece::Wanted { opens, before } => {
-            post_asked(procs, out, moving, asked);
+        Demand::Nothing => {}
+        Demand::Gone => post_gone(out, subject),
+        Demand::Wanted { opens, before } => {
+            post_asked(procs, out, subject, asked);
             open_move(steps, name, opens);
             progress(procs, name.exchange.sender, name.number, before);
         }

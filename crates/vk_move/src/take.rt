@@ -2,14 +2,14 @@
 
 ghost use Rattle.std.specs.Prelude.{◌≡◌, ◌≤◌, ◌<◌, ◌+◌, ◌++◌, ◌^◌, true, length};
 ghost use Rattle.vk_move.specs.Moved.{HasFitSeats};
-ghost use Rattle.vk_move.specs.Right.{IsTaken};
+ghost use Rattle.vk_move.specs.Right.{IsPacketTaken};
 ghost use Rattle.vk_move.specs.Taken.{mover_taken};
 ghost use Rattle.vk_packet.specs.Rules.{is_lawful};
 ghost use Rattle.vk_packet.specs.Views.{value_of};
 ghost use Rattle.vk_stands.specs.Rules.{posted};
 
 use crate::mover::{take_ack, take_bytes, take_gone};
-use crate::moves::{Asked, Part, Tick, moving_by};
+use crate::moves::{Asked, Piece, Tick, subject_by};
 use crate::sender::{take_data, take_request};
 use vk_base::Times;
 use vk_brief::Steps;
@@ -31,7 +31,7 @@ pub fn take_packet(
     requires fit { HasFitSeats procs.old }
     requires packets { length out.old.posts + 64 ≤ out.old.room }
     requires room { length steps.old + 2 ≤ 40 }
-    ensures { IsTaken times.now now (value_of packet.now) procs.old procs.new steps.old steps.new out.old out.new }
+    ensures { IsPacketTaken times.now now (value_of packet.now) procs.old procs.new steps.old steps.new out.old out.new }
 {
     match *packet {
         PacketView::MoveData {
@@ -44,13 +44,13 @@ pub fn take_packet(
             offset,
             bytes,
         } => {
-            let part = Part {
+            let piece = Piece {
                 total,
                 offset,
                 bytes,
             };
-            let moving = moving_by(from, to, number, moving);
-            take_data(procs, out, steps, moving, dest, part);
+            let subject = subject_by(from, to, number, moving);
+            take_data(procs, out, steps, subject, dest, piece);
         }
         PacketView::MoveRequest {
             from,
@@ -62,8 +62,8 @@ pub fn take_packet(
             offset,
         } => {
             let asked = Asked { src, total, offset };
-            let moving = moving_by(from, to, number, moving);
-            take_request(procs, out, steps, moving, asked);
+            let subject = subject_by(from, to, number, moving);
+            take_request(procs, out, steps, subject, asked);
         }
         _ => {
             let tick = Tick {
@@ -100,8 +100,8 @@ fn take_to_mover(
             moving,
             received,
         } => {
-            let moving = moving_by(to, from, number, moving);
-            take_ack(procs, tick, out, steps, moving, received);
+            let subject = subject_by(to, from, number, moving);
+            take_ack(procs, tick, out, steps, subject, received);
         }
         PacketView::MoveBytes {
             from,
@@ -112,20 +112,20 @@ fn take_to_mover(
             offset,
             bytes,
         } => {
-            let part = Part {
+            let piece = Piece {
                 total,
                 offset,
                 bytes,
             };
-            let moving = moving_by(to, from, number, moving);
-            take_bytes(procs, tick, out, steps, moving, part);
+            let subject = subject_by(to, from, number, moving);
+            take_bytes(procs, tick, out, steps, subject, piece);
         }
         PacketView::MoveNegative {
             from,
             to,
             number,
             moving,
-        } => take_gone(procs, steps, moving_by(to, from, number, moving)),
+        } => take_gone(procs, steps, subject_by(to, from, number, moving)),
         _ => {}
     }
 }

@@ -5,32 +5,31 @@ ghost use Rattle.vk_move.specs.Due.{IsDue, ticked_at, ticked_in};
 ghost use Rattle.vk_move.specs.Moved.{HasFitSeats};
 
 use crate::mover::{end, go_on};
-use crate::moves::Tick;
 use vk_base::{Ending, Pid, Times};
 use vk_brief::Steps;
 use vk_packet::Outbox;
 use vk_procs::{Procs, Seat};
-use vk_timer::Due;
+use vk_timer::{Due, Work};
 
-/// What a tick finds of a move: nothing; it was tried often enough, and ends; or its round goes out again, from this offset on, and was
-/// tried so often then.
+/// What a tick finds of a move: nothing; it was tried often enough, and ends; or its round goes out again, from this offset on, and its
+/// work is this one then.
 #[derive(Clone, Copy)]
 pub enum Ticked {
     Nothing,
     Ends,
-    Again { tries: u32, from: u32 },
+    Again { work: Work, from: u32 },
 }
 
 fn ticked_at(seat: &Seat, now: u64, times: &Times) -> Ticked
     requires { now < 2 ^ 48 }
     ensures { result ≡ ticked_at times.now now seat.now }
 {
-    let mut work = seat.work();
+    let mut work = seat.note.work;
     match work.due(now, times) {
         Due::NotDue => Ticked::Nothing,
         Due::GiveUp => Ticked::Ends,
         Due::Resend => Ticked::Again {
-            tries: work.tries,
+            work,
             from: seat.note.offset,
         },
     }
@@ -70,12 +69,6 @@ pub fn due(
     match ticked_in(procs.seat(pid), now, times) {
         Ticked::Nothing => {}
         Ticked::Ends => end(procs, steps, pid, Ending::TimedOut),
-        Ticked::Again { tries, from } => {
-            let tick = Tick {
-                at: now,
-                times: *times,
-            };
-            go_on(procs, tick, out, pid, tries, from);
-        }
+        Ticked::Again { work, from } => go_on(procs, out, pid, work, from),
     }
 }

@@ -7,8 +7,7 @@ use Rattle.std.proofs.lemmas.List.Folds.{list_any_none}
 use Rattle.std.proofs.lemmas.List.Kept.{AllPairs-filter}
 use Rattle.std.proofs.lemmas.Map.Keys.{IsDistinct-from_apart, IsDistinct-head, IsDistinct-push, IsDistinct-tail, apart_from_distinct}
 use Rattle.std.specs.List.{IsDistinct, AllByRecursion, find, list_any}
-use Rattle.vk_base.specs.declared.kernel.Registration.{Registration}
-use Rattle.vk_base.specs.declared.pid.Pid.{Pid}
+use Rattle.vk_types.specs.Types.{Pid, Registration}
 use Rattle.vk_base.specs.Kernel.{found_there, holds_of, is_found_there, is_told, is_told_under, others}
 use Rattle.vk_base.specs.Pids.{same_pid}
 use Rattle.vk_names.specs.Kept.{same_id}

@@ -4,11 +4,10 @@ use Rattle.std.proofs.lemmas.Bool.{and_parts, ltb-true, leb-true}
 use Rattle.std.proofs.lemmas.List.{append-nil}
 use Rattle.std.specs.List.{AllByRecursion, list_all}
 use Rattle.byteorder.specs.Endian.{big_bytes}
+use Rattle.vk_types.specs.Types.{Message, Pid}
 use Rattle.vk_base.specs.Messages.{IsMessage}
 use Rattle.vk_base.specs.Packets.{Packet, Send, Reply, Pending, Negative, MoveData, MoveAck, MoveRequest, MoveBytes, MoveNegative, AskPid, TellPid}
 use Rattle.vk_base.specs.Pids.{IsPid}
-use Rattle.vk_base.specs.declared.message.Message.{Message}
-use Rattle.vk_base.specs.declared.pid.Pid.{Pid}
 use Rattle.vk_wire.specs.Fields.{pid_bytes}
 use Rattle.vk_wire.proofs.Fronts.{number_again, pid_again, message_again}
 use Rattle.vk_packet.specs.Laws.{WrittenIsRead}

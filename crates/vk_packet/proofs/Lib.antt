@@ -1,4 +1,4 @@
 mod Again
 mod Appended
-mod Placing
+pub mod Placing
 mod Stands

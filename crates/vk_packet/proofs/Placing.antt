@@ -8,6 +8,7 @@ use Rattle.std.proofs.lemmas.Bool.{cases_eq}
 use Rattle.std.proofs.lemmas.List.{get_or-set_same, length-append, length-drop, length-map, length-replicate, length-take-le, map-append, map-set, map_push, replicate-append-replicate, set-append_left, take-append-le, take_more_set}
 use Rattle.std.proofs.lemmas.Option.{same_Some, slice_get-get_or}
 use Rattle.vk_base.specs.declared.limits.TheConstants.{HEADER_BYTES}
+use Rattle.vk_base.proofs.Pools.{refilled}
 use Rattle.vk_packet.specs.Posts.{Posts, behind, framed}
 use Rattle.vk_packet.specs.Slots.{AreSome, SlotValue, empty_slot, front_of, fronts_of, post_of, posts_of}
 
@@ -23,10 +24,6 @@ placed to front packet size =
     let rest : drop HEADER_BYTES (front ++ packet) ≡ packet =
     ap (λ n. drop n (front ++ packet)) (sym size) ∙ drop-append_seam front packet in
     λ i. record { to = to; front = first i; packet = rest i }
-
--- bytes written in place
-refilled : (xs ws : List ℕ) → length ws ≡ length xs → refill (length xs) xs ws ≡ ws
-refilled xs ws same = ap (λ n. take n (ws ++ drop (length ws) xs)) (sym same) ∙ take-append_seam ws (drop (length ws) xs)
 
 pub front_put : (to : ℕ) (old written front : List ℕ) (now : SlotValue) → length front ≡ HEADER_BYTES → HEADER_BYTES ≤ length old →
     written ≡ front ++ drop HEADER_BYTES old → slot_of to old ≡ now →
@@ -181,7 +178,7 @@ some_same slots used at old new low here same some k s below found = elim (cases
 ]
 
 -- what is framed
-behind_none : (fs : List (List ℕ)) → behind fs [] ≡ []
+pub behind_none : (fs : List (List ℕ)) → behind fs [] ≡ []
 behind_none [] = refl
 behind_none (f ∷ fs) = refl
 

@@ -5,9 +5,9 @@ use Rattle.std.proofs.lemmas.Bool.{eqb-true}
 use Rattle.std.proofs.lemmas.List.{append-nil}
 use Rattle.std.proofs.lemmas.Option.{cond_some, same_Some, none-some}
 use Rattle.byteorder.specs.Endian.{big_bytes}
+use Rattle.vk_types.specs.Types.{Pid}
 use Rattle.vk_base.specs.Packets.{Packet, Send, Reply, Pending, Negative, MoveData, MoveAck, MoveRequest, MoveBytes, MoveNegative, AskPid, TellPid}
 use Rattle.vk_base.specs.Pids.{IsPid}
-use Rattle.vk_base.specs.declared.pid.Pid.{Pid}
 use Rattle.vk_base.proofs.OptionLemmas.{bind_is}
 use Rattle.vk_wire.specs.Fields.{IsBytes, pid_bytes, number_at, pid_at, message_at}
 use Rattle.vk_wire.proofs.Fronts.{number_stands, pid_stands, message_stands}

@@ -1,9 +1,9 @@
 -- What bytes spell: the packet of the first byte's kind whose fields stand behind it in order. A part, or bytes, take all that is
 -- left; behind any other last field nothing is left.
 use Rattle.std.specs.Prelude.{ℕ, ◌==◌, List, [], ◌∷◌, length, Option, Some, None, if◌then◌else◌}
+use Rattle.vk_types.specs.Types.{Pid}
 use Rattle.vk_base.specs.Options.{◌>>=◌}
 use Rattle.vk_base.specs.Packets.{Packet, Send, Reply, Pending, Negative, MoveData, MoveAck, MoveRequest, MoveBytes, MoveNegative, AskPid, TellPid}
-use Rattle.vk_base.specs.declared.pid.Pid.{Pid}
 use Rattle.vk_packet.specs.Rules.{is_lawful}
 use Rattle.vk_wire.specs.Fields.{number_at, pid_at, message_at}
 

@@ -1,11 +1,11 @@
 -- What a packet keeps to.
 use Rattle.std.specs.Prelude.{ℕ, ◌-◌, ◌%◌, ◌^◌, ◌<◌, ◌==◌, ◌&&◌, nat_lt, nat_le, min, Bool, true, List, [], ◌∷◌, length, if◌then◌else◌}
 use Rattle.std.specs.List.{list_all}
+use Rattle.vk_types.specs.Types.{Message}
 use Rattle.vk_base.specs.Messages.{IsMessage, grants_read, segment_of}
 use Rattle.vk_base.specs.Packets.{Packet, Send, Reply, Pending, Negative, MoveData, MoveAck, MoveRequest, MoveBytes, MoveNegative, AskPid, TellPid}
 use Rattle.vk_base.specs.Pids.{IsPid}
 use Rattle.vk_base.specs.declared.limits.TheConstants.{DATA_BYTES, MOVE_BYTES, SEGMENT_BYTES}
-use Rattle.vk_base.specs.declared.message.Message.{Message}
 use Rattle.vk_wire.specs.Fields.{IsBytes}
 
 -- the numbers of Sends, moves and lookups that a packet bears

@@ -1,8 +1,8 @@
 -- How a packet is spelled: its kind in one byte, then its fields in order, with nothing between them. A part, or bytes, come last.
 use Rattle.std.specs.Prelude.{ℕ, List, ◌∷◌, ◌++◌, length}
 use Rattle.byteorder.specs.Endian.{big_bytes}
+use Rattle.vk_types.specs.Types.{Pid}
 use Rattle.vk_base.specs.Packets.{Packet, Send, Reply, Pending, Negative, MoveData, MoveAck, MoveRequest, MoveBytes, MoveNegative, AskPid, TellPid}
-use Rattle.vk_base.specs.declared.pid.Pid.{Pid}
 use Rattle.vk_wire.specs.Fields.{pid_bytes}
 
 -- what every packet of an exchange begins with, and every packet of a move

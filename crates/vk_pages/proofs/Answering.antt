@@ -1,8 +1,7 @@
 -- A page server after one answer more.
 use Rattle.std.proofs.Common.{◌≡◌, ℕ, List, [], ◌∷◌, ◌++◌, length, Option, Some, None, refl, ap, sym, ◌∙◌, append-nil}
 use Rattle.std.proofs.lemmas.List.{length-set}
-use Rattle.vk_base.specs.declared.answer.Answer.{Answer}
-use Rattle.vk_base.specs.declared.pid.Pid.{Pid}
+use Rattle.vk_types.specs.Types.{Answer, Pid}
 use Rattle.vk_pages.specs.declared.serving.Serving.{Serving}
 use Rattle.vk_pages.specs.declared.serving.Serving.TheVariants as stages
 use Rattle.vk_pages.specs.Servers.{IsServerAfter, Server, answered, answered_at, answered_all, loaded, new_server, page_in, seen, server_call, stage_call}

@@ -1,7 +1,7 @@
 -- Page requests and their replies, as messages.
 use Rattle.std.specs.Prelude.{ℕ, ◌∷◌, ◌++◌, replicate, slice_index}
 use Rattle.std.specs.Int.{w32, to_be_bytes}
-use Rattle.vk_base.specs.declared.message.Message.{Message}
+use Rattle.vk_types.specs.Types.{Message}
 use Rattle.vk_base.specs.Messages.{word_at}
 
 -- what a request asks for: 1 to read, 2 to write

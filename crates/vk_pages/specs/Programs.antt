@@ -1,7 +1,6 @@
 -- Scripts and programs of pages.
 use Rattle.std.specs.Prelude.{ℕ, List, Option, None}
-use Rattle.vk_base.specs.declared.answer.Answer.{Answer}
-use Rattle.vk_base.specs.declared.call.Call.{Call}
+use Rattle.vk_types.specs.Types.{Answer, Call}
 use Rattle.vk_event.specs.declared.task.Task.{Task}
 use Rattle.vk_event.specs.declared.task.TaskKind.{TaskKind}
 use Rattle.vk_event.specs.declared.task.TaskKind.TheVariants as kinds

@@ -4,7 +4,7 @@ use Rattle.std.specs.Prelude.{is_some}
 use Rattle.std.specs.List.{flat_map}
 use Rattle.std.specs.Option.{option_map_or}
 use Rattle.std.proofs.lemmas.List.Concat.{flat_map-append, flat_map_single}
-use Rattle.vk_base.specs.declared.pid.Pid.{Pid}
+use Rattle.vk_types.specs.Types.{Pid}
 use Rattle.vk_picture.specs.declared.marks.Start.{Start}
 use Rattle.vk_picture.specs.declared.picture.FrameMark.{FrameMark}
 use Rattle.vk_picture.specs.declared.picture.Picture.{Picture}

@@ -1,9 +1,9 @@
 -- What a process does, from event to event.
 use Rattle.std.specs.Prelude.{ℕ, Bool, true, false, ◌==◌, ◌&&◌, List, [], ◌∷◌, ◌++◌, codes, decimal, Option, Some, None, if◌then◌else◌}
 use Rattle.std.specs.Option.{option_map_or}
+use Rattle.vk_types.specs.Types.{Pid}
 use Rattle.vk_base.specs.Pids.{same_pid}
 use Rattle.vk_base.specs.Settings.{or_else}
-use Rattle.vk_base.specs.declared.pid.Pid.{Pid}
 use Rattle.vk_picture.specs.declared.lanes.Activity.{Activity}
 use Rattle.vk_picture.specs.declared.lanes.Activity.TheVariants as activities
 use Rattle.vk_picture.specs.declared.picture.Act.{Act}

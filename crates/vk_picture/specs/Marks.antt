@@ -3,8 +3,8 @@
 use Rattle.std.specs.Prelude.{ℕ, ◌+◌, ◌*◌, Bool, true, false, ◌==◌, ◌&&◌, ◌||◌, not, List, [], ◌∷◌, ◌++◌, find, flat_map, length, Option, Some, None, option_map, if◌then◌else◌}
 use Rattle.std.specs.List.{list_any}
 use Rattle.std.specs.Option.{option_map_or}
+use Rattle.vk_types.specs.Types.{Pid}
 use Rattle.vk_base.specs.Options.{◌>>=◌}
-use Rattle.vk_base.specs.declared.pid.Pid.{Pid}
 use Rattle.vk_report.specs.declared.frame.PacketKind.{PacketKind}
 use Rattle.vk_picture.specs.declared.marks.Start.{Start}
 use Rattle.vk_picture.specs.declared.picture.Act.{Act}

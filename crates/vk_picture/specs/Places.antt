@@ -1,10 +1,9 @@
 -- Where things stand on the page. Whole numbers, of the page's own unit; y grows downwards.
 use Rattle.std.specs.Prelude.{ℕ, ◌+◌, ◌*◌, Bool, false, ◌==◌, ◌&&◌, is_none, List, [], ◌∷◌, ◌++◌, find, length, max, min, Option, Some, None, if◌then◌else◌}
 use Rattle.std.specs.Option.{option_map_or}
+use Rattle.vk_types.specs.Types.{Pid, ProcessSpec}
 use Rattle.vk_base.specs.declared.limits.TheConstants.{STEPS}
 use Rattle.vk_base.specs.Pids.{same_pid}
-use Rattle.vk_base.specs.declared.pid.Pid.{Pid}
-use Rattle.vk_base.specs.declared.config.ProcessSpec.{ProcessSpec}
 use Rattle.vk_picture.specs.declared.picture.Act.{Act}
 use Rattle.vk_picture.specs.declared.picture.Act.TheVariants as acts
 use Rattle.vk_picture.specs.declared.picture.Column.{Column}

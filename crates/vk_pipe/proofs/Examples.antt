@@ -1,13 +1,10 @@
 -- The definitions, tried: what a server calls, answer by answer.
 use Rattle.std.proofs.Common.{◌≡◌, ℕ, List, [], ◌∷◌, ◌++◌, Option, Some, replicate, refl, lit<}
 use Rattle.std.specs.Int.{w32, to_be_bytes}
-use Rattle.vk_base.specs.declared.answer.Answer.{Answer}
+use Rattle.vk_types.specs.Types.{Answer, Call, Message, Pid}
 use Rattle.vk_base.specs.declared.answer.Answer.TheVariants as answers
 use Rattle.vk_base.specs.declared.answer.Refusal.TheVariants as refusals
-use Rattle.vk_base.specs.declared.call.Call.{Call}
 use Rattle.vk_base.specs.declared.call.Call.TheVariants as calls
-use Rattle.vk_base.specs.declared.message.Message.{Message}
-use Rattle.vk_base.specs.declared.pid.Pid.{Pid}
 use Rattle.vk_pipe.specs.Pipes.{Server, answered, new_server, stage_call}
 use Rattle.vk_pipe.specs.Requests.{reply_of}
 

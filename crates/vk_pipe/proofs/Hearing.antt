@@ -1,6 +1,6 @@
 -- The server's code after one answer more.
 use Rattle.std.proofs.Common.{◌≡◌, ℕ, ◌+◌, ◌≤◌, List, [], ◌∷◌, ◌++◌, refl, ap, arith, subst, sym, ◌∙◌}
-use Rattle.vk_base.specs.declared.answer.Answer.{Answer}
+use Rattle.vk_types.specs.Types.{Answer}
 use Rattle.vk_pipe.specs.declared.limits.TheConstants.{WAITING_REQUESTS}
 use Rattle.vk_pipe.specs.declared.news.News.{News}
 use Rattle.vk_pipe.proofs.Room.{IsRoomy, news_room, places_in, room_after}

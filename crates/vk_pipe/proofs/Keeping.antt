@@ -3,8 +3,7 @@ use Rattle.std.proofs.Common.{◌≡◌, ℕ, ◌==◌, true, List, [], ◌∷�
 use Rattle.std.specs.List.{flat_map}
 use Rattle.std.proofs.lemmas.Bool.{false≢true}
 use Rattle.std.proofs.lemmas.Option.{none-some}
-use Rattle.vk_base.specs.declared.answer.Answer.{Answer}
-use Rattle.vk_base.specs.declared.call.Call.{Call}
+use Rattle.vk_types.specs.Types.{Answer, Call}
 use Rattle.vk_base.specs.declared.limits.TheConstants.{SEGMENT_BYTES}
 use Rattle.vk_pipe.specs.declared.limits.TheConstants.{WAITING_REQUESTS}
 use Rattle.vk_pipe.specs.declared.serving.Serving.{Serving}
@@ -17,8 +16,8 @@ use Rattle.vk_pipe.proofs.Done.{done_after}
 use Rattle.vk_pipe.proofs.Replies.{is_receive, is_reply, received, replied}
 use Rattle.vk_pipe.proofs.Room.{IsRoomy, room_after}
 use Rattle.vk_pipe.proofs.Rules.{either_way}
-use Rattle.vk_pipe.proofs.Steps.{IsRight, IsStep, step}
-use Rattle.vk_pipe.specs.Kept.{IsAtEnd, IsAtRest, KeepsItsBytes, pipe_after, reply_to_write}
+use Rattle.vk_pipe.proofs.Steps.{IsRightStage, IsPipeStep, step}
+use Rattle.vk_pipe.specs.Kept.{IsAtEnd, NothingSettles, KeepsItsBytes, pipe_after, reply_to_write}
 use Rattle.vk_pipe.specs.Pipes.{Calls, Pipe, Rule, Server, answered, answered_all, by_rule, empty_pipe, new_server, server_after, stage_call, waiting}
 use Rattle.vk_pipe.specs.Told.{Piece, bytes_had, bytes_put, news_at, piece_in, put_by, read_due, read_in, read_replies, read_reply, reads_served, reads_taken, rule_at, served_by, write_in, writes_put, writes_taken, written_call, written_calls}
 
@@ -30,7 +29,7 @@ pub record IsFresh (s : Server) : Type 0 where
   pub bytes : s.pipe.bytes ≡ []
   pub written : written_call s.stage ≡ []
   pub served : read_due s.stage ≡ []
-  pub right : IsRight s.pipe s.stage
+  pub right : IsRightStage s.pipe s.stage
 
 fresh : (requests : ℕ) → IsFresh (new_server requests)
 fresh requests =
@@ -51,16 +50,16 @@ fresh requests =
 
 -- Behind all answers.
 
-step_of : (s : Server) (a : Answer) → IsStep s a
+step_of : (s : Server) (a : Answer) → IsPipeStep s a
 step_of s a = step s.pipe s.stage a
 
-right_all : (s : Server) (given : List Answer) → IsRight s.pipe s.stage
-    → IsRight (answered_all s given).pipe (answered_all s given).stage
+right_all : (s : Server) (given : List Answer) → IsRightStage s.pipe s.stage
+    → IsRightStage (answered_all s given).pipe (answered_all s given).stage
 right_all s [] right = right
 right_all s (a ∷ rest) right = right_all (answered s a) rest (step_of s a).right
 
 right_after : (requests : ℕ) (given : List Answer)
-    → IsRight (server_after requests given).pipe (server_after requests given).stage
+    → IsRightStage (server_after requests given).pipe (server_after requests given).stage
 right_after requests given = right_all (new_server requests) given (fresh requests).right
 
 writes_are : (requests : ℕ) (given : List Answer)
@@ -108,22 +107,22 @@ replies_are requests given =
 
 -- What its call tells of the pipe.
 
-end_is : (p : Pipe) (stage : Serving) → IsRight p stage → is_reply 6 (stage_call p stage) ≡ true → IsAtEnd p
+end_is : (p : Pipe) (stage : Serving) → IsRightStage p stage → is_reply 6 (stage_call p stage) ≡ true → IsAtEnd p
 end_is p (stages.Reply to verdicts.End) right h = right
 end_is p stage right h = absurd (false≢true h)
 
-full_is : (p : Pipe) (stage : Serving) → IsRight p stage → is_reply 5 (stage_call p stage) ≡ true → waiting p ≡ WAITING_REQUESTS
+full_is : (p : Pipe) (stage : Serving) → IsRightStage p stage → is_reply 5 (stage_call p stage) ≡ true → waiting p ≡ WAITING_REQUESTS
 full_is p (stages.Reply to verdicts.Full) right h = right
 full_is p stage right h = absurd (false≢true h)
 
-rest_is : (p : Pipe) (stage : Serving) → IsRight p stage → is_receive (stage_call p stage) ≡ true → IsAtRest p
+rest_is : (p : Pipe) (stage : Serving) → IsRightStage p stage → is_receive (stage_call p stage) ≡ true → NothingSettles p
 rest_is p stages.Receive right h = right
 rest_is p stage right h = absurd (false≢true h)
 
 pub keeps : (requests : ℕ) (given : List Answer) → KeepsItsBytes requests given
 keeps requests given =
     let s : Server = server_after requests given in
-    let right : IsRight s.pipe s.stage = right_after requests given in
+    let right : IsRightStage s.pipe s.stage = right_after requests given in
     let room : IsRoomy s.pipe s.stage = room_after requests given in
     record {
       kept = bytes_are requests given;

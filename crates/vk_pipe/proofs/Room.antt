@@ -1,9 +1,7 @@
 -- That no more than sixteen requests wait, and no more bytes than there is room for.
 use Rattle.std.proofs.Common.{◌≡◌, ℕ, ◌+◌, ◌-◌, ◌≤◌, ◌==◌, List, [], ◌∷◌, ◌++◌, drop, length, arith, lit≤, length-append, length-drop}
-use Rattle.vk_base.specs.declared.answer.Answer.{Answer}
+use Rattle.vk_types.specs.Types.{Answer, Message, Pid}
 use Rattle.vk_base.specs.declared.answer.Answer.TheVariants as answers
-use Rattle.vk_base.specs.declared.message.Message.{Message}
-use Rattle.vk_base.specs.declared.pid.Pid.{Pid}
 use Rattle.vk_pipe.specs.declared.limits.TheConstants.{PIPE_BYTES, WAITING_REQUESTS}
 use Rattle.vk_pipe.specs.declared.news.News.{News}
 use Rattle.vk_pipe.specs.declared.news.News.TheVariants as brings

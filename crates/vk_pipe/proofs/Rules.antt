@@ -2,8 +2,7 @@
 use Rattle.std.proofs.Common.{◌≡◌, ℕ, ◌+◌, ◌<◌, ◌≤◌, ◌==◌, ◌&&◌, Bool, true, false, not, nat_le, List, [], ◌∷◌, length, slice_get, Option, Some, None, refl, arith, sym, ◌∙◌, subst, if◌then◌else◌}
 use Rattle.std.proofs.lemmas.Bool.{and_parts, eqb-false, eqb-true, leb-false, leb-true, not-false}
 use Rattle.std.proofs.lemmas.Option.{none-some, same_Some}
-use Rattle.vk_base.specs.declared.message.Message.{Message}
-use Rattle.vk_base.specs.declared.pid.Pid.{Pid}
+use Rattle.vk_types.specs.Types.{Message, Pid}
 use Rattle.vk_pipe.specs.declared.limits.TheConstants.{PIPE_BYTES, WAITING_REQUESTS}
 use Rattle.vk_pipe.specs.declared.news.News.{News}
 use Rattle.vk_pipe.specs.declared.news.News.TheVariants as brings
@@ -11,7 +10,7 @@ use Rattle.vk_pipe.specs.declared.serving.Serving.TheVariants as stages
 use Rattle.vk_pipe.specs.declared.serving.Verdict.TheVariants as verdicts
 use Rattle.vk_pipe.specs.declared.waiting.Read.{Read}
 use Rattle.vk_pipe.specs.declared.waiting.Write.{Write}
-use Rattle.vk_pipe.specs.Kept.{IsAtEnd, IsAtRest}
+use Rattle.vk_pipe.specs.Kept.{IsAtEnd, NothingSettles}
 use Rattle.vk_pipe.specs.Pipes.{Calls, Ends, Pipe, Puts, Rule, Serves, fitting, is_empty, judged, read_rule, settled, waiting, write_rule}
 use Rattle.vk_pipe.specs.Requests.{is_close, is_request, is_write, read_of}
 
@@ -46,7 +45,7 @@ abbrev pub HasNoRoom : Pipe → Type 0
 HasNoRoom p = (w : Write) → slice_get p.writes 0 ≡ Some w → PIPE_BYTES < length p.bytes + length w.bytes
 
 read_rule_goes : (P : Rule → Type 0) (p : Pipe) → HasNoRoom p
-    → (IsAtRest p → P (Calls stages.Receive))
+    → (NothingSettles p → P (Calls stages.Receive))
     → ((r : Read) → slice_get p.reads 0 ≡ Some r → 0 < length p.bytes → P (Serves r))
     → ((r : Read) → slice_get p.reads 0 ≡ Some r → IsAtEnd p → P (Ends r))
     → (o : Option Read) → slice_get p.reads 0 ≡ o → P (read_rule p o)
@@ -68,7 +67,7 @@ read_rule_goes P p room rests serves ends (Some r) e =
     })))
 
 write_rule_goes : (P : Rule → Type 0) (p : Pipe)
-    → (IsAtRest p → P (Calls stages.Receive))
+    → (NothingSettles p → P (Calls stages.Receive))
     → ((w : Write) → slice_get p.writes 0 ≡ Some w → length p.bytes + length w.bytes ≤ PIPE_BYTES → P (Puts w))
     → ((r : Read) → slice_get p.reads 0 ≡ Some r → 0 < length p.bytes → P (Serves r))
     → ((r : Read) → slice_get p.reads 0 ≡ Some r → IsAtEnd p → P (Ends r))
@@ -85,7 +84,7 @@ write_rule_goes P p rests puts serves ends (Some w) e =
 
 pub settled_goes : (P : Rule → Type 0) (p : Pipe)
     → P (Calls stages.Exit)
-    → (IsAtRest p → P (Calls stages.Receive))
+    → (NothingSettles p → P (Calls stages.Receive))
     → ((w : Write) → slice_get p.writes 0 ≡ Some w → length p.bytes + length w.bytes ≤ PIPE_BYTES → P (Puts w))
     → ((r : Read) → slice_get p.reads 0 ≡ Some r → 0 < length p.bytes → P (Serves r))
     → ((r : Read) → slice_get p.reads 0 ≡ Some r → IsAtEnd p → P (Ends r))

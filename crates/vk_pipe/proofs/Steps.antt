@@ -3,10 +3,8 @@ use Rattle.std.proofs.Common.{◌≡◌, ℕ, ◌==◌, List, [], ◌∷◌, ◌
 use Rattle.std.specs.List.{flat_map}
 use Rattle.std.proofs.lemmas.List.{take-append-drop}
 use Rattle.std.proofs.lemmas.Option.{none-some, same_Some}
-use Rattle.vk_base.specs.declared.answer.Answer.{Answer}
+use Rattle.vk_types.specs.Types.{Answer, Message, Pid}
 use Rattle.vk_base.specs.declared.answer.Answer.TheVariants as answers
-use Rattle.vk_base.specs.declared.message.Message.{Message}
-use Rattle.vk_base.specs.declared.pid.Pid.{Pid}
 use Rattle.vk_pipe.specs.declared.limits.TheConstants.{WAITING_REQUESTS}
 use Rattle.vk_pipe.specs.declared.news.News.{News}
 use Rattle.vk_pipe.specs.declared.news.News.TheVariants as brings
@@ -16,22 +14,22 @@ use Rattle.vk_pipe.specs.declared.serving.Verdict.TheVariants as verdicts
 use Rattle.vk_pipe.specs.declared.waiting.Read.{Read}
 use Rattle.vk_pipe.specs.declared.waiting.Write.{Write}
 use Rattle.vk_pipe.proofs.Rules.{either_way, judged_goes, settled_goes}
-use Rattle.vk_pipe.specs.Kept.{IsAtEnd, IsAtRest, reply_to_write}
+use Rattle.vk_pipe.specs.Kept.{IsAtEnd, NothingSettles, reply_to_write}
 use Rattle.vk_pipe.specs.Pipes.{Calls, Ends, Pipe, Puts, Rule, Serves, Server, answered, at, by_rule, delivered, judged, loaded, news_of, piece_len, piece_of, received, rule_for, settled, waiting, with_news}
 use Rattle.vk_pipe.specs.Told.{Piece, news_at, piece_in, put_by, read_due, read_in, read_reply, rule_at, served_by, write_in, written_call}
 
 -- what is right of a pipe where this is called
-abbrev pub IsRight : Pipe → Serving → Type 0
-IsRight p stages.Receive = IsAtRest p
-IsRight p (stages.Reply to verdicts.Full) = waiting p ≡ WAITING_REQUESTS
-IsRight p (stages.Reply to verdicts.End) = IsAtEnd p
-IsRight p stage = Unit {0}
+abbrev pub IsRightStage : Pipe → Serving → Type 0
+IsRightStage p stages.Receive = NothingSettles p
+IsRightStage p (stages.Reply to verdicts.Full) = waiting p ≡ WAITING_REQUESTS
+IsRightStage p (stages.Reply to verdicts.End) = IsAtEnd p
+IsRightStage p stage = Unit {0}
 
 -- a call that is right, and tells no write and no read of its bytes
 pub record Quiet (p : Pipe) (stage : Serving) : Type 0 where
   pub no_write : written_call stage ≡ []
   pub no_read : read_due stage ≡ []
-  pub right : IsRight p stage
+  pub right : IsRightStage p stage
 
 -- what a rule does
 pub record Settles (p : Pipe) (rule : Rule) : Type 0 where
@@ -40,7 +38,7 @@ pub record Settles (p : Pipe) (rule : Rule) : Type 0 where
   pub bytes : p.bytes ++ flat_map (λ (w : Write). w.bytes) (put_by rule) ≡ (by_rule p rule).pipe.bytes
   pub written : map reply_to_write (put_by rule) ≡ written_call (by_rule p rule).stage
   pub served : map (λ (r : Read). r.from) (served_by rule) ≡ read_due (by_rule p rule).stage
-  pub right : IsRight (by_rule p rule).pipe (by_rule p rule).stage
+  pub right : IsRightStage (by_rule p rule).pipe (by_rule p rule).stage
 
 called : (p : Pipe) (stage : Serving) → Quiet p stage → Settles p (Calls stage)
 called p stage q =
@@ -141,7 +139,7 @@ news_bytes p (brings.Delivered r) =
 news_bytes p n = refl
 
 -- what one answer does
-pub record IsStep (s : Server) (a : Answer) : Type 0 where
+pub record IsPipeStep (s : Server) (a : Answer) : Type 0 where
   pub writes : s.pipe.writes ++ write_in (news_at s a) ≡ put_by (rule_at s a) ++ (answered s a).pipe.writes
   pub reads : s.pipe.reads ++ read_in (news_at s a) ≡ served_by (rule_at s a) ++ (answered s a).pipe.reads
   pub bytes : s.pipe.bytes ++ flat_map (λ (w : Write). w.bytes) (put_by (rule_at s a))
@@ -149,10 +147,10 @@ pub record IsStep (s : Server) (a : Answer) : Type 0 where
   pub written : map reply_to_write (put_by (rule_at s a)) ≡ written_call (answered s a).stage
   pub served : read_due s.stage ++ map (λ (r : Read). r.from) (served_by (rule_at s a))
       ≡ read_reply s.stage ++ read_due (answered s a).stage
-  pub right : IsRight (answered s a).pipe (answered s a).stage
+  pub right : IsRightStage (answered s a).pipe (answered s a).stage
 
 step_by : (p : Pipe) (stage : Serving) (a : Answer) → read_due stage ≡ read_reply stage → IsQuietNews p (news_of p stage a)
-    → IsStep (at p stage) a
+    → IsPipeStep (at p stage) a
 step_by p stage a same quiet =
     let n : News = news_of p stage a in
     let q : Pipe = with_news p n in
@@ -174,7 +172,7 @@ step_by p stage a same quiet =
       right = does.right;
     }
 
-pub step : (p : Pipe) (stage : Serving) (a : Answer) → IsStep (at p stage) a
+pub step : (p : Pipe) (stage : Serving) (a : Answer) → IsPipeStep (at p stage) a
 step p stages.Receive a = step_by p stages.Receive a refl (received_is p a)
 step p (stages.Load from count) a = step_by p (stages.Load from count) a refl (loaded_is p from count a)
 step p (stages.Store r) a =

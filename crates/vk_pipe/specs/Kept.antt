@@ -1,12 +1,9 @@
 -- That a pipe keeps its bytes: none is lost, doubled or out of order, whatever the server is answered.
 use Rattle.std.specs.Prelude.{ℕ, ◌≡◌, ◌+◌, ◌<◌, ◌≤◌, ◌⊎◌, true, List, [], ◌∷◌, ◌++◌, length, map, slice_get, Some}
-use Rattle.vk_base.specs.declared.answer.Answer.{Answer}
+use Rattle.vk_types.specs.Types.{Answer, Call, Message, Pid}
 use Rattle.vk_base.specs.declared.answer.Answer.TheVariants as answers
-use Rattle.vk_base.specs.declared.call.Call.{Call}
 use Rattle.vk_base.specs.declared.call.Call.TheVariants as calls
 use Rattle.vk_base.specs.declared.limits.TheConstants.{SEGMENT_BYTES}
-use Rattle.vk_base.specs.declared.message.Message.{Message}
-use Rattle.vk_base.specs.declared.pid.Pid.{Pid}
 use Rattle.vk_pipe.specs.declared.limits.TheConstants.{PIPE_BYTES, WAITING_REQUESTS}
 use Rattle.vk_pipe.specs.declared.waiting.Read.{Read}
 use Rattle.vk_pipe.specs.declared.waiting.Write.{Write}
@@ -45,13 +42,13 @@ pub record IsAtEnd (p : Pipe) : Type 0 where
   pub no_writes : p.writes ≡ []
 
 -- nothing can be settled: the first write that waits does not fit, and a read waits only at an empty pipe that is not at its end
-pub record IsAtRest (p : Pipe) : Type 0 where
+pub record NothingSettles (p : Pipe) : Type 0 where
   pub no_room : (w : Write) → slice_get p.writes 0 ≡ Some w → PIPE_BYTES < length p.bytes + length w.bytes
   pub no_bytes : (r : Read) → slice_get p.reads 0 ≡ Some r → p.bytes ≡ []
   pub no_end : (r : Read) → slice_get p.reads 0 ≡ Some r → IsAtEnd p → ⊥
 
 -- it is within its limits
-pub record IsWithin (p : Pipe) : Type 0 where
+pub record IsWithinLimits (p : Pipe) : Type 0 where
   pub bytes : length p.bytes ≤ PIPE_BYTES
   pub requests : waiting p ≤ WAITING_REQUESTS
 
@@ -74,8 +71,8 @@ pub record KeepsItsBytes (requests : ℕ) (given : List Answer) : Type 0 where
   pub full : (m : Message) (to : Pid) →
       pipe_call requests given ≡ Some (calls.Reply m to) → code_of m ≡ 5 → waiting (pipe_after requests given) ≡ WAITING_REQUESTS
   -- it waits for a request only where nothing can be settled
-  pub rests : pipe_call requests given ≡ Some (calls.ReceiveSegment 0 SEGMENT_BYTES) → IsAtRest (pipe_after requests given)
-  pub within : IsWithin (pipe_after requests given)
+  pub rests : pipe_call requests given ≡ Some (calls.ReceiveSegment 0 SEGMENT_BYTES) → NothingSettles (pipe_after requests given)
+  pub within : IsWithinLimits (pipe_after requests given)
 
 abbrev pub PipesKeepTheirBytes : Type 0
 PipesKeepTheirBytes = (requests : ℕ) (given : List Answer) → KeepsItsBytes requests given

@@ -1,6 +1,6 @@
 -- How the code's server stands for the pipe.
 use Rattle.std.specs.Prelude.{◌≡◌, List}
-use Rattle.vk_base.specs.declared.answer.Answer.{Answer}
+use Rattle.vk_types.specs.Types.{Answer}
 use Rattle.vk_pipe.specs.declared.server.PipeServer.{PipeServer}
 use Rattle.vk_pipe.specs.Pipes.{Pipe, Server, at, server_after}
 

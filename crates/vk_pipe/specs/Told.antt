@@ -1,10 +1,8 @@
 -- What a pipe server has taken, put into the pipe and handed out, and which replies it made, behind some answers.
 use Rattle.std.specs.Prelude.{ℕ, List, [], ◌∷◌, ◌++◌}
 use Rattle.std.specs.List.{flat_map}
-use Rattle.vk_base.specs.declared.answer.Answer.{Answer}
-use Rattle.vk_base.specs.declared.call.Call.{Call}
+use Rattle.vk_types.specs.Types.{Answer, Call, Pid}
 use Rattle.vk_base.specs.declared.call.Call.TheVariants as calls
-use Rattle.vk_base.specs.declared.pid.Pid.{Pid}
 use Rattle.vk_pipe.specs.declared.news.News.{News}
 use Rattle.vk_pipe.specs.declared.news.News.TheVariants as brings
 use Rattle.vk_pipe.specs.declared.serving.Serving.{Serving}

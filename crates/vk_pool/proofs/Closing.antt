@@ -1,7 +1,7 @@
 -- Since when aliens are closed, through all changes of them, and that none is over before its time.
 use Rattle.std.proofs.Common.{◌≡◌, ℕ, zero, suc, ◌+◌, ◌-◌, ◌<◌, ◌≤◌, Bool, true, false, cond, nat_lt, List, [], ◌∷◌, length, map, max, min, replicate, set, arith, refl, ap, sym, subst, inl, inr, Option, Some, None, IfSome, ◌∙◌}
 use Rattle.std.proofs.lemmas.Bool.{cases_eq, le-ltb}
-use Rattle.vk_base.specs.declared.config.Times.{Times}
+use Rattle.vk_types.specs.Types.{Times}
 use Rattle.vk_base.specs.Kernel.{holds_of}
 use Rattle.vk_pool.specs.declared.alien.Alien.{Alien}
 use Rattle.vk_pool.specs.declared.alien.AlienStage.{AlienStage}

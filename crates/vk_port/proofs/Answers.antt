@@ -1,15 +1,12 @@
 -- What answers the events of a station have.
 use Rattle.std.proofs.Common.{◌≡◌, ℕ, ◌+◌, true, List, Option, Some, None, is_some, refl, sym, subst, inl, inr}
 use Rattle.std.proofs.lemmas.Bool.{and_parts}
+use Rattle.vk_types.specs.Types.{Call, Observation, Pid, StationEvent}
 use Rattle.vk_base.specs.declared.answer.Answer.TheVariants as answers
 use Rattle.vk_base.specs.declared.answer.Refusal.TheVariants as refusals
-use Rattle.vk_base.specs.declared.call.Call.{Call}
 use Rattle.vk_base.specs.declared.event.EventAnswer.TheVariants as given
-use Rattle.vk_base.specs.declared.event.StationEvent.{StationEvent}
 use Rattle.vk_base.specs.declared.event.StationEvent.TheVariants as events
-use Rattle.vk_base.specs.declared.pid.Pid.{Pid}
 use Rattle.vk_base.specs.declared.step.Step.TheVariants as steps
-use Rattle.vk_base.specs.declared.kernel.Observation.{Observation}
 use Rattle.vk_base.specs.declared.kernel.State.TheVariants as states
 use Rattle.vk_base.specs.Calls.{Effect, answered}
 use Rattle.vk_base.specs.Kernel.{◌>>=◌, Kernel, with_state}

@@ -7,34 +7,32 @@ use Rattle.std.proofs.lemmas.Bool.{and_parts, leb-false, ltb-false, or_parts}
 use Rattle.std.proofs.lemmas.List.{length-append}
 use Rattle.std.proofs.lemmas.List.Sums.{sum_by-cons}
 use Rattle.std.proofs.lemmas.Nat.{le-div}
-use Rattle.vk_base.specs.declared.config.ProcessSpec.{ProcessSpec}
-use Rattle.vk_base.specs.declared.event.EventAnswer.{EventAnswer}
-use Rattle.vk_base.specs.declared.event.StationEvent.{StationEvent}
+use Rattle.vk_types.specs.Types.{EventAnswer, Pid, ProcessSpec, StationEvent}
 use Rattle.vk_base.specs.declared.event.StationEvent.TheVariants as events
 use Rattle.vk_base.specs.declared.limits.TheConstants.{EVENTS, STATIONS}
-use Rattle.vk_base.specs.declared.pid.Pid.{Pid}
 use Rattle.vk_base.specs.declared.step.Step.TheVariants as steps
 use Rattle.vk_base.specs.Pids.{IsPid}
 use Rattle.vk_base.specs.Steps.{is_allowed}
 use Rattle.vk_base.specs.Settings.{AreLawful, Settings, has_process, has_station, stations_of}
 use Rattle.vk_base.proofs.SettingsLemmas.{among_stations}
 use Rattle.vk_rules.specs.Each.{Each}
-use Rattle.vk_rules.specs.Entries.{Called, Collected, Delivered, Entry, Input, Ticked}
+use Rattle.vk_rules.specs.Entries.{Entry}
 use Rattle.vk_rules.specs.Frames.{Frame}
 use Rattle.vk_rules.specs.Readings.{reading}
 use Rattle.vk_rules.proofs.Lengths.{frames_fit}
 use Rattle.vk_rules.proofs.Lists.{each_append}
 use Rattle.vk_rules.proofs.Rising.{events_are}
 use Rattle.v_lawful.specs.Fitting.{IsFitting}
-use Rattle.v_lawful.specs.Sending.{IsFaultless, IsInput, IsSendable, IsSentEntry, most_packets}
+use Rattle.v_lawful.specs.Sending.{IsFaultless, IsInput, IsSendable, IsSentEntry}
 use Rattle.v_lawful.proofs.Entries.{IsSentLog, none_sent, one_more}
 use Rattle.v_lawful.proofs.Faultless.{configs_are_faultless}
+use Rattle.v_lawful.proofs.Schedules.{most_is}
 use Rattle.vk_host.specs.Sealed.{sealed}
-use Rattle.vk_host.specs.Standing.{IsAt, IsEvent, Shows}
+use Rattle.vk_host.specs.Standing.{StandsAt, IsEvent, Shows}
 use Rattle.vk_host.specs.Values.{StationValue, has, input_of, most_before}
 use Rattle.vk_host.specs.Values as values
 use Rattle.vk_port.specs.declared.station.TheConstants.{EMITTED_BYTES, EVENT_BYTES}
-use Rattle.vk_port.specs.Kept.{IsHeld, IsKept, IsShort, first_of}
+use Rattle.vk_port.specs.Kept.{IsHeld, IsStationKept, IsShort, first_of}
 use Rattle.vk_port.specs.Stations.{StationHistory, brings_last_number, bytes_of, emitted_bytes, entries_at, entry_at, is_full, is_own, is_process_of, is_ready, is_used_up_by, most_frames}
 use Rattle.vk_port.proofs.Fronts.{grown}
 use Rattle.vk_port.proofs.Histories.{emitted_more, entries_more, entries_size}
@@ -67,12 +65,6 @@ short_bytes (b ∷ bs) h =
     let rest = short_bytes bs h.1 in
     omega (arith, sum_by-cons length b bs)
 
-most_is : (i : Input) → most_packets i ≤ 2048
-most_is (Called pid call) = omega arith
-most_is (Collected pid) = omega arith
-most_is Ticked = omega arith
-most_is (Delivered o) = omega arith
-
 -- Events of the station are inputs of it.
 event_input : (c : Settings) (host : ℕ) (e : StationEvent) → IsHeld e → is_own (first_of c host) e ≡ true → IsInput host (input_of e)
 event_input c host (events.Call pid call) held own =
@@ -88,10 +80,10 @@ none_there (b ∷ before) rest x e = cc
 
 pub kept_first : (c : Settings) (s : StationValue) (host stations : ℕ) → s.host ≡ host → AreLawful c →
     Each (λ (p : ProcessSpec). IsPid p.pid) c.specs → has_station c.specs host ≡ true → stations ≡ length (stations_of c.specs) →
-    stations ≤ STATIONS → IsAt c [] s → (items : List (ℕ × StationEvent)) → items ≡ [] → IsKept c s.host items s stations 0
+    stations ≤ STATIONS → StandsAt c [] s → (items : List (ℕ × StationEvent)) → items ≡ [] → IsStationKept c s.host items s stations 0
 kept_first c s host stations same lawful pids has count few at items none =
     let there : has_station c.specs s.host ≡ true = subst (λ h. has_station c.specs h ≡ true) (sym same) has in
-    subst (λ l. IsKept c s.host l s stations 0) (sym none) (record {
+    subst (λ l. IsStationKept c s.host l s stations 0) (sym none) (record {
       same = refl;
       lawful = lawful;
       pids = pids;
@@ -118,7 +110,7 @@ low_before n (events.Deliver frame) low = omega arith
 
 -- One more event.
 module _ (c : Settings) (items : List (ℕ × StationEvent)) (s : StationValue) (stations bytes : ℕ)
-    (kept : IsKept c s.host items s stations bytes) where
+    (kept : IsStationKept c s.host items s stations bytes) where
   abbrev pub o : StationHistory
   o = first_of c s.host
 
@@ -143,7 +135,7 @@ module _ (c : Settings) (items : List (ℕ × StationEvent)) (s : StationValue) 
 
   -- whether a process has an answer to collect
   pub ready_done : (pid : Pid) (done : Bool) → has s pid ≡ true →
-      ((d : Settings) (l : List Entry) → IsAt d l s → done ≡ is_allowed (reading d s.host l).view (steps.Collect pid)) →
+      ((d : Settings) (l : List Entry) → StandsAt d l s → done ≡ is_allowed (reading d s.host l).view (steps.Collect pid)) →
       done ≡ is_ready o items (events.Collect pid)
   ready_done pid done here is =
       let own : is_process_of o pid ≡ true = sym (has_is c es s pid kept.stands) ∙ here in
@@ -207,7 +199,7 @@ module _ (c : Settings) (items : List (ℕ × StationEvent)) (s : StationValue) 
           omega arith
 
       -- what it keeps then
-      with_one : IsKept c s.host (items ++ (k, e) ∷ []) t stations (bytes + sum_by length t.frames)
+      with_one : IsStationKept c s.host (items ++ (k, e) ∷ []) t stations (bytes + sum_by length t.frames)
       with_one =
           let entries : entries_at o (items ++ (k, e) ∷ []) ≡ entry ∷ es = entries_more o items (k, e) in
           record {
@@ -218,7 +210,7 @@ module _ (c : Settings) (items : List (ℕ × StationEvent)) (s : StationValue) 
             count = kept.count;
             few_stations = kept.few_stations;
             some_station = kept.some_station;
-            stands = subst (λ l. IsAt c l t) (sym entries) (event.stands c es kept.stands);
+            stands = subst (λ l. StandsAt c l t) (sym entries) (event.stands c es kept.stands);
             sent = subst (Each IsSentEntry) (sym entries) log.entries;
             fitting = subst (λ l. IsFitting c s.host (reading c s.host l)) (sym entries) log.fitting;
             emitted = (let was = kept.emitted in omega (arith, bytes_are, emitted_more o items (k, e)));
@@ -234,8 +226,8 @@ module _ (c : Settings) (items : List (ℕ × StationEvent)) (s : StationValue) 
           }
 
       pub kept_more : (new : List (ℕ × StationEvent)) → new ≡ items ++ (k, e) ∷ [] → (b : ℕ) → b ≡ bytes + sum_by length t.frames →
-          IsKept c t.host new t stations b
+          IsStationKept c t.host new t stations b
       kept_more new is b sum =
-          subst (λ h. IsKept c h new t stations b) (sym event.host)
-          (subst (λ l. IsKept c s.host l t stations b) (sym is)
-          (subst (λ n. IsKept c s.host (items ++ (k, e) ∷ []) t stations n) (sym sum) with_one))
+          subst (λ h. IsStationKept c h new t stations b) (sym event.host)
+          (subst (λ l. IsStationKept c s.host l t stations b) (sym is)
+          (subst (λ n. IsStationKept c s.host (items ++ (k, e) ∷ []) t stations n) (sym sum) with_one))

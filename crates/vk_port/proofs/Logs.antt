@@ -1,8 +1,8 @@
 -- The log of a port: none, one behind another, and what its seats have entered.
 use Rattle.std.proofs.Common.{◌≡◌, ℕ, List, [], ◌∷◌, ◌++◌, refl, ap, subst, ◌∙◌}
 use mathlib.Core.List.{IsPrefix}
+use Rattle.vk_types.specs.Types.{StationEvent}
 use Rattle.turn_cell.proofs.Histories.{prefix_self}
-use Rattle.vk_base.specs.declared.event.StationEvent.{StationEvent}
 use Rattle.vk_base.specs.declared.event.StationEvent.TheVariants as events
 use Rattle.vk_hub.specs.declared.event.Fetched.{Fetched}
 use Rattle.vk_hub.specs.declared.event.HubEvent.{HubEvent}

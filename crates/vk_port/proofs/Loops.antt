@@ -1,14 +1,15 @@
 -- One more element of a list, in loops; and the number of a station.
-use Rattle.std.proofs.Common.{◌≡◌, ℕ, zero, suc, ◌+◌, ◌<◌, ◌≤◌, Bool, true, false, ◌||◌, List, [], ◌∷◌, ◌++◌, length, take, drop, get_or, Some, sym, ap, subst, ◌∙◌, inl, inr, arith}
+use Rattle.std.proofs.Common.{◌≡◌, ℕ, zero, suc, ◌+◌, ◌<◌, ◌≤◌, true, ◌||◌, List, [], ◌∷◌, ◌++◌, length, take, drop, get_or, Some, sym, ap, subst, ◌∙◌, inl, inr, arith}
 use Rattle.std.specs.Prelude.{slice_get, sum_by}
 use Rattle.std.specs.List.{list_any}
 use Rattle.std.proofs.lemmas.Bool.{cases_Bool, eqb-true}
 use Rattle.std.proofs.lemmas.List.{take-append-drop, take_more}
 use Rattle.std.proofs.lemmas.List.Sums.{sum_by-append, sum_by_push}
 use Rattle.std.proofs.lemmas.Option.{get_or_from_slice_get, none-some, same_Some, slice_get_within}
-use Rattle.vk_base.specs.declared.config.ProcessSpec.{ProcessSpec}
+use Rattle.vk_types.specs.Types.{ProcessSpec}
 use Rattle.vk_base.specs.Pids.{IsPid}
 use Rattle.vk_base.specs.Settings.{has_station, is_on}
+use Rattle.vk_base.proofs.BoolLemmas.{or_rest}
 use Rattle.vk_rules.specs.Each.{Each}
 use Rattle.vk_rules.proofs.Lists.{each_append}
 use Rattle.vk_port.specs.Kept.{IsShort}
@@ -42,10 +43,6 @@ bytes_low frames n =
     subst (λ l. sum_by length (take n frames) ≤ sum_by length l) (take-append-drop n frames) (sum_low (take n frames) (drop n frames))
 
 pub ruleset copied = (frame_more, bytes_more, bytes_low, short_at)
-
-or_rest : (a b : Bool) → (a || b) ≡ true → a ≡ false → b ≡ true
-or_rest true b h k = cc
-or_rest false b h k = h
 
 pub number_bounds : (specs : List ProcessSpec) (h : ℕ) → has_station specs h ≡ true → (0 < h) × (h < 65535)
 number_bounds [] h e = absurd (cc e)

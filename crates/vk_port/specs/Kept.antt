@@ -1,12 +1,11 @@
 -- Internal. What a station keeps: its host stands for the entries of its history, and these are within its share.
 use Rattle.std.specs.Prelude.{ℕ, ◌≡◌, ◌≤◌, ◌/◌, true, List, [], ◌∷◌, length}
-use Rattle.vk_base.specs.declared.config.ProcessSpec.{ProcessSpec}
-use Rattle.vk_base.specs.declared.event.StationEvent.{StationEvent}
+use Rattle.vk_types.specs.Types.{ProcessSpec, StationEvent}
 use Rattle.vk_base.specs.declared.event.StationEvent.TheVariants as events
 use Rattle.vk_base.specs.declared.limits.TheConstants.{EVENTS, FRAME_BYTES, STATIONS}
 use Rattle.vk_base.specs.Pids.{IsPid}
 use Rattle.vk_base.specs.Settings.{AreLawful, Settings, has_station, stations_of}
-use Rattle.vk_host.specs.Standing.{IsAt}
+use Rattle.vk_host.specs.Standing.{StandsAt}
 use Rattle.vk_host.specs.Values.{StationValue}
 use Rattle.vk_rules.specs.Each.{Each}
 use Rattle.vk_rules.specs.Frames.{unsealed_of}
@@ -42,7 +41,7 @@ abbrev pub first_of : Settings → ℕ → StationHistory
 first_of c host = record { config = c; host = host; history = []; spare = 0 }
 
 -- The host stands for the entries that these events make. So many stations share, and so many bytes were emitted here.
-pub record IsKept (c : Settings) (host : ℕ) (items : List (ℕ × StationEvent)) (s : StationValue) (stations bytes : ℕ) : Type 0 where
+pub record IsStationKept (c : Settings) (host : ℕ) (items : List (ℕ × StationEvent)) (s : StationValue) (stations bytes : ℕ) : Type 0 where
   pub same : s.host ≡ host
   pub lawful : AreLawful c
   pub pids : Each (λ (p : ProcessSpec). IsPid p.pid) c.specs
@@ -50,7 +49,7 @@ pub record IsKept (c : Settings) (host : ℕ) (items : List (ℕ × StationEvent
   pub count : stations ≡ length (stations_of c.specs)
   pub few_stations : stations ≤ STATIONS
   pub some_station : 1 ≤ stations
-  pub stands : IsAt c (entries_at (first_of c host) items) s
+  pub stands : StandsAt c (entries_at (first_of c host) items) s
   pub sent : Each IsSentEntry (entries_at (first_of c host) items)
   pub fitting : IsFitting c host (reading c host (entries_at (first_of c host) items))
   pub emitted : bytes ≡ emitted_bytes (entries_at (first_of c host) items)

@@ -1,17 +1,14 @@
 -- What a port does with its two seats.
 use Rattle.std.specs.Prelude.{ℕ, ◌≡◌, ◌≤◌, ◌<◌, ◌+◌, ◌⊎◌, Bool, true, false, List, [], ◌∷◌, ◌++◌, length, map, take}
 use mathlib.Core.List.{IsPrefix}
+use Rattle.vk_types.specs.Types.{CallOutcome, EventAnswer, Pid, StationEvent}
 use Rattle.turn_cell.specs.History.{events_of}
 use Rattle.turn_cell.specs.Rooms.{is_full as is_room_full}
 use Rattle.turn_cell.specs.Seats.{Cell, IsSameSeat, Sitting}
 use Rattle.turn_cell.specs.declared.replay.Room.{Room}
-use Rattle.vk_base.specs.declared.answer.CallOutcome.{CallOutcome}
 use Rattle.vk_base.specs.declared.answer.CallOutcome.TheVariants as outcomes
-use Rattle.vk_base.specs.declared.event.EventAnswer.{EventAnswer}
 use Rattle.vk_base.specs.declared.event.EventAnswer.TheVariants as answers
-use Rattle.vk_base.specs.declared.event.StationEvent.{StationEvent}
 use Rattle.vk_base.specs.declared.event.StationEvent.TheVariants as events
-use Rattle.vk_base.specs.declared.pid.Pid.{Pid}
 use Rattle.vk_hub.specs.declared.event.Fetched.{Fetched}
 use Rattle.vk_hub.specs.declared.event.Fetched.TheVariants as fetched
 use Rattle.vk_hub.specs.declared.event.HubEvent.{HubEvent}

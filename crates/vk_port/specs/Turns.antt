@@ -1,13 +1,11 @@
 -- Internal. What the steps of a port do to its two seats.
 use Rattle.std.specs.Prelude.{ℕ, ◌≡◌, ◌<◌, ◌⊎◌, Bool, true, false, List, ◌++◌, length, map, take}
 use mathlib.Core.List.{IsPrefix}
+use Rattle.vk_types.specs.Types.{Answer, EventAnswer, StationEvent}
 use Rattle.turn_cell.specs.Rooms.{is_full as is_room_full}
 use Rattle.turn_cell.specs.Seats.{IsSameSeat, Sitting}
 use Rattle.turn_cell.specs.declared.replay.Room.{Room}
-use Rattle.vk_base.specs.declared.answer.Answer.{Answer}
-use Rattle.vk_base.specs.declared.event.EventAnswer.{EventAnswer}
 use Rattle.vk_base.specs.declared.event.EventAnswer.TheVariants as answers
-use Rattle.vk_base.specs.declared.event.StationEvent.{StationEvent}
 use Rattle.vk_base.specs.declared.event.StationEvent.TheVariants as events
 use Rattle.vk_hub.specs.declared.event.Fetched.{Fetched}
 use Rattle.vk_hub.specs.declared.event.HubEvent.{HubEvent}

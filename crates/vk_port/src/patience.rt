@@ -4,9 +4,18 @@ ghost use Rattle.std.specs.Prelude.{◌≡◌, ◌+◌, ◌-◌, ◌^◌, ◌*�
 
 use std::marker::Model;
 use std::thread::{sleep, yield_now};
-use std::time::{Clock, Duration};
+use std::time::{Clock, Duration, Instant};
 
-/// How many waits behind one another only let other threads have the processor.
+/// How many waits behind one another are no sleeps, however long they take.
+const FEW: u32 = 8;
+
+/// Microseconds since the first of some waits behind one another in which none is a sleep.
+const SHORT: u64 = 100;
+
+/// Microseconds that a wait takes at least, where other threads leave it the processor.
+const PAUSE: u64 = 2;
+
+/// How often a wait lets other threads have the processor, at most.
 const YIELDS: u32 = 8;
 
 /// Microseconds of the first sleep.
@@ -15,14 +24,17 @@ const FIRST_SLEEP: u32 = 50;
 /// How often a sleep is twice as long as that before it.
 const DOUBLINGS: u32 = 16;
 
-/// How a thread waits that found nothing to do. Of its waits behind one another the first eight let other threads have its processor.
-/// Each further one is a sleep: the first of 50 microseconds, and each twice as long as that before it, up to a longest one. So
+/// How a thread waits that found nothing to do. Its first eight waits behind one another, and all others within 100 microseconds, let other
+/// threads have its processor, for two microseconds where nobody wants it: so who waits looks seldom, and those that have something to do get
+/// their turns. Each further wait is a sleep: the first of 50 microseconds, and each twice as long as that before it, up to a longest one. So
 /// who waits a short time hears soon, and who waits long takes little of the processor. Contracts see how many waits there were behind one
-/// another; that a sleep takes so long no contract says.
+/// another; how long they take no contract says.
 #[derive(Drop)]
 pub struct Patience {
     longest: u32,
     waits: u32,
+    sleeps: u32,
+    since: Option<Instant>,
 }
 
 impl Model for Patience {
@@ -38,18 +50,24 @@ impl Patience {
     pub fn new(longest: u32) -> Patience
         ensures { result ≡ 0 }
     {
-        Patience { longest, waits: 0 }
+        Patience {
+            longest,
+            waits: 0,
+            sleeps: 0,
+            since: None,
+        }
     }
 
     /// Waits once.
     pub fn wait<R: Clock>(&mut self, rt: &R)
         ensures { self.new ≡ min (self.old + 1) (2 ^ 32 - 1) }
     {
-        if self.waits < YIELDS {
-            yield_now();
+        if self.is_short(rt) {
+            let_others(rt);
         } else {
-            let micros = sleep_micros(self.waits - YIELDS, self.longest);
+            let micros = sleep_micros(self.sleeps, self.longest);
             sleep(rt, Duration::from_micros(u64::from(micros)));
+            self.sleeps = self.sleeps.saturating_add(1);
         }
         self.waits = self.waits.saturating_add(1);
     }
@@ -59,6 +77,42 @@ impl Patience {
         ensures { self.new ≡ 0 }
     {
         self.waits = 0;
+        self.sleeps = 0;
+        self.since = None;
+    }
+
+    /// Whether the next wait is no sleep.
+    fn is_short<R: Clock>(&mut self, rt: &R) -> bool
+        ensures { self.new ≡ self.old }
+    {
+        match self.since {
+            Some(since) => self.waits < FEW || !has_passed(rt, since, SHORT),
+            None => {
+                self.since = Instant::now(rt).ok();
+                self.waits < FEW
+            }
+        }
+    }
+}
+
+/// Whether so many microseconds have passed, or the clock cannot be read.
+fn has_passed<R: Clock>(rt: &R, since: Instant, micros: u64) -> bool {
+    match since.elapsed(rt) {
+        Ok(passed) => passed >= Duration::from_micros(micros),
+        Err(_) => true,
+    }
+}
+
+/// Lets other threads have the processor.
+fn let_others<R: Clock>(rt: &R) {
+    let Ok(start) = Instant::now(rt) else {
+        return yield_now();
+    };
+    for _ in 0..YIELDS {
+        yield_now();
+        if has_passed(rt, start, PAUSE) {
+            return;
+        }
     }
 }
 

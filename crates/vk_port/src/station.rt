@@ -41,14 +41,14 @@ pub struct Station {
 }
 
 impl Model for Station {
-    ghost use Rattle.vk_port.specs.Kept.{IsKept, history_of};
+    ghost use Rattle.vk_port.specs.Kept.{IsStationKept, history_of};
     ghost use Rattle.vk_port.specs.Stations.{StationHistory};
 
     ghost Value = { StationHistory };
 
     ghost view = { λ s. history_of s.config.value s.host.host s.entries };
 
-    ghost invariant = { λ s. IsKept s.config.value s.host.host s.entries.items s.host s.stations s.bytes };
+    ghost invariant = { λ s. IsStationKept s.config.value s.host.host s.entries.items s.host s.stations s.bytes };
 }
 
 impl Station {

@@ -2,14 +2,10 @@
 use Rattle.std.proofs.Common.{◌≡◌, ◌∙◌, ℕ, zero, suc, Bool, true, false, cond, List, [], ◌∷◌, get_or, map, set, Option, Some, None, refl, ap, sym, subst}
 use Rattle.std.proofs.lemmas.Bool.{both_ways}
 use Rattle.std.proofs.lemmas.Option.{none-some}
-use Rattle.vk_base.specs.declared.activity.Activity.{Activity}
+use Rattle.vk_types.specs.Types.{Activity, Message, Outcome, Pid, Waiting}
 use Rattle.vk_base.specs.declared.activity.Activity.TheVariants as activities
-use Rattle.vk_base.specs.declared.activity.Outcome.{Outcome}
 use Rattle.vk_base.specs.declared.activity.Outcome.TheVariants as outcomes
-use Rattle.vk_base.specs.declared.activity.Waiting.{Waiting}
 use Rattle.vk_base.specs.declared.answer.Refusal.TheVariants as refusals
-use Rattle.vk_base.specs.declared.message.Message.{Message}
-use Rattle.vk_base.specs.declared.pid.Pid.{Pid}
 use Rattle.vk_base.specs.Activities.{collected_in, done_with, receive_in}
 use Rattle.vk_base.specs.Firsts.{change_first}
 use Rattle.vk_procs.specs.declared.seat.Passed.{Passed}
@@ -28,7 +24,7 @@ AreEased old new = (k tick : ℕ) → awaited_at new k ≡ Some tick → awaited
 
 -- one process
 not_waiting : (old new : Seat) → is_blocked new.doing ≡ false → IsEased old new
-not_waiting old new is tick e = absurd (none-some tick (sym (ap (λ b. cond b (Some new.note.deadline) None) is) ∙ e))
+not_waiting old new is tick e = absurd (none-some tick (sym (ap (λ b. cond b (Some new.note.work.deadline) None) is) ∙ e))
 
 finished_by : (s : Seat) (d : Activity) (o : Outcome) → is_blocked (done_with d o) ≡ false
 finished_by s activities.Ready o = refl
@@ -47,7 +43,7 @@ waited_by : (s : Seat) (d : Activity) (b : Bool) → is_blocked d ≡ b → (is_
     IsEased s (record s { doing = d })
 waited_by s d false is was tick e = not_waiting s (record s { doing = d }) is tick e
 waited_by s d true is was tick e =
-    ap (λ b. cond b (Some s.note.deadline) None) (was is) ∙ sym (ap (λ b. cond b (Some s.note.deadline) None) is) ∙ e
+    ap (λ b. cond b (Some s.note.work.deadline) None) (was is) ∙ sym (ap (λ b. cond b (Some s.note.work.deadline) None) is) ∙ e
 
 pub eased_collected : (s : Seat) → IsEased s (collected s)
 eased_collected s = waited_by s (collected_in s.doing) (is_blocked (collected_in s.doing)) refl (collected_by s.doing)

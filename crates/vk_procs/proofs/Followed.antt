@@ -9,8 +9,8 @@ use Rattle.vk_base.specs.Kernel.{◌>>=◌}
 use Rattle.vk_procs.specs.declared.deadlines.Deadlines.{Deadlines}
 use Rattle.vk_procs.specs.declared.seat.Seat.{Seat}
 use Rattle.vk_procs.specs.Awaited.{awaited, due_places, is_awaited}
-use Rattle.vk_procs.specs.Kept.{AreFollowed, AreHeard, AreSameBut, IsClose, IsTold, awaited_at, due_bit, is_far, near}
-use Rattle.vk_timer.specs.Sets.{AreOver, IsNext}
+use Rattle.vk_procs.specs.Kept.{AreFollowed, AreHeard, AreSameBut, IsClose, IsFollowedAt, awaited_at, due_bit, is_far, near}
+use Rattle.vk_timer.specs.Sets.{AreOver, IsNextSlot}
 use Rattle.vk_timer.specs.Wheels.{AreFrom, deadline_of, due_set, is_due, not_due}
 use Rattle.vk_timer.proofs.Sets.{bit_in, set_low}
 use Rattle.vk_timer.proofs.Standing.{due_at, left_at}
@@ -183,7 +183,7 @@ pub record IsHearing (old d : Deadlines) (seats : List Seat) (places turns from 
   pub ticks : AreFrom d.next d.wheel
   pub next : d.next ≡ old.next
   pub told : (k : ℕ) → k < 32 → (k < from) ⊎ (bit_at places k ≡ 0) →
-      IsTold d seats k × (bit_at d.noted k ≡ 0 → IsClose d seats k)
+      IsFollowedAt d seats k × (bit_at d.noted k ≡ 0 → IsClose d seats k)
   pub turns_few : turns ≤ from
   pub low : from ≤ 32
 
@@ -206,7 +206,7 @@ module _ (old d : Deadlines) (seats : List Seat) (places turns from : ℕ) (h : 
   pub fits : (at : ℕ) → at < 32 → at < length d.wheel
   fits at low = let many = h.many in omega (arith, low, many)
 
-  pub hearing_more : (e : Deadlines) (at : ℕ) → IsNext places from at → e.next ≡ d.next →
+  pub hearing_more : (e : Deadlines) (at : ℕ) → IsNextSlot places from at → e.next ≡ d.next →
       e.wheel ≡ set d.wheel at (near d.next (awaited_at seats at)) →
       ((k : ℕ) → bit_at e.noted k ≡ cond (is_far d.next (awaited_at seats at) && (k == at)) 1 (bit_at d.noted k)) →
       IsHearing old e seats places (turns + 1) (at + 1)
@@ -221,7 +221,7 @@ module _ (old d : Deadlines) (seats : List Seat) (places turns from : ℕ) (h : 
         ticks = from_told d e at o next wheel noted here h.ticks;
         next = next ∙ h.next;
         told = λ k low either. elim (cases_eq k at) [
-          | inl is ↦ subst (λ i. IsTold e seats i × (bit_at e.noted i ≡ 0 → IsClose e seats i)) (sym is)
+          | inl is ↦ subst (λ i. IsFollowedAt e seats i × (bit_at e.noted i ≡ 0 → IsClose e seats i)) (sym is)
               (told_here d e at o next wheel noted here, close_here d e at o next wheel noted)
           | inr ne ↦
               let was = h.told k low (elim either [
@@ -283,7 +283,7 @@ module _ (now : ℕ) (seats : List Seat) (places due turns from : ℕ) (h : AreD
   here_by true old bit none one = sym one
   here_by false old bit none one = none
 
-  pub due_more : (after at : ℕ) → IsNext places from at →
+  pub due_more : (after at : ℕ) → IsNextSlot places from at →
       ((k : ℕ) → bit_at after k ≡ cond (is_due now (awaited_at seats at) && (k == at)) 1 (bit_at due k)) →
       AreDueTo now seats places after (turns + 1) (at + 1)
   due_more after at found bits =

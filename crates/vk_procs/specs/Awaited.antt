@@ -1,6 +1,6 @@
 -- Whom a tick may be for.
 use Rattle.std.specs.Prelude.{ℕ, Bool, true, false, List, map, Option, Some, None, if◌then◌else◌}
-use Rattle.vk_base.specs.declared.activity.Activity.{Activity}
+use Rattle.vk_types.specs.Types.{Activity}
 use Rattle.vk_base.specs.declared.activity.Activity.TheVariants as activities
 use Rattle.vk_procs.specs.declared.seat.Seat.{Seat}
 use Rattle.vk_timer.specs.Sets.{set_of}
@@ -12,7 +12,7 @@ is_blocked d = false
 
 -- the tick that a process waits for, if it waits
 abbrev pub awaited : Seat → Option ℕ
-awaited s = if is_blocked s.doing then Some s.note.deadline else None
+awaited s = if is_blocked s.doing then Some s.note.work.deadline else None
 
 abbrev pub is_awaited : ℕ → Seat → Bool
 is_awaited now s = is_due now (awaited s)

@@ -1,8 +1,7 @@
 -- The work that a process waits in: a remote Send, a remote move or a lookup.
 use Rattle.std.specs.Prelude.{ℕ, List}
 use Rattle.std.specs.Option.{option_map_or}
-use Rattle.vk_base.specs.declared.config.Times.{Times}
-use Rattle.vk_base.specs.declared.pid.Pid.{Pid}
+use Rattle.vk_types.specs.Types.{Pid, Times}
 use Rattle.vk_procs.specs.declared.seat.Seat.{Seat}
 use Rattle.vk_procs.specs.Seats.{seat_in}
 use Rattle.vk_timer.specs.declared.work.Due.{Due}
@@ -10,17 +9,13 @@ use Rattle.vk_timer.specs.declared.work.Due.TheVariants as dues
 use Rattle.vk_timer.specs.declared.work.Work.{Work}
 use Rattle.vk_timer.specs.Works.{due_at, work_at}
 
--- its work
-abbrev pub work_in : Seat → Work
-work_in s = record { tries = s.note.tries; deadline = s.note.deadline }
-
 -- the process with another work
 abbrev pub working : Work → Seat → Seat
-working w s = record s { note = record s.note { tries = w.tries; deadline = w.deadline } }
+working w s = record s { note = record s.note { work = w } }
 
 -- what a tick finds of it, and the process after it
 abbrev pub due_in : Times → ℕ → List Seat → Pid → Due
-due_in times now seats pid = option_map_or (λ (s : Seat). due_at times now (work_in s)) (seat_in seats pid) dues.NotDue
+due_in times now seats pid = option_map_or (λ (s : Seat). due_at times now s.note.work) (seat_in seats pid) dues.NotDue
 
 abbrev pub counted : Times → ℕ → Seat → Seat
-counted times now s = working (work_at times now (work_in s)) s
+counted times now s = working (work_at times now s.note.work) s

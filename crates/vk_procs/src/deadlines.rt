@@ -175,7 +175,7 @@ fn awaited(seats: &[Seat], at: u32) -> Option<u64>
 {
     let seat = seats.get(at as usize)?;
     match seat.doing {
-        Activity::Blocked { .. } => Some(seat.note.deadline),
+        Activity::Blocked { .. } => Some(seat.note.work.deadline),
         _ => None,
     }
 }

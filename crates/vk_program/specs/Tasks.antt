@@ -1,7 +1,6 @@
 -- Tasks: what is called next after the answers so far.
 use Rattle.std.specs.Prelude.{◌≡◌, min, List, [], ◌∷◌, length, slice_get, Option, Some, None}
-use Rattle.vk_base.specs.declared.answer.Answer.{Answer}
-use Rattle.vk_base.specs.declared.call.Call.{Call}
+use Rattle.vk_types.specs.Types.{Answer, Call}
 use Rattle.vk_program.specs.declared.script.Script.{Script}
 
 -- the answers that come with a request for the next call

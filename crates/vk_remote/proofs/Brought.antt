@@ -1,27 +1,20 @@
 -- What a Send of another station brings into the view of a station leaves the view sound.
 use Rattle.std.proofs.Common.{◌≡◌, ℕ, ◌<◌, ◌≤◌, max, Bool, true, false, cond, not, ◌==◌, ◌&&◌, ◌||◌, List, [], ◌∷◌, refl, ap, sym, ◌∙◌, subst, Option, Some, None, is_some, inl, inr, arith}
 use Rattle.std.specs.List.{list_any}
-use Rattle.std.proofs.lemmas.Bool.{cases_Bool, and_parts, both_ways, eqb-true, false_from_ne_true, eq-eqb}
+use Rattle.std.proofs.lemmas.Bool.{cases_Bool, and_parts, both_ways, eqb-true, false_from_ne_true, eq-eqb, not-true}
 use Rattle.std.proofs.lemmas.Option.{same_Some, none-some}
-use Rattle.vk_base.specs.declared.kernel.Exchange.{Exchange}
-use Rattle.vk_base.specs.declared.kernel.Name.{Name}
-use Rattle.vk_base.specs.declared.kernel.Process.{Process}
+use Rattle.vk_types.specs.Types.{Exchange, Message, Name, Pid, Process}
 use Rattle.vk_base.specs.declared.kernel.State.TheVariants as states
-use Rattle.vk_base.specs.declared.message.Message.{Message}
-use Rattle.vk_base.specs.declared.pid.Pid.{Pid}
 use Rattle.vk_base.specs.Brought.{brought, posted, sender_heard}
 use Rattle.vk_base.specs.Kernel.{Kernel, is_at_target, is_live, is_posted, is_ready, name_of, same_name, sending, without}
 use Rattle.vk_base.specs.Packets.{Send}
 use Rattle.vk_base.specs.Pids.{same_host, same_pid}
+use Rattle.vk_base.proofs.PidLemmas.{same_pid_self}
 use Rattle.v_laws.specs.Sound.{IsAwaited, IsBegun, IsSent, IsSoundAt, IsUnderWay, has_arrived}
 use Rattle.v_laws.proofs.Changes.{IsOrderly}
 use Rattle.v_laws.proofs.FilterLemmas.{distinct_filter, none_kept}
 use Rattle.v_laws.proofs.SoundChanges.{orderly_where}
-use Rattle.v_laws.proofs.Tables.{put_exchange_at, put_exchange_other, put_process_at, put_process_other, same_name_is, same_name_laws, same_pid_is, same_pid_self}
-
-pub not_is : (b : Bool) → not b ≡ true → b ≡ false
-not_is true t = cc
-not_is false t = refl
+use Rattle.v_laws.proofs.Tables.{put_exchange_at, put_exchange_other, put_process_at, put_process_other, same_name_is, same_name_laws, same_pid_is}
 
 -- processes of different hosts are not the same
 pub apart_hosts : (p q : Pid) → (p.host ≡ q.host → ⊥) → same_pid p q ≡ false
@@ -49,7 +42,7 @@ any_without n name (x ∷ ns) other =
 
 pub none_without : (n name : Name) (ns : List Name) → same_name n name ≡ true → list_any (same_name n) (without name ns) ≡ false
 none_without n name ns same = none_kept (same_name n) (λ x. not (same_name x name)) ns
-    (λ x kept. ap (λ y. same_name y x) (same_name_is n name same) ∙ same_name_laws.symm name x ∙ not_is (same_name x name) kept)
+    (λ x kept. ap (λ y. same_name y x) (same_name_is n name same) ∙ same_name_laws.symm name x ∙ not-true (same_name x name) kept)
 
 -- The sender, of which the Send was heard.
 module _ (number : ℕ) where

@@ -4,18 +4,12 @@ use Rattle.std.specs.List.{position, slice_get}
 use Rattle.std.specs.Option.{option_map}
 use Rattle.std.proofs.lemmas.Bool.{cond-false}
 use Rattle.std.proofs.lemmas.Option.{none-some}
+use Rattle.vk_types.specs.Types.{Call, Exchange, Message, Pid, Refusal, Registration, Step}
 use Rattle.vk_base.specs.declared.activity.Outcome.TheVariants as outcomes
 use Rattle.vk_base.specs.declared.answer.Answer.TheVariants as answers
-use Rattle.vk_base.specs.declared.answer.Refusal.{Refusal}
 use Rattle.vk_base.specs.declared.answer.Refusal.TheVariants as refusals
-use Rattle.vk_base.specs.declared.call.Call.{Call}
 use Rattle.vk_base.specs.declared.call.Call.TheVariants as calls
-use Rattle.vk_base.specs.declared.kernel.Exchange.{Exchange}
-use Rattle.vk_base.specs.declared.kernel.Registration.{Registration}
 use Rattle.vk_base.specs.declared.limits.TheConstants.{STATION_PROCESSES}
-use Rattle.vk_base.specs.declared.message.Message.{Message}
-use Rattle.vk_base.specs.declared.pid.Pid.{Pid}
-use Rattle.vk_base.specs.declared.step.Step.{Step}
 use Rattle.vk_base.specs.declared.step.Step.TheVariants as steps
 use Rattle.vk_base.specs.Calls.{answered, forwarded}
 use Rattle.vk_base.specs.Kernel.{◌>>=◌, Kernel, name_of}
@@ -31,7 +25,7 @@ use Rattle.vk_procs.specs.Seats.{is_live_in, is_seat, process_of, seat_in}
 use Rattle.vk_rules.specs.CallOutcomes.{effect_answer}
 use Rattle.vk_rules.specs.Readings.{Reading}
 use Rattle.vk_stands.specs.Fit.{AreFit}
-use Rattle.vk_stands.specs.Stands.{IsKept, Stands}
+use Rattle.vk_stands.specs.Stands.{IsAlienKept, Stands}
 use Rattle.vk_stands.specs.Tables.{Tables, alien_name, read_alien, seat_name, slot_name}
 use Rattle.vk_stands.proofs.AlienForward.{handed_carries, handed_read, handed_tables, kept_alien, part_handed}
 use Rattle.vk_stands.proofs.Found.{seat_found}
@@ -42,7 +36,7 @@ use Rattle.vk_local.specs.Calls.{done_by, steps_of, unless}
 use Rattle.vk_local.specs.Rules.{named}
 use Rattle.vk_local.specs.Takes.{served}
 use Rattle.vk_local.proofs.Decided.{MayCall}
-use Rattle.vk_local.proofs.Rules.{IsPlayed, ok_makes, refused_makes}
+use Rattle.vk_local.proofs.Rules.{IsCallPlayed, ok_makes, refused_makes}
 use Rattle.vk_local.proofs.Taken.{IsServed, is_served}
 use Rattle.vk_remote.specs.Forwards as forwards
 use Rattle.vk_remote.specs.Forwards.{after_forward, forward_refusal, forward_steps, handed_over, moved_on}
@@ -124,7 +118,7 @@ module _ (c : Settings) (host : ℕ) (t : Tables) (r : Reading) (h : Stands c.ti
         (option_map alien_name (alien_at t.slots (slot - STATION_PROCESSES))) (not_low i)
         ∙ ap (λ n. option_map alien_name (alien_at t.slots n)) (back i) ∙ ap (option_map alien_name) x.place.here
 
-    abbrev kept : IsKept r.view a
+    abbrev kept : IsAlienKept r.view a
     kept = kept_alien host t r.view part i a x.place.here x.taken m to s slot place.0 slot_is place.1
 
     abbrev l : Kernel
@@ -159,7 +153,7 @@ module _ (c : Settings) (host : ℕ) (t : Tables) (r : Reading) (h : Stands c.ti
         (steps_of (forwards.forwarded t from m to) to)
     taken = then_served (forwards.forwarded t from m to) tables_are
 
-    accepted : IsPlayed c host r pid call t before out (Some outcomes.Ok) (handed_over t from m to)
+    accepted : IsCallPlayed c host r pid call t before out (Some outcomes.Ok) (handed_over t from m to)
         (before ++ (steps.Call pid call ∷ steps_of (forwards.forwarded t from m to) to))
     accepted = record {
       answer = sym (ap effect_answer does);
@@ -174,7 +168,7 @@ module _ (c : Settings) (host : ℕ) (t : Tables) (r : Reading) (h : Stands c.ti
     }
 
   by_refusal : (o : Option Refusal) → forward_refusal t.seats t.slots pid from to ≡ o →
-      IsPlayed c host r pid call t before out (done_by o)
+      IsCallPlayed c host r pid call t before out (done_by o)
       (unless o (handed_over t from m to) t)
       (before ++ (steps.Call pid call ∷ unless o (steps_of (forwards.forwarded t from m to) to) []))
   by_refusal None free = accepted free
@@ -186,6 +180,6 @@ module _ (c : Settings) (host : ℕ) (t : Tables) (r : Reading) (h : Stands c.ti
         fits = fit;
       }
 
-  pub forward_is : IsPlayed c host r pid call t before out (done_by (forward_refusal t.seats t.slots pid from to))
+  pub forward_is : IsCallPlayed c host r pid call t before out (done_by (forward_refusal t.seats t.slots pid from to))
       (after_forward t pid from m to) (before ++ forward_steps t pid from m to)
   forward_is = by_refusal (forward_refusal t.seats t.slots pid from to) refl

@@ -1,2 +1,2 @@
 mod StepLines
-mod Traces
+pub mod Traces

@@ -3,7 +3,7 @@ use Rattle.std.proofs.Common.{◌≡◌, ℕ, ◌+◌, List, [], ◌∷◌, ◌+
 use Rattle.std.proofs.lemmas.List.{take_more}
 use Rattle.std.proofs.lemmas.List.Concat.{flat_map-append}
 use Rattle.std.proofs.lemmas.Option.{slice_get_within, get_or_from_slice_get}
-use Rattle.vk_base.specs.declared.step.Step.{Step}
+use Rattle.vk_types.specs.Types.{Step}
 use Rattle.vk_report.specs.Report.{step_line, step_lines}
 
 one_more : (word : List ℕ) (s : Step) (steps : List Step) (at : ℕ) → slice_get steps at ≡ Some s

@@ -2,14 +2,14 @@
 use Rattle.std.proofs.Common.{◌≡◌, ℕ, ◌+◌, List, [], ◌∷◌, ◌++◌, codes, Option, Some, None, refl, ap, sym, ◌∙◌, append-nil}
 use Rattle.std.specs.List.{flat_map}
 use Rattle.std.proofs.lemmas.List.Concat.{flat_map-append}
-use Rattle.vk_base.specs.declared.event.EventAnswer.{EventAnswer}
+use Rattle.vk_types.specs.Types.{EventAnswer}
 use Rattle.vk_text.specs.Heads.{head_text}
 use Rattle.vk_report.specs.declared.entry.Form.TheVariants as forms
 use Rattle.vk_report.specs.declared.frame.Emitted.{Emitted}
 use Rattle.vk_report.specs.Histories.{Told, frames_from, lines_by, told_lines, steps_by, told_steps, TracesAreOfTheirSteps}
 use Rattle.vk_report.specs.Report.{step_line, step_lines}
 
-no_frames : (host own before : ℕ) (frames : List Emitted) → frames_from forms.Trace host own before frames ≡ []
+pub no_frames : (host own before : ℕ) (frames : List Emitted) → frames_from forms.Trace host own before frames ≡ []
 no_frames host own before [] = refl
 no_frames host own before (f ∷ fs) = no_frames host own (before + 1) fs
 

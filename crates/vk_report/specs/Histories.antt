@@ -1,19 +1,17 @@
 -- The report and the trace of a whole history.
 use Rattle.std.specs.Prelude.{◌≡◌, ℕ, ◌+◌, List, [], ◌∷◌, ◌++◌, flat_map, Option, Some, None}
-use Rattle.vk_base.specs.declared.config.ProcessSpec.{ProcessSpec}
-use Rattle.vk_base.specs.declared.step.Step.{Step}
-use Rattle.vk_base.specs.declared.event.EventAnswer.{EventAnswer}
+use Rattle.vk_types.specs.Types.{EventAnswer, ProcessSpec, Step}
 use Rattle.v_trace.specs.Traces.{trace_text}
 use Rattle.vk_report.specs.declared.entry.Counts.{Counts}
 use Rattle.vk_report.specs.declared.entry.Form.{Form}
 use Rattle.vk_report.specs.declared.entry.Form.TheVariants as forms
-use Rattle.vk_report.specs.declared.entry.Place.{Place}
+use Rattle.vk_report.specs.declared.entry.EventPlace.{EventPlace}
 use Rattle.vk_report.specs.declared.frame.Emitted.{Emitted}
 use Rattle.vk_report.specs.Report.{entry_lines, missing_lines, frame_lines, end_lines, opening_lines}
 
 -- what is told of one entry; a delivery whose frame was never emitted has no answer, so it has no steps and no frames
 pub record Told : Type 0 where
-  pub place : Place
+  pub place : EventPlace
   pub answer : Option EventAnswer
   pub steps : List Step
   pub frames : List Emitted

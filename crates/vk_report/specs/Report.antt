@@ -1,15 +1,14 @@
 -- What is written of a history: its report, or its trace.
 use Rattle.std.specs.Prelude.{ℕ, ◌==◌, List, [], ◌∷◌, ◌++◌, flat_map, decimal, codes, if◌then◌else◌}
-use Rattle.vk_base.specs.declared.config.ProcessSpec.{ProcessSpec}
-use Rattle.vk_base.specs.declared.step.Step.{Step}
-use Rattle.vk_base.specs.declared.event.EventAnswer.{EventAnswer}
+use Rattle.vk_types.specs.Types.{EventAnswer, ProcessSpec, Step}
+use Rattle.vk_base.specs.Packets.{Packet, Send, Reply, Pending, Negative, MoveData, MoveAck, MoveRequest, MoveBytes, MoveNegative, AskPid, TellPid}
 use Rattle.vk_base.specs.declared.event.EventAnswer.TheVariants as answers
 use Rattle.vk_text.specs.Heads.{head_text}
 use Rattle.v_trace.specs.Texts.{answer_text, step_text}
 use Rattle.vk_report.specs.declared.entry.Counts.{Counts}
 use Rattle.vk_report.specs.declared.entry.Form.{Form}
 use Rattle.vk_report.specs.declared.entry.Form.TheVariants as forms
-use Rattle.vk_report.specs.declared.entry.Place.{Place}
+use Rattle.vk_report.specs.declared.entry.EventPlace.{EventPlace}
 use Rattle.vk_report.specs.declared.frame.Emitted.{Emitted}
 use Rattle.vk_report.specs.declared.frame.PacketKind.{PacketKind}
 use Rattle.vk_report.specs.declared.frame.PacketKind.TheVariants as kinds
@@ -30,11 +29,11 @@ abbrev pub event_place : ℕ → ℕ → List ℕ
 event_place host own = decimal host ++ codes ":" ++ decimal own
 
 -- `N H:E `: the history's number of the event comes first
-abbrev pub place_text : Place → List ℕ
+abbrev pub place_text : EventPlace → List ℕ
 place_text p = decimal p.number ++ codes " " ++ event_place p.host p.own ++ codes " "
 
 -- `N H:E ANSWER`
-abbrev pub answer_line : Place → EventAnswer → List ℕ
+abbrev pub answer_line : EventPlace → EventAnswer → List ℕ
 answer_line p answer = place_text p ++ answer_text_of answer ++ codes "\n"
 
 -- `N H`
@@ -52,11 +51,11 @@ step_line word s = word ++ step_text s ++ codes "\n"
 abbrev pub step_lines : List ℕ → List Step → List ℕ
 step_lines word steps = flat_map (step_line word) steps
 
-abbrev pub report_entry : Place → EventAnswer → List Step → List ℕ
+abbrev pub report_entry : EventPlace → EventAnswer → List Step → List ℕ
 report_entry p answer steps = answer_line p answer ++ step_lines (codes "step ") steps
 
 -- the lines of an event
-abbrev pub entry_lines : Form → Place → EventAnswer → List Step → List ℕ
+abbrev pub entry_lines : Form → EventPlace → EventAnswer → List Step → List ℕ
 entry_lines forms.Report p answer steps = report_entry p answer steps
 entry_lines forms.Trace p answer steps = step_lines [] steps
 
@@ -66,6 +65,20 @@ missing_lines forms.Report number host = missing_line number host
 missing_lines forms.Trace number host = []
 
 -- Frames.
+
+-- what kind of packet it is
+abbrev pub kind_of : Packet → PacketKind
+kind_of (Send from to number message part) = kinds.Send
+kind_of (Reply from to number message dest bytes) = kinds.Reply
+kind_of (Pending from to number) = kinds.Pending
+kind_of (Negative from to number) = kinds.Negative
+kind_of (MoveData from to number moving dest total offset bytes) = kinds.MoveData
+kind_of (MoveAck from to number moving received) = kinds.MoveAck
+kind_of (MoveRequest from to number moving src total offset) = kinds.MoveRequest
+kind_of (MoveBytes from to number moving total offset bytes) = kinds.MoveBytes
+kind_of (MoveNegative from to number moving) = kinds.MoveNegative
+kind_of (AskPid asker lookup logical) = kinds.AskPid
+kind_of (TellPid found asker lookup) = kinds.TellPid
 
 abbrev pub kind_text : PacketKind → List ℕ
 kind_text kinds.Send = codes "send"

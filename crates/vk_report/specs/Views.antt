@@ -1,7 +1,7 @@
 -- What a view of an answer stands for.
 use Rattle.std.specs.Prelude.{◌≤◌, length}
+use Rattle.vk_types.specs.Types.{EventAnswer}
 use Rattle.vk_base.specs.declared.answer.Answer.TheVariants as answers
-use Rattle.vk_base.specs.declared.event.EventAnswer.{EventAnswer}
 use Rattle.vk_base.specs.declared.event.EventAnswer.TheVariants as events_answered
 use Rattle.vk_base.specs.declared.limits.TheConstants.{DATA_BYTES}
 use Rattle.vk_base.specs.Activities.{answer_of}

@@ -1,11 +1,11 @@
 //! The line of an event and its answer.
 
 ghost use Rattle.std.specs.Prelude.{◌≡◌, ◌++◌, OnOk, OnErr};
-ghost use Rattle.vk_text.specs.Spelling.{Begins};
+ghost use Rattle.vk_text.specs.Spelling.{StartsWith};
 ghost use Rattle.vk_report.specs.Report.{place_text, answer_text_of, answer_line, number_and_host, missing_line, event_place};
 ghost use Rattle.vk_report.specs.Views.{IsShort, viewed};
 
-use crate::entry::Place;
+use crate::entry::EventPlace;
 use std::alloc::Global;
 use v_trace::{put_loaded, put_outcome};
 use vk_base::{Answer, EventAnswer, NoMemory, Outcome};
@@ -14,7 +14,7 @@ use vk_text::{put, put_byte, put_number, write_number};
 /// `now TICK`
 fn write_ticked(alloc: Global, text: &mut Vec<u8>, now: u64) -> Result<(), NoMemory>
     ensures ok { OnOk result (text.new.items ≡ text.old.items ++ answer_text_of (EventAnswer.Ticked now)) }
-    ensures front { OnErr result (Begins text.old.items text.new.items) }
+    ensures front { OnErr result (StartsWith text.old.items text.new.items) }
 {
     put(text, b"now")?;
     write_number(alloc, text, now)
@@ -82,7 +82,7 @@ fn given(answer: &Answer) -> AnswerView<'_>
 fn write_answer(alloc: Global, text: &mut Vec<u8>, answer: &AnswerView) -> Result<(), NoMemory>
     requires { IsShort answer.now }
     ensures ok { OnOk result (text.new.items ≡ text.old.items ++ answer_text_of (viewed answer.now)) }
-    ensures front { OnErr result (Begins text.old.items text.new.items) }
+    ensures front { OnErr result (StartsWith text.old.items text.new.items) }
 {
     match answer {
         AnswerView::Begun => put(text, b"begun"),
@@ -99,7 +99,7 @@ fn write_answer(alloc: Global, text: &mut Vec<u8>, answer: &AnswerView) -> Resul
 #[inline(always)]
 pub fn write_event(alloc: Global, text: &mut Vec<u8>, host: u16, own: u64) -> Result<(), NoMemory>
     ensures ok { OnOk result (text.new.items ≡ text.old.items ++ event_place host own) }
-    ensures front { OnErr result (Begins text.old.items text.new.items) }
+    ensures front { OnErr result (StartsWith text.old.items text.new.items) }
 {
     put_number(alloc, text, u64::from(host))?;
     put_byte(text, b':')?;
@@ -107,9 +107,9 @@ pub fn write_event(alloc: Global, text: &mut Vec<u8>, host: u16, own: u64) -> Re
 }
 
 /// `N H:E `
-fn write_place(alloc: Global, text: &mut Vec<u8>, place: Place) -> Result<(), NoMemory>
+fn write_place(alloc: Global, text: &mut Vec<u8>, place: EventPlace) -> Result<(), NoMemory>
     ensures ok { OnOk result (text.new.items ≡ text.old.items ++ place_text place) }
-    ensures front { OnErr result (Begins text.old.items text.new.items) }
+    ensures front { OnErr result (StartsWith text.old.items text.new.items) }
 {
     put_number(alloc, text, place.number)?;
     put_byte(text, b' ')?;
@@ -121,12 +121,12 @@ fn write_place(alloc: Global, text: &mut Vec<u8>, place: Place) -> Result<(), No
 pub fn write_answer_line(
     alloc: Global,
     text: &mut Vec<u8>,
-    place: Place,
+    place: EventPlace,
     answer: &AnswerView,
 ) -> Result<(), NoMemory>
     requires { IsShort answer.now }
     ensures ok { OnOk result (text.new.items ≡ text.old.items ++ answer_line place (viewed answer.now)) }
-    ensures front { OnErr result (Begins text.old.items text.new.items) }
+    ensures front { OnErr result (StartsWith text.old.items text.new.items) }
 {
     write_place(alloc, text, place)?;
     write_answer(alloc, text, answer)?;
@@ -141,7 +141,7 @@ fn write_number_and_host(
     host: u16,
 ) -> Result<(), NoMemory>
     ensures ok { OnOk result (text.new.items ≡ text.old.items ++ number_and_host number host) }
-    ensures front { OnErr result (Begins text.old.items text.new.items) }
+    ensures front { OnErr result (StartsWith text.old.items text.new.items) }
 {
     put_number(alloc, text, number)?;
     write_number(alloc, text, u64::from(host))
@@ -155,7 +155,7 @@ pub fn write_missing_line(
     host: u16,
 ) -> Result<(), NoMemory>
     ensures ok { OnOk result (text.new.items ≡ text.old.items ++ missing_line number host) }
-    ensures front { OnErr result (Begins text.old.items text.new.items) }
+    ensures front { OnErr result (StartsWith text.old.items text.new.items) }
 {
     write_number_and_host(alloc, text, number, host)?;
     put(text, b":- missing\n")

@@ -1,7 +1,7 @@
 //! What is written before the first entry, of each, and behind the last. Each call appends, and a refusal changes nothing.
 
 ghost use Rattle.std.specs.Prelude.{◌≡◌, ◌++◌, OnOk, OnErr};
-ghost use Rattle.vk_text.specs.Spelling.{Begins};
+ghost use Rattle.vk_text.specs.Spelling.{StartsWith};
 ghost use Rattle.vk_report.specs.Views.{IsShort, viewed};
 ghost use Rattle.vk_report.specs.Report.{step_line, step_lines, report_entry, entry_lines, missing_lines, frame_lines, end_line, end_lines, opening_lines};
 
@@ -24,7 +24,7 @@ pub enum Form {
 
 /// Where an event stands. Both numbers count from 1.
 #[derive(Clone, Copy, Debug, PartialEq, Eq)]
-pub struct Place {
+pub struct EventPlace {
     /// The event's number in the history.
     pub number: u64,
     /// The station whose event it is.
@@ -50,7 +50,7 @@ fn write_step_line(
     step: &StepView,
 ) -> Result<(), NoMemory>
     ensures ok { OnOk result (text.new.items ≡ text.old.items ++ step_line word.now step.now) }
-    ensures front { OnErr result (Begins text.old.items text.new.items) }
+    ensures front { OnErr result (StartsWith text.old.items text.new.items) }
 {
     put(text, word)?;
     put_step(alloc, text, step)?;
@@ -66,7 +66,7 @@ fn write_steps(
     steps: &Steps,
 ) -> Result<(), NoMemory>
     ensures ok { OnOk result (text.new.items ≡ text.old.items ++ step_lines word.now steps.now) }
-    ensures front { OnErr result (Begins text.old.items text.new.items) }
+    ensures front { OnErr result (StartsWith text.old.items text.new.items) }
 {
     for at in 0..steps.len() {
         write_step_line(alloc, text, word, &steps.get(at))?;
@@ -77,13 +77,13 @@ fn write_steps(
 fn write_report_entry(
     alloc: Global,
     text: &mut Vec<u8>,
-    place: Place,
+    place: EventPlace,
     answer: &AnswerView,
     steps: &Steps,
 ) -> Result<(), NoMemory>
     requires { IsShort answer.now }
     ensures ok { OnOk result (text.new.items ≡ text.old.items ++ report_entry place (viewed answer.now) steps.now) }
-    ensures front { OnErr result (Begins text.old.items text.new.items) }
+    ensures front { OnErr result (StartsWith text.old.items text.new.items) }
 {
     write_answer_line(alloc, text, place, answer)?;
     write_steps(alloc, text, b"step ", steps)
@@ -94,7 +94,7 @@ pub fn put_entry(
     alloc: Global,
     text: &mut Vec<u8>,
     form: Form,
-    place: Place,
+    place: EventPlace,
     answer: &AnswerView,
     steps: &Steps,
 ) -> Result<(), NoMemory>
@@ -164,7 +164,7 @@ pub fn put_frame(
 /// `end EVENTS STEPS FRAMES`
 fn write_end_line(alloc: Global, text: &mut Vec<u8>, counts: Counts) -> Result<(), NoMemory>
     ensures ok { OnOk result (text.new.items ≡ text.old.items ++ end_line counts) }
-    ensures front { OnErr result (Begins text.old.items text.new.items) }
+    ensures front { OnErr result (StartsWith text.old.items text.new.items) }
 {
     put(text, b"end")?;
     write_number(alloc, text, counts.events)?;

@@ -1,8 +1,10 @@
-//! The line of a frame.
+//! The line of a frame, and the kinds of packets.
 
-ghost use Rattle.std.specs.Prelude.{◌≡◌, ◌++◌, ◌∷◌, OnOk, OnErr};
-ghost use Rattle.vk_text.specs.Spelling.{Begins};
-ghost use Rattle.vk_report.specs.Report.{kind_text, destination_text, frame_place, frame_line};
+ghost use Rattle.std.specs.Prelude.{◌≡◌, ◌++◌, ◌∷◌, OnOk, OnErr, slice_index};
+ghost use Rattle.vk_base.specs.Packets.{Packet};
+ghost use Rattle.vk_packet.specs.Spelling.{packet_bytes};
+ghost use Rattle.vk_text.specs.Spelling.{StartsWith};
+ghost use Rattle.vk_report.specs.Report.{kind_text, destination_text, frame_place, frame_line, kind_of};
 
 use crate::answer::write_event;
 use std::alloc::Global;
@@ -28,6 +30,21 @@ pub enum PacketKind {
     TellPid,
 }
 
+/// The kinds, in the order of the bytes that packets begin with, from 1 on.
+static KINDS: [PacketKind; 11] = [
+    PacketKind::Send,
+    PacketKind::Reply,
+    PacketKind::Pending,
+    PacketKind::Negative,
+    PacketKind::MoveData,
+    PacketKind::MoveAck,
+    PacketKind::MoveRequest,
+    PacketKind::MoveBytes,
+    PacketKind::MoveNegative,
+    PacketKind::AskPid,
+    PacketKind::TellPid,
+];
+
 /// What is told of a frame that was emitted.
 #[derive(Clone, Copy, Debug, PartialEq, Eq)]
 pub struct Emitted {
@@ -36,6 +53,14 @@ pub struct Emitted {
     pub kind: PacketKind,
     /// The bytes of the whole frame.
     pub length: u32,
+}
+
+/// The kind of a packet whose bytes begin with this one.
+pub fn kind_of(first: u8) -> PacketKind
+    requires { (p : Packet) × (first ≡ slice_index (packet_bytes p) 0) }
+    ensures { (p : Packet) → first ≡ slice_index (packet_bytes p) 0 → result ≡ kind_of p }
+{
+    KINDS[first as usize - 1]
 }
 
 /// The kind's name in a report.
@@ -60,7 +85,7 @@ pub fn kind_word(kind: PacketKind) -> &'static [u8]
 /// ` DEST`
 fn write_destination(alloc: Global, text: &mut Vec<u8>, destination: u16) -> Result<(), NoMemory>
     ensures ok { OnOk result (text.new.items ≡ text.old.items ++ 32 ∷ destination_text destination) }
-    ensures front { OnErr result (Begins text.old.items text.new.items) }
+    ensures front { OnErr result (StartsWith text.old.items text.new.items) }
 {
     if destination == ALL {
         write_word(text, b"all")
@@ -78,7 +103,7 @@ fn write_frame_place(
     output: u16,
 ) -> Result<(), NoMemory>
     ensures ok { OnOk result (text.new.items ≡ text.old.items ++ frame_place host own output) }
-    ensures front { OnErr result (Begins text.old.items text.new.items) }
+    ensures front { OnErr result (StartsWith text.old.items text.new.items) }
 {
     put(text, b"frame ")?;
     write_event(alloc, text, host, own)?;
@@ -96,7 +121,7 @@ pub fn write_frame_line(
     frame: Emitted,
 ) -> Result<(), NoMemory>
     ensures ok { OnOk result (text.new.items ≡ text.old.items ++ frame_line host own output frame) }
-    ensures front { OnErr result (Begins text.old.items text.new.items) }
+    ensures front { OnErr result (StartsWith text.old.items text.new.items) }
 {
     write_frame_place(alloc, text, host, own, output)?;
     write_destination(alloc, text, frame.destination)?;

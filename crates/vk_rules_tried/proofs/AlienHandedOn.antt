@@ -1,9 +1,9 @@
 -- A message of another station is handed on: a copy that comes late, and the reply, are answered in the name of the first target.
 use Rattle.std.proofs.Common.{◌≡◌, List, [], ◌∷◌, ◌++◌, Some, replicate, refl}
+use Rattle.vk_types.specs.Types.{Message}
 use Rattle.vk_base.specs.declared.call.Call.TheVariants as calls
 use Rattle.vk_base.specs.declared.answer.Answer.TheVariants as answers
 use Rattle.vk_base.specs.declared.answer.Refusal.TheVariants as refusals
-use Rattle.vk_base.specs.declared.message.Message.{Message}
 use Rattle.vk_base.specs.declared.step.Step.TheVariants as steps
 use Rattle.vk_base.specs.Packets as packets
 use Rattle.vk_base.specs.Settings.{Settings}

@@ -1,10 +1,10 @@
 -- A move of 65,536 bytes from its partner in 64 packets, of which the fourth is lost: those behind it change nothing, the last one
 -- shows the gap, and the move is asked for anew from there.
 use Rattle.std.proofs.Common.{ℕ, zero, suc, ◌+◌, ◌≡◌, List, [], ◌∷◌, ◌++◌, Some, replicate, refl}
+use Rattle.vk_types.specs.Types.{Message}
 use Rattle.vk_base.specs.declared.call.Call.TheVariants as calls
 use Rattle.vk_base.specs.declared.answer.Answer.TheVariants as answers
 use Rattle.vk_base.specs.declared.answer.Ending.TheVariants as endings
-use Rattle.vk_base.specs.declared.message.Message.{Message}
 use Rattle.vk_base.specs.declared.step.Step.TheVariants as steps
 use Rattle.vk_base.specs.Packets as packets
 use Rattle.vk_base.specs.Settings.{Settings}

@@ -1,9 +1,9 @@
 -- An alien that was replied to is kept up to the last tick at which a copy of its Send can come young, and freed at the
 -- next: a copy that comes then is old.
 use Rattle.std.proofs.Common.{◌≡◌, List, [], ◌∷◌, ◌++◌, Some, replicate, refl}
+use Rattle.vk_types.specs.Types.{Message}
 use Rattle.vk_base.specs.declared.call.Call.TheVariants as calls
 use Rattle.vk_base.specs.declared.answer.Answer.TheVariants as answers
-use Rattle.vk_base.specs.declared.message.Message.{Message}
 use Rattle.vk_base.specs.declared.step.Step.TheVariants as steps
 use Rattle.vk_base.specs.Packets as packets
 use Rattle.vk_base.specs.Settings.{Settings}

@@ -1,10 +1,10 @@
 -- A gap in a move from the sender is told after a round, when no byte has come since it: the bytes answer the request, and
 -- once some have come it starts anew.
 use Rattle.std.proofs.Common.{◌≡◌, List, [], ◌∷◌, ◌++◌, Some, replicate, refl}
+use Rattle.vk_types.specs.Types.{Message}
 use Rattle.vk_base.specs.declared.call.Call.TheVariants as calls
 use Rattle.vk_base.specs.declared.answer.Answer.TheVariants as answers
 use Rattle.vk_base.specs.declared.answer.Ending.TheVariants as endings
-use Rattle.vk_base.specs.declared.message.Message.{Message}
 use Rattle.vk_base.specs.declared.step.Step.TheVariants as steps
 use Rattle.vk_base.specs.Packets as packets
 use Rattle.vk_base.specs.Settings.{Settings}

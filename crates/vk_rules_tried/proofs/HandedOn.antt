@@ -1,10 +1,9 @@
 -- A message that is handed on waits anew at its new place, is shown as the Forward says, and is refused where its process exits.
 use Rattle.std.proofs.Common.{◌≡◌, List, [], ◌∷◌, ◌++◌, Some, replicate, refl, lit<}
+use Rattle.vk_types.specs.Types.{Message, Pid}
 use Rattle.vk_base.specs.declared.call.Call.TheVariants as calls
 use Rattle.vk_base.specs.declared.answer.Answer.TheVariants as answers
 use Rattle.vk_base.specs.declared.answer.Refusal.TheVariants as refusals
-use Rattle.vk_base.specs.declared.message.Message.{Message}
-use Rattle.vk_base.specs.declared.pid.Pid.{Pid}
 use Rattle.vk_base.specs.declared.step.Step.TheVariants as steps
 use Rattle.vk_base.specs.Settings.{Settings}
 use Rattle.vk_base.specs.declared.event.EventAnswer.TheVariants as given

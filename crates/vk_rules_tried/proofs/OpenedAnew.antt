@@ -1,10 +1,10 @@
 -- The moves of a later exchange are counted from 1 again; a late packet of the earlier exchange's move is answered that
 -- its sender does not wait.
 use Rattle.std.proofs.Common.{◌≡◌, List, [], ◌∷◌, ◌++◌, Some, replicate, refl}
+use Rattle.vk_types.specs.Types.{Message}
 use Rattle.vk_base.specs.declared.call.Call.TheVariants as calls
 use Rattle.vk_base.specs.declared.answer.Answer.TheVariants as answers
 use Rattle.vk_base.specs.declared.answer.Ending.TheVariants as endings
-use Rattle.vk_base.specs.declared.message.Message.{Message}
 use Rattle.vk_base.specs.declared.step.Step.TheVariants as steps
 use Rattle.vk_base.specs.Packets as packets
 use Rattle.vk_base.specs.Settings.{Settings}

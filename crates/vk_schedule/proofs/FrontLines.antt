@@ -14,7 +14,7 @@ use Rattle.vk_schedule.specs.declared.schedule.TextRefusal.TheVariants as refusa
 use Rattle.vk_schedule.specs.Lawful.{has_actors}
 use Rattle.vk_schedule.specs.Laws.{SchedulesAreSpelled, FrontsHaveTheirLines}
 use Rattle.vk_schedule.specs.Schedule.{event_of, acting, more, with_event, or_end, front_from, without_events, front_by, front_of, opened, plain_title, schedule_of, timed_title}
-use Rattle.vk_schedule.specs.Spelling.{IsFront, event_text, schedule_lines, text_of}
+use Rattle.vk_schedule.specs.Spelling.{IsScheduleFront, event_text, schedule_lines, text_of}
 use Rattle.vk_schedule.proofs.Events.{event_spelled}
 use Rattle.vk_schedule.proofs.Lawfulness.{whole_is}
 
@@ -65,7 +65,7 @@ module _ (opening : List (List ℕ)) where
 -- what a text that opens has
 record Opens (lines : List (List ℕ)) (f : Front) : Type 0 where
   opening : List (List ℕ)
-  is : IsFront f.schedule.config opening
+  is : IsScheduleFront f.schedule.config opening
   rest : List (List ℕ)
   parts : lines ≡ schedule_lines opening f.schedule ++ rest
   all : f.refused ≡ None → rest ≡ []
@@ -76,7 +76,7 @@ behind_opening lines found h =
     let got = from_splits front.1.0 _ (without_events found.0) found.1 in
     record {
       opening = front.1.0;
-      is = subst (λ (c : Settings). IsFront c front.1.0) (sym got.config) front.1.1;
+      is = subst (λ (c : Settings). IsScheduleFront c front.1.0) (sym got.config) front.1.1;
       rest = got.rest;
       parts = front.1.2 ∙ ap (λ l. l ++ found.1) (sym (append-nil front.1.0)) ∙ got.parts;
       all = got.all;
@@ -104,6 +104,6 @@ spelled text s h =
     got.parts ∙ ap (λ l. schedule_lines got.opening (front_of text).schedule ++ l) (got.all is.1)
     ∙ append-nil (schedule_lines got.opening (front_of text).schedule) ∙ ap (schedule_lines got.opening) is.0 in (
       got.opening,
-      subst (λ (t : Schedule). IsFront t.config got.opening) is.0 got.is,
+      subst (λ (t : Schedule). IsScheduleFront t.config got.opening) is.0 got.is,
       text_spelled text (text_of (schedule_lines got.opening s)) (schedule_lines got.opening s) lines refl,
     )

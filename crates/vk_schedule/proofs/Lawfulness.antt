@@ -13,7 +13,7 @@ use Rattle.vk_text.specs.Calls.{call_of}
 use Rattle.vk_text.specs.Heads.{settings_of, usual_pool, usual_times}
 use Rattle.vk_text.specs.Laws.{IsOrdinal}
 use Rattle.vk_text.specs.Lines.{lines_of, words_from}
-use Rattle.vk_text.specs.Openings.{IsTold, line_number}
+use Rattle.vk_text.specs.Openings.{IsTellable, line_number}
 use Rattle.vk_text.specs.Words.{positive_of, station_of, pid_of}
 use Rattle.vk_text.proofs.Firsts.{first_holds, ended_is}
 use Rattle.vk_text.proofs.OpeningLaws.{openings_spelled}
@@ -25,11 +25,11 @@ use Rattle.vk_schedule.specs.declared.schedule.Front.{Front}
 use Rattle.vk_schedule.specs.declared.schedule.Schedule.{Schedule}
 use Rattle.vk_schedule.specs.declared.schedule.TextRefusal.{TextRefusal}
 use Rattle.vk_schedule.specs.declared.schedule.TextRefusal.TheVariants as refusals
-use Rattle.vk_schedule.specs.Lawful.{has_actors, IsStation, IsOutput, IsReadableEvent, IsLawful}
+use Rattle.vk_schedule.specs.Lawful.{has_actors, IsStation, IsOutputNumber, IsReadableEvent, IsLawful}
 use Rattle.vk_schedule.specs.Laws.{OnlyLawfulAreRead}
 use Rattle.vk_schedule.specs.Schedule.{call_event_of, collect_event_of, tick_event_of, deliver_event_of, event_of, acting, more, with_event, or_end, front_from, without_events, front_by, front_of, opened, plain_title, timed_title, whole}
 
-station_fits : (host : ℕ) (word : List ℕ) → station_of word ≡ Some host → IsStation host
+pub station_fits : (host : ℕ) (word : List ℕ) → station_of word ≡ Some host → IsStation host
 station_fits host word h = let read = station_spelled host word h in (read.1, read.2)
 
 ordinal_fits : (n : ℕ) (word : List ℕ) → positive_of 9223372036854775807 word ≡ Some n → IsOrdinal n
@@ -38,7 +38,7 @@ ordinal_fits n word h =
     let most = read.2 in
     (read.1, omega (arith, most))
 
-output_fits : (n : ℕ) (word : List ℕ) → positive_of 65535 word ≡ Some n → IsOutput n
+output_fits : (n : ℕ) (word : List ℕ) → positive_of 65535 word ≡ Some n → IsOutputNumber n
 output_fits n word h =
     let read = positive_spelled 65535 n word (omega arith) h in
     let most = read.2 in
@@ -69,7 +69,7 @@ deliver_fits ws e h =
     let to = first_holds station_of IsStation station_fits _ e ws h in
     let from = first_holds station_of IsStation station_fits _ e to.1 to.3 in
     let event = first_holds (positive_of 9223372036854775807) IsOrdinal ordinal_fits _ e from.1 from.3 in
-    let output = first_holds (positive_of 65535) IsOutput output_fits _ e event.1 event.3 in
+    let output = first_holds (positive_of 65535) IsOutputNumber output_fits _ e event.1 event.3 in
     subst IsReadableEvent (ended_is output.1 (events.Deliver to.0 from.0 event.0 output.0) e output.3).1 (to.2, from.2, event.2, output.2)
 
 -- the event is that of this word, or of another
@@ -134,7 +134,7 @@ from_lawful n s (l ∷ ls) is =
     by_event n s (event_of (words_from l 0)) (λ t. front_from (n + 1) t ls) (event_fits (words_from l 0))
     (λ t lawful. from_lawful (n + 1) t ls lawful) is
 
-without_events_lawful : (c : Settings) → IsTold c → IsLawful (without_events c)
+without_events_lawful : (c : Settings) → IsTellable c → IsLawful (without_events c)
 without_events_lawful c told = record { told = told; ranges = tt; events = refl; few = lit≤ tt }
 
 by_opening : (lines : List (List ℕ)) (o : Result (Settings × List (List ℕ)) ℕ) → opened lines ≡ o → IsLawful (front_by lines o).schedule

@@ -11,7 +11,7 @@ use Rattle.vk_text.specs.Lines.{lines_of, words_from}
 use Rattle.vk_text.specs.Openings.{BeginsNoHead, line_number, opening_lines, pool_line_of}
 use Rattle.vk_text.proofs.Bodies.{body_read, title_plain}
 use Rattle.vk_text.proofs.CallWords.{call_read}
-use Rattle.vk_text.proofs.OpeningLaws.{openings_back, openings_no_feed, openings_written}
+use Rattle.vk_text.proofs.OpeningLaws.{openings_back, openings_no_feed, openings_written, both_plain}
 use Rattle.vk_text.proofs.PlainWords.{IsPlain, letters, number_plain, ordinal_plain, pid_plain, call_plain, no_spaces, no_feeds, joined_no_feed}
 use Rattle.vk_text.proofs.ReadBack.{joined_words}
 use Rattle.vk_text.specs.Words.{positive_of}
@@ -21,15 +21,15 @@ use Rattle.vk_schedule.specs.declared.event.Event.TheVariants as events
 use Rattle.vk_schedule.specs.declared.schedule.Front.{Front}
 use Rattle.vk_schedule.specs.declared.schedule.Schedule.{Schedule}
 use Rattle.vk_schedule.specs.declared.schedule.TextRefusal.TheVariants as refusals
-use Rattle.vk_schedule.specs.Lawful.{has_actors, IsLawful, IsStation, IsOutput, IsReadableEvent}
+use Rattle.vk_schedule.specs.Lawful.{has_actors, IsLawful, IsStation, IsOutputNumber, IsReadableEvent}
 use Rattle.vk_schedule.specs.Laws.{SchedulesReadBack}
 use Rattle.vk_schedule.specs.Schedule.{call_event_of, collect_event_of, tick_event_of, deliver_event_of, event_of, acting, more, with_event, or_end, next_event, front_from, without_events, front_by, opened, plain_title, schedule_of, timed_title, whole}
-use Rattle.vk_schedule.specs.Spelling.{IsFront, event_words, event_text, schedule_lines, schedule_text, text_of}
+use Rattle.vk_schedule.specs.Spelling.{IsScheduleFront, event_words, event_text, schedule_lines, schedule_text, text_of}
 
 station_plain : (host : ℕ) → IsStation host → IsPlain (decimal host)
 station_plain host h = let most = h.1 in number_plain host (omega (arith, most))
 
-output_plain : (output : ℕ) → IsOutput output → IsPlain (decimal output)
+output_plain : (output : ℕ) → IsOutputNumber output → IsPlain (decimal output)
 output_plain output h = let most = h.1 in number_plain output (omega (arith, most))
 
 event_plain : (e : Event) → IsReadableEvent e → AllByRecursion IsPlain (event_words e)
@@ -97,10 +97,6 @@ no_feed_in : (es : List Event) → AllByRecursion IsReadableEvent es → AllByRe
 no_feed_in [] h = tt
 no_feed_in (e ∷ es) h = (event_no_feed e h.0, no_feed_in es h.1)
 
-pub both_plain : (a b : List (List ℕ)) → AllByRecursion HasNoFeed a → AllByRecursion HasNoFeed b → AllByRecursion HasNoFeed (a ++ b)
-both_plain [] b h k = k
-both_plain (l ∷ ls) b h k = (h.0, both_plain ls b h.1 k)
-
 taken : (n : ℕ) (s : Schedule) (e : Event) → IsReadableEvent e → has_actors s.config.specs e ≡ true → length s.events < 100000
     → with_event n s (next_event s (event_text e)) ≡ Ok (more s e)
 taken n s e h acts room =
@@ -132,7 +128,7 @@ events_read n s (e ∷ es) h acts few =
 pub lines_back : (lines : List (List ℕ)) → AllByRecursion HasNoFeed lines → lines_of (flat_map line_text lines) ≡ lines
 lines_back lines h = body_read (λ l. l) lines h ∙ map-id lines
 
-back_by : (s : Schedule) (opening : List (List ℕ)) → IsLawful s → IsFront s.config opening → schedule_of (text_of (schedule_lines opening s)) ≡ Ok s
+back_by : (s : Schedule) (opening : List (List ℕ)) → IsLawful s → IsScheduleFront s.config opening → schedule_of (text_of (schedule_lines opening s)) ≡ Ok s
 unfolding then_all
 back_by s opening is front =
     let few = is.few in

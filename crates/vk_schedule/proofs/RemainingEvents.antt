@@ -2,8 +2,8 @@
 use Rattle.std.proofs.Common.{◌≡◌, ℕ, ◌+◌, ◌<◌, ◌≤◌, nat_lt, Bool, true, false, cond, List, [], ◌∷◌, ◌++◌, length, codes, drop, Option, Some, None, Result, Ok, Err, IfOk, refl, sym, ap, subst, ◌∙◌, ◌⊎◌, inl, inr, arith, append-nil, append_assoc, length-append}
 use Rattle.std.proofs.lemmas.Bool.{le-ltb, lt-ltb}
 use Rattle.std.proofs.lemmas.Option.{cond_some}
+use Rattle.vk_types.specs.Types.{NoMemory, ProcessSpec}
 use Rattle.vk_base.specs.Settings.{Settings}
-use Rattle.vk_base.specs.declared.config.ProcessSpec.{ProcessSpec}
 use Rattle.vk_text.specs.Lines.{lines_of, words_from}
 use Rattle.vk_text.specs.Openings.{line_number}
 use Rattle.vk_schedule.specs.declared.event.Event.{Event}
@@ -11,9 +11,8 @@ use Rattle.vk_schedule.specs.declared.schedule.Front.{Front}
 use Rattle.vk_schedule.specs.declared.schedule.Schedule.{Schedule}
 use Rattle.vk_schedule.specs.declared.schedule.TextRefusal.{TextRefusal}
 use Rattle.vk_schedule.specs.declared.schedule.TextRefusal.TheVariants as refusals
-use Rattle.vk_base.specs.declared.no_memory.NoMemory.{NoMemory}
 use Rattle.vk_schedule.specs.Lawful.{IsLawful, IsReadableEvent, has_actors}
-use Rattle.vk_schedule.specs.Remaining.{IsNext, behind, end_of, left_by, front_left}
+use Rattle.vk_schedule.specs.Remaining.{IsNextEvent, behind, end_of, left_by, front_left}
 use Rattle.vk_schedule.specs.Schedule.{acting, event_of, more, or_end, with_event, next_event, front_from, without_events, front_by, front_of, opened}
 use Rattle.vk_schedule.proofs.Lawfulness.{event_fits}
 use Rattle.vk_schedule.proofs.Wanted.{some_actor}
@@ -152,11 +151,11 @@ given_fits f c given n lines l e left is =
 
 -- a loop over what is left
 
-pub is_next : (old new : Front) (b : Bool) (e : Event) → b ≡ true → IsNext old new (cond b (Some e) None) → old ≡ behind (e ∷ []) new
+pub is_next : (old new : Front) (b : Bool) (e : Event) → b ≡ true → IsNextEvent old new (cond b (Some e) None) → old ≡ behind (e ∷ []) new
 is_next old new true e is next = next
 is_next old new false e is next = cc
 
-pub is_end : (old new : Front) (b : Bool) (e : Event) → b ≡ false → IsNext old new (cond b (Some e) None)
+pub is_end : (old new : Front) (b : Bool) (e : Event) → b ≡ false → IsNextEvent old new (cond b (Some e) None)
     → (old.schedule.events ≡ []) × (new ≡ old)
 is_end old new true e is next = cc
 is_end old new false e is next = next

@@ -1,7 +1,7 @@
 -- Memory is wanted only for lines that are taken.
 use Rattle.std.proofs.Common.{◌≡◌, ℕ, ◌+◌, ◌<◌, ◌≤◌, nat_lt, Bool, true, false, cond, List, [], ◌∷◌, ◌++◌, length, map, Option, Some, None, Result, Ok, Err, refl, sym, ap, ◌∙◌, ◌⊎◌, inl, inr, arith}
 use Rattle.std.proofs.lemmas.List.{length-append, length-map}
-use Rattle.vk_base.specs.declared.config.ProcessSpec.{ProcessSpec}
+use Rattle.vk_types.specs.Types.{ProcessSpec}
 use Rattle.vk_base.specs.Settings.{Settings}
 use Rattle.vk_text.specs.Heads.{process_text}
 use Rattle.vk_text.specs.Lines.{lines_of}
@@ -17,7 +17,7 @@ use Rattle.vk_schedule.specs.declared.schedule.TextRefusal.{TextRefusal}
 use Rattle.vk_schedule.specs.declared.schedule.TextRefusal.TheVariants as refusals
 use Rattle.vk_schedule.specs.Lawful.{has_actors}
 use Rattle.vk_schedule.specs.Schedule.{HasProcess, as_text, front_by, front_from, front_of, more, next_event, opened, plain_title, timed_title, unopened, without_events, or_end, with_event}
-use Rattle.vk_schedule.specs.Spelling.{IsFront}
+use Rattle.vk_schedule.specs.Spelling.{IsScheduleFront}
 
 -- the processes of a front are those of its head
 
@@ -59,7 +59,7 @@ bad_behind least s [] n h = cc
 bad_behind least s (l ∷ ls) n h =
     bad_by least s (next_event s l) (λ t. front_from (least + 1) t ls) n (λ t e. omega (arith, bad_behind (least + 1) t ls n e)) h
 
-opening_length : (c : Settings) (ls : List (List ℕ)) → IsFront c ls → length c.specs + 1 ≤ length ls
+opening_length : (c : Settings) (ls : List (List ℕ)) → IsScheduleFront c ls → length c.specs + 1 ≤ length ls
 opening_length c ls (inl is) = omega (arith, ap length is.1, length-map c.specs process_text)
 opening_length c ls (inr is) =
     omega (arith, ap length is.2, length-append (map process_text c.specs) is.0, length-map c.specs process_text)

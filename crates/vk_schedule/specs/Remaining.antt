@@ -14,9 +14,9 @@ abbrev pub behind : List Event → Front → Front
 behind es f = record f { schedule = record f.schedule { events = es ++ f.schedule.events } }
 
 -- the next event is the first of those that were left, and the others are left now; or none is left, and nothing changes
-abbrev pub IsNext : Front → Front → Option Event → Type 0
-IsNext old new None = (old.schedule.events ≡ []) × (new ≡ old)
-IsNext old new (Some e) = old ≡ behind (e ∷ []) new
+abbrev pub IsNextEvent : Front → Front → Option Event → Type 0
+IsNextEvent old new None = (old.schedule.events ≡ []) × (new ≡ old)
+IsNextEvent old new (Some e) = old ≡ behind (e ∷ []) new
 
 -- Of the code alone from here on: no law rests on it.
 
@@ -25,7 +25,7 @@ abbrev pub end_of : Settings → Option TextRefusal → Option Event → Front
 end_of c refused beyond = record { schedule = record { config = c; events = [] }; refused = refused; beyond = beyond }
 
 -- there are not too many events, and few lines stand before the first
-pub record IsWithin (given line : ℕ) : Type 0 where
+pub record HasFewLines (given line : ℕ) : Type 0 where
   pub events : given ≤ EVENTS
   pub lines : line ≤ given + (PROCESSES + STATIONS + 3)
 

@@ -23,8 +23,8 @@ abbrev pub text_of : List (List ℕ) → List ℕ
 text_of lines = flat_map line_text lines
 
 -- these lines are an opening of a schedule's configuration
-abbrev pub IsFront : Settings → List (List ℕ) → Type 0
-IsFront c opening = IsOpening plain_title timed_title c opening
+abbrev pub IsScheduleFront : Settings → List (List ℕ) → Type 0
+IsScheduleFront c opening = IsOpening plain_title timed_title c opening
 
 -- the lines of the schedule with this opening: event k, from 0, stands k lines behind it
 abbrev pub schedule_lines : List (List ℕ) → Schedule → List (List ℕ)

@@ -1,5 +1,5 @@
 -- What an event in few bytes stands for.
-use Rattle.vk_base.specs.declared.call.Call.{Call}
+use Rattle.vk_types.specs.Types.{Call}
 use Rattle.vk_schedule.specs.declared.event.Event.{Event}
 use Rattle.vk_schedule.specs.declared.event.Event.TheVariants as events
 use Rattle.vk_schedule.specs.declared.view.EventKind.{EventKind}

@@ -2,7 +2,7 @@
 
 ghost use Rattle.std.specs.Prelude.{◌≡◌, ◌⊎◌, ℕ, true, [], None, IfOk, IfErr, if◌then◌else◌};
 ghost use Rattle.vk_schedule.specs.Lawful.{IsLawful, IsReadableEvent, has_actors};
-ghost use Rattle.vk_schedule.specs.Remaining.{IsNext, end_of};
+ghost use Rattle.vk_schedule.specs.Remaining.{IsNextEvent, end_of};
 ghost use Rattle.vk_schedule.specs.Schedule.{HasProcess, front_of, unopened};
 
 use crate::event::Event;
@@ -37,11 +37,11 @@ impl<'a> Model for EventReader<'a> {
 
     ghost Value = { Front };
 
-    ghost use Rattle.vk_schedule.specs.Remaining.{IsWithin, front_left};
+    ghost use Rattle.vk_schedule.specs.Remaining.{HasFewLines, front_left};
 
     ghost view = { λ r. front_left r.config r.given r.line (lines_of (drop r.at r.text.now)) };
 
-    ghost invariant = { λ r. IsWithin r.given r.line };
+    ghost invariant = { λ r. HasFewLines r.given r.line };
 }
 
 /// What is left where no event is.
@@ -94,7 +94,7 @@ impl<'a> EventReader<'a> {
 
     /// Writes the next event over this one, and tells whether there is one. Where there is none, any may be left in its place.
     pub fn next(&mut self, event: &mut EventBuffer) -> bool
-        ensures next { IsNext self.old self.new (if result then Some event.new else None) }
+        ensures next { IsNextEvent self.old self.new (if result then Some event.new else None) }
         ensures lawful { result ≡ true → IsReadableEvent event.new × (has_actors self.old.schedule.config.specs event.new ≡ true) }
     {
         let Some((line, next)) = next_line(self.text, self.at) else {

@@ -2,13 +2,12 @@
 use Rattle.std.proofs.Common.{◌≡◌, ℕ, suc, ◌+◌, max, nat_lt, Bool, true, false, ◌&&◌, ◌||◌, not, List, [], ◌∷◌, map, slice_index_or, refl, ap, ◌∙◌, arith, Option, Some, None, if◌then◌else◌}
 use Rattle.std.specs.List.{list_any}
 use Rattle.std.specs.Option.{option_map, option_or}
-use Rattle.vk_base.specs.declared.config.Times.{Times}
-use Rattle.vk_base.specs.declared.kernel.Name.{Name}
-use Rattle.vk_base.specs.declared.pid.Pid.{Pid}
+use Rattle.vk_types.specs.Types.{Name, Pid, Times}
 use Rattle.vk_base.specs.Kernel.{◌>>=◌, Kernel}
 use Rattle.vk_base.specs.Packets.{Packet}
 use Rattle.vk_base.specs.Settings.{Settings}
 use Rattle.vk_base.specs.Steps.{only_if}
+use Rattle.vk_base.proofs.BoolLemmas.{plus_zero}
 use Rattle.vk_rules.specs.Aliens.{Alien, alien_after, arrival_in, closes, is_closing, stamp_in, with_new_alien}
 unfoldable use Rattle.vk_rules.specs.Aliens.{slots_after}
 use Rattle.vk_rules.specs.Entries.{Entry, Input, is_tick, taken_packet}
@@ -133,7 +132,7 @@ work_by tick begun answered sent restarted acknowledged copied w = record {
 }
 
 -- What an entry does to the work of a process.
-pub record IsDone (k : Kernel) (pid : Pid) (e : Entry) (w : Work) (begun answered sent restarted : Bool) (copied : ℕ) : Type 0 where
+pub record IsEntryDone (k : Kernel) (pid : Pid) (e : Entry) (w : Work) (begun answered sent restarted : Bool) (copied : ℕ) : Type 0 where
   pub begun_is : begins pid e ≡ begun
   pub answered_is : answers k pid e w ≡ answered
   pub sent_is : has_round pid e ≡ sent
@@ -141,27 +140,24 @@ pub record IsDone (k : Kernel) (pid : Pid) (e : Entry) (w : Work) (begun answere
   pub copied_is : copied_in pid e ≡ copied
 
 pub work_is : (k : Kernel) (pid : Pid) (e : Entry) (w : Work) {begun answered sent restarted : Bool} {copied : ℕ} →
-    IsDone k pid e w begun answered sent restarted copied →
+    IsEntryDone k pid e w begun answered sent restarted copied →
     work_after k pid e w ≡ work_by e.tick begun answered sent restarted (acknowledged_by (taken_packet e)) copied w
 unfolding work_after
 work_is k pid e w d = λ i.
     work_by e.tick (d.begun_is i) (d.answered_is i) (d.sent_is i) (d.restarted_is i) (acknowledged_by (taken_packet e)) (d.copied_is i) w
 
-plus_zero : (n : ℕ) → n + 0 ≡ n
-plus_zero n = omega arith
-
 -- nothing of it: the work is as it was
-pub work_still : (k : Kernel) (pid : Pid) (e : Entry) (w : Work) → IsDone k pid e w false false false false 0 → work_after k pid e w ≡ w
+pub work_still : (k : Kernel) (pid : Pid) (e : Entry) (w : Work) → IsEntryDone k pid e w false false false false 0 → work_after k pid e w ≡ w
 work_still k pid e w d = work_is k pid e w d ∙ (λ i. record w { rounds = plus_zero w.rounds i; received = plus_zero w.received i })
 
 -- it is begun: its first round has gone out
 pub work_begun : (k : Kernel) (pid : Pid) (e : Entry) (w : Work) (answered restarted : Bool) →
-    IsDone k pid e w true answered true restarted 0 →
+    IsEntryDone k pid e w true answered true restarted 0 →
     work_after k pid e w ≡ record { since = e.tick; rounds = 1; acknowledged = 0; received = 0; fresh = false }
 work_begun k pid e w answered restarted d = work_is k pid e w d
 
 -- its round goes out again at a tick
-pub work_sent_again : (k : Kernel) (pid : Pid) (e : Entry) (w : Work) → IsDone k pid e w false false true false 0 →
+pub work_sent_again : (k : Kernel) (pid : Pid) (e : Entry) (w : Work) → IsEntryDone k pid e w false false true false 0 →
     work_after k pid e w ≡ record w { since = e.tick; rounds = w.rounds + 1; fresh = false }
 work_sent_again k pid e w d = work_is k pid e w d ∙ (λ i. record w {
   since = e.tick;

@@ -2,18 +2,10 @@
 use Rattle.std.proofs.Common.{◌≡◌, ℕ, Bool, true, false, ◌&&◌, ◌||◌, not, List, [], ◌∷◌, ◌++◌, map, refl, ap, ◌∙◌, Option, Some, None, option_map}
 use Rattle.std.specs.List.{list_any, filter_map}
 use Rattle.std.specs.Option.{option_map_or, option_to_list}
-use Rattle.vk_base.specs.declared.call.Call.{Call}
+use Rattle.vk_types.specs.Types.{Call, EventAnswer, Exchange, Message, MoveName, Name, Pid, Process, Stage}
 use Rattle.vk_base.specs.declared.call.Call.TheVariants as calls
-use Rattle.vk_base.specs.declared.event.EventAnswer.{EventAnswer}
 use Rattle.vk_base.specs.declared.event.EventAnswer.TheVariants as events_answered
-use Rattle.vk_base.specs.declared.kernel.Exchange.{Exchange}
-use Rattle.vk_base.specs.declared.kernel.MoveName.{MoveName}
-use Rattle.vk_base.specs.declared.kernel.Name.{Name}
-use Rattle.vk_base.specs.declared.kernel.Process.{Process}
-use Rattle.vk_base.specs.declared.kernel.Stage.{Stage}
 use Rattle.vk_base.specs.declared.kernel.Stage.TheVariants as stages
-use Rattle.vk_base.specs.declared.message.Message.{Message}
-use Rattle.vk_base.specs.declared.pid.Pid.{Pid}
 use Rattle.vk_base.specs.declared.step.Step.TheVariants as steps
 use Rattle.vk_base.specs.Kernel.{Kernel, name_of, blocked_in, held}
 use Rattle.vk_base.specs.Packets.{Packet, Send, Negative, MoveData, MoveRequest, AskPid}

@@ -3,18 +3,15 @@ use Rattle.std.proofs.Common.{◌≡◌, ℕ, Bool, true, false, cond, ◌&&◌,
 use Rattle.std.specs.List.{list_any, filter_map, sum_by}
 use Rattle.std.specs.Option.{option_map, option_map_or}
 use Rattle.std.proofs.lemmas.Bool.{and_right}
-use Rattle.vk_base.specs.declared.call.Call.{Call}
-use Rattle.vk_base.specs.declared.event.EventAnswer.{EventAnswer}
+use Rattle.vk_types.specs.Types.{Call, EventAnswer, Name, Pid}
 use Rattle.vk_base.specs.declared.event.EventAnswer.TheVariants as events_answered
-use Rattle.vk_base.specs.declared.kernel.Name.{Name}
-use Rattle.vk_base.specs.declared.pid.Pid.{Pid}
 use Rattle.vk_base.specs.declared.step.Step.TheVariants as steps
 use Rattle.vk_base.specs.Kernel.{Kernel, holds_of}
 use Rattle.vk_base.specs.Packets.{Packet}
 use Rattle.vk_base.specs.Pids.{same_pid}
 use Rattle.vk_base.specs.Settings.{Settings}
 use Rattle.vk_base.specs.Steps.{first_of, is_allowed, next}
-use Rattle.v_laws.proofs.Tables.{same_pid_self}
+use Rattle.vk_base.proofs.PidLemmas.{same_pid_self}
 use Rattle.vk_rules.specs.Aliens.{as_arrival, arrival_in, closes, copy_stamp, is_closing, stamp_in}
 use Rattle.vk_rules.specs.CallOutcomes.{packets_of, is_ok, steps_behind}
 unfoldable use Rattle.vk_rules.specs.CallOutcomes.{call_outcome, collect_outcome}

@@ -2,9 +2,8 @@
 use Rattle.std.proofs.Common.{◌≡◌, ℕ, false, cond, map, slice_index_or, refl, ap, ◌∙◌, Some, None}
 use Rattle.std.specs.List.{list_any, filter_map, sum_by}
 use Rattle.std.specs.Option.{option_map, option_map_or}
+use Rattle.vk_types.specs.Types.{Name, Pid}
 use Rattle.vk_base.specs.declared.event.EventAnswer.TheVariants as events_answered
-use Rattle.vk_base.specs.declared.kernel.Name.{Name}
-use Rattle.vk_base.specs.declared.pid.Pid.{Pid}
 use Rattle.vk_base.specs.Kernel.{holds_of}
 use Rattle.vk_base.specs.Packets.{Packet}
 use Rattle.vk_base.specs.Settings.{Settings}
@@ -21,7 +20,7 @@ unfoldable use Rattle.vk_rules.specs.Right.{right_entry}
 use Rattle.vk_rules.specs.Rounds.{Outcome, nothing}
 use Rattle.vk_rules.specs.View.{after_steps}
 use Rattle.vk_rules.specs.Works.{Work, acknowledged_by, answers, copied_in, count_in, has_round, is_answer, is_of_round, is_packet_to}
-use Rattle.vk_stands.proofs.After.{IsDone, closes_is, entry_for, has_round_is, outcome_for, reading_for, slots_still, slots_told, told_alien, told_nothing, work_by, work_is, work_still}
+use Rattle.vk_stands.proofs.After.{IsEntryDone, closes_is, entry_for, has_round_is, outcome_for, reading_for, slots_still, slots_told, told_alien, told_nothing, work_by, work_is, work_still}
 
 module _ (c : Settings) (host : ℕ) (r : Reading) (h : Header) (p : Packet) (taken : answer_to c host r (Delivered (Framed h p))
     ≡ events_answered.Taken) where
@@ -87,7 +86,7 @@ module _ (c : Settings) (host : ℕ) (r : Reading) (h : Header) (p : Packet) (ta
       told_nothing came a (came_stamp a.name ∙ ap (λ b. cond b h.stamp 0) f.0) (came_closes a.name ∙ f.1))
 
   -- What the packet does to the work of a process, by its outcome.
-  pub came_does : (q : Pid) → IsDone r.view q came (r.work q) false (holds_of (is_answer q (r.work q) p) (r.view.procs q))
+  pub came_does : (q : Pid) → IsEntryDone r.view q came (r.work q) false (holds_of (is_answer q (r.work q) p) (r.view.procs q))
       (list_any (is_of_round q) outcome.packets) (list_any (is_of_round q) outcome.packets)
       (cond (is_packet_to q p) (sum_by count_in outcome.steps) 0)
   unfolding right_entry

@@ -4,15 +4,11 @@ use Rattle.std.specs.List.{fold, list_any, position}
 use Rattle.std.specs.Option.{option_map, option_or}
 use Rattle.std.proofs.lemmas.Bool.{false_from_ne_true}
 use Rattle.std.proofs.lemmas.Option.{none-some, same_Some}
+use Rattle.vk_types.specs.Types.{Call, Exchange, Message, Pid, Step}
 use Rattle.vk_base.specs.declared.answer.Answer.TheVariants as answers
-use Rattle.vk_base.specs.declared.call.Call.{Call}
 use Rattle.vk_base.specs.declared.event.EventAnswer.TheVariants as events_answered
-use Rattle.vk_base.specs.declared.kernel.Exchange.{Exchange}
 use Rattle.vk_base.specs.declared.kernel.Stage.TheVariants as stages
 use Rattle.vk_base.specs.declared.limits.TheConstants.{SEGMENT_BYTES}
-use Rattle.vk_base.specs.declared.message.Message.{Message}
-use Rattle.vk_base.specs.declared.pid.Pid.{Pid}
-use Rattle.vk_base.specs.declared.step.Step.{Step}
 use Rattle.vk_base.specs.declared.step.Step.TheVariants as steps
 use Rattle.vk_base.specs.Calls.{answered}
 use Rattle.vk_base.specs.Kernel.{Kernel, is_taken, same_name, with_stage}
@@ -20,6 +16,7 @@ use Rattle.vk_base.specs.Packets.{Packet, Reply}
 use Rattle.vk_base.specs.Pids.{same_pid}
 use Rattle.vk_base.specs.Settings.{Settings}
 use Rattle.vk_base.specs.Steps.{after_effect, effect, next, only_if}
+use Rattle.vk_base.proofs.BoolLemmas.{or_false}
 use Rattle.v_laws.proofs.Tables.{same_name_self, same_pid_is}
 use Rattle.vk_packet.specs.Posts.{Posts}
 use Rattle.vk_pool.specs.declared.alien.Alien.{Alien}
@@ -51,10 +48,6 @@ open_by alien_stages.Queued bytes t = refl
 open_by alien_stages.Taken bytes t = refl
 open_by (alien_stages.Replied m dest closed) bytes t = absurd (cc)
 open_by (alien_stages.Refused closed) bytes t = absurd (cc)
-
-or_none : (b : Bool) → (b || false) ≡ b
-or_none true = refl
-or_none false = refl
 
 -- Slots of which one is told something, and the others nothing.
 module _ (told : readings.Alien → readings.Alien) where
@@ -126,7 +119,7 @@ module _ (c : Settings) (host : ℕ) (t : Tables) (r : Reading) (h : Stands c.ti
 
     closes_is : (b : Alien) → closes e (alien_name b) ≡ same_name (alien_name a) (alien_name b)
     closes_is b = called_closes c host r pid call (alien_name b) ∙ ap (list_any (is_closing (alien_name b))) packets_told
-        ∙ or_none (same_name (alien_name a) (alien_name b))
+        ∙ or_false (same_name (alien_name a) (alien_name b))
 
     told_as : (b : Alien) (closing : Bool) → same_name (alien_name a) (alien_name b) ≡ closing →
         told_alien e (read_alien b) ≡ record (read_alien b) { closed = option_or (closed_in b.stage) (only_if closing (Some r.now)) }

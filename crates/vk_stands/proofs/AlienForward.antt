@@ -2,11 +2,9 @@
 use Rattle.std.proofs.Common.{◌≡◌, ℕ, map, Some, refl, sym, ap, ◌∙◌, true}
 use Rattle.std.specs.List.{position}
 use Rattle.std.specs.Option.{option_map}
+use Rattle.vk_types.specs.Types.{Exchange, Message, Pid}
 use Rattle.vk_base.specs.declared.answer.Answer.TheVariants as answers
 use Rattle.vk_base.specs.declared.call.Call.TheVariants as calls
-use Rattle.vk_base.specs.declared.kernel.Exchange.{Exchange}
-use Rattle.vk_base.specs.declared.message.Message.{Message}
-use Rattle.vk_base.specs.declared.pid.Pid.{Pid}
 use Rattle.vk_base.specs.declared.step.Step.TheVariants as steps
 use Rattle.vk_base.specs.Calls.{answered}
 use Rattle.vk_base.specs.Calls as calls_made
@@ -17,7 +15,7 @@ use Rattle.vk_pool.specs.declared.alien.Alien.{Alien}
 use Rattle.vk_pool.specs.Aliens.{alien_at, forwarded}
 use Rattle.vk_procs.specs.declared.seat.Seat.{Seat}
 use Rattle.vk_procs.specs.Seats.{is_seat}
-use Rattle.vk_stands.specs.Stands.{IsKept}
+use Rattle.vk_stands.specs.Stands.{IsAlienKept}
 use Rattle.vk_stands.specs.Tables.{Tables, alien_name, read_alien, slot_name, spot_of, stage_of}
 use Rattle.vk_stands.proofs.Aliens.{of_at}
 use Rattle.vk_stands.proofs.AlienClosed.{open_by}
@@ -31,7 +29,7 @@ use Rattle.vk_stands.proofs.Views.{StandsView}
 module _ (host : ℕ) (t : Tables) (k : Kernel) (part : Part host t k) (i : ℕ) (a : Alien) (here : alien_at t.slots i ≡ Some a)
     (taken : is_taken (stage_of a) ≡ true) (m : Message) (to : Pid) (d : Seat) (slot place : ℕ)
     (named : slot_name t.seats t.slots slot ≡ Some (alien_name a)) (there : position (is_seat to) t.seats ≡ Some place) where
-  pub kept_alien : IsKept k a
+  pub kept_alien : IsAlienKept k a
   kept_alien = part.view.kept a.sender a (of_at t.slots i a part.fit.apart here)
 
   abbrev e : Exchange

@@ -1,17 +1,15 @@
 -- A reply to a process of another station is kept in its alien, which it closes.
 use Rattle.std.proofs.Common.{◌≡◌, ◌≤◌, ℕ, true, false, List, length, map, Some, refl, sym, ap, ◌∙◌}
 use Rattle.std.proofs.lemmas.Option.{same_Some}
-use Rattle.vk_base.specs.declared.kernel.Exchange.{Exchange}
-use Rattle.vk_base.specs.declared.kernel.Name.{Name}
+use Rattle.vk_types.specs.Types.{Exchange, Message, Name}
 use Rattle.vk_base.specs.declared.kernel.Stage.TheVariants as stages
 use Rattle.vk_base.specs.declared.limits.TheConstants.{SEGMENT_BYTES}
-use Rattle.vk_base.specs.declared.message.Message.{Message}
 use Rattle.vk_base.specs.Kernel.{Kernel, is_taken, queue_of, same_name, with_stage}
 use Rattle.v_laws.proofs.Queues.{queue-stage}
 use Rattle.v_laws.proofs.Tables.{put_exchange_at, put_exchange_other, same_name_self}
 use Rattle.vk_pool.specs.declared.alien.Alien.{Alien}
 use Rattle.vk_pool.specs.Aliens.{alien_at, replied}
-use Rattle.vk_stands.specs.Stands.{IsKept}
+use Rattle.vk_stands.specs.Stands.{IsAlienKept}
 use Rattle.vk_stands.specs.Tables.{Tables, alien_name, spot_of, stage_of}
 use Rattle.vk_stands.proofs.Aliens.{of_at}
 use Rattle.vk_stands.proofs.FitSlots.{fit_replied}
@@ -24,7 +22,7 @@ use Rattle.vk_stands.proofs.Views.{Goes}
 
 module _ (host : ℕ) (t : Tables) (k : Kernel) (part : Part host t k) (i : ℕ) (a : Alien) (here : alien_at t.slots i ≡ Some a)
     (taken : is_taken (stage_of a) ≡ true) (m : Message) (dest : ℕ) (bytes : List ℕ) (closed : ℕ) where
-  pub kept_alien : IsKept k a
+  pub kept_alien : IsAlienKept k a
   kept_alien = part.view.kept a.sender a (of_at t.slots i a part.fit.apart here)
 
   abbrev e : Exchange

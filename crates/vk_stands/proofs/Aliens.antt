@@ -2,7 +2,7 @@
 use Rattle.std.proofs.Common.{◌≡◌, ℕ, List, map, refl, ap, Option, Some, None, sym, ◌∙◌}
 use Rattle.std.specs.List.{find, position}
 use Rattle.std.specs.Option.{option_map, option_flatten, option_or, is_none}
-use Rattle.vk_base.specs.declared.pid.Pid.{Pid}
+use Rattle.vk_types.specs.Types.{Pid}
 use Rattle.vk_pool.specs.declared.alien.Alien.{Alien}
 use Rattle.vk_pool.specs.Aliens.{is_alien_from, alien_from, alien_at}
 use Rattle.vk_pool.proofs.Shown.{position-mapped}
@@ -43,10 +43,10 @@ place_for_read slots sender =
     ∙ ap (λ o. option_or (position (is_alien_from sender) slots) o) (sym (position-mapped is_none is_none read none_read slots))
 
 -- Each alien stands in its sender's slot.
-abbrev pub AreApart : List (Option Alien) → Type 0
-AreApart slots = (i : ℕ) (a : Alien) → alien_at slots i ≡ Some a → position (is_alien_from a.sender) slots ≡ Some i
+abbrev pub AreAliensApart : List (Option Alien) → Type 0
+AreAliensApart slots = (i : ℕ) (a : Alien) → alien_at slots i ≡ Some a → position (is_alien_from a.sender) slots ≡ Some i
 
-pub of_at : (slots : List (Option Alien)) (i : ℕ) (a : Alien) → AreApart slots → alien_at slots i ≡ Some a →
+pub of_at : (slots : List (Option Alien)) (i : ℕ) (a : Alien) → AreAliensApart slots → alien_at slots i ≡ Some a →
     alien_from slots a.sender ≡ Some a
 of_at slots i a apart is =
     ap (λ o. option_flatten o) (find-position (is_alien_from a.sender) slots i None (apart i a is)) ∙ is

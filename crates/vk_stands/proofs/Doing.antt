@@ -1,14 +1,10 @@
 -- Changes of one process: a receive is begun, an answer is collected, bytes are written.
 use Rattle.std.proofs.Common.{◌≡◌, ℕ, ◌+◌, true, false, List, length, Some, refl, sym, ap, subst, ◌∙◌, inl, inr}
 use Rattle.std.proofs.lemmas.Bool.{leb-true}
-use Rattle.vk_base.specs.declared.activity.Activity.{Activity}
+use Rattle.vk_types.specs.Types.{Activity, Message, Pid, Scope, Waiting}
 use Rattle.vk_base.specs.declared.activity.Activity.TheVariants as activities
-use Rattle.vk_base.specs.declared.activity.Waiting.{Waiting}
 use Rattle.vk_base.specs.declared.activity.Waiting.TheVariants as waitings
-use Rattle.vk_base.specs.declared.call.Scope.{Scope}
 use Rattle.vk_base.specs.declared.kernel.State.TheVariants as states
-use Rattle.vk_base.specs.declared.message.Message.{Message}
-use Rattle.vk_base.specs.declared.pid.Pid.{Pid}
 use Rattle.vk_base.specs.Activities.{call_of, state_of}
 use Rattle.vk_base.specs.Kernel.{Kernel, with_memory, with_state}
 use Rattle.vk_base.specs.Ranges.{lies_in, range_of, with_bytes}
@@ -34,7 +30,7 @@ idle_not : (d : Activity) (w : Waiting) → Idles d → d ≡ activities.Blocked
 idle_not d w idles is = subst Idles is idles
 
 -- what a process does now, where it is ready
-pub record CanBegin (host : ℕ) (k : Kernel) (s : Seat) (w : Waiting) : Type 0 where
+pub record MayBegin (host : ℕ) (k : Kernel) (s : Seat) (w : Waiting) : Type 0 where
   pub ready : s.doing ≡ activities.Ready
   pub waiting : IsWaiting k (doing_now (activities.Blocked w) s) w
   pub fits : may_wait s.pid (length s.memory) w ≡ true
@@ -48,7 +44,7 @@ same_waiting v w is = cc
 module _ (host : ℕ) (t : Tables) (k : Kernel) (part : Part host t k) (pid : Pid) (own : pid.host ≡ host) (s : Seat)
     (found : seat_in t.seats pid ≡ Some s) where
   -- the process waits in a call that raises no number, which no other station concerns
-  module _ (w : Waiting) (g : CanBegin host k s w) where
+  module _ (w : Waiting) (g : MayBegin host k s w) where
     fits_begun : IsFitSeat host s → IsFitSeat host (doing_now (activities.Blocked w) s)
     fits_begun fit = record {
       own = fit.own;
@@ -117,7 +113,7 @@ module _ (host : ℕ) (t : Tables) (k : Kernel) (part : Part host t k) (pid : Pi
 
     pub memory_carries : Carries 0 t (seated t pid remembering)
     memory_carries = carries_seated 0 t pid s found remembering (λ x. refl) (same_more 0 s.note.sends) (same_more 0 s.note.lookups)
-        (λ v is work. (is, record { tries = refl; deadline = refl; offset = refl; fresh = refl }))
+        (λ v is work. (is, record { work = refl; offset = refl; fresh = refl }))
 
 pub overwritten_length : (at : ℕ) (bytes memory : List ℕ) → lies_in (range_of at (length bytes)) (length memory) ≡ true →
     length (with_bytes memory at bytes) ≡ length memory

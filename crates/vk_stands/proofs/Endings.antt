@@ -3,11 +3,8 @@ use Rattle.std.proofs.Common.{◌≡◌, ℕ, Bool, true, false, cond, List, [],
 use Rattle.std.specs.List.{filter_map, list_any, sum_by}
 use Rattle.std.specs.Option.{option_map}
 use Rattle.std.proofs.lemmas.List.{append-nil}
+use Rattle.vk_types.specs.Types.{Name, Pid, Process, Step}
 use Rattle.vk_base.specs.declared.event.EventAnswer.TheVariants as events_answered
-use Rattle.vk_base.specs.declared.kernel.Name.{Name}
-use Rattle.vk_base.specs.declared.kernel.Process.{Process}
-use Rattle.vk_base.specs.declared.pid.Pid.{Pid}
-use Rattle.vk_base.specs.declared.step.Step.{Step}
 use Rattle.vk_base.specs.Brought.{brought, settled}
 use Rattle.vk_base.specs.Kernel.{Kernel, holds_of}
 use Rattle.vk_base.specs.Packets.{Packet}
@@ -32,7 +29,7 @@ use Rattle.vk_stands.proofs.AfterFrames.{came_outcome, came_slots_still, came_st
 use Rattle.vk_stands.proofs.Parts.{Carries, Part, carries_more, stands_part}
 use Rattle.vk_stands.proofs.Whole.{stands_same}
 
-pub record IsEnding (packet : Packet) (step : Step) : Type 0 where
+pub record EndsSend (packet : Packet) (step : Step) : Type 0 where
   pub no_copy : (name : Name) → is_copy name packet ≡ false
   pub no_answer : (q : Pid) (w : Work) (o : Option Process) → holds_of (is_answer q w packet) o ≡ false
   pub no_arrival : filter_map as_arrival (step ∷ []) ≡ []
@@ -40,7 +37,7 @@ pub record IsEnding (packet : Packet) (step : Step) : Type 0 where
   pub stays : (before k : Kernel) → settled before packet k ≡ k
 
 -- tables with the same aliens that stand for the kernel after it
-pub record Comes (host : ℕ) (t u : Tables) (k : Kernel) : Type 0 where
+pub record ComesToTables (host : ℕ) (t u : Tables) (k : Kernel) : Type 0 where
   pub part : Part host u k
   pub carries : Carries 0 t u
   pub read : map (option_map read_alien) u.slots ≡ map (option_map read_alien) t.slots
@@ -57,12 +54,12 @@ nothing_copied : (step : Step) (b : Bool) → sum_by count_in (step ∷ []) ≡ 
 nothing_copied step true none = none
 nothing_copied step false none = refl
 
-posts_same : (out : Posts) → out ≡ posted out []
+pub posts_same : (out : Posts) → out ≡ posted out []
 posts_same out = λ i. record out { posts = sym (append-nil out.posts) i }
 
 module _ (c : Settings) (host : ℕ) (r : Reading) (h : Header) (packet : Packet)
     (taken : answer_to c host r (Delivered (Framed h packet)) ≡ events_answered.Taken) (t : Tables) (stands : Stands c.times host t r)
-    (step : Step) (e : IsEnding packet step) (does : Bool) (is : packet_outcome host r packet ≡ step_where does step) where
+    (step : Step) (e : EndsSend packet step) (does : Bool) (is : packet_outcome host r packet ≡ step_where does step) where
   abbrev after : Reading
   after = reading_for c host r (Delivered (Framed h packet))
 
@@ -88,7 +85,7 @@ module _ (c : Settings) (host : ℕ) (r : Reading) (h : Header) (packet : Packet
       (view_is ∙ ap (λ b. after_steps r.view (Some packet) (list_if b (step ∷ []))) f) slots_same
       (events_are c host r (Delivered (Framed h packet))) work_same
 
-  busy : does ≡ true → (u : Tables) → Comes host t u (next (brought r.view packet) step) → Stands c.times host u after
+  busy : does ≡ true → (u : Tables) → ComesToTables host t u (next (brought r.view packet) step) → Stands c.times host u after
   busy yes_does u comes =
       let view : after.view ≡ next (brought r.view packet) step =
       view_is ∙ ap (λ b. after_steps r.view (Some packet) (list_if b (step ∷ []))) yes_does
@@ -99,13 +96,13 @@ module _ (c : Settings) (host : ℕ) (r : Reading) (h : Header) (packet : Packet
         works = λ pid s w at blocked work. work_same pid;
       })
 
-  stands_by : (b : Bool) → does ≡ b → (u : Tables) → (b ≡ true → Comes host t u (next (brought r.view packet) step)) →
+  stands_by : (b : Bool) → does ≡ b → (u : Tables) → (b ≡ true → ComesToTables host t u (next (brought r.view packet) step)) →
       Stands c.times host (cond b u t) after
   stands_by true yes_does u comes = busy yes_does u (comes refl)
   stands_by false f u comes = idle f
 
   -- the step is made where it is due, and the tables are then these
-  pub ending_makes : (u : Tables) → (does ≡ true → Comes host t u (next (brought r.view packet) step)) → (done : List Step) (out : Posts) →
+  pub ending_makes : (u : Tables) → (does ≡ true → ComesToTables host t u (next (brought r.view packet) step)) → (done : List Step) (out : Posts) →
       Makes c host r (right_entry c host r (Delivered (Framed h packet))) (record { tables = t; steps = done; out = out })
       (record { tables = cond does u t; steps = done ++ list_if does (step ∷ []); out = out })
   ending_makes u comes done out = record {

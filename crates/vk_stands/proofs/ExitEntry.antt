@@ -4,15 +4,15 @@ use Rattle.std.specs.List.{flat_map, list_any, position}
 use Rattle.std.specs.Option.{option_map, option_map_or}
 use Rattle.std.proofs.lemmas.Bool.{and_parts, both_ways, cases_Bool, cond-true, false_from_ne_true}
 use Rattle.std.proofs.lemmas.Option.{same_Some}
+use Rattle.vk_types.specs.Types.{Name, Pid}
 use Rattle.vk_base.specs.declared.activity.Activity.TheVariants as activities
-use Rattle.vk_base.specs.declared.kernel.Name.{Name}
 use Rattle.vk_base.specs.declared.kernel.Stage.TheVariants as stages
-use Rattle.vk_base.specs.declared.pid.Pid.{Pid}
 use Rattle.vk_base.specs.Calls.{dropped_at, exited, is_message_at}
 use Rattle.vk_base.specs.Kernel.{Kernel, holds_of, is_at_target, is_live, same_name}
 use Rattle.vk_base.specs.Packets.{Packet, Negative}
 use Rattle.vk_base.specs.Pids.{same_pid}
-use Rattle.v_laws.proofs.Tables.{same_name_is, same_name_self, same_pid_is, same_pid_self}
+use Rattle.vk_base.proofs.PidLemmas.{same_pid_self}
+use Rattle.v_laws.proofs.Tables.{same_name_is, same_name_self, same_pid_is}
 use Rattle.vk_pool.specs.declared.alien.Alien.{Alien}
 use Rattle.vk_pool.specs.Aliens.{alien_at, is_alien_from}
 use Rattle.vk_procs.specs.declared.seat.Seat.{Seat}
@@ -21,7 +21,7 @@ use Rattle.vk_rules.specs.Aliens.{is_closing}
 use Rattle.vk_rules.specs.CallOutcomes.{exit_packets, negative_for}
 unfoldable use Rattle.vk_rules.specs.Rounds.{told_sender}
 use Rattle.vk_rules.specs.Rounds.{list_if, told_of}
-use Rattle.vk_stands.specs.Stands.{IsKept}
+use Rattle.vk_stands.specs.Stands.{IsAlienKept}
 use Rattle.vk_stands.specs.Tables.{Spot, Tables, alien_name, read_alien}
 use Rattle.vk_stands.proofs.Aliens.{of_at}
 use Rattle.vk_stands.proofs.Exited.{exchange_is, is_left, proc_here}
@@ -37,7 +37,7 @@ module _ (host : ℕ) (t : Tables) (k : Kernel) (part : Part host t k) (pid : Pi
   abbrev l : Kernel
   l = exited k pid (process_of s)
 
-  kept : (i : ℕ) (a : Alien) → alien_at t.slots i ≡ Some a → IsKept k a
+  kept : (i : ℕ) (a : Alien) → alien_at t.slots i ≡ Some a → IsAlienKept k a
   kept i a at = part.view.kept a.sender a (of_at t.slots i a part.fit.apart at)
 
   left_as : (i : ℕ) (a : Alien) (at : alien_at t.slots i ≡ Some a) → is_message_at pid (kept i a at).exchange ≡ is_left pid a

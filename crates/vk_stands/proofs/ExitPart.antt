@@ -7,16 +7,12 @@ use Rattle.std.proofs.lemmas.List.{get_or-set_other, get_or-set_same}
 use Rattle.std.proofs.lemmas.List.Elements.{filter_agree}
 use Rattle.std.proofs.lemmas.List.Quantifiers.{position-Some}
 use Rattle.std.proofs.lemmas.Option.{same_Some, slice_get-map}
+use Rattle.vk_types.specs.Types.{Exchange, Name, Pid, Registration, Waiting}
 use Rattle.vk_base.specs.declared.activity.Activity.TheVariants as activities
-use Rattle.vk_base.specs.declared.activity.Waiting.{Waiting}
 use Rattle.vk_base.specs.declared.answer.Answer.TheVariants as answers
 use Rattle.vk_base.specs.declared.call.Call.TheVariants as calls
-use Rattle.vk_base.specs.declared.kernel.Exchange.{Exchange}
-use Rattle.vk_base.specs.declared.kernel.Name.{Name}
-use Rattle.vk_base.specs.declared.kernel.Registration.{Registration}
 use Rattle.vk_base.specs.declared.kernel.Stage.TheVariants as stages
 use Rattle.vk_base.specs.declared.limits.TheConstants.{STATION_PROCESSES}
-use Rattle.vk_base.specs.declared.pid.Pid.{Pid}
 use Rattle.vk_base.specs.declared.step.Step.TheVariants as steps
 use Rattle.vk_base.specs.Calls.{answered, dropped_at, is_message_at}
 unfoldable use Rattle.vk_base.specs.Calls.{exited}
@@ -24,8 +20,8 @@ use Rattle.vk_base.specs.Kernel.{Kernel, holds_of, is_queued, is_queued_at}
 unfoldable use Rattle.vk_base.specs.Kernel.{queue_of}
 use Rattle.vk_base.specs.Pids.{same_pid}
 use Rattle.vk_base.specs.Steps.{effect}
+use Rattle.vk_base.proofs.OptionLemmas.{mapped_is}
 use Rattle.v_laws.proofs.Changes.{queued_is_at_target}
-use Rattle.v_laws.proofs.Options.{mapped_is}
 use Rattle.v_laws.proofs.SoundLemmas.{sound_step}
 use Rattle.v_laws.proofs.Tables.{same_pid_is}
 use Rattle.vk_pool.specs.declared.alien.Alien.{Alien}
@@ -165,7 +161,7 @@ module _ (host : ℕ) (t : Tables) (k : Kernel) (part : Part host t k) (pid : Pi
   }
 
   work_same : (b : Bool) (x : Seat) → IsSameWork (if b then killed x else x) x
-  work_same true x = record { tries = refl; deadline = refl; offset = refl; fresh = refl }
+  work_same true x = record { work = refl; offset = refl; fresh = refl }
   work_same false x = same_work x
 
   counts_by : (q : Pid) (x : Seat) (b : Bool) → waits_at pid x ≡ b → seat_in t.seats q ≡ Some x →

@@ -4,37 +4,34 @@ use Rattle.std.specs.List.{find}
 use Rattle.std.specs.Option.{option_map, option_flatten}
 use Rattle.std.proofs.lemmas.Bool.{and_from, and_parts, and_right, both_ways, cond-true, cond-false, eqb-true, false_from_ne_true}
 use Rattle.std.proofs.lemmas.Option.{same_Some}
+use Rattle.vk_types.specs.Types.{Exchange, Name, Pid, Process, Registration, Waiting}
 use Rattle.vk_base.specs.declared.activity.Activity.TheVariants as activities
-use Rattle.vk_base.specs.declared.activity.Waiting.{Waiting}
 use Rattle.vk_base.specs.declared.activity.Waiting.TheVariants as waitings
 use Rattle.vk_base.specs.declared.answer.Answer.TheVariants as answers
 use Rattle.vk_base.specs.declared.answer.Refusal.TheVariants as refusals
-use Rattle.vk_base.specs.declared.kernel.Exchange.{Exchange}
-use Rattle.vk_base.specs.declared.kernel.Name.{Name}
-use Rattle.vk_base.specs.declared.kernel.Process.{Process}
-use Rattle.vk_base.specs.declared.kernel.Registration.{Registration}
 use Rattle.vk_base.specs.declared.kernel.Stage.TheVariants as stages
-use Rattle.vk_base.specs.declared.pid.Pid.{Pid}
 use Rattle.vk_base.specs.Activities.{done_with, state_of}
 use Rattle.vk_base.specs.Calls.{dropped_at, is_bereft, is_message_at, released}
 unfoldable use Rattle.vk_base.specs.Calls.{exited}
 use Rattle.vk_base.specs.Firsts.{change_first}
-use Rattle.vk_base.specs.Kernel.{Kernel, ended, holds_of, is_at_target, is_live, name_of, sending}
+use Rattle.vk_base.specs.Kernel.{Kernel, holds_of, is_at_target, is_live, name_of, sending}
 use Rattle.vk_base.specs.Pids.{same_host, same_pid}
+use Rattle.vk_base.proofs.OptionLemmas.{map_map}
 use Rattle.v_laws.proofs.Tables.{same_pid_is}
+use Rattle.v_laws.proofs.SoundExit.{lives_released}
 use Rattle.vk_pool.specs.declared.alien.Alien.{Alien}
 use Rattle.vk_pool.specs.declared.alien.AlienStage.TheVariants as alien_stages
 use Rattle.vk_pool.specs.Aliens.{alien_from, is_alien_from, refused}
 use Rattle.vk_procs.specs.declared.seat.Seat.{Seat}
 use Rattle.vk_procs.specs.Seats.{bereft, finished, is_seat, killed, process_of, seat_in, waits_at}
-use Rattle.vk_stands.specs.Stands.{IsKept, IsSender, IsWaiting}
+use Rattle.vk_stands.specs.Stands.{IsAlienKept, IsSender, IsWaiting}
 use Rattle.vk_stands.specs.Tables.{Tables, alien_name, seat_name, seat_spot, spot_of, stage_of}
 use Rattle.vk_stands.proofs.Exited.{at_seat, back, bereft_name, dropped_by, dropped_spot, exchange_is, forth, gone, is_left, killed_doing, killed_same, killed_spot, killed_taken, left_behind, proc_here, proc_other, released_is, sender_waits, turned_away, turned_same, turned_spot, waits_at_is}
 use Rattle.vk_stands.proofs.Found.{seat_found}
 use Rattle.vk_stands.proofs.Lists.{find-mapped}
 use Rattle.vk_stands.proofs.Parts.{Part}
 use Rattle.vk_stands.proofs.Views.{Goes, StandsView, view_turned}
-use Rattle.vk_stands.proofs.Waits.{IsSameSeat, only, only_here, only_other, seats_changed, stage_of_local, twice, waiting_kept}
+use Rattle.vk_stands.proofs.Waits.{IsSameSeat, only, only_here, only_other, seats_changed, stage_of_local, waiting_kept}
 
 -- the tables then, but for lists and names
 abbrev pub exit_seats : List Seat → Pid → List Seat
@@ -64,15 +61,7 @@ exit_seat_in seats pid q =
     seats_changed pid killed (λ x. refl) (map (bereft pid) seats) q
     ∙ ap (option_map (only pid killed)) (find-mapped (is_seat q) (is_seat q) (bereft pid)
     (λ x. ap (λ (n : Name). same_pid n.sender q) (bereft_name pid x)) seats)
-    ∙ twice (bereft pid) (only pid killed) (seat_in seats q)
-
-live_same : (k : Kernel) (pid q : Pid) (o : Option Process) → is_live (option_map (released k pid q) o) ≡ is_live o
-live_same k pid q None = refl
-live_same k pid q (Some p) = by_bereft (is_bereft k pid q p)
-  where
-    by_bereft : (b : Bool) → (if b then record p { state = ended p.state (answers.Refused refusals.NoProcess) } else p).alive ≡ p.alive
-    by_bereft true = refl
-    by_bereft false = refl
+    ∙ map_map (bereft pid) (only pid killed) (seat_in seats q)
 
 far_same : (k : Kernel) (pid q : Pid) (o : Option Process) → same_host q pid ≡ false → option_map (released k pid q) o ≡ o
 far_same k pid q None far = refl
@@ -189,7 +178,7 @@ module _ (host : ℕ) (t : Tables) (k : Kernel) (part : Part host t k) (pid : Pi
       (ap (λ p. same_pid p pid) here ∙ (waits_at_is pid x sent).2) (ap (λ (z : Exchange). is_at_target z.stage) one ∙ near))) in
       record { waits = kept_doing x other ∙ is.waits; last = (kept_seat x other).sends ∙ is.last }
 
-  pub kept_of : (q : Pid) (x : Alien) → alien_from t.slots q ≡ Some x → IsKept k x
+  pub kept_of : (q : Pid) (x : Alien) → alien_from t.slots q ≡ Some x → IsAlienKept k x
   kept_of q x at = part.view.kept q x at
 
   pub left_is : (q : Pid) (x : Alien) (e : Exchange) → alien_from t.slots q ≡ Some x → k.exchanges (alien_name x) ≡ Some e →
@@ -215,7 +204,7 @@ module _ (host : ℕ) (t : Tables) (k : Kernel) (part : Part host t k) (pid : Pi
   dead_by : (q : Pid) (b : Bool) → same_pid q pid ≡ b → is_live (k.procs q) ≡ false → is_live (l.procs q) ≡ false
   dead_by q true same dead = ap is_live (proc_here host t k part pid own s found ready now q same)
   dead_by q false other dead =
-      ap is_live (proc_other host t k part pid own s found ready now q other) ∙ live_same k pid q (k.procs q) ∙ dead
+      ap is_live (proc_other host t k part pid own s found ready now q other) ∙ lives_released k pid q (k.procs q) ∙ dead
 
   refused_by : (q : Pid) (x : Alien) (closed : ℕ) (b : Bool) → is_left pid x ≡ b → alien_from t.slots q ≡ Some x →
       (if b then refused now x else x).stage ≡ alien_stages.Refused closed → is_live (l.procs (if b then refused now x else x).at) ≡ false

@@ -3,29 +3,25 @@ use Rattle.std.proofs.Common.{◌≡◌, ℕ, ◌&&◌, Bool, true, false, Optio
 use Rattle.std.specs.Option.{option_map}
 use Rattle.std.proofs.lemmas.Bool.{and_from, and_parts, and_right, cond-true, cond-false, eq-eqb, eqb-true}
 use Rattle.std.proofs.lemmas.Option.{same_Some}
-use Rattle.vk_base.specs.declared.activity.Activity.{Activity}
+use Rattle.vk_types.specs.Types.{Activity, Exchange, Message, Name, Outcome, Pid}
 use Rattle.vk_base.specs.declared.activity.Activity.TheVariants as activities
-use Rattle.vk_base.specs.declared.activity.Outcome.{Outcome}
 use Rattle.vk_base.specs.declared.activity.Outcome.TheVariants as outcomes
 use Rattle.vk_base.specs.declared.activity.Waiting.TheVariants as waitings
 use Rattle.vk_base.specs.declared.answer.Refusal.TheVariants as refusals
-use Rattle.vk_base.specs.declared.kernel.Exchange.{Exchange}
-use Rattle.vk_base.specs.declared.kernel.Name.{Name}
 use Rattle.vk_base.specs.declared.kernel.Stage.TheVariants as stages
-use Rattle.vk_base.specs.declared.message.Message.{Message}
-use Rattle.vk_base.specs.declared.pid.Pid.{Pid}
 use Rattle.vk_base.specs.Activities.{answer_of, done_with, state_of}
 use Rattle.vk_base.specs.Calls.{dropped_at, is_bereft, is_message_at, released}
 unfoldable use Rattle.vk_base.specs.Calls.{exited}
 use Rattle.vk_base.specs.Kernel.{Kernel, ended, holds_of, is_at_target, name_of, sending}
 use Rattle.vk_base.specs.Pids.{same_host, same_pid}
-use Rattle.v_laws.proofs.Options.{mapped_is}
-use Rattle.v_laws.proofs.Tables.{same_pid_is, same_pid_self}
+use Rattle.vk_base.proofs.OptionLemmas.{mapped_is}
+use Rattle.vk_base.proofs.PidLemmas.{same_pid_self}
+use Rattle.v_laws.proofs.Tables.{same_pid_is}
 use Rattle.vk_pool.specs.declared.alien.Alien.{Alien}
 use Rattle.vk_pool.specs.Aliens.{refused}
 use Rattle.vk_procs.specs.declared.seat.Seat.{Seat}
 use Rattle.vk_procs.specs.Seats.{bereft, finished, killed, process_of, seat_in, waits_at}
-use Rattle.vk_stands.specs.Stands.{IsHome, IsSender, IsSent}
+use Rattle.vk_stands.specs.Stands.{IsHome, IsSender, IsSending}
 use Rattle.vk_stands.specs.Tables.{Spot, Tables, alien_spot, seat_name, seat_spot, spot_of, stage_of}
 use Rattle.vk_stands.proofs.Found.{alien_found, seat_found}
 use Rattle.vk_stands.proofs.Held.{sending_is}
@@ -141,7 +137,7 @@ module _ (host : ℕ) (t : Tables) (k : Kernel) (part : Part host t k) (pid : Pi
   pub at_seat : (n : Name) (e : Exchange) (x : Seat) → k.exchanges n ≡ Some e → seat_in t.seats n.sender ≡ Some x → IsSender n e x →
       e.at ≡ x.at
   at_seat n e x at there sender =
-      let v : IsSent k x e.target e.message = part.view.waiting n.sender x (waitings.Send e.target e.message) there sender.waits in
+      let v : IsSending k x e.target e.message = part.view.waiting n.sender x (waitings.Send e.target e.message) there sender.waits in
       let named : x.pid ≡ n.sender = (seat_found t.seats n.sender x there).named in
       let same : e ≡ v.exchange =
       same_Some e v.exchange (sym at ∙ ap k.exchanges (λ i. name_of (sym named i) (sym sender.last i)) ∙ v.is) in
@@ -181,7 +177,7 @@ module _ (host : ℕ) (t : Tables) (k : Kernel) (part : Part host t k) (pid : Pi
       named : x.pid ≡ q
       named = (seat_found t.seats q x at).named
 
-      by_at : (m : Pid × Message) (v : IsSent k x m.0 m.1) (b : Bool) → same_pid x.at pid ≡ b →
+      by_at : (m : Pid × Message) (v : IsSending k x m.0 m.1) (b : Bool) → same_pid x.at pid ≡ b →
           holds_of (is_message_at pid) (k.exchanges (name_of q x.note.sends)) ≡ (b && true)
       by_at m v true same =
           let there : v.exchange.at ≡ pid = ap (λ (z : Spot). z.at) v.spot_is ∙ same_pid_is x.at pid same in

@@ -1,12 +1,9 @@
 -- A process of the station fits after a change of what it does, of its memory or of its numbers.
 use Rattle.std.proofs.Common.{◌≡◌, ℕ, ◌<◌, ◌≤◌, List, length, refl, sym, ap, subst, ◌∙◌}
-use Rattle.vk_base.specs.declared.activity.Activity.{Activity}
+use Rattle.vk_types.specs.Types.{Activity, Outcome, Pid, Waiting}
 use Rattle.vk_base.specs.declared.activity.Activity.TheVariants as activities
-use Rattle.vk_base.specs.declared.activity.Outcome.{Outcome}
-use Rattle.vk_base.specs.declared.activity.Waiting.{Waiting}
 use Rattle.vk_base.specs.declared.activity.Waiting.TheVariants as waitings
 use Rattle.vk_base.specs.declared.limits.TheConstants.{MOVE_BYTES, SEGMENT_BYTES}
-use Rattle.vk_base.specs.declared.pid.Pid.{Pid}
 use Rattle.vk_base.specs.Activities.{done_with}
 use Rattle.vk_procs.specs.declared.seat.ProcNote.{ProcNote}
 use Rattle.vk_procs.specs.declared.seat.Seat.{Seat}
@@ -28,7 +25,7 @@ fit_idle host s y pid note part idle h = record {
   asked = λ logical scope is. absurd (idle (waitings.GetPid logical scope) is);
 }
 
-not_blocked : (d : Activity) (o : Outcome) (w : Waiting) → done_with d o ≡ activities.Blocked w → ⊥
+pub not_blocked : (d : Activity) (o : Outcome) (w : Waiting) → done_with d o ≡ activities.Blocked w → ⊥
 not_blocked activities.Ready o w is = cc
 not_blocked (activities.Blocked v) o w is = cc
 not_blocked (activities.Done v old) o w is = cc

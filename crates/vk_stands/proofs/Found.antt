@@ -3,28 +3,28 @@ use Rattle.std.proofs.Common.{◌≡◌, ℕ, suc, Bool, true, false, cond, List
 use Rattle.std.specs.List.{find, slice_get}
 use Rattle.std.specs.Option.{option_flatten}
 use Rattle.std.proofs.lemmas.Option.{same_Some, none-some, get_or_from_slice_get}
-use Rattle.vk_base.specs.declared.pid.Pid.{Pid}
+use Rattle.vk_types.specs.Types.{Pid}
 use Rattle.v_laws.proofs.Tables.{same_pid_is}
 use Rattle.vk_pool.specs.declared.alien.Alien.{Alien}
 use Rattle.vk_pool.specs.Aliens.{alien_at, alien_from, is_alien_from}
 use Rattle.vk_procs.specs.declared.seat.Seat.{Seat}
 use Rattle.vk_procs.specs.Seats.{is_seat, seat_in}
 
-pub record IsIn {X : Type 0} (p : X → Bool) (xs : List X) (x : X) : Type 0 where
+pub record StandsIn {X : Type 0} (p : X → Bool) (xs : List X) (x : X) : Type 0 where
   pub at : ℕ
   pub here : slice_get xs at ≡ Some x
   pub passes : p x ≡ true
 
 module _ {X : Type 0} (p : X → Bool) where
-  later : (x y : X) (xs : List X) → IsIn p xs y → IsIn p (x ∷ xs) y
+  later : (x y : X) (xs : List X) → StandsIn p xs y → StandsIn p (x ∷ xs) y
   later x y xs found = record { at = suc found.at; here = found.here; passes = found.passes }
 
-  in_by : (x y : X) (xs : List X) (b : Bool) → p x ≡ b → (find p xs ≡ Some y → IsIn p xs y) → cond b (Some x) (find p xs) ≡ Some y →
-      IsIn p (x ∷ xs) y
+  in_by : (x y : X) (xs : List X) (b : Bool) → p x ≡ b → (find p xs ≡ Some y → StandsIn p xs y) → cond b (Some x) (find p xs) ≡ Some y →
+      StandsIn p (x ∷ xs) y
   in_by x y xs true t again is = record { at = 0; here = is; passes = ap p (sym (same_Some x y is)) ∙ t }
   in_by x y xs false f again is = later x y xs (again is)
 
-  pub found_in : (xs : List X) (x : X) → find p xs ≡ Some x → IsIn p xs x
+  pub found_in : (xs : List X) (x : X) → find p xs ≡ Some x → StandsIn p xs x
   found_in [] x is = absurd (none-some x is)
   found_in (y ∷ xs) x is = in_by y x xs (p y) refl (found_in xs x) is
 

@@ -6,18 +6,17 @@ use Rattle.std.proofs.lemmas.List.{append-nil, get_or-set_other, get_or-set_same
 use Rattle.std.proofs.lemmas.List.Elements.{filter-append}
 use Rattle.std.proofs.lemmas.List.Quantifiers.{position-Some}
 use Rattle.std.proofs.lemmas.Option.{same_Some}
-use Rattle.vk_base.specs.declared.kernel.Exchange.{Exchange}
-use Rattle.vk_base.specs.declared.kernel.Name.{Name}
+use Rattle.vk_types.specs.Types.{Exchange, Message, Name, Pid}
 use Rattle.vk_base.specs.declared.kernel.Stage.TheVariants as stages
 use Rattle.vk_base.specs.declared.limits.TheConstants.{STATION_PROCESSES}
-use Rattle.vk_base.specs.declared.message.Message.{Message}
-use Rattle.vk_base.specs.declared.pid.Pid.{Pid}
 unfoldable use Rattle.vk_base.specs.Calls.{forwarded}
 unfoldable use Rattle.vk_base.specs.Kernel.{queue_of}
 use Rattle.vk_base.specs.Kernel.{Kernel, holds_of, is_queued, is_queued_at, is_taken, put_exchange, same_name, without}
 use Rattle.vk_base.specs.Pids.{same_pid}
+use Rattle.vk_base.proofs.PidLemmas.{same_pid_self}
+use Rattle.vk_base.proofs.ListLemmas.{map_end}
 use Rattle.v_laws.proofs.Changes.{taken_is_at_target}
-use Rattle.v_laws.proofs.Tables.{put_exchange_at, put_exchange_other, same_name_is, same_name_self, same_pid_is, same_pid_self}
+use Rattle.v_laws.proofs.Tables.{put_exchange_at, put_exchange_other, same_name_is, same_name_self, same_pid_is}
 use Rattle.vk_procs.specs.declared.seat.Seat.{Seat}
 use Rattle.vk_procs.specs.Seats.{is_seat}
 use Rattle.vk_queue.specs.Lists as slot_lists
@@ -29,7 +28,7 @@ use Rattle.vk_stands.proofs.Listed.{low_place, not_in_list, places_apart}
 use Rattle.vk_stands.proofs.LocalReply.{taken_unqueued}
 use Rattle.vk_stands.proofs.OneSend.{put_back, put_forth}
 use Rattle.vk_stands.proofs.Parts.{AreQueues, Part}
-use Rattle.vk_stands.proofs.SentQueues.{last_in, map_end, without_at}
+use Rattle.vk_stands.proofs.SentQueues.{last_in, without_at}
 use Rattle.vk_stands.proofs.Views.{Goes}
 
 module _ (k : Kernel) (name : Name) (e : Exchange) (at : k.exchanges name ≡ Some e) (taken : is_taken e.stage ≡ true) (m : Message)

@@ -1,26 +1,21 @@
 -- Whom a process holds, by the tables and in the view.
 use Rattle.std.proofs.Common.{◌≡◌, ℕ, zero, suc, ◌^◌, nat_lt, ◌<◌, ◌≤◌, Bool, true, false, cond, ◌&&◌, Option, Some, None, refl, sym, ap, subst, ◌∙◌, inl, inr, arith}
 use Rattle.std.specs.Option.{option_map, is_none}
-use Rattle.std.proofs.lemmas.Bool.{both_ways, and_parts, and_from, or_right, cond-true, false_from_ne_true, eq-eqb, eqb-true, ltb-true}
+use Rattle.std.proofs.lemmas.Bool.{both_ways, and_parts, and_from, cond-true, false_from_ne_true, eq-eqb, eqb-true, ltb-true}
 use Rattle.std.proofs.lemmas.Option.{same_Some, none-some}
-use Rattle.vk_base.specs.declared.activity.Activity.{Activity}
+use Rattle.vk_types.specs.Types.{Activity, Exchange, Message, Name, Pid, Process, Stage, Times}
 use Rattle.vk_base.specs.declared.activity.Activity.TheVariants as activities
 use Rattle.vk_base.specs.declared.activity.Waiting.TheVariants as waitings
-use Rattle.vk_base.specs.declared.config.Times.{Times}
-use Rattle.vk_base.specs.declared.kernel.Exchange.{Exchange}
-use Rattle.vk_base.specs.declared.kernel.Name.{Name}
-use Rattle.vk_base.specs.declared.kernel.Process.{Process}
-use Rattle.vk_base.specs.declared.kernel.Stage.{Stage}
 use Rattle.vk_base.specs.declared.kernel.Stage.TheVariants as stages
-use Rattle.vk_base.specs.declared.message.Message.{Message}
-use Rattle.vk_base.specs.declared.pid.Pid.{Pid}
 use Rattle.vk_base.specs.Activities.{state_of}
 use Rattle.vk_base.specs.Counts.{sends_of}
-use Rattle.vk_base.specs.Kernel.{◌>>=◌, Kernel, holds_of, name_of, is_at_target, is_held_by, is_queued, is_taken, held, held_exchange, held_up_to, sending}
+use Rattle.vk_base.specs.Kernel.{◌>>=◌, Kernel, holds_of, name_of, is_held_by, is_taken, held, held_exchange, held_up_to, sending}
 use Rattle.vk_base.specs.Pids.{same_host, same_pid}
+use Rattle.vk_base.proofs.PidLemmas.{same_pid_self}
 use Rattle.v_laws.proofs.Held.{holds_at, held_none}
 use Rattle.v_laws.proofs.Options.{some_that_holds}
-use Rattle.v_laws.proofs.Tables.{same_pid_is, same_pid_self}
+use Rattle.v_laws.proofs.Tables.{same_pid_is}
+use Rattle.v_laws.proofs.Changes.{taken_is_at_target}
 use Rattle.vk_pool.specs.declared.alien.Alien.{Alien}
 use Rattle.vk_pool.specs.Aliens.{alien_from}
 use Rattle.vk_procs.specs.declared.seat.Seat.{Seat}
@@ -28,7 +23,7 @@ use Rattle.vk_procs.specs.Seats.{process_of, seat_in}
 use Rattle.vk_rules.specs.Readings.{Reading}
 use Rattle.vk_stands.specs.Fit.{AreFit}
 use Rattle.vk_stands.specs.Held.{Holding, holding_by, seat_holding, local_holding, is_held, alien_holding, remote_holding}
-use Rattle.vk_stands.specs.Stands.{Stands, IsHome, IsKept, IsSent}
+use Rattle.vk_stands.specs.Stands.{Stands, IsHome, IsAlienKept, IsSending}
 use Rattle.vk_stands.specs.Tables.{Spot, Tables, seat_name, stage_of}
 use Rattle.vk_stands.proofs.Found.{alien_found, seat_found}
 
@@ -187,9 +182,6 @@ held_as k holder sender p h there low high e message one = record {
   taken = e.taken;
 }
 
-taken_at_target : (s : Stage) → is_taken s ≡ true → is_at_target s ≡ true
-taken_at_target s t = or_right (is_queued s) (is_taken s) t
-
 seat_stage : (taken : Bool) → is_taken (cond taken stages.Taken stages.Queued) ≡ taken
 seat_stage true = refl
 seat_stage false = refl
@@ -208,11 +200,11 @@ module _ (times : Times) (host : ℕ) (t : Tables) (r : Reading) (h : Stands tim
   home_of : (sender : Pid) (number : ℕ) (e : IsHeldExchange exchanges holder sender number) →
       IsHome host t (name_of sender number) e.exchange
   home_of sender number e = h.home (name_of sender number) e.exchange e.is (target_here sender number e)
-      (taken_at_target e.exchange.stage e.taken)
+      (taken_is_at_target e.exchange.stage e.taken)
 
   -- the exchange of a process that waits in a Send
   sent_in : (sender : Pid) (s : Seat) (target : Pid) (m : Message) → seat_in t.seats sender ≡ Some s →
-      s.doing ≡ activities.Blocked (waitings.Send target m) → IsSent r.view s target m
+      s.doing ≡ activities.Blocked (waitings.Send target m) → IsSending r.view s target m
   sent_in sender s target m found waits = h.waiting sender s (waitings.Send target m) found waits
 
   -- a local exchange that is held is of a process that tells so
@@ -224,7 +216,7 @@ module _ (times : Times) (host : ℕ) (t : Tables) (r : Reading) (h : Stands tim
       let waits : s.doing ≡ activities.Blocked (waitings.Send e.exchange.target e.exchange.message) =
       ap (λ (z : Seat). z.doing) same ∙ y.1.2.waits in
       let last : s.note.sends ≡ number = ap (λ (z : Seat). z.note.sends) same ∙ y.1.2.last in
-      let sent : IsSent r.view s e.exchange.target e.exchange.message = sent_in sender s e.exchange.target e.exchange.message found waits in
+      let sent : IsSending r.view s e.exchange.target e.exchange.message = sent_in sender s e.exchange.target e.exchange.message found waits in
       let pid : s.pid ≡ sender = (seat_found t.seats sender s found).named in
       let one : sent.exchange ≡ e.exchange = same_Some sent.exchange e.exchange
       (sym sent.is ∙ ap (λ p. exchanges (name_of p s.note.sends)) pid ∙ ap (λ n. exchanges (name_of sender n)) last ∙ e.is) in
@@ -255,7 +247,7 @@ module _ (times : Times) (host : ℕ) (t : Tables) (r : Reading) (h : Stands tim
   seat_exchange : (sender : Pid) (s : Seat) (g : Holding) → sender.host ≡ host → seat_in t.seats sender ≡ Some s →
       IsHeldSeat holder s g → (e : IsHeldExchange exchanges holder sender g.number) × (e.exchange.message ≡ g.message)
   seat_exchange sender s g here found held =
-      let sent : IsSent r.view s held.target g.message = sent_in sender s held.target g.message found held.waits in
+      let sent : IsSending r.view s held.target g.message = sent_in sender s held.target g.message found held.waits in
       let pid : s.pid ≡ sender = (seat_found t.seats sender s found).named in
       let at : sent.exchange.at ≡ holder = ap (λ (p : Spot). p.at) sent.spot_is ∙ held.at in
       let near : same_host s.pid held.target ≡ true =
@@ -311,7 +303,7 @@ module _ (times : Times) (host : ℕ) (t : Tables) (r : Reading) (h : Stands tim
       (alien_holding holder a ≡ Some (record { number = number; message = a.message }))
   alien_home sender number e away (inl y) = absurd (away y.0)
   alien_home sender number e away (inr a) =
-      let kept : IsKept r.view a.0 = h.kept sender a.0 a.1 in
+      let kept : IsAlienKept r.view a.0 = h.kept sender a.0 a.1 in
       let from : a.0.sender ≡ sender = (alien_found t.slots sender a.0 a.1).from in
       let one : kept.exchange ≡ e.exchange = same_Some kept.exchange e.exchange
       (sym kept.is ∙ ap (λ p. exchanges (name_of p a.0.number)) from ∙ ap (λ n. exchanges (name_of sender n)) a.2 ∙ e.is) in
@@ -336,7 +328,7 @@ module _ (times : Times) (host : ℕ) (t : Tables) (r : Reading) (h : Stands tim
   alien_exchange : (sender : Pid) (a : Alien) (g : Holding) → alien_from t.slots sender ≡ Some a →
       IsHeldAlien holder a g → (e : IsHeldExchange exchanges holder sender g.number) × (e.exchange.message ≡ g.message)
   alien_exchange sender a g found held =
-      let kept : IsKept r.view a = h.kept sender a found in
+      let kept : IsAlienKept r.view a = h.kept sender a found in
       let from : a.sender ≡ sender = (alien_found t.slots sender a found).from in (
         record {
           exchange = kept.exchange;
@@ -360,7 +352,7 @@ module _ (times : Times) (host : ℕ) (t : Tables) (r : Reading) (h : Stands tim
   made : (sender : Pid) (a : Alien) → alien_from t.slots sender ≡ Some a →
       (p : Process) × (r.view.procs sender ≡ Some p) × (a.number ≤ p.sends)
   made sender a found =
-      let kept : IsKept r.view a = h.kept sender a found in
+      let kept : IsAlienKept r.view a = h.kept sender a found in
       let from : a.sender ≡ sender = (alien_found t.slots sender a found).from in
       made_by sender a.number (r.view.procs sender) refl (numbered sender a found)
       (subst (λ p. a.number ≤ sends_of (r.view.procs p)) from kept.made)

@@ -5,14 +5,14 @@ use Rattle.std.specs.Option.{option_map}
 use Rattle.std.proofs.lemmas.Bool.{both_ways, cond-true, eqb-true, false_from_ne_true, lt-ltb}
 use Rattle.std.proofs.lemmas.List.Quantifiers.{position-Some}
 use Rattle.std.proofs.lemmas.Option.{same_Some, slice_get-get_or}
-use Rattle.vk_base.specs.declared.kernel.Name.{Name}
+use Rattle.vk_types.specs.Types.{Name, Pid}
 use Rattle.vk_base.specs.declared.limits.TheConstants.{STATION_PROCESSES}
-use Rattle.vk_base.specs.declared.pid.Pid.{Pid}
 use Rattle.vk_base.specs.Kernel.{Kernel, holds_of, is_queued_at, same_name}
 unfoldable use Rattle.vk_base.specs.Kernel.{queue_of}
 use Rattle.vk_base.specs.Pids.{same_pid}
+use Rattle.vk_base.proofs.PidLemmas.{same_pid_self}
 use Rattle.v_laws.proofs.FilterLemmas.{none_kept}
-use Rattle.v_laws.proofs.Tables.{same_name_is, same_name_self, same_pid_is, same_pid_self}
+use Rattle.v_laws.proofs.Tables.{same_name_is, same_name_self, same_pid_is}
 use Rattle.vk_procs.specs.declared.seat.Seat.{Seat}
 use Rattle.vk_procs.specs.Seats.{is_seat, seat_in}
 use Rattle.vk_queue.specs.Lists.{holds, queue_at}
@@ -65,13 +65,13 @@ not_in_list t k queues q at slot n place named away = false_from_ne_true (holds 
     (listed (slot_name t.seats t.slots) slot n named (queue_at t.lists at) (queue_of k q) (queues q at place) is))
 
 -- The place of a process.
-pub record IsPlaced (t : Tables) (pid : Pid) (s : Seat) (at : ℕ) : Type 0 where
+pub record IsSeatAt (t : Tables) (pid : Pid) (s : Seat) (at : ℕ) : Type 0 where
   pub here : slice_get t.seats at ≡ Some s
   pub low : at < length t.seats
   pub named : is_seat pid s ≡ true
 
 pub placed_at : (t : Tables) (pid : Pid) (s : Seat) (at : ℕ) → position (is_seat pid) t.seats ≡ Some at → seat_in t.seats pid ≡ Some s →
-    IsPlaced t pid s at
+    IsSeatAt t pid s at
 placed_at t pid s at place found =
     let facts = position-Some (is_seat pid) t.seats at s place in
     let is : get_or t.seats at s ≡ s = same_Some (get_or t.seats at s) s (sym (find-position (is_seat pid) t.seats at s place) ∙ found) in

@@ -4,13 +4,11 @@ use Rattle.std.specs.List.{position}
 use Rattle.std.specs.Option.{option_map}
 use Rattle.std.proofs.lemmas.Bool.{both_ways}
 use Rattle.std.proofs.lemmas.Option.{same_Some}
+use Rattle.vk_types.specs.Types.{Exchange, Message, Pid}
 use Rattle.vk_base.specs.declared.activity.Activity.TheVariants as activities
 use Rattle.vk_base.specs.declared.activity.Waiting.TheVariants as waitings
 use Rattle.vk_base.specs.declared.answer.Answer.TheVariants as answers
 use Rattle.vk_base.specs.declared.call.Call.TheVariants as calls
-use Rattle.vk_base.specs.declared.kernel.Exchange.{Exchange}
-use Rattle.vk_base.specs.declared.message.Message.{Message}
-use Rattle.vk_base.specs.declared.pid.Pid.{Pid}
 use Rattle.vk_base.specs.declared.step.Step.TheVariants as steps
 use Rattle.vk_base.specs.Calls.{answered, forwarded}
 use Rattle.vk_base.specs.Kernel.{Kernel, is_taken}
@@ -25,12 +23,11 @@ use Rattle.vk_stands.proofs.FitSeats.{fit_note}
 use Rattle.vk_stands.proofs.Fits.{fit_seated, slot_kept}
 use Rattle.vk_stands.proofs.HandedOn.{fit_handed, handed_back, handed_forth, handed_is, handed_lookups, handed_names, handed_others, handed_procs, queues_handed}
 use Rattle.vk_stands.proofs.Listed.{place_name}
-use Rattle.vk_stands.proofs.OneSeat.{ChangesOne, seated, view_seated}
+use Rattle.vk_stands.proofs.OneSeat.{ChangesOne, same_put, seated, view_seated}
 use Rattle.vk_stands.proofs.Parts.{Carries, Part, carries_seated, same_more}
 use Rattle.vk_stands.proofs.Seats.{position-changed}
 use Rattle.vk_stands.proofs.SentQueues.{last_in}
-use Rattle.vk_stands.proofs.Takings.{same_put}
-use Rattle.vk_stands.proofs.Views.{StandsView}
+use Rattle.vk_stands.proofs.Views.{StandsView, view_listed}
 
 module _ (host : ℕ) (t : Tables) (k : Kernel) (part : Part host t k) (from : Pid) (own : from.host ≡ host) (s : Seat)
     (found : seat_in t.seats from ≡ Some s) (target : Pid) (message : Message)
@@ -94,7 +91,7 @@ module _ (host : ℕ) (t : Tables) (k : Kernel) (part : Part host t k) (from : P
     fit = fit_handed host t k part (seat_name s) e at taken m to s slot place (place_name host t part.fit from s slot here found) there
         (seated t from f)
         (λ q. position-changed (is_seat from) f (is_seat q) (λ z. refl) t.seats) (slot_kept t from f (λ z. refl)) fit;
-    view = record { procs = view.procs; elsewhere = view.elsewhere; kept = view.kept; waiting = view.waiting; home = view.home };
+    view = view_listed (last_in t.lists place slot) view;
     sound = sound_step k (steps.Call pid (calls.Forward m from to)) (answered l pid (calls.Forward m from to) answers.Ok) part.sound does;
     names = handed_names k (seat_name s) e at taken m to host ∙ part.names;
     unknown = λ g away. handed_names k (seat_name s) e at taken m to g ∙ part.unknown g away;
@@ -107,5 +104,5 @@ module _ (host : ℕ) (t : Tables) (k : Kernel) (part : Part host t k) (from : P
   handed_carries =
       let c : Carries 0 t (seated t from f) = carries_seated 0 t from s found f (λ z. refl) (same_more 0 s.note.sends)
       (same_more 0 s.note.lookups)
-      (λ w blocked work. (blocked, record { tries = refl; deadline = refl; offset = refl; fresh = refl })) in
+      (λ w blocked work. (blocked, record { work = refl; offset = refl; fresh = refl })) in
       record { seats = c.seats; aliens = c.aliens }

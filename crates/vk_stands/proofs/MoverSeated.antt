@@ -1,26 +1,81 @@
 -- One process changes what it notes of its work, or begins one; aliens may change beside it: the whole relation from the part of it.
-use Rattle.std.proofs.Common.{◌≡◌, ◌≤◌, ℕ, ◌+◌, Bool, true, false, cond, List, map, refl, sym, ap, ◌∙◌, subst, Option, Some, arith}
+use Rattle.std.proofs.Common.{◌≡◌, ◌≤◌, ℕ, ◌+◌, Bool, true, false, List, map, refl, sym, ap, ◌∙◌, subst, Option, Some, arith}
 use Rattle.std.specs.Option.{option_map}
 use Rattle.std.proofs.lemmas.Option.{same_Some}
+use Rattle.vk_types.specs.Types.{Pid, Times, Waiting}
 use Rattle.vk_base.specs.declared.activity.Activity.TheVariants as activities
-use Rattle.vk_base.specs.declared.activity.Waiting.{Waiting}
-use Rattle.vk_base.specs.declared.config.Times.{Times}
-use Rattle.vk_base.specs.declared.pid.Pid.{Pid}
 use Rattle.vk_base.specs.Pids.{same_pid}
-use Rattle.v_laws.proofs.Options.{mapped_is}
+use Rattle.v_laws.specs.Sound.{IsSoundAt}
 use Rattle.v_laws.proofs.Tables.{same_pid_is}
 use Rattle.vk_pool.specs.declared.alien.Alien.{Alien}
 use Rattle.vk_pool.specs.Aliens.{alien_from}
 use Rattle.vk_procs.specs.declared.seat.Seat.{Seat}
 use Rattle.vk_procs.specs.Seats.{seat_in}
 use Rattle.vk_rules.specs.Readings.{Reading}
-use Rattle.vk_stands.specs.Stands.{IsWorking, Stands}
+use Rattle.vk_stands.specs.Stands.{HasOwnNames, IsWorking, Stands}
 use Rattle.vk_stands.specs.Tables.{Tables, is_work, read_alien}
-use Rattle.vk_stands.proofs.Found.{seat_found}
-use Rattle.vk_stands.proofs.OneSeat.{seated}
-use Rattle.vk_stands.proofs.Parts.{Part}
-use Rattle.vk_stands.proofs.Waits.{only, only_here, only_other, seats_changed}
+use Rattle.vk_stands.proofs.OneSeat.{seated, seated_here, seated_other}
+use Rattle.vk_stands.proofs.Parts.{AreQueues, Part, same_more}
+use Rattle.vk_stands.proofs.Views.{StandsView}
 use Rattle.vk_stands.proofs.Whole.{IsLater, same_work, stands_then, working_kept}
+
+-- The process s is y now, with its work; the other processes and their works are as they were.
+pub record ChangesWork (times : Times) (t u : Tables) (r q : Reading) (pid : Pid) (s y : Seat) : Type 0 where
+  pub was : seat_in t.seats pid ≡ Some s
+  pub is : seat_in u.seats pid ≡ Some y
+  pub others : (p : Pid) → same_pid p pid ≡ false → seat_in u.seats p ≡ seat_in t.seats p
+  pub sends : y.note.sends ≤ s.note.sends + 1
+  pub lookups : y.note.lookups ≤ s.note.lookups + 1
+  pub slots : q.slots ≡ map (option_map read_alien) u.slots
+  pub moved : (sender : Pid) (a : Alien) → alien_from u.slots sender ≡ Some a → a.moves ≤ r.events + 1
+  pub events : q.events ≡ r.events + 1
+  pub rest : (p : Pid) → same_pid p pid ≡ false → q.work p ≡ r.work p
+  pub works : (w : Waiting) → y.doing ≡ activities.Blocked w → is_work pid w ≡ true → IsWorking times y (q.work pid) w
+
+module _ (times : Times) (host : ℕ) (t u : Tables) (r q : Reading) (h : Stands times host t r) (pid : Pid) (s y : Seat)
+    (g : ChangesWork times t u r q pid s y) where
+  is_it : (p : Pid) (x : Seat) → same_pid p pid ≡ true → seat_in u.seats p ≡ Some x → y ≡ x
+  is_it p x same at = same_Some y x (sym g.is ∙ ap (seat_in u.seats) (sym (same_pid_is p pid same)) ∙ at)
+
+  later : (p : Pid) (x : Seat) (b : Bool) → same_pid p pid ≡ b → seat_in u.seats p ≡ Some x → IsLater t p x
+  later p x true same at = subst (IsLater t p) (is_it p x same at)
+      (record { old = s; was = ap (seat_in t.seats) (same_pid_is p pid same) ∙ g.was; sends = g.sends; lookups = g.lookups })
+  later p x false other at = record {
+    old = x;
+    was = sym (g.others p other) ∙ at;
+    sends = same_more 1 x.note.sends;
+    lookups = same_more 1 x.note.lookups;
+  }
+
+  works_by : (p : Pid) (x : Seat) (w : Waiting) (b : Bool) → same_pid p pid ≡ b → seat_in u.seats p ≡ Some x →
+      x.doing ≡ activities.Blocked w → is_work p w ≡ true → IsWorking times x (q.work p) w
+  works_by p x w true same at blocked is =
+      let one : y ≡ x = is_it p x same at in
+      let it : p ≡ pid = same_pid_is p pid same in
+      subst (λ n. IsWorking times x (q.work n) w) (sym it) (subst (λ z. IsWorking times z (q.work pid) w) one
+      (g.works w (ap (λ (z : Seat). z.doing) one ∙ blocked) (ap (λ n. is_work n w) (sym it) ∙ is)))
+  works_by p x w false other at blocked is =
+      working_kept times x x (r.work p) (q.work p) w (same_work x) (g.rest p other)
+      (h.works p x w (sym (g.others p other) ∙ at) blocked is)
+
+  pub stands_worked_on : StandsView host u q.view → IsSoundAt (λ g. false) q.view → q.view.names host ≡ u.names →
+      HasOwnNames host q.view → AreQueues u q.view → Stands times host u q
+  stands_worked_on view sound names unknown queues = stands_then times host t u r q h view (record {
+    sound = sound;
+    names = names;
+    unknown = unknown;
+    slots = g.slots;
+    queues = queues;
+    events = g.events;
+    seats = λ p x at. later p x (same_pid p pid) refl at;
+    aliens = λ sender a at. subst (λ n. a.moves ≤ n) (sym g.events) (g.moved sender a at);
+  }) (λ p x w at blocked is. works_by p x w (same_pid p pid) refl at blocked is)
+
+  pub stands_by_part : Part host u q.view → Stands times host u q
+  stands_by_part part = stands_worked_on part.view part.sound part.names part.unknown part.queues
+
+pub low_count : (n m : ℕ) → n ≡ m → n ≤ m + 1
+low_count n m same = omega arith
 
 module _ (times : Times) (host : ℕ) (t : Tables) (r : Reading) (h : Stands times host t r) (pid : Pid) (s : Seat)
     (found : seat_in t.seats pid ≡ Some s) (f : Seat → Seat) (keeps : (x : Seat) → (f x).pid ≡ x.pid)
@@ -30,55 +85,22 @@ module _ (times : Times) (host : ℕ) (t : Tables) (r : Reading) (h : Stands tim
     (few : (sender : Pid) (x : Alien) → alien_from aliens sender ≡ Some x → x.moves ≤ r.events + 1)
     (work_other : (p : Pid) → same_pid p pid ≡ false → q.work p ≡ r.work p)
     (work_here : (w : Waiting) → (f s).doing ≡ activities.Blocked w → is_work pid w ≡ true → IsWorking times (f s) (q.work pid) w) where
-  counts : (x : Seat) (b : Bool) → ((cond b (f x) x).note.sends ≤ x.note.sends + 1) × ((cond b (f x) x).note.lookups ≤ x.note.lookups + 1)
-  counts x true = let a = sends x in let b = lookups x in (omega (arith, a), omega (arith, b))
-  counts x false = (omega arith, omega arith)
-
-  later : (p : Pid) (y : Seat) → seat_in (seated t pid f).seats p ≡ Some y → IsLater t p y
-  later p y at =
-      let x = mapped_is (only pid f) (seat_in t.seats p) y (sym (seats_changed pid f keeps t.seats p) ∙ at) in
-      subst (IsLater t p) x.2 (record {
-        old = x.0;
-        was = x.1;
-        sends = (counts x.0 (same_pid x.0.pid pid)).0;
-        lookups = (counts x.0 (same_pid x.0.pid pid)).1;
-      })
-
-  works_by : (p : Pid) (x : Seat) (w : Waiting) (b : Bool) → same_pid p pid ≡ b → seat_in t.seats p ≡ Some x →
-      (only pid f x).doing ≡ activities.Blocked w → is_work p w ≡ true → IsWorking times (only pid f x) (q.work p) w
-  works_by p x w true same at blocked is =
-      let one : s ≡ x = same_Some s x (sym found ∙ ap (seat_in t.seats) (sym (same_pid_is p pid same)) ∙ at) in
-      let here : only pid f s ≡ f s = only_here pid f s (seat_found t.seats pid s found).named in
-      let doing : (f s).doing ≡ activities.Blocked w = ap (λ (z : Seat). z.doing) (sym here) ∙ ap (λ (z : Seat). (only pid f z).doing) one
-      ∙ blocked in
-      subst (λ z. IsWorking times (only pid f z) (q.work p) w) one
-      (subst (λ n. IsWorking times (only pid f s) (q.work n) w) (sym (same_pid_is p pid same))
-      (subst (λ z. IsWorking times z (q.work pid) w) (sym here)
-      (work_here w doing (ap (λ n. is_work n w) (sym (same_pid_is p pid same)) ∙ is))))
-  works_by p x w false other at blocked is =
-      let away : only pid f x ≡ x = only_other pid f x (ap (λ n. same_pid n pid) (seat_found t.seats p x at).named ∙ other) in
-      subst (λ z. IsWorking times z (q.work p) w) (sym away)
-      (working_kept times x x (r.work p) (q.work p) w (same_work x) (work_other p other)
-      (h.works p x w at (ap (λ (z : Seat). z.doing) (sym away) ∙ blocked) is))
-
   pub stands_slotted : Stands times host (record (seated t pid f) { slots = aliens }) q
-  stands_slotted = stands_then times host t (record (seated t pid f) { slots = aliens }) r q h part.view (record {
-    sound = part.sound;
-    unknown = part.unknown;
-    names = part.names;
+  stands_slotted = stands_by_part times host t (record (seated t pid f) { slots = aliens }) r q h pid s (f s) (record {
+    was = found;
+    is = seated_here t pid f keeps s found;
+    others = seated_other t pid f keeps;
+    sends = low_count (f s).note.sends s.note.sends (sends s);
+    lookups = low_count (f s).note.lookups s.note.lookups (lookups s);
     slots = slots_are;
-    queues = part.queues;
+    moved = few;
     events = events;
-    seats = later;
-    aliens = λ sender x at. subst (λ n. x.moves ≤ n) (sym events) (few sender x at);
-  })
-      (λ p y w at blocked is.
-      let x = mapped_is (only pid f) (seat_in t.seats p) y (sym (seats_changed pid f keeps t.seats p) ∙ at) in
-      subst (λ z. IsWorking times z (q.work p) w) x.2
-      (works_by p x.0 w (same_pid p pid) refl x.1 (ap (λ (z : Seat). z.doing) x.2 ∙ blocked) is))
+    rest = work_other;
+    works = work_here;
+  }) part
 
 -- The aliens are as they were.
-rises : (n m : ℕ) → n ≤ m → n ≤ m + 1
+pub rises : (n m : ℕ) → n ≤ m → n ≤ m + 1
 rises n m low = omega arith
 
 module _ (times : Times) (host : ℕ) (t : Tables) (r : Reading) (h : Stands times host t r) (pid : Pid) (s : Seat)

@@ -1,22 +1,16 @@
 -- That a move which its partner has acknowledged in full ends in the view, and that its next bytes are written there: whatever frames
 -- were forged, the view has the mover's own move for the event.
-use Rattle.std.proofs.Common.{◌≡◌, ◌<◌, ◌≤◌, ℕ, zero, suc, ◌+◌, Bool, true, false, cond, ◌==◌, List, [], ◌∷◌, length, refl, sym, ap, ◌∙◌, subst, Option, Some, arith}
-use Rattle.std.specs.List.{slice_get}
+use Rattle.std.proofs.Common.{◌≡◌, ◌<◌, ◌≤◌, ℕ, zero, suc, ◌+◌, Bool, true, false, cond, ◌==◌, List, [], ◌∷◌, length, refl, sym, ap, ◌∙◌, subst, Option, Some}
 use Rattle.std.specs.Option.{option_map, option_map_or}
 use Rattle.std.proofs.lemmas.Bool.{and_from, eq-eqb, le-leb}
+use Rattle.vk_types.specs.Types.{Direction, Exchange, Move, MoveName, Name, Pid}
 use Rattle.vk_base.specs.declared.activity.Activity.TheVariants as activities
 use Rattle.vk_base.specs.declared.activity.Waiting.TheVariants as waitings
 use Rattle.vk_base.specs.declared.answer.Answer.TheVariants as answers
 use Rattle.vk_base.specs.declared.answer.Ending.TheVariants as endings
-use Rattle.vk_base.specs.declared.kernel.Direction.{Direction}
 use Rattle.vk_base.specs.declared.kernel.Direction.TheVariants as directions
-use Rattle.vk_base.specs.declared.kernel.Exchange.{Exchange}
-use Rattle.vk_base.specs.declared.kernel.Move.{Move}
-use Rattle.vk_base.specs.declared.kernel.MoveName.{MoveName}
-use Rattle.vk_base.specs.declared.kernel.Name.{Name}
-use Rattle.vk_base.specs.declared.pid.Pid.{Pid}
 use Rattle.vk_base.specs.Activities.{state_of}
-use Rattle.vk_base.specs.Brought.{brought, bytes_from, is_moved_by, move_of_call, put_at, put_bytes, put_move, running_move, set_bytes, with_bytes_of, with_progress, with_running}
+use Rattle.vk_base.specs.Brought.{brought, bytes_from, is_moved_by, move_of_call, put_bytes, put_move, running_move, with_bytes_of, with_progress, with_running}
 unfoldable use Rattle.vk_base.specs.Changes.{change_exchange}
 use Rattle.vk_base.specs.Calls.{new_move}
 use Rattle.vk_base.specs.Kernel.{◌>>=◌, Kernel, blocked_in, holds_of, move_of, name_of}
@@ -26,16 +20,10 @@ use Rattle.vk_base.specs.Steps.{is_complete, is_in_move, is_next, move_ending, o
 unfoldable use Rattle.vk_base.specs.Steps.{copying}
 use Rattle.v_laws.proofs.Options.{some_that_holds}
 use Rattle.v_laws.proofs.Tables.{same_name_self, same_pid_is}
+use Rattle.v_laws.proofs.MoveLists.{put_move_here, set_bytes_here}
 use Rattle.vk_procs.specs.declared.seat.Seat.{Seat}
 use Rattle.vk_procs.specs.Seats.{process_of}
 use Rattle.vk_stands.specs.Stands.{IsOwnMove}
-
--- a move that is put in its place stands there
-placed_at : (xs : List Move) (i : ℕ) (m : Move) → slice_get (put_at xs i m) i ≡ Some m
-placed_at [] zero m = refl
-placed_at [] (suc i) m = placed_at [] i m
-placed_at (x ∷ xs) zero m = refl
-placed_at (x ∷ xs) (suc i) m = placed_at xs i m
 
 -- The exchange of the mover's partner has, for the event, the mover's move under its number.
 pub record HasOwn (mover : Pid) (direction : Direction) (dest count moving : ℕ) (e : Exchange) : Type 0 where
@@ -43,10 +31,6 @@ pub record HasOwn (mover : Pid) (direction : Direction) (dest count moving : ℕ
   pub at : move_of e moving ≡ Some move
   pub mine : move.mover ≡ mover
   pub own : IsOwnMove direction dest count move
-
-pub put_own : (e : Exchange) (moving : ℕ) (m : Move) → 0 < moving → move_of (record e { moves = put_move e.moves moving m }) moving ≡ Some m
-put_own e zero m some = absurd (omega arith)
-put_own e (suc i) m some = placed_at e.moves i m
 
 own_by : (e : Exchange) (moving : ℕ) (mover : Pid) (direction : Direction) (dest count : ℕ) (o : Option Move) (m : Move) (b : Bool) →
     0 < moving →
@@ -59,20 +43,12 @@ own_by e moving mover direction dest count o m true some there is mine own befor
     record { move = x.0; at = x.1; mine = same; own = before x.0 x.1 same }
 own_by e moving mover direction dest count o m false some there is mine own before =
     subst (λ z. HasOwn mover direction dest count moving (record e { moves = option_map_or (put_move e.moves moving) z e.moves })) (sym is)
-    (record { move = m; at = put_own e moving m some; mine = mine; own = own })
-
--- the bytes of a move
-bytes_at : (xs : List Move) (i : ℕ) (bytes : List ℕ) (m : Move) → slice_get xs i ≡ Some m →
-    slice_get (set_bytes xs i bytes) i ≡ Some (record m { bytes = bytes })
-bytes_at [] zero bytes m is = cc
-bytes_at [] (suc i) bytes m is = cc
-bytes_at (x ∷ xs) zero bytes m is = ap (option_map (λ (y : Move). record y { bytes = bytes })) is
-bytes_at (x ∷ xs) (suc i) bytes m is = bytes_at xs i bytes m is
+    (record { move = m; at = put_move_here e moving m some; mine = mine; own = own })
 
 bytes_put : (e : Exchange) (moving : ℕ) (bytes : List ℕ) (m : Move) → move_of e moving ≡ Some m →
     move_of (record e { moves = put_bytes e.moves moving bytes }) moving ≡ Some (record m { bytes = bytes })
 bytes_put e zero bytes m is = cc
-bytes_put e (suc i) bytes m is = bytes_at e.moves i bytes m is
+bytes_put e (suc i) bytes m is = set_bytes_here e.moves i bytes m is
 
 module _ (k : Kernel) (s : Seat) (to : Pid) (moving : ℕ) (some : 0 < moving) (here : k.procs to ≡ Some (process_of s)) (name : Name)
     (e : Exchange)

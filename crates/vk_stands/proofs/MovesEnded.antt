@@ -1,22 +1,12 @@
 -- A move of a process of the station is over.
 use Rattle.std.proofs.Common.{◌≡◌, ℕ, ◌+◌, Bool, true, false, cond, ◌==◌, refl, ap, sym, ◌∙◌, subst, Option, Some, None}
 use Rattle.std.specs.Option.{option_map, is_none}
-use Rattle.vk_base.specs.declared.activity.Activity.{Activity}
+use Rattle.vk_types.specs.Types.{Activity, Answer, Ending, Message, MoveName, Name, Outcome, Pid, Process, Times, Waiting}
 use Rattle.vk_base.specs.declared.activity.Activity.TheVariants as activities
-use Rattle.vk_base.specs.declared.activity.Outcome.{Outcome}
-use Rattle.vk_base.specs.declared.activity.Waiting.{Waiting}
 use Rattle.vk_base.specs.declared.activity.Waiting.TheVariants as waitings
-use Rattle.vk_base.specs.declared.answer.Answer.{Answer}
 use Rattle.vk_base.specs.declared.answer.Answer.TheVariants as answers
-use Rattle.vk_base.specs.declared.answer.Ending.{Ending}
 use Rattle.vk_base.specs.declared.answer.Ending.TheVariants as endings
 use Rattle.vk_base.specs.declared.answer.Refusal.TheVariants as refusals
-use Rattle.vk_base.specs.declared.config.Times.{Times}
-use Rattle.vk_base.specs.declared.kernel.MoveName.{MoveName}
-use Rattle.vk_base.specs.declared.kernel.Name.{Name}
-use Rattle.vk_base.specs.declared.kernel.Process.{Process}
-use Rattle.vk_base.specs.declared.message.Message.{Message}
-use Rattle.vk_base.specs.declared.pid.Pid.{Pid}
 use Rattle.vk_base.specs.declared.step.Step.TheVariants as steps
 use Rattle.vk_base.specs.Activities.{answer_of, done_with, state_of}
 use Rattle.vk_base.specs.Calls.{unseen}
@@ -26,8 +16,8 @@ unfoldable use Rattle.vk_base.specs.Kernel.{waiting_on}
 use Rattle.vk_base.specs.Pids.{same_pid}
 use Rattle.vk_base.specs.Steps.{after_effect, move_ending, next, only_if}
 unfoldable use Rattle.vk_base.specs.Steps.{ending}
+use Rattle.vk_base.proofs.OptionLemmas.{mapped_is}
 use Rattle.v_laws.specs.Sound.{IsSoundAt}
-use Rattle.v_laws.proofs.Options.{mapped_is}
 use Rattle.v_laws.proofs.Tables.{same_pid_is}
 use Rattle.vk_procs.specs.declared.seat.Seat.{Seat}
 use Rattle.vk_procs.specs.Seats.{doing_now, finished, is_seat, process_of, seat_in}
@@ -41,19 +31,19 @@ use Rattle.vk_stands.proofs.Parts.{Part, carries_seated, part_of, same_more, sta
 use Rattle.vk_stands.proofs.Seats.{change_agree, find-changed}
 
 -- A process that waits in a move.
-pub record IsInMove (s : Seat) : Type 0 where
+pub record IsSeatInMove (s : Seat) : Type 0 where
   pub waiting : Waiting
   pub state : s.doing ≡ activities.Blocked waiting
   pub moves : is_moving (state_of (activities.Blocked waiting)) ≡ true
 
-no_send : (s : Seat) (m : IsInMove s) (target : Pid) (msg : Message) → s.doing ≡ activities.Blocked (waitings.Send target msg) → ⊥
+no_send : (s : Seat) (m : IsSeatInMove s) (target : Pid) (msg : Message) → s.doing ≡ activities.Blocked (waitings.Send target msg) → ⊥
 no_send s m target msg is =
     let e : is_moving (state_of (activities.Blocked (waitings.Send target msg))) ≡ true = ap (λ d. is_moving (state_of d))
     (sym is ∙ m.state) ∙ m.moves in
     cc
 
 -- The end of its move in a kernel.
-module _ (k : Kernel) (pid : Pid) (s : Seat) (here : k.procs pid ≡ Some (process_of s)) (m : IsInMove s) where
+module _ (k : Kernel) (pid : Pid) (s : Seat) (here : k.procs pid ≡ Some (process_of s)) (m : IsSeatInMove s) where
   ends : (why : Ending) (name : MoveName) (a : Answer) → s.note.moving ≡ Some name → move_ending k name why ≡ Some a →
       ending k pid why ≡ Some (process_of s, a)
   unfolding ending
@@ -75,7 +65,7 @@ module _ (k : Kernel) (pid : Pid) (s : Seat) (here : k.procs pid ≡ Some (proce
 
 module _ (times : Times) (host : ℕ) (t : Tables) (r : Reading) (h : Stands times host t r) (fit : AreFit host t) (pid : Pid)
     (own : pid.host ≡ host)
-    (s : Seat) (found : seat_in t.seats pid ≡ Some s) (m : IsInMove s) where
+    (s : Seat) (found : seat_in t.seats pid ≡ Some s) (m : IsSeatInMove s) where
   here : r.view.procs pid ≡ Some (process_of s)
   here = h.procs pid own ∙ ap (option_map process_of) found
 

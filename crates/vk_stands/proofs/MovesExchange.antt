@@ -3,17 +3,12 @@ use Rattle.std.proofs.Common.{◌≡◌, ℕ, Bool, true, false, ◌&&◌, lengt
 use Rattle.std.specs.Option.{is_some}
 use Rattle.std.proofs.lemmas.List.Elements.{filter_agree}
 use Rattle.std.proofs.lemmas.Option.{same_Some, none-some}
+use Rattle.vk_types.specs.Types.{Direction, Exchange, Move, Name, Pid, Waiting}
 use Rattle.vk_base.specs.declared.activity.Activity.TheVariants as activities
-use Rattle.vk_base.specs.declared.activity.Waiting.{Waiting}
 use Rattle.vk_base.specs.declared.activity.Waiting.TheVariants as waitings
 use Rattle.vk_base.specs.declared.call.Call.TheVariants as calls
-use Rattle.vk_base.specs.declared.kernel.Direction.{Direction}
 use Rattle.vk_base.specs.declared.kernel.Direction.TheVariants as directions
-use Rattle.vk_base.specs.declared.kernel.Exchange.{Exchange}
-use Rattle.vk_base.specs.declared.kernel.Move.{Move}
-use Rattle.vk_base.specs.declared.kernel.Name.{Name}
 use Rattle.vk_base.specs.declared.kernel.State.TheVariants as states
-use Rattle.vk_base.specs.declared.pid.Pid.{Pid}
 use Rattle.vk_base.specs.Kernel.{Kernel, holds_of, is_at_target, is_posted, is_queued, is_queued_at, move_of, name_of, same_name}
 unfoldable use Rattle.vk_base.specs.Kernel.{queue_of}
 use Rattle.vk_base.specs.Pids.{same_host, same_pid}
@@ -23,7 +18,7 @@ use Rattle.v_laws.proofs.Tables.{put_exchange_at, put_exchange_other, same_name_
 use Rattle.vk_procs.specs.declared.seat.Seat.{Seat}
 use Rattle.vk_procs.specs.Seats.{seat_in}
 use Rattle.vk_pool.specs.declared.alien.Alien.{Alien}
-use Rattle.vk_stands.specs.Stands.{IsHome, IsKept, IsMoving, IsOwnMove, IsWaiting}
+use Rattle.vk_stands.specs.Stands.{IsHome, IsAlienKept, IsMoving, IsOwnMove, IsWaiting}
 use Rattle.vk_stands.specs.Tables.{Spot, Tables, alien_name, spot_of}
 use Rattle.vk_stands.proofs.Found.{seat_found}
 use Rattle.vk_stands.proofs.Parts.{AreQueues, Part}
@@ -242,7 +237,7 @@ module _ (host : ℕ) (t : Tables) (k : Kernel) (part : Part host t k) (name : N
   long_by n x z false f at there = ap (λ (a : Exchange). length a.moves)
       (same_Some z x (sym there ∙ put_exchange_other k.exchanges name y n f ∙ at))
 
-  kept : (a : Alien) → IsKept k a → IsKept (with_send k name y) a
+  kept : (a : Alien) → IsAlienKept k a → IsAlienKept (with_send k name y) a
   kept a v =
       let z = forth_moved host t k part name away e y is message_same owns (alien_name a) v.exchange v.is in
       record {

@@ -1,27 +1,27 @@
--- One process of the station changes, and no Send does but its own last one.
-use Rattle.std.proofs.Common.{◌≡◌, ◌⊎◌, ℕ, Bool, true, false, ◌&&◌, ◌==◌, Option, Some, None, refl, sym, ap, subst, ◌∙◌, inl, inr}
+-- One process of the station changes, and with it at most its own Sends and lookups.
+use Rattle.std.proofs.Common.{◌≡◌, ◌⊎◌, ◌≤◌, ℕ, Bool, true, false, ◌&&◌, ◌==◌, Option, Some, None, refl, sym, ap, subst, ◌∙◌, inl, inr}
 use Rattle.std.specs.Option.{option_map}
-use Rattle.std.proofs.lemmas.Bool.{eq-eqb, false_from_ne_true}
+use Rattle.std.proofs.lemmas.Bool.{cases_Bool, eq-eqb, false_from_ne_true}
 use Rattle.std.proofs.lemmas.Option.{same_Some}
+use Rattle.vk_types.specs.Types.{Exchange, Name, Pid, Process, Waiting}
 use Rattle.vk_base.specs.declared.activity.Activity.TheVariants as activities
-use Rattle.vk_base.specs.declared.activity.Waiting.{Waiting}
 use Rattle.vk_base.specs.declared.activity.Waiting.TheVariants as waitings
-use Rattle.vk_base.specs.declared.kernel.Exchange.{Exchange}
-use Rattle.vk_base.specs.declared.kernel.Name.{Name}
-use Rattle.vk_base.specs.declared.pid.Pid.{Pid}
+use Rattle.vk_base.specs.Counts.{sends_of}
 use Rattle.vk_base.specs.Firsts.{change_first}
 use Rattle.vk_base.specs.Kernel.{Kernel, is_at_target, is_live, name_of, put_process, same_name}
 use Rattle.vk_base.specs.Pids.{same_host, same_pid}
 use Rattle.v_laws.proofs.Tables.{same_pid_is, put_process_at, put_process_other}
+use Rattle.vk_pool.specs.declared.alien.Alien.{Alien}
 use Rattle.vk_pool.specs.Aliens.{alien_from}
 use Rattle.vk_procs.specs.declared.seat.Seat.{Seat}
 use Rattle.vk_procs.specs.Seats.{is_seat, process_of, seat_in}
 use Rattle.vk_stands.specs.Fit.{AreFit}
-use Rattle.vk_stands.specs.Stands.{IsSender, IsWaiting}
-use Rattle.vk_stands.specs.Tables.{Tables, seat_name, seat_spot, spot_of}
+use Rattle.vk_stands.specs.Stands.{IsAsking, IsHome, IsAlienKept, IsSender, IsWaiting}
+use Rattle.vk_stands.specs.Tables.{Tables, alien_name, seat_name, seat_spot, spot_of}
 use Rattle.vk_stands.proofs.Found.{alien_found, seat_found}
-use Rattle.vk_stands.proofs.Views.{Goes, StandsView, Turns, same_alien, view_turned}
-use Rattle.vk_stands.proofs.Waits.{IsSameSeat, only, only_here, only_other, same_seat, local_stage, seats_changed, waiting_kept}
+use Rattle.vk_stands.proofs.Seats.{find-changed, find-unchanged}
+use Rattle.vk_stands.proofs.Views.{Goes, StandsView}
+use Rattle.vk_stands.proofs.Waits.{IsSameSeat, local_stage, waiting_kept, waiting_same}
 
 pub same_map : {A : Type 0} (o : Option A) → o ≡ option_map (λ x. x) o
 same_map None = refl
@@ -30,57 +30,74 @@ same_map (Some x) = refl
 abbrev pub seated : Tables → Pid → (Seat → Seat) → Tables
 seated t pid f = record t { seats = change_first (is_seat pid) f t.seats }
 
+module _ (t : Tables) (pid : Pid) (f : Seat → Seat) (keeps : (x : Seat) → (f x).pid ≡ x.pid) where
+  pub seated_here : (s : Seat) → seat_in t.seats pid ≡ Some s → seat_in (seated t pid f).seats pid ≡ Some (f s)
+  seated_here s found = find-changed pid f keeps t.seats ∙ ap (option_map f) found
+
+  pub seated_other : (q : Pid) → same_pid q pid ≡ false → seat_in (seated t pid f).seats q ≡ seat_in t.seats q
+  seated_other q other = find-unchanged pid f keeps q t.seats other
+
+-- the kernel has a process as it was
+pub same_put : (procs : Pid → Option Process) (pid : Pid) (p : Process) (q : Pid) → procs pid ≡ Some p → procs q ≡ put_process procs pid p q
+same_put procs pid p q at = elim (cases_Bool (same_pid q pid)) [
+  | inl same ↦ ap procs (same_pid_is q pid same) ∙ at ∙ sym (put_process_at procs pid p q same)
+  | inr other ↦ sym (put_process_other procs pid p q other)
+]
+
+-- A process of the station waits in each of its Sends that is at its target here.
+module _ (host : ℕ) (t : Tables) (k : Kernel) (fit : AreFit host t) (h : StandsView host t k) (pid : Pid) (own : pid.host ≡ host)
+    (s : Seat) (found : seat_in t.seats pid ≡ Some s) where
+  sender_by : (n : Name) (e : Exchange) → same_pid n.sender pid ≡ true → IsHome host t n e → IsSender n e s
+  sender_by n e same (inl m) = subst (IsSender n e)
+      (same_Some m.1.0 s (sym m.1.1 ∙ ap (seat_in t.seats) (same_pid_is n.sender pid same) ∙ found)) m.1.2
+  sender_by n e same (inr a) =
+      let place = alien_found t.slots n.sender a.0 a.1 in
+      absurd ((fit.aliens place.at a.0 place.here).foreign
+      (ap (λ (p : Pid). p.host) (place.from ∙ same_pid_is n.sender pid same) ∙ own))
+
+  pub own_sender : (n : Name) (e : Exchange) → same_pid n.sender pid ≡ true → k.exchanges n ≡ Some e → e.target.host ≡ host →
+      is_at_target e.stage ≡ true → IsSender n e s
+  own_sender n e same at here near = sender_by n e same (h.home n e at here near)
+
+  -- where it is ready there is none
+  pub ready_sender : s.doing ≡ activities.Ready → (n : Name) (e : Exchange) → same_pid n.sender pid ≡ true → k.exchanges n ≡ Some e →
+      e.target.host ≡ host → is_at_target e.stage ≡ true → ⊥
+  ready_sender ready n e same at here near =
+      let both : activities.Ready ≡ activities.Blocked (waitings.Send e.target e.message) =
+      sym ready ∙ (own_sender n e same at here near).waits in cc
+
 -- The process s becomes y, and the kernel has it so.
 pub record ChangesSeat (k l : Kernel) (pid : Pid) (s y : Seat) : Type 0 where
   pub procs : (q : Pid) → l.procs q ≡ put_process k.procs pid (process_of y) q
-  pub others : (n : Name) → same_name n (seat_name s) ≡ false → l.exchanges n ≡ k.exchanges n
-  pub forth : (n : Name) (e : Exchange) → k.exchanges n ≡ Some e → (x : Exchange) × (l.exchanges n ≡ Some x) × Goes e x
-  pub back : (n : Name) (x : Exchange) → l.exchanges n ≡ Some x → (e : Exchange) × (k.exchanges n ≡ Some e) × Goes e x
-  pub lookups : (asker : Pid) (number : ℕ) → l.lookups asker number ≡ k.lookups asker number
-  -- where it waited in something its part and its numbers are the same
-  pub same : (w : Waiting) → s.doing ≡ activities.Blocked w → IsSameSeat s y
-  -- where it waits in a local Send, its note tells how far that is
-  pub stage : (target : Pid) (e x : Exchange) → k.exchanges (seat_name s) ≡ Some e → l.exchanges (seat_name s) ≡ Some x →
-      same_host s.pid target ≡ true → y.doing ≡ s.doing → e.stage ≡ local_stage s → x.stage ≡ local_stage y
-  -- and where its message is, and what is shown there
-  pub spot : (e x : Exchange) → k.exchanges (seat_name s) ≡ Some e → l.exchanges (seat_name s) ≡ Some x → spot_of e ≡ seat_spot s →
-      spot_of x ≡ seat_spot y
+  -- its own Sends and lookups may be other ones, and new ones; those of others are as they were
+  pub sends : (n : Name) → same_pid n.sender pid ≡ false → l.exchanges n ≡ k.exchanges n
+  pub lookups : (asker : Pid) (number : ℕ) → same_pid asker pid ≡ false → l.lookups asker number ≡ k.lookups asker number
   pub dead : s.alive ≡ false → y.alive ≡ false
-  -- what it waits in it waited in before, or the view has it
-  pub waits : (w : Waiting) → y.doing ≡ activities.Blocked w → (s.doing ≡ activities.Blocked w) ⊎ IsWaiting l y w
-  -- it still waits in a local Send that is at its target
-  pub sends : (e : Exchange) → l.exchanges (seat_name s) ≡ Some e → same_host s.pid e.target ≡ true → is_at_target e.stage ≡ true →
-      s.doing ≡ activities.Blocked (waitings.Send e.target e.message) → y.doing ≡ s.doing
+  -- the view has what it waits in
+  pub waits : (w : Waiting) → y.doing ≡ activities.Blocked w → IsWaiting l y w
+  -- and it waits in each of its Sends that is at its target here
+  pub home : (n : Name) (e : Exchange) → same_pid n.sender pid ≡ true → l.exchanges n ≡ Some e → e.target.host ≡ pid.host →
+      is_at_target e.stage ≡ true → IsSender n e y
 
 module _ (host : ℕ) (t : Tables) (k l : Kernel) (fit : AreFit host t) (h : StandsView host t k) (pid : Pid) (own : pid.host ≡ host)
-    (s : Seat)
-    (found : seat_in t.seats pid ≡ Some s) (f : Seat → Seat) (keeps : (x : Seat) → (f x).pid ≡ x.pid)
+    (s : Seat) (found : seat_in t.seats pid ≡ Some s) (f : Seat → Seat) (keeps : (x : Seat) → (f x).pid ≡ x.pid)
     (g : ChangesSeat k l pid s (f s)) where
   abbrev u : Tables
   u = seated t pid f
 
-  there : (q : Pid) → seat_in u.seats q ≡ option_map (only pid f) (seat_in t.seats q)
-  there q = seats_changed pid f keeps t.seats q
+  here : seat_in u.seats pid ≡ Some (f s)
+  here = seated_here t pid f keeps s found
 
-  named : s.pid ≡ pid
-  named = (seat_found t.seats pid s found).named
-
-  is_it : (q : Pid) (x : Seat) → same_pid q pid ≡ true → seat_in t.seats q ≡ Some x → s ≡ x
-  is_it q x same at = same_Some s x (sym found ∙ ap (seat_in t.seats) (sym (same_pid_is q pid same)) ∙ at)
+  other : (q : Pid) → same_pid q pid ≡ false → seat_in u.seats q ≡ seat_in t.seats q
+  other q apart = seated_other t pid f keeps q apart
 
   procs_by : (q : Pid) (b : Bool) → same_pid q pid ≡ b → q.host ≡ host → l.procs q ≡ option_map process_of (seat_in u.seats q)
-  procs_by q true same here =
+  procs_by q true same near =
       g.procs q ∙ put_process_at k.procs pid (process_of (f s)) q same
-      ∙ sym (ap (option_map process_of) (there q ∙ ap (λ p. option_map (only pid f) (seat_in t.seats p)) (same_pid_is q pid same)
-      ∙ ap (option_map (only pid f)) found ∙ ap Some (only_here pid f s named)))
-  procs_by q false other here =
-      g.procs q ∙ put_process_other k.procs pid (process_of (f s)) q other ∙ h.procs q here
-      ∙ ap (option_map process_of) (still_there (seat_in t.seats q) refl ∙ sym (there q))
-    where
-      still_there : (o : Option Seat) → seat_in t.seats q ≡ o → o ≡ option_map (only pid f) o
-      still_there None none = refl
-      still_there (Some x) some =
-          ap Some (sym (only_other pid f x (ap (λ p. same_pid p pid) (seat_found t.seats q x some).named ∙ other)))
+      ∙ sym (ap (λ p. option_map process_of (seat_in u.seats p)) (same_pid_is q pid same) ∙ ap (option_map process_of) here)
+  procs_by q false apart near =
+      g.procs q ∙ put_process_other k.procs pid (process_of (f s)) q apart ∙ h.procs q near
+      ∙ sym (ap (option_map process_of) (other q apart))
 
   apart : (q : Pid) → (q.host ≡ host → ⊥) → same_pid q pid ≡ false
   apart q away = false_from_ne_true (same_pid q pid) (λ same. away (ap (λ (p : Pid). p.host) (same_pid_is q pid same) ∙ own))
@@ -88,86 +105,70 @@ module _ (host : ℕ) (t : Tables) (k l : Kernel) (fit : AreFit host t) (h : Sta
   far : (q : Pid) → (q.host ≡ host → ⊥) → l.procs q ≡ k.procs q
   far q away = g.procs q ∙ put_process_other k.procs pid (process_of (f s)) q (apart q away)
 
-  apart_names : (x : Pid) (number : ℕ) → same_pid x pid ≡ false → same_name (name_of x number) (seat_name s) ≡ false
-  apart_names x number other = ap (λ b. b && number == s.note.sends) (ap (same_pid x) named ∙ other)
-
-  same_exchange : (x : Pid) (number : ℕ) (e z : Exchange) → same_pid x pid ≡ false → k.exchanges (name_of x number) ≡ Some e →
-      l.exchanges (name_of x number) ≡ Some z → z ≡ e
-  same_exchange x number e z other at there =
-      same_Some z e (sym there ∙ g.others (name_of x number) (apart_names x number other) ∙ at)
-
-  mine : (w : Waiting) → (f s).doing ≡ activities.Blocked w → (s.doing ≡ activities.Blocked w) ⊎ IsWaiting l (f s) w → IsWaiting l (f s) w
-  mine w now (inl before) =
-      waiting_kept k l g.forth g.lookups s (f s) (g.same w before)
-      (λ target e z at there local stage. g.stage target e z at there local (now ∙ sym before) stage) g.spot w
-      (h.waiting pid s w found before)
-  mine w now (inr is) = is
-
-  waits_by : (q : Pid) (x : Seat) (w : Waiting) (b : Bool) → same_pid q pid ≡ b → seat_in t.seats q ≡ Some x →
-      (only pid f x).doing ≡ activities.Blocked w → IsWaiting l (only pid f x) w
-  waits_by q x w true same at blocked =
-      let is : s ≡ x = is_it q x same at in
-      let now : (f s).doing ≡ activities.Blocked w =
-      ap (λ (z : Seat). z.doing) (sym (only_here pid f s named)) ∙ ap (λ (z : Seat). (only pid f z).doing) is ∙ blocked in
-      subst (λ z. IsWaiting l (only pid f z) w) is (subst (λ z. IsWaiting l z w) (sym (only_here pid f s named))
-      (mine w now (g.waits w now)))
-  waits_by q x w false other at blocked =
-      let away : same_pid x.pid pid ≡ false = ap (λ p. same_pid p pid) (seat_found t.seats q x at).named ∙ other in
-      let same : only pid f x ≡ x = only_other pid f x away in
-      subst (λ z. IsWaiting l z w) (sym same)
-      (waiting_kept k l g.forth g.lookups x x (same_seat x)
-      (λ target e z is there local stage. ap (λ (a : Exchange). a.stage) (same_exchange x.pid x.note.sends e z away is there) ∙ stage)
-      (λ e z is there spot. ap spot_of (same_exchange x.pid x.note.sends e z away is there) ∙ spot)
-      w (h.waiting q x w at (ap (λ (z : Seat). z.doing) (sym same) ∙ blocked)))
-
-  still_by : (n : Name) (x : Seat) (y : Exchange) (b : Bool) → same_pid n.sender pid ≡ b → seat_in t.seats n.sender ≡ Some x →
-      l.exchanges n ≡ Some y → y.target.host ≡ host → is_at_target y.stage ≡ true → IsSender n y x → IsSender n y (only pid f x)
-  still_by n x y true same at there here near is =
-      let one : s ≡ x = is_it n.sender x same at in
-      let sender : IsSender n y s = subst (IsSender n y) (sym one) is in
-      let name : n ≡ seat_name s = (λ i. name_of (same_pid_is n.sender pid same i) (sym sender.last i))
-      ∙ (λ i. name_of (sym named i) s.note.sends) in
-      subst (λ z. IsSender n y (only pid f z)) one (subst (IsSender n y) (sym (only_here pid f s named)) (record {
-        waits = g.sends y (sym (ap l.exchanges name) ∙ there)
-            (eq-eqb s.pid.host y.target.host (ap (λ (p : Pid). p.host) named ∙ own ∙ sym here)) near sender.waits ∙ sender.waits;
-        last = (g.same (waitings.Send y.target y.message) sender.waits).sends ∙ sender.last;
-      }))
-  still_by n x y false other at there here near is =
-      subst (IsSender n y) (sym (only_other pid f x (ap (λ p. same_pid p pid) (seat_found t.seats n.sender x at).named ∙ other))) is
-
   dead_by : (q : Pid) (b : Bool) → same_pid q pid ≡ b → is_live (k.procs q) ≡ false → is_live (l.procs q) ≡ false
   dead_by q true same dead =
-      let mine : k.procs q ≡ Some (process_of s) =
+      let was : k.procs q ≡ Some (process_of s) =
       ap k.procs (same_pid_is q pid same) ∙ h.procs pid own ∙ ap (option_map process_of) found in
-      ap is_live (g.procs q ∙ put_process_at k.procs pid (process_of (f s)) q same) ∙ g.dead (sym (ap is_live mine) ∙ dead)
-  dead_by q false other dead = ap is_live (g.procs q ∙ put_process_other k.procs pid (process_of (f s)) q other) ∙ dead
+      ap is_live (g.procs q ∙ put_process_at k.procs pid (process_of (f s)) q same) ∙ g.dead (sym (ap is_live was) ∙ dead)
+  dead_by q false apart dead = ap is_live (g.procs q ∙ put_process_other k.procs pid (process_of (f s)) q apart) ∙ dead
 
-  turned : Turns host t u k l (only pid f) (λ x. x)
-  turned = record {
-    seats = there;
-    aliens = λ sender. same_map (alien_from t.slots sender);
-    procs = λ q here. procs_by q (same_pid q pid) refl here;
-    far = far;
-    forth = g.forth;
-    back = λ n y at. inl (g.back n y at);
-    waits = λ q x w at blocked. waits_by q x w (same_pid q pid) refl at blocked;
-    still = λ n x y at there here near is. still_by n x y (same_pid n.sender pid) refl at there here near is;
-    same = λ sender x at. same_alien x;
-    stages = λ sender x e y here at there stage.
-        let place = alien_found t.slots sender x here in
-        let away : same_pid x.sender pid ≡ false = apart x.sender (fit.aliens place.at x place.here).foreign in
-        ap (λ (a : Exchange). a.stage) (same_exchange x.sender x.number e y away at there) ∙ stage;
-    spots = λ sender x e y here at there spot.
-        let place = alien_found t.slots sender x here in
-        let away : same_pid x.sender pid ≡ false = apart x.sender (fit.aliens place.at x place.here).foreign in
-        ap spot_of (same_exchange x.sender x.number e y away at there) ∙ spot;
-    refused = λ sender x closed at is. dead_by x.at (same_pid x.at pid) refl ((h.kept sender x at).refused closed is);
-  }
+  kept : (sender : Pid) (a : Alien) → alien_from t.slots sender ≡ Some a → IsAlienKept l a
+  kept sender a at =
+      let v = h.kept sender a at in
+      let place = alien_found t.slots sender a at in
+      let away : a.sender.host ≡ host → ⊥ = (fit.aliens place.at a place.here).foreign in
+      record {
+        exchange = v.exchange;
+        is = g.sends (alien_name a) (apart a.sender away) ∙ v.is;
+        target = v.target;
+        message = v.message;
+        part = v.part;
+        spot = v.spot;
+        stage = v.stage;
+        moves = v.moves;
+        made = subst (λ o. a.number ≤ sends_of o) (sym (far a.sender away)) v.made;
+        refused = λ closed is. dead_by a.at (same_pid a.at pid) refl (v.refused closed is);
+      }
+
+  asking : (z : Seat) → same_pid z.pid pid ≡ false → (logical : ℕ) → IsAsking k z logical → IsAsking l z logical
+  asking z apart logical v =
+      record { lookup = v.lookup; is = g.lookups z.pid z.note.lookups apart ∙ v.is; logical_is = v.logical_is }
+
+  waits_by : (q : Pid) (z : Seat) (w : Waiting) (b : Bool) → same_pid q pid ≡ b → seat_in u.seats q ≡ Some z →
+      z.doing ≡ activities.Blocked w → IsWaiting l z w
+  waits_by q z w true same at blocked =
+      let one : f s ≡ z = same_Some (f s) z (sym here ∙ ap (seat_in u.seats) (sym (same_pid_is q pid same)) ∙ at) in
+      subst (λ x. IsWaiting l x w) one (g.waits w (ap (λ (x : Seat). x.doing) one ∙ blocked))
+  waits_by q z w false away at blocked =
+      let was : seat_in t.seats q ≡ Some z = sym (other q away) ∙ at in
+      let place = seat_found t.seats q z was in
+      let fits = fit.seats place.at z place.here in
+      let not_it : same_pid z.pid pid ≡ false = ap (λ p. same_pid p pid) place.named ∙ away in
+      waiting_same k l z (g.sends (seat_name z) not_it) (asking z not_it)
+      (λ n far. g.sends n (apart n.sender (λ near. far (near ∙ sym fits.own)))) w (fits.waits w blocked) (h.waiting q z w was blocked)
+
+  home_by : (n : Name) (e : Exchange) (b : Bool) → same_pid n.sender pid ≡ b → l.exchanges n ≡ Some e → e.target.host ≡ host →
+      is_at_target e.stage ≡ true → IsHome host u n e
+  home_by n e true same at there near = inl (
+    ap (λ (p : Pid). p.host) (same_pid_is n.sender pid same) ∙ own,
+    (f s, ap (seat_in u.seats) (same_pid_is n.sender pid same) ∙ here, g.home n e same at (there ∙ sym own) near),
+  )
+  home_by n e false away at there near = still (h.home n e (sym (g.sends n away) ∙ at) there near)
+    where
+      still : IsHome host t n e → IsHome host u n e
+      still (inl m) = inl (m.0, (m.1.0, other n.sender away ∙ m.1.1, m.1.2))
+      still (inr a) = inr a
 
   pub view_changed : StandsView host u l
-  view_changed = view_turned host t u k l (only pid f) (λ x. x) fit h turned
+  view_changed = record {
+    procs = λ q near. procs_by q (same_pid q pid) refl near;
+    elsewhere = λ q p away at. h.elsewhere q p away (sym (far q away) ∙ at);
+    kept = kept;
+    waiting = λ q z w at blocked. waits_by q z w (same_pid q pid) refl at blocked;
+    home = λ n e at there near. home_by n e (same_pid n.sender pid) refl at there near;
+  }
 
--- The same where it may wait in something, whatever it was doing.
+-- No Send of it is new, and it may wait in what it waited in before.
 pub record ChangesOne (k l : Kernel) (pid : Pid) (s y : Seat) : Type 0 where
   pub procs : (q : Pid) → l.procs q ≡ put_process k.procs pid (process_of y) q
   pub others : (n : Name) → same_name n (seat_name s) ≡ false → l.exchanges n ≡ k.exchanges n
@@ -189,19 +190,41 @@ pub record ChangesOne (k l : Kernel) (pid : Pid) (s y : Seat) : Type 0 where
       s.doing ≡ activities.Blocked (waitings.Send e.target e.message) → y.doing ≡ s.doing
 
 module _ (host : ℕ) (t : Tables) (k l : Kernel) (fit : AreFit host t) (h : StandsView host t k) (pid : Pid) (own : pid.host ≡ host)
-    (s : Seat)
-    (found : seat_in t.seats pid ≡ Some s) (f : Seat → Seat) (keeps : (x : Seat) → (f x).pid ≡ x.pid) (g : ChangesOne k l pid s (f s)) where
+    (s : Seat) (found : seat_in t.seats pid ≡ Some s) (f : Seat → Seat) (keeps : (x : Seat) → (f x).pid ≡ x.pid)
+    (g : ChangesOne k l pid s (f s)) where
+  named : s.pid ≡ pid
+  named = (seat_found t.seats pid s found).named
+
+  waits_in : (w : Waiting) → (f s).doing ≡ activities.Blocked w → (s.doing ≡ activities.Blocked w) ⊎ IsWaiting l (f s) w →
+      IsWaiting l (f s) w
+  waits_in w now (inl before) =
+      waiting_kept k l g.forth g.lookups s (f s) g.same
+      (λ target e x at there local stage. g.stage target e x at there local (now ∙ sym before) stage) g.spot w
+      (h.waiting pid s w found before)
+  waits_in w now (inr is) = is
+
+  home_of : (n : Name) (x : Exchange) → same_pid n.sender pid ≡ true → l.exchanges n ≡ Some x → x.target.host ≡ host →
+      is_at_target x.stage ≡ true → IsSender n x (f s)
+  home_of n x same at here near =
+      let e = g.back n x at in
+      let was = own_sender host t k fit h pid own s found n e.0 same e.1 (ap (λ (p : Pid). p.host) (sym e.2.target) ∙ here)
+      (e.2.near near) in
+      let waits : s.doing ≡ activities.Blocked (waitings.Send x.target x.message) =
+      was.waits ∙ (λ i. activities.Blocked (waitings.Send (sym e.2.target i) (sym e.2.message i))) in
+      let name : n ≡ seat_name s = (λ i. name_of (same_pid_is n.sender pid same i) (sym was.last i))
+      ∙ (λ i. name_of (sym named i) s.note.sends) in
+      record {
+        waits = g.sends x (sym (ap l.exchanges name) ∙ at)
+            (eq-eqb s.pid.host x.target.host (ap (λ (p : Pid). p.host) named ∙ own ∙ sym here)) near waits ∙ waits;
+        last = g.same.sends ∙ was.last;
+      }
+
   pub view_seated : StandsView host (seated t pid f) l
   view_seated = view_changed host t k l fit h pid own s found f keeps (record {
     procs = g.procs;
-    others = g.others;
-    forth = g.forth;
-    back = g.back;
-    lookups = g.lookups;
-    same = λ w is. g.same;
-    stage = g.stage;
-    spot = g.spot;
+    sends = λ n other. g.others n (ap (λ b. b && n.number == s.note.sends) (ap (same_pid n.sender) named ∙ other));
+    lookups = λ asker number other. g.lookups asker number;
     dead = g.dead;
-    waits = g.waits;
-    sends = g.sends;
+    waits = λ w now. waits_in w now (g.waits w now);
+    home = λ n x same at there near. home_of n x same at (there ∙ own) near;
   })

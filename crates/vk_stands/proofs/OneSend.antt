@@ -1,8 +1,7 @@
 -- One Send of a kernel is as it was but for how far it is, or where; the others stay.
 use Rattle.std.proofs.Common.{◌≡◌, Bool, true, false, Option, Some, refl, sym, ap, subst, ◌∙◌}
 use Rattle.std.proofs.lemmas.Option.{same_Some}
-use Rattle.vk_base.specs.declared.kernel.Exchange.{Exchange}
-use Rattle.vk_base.specs.declared.kernel.Name.{Name}
+use Rattle.vk_types.specs.Types.{Exchange, Name}
 use Rattle.vk_base.specs.Kernel.{put_exchange, same_name}
 use Rattle.v_laws.proofs.Tables.{put_exchange_at, put_exchange_other, same_name_is}
 use Rattle.vk_stands.proofs.Views.{Goes, goes_self}

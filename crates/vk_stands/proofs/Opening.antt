@@ -1,26 +1,25 @@
 -- The tables of a new station fit each other, and stand for the reading of no entries.
-use Rattle.std.proofs.Common.{◌≡◌, ◌⊎◌, ℕ, zero, suc, ◌+◌, ◌<◌, ◌≤◌, ◌==◌, Bool, true, false, cond, not, List, [], ◌∷◌, filter, length, map, replicate, get_or, refl, ap, sym, ◌∙◌, subst, Some, None, inl, inr, arith, ltb}
+use Rattle.std.proofs.Common.{◌≡◌, ◌⊎◌, ℕ, zero, suc, ◌+◌, ◌<◌, ◌≤◌, ◌==◌, Bool, true, false, cond, not, List, [], ◌∷◌, filter, length, map, replicate, get_or, refl, ap, sym, ◌∙◌, subst, Some, None, arith, ltb}
 use Rattle.std.specs.Option.{option_map, option_flatten}
 use Rattle.std.specs.List.{find, position, position_or_len, slice_get}
-use Rattle.std.proofs.lemmas.Bool.{cond-true, eq-eqb, eqb-true, false_from_ne_true, lt-ltb}
+use Rattle.std.proofs.lemmas.Bool.{cond-true, eq-eqb, eqb-true, lt-ltb}
 use Rattle.std.proofs.lemmas.Option.{same_Some, none-some, slice_get-map}
+use Rattle.vk_types.specs.Types.{Pid, ProcessSpec, Waiting}
 use Rattle.vk_base.specs.declared.activity.Activity.TheVariants as activities
-use Rattle.vk_base.specs.declared.activity.Waiting.{Waiting}
-use Rattle.vk_base.specs.declared.config.ProcessSpec.{ProcessSpec}
 use Rattle.vk_base.specs.declared.limits.TheConstants.{POOL, STATION_PROCESSES}
-use Rattle.vk_base.specs.declared.pid.Pid.{Pid}
 unfoldable use Rattle.vk_base.specs.Kernel.{queue_of}
 use Rattle.vk_base.specs.Pids.{same_pid}
 use Rattle.vk_base.specs.Settings.{AreLawful, Settings, is_on, is_process, pool_of}
 use Rattle.vk_base.proofs.Pools.{few_aliens}
-use Rattle.vk_base.proofs.Rising.{AllAbove, AreRising, Below, lawful_rise}
+use Rattle.vk_base.proofs.Rising.{AllAbove, AreSpecsRising, Below, lawful_rise, below_apart}
 use Rattle.vk_base.proofs.SettingsLemmas.{kept_all}
-use Rattle.v_laws.proofs.Options.{mapped_is}
+use Rattle.vk_base.proofs.OptionLemmas.{mapped_is}
+use Rattle.vk_base.proofs.PidLemmas.{same_pid_self}
 use Rattle.v_laws.proofs.SoundLemmas.{initial_ready, sound_initial}
-use Rattle.v_laws.proofs.Tables.{same_pid_is, same_pid_self}
 use Rattle.vk_pool.specs.Aliens.{alien_from, is_alien_from}
 use Rattle.vk_pool.proofs.Shown.{position-mapped}
 use Rattle.vk_procs.proofs.Initial.{initial_found, length_initial}
+use Rattle.vk_procs.proofs.Once.{rising_filter}
 use Rattle.vk_procs.specs.declared.seat.Seat.{Seat}
 use Rattle.vk_procs.specs.Seats.{initial_seat, is_seat, seat_in}
 use Rattle.vk_rules.specs.Readings.{first_reading}
@@ -51,22 +50,13 @@ no_alien : (q : Pid) (n : ℕ) → alien_from (replicate n None) q ≡ None
 no_alien q n = ap option_flatten (none_of q n)
 
 -- The processes of a host, of a list that rises: each has one place.
-never_below : (p : Pid) → Below p p → ⊥
-never_below p b = by_case b.is
-  where
-    by_case : (p.host < p.host) ⊎ ((p.host ≡ p.host) × (p.local < p.local)) → ⊥
-    by_case (inl x) = omega arith
-    by_case (inr x) = let y = x.1 in omega arith
-
-below_apart : (p q : Pid) → Below p q → same_pid p q ≡ false
-below_apart p q b = false_from_ne_true (same_pid p q) (λ t. never_below p (subst (Below p) (sym (same_pid_is p q t)) b))
 
 above_at : (p : Pid) (ss : List ProcessSpec) (i : ℕ) (x : ProcessSpec) → AllAbove p ss → slice_get ss i ≡ Some x → Below p x.pid
 above_at p [] i x all is = absurd (none-some x is)
 above_at p (s ∷ ss) zero x all is = subst (λ (z : ProcessSpec). Below p z.pid) (same_Some s x is) all.0
 above_at p (s ∷ ss) (suc i) x all is = above_at p ss i x all.1 is
 
-rising_place : (specs : List ProcessSpec) (i : ℕ) (x : ProcessSpec) → AreRising specs → slice_get specs i ≡ Some x →
+rising_place : (specs : List ProcessSpec) (i : ℕ) (x : ProcessSpec) → AreSpecsRising specs → slice_get specs i ≡ Some x →
     (position_or_len (is_process x.pid) specs ≡ i) × (i < length specs)
 rising_place [] i x up is = absurd (none-some x is)
 rising_place (s ∷ ss) zero x up is = (
@@ -82,23 +72,6 @@ rising_place (s ∷ ss) (suc i) x up is =
       omega (arith, low),
     )
 
-above_by : (p : Pid) (s : ProcessSpec) (ss : List ProcessSpec) (b : Bool) → Below p s.pid → AllAbove p ss → AllAbove p (cond b (s ∷ ss) ss)
-above_by p s ss true first rest = (first, rest)
-above_by p s ss false first rest = rest
-
-above_some : (p : Pid) (host : ℕ) (ss : List ProcessSpec) → AllAbove p ss → AllAbove p (filter (is_on host) ss)
-above_some p host [] all = all
-above_some p host (s ∷ ss) all = above_by p s (filter (is_on host) ss) (is_on host s) all.0 (above_some p host ss all.1)
-
-rising_by : (s : ProcessSpec) (ss : List ProcessSpec) (b : Bool) → AllAbove s.pid ss → AreRising ss → AreRising (cond b (s ∷ ss) ss)
-rising_by s ss true first rest = (first, rest)
-rising_by s ss false first rest = rest
-
-rising_some : (host : ℕ) (ss : List ProcessSpec) → AreRising ss → AreRising (filter (is_on host) ss)
-rising_some host [] up = up
-rising_some host (s ∷ ss) up =
-    rising_by s (filter (is_on host) ss) (is_on host s) (above_some s.pid host ss up.0) (rising_some host ss up.1)
-
 module _ (c : Settings) (host : ℕ) (lawful : AreLawful c) where
   abbrev t : Tables
   t = new_tables c host
@@ -106,8 +79,8 @@ module _ (c : Settings) (host : ℕ) (lawful : AreLawful c) where
   abbrev specs : List ProcessSpec
   specs = filter (is_on host) c.specs
 
-  up : AreRising specs
-  up = rising_some host c.specs (lawful_rise c.specs lawful.processes)
+  up : AreSpecsRising specs
+  up = rising_filter host c.specs (lawful_rise c.specs lawful.processes)
 
   seat_is : (pid : Pid) → seat_in t.seats pid ≡ option_map initial_seat (find (is_process pid) specs)
   seat_is pid = find-mapped (is_seat pid) (is_process pid) initial_seat (λ x. refl) specs

@@ -4,14 +4,12 @@ use Rattle.std.proofs.Common.{◌≡◌, ◌≤◌, ℕ, ◌+◌, Bool, true, fa
 use Rattle.std.specs.List.{position}
 use Rattle.std.specs.Option.{option_map}
 use Rattle.std.proofs.lemmas.Option.{same_Some}
+use Rattle.vk_types.specs.Types.{Pid, Times, Waiting}
 use Rattle.vk_base.specs.declared.activity.Activity.TheVariants as activities
-use Rattle.vk_base.specs.declared.activity.Waiting.{Waiting}
-use Rattle.vk_base.specs.declared.config.Times.{Times}
-use Rattle.vk_base.specs.declared.pid.Pid.{Pid}
 use Rattle.vk_base.specs.Kernel.{Kernel, queue_of}
 use Rattle.vk_base.specs.Pids.{same_pid}
+use Rattle.vk_base.proofs.OptionLemmas.{mapped_is}
 use Rattle.v_laws.specs.Sound.{IsSoundAt}
-use Rattle.v_laws.proofs.Options.{mapped_is}
 use Rattle.v_laws.proofs.Tables.{same_pid_is}
 use Rattle.vk_pool.specs.declared.alien.Alien.{Alien}
 use Rattle.vk_pool.specs.Aliens.{alien_from}
@@ -57,8 +55,7 @@ pub record Carries (more : ℕ) (t u : Tables) : Type 0 where
 
 then_same : (s y z : Seat) → IsSameWork y s → IsSameWork z y → IsSameWork z s
 then_same s y z a b = record {
-  tries = b.tries ∙ a.tries;
-  deadline = b.deadline ∙ a.deadline;
+  work = b.work ∙ a.work;
   offset = b.offset ∙ a.offset;
   fresh = b.fresh ∙ a.fresh;
 }
@@ -103,7 +100,7 @@ carries_more g = record {
 }
 
 -- The relation after an entry within which the tables stand for each kernel, and of which the reading's works are these.
-pub record IsAfter (t u : Tables) (r q : Reading) : Type 0 where
+pub record IsReadingAfter (t u : Tables) (r q : Reading) : Type 0 where
   pub slots : q.slots ≡ map (option_map read_alien) u.slots
   pub events : q.events ≡ r.events + 1
   -- a process that waits in a work has it as before
@@ -114,7 +111,7 @@ pub one_event : (a x n m : ℕ) → a ≡ x → x ≤ n → m ≡ n + 1 → a �
 one_event a x n m is low more = omega arith
 
 pub stands_part : (times : Times) (host : ℕ) (t u : Tables) (r q : Reading) → Stands times host t r → Part host u q.view → Carries 1 t u →
-    IsAfter t u r q → Stands times host u q
+    IsReadingAfter t u r q → Stands times host u q
 stands_part times host t u r q h part carries after =
     stands_then times host t u r q h part.view (record {
       sound = part.sound;

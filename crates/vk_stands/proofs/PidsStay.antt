@@ -1,6 +1,6 @@
 -- A tick keeps whose processes a station has, in their order.
 use Rattle.std.proofs.Common.{◌≡◌, ℕ}
-use Rattle.vk_base.specs.declared.config.Times.{Times}
+use Rattle.vk_types.specs.Types.{Times}
 use Rattle.vk_procs.specs.Seats.{pids}
 use Rattle.vk_procs.proofs.PidsStay.{pids_mapped}
 use Rattle.vk_stands.specs.Tables.{Tables}

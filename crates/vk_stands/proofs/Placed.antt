@@ -1,6 +1,6 @@
 -- An alien that is put into its sender's slot.
-use Rattle.std.proofs.Common.{◌≡◌, ◌≢◌, ℕ, zero, suc, ◌<◌, ◌≤◌, Bool, true, false, cond, List, [], ◌∷◌, length, get_or, set, refl, ap, arith, Option, Some, None, sym, ◌∙◌, subst, ltb, inl, inr, nat_eq}
-use Rattle.std.specs.List.{find, position, position_or_len, slice_get}
+use Rattle.std.proofs.Common.{◌≡◌, ◌≢◌, ℕ, ◌<◌, ◌≤◌, Bool, true, false, cond, List, [], ◌∷◌, length, get_or, set, refl, ap, arith, Option, Some, None, sym, ◌∙◌, subst, ltb, inl, inr, nat_eq}
+use Rattle.std.specs.List.{find, position, position_or_len}
 use Rattle.std.specs.Option.{option_flatten, option_or, is_none}
 use Rattle.std.proofs.lemmas.Bool.{cases_Bool, cond-true, cond-false, lt-ltb, both_ways, eqb-true, eq-eqb}
 use Rattle.std.proofs.lemmas.List.{get_or-set_same, get_or-set_other, length-set}
@@ -8,13 +8,14 @@ use Rattle.std.proofs.lemmas.List.Folds.{position_or_len-set, find_at}
 use Rattle.std.proofs.lemmas.List.Quantifiers.{position-Some}
 use Rattle.std.proofs.lemmas.List.Recursion.{found_set_other}
 use Rattle.std.proofs.lemmas.List.Sums.{position_or_len_is, fails_before_first}
-use Rattle.std.proofs.lemmas.Option.{same_Some, none-some}
-use Rattle.vk_base.specs.declared.pid.Pid.{Pid}
+use Rattle.std.proofs.lemmas.Option.{same_Some, none-some, slice_get_past}
+use Rattle.vk_types.specs.Types.{Pid}
 use Rattle.vk_base.specs.Pids.{same_pid}
-use Rattle.v_laws.proofs.Tables.{same_pid_is, same_pid_self}
+use Rattle.vk_base.proofs.PidLemmas.{same_pid_self}
+use Rattle.v_laws.proofs.Tables.{same_pid_is}
 use Rattle.vk_pool.specs.declared.alien.Alien.{Alien}
 use Rattle.vk_pool.specs.Aliens.{is_alien_from, alien_from, alien_at}
-use Rattle.vk_stands.proofs.Aliens.{AreApart}
+use Rattle.vk_stands.proofs.Aliens.{AreAliensApart}
 use Rattle.vk_stands.proofs.Lists.{find-position}
 
 module _ {X : Type 0} (p : X → Bool) (xs : List X) (i : ℕ) (y d : X) where
@@ -53,7 +54,7 @@ pub record IsPlace (slots : List (Option Alien)) (s : Pid) (i : ℕ) : Type 0 wh
   pub before : (k : ℕ) → k < i → is_alien_from s (get_or slots k None) ≡ false
   pub other : (q : Pid) → same_pid s q ≡ false → is_alien_from q (get_or slots i None) ≡ false
   -- no other slot has an alien of that sender, where each is in its place
-  pub only : AreApart slots → (j : ℕ) (b : Alien) → alien_at slots j ≡ Some b → b.sender ≡ s → j ≡ i
+  pub only : AreAliensApart slots → (j : ℕ) (b : Alien) → alien_at slots j ≡ Some b → b.sender ≡ s → j ≡ i
 
 other_of : (s q : Pid) (slot : Option Alien) → is_alien_from s slot ≡ true → same_pid s q ≡ false → is_alien_from q slot ≡ false
 other_of s q None t f = refl
@@ -107,7 +108,7 @@ module _ (slots : List (Option Alien)) (i : ℕ) (a : Alien) (place : IsPlace sl
         ∙ sym (cond-false (same_pid a.sender q) (Some a) (option_flatten (find (is_alien_from q) slots)) f)
   ]
 
-  pub put_apart : AreApart slots → AreApart (set slots i (Some a))
+  pub put_apart : AreAliensApart slots → AreAliensApart (set slots i (Some a))
   put_apart apart j b is = elim (cases_Bool (same_pid a.sender b.sender)) [
     | inl t ↦
         let same : a.sender ≡ b.sender = same_pid_is a.sender b.sender t in
@@ -142,13 +143,8 @@ pub alien_sender : (slots : List (Option Alien)) (s : Pid) (a : Alien) → alien
 alien_sender [] s a is = absurd (none-some a is)
 alien_sender (x ∷ xs) s a is = sender_by xs s a x (is_alien_from s x) refl (alien_sender xs s a) is
 
-past : {X : Type 0} (xs : List X) (i : ℕ) → length xs ≤ i → slice_get xs i ≡ None
-past [] i le = refl
-past (x ∷ xs) zero le = absurd (omega arith)
-past (x ∷ xs) (suc i) le = past xs i (omega arith)
-
 pub never : {X : Type 0} (p : X → Bool) (xs : List X) → position p xs ≡ None → find p xs ≡ None
-never p xs e = find_at p xs ∙ past xs (position_or_len p xs) (elim (cases_Bool (ltb (position_or_len p xs) (length xs))) [
+never p xs e = find_at p xs ∙ slice_get_past xs (position_or_len p xs) (elim (cases_Bool (ltb (position_or_len p xs) (length xs))) [
   | inl t ↦ absurd (none-some (position_or_len p xs) (sym e
       ∙ cond-true (ltb (position_or_len p xs) (length xs)) (Some (position_or_len p xs)) None t))
   | inr f ↦ grind arith
@@ -165,13 +161,13 @@ position_of slots s a (Some i) some is = (
       ∙ is,
 )
 
-pub record IsAt (slots : List (Option Alien)) (s : Pid) (a : Alien) : Type 0 where
+pub record IsAlienAt (slots : List (Option Alien)) (s : Pid) (a : Alien) : Type 0 where
   pub at : ℕ
   pub place : position (is_alien_from s) slots ≡ Some at
   pub here : alien_at slots at ≡ Some a
   pub sender : a.sender ≡ s
 
-pub alien_is_at : (slots : List (Option Alien)) (s : Pid) (a : Alien) → alien_from slots s ≡ Some a → IsAt slots s a
+pub alien_is_at : (slots : List (Option Alien)) (s : Pid) (a : Alien) → alien_from slots s ≡ Some a → IsAlienAt slots s a
 alien_is_at slots s a is =
     let found = position_of slots s a (position (is_alien_from s) slots) refl is in
     record { at = found.0; place = found.1; here = found.2; sender = alien_sender slots s a is }

@@ -1,9 +1,9 @@
 -- A frame that is taken is for this station and from another, and its packet is one that can be spelled.
 use Rattle.std.proofs.Common.{◌≡◌, ℕ, ◌<◌, Bool, true, false, cond, ◌&&◌, ◌||◌, ◌==◌, not, refl, sym, ap, ◌∙◌, Some, arith}
-use Rattle.std.proofs.lemmas.Bool.{and_parts, both_ways, eq-eqb, eqb-true}
+use Rattle.std.proofs.lemmas.Bool.{and_parts, both_ways, eq-eqb, eqb-true, not-true}
 use Rattle.std.specs.Option.{option_map_or}
+use Rattle.vk_types.specs.Types.{Pid}
 use Rattle.vk_base.specs.declared.event.EventAnswer.TheVariants as events_answered
-use Rattle.vk_base.specs.declared.pid.Pid.{Pid}
 use Rattle.vk_base.specs.Packets.{Packet}
 use Rattle.vk_base.specs.Settings.{Settings}
 use Rattle.vk_frame.specs.declared.header.Header.{Header}
@@ -27,10 +27,6 @@ taken_by true true true false is = cc
 taken_by true true false l is = cc
 taken_by true false b l is = cc
 taken_by false y b l is = cc
-
-not_is : (b : Bool) → not b ≡ true → b ≡ false
-not_is true t = cc
-not_is false t = refl
 
 either_is : (a b : Bool) → (a || b) ≡ true → (a ≡ false → b ≡ true)
 either_is a b t f = sym (ap (λ x. x || b) f) ∙ t
@@ -60,7 +56,7 @@ module _ (c : Settings) (host : ℕ) (r : Reading) (h : Header) (p : Packet)
         here_by h.destination host to.host (h.destination == host) refl
         (either_is (h.destination == host) (h.destination == every_station) for.0) there to.one_host;
     away = λ same.
-        both_ways (h.source == host) (not_is (h.source == host) for.1)
+        both_ways (h.source == host) (not-true (h.source == host) for.1)
         (eq-eqb h.source host (sym (eqb-true (source_of p) h.source between.0) ∙ same));
     lawful = parts.2;
   }

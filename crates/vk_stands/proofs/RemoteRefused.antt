@@ -4,23 +4,16 @@ use Rattle.std.specs.Option.{option_map}
 use Rattle.std.proofs.lemmas.Bool.{both_ways, cases_Bool, cond-false, cond-true, eq-eqb, eqb-true, false_from_ne_true}
 use Rattle.std.proofs.lemmas.List.Elements.{All-weaker}
 use Rattle.std.proofs.lemmas.Option.{none-some, same_Some}
-use Rattle.v_laws.proofs.Options.{mapped_is}
-use Rattle.v_laws.proofs.Tables.{same_pid_is, same_pid_self}
+use Rattle.vk_types.specs.Types.{Exchange, Message, Name, Pid, Process, Refusal, Waiting}
+use Rattle.v_laws.proofs.Tables.{same_pid_is}
 use Rattle.v_laws.specs.Sound.{IsAwaited, IsRegistered, IsSoundAt}
 use Rattle.vk_base.specs.declared.activity.Activity.TheVariants as activities
 use Rattle.vk_base.specs.declared.activity.Outcome.TheVariants as outcomes
-use Rattle.vk_base.specs.declared.activity.Waiting.{Waiting}
 use Rattle.vk_base.specs.declared.activity.Waiting.TheVariants as waitings
 use Rattle.vk_base.specs.declared.answer.Answer.TheVariants as answers
 use Rattle.vk_base.specs.declared.answer.Ending.TheVariants as endings
-use Rattle.vk_base.specs.declared.answer.Refusal.{Refusal}
 use Rattle.vk_base.specs.declared.answer.Refusal.TheVariants as refusals
-use Rattle.vk_base.specs.declared.kernel.Exchange.{Exchange}
-use Rattle.vk_base.specs.declared.kernel.Name.{Name}
-use Rattle.vk_base.specs.declared.kernel.Process.{Process}
 use Rattle.vk_base.specs.declared.kernel.State.TheVariants as states
-use Rattle.vk_base.specs.declared.message.Message.{Message}
-use Rattle.vk_base.specs.declared.pid.Pid.{Pid}
 use Rattle.vk_base.specs.declared.step.Step.TheVariants as steps
 use Rattle.vk_base.specs.Activities.{done_with, state_of}
 use Rattle.vk_base.specs.Brought.{brought, found_dead}
@@ -32,14 +25,16 @@ use Rattle.vk_base.specs.Packets.{Negative}
 use Rattle.vk_base.specs.Pids.{same_host, same_pid}
 use Rattle.vk_base.specs.Steps.{after_effect, failure, next, only_if}
 unfoldable use Rattle.vk_base.specs.Steps.{failing}
+use Rattle.vk_base.proofs.OptionLemmas.{mapped_is}
+use Rattle.vk_base.proofs.PidLemmas.{same_pid_self}
 use Rattle.vk_pool.specs.declared.alien.Alien.{Alien}
 use Rattle.vk_procs.specs.declared.seat.Seat.{Seat}
 use Rattle.vk_procs.specs.Seats.{finished, process_of, seat_in}
 use Rattle.vk_stands.specs.Fit.{IsFitSeat}
-use Rattle.vk_stands.specs.Stands.{IsKept}
+use Rattle.vk_stands.specs.Stands.{IsAlienKept}
 use Rattle.vk_stands.specs.Tables.{Spot, Tables, alien_name, spot_of}
 use Rattle.vk_stands.proofs.FitSeats.{fit_idle}
-use Rattle.vk_stands.proofs.Endings.{Comes}
+use Rattle.vk_stands.proofs.Endings.{ComesToTables}
 use Rattle.vk_stands.proofs.Found.{alien_found, seat_found}
 use Rattle.vk_stands.proofs.OneSeat.{seated}
 use Rattle.vk_stands.proofs.Parts.{Part, carries_seated, same_more}
@@ -158,7 +153,7 @@ module _ (host : ℕ) (t : Tables) (k : Kernel) (part : Part host t k) (from : P
       by_process (Some p) low = low
   sends_same q n false other low = subst (λ o. n ≤ sends_of o) (sym (at_others q other)) low
 
-  kept_dead : (sender : Pid) (a : Alien) → IsKept k a → a.at.host ≡ host → IsKept l a
+  kept_dead : (sender : Pid) (a : Alien) → IsAlienKept k a → a.at.host ≡ host → IsAlienKept l a
   kept_dead sender a v own = record {
     exchange = v.exchange;
     is = v.is;
@@ -284,7 +279,7 @@ module _ (host : ℕ) (t : Tables) (k : Kernel) (part : Part host t k) (to : Pid
     fits = λ fit. subst (IsFitSeat host) (sym is_y) (fit_idle host s y refl refl refl (λ w is. cc) fit);
   })
 
-  pub refusal_comes : Comes host t (seated t to refused) (next (brought k (Negative from to number)) (steps.Fail to endings.NoProcess))
+  pub refusal_comes : ComesToTables host t (seated t to refused) (next (brought k (Negative from to number)) (steps.Fail to endings.NoProcess))
   refusal_comes = record {
     part = subst (Part host (seated t to refused)) (sym next_is)
         (part_refused (subst (IsSoundAt (λ g. false)) next_is (sound_next b (steps.Fail to endings.NoProcess) part_b.sound)));

@@ -3,15 +3,12 @@ use Rattle.std.proofs.Common.{◌≡◌, ◌⊎◌, ℕ, Bool, true, false, cond
 use Rattle.std.specs.Option.{is_some, option_map}
 use Rattle.std.proofs.lemmas.Bool.{both_ways, cases_Bool, eq-eqb}
 use Rattle.std.proofs.lemmas.Option.{same_Some}
+use Rattle.vk_types.specs.Types.{Exchange, Message, Name, Pid}
 use Rattle.vk_base.specs.declared.activity.Activity.TheVariants as activities
 use Rattle.vk_base.specs.declared.activity.Waiting.TheVariants as waitings
 use Rattle.vk_base.specs.declared.call.Call.TheVariants as calls
-use Rattle.vk_base.specs.declared.kernel.Exchange.{Exchange}
-use Rattle.vk_base.specs.declared.kernel.Name.{Name}
 use Rattle.vk_base.specs.declared.kernel.Stage.TheVariants as stages
 use Rattle.vk_base.specs.declared.kernel.State.TheVariants as states
-use Rattle.vk_base.specs.declared.message.Message.{Message}
-use Rattle.vk_base.specs.declared.pid.Pid.{Pid}
 use Rattle.vk_base.specs.declared.step.Step.TheVariants as steps
 use Rattle.vk_base.specs.Brought.{answered_by, brought}
 unfoldable use Rattle.vk_base.specs.Changes.{change_exchange}
@@ -26,9 +23,9 @@ use Rattle.v_laws.proofs.SoundChanges.{orderly_where}
 use Rattle.v_laws.proofs.Tables.{put_exchange_at, put_exchange_other, same_name_is}
 use Rattle.vk_procs.specs.declared.seat.Seat.{Seat}
 use Rattle.vk_procs.specs.Seats.{overwritten, seat_in}
-use Rattle.vk_stands.specs.Stands.{IsSent}
+use Rattle.vk_stands.specs.Stands.{IsSending}
 use Rattle.vk_stands.specs.Tables.{Spot, Tables, seat_name, spot_of}
-use Rattle.vk_stands.proofs.Endings.{Comes}
+use Rattle.vk_stands.proofs.Endings.{ComesToTables}
 use Rattle.vk_stands.proofs.Found.{seat_found}
 use Rattle.vk_stands.proofs.LocalReply.{IsOutOfQueues, answered_with, finish_next, part_replied, reached_by_reply, replied_carries}
 use Rattle.vk_stands.proofs.OneSeat.{seated}
@@ -142,7 +139,7 @@ module _ (host : ℕ) (t : Tables) (k : Kernel) (part : Part host t k) (to : Pid
     (found : seat_in t.seats to ≡ Some s) (target : Pid) (message : Message)
     (waits : s.doing ≡ activities.Blocked (waitings.Send target message)) (far : same_host to target ≡ false) (number : ℕ)
     (last : s.note.sends ≡ number) where
-  pub sent_far : IsSent k s target message
+  pub sent_far : IsSending k s target message
   sent_far = part.view.waiting to s (waitings.Send target message) found waits
 
   pub far_name : name_of to number ≡ seat_name s
@@ -190,7 +187,7 @@ module _ (host : ℕ) (t : Tables) (k : Kernel) (part : Part host t k) (to : Pid
     sound = subst (IsSoundAt (λ g. false)) finishes
         (sound_next kept (steps.Finish to) (sound_told k part.sound (seat_name s) e sent_far.is m dest bytes))
 
-    pub reply_comes : Comes host t (seated t to (answered_with m dest bytes)) (next (brought k packet) (steps.Finish to))
+    pub reply_comes : ComesToTables host t (seated t to (answered_with m dest bytes)) (next (brought k packet) (steps.Finish to))
     reply_comes = record {
       part = subst (Part host (seated t to (answered_with m dest bytes))) (sym next_is)
           (part_replied host t k part to own s found target message waits e sent_far.is out m dest bytes lands sound);

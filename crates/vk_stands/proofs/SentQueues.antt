@@ -6,24 +6,23 @@ use Rattle.std.proofs.lemmas.Bool.{and_parts, and_right, both_ways, cases_Bool, 
 use Rattle.std.proofs.lemmas.List.{get_or-set_other, get_or-set_same, length-map, length-set}
 use Rattle.std.proofs.lemmas.List.Quantifiers.{position-Some}
 use Rattle.std.proofs.lemmas.Option.{same_Some, none-some}
+use Rattle.vk_types.specs.Types.{Exchange, Message, Name, Pid}
 use Rattle.vk_base.specs.declared.activity.Activity.TheVariants as activities
 use Rattle.vk_base.specs.declared.activity.Waiting.TheVariants as waitings
 use Rattle.vk_base.specs.declared.call.Call.TheVariants as calls
-use Rattle.vk_base.specs.declared.kernel.Exchange.{Exchange}
-use Rattle.vk_base.specs.declared.kernel.Name.{Name}
 use Rattle.vk_base.specs.declared.limits.TheConstants.{STATION_PROCESSES}
-use Rattle.vk_base.specs.declared.message.Message.{Message}
-use Rattle.vk_base.specs.declared.pid.Pid.{Pid}
 use Rattle.vk_base.specs.declared.step.Step.TheVariants as steps
 unfoldable use Rattle.vk_base.specs.Calls.{sent}
 use Rattle.vk_base.specs.Calls.{unseen}
 use Rattle.vk_base.specs.Kernel.{Kernel, holds_of, is_queued, is_queued_at, name_of, queue_of}
 use Rattle.vk_base.specs.Pids.{same_host, same_pid}
 use Rattle.vk_base.specs.Steps.{effect}
+use Rattle.vk_base.proofs.PidLemmas.{same_pid_self}
+use Rattle.vk_base.proofs.ListLemmas.{map_end}
 use Rattle.v_laws.proofs.Changes.{queued_is_at_target}
 use Rattle.v_laws.proofs.Queues.{queue-sent_elsewhere, queue-sent_here}
 use Rattle.v_laws.proofs.SoundLemmas.{sound_step}
-use Rattle.v_laws.proofs.Tables.{same_pid_is, same_pid_self}
+use Rattle.v_laws.proofs.Tables.{same_pid_is}
 use Rattle.vk_pool.specs.Aliens.{alien_at}
 use Rattle.vk_procs.specs.declared.seat.Seat.{Seat}
 use Rattle.vk_procs.specs.Seats.{begun_send, is_seat, process_of, seat_in}
@@ -75,10 +74,6 @@ pub without_at : (slot : ℕ) (lists : List (List ℕ)) (i : ℕ) → queue_at (
 without_at slot [] i = refl
 without_at slot (q ∷ qs) zero = refl
 without_at slot (q ∷ qs) (suc i) = without_at slot qs i
-
-pub map_end : {A B : Type 0} (f : A → B) (xs : List A) (x : A) → map f (xs ++ x ∷ []) ≡ map f xs ++ f x ∷ []
-map_end f [] x = refl
-map_end f (y ∷ ys) x = ap (λ zs. f y ∷ zs) (map_end f ys x)
 
 -- names of slots that are not this one
 names_but : (f g : ℕ → Option Name) (slot : ℕ) → ((j : ℕ) → (slot == j) ≡ false → f j ≡ g j) → (q : List ℕ) → holds slot q ≡ false →

@@ -4,20 +4,16 @@ use Rattle.std.proofs.Common.{◌≡◌, ℕ, ◌+◌, Bool, true, false, cond, 
 use Rattle.std.specs.List.{filter_map, list_any, sum_by}
 use Rattle.std.specs.Option.{option_map}
 use Rattle.std.proofs.lemmas.Option.{same_Some}
+use Rattle.vk_types.specs.Types.{Message, Name, Pid, Process, Times, Waiting}
 use Rattle.vk_base.specs.declared.activity.Activity.TheVariants as activities
-use Rattle.vk_base.specs.declared.activity.Waiting.{Waiting}
 use Rattle.vk_base.specs.declared.activity.Waiting.TheVariants as waitings
-use Rattle.vk_base.specs.declared.config.Times.{Times}
 use Rattle.vk_base.specs.declared.event.EventAnswer.TheVariants as events_answered
-use Rattle.vk_base.specs.declared.kernel.Name.{Name}
-use Rattle.vk_base.specs.declared.kernel.Process.{Process}
-use Rattle.vk_base.specs.declared.message.Message.{Message}
-use Rattle.vk_base.specs.declared.pid.Pid.{Pid}
 use Rattle.vk_base.specs.Kernel.{holds_of}
 use Rattle.vk_base.specs.Packets.{Packet}
 use Rattle.vk_base.specs.Pids.{same_pid}
 use Rattle.vk_base.specs.Settings.{Settings}
 use Rattle.vk_base.specs.Steps.{first_of}
+use Rattle.vk_base.proofs.BoolLemmas.{cond_same}
 use Rattle.v_laws.proofs.Tables.{same_pid_is}
 use Rattle.vk_frame.specs.declared.header.Header.{Header}
 use Rattle.vk_procs.specs.declared.seat.Seat.{Seat}
@@ -61,8 +57,8 @@ module _ (times : Times) (host : ℕ) (t : Tables) (r : Reading) (h : Stands tim
       let old : c.old ≡ s = same_Some c.old s (sym c.was ∙ ap (seat_in t.seats) one ∙ found) in
       let k = h.works p c.old w c.was g.0 is in
       record {
-        tries = g.1.tries ∙ k.tries ∙ ap (λ n. (r.work n).rounds) one ∙ sym rounds ∙ ap (λ n. (q.work n).rounds) (sym one);
-        deadline = g.1.deadline ∙ k.deadline
+        tries = (λ i. (g.1.work i).tries) ∙ k.tries ∙ ap (λ n. (r.work n).rounds) one ∙ sym rounds ∙ ap (λ n. (q.work n).rounds) (sym one);
+        deadline = (λ i. (g.1.work i).deadline) ∙ k.deadline
             ∙ ap (λ n. n + times.interval) (ap (λ n. (r.work n).since) one ∙ sym since ∙ ap (λ n. (q.work n).since) (sym one));
         far = no_place y (q.work p) w (same_waiting w (sym state ∙ ap (λ (z : Seat). z.doing) (sym old) ∙ g.0));
       }
@@ -94,10 +90,6 @@ pub record IsPlain (to : Pid) (p : Packet) : Type 0 where
   pub copy : (n : Name) → is_copy n p ≡ false
   pub answer : (q : Pid) (w : Work) (x : Option Process) → holds_of (is_answer q w p) x ≡ false
   pub receiver : (q : Pid) → is_packet_to q p ≡ same_pid q to
-
-pub same_both : (b : Bool) (n : ℕ) → cond b n n ≡ n
-same_both true n = refl
-same_both false n = refl
 
 module _ (c : Settings) (host : ℕ) (r : Reading) (h : Header) (p : Packet) (taken : answer_to c host r (Delivered (Framed h p))
     ≡ events_answered.Taken) (to : Pid) (plain : IsPlain to p) (o : Outcome) (out : packet_outcome host r p ≡ o) (calm : IsCalm o)
@@ -137,7 +129,7 @@ module _ (c : Settings) (host : ℕ) (r : Reading) (h : Header) (p : Packet) (ta
       (came_view c host r h p taken ∙ ap (after_steps r.view (Some p)) (ap (λ (o : Outcome). o.steps) out ∙ none)) slots_same
       (events_are c host r (Delivered (Framed h p)))
       (λ q. work_by_copied q (ap (λ ss. cond (is_packet_to q p) (sum_by count_in ss) 0) (ap (λ (o : Outcome). o.steps) out ∙ none)
-      ∙ same_both (is_packet_to q p) 0))
+      ∙ cond_same (is_packet_to q p) 0))
 
   -- it makes some
   pub stands_moved : (s : Seat) → seat_in t.seats to ≡ Some s → (target : Pid) (m : Message) →

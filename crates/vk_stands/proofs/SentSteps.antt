@@ -1,37 +1,23 @@
 -- The steps of a mover's packets in the view of its partner's station: a move is opened, and its next bytes are written.
-use Rattle.std.proofs.Common.{◌≡◌, ◌≤◌, ℕ, zero, suc, ◌+◌, ◌-◌, ◌==◌, Bool, true, false, cond, List, [], ◌∷◌, ◌++◌, length, take, drop, replicate, refl, ap, ◌∙◌, Option, Some, None, ltb, arith}
+use Rattle.std.proofs.Common.{◌≡◌, ◌≤◌, ℕ, zero, suc, ◌+◌, ◌-◌, ◌==◌, Bool, true, false, cond, List, [], ◌∷◌, ◌++◌, length, take, refl, ap, ◌∙◌, Option, Some, None, ltb, arith}
 use Rattle.std.specs.List.{slice_get, slice_set}
-use Rattle.std.specs.Option.{option_map}
 use Rattle.std.proofs.lemmas.Bool.{and_from, eq-eqb, le-leb}
 use Rattle.std.proofs.lemmas.List.{take_all}
-use Rattle.vk_base.specs.declared.kernel.Exchange.{Exchange}
-use Rattle.vk_base.specs.declared.kernel.Move.{Move}
-use Rattle.vk_base.specs.declared.kernel.Name.{Name}
-use Rattle.vk_base.specs.declared.kernel.Process.{Process}
-use Rattle.vk_base.specs.declared.message.Message.{Message}
-use Rattle.vk_base.specs.declared.pid.Pid.{Pid}
+use Rattle.vk_types.specs.Types.{Exchange, Message, Move, Name, Pid, Process}
 use Rattle.vk_base.specs.declared.step.Step.TheVariants as steps
 use Rattle.vk_base.specs.Brought.{bytes_from, move_to_sender}
 use Rattle.vk_base.specs.Calls.{unseen}
-unfoldable use Rattle.vk_base.specs.Changes.{change_exchange}
 use Rattle.vk_base.specs.Kernel.{◌>>=◌, Kernel, move_of, name_of, same_name, sending, with_memory}
 unfoldable use Rattle.vk_base.specs.Kernel.{put_exchange, waiting_on}
 use Rattle.vk_base.specs.Ranges.{bytes_in, range_of, with_bytes}
 use Rattle.vk_base.specs.Steps.{Opening, after_effect, is_next, next, noted_bytes, only_if, written_process}
 unfoldable use Rattle.vk_base.specs.Steps.{copied, copying, move_opened, opening_move}
-use Rattle.v_laws.proofs.Tables.{put_exchange_here, same_name_is}
+use Rattle.vk_base.proofs.ListLemmas.{drop_front}
+use Rattle.v_laws.proofs.Tables.{put_exchange_here}
+use Rattle.v_laws.proofs.MoveLists.{set_here}
 use Rattle.vk_stands.proofs.SentMoves.{with_send}
 
 -- Changes of one exchange.
-changed_by : (exchanges : Name → Option Exchange) (name : Name) (g : Exchange → Exchange) (e : Exchange) (n : Name) (b : Bool) →
-    exchanges name ≡ Some e → same_name n name ≡ b → cond b (option_map g (exchanges n)) (exchanges n) ≡ cond b (Some (g e)) (exchanges n)
-changed_by exchanges name g e n true at t = ap (λ x. option_map g (exchanges x)) (same_name_is n name t) ∙ ap (option_map g) at
-changed_by exchanges name g e n false at f = refl
-
-pub change_is : (exchanges : Name → Option Exchange) (name : Name) (g : Exchange → Exchange) (e : Exchange) → exchanges name ≡ Some e →
-    change_exchange exchanges name g ≡ put_exchange exchanges name (g e)
-unfolding change_exchange put_exchange
-change_is exchanges name g e at = λ i. λ n. changed_by exchanges name g e n (same_name n name) at refl i
 
 twice_by : (b : Bool) (x y : Exchange) (o : Option Exchange) → cond b (Some y) (cond b (Some x) o) ≡ cond b (Some y) o
 twice_by true x y o = refl
@@ -42,23 +28,11 @@ pub put_twice : (exchanges : Name → Option Exchange) (name : Name) (x y : Exch
 unfolding put_exchange
 put_twice exchanges name x y = λ i. λ n. twice_by (same_name n name) x y (exchanges n) i
 
--- a move that is written over stands there
-pub set_there : (xs : List Move) (i : ℕ) (m x : Move) → slice_get xs i ≡ Some m → slice_get (slice_set xs i x) i ≡ Some x
-set_there [] zero m x is = cc
-set_there [] (suc i) m x is = cc
-set_there (y ∷ xs) zero m x is = refl
-set_there (y ∷ xs) (suc i) m x is = set_there xs i m x is
-
 pub moved_there : (e : Exchange) (moving opened done : ℕ) (m x : Move) → move_of e moving ≡ Some m →
     move_of (record e { moves = slice_set e.moves (moving - 1) x; opened = opened; done = done }) moving ≡ Some x
 moved_there e zero opened done m x is = cc
 moved_there e (suc i) opened done m x is =
-    let same : suc i - 1 ≡ i = omega arith in ap (λ n. slice_get (slice_set e.moves n x) i) same ∙ set_there e.moves i m x is
-
--- the bytes of a packet
-drop_front : (n : ℕ) (bytes : List ℕ) → drop n (replicate n 0 ++ bytes) ≡ bytes
-drop_front zero bytes = refl
-drop_front (suc n) bytes = drop_front n bytes
+    let same : suc i - 1 ≡ i = omega arith in ap (λ n. slice_get (slice_set e.moves n x) i) same ∙ set_here e.moves i m x is
 
 pub front_bytes : (offset : ℕ) (bytes : List ℕ) → bytes_in (range_of offset (length bytes)) (bytes_from offset bytes) ≡ bytes
 front_bytes offset bytes = ap (take (length bytes)) (drop_front offset bytes) ∙ take_all (length bytes) bytes (omega arith)

@@ -2,25 +2,21 @@
 use Rattle.std.proofs.Common.{◌≡◌, ℕ, ◌-◌, nat_lt, true, false, List, [], ◌∷◌, map, Option, Some, None, refl, sym, ap, subst, ◌∙◌, inl, inr, Bool}
 use Rattle.std.specs.List.{slice_get}
 use Rattle.std.specs.Option.{option_map}
-use Rattle.std.proofs.lemmas.Bool.{cases_Bool, cond-true, cond-false, eqb-true, false_from_ne_true}
+use Rattle.std.proofs.lemmas.Bool.{cond-true, cond-false, eqb-true, false_from_ne_true}
 use Rattle.std.proofs.lemmas.Option.{same_Some, none-some}
+use Rattle.vk_types.specs.Types.{Exchange, Name, Pid, Waiting}
 use Rattle.vk_base.specs.declared.activity.Activity.TheVariants as activities
-use Rattle.vk_base.specs.declared.activity.Waiting.{Waiting}
 use Rattle.vk_base.specs.declared.activity.Waiting.TheVariants as waitings
-use Rattle.vk_base.specs.declared.kernel.Exchange.{Exchange}
-use Rattle.vk_base.specs.declared.kernel.Name.{Name}
-use Rattle.vk_base.specs.declared.kernel.Process.{Process}
 use Rattle.vk_base.specs.declared.kernel.Stage.TheVariants as stages
 use Rattle.vk_base.specs.declared.limits.TheConstants.{STATION_PROCESSES}
-use Rattle.vk_base.specs.declared.pid.Pid.{Pid}
 use Rattle.vk_base.specs.Activities.{receive_in}
-use Rattle.vk_base.specs.Kernel.{Kernel, is_queued, put_process, queue_of, same_name}
+use Rattle.vk_base.specs.Kernel.{Kernel, is_queued, queue_of, same_name}
 use Rattle.vk_base.specs.Pids.{same_pid}
 use Rattle.vk_base.specs.Steps.{Taking, first_of, taking}
 use Rattle.v_laws.proofs.Changes.{queued_is_at_target}
 use Rattle.v_laws.proofs.Queues.{taken_was_queued}
 use Rattle.v_laws.proofs.StepLemmas.{taking_is}
-use Rattle.v_laws.proofs.Tables.{put_exchange_at, put_exchange_other, put_process_at, put_process_other, same_name_is, same_name_self, same_pid_is}
+use Rattle.v_laws.proofs.Tables.{put_exchange_at, put_exchange_other, same_name_is, same_name_self, same_pid_is}
 use Rattle.vk_pool.specs.declared.alien.Alien.{Alien}
 use Rattle.vk_pool.specs.declared.alien.AlienStage.{AlienStage}
 use Rattle.vk_pool.specs.declared.alien.AlienStage.TheVariants as alien_stages
@@ -29,7 +25,7 @@ use Rattle.vk_pool.specs.Aliens as pool
 use Rattle.vk_procs.specs.declared.seat.Seat.{Seat}
 use Rattle.vk_procs.specs.Seats.{is_seat, marked_taken, process_of, seat_in}
 use Rattle.vk_queue.specs.Lists.{queue_at}
-use Rattle.vk_stands.specs.Stands.{IsHome, IsKept, IsSender, IsSent}
+use Rattle.vk_stands.specs.Stands.{IsHome, IsAlienKept, IsSender, IsSending}
 use Rattle.vk_stands.specs.Tables.{Spot, Tables, alien_name, names_at, read_alien, seat_name, slot_name, spot_of, stage_by}
 use Rattle.vk_stands.proofs.Aliens.{of_at}
 use Rattle.vk_stands.proofs.FitSeats.{fit_note}
@@ -37,7 +33,7 @@ use Rattle.vk_stands.proofs.FitSlots.{fit_taken}
 use Rattle.vk_stands.proofs.Fits.{fit_seated, seat_at_place, slot_kept}
 use Rattle.vk_stands.proofs.Found.{alien_found, seat_found}
 use Rattle.vk_stands.proofs.OneAlien.{ChangesAlien, slot_slotted, slots_read, slotted, slotted_carries, view_slotted}
-use Rattle.vk_stands.proofs.OneSeat.{ChangesOne, seated, view_seated}
+use Rattle.vk_stands.proofs.OneSeat.{ChangesOne, same_put, seated, view_seated}
 use Rattle.vk_stands.proofs.Parts.{Carries, Part, carries_seated, same_more}
 use Rattle.vk_stands.proofs.Seats.{position-changed}
 use Rattle.vk_stands.proofs.Took.{receive_is}
@@ -101,12 +97,6 @@ module _ (k : Kernel) (pid : Pid) (tk : Taking) (is : taking k pid ≡ Some tk) 
       spot_of y ≡ spot_of e
   taken_spot n e y at there = spot_by n e y (same_name n tk.name) refl at there
 
-pub same_put : (procs : Pid → Option Process) (pid : Pid) (p : Process) (q : Pid) → procs pid ≡ Some p → procs q ≡ put_process procs pid p q
-same_put procs pid p q at = elim (cases_Bool (same_pid q pid)) [
-  | inl same ↦ ap procs (same_pid_is q pid same) ∙ at ∙ sym (put_process_at procs pid p q same)
-  | inr other ↦ sym (put_process_other procs pid p q other)
-]
-
 -- A local Send: the sender is in its place.
 pub record TakenFrom (k : Kernel) (t : Tables) (pid : Pid) (tk : Taking) (x : Seat) : Type 0 where
   pub sender : tk.name.sender ≡ x.pid
@@ -150,7 +140,7 @@ module _ (host : ℕ) (t : Tables) (k : Kernel) (part : Part host t k) (pid : Pi
     waits_x : x.doing ≡ activities.Blocked (waitings.Send tk.exchange.target tk.exchange.message)
     waits_x = (by_home home).waits
 
-    sent_x : IsSent k x tk.exchange.target tk.exchange.message
+    sent_x : IsSending k x tk.exchange.target tk.exchange.message
     sent_x = part.view.waiting x.pid x (waitings.Send tk.exchange.target tk.exchange.message) found_x waits_x
 
     one : tk.exchange ≡ sent_x.exchange
@@ -205,7 +195,7 @@ module _ (host : ℕ) (t : Tables) (k : Kernel) (part : Part host t k) (pid : Pi
 
     pub noted_carries : Carries 0 t (seated t x.pid marked_taken)
     noted_carries = carries_seated 0 t x.pid x found_x marked_taken (λ z. refl) (same_more 0 x.note.sends) (same_more 0 x.note.lookups)
-        (λ v blocked work. (blocked, record { tries = refl; deadline = refl; offset = refl; fresh = refl }))
+        (λ v blocked work. (blocked, record { work = refl; offset = refl; fresh = refl }))
 
   -- A Send of another station: its alien is in its slot.
   module _ (high : nat_lt slot STATION_PROCESSES ≡ false) (a : Alien) (here : alien_at t.slots (slot - STATION_PROCESSES) ≡ Some a) where
@@ -217,7 +207,7 @@ module _ (host : ℕ) (t : Tables) (k : Kernel) (part : Part host t k) (pid : Pi
         (cond-false (nat_lt slot STATION_PROCESSES) _ (option_map alien_name (alien_at t.slots i)) high
         ∙ ap (option_map alien_name) here) ∙ name_is)
 
-    kept : IsKept k a
+    kept : IsAlienKept k a
     kept = part.view.kept a.sender a (of_at t.slots i a part.fit.apart here)
 
     exchange_is : tk.exchange ≡ kept.exchange

@@ -4,15 +4,11 @@ use Rattle.std.specs.List.{filter_map, list_any, slice_get}
 use Rattle.std.specs.Option.{option_map, option_to_list}
 use Rattle.std.proofs.lemmas.List.Concat.{flat_map-cons}
 use Rattle.std.proofs.lemmas.List.Elements.{filter_map-append}
-use Rattle.vk_base.specs.declared.activity.Activity.{Activity}
+use Rattle.vk_types.specs.Types.{Activity, Name, Pid, Times, Waiting}
 use Rattle.vk_base.specs.declared.activity.Activity.TheVariants as activities
-use Rattle.vk_base.specs.declared.activity.Waiting.{Waiting}
 use Rattle.vk_base.specs.declared.activity.Waiting.TheVariants as waitings
 use Rattle.vk_base.specs.declared.answer.Ending.TheVariants as endings
-use Rattle.vk_base.specs.declared.config.Times.{Times}
-use Rattle.vk_base.specs.declared.kernel.Name.{Name}
 use Rattle.vk_base.specs.declared.limits.TheConstants.{STATION_PROCESSES}
-use Rattle.vk_base.specs.declared.pid.Pid.{Pid}
 use Rattle.vk_base.specs.declared.step.Step.TheVariants as steps
 use Rattle.vk_base.specs.Activities.{call_of}
 use Rattle.vk_base.specs.Kernel.{Kernel, name_of}
@@ -20,8 +16,8 @@ unfoldable use Rattle.vk_base.specs.Kernel.{queue_of}
 use Rattle.vk_base.specs.Pids.{same_host}
 use Rattle.vk_base.specs.Settings.{Settings}
 use Rattle.vk_base.specs.Steps.{first_of, next, only_if}
+use Rattle.vk_base.proofs.OptionLemmas.{mapped_is}
 use Rattle.v_laws.specs.Sound.{IsSoundAt}
-use Rattle.v_laws.proofs.Options.{mapped_is}
 use Rattle.vk_pool.specs.Aliens.{alien_at, kept}
 use Rattle.vk_procs.specs.declared.seat.Seat.{Seat}
 use Rattle.vk_procs.specs.Seats.{seat_in}
@@ -39,20 +35,21 @@ use Rattle.vk_stands.specs.Fit.{AreFit}
 use Rattle.vk_stands.specs.Rules.{packets_in, posted}
 use Rattle.vk_stands.specs.Stands.{HasOwnNames, IsWorking, Stands}
 use Rattle.vk_stands.specs.Tables.{Tables, alien_name, is_work, read_alien, seat_name, slot_name}
-use Rattle.vk_stands.specs.Ticks.{TicksAreRight, TicksKeepFit, at_rest, tick_packets, tick_steps, tick_tables, ticked_seat, ticking, ticking_by, ticking_in, work_in}
-use Rattle.vk_stands.proofs.After.{IsDone, closes_is, entry_for, events_are, has_round_is, outcome_for, packets_are, reading_for, view_is}
+use Rattle.vk_stands.specs.Ticks.{TicksAreRight, TicksKeepFit, at_rest, tick_packets, tick_steps, tick_tables, ticked_seat, ticking, ticking_by, ticking_in}
+use Rattle.vk_stands.proofs.After.{IsEntryDone, closes_is, entry_for, events_are, has_round_is, outcome_for, packets_are, reading_for, view_is}
 use Rattle.vk_stands.proofs.AfterEntries.{answers_none, copies_none, unheard, view_then}
 use Rattle.vk_stands.proofs.Fits.{map_all}
 use Rattle.vk_stands.proofs.Found.{seat_found}
 use Rattle.vk_stands.proofs.Parts.{AreQueues}
 use Rattle.vk_stands.proofs.TicksAll.{fit_apart, next_all, seat_ticked, ticked_procs, ticked_seats}
 use Rattle.vk_stands.proofs.TicksFreed.{fit_freed, freed_was, queues_freed, slots_freed, view_freed}
-use Rattle.vk_stands.proofs.TicksSeat.{IsTold, told_at}
+use Rattle.vk_stands.proofs.TicksSeat.{IsSeatRead, told_at}
 use Rattle.vk_stands.proofs.TicksSeats.{fit_all, get_mapped, position_ticked, view_ticked, waited}
 use Rattle.vk_stands.proofs.TicksView.{peopled}
 use Rattle.vk_stands.proofs.TicksWorks.{all_sent, all_steps, none_closed, own_rounds, work_ticked}
 use Rattle.vk_stands.proofs.Views.{StandsView, view_in}
 use Rattle.vk_stands.proofs.Whole.{sound_after, stands_then}
+use Rattle.vk_stands.proofs.MoverSeated.{low_count}
 use Rattle.vk_timer.specs.declared.work.Due.{Due}
 use Rattle.vk_timer.specs.declared.work.Due.TheVariants as dues
 use Rattle.vk_timer.specs.Works.{due_at}
@@ -79,8 +76,8 @@ none_by_due times now s w dues.Resend = refl
 none_by_due times now s w dues.GiveUp = none_fails s.pid w
 
 none_by_work : (times : Times) (now : ℕ) (s : Seat) (w : Waiting) (b : Bool) →
-    filter_map as_arrival (cond b (ticking_by times now s w (due_at times now (work_in s))) (at_rest s)).steps ≡ []
-none_by_work times now s w true = none_by_due times now s w (due_at times now (work_in s))
+    filter_map as_arrival (cond b (ticking_by times now s w (due_at times now s.note.work)) (at_rest s)).steps ≡ []
+none_by_work times now s w true = none_by_due times now s w (due_at times now s.note.work)
 none_by_work times now s w false = refl
 
 none_by_doing : (times : Times) (now : ℕ) (s : Seat) (d : Activity) → filter_map as_arrival (ticking_in times now s d).steps ≡ []
@@ -108,9 +105,6 @@ slot_ticked times now t slot =
     ap (λ o. cond (nat_lt slot STATION_PROCESSES) o (option_map alien_name (alien_at t.slots (slot - STATION_PROCESSES))))
     (ap (option_map seat_name) (get_mapped (ticked_seat times now) t.seats slot) ∙ same_name_by times now (slice_get t.seats slot))
 
-no_more : (a b : ℕ) → a ≡ b → a ≤ b + 1
-no_more a b same = omega (arith, same)
-
 one_event : (a n m : ℕ) → a ≤ n → m ≡ n + 1 → a ≤ m
 one_event a n m low more = omega (arith, low, more)
 
@@ -134,7 +128,7 @@ module _ (c : Settings) (host : ℕ) (r : Reading) (t : Tables) (own : map (λ (
   abbrev u : Tables
   u = tick_tables c.times now t
 
-  told : (i : ℕ) (s : Seat) → slice_get t.seats i ≡ Some s → IsTold c.times host r s
+  told : (i : ℕ) (s : Seat) → slice_get t.seats i ≡ Some s → IsSeatRead c.times host r s
   told i s at = told_at c.times host t r fit h i s at
 
   pub steps_are : e.steps ≡ tick_steps c.times now t.seats
@@ -200,7 +194,7 @@ module _ (c : Settings) (host : ℕ) (r : Reading) (t : Tables) (own : map (λ (
 
   module _ (pid : Pid) (s : Seat) (found : seat_in t.seats pid ≡ Some s) where
     does : (sent : Bool) → list_any (is_of_round s.pid) (ticking c.times e.tick s).packets ≡ sent →
-        IsDone r.view s.pid e (r.work s.pid) false false sent false 0
+        IsEntryDone r.view s.pid e (r.work s.pid) false false sent false 0
     unfolding right_entry
     does sent is =
         let place = seat_found t.seats pid s found in
@@ -247,8 +241,8 @@ module _ (c : Settings) (host : ℕ) (r : Reading) (t : Tables) (own : map (λ (
         record {
           old = s.0;
           was = s.1;
-          sends = no_more y.note.sends s.0.note.sends (ap (λ (z : Seat). z.note.sends) (sym s.2) ∙ is.sends);
-          lookups = no_more y.note.lookups s.0.note.lookups (ap (λ (z : Seat). z.note.lookups) (sym s.2) ∙ is.lookups);
+          sends = low_count y.note.sends s.0.note.sends (ap (λ (z : Seat). z.note.sends) (sym s.2) ∙ is.sends);
+          lookups = low_count y.note.lookups s.0.note.lookups (ap (λ (z : Seat). z.note.lookups) (sym s.2) ∙ is.lookups);
         };
     aliens = λ sender a at.
         one_event a.moves r.events q.events (h.moved sender a (freed_was c.times now host mid fit_mid view view_mid sender a at))

@@ -6,12 +6,8 @@ use Rattle.std.proofs.lemmas.Bool.{false_from_ne_true}
 use Rattle.std.proofs.lemmas.List.Concat.{flat_map-cons}
 use Rattle.std.proofs.lemmas.List.Sums.{fold-append}
 use Rattle.std.proofs.lemmas.Option.{same_Some}
-use Rattle.vk_base.specs.declared.activity.Activity.{Activity}
+use Rattle.vk_types.specs.Types.{Activity, Pid, Process, Times, Waiting}
 use Rattle.vk_base.specs.declared.activity.Activity.TheVariants as activities
-use Rattle.vk_base.specs.declared.activity.Waiting.{Waiting}
-use Rattle.vk_base.specs.declared.config.Times.{Times}
-use Rattle.vk_base.specs.declared.kernel.Process.{Process}
-use Rattle.vk_base.specs.declared.pid.Pid.{Pid}
 use Rattle.vk_base.specs.Kernel.{Kernel, put_process}
 use Rattle.vk_base.specs.Activities.{done_with}
 use Rattle.vk_base.specs.Pids.{same_pid}
@@ -22,7 +18,7 @@ use Rattle.vk_procs.specs.Seats.{is_seat, process_of, seat_in}
 use Rattle.vk_stands.specs.Fit.{AreFit}
 use Rattle.vk_stands.specs.Stands.{IsWaiting}
 use Rattle.vk_stands.specs.Tables.{Tables, is_work, seat_spot}
-use Rattle.vk_stands.specs.Ticks.{at_rest, tick_steps, ticked_seat, ticking, ticking_by, ticking_in, unanswered, work_in}
+use Rattle.vk_stands.specs.Ticks.{at_rest, tick_steps, ticked_seat, ticking, ticking_by, ticking_in, unanswered}
 use Rattle.vk_stands.proofs.Lists.{find-mapped}
 use Rattle.vk_stands.proofs.TicksView.{next_ticked, peopled}
 use Rattle.vk_timer.specs.declared.work.Due.{Due}
@@ -30,13 +26,13 @@ use Rattle.vk_timer.specs.declared.work.Due.TheVariants as dues
 use Rattle.vk_timer.specs.Works.{due_at}
 
 -- What a process does after a tick: what it did, or it is done with its work.
-pub record IsOver (s y : Seat) : Type 0 where
+pub record IsWorkOver (s y : Seat) : Type 0 where
   pub waiting : Waiting
   pub was : s.doing ≡ activities.Blocked waiting
   pub work : is_work s.pid waiting ≡ true
   pub now : y.doing ≡ activities.Done waiting (unanswered waiting)
 
-pub record IsTicked (s y : Seat) : Type 0 where
+pub record IsSeatTicked (s y : Seat) : Type 0 where
   pub pid : y.pid ≡ s.pid
   pub alive : y.alive ≡ s.alive
   pub memory : y.memory ≡ s.memory
@@ -49,11 +45,11 @@ pub record IsTicked (s y : Seat) : Type 0 where
   pub offset : y.note.offset ≡ s.note.offset
   pub opened : y.note.opened ≡ s.note.opened
   pub done : y.note.done ≡ s.note.done
-  pub doing : (y.doing ≡ s.doing) ⊎ IsOver s y
+  pub doing : (y.doing ≡ s.doing) ⊎ IsWorkOver s y
   -- in no work it is as it was
   pub near : ((w : Waiting) → s.doing ≡ activities.Blocked w → is_work s.pid w ≡ false) → y ≡ s
 
-at_rest_ticked : (s : Seat) → IsTicked s s
+at_rest_ticked : (s : Seat) → IsSeatTicked s s
 at_rest_ticked s = record {
   pid = refl;
   alive = refl;
@@ -76,7 +72,7 @@ not_near : (s : Seat) (w : Waiting) → s.doing ≡ activities.Blocked w → is_
 not_near s w is far none = let both : true ≡ false = sym far ∙ none w is in cc
 
 by_due : (times : Times) (now : ℕ) (s : Seat) (w : Waiting) → s.doing ≡ activities.Blocked w → is_work s.pid w ≡ true → (d : Due) →
-    IsTicked s (ticking_by times now s w d).seat
+    IsSeatTicked s (ticking_by times now s w d).seat
 by_due times now s w is far dues.NotDue = at_rest_ticked s
 by_due times now s w is far dues.Resend = record {
   pid = refl;
@@ -112,23 +108,23 @@ by_due times now s w is far dues.GiveUp = record {
 }
 
 by_work : (times : Times) (now : ℕ) (s : Seat) (w : Waiting) → s.doing ≡ activities.Blocked w → (b : Bool) → is_work s.pid w ≡ b →
-    IsTicked s (cond b (ticking_by times now s w (due_at times now (work_in s))) (at_rest s)).seat
-by_work times now s w is true far = by_due times now s w is far (due_at times now (work_in s))
+    IsSeatTicked s (cond b (ticking_by times now s w (due_at times now s.note.work)) (at_rest s)).seat
+by_work times now s w is true far = by_due times now s w is far (due_at times now s.note.work)
 by_work times now s w is false near = at_rest_ticked s
 
-by_doing : (times : Times) (now : ℕ) (s : Seat) (d : Activity) → s.doing ≡ d → IsTicked s (ticking_in times now s d).seat
+by_doing : (times : Times) (now : ℕ) (s : Seat) (d : Activity) → s.doing ≡ d → IsSeatTicked s (ticking_in times now s d).seat
 by_doing times now s activities.Ready is = at_rest_ticked s
 by_doing times now s (activities.Done w o) is = at_rest_ticked s
 by_doing times now s (activities.Blocked w) is = by_work times now s w is (is_work s.pid w) refl
 
-pub seat_ticked : (times : Times) (now : ℕ) (s : Seat) → IsTicked s (ticked_seat times now s)
+pub seat_ticked : (times : Times) (now : ℕ) (s : Seat) → IsSeatTicked s (ticked_seat times now s)
 seat_ticked times now s = by_doing times now s s.doing refl
 
 -- No two processes have one name.
-abbrev pub AreApart : List Seat → Type 0
-AreApart seats = (i j : ℕ) (x y : Seat) → slice_get seats i ≡ Some x → slice_get seats j ≡ Some y → same_pid x.pid y.pid ≡ true → i ≡ j
+abbrev pub AreSeatsApart : List Seat → Type 0
+AreSeatsApart seats = (i j : ℕ) (x y : Seat) → slice_get seats i ≡ Some x → slice_get seats j ≡ Some y → same_pid x.pid y.pid ≡ true → i ≡ j
 
-pub fit_apart : (host : ℕ) (t : Tables) → AreFit host t → AreApart t.seats
+pub fit_apart : (host : ℕ) (t : Tables) → AreFit host t → AreSeatsApart t.seats
 fit_apart host t fit i j x y at there same =
     same_Some i j (sym (fit.places i x at) ∙ ap (λ p. position (is_seat p) t.seats) (same_pid_is x.pid y.pid same) ∙ fit.places j y there)
 
@@ -150,7 +146,7 @@ module _ (times : Times) (now : ℕ) where
   abbrev pub ticked_procs : List Seat → (Pid → Option Process) → Pid → Option Process
   ticked_procs seats procs q = option_or (option_map process_of (seat_in (map f seats) q)) (procs q)
 
-  module _ (procs : Pid → Option Process) (x : Seat) (xs : List Seat) (apart : AreApart (x ∷ xs)) where
+  module _ (procs : Pid → Option Process) (x : Seat) (xs : List Seat) (apart : AreSeatsApart (x ∷ xs)) where
     other_of : (i : ℕ) (y : Seat) → slice_get xs i ≡ Some y → same_pid y.pid x.pid ≡ false
     other_of i y at = false_from_ne_true (same_pid y.pid x.pid) (λ same. let n : suc i ≡ 0 = apart
         (suc i) 0 y x at refl same in omega (arith, n))
@@ -174,7 +170,7 @@ module _ (times : Times) (now : ℕ) where
     put_first = λ i. λ q. put_by q (same_pid q x.pid) refl i
 
   module _ (k : Kernel) where
-    pub next_all : (seats : List Seat) (procs : Pid → Option Process) → AreApart seats →
+    pub next_all : (seats : List Seat) (procs : Pid → Option Process) → AreSeatsApart seats →
         ((i : ℕ) (s : Seat) → slice_get seats i ≡ Some s → procs s.pid ≡ Some (process_of s)) →
         ((i : ℕ) (s : Seat) → slice_get seats i ≡ Some s → (w : Waiting) → s.doing ≡ activities.Blocked w → IsWaiting k s w) →
         fold next (peopled k procs) (tick_steps times now seats) ≡ peopled k (ticked_procs seats procs)

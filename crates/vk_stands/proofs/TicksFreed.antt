@@ -7,18 +7,14 @@ use Rattle.std.proofs.lemmas.List.{length-map}
 use Rattle.std.proofs.lemmas.List.Quantifiers.{position-Some}
 use Rattle.std.proofs.lemmas.List.Sums.{position_or_len_is}
 use Rattle.std.proofs.lemmas.Option.{none-some, same_Some}
-use Rattle.vk_base.specs.declared.config.Times.{Times}
-use Rattle.vk_base.specs.declared.kernel.Exchange.{Exchange}
-use Rattle.vk_base.specs.declared.kernel.Name.{Name}
-use Rattle.vk_base.specs.declared.kernel.Stage.{Stage}
+use Rattle.vk_types.specs.Types.{Exchange, Name, Pid, Stage, Times}
 use Rattle.vk_base.specs.declared.kernel.Stage.TheVariants as stages
 use Rattle.vk_base.specs.declared.limits.TheConstants.{POOL, STATION_PROCESSES}
-use Rattle.vk_base.specs.declared.pid.Pid.{Pid}
 use Rattle.vk_base.specs.Kernel.{◌>>=◌, Kernel, holds_of, is_at_target, is_queued, is_queued_at}
 unfoldable use Rattle.vk_base.specs.Kernel.{queue_of}
 use Rattle.vk_base.specs.Pids.{same_pid}
+use Rattle.vk_base.proofs.OptionLemmas.{mapped_is}
 use Rattle.std.proofs.lemmas.Bool.{and_parts}
-use Rattle.v_laws.proofs.Options.{mapped_is}
 use Rattle.vk_pool.specs.declared.alien.Alien.{Alien}
 use Rattle.vk_pool.specs.declared.alien.AlienStage.{AlienStage}
 use Rattle.vk_pool.specs.declared.alien.AlienStage.TheVariants as alien_stages
@@ -28,10 +24,10 @@ use Rattle.vk_rules.specs.Aliens.{alien_after, arrival_in, closes, stamp_in, wit
 unfoldable use Rattle.vk_rules.specs.Aliens.{slots_after}
 use Rattle.vk_rules.specs.Entries.{Entry, is_tick}
 use Rattle.vk_stands.specs.Fit.{AreFit}
-use Rattle.vk_stands.specs.Stands.{IsHome, IsKept}
+use Rattle.vk_stands.specs.Stands.{IsHome, IsAlienKept}
 use Rattle.vk_stands.specs.Tables.{Tables, alien_name, read_alien, seat_name, slot_name, stage_by, stage_of}
 use Rattle.vk_stands.proofs.After.{told_alien, told_nothing}
-use Rattle.vk_stands.proofs.Aliens.{AreApart, of_at, read}
+use Rattle.vk_stands.proofs.Aliens.{AreAliensApart, of_at, read}
 use Rattle.vk_stands.proofs.Found.{alien_found}
 use Rattle.vk_stands.proofs.Parts.{AreQueues}
 use Rattle.vk_stands.proofs.Views.{StandsView}
@@ -61,7 +57,7 @@ module _ (times : Times) (now : ℕ) where
   kept_fails s None other = refl
   kept_fails s (Some x) other = fails_by s x (is_over times now x) other
 
-  pub apart_kept : (slots : List (Option Alien)) → AreApart slots → AreApart (map g slots)
+  pub apart_kept : (slots : List (Option Alien)) → AreAliensApart slots → AreAliensApart (map g slots)
   apart_kept slots apart i a at =
       let was : alien_at slots i ≡ Some a = kept_was (alien_at slots i) a (sym (at_kept slots i) ∙ at) in
       let facts = position-Some (is_alien_from a.sender) slots i None (apart i a was) in
@@ -112,7 +108,7 @@ module _ (times : Times) (now : ℕ) where
     still_at : (i : ℕ) (a : Alien) (n : Name) (e : Exchange) → alien_at t.slots i ≡ Some a → alien_name a ≡ n → k.exchanges n ≡ Some e →
         is_at_target e.stage ≡ true → alien_at (freed t).slots i ≡ Some a
     still_at i a n e at name there near =
-        let kept : IsKept k a = h.kept a.sender a (of_at t.slots i a fit.apart at) in
+        let kept : IsAlienKept k a = h.kept a.sender a (of_at t.slots i a fit.apart at) in
         let same : kept.exchange ≡ e = same_Some kept.exchange e (sym kept.is ∙ ap k.exchanges name ∙ there) in
         let near : is_at_target (stage_of a) ≡ true =
         ap is_at_target (sym kept.stage) ∙ ap (λ (x : Exchange). is_at_target x.stage) same ∙ near in

@@ -3,17 +3,10 @@ use Rattle.std.proofs.Common.{◌≡◌, ℕ, ◌+◌, ◌==◌, Bool, true, fal
 use Rattle.std.specs.List.{slice_get}
 use Rattle.std.specs.Option.{option_map, option_map_or, option_to_list}
 use Rattle.std.proofs.lemmas.Bool.{and_parts}
-use Rattle.vk_base.specs.declared.activity.Activity.{Activity}
+use Rattle.vk_types.specs.Types.{Activity, Exchange, MoveName, Pid, Process, Step, Times, Waiting}
 use Rattle.vk_base.specs.declared.activity.Activity.TheVariants as activities
-use Rattle.vk_base.specs.declared.activity.Waiting.{Waiting}
 use Rattle.vk_base.specs.declared.activity.Waiting.TheVariants as waitings
 use Rattle.vk_base.specs.declared.answer.Ending.TheVariants as endings
-use Rattle.vk_base.specs.declared.config.Times.{Times}
-use Rattle.vk_base.specs.declared.kernel.Exchange.{Exchange}
-use Rattle.vk_base.specs.declared.kernel.MoveName.{MoveName}
-use Rattle.vk_base.specs.declared.kernel.Process.{Process}
-use Rattle.vk_base.specs.declared.pid.Pid.{Pid}
-use Rattle.vk_base.specs.declared.step.Step.{Step}
 use Rattle.vk_base.specs.declared.step.Step.TheVariants as steps
 use Rattle.vk_base.specs.Activities.{call_of, state_of}
 use Rattle.vk_base.specs.Kernel.{◌>>=◌, Kernel, blocked_in}
@@ -31,7 +24,7 @@ use Rattle.vk_rules.specs.Works.{Work}
 use Rattle.vk_stands.specs.Fit.{AreFit, IsFitSeat, is_remote_move, may_wait}
 use Rattle.vk_stands.specs.Stands.{IsFar, IsWaiting, IsWorking, Stands}
 use Rattle.vk_stands.specs.Tables.{Tables, is_work}
-use Rattle.vk_stands.specs.Ticks.{Ticking, at_rest, work_round, ticking, ticking_by, ticking_in, work_in}
+use Rattle.vk_stands.specs.Ticks.{Ticking, at_rest, work_round, ticking, ticking_by, ticking_in}
 use Rattle.vk_stands.proofs.Fits.{seat_at_place}
 use Rattle.vk_timer.specs.declared.work.Due.TheVariants as dues
 use Rattle.vk_timer.specs.Works.{due_at}
@@ -110,14 +103,14 @@ none_sent true = refl
 none_sent false = refl
 
 -- What the tables and the reading have of one process.
-pub record IsTold (times : Times) (host : ℕ) (r : Reading) (s : Seat) : Type 0 where
+pub record IsSeatRead (times : Times) (host : ℕ) (r : Reading) (s : Seat) : Type 0 where
   pub here : r.view.procs s.pid ≡ Some (process_of s)
   pub fits : IsFitSeat host s
   pub waiting : (w : Waiting) → s.doing ≡ activities.Blocked w → IsWaiting r.view s w
   pub works : (w : Waiting) → s.doing ≡ activities.Blocked w → is_work s.pid w ≡ true → IsWorking times s (r.work s.pid) w
 
 pub told_at : (times : Times) (host : ℕ) (t : Tables) (r : Reading) → AreFit host t → Stands times host t r → (i : ℕ) (s : Seat) →
-    slice_get t.seats i ≡ Some s → IsTold times host r s
+    slice_get t.seats i ≡ Some s → IsSeatRead times host r s
 told_at times host t r fit h i s at =
     let found : seat_in t.seats s.pid ≡ Some s = seat_at_place t.seats i s at (fit.places i s at) in
     let fits : IsFitSeat host s = fit.seats i s at in
@@ -128,7 +121,7 @@ told_at times host t r fit h i s at =
       works = λ w blocked work. h.works s.pid s w found blocked work;
     }
 
-module _ (times : Times) (now : ℕ) (host : ℕ) (r : Reading) (s : Seat) (told : IsTold times host r s) where
+module _ (times : Times) (now : ℕ) (host : ℕ) (r : Reading) (s : Seat) (told : IsSeatRead times host r s) where
   abbrev due : Bool
   due = now == (r.work s.pid).since + times.interval
 
@@ -168,8 +161,8 @@ module _ (times : Times) (now : ℕ) (host : ℕ) (r : Reading) (s : Seat) (told
   blocked_by : (w : Waiting) (b : Bool) → s.doing ≡ activities.Blocked w → is_work s.pid w ≡ b → IsStill (activities.Blocked w)
   blocked_by w true is far =
       let work = told.works w is far in
-      let due_is : (now == s.note.deadline) ≡ due = ap (λ n. now == n) work.deadline in
-      let tried_is : leb times.tries s.note.tries ≡ tried = ap (λ n. leb times.tries n) work.tries in
+      let due_is : (now == s.note.work.deadline) ≡ due = ap (λ n. now == n) work.deadline in
+      let tried_is : leb times.tries s.note.work.tries ≡ tried = ap (λ n. leb times.tries n) work.tries in
       let here : ticking_in times now s (activities.Blocked w) ≡ ticking_by times now s w (cond due
       (cond tried dues.GiveUp dues.Resend) dues.NotDue) =
       (λ i. cond (far i) (ticking_by times now s w (cond (due_is i) (cond (tried_is i) dues.GiveUp dues.Resend) dues.NotDue))
@@ -183,7 +176,7 @@ module _ (times : Times) (now : ℕ) (host : ℕ) (r : Reading) (s : Seat) (told
   blocked_by w false is near =
       let may = told.fits.waits w is in
       let here : ticking_in times now s (activities.Blocked w) ≡ at_rest s =
-      ap (λ b. cond b (ticking_by times now s w (due_at times now (work_in s))) (at_rest s)) near in (
+      ap (λ b. cond b (ticking_by times now s w (due_at times now s.note.work)) (at_rest s)) near in (
         ap (λ (x : Ticking). x.steps) here
             ∙ sym (ap (λ o. option_to_list (only_if (due && tried) o)) (failing_is (activities.Blocked w) is ∙ fails_not s.pid
             (length s.memory) w near may)

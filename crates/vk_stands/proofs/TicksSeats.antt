@@ -5,14 +5,10 @@ use Rattle.std.specs.Option.{option_map, option_or}
 use Rattle.std.proofs.lemmas.Bool.{both_ways, eq-eqb, eqb-true}
 use Rattle.std.proofs.lemmas.List.{length-map}
 use Rattle.std.proofs.lemmas.Option.{none-some, same_Some}
+use Rattle.vk_types.specs.Types.{Exchange, Message, Pid, Times, Waiting}
 use Rattle.vk_base.specs.declared.activity.Activity.TheVariants as activities
-use Rattle.vk_base.specs.declared.activity.Waiting.{Waiting}
 use Rattle.vk_base.specs.declared.activity.Waiting.TheVariants as waitings
-use Rattle.vk_base.specs.declared.config.Times.{Times}
-use Rattle.vk_base.specs.declared.kernel.Exchange.{Exchange}
 use Rattle.vk_base.specs.declared.limits.TheConstants.{MOVE_BYTES, SEGMENT_BYTES}
-use Rattle.vk_base.specs.declared.message.Message.{Message}
-use Rattle.vk_base.specs.declared.pid.Pid.{Pid}
 use Rattle.vk_base.specs.Kernel.{Kernel, is_live}
 use Rattle.vk_base.specs.Pids.{same_pid, same_host}
 use Rattle.vk_pool.specs.Aliens.{alien_from}
@@ -26,10 +22,11 @@ use Rattle.vk_stands.specs.Ticks.{ticked_seat, unanswered}
 use Rattle.vk_stands.proofs.FitSeats.{move_note}
 use Rattle.vk_stands.proofs.Found.{seat_found}
 use Rattle.vk_stands.proofs.OneSeat.{same_map}
-use Rattle.vk_stands.proofs.TicksAll.{IsOver, IsTicked, seat_ticked, ticked_procs, ticked_seats}
+use Rattle.vk_stands.proofs.TicksAll.{IsWorkOver, IsSeatTicked, seat_ticked, ticked_procs, ticked_seats}
 use Rattle.vk_stands.proofs.TicksView.{peopled}
 use Rattle.vk_stands.proofs.Views.{StandsView, Turns, goes_self, same_alien, view_turned}
 use Rattle.vk_stands.proofs.Waits.{stage_of_local, waiting_kept}
+use Rattle.vk_stands.proofs.MoverLeft.{same_wait}
 
 -- what stands at a place of a mapped list
 pub record IsMapped {X Y : Type 0} (f : X → Y) (xs : List X) (i : ℕ) (y : Y) : Type 0 where
@@ -48,24 +45,20 @@ get_mapped f (x ∷ xs) zero = refl
 get_mapped f (x ∷ xs) (suc i) = get_mapped f xs i
 
 -- a process that has ticked and waits in something waited in it before
-pub waited : (s y : Seat) (w : Waiting) → (y.doing ≡ s.doing) ⊎ IsOver s y → y.doing ≡ activities.Blocked w →
+pub waited : (s y : Seat) (w : Waiting) → (y.doing ≡ s.doing) ⊎ IsWorkOver s y → y.doing ≡ activities.Blocked w →
     s.doing ≡ activities.Blocked w
 waited s y w (inl same) is = sym same ∙ is
 waited s y w (inr over) is =
     let both : activities.Done over.waiting (unanswered over.waiting) ≡ activities.Blocked w = sym over.now ∙ is in absurd (cc)
 
--- a process that waits in a Send to this station is in no work
-same_waiting : (v w : Waiting) → activities.Blocked v ≡ activities.Blocked w → v ≡ w
-same_waiting v w is = cc
-
 local_near : (host : ℕ) (s : Seat) (target : Pid) (m : Message) → s.pid.host ≡ host → target.host ≡ host →
     s.doing ≡ activities.Blocked (waitings.Send target m) → (w : Waiting) → s.doing ≡ activities.Blocked w → is_work s.pid w ≡ false
 local_near host s target m own here is w waits =
-    ap (is_work s.pid) (sym (same_waiting (waitings.Send target m) w (sym is ∙ waits)))
+    ap (is_work s.pid) (sym (same_wait (waitings.Send target m) w (sym is ∙ waits)))
     ∙ ap not (eq-eqb s.pid.host target.host (own ∙ sym here))
 
 -- A process fits then.
-pub fit_ticked : (host : ℕ) (s y : Seat) → IsTicked s y → IsFitSeat host s → IsFitSeat host y
+pub fit_ticked : (host : ℕ) (s y : Seat) → IsSeatTicked s y → IsFitSeat host s → IsFitSeat host y
 fit_ticked host s y is fit = record {
   own = ap (λ (p : Pid). p.host) is.pid ∙ fit.own;
   waits = λ w blocked. (λ i. may_wait (is.pid i) (length (is.memory i)) w) ∙ fit.waits w (waited s y w is.doing blocked);

@@ -1,22 +1,12 @@
 -- The steps of a tick, one after another: each changes its own process alone.
 use Rattle.std.proofs.Common.{◌≡◌, ℕ, Bool, true, false, cond, not, fold, refl, ap, sym, ◌∙◌, Option, Some}
 use Rattle.std.specs.Option.{option_to_list}
-use Rattle.vk_base.specs.declared.activity.Activity.{Activity}
+use Rattle.vk_types.specs.Types.{Activity, Answer, Exchange, Message, MoveName, Pid, Process, Refusal, Scope, Times, Waiting}
 use Rattle.vk_base.specs.declared.activity.Activity.TheVariants as activities
-use Rattle.vk_base.specs.declared.activity.Waiting.{Waiting}
 use Rattle.vk_base.specs.declared.activity.Waiting.TheVariants as waitings
-use Rattle.vk_base.specs.declared.answer.Answer.{Answer}
 use Rattle.vk_base.specs.declared.answer.Answer.TheVariants as answers
 use Rattle.vk_base.specs.declared.answer.Ending.TheVariants as endings
-use Rattle.vk_base.specs.declared.answer.Refusal.{Refusal}
 use Rattle.vk_base.specs.declared.answer.Refusal.TheVariants as refusals
-use Rattle.vk_base.specs.declared.config.Times.{Times}
-use Rattle.vk_base.specs.declared.kernel.Exchange.{Exchange}
-use Rattle.vk_base.specs.declared.kernel.MoveName.{MoveName}
-use Rattle.vk_base.specs.declared.kernel.Process.{Process}
-use Rattle.vk_base.specs.declared.message.Message.{Message}
-use Rattle.vk_base.specs.declared.call.Scope.{Scope}
-use Rattle.vk_base.specs.declared.pid.Pid.{Pid}
 use Rattle.vk_base.specs.declared.step.Step.TheVariants as steps
 use Rattle.vk_base.specs.Activities.{answer_of, call_of, done_with, state_of}
 use Rattle.vk_base.specs.Calls.{unseen}
@@ -28,9 +18,9 @@ use Rattle.v_laws.proofs.Tables.{same_pid_is, put_process_at, put_process_other}
 use Rattle.vk_procs.specs.declared.seat.Seat.{Seat}
 use Rattle.vk_procs.specs.Seats.{process_of}
 use Rattle.vk_rules.specs.CallOutcomes.{work_failure}
-use Rattle.vk_stands.specs.Stands.{IsSent, IsWaiting}
+use Rattle.vk_stands.specs.Stands.{IsSending, IsWaiting}
 use Rattle.vk_stands.specs.Tables.{is_work}
-use Rattle.vk_stands.specs.Ticks.{Ticking, at_rest, ticking, ticking_by, ticking_in, unanswered, work_in}
+use Rattle.vk_stands.specs.Ticks.{Ticking, at_rest, ticking, ticking_by, ticking_in, unanswered}
 use Rattle.vk_timer.specs.declared.work.Due.{Due}
 use Rattle.vk_timer.specs.declared.work.Due.TheVariants as dues
 use Rattle.vk_timer.specs.Works.{due_at}
@@ -47,7 +37,7 @@ module _ (k : Kernel) (procs : Pid → Option Process) (s : Seat) (here : procs 
   then_is a = with_state view s.pid (process_of s) (ended (state_of s.doing) a)
 
   fails : (target : Pid) (m : Message) → s.doing ≡ activities.Blocked (waitings.Send target m) → not (same_host s.pid target) ≡ true →
-      IsSent k s target m → next view (steps.Fail s.pid endings.TimedOut) ≡ then_is (answers.Refused refusals.TimedOut)
+      IsSending k s target m → next view (steps.Fail s.pid endings.TimedOut) ≡ then_is (answers.Refused refusals.TimedOut)
   unfolding failing
   fails target m is far sent =
       let p : Process = process_of s in
@@ -129,8 +119,8 @@ module _ (k : Kernel) (procs : Pid → Option Process) (s : Seat) (here : procs 
         ∙ sym (ap (λ d. state_of (done_with d (unanswered w))) is))
 
     by_work : (w : Waiting) (b : Bool) → is_work s.pid w ≡ b → s.doing ≡ activities.Blocked w → IsWaiting k s w →
-        Becomes (cond b (ticking_by times now s w (due_at times now (work_in s))) (at_rest s))
-    by_work w true far is waits = by_due w is far waits (due_at times now (work_in s))
+        Becomes (cond b (ticking_by times now s w (due_at times now s.note.work)) (at_rest s))
+    by_work w true far is waits = by_due w is far waits (due_at times now s.note.work)
     by_work w false near is waits = rests
 
     by_doing : (d : Activity) → s.doing ≡ d → ((w : Waiting) → s.doing ≡ activities.Blocked w → IsWaiting k s w) →

@@ -6,18 +6,14 @@ use Rattle.std.proofs.lemmas.Bool.{and_parts, ltb-true}
 use Rattle.std.proofs.lemmas.List.Concat.{flat_map-cons}
 use Rattle.std.proofs.lemmas.List.Folds.{list_any-append}
 use Rattle.std.proofs.lemmas.Option.{same_Some}
+use Rattle.vk_types.specs.Types.{MoveName, Name, Pid, Times, Waiting}
 use Rattle.vk_base.specs.declared.activity.Activity.TheVariants as activities
-use Rattle.vk_base.specs.declared.activity.Waiting.{Waiting}
 use Rattle.vk_base.specs.declared.activity.Waiting.TheVariants as waitings
-use Rattle.vk_base.specs.declared.config.Times.{Times}
-use Rattle.vk_base.specs.declared.kernel.MoveName.{MoveName}
-use Rattle.vk_base.specs.declared.kernel.Name.{Name}
-use Rattle.vk_base.specs.declared.pid.Pid.{Pid}
 use Rattle.vk_base.specs.Activities.{done_with}
 use Rattle.vk_base.specs.Kernel.{Kernel, holds_of}
 use Rattle.vk_base.specs.Packets.{Packet}
 use Rattle.vk_base.specs.Pids.{same_pid}
-use Rattle.v_laws.proofs.Tables.{same_pid_self}
+use Rattle.vk_base.proofs.PidLemmas.{same_pid_self}
 use Rattle.vk_packet.specs.Rules.{is_place}
 use Rattle.vk_procs.specs.declared.seat.Seat.{Seat}
 use Rattle.vk_rules.specs.Aliens.{is_closing}
@@ -29,11 +25,11 @@ use Rattle.vk_rules.specs.Works.{Work, is_of_round, work_after}
 use Rattle.vk_stands.specs.Fit.{is_move_of, may_go_on}
 use Rattle.vk_stands.specs.Stands.{IsFar, IsWorking}
 use Rattle.vk_stands.specs.Tables.{is_work}
-use Rattle.vk_stands.specs.Ticks.{Ticking, at_rest, work_round, tick_packets, tick_steps, ticked_seat, ticking, ticking_by, ticking_in, tried_again, unanswered, work_in}
-use Rattle.vk_stands.proofs.After.{IsDone, work_sent_again, work_still}
+use Rattle.vk_stands.specs.Ticks.{Ticking, at_rest, work_round, tick_packets, tick_steps, ticked_seat, ticking, ticking_by, ticking_in, tried_again, unanswered}
+use Rattle.vk_stands.proofs.After.{IsEntryDone, work_sent_again, work_still}
 use Rattle.vk_stands.proofs.AfterCalls.{none_if, none_of_round, skips_closing, skips_others}
-use Rattle.vk_stands.proofs.TicksAll.{AreApart}
-use Rattle.vk_stands.proofs.TicksSeat.{IsTold, right_ticking}
+use Rattle.vk_stands.proofs.TicksAll.{AreSeatsApart}
+use Rattle.vk_stands.proofs.TicksSeat.{IsSeatRead, right_ticking}
 use Rattle.vk_timer.specs.declared.work.Due.{Due}
 use Rattle.vk_timer.specs.declared.work.Due.TheVariants as dues
 use Rattle.vk_timer.specs.Works.{due_at}
@@ -67,7 +63,7 @@ module _ {A X : Type 0} (test : A → Bool) (f : X → List A) where
 
 -- The steps and packets of all processes.
 module _ (times : Times) (now host : ℕ) (r : Reading) where
-  pub all_steps : (seats : List Seat) → ((i : ℕ) (s : Seat) → slice_get seats i ≡ Some s → IsTold times host r s) →
+  pub all_steps : (seats : List Seat) → ((i : ℕ) (s : Seat) → slice_get seats i ≡ Some s → IsSeatRead times host r s) →
       filter_map (failed times now r) (map (λ (s : Seat). s.pid) seats) ≡ tick_steps times now seats
   all_steps [] told = refl
   all_steps (x ∷ xs) told =
@@ -76,7 +72,7 @@ module _ (times : Times) (now host : ℕ) (r : Reading) where
       ∙ ap (λ ss. ss ++ tick_steps times now xs) (sym (right_ticking times now host r x (told 0 x refl)).steps)
       ∙ sym (flat_map-cons (λ s. (ticking times now s).steps) x xs)
 
-  pub all_sent : (seats : List Seat) → ((i : ℕ) (s : Seat) → slice_get seats i ≡ Some s → IsTold times host r s) →
+  pub all_sent : (seats : List Seat) → ((i : ℕ) (s : Seat) → slice_get seats i ≡ Some s → IsSeatRead times host r s) →
       flat_map (sent_again times now r) (map (λ (s : Seat). s.pid) seats) ≡ tick_packets times now seats
   all_sent [] told = refl
   all_sent (x ∷ xs) told =
@@ -86,7 +82,7 @@ module _ (times : Times) (now host : ℕ) (r : Reading) where
       ∙ sym (flat_map-cons (λ s. (ticking times now s).packets) x xs)
 
   -- they close nothing
-  pub none_closed : (name : Name) (seats : List Seat) → ((i : ℕ) (s : Seat) → slice_get seats i ≡ Some s → IsTold times host r s) →
+  pub none_closed : (name : Name) (seats : List Seat) → ((i : ℕ) (s : Seat) → slice_get seats i ≡ Some s → IsSeatRead times host r s) →
       list_any (is_closing name) (tick_packets times now seats) ≡ false
   none_closed name seats told = none_joined (is_closing name) (λ s. (ticking times now s).packets) seats (λ i s at.
       ap (list_any (is_closing name)) (right_ticking times now host r s (told i s at)).packets
@@ -94,7 +90,7 @@ module _ (times : Times) (now host : ℕ) (r : Reading) where
       (r.work s.pid) s.pid (skips_closing name s.pid)))
 
   -- those of a round of one process are its own
-  module _ (seats : List Seat) (told : (i : ℕ) (s : Seat) → slice_get seats i ≡ Some s → IsTold times host r s) (apart : AreApart seats)
+  module _ (seats : List Seat) (told : (i : ℕ) (s : Seat) → slice_get seats i ≡ Some s → IsSeatRead times host r s) (apart : AreSeatsApart seats)
       (at : ℕ) (s : Seat) (here : slice_get seats at ≡ Some s) where
     others_by : (i : ℕ) (x : Seat) (b : Bool) → slice_get seats i ≡ Some x → same_pid x.pid s.pid ≡ b →
         list_any (is_of_round s.pid) (ticking times now s).packets ≡ false →
@@ -166,10 +162,10 @@ far_again times now s v (waitings.ReceiveSegment start count) far = tt
 module _ (times : Times) (k : Kernel) (e : Entry) (s : Seat) (v : Work) (w : Waiting) (is : s.doing ≡ activities.Blocked w)
     (far : is_work s.pid w ≡ true) (goes : may_go_on s.note w ≡ true) (work : IsWorking times s v w)
     (does : (sent : Bool) → list_any (is_of_round s.pid) (ticking times e.tick s).packets ≡ sent →
-    IsDone k s.pid e v false false sent false 0) where
-  here : ticking times e.tick s ≡ ticking_by times e.tick s w (due_at times e.tick (work_in s))
+    IsEntryDone k s.pid e v false false sent false 0) where
+  here : ticking times e.tick s ≡ ticking_by times e.tick s w (due_at times e.tick s.note.work)
   here = ap (ticking_in times e.tick s) is
-      ∙ ap (λ b. cond b (ticking_by times e.tick s w (due_at times e.tick (work_in s))) (at_rest s)) far
+      ∙ ap (λ b. cond b (ticking_by times e.tick s w (due_at times e.tick s.note.work)) (at_rest s)) far
 
   by_due : (d : Due) → ticking times e.tick s ≡ ticking_by times e.tick s w d →
       (ticking_by times e.tick s w d).seat.doing ≡ activities.Blocked w →
@@ -190,4 +186,4 @@ module _ (times : Times) (k : Kernel) (e : Entry) (s : Seat) (v : Work) (w : Wai
       IsWorking times (ticked_seat times e.tick s) (work_after k s.pid e v) w
   work_ticked blocked =
       subst (λ (x : Ticking). IsWorking times x.seat (work_after k s.pid e v) w) (sym here)
-      (by_due (due_at times e.tick (work_in s)) here (subst (λ (x : Ticking). x.seat.doing ≡ activities.Blocked w) here blocked))
+      (by_due (due_at times e.tick s.note.work) here (subst (λ (x : Ticking). x.seat.doing ≡ activities.Blocked w) here blocked))

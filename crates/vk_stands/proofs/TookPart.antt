@@ -6,17 +6,12 @@ use Rattle.std.proofs.lemmas.Bool.{cases_Bool}
 use Rattle.std.proofs.lemmas.List.{get_or-set_other, get_or-set_same, length-set}
 use Rattle.std.proofs.lemmas.List.Quantifiers.{position-Some}
 use Rattle.std.proofs.lemmas.Option.{same_Some}
-use Rattle.vk_base.specs.declared.activity.Activity.{Activity}
+use Rattle.vk_types.specs.Types.{Activity, Exchange, Name, Pid, Process, Waiting}
 use Rattle.vk_base.specs.declared.activity.Activity.TheVariants as activities
-use Rattle.vk_base.specs.declared.activity.Waiting.{Waiting}
 use Rattle.vk_base.specs.declared.activity.Waiting.TheVariants as waitings
-use Rattle.vk_base.specs.declared.kernel.Exchange.{Exchange}
-use Rattle.vk_base.specs.declared.kernel.Name.{Name}
-use Rattle.vk_base.specs.declared.kernel.Process.{Process}
 use Rattle.vk_base.specs.declared.kernel.Stage.TheVariants as stages
 use Rattle.vk_base.specs.declared.kernel.State.TheVariants as states
 use Rattle.vk_base.specs.declared.limits.TheConstants.{STATION_PROCESSES}
-use Rattle.vk_base.specs.declared.pid.Pid.{Pid}
 use Rattle.vk_base.specs.declared.step.Step.TheVariants as steps
 use Rattle.vk_base.specs.Activities.{call_of, receive_in}
 use Rattle.vk_base.specs.Calls.{unseen}
@@ -41,7 +36,7 @@ use Rattle.vk_stands.proofs.OneSeat.{ChangesOne, seated, view_seated}
 use Rattle.vk_stands.proofs.Parts.{AreQueues, Carries, Part, carries_seated, same_more}
 use Rattle.vk_stands.proofs.Seats.{position-changed}
 use Rattle.vk_stands.proofs.Took.{IsReceive, reached_name, reached_process, reached_seat, receive_is, rest_of}
-use Rattle.vk_stands.proofs.Views.{StandsView, goes_self}
+use Rattle.vk_stands.proofs.Views.{StandsView, view_listed, goes_self}
 
 -- the Send is taken, and nothing else yet
 abbrev pub send_taken : Kernel → Taking → Kernel
@@ -198,14 +193,7 @@ module _ (host : ℕ) (t : Tables) (k : Kernel) (part : Part host t k) (pid : Pi
   unfolding taken
   part_took = record {
     fit = took_fit;
-    view = record {
-      procs = view_took.procs;
-      elsewhere = view_took.elsewhere;
-      kept = view_took.kept;
-      waiting = view_took.waiting;
-      home =
-          view_took.home;
-    };
+    view = view_listed (first_out u.lists at) view_took;
     sound = sound_step k (steps.Take pid) (unseen l) part.sound does;
     names = part.names ∙ sym g.names;
     unknown = part.unknown;

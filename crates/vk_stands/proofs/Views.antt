@@ -1,19 +1,14 @@
 -- The part of the relation that speaks of the view and the tables alone; and that it is kept over any change in which each process and
 -- each alien stays in its place, and each Send that was there stays.
-use Rattle.std.proofs.Common.{◌≡◌, ◌⊎◌, ◌≤◌, ℕ, true, false, length, Some, refl, sym, ap, subst, ◌∙◌, inl, inr}
+use Rattle.std.proofs.Common.{◌≡◌, ◌⊎◌, ◌≤◌, ℕ, true, false, List, length, Some, refl, sym, ap, subst, ◌∙◌, inl, inr}
 use Rattle.std.specs.Option.{option_map}
+use Rattle.vk_types.specs.Types.{Exchange, Name, Pid, Process, Times, Waiting}
 use Rattle.vk_base.specs.declared.activity.Activity.TheVariants as activities
-use Rattle.vk_base.specs.declared.activity.Waiting.{Waiting}
 use Rattle.vk_base.specs.declared.activity.Waiting.TheVariants as waitings
-use Rattle.vk_base.specs.declared.config.Times.{Times}
-use Rattle.vk_base.specs.declared.kernel.Exchange.{Exchange}
-use Rattle.vk_base.specs.declared.kernel.Name.{Name}
-use Rattle.vk_base.specs.declared.kernel.Process.{Process}
 use Rattle.vk_base.specs.declared.kernel.State.TheVariants as states
-use Rattle.vk_base.specs.declared.pid.Pid.{Pid}
 use Rattle.vk_base.specs.Counts.{sends_of}
 use Rattle.vk_base.specs.Kernel.{Kernel, is_at_target, is_live}
-use Rattle.v_laws.proofs.Options.{mapped_is}
+use Rattle.vk_base.proofs.OptionLemmas.{mapped_is}
 use Rattle.vk_pool.specs.declared.alien.Alien.{Alien}
 use Rattle.vk_pool.specs.declared.alien.AlienStage.TheVariants as alien_stages
 use Rattle.vk_pool.specs.Aliens.{alien_from}
@@ -21,19 +16,25 @@ use Rattle.vk_procs.specs.declared.seat.Seat.{Seat}
 use Rattle.vk_procs.specs.Seats.{process_of, seat_in}
 use Rattle.vk_rules.specs.Readings.{Reading}
 use Rattle.vk_stands.specs.Fit.{AreFit}
-use Rattle.vk_stands.specs.Stands.{IsHome, IsKept, IsSender, IsWaiting, Stands}
+use Rattle.vk_stands.specs.Stands.{IsHome, IsAlienKept, IsSender, IsWaiting, Stands}
 use Rattle.vk_stands.specs.Tables.{Tables, alien_name, alien_spot, spot_of, stage_of}
 use Rattle.vk_stands.proofs.Found.{alien_found}
 
 pub record StandsView (host : ℕ) (t : Tables) (k : Kernel) : Type 0 where
   pub procs : (pid : Pid) → pid.host ≡ host → k.procs pid ≡ option_map process_of (seat_in t.seats pid)
   pub elsewhere : (pid : Pid) (p : Process) → (pid.host ≡ host → ⊥) → k.procs pid ≡ Some p → p.state ≡ states.Ready
-  pub kept : (sender : Pid) (a : Alien) → alien_from t.slots sender ≡ Some a → IsKept k a
+  pub kept : (sender : Pid) (a : Alien) → alien_from t.slots sender ≡ Some a → IsAlienKept k a
   pub waiting : (pid : Pid) (s : Seat) (w : Waiting) → seat_in t.seats pid ≡ Some s → s.doing ≡ activities.Blocked w → IsWaiting k s w
   pub home : (n : Name) (e : Exchange) → k.exchanges n ≡ Some e → e.target.host ≡ host → is_at_target e.stage ≡ true → IsHome host t n e
 
 pub view_in : (times : Times) (host : ℕ) (t : Tables) (r : Reading) → Stands times host t r → StandsView host t r.view
 view_in times host t r h = record { procs = h.procs; elsewhere = h.elsewhere; kept = h.kept; waiting = h.waiting; home = h.home }
+
+-- lists are no part of it
+pub view_listed : {host : ℕ} {t : Tables} {k : Kernel} (lists : List (List ℕ)) → StandsView host t k →
+    StandsView host (record t { lists = lists }) k
+view_listed lists v =
+    record { procs = v.procs; elsewhere = v.elsewhere; kept = v.kept; waiting = v.waiting; home = v.home }
 
 -- A Send is as it was, but for how far it is, and where; it is no nearer to a queue.
 pub record Goes (e y : Exchange) : Type 0 where
@@ -85,7 +86,7 @@ pub record Turns (host : ℕ) (t u : Tables) (k l : Kernel) (f : Seat → Seat) 
 
 module _ (host : ℕ) (t u : Tables) (k l : Kernel) (f : Seat → Seat) (a : Alien → Alien) (fit : AreFit host t) (h : StandsView host t k)
     (g : Turns host t u k l f a) where
-  kept_by : (sender : Pid) (x : Alien) → alien_from t.slots sender ≡ Some x → IsKept k x → IsKept l (a x)
+  kept_by : (sender : Pid) (x : Alien) → alien_from t.slots sender ≡ Some x → IsAlienKept k x → IsAlienKept l (a x)
   kept_by sender x here v =
       let y = g.forth (alien_name x) v.exchange v.is in
       let at = alien_found t.slots sender x here in
@@ -128,7 +129,7 @@ module _ (host : ℕ) (t u : Tables) (k l : Kernel) (f : Seat → Seat) (a : Ali
     elsewhere = λ pid p away at. h.elsewhere pid p away (sym (g.far pid away) ∙ at);
     kept = λ sender y at.
         let x = mapped_is a (alien_from t.slots sender) y (sym (g.aliens sender) ∙ at) in
-        subst (IsKept l) x.2 (kept_by sender x.0 x.1 (h.kept sender x.0 x.1));
+        subst (IsAlienKept l) x.2 (kept_by sender x.0 x.1 (h.kept sender x.0 x.1));
     waiting = λ pid y w at blocked.
         let s = mapped_is f (seat_in t.seats pid) y (sym (g.seats pid) ∙ at) in
         subst (λ z. IsWaiting l z w) s.2 (g.waits pid s.0 w s.1 (ap (λ (z : Seat). z.doing) s.2 ∙ blocked));

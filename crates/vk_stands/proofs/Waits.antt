@@ -1,25 +1,21 @@
 -- What a process waits in, over a change of the kernel; and the processes of which one has changed.
-use Rattle.std.proofs.Common.{◌≡◌, ℕ, zero, suc, Bool, true, false, List, Option, Some, None, refl, sym, ap, subst, ◌∙◌, inl, inr, if◌then◌else◌}
+use Rattle.std.proofs.Common.{◌≡◌, ℕ, zero, suc, Bool, true, false, not, ◌&&◌, nat_lt, List, length, Option, Some, None, refl, sym, ap, subst, ◌∙◌, inl, inr, if◌then◌else◌}
 use Rattle.std.specs.List.{slice_get}
 use Rattle.std.specs.Option.{option_map}
-use Rattle.std.proofs.lemmas.Bool.{cases_Bool, cond-true, cond-false}
-use Rattle.vk_base.specs.declared.activity.Waiting.{Waiting}
+use Rattle.std.proofs.lemmas.Bool.{and_parts, both_ways, cases_Bool, cond-true, cond-false, eq-eqb}
+use Rattle.vk_types.specs.Types.{Direction, Exchange, Message, Name, Pid, Stage, Waiting}
 use Rattle.vk_base.specs.declared.activity.Waiting.TheVariants as waitings
-use Rattle.vk_base.specs.declared.kernel.Direction.{Direction}
 use Rattle.vk_base.specs.declared.kernel.Direction.TheVariants as directions
-use Rattle.vk_base.specs.declared.kernel.Exchange.{Exchange}
-use Rattle.vk_base.specs.declared.kernel.Name.{Name}
-use Rattle.vk_base.specs.declared.kernel.Stage.{Stage}
 use Rattle.vk_base.specs.declared.kernel.Stage.TheVariants as stages
-use Rattle.vk_base.specs.declared.message.Message.{Message}
-use Rattle.vk_base.specs.declared.pid.Pid.{Pid}
 use Rattle.vk_base.specs.Firsts.{change_first}
 use Rattle.vk_base.specs.Kernel.{Kernel, move_of, name_of}
 use Rattle.vk_base.specs.Pids.{same_host, same_pid}
-use Rattle.v_laws.proofs.Tables.{same_pid_is, same_pid_self}
+use Rattle.vk_base.proofs.PidLemmas.{same_pid_self}
+use Rattle.v_laws.proofs.Tables.{same_pid_is}
 use Rattle.vk_procs.specs.declared.seat.Seat.{Seat}
 use Rattle.vk_procs.specs.Seats.{is_seat, seat_in}
-use Rattle.vk_stands.specs.Stands.{IsAsking, IsMoving, IsSent, IsWaiting}
+use Rattle.vk_stands.specs.Fit.{is_remote_move, may_wait}
+use Rattle.vk_stands.specs.Stands.{IsAsking, IsMoving, IsSending, IsWaiting}
 use Rattle.vk_stands.specs.Tables.{seat_name, seat_spot, spot_of}
 use Rattle.vk_stands.proofs.Found.{seat_found}
 use Rattle.vk_stands.proofs.Seats.{find-changed, find-unchanged}
@@ -56,10 +52,6 @@ seats_changed pid f keeps seats q = elim (cases_Bool (same_pid q pid)) [
   | inr other ↦ find-unchanged pid f keeps q seats other ∙ only_not_in pid q f seats (seat_in seats q) other refl
 ]
 
-pub twice : {A B C : Type 0} (f : A → B) (g : B → C) (o : Option A) → option_map g (option_map f o) ≡ option_map (λ x. g (f x)) o
-twice f g None = refl
-twice f g (Some x) = refl
-
 -- What a process waits in stands in the new kernel too.
 pub record IsSameSeat (s y : Seat) : Type 0 where
   pub pid : y.pid ≡ s.pid
@@ -79,7 +71,7 @@ stage_of_local taken = if taken then stages.Taken else stages.Queued
 abbrev pub local_stage : Seat → Stage
 local_stage s = stage_of_local s.note.taken
 
-move_same : (e y : Exchange) (number : ℕ) → y.moves ≡ e.moves → move_of y number ≡ move_of e number
+pub move_same : (e y : Exchange) (number : ℕ) → y.moves ≡ e.moves → move_of y number ≡ move_of e number
 move_same e y zero same = refl
 move_same e y (suc number) same = ap (λ ms. slice_get ms number) same
 
@@ -89,7 +81,7 @@ module _ (k l : Kernel) (forth : (n : Name) (e : Exchange) → k.exchanges n ≡
     same_host s.pid target ≡ true → e.stage ≡ local_stage s → x.stage ≡ local_stage y)
     (spot : (e x : Exchange) → k.exchanges (seat_name s) ≡ Some e → l.exchanges (seat_name s) ≡ Some x → spot_of e ≡ seat_spot s →
     spot_of x ≡ seat_spot y) where
-  sent_kept : (target : Pid) (m : Message) → IsSent k s target m → IsSent l y target m
+  sent_kept : (target : Pid) (m : Message) → IsSending k s target m → IsSending l y target m
   sent_kept target m v =
       let x = forth (seat_name s) v.exchange v.is in
       record {
@@ -133,3 +125,46 @@ module _ (k l : Kernel) (forth : (n : Name) (e : Exchange) → k.exchanges n ≡
   waiting_kept (waitings.GetPid logical scope) v = asking_kept logical v
   waiting_kept waitings.Receive v = tt
   waiting_kept (waitings.ReceiveSegment start count) v = tt
+
+-- What a process waits in is as it was, where its own Send is, its lookup, and the Sends of other stations.
+far_partner : (pid partner : Pid) (count : ℕ) (b : Bool) → (is_remote_move pid partner count && b) ≡ true →
+    partner.host ≡ pid.host → ⊥
+far_partner pid partner count b may here =
+    let remote = and_parts (is_remote_move pid partner count) b may in
+    let some = and_parts (not (same_host pid partner) && nat_lt 0 count) _ remote.0 in
+    let apart = and_parts (not (same_host pid partner)) _ some.0 in
+    both_ways (not (same_host pid partner)) (ap not (eq-eqb pid.host partner.host (sym here))) apart.0
+
+module _ (k l : Kernel) (s : Seat) (send : l.exchanges (seat_name s) ≡ k.exchanges (seat_name s))
+    (asks : (logical : ℕ) → IsAsking k s logical → IsAsking l s logical)
+    (far : (n : Name) → (n.sender.host ≡ s.pid.host → ⊥) → l.exchanges n ≡ k.exchanges n) where
+  moving_same : (partner : Pid) (direction : Direction) (dest count : ℕ) → (partner.host ≡ s.pid.host → ⊥) →
+      IsMoving k s partner direction dest count → IsMoving l s partner direction dest count
+  moving_same partner direction dest count away v = record {
+    name = v.name;
+    noted = v.noted;
+    partner_is = v.partner_is;
+    exchange = v.exchange;
+    is = far v.name.exchange (λ here. away (sym (ap (λ (p : Pid). p.host) v.partner_is) ∙ here)) ∙ v.is;
+    own = v.own;
+  }
+
+  pub waiting_same : (w : Waiting) → may_wait s.pid (length s.memory) w ≡ true → IsWaiting k s w → IsWaiting l s w
+  waiting_same (waitings.Send target m) may v = record {
+    exchange = v.exchange;
+    is = send ∙ v.is;
+    target_is = v.target_is;
+    message_is = v.message_is;
+    part_is = v.part_is;
+    spot_is = v.spot_is;
+    stage_is = v.stage_is;
+    opened = v.opened;
+    done = v.done;
+  }
+  waiting_same (waitings.MoveTo partner dest src count) may v =
+      moving_same partner directions.To dest count (far_partner s.pid partner count _ may) v
+  waiting_same (waitings.MoveFrom partner dest src count) may v =
+      moving_same partner directions.From dest count (far_partner s.pid partner count _ may) v
+  waiting_same (waitings.GetPid logical scope) may v = asks logical v
+  waiting_same waitings.Receive may v = tt
+  waiting_same (waitings.ReceiveSegment start count) may v = tt

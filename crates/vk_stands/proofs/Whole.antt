@@ -2,12 +2,9 @@
 use Rattle.std.proofs.Common.{◌≡◌, ◌≤◌, ℕ, ◌+◌, Bool, true, false, List, [], ◌∷◌, fold, map, Option, Some, None, refl, sym, ap, subst, ◌∙◌, arith}
 use Rattle.std.specs.List.{position}
 use Rattle.std.specs.Option.{option_map}
+use Rattle.vk_types.specs.Types.{Pid, Step, Times, Waiting}
 use Rattle.vk_base.specs.declared.activity.Activity.TheVariants as activities
-use Rattle.vk_base.specs.declared.activity.Waiting.{Waiting}
 use Rattle.vk_base.specs.declared.activity.Waiting.TheVariants as waitings
-use Rattle.vk_base.specs.declared.config.Times.{Times}
-use Rattle.vk_base.specs.declared.pid.Pid.{Pid}
-use Rattle.vk_base.specs.declared.step.Step.{Step}
 use Rattle.vk_base.specs.Calls.{Effect}
 use Rattle.vk_base.specs.Kernel.{Kernel, queue_of}
 use Rattle.vk_base.specs.Steps.{after_effect, effect, next}
@@ -47,19 +44,18 @@ far_kept s old v (waitings.ReceiveSegment start count) offset fresh far = tt
 far_kept s old v (waitings.GetPid logical scope) offset fresh far = tt
 
 pub record IsSameWork (s old : Seat) : Type 0 where
-  pub tries : s.note.tries ≡ old.note.tries
-  pub deadline : s.note.deadline ≡ old.note.deadline
+  pub work : s.note.work ≡ old.note.work
   pub offset : s.note.offset ≡ old.note.offset
   pub fresh : s.note.fresh ≡ old.note.fresh
 
 pub same_work : (s : Seat) → IsSameWork s s
-same_work s = record { tries = refl; deadline = refl; offset = refl; fresh = refl }
+same_work s = record { work = refl; offset = refl; fresh = refl }
 
 pub working_kept : (times : Times) (s old : Seat) (v v' : Work) (w : Waiting) → IsSameWork s old → v' ≡ v → IsWorking times old v w →
     IsWorking times s v' w
 working_kept times s old v v' w same is k = subst (λ x. IsWorking times s x w) (sym is) (record {
-  tries = same.tries ∙ k.tries;
-  deadline = same.deadline ∙ k.deadline;
+  tries = (λ i. (same.work i).tries) ∙ k.tries;
+  deadline = (λ i. (same.work i).deadline) ∙ k.deadline;
   far = far_kept s old v w same.offset same.fresh k.far;
 })
 

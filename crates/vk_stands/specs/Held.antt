@@ -1,7 +1,6 @@
 -- Whom a process holds, by the tables: a sender of which it has taken a message, and has neither replied to it nor handed it on.
 use Rattle.std.specs.Prelude.{ℕ, Bool, ◌&&◌, List, Option, Some, None, if◌then◌else◌}
-use Rattle.vk_base.specs.declared.message.Message.{Message}
-use Rattle.vk_base.specs.declared.pid.Pid.{Pid}
+use Rattle.vk_types.specs.Types.{Message, Pid}
 use Rattle.vk_base.specs.Activities.{state_of}
 use Rattle.vk_base.specs.Kernel.{◌>>=◌, is_taken, sending}
 use Rattle.vk_base.specs.Pids.{same_pid}

@@ -1,13 +1,8 @@
 -- What a rule of a station promises: for every reading that the tables stand for it makes the steps and the packets of the right
 -- entry, and the tables then stand for the reading after that entry.
 use Rattle.std.specs.Prelude.{ℕ, ◌≡◌, List, ◌++◌, map, Option, Some, None}
-use Rattle.vk_base.specs.declared.activity.Outcome.{Outcome}
-use Rattle.vk_base.specs.declared.call.Call.{Call}
-use Rattle.vk_base.specs.declared.config.Times.{Times}
-use Rattle.vk_base.specs.declared.event.EventAnswer.{EventAnswer}
+use Rattle.vk_types.specs.Types.{Call, EventAnswer, Outcome, Pid, Step, Times}
 use Rattle.vk_base.specs.declared.event.EventAnswer.TheVariants as events_answered
-use Rattle.vk_base.specs.declared.pid.Pid.{Pid}
-use Rattle.vk_base.specs.declared.step.Step.{Step}
 use Rattle.vk_base.specs.Activities.{answer_of}
 use Rattle.vk_base.specs.Packets.{Packet}
 use Rattle.vk_base.specs.Settings.{Settings}

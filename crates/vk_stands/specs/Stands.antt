@@ -1,22 +1,12 @@
 -- When the tables of a station stand for a reading of its entries.
 use Rattle.std.specs.Prelude.{ℕ, ◌≡◌, ◌⊎◌, ◌+◌, ◌≤◌, true, false, [], length, map, Some, option_map, if◌then◌else◌}
 use Rattle.std.specs.List.{position}
+use Rattle.vk_types.specs.Types.{Direction, Exchange, Lookup, Message, Move, MoveName, Name, Pid, Process, Times, Waiting}
 use Rattle.vk_base.specs.declared.activity.Activity.TheVariants as activities
-use Rattle.vk_base.specs.declared.activity.Waiting.{Waiting}
 use Rattle.vk_base.specs.declared.activity.Waiting.TheVariants as waitings
-use Rattle.vk_base.specs.declared.config.Times.{Times}
-use Rattle.vk_base.specs.declared.kernel.Direction.{Direction}
 use Rattle.vk_base.specs.declared.kernel.Direction.TheVariants as directions
-use Rattle.vk_base.specs.declared.kernel.Exchange.{Exchange}
-use Rattle.vk_base.specs.declared.kernel.Lookup.{Lookup}
-use Rattle.vk_base.specs.declared.kernel.Move.{Move}
-use Rattle.vk_base.specs.declared.kernel.MoveName.{MoveName}
-use Rattle.vk_base.specs.declared.kernel.Name.{Name}
-use Rattle.vk_base.specs.declared.kernel.Process.{Process}
 use Rattle.vk_base.specs.declared.kernel.Stage.TheVariants as stages
 use Rattle.vk_base.specs.declared.kernel.State.TheVariants as states
-use Rattle.vk_base.specs.declared.message.Message.{Message}
-use Rattle.vk_base.specs.declared.pid.Pid.{Pid}
 use Rattle.vk_base.specs.Counts.{sends_of}
 use Rattle.vk_base.specs.Kernel.{Kernel, is_at_target, is_live, move_of, name_of, queue_of}
 use Rattle.vk_base.specs.Pids.{same_host}
@@ -31,7 +21,7 @@ use Rattle.vk_rules.specs.Works.{Work}
 use Rattle.vk_stands.specs.Tables.{Tables, alien_name, alien_spot, is_work, names_at, read_alien, seat_spot, spot_of, stage_of}
 
 -- An alien's exchange is what the slot keeps of it. Its sender is known to have made that Send.
-pub record IsKept (k : Kernel) (a : Alien) : Type 0 where
+pub record IsAlienKept (k : Kernel) (a : Alien) : Type 0 where
   pub exchange : Exchange
   pub is : k.exchanges (alien_name a) ≡ Some exchange
   pub target : exchange.target ≡ a.target
@@ -45,7 +35,7 @@ pub record IsKept (k : Kernel) (a : Alien) : Type 0 where
   pub refused : (closed : ℕ) → a.stage ≡ alien_stages.Refused closed → is_live (k.procs a.at) ≡ false
 
 -- The exchange of a process that waits in a Send. A local one is queued or taken; of a remote one the open move is noted.
-pub record IsSent (k : Kernel) (s : Seat) (target : Pid) (m : Message) : Type 0 where
+pub record IsSending (k : Kernel) (s : Seat) (target : Pid) (m : Message) : Type 0 where
   pub exchange : Exchange
   pub is : k.exchanges (name_of s.pid s.note.sends) ≡ Some exchange
   pub target_is : exchange.target ≡ target
@@ -89,7 +79,7 @@ pub record IsAsking (k : Kernel) (s : Seat) (logical : ℕ) : Type 0 where
 
 -- What the view has of what a process waits in.
 abbrev pub IsWaiting : Kernel → Seat → Waiting → Type 0
-IsWaiting k s (waitings.Send target m) = IsSent k s target m
+IsWaiting k s (waitings.Send target m) = IsSending k s target m
 IsWaiting k s (waitings.MoveTo partner dest src count) = IsMoving k s partner directions.To dest count
 IsWaiting k s (waitings.MoveFrom partner dest src count) = IsMoving k s partner directions.From dest count
 IsWaiting k s (waitings.GetPid logical scope) = IsAsking k s logical
@@ -102,8 +92,8 @@ IsFar s w (waitings.MoveFrom partner dest src count) = (s.note.offset ≡ w.rece
 IsFar s w waiting = Unit {0}
 
 pub record IsWorking (t : Times) (s : Seat) (w : Work) (waiting : Waiting) : Type 0 where
-  pub tries : s.note.tries ≡ w.rounds
-  pub deadline : s.note.deadline ≡ w.since + t.interval
+  pub tries : s.note.work.tries ≡ w.rounds
+  pub deadline : s.note.work.deadline ≡ w.since + t.interval
   pub far : IsFar s w waiting
 
 -- the numbers that a process counts are at most the events of its station
@@ -125,7 +115,7 @@ pub record Stands (times : Times) (host : ℕ) (t : Tables) (r : Reading) : Type
   pub names : r.view.names host ≡ t.names
   pub unknown : HasOwnNames host r.view
   pub slots : r.slots ≡ map (option_map read_alien) t.slots
-  pub kept : (sender : Pid) (a : Alien) → alien_from t.slots sender ≡ Some a → IsKept r.view a
+  pub kept : (sender : Pid) (a : Alien) → alien_from t.slots sender ≡ Some a → IsAlienKept r.view a
   pub waiting : (pid : Pid) (s : Seat) (w : Waiting) → seat_in t.seats pid ≡ Some s → s.doing ≡ activities.Blocked w → IsWaiting r.view s w
   pub works : (pid : Pid) (s : Seat) (w : Waiting) → seat_in t.seats pid ≡ Some s → s.doing ≡ activities.Blocked w →
       is_work pid w ≡ true → IsWorking times s (r.work pid) w

@@ -1,14 +1,8 @@
 -- The tables of a station as plain values, and what they tell by themselves.
 use Rattle.std.specs.Prelude.{ℕ, ◌-◌, Bool, false, not, nat_lt, List, [], map, replicate, slice_get, Option, None, option_map, if◌then◌else◌}
-use Rattle.vk_base.specs.declared.kernel.Exchange.{Exchange}
-use Rattle.vk_base.specs.declared.kernel.Name.{Name}
-use Rattle.vk_base.specs.declared.kernel.Registration.{Registration}
-use Rattle.vk_base.specs.declared.kernel.Stage.{Stage}
+use Rattle.vk_types.specs.Types.{Exchange, Message, Name, Pid, Registration, Stage, Waiting}
 use Rattle.vk_base.specs.declared.kernel.Stage.TheVariants as stages
 use Rattle.vk_base.specs.declared.limits.TheConstants.{STATION_PROCESSES}
-use Rattle.vk_base.specs.declared.message.Message.{Message}
-use Rattle.vk_base.specs.declared.pid.Pid.{Pid}
-use Rattle.vk_base.specs.declared.activity.Waiting.{Waiting}
 use Rattle.vk_base.specs.declared.activity.Waiting.TheVariants as waitings
 use Rattle.vk_base.specs.Kernel.{name_of}
 use Rattle.vk_base.specs.Packets.{Packet, Reply, Pending, Negative}

@@ -1,24 +1,17 @@
 -- What a tick makes of a station: each process whose work is due, in order, and then the aliens that are over.
 use Rattle.std.specs.Prelude.{ℕ, ◌≡◌, ◌+◌, Bool, false, List, [], ◌∷◌, ◌++◌, map, flat_map, option_to_list, if◌then◌else◌}
 use Rattle.std.specs.Option.{option_map_or}
-use Rattle.vk_base.specs.declared.activity.Activity.{Activity}
+use Rattle.vk_types.specs.Types.{Activity, MoveName, Outcome, Step, Times, Waiting}
 use Rattle.vk_base.specs.declared.activity.Activity.TheVariants as activities
-use Rattle.vk_base.specs.declared.activity.Outcome.{Outcome}
 use Rattle.vk_base.specs.declared.activity.Outcome.TheVariants as outcomes
-use Rattle.vk_base.specs.declared.activity.Waiting.{Waiting}
 use Rattle.vk_base.specs.declared.activity.Waiting.TheVariants as waitings
 use Rattle.vk_base.specs.declared.answer.Refusal.TheVariants as refusals
-use Rattle.vk_base.specs.declared.config.Times.{Times}
-use Rattle.vk_base.specs.declared.kernel.MoveName.{MoveName}
-use Rattle.vk_base.specs.declared.step.Step.{Step}
 use Rattle.vk_base.specs.Activities.{call_of}
 use Rattle.vk_base.specs.Packets.{Packet, Send, AskPid}
 use Rattle.vk_base.specs.Settings.{Settings}
 use Rattle.vk_pool.specs.Aliens.{kept}
 use Rattle.vk_procs.specs.declared.seat.Seat.{Seat}
 use Rattle.vk_procs.specs.Seats.{finished}
--- the work of a process
-pub use Rattle.vk_procs.specs.Works.{work_in}
 use Rattle.vk_rules.specs.CallOutcomes.{work_failure}
 use Rattle.vk_rules.specs.Entries.{Ticked}
 use Rattle.vk_rules.specs.Readings.{Reading}
@@ -30,7 +23,7 @@ use Rattle.vk_stands.specs.Stands.{Stands}
 use Rattle.vk_stands.specs.Tables.{Tables, is_work}
 use Rattle.vk_timer.specs.declared.work.Due.{Due}
 use Rattle.vk_timer.specs.declared.work.Due.TheVariants as dues
-use Rattle.vk_timer.specs.Works.{due_at}
+use Rattle.vk_timer.specs.Works.{due_at, sent_again}
 
 -- The round of a work: the Send with its part, the data or the request of a move from where it is, or the question of a lookup.
 abbrev pub work_round : Seat → Waiting → List Packet
@@ -50,7 +43,7 @@ fresh_then w fresh = fresh
 
 abbrev pub tried_again : Times → ℕ → Waiting → Seat → Seat
 tried_again times now w s = record s {
-  note = record s.note { tries = s.note.tries + 1; deadline = now + times.interval; fresh = fresh_then w s.note.fresh };
+  note = record s.note { work = sent_again times now s.note.work; fresh = fresh_then w s.note.fresh };
 }
 
 -- how a work ends that nobody answers
@@ -75,7 +68,7 @@ ticking_by times now s w dues.GiveUp =
 
 abbrev pub ticking_in : Times → ℕ → Seat → Activity → Ticking
 ticking_in times now s (activities.Blocked w) =
-    if is_work s.pid w then ticking_by times now s w (due_at times now (work_in s)) else at_rest s
+    if is_work s.pid w then ticking_by times now s w (due_at times now s.note.work) else at_rest s
 ticking_in times now s d = at_rest s
 
 abbrev pub ticking : Times → ℕ → Seat → Ticking

@@ -1,7 +1,7 @@
 -- Logs that are such as can be joined, and the schedule that they are joined to.
 use Rattle.std.proofs.Common.{◌≡◌, ℕ, ◌+◌, ◌<◌, ◌≤◌, List, [], ◌∷◌, ◌++◌, get_or, length, take, sym, ap, subst, ◌∙◌, arith}
 use Rattle.std.proofs.lemmas.List.{take_all, take_more}
-use Rattle.vk_base.specs.declared.config.ProcessSpec.{ProcessSpec}
+use Rattle.vk_types.specs.Types.{ProcessSpec}
 use Rattle.vk_base.specs.Settings.{Settings}
 use Rattle.vk_schedule.specs.declared.log.StationLog.{StationLog}
 use Rattle.vk_join.specs.Logs.{AreLogs, HostsRise}
@@ -10,10 +10,6 @@ use Rattle.vk_rules.proofs.Lists.{each_append, each_weaker}
 use Rattle.vk_station_tests.specs.Logs.{IsLogOf}
 
 -- One more of a list.
-pub each_more : {A : Type 0} (P : A → Type 0) (xs : List A) (n : ℕ) (x : A) → n < length xs → x ≡ get_or xs n x → P x →
-    Each P (take n xs) → Each P (take (n + 1) xs)
-each_more P xs n x low is one before =
-    subst (Each P) (sym (take_more xs n x low ∙ ap (λ y. take n xs ++ y ∷ []) (sym is))) (each_append P (take n xs) (x ∷ []) before (one, tt))
 
 rise_behind : (ls : List StationLog) (l : StationLog) → HostsRise ls → Each (λ (m : StationLog). m.host < l.host) ls → HostsRise (ls ++ l ∷ [])
 rise_behind [] l rise below = (tt, tt)

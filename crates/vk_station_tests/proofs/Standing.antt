@@ -1,20 +1,19 @@
 -- A station stands for some entries from its first event on, and so do all stations for some events.
 use Rattle.std.specs.Prelude.{◌≡◌, ◌++◌, List, [], ◌∷◌, Result, Ok, Err, IfOk, OnErr}
 use Rattle.std.proofs.Common.{ap, sym, subst, ◌∙◌}
+use Rattle.vk_types.specs.Types.{EventAnswer, ProcessSpec}
 use Rattle.vk_base.specs.Settings.{Settings}
-use Rattle.vk_base.specs.declared.config.ProcessSpec.{ProcessSpec}
-use Rattle.vk_base.specs.declared.event.EventAnswer.{EventAnswer}
 use Rattle.vk_schedule.specs.declared.event.Event.{Event}
 use Rattle.vk_rules.specs.Entries.{Input}
 use Rattle.vk_rules.specs.Right.{entry_of}
-use Rattle.vk_host.specs.Standing.{IsAt, IsEvent, StandsSomewhere}
+use Rattle.vk_host.specs.Standing.{StandsAt, IsEvent, StandsSomewhere}
 use Rattle.vk_host.specs.Values.{StationValue}
 use Rattle.vk_cluster.specs.Standing as clusters
 use Rattle.vk_cluster.specs.Values.{ClusterValue}
 use Rattle.vk_cluster.specs.declared.report.ClusterRefusal.{ClusterRefusal}
 use Rattle.vk_cluster.specs.declared.report.StepReport.{StepReport}
 
-pub new_stands : (c : Settings) (s : StationValue) → IsAt c [] s → StandsSomewhere s
+pub new_stands : (c : Settings) (s : StationValue) → StandsAt c [] s → StandsSomewhere s
 new_stands c s at = (c, [], at)
 
 pub goes_on : (old new : StationValue) (i : Input) (a : EventAnswer) → IsEvent old new i a → StandsSomewhere old → StandsSomewhere new

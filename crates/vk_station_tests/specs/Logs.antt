@@ -1,6 +1,6 @@
 -- A log of a station of these processes.
 use Rattle.std.specs.Prelude.{◌≡◌, true, List}
-use Rattle.vk_base.specs.declared.config.ProcessSpec.{ProcessSpec}
+use Rattle.vk_types.specs.Types.{ProcessSpec}
 use Rattle.vk_base.specs.Settings.{has_station}
 use Rattle.vk_schedule.specs.declared.log.StationLog.{StationLog}
 use Rattle.vk_join.specs.Logs.{IsOfStation}

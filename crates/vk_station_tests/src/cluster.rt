@@ -9,7 +9,7 @@ use std::io;
 use std::marker::Model;
 use vk_base::Config;
 use vk_cluster::{Cluster, ClusterAnswer, ClusterRefusal, StepReport};
-use vk_report::{AnswerView, Form, Place, put_entry, put_missing};
+use vk_report::{AnswerView, EventPlace, Form, put_entry, put_missing};
 use vk_schedule::Event;
 
 /// The stations, how many events they had, and how many of these were deliveries of what was not emitted.
@@ -92,7 +92,7 @@ impl Stations {
             return Err(is_bad());
         }
         let station = self.cluster.host(report.host);
-        let place = Place {
+        let place = EventPlace {
             number: self.events,
             host: report.host,
             own: report.event,

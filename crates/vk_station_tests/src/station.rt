@@ -7,7 +7,7 @@ use std::marker::Model;
 use vk_base::{Config, Pid, ProcessSpec, Times};
 use vk_brief::{BriefCall, CallView};
 use vk_host::{Host, Response};
-use vk_report::{AnswerView, Form, Place, put_entry};
+use vk_report::{AnswerView, EventPlace, Form, put_entry};
 use vk_text::{next_pid, pid, read_call};
 
 /// How often and how long a station tries.
@@ -167,7 +167,7 @@ impl Station {
         response: Response,
         told: &mut Vec<u8>,
     ) -> io::Result<()> {
-        let place = Place {
+        let place = EventPlace {
             number: self.host.number(),
             host: self.number,
             own: self.host.events(),

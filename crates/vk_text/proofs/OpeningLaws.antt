@@ -4,12 +4,12 @@ use Rattle.std.specs.List.{AllByRecursion, list_all}
 use Rattle.std.specs.Option.{option_map_or}
 use Rattle.std.proofs.lemmas.Bool.{and_parts, eqb-true}
 use Rattle.std.proofs.lemmas.Slice.Eq.{bytes_eq-Decides}
+use Rattle.vk_types.specs.Types.{Times}
 use Rattle.vk_base.specs.Settings.{AreLawful, Settings, pool_of, stations_of}
-use Rattle.vk_base.specs.declared.config.Times.{Times}
 use Rattle.vk_base.proofs.Pools.{uniform_lawful}
 use Rattle.vk_text.specs.Heads.{HasNoFeed, process_text, processes_from, settings_of, usual_pool, usual_times, BeginsWithNoProcess}
 use Rattle.vk_text.specs.Lines.{words_from}
-use Rattle.vk_text.specs.Openings.{BeginsNoHead, IsOpening, IsTold, OpeningsAreSpelled, OpeningsAreWritten, OpeningsHaveNoFeed, OpeningsReadBack, TellPools, is_usual, opening_of, plain_opening, pools_from, same_times, timed_lines, timed_opening, times_of, times_text, with_pools}
+use Rattle.vk_text.specs.Openings.{BeginsNoHead, IsOpening, IsTellable, OpeningsAreSpelled, OpeningsAreWritten, OpeningsHaveNoFeed, OpeningsReadBack, TellPools, is_usual, opening_of, plain_opening, pools_from, same_times, timed_lines, timed_opening, times_of, times_text, with_pools}
 use Rattle.vk_text.proofs.HeadRanges.{processes_fit}
 use Rattle.vk_text.proofs.HeadReading.{Parts}
 use Rattle.vk_text.proofs.HeadTexts.{processes_back, processes_no_feed, processes_spelled}
@@ -24,7 +24,7 @@ Opened = Settings × List (List ℕ)
 
 -- an opening of this configuration, and the lines behind it
 record IsSplit (plain timed : List ℕ) (lines : List (List ℕ)) (found : Opened) : Type 0 where
-  told : IsTold found.0
+  told : IsTellable found.0
   front : List (List ℕ)
   is : IsOpening plain timed found.0 front
   whole : lines ≡ front ++ found.1
@@ -100,7 +100,7 @@ openings_spelled plain timed lines body c h =
 own_title : (title : List ℕ) → bytes_eq title title ≡ true
 own_title title = (bytes_eq-Decides title title).1 refl
 
-both_plain : (a b : List (List ℕ)) → AllByRecursion HasNoFeed a → AllByRecursion HasNoFeed b → AllByRecursion HasNoFeed (a ++ b)
+pub both_plain : (a b : List (List ℕ)) → AllByRecursion HasNoFeed a → AllByRecursion HasNoFeed b → AllByRecursion HasNoFeed (a ++ b)
 both_plain [] b h k = k
 both_plain (l ∷ ls) b h k = (h.0, both_plain ls b h.1 k)
 
@@ -108,7 +108,7 @@ begins_no_process : (body : List (List ℕ)) → BeginsNoHead body → BeginsWit
 begins_no_process [] none = tt
 begins_no_process (l ∷ ls) none = none.0
 
-plain_back : (plain timed : List ℕ) (c : Settings) (body : List (List ℕ)) → IsTold c → c ≡ settings_of c.specs → BeginsNoHead body →
+plain_back : (plain timed : List ℕ) (c : Settings) (body : List (List ℕ)) → IsTellable c → c ≡ settings_of c.specs → BeginsNoHead body →
     opening_of plain timed (plain ∷ (map process_text c.specs ++ body)) ≡ Ok (c, body)
 unfolding opening_of
 plain_back plain timed c body told usual none =
@@ -118,7 +118,7 @@ plain_back plain timed c body told usual none =
     ∙ ap (λ (found : Parts). Ok (settings_of found.0, found.1)) back
     ∙ ap (λ (d : Settings). Ok (d, body)) (sym usual)
 
-timed_back : (plain timed : List ℕ) (c : Settings) (pools body : List (List ℕ)) → bytes_eq timed plain ≡ false → IsTold c →
+timed_back : (plain timed : List ℕ) (c : Settings) (pools body : List (List ℕ)) → bytes_eq timed plain ≡ false → IsTellable c →
     TellPools (stations_of c.specs) c.pools pools → BeginsNoHead body →
     opening_of plain timed (timed ∷ times_text c.times ∷ (map process_text c.specs ++ (pools ++ body))) ≡ Ok (c, body)
 unfolding opening_of
@@ -136,7 +136,7 @@ timed_back plain timed c pools body other told tell none =
     ∙ ap (λ (found : Parts). Ok (with_pools c.times found)) back
     ∙ ap (λ (found : List ℕ × List (List ℕ)). Ok (record { times = c.times; pools = found.0; specs = c.specs }, found.1)) read
 
-back_by : (plain timed : List ℕ) (c : Settings) (ls body : List (List ℕ)) → bytes_eq timed plain ≡ false → IsTold c →
+back_by : (plain timed : List ℕ) (c : Settings) (ls body : List (List ℕ)) → bytes_eq timed plain ≡ false → IsTellable c →
     IsOpening plain timed c ls → BeginsNoHead body → opening_of plain timed (ls ++ body) ≡ Ok (c, body)
 back_by plain timed c ls body other told (inl is) none =
     ap (λ l. opening_of plain timed (l ++ body)) is.1 ∙ plain_back plain timed c body told is.0 none
@@ -148,7 +148,7 @@ back_by plain timed c ls body other told (inr is) none =
 pub openings_back : OpeningsReadBack
 openings_back = back_by
 
-no_feed_by : (plain timed : List ℕ) (c : Settings) (ls : List (List ℕ)) → HasNoFeed plain → HasNoFeed timed → IsTold c →
+no_feed_by : (plain timed : List ℕ) (c : Settings) (ls : List (List ℕ)) → HasNoFeed plain → HasNoFeed timed → IsTellable c →
     IsOpening plain timed c ls → AllByRecursion HasNoFeed ls
 no_feed_by plain timed c ls first second told (inl is) =
     subst (AllByRecursion HasNoFeed) (sym is.1) (first, processes_no_feed c.specs told.pids told.lawful.processes)

@@ -2,9 +2,10 @@
 use Rattle.std.proofs.Common.{◌≡◌, ℕ, suc, ◌==◌, ◌||◌, inl, inr, Bool, true, false, cond, List, [], ◌∷◌, ◌++◌, length, replicate, Option, Some, None, if◌then◌else◌, refl, ap, sym, subst, ◌∙◌, arith}
 use Rattle.std.specs.List.{AllByRecursion, flat_map, list_all, list_any}
 use Rattle.std.specs.Option.{option_map_or}
-use Rattle.std.proofs.lemmas.Bool.{and_parts, eqb-true, false_from_ne_true, eq-eqb}
-use Rattle.vk_base.specs.declared.config.ProcessSpec.{ProcessSpec}
+use Rattle.std.proofs.lemmas.Bool.{and_parts, eqb-true, eq-eqb, or_parts}
+use Rattle.vk_types.specs.Types.{ProcessSpec}
 use Rattle.vk_base.specs.Settings.{pool_beside, pool_is_lawful, stations_of, stations_with}
+use Rattle.vk_base.proofs.BoolLemmas.{eqb_turned}
 use Rattle.vk_text.specs.Heads.{BeginsWithNoProcess, HasNoFeed, usual_pool}
 use Rattle.vk_text.specs.Openings.{BeginsNoHead, TellPools, behind_pool, first_pool, pool_text, pools_from}
 use Rattle.vk_text.proofs.OpeningWords.{IsPool, IsStation, first_is, other_first, own_first, pool_lawful, pool_no_feed, pool_no_process, pool_within}
@@ -12,40 +13,33 @@ use Rattle.vk_text.proofs.OpeningWords.{IsPool, IsStation, first_is, other_first
 -- The stations of processes are numbers of stations, each once.
 
 -- this host is none of these
-abbrev pub IsApart : ℕ → ℕ → Type 0
-IsApart host h = (host == h) ≡ false
+abbrev pub IsOtherHost : ℕ → ℕ → Type 0
+IsOtherHost host h = (host == h) ≡ false
 
-abbrev pub AreApart : List ℕ → Type 0
-AreApart [] = Unit {0}
-AreApart (h ∷ hs) = AllByRecursion (IsApart h) hs × AreApart hs
-
-turned : (a b : ℕ) → (a == b) ≡ false → (b == a) ≡ false
-turned a b h = false_from_ne_true (b == a) (λ t. let clash : true ≡ false = sym (eq-eqb a b (sym (eqb-true b a t))) ∙ h in cc)
+abbrev pub AreOtherHosts : List ℕ → Type 0
+AreOtherHosts [] = Unit {0}
+AreOtherHosts (h ∷ hs) = AllByRecursion (IsOtherHost h) hs × AreOtherHosts hs
 
 all_more : (P : ℕ → Type 0) (xs : List ℕ) (x : ℕ) → AllByRecursion P xs → P x → AllByRecursion P (xs ++ x ∷ [])
 all_more P [] x all one = (one, tt)
 all_more P (y ∷ ys) x all one = (all.0, all_more P ys x all.1 one)
 
-or_no : (a b : Bool) → (a || b) ≡ false → (a ≡ false) × (b ≡ false)
-or_no true b h = cc
-or_no false b h = (refl, h)
-
-apart_more : (hosts : List ℕ) (h : ℕ) → list_any (λ x. x == h) hosts ≡ false → AreApart hosts → AreApart (hosts ++ h ∷ [])
+apart_more : (hosts : List ℕ) (h : ℕ) → list_any (λ x. x == h) hosts ≡ false → AreOtherHosts hosts → AreOtherHosts (hosts ++ h ∷ [])
 apart_more [] h none apart = (tt, tt)
 apart_more (x ∷ xs) h none apart =
-    let parts = or_no (x == h) (list_any (λ y. y == h) xs) none in
-    (all_more (IsApart x) xs h apart.0 parts.0, apart_more xs h parts.1 apart.1)
+    let parts = or_parts (x == h) (list_any (λ y. y == h) xs) none in
+    (all_more (IsOtherHost x) xs h apart.0 parts.0, apart_more xs h parts.1 apart.1)
 
-apart_by : (hosts : List ℕ) (h : ℕ) (b : Bool) → list_any (λ x. x == h) hosts ≡ b → AreApart hosts → AreApart (cond b hosts (hosts ++ h ∷ []))
+apart_by : (hosts : List ℕ) (h : ℕ) (b : Bool) → list_any (λ x. x == h) hosts ≡ b → AreOtherHosts hosts → AreOtherHosts (cond b hosts (hosts ++ h ∷ []))
 apart_by hosts h true is apart = apart
 apart_by hosts h false is apart = apart_more hosts h is apart
 
-apart_with : (hosts : List ℕ) (specs : List ProcessSpec) → AreApart hosts → AreApart (stations_with hosts specs)
+apart_with : (hosts : List ℕ) (specs : List ProcessSpec) → AreOtherHosts hosts → AreOtherHosts (stations_with hosts specs)
 apart_with hosts [] apart = apart
 apart_with hosts (s ∷ ss) apart =
     apart_with (if list_any (λ h. h == s.pid.host) hosts then hosts else hosts ++ s.pid.host ∷ []) ss (apart_by hosts s.pid.host _ refl apart)
 
-pub stations_apart : (specs : List ProcessSpec) → AreApart (stations_of specs)
+pub stations_apart : (specs : List ProcessSpec) → AreOtherHosts (stations_of specs)
 stations_apart specs = apart_with [] specs tt
 
 numbers_by : (hosts : List ℕ) (h : ℕ) (b : Bool) → IsStation h → AllByRecursion IsStation hosts →
@@ -120,7 +114,7 @@ unfolding first_pool
 none_first host [] none = refl
 none_first host (l ∷ ls) none = rw none.1 refl
 
-passed : (host : ℕ) (hosts pools : List ℕ) (told body : List (List ℕ)) → AllByRecursion (IsApart host) hosts →
+passed : (host : ℕ) (hosts pools : List ℕ) (told body : List (List ℕ)) → AllByRecursion (IsOtherHost host) hosts →
     AllByRecursion IsStation hosts → AllByRecursion IsPool pools → TellPools hosts pools told → BeginsNoHead body →
     first_pool host (told ++ body) ≡ None
 passed host [] [] told body apart numbers fits tell none =
@@ -131,9 +125,9 @@ passed host (h ∷ hs) (k ∷ ks) told body apart numbers fits (inl tell) none =
     passed host hs ks told body apart.1 numbers.1 fits.1 tell.1 none
 passed host (h ∷ hs) (k ∷ ks) told body apart numbers fits (inr tell) none =
     ap (λ t. first_pool host (t ++ body)) tell.1
-    ∙ other_first host h k (tell.0 ++ body) numbers.0 fits.0 (turned host h apart.0)
+    ∙ other_first host h k (tell.0 ++ body) numbers.0 fits.0 (eqb_turned host h apart.0)
 
-pub pools_read : (hosts pools : List ℕ) (told body : List (List ℕ)) → AreApart hosts → AllByRecursion IsStation hosts →
+pub pools_read : (hosts pools : List ℕ) (told body : List (List ℕ)) → AreOtherHosts hosts → AllByRecursion IsStation hosts →
     AllByRecursion IsPool pools → TellPools hosts pools told → BeginsNoHead body → pools_from hosts (told ++ body) ≡ (pools, body)
 unfolding pools_from
 pools_read [] [] told body apart numbers fits tell none = ap (λ (t : List (List ℕ)). ([], t ++ body)) tell.2
@@ -187,13 +181,13 @@ same_lines f g (h ∷ hs) same = ap (λ l. l ++ flat_map f hs) same.0 ∙ ap (λ
 abbrev line_of : (ℕ → ℕ) → ℕ → List (List ℕ)
 line_of pool h = cond (pool h == usual_pool) [] (pool_text h (pool h) ∷ [])
 
-passing : (h k : ℕ) (all hs ks : List ℕ) → AllByRecursion (IsApart h) all →
+passing : (h k : ℕ) (all hs ks : List ℕ) → AllByRecursion (IsOtherHost h) all →
     AllByRecursion (λ x. line_of (pool_beside (h ∷ hs) (k ∷ ks)) x ≡ line_of (pool_beside hs ks) x) all
 passing h k [] hs ks apart = tt
 passing h k (x ∷ xs) hs ks apart =
     (ap (λ b. line_of (λ y. cond b k (pool_beside hs ks y)) x) apart.0, passing h k xs hs ks apart.1)
 
-pub pools_written : (hosts pools : List ℕ) → AreApart hosts → length pools ≡ length hosts →
+pub pools_written : (hosts pools : List ℕ) → AreOtherHosts hosts → length pools ≡ length hosts →
     TellPools hosts pools (flat_map (line_of (pool_beside hosts pools)) hosts)
 pools_written [] [] apart long = (refl, refl, refl)
 pools_written [] (k ∷ ks) apart long = cc
@@ -216,13 +210,13 @@ same_tests : (f g : ℕ → Bool) (hosts : List ℕ) → AllByRecursion (λ h. f
 same_tests f g [] same = refl
 same_tests f g (h ∷ hs) same = rw (same.0, same_tests f g hs same.1) refl
 
-passing_tests : (h k : ℕ) (all hs ks : List ℕ) → AllByRecursion (IsApart h) all →
+passing_tests : (h k : ℕ) (all hs ks : List ℕ) → AllByRecursion (IsOtherHost h) all →
     AllByRecursion (λ x. is_usual_at (pool_beside (h ∷ hs) (k ∷ ks)) x ≡ is_usual_at (pool_beside hs ks) x) all
 passing_tests h k [] hs ks apart = tt
 passing_tests h k (x ∷ xs) hs ks apart =
     (ap (λ b. cond b k (pool_beside hs ks x) == usual_pool) apart.0, passing_tests h k xs hs ks apart.1)
 
-pub all_usual : (hosts pools : List ℕ) → AreApart hosts → length pools ≡ length hosts →
+pub all_usual : (hosts pools : List ℕ) → AreOtherHosts hosts → length pools ≡ length hosts →
     list_all (is_usual_at (pool_beside hosts pools)) hosts ≡ true → pools ≡ replicate (length hosts) usual_pool
 all_usual [] [] apart long all = refl
 all_usual [] (k ∷ ks) apart long all = cc

@@ -6,8 +6,7 @@ use Rattle.std.proofs.lemmas.Bool.{eq-eqb}
 use Rattle.std.proofs.lemmas.List.Concat.{flat_map-append}
 use Rattle.std.proofs.lemmas.List.Folds.{flat_map-map, list_any_at}
 use Rattle.std.proofs.lemmas.List.{append-nil, drop_all, drop_more, drop-set-lt, length-set, take_all, take_more, take_more_set}
-use Rattle.vk_base.specs.declared.config.ProcessSpec.{ProcessSpec}
-use Rattle.vk_base.specs.declared.config.Times.{Times}
+use Rattle.vk_types.specs.Types.{ProcessSpec, Times}
 use Rattle.vk_base.specs.Settings.{Settings, has_station, pool_refusal, put_beside, stations_of, times_are_lawful, uniform, with_pool}
 use Rattle.vk_base.proofs.SettingsLemmas.{among_stations}
 use Rattle.vk_text.specs.Heads.{head_text, line_text, process_text, usual_pool}
@@ -16,7 +15,7 @@ use Rattle.vk_text.specs.Openings.{HasProcesses, behind_pool, first_pool, is_usu
 use Rattle.vk_text.specs.declared.heads.Head.{Head}
 use Rattle.vk_text.specs.declared.opening.OpeningRefusal.{OpeningRefusal}
 use Rattle.vk_text.specs.declared.opening.OpeningRefusal.TheVariants as refusals
-use Rattle.vk_text.proofs.OpeningPools.{AreApart, IsApart, stations_apart}
+use Rattle.vk_text.proofs.OpeningPools.{AreOtherHosts, IsOtherHost, stations_apart}
 use Rattle.vk_text.proofs.OpeningWords.{first_is, pool_lawful, times_line}
 
 abbrev Pools : Type 0
@@ -89,12 +88,12 @@ module _ (hosts : List ℕ) (all : Pools) (pools : List ℕ) (done : ℕ) (left 
 
 -- The pool of the station in a place.
 
-apart_at : (h : ℕ) (hs : List ℕ) (i : ℕ) → AllByRecursion (IsApart h) hs → i < length hs → (h == get_or hs i 0) ≡ false
+apart_at : (h : ℕ) (hs : List ℕ) (i : ℕ) → AllByRecursion (IsOtherHost h) hs → i < length hs → (h == get_or hs i 0) ≡ false
 apart_at h [] i apart there = absurd (omega arith)
 apart_at h (x ∷ xs) zero apart there = apart.0
 apart_at h (x ∷ xs) (suc i) apart there = apart_at h xs i apart.1 (omega arith)
 
-put_at : (hosts pools : List ℕ) (i pool : ℕ) → AreApart hosts → length pools ≡ length hosts → i < length hosts →
+put_at : (hosts pools : List ℕ) (i pool : ℕ) → AreOtherHosts hosts → length pools ≡ length hosts → i < length hosts →
     put_beside hosts pools (get_or hosts i 0) pool ≡ set pools i pool
 put_at [] pools i pool apart long there = absurd (omega arith)
 put_at (h ∷ hs) [] i pool apart long there = cc

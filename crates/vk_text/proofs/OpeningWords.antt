@@ -3,7 +3,7 @@ use Rattle.std.proofs.Common.{◌≡◌, ℕ, ◌<◌, ◌≤◌, ◌&&◌, ◌=
 use Rattle.std.specs.List.{AllByRecursion}
 use Rattle.std.proofs.lemmas.Bool.{and_from, and_parts, eq-eqb, eqb-true, le-leb, leb-true}
 use Rattle.std.proofs.lemmas.Option.{cond_some}
-use Rattle.vk_base.specs.declared.config.Times.{Times}
+use Rattle.vk_types.specs.Types.{Times}
 use Rattle.vk_base.specs.Settings.{pool_is_lawful, times_are_lawful}
 use Rattle.vk_base.proofs.OptionLemmas.{bind_is}
 use Rattle.vk_text.specs.Heads.{HasNoFeed, process_of}

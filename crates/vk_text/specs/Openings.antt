@@ -3,8 +3,7 @@
 use Rattle.std.specs.Prelude.{◌≡◌, ℕ, ◌+◌, ◌-◌, ◌==◌, ◌<◌, ◌&&◌, ◌⊎◌, Bool, false, List, [], ◌∷◌, ◌++◌, length, map, flat_map, decimal, codes, bytes_eq, Option, Some, None, Result, Ok, Err, if◌then◌else◌}
 use Rattle.std.specs.List.{list_all, AllByRecursion}
 use Rattle.std.specs.Option.{option_map_or}
-use Rattle.vk_base.specs.declared.config.ProcessSpec.{ProcessSpec}
-use Rattle.vk_base.specs.declared.config.Times.{Times}
+use Rattle.vk_types.specs.Types.{ProcessSpec, Times}
 use Rattle.vk_base.specs.declared.limits.TheConstants.{INTERVAL, LIFE, POOL, TRIES}
 use Rattle.vk_base.specs.Options.{◌>>=◌}
 use Rattle.vk_base.specs.Pids.{IsPid}
@@ -140,7 +139,7 @@ IsOpening plain timed c ls =
     × (ls ≡ timed ∷ times_text c.times ∷ (map process_text c.specs ++ pools)))
 
 -- a configuration that a text can tell
-pub record IsTold (c : Settings) : Type 0 where
+pub record IsTellable (c : Settings) : Type 0 where
   pub lawful : AreLawful c
   pub pids : AllByRecursion (λ p. IsPid p.pid) c.specs
 
@@ -152,14 +151,14 @@ BeginsNoHead (l ∷ ls) = (process_of (words_from l 0) ≡ None) × (pool_line_o
 -- each opening is read as its configuration, whatever lines stand behind it, unless they begin with a process or a pool more
 abbrev pub OpeningsReadBack : Type 0
 OpeningsReadBack = (plain timed : List ℕ) (c : Settings) (ls body : List (List ℕ)) →
-    bytes_eq timed plain ≡ false → IsTold c → IsOpening plain timed c ls → BeginsNoHead body →
+    bytes_eq timed plain ≡ false → IsTellable c → IsOpening plain timed c ls → BeginsNoHead body →
     opening_of plain timed (ls ++ body) ≡ Ok (c, body)
 
 -- what is read is an opening of a configuration that a text can tell, and the lines behind it
 abbrev pub OpeningsAreSpelled : Type 0
 OpeningsAreSpelled = (plain timed : List ℕ) (lines body : List (List ℕ)) (c : Settings) →
     opening_of plain timed lines ≡ Ok (c, body) →
-    IsTold c × ((ls : List (List ℕ)) × IsOpening plain timed c ls × (lines ≡ ls ++ body))
+    IsTellable c × ((ls : List (List ℕ)) × IsOpening plain timed c ls × (lines ≡ ls ++ body))
 
 -- what is written is an opening
 abbrev pub OpeningsAreWritten : Type 0
@@ -168,4 +167,4 @@ OpeningsAreWritten = (plain timed : List ℕ) (c : Settings) → AreLawful c →
 -- no line of an opening has a line feed
 abbrev pub OpeningsHaveNoFeed : Type 0
 OpeningsHaveNoFeed = (plain timed : List ℕ) (c : Settings) (ls : List (List ℕ)) →
-    HasNoFeed plain → HasNoFeed timed → IsTold c → IsOpening plain timed c ls → AllByRecursion HasNoFeed ls
+    HasNoFeed plain → HasNoFeed timed → IsTellable c → IsOpening plain timed c ls → AllByRecursion HasNoFeed ls

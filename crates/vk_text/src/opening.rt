@@ -8,7 +8,7 @@ ghost use Rattle.vk_base.specs.Settings.{pool_refusal, stations_of, times_are_la
 ghost use Rattle.vk_text.specs.Heads.{line_text, process_text, processes_from, usual_pool, usual_times};
 ghost use Rattle.vk_text.specs.Lines.{lines_of, words_from};
 ghost use Rattle.vk_text.specs.Openings.{OpeningsAreSpelled, OpeningsAreWritten, OpeningsHaveNoFeed, OpeningsReadBack, HasProcesses, first_pool, has_usual_pool, is_usual, line_number, opening_of, opening_text, plain_opening, pool_fields_of, pool_line_of, pool_lines, pool_text, pools_from, same_times, timed_lines, timed_opening, times_fields_of, times_of, times_text, with_pools};
-ghost use Rattle.vk_text.specs.Spelling.{Begins};
+ghost use Rattle.vk_text.specs.Spelling.{StartsWith};
 
 use crate::heads::{
     Head, USUAL_POOL, config_of, empty_config, put_head, read_processes, usual_times,
@@ -251,7 +251,7 @@ fn is_usual(config: &Config) -> bool
 /// Appends the line of the times.
 fn write_times(alloc: Global, into: &mut Vec<u8>, times: Times) -> Result<(), NoMemory>
     ensures ok { OnOk result (into.new.items ≡ into.old.items ++ line_text (times_text times)) }
-    ensures front { OnErr result (Begins into.old.items into.new.items) }
+    ensures front { OnErr result (StartsWith into.old.items into.new.items) }
 {
     put(into, b"times")?;
     write_number(alloc, into, u64::from(times.tries))?;
@@ -263,7 +263,7 @@ fn write_times(alloc: Global, into: &mut Vec<u8>, times: Times) -> Result<(), No
 /// Appends the line of a station's pool.
 fn write_pool(alloc: Global, into: &mut Vec<u8>, host: u16, pool: u32) -> Result<(), NoMemory>
     ensures ok { OnOk result (into.new.items ≡ into.old.items ++ line_text (pool_text host pool)) }
-    ensures front { OnErr result (Begins into.old.items into.new.items) }
+    ensures front { OnErr result (StartsWith into.old.items into.new.items) }
 {
     put(into, b"pool")?;
     write_number(alloc, into, u64::from(host))?;
@@ -279,7 +279,7 @@ fn write_own_pool(
     host: u16,
 ) -> Result<(), NoMemory>
     ensures ok { OnOk result (into.new.items ≡ into.old.items ++ flat_map line_text (pool_lines config.now host)) }
-    ensures front { OnErr result (Begins into.old.items into.new.items) }
+    ensures front { OnErr result (StartsWith into.old.items into.new.items) }
 {
     let pool = config.pool_of(host);
     if pool == USUAL_POOL {
@@ -293,7 +293,7 @@ fn write_own_pool(
 fn write_pools(alloc: Global, into: &mut Vec<u8>, config: &Config) -> Result<(), NoMemory>
     ensures ok { OnOk result (into.new.items ≡ into.old.items
         ++ flat_map line_text (flat_map (pool_lines config.now) (stations_of config.now.specs))) }
-    ensures front { OnErr result (Begins into.old.items into.new.items) }
+    ensures front { OnErr result (StartsWith into.old.items into.new.items) }
 {
     for place in 0..config.station_count() {
         write_own_pool(alloc, into, config, config.station(place))?;
@@ -305,7 +305,7 @@ fn write_pools(alloc: Global, into: &mut Vec<u8>, config: &Config) -> Result<(),
 fn write_settings(alloc: Global, into: &mut Vec<u8>, config: &Config) -> Result<(), NoMemory>
     ensures ok { OnOk result (into.new.items ≡ into.old.items ++ flat_map line_text (times_text config.now.times
         ∷ (map process_text config.now.specs ++ flat_map (pool_lines config.now) (stations_of config.now.specs)))) }
-    ensures front { OnErr result (Begins into.old.items into.new.items) }
+    ensures front { OnErr result (StartsWith into.old.items into.new.items) }
 {
     write_times(alloc, into, config.times())?;
     write_processes(alloc, into, config.specs())?;
@@ -320,7 +320,7 @@ fn write_timed(
     config: &Config,
 ) -> Result<(), NoMemory>
     ensures ok { OnOk result (into.new.items ≡ into.old.items ++ flat_map line_text (timed_lines title.now config.now)) }
-    ensures front { OnErr result (Begins into.old.items into.new.items) }
+    ensures front { OnErr result (StartsWith into.old.items into.new.items) }
 {
     put(into, title)?;
     put_byte(into, b'\n')?;

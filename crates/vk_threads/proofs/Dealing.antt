@@ -2,24 +2,22 @@
 use Rattle.std.proofs.Common.{◌≡◌, ◌≤◌, ◌<◌, ℕ, zero, suc, ◌+◌, ◌==◌, eqb-true, Bool, true, false, cond, Option, Some, None, List, [], ◌∷◌, ◌++◌, append_assoc, append-nil, length, map, take, drop, get_or, refl, sym, ap, ◌∙◌, subst, arith}
 use Rattle.std.specs.Prelude.{slice_get}
 use Rattle.std.proofs.lemmas.List.{length-append}
-use Rattle.std.proofs.lemmas.Option.{none-some, same_Some}
+use Rattle.std.proofs.lemmas.Option.{none-some, same_Some, slice_get-get_or}
+use Rattle.vk_base.proofs.ListLemmas.{map_append}
+use Rattle.vk_types.specs.Types.{Answer, Call, Pid, StationEvent}
 use Rattle.turn_cell.specs.Seats.{Cell, IsSeatOf, Sitting, fresh}
-use Rattle.vk_base.specs.declared.answer.Answer.{Answer}
-use Rattle.vk_base.specs.declared.call.Call.{Call}
-use Rattle.vk_base.specs.declared.event.StationEvent.{StationEvent}
 use Rattle.vk_hub.specs.declared.event.HubEvent.{HubEvent}
 use Rattle.vk_hub.specs.Hubs.{HubLog}
 use Rattle.vk_port.specs.Ports.{PortValue, stand_of}
 use Rattle.vk_port.specs.Stations.{StationHistory}
 use Rattle.vk_rules.specs.Each.{Each}
-use Rattle.vk_rules.proofs.Lists.{each_append}
+use Rattle.vk_rules.proofs.Lists.{each_append, each_front, each_behind}
 use Rattle.v_run.specs.Passages.{Role, Runs, nowhere}
 use Rattle.vk_threads.specs.declared.opening.Site.{Site}
 use Rattle.vk_threads.specs.declared.opening.Spare.{Spare}
 use Rattle.vk_threads.specs.declared.work.Work.{Work}
 use Rattle.vk_program.specs.declared.assigned.Assigned.{Assigned}
 use Rattle.vk_threads.specs.declared.work.Work.TheVariants as works
-use Rattle.vk_base.specs.declared.pid.Pid.{Pid}
 use Rattle.vk_event.specs.declared.task.Task.{Task}
 use Rattle.vk_pages.specs.Any.{IsAfter, call_by}
 use Rattle.vk_pages.specs.Programs.{task_call}
@@ -47,19 +45,6 @@ drop_get [] i x found = absurd (none-some x found)
 drop_get (y ∷ ys) zero x found = ap (λ z. z ∷ ys) (same_Some y x found)
 drop_get (y ∷ ys) (suc i) x found = drop_get ys i x found
 
-pub each_at : {A : Type 0} (P : A → Type 0) (xs : List A) (i : ℕ) (x : A) → Each P xs → slice_get xs i ≡ Some x → P x
-each_at P [] i x each found = absurd (none-some x found)
-each_at P (y ∷ ys) zero x each found = subst P (same_Some y x found) each.0
-each_at P (y ∷ ys) (suc i) x each found = each_at P ys i x each.1 found
-
-pub each_front : {A : Type 0} (P : A → Type 0) (xs ys : List A) → Each P (xs ++ ys) → Each P xs
-each_front P [] ys each = tt
-each_front P (x ∷ xs) ys each = (each.0, each_front P xs ys each.1)
-
-pub each_behind : {A : Type 0} (P : A → Type 0) (xs ys : List A) → Each P (xs ++ ys) → Each P ys
-each_behind P [] ys each = each
-each_behind P (x ∷ xs) ys each = each_behind P xs ys each.1
-
 count_out : (h : ℕ) (s : Spare) (front behind : List Spare)
     → count_of h (map spare_host (front ++ s ∷ behind)) ≡ cond (s.host == h) 1 0 + count_of h (map spare_host (front ++ behind))
 count_out h s [] behind = refl
@@ -68,21 +53,12 @@ count_out h s (x ∷ xs) behind = let rest = count_out h s xs behind in omega ar
 same_rest : (n a b : ℕ) → n + a ≡ n + b → a ≡ b
 same_rest n a b e = omega arith
 
-pub get_slice : {A : Type 0} (xs : List A) (i : ℕ) (d : A) → i < length xs → slice_get xs i ≡ Some (get_or xs i d)
-get_slice [] i d low = absurd (omega arith)
-get_slice (x ∷ xs) zero d low = refl
-get_slice (x ∷ xs) (suc i) d low = get_slice xs i d (omega arith)
-
-pub map_append : {A B : Type 0} (f : A → B) (xs ys : List A) → map f (xs ++ ys) ≡ map f xs ++ map f ys
-map_append f [] ys = refl
-map_append f (x ∷ xs) ys = ap (λ l. f x ∷ l) (map_append f xs ys)
-
 pub taken_on : {A : Type 0} (xs : List A) (i : ℕ) (d : A) → i < length xs → take (i + 1) xs ≡ take i xs ++ get_or xs i d ∷ []
-taken_on xs i d low = let one : i + 1 ≡ suc i = omega arith in ap (λ n. take n xs) one ∙ take_get xs i (get_or xs i d) (get_slice xs i d low)
+taken_on xs i d low = let one : i + 1 ≡ suc i = omega arith in ap (λ n. take n xs) one ∙ take_get xs i (get_or xs i d) (slice_get-get_or xs i d low)
 
 pub dropped_on : {A : Type 0} (xs : List A) (i : ℕ) (d : A) → i < length xs → drop i xs ≡ get_or xs i d ∷ drop (i + 1) xs
 dropped_on xs i d low = let one : suc i ≡ i + 1 = omega arith in
-    drop_get xs i (get_or xs i d) (get_slice xs i d low) ∙ ap (λ n. get_or xs i d ∷ drop n xs) one
+    drop_get xs i (get_or xs i d) (slice_get-get_or xs i d low) ∙ ap (λ n. get_or xs i d ∷ drop n xs) one
 
 no_count : (n h : ℕ) → (n ≡ h → ⊥) → (b : Bool) → (n == h) ≡ b → ◌≡◌ {A = ℕ} (cond b 1 0) 0
 no_count n h differs true is = absurd (differs (eqb-true n h is))
@@ -113,7 +89,7 @@ split_at (y ∷ ys) (suc i) x found = ap (λ l. y ∷ l) (split_at ys i x found)
 pub taken_out : (old new shown : List Spare) (i host : ℕ) (s : Spare) → shown ≡ old → i < length shown
     → ((x : Spare) → slice_get shown i ≡ Some x → x.host ≡ host) → s ≡ get_or old i s → new ≡ take i old ++ drop (suc i) old → IsTaken host old s.seat new
 taken_out old new shown i host s same low at is left =
-    let found : slice_get old i ≡ Some s = get_slice old i s (subst (λ l. i < length l) same low) ∙ ap Some (sym is) in
+    let found : slice_get old i ≡ Some s = slice_get-get_or old i s (subst (λ l. i < length l) same low) ∙ ap Some (sym is) in
     let here : s.host ≡ host = at s (ap (λ l. slice_get l i) same ∙ found) in
     (take i old, drop (suc i) old, split_at old i s found ∙ ap (λ n. take i old ++ spare_at n s.seat ∷ drop (suc i) old) here, left)
 
@@ -179,23 +155,10 @@ module _ (sites : List Site) (hub : Cell HubLog) where
     job_push (e ∷ ds) [] d w are is = absurd are
     job_push (e ∷ ds) (v ∷ ws) d w are is = (are.0, job_push ds ws d w are.1 is)
 
-not_by : (n h : ℕ) → (n ≡ h → ⊥) → (b : Bool) → (n == h) ≡ b → (n == h) ≡ false
-not_by n h differs true is = absurd (differs (eqb-true n h is))
-not_by n h differs false is = is
-
-pub not_equal : (n h : ℕ) → (n ≡ h → ⊥) → (n == h) ≡ false
-not_equal n h differs = not_by n h differs (n == h) refl
-
 -- the stations of programs, and each station twice
 pub hosts_all : (hosts programs stations one two : List ℕ) → hosts ≡ programs → one ≡ hosts ++ stations → two ≡ one ++ stations
     → two ≡ programs ++ stations ++ stations
 hosts_all hosts programs stations one two same once twice = twice ∙ ap (λ l. l ++ stations) (once ∙ ap (λ l. l ++ stations) same)
-
-pub take_whole : {A : Type 0} (xs : List A) (i : ℕ) → length xs ≤ i → take i xs ≡ xs
-take_whole [] zero all = refl
-take_whole [] (suc i) all = refl
-take_whole (x ∷ xs) zero all = absurd (omega arith)
-take_whole (x ∷ xs) (suc i) all = ap (λ l. x ∷ l) (take_whole xs i (omega arith))
 
 pub drop_whole : {A : Type 0} (xs : List A) (i : ℕ) → length xs ≤ i → drop i xs ≡ []
 drop_whole [] zero all = refl
@@ -352,7 +315,7 @@ pub programs_on : (ts : List Task) (i : ℕ) (t : Task) (a : Assigned AnyProgram
     → ArePrograms (take (i + 1) ts) grown
 programs_on ts i t a others grown low here are pid task after is =
     let one : suc i ≡ i + 1 = omega arith in
-    let found : slice_get ts i ≡ Some t = get_slice ts i t low ∙ ap Some (sym here) in
+    let found : slice_get ts i ≡ Some t = slice_get-get_or ts i t low ∙ ap Some (sym here) in
     subst (ArePrograms (take (i + 1) ts)) (sym is)
     (subst (λ n. ArePrograms (take n ts) (others ++ a ∷ [])) one
     (subst (λ l. ArePrograms l (others ++ a ∷ [])) (sym (take_get ts i t found)) (program_push (take i ts) others t a are pid task after)))

@@ -3,12 +3,11 @@ use Rattle.std.proofs.Common.{◌≡◌, ◌≤◌, ◌<◌, ℕ, zero, suc, ◌
 use Rattle.std.specs.Prelude.{slice_get}
 use Rattle.std.proofs.lemmas.List.{length-append}
 use Rattle.std.proofs.lemmas.Option.{none-some, same_Some}
+use Rattle.vk_types.specs.Types.{Answer, Call, Pid}
 use Rattle.turn_cell.specs.Seats.{Cell, IsSeatOf, Sitting}
-use Rattle.vk_base.specs.declared.answer.Answer.{Answer}
-use Rattle.vk_base.specs.declared.call.Call.{Call}
-use Rattle.vk_base.specs.declared.pid.Pid.{Pid}
 use Rattle.vk_base.specs.Pids.{same_pid}
 use Rattle.vk_base.specs.Settings.{Settings}
+use Rattle.vk_base.proofs.ListLemmas.{map_append}
 use Rattle.vk_hub.specs.Hubs.{HubLog}
 use Rattle.vk_io.specs.Crews.{AllEnd}
 use Rattle.vk_port.specs.Ports.{Berth, IsLog, PortValue, Stand, berth_of, stand_of}
@@ -35,10 +34,6 @@ use Rattle.vk_threads.specs.Ends.{AreThrough, IsOf, IsThrough, MayEnd, port_host
 use Rattle.vk_threads.specs.Jobs.{ends_as, ports_of, roles_of, rounds_of}
 use Rattle.vk_threads.specs.Opened.{count_of}
 use Rattle.vk_threads.proofs.Dealing.{count_append}
-
-pub map_append : {A B : Type 0} (f : A → B) (xs ys : List A) → map f (xs ++ ys) ≡ map f xs ++ map f ys
-map_append f [] ys = refl
-map_append f (x ∷ xs) ys = ap (λ l. f x ∷ l) (map_append f xs ys)
 
 -- what is known of roles alone
 abbrev pub tasks_by : List Role → List Assignment

@@ -1,17 +1,15 @@
 -- From what a job did through its one port, and what came behind that, to its end.
-use Rattle.std.proofs.Common.{◌≡◌, ◌≢◌, ℕ, ◌+◌, ◌≤◌, Bool, true, false, Option, Some, None, is_some, List, [], ◌∷◌, ◌++◌, length, refl, sym, ap, ◌∙◌, subst, arith, append-nil, ◌&&◌, ◌==◌, ◌⊎◌, inl, inr}
+use Rattle.std.proofs.Common.{◌≡◌, ◌≢◌, ℕ, ◌+◌, ◌≤◌, true, false, Option, Some, None, is_some, List, [], ◌∷◌, ◌++◌, length, refl, sym, ap, ◌∙◌, subst, arith, append-nil, ◌&&◌, ◌==◌, ◌⊎◌, inl, inr}
 use Rattle.std.proofs.lemmas.Bool.Decides.{nat_tests}
 use mathlib.Core.List.{IsPrefix}
+use Rattle.vk_types.specs.Types.{Answer, Call, Pid, StationEvent}
 use Rattle.turn_cell.proofs.Histories.{prefix_self}
 use Rattle.turn_cell.specs.declared.replay.Room.{Room}
 use Rattle.turn_cell.specs.declared.replay.Room.TheVariants as rooms
 use Rattle.turn_cell.specs.Seats.{IsSameSeat}
-use Rattle.vk_base.specs.declared.answer.Answer.{Answer}
-use Rattle.vk_base.specs.declared.call.Call.{Call}
-use Rattle.vk_base.specs.declared.event.StationEvent.{StationEvent}
 use Rattle.vk_base.specs.declared.event.StationEvent.TheVariants as events
-use Rattle.vk_base.specs.declared.pid.Pid.{Pid}
 use Rattle.vk_base.specs.Settings.{Settings, has_process}
+use Rattle.vk_base.proofs.BoolLemmas.{and_second}
 use Rattle.vk_hub.specs.declared.event.HubEvent.{HubEvent}
 use Rattle.vk_hub.specs.declared.event.HubEvent.TheVariants as hub_events
 use Rattle.vk_hub.specs.Hubs.{has_halt, others}
@@ -233,10 +231,5 @@ module _ (p q : PortValue) (s : Seats) (host : s.host ≡ p.host) where
       (λ last. tt) (closed.halted refl)
       (halted_behind q s q.hub_seat.seen why closed.seat closed.same (prefix_self q.hub_seat.seen) closed.heard closed.sent)
 
--- a process of a station has its host
-and_last : (a b : Bool) → (a && b) ≡ true → b ≡ true
-and_last true b is = is
-and_last false b is = absurd (cc is)
-
 pub process_here : (o : StationHistory) (pid : Pid) → is_process_of o pid ≡ true → pid.host ≡ o.host
-process_here o pid is = let same = and_last (has_process o.config.specs pid) (pid.host == o.host) is in grind (arith, nat_tests)
+process_here o pid is = let same = and_second (has_process o.config.specs pid) (pid.host == o.host) is in grind (arith, nat_tests)

@@ -2,11 +2,11 @@
 use Rattle.std.proofs.Common.{◌≡◌, ℕ, ◌≤◌, true, List, [], ◌∷◌, ◌++◌, ◌⊎◌, Some, None, ap, ◌∙◌, sym, subst, arith, append_assoc, nat_le}
 use Rattle.std.proofs.lemmas.Bool.Decides.{nat_tests}
 use mathlib.Core.List.{IsPrefix}
+use Rattle.vk_types.specs.Types.{StationEvent}
 use Rattle.turn_cell.specs.declared.replay.Room.{Room}
 use Rattle.turn_cell.specs.declared.replay.Room.TheVariants as rooms
 use Rattle.turn_cell.specs.Rooms.{is_full}
 use Rattle.turn_cell.specs.Seats.{HasEntered, HasLooked, IsSameSeat, Sitting}
-use Rattle.vk_base.specs.declared.event.StationEvent.{StationEvent}
 use Rattle.vk_hub.specs.declared.event.HubEvent.{HubEvent}
 use Rattle.vk_hub.specs.declared.event.HubEvent.TheVariants as hub_events
 use Rattle.vk_hub.specs.Hubs.{HubLog, has_halt, is_at_limit, others}
@@ -14,7 +14,7 @@ use Rattle.vk_port.specs.Ports.{PortValue}
 use Rattle.vk_port.specs.Stations.{StationHistory}
 use Rattle.vk_threads.specs.Works.{HasEnded}
 
-at_limit : (n : ℕ) → nat_le 200000 n ≡ true → 200000 ≤ n
+pub at_limit : (n : ℕ) → nat_le 200000 n ≡ true → 200000 ≤ n
 at_limit n is = grind (arith, nat_tests)
 
 abbrev HubSeat : Type 0

@@ -1,18 +1,14 @@
 -- What a job's actions say, one behind the other.
-use Rattle.std.proofs.Common.{◌≡◌, ℕ, ◌+◌, ◌≤◌, ◌||◌, nat_le, Bool, true, false, Option, Some, None, List, [], ◌∷◌, ◌++◌, length, refl, sym, ap, ◌∙◌, subst, arith, append_assoc, append-nil, ◌⊎◌, inl, inr}
+use Rattle.std.proofs.Common.{◌≡◌, ℕ, ◌+◌, ◌≤◌, ◌||◌, Bool, true, false, Option, Some, None, List, [], ◌∷◌, ◌++◌, length, refl, sym, ap, ◌∙◌, subst, arith, append_assoc, append-nil, ◌⊎◌, inl, inr}
 use Rattle.std.specs.Prelude.{option_to_list}
-use Rattle.std.proofs.lemmas.Bool.Decides.{nat_tests}
+use Rattle.std.proofs.lemmas.Bool.{or_cases}
+use Rattle.vk_types.specs.Types.{Answer, Call, EventAnswer, Pid, StationEvent}
 use Rattle.turn_cell.specs.declared.replay.Room.{Room}
 use Rattle.turn_cell.specs.declared.replay.Room.TheVariants as rooms
 use Rattle.turn_cell.specs.Rooms.{is_full as is_room_full}
-use Rattle.vk_base.specs.declared.answer.Answer.{Answer}
 use Rattle.vk_base.specs.declared.answer.CallOutcome.TheVariants as outcomes
-use Rattle.vk_base.specs.declared.call.Call.{Call}
-use Rattle.vk_base.specs.declared.event.EventAnswer.{EventAnswer}
 use Rattle.vk_base.specs.declared.event.EventAnswer.TheVariants as answered
-use Rattle.vk_base.specs.declared.event.StationEvent.{StationEvent}
 use Rattle.vk_base.specs.declared.event.StationEvent.TheVariants as events
-use Rattle.vk_base.specs.declared.pid.Pid.{Pid}
 use Rattle.vk_hub.specs.declared.event.HubEvent.{HubEvent}
 use Rattle.vk_hub.specs.declared.event.HubEvent.TheVariants as hub_events
 use Rattle.vk_hub.specs.Hubs.{is_at_limit, others}
@@ -24,6 +20,7 @@ use Rattle.vk_rules.specs.CallOutcomes.{given}
 use Rattle.vk_rules.specs.Each.{Each}
 use Rattle.v_run.specs.Passages.{HasDropped, HasHeard, IsNext, IsNextCall, OnlyPumps, Plays, answer_in, answers_by, call_in, calls_by, lost_count}
 use Rattle.vk_threads.specs.Works.{FindsFull, HasCalled, HasCalledBy, HasCalledCut, HasPumped, HasPumpedCut}
+use Rattle.vk_threads.proofs.Finishing.{at_limit}
 use Rattle.vk_port.proofs.Logs.{does_more}
 
 -- One behind the other.
@@ -107,13 +104,6 @@ pumping_quiet o (Hears heard ∷ xs) pumping = absurd pumping.0
 or_used : (a b : Bool) → (a || b) ≡ true → b ≡ false → a ≡ true
 or_used true b is none = refl
 or_used false b is none = absurd (cc (is, none))
-
-or_cases : (a b : Bool) → (a || b) ≡ true → (a ≡ true) ⊎ (b ≡ true)
-or_cases true b is = inl refl
-or_cases false b is = inr is
-
-at_limit : (n : ℕ) → nat_le 200000 n ≡ true → 200000 ≤ n
-at_limit n is = grind (arith, nat_tests)
 
 pub met_own : (p : PortValue) (acts : List Action) (o : StationHistory) (e : StationEvent) → brings_last_number e ≡ false → (last : List Action) (m : Met)
     → IsCutEvent o e last m → IsMet p rooms.Full m → FindsFull p acts

@@ -1,19 +1,19 @@
 -- From the ends of all jobs to the record of a run.
 use Rattle.std.proofs.Common.{◌≡◌, ℕ, zero, suc, ◌+◌, ◌≤◌, ◌<◌, ◌==◌, ◌||◌, eqb, eqb-true, eq-eqb, nat_lt, ltb-true, ltb-false, Bool, true, false, cond, Option, Some, None, All, IsPermutation, List, [], ◌∷◌, ◌++◌, filter, flat_map, length, map, refl, sym, ap, ◌∙◌, subst, arith, inl, inr, ◌⊎◌, ⊎_elim}
 use mathlib.Core.List.{IsPrefix}
-use Rattle.std.specs.List.{AllByRecursion, list_any, range_with_len}
+use Rattle.std.specs.List.{list_any, range_with_len}
 unfoldable use Rattle.std.specs.List.{IsDistinct}
 use Rattle.std.proofs.lemmas.Bool.{or_parts}
-use Rattle.std.proofs.lemmas.List.Elements.{All-append, All-cons, All-head, All-nil, All-tail}
+use Rattle.std.proofs.lemmas.List.Elements.{All-append, All-cons, All-head, All-nil}
 use Rattle.std.proofs.lemmas.List.Folds.{list_any-append}
 use Rattle.std.proofs.lemmas.List.Sorted.{list_any-IsPermutation}
 use Rattle.std.proofs.lemmas.Option.{none-some, same_Some}
+use Rattle.vk_types.specs.Types.{ProcessSpec, StationEvent}
 use Rattle.turn_cell.specs.History.{events_of}
 use Rattle.turn_cell.specs.Seats.{Cell, IsSeatOf, Sitting, numbers_of}
-use Rattle.vk_base.specs.declared.event.StationEvent.{StationEvent}
-use Rattle.vk_base.specs.declared.config.ProcessSpec.{ProcessSpec}
 use Rattle.vk_base.specs.Settings.{AreLawful, Settings, has_station, stations_of}
 use Rattle.vk_base.proofs.SettingsLemmas.{among_stations}
+use Rattle.vk_base.proofs.ListLemmas.{all_before, all_behind, front_distinct}
 use Rattle.vk_cluster.proofs.Stations.{Apart, stations_apart}
 use Rattle.vk_schedule.specs.declared.schedule.Schedule.{Schedule}
 use Rattle.vk_hub.specs.declared.event.HubEvent.{HubEvent}
@@ -71,25 +71,8 @@ module _ {S E : Type 0} where
   unknown count seats history back k none = back.others k (past k count (numbers_of seats) back.numbers none)
 
 -- The front of different numbers is of different ones.
-all_front : (P : ℕ → Type 0) (xs ys : List ℕ) → AllByRecursion P (xs ++ ys) → AllByRecursion P xs
-all_front P [] ys all = tt
-all_front P (x ∷ xs) ys all = (all.0, all_front P xs ys all.1)
 
-distinct_front : (xs ys : List ℕ) → IsDistinct eqb (xs ++ ys) → IsDistinct eqb xs
-unfolding IsDistinct
-distinct_front [] ys all = tt
-distinct_front (x ∷ xs) ys all = (all_front (λ y. eqb x y ≡ false) xs ys all.0, distinct_front xs ys all.1)
-
--- what holds of all holds of the first ones and of the last ones
-all_before : {X : Type 0} (P : X → Type 0) (xs ys : List X) → All P (xs ++ ys) → All P xs
-all_before P [] ys all = All-nil P
-all_before P (x ∷ xs) ys all = All-cons P x xs (All-head P x (xs ++ ys) all) (all_before P xs ys (All-tail P x (xs ++ ys) all))
-
-all_behind : {X : Type 0} (P : X → Type 0) (xs ys : List X) → All P (xs ++ ys) → All P ys
-all_behind P [] ys all = all
-all_behind P (x ∷ xs) ys all = all_behind P xs ys (All-tail P x (xs ++ ys) all)
-
-both_false : {a b : Bool} → a ≡ false → b ≡ false → (a || (b || false)) ≡ false
+pub both_false : {a b : Bool} → a ≡ false → b ≡ false → (a || (b || false)) ≡ false
 both_false one two = cc (one, two)
 
 -- No station of a configuration stands twice.
@@ -100,11 +83,11 @@ single_of (h ∷ hs) apart = (apart.0, single_of hs apart.1)
 stations_single : (specs : List ProcessSpec) → AreSingle (stations_of specs)
 stations_single specs = single_of (stations_of specs) (stations_apart specs)
 
-numbers_both : {S E : Type 0} (xs ys : List (Sitting S E)) → numbers_of (xs ++ ys) ≡ numbers_of xs ++ numbers_of ys
+pub numbers_both : {S E : Type 0} (xs ys : List (Sitting S E)) → numbers_of (xs ++ ys) ≡ numbers_of xs ++ numbers_of ys
 numbers_both [] ys = refl
 numbers_both (x ∷ xs) ys = ap (λ l. x.number ∷ l) (numbers_both xs ys)
 
-length_numbers : {S E : Type 0} (xs : List (Sitting S E)) → length (numbers_of xs) ≡ length xs
+pub length_numbers : {S E : Type 0} (xs : List (Sitting S E)) → length (numbers_of xs) ≡ length xs
 length_numbers [] = refl
 length_numbers (x ∷ xs) = ap suc (length_numbers xs)
 
@@ -214,7 +197,7 @@ module _ (c : Settings) (sites : List Site) (hub : Cell HubLog) (rounds : ℕ) (
           let cell = cell_of h is in
           unknown cell.0.seats (sat_at h (all_seats ends)) (closed_at h) (shut_at sites (all_spares ends) logs shut h cell.0 cell.1).back k
           (ap (list_any (λ n. n == k)) (station_numbers sites hub (all_seats ends) gs h left) ∙ none);
-      hub_numbers = distinct_front (map hub_number_of gs) (halt.number ∷ []) (subst (IsDistinct eqb) numbers_all back.different);
+      hub_numbers = front_distinct (map hub_number_of gs) (halt.number ∷ []) (subst (IsDistinct eqb) numbers_all back.different);
       hub_known = λ k none. hub_unknown k none (halt.number == k) refl;
     }
 

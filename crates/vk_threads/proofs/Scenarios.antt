@@ -1,12 +1,12 @@
 -- The programs of a lawful scenario.
-use Rattle.std.proofs.Common.{◌≡◌, ◌<◌, ℕ, ◌==◌, ◌&&◌, ◌||◌, ◌⊎◌, inl, inr, eqb-true, eq-eqb, Bool, true, false, None, List, [], ◌∷◌, ◌++◌, map, refl, sym, ap, ◌∙◌, subst, arith}
+use Rattle.std.proofs.Common.{◌≡◌, ◌<◌, ℕ, ◌==◌, ◌&&◌, ◌||◌, ◌⊎◌, eq-eqb, true, false, None, List, [], ◌∷◌, ◌++◌, map, refl, sym, ap, ◌∙◌, subst}
 use Rattle.std.specs.List.{AllByRecursion, list_all}
-use Rattle.std.proofs.lemmas.Bool.{and_from, and_parts, false_from_ne_true}
-use Rattle.vk_base.specs.declared.config.ProcessSpec.{ProcessSpec}
-use Rattle.vk_base.specs.declared.pid.Pid.{Pid}
+use Rattle.std.proofs.lemmas.Bool.{and_from, and_parts}
+use Rattle.vk_types.specs.Types.{Pid, ProcessSpec}
 use Rattle.vk_base.specs.Pids.{same_pid}
 use Rattle.vk_base.specs.Settings.{first_fault, has_process, is_process}
-use Rattle.vk_base.proofs.Rising.{AllAbove, AreRising, Below, lawful_rise}
+use Rattle.vk_base.proofs.Rising.{AllAbove, AreSpecsRising, lawful_rise, above_apart}
+use Rattle.vk_base.proofs.BoolLemmas.{or_true}
 use Rattle.vk_event.specs.declared.scenario.Scenario.{Scenario}
 use Rattle.vk_event.specs.ScenarioLaws.{IsLawfulScenario, IsReadableKind}
 use Rattle.vk_event.specs.Tasks.{has_memory, memory_of}
@@ -30,28 +30,16 @@ tasks_fit specs (t ∷ ts) kinds ranges memory =
 abbrev pub spec_pid : ProcessSpec → Pid
 spec_pid s = s.pid
 
-later_differs : (p q : Pid) → Below p q → same_pid q p ≡ false
-later_differs p q below = false_from_ne_true (same_pid q p) (λ same. let both = and_parts (q.host == p.host) (q.local == p.local) same in
-    by (eqb-true q.host p.host both.0) (eqb-true q.local p.local both.1) below.is)
-  where
-    by : q.host ≡ p.host → q.local ≡ p.local → (p.host < q.host) ⊎ ((p.host ≡ q.host) × (p.local < q.local)) → ⊥
-    by h l (inl x) = omega arith
-    by h l (inr x) = let y = x.1 in omega arith
-
 each_later : (p : Pid) (ss : List ProcessSpec) → AllAbove p ss → Each (λ (q : Pid). same_pid q p ≡ false) (map spec_pid ss)
 each_later p [] all = tt
-each_later p (s ∷ ss) all = (later_differs p s.pid all.0, each_later p ss all.1)
+each_later p (s ∷ ss) all = (above_apart p s.pid all.0, each_later p ss all.1)
 
-rising_differ : (ss : List ProcessSpec) → AreRising ss → AreDifferent (map spec_pid ss)
+rising_differ : (ss : List ProcessSpec) → AreSpecsRising ss → AreDifferent (map spec_pid ss)
 rising_differ [] rising = tt
 rising_differ (s ∷ ss) rising = (each_later s.pid ss rising.0, rising_differ ss rising.1)
 
 pub specs_differ : (specs : List ProcessSpec) → first_fault [] specs ≡ None → AreDifferent (map spec_pid specs)
 specs_differ specs faultless = rising_differ specs (lawful_rise specs faultless)
-
-or_true : (b : Bool) → (b || true) ≡ true
-or_true true = refl
-or_true false = refl
 
 still_has : (p : Pid) (s : ProcessSpec) (ss : List ProcessSpec) → has_process ss p ≡ true → has_process (s ∷ ss) p ≡ true
 still_has p s ss has = ap (λ b. is_process p s || b) has ∙ or_true (is_process p s)

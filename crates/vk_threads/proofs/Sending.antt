@@ -18,7 +18,7 @@ use Rattle.vk_threads.specs.contracts.pump.PumpWork as pump_row
 use Rattle.vk_threads.specs.contracts.clock.ClockWork as clock_row
 use Rattle.vk_threads.specs.contracts.work.Work as work_row
 
-port_send : (κ : NamedLft) → IsSend (port_row.the_row κ)
+pub port_send : (κ : NamedLft) → IsSend (port_row.the_row κ)
 port_send κ = search (sendable, crosses, cell_sync, seat_send, hub_sync, hub_state_send, station_out_send, station_send) depth 40 fits 20000
 
 seats_send : IsSend seats_row.the_row
@@ -27,7 +27,7 @@ seats_send = search (sendable, crosses, seat_send, hub_state_send, station_send)
 pub end_send : IsSend end_row.the_row
 end_send = search (sendable, crosses, seats_send) depth 40 fits 20000
 
-process_send : (κ : NamedLft) (G : RattleType) (g : Ghosts G.Denot) → IsSend G → IsSend (process_row.the_row κ G g)
+pub process_send : (κ : NamedLft) (G : RattleType) (g : Ghosts G.Denot) → IsSend G → IsSend (process_row.the_row κ G g)
 process_send κ G g s = search (sendable, crosses, hub_sync, port_send, seats_send) depth 40 fits 20000
 
 pump_send : (κ : NamedLft) → IsSend (pump_row.the_row κ)

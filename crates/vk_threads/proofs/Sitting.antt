@@ -3,8 +3,8 @@ use Rattle.std.proofs.Common.{◌≡◌, ℕ, ◌≤◌, ◌==◌, not, eqb, eqb
 use Rattle.std.specs.List.{list_any}
 use Rattle.std.proofs.lemmas.Bool.{or_parts}
 use Rattle.std.proofs.lemmas.Option.{none-some, same_Some}
+use Rattle.vk_types.specs.Types.{StationEvent}
 use Rattle.turn_cell.specs.Seats.{Cell, IsSeatOf, Sitting}
-use Rattle.vk_base.specs.declared.event.StationEvent.{StationEvent}
 use Rattle.vk_base.specs.Settings.{Settings, stations_of}
 use Rattle.vk_schedule.specs.declared.log.StationLog.{StationLog}
 use Rattle.vk_join.specs.Logs.{events_at}

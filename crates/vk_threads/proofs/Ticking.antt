@@ -1,11 +1,11 @@
 -- From what the clock did with its ports, and how it closed them, to its end.
 use Rattle.std.proofs.Common.{◌≡◌, ◌≢◌, ℕ, ◌+◌, ◌≤◌, true, Option, Some, None, List, [], ◌∷◌, ◌++◌, ◌⊎◌, inl, inr, length, map, drop, take, get_or, zero, suc, refl, sym, ap, ◌∙◌, subst, arith}
-use Rattle.std.proofs.lemmas.Grind.{common_steps}
 use Rattle.turn_cell.proofs.Histories.{prefix_self}
 use Rattle.turn_cell.specs.Seats.{Cell}
 use Rattle.turn_cell.specs.declared.replay.Room.{Room}
 use Rattle.turn_cell.specs.declared.replay.Room.TheVariants as rooms
 use Rattle.vk_base.specs.Settings.{Settings}
+use Rattle.vk_base.proofs.ListLemmas.{all_written}
 use Rattle.vk_hub.specs.Hubs.{HubLog, has_halt}
 use Rattle.vk_hub.specs.declared.event.HubEvent.{HubEvent}
 use Rattle.vk_hub.specs.declared.event.HubEvent.TheVariants as hub_events
@@ -278,10 +278,6 @@ host_next p left all hosts at is are =
     let more : suc at ≡ at + 1 = omega arith in
     (next.0, subst (λ n. map port_host left ≡ drop n hosts) more next.1)
 
--- what was done in place, through the whole slice
-pub written : {X : Type 0} (n : ℕ) (new old : List X) → n ≡ length old → length new ≡ length old → take n (new ++ drop (length new) old) ≡ new
-written n new old e f = grind (arith, common_steps)
-
 -- Whatever the ports did, they are at their hub and stations as before.
 still_at : (hub : Cell HubLog) (ps qs : List PortValue) (all : List (List Action)) → AreTicked ps qs all → Each (IsAt hub) ps → Each (IsAt hub) qs
 still_at hub [] [] [] does at = tt
@@ -303,7 +299,7 @@ still_hosts (p ∷ ps) (x ∷ qs) [] does = absurd does
 -- as the code has them
 module _ (ps shown qs : List PortValue) (n : ℕ) (value : shown ≡ ps) (count : n ≡ length ps) (same : length qs ≡ length shown) where
   whole : take n (qs ++ drop (length qs) ps) ≡ qs
-  whole = written n qs ps count (same ∙ ap length value)
+  whole = all_written n qs ps count (same ∙ ap length value)
 
   pub closing_at : (hub : Cell HubLog) (all : List (List Action)) → AreTicked shown qs all → Each (IsAt hub) ps
       → Each (IsAt hub) (take n (qs ++ drop (length qs) ps))

@@ -2,20 +2,18 @@
 use Rattle.std.proofs.Common.{◌≡◌, ◌≤◌, ◌<◌, ℕ, zero, suc, ◌+◌, ◌*◌, ◌==◌, ◌||◌, eqb-true, eq-eqb, Bool, true, false, cond, Option, Some, None, List, [], ◌∷◌, ◌++◌, append_assoc, length, map, refl, sym, ap, ◌∙◌, subst, arith}
 use Rattle.std.specs.List.{list_any}
 use Rattle.std.proofs.lemmas.List.{length-append, length-map}
-use Rattle.std.proofs.lemmas.Bool.{or_parts}
+use Rattle.std.proofs.lemmas.Bool.{or_parts, ne_eqb}
+use Rattle.vk_types.specs.Types.{Answer, Call, Pid, ProcessSpec}
 use Rattle.turn_cell.specs.Seats.{Cell, IsSeatOf, Sitting}
-use Rattle.vk_base.specs.declared.answer.Answer.{Answer}
-use Rattle.vk_base.specs.declared.call.Call.{Call}
 use Rattle.std.specs.Prelude.{IfOk, slice_get, Result, Ok, Err}
 use Rattle.std.proofs.lemmas.Bool.{and_from, and_parts}
 use Rattle.std.proofs.lemmas.Option.{same_Some}
 use Rattle.turn_cell.specs.Seats.{fresh}
-use Rattle.vk_base.specs.declared.config.ProcessSpec.{ProcessSpec}
-use Rattle.vk_base.specs.declared.pid.Pid.{Pid}
 use Rattle.vk_base.specs.Settings.{Settings, has_process, has_station, is_process, stations_of}
 use Rattle.vk_port.specs.Stations.{is_process_of}
-use Rattle.vk_threads.proofs.Dealing.{count_append, each_behind, each_front, not_equal}
+use Rattle.vk_threads.proofs.Dealing.{count_append}
 use Rattle.vk_base.proofs.SettingsLemmas.{among_stations}
+use Rattle.vk_base.proofs.BoolLemmas.{or_true}
 use Rattle.vk_cluster.proofs.Stations.{Apart, stations_apart}
 use Rattle.vk_hub.specs.declared.event.HubEvent.{HubEvent}
 use Rattle.vk_hub.specs.Hubs.{HubLog}
@@ -23,7 +21,7 @@ use Rattle.vk_io.specs.Crews.{AllEnd}
 use Rattle.vk_port.specs.Ports.{PortValue}
 use Rattle.vk_port.specs.Stations.{StationHistory}
 use Rattle.vk_rules.specs.Each.{Each}
-use Rattle.vk_rules.proofs.Lists.{each_weaker}
+use Rattle.vk_rules.proofs.Lists.{each_weaker, each_front, each_behind}
 use Rattle.v_run.specs.Jobs.{JobEnd}
 use Rattle.v_run.specs.Outcomes.{Assignment}
 use Rattle.v_run.specs.Ran.{IsRun}
@@ -127,11 +125,6 @@ module _ {G P : Type 0} (task : G → List Answer → Option Call) (c : Settings
         unhalted = ran.unhalted;
       }
 
--- what the cells and seats of a run are
-or_true : (b : Bool) → (b || true) ≡ true
-or_true true = refl
-or_true false = refl
-
 among_own : (h : ℕ) (hs : List ℕ) (front : List ℕ) → list_any (λ x. x == h) (front ++ h ∷ hs) ≡ true
 among_own h hs [] = ap (λ b. b || list_any (λ x. x == h) hs) (eq-eqb h h refl)
 among_own h hs (g ∷ gs) = ap (λ b. (g == h) || b) (among_own h hs gs) ∙ or_true (g == h)
@@ -188,7 +181,7 @@ count_absent : {G : Type 0} (c : Settings) (h : ℕ) (programs : List (Assigned 
 count_absent c h [] has none = refl
 count_absent c h (a ∷ others) has none =
     let rest = count_absent c h others has.1 none in
-    let differs : (a.pid.host == h) ≡ false = not_equal a.pid.host h (λ same. let there = ap (has_station c.specs) (sym same) ∙ process_station c.specs a.pid has.0 in cc (there, none)) in
+    let differs : (a.pid.host == h) ≡ false = ne_eqb a.pid.host h (λ same. let there = ap (has_station c.specs) (sym same) ∙ process_station c.specs a.pid has.0 in cc (there, none)) in
     ap (λ b. cond b 1 0 + count_of h (map program_host others)) differs ∙ (let zero_more = rest in omega arith)
 
 -- THE STOCK of a run

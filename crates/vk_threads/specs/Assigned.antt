@@ -1,8 +1,6 @@
 -- The processes of a run with their tasks, and what a run does to its crew's counts.
 use Rattle.std.specs.Prelude.{ℕ, ◌≡◌, ◌⊎◌, List, [], ◌∷◌, map, false, Option, Result, Ok, Err}
-use Rattle.vk_base.specs.declared.answer.Answer.{Answer}
-use Rattle.vk_base.specs.declared.call.Call.{Call}
-use Rattle.vk_base.specs.declared.pid.Pid.{Pid}
+use Rattle.vk_types.specs.Types.{Answer, Call, Pid}
 use Rattle.vk_base.specs.Pids.{same_pid}
 use Rattle.vk_event.specs.declared.task.Task.{Task}
 use Rattle.vk_io.specs.Causes.{Rose}

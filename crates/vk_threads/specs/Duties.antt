@@ -1,6 +1,6 @@
 -- Jobs, as callers see them.
 use Rattle.std.specs.Prelude.{ℕ, List}
-use Rattle.vk_base.specs.declared.pid.Pid.{Pid}
+use Rattle.vk_types.specs.Types.{Pid}
 use Rattle.vk_port.specs.Ports.{PortValue}
 
 -- a process with its program and its port

@@ -1,13 +1,11 @@
 -- What the end of a job may be.
 use Rattle.std.specs.Prelude.{ℕ, ◌≡◌, ◌+◌, ◌⊎◌, true, List, [], ◌∷◌, ◌++◌, Option, Some, None, is_some, length, map}
 use mathlib.Core.List.{IsPrefix}
+use Rattle.vk_types.specs.Types.{Answer, Call, Pid}
 use Rattle.turn_cell.specs.Seats.{Cell, IsSameSeat}
 use Rattle.vk_hub.specs.declared.event.HubEvent.TheVariants as hub_events
 use Rattle.vk_hub.specs.Hubs.{HubLog, has_halt}
 use Rattle.turn_cell.specs.declared.replay.Room.{Room}
-use Rattle.vk_base.specs.declared.answer.Answer.{Answer}
-use Rattle.vk_base.specs.declared.call.Call.{Call}
-use Rattle.vk_base.specs.declared.pid.Pid.{Pid}
 use Rattle.vk_base.specs.Settings.{Settings}
 use Rattle.vk_port.specs.Ports.{IsLog, PortValue, berth_of, stand_of}
 use Rattle.vk_port.specs.Stations.{StationHistory}

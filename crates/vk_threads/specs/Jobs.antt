@@ -1,7 +1,6 @@
 -- What a job is, and what its end may be.
 use Rattle.std.specs.Prelude.{ℕ, List, [], ◌∷◌, Option}
-use Rattle.vk_base.specs.declared.answer.Answer.{Answer}
-use Rattle.vk_base.specs.declared.call.Call.{Call}
+use Rattle.vk_types.specs.Types.{Answer, Call}
 use Rattle.vk_port.specs.Ports.{PortValue}
 use Rattle.v_run.specs.Passages.{Pumps, Role, Runs}
 use Rattle.vk_threads.specs.declared.end.End.{End}

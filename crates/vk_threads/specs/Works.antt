@@ -1,13 +1,10 @@
 -- What jobs do with their ports, and what their ends may be.
 use Rattle.std.specs.Prelude.{ℕ, ◌≡◌, ◌≤◌, ◌+◌, ◌⊎◌, Bool, true, false, Option, Some, None, is_some, List, [], ◌∷◌, ◌++◌, length}
 use mathlib.Core.List.{IsPrefix}
+use Rattle.vk_types.specs.Types.{Answer, Call, Pid, StationEvent}
 use Rattle.turn_cell.specs.Seats.{IsSameSeat, Sitting}
 use Rattle.turn_cell.specs.declared.replay.Room.{Room}
 use Rattle.turn_cell.specs.declared.replay.Room.TheVariants as rooms
-use Rattle.vk_base.specs.declared.answer.Answer.{Answer}
-use Rattle.vk_base.specs.declared.call.Call.{Call}
-use Rattle.vk_base.specs.declared.event.StationEvent.{StationEvent}
-use Rattle.vk_base.specs.declared.pid.Pid.{Pid}
 use Rattle.vk_hub.specs.declared.event.HubEvent.{HubEvent}
 use Rattle.vk_hub.specs.declared.event.HubEvent.TheVariants as hub_events
 use Rattle.vk_hub.specs.Hubs.{HubLog, has_halt, others}

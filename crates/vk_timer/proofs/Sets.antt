@@ -10,7 +10,7 @@ use Rattle.std.proofs.lemmas.Bool.{cases_eq, cases_lt, cond-false, cond-true, eq
 use Rattle.std.proofs.lemmas.Nat.{and_le_l, shr-shr}
 use Rattle.std.proofs.lemmas.Nat.Bits.{bit_at-trailing_zeros, bit_at-zero, bit_at_above, bit_at_clear_other, bit_at_clear_same, bit_at_set_other, bit_at_set_same}
 use Rattle.std.proofs.lemmas.Simd.{bit_mask_l, mask_l-lt}
-use Rattle.vk_timer.specs.Sets.{AreOver, IsNext, set_of}
+use Rattle.vk_timer.specs.Sets.{AreOver, IsNextSlot, set_of}
 
 -- bits of a set
 as_mask : (bs : List Bool) → set_of bs ≡ mask_l bs
@@ -63,7 +63,7 @@ below n k fits is = elim (cases_lt k 32) [
 ]
 
 pub next_is : (slots from : ℕ) → slots < 2 ^ 32 → (0 < slots / 2 ^ from) → (slots / 2 ^ from < 2 ^ 32) →
-    IsNext slots from (from + trailing_zeros w32 (slots / 2 ^ from))
+    IsNextSlot slots from (from + trailing_zeros w32 (slots / 2 ^ from))
 next_is slots from low some fits =
     let lowest = bit_at-trailing_zeros w32 (slots / 2 ^ from) some fits in
     let tz = trailing_zeros w32 (slots / 2 ^ from) in

@@ -5,7 +5,7 @@ use Rattle.std.proofs.lemmas.Bool.{cases_eq, cases_lt, cond-false, cond-true, eq
 use Rattle.std.proofs.lemmas.List.{ext_get_or, get_or_default, get_or_past, get_or-set_other, get_or-set_same, length-map, length-replicate, length-set}
 use Rattle.std.proofs.lemmas.Nat.Bits.{bit_at-lt, bit_at-zero, same_from_bits_below}
 use Rattle.std.proofs.lemmas.Option.{none-some}
-use Rattle.vk_timer.specs.Kept.{IsKept, bit_of, standing, standing_from}
+use Rattle.vk_timer.specs.Kept.{IsWheelKept, bit_of, standing, standing_from}
 use Rattle.vk_timer.specs.Wheels.{AreFrom, deadline_of, due_set, is_due, not_due}
 use Rattle.vk_timer.proofs.Sets.{bit_in, set_low}
 
@@ -58,7 +58,7 @@ same_else places place n q k low same = bit_there places place n q k low ∙ by_
     by_test true is = same ∙ ap (λ p. bit_of places p k) (sym (eqb-true q place is))
     by_test false is = refl
 
-module _ (places ticks : List ℕ) (kept : IsKept places ticks) where
+module _ (places ticks : List ℕ) (kept : IsWheelKept places ticks) where
   in_places : (tick : ℕ) → tick % 64 < length places
   in_places tick = let long = kept.long in omega (arith, long)
 
@@ -92,7 +92,7 @@ module _ (places ticks : List ℕ) (kept : IsKept places ticks) where
     bit_else : (k : ℕ) → (k ≡ slot → ⊥) → bit_at n k ≡ bit_of places (tick % 64) k
     bit_else k ne = bits k ∙ cond-false (k == slot) 1 (bit_of places (tick % 64) k) (ne_eqb k slot ne)
 
-    pub kept_put : IsKept put_places put_ticks
+    pub kept_put : IsWheelKept put_places put_ticks
     kept_put = record {
       long = length-set places (tick % 64) n ∙ kept.long;
       few = subst (λ k. k ≤ 32) (sym (length-set ticks slot tick)) kept.few;
@@ -162,7 +162,7 @@ module _ (places ticks : List ℕ) (kept : IsKept places ticks) where
           ne (sym (kept.own place slot (sym (ap (λ v. bit_at v slot) (get_or-set_other places (last % 64) place n 0 ne)) ∙ one)).1)
     ]
 
-    pub kept_cleared : IsKept less_places ticks
+    pub kept_cleared : IsWheelKept less_places ticks
     kept_cleared = record {
       long = length-set places (last % 64) n ∙ kept.long;
       few = kept.few;
@@ -204,7 +204,7 @@ module _ (places ticks : List ℕ) (kept : IsKept places ticks) where
     same_there : (q k : ℕ) → (q ≡ place → ⊥) → bit_of without q k ≡ bit_of places q k
     same_there q k ne = ap (λ v. bit_at v k) (get_or-set_other places place q 0 0 ne)
 
-    pub kept_due : IsKept without ticks
+    pub kept_due : IsWheelKept without ticks
     kept_due = record {
       long = length-set places place 0 ∙ kept.long;
       few = kept.few;
@@ -299,7 +299,7 @@ zeros_at (suc n) (suc at) = zeros_at n at
 no_bits : (places place slot : ℕ) → bit_of (zeros places) place slot ≡ 0
 no_bits places place slot = ap (λ v. bit_at v slot) (zeros_at places place) ∙ bit_at-zero slot
 
-pub kept_new : (slots : ℕ) → slots ≤ 32 → IsKept (zeros 64) (zeros slots)
+pub kept_new : (slots : ℕ) → slots ≤ 32 → IsWheelKept (zeros 64) (zeros slots)
 kept_new slots few = record {
   long = length_zeros 64;
   few = subst (λ k. k ≤ 32) (sym (length_zeros slots)) few;

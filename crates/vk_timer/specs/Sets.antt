@@ -7,7 +7,7 @@ set_of [] = 0
 set_of (here ∷ rest) = (if here then 1 else 0) + 2 * set_of rest
 
 -- the lowest slot of a set that is not below `from`; and that there is none
-pub record IsNext (slots from slot : ℕ) : Type 0 where
+pub record IsNextSlot (slots from slot : ℕ) : Type 0 where
   pub low : slot < 32
   pub behind : from ≤ slot
   pub here : bit_at slots slot ≡ 1

@@ -2,12 +2,12 @@
 
 ghost use Rattle.std.specs.Int.{bit_at};
 ghost use Rattle.std.specs.Prelude.{◌≡◌, ◌==◌, ◌<◌, ◌≤◌, ℕ, IfNone, IfSome, if◌then◌else◌};
-ghost use Rattle.vk_timer.specs.Sets.{AreOver, IsNext};
+ghost use Rattle.vk_timer.specs.Sets.{AreOver, IsNextSlot};
 
 /// The lowest slot of the set that is not below `from`, which is at most 32; `None` where there is none.
 pub fn next_slot(slots: u32, from: u32) -> Option<u32>
     requires { from ≤ 32 }
-    ensures next { IfSome result (IsNext slots from) }
+    ensures next { IfSome result (IsNextSlot slots from) }
     ensures none { IfNone result (AreOver slots from) }
 {
     if from == 32 {

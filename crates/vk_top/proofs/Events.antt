@@ -1,11 +1,9 @@
 -- What a cluster shows of the event that it had last, and its lines.
 use Rattle.std.proofs.Common.{◌≡◌, ℕ, ◌+◌, ◌≤◌, List, [], ◌∷◌, ◌++◌, length, map, drop, Some, refl, sym, ap, subst, ◌∙◌, append_assoc, arith}
 use Rattle.std.specs.Prelude.{slice_get}
-use Rattle.std.proofs.lemmas.List.{append-nil, length-map}
-use Rattle.std.proofs.lemmas.Option.{same_Some}
-use Rattle.vk_base.specs.declared.event.EventAnswer.{EventAnswer}
-use Rattle.vk_base.specs.declared.limits.TheConstants.{FRAME_BYTES}
-use Rattle.vk_base.specs.Packets.{Packet, Send, Reply, Pending, Negative, MoveData, MoveAck, MoveRequest, MoveBytes, MoveNegative, AskPid, TellPid}
+use Rattle.std.proofs.lemmas.List.{append-nil, drop_more, length-map}
+use Rattle.std.proofs.lemmas.Option.{get_or_from_slice_get, slice_get_within}
+use Rattle.vk_types.specs.Types.{EventAnswer}
 use Rattle.vk_base.specs.Settings.{Settings}
 use Rattle.vk_cluster.specs.declared.report.Advance.{Advance}
 use Rattle.vk_cluster.specs.declared.report.Advance.TheVariants as advances
@@ -13,77 +11,42 @@ use Rattle.vk_cluster.specs.declared.report.StepReport.{StepReport}
 use Rattle.vk_cluster.specs.Shown.{HasAdvanced, HasReported, IsLast}
 use Rattle.vk_cluster.specs.Standing.{Tells, logs_of, report_by, report_of}
 use Rattle.vk_cluster.specs.Values.{ClusterValue}
-use Rattle.vk_cluster.proofs.Shown.{IsEntry, IsSent, last_is, lawful_entry, reported_entry, reported_missing}
+use Rattle.vk_cluster.proofs.Shown.{IsEntry, last_is, lawful_entry, reported_entry, reported_missing}
 use Rattle.vk_cluster.proofs.Told.{report_told}
 use Rattle.vk_schedule.specs.declared.event.Event.{Event}
-use Rattle.vk_frame.specs.declared.header.Header.{Header}
-use Rattle.vk_frame.specs.Law.{FramesAreSpelledOnce}
-use Rattle.vk_frame.specs.Reading.{frame_of}
 use Rattle.vk_host.specs.declared.response.Response.{Response}
 use Rattle.vk_host.specs.Responses.{answer_of}
 use Rattle.vk_host.specs.Sealed.{sealed}
 use Rattle.vk_host.specs.Values.{StationValue}
-use Rattle.vk_packet.specs.Spelling.{packet_bytes}
 use Rattle.vk_report.specs.declared.entry.Counts.{Counts}
 use Rattle.vk_report.specs.declared.entry.Form.{Form}
-use Rattle.vk_report.specs.declared.entry.Form.TheVariants as forms
-use Rattle.vk_report.specs.declared.entry.Place.{Place}
 use Rattle.vk_report.specs.declared.frame.Emitted.{Emitted}
+use Rattle.vk_report.specs.declared.entry.Form.TheVariants as forms
+use Rattle.vk_report.specs.declared.entry.EventPlace.{EventPlace}
 use Rattle.vk_report.specs.Histories.{frames_from, told_lines}
 use Rattle.vk_report.specs.Report.{entry_lines, frame_lines}
+use Rattle.vk_report.proofs.Traces.{no_frames}
 use Rattle.vk_rules.specs.Entries.{Entry}
-use Rattle.vk_rules.specs.Frames.{Frame}
 use Rattle.vk_rules.specs.Histories.{At, Missing}
 unfoldable use Rattle.vk_rules.specs.Histories.{happened}
-use Rattle.vk_rules.proofs.Lengths.{frames_fit}
-use Rattle.v_lawful.specs.Sending.{IsLawfulEntry, IsLawfulFrame}
-use Rattle.vk_top.specs.Playing.{IsTold, told_entry}
+use Rattle.v_lawful.specs.Sending.{IsLawfulEntry}
+use Rattle.vk_top.specs.Playing.{IsReported, told_entry}
 use Rattle.vk_top.specs.Report.{emitted_of, told_of}
-
-some_bytes : (p : Packet) → 1 ≤ length (packet_bytes p)
-some_bytes (Send from to number message part) = omega arith
-some_bytes (Reply from to number message dest bytes) = omega arith
-some_bytes (Pending from to number) = omega arith
-some_bytes (Negative from to number) = omega arith
-some_bytes (MoveData from to number moving dest total offset bytes) = omega arith
-some_bytes (MoveAck from to number moving received) = omega arith
-some_bytes (MoveRequest from to number moving src total offset) = omega arith
-some_bytes (MoveBytes from to number moving total offset bytes) = omega arith
-some_bytes (MoveNegative from to number moving) = omega arith
-some_bytes (AskPid asker lookup logical) = omega arith
-some_bytes (TellPid found asker lookup) = omega arith
-
--- what a lawful frame opens as
-pub opens : FramesAreSpelledOnce → (f : Frame) (bytes rest : List ℕ) (h : Header) → IsLawfulFrame f → bytes ≡ sealed f →
-    frame_of bytes ≡ Some (h, rest) → (h ≡ f.header) × (rest ≡ packet_bytes f.packet)
-opens once f bytes rest h lawful is found =
-    let pair = same_Some (h, rest) (f.header, packet_bytes f.packet)
-    (sym found ∙ ap frame_of is ∙ once.written f.header (packet_bytes f.packet) lawful.header (some_bytes f.packet)) in
-    (ap (λ x. x.0) pair, ap (λ x. x.1) pair)
-
-pub few_bytes : (f : Frame) (bytes : List ℕ) → IsLawfulFrame f → bytes ≡ sealed f → length bytes ≤ FRAME_BYTES
-few_bytes f bytes lawful is =
-    subst (λ b. length b ≤ FRAME_BYTES) (sym is) (frames_fit f.header f.packet lawful.packet.packet lawful.packet.lawful)
 
 -- The lines of the frames of an event, one after another.
 
-pub frames_more : (form : Form) (host own at : ℕ) (fs : List Frame) (bytes text whole : List ℕ) →
-    (one : IsSent fs at bytes) → text ++ frames_from form host own at (map emitted_of (drop at fs)) ≡ whole →
-    text ++ frame_lines form host own (at + 1) (emitted_of one.frame) ++ frames_from form host own (at + 1) (map emitted_of (drop (at + 1) fs))
-    ≡ whole
-frames_more form host own at fs bytes text whole one so_far =
-    append_assoc text (frame_lines form host own (at + 1) (emitted_of one.frame))
-    (frames_from form host own (at + 1) (map emitted_of (drop (at + 1) fs)))
-    ∙ ap (λ l. text ++ frames_from form host own at (map emitted_of l)) (sym one.left) ∙ so_far
-
--- a trace has no lines of frames
-no_frames : (host own before : ℕ) (frames : List Emitted) → frames_from forms.Trace host own before frames ≡ []
-no_frames host own before [] = refl
-no_frames host own before (f ∷ fs) = no_frames host own (before + 1) fs
+pub frames_more : (form : Form) (host own at : ℕ) (es : List Emitted) (e : Emitted) (text whole : List ℕ) → slice_get es at ≡ Some e →
+    text ++ frames_from form host own at (drop at es) ≡ whole →
+    text ++ frame_lines form host own (at + 1) e ++ frames_from form host own (at + 1) (drop (at + 1) es) ≡ whole
+frames_more form host own at es e text whole found so_far =
+    append_assoc text (frame_lines form host own (at + 1) e) (frames_from form host own (at + 1) (drop (at + 1) es))
+    ∙ ap (λ l. text ++ frames_from form host own at l)
+    (ap (λ x. x ∷ drop (at + 1) es) (sym (get_or_from_slice_get es at e e found)) ∙ sym (drop_more es at e (slice_get_within es at e found)))
+    ∙ so_far
 
 -- The lines of an entry.
 
-pub entry_told : (form : Form) (s : StationValue) (place : Place) (answer : EventAnswer) (e : Entry) (front mid text : List ℕ) →
+pub entry_told : (form : Form) (s : StationValue) (place : EventPlace) (answer : EventAnswer) (e : Entry) (front mid text : List ℕ) →
     IsLast s answer e → mid ≡ front ++ entry_lines form place answer s.doing.steps →
     text ≡ mid ++ frames_from form place.host place.own 0 (map emitted_of e.frames) → text ≡ front ++ told_lines form (told_entry place e)
 entry_told form s place answer e front mid text last entry frames =
@@ -93,7 +56,7 @@ entry_told form s place answer e front mid text last entry frames =
     ∙ ap (λ l. front ++ entry_lines form place e.answer l ++ rest) last.shows.steps
     ∙ append_assoc front (entry_lines form place e.answer e.steps) rest
 
-pub trace_told : (form : Form) (s : StationValue) (place : Place) (answer : EventAnswer) (e : Entry) (front mid : List ℕ) →
+pub trace_told : (form : Form) (s : StationValue) (place : EventPlace) (answer : EventAnswer) (e : Entry) (front mid : List ℕ) →
     form ≡ forms.Trace → IsLast s answer e → mid ≡ front ++ entry_lines form place answer s.doing.steps →
     mid ≡ front ++ told_lines form (told_entry place e)
 trace_told form s place answer e front mid is last entry =
@@ -118,10 +81,10 @@ module _ (c : Settings) (es : List Event) (now : ClusterValue) (e : Event) (r : 
         events = before.events + 1;
         steps = before.steps + length s.doing.steps;
         frames = before.frames + length s.frames;
-      } → IsTold form before after front text (happened c (logs_of c es) e)
+      } → IsReported form before after front text (happened c (logs_of c es) e)
   told_is form before after front text lines counts =
       let many : length s.frames ≡ length entry.frames = ap length lasts.shows.frames ∙ length-map entry.frames sealed in
-      subst (IsTold form before after front text) (sym is) (record {
+      subst (IsReported form before after front text) (sym is) (record {
         lines = lines;
         counts =
             counts
@@ -156,7 +119,7 @@ module _ (c : Settings) (es : List Event) (now : ClusterValue) (e : Event) (a : 
         events = before.events + 1;
         steps = before.steps + length s.doing.steps;
         frames = before.frames + length s.frames;
-      } → IsTold form before after front text (happened c (logs_of c es) e)
+      } → IsReported form before after front text (happened c (logs_of c es) e)
   told_advanced form before after front text lines counts =
       told_is c es now e (report_by s given) reported_by one.entry one.is place s found refl form before after front text
       (lines one.entry last) counts
@@ -165,14 +128,14 @@ module _ (c : Settings) (es : List Event) (now : ClusterValue) (e : Event) (a : 
 pub missing_told : (c : Settings) (es : List Event) (now : ClusterValue) (e : Event) (a : Advance) (host : ℕ) → HasAdvanced c es now e a →
     a ≡ advances.Missing host → (form : Form) (before after : Counts) (front text : List ℕ) →
     text ≡ front ++ told_lines form (told_of (before.events + 1) (Missing host)) →
-    after ≡ record before { events = before.events + 1 } → IsTold form before after front text (happened c (logs_of c es) e)
+    after ≡ record before { events = before.events + 1 } → IsReported form before after front text (happened c (logs_of c es) e)
 missing_told c es now e a host had is form before after front text lines counts =
     let report : had.report ≡ report_of (Missing host) = subst (λ x. Tells now x had.report) is had.told in
     let missed : happened c (logs_of c es) e ≡ Missing host =
     reported_missing (report_of (Missing host)) (happened c (logs_of c es) e) (sym report ∙ had.reported.next.report) refl in
     let steps : before.steps ≡ before.steps + 0 = omega arith in
     let frames : before.frames ≡ before.frames + 0 = omega arith in
-    subst (IsTold form before after front text) (sym missed) (record {
+    subst (IsReported form before after front text) (sym missed) (record {
       lines = lines;
       counts = counts ∙ (λ i. record { events = before.events + 1; steps = steps i; frames = frames i });
       steps = omega arith;

@@ -3,7 +3,8 @@ use Rattle.std.proofs.Common.{◌≡◌, ◌∙◌, ap, ℕ, ◌⊎◌, true, Li
 use Rattle.std.specs.Prelude.{IsSomeAnd}
 use Rattle.std.specs.Io.KnownBytes.{Appends}
 use Rattle.clap.specs.Walk.{Text}
-use Rattle.vk_top.proofs.Outcomes.{some_input}
+use Rattle.vk_edge.proofs.Inputs.{some_input}
+use Rattle.vk_edge.specs.Inputs.{OfInput}
 use Rattle.vk_top.proofs.Storms.{no_other}
 use Rattle.vk_top.proofs.Told.{nothing_more}
 use Rattle.vk_top.specs.declared.status.Status.{Status}
@@ -12,7 +13,7 @@ use Rattle.vk_top.specs.declared.words.Asked.{Asked}
 use Rattle.vk_top.specs.declared.words.Job.{Job}
 use Rattle.vk_top.specs.declared.words.Job.TheVariants as jobs
 use Rattle.vk_top.specs.Jobs.{Asks, IsAloneAnswer, IsFront, IsJobBadAt, IsJobCutShort, IsJobDecided, IsJobDone, IsJobNotARun, IsJobOverLimit, IsJobPart, IsJobStrayAt, IsJobToWrite, IsStormAnswered}
-use Rattle.vk_top.specs.Top.{IsEarly, OfInput}
+use Rattle.vk_top.specs.Top.{IsEarly}
 use Rattle.vk_top.specs.Work.{IsOutcome}
 use Rattle.vk_top.specs.Words.{is_threaded, job_of}
 

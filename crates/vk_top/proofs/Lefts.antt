@@ -16,7 +16,7 @@ use Rattle.vk_report.specs.declared.entry.Form.{Form}
 use Rattle.vk_report.specs.Report.{end_lines, opening_lines}
 use Rattle.vk_top.proofs.Fronts.{fits_all}
 use Rattle.vk_top.proofs.Plays.{ended_text, ended_whole, few, played_more, played_none, refused_cut, refused_text, room_before, room_now}
-use Rattle.vk_top.specs.Playing.{AreFew, HasHadRoom, HasPlayed, IsHad, IsUnderWay, ending}
+use Rattle.vk_top.specs.Playing.{AreFew, HasHadRoom, HasPlayed, IsHad, IsUnderWay, without_events}
 use Rattle.vk_top.specs.Report.{history_before, is_cut, written_text}
 
 -- the first of those that are left
@@ -78,7 +78,7 @@ module _ (form : Form) (all old : Front) (k : ClusterValue) (counts : Counts) (t
         record {
           played = subst (λ m. HasPlayed form s m now after longer) counted more;
           rest = first.behind_it ∙ ap (λ m. drop m s.events) place;
-          same = ap ending (sym next) ∙ so_far.same;
+          same = ap without_events (sym next) ∙ so_far.same;
         }
 
     pub way_cut : length all.schedule.events ≤ EVENTS → is_full k ≡ true → true ≡ is_cut all.schedule
@@ -102,8 +102,8 @@ module _ (form : Form) (all old : Front) (k : ClusterValue) (counts : Counts) (t
       ];
     }
 
-    pub way_ending : ending new ≡ ending all
-    way_ending = ap ending (sym next) ∙ so_far.same
+    pub way_ending : without_events new ≡ without_events all
+    way_ending = ap without_events (sym next) ∙ so_far.same
 
   -- no event is left
   module _ (none : old.schedule.events ≡ []) where

@@ -1,18 +1,18 @@
 -- What a reader leaves when it gave its next event or step, or has none.
 use Rattle.std.proofs.Common.{◌≡◌, ◌<◌, Bool, true, false, cond, [], ◌∷◌, length, Some, None, ap, arith}
-use Rattle.vk_base.specs.declared.step.Step.{Step}
+use Rattle.vk_types.specs.Types.{Step}
 use Rattle.vk_schedule.specs.declared.event.Event.{Event}
 use Rattle.vk_schedule.specs.declared.schedule.Front.{Front}
 use Rattle.vk_schedule.specs.Remaining as events
 use Rattle.v_trace.specs.Remaining as steps
 use Rattle.v_trace.specs.Remaining.{Remaining}
 
-pub next_event : (old new : Front) (b : Bool) (e : Event) → b ≡ true → events.IsNext old new (cond b (Some e) None) →
+pub next_event : (old new : Front) (b : Bool) (e : Event) → b ≡ true → events.IsNextEvent old new (cond b (Some e) None) →
     old ≡ events.behind (e ∷ []) new
 next_event old new true e is next = next
 next_event old new false e is next = cc
 
-pub no_event : (old new : Front) (b : Bool) (e : Event) → b ≡ false → events.IsNext old new (cond b (Some e) None) →
+pub no_event : (old new : Front) (b : Bool) (e : Event) → b ≡ false → events.IsNextEvent old new (cond b (Some e) None) →
     (old.schedule.events ≡ []) × (new ≡ old)
 no_event old new true e is next = cc
 no_event old new false e is next = next
@@ -21,12 +21,12 @@ pub fewer_events : (old new : Front) (e : Event) → old ≡ events.behind (e �
     length new.schedule.events < length old.schedule.events
 fewer_events old new e next = let count = ap (λ (f : Front). length f.schedule.events) next in omega (arith, count)
 
-pub next_step : (old new : Remaining) (b : Bool) (s : Step) → b ≡ true → steps.IsNext old new (cond b (Some s) None) →
+pub next_step : (old new : Remaining) (b : Bool) (s : Step) → b ≡ true → steps.IsNextStep old new (cond b (Some s) None) →
     old ≡ steps.behind (s ∷ []) new
 next_step old new true s is next = next
 next_step old new false s is next = cc
 
-pub no_step : (old new : Remaining) (b : Bool) (s : Step) → b ≡ false → steps.IsNext old new (cond b (Some s) None) →
+pub no_step : (old new : Remaining) (b : Bool) (s : Step) → b ≡ false → steps.IsNextStep old new (cond b (Some s) None) →
     (old.steps ≡ []) × (new ≡ old)
 no_step old new true s is next = cc
 no_step old new false s is next = next

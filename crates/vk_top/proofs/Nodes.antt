@@ -1,7 +1,7 @@
 -- The answer to a scenario for one station.
 use Rattle.std.proofs.Common.{◌≡◌, ℕ, ◌+◌, ◌<◌, ◌≤◌, ◌==◌, min, IfOk, OnOk, ◌||◌, Bool, true, false, List, [], ◌∷◌, length, Result, Ok, Err, ◌⊎◌, inl, inr, ap, subst, sym, arith, refl}
 use Rattle.std.proofs.lemmas.Bool.{and_parts, eqb-true}
-use Rattle.vk_base.specs.declared.config.ProcessSpec.{ProcessSpec}
+use Rattle.vk_types.specs.Types.{ProcessSpec}
 use Rattle.vk_base.specs.Settings.{has_process, has_station}
 use Rattle.vk_event.specs.declared.port.StationPort.{StationPort}
 use Rattle.vk_event.specs.declared.scenario.Scenario.{Scenario}
@@ -12,6 +12,7 @@ use Rattle.vk_event.specs.Scenario.{HasScenarioProcess, scenario_of}
 use Rattle.vk_event.specs.ScenarioLaws.{IsLawfulScenario}
 use Rattle.vk_program.specs.declared.assigned.Assigned.{Assigned}
 use Rattle.vk_rules.specs.Each.{Each}
+use Rattle.vk_rules.proofs.Lists.{each_both}
 use Rattle.vk_schedule.specs.declared.schedule.TextRefusal.{TextRefusal}
 use Rattle.vk_schedule.specs.declared.schedule.TextRefusal.TheVariants as texts
 use Rattle.vk_schedule.specs.declared.log.StationLog.{StationLog}
@@ -25,7 +26,9 @@ use Rattle.vk_top.specs.Nodes.{IsNodeFailure, Passed, TellsNode, for_station, jo
 use Rattle.vk_top.specs.Programs.{AreTopPrograms, assignments_at, tasks_at}
 use Rattle.vk_top.specs.Statuses.{refused, refused_node}
 use Rattle.vk_top.specs.Threaded.{IsTextRefusal, IsThreadedRefusal, IsThreadedWork, counted, ended, scenario_status}
-use Rattle.vk_udp.specs.Node.{HavePort, IsNodeRecord, IsProcessAt, TellsNodeJobs}
+use Rattle.vk_edge.proofs.Answers.{tells_none}
+use Rattle.vk_edge.specs.Answers.{TellsFaults}
+use Rattle.vk_udp.specs.Node.{HavePort, IsNodeRecord, IsProcessAt, TellsNodeFault, TellsNodeJobs}
 use Rattle.vk_udp.specs.declared.record.NodeRefusal.{NodeRefusal}
 use Rattle.vk_udp.specs.declared.record.NodeRefusal.TheVariants as nodes
 
@@ -42,6 +45,19 @@ node_refused host text texts.NoMemory (inl wanted) = some_process text wanted.1
 node_refused host text texts.NoMemory (inr bad) = absurd (no_want text bad)
 
 -- Where the run of the station came to no end.
+
+module _ (wire wire_now crew crew_now : ℕ) where
+  pub node_tells_crew : (e : NodeRefusal) → TellsNodeFault {T = Unit {0}} wire wire_now crew crew_now (Err e) →
+      TellsFaults status.CrewFault (refused_node e) crew crew_now
+  node_tells_crew nodes.LinkFault told = tells_none status.CrewFault status.LinkFault crew crew_now (λ is. grind (arith, is)) told.1
+  node_tells_crew nodes.CrewFault told = record { answered = λ is. told.1; told = λ more. refl }
+  node_tells_crew nodes.NoMemory told = tells_none status.CrewFault status.NoMemory crew crew_now (λ is. grind (arith, is)) told.1
+
+  pub node_tells_link : (e : NodeRefusal) → TellsNodeFault {T = Unit {0}} wire wire_now crew crew_now (Err e) →
+      TellsFaults status.LinkFault (refused_node e) wire wire_now
+  node_tells_link nodes.LinkFault told = record { answered = λ is. told.0; told = λ more. refl }
+  node_tells_link nodes.CrewFault told = tells_none status.LinkFault status.CrewFault wire wire_now (λ is. grind (arith, is)) told.0
+  node_tells_link nodes.NoMemory told = tells_none status.LinkFault status.NoMemory wire wire_now (λ is. grind (arith, is)) told.0
 
 module _ (host : ℕ) (text : List ℕ) (s : Scenario) (before now : ℕ) (small : length text ≤ 16777216) (is : node_scenario host text ≡ Ok s) where
   pub node_grown : now ≡ counted before (jobs_at host s) → IsNodeFailure host before now status.NoMemory text
@@ -63,14 +79,10 @@ module _ (host : ℕ) (text : List ℕ) (s : Scenario) (before now : ℕ) (small
 
 -- What the run of the station asks for.
 
-both_each : {A : Type 0} (P Q : A → Type 0) (xs : List A) → Each P xs → Each Q xs → Each (λ x. P x × Q x) xs
-both_each P Q [] ps qs = tt
-both_each P Q (x ∷ xs) ps qs = ((ps.0, qs.0), both_each P Q xs ps.1 qs.1)
-
 pub station_processes : (s : Scenario) (host : ℕ) (programs : List (Assigned TopProgram)) → IsLawfulScenario s →
     AreTopPrograms (tasks_at host s.tasks) programs → Each (IsProcessAt s.config.specs host) programs
 station_processes s host programs lawful are =
-    both_each (λ (a : Assigned TopProgram). has_process s.config.specs a.pid ≡ true) (λ (a : Assigned TopProgram). a.pid.host ≡ host)
+    each_both (λ (a : Assigned TopProgram). has_process s.config.specs a.pid ≡ true) (λ (a : Assigned TopProgram). a.pid.host ≡ host)
     programs (station_have s host programs lawful are) (station_own s host programs lawful are)
 
 ports_above : (specs : List ProcessSpec) (last : ℕ) (ports : List StationPort) → ArePortsAbove specs last ports →

@@ -36,7 +36,7 @@ played_none form s k text stands opening = record {
 room_by : (a b : Bool) → (a || b) ≡ false → b ≡ false
 room_by a b is = (or_parts a b is).1
 
-full_by : (a b : Bool) → ¬ (a ≡ true) → (a || b) ≡ true → b ≡ true
+pub full_by : (a b : Bool) → ¬ (a ≡ true) → (a || b) ≡ true → b ≡ true
 full_by true b not is = absurd (not refl)
 full_by false b not is = is
 

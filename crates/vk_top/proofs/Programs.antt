@@ -3,10 +3,8 @@ use Rattle.std.proofs.Common.{◌≡◌, ◌<◌, ℕ, suc, ◌+◌, true, Optio
 use Rattle.std.specs.Prelude.{slice_get}
 use Rattle.std.specs.List.{AllByRecursion, list_all}
 use Rattle.std.proofs.lemmas.Bool.{and_parts}
-use Rattle.vk_base.specs.declared.answer.Answer.{Answer}
-use Rattle.vk_base.specs.declared.call.Call.{Call}
-use Rattle.vk_base.specs.declared.config.ProcessSpec.{ProcessSpec}
-use Rattle.vk_base.specs.declared.pid.Pid.{Pid}
+use Rattle.std.proofs.lemmas.Option.{slice_get-get_or}
+use Rattle.vk_types.specs.Types.{Answer, Call, Pid, ProcessSpec}
 use Rattle.vk_base.specs.Settings.{has_process}
 use Rattle.vk_event.specs.declared.scenario.Scenario.{Scenario}
 use Rattle.vk_event.specs.ScenarioLaws.{IsLawfulScenario, IsReadableKind}
@@ -17,7 +15,7 @@ use Rattle.vk_top.specs.Programs.{AreTopPrograms, IsAfter, IsTopTask, assignment
 use Rattle.vk_threads.specs.Assigned.{AreDifferent, pid_of, program_task}
 use Rattle.vk_program.specs.declared.assigned.Assigned.{Assigned}
 use Rattle.vk_top.specs.declared.program.TopProgram.{TopProgram}
-use Rattle.vk_threads.proofs.Dealing.{get_slice, take_get}
+use Rattle.vk_threads.proofs.Dealing.{take_get}
 use Rattle.vk_threads.proofs.Scenarios.{spec_pid, specs_differ, specs_have}
 
 abbrev pub task_pid : Task → Pid
@@ -46,7 +44,7 @@ program_push (u ∷ ts) (b ∷ others) t a are pid task after = (are.0, are.1, a
 pub tasks_more : (ts : List Task) (i : ℕ) (t : Task) → i < length ts → t ≡ get_or ts i t → take (i + 1) ts ≡ take i ts ++ t ∷ []
 tasks_more ts i t low here =
     let one : suc i ≡ i + 1 = omega arith in
-    let found : slice_get ts i ≡ Some t = get_slice ts i t low ∙ ap Some (sym here) in
+    let found : slice_get ts i ≡ Some t = slice_get-get_or ts i t low ∙ ap Some (sym here) in
     ap (λ n. take n ts) (sym one) ∙ take_get ts i t found
 
 pub programs_on : (ts : List Task) (i : ℕ) (t : Task) (a : Assigned TopProgram) (others grown : List (Assigned TopProgram)) → i < length ts → t ≡ get_or ts i t

@@ -1,7 +1,7 @@
 -- The answer to a scenario.
 use Rattle.std.proofs.Common.{◌≡◌, ℕ, ◌+◌, ◌<◌, ◌≤◌, false, List, [], ◌∷◌, length, map, Option, Some, None, Result, Ok, Err, ◌⊎◌, inl, inr, ap, subst, sym, ◌∙◌, arith, refl}
 use Rattle.std.specs.Option.{option_map_or}
-use Rattle.vk_base.specs.declared.config.ProcessSpec.{ProcessSpec}
+use Rattle.vk_types.specs.Types.{ProcessSpec}
 use Rattle.vk_base.specs.Settings.{Settings}
 use Rattle.vk_event.specs.declared.scenario.Scenario.{Scenario}
 use Rattle.vk_schedule.specs.declared.schedule.TextRefusal.{TextRefusal}
@@ -17,7 +17,9 @@ use Rattle.vk_top.specs.Runs.{IsRunFailure, jobs_of, run_asked}
 use Rattle.vk_top.specs.Statuses.{refused, refused_run}
 use Rattle.vk_top.specs.Threaded.{IsTextRefusal, IsThreadedRefusal, counted, scenario_status}
 use Rattle.vk_top.specs.declared.status.Status.TheVariants as status
-use Rattle.vk_threads.specs.Assigned.{LeavesJobs}
+use Rattle.vk_edge.proofs.Answers.{tells_none}
+use Rattle.vk_edge.specs.Answers.{TellsFaults}
+use Rattle.vk_threads.specs.Assigned.{LeavesJobs, TellsRunFault}
 use Rattle.vk_threads.specs.declared.record.RunRefusal.{RunRefusal}
 use Rattle.vk_threads.specs.declared.record.RunRefusal.TheVariants as runs
 
@@ -92,6 +94,11 @@ refused_text text texts.NoMemory (inl wanted) = some_process text wanted.1
 refused_text text texts.NoMemory (inr bad) = absurd (no_want text bad)
 
 -- Where the run of a scenario came to no end.
+
+pub run_tells : (before now : ℕ) (e : RunRefusal) → TellsRunFault {T = Unit {0}} before now (Err e) →
+    TellsFaults status.CrewFault (refused_run e) before now
+run_tells before now runs.CrewFault rose = record { answered = λ is. rose; told = λ more. refl }
+run_tells before now runs.NoMemory same = tells_none status.CrewFault status.NoMemory before now (λ is. grind (arith, is)) same
 
 module _ (text : List ℕ) (s : Scenario) (before now : ℕ) (small : length text ≤ 16777216) (is : scenario_of text ≡ Ok s) where
   pub run_grown : now ≡ counted before (jobs_of s) → IsRunFailure before now status.NoMemory text

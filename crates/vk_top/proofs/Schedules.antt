@@ -2,7 +2,8 @@
 use Rattle.std.proofs.Common.{◌≡◌, ℕ, zero, suc, true, List, [], ◌∷◌, take}
 use Rattle.std.proofs.lemmas.Bool.{and_parts}
 use Rattle.std.specs.List.{list_all}
-use Rattle.vk_base.specs.declared.config.ProcessSpec.{ProcessSpec}
+use Rattle.vk_cluster.proofs.Arms.{of_process}
+use Rattle.vk_types.specs.Types.{ProcessSpec}
 use Rattle.vk_schedule.specs.declared.event.Event.{Event}
 use Rattle.vk_schedule.specs.declared.event.Event.TheVariants as scheduled
 use Rattle.vk_schedule.specs.declared.schedule.Schedule.{Schedule}
@@ -10,14 +11,7 @@ use Rattle.vk_schedule.specs.Lawful.{IsLawful, has_actors}
 use Rattle.vk_rules.specs.Observed.{IsRunOf}
 use Rattle.v_whole.proofs.Distinct.{lawful_distinct}
 use Rattle.v_whole.proofs.Histories.{schedules_run}
-use Rattle.v_whole.specs.Schedules.{AreOfProcesses, IsOfProcess}
-
--- who calls is a process of the configuration
-of_process : (specs : List ProcessSpec) (e : Event) → has_actors specs e ≡ true → IsOfProcess specs e
-of_process specs (scheduled.Call pid c) h = h
-of_process specs (scheduled.Collect pid) h = tt
-of_process specs (scheduled.Tick host) h = tt
-of_process specs (scheduled.Deliver to from event output) h = tt
+use Rattle.v_whole.specs.Schedules.{AreOfProcesses}
 
 of_processes : (specs : List ProcessSpec) (es : List Event) (n : ℕ) → list_all (has_actors specs) es ≡ true →
     AreOfProcesses specs (take n es)

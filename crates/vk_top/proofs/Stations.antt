@@ -2,28 +2,20 @@
 use Rattle.std.proofs.Common.{◌≡◌, ◌<◌, ℕ, ◌+◌, ◌==◌, eqb-true, eq-eqb, Bool, true, false, cond, List, [], ◌∷◌, ◌++◌, append-nil, length, map, take, get_or, refl, sym, ap, ◌∙◌, subst}
 use Rattle.std.specs.Prelude.{filter}
 use Rattle.std.proofs.lemmas.List.Elements.{filter-append}
-use Rattle.vk_base.specs.declared.pid.Pid.{Pid}
+use Rattle.vk_types.specs.Types.{Pid}
 use Rattle.vk_base.specs.Pids.{same_pid}
 use Rattle.vk_base.specs.Settings.{has_process}
 use Rattle.vk_event.specs.declared.scenario.Scenario.{Scenario}
 use Rattle.vk_event.specs.ScenarioLaws.{IsLawfulScenario}
 use Rattle.vk_event.specs.declared.task.Task.{Task}
 use Rattle.vk_rules.specs.Each.{Each}
+use Rattle.vk_rules.proofs.Lists.{each_filter}
 use Rattle.vk_top.specs.Programs.{AreTopPrograms, IsAfter, call_by, tasks_at, top_call}
 use Rattle.vk_threads.specs.Assigned.{AreDifferent, pid_of}
 use Rattle.vk_program.specs.declared.assigned.Assigned.{Assigned}
 use Rattle.vk_top.specs.declared.program.TopProgram.{TopProgram}
 use Rattle.vk_threads.proofs.Scenarios.{spec_pid, specs_differ, specs_have}
 use Rattle.vk_top.proofs.Programs.{each_assigned, program_push, programs_pids, task_pid, tasks_more}
-
--- what holds of each element, and that they differ, holds of those that a test finds
-each_cond : {A : Type 0} (P : A → Type 0) (b : Bool) (x : A) (xs : List A) → P x → Each P xs → Each P (cond b (x ∷ xs) xs)
-each_cond P true x xs own each = (own, each)
-each_cond P false x xs own each = each
-
-each_found : {A : Type 0} (P : A → Type 0) (f : A → Bool) (xs : List A) → Each P xs → Each P (filter f xs)
-each_found P f [] each = tt
-each_found P f (x ∷ xs) each = each_cond P (f x) x (filter f xs) each.0 (each_found P f xs each.1)
 
 differ_cond : (b : Bool) (p : Pid) (ps : List Pid) → Each (λ (q : Pid). same_pid q p ≡ false) ps → AreDifferent ps →
     AreDifferent (cond b (p ∷ ps) ps)
@@ -33,7 +25,7 @@ differ_cond false p ps own apart = apart
 differ_found : (f : Pid → Bool) (ps : List Pid) → AreDifferent ps → AreDifferent (filter f ps)
 differ_found f [] apart = tt
 differ_found f (p ∷ ps) apart =
-    differ_cond (f p) p (filter f ps) (each_found (λ (q : Pid). same_pid q p ≡ false) f ps apart.0) (differ_found f ps apart.1)
+    differ_cond (f p) p (filter f ps) (each_filter (λ (q : Pid). same_pid q p ≡ false) f ps apart.0) (differ_found f ps apart.1)
 
 pids_cond : (b : Bool) (t : Task) (ts : List Task) → map task_pid (cond b (t ∷ ts) ts) ≡ cond b (t.pid ∷ map task_pid ts) (map task_pid ts)
 pids_cond true t ts = refl
@@ -57,7 +49,7 @@ pub station_have : (s : Scenario) (host : ℕ) (programs : List (Assigned TopPro
 station_have s host programs lawful are =
     each_assigned s.config.specs programs
     (subst (Each (λ (p : Pid). has_process s.config.specs p ≡ true)) (sym (station_pids s host programs lawful are))
-    (each_found (λ (p : Pid). has_process s.config.specs p ≡ true) (λ (p : Pid). p.host == host) (map spec_pid s.config.specs)
+    (each_filter (λ (p : Pid). has_process s.config.specs p ≡ true) (λ (p : Pid). p.host == host) (map spec_pid s.config.specs)
     (specs_have s.config.specs)))
 
 pub station_apart : (s : Scenario) (host : ℕ) (programs : List (Assigned TopProgram)) → IsLawfulScenario s →

@@ -1,12 +1,10 @@
 -- The answer to a storm.
-use Rattle.std.proofs.Common.{◌≡◌, ℕ, zero, suc, ◌+◌, ◌⊎◌, true, false, List, [], ◌∷◌, length, take, Option, refl, sym, subst, ◌∙◌, inl, inr, arith}
+use Rattle.std.proofs.Common.{◌≡◌, ℕ, ◌+◌, ◌⊎◌, true, false, List, [], ◌∷◌, take, Option, refl, sym, subst, ◌∙◌, inl, inr, arith}
 use Rattle.std.specs.Io.KnownBytes.{Appends}
 use Rattle.std.proofs.lemmas.Bool.{cases_Bool, cond-true, cond-false}
-use Rattle.std.proofs.lemmas.List.{length-append}
-use Rattle.vk_drive.specs.Storms.{Fits, IsTooMuch, choice, schedule_of, summary_of}
-unfoldable use Rattle.vk_drive.specs.Storms.{storm_after}
-use Rattle.vk_drive.specs.Tasks.{settings}
-use Rattle.vk_rules.specs.Histories.{history_of}
+use Rattle.vk_drive.specs.Storms.{Fits, IsTooMuch, schedule_of, summary_of}
+use Rattle.vk_drive.proofs.Fronts.{storm_count}
+use Rattle.vk_edge.specs.Answers.{IsWritten}
 use Rattle.vk_top.proofs.Fronts.{fits_all, full_before, refused_within}
 use Rattle.vk_top.proofs.Told.{nothing_more}
 use Rattle.vk_top.specs.declared.status.Status.{Status}
@@ -14,23 +12,13 @@ use Rattle.vk_top.specs.declared.status.Status.TheVariants as status
 use Rattle.vk_top.specs.Jobs.{IsStormAnswered}
 use Rattle.vk_top.specs.Report.{is_cut, taken_of}
 use Rattle.vk_top.specs.Storm.{storm_output, storm_status, summary_text}
-use Rattle.vk_top.specs.Work.{IsWritten}
-
-events_are : (seed count : ℕ) → length (storm_after seed count).events ≡ count
-unfolding storm_after
-events_are seed zero = refl
-events_are seed (suc count) =
-    let s = storm_after seed count in
-    let next = (choice s.state (history_of settings s.events)).event in
-    let more : length s.events + 1 ≡ suc count = omega (arith, events_are seed count) in
-    length-append s.events (next ∷ []) ∙ more
 
 pub not_cut : (n : ℕ) → Fits n → is_cut (schedule_of n) ≡ false
 not_cut n fits = let s = schedule_of n in
     elim (cases_Bool (is_cut s)) [
       | inl cut ↦
           let over = full_before s cut in
-          let fit = fits (taken_of s) (omega (arith, refused_within s cut, events_are n n)) in
+          let fit = fits (taken_of s) (omega (arith, refused_within s cut, storm_count n n)) in
           absurd (omega (arith, over, fit))
       | inr whole ↦ whole
     ]
@@ -40,7 +28,7 @@ cut_is n much = let s = schedule_of n in
     elim (cases_Bool (is_cut s)) [
       | inl cut ↦ cut
       | inr whole ↦
-          let fit = fits_all s whole much.0 (omega (arith, much.1, events_are n n)) in
+          let fit = fits_all s whole much.0 (omega (arith, much.1, storm_count n n)) in
           absurd (omega (arith, fit, much.2))
     ]
 
@@ -55,7 +43,7 @@ told_output n fits = sym (cond-false _ _ _ (not_cut n fits))
 
 -- all was written, or a write failed
 pub storm_written : (Unchanged : Type 0) (n : ℕ) (text : List ℕ) (old new : Option (List ℕ)) (s : Status) → Fits n →
-    text ≡ summary_text (summary_of n) → IsWritten text status.Done old new s → (count : ℕ) × Appends old new (take count text) →
+    text ≡ summary_text (summary_of n) → IsWritten status.Done status.WriteFault text old new s → (count : ℕ) × Appends old new (take count text) →
     IsStormAnswered Unchanged n old new s
 storm_written Unchanged n text old new s fits is (inl (done, written)) front = subst (IsStormAnswered Unchanged n old new) (sym done) (record {
   done = λ same. record { fits = fits; output = subst (Appends old new) is written };

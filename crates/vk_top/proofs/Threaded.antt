@@ -1,15 +1,21 @@
 -- The answer where what happened in a run is told in a text.
-use Rattle.std.proofs.Common.{◌≡◌, ℕ, ◌<◌, ◌≤◌, Bool, true, false, List, [], length, take, Option, Some, None, ◌⊎◌, inl, inr, refl, subst, sym, ◌∙◌, arith}
-use Rattle.std.specs.Prelude.{IfSome}
+use Rattle.std.proofs.Common.{◌≡◌, ℕ, ◌<◌, ◌≤◌, Bool, true, false, List, length, take, Option, Some, None, ◌⊎◌, inl, inr, refl, subst, sym, ◌∙◌, arith}
 use Rattle.std.specs.Io.KnownBytes.{Appends}
 use Rattle.std.proofs.lemmas.Bool.{cond-false, cond-true, le-ltb, lt-ltb}
-use Rattle.vk_top.proofs.Outcomes.{all_taken, some_input, tells_none, told_input, told_whole, too_many, weaker, written_late}
+use Rattle.vk_edge.proofs.Answers.{other_than, tells_none}
+use Rattle.vk_edge.proofs.Inputs.{is_all, of_text, partly, read_whole, some_input, too_many, weaker}
+use Rattle.vk_edge.specs.Answers.{IsWritten, TellsFaults}
+use Rattle.vk_edge.specs.Inputs.{IsReadOver, IsReadWithin, IsText, IsUnread, IsWanting, OfInput}
+use Rattle.vk_io.specs.declared.whole.ReadRefusal.{ReadRefusal}
+use Rattle.vk_io.specs.declared.whole.ReadRefusal.TheVariants as reads
+use Rattle.vk_top.proofs.Outcomes.{written_late}
+use Rattle.vk_top.specs.Statuses.{unread}
 use Rattle.vk_top.specs.declared.status.Status.{Status}
 use Rattle.vk_top.specs.declared.status.Status.TheVariants as status
 use Rattle.vk_top.specs.declared.top.Work.{Work}
 use Rattle.vk_top.specs.Threaded.{IsBadScenario, IsFailure, IsRanInPart, IsRunDecided, IsTextRefusal, IsThreadedAnswer, IsThreadedAnswered, IsThreadedRefusal, IsThreadedWork, asked_of, ended}
-use Rattle.vk_top.specs.Top.{IsBehindText, IsEarly, IsReadOver, IsReadWithin, IsWanting, OfInput, TellsFaults}
-use Rattle.vk_top.specs.Work.{IsLate, IsUnread, IsWriteCount, IsWritten}
+use Rattle.vk_top.specs.Top.{IsBehindText, IsEarly}
+use Rattle.vk_top.specs.Work.{IsLate}
 
 -- The answer behind a write.
 
@@ -70,7 +76,7 @@ module _ (Tells : Bool → List ℕ → List ℕ → Type 0) (asked : Bool → L
   }
 
   pub work_written : (Unwritten Unasked : Type 0) (text : List ℕ) (w : Work) (old new : Option (List ℕ)) (s : Status) →
-      length text ≤ 16777216 → IsThreadedWork Tells asked text w → IsWritten w.text.items w.status old new s →
+      length text ≤ 16777216 → IsThreadedWork Tells asked text w → IsWritten w.status status.WriteFault w.text.items old new s →
       (n : ℕ) × Appends old new (take n w.text.items) → IsThreadedAnswered Tells asked Fails Unwritten Unasked text old new s
   work_written Unwritten Unasked text w old new s small work (inl (same, written)) front =
       subst (IsThreadedAnswered Tells asked Fails Unwritten Unasked text old new) (sym (same ∙ work.status))
@@ -143,22 +149,22 @@ module _ (Tells : Bool → List ℕ → List ℕ → Type 0) (asked : Bool → L
   decided told status.Limit given = given
   decided told (status.Stray host event) given = given
 
-  by_text : (left : Option (List ℕ)) (text : List ℕ) (s : Status) → IfSome left (λ bytes. bytes ≡ text) →
+  by_text : (left rest : Option (List ℕ)) (text : List ℕ) (s : Status) → IsText left rest text →
       (s ≡ status.NoMemory) ⊎ (s ≡ status.WriteFault) ⊎ (s ≡ status.CrewFault) ⊎ (s ≡ status.LinkFault)
       ⊎ ((limited : Bool) × (s ≡ asked_of asked limited text)) → IsRunDecided asked left s
-  by_text left text s all (inl is) = subst (IsRunDecided asked left) (sym is) tt
-  by_text left text s all (inr (inl is)) = subst (IsRunDecided asked left) (sym is) tt
-  by_text left text s all (inr (inr (inl is))) = subst (IsRunDecided asked left) (sym is) tt
-  by_text left text s all (inr (inr (inr (inl is)))) = subst (IsRunDecided asked left) (sym is) tt
-  by_text left text s all (inr (inr (inr (inr is)))) = decided left s (record { input = text; all = all; holds = is })
+  by_text left rest text s read (inl is) = subst (IsRunDecided asked left) (sym is) tt
+  by_text left rest text s read (inr (inl is)) = subst (IsRunDecided asked left) (sym is) tt
+  by_text left rest text s read (inr (inr (inl is))) = subst (IsRunDecided asked left) (sym is) tt
+  by_text left rest text s read (inr (inr (inr (inl is)))) = subst (IsRunDecided asked left) (sym is) tt
+  by_text left rest text s read (inr (inr (inr (inr is)))) =
+      decided left s (of_text left rest text (λ i. (limited : Bool) × (s ≡ asked_of asked limited i)) read is)
 
   answered_is : (Unread Unwritten Unasked : Type 0) (left rest old new : Option (List ℕ)) (text : List ℕ) (s : Status) →
-      length text ≤ 16777216 → IfSome left (λ i. (text ≡ i) × (rest ≡ Some [])) →
-      IsThreadedAnswered Tells asked Fails Unwritten Unasked text old new s →
+      IsText left rest text → IsThreadedAnswered Tells asked Fails Unwritten Unasked text old new s →
       IsThreadedAnswer Tells asked Fails Unread Unwritten Unasked left rest old new s
-  answered_is Unread Unwritten Unasked left rest old new text s small read answered =
-      let all = told_input left rest text read in
-      let whole = told_whole left rest text read in
+  answered_is Unread Unwritten Unasked left rest old new text s read answered =
+      let all = is_all left rest text read in
+      let whole = read_whole left rest text read in
       record {
         done = λ is. record { input = text; all = all; holds = answered.done is };
         limit = λ is. inr (whole, record { input = text; all = all; holds = answered.limit is });
@@ -166,20 +172,19 @@ module _ (Tells : Bool → List ℕ → List ℕ → Type 0) (asked : Bool → L
         whole = λ behind. whole;
         bad = λ line is. (record { input = text; all = all; holds = (answered.bad line is).0 }, (answered.bad line is).1);
         reading = λ is. absurd (answered.reading is);
-        memory = λ is. inr (record { bytes = text; front = all_taken left rest text read; count = (answered.memory is, small) });
+        memory = λ is. inr (partly left rest text read (answered.memory is));
         failed = λ failure. record { input = text; all = all; holds = answered.failed failure };
         kinds = answered.kinds;
         nothing = answered.nothing;
-        complete = by_text left text s all answered.complete;
+        complete = by_text left rest text s read answered.complete;
       }
 
   -- the text that was read is the one that was answered to
   pub run_served : (Unread Unwritten Unasked : Type 0) (left rest old new : Option (List ℕ)) (text seen : List ℕ) (s : Status) →
-      length text ≤ 16777216 → IfSome left (λ i. (text ≡ i) × (rest ≡ Some [])) → seen ≡ text →
-      IsThreadedAnswered Tells asked Fails Unwritten Unasked seen old new s →
+      IsText left rest text → seen ≡ text → IsThreadedAnswered Tells asked Fails Unwritten Unasked seen old new s →
       IsThreadedAnswer Tells asked Fails Unread Unwritten Unasked left rest old new s
-  run_served Unread Unwritten Unasked left rest old new text seen s small read same answered =
-      answered_is Unread Unwritten Unasked left rest old new text s small read
+  run_served Unread Unwritten Unasked left rest old new text seen s read same answered =
+      answered_is Unread Unwritten Unasked left rest old new text s read
       (subst (λ t. IsThreadedAnswered Tells asked Fails Unwritten Unasked t old new s) same answered)
 
   limit_status : (i : List ℕ) → 16777216 < length i → (limited : Bool) × (status.Limit ≡ asked_of asked limited i)
@@ -206,28 +211,27 @@ module _ (Tells : Bool → List ℕ → List ℕ → Type 0) (asked : Bool → L
     complete = complete;
   }
 
-  pub run_unread : (Unread Unwritten Unasked : Type 0) (left rest old : Option (List ℕ)) (s : Status) → Unwritten → Unasked →
-      ((i : List ℕ) → Fails status.NoMemory i) → IsUnread left rest s →
-      IsThreadedAnswer Tells asked Fails Unread Unwritten Unasked left rest old old s
-  run_unread Unread Unwritten Unasked left rest old status.ReadFault same idle wanting why =
+  unread_as : (Unread Unwritten Unasked : Type 0) (left rest old : Option (List ℕ)) (r : ReadRefusal) → Unwritten → Unasked →
+      ((i : List ℕ) → Fails status.NoMemory i) → IsUnread left rest r →
+      IsThreadedAnswer Tells asked Fails Unread Unwritten Unasked left rest old old (unread r)
+  unread_as Unread Unwritten Unasked left rest old reads.Failed same idle wanting why =
       nothing_ran Unread Unwritten Unasked left rest old status.ReadFault same idle (λ behind. behind) (λ is. grind (arith, is)) (λ is. why)
       (λ is. absurd (grind (arith, is))) (λ is. absurd (grind (arith, is))) (λ failure. absurd failure) tt
-  run_unread Unread Unwritten Unasked left rest old status.Limit same idle wanting why =
+  unread_as Unread Unwritten Unasked left rest old reads.TooLong same idle wanting why =
       nothing_ran Unread Unwritten Unasked left rest old status.Limit same idle (λ behind. behind) (λ is. grind (arith, is))
       (λ is. absurd (grind (arith, is))) (λ is. why) (λ is. absurd (grind (arith, is))) (λ failure. absurd failure)
       (weaker left _ _ limit_status (too_many left rest why))
-  run_unread Unread Unwritten Unasked left rest old status.NoMemory same idle wanting why =
+  unread_as Unread Unwritten Unasked left rest old reads.NoMemory same idle wanting why =
       nothing_ran Unread Unwritten Unasked left rest old status.NoMemory same idle (λ behind. behind) (λ is. grind (arith, is))
       (λ is. absurd (grind (arith, is))) (λ is. absurd (grind (arith, is))) (λ is. inr why)
       (λ failure. some_input left (Fails status.NoMemory) wanting) tt
-  run_unread Unread Unwritten Unasked left rest old status.Done same idle wanting why = absurd why
-  run_unread Unread Unwritten Unasked left rest old (status.NotARun step) same idle wanting why = absurd why
-  run_unread Unread Unwritten Unasked left rest old status.Usage same idle wanting why = absurd why
-  run_unread Unread Unwritten Unasked left rest old (status.BadInput line) same idle wanting why = absurd why
-  run_unread Unread Unwritten Unasked left rest old status.WriteFault same idle wanting why = absurd why
-  run_unread Unread Unwritten Unasked left rest old status.CrewFault same idle wanting why = absurd why
-  run_unread Unread Unwritten Unasked left rest old status.LinkFault same idle wanting why = absurd why
-  run_unread Unread Unwritten Unasked left rest old (status.Stray host event) same idle wanting why = absurd why
+
+  pub run_unread : (Unread Unwritten Unasked : Type 0) (left rest old : Option (List ℕ)) (r : ReadRefusal) (s : Status) → s ≡ unread r →
+      Unwritten → Unasked → ((i : List ℕ) → Fails status.NoMemory i) → IsUnread left rest r →
+      IsThreadedAnswer Tells asked Fails Unread Unwritten Unasked left rest old old s
+  run_unread Unread Unwritten Unasked left rest old r s is same idle wanting why =
+      subst (IsThreadedAnswer Tells asked Fails Unread Unwritten Unasked left rest old old) (sym is)
+      (unread_as Unread Unwritten Unasked left rest old r same idle wanting why)
 
   -- Memory was wanting to read the words.
   pub wanting_is : (Unread Unwritten Unasked : Type 0) (left old : Option (List ℕ)) (s : Status) → Unread → Unwritten → Unasked →
@@ -279,35 +283,16 @@ not_run asked Fails Unasked text status.Limit same wanting why = absurd why
 not_run asked Fails Unasked text status.LinkFault same wanting why = absurd why
 not_run asked Fails Unasked text (status.Stray host event) same wanting why = absurd why
 
--- What is told of faults.
+-- What is told of faults: none where a text is not run, and none was counted.
 
-pub refusal_count : (asked : Bool → List ℕ → Status) (Fails : Status → List ℕ → Type 0) (Unasked : Type 0) (text : List ℕ) (s : Status)
-    (before : ℕ) → IsThreadedRefusal asked Fails Unasked text s → IsWriteCount s before before
-refusal_count asked Fails Unasked text (status.BadInput line) before why = refl
-refusal_count asked Fails Unasked text status.NoMemory before why = refl
-refusal_count asked Fails Unasked text status.CrewFault before why = refl
-refusal_count asked Fails Unasked text status.LinkFault before why = refl
-refusal_count asked Fails Unasked text status.Done before why = absurd why
-refusal_count asked Fails Unasked text (status.NotARun step) before why = absurd why
-refusal_count asked Fails Unasked text status.Usage before why = absurd why
-refusal_count asked Fails Unasked text status.ReadFault before why = absurd why
-refusal_count asked Fails Unasked text status.WriteFault before why = absurd why
-refusal_count asked Fails Unasked text status.Limit before why = absurd why
-refusal_count asked Fails Unasked text (status.Stray host event) before why = absurd why
-
--- no fault is told there, and none was counted
 pub not_run_tells : (asked : Bool → List ℕ → Status) (why : Status) (text : List ℕ) (s : Status) (before : ℕ) →
     ¬ (IsTextRefusal asked text why) → IsTextRefusal asked text s → TellsFaults why s before before
 not_run_tells asked why text s before none refusal =
-    tells_none why s before before (λ is. none (subst (IsTextRefusal asked text) is refusal)) refl
+    tells_none why s before before (other_than (IsTextRefusal asked text) s why refusal none) refl
 
 -- A fault that is told of nothing is told.
 
 pub written_tells : (why : Status) (text : List ℕ) (told : Status) (old new : Option (List ℕ)) (s : Status) (before now : ℕ) → IsEarly why →
-    IsLate told → IsWritten text told old new s → now ≡ before → TellsFaults why s before now
+    IsLate told → IsWritten told status.WriteFault text old new s → now ≡ before → TellsFaults why s before now
 written_tells why text told old new s before now early late written same =
     tells_none why s before now (λ is. written_late text told old new s late written (subst IsEarly (sym is) early)) same
-
-pub unread_tells : (why : Status) (left rest : Option (List ℕ)) (s : Status) (before : ℕ) → ¬ (IsUnread left rest why) →
-    IsUnread left rest s → TellsFaults why s before before
-unread_tells why left rest s before none unread = tells_none why s before before (λ is. none (subst (IsUnread left rest) is unread)) refl

@@ -4,6 +4,7 @@ use Rattle.std.specs.Io.KnownBytes.{Appends}
 use Rattle.std.proofs.lemmas.Bool.{cond-false, cond-true, le-ltb}
 use Rattle.std.proofs.lemmas.List.{take_all}
 use Rattle.std.proofs.lemmas.List.{append-nil}
+use Rattle.vk_edge.specs.Answers.{IsWritten}
 use Rattle.vk_schedule.specs.declared.schedule.Schedule.{Schedule}
 use Rattle.vk_schedule.specs.declared.schedule.TextRefusal.{TextRefusal}
 use Rattle.vk_schedule.specs.declared.schedule.TextRefusal.TheVariants as schedules
@@ -31,9 +32,10 @@ use Rattle.vk_text.specs.Lines.{lines_of}
 use Rattle.vk_text.specs.Openings.{opening_of}
 use Rattle.v_trace.specs.Traces.{behind_head}
 use Rattle.vk_top.specs.Joins.{HasStray, join_status, nodes_refusal, nodes_status}
+use Rattle.vk_top.specs.Statuses.{refused, refused_trace}
 use Rattle.vk_top.specs.Report.{front_text, is_cut, output_text, taken_of, written_text}
-use Rattle.vk_top.specs.Top.{HasRefused, IsBadAt, IsCut, IsCutShort, IsDone, IsNotARun, IsPart, IsRefusedLate, IsReplayed, IsStrayAt, IsTextOutput, IsToWrite, IsTold, check_output, check_status, replay_output, replay_status, status_of, text_status, verdict_status}
-use Rattle.vk_top.specs.Work.{IsAnswered, IsLate, IsRefusal, KeepsLines, IsWork, IsWritten}
+use Rattle.vk_top.specs.Top.{HasRefused, IsBadAt, IsCut, IsCutShort, IsDone, IsNotARun, IsPart, IsRefusedLate, IsReplayed, IsStrayAt, IsTextOutput, IsToWrite, IsToldWhole, check_output, check_status, replay_output, replay_status, status_of, text_status, verdict_status}
+use Rattle.vk_top.specs.Work.{IsAnswered, IsLate, IsRefusal, KeepsLines, IsWork}
 use Rattle.vk_top.specs.declared.check.TraceVerdict.{TraceVerdict}
 use Rattle.vk_top.specs.declared.check.TraceVerdict.TheVariants as verdicts
 use Rattle.vk_report.specs.declared.entry.Form.{Form}
@@ -353,8 +355,8 @@ late_kinds (status.Stray host event) late = absurd late
 late_is : (a : Asked) (text : List ℕ) (s : Status) → length text ≤ 16777216 → IsLate s → (s ≡ status.Limit → IsRefusedLate a text)
     → s ≡ status_of a text → IsToWrite a text
 late_is a text status.Limit small late limit is = inr (small, limit refl)
-late_is a text status.Done small late limit is = inl (subst IsTold is tt)
-late_is a text (status.NotARun step) small late limit is = inl (subst IsTold is tt)
+late_is a text status.Done small late limit is = inl (subst IsToldWhole is tt)
+late_is a text (status.NotARun step) small late limit is = inl (subst IsToldWhole is tt)
 late_is a text status.Usage small late limit is = absurd late
 late_is a text (status.BadInput line) small late limit is = absurd late
 late_is a text status.ReadFault small late limit is = absurd late
@@ -403,7 +405,7 @@ part_is a text w old new n small work some =
     record { small = small; output = w.text.items; asked_for = work.output; count = n; written = some }
 
 pub written_is : (Unchanged : Type 0) (a : Asked) (text : List ℕ) (w : Work) (old new : Option (List ℕ)) (s : Status)
-    → length text ≤ 16777216 → IsWork a text w → IsWritten w.text.items w.status old new s
+    → length text ≤ 16777216 → IsWork a text w → IsWritten w.status status.WriteFault w.text.items old new s
     → (n : ℕ) × Appends old new (take n w.text.items) → IsAnswered Unchanged a text old new s
 written_is Unchanged a text w old new s small work (inl (same, written)) (n, some) =
     all_written Unchanged a text w.text.items old new s small (same ∙ work.status) (subst IsLate (sym same) work.late)
@@ -444,7 +446,7 @@ replay_keeps form text e is (inl h) line bad = h.1 line bad
 replay_keeps form text e is (inr h) line bad =
     let none : schedule_of text ≡ Err (schedules.BadInput line) = replay_bad (schedule_of text) line bad in cc
 
-pub replay_wanted : (form : Form) (text : List ℕ) (e : TextRefusal) → e ≡ schedules.NoMemory
+replay_wanted : (form : Form) (text : List ℕ) (e : TextRefusal) → e ≡ schedules.NoMemory
     → ((e ≡ schedules.NoMemory) × KeepsLines (asked.Replay form) text) ⊎ (schedule_of text ≡ Err e) → 0 < length text
 replay_wanted form text e is why = kept_some (asked.Replay form) text (replay_keeps form text e is why)
 
@@ -456,9 +458,15 @@ check_keeps : (text : List ℕ) (e : TraceRefusal) → e ≡ traces.NoMemory
 check_keeps text e is (inl h) line bad = h.1 line bad
 check_keeps text e is (inr h) line bad = let none : trace_of text ≡ Err (traces.BadInput line) = check_bad (trace_of text) line bad in cc
 
-pub check_wanted : (text : List ℕ) (e : TraceRefusal) → e ≡ traces.NoMemory
+check_wanted : (text : List ℕ) (e : TraceRefusal) → e ≡ traces.NoMemory
     → ((e ≡ traces.NoMemory) × KeepsLines asked.Check text) ⊎ (trace_of text ≡ Err e) → 0 < length text
 check_wanted text e is why = kept_some asked.Check text (check_keeps text e is why)
+
+pub check_refused : (text : List ℕ) (e : TraceRefusal)
+    → ((e ≡ traces.NoMemory) × KeepsLines asked.Check text) ⊎ (trace_of text ≡ Err e) → IsRefusal asked.Check text (refused_trace e)
+check_refused text (traces.BadInput line) (inl wanted) = absurd (grind (arith, wanted.0))
+check_refused text (traces.BadInput line) (inr is) = ap check_status is
+check_refused text traces.NoMemory why = check_wanted text traces.NoMemory refl why
 
 checked_keeps : (text : List ℕ) (t : Trace) → trace_of text ≡ Ok t → KeepsLines asked.Check text
 checked_keeps text t h line bad = let none : trace_of text ≡ Err (traces.BadInput line) = check_bad (trace_of text) line bad in cc
@@ -476,7 +484,7 @@ told_by text t v s is same (inr h) =
     subst (IsRefusal asked.Check text) (sym h.1) (limit, inr (check_limit text (trace_of text) refl limit))
 
 -- what is written of a trace, and the answer then
-told_late : (s : Status) → IsTold s → IsLate s × ¬ (s ≡ status.Limit)
+told_late : (s : Status) → IsToldWhole s → IsLate s × ¬ (s ≡ status.Limit)
 told_late status.Done told = (tt, λ is. grind (arith, is))
 told_late (status.NotARun step) told = (tt, λ is. grind (arith, is))
 told_late status.Usage told = absurd told
@@ -490,7 +498,7 @@ told_late (status.Stray host event) told = absurd told
 told_late status.Limit told = absurd told
 
 pub check_work : (text : List ℕ) (w : Work) (t : Trace) (v : TraceVerdict) → trace_of text ≡ Ok t → v ≡ verdict_of t
-    → (w.text.items ≡ verdict_text v) × (w.status ≡ verdict_status v) × IsTold w.status → IsWork asked.Check text w
+    → (w.text.items ≡ verdict_text v) × (w.status ≡ verdict_status v) × IsToldWhole w.status → IsWork asked.Check text w
 check_work text w t v is same told =
     let late = told_late w.status told.2 in
     record {
@@ -501,8 +509,17 @@ check_work text w t v is same told =
     }
 
 -- where there are too many events
-pub replay_limited : (form : Form) (text : List ℕ) (e : TextRefusal) → e ≡ schedules.Limit
+replay_limited : (form : Form) (text : List ℕ) (e : TextRefusal) → e ≡ schedules.Limit
     → ((e ≡ schedules.NoMemory) × KeepsLines (asked.Replay form) text) ⊎ (schedule_of text ≡ Err e) → IsRefusal (asked.Replay form) text status.Limit
 replay_limited form text e is (inl h) = let none : schedules.Limit ≡ schedules.NoMemory = sym is ∙ h.0 in absurd (cc)
 replay_limited form text e is (inr h) =
     let limit : schedule_of text ≡ Err schedules.Limit = h ∙ ap Err is in (ap replay_status limit, inr limit)
+
+-- why nothing is written of a schedule
+pub replay_refused : (form : Form) (text : List ℕ) (e : TextRefusal)
+    → ((e ≡ schedules.NoMemory) × KeepsLines (asked.Replay form) text) ⊎ (schedule_of text ≡ Err e)
+    → IsRefusal (asked.Replay form) text (refused e)
+replay_refused form text (schedules.BadInput line) (inl wanted) = absurd (grind (arith, wanted.0))
+replay_refused form text (schedules.BadInput line) (inr is) = ap replay_status is
+replay_refused form text schedules.Limit why = replay_limited form text schedules.Limit refl why
+replay_refused form text schedules.NoMemory why = replay_wanted form text schedules.NoMemory refl why

@@ -2,11 +2,10 @@
 use Rattle.std.specs.Prelude.{ℕ, ◌≡◌, ◌+◌, ◌-◌, ◌≤◌, ◌<◌, nat_lt, List, [], ◌∷◌, ◌++◌, length, take, codes, decimal, Option, None, IsSome, ◌↔◌, Ok, if◌then◌else◌}
 use Rattle.std.specs.Io.KnownBytes.{Appends}
 use Rattle.std.specs.Option.{option_map_or}
+use Rattle.vk_types.specs.Types.{ProcessSpec, Step}
 use Rattle.vk_base.specs.declared.limits.TheConstants.{INPUT_BYTES}
 use Rattle.vk_base.specs.Kernel.{Kernel, initial_kernel}
 use Rattle.vk_base.specs.Steps.{effect, run}
-use Rattle.vk_base.specs.declared.config.ProcessSpec.{ProcessSpec}
-use Rattle.vk_base.specs.declared.step.Step.{Step}
 use Rattle.v_machine.specs.Apply.{most, notes}
 use Rattle.v_trace.specs.Remaining.{Remaining}
 use Rattle.v_trace.specs.Traces.{trace_of}
@@ -88,5 +87,5 @@ pub record IsVerdictOf (text : List ℕ) (v : TraceVerdict) : Type 0 where
   pub verdict : v ≡ verdict_of trace
 
 -- how the reading ends, when no step is left
-abbrev pub ending : Remaining → Remaining
-ending r = record r { steps = [] }
+abbrev pub without_steps : Remaining → Remaining
+without_steps r = record r { steps = [] }

@@ -3,6 +3,7 @@
 use Rattle.std.specs.Prelude.{ℕ, ◌≡◌, ◌⊎◌, List, [], take, Option, Some, None, IsSomeAnd}
 use Rattle.clap.specs.Walk.{Text}
 use Rattle.std.specs.Io.KnownBytes.{Appends}
+use Rattle.vk_edge.specs.Inputs.{IsReadOver, IsReadWhole, IsReadWithin, IsWanting, OfInput}
 use Rattle.vk_drive.specs.Storms.{Fits, IsTooMuch, summary_of}
 use Rattle.vk_top.specs.declared.status.Status.{Status}
 use Rattle.vk_top.specs.declared.status.Status.TheVariants as status
@@ -10,7 +11,7 @@ use Rattle.vk_top.specs.declared.words.Asked.{Asked}
 use Rattle.vk_top.specs.declared.words.Job.{Job}
 use Rattle.vk_top.specs.declared.words.Job.TheVariants as jobs
 use Rattle.vk_top.specs.Storm.{storm_output, storm_status, summary_text}
-use Rattle.vk_top.specs.Top.{IsBadAt, IsBehindText, IsCutShort, IsDecided, IsDone, IsEarly, IsNotARun, IsOverLimit, IsPart, IsReadOver, IsReadWhole, IsReadWithin, IsStrayAt, IsToWrite, IsWanting, OfInput}
+use Rattle.vk_top.specs.Top.{IsBadAt, IsBehindText, IsCutShort, IsDecided, IsDone, IsEarly, IsNotARun, IsOverLimit, IsPart, IsStrayAt, IsToWrite}
 use Rattle.vk_top.specs.Words.{job_of}
 
 -- the words ask for something, and this holds of it and of the input

@@ -1,7 +1,7 @@
 -- What `node H` answers and writes: the input is a scenario that has the station H, and a port of each station. This station is run with a
 -- wire to the others, and what happened there is written.
 use Rattle.std.specs.Prelude.{ℕ, ◌≡◌, ◌+◌, ◌-◌, ◌^◌, ◌≤◌, min, Bool, List, length, Option, Result, Ok, Err, if◌then◌else◌}
-use Rattle.vk_base.specs.declared.event.StationEvent.{StationEvent}
+use Rattle.vk_types.specs.Types.{StationEvent}
 use Rattle.vk_base.specs.declared.limits.TheConstants.{INPUT_BYTES}
 use Rattle.vk_event.specs.declared.scenario.Scenario.{Scenario}
 use Rattle.vk_event.specs.NodeLaws.{node_text, one_log}

@@ -11,7 +11,7 @@ use Rattle.vk_schedule.specs.declared.schedule.Schedule.{Schedule}
 use Rattle.vk_schedule.specs.Schedule.{schedule_of}
 use Rattle.vk_report.specs.declared.entry.Counts.{Counts}
 use Rattle.vk_report.specs.declared.entry.Form.{Form}
-use Rattle.vk_report.specs.declared.entry.Place.{Place}
+use Rattle.vk_report.specs.declared.entry.EventPlace.{EventPlace}
 use Rattle.vk_report.specs.Histories.{Told, told_lines}
 use Rattle.vk_rules.specs.Entries.{Entry}
 use Rattle.vk_rules.specs.Histories.{Happened, happened, history}
@@ -20,7 +20,7 @@ use Rattle.vk_top.specs.Report.{counts_of, emitted_of, frame_count, front_text, 
 use Rattle.vk_top.specs.declared.replay.Written.{Written}
 
 -- what is told of an entry at this place
-abbrev pub told_entry : Place → Entry → Told
+abbrev pub told_entry : EventPlace → Entry → Told
 told_entry place e = record { place = place; answer = Some e.answer; steps = e.steps; frames = map emitted_of e.frames }
 
 -- before one event more
@@ -34,7 +34,7 @@ abbrev pub counts_after : Counts → Happened → Counts
 counts_after c h = record { events = c.events + 1; steps = c.steps + length (steps_in h); frames = c.frames + frame_count h }
 
 -- this happened: its lines were appended, and it is counted
-pub record IsTold (form : Form) (before after : Counts) (front text : List ℕ) (h : Happened) : Type 0 where
+pub record IsReported (form : Form) (before after : Counts) (front text : List ℕ) (h : Happened) : Type 0 where
   pub lines : text ≡ front ++ told_lines form (told_of (before.events + 1) h)
   pub counts : after ≡ counts_after before h
   pub steps : length (steps_in h) ≤ STEPS
@@ -43,7 +43,7 @@ pub record IsTold (form : Form) (before after : Counts) (front text : List ℕ) 
 -- the cluster had this event behind these
 pub record IsHad (form : Form) (c : Settings) (es : List Event) (e : Event) (before after : Counts) (front text : List ℕ)
     (now : ClusterValue) : Type 0 where
-  pub told : IsTold form before after front text (happened c (logs_of c es) e)
+  pub told : IsReported form before after front text (happened c (logs_of c es) e)
   pub stands : StandsFor c (es ++ e ∷ []) now
 
 -- The first so many events of a schedule were had, none of them was refused, and their lines stand behind the opening lines.
@@ -57,14 +57,14 @@ pub record HasPlayed (form : Form) (s : Schedule) (n : ℕ) (now : ClusterValue)
       + taken_from (emitted_bytes (history_before n s)) (history s.config (logs_of s.config (take n s.events)) (drop n s.events))
 
 -- how the reading ends, when no event is left
-abbrev pub ending : Front → Front
-ending f = record f { schedule = record f.schedule { events = [] } }
+abbrev pub without_events : Front → Front
+without_events f = record f { schedule = record f.schedule { events = [] } }
 
 -- the events of a front but those that are left were had
 pub record IsUnderWay (form : Form) (all left : Front) (now : ClusterValue) (counts : Counts) (text : List ℕ) : Type 0 where
   pub played : HasPlayed form all.schedule counts.events now counts text
   pub rest : left.schedule.events ≡ drop counts.events all.schedule.events
-  pub same : ending left ≡ ending all
+  pub same : without_events left ≡ without_events all
 
 -- so many events of a front were read, and the others are left; before none of those the emitted frames hold too many bytes
 pub record HasHadRoom (all left : Front) : Type 0 where

@@ -1,8 +1,6 @@
 -- Any program of a scenario, as its task and the answers so far.
 use Rattle.std.specs.Prelude.{◌≡◌, ℕ, ◌==◌, true, List, [], ◌∷◌, map, filter, Option}
-use Rattle.vk_base.specs.declared.answer.Answer.{Answer}
-use Rattle.vk_base.specs.declared.call.Call.{Call}
-use Rattle.vk_base.specs.declared.config.ProcessSpec.{ProcessSpec}
+use Rattle.vk_types.specs.Types.{Answer, Call, ProcessSpec}
 use Rattle.vk_event.specs.ScenarioLaws.{IsReadableKind}
 use Rattle.vk_event.specs.Tasks.{has_memory, memory_of}
 use Rattle.vk_event.specs.declared.task.Task.{Task}

@@ -1,6 +1,5 @@
 -- What is written of a schedule: the report or the trace of its history.
 use Rattle.std.specs.Prelude.{ℕ, suc, ◌+◌, nat_lt, Bool, List, [], ◌∷◌, ◌++◌, flat_map, length, map, sum_by, take, Some, None, if◌then◌else◌}
-use Rattle.vk_base.specs.Packets.{Packet, Send, Reply, Pending, Negative, MoveData, MoveAck, MoveRequest, MoveBytes, MoveNegative, AskPid, TellPid}
 use Rattle.vk_cluster.specs.declared.emitted.TheConstants.{LAST_BYTES}
 use Rattle.vk_cluster.specs.Standing.{bytes_of}
 use Rattle.vk_schedule.specs.declared.schedule.Schedule.{Schedule}
@@ -8,26 +7,11 @@ use Rattle.vk_host.specs.Sealed.{sealed}
 use Rattle.vk_report.specs.declared.entry.Counts.{Counts}
 use Rattle.vk_report.specs.declared.entry.Form.{Form}
 use Rattle.vk_report.specs.declared.frame.Emitted.{Emitted}
-use Rattle.vk_report.specs.declared.frame.PacketKind.{PacketKind}
-use Rattle.vk_report.specs.declared.frame.PacketKind.TheVariants as kinds
 use Rattle.vk_report.specs.Histories.{Told, history_text, told_lines}
-use Rattle.vk_report.specs.Report.{opening_lines}
+use Rattle.vk_report.specs.Report.{kind_of, opening_lines}
 use Rattle.vk_rules.specs.Frames.{Frame}
 use Rattle.vk_rules.specs.Histories.{Happened, At, Missing, history_of}
 use Rattle.vk_rules.specs.Observed.{all_steps}
-
-abbrev pub kind_of : Packet → PacketKind
-kind_of (Send from to number message part) = kinds.Send
-kind_of (Reply from to number message dest bytes) = kinds.Reply
-kind_of (Pending from to number) = kinds.Pending
-kind_of (Negative from to number) = kinds.Negative
-kind_of (MoveData from to number moving dest total offset bytes) = kinds.MoveData
-kind_of (MoveAck from to number moving received) = kinds.MoveAck
-kind_of (MoveRequest from to number moving src total offset) = kinds.MoveRequest
-kind_of (MoveBytes from to number moving total offset bytes) = kinds.MoveBytes
-kind_of (MoveNegative from to number moving) = kinds.MoveNegative
-kind_of (AskPid asker lookup logical) = kinds.AskPid
-kind_of (TellPid found asker lookup) = kinds.TellPid
 
 -- a frame: for whom it is, its kind, and how many bytes it has
 abbrev pub emitted_of : Frame → Emitted

@@ -4,13 +4,14 @@
 use Rattle.std.specs.Prelude.{ℕ, ◌≡◌, ◌+◌, ◌-◌, ◌^◌, ◌≤◌, ◌<◌, ◌⊎◌, min, nat_lt, Bool, true, false, List, length, take, Option, Result, Ok, Err, if◌then◌else◌}
 use Rattle.std.specs.Io.KnownBytes.{Appends}
 use Rattle.vk_base.specs.declared.limits.TheConstants.{INPUT_BYTES}
+use Rattle.vk_edge.specs.Inputs.{IsReadOver, IsReadWhole, IsReadWithin, IsWanting, OfInput}
 use Rattle.vk_event.specs.declared.scenario.Scenario.{Scenario}
 use Rattle.vk_schedule.specs.declared.schedule.TextRefusal.{TextRefusal}
 use Rattle.vk_top.specs.declared.status.Status.{Status}
 use Rattle.vk_top.specs.declared.status.Status.TheVariants as status
 use Rattle.vk_top.specs.declared.top.Work.{Work}
 use Rattle.vk_top.specs.Statuses.{refused}
-use Rattle.vk_top.specs.Top.{IsBehindText, IsEarly, IsReadOver, IsReadWhole, IsReadWithin, IsWanting, OfInput}
+use Rattle.vk_top.specs.Top.{IsBehindText, IsEarly}
 
 -- the answer to a run
 abbrev pub ended : Bool → Status

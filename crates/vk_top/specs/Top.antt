@@ -1,8 +1,8 @@
 -- What is answered to a text, and what is written of it.
-use Rattle.std.specs.Prelude.{ℕ, ◌≡◌, ◌<◌, ◌≤◌, ◌⊎◌, nat_lt, true, List, [], length, take, Option, Some, IfSome, Result, Ok, Err, if◌then◌else◌}
+use Rattle.std.specs.Prelude.{ℕ, ◌≡◌, ◌<◌, ◌≤◌, ◌⊎◌, nat_lt, true, List, [], length, take, Option, Result, Ok, Err, if◌then◌else◌}
 use Rattle.std.specs.Io.KnownBytes.{Appends}
 use Rattle.vk_base.specs.declared.limits.TheConstants.{INPUT_BYTES}
-use Rattle.vk_io.specs.Causes.{LosesFront, Rose}
+use Rattle.vk_edge.specs.Inputs.{OfInput}
 use Rattle.v_trace.specs.Traces.{trace_of}
 use Rattle.v_trace.specs.declared.trace.Trace.{Trace}
 use Rattle.v_trace.specs.declared.trace.TraceRefusal.{TraceRefusal}
@@ -24,13 +24,8 @@ use Rattle.vk_report.specs.declared.entry.Form.{Form}
 use Rattle.vk_event.specs.Nodes.{nodes_of}
 use Rattle.vk_top.specs.Joins.{EmitsTooMuch, HasStray, IsJoinOutput, IsJoinWritten, join_status}
 use Rattle.vk_top.specs.Check.{IsNo, IsTooMuch, IsYes, verdict_of, verdict_text}
+use Rattle.vk_top.specs.Statuses.{refused, refused_trace}
 use Rattle.vk_top.specs.Report.{front_text, history_before, is_cut, output_text, written_text}
-
--- the bytes of the input: those that the source tells as left, or some where it tells none, and this holds of them
-pub record OfInput (told : Option (List ℕ)) (Holds : List ℕ → Type 0) : Type 0 where
-  pub input : List ℕ
-  pub all : IfSome told (λ bytes. bytes ≡ input)
-  pub holds : Holds input
 
 -- the input is the text of a schedule, and its report or its trace is written; before none of its events the emitted frames hold too many
 -- bytes; the steps in it are a run of the one-machine kernel, with exactly the observations of the processes
@@ -97,9 +92,7 @@ IsCutShort asked.Join input old new = ⊥
 -- what a schedule asks for; only code can want memory, so that no text has this refusal
 abbrev pub replay_status : Result Schedule TextRefusal → Status
 replay_status (Ok schedule) = if is_cut schedule then status.Limit else status.Done
-replay_status (Err (schedules.BadInput line)) = status.BadInput line
-replay_status (Err schedules.Limit) = status.Limit
-replay_status (Err schedules.NoMemory) = status.NoMemory
+replay_status (Err why) = refused why
 
 abbrev pub replay_output : Form → Result Schedule TextRefusal → List ℕ
 replay_output form (Ok schedule) = written_text form schedule
@@ -113,8 +106,7 @@ verdict_status verdicts.TooMuch = status.Limit
 
 abbrev pub check_status : Result Trace TraceRefusal → Status
 check_status (Ok trace) = verdict_status (verdict_of trace)
-check_status (Err (traces.BadInput line)) = status.BadInput line
-check_status (Err traces.NoMemory) = status.NoMemory
+check_status (Err why) = refused_trace why
 
 abbrev pub check_output : Result Trace TraceRefusal → List ℕ
 check_output (Ok trace) = verdict_text (verdict_of trace)
@@ -144,18 +136,18 @@ pub record IsPart (a : Asked) (input : List ℕ) (old new : Option (List ℕ)) :
   pub written : Appends old new (take count output)
 
 -- the answers at which all is written that is asked for
-abbrev pub IsTold : Status → Type 0
-IsTold status.Done = Unit {0}
-IsTold (status.NotARun step) = Unit {0}
-IsTold status.Usage = ⊥
-IsTold (status.BadInput line) = ⊥
-IsTold status.ReadFault = ⊥
-IsTold status.WriteFault = ⊥
-IsTold status.NoMemory = ⊥
-IsTold status.CrewFault = ⊥
-IsTold status.Limit = ⊥
-IsTold status.LinkFault = ⊥
-IsTold (status.Stray host event) = ⊥
+abbrev pub IsToldWhole : Status → Type 0
+IsToldWhole status.Done = Unit {0}
+IsToldWhole (status.NotARun step) = Unit {0}
+IsToldWhole status.Usage = ⊥
+IsToldWhole (status.BadInput line) = ⊥
+IsToldWhole status.ReadFault = ⊥
+IsToldWhole status.WriteFault = ⊥
+IsToldWhole status.NoMemory = ⊥
+IsToldWhole status.CrewFault = ⊥
+IsToldWhole status.Limit = ⊥
+IsToldWhole status.LinkFault = ⊥
+IsToldWhole (status.Stray host event) = ⊥
 
 -- the input is the text of a schedule of which an event is refused
 pub record HasRefused (input : List ℕ) : Type 0 where
@@ -184,28 +176,7 @@ IsBehindText status.Limit = ⊥
 
 -- something is to be written
 abbrev pub IsToWrite : Asked → List ℕ → Type 0
-IsToWrite a input = IsTold (status_of a input) ⊎ ((length input ≤ INPUT_BYTES) × IsRefusedLate a input)
-
--- the input was read to its end, which a source tells if it tells what is left
-abbrev pub IsReadWhole : (left rest : Option (List ℕ)) → Type 0
-IsReadWhole left rest = IfSome left (λ i. rest ≡ Some [])
-
--- of the input more bytes were read than there may be
-abbrev pub IsReadOver : (left rest : Option (List ℕ)) → Type 0
-IsReadOver left rest = LosesFront left rest (λ n. INPUT_BYTES < n)
-
--- of the input no more bytes were read than there may be
-abbrev pub IsReadWithin : (left rest : Option (List ℕ)) → Type 0
-IsReadWithin left rest = LosesFront left rest (λ n. n ≤ INPUT_BYTES)
-
--- memory was wanted for the words, and then nothing was read; or some of the input was read, but no byte too many
-abbrev pub IsWanting : Type 0 → Option (List ℕ) → Option (List ℕ) → Type 0
-IsWanting Unread left rest = Unread ⊎ LosesFront left rest (λ n. (0 < n) × (n ≤ INPUT_BYTES))
-
--- the status tells of faults that were counted, and is that one wherever some were
-pub record TellsFaults (why s : Status) (before now : ℕ) : Type 0 where
-  pub answered : s ≡ why → Rose before now
-  pub told : before < now → s ≡ why
+IsToWrite a input = IsToldWhole (status_of a input) ⊎ ((length input ≤ INPUT_BYTES) × IsRefusedLate a input)
 
 -- the input and memory decide the answer, unless a fault is told
 abbrev pub IsDecided : Asked → Option (List ℕ) → Status → Type 0

@@ -1,30 +1,12 @@
 -- What the parts of the top call promise one another.
-use Rattle.std.specs.Prelude.{ℕ, ◌≡◌, ◌<◌, ◌≤◌, ◌⊎◌, List, [], length, Option}
+use Rattle.std.specs.Prelude.{ℕ, ◌≡◌, ◌<◌, ◌⊎◌, List, [], length, Option}
 use Rattle.std.specs.Io.KnownBytes.{Appends}
-use Rattle.vk_base.specs.declared.limits.TheConstants.{INPUT_BYTES}
-use Rattle.vk_io.specs.Causes.{LosesFront, Rose}
+use Rattle.vk_edge.specs.Inputs.{IsReadOver, IsReadPartly, IsReadWhole, IsReadWithin, OfInput}
 use Rattle.vk_top.specs.declared.status.Status.{Status}
 use Rattle.vk_top.specs.declared.status.Status.TheVariants as status
 use Rattle.vk_top.specs.declared.top.Work.{Work}
 use Rattle.vk_top.specs.declared.words.Asked.{Asked}
-use Rattle.vk_top.specs.Top.{IsBadAt, IsBehindText, IsCutShort, IsDecided, IsDone, IsNotARun, IsOverLimit, IsPart, IsReadOver, IsReadWhole, IsReadWithin, IsRefusedLate, IsStrayAt, IsTextOutput, IsToWrite, IsTold, OfInput, status_of, text_status}
-
--- the count of a source's faults: it rose where the answer is that a read failed, and else is as it was
-abbrev pub IsReadCount : Status → ℕ → ℕ → Type 0
-IsReadCount status.ReadFault before now = Rose before now
-IsReadCount s before now = now ≡ before
-
--- the count of a sink's faults: it rose where the answer is that a write failed, and else is as it was
-abbrev pub IsWriteCount : Status → ℕ → ℕ → Type 0
-IsWriteCount status.WriteFault before now = Rose before now
-IsWriteCount s before now = now ≡ before
-
--- why the input was not read whole
-abbrev pub IsUnread : Option (List ℕ) → Option (List ℕ) → Status → Type 0
-IsUnread left rest status.ReadFault = IsReadWithin left rest
-IsUnread left rest status.Limit = IsReadOver left rest
-IsUnread left rest status.NoMemory = LosesFront left rest (λ n. (0 < n) × (n ≤ INPUT_BYTES))
-IsUnread left rest s = ⊥
+use Rattle.vk_top.specs.Top.{IsBadAt, IsBehindText, IsCutShort, IsDecided, IsDone, IsNotARun, IsOverLimit, IsPart, IsRefusedLate, IsStrayAt, IsTextOutput, IsToWrite, IsToldWhole, status_of, text_status}
 
 -- no line before the third is the first that is refused, so that one stands before it that is kept, or that memory is wanted for
 abbrev pub KeepsLines : Asked → List ℕ → Type 0
@@ -41,7 +23,7 @@ IsRefusal a text s = ⊥
 -- the answers behind a write
 abbrev pub IsLate : Status → Type 0
 IsLate status.Limit = Unit {0}
-IsLate s = IsTold s
+IsLate s = IsToldWhole s
 
 -- what is written of a text, and the answer then
 pub record IsWork (a : Asked) (text : List ℕ) (w : Work) : Type 0 where
@@ -49,10 +31,6 @@ pub record IsWork (a : Asked) (text : List ℕ) (w : Work) : Type 0 where
   pub limit : w.status ≡ status.Limit → IsRefusedLate a text
   pub output : IsTextOutput a text w.text.items
   pub status : w.status ≡ text_status a text
-
--- all was written, and the answer is that of the work; or a write failed
-abbrev pub IsWritten : List ℕ → Status → Option (List ℕ) → Option (List ℕ) → Status → Type 0
-IsWritten text told old new s = ((s ≡ told) × Appends old new text) ⊎ (s ≡ status.WriteFault)
 
 -- Limit is answered without a change, of an input that is over a limit; or an event of a schedule is refused, and what comes before it is
 -- written
@@ -83,7 +61,7 @@ pub record IsOutcome (Unchanged : Type 0) (a : Asked) (left rest old new : Optio
   pub limit : s ≡ status.Limit → OfInput left (λ i. IsLimit Unchanged a i old new)
   pub limit_whole : s ≡ status.Limit → (IsReadOver left rest × Unchanged) ⊎ IsReadWhole left rest
   pub reading : s ≡ status.ReadFault → IsReadWithin left rest
-  pub memory : s ≡ status.NoMemory → LosesFront left rest (λ n. (0 < n) × (n ≤ INPUT_BYTES))
+  pub memory : s ≡ status.NoMemory → IsReadPartly left rest
   pub writing : s ≡ status.WriteFault → OfInput left (IsToWrite a)
   pub complete : IsDecided a left s
   pub front : OfInput left (λ i. Appends old new [] ⊎ IsPart a i old new)

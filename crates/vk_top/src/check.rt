@@ -4,7 +4,7 @@ ghost use Rattle.std.specs.Prelude.{◌≡◌, ◌<◌, ◌^◌, ◌++◌, ◌�
 ghost use Rattle.vk_base.specs.Kernel.{Kernel};
 ghost use Rattle.v_machine.specs.Follows.{Follows, StandsFor};
 ghost use Rattle.v_trace.specs.Traces.{trace_of};
-ghost use Rattle.vk_top.specs.Check.{IsVerdictOf, ending, verdict_from, verdict_of};
+ghost use Rattle.vk_top.specs.Check.{IsVerdictOf, without_steps, verdict_from, verdict_of};
 ghost use Rattle.vk_top.specs.Work.{KeepsLines};
 ghost use Rattle.vk_top.specs.declared.words.Asked.TheVariants as asked;
 
@@ -51,7 +51,7 @@ fn apply_steps(
 ) -> Result<TraceVerdict, NoMemory>
     requires { length reader.old.steps < 2 ^ 63 }
     ensures verdict { (k : Kernel) → StandsFor machine.old k → IfOk result (λ v. v ≡ verdict_from k 0 machine.old.noted reader.old.steps) }
-    ensures ending { ending reader.new ≡ ending reader.old }
+    ensures ending { without_steps reader.new ≡ without_steps reader.old }
 {
     let mut number = 0u64;
     let mut step = StepBuffer::new(FIRST);
@@ -71,7 +71,7 @@ fn apply_steps(
 fn verdict_on(alloc: Global, reader: &mut StepReader<'_>) -> Result<TraceVerdict, NoMemory>
     requires { length reader.old.steps < 2 ^ 63 }
     ensures verdict { IfOk result (λ v. v ≡ verdict_of (record { config = reader.old.config; steps = reader.old.steps })) }
-    ensures ending { ending reader.new ≡ ending reader.old }
+    ensures ending { without_steps reader.new ≡ without_steps reader.old }
 {
     let mut machine = LeanMachine::new(alloc, reader.config())?;
     apply_steps(alloc, &mut machine, reader)
@@ -79,7 +79,7 @@ fn verdict_on(alloc: Global, reader: &mut StepReader<'_>) -> Result<TraceVerdict
 
 /// Reads all that is left.
 fn read_on(reader: &mut StepReader<'_>)
-    ensures { reader.new ≡ ending reader.old }
+    ensures { reader.new ≡ without_steps reader.old }
 {
     let mut step = StepBuffer::new(FIRST);
     while reader.next(&mut step) {}

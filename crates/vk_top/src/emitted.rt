@@ -1,51 +1,24 @@
 //! What is told of a frame that was emitted.
 
-ghost use Rattle.std.specs.Prelude.{◌≡◌, slice_index};
-ghost use Rattle.vk_base.specs.Packets.{Packet};
-ghost use Rattle.vk_host.specs.Sealed.{sealed};
-ghost use Rattle.vk_packet.specs.Spelling.{packet_bytes};
+ghost use Rattle.std.specs.Prelude.{◌≡◌, ◌<◌, List, length, map, slice_get, Some};
 ghost use Rattle.vk_rules.specs.Frames.{Frame as TheFrame};
-ghost use Rattle.v_lawful.specs.Sending.{IsLawfulFrame};
-ghost use Rattle.vk_top.specs.Report.{emitted_of, kind_of};
+ghost use Rattle.vk_cluster.specs.Shown.{Sends};
+ghost use Rattle.vk_top.specs.Report.{emitted_of};
 
-use vk_frame::{frames_are_spelled_once, unseal};
-use vk_report::{Emitted, PacketKind};
+use vk_host::Host;
+use vk_report::{Emitted, kind_of};
 
-/// The kinds of packets, in the order of the bytes that they begin with, from 1 on.
-static KINDS: [PacketKind; 11] = [
-    PacketKind::Send,
-    PacketKind::Reply,
-    PacketKind::Pending,
-    PacketKind::Negative,
-    PacketKind::MoveData,
-    PacketKind::MoveAck,
-    PacketKind::MoveRequest,
-    PacketKind::MoveBytes,
-    PacketKind::MoveNegative,
-    PacketKind::AskPid,
-    PacketKind::TellPid,
-];
-
-/// The kind of a packet whose bytes begin with this one.
-fn kind_of(first: u8) -> PacketKind
-    requires { (p : Packet) × (first ≡ slice_index (packet_bytes p) 0) }
-    ensures { (p : Packet) → first ≡ slice_index (packet_bytes p) 0 → result ≡ kind_of p }
+/// The destination, the kind and the length of frame number `at` of the station's last event, counted from 0. The station tells them, of
+/// the kind the packet's first byte: the frame is not opened.
+pub(crate) fn emitted_of(station: &Host, at: u32) -> Emitted
+    requires at { at < length station.now.frames }
+    requires sends { (fs : List TheFrame) × Sends station.now fs }
+    ensures { (fs : List TheFrame) → Sends station.now fs → slice_get (map emitted_of fs) at ≡ Some result }
 {
-    KINDS[first as usize - 1]
-}
-
-/// The destination, the kind and the length of a lawful frame with these bytes. Of its packet one byte is read.
-pub(crate) fn emitted_of(bytes: &[u8]) -> Emitted
-    requires { (f : TheFrame) × IsLawfulFrame f × (bytes.now ≡ sealed f) }
-    ensures { (f : TheFrame) → IsLawfulFrame f → bytes.now ≡ sealed f → result ≡ emitted_of f }
-{
-    frames_are_spelled_once();
-    let Some((header, packet)) = unseal(bytes) else {
-        unreachable!()
-    };
+    let (destination, packet) = station.packet(at);
     Emitted {
-        destination: header.destination,
+        destination,
         kind: kind_of(packet[0]),
-        length: bytes.len() as u32,
+        length: station.frame(at).len() as u32,
     }
 }

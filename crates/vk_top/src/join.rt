@@ -7,11 +7,11 @@ ghost use Rattle.vk_schedule.specs.Spelling.{schedule_text};
 ghost use Rattle.vk_join.specs.Joined.{IsJoined};
 ghost use Rattle.vk_schedule.specs.declared.log.StationLog.{StationLog as TheLog};
 ghost use Rattle.vk_event.specs.NodeLaws.{IsLawfulNodes};
-ghost use Rattle.vk_top.specs.Joins.{IsJoinOutput, in_order, nodes_refusal, put_log, refused_join};
+ghost use Rattle.vk_top.specs.Joins.{IsJoinOutput, in_order, nodes_refusal, put_log};
 ghost use Rattle.vk_top.specs.Work.{IsRefusal};
 ghost use Rattle.vk_top.specs.declared.words.Asked.TheVariants as asked;
 
-use crate::status::{Status, refused};
+use crate::status::Status;
 use std::alloc::Global;
 use vk_base::{List, NoMemory};
 use vk_event::{NodeTexts, read_nodes};
@@ -60,32 +60,13 @@ fn joined(alloc: Global, nodes: NodeTexts) -> Result<Schedule, JoinRefusal>
     join_stations(alloc, &config, logs)
 }
 
-/// The answer where logs are not joined.
-fn unjoined(refusal: JoinRefusal) -> Status
-    ensures { result ≡ refused_join refusal }
-{
-    match refusal {
-        JoinRefusal::Stray { host, event, .. } => Status::Stray { host, event },
-        JoinRefusal::Limit => Status::Limit,
-        JoinRefusal::NoMemory => Status::NoMemory,
-    }
-}
-
 /// The text of the schedule that says what the texts of stations say.
 pub(crate) fn joined_text(alloc: Global, text: &[u8]) -> Result<Vec<u8>, Status>
     ensures output { IfOk result (λ output. IsJoinOutput text.now output.items) }
     ensures refused { IfErr result (IsRefusal asked.Join text.now) }
 {
-    let nodes = match read_nodes(alloc, text) {
-        Ok(nodes) => nodes,
-        Err(refusal) => return Err(refused(refusal)),
-    };
-    let schedule = match joined(alloc, nodes) {
-        Ok(schedule) => schedule,
-        Err(refusal) => return Err(unjoined(refusal)),
-    };
-    match write_schedule(alloc, &schedule) {
-        Ok(text) => Ok(text),
-        Err(NoMemory) => Err(Status::NoMemory),
-    }
+    let nodes = read_nodes(alloc, text)?;
+    let schedule = joined(alloc, nodes)?;
+    let output = write_schedule(alloc, &schedule)?;
+    Ok(output)
 }

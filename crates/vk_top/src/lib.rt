@@ -6,8 +6,8 @@
 //! Stands on the readers of schedules (`vk_schedule`), scenarios and texts of single stations (`vk_event`), on all stations of a run
 //! (`vk_cluster`), on logs that are joined (`vk_join`), on the machine that applies steps (`v_machine`), on traces (`v_trace`), on storms
 //! (`vk_drive`), on runs in threads (`vk_threads`) and nodes (`vk_udp`) of the programs of `vk_pages`, `vk_files`, `vk_pipe` and `vk_group`, on
-//! what is written of a history (`vk_report`) and of words (`vk_text`), on sources, sinks and crews (`vk_io`), and on `clap`, which reads the
-//! program's words.
+//! what is written of a history (`vk_report`) and of words (`vk_text`), on sources, sinks and crews (`vk_io`), on what each program does (`vk_edge`),
+//! and on `clap`, which reads the program's words.
 //!
 //! What the words ask for is `specs/Words.antt`, what is written of a schedule `specs/Report.antt`, of a storm `specs/Storm.antt`, what is said
 //! of a trace `specs/Check.antt`, and of texts of stations `specs/Joins.antt`; what each status says of a text is `specs/Top.antt`, of all that
@@ -23,7 +23,6 @@ mod node;
 mod program;
 mod replay;
 mod run;
-mod short;
 mod status;
 mod storm;
 mod top;
@@ -32,7 +31,6 @@ mod words;
 
 pub use law::verdicts_are_exact;
 pub use program::TopProgram;
-pub use short::{numbered_text, short_text};
 pub use status::Status;
 pub use top::vkernel_alone;
 pub use whole::vkernel;

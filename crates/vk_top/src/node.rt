@@ -2,6 +2,7 @@
 
 ghost use Rattle.std.specs.Prelude.{◌≡◌, ◌<◌, ◌≤◌, ◌+◌, ◌-◌, ◌^◌, min, length, true, Ok, IfOk, IfErr, OnOk};
 ghost use Rattle.vk_base.specs.declared.limits.TheConstants.{INPUT_BYTES};
+ghost use Rattle.vk_edge.specs.Answers.{CountsFaults, TellsFaults};
 ghost use Rattle.vk_event.specs.NodeLaws.{IsLawfulNodes, node_text, one_log};
 ghost use Rattle.vk_event.specs.Nodes.{nodes_of};
 ghost use Rattle.vk_event.specs.Ports.{has_all_ports};
@@ -9,19 +10,18 @@ ghost use Rattle.vk_event.specs.ScenarioLaws.{IsLawfulScenario};
 ghost use Rattle.vk_top.specs.Nodes.{IsNodeAnswer, IsNodeFailure, Passed, TellsNode, jobs_at, node_asked, node_scenario};
 ghost use Rattle.vk_top.specs.Programs.{assignments_at};
 ghost use Rattle.vk_top.specs.Threaded.{IsTextRefusal, IsThreadedAnswered, IsThreadedRefusal, IsThreadedWork, ended};
-ghost use Rattle.vk_top.specs.Top.{TellsFaults};
-ghost use Rattle.vk_top.specs.Work.{IsReadCount, IsWriteCount};
 ghost use Rattle.vk_udp.specs.Node.{IsNodeRecord, TellsNodeFault, TellsNodeJobs};
 
 use crate::program::programs_at;
-use crate::status::{Status, refused};
-use crate::top::{Work, ended, read_text, write_work};
+use crate::status::Status;
+use crate::top::{Work, ended, write_work};
 use std::alloc::Global;
 use std::net::Net;
 use std::sync::Wait;
 use std::thread::Threads;
 use std::time::Clock;
-use vk_base::{Config, NoMemory, StationEvent};
+use vk_base::{Config, StationEvent};
+use vk_edge::read_text;
 use vk_event::{Scenario, has_all_ports, line_behind, read_scenario, write_node};
 use vk_io::{Crew, Pacer, Sink, Source};
 use vk_udp::{NodeRecord, NodeRefusal, Wire, run_node};
@@ -34,17 +34,13 @@ fn read_for(alloc: Global, host: u16, text: &[u8]) -> Result<Scenario, Status>
     ensures some { OnOk result (0 < length text.now) }
     ensures refused { IfErr result (IsTextRefusal (node_asked host) text.now) }
 {
-    match read_scenario(alloc, text) {
-        Ok(scenario) => {
-            if has_all_ports(&scenario, host) {
-                Ok(scenario)
-            } else {
-                Err(Status::BadInput {
-                    line: line_behind(text),
-                })
-            }
-        }
-        Err(refusal) => Err(refused(refusal)),
+    let scenario = read_scenario(alloc, text)?;
+    if has_all_ports(&scenario, host) {
+        Ok(scenario)
+    } else {
+        Err(Status::BadInput {
+            line: line_behind(text),
+        })
     }
 }
 
@@ -61,13 +57,11 @@ fn written(
     ensures read { OnOk result (nodes_of (node_text config.now host events.now) ≡ Ok (one_log config.now host events.now)) }
     ensures refused { IfErr result (λ s. s ≡ Status.NoMemory) }
 {
-    match write_node(alloc, config, host, events) {
-        Ok(text) => Ok(Work {
-            text,
-            status: ended(limited),
-        }),
-        Err(NoMemory) => Err(Status::NoMemory),
-    }
+    let text = write_node(alloc, config, host, events)?;
+    Ok(Work {
+        text,
+        status: ended(limited),
+    })
 }
 
 /// What happened where the station of the scenario ran.
@@ -135,22 +129,10 @@ fn node_work<C: Crew, P: Pacer + Send, W: Wire, R: Wait + Threads + Clock + Net 
     ensures crew_faults_never_fall { C.fault_count crew.old ≤ C.fault_count crew.new }
     ensures link_faults_never_fall { W.fault_count wire.old ≤ W.fault_count wire.new }
 {
-    let scenario = match read_for(alloc, host, text) {
-        Ok(scenario) => scenario,
-        Err(status) => return Err(status),
-    };
-    match run_station(rt, alloc, host, &scenario, crew, pacer, wire) {
-        Ok(NodeRecord { log, limited }) => written(
-            alloc,
-            &scenario.config,
-            host,
-            log.events.as_slice(),
-            limited,
-        ),
-        Err(NodeRefusal::LinkFault) => Err(Status::LinkFault),
-        Err(NodeRefusal::CrewFault) => Err(Status::CrewFault),
-        Err(NodeRefusal::NoMemory) => Err(Status::NoMemory),
-    }
+    let scenario = read_for(alloc, host, text)?;
+    let ran = run_station(rt, alloc, host, &scenario, crew, pacer, wire)?;
+    let events = ran.log.events.as_slice();
+    written(alloc, &scenario.config, host, events, ran.limited)
 }
 
 /// The whole work on the text of a scenario that was read.
@@ -170,7 +152,8 @@ fn answer_node<K: Sink, C: Crew, P: Pacer + Send, W: Wire, R: Wait + Threads + C
         (IsNodeFailure host (C.job_count crew.old) (C.job_count crew.new))
         (output.new ≡ output.old) ((crew.new ≡ crew.old) × (wire.new ≡ wire.old))
         text.now (K.written output.old) (K.written output.new) result }
-    ensures write_count { IsWriteCount result (K.fault_count output.old) (K.fault_count output.new) }
+    ensures flushed { result ≡ Status.Done → K.flushed output.new }
+    ensures write_count { CountsFaults Status.WriteFault result (K.fault_count output.old) (K.fault_count output.new) }
     ensures crew_faults { TellsFaults Status.CrewFault result (C.fault_count crew.old) (C.fault_count crew.new) }
     ensures link_faults { TellsFaults Status.LinkFault result (W.fault_count wire.old) (W.fault_count wire.new) }
     ensures write_faults_never_fall { K.fault_count output.old ≤ K.fault_count output.new }
@@ -205,8 +188,9 @@ pub(crate) fn node<
         (S.left input.old) (S.left input.new)
         (record { handed = W.handed wire.old; jobs = C.job_count crew.old })
         (record { handed = W.handed wire.new; jobs = C.job_count crew.new }) (K.written output.old) (K.written output.new) result }
-    ensures read_count { IsReadCount result (S.fault_count input.old) (S.fault_count input.new) }
-    ensures write_count { IsWriteCount result (K.fault_count output.old) (K.fault_count output.new) }
+    ensures flushed { result ≡ Status.Done → K.flushed output.new }
+    ensures read_count { CountsFaults Status.ReadFault result (S.fault_count input.old) (S.fault_count input.new) }
+    ensures write_count { CountsFaults Status.WriteFault result (K.fault_count output.old) (K.fault_count output.new) }
     ensures crew_faults { TellsFaults Status.CrewFault result (C.fault_count crew.old) (C.fault_count crew.new) }
     ensures link_faults { TellsFaults Status.LinkFault result (W.fault_count wire.old) (W.fault_count wire.new) }
     ensures read_faults_never_fall { S.fault_count input.old ≤ S.fault_count input.new }
@@ -216,6 +200,6 @@ pub(crate) fn node<
 {
     match read_text(alloc, input) {
         Ok(text) => answer_node(rt, alloc, host, &text, output, crew, pacer, wire),
-        Err(status) => status,
+        Err(refusal) => Status::from(refusal),
     }
 }

@@ -15,7 +15,7 @@ ghost use Rattle.vk_rules.specs.Entries.{Entry};
 ghost use Rattle.vk_rules.specs.Frames.{Frame as TheFrame};
 ghost use Rattle.vk_rules.specs.Histories.{happened};
 ghost use Rattle.vk_cluster.specs.Shown.{HasAdvanced, IsLast, Sends};
-ghost use Rattle.vk_top.specs.Playing.{AreFew, HasHadRoom, IsHad, IsTold, IsWrittenOf, ending, told_entry};
+ghost use Rattle.vk_top.specs.Playing.{AreFew, HasHadRoom, IsHad, IsReported, IsWrittenOf, without_events, told_entry};
 ghost use Rattle.vk_top.specs.Report.{emitted_of, is_cut, written_text};
 ghost use Rattle.vk_top.specs.Work.{KeepsLines};
 ghost use Rattle.vk_top.specs.declared.words.Asked.TheVariants as asked;
@@ -26,7 +26,7 @@ use vk_base::NoMemory;
 use vk_cluster::{Advance, Cluster, ClusterRefusal};
 use vk_host::{Host, Response};
 use vk_report::{
-    AnswerView, Counts, Form, Place, put_end, put_entry, put_frame, put_missing, put_opening,
+    AnswerView, Counts, EventPlace, Form, put_end, put_entry, put_frame, put_missing, put_opening,
 };
 use vk_schedule::{EventBuffer, EventReader, TextRefusal};
 
@@ -55,7 +55,7 @@ fn put_frames(
     let mut output = 0u16;
     for at in 0..station.frame_count() {
         output += 1;
-        let frame = emitted_of(station.frame(at));
+        let frame = emitted_of(station, at);
         put_frame(alloc, text, form, host, own, output, frame)?;
     }
     Ok(())
@@ -85,7 +85,7 @@ fn put_told(
     station: &Host,
     text: &mut Vec<u8>,
     form: Form,
-    place: Place,
+    place: EventPlace,
     response: Response,
 ) -> Result<(), NoMemory>
     requires { (e : Entry) × IsLast station.now (answer_of station.now response) e }
@@ -112,7 +112,7 @@ fn put_report(
     requires few { AreFew counts.old }
     requires advanced { (c : Settings) × (es : List TheEvent) × (e : TheEvent) × HasAdvanced c es cluster.now e advance }
     ensures { OnOk result ((c : Settings) (es : List TheEvent) (e : TheEvent) → HasAdvanced c es cluster.now e advance →
-        IsTold form counts.old counts.new text.old.items text.new.items (happened c (logs_of c es) e)) }
+        IsReported form counts.old counts.new text.old.items text.new.items (happened c (logs_of c es) e)) }
 {
     let number = counts.events + 1;
     counts.events = number;
@@ -122,7 +122,7 @@ fn put_report(
             let station = cluster.station(place);
             counts.steps += station.steps().len() as u64;
             counts.frames += u64::from(station.frame_count());
-            let place = Place {
+            let place = EventPlace {
                 number,
                 host: station.host(),
                 own: station.events(),
@@ -174,7 +174,7 @@ fn put_events(
     ensures cut { IfOk result (λ cut. cut ≡ is_cut reader.old.schedule) }
     ensures text { OnOk result (text.new.items ≡ written_text form reader.old.schedule) }
     ensures memory { OnErr result (HasHadRoom reader.old reader.new) }
-    ensures ending { ending reader.new ≡ ending reader.old }
+    ensures ending { without_events reader.new ≡ without_events reader.old }
 {
     let mut counts = Counts {
         events: 0,
@@ -204,7 +204,7 @@ fn put_schedule(
     ensures text { IfOk result (λ w. w.text.items ≡ written_text form reader.old.schedule) }
     ensures cut { IfOk result (λ w. w.is_cut ≡ is_cut reader.old.schedule) }
     ensures memory { OnErr result (HasHadRoom reader.old reader.new) }
-    ensures ending { ending reader.new ≡ ending reader.old }
+    ensures ending { without_events reader.new ≡ without_events reader.old }
 {
     let mut text = Vec::new(alloc);
     put_opening(alloc, &mut text, form, reader.config())?;
@@ -215,7 +215,7 @@ fn put_schedule(
 
 /// Reads all that is left.
 fn read_on(reader: &mut EventReader<'_>)
-    ensures { reader.new ≡ ending reader.old }
+    ensures { reader.new ≡ without_events reader.old }
 {
     let mut event = EventBuffer::new();
     while reader.next(&mut event) {}

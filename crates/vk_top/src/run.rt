@@ -2,6 +2,7 @@
 
 ghost use Rattle.std.specs.Prelude.{◌≡◌, ◌≤◌, ◌+◌, ◌-◌, ◌^◌, min, length, Ok, IfOk, IfErr, OnOk};
 ghost use Rattle.vk_base.specs.declared.limits.TheConstants.{INPUT_BYTES};
+ghost use Rattle.vk_edge.specs.Answers.{CountsFaults, TellsFaults};
 ghost use Rattle.v_run.specs.Ran.{IsRun};
 ghost use Rattle.vk_event.specs.ScenarioLaws.{IsLawfulScenario};
 ghost use Rattle.vk_schedule.specs.Lawful.{IsLawful};
@@ -11,17 +12,15 @@ ghost use Rattle.vk_threads.specs.Assigned.{LeavesJobs, TellsRunFault};
 ghost use Rattle.vk_top.specs.Programs.{assignments_of};
 ghost use Rattle.vk_top.specs.Runs.{IsRunAnswer, IsRunFailure, TellsRun, jobs_of, run_asked};
 ghost use Rattle.vk_top.specs.Threaded.{IsThreadedAnswered, IsThreadedRefusal, IsThreadedWork, ended};
-ghost use Rattle.vk_top.specs.Top.{TellsFaults};
-ghost use Rattle.vk_top.specs.Work.{IsReadCount, IsWriteCount};
 
 use crate::program::programs_of;
-use crate::status::{Status, refused};
-use crate::top::{Work, ended, read_text, write_work};
+use crate::status::Status;
+use crate::top::{Work, ended, write_work};
 use std::alloc::Global;
 use std::sync::Wait;
 use std::thread::Threads;
 use std::time::Clock;
-use vk_base::NoMemory;
+use vk_edge::read_text;
 use vk_event::{Scenario, read_scenario};
 use vk_io::{Crew, Pacer, Sink, Source};
 use vk_schedule::{Schedule, write_schedule};
@@ -34,13 +33,11 @@ fn written(alloc: Global, schedule: &Schedule, limited: bool) -> Result<Work, St
     ensures read { OnOk result (schedule_of (schedule_text schedule.now) ≡ Ok schedule.now) }
     ensures refused { IfErr result (λ s. s ≡ Status.NoMemory) }
 {
-    match write_schedule(alloc, schedule) {
-        Ok(text) => Ok(Work {
-            text,
-            status: ended(limited),
-        }),
-        Err(NoMemory) => Err(Status::NoMemory),
-    }
+    let text = write_schedule(alloc, schedule)?;
+    Ok(Work {
+        text,
+        status: ended(limited),
+    })
 }
 
 /// What happened where each process of the scenario was run with its program.
@@ -90,15 +87,9 @@ fn run_text<C: Crew, P: Pacer + Send, R: Wait + Threads + Clock + Sync>(
     ensures faults { IfErr result (λ s. TellsFaults Status.CrewFault s (C.fault_count crew.old) (C.fault_count crew.new)) }
     ensures never_falls { C.fault_count crew.old ≤ C.fault_count crew.new }
 {
-    let scenario = match read_scenario(alloc, text) {
-        Ok(scenario) => scenario,
-        Err(refusal) => return Err(refused(refusal)),
-    };
-    match run_scenario(rt, alloc, scenario, crew, pacer) {
-        Ok(RunRecord { schedule, limited }) => written(alloc, &schedule, limited),
-        Err(RunRefusal::CrewFault) => Err(Status::CrewFault),
-        Err(RunRefusal::NoMemory) => Err(Status::NoMemory),
-    }
+    let scenario = read_scenario(alloc, text)?;
+    let ran = run_scenario(rt, alloc, scenario, crew, pacer)?;
+    written(alloc, &ran.schedule, ran.limited)
 }
 
 /// The whole work on the text of a scenario that was read.
@@ -114,7 +105,8 @@ fn answer_run<K: Sink, C: Crew, P: Pacer + Send, R: Wait + Threads + Clock + Syn
     ensures answered { IsThreadedAnswered (TellsRun (C.job_count crew.old) (C.job_count crew.new)) run_asked
         (IsRunFailure (C.job_count crew.old) (C.job_count crew.new)) (output.new ≡ output.old) (crew.new ≡ crew.old)
         text.now (K.written output.old) (K.written output.new) result }
-    ensures write_count { IsWriteCount result (K.fault_count output.old) (K.fault_count output.new) }
+    ensures flushed { result ≡ Status.Done → K.flushed output.new }
+    ensures write_count { CountsFaults Status.WriteFault result (K.fault_count output.old) (K.fault_count output.new) }
     ensures crew_faults { TellsFaults Status.CrewFault result (C.fault_count crew.old) (C.fault_count crew.new) }
     ensures write_faults_never_fall { K.fault_count output.old ≤ K.fault_count output.new }
     ensures crew_faults_never_fall { C.fault_count crew.old ≤ C.fault_count crew.new }
@@ -137,8 +129,9 @@ pub(crate) fn run<S: Source, K: Sink, C: Crew, P: Pacer + Send, R: Wait + Thread
     ensures answer { IsRunAnswer (input.new ≡ input.old) (output.new ≡ output.old) (crew.new ≡ crew.old)
         (S.left input.old) (S.left input.new) (C.job_count crew.old) (C.job_count crew.new)
         (K.written output.old) (K.written output.new) result }
-    ensures read_count { IsReadCount result (S.fault_count input.old) (S.fault_count input.new) }
-    ensures write_count { IsWriteCount result (K.fault_count output.old) (K.fault_count output.new) }
+    ensures flushed { result ≡ Status.Done → K.flushed output.new }
+    ensures read_count { CountsFaults Status.ReadFault result (S.fault_count input.old) (S.fault_count input.new) }
+    ensures write_count { CountsFaults Status.WriteFault result (K.fault_count output.old) (K.fault_count output.new) }
     ensures crew_faults { TellsFaults Status.CrewFault result (C.fault_count crew.old) (C.fault_count crew.new) }
     ensures read_faults_never_fall { S.fault_count input.old ≤ S.fault_count input.new }
     ensures write_faults_never_fall { K.fault_count output.old ≤ K.fault_count output.new }
@@ -146,6 +139,6 @@ pub(crate) fn run<S: Source, K: Sink, C: Crew, P: Pacer + Send, R: Wait + Thread
 {
     match read_text(alloc, input) {
         Ok(text) => answer_run(rt, alloc, &text, output, crew, pacer),
-        Err(status) => status,
+        Err(refusal) => Status::from(refusal),
     }
 }

@@ -1,9 +1,18 @@
 ghost use Rattle.std.specs.Prelude.{◌≡◌, ◌++◌, codes, decimal};
-ghost use Rattle.vk_top.specs.Statuses.{refused, text_of};
+ghost use Rattle.vk_top.specs.Joins.{refused_join};
+ghost use Rattle.vk_top.specs.Statuses.{refused, refused_node, refused_run, refused_trace, text_of, unread};
+ghost use Rattle.vk_top.specs.declared.status.Status.TheVariants.{NoMemory as memory_wanting};
 
-use crate::short::{numbered_text, short_text, twice_numbered_text};
 use arrayvec::ArrayVec;
+use std::fmt;
+use v_trace::TraceRefusal;
+use vk_base::NoMemory;
+use vk_edge::{numbered_text, numbers, put_short, short_text, twice_numbered_text};
+use vk_io::ReadRefusal;
+use vk_join::JoinRefusal;
 use vk_schedule::TextRefusal;
+use vk_threads::RunRefusal;
+use vk_udp::NodeRefusal;
 
 /// What a call of the program ended with.
 #[derive(Clone, Copy, Debug, PartialEq, Eq)]
@@ -24,8 +33,8 @@ pub enum Status {
     NoMemory,
     /// The crew that was to run the stations failed.
     CrewFault,
-    /// The input has too many bytes or events, or notes too many bytes for remote moves, or its stations emitted too many; or a run was
-    /// ended by a limit.
+    /// The input has too many bytes or events, a trace notes too many bytes for remote moves, or the stations of a schedule, of texts
+    /// of stations or of a storm emitted too many; or a run was ended by a limit.
     Limit,
     /// The link of a node failed.
     LinkFault,
@@ -41,15 +50,15 @@ impl Status {
         ensures { result ≡ number_of self.now }
     {
         match self {
-            Status::Done => 0,
+            Status::Done => numbers::DONE,
             Status::NotARun { .. } => 1,
-            Status::Usage => 2,
-            Status::BadInput { .. } => 3,
-            Status::ReadFault => 4,
-            Status::WriteFault => 5,
-            Status::NoMemory => 6,
+            Status::Usage => numbers::USAGE,
+            Status::BadInput { .. } => numbers::BAD_INPUT,
+            Status::ReadFault => numbers::READ_FAULT,
+            Status::WriteFault => numbers::WRITE_FAULT,
+            Status::NoMemory => numbers::NO_MEMORY,
             Status::CrewFault => 7,
-            Status::Limit => 8,
+            Status::Limit => numbers::LIMIT,
             Status::LinkFault => 9,
             Status::Stray { .. } => 10,
         }
@@ -89,13 +98,93 @@ fn stray_text(host: u16, event: u64) -> ArrayVec<u8, 96>
     )
 }
 
+impl fmt::Display for Status {
+    fn fmt<W: fmt::Write>(&self, f: &mut fmt::Formatter<W>) -> fmt::Result {
+        put_short(self.text().as_slice(), f)
+    }
+}
+
+/// The answer where memory was wanting.
+impl From<NoMemory> for Status {
+    ghost from_gives = { λ _ s. s ≡ memory_wanting };
+
+    fn from(_refused: NoMemory) -> Status {
+        Status::NoMemory
+    }
+}
+
+/// The answer to an input that is not read whole.
+impl From<ReadRefusal> for Status {
+    ghost from_gives = { λ refusal s. s ≡ unread refusal };
+
+    fn from(refusal: ReadRefusal) -> Status {
+        match refusal {
+            ReadRefusal::Failed => Status::ReadFault,
+            ReadRefusal::TooLong => Status::Limit,
+            ReadRefusal::NoMemory => Status::NoMemory,
+        }
+    }
+}
+
 /// The answer to a text that is not read.
-pub(crate) fn refused(refusal: TextRefusal) -> Status
-    ensures { result ≡ refused refusal }
-{
-    match refusal {
-        TextRefusal::BadInput { line } => Status::BadInput { line },
-        TextRefusal::Limit => Status::Limit,
-        TextRefusal::NoMemory => Status::NoMemory,
+impl From<TextRefusal> for Status {
+    ghost from_gives = { λ refusal s. s ≡ refused refusal };
+
+    fn from(refusal: TextRefusal) -> Status {
+        match refusal {
+            TextRefusal::BadInput { line } => Status::BadInput { line },
+            TextRefusal::Limit => Status::Limit,
+            TextRefusal::NoMemory => Status::NoMemory,
+        }
+    }
+}
+
+/// The answer to a trace that is not read.
+impl From<TraceRefusal> for Status {
+    ghost from_gives = { λ refusal s. s ≡ refused_trace refusal };
+
+    fn from(refusal: TraceRefusal) -> Status {
+        match refusal {
+            TraceRefusal::BadInput { line } => Status::BadInput { line },
+            TraceRefusal::NoMemory => Status::NoMemory,
+        }
+    }
+}
+
+/// The answer where logs are not joined.
+impl From<JoinRefusal> for Status {
+    ghost from_gives = { λ refusal s. s ≡ refused_join refusal };
+
+    fn from(refusal: JoinRefusal) -> Status {
+        match refusal {
+            JoinRefusal::Stray { host, event, .. } => Status::Stray { host, event },
+            JoinRefusal::Limit => Status::Limit,
+            JoinRefusal::NoMemory => Status::NoMemory,
+        }
+    }
+}
+
+/// The answer where a run came to no end.
+impl From<RunRefusal> for Status {
+    ghost from_gives = { λ refusal s. s ≡ refused_run refusal };
+
+    fn from(refusal: RunRefusal) -> Status {
+        match refusal {
+            RunRefusal::CrewFault => Status::CrewFault,
+            RunRefusal::NoMemory => Status::NoMemory,
+        }
+    }
+}
+
+/// The answer where the run of a node came to no end.
+impl From<NodeRefusal> for Status {
+    ghost from_gives = { λ refusal s. s ≡ refused_node refusal };
+
+    fn from(refusal: NodeRefusal) -> Status {
+        match refusal {
+            NodeRefusal::LinkFault => Status::LinkFault,
+            NodeRefusal::CrewFault => Status::CrewFault,
+            NodeRefusal::NoMemory => Status::NoMemory,
+        }
     }
 }

@@ -1,10 +1,11 @@
-ghost use Rattle.std.specs.Prelude.{◌≡◌, ◌≤◌, ◌⊎◌, ℕ, [], length, true, Some, None, Ok, Err, map, take, string_bytes, IfSome, IfOk, IfErr, OnOk, if◌then◌else◌};
+ghost use Rattle.std.specs.Prelude.{◌≡◌, ◌≢◌, ◌≤◌, ◌⊎◌, ℕ, length, true, Some, None, Ok, Err, map, take, string_bytes, IfSome, IfOk, IfErr, if◌then◌else◌};
 ghost use Rattle.std.specs.Io.KnownBytes.{Appends};
-ghost use Rattle.vk_base.specs.declared.limits.TheConstants.{EVENTS};
+ghost use Rattle.vk_base.specs.declared.limits.TheConstants.{EVENTS, INPUT_BYTES};
+ghost use Rattle.vk_edge.specs.Answers.{CountsFaults, IsWritten, TellsFaults};
 ghost use Rattle.vk_top.specs.Check.{verdict_text};
 ghost use Rattle.vk_top.specs.Jobs.{IsAloneAnswer, IsStormAnswered};
-ghost use Rattle.vk_top.specs.Top.{IsEarly, IsTold, TellsFaults, verdict_status};
-ghost use Rattle.vk_top.specs.Work.{IsAnswered, IsLate, IsOutcome, IsReadCount, IsRefusal, IsUnread, IsWork, IsWriteCount, IsWritten};
+ghost use Rattle.vk_top.specs.Top.{IsEarly, IsToldWhole, verdict_status};
+ghost use Rattle.vk_top.specs.Work.{IsAnswered, IsLate, IsOutcome, IsRefusal, IsWork};
 ghost use Rattle.vk_top.specs.Words.{is_threaded, job_of};
 ghost use Rattle.vk_top.specs.declared.words.Asked.TheVariants as asked;
 
@@ -15,13 +16,11 @@ use crate::status::Status;
 use crate::storm::summary_of;
 use crate::words::{Asked, Job, read_words};
 use std::alloc::Global;
-use v_trace::TraceRefusal;
 use vk_base::NoMemory;
-use vk_base::limits::INPUT_BYTES;
 use vk_drive::StormRefusal;
-use vk_io::{Failed, ReadRefusal, Sink, Source, read_all, write_all};
+use vk_edge::{read_text, write_text};
+use vk_io::{Sink, Source};
 use vk_report::Form;
-use vk_schedule::TextRefusal;
 
 /// What a text asks to be written, and the answer then.
 #[derive(Drop)]
@@ -42,20 +41,17 @@ fn replay(alloc: Global, form: Form, text: &[u8]) -> Result<Work, Status>
     ensures work { IfOk result (IsWork (asked.Replay form) text.now) }
     ensures refused { IfErr result (IsRefusal (asked.Replay form) text.now) }
 {
-    match output(alloc, form, text) {
-        Ok(Written { text, is_cut }) => Ok(Work {
-            text,
-            status: ended(is_cut),
-        }),
-        Err(TextRefusal::BadInput { line }) => Err(Status::BadInput { line }),
-        Err(TextRefusal::Limit) => Err(Status::Limit),
-        Err(TextRefusal::NoMemory) => Err(Status::NoMemory),
-    }
+    let written = output(alloc, form, text)?;
+    let Written { text, is_cut } = written;
+    Ok(Work {
+        text,
+        status: ended(is_cut),
+    })
 }
 
 /// What is told of a trace, by its verdict.
 fn told(alloc: Global, verdict: TraceVerdict) -> Result<Work, Status>
-    ensures work { IfOk result (λ w. (w.text.items ≡ verdict_text verdict) × (w.status ≡ verdict_status verdict) × IsTold w.status) }
+    ensures work { IfOk result (λ w. (w.text.items ≡ verdict_text verdict) × (w.status ≡ verdict_status verdict) × IsToldWhole w.status) }
     ensures refused { IfErr result (λ s. (¬ (verdict ≡ TraceVerdict.TooMuch) × (s ≡ Status.NoMemory))
         ⊎ ((verdict ≡ TraceVerdict.TooMuch) × (s ≡ Status.Limit))) }
 {
@@ -65,10 +61,8 @@ fn told(alloc: Global, verdict: TraceVerdict) -> Result<Work, Status>
         TraceVerdict::TooMuch => return Err(Status::Limit),
     };
     let mut text = Vec::new(alloc);
-    match put_line(alloc, &mut text, word, number) {
-        Ok(()) => Ok(Work { text, status }),
-        Err(NoMemory) => Err(Status::NoMemory),
-    }
+    put_line(alloc, &mut text, word, number)?;
+    Ok(Work { text, status })
 }
 
 /// `check`: whether the steps of a trace are a run.
@@ -76,11 +70,8 @@ fn check(alloc: Global, text: &[u8]) -> Result<Work, Status>
     ensures work { IfOk result (IsWork asked.Check text.now) }
     ensures refused { IfErr result (IsRefusal asked.Check text.now) }
 {
-    match verdict_of(alloc, text) {
-        Ok(verdict) => told(alloc, verdict),
-        Err(TraceRefusal::BadInput { line }) => Err(Status::BadInput { line }),
-        Err(TraceRefusal::NoMemory) => Err(Status::NoMemory),
-    }
+    let verdict = verdict_of(alloc, text)?;
+    told(alloc, verdict)
 }
 
 /// `join`: the schedule that texts of stations say.
@@ -88,13 +79,11 @@ fn join(alloc: Global, text: &[u8]) -> Result<Work, Status>
     ensures work { IfOk result (IsWork asked.Join text.now) }
     ensures refused { IfErr result (IsRefusal asked.Join text.now) }
 {
-    match joined_text(alloc, text) {
-        Ok(text) => Ok(Work {
-            text,
-            status: Status::Done,
-        }),
-        Err(status) => Err(status),
-    }
+    let schedule = joined_text(alloc, text)?;
+    Ok(Work {
+        text: schedule,
+        status: Status::Done,
+    })
 }
 
 /// What is asked for of a text.
@@ -109,45 +98,24 @@ fn work_on(alloc: Global, asked: Asked, text: &[u8]) -> Result<Work, Status>
     }
 }
 
-/// The text of the input, read to its end.
-pub(crate) fn read_text<S: Source>(alloc: Global, input: &mut S) -> Result<Vec<u8>, Status>
-    ensures text { IfOk result (λ text. (length text.items ≤ INPUT_BYTES)
-        × IfSome (S.left input.old) (λ i. (text.items ≡ i) × (S.left input.new ≡ Some []))) }
-    ensures refused { IfErr result (IsUnread (S.left input.old) (S.left input.new)) }
-    ensures kept { OnOk result (S.fault_count input.new ≡ S.fault_count input.old) }
-    ensures count { IfErr result (λ s. IsReadCount s (S.fault_count input.old) (S.fault_count input.new)) }
-    ensures never_falls { S.fault_count input.old ≤ S.fault_count input.new }
-{
-    match read_all(alloc, input, INPUT_BYTES) {
-        Ok(text) => Ok(text),
-        Err(ReadRefusal::Failed) => Err(Status::ReadFault),
-        Err(ReadRefusal::TooLong) => Err(Status::Limit),
-        Err(ReadRefusal::NoMemory) => Err(Status::NoMemory),
-    }
-}
-
 /// Writes the whole text and flushes. The answer is that of the work, unless one of these fails.
 pub(crate) fn write_work<K: Sink>(output: &mut K, work: &Work) -> Status
     requires { IsLate work.now.status }
-    ensures written { IsWritten work.now.text.items work.now.status (K.written output.old) (K.written output.new) result }
-    ensures count { IsWriteCount result (K.fault_count output.old) (K.fault_count output.new) }
+    ensures written { IsWritten work.now.status Status.WriteFault work.now.text.items (K.written output.old) (K.written output.new) result }
     ensures front { (n : ℕ) × Appends (K.written output.old) (K.written output.new) (take n work.now.text.items) }
+    ensures flushed { result ≢ Status.WriteFault → K.flushed output.new }
+    ensures count { CountsFaults Status.WriteFault result (K.fault_count output.old) (K.fault_count output.new) }
     ensures never_falls { K.fault_count output.old ≤ K.fault_count output.new }
 {
-    if let Err(Failed) = write_all(output, &work.text) {
-        return Status::WriteFault;
-    }
-    match output.flush() {
-        Ok(()) => work.status,
-        Err(Failed) => Status::WriteFault,
-    }
+    write_text(output, &work.text, work.status, Status::WriteFault)
 }
 
 /// The whole work on a text that was read.
 fn answer<K: Sink>(alloc: Global, asked: Asked, text: &[u8], output: &mut K) -> Status
     requires { length text.now ≤ INPUT_BYTES }
     ensures answered { IsAnswered (output.new ≡ output.old) asked text.now (K.written output.old) (K.written output.new) result }
-    ensures count { IsWriteCount result (K.fault_count output.old) (K.fault_count output.new) }
+    ensures flushed { result ≡ Status.Done → K.flushed output.new }
+    ensures count { CountsFaults Status.WriteFault result (K.fault_count output.old) (K.fault_count output.new) }
     ensures nothing { IsEarly result → output.new ≡ output.old }
     ensures never_falls { K.fault_count output.old ≤ K.fault_count output.new }
 {
@@ -162,14 +130,15 @@ fn serve<S: Source, K: Sink>(alloc: Global, asked: Asked, input: &mut S, output:
     ensures outcome { IsOutcome (output.new ≡ output.old) asked (S.left input.old) (S.left input.new)
         (K.written output.old) (K.written output.new) result }
     ensures nothing { IsEarly result → output.new ≡ output.old }
-    ensures read_count { IsReadCount result (S.fault_count input.old) (S.fault_count input.new) }
-    ensures write_count { IsWriteCount result (K.fault_count output.old) (K.fault_count output.new) }
+    ensures flushed { result ≡ Status.Done → K.flushed output.new }
+    ensures read_count { CountsFaults Status.ReadFault result (S.fault_count input.old) (S.fault_count input.new) }
+    ensures write_count { CountsFaults Status.WriteFault result (K.fault_count output.old) (K.fault_count output.new) }
     ensures read_faults_never_fall { S.fault_count input.old ≤ S.fault_count input.new }
     ensures write_faults_never_fall { K.fault_count output.old ≤ K.fault_count output.new }
 {
     match read_text(alloc, input) {
         Ok(text) => answer(alloc, asked, &text, output),
-        Err(status) => status,
+        Err(refusal) => Status::from(refusal),
     }
 }
 
@@ -177,7 +146,8 @@ fn serve<S: Source, K: Sink>(alloc: Global, asked: Asked, input: &mut S, output:
 fn storm<K: Sink>(alloc: Global, n: u32, output: &mut K) -> Status
     requires { n ≤ EVENTS }
     ensures answered { IsStormAnswered (output.new ≡ output.old) n (K.written output.old) (K.written output.new) result }
-    ensures count { IsWriteCount result (K.fault_count output.old) (K.fault_count output.new) }
+    ensures flushed { result ≡ Status.Done → K.flushed output.new }
+    ensures count { CountsFaults Status.WriteFault result (K.fault_count output.old) (K.fault_count output.new) }
     ensures nothing { IsEarly result → output.new ≡ output.old }
     ensures never_falls { K.fault_count output.old ≤ K.fault_count output.new }
 {
@@ -219,6 +189,8 @@ pub fn vkernel_alone<S: Source, K: Sink>(
         ((result ≡ None) ⊎ (result ≡ Some Status.NoMemory)) × (input.new ≡ input.old) × (output.new ≡ output.old) }
     ensures answer { IfSome result (IsAloneAnswer (input.new ≡ input.old) (output.new ≡ output.old) (map string_bytes words.now)
         (S.left input.old) (S.left input.new) (K.written output.old) (K.written output.new)) }
+    // At Done what was written is flushed.
+    ensures flushed { IfSome result (λ s. s ≡ Status.Done → K.flushed output.new) }
 
     // ReadFault and WriteFault are answered only where a fault of the input and of the output was counted, and every such fault is told so.
     ensures read_faults { IfSome result (λ s. TellsFaults Status.ReadFault s (S.fault_count input.old) (S.fault_count input.new)) }

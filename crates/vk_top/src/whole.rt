@@ -1,10 +1,10 @@
 //! The whole top call: what runs in threads, and behind it all that needs no runtime.
 
 ghost use Rattle.std.specs.Prelude.{◌≡◌, ◌≤◌, ℕ, false, true, Some, map, string_bytes};
+ghost use Rattle.vk_edge.specs.Answers.{TellsFaults};
 ghost use Rattle.vk_top.specs.Jobs.{IsAloneAnswer};
 ghost use Rattle.vk_top.specs.Nodes.{IsNodeAnswer, Passed};
 ghost use Rattle.vk_top.specs.Runs.{IsRunAnswer};
-ghost use Rattle.vk_top.specs.Top.{TellsFaults};
 ghost use Rattle.vk_top.specs.Words.{is_threaded, job_of};
 
 use crate::node::node;
@@ -49,6 +49,7 @@ fn in_threads<
         (S.left input.old) (S.left input.new)
         (record { handed = W.handed wire.old; jobs = C.job_count crew.old })
         (record { handed = W.handed wire.new; jobs = C.job_count crew.new }) (K.written output.old) (K.written output.new) result }
+    ensures flushed { result ≡ Status.Done → K.flushed output.new }
     ensures read_faults { TellsFaults Status.ReadFault result (S.fault_count input.old) (S.fault_count input.new) }
     ensures write_faults { TellsFaults Status.WriteFault result (K.fault_count output.old) (K.fault_count output.new) }
     ensures crew_faults { TellsFaults Status.CrewFault result (C.fault_count crew.old) (C.fault_count crew.new) }
@@ -111,6 +112,8 @@ pub fn vkernel<
         (S.left input.old) (S.left input.new)
         (record { handed = W.handed wire.old; jobs = C.job_count crew.old })
         (record { handed = W.handed wire.new; jobs = C.job_count crew.new }) (K.written output.old) (K.written output.new) result }
+    // At Done what was written is flushed.
+    ensures flushed { result ≡ Status.Done → K.flushed output.new }
 
     // ReadFault, WriteFault, CrewFault and LinkFault are answered only where a fault of the input, the output, the crew and the wire was
     // counted, and every such fault is told so. The counts never fall.

@@ -11,9 +11,8 @@ use Rattle.vk_hub.specs.Hubs.{HubLog}
 use Rattle.vk_hub.specs.Links.{Frame}
 use Rattle.vk_port.proofs.Fronts.{prefix_over}
 use Rattle.vk_rules.specs.Each.{Each}
-use Rattle.vk_rules.proofs.Lists.{each_append}
+use Rattle.vk_rules.proofs.Lists.{each_append, each_front}
 use Rattle.v_node.specs.Links.{AreErrands, Errand, HubStand, stop_count}
-use Rattle.vk_threads.proofs.Dealing.{each_front}
 use Rattle.vk_udp.specs.Asked.{AreAsks, Ask, IsAsk, after_ask, entered, errands_in, own_behind, rounds_of, seen_behind, sending, sent_for}
 use Rattle.vk_udp.specs.Wires.{Datagram, IsMore}
 

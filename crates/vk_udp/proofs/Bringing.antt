@@ -3,10 +3,9 @@ use Rattle.std.proofs.Common.{◌≡◌, ◌==◌, ◌&&◌, ◌||◌, not, ℕ,
 use Rattle.std.specs.Prelude.{Err, Ok, Result, cond, option_map}
 use Rattle.std.proofs.lemmas.List.Elements.{filter-append}
 use mathlib.Core.List.{IsPrefix}
+use Rattle.vk_types.specs.Types.{EventAnswer, StationEvent}
 use Rattle.turn_cell.specs.declared.replay.Room.{Room}
 use Rattle.turn_cell.specs.declared.replay.Room.TheVariants as rooms
-use Rattle.vk_base.specs.declared.event.EventAnswer.{EventAnswer}
-use Rattle.vk_base.specs.declared.event.StationEvent.{StationEvent}
 use Rattle.vk_base.specs.declared.event.StationEvent.TheVariants as events
 use Rattle.vk_base.specs.Kernel.{holds_of}
 use Rattle.vk_frame.specs.Reading.{frame_of}
@@ -14,12 +13,12 @@ use Rattle.vk_frame.specs.declared.header.Header.{Header}
 use Rattle.vk_hub.specs.declared.event.HubEvent.TheVariants as hub_events
 use Rattle.vk_hub.specs.Links.{Frame}
 use Rattle.vk_port.specs.Ports.{Action, AtHub, AtStation, Delivers, Drops, Enters, HasMade, Hears, IsCutEvent, IsMet, IsRefused, Met, PortValue}
-use Rattle.vk_base.specs.Packets.{Packet}
 use Rattle.vk_packet.specs.Reading.{packet_of}
-use Rattle.vk_rules.specs.Frames.{every_station, number_in, unsealed_behind, unsealed_by}
+use Rattle.vk_rules.specs.Frames.{every_station, number_in, unsealed_by}
 use Rattle.vk_port.specs.declared.station.TheConstants.{LAST_NUMBER}
 use Rattle.vk_port.specs.Stations.{StationHistory, brings_last_number, frames_at, is_used_up}
 use Rattle.vk_port.proofs.Logs.{does_more, does_nothing}
+use Rattle.vk_port.proofs.Opening.{number_behind}
 use Rattle.v_node.specs.Links.{IsDelivery, OnlyBrings, brought_by, frame_in, is_kept, is_welcome}
 use Rattle.vk_threads.proofs.Playing.{met_own}
 use Rattle.vk_threads.specs.Works.{FindsFull}
@@ -156,10 +155,6 @@ and_right true true is = absurd (cc is)
 and_right true false is = refl
 and_right false b is = absurd (cc is)
 
-number_behind : (h : Header) (x : Option Packet) → number_in (unsealed_behind h x) ≡ h.number
-number_behind h None = refl
-number_behind h (Some x) = refl
-
 opened_number : (host : ℕ) (o : Option (Header × List ℕ))
     → holds_of (is_welcome host) (option_map (λ (h : Header × List ℕ). h.0) o) ≡ true → (number_in (unsealed_by o) == LAST_NUMBER) ≡ false
 opened_number host None is = absurd (cc is)
@@ -175,7 +170,7 @@ port_full p q o (inl used) = inl (subst (λ x. is_used_up x q.seat.seen ≡ true
 port_full p q o (inr (inl dropped)) = absurd dropped.1
 port_full p q o (inr (inr full)) = inr full
 
-the_room : (w : Room) → Some w ≡ Some rooms.Full → w ≡ rooms.Full
+pub the_room : (w : Room) → Some w ≡ Some rooms.Full → w ≡ rooms.Full
 the_room w e = cc e
 
 pub full_delivery : (host : ℕ) (p q : PortValue) (frame : Frame) (why : Room) → is_kept host frame ≡ true

@@ -1,8 +1,8 @@
 -- The clock's port, one stretch behind the other.
 use Rattle.std.proofs.Common.{◌≡◌, ℕ, ◌+◌, ◌≤◌, inr, true, false, Some, None, List, [], ◌∷◌, ◌++◌, length, refl, ◌∙◌, subst, arith}
+use Rattle.vk_types.specs.Types.{EventAnswer}
 use Rattle.turn_cell.specs.declared.replay.Room.{Room}
 use Rattle.turn_cell.specs.declared.replay.Room.TheVariants as rooms
-use Rattle.vk_base.specs.declared.event.EventAnswer.{EventAnswer}
 use Rattle.vk_base.specs.declared.event.StationEvent.TheVariants as events
 use Rattle.vk_port.specs.Ports.{Action, Delivers, Does, Enters, HasDelivered, HasHeard as HeardOnce, HasMade, Hears, IsCutEvent, IsCutPump, IsMet, IsRefused, PortValue}
 use Rattle.vk_port.specs.Stations.{frames_at}
@@ -11,6 +11,7 @@ use Rattle.v_run.specs.Passages.{OnlyTicks, lost_count, tick_count}
 use Rattle.vk_threads.proofs.Clocks.{cut_pumps, cut_tick, only_ticks, ticks_append}
 use Rattle.vk_threads.proofs.Playing.{heard_append, lost_append, met_own, met_pump}
 use Rattle.vk_udp.specs.Clocked.{HasClocked, HasLookedOn}
+use Rattle.vk_udp.proofs.Bringing.{the_room}
 
 -- So far it ticked so often, and lost nothing.
 pub record ClocksSoFar (n : ℕ) (old now : PortValue) : Type 0 where
@@ -70,9 +71,6 @@ clocks_stopped n rounds old mid new low so it =
       losses = (let sum = lost_append so.acts more in let was = so.lost in omega arith);
       full = λ is. absurd (cc is);
     }
-
-the_room : (why : Room) → Some why ≡ Some rooms.Full → why ≡ rooms.Full
-the_room why is = cc is
 
 -- it met a Room: at a tick, or at a pump
 pub clocks_cut_tick : (n rounds : ℕ) (old mid new : PortValue) (why : Room) → n + 1 ≤ rounds → ClocksSoFar n old mid

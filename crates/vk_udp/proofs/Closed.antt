@@ -1,20 +1,22 @@
 -- What closed histories of a node's station and hub say of its jobs.
-use Rattle.std.proofs.Common.{append_assoc, ◌≡◌, ◌+◌, ◌==◌, ◌||◌, ℕ, suc, eqb, eqb-true, eq-eqb, Bool, true, false, cond, Some, None, All, List, [], ◌∷◌, ◌++◌, length, map, refl, sym, ap, ◌∙◌, subst, arith, inl, inr, ◌⊎◌}
+use Rattle.std.proofs.Common.{append_assoc, ◌≡◌, ◌+◌, ◌==◌, ◌||◌, ℕ, eqb, eqb-true, eq-eqb, Bool, true, false, cond, Some, None, All, List, [], ◌∷◌, ◌++◌, length, map, refl, sym, ap, ◌∙◌, subst, arith, inl, inr, ◌⊎◌}
 use mathlib.Core.List.{IsPrefix}
-use Rattle.std.specs.List.{AllByRecursion, list_any}
+use Rattle.std.specs.List.{list_any}
 unfoldable use Rattle.std.specs.List.{IsDistinct}
 use Rattle.std.proofs.lemmas.List.{length-append, length-map}
 use Rattle.std.proofs.lemmas.List.Elements.{All-append, All-cons, All-head, All-nil, All-tail}
 use Rattle.std.proofs.lemmas.List.Folds.{list_any-append}
+use Rattle.vk_types.specs.Types.{StationEvent}
 use Rattle.turn_cell.specs.History.{events_of}
 use Rattle.turn_cell.specs.Seats.{Cell, IsSeatOf, Sitting, numbers_of}
 use Rattle.turn_cell.specs.declared.replay.Room.TheVariants as rooms
-use Rattle.vk_base.specs.declared.event.StationEvent.{StationEvent}
 use Rattle.vk_base.specs.Settings.{Settings}
+use Rattle.vk_base.proofs.ListLemmas.{map_end, all_before, all_behind, front_distinct}
 use Rattle.vk_hub.specs.declared.event.HubEvent.{HubEvent}
 use Rattle.vk_hub.specs.Hubs.{HubLog}
 use Rattle.vk_port.specs.Stations.{IsLawfulHistory, StationHistory, event_of}
 use Rattle.vk_rules.specs.Each.{Each}
+use Rattle.vk_rules.proofs.Lists.{each_with as both_each}
 use Rattle.vk_schedule.specs.declared.log.StationLog.{StationLog}
 use Rattle.v_node.specs.Closed.{IsLinkClosed, IsNodeClosed, numbers_at_hub, numbers_at_station}
 use Rattle.v_node.specs.Jobs.{ClockEnd, LinkEnd, NoneMet, SomeMetFull, passages_in}
@@ -25,12 +27,13 @@ use Rattle.v_run.specs.Laws.{closed_station}
 use Rattle.v_run.specs.Outcomes.{Assignment}
 use Rattle.v_run.specs.Passages.{Passage, fresh_station, host_of, hub_number_of, number_of}
 use Rattle.v_run.specs.Runs.{passages_of}
+use Rattle.v_run.proofs.Heard.{prefix_over}
 use Rattle.vk_threads.specs.declared.end.End.{End}
 use Rattle.vk_threads.specs.declared.end.Seats.{Seats}
 use Rattle.vk_threads.specs.declared.opening.Site.{Site}
 use Rattle.vk_threads.specs.Ended.{AllLeft, cell_at}
 use Rattle.vk_threads.specs.Gathered.{AreReady, all_hub_seats, all_seats, all_spares, met_full, met_no_memory}
-use Rattle.vk_threads.proofs.Recorded.{unknown}
+use Rattle.vk_threads.proofs.Recorded.{unknown, both_false, numbers_both, length_numbers}
 use Rattle.vk_threads.proofs.Returned.{StationSays, all_closed, all_left, hub_numbers, hub_seats, limited, of_cell, sat_at, station_numbers, unlimited}
 use Rattle.vk_threads.proofs.Sitting.{IsShut, histories, logs_say, shut_at}
 use Rattle.vk_udp.specs.Ended.{HaveNodeEnded, all_jobs, clock_job, link_job, link_passage}
@@ -58,14 +61,6 @@ each_last : {A : Type 0} (P : A → Type 0) (xs : List A) (y : A) → Each P (xs
 each_last P [] y all = all.0
 each_last P (x ∷ xs) y all = each_last P xs y all.1
 
-both_each : {A : Type 0} (P Q R : A → Type 0) (xs : List A) → ((x : A) → P x → Q x → R x) → Each P xs → Each Q xs → Each R xs
-both_each P Q R [] f one two = tt
-both_each P Q R (x ∷ xs) f one two = (f x one.0 two.0, both_each P Q R xs f one.1 two.1)
-
-map_with : {A B : Type 0} (f : A → B) (xs : List A) (y : A) → map f (xs ++ y ∷ []) ≡ map f xs ++ f y ∷ []
-map_with f [] y = refl
-map_with f (x ∷ xs) y = ap (λ l. f x ∷ l) (map_with f xs y)
-
 -- Where all lay at one station, their numbers there are all numbers.
 numbers_here : (h : ℕ) (gs : List Passage) → Each (λ (g : Passage). host_of g ≡ h) gs → numbers_at h gs ≡ map number_of gs
 numbers_here h [] here = refl
@@ -74,37 +69,8 @@ numbers_here h (g ∷ gs) here =
     ∙ ap (λ l. number_of g ∷ l) (numbers_here h gs here.1)
 
 -- The front of different numbers is of different ones.
-all_front : (P : ℕ → Type 0) (xs ys : List ℕ) → AllByRecursion P (xs ++ ys) → AllByRecursion P xs
-all_front P [] ys all = tt
-all_front P (x ∷ xs) ys all = (all.0, all_front P xs ys all.1)
-
-distinct_front : (xs ys : List ℕ) → IsDistinct eqb (xs ++ ys) → IsDistinct eqb xs
-unfolding IsDistinct
-distinct_front [] ys all = tt
-distinct_front (x ∷ xs) ys all = (all_front (λ y. eqb x y ≡ false) xs ys all.0, distinct_front xs ys all.1)
 
 -- What holds of all seats holds of the first ones, and of the two behind them.
-all_before : {X : Type 0} (P : X → Type 0) (xs ys : List X) → All P (xs ++ ys) → All P xs
-all_before P [] ys all = All-nil P
-all_before P (x ∷ xs) ys all = All-cons P x xs (All-head P x (xs ++ ys) all) (all_before P xs ys (All-tail P x (xs ++ ys) all))
-
-all_behind : {X : Type 0} (P : X → Type 0) (xs ys : List X) → All P (xs ++ ys) → All P ys
-all_behind P [] ys all = all
-all_behind P (x ∷ xs) ys all = all_behind P xs ys (All-tail P x (xs ++ ys) all)
-
-numbers_both : {S E : Type 0} (xs ys : List (Sitting S E)) → numbers_of (xs ++ ys) ≡ numbers_of xs ++ numbers_of ys
-numbers_both [] ys = refl
-numbers_both (x ∷ xs) ys = ap (λ l. x.number ∷ l) (numbers_both xs ys)
-
-length_numbers : {S E : Type 0} (xs : List (Sitting S E)) → length (numbers_of xs) ≡ length xs
-length_numbers [] = refl
-length_numbers (x ∷ xs) = ap suc (length_numbers xs)
-
-prefix_through : {A : Type 0} (xs ys zs : List A) → IsPrefix xs ys → IsPrefix ys zs → IsPrefix xs zs
-prefix_through xs ys zs one two = (one.0 ++ two.0, sym (append_assoc xs one.0 two.0) ∙ (ap (λ l. l ++ two.0) one.1 ∙ two.1))
-
-both_false : {a b : Bool} → a ≡ false → b ≡ false → (a || (b || false)) ≡ false
-both_false one two = cc (one, two)
 
 -- WHERE NO JOB MET A ROOM, and where one met a full one.
 none_of : (js : List JobEnd) (k : ClockEnd) (l : LinkEnd) → Each (λ (j : JobEnd). j.met ≡ None) (js ++ clock_job k ∷ link_job l ∷ [])
@@ -156,7 +122,7 @@ module _ (c : Settings) (host : ℕ) (cell : Cell StationHistory) (hub : Cell Hu
   station_all : numbers_of (sat_at host ss) ≡ numbers_at_station n
   station_all =
       station_numbers sites hub ss gs host left ∙ numbers_here host gs here ∙ ap (map number_of) are
-      ∙ map_with number_of (passages_in n) (link_passage n.link)
+      ∙ map_end number_of (passages_in n) (link_passage n.link)
 
   pub all_ready : AreReady sites (all_spares ends)
   all_ready =
@@ -255,7 +221,7 @@ module _ (c : Settings) (host : ℕ) (cell : Cell StationHistory) (hub : Cell Hu
       mine = link_here.mine;
       heard = link_here.heard;
       sent = link_here.sent;
-      reached = prefix_through n.link.reached.heard fetches.seen heard ended.fetched.reached fetch_seen;
+      reached = prefix_over n.link.reached.heard fetches.seen heard ended.fetched.reached fetch_seen;
       carried = ap (λ k. events_of k heard) (sym ended.fetched.number) ∙ (fetch_mine ∙ ended.fetched.carried);
     }
 
@@ -263,7 +229,7 @@ module _ (c : Settings) (host : ℕ) (cell : Cell StationHistory) (hub : Cell Hu
     hub_numbers_all =
         numbers_both (all_hub_seats ends) (fetches ∷ halt ∷ [])
         ∙ ap (λ l. l ++ fetches.number ∷ halt.number ∷ []) (hub_numbers sites hub ss gs left ∙ ap (map hub_number_of) are
-        ∙ map_with hub_number_of (passages_in n) (link_passage n.link))
+        ∙ map_end hub_number_of (passages_in n) (link_passage n.link))
         ∙ append_assoc (map hub_number_of (passages_in n)) (n.link.berth.hub_number ∷ []) (fetches.number ∷ halt.number ∷ [])
         ∙ ap (λ k. map hub_number_of (passages_in n) ++ n.link.berth.hub_number ∷ k ∷ halt.number ∷ []) ended.fetched.number
         ∙ sym (append_assoc (map hub_number_of (passages_in n)) (n.link.berth.hub_number ∷ n.link.carrier ∷ []) (halt.number ∷ []))
@@ -286,7 +252,7 @@ module _ (c : Settings) (host : ℕ) (cell : Cell StationHistory) (hub : Cell Hu
       link_closed = link_closed;
       numbers = subst (IsDistinct eqb) station_all shut.back.different;
       known = λ k none. unknown cell.seats (sat_at host ss) history shut.back k (ap (list_any (λ i. i == k)) station_all ∙ none);
-      hub_numbers = distinct_front (numbers_at_hub n) (halt.number ∷ []) (subst (IsDistinct eqb) hub_numbers_all closed.back.different);
+      hub_numbers = front_distinct (numbers_at_hub n) (halt.number ∷ []) (subst (IsDistinct eqb) hub_numbers_all closed.back.different);
       hub_known = λ k none. hub_unknown k none (halt.number == k) refl;
     }
 

@@ -1,21 +1,18 @@
 -- Seats of a station and of the hub that are dealt to the jobs of its node, and what is left.
-use Rattle.std.proofs.Common.{◌≡◌, ℕ, suc, ◌+◌, ◌==◌, eqb-true, Bool, true, false, List, [], ◌∷◌, ◌++◌, append_assoc, length, refl, sym, ap, ◌∙◌, subst, arith}
-use Rattle.std.proofs.lemmas.Bool.{and_parts}
+use Rattle.std.proofs.Common.{◌≡◌, ℕ, suc, ◌+◌, ◌==◌, Bool, true, false, List, [], ◌∷◌, ◌++◌, append_assoc, length, refl, sym, ap, ◌∙◌, subst, arith}
 use Rattle.std.proofs.lemmas.List.{length-append}
+use Rattle.vk_types.specs.Types.{ProcessSpec, StationEvent}
 use Rattle.turn_cell.specs.Seats.{Cell, IsSeatOf, Sitting, fresh}
-use Rattle.vk_base.specs.declared.config.ProcessSpec.{ProcessSpec}
-use Rattle.vk_base.specs.declared.event.StationEvent.{StationEvent}
-use Rattle.vk_base.specs.declared.pid.Pid.{Pid}
 use Rattle.vk_base.specs.Settings.{has_process}
 use Rattle.vk_event.specs.declared.port.StationPort.{StationPort}
 use Rattle.vk_hub.specs.declared.event.HubEvent.{HubEvent}
 use Rattle.vk_hub.specs.Hubs.{HubLog}
 use Rattle.vk_port.specs.Ports.{PortValue, stand_of}
-use Rattle.vk_port.specs.Stations.{StationHistory, is_process_of}
+use Rattle.vk_port.specs.Stations.{StationHistory}
 use Rattle.vk_program.specs.declared.assigned.Assigned.{Assigned}
 use Rattle.vk_rules.specs.Each.{Each}
+use Rattle.vk_rules.proofs.Lists.{each_front, each_behind}
 use Rattle.vk_threads.specs.Duties.{ProcessDuty}
-use Rattle.vk_threads.proofs.Dealing.{each_behind, each_front}
 use Rattle.vk_udp.specs.Dealt.{AreNodeDealt, AreProcesses, IsNewAt, IsNodePort, IsProcessJob, IsStocked}
 use Rattle.vk_udp.specs.Node.{IsProcessAt}
 use Rattle.vk_udp.specs.Values.{CarrierDuty, ClockDuty}
@@ -128,9 +125,6 @@ pub as_named : (P : Cell StationHistory → Cell HubLog → ℕ → Type 0) (cel
     → cell2 ≡ cell → hub2 ≡ hub → host2 ≡ host → P cell2 hub2 host2 → P cell hub host
 as_named P cell cell2 hub hub2 host host2 one two three holds =
     subst (λ c. P c hub host) one (subst (λ h. P cell2 h host) two (subst (P cell2 hub2) three holds))
-
-pub process_host : (o : StationHistory) (p : Pid) → is_process_of o p ≡ true → p.host ≡ o.host
-process_host o p is = eqb-true p.host o.host (and_parts (has_process o.config.specs p) (p.host == o.host) is).1
 
 pub have_processes : {G : Type 0} (specs : List ProcessSpec) (host : ℕ) (programs : List (Assigned G)) → Each (IsProcessAt specs host) programs
     → Each (λ (a : Assigned G). has_process specs a.pid ≡ true) programs

@@ -1,6 +1,7 @@
 -- The link that came back with the last end, and what the wire tells of it.
 use Rattle.std.proofs.Common.{◌≡◌, ℕ, Bool, true, false, Option, Some, None, List, [], ◌∷◌, ◌++◌, map, refl, sym, ap, ◌∙◌, subst, arith}
 use Rattle.std.specs.Prelude.{option_map}
+use Rattle.vk_types.specs.Types.{StationEvent}
 use Rattle.turn_cell.specs.Seats.{Cell, Sitting}
 use Rattle.vk_base.specs.Settings.{Settings, stations_of}
 use Rattle.vk_event.specs.declared.port.StationPort.{StationPort}
@@ -8,7 +9,6 @@ use Rattle.vk_hub.specs.declared.event.HubEvent.{HubEvent}
 use Rattle.vk_hub.specs.Hubs.{HubLog}
 use Rattle.vk_hub.specs.Links.{Frame}
 use Rattle.vk_io.specs.Causes.{Rose}
-use Rattle.vk_base.specs.declared.event.StationEvent.{StationEvent}
 use Rattle.vk_port.specs.Stations.{StationHistory, entries_after}
 use Rattle.v_node.specs.Links.{Errand}
 use Rattle.v_node.specs.Sent.{AreOwnFrames}

@@ -13,10 +13,10 @@ use Rattle.vk_hub.specs.Links.{Frame}
 use Rattle.vk_port.specs.Stations.{StationHistory, is_process_of}
 use Rattle.vk_program.specs.declared.assigned.Assigned.{Assigned}
 use Rattle.vk_rules.specs.Each.{Each}
+use Rattle.vk_rules.proofs.Lists.{each_front}
 use Rattle.vk_schedule.specs.declared.plan.LinkPlan.{LinkPlan}
 use Rattle.v_run.specs.Outcomes.{Assignment}
 use Rattle.v_run.specs.Passages.{fresh_station}
-use Rattle.vk_threads.proofs.Dealing.{each_front}
 use Rattle.vk_udp.specs.Dealt.{IsNewAt}
 use Rattle.vk_udp.specs.Ended.{HasNodeEnds}
 use Rattle.vk_udp.specs.Node.{HasSent, IsNodeRecord, IsProcessAt, TellsCrew, TellsLink, TellsNodeFault}

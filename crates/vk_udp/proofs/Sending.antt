@@ -4,17 +4,15 @@ use denote.Ref.{NamedLft}
 use denote.Param.Send.{IsSend, sendable}
 use denote.Param.SendFields.{variants_send}
 use Rattle.std.proofs.Crossing.{crosses}
-use Rattle.turn_cell.proofs.cell.TurnCell.TheSendSync.{the_sync as cell_sync}
 use Rattle.turn_cell.proofs.seat.TurnSeat.TheSendSync.{the_send as seat_send}
 use Rattle.vk_hub.proofs.hub.Hub.TheSendSync.{the_sync as hub_sync}
 use Rattle.vk_hub.proofs.state.HubState.TheSendSync.{the_send as hub_state_send}
-use Rattle.vk_port.proofs.station_out.StationOut.TheSendSync.{the_send as station_out_send}
 use Rattle.vk_port.proofs.Crossing.{station_send}
 use Rattle.vk_port.specs.contracts.port.Port as port_row
 use Rattle.vk_program.specs.declared.program.Program.{Ghosts}
 use Rattle.vk_threads.specs.contracts.end.Seats as seats_row
 use Rattle.vk_threads.specs.contracts.process.ProcessWork as process_row
-use Rattle.vk_threads.proofs.Sending.{end_send}
+use Rattle.vk_threads.proofs.Sending.{end_send, port_send, process_send}
 use Rattle.vk_udp.specs.contracts.carrier.Carrier as carrier_row
 use Rattle.vk_udp.specs.contracts.clock.NodeClock as clock_row
 use Rattle.vk_udp.specs.contracts.work.Carried as carried_row
@@ -22,14 +20,8 @@ use Rattle.vk_udp.specs.contracts.work.NodeEnd as node_end_row
 use Rattle.vk_udp.specs.contracts.work.NodeWork as work_row
 use Rattle.vk_udp.specs.declared.link.Link.{Ghosts as LinkGhosts}
 
-port_send : (κ : NamedLft) → IsSend (port_row.the_row κ)
-port_send κ = search (sendable, crosses, cell_sync, seat_send, hub_sync, hub_state_send, station_out_send, station_send) depth 40 fits 20000
-
 seats_send : IsSend seats_row.the_row
 seats_send = search (sendable, crosses, seat_send, hub_state_send, station_send) depth 40 fits 20000
-
-process_send : (κ : NamedLft) (G : RattleType) (g : Ghosts G.Denot) → IsSend G → IsSend (process_row.the_row κ G g)
-process_send κ G g s = search (sendable, crosses, hub_sync, port_send, seats_send) depth 40 fits 20000
 
 clock_send : (κ π : NamedLft) (P : RattleType) → IsSend P → IsSend (clock_row.the_row κ π P)
 clock_send κ π P s = search (sendable, crosses, hub_sync, port_send, seats_send) depth 40 fits 20000

@@ -2,10 +2,10 @@
 use Rattle.std.proofs.Common.{◌≡◌, ◌≤◌, ◌+◌, ℕ, suc, eq-eqb, Bool, true, false, cond, Option, Some, None, List, [], ◌∷◌, ◌++◌, append-nil, length, map, refl, sym, ap, ◌∙◌, subst, arith}
 use Rattle.std.specs.Prelude.{option_map}
 use Rattle.std.proofs.lemmas.List.{length-append, length-map}
+use Rattle.vk_types.specs.Types.{Answer, Call}
 use Rattle.turn_cell.specs.Seats.{Cell, IsSeatOf, Sitting}
-use Rattle.vk_base.specs.declared.answer.Answer.{Answer}
-use Rattle.vk_base.specs.declared.call.Call.{Call}
 use Rattle.vk_base.specs.Settings.{Settings}
+use Rattle.vk_base.proofs.ListLemmas.{map_append}
 use Rattle.vk_event.specs.declared.port.StationPort.{StationPort}
 use Rattle.vk_hub.specs.declared.event.HubEvent.{HubEvent}
 use Rattle.vk_hub.specs.Hubs.{HubLog}
@@ -34,7 +34,7 @@ use Rattle.vk_threads.specs.Duties.{ProcessDuty}
 use Rattle.vk_threads.specs.Ended.{AllLeft, AreEndsOf, AreLeft, cell_at}
 use Rattle.vk_threads.specs.Ends.{AreThrough, EndsProcess, IsOf, role_of}
 use Rattle.vk_threads.specs.Ends.{FinishesOrWaits as FinishesOrWaitsAt}
-use Rattle.vk_threads.proofs.Dealt.{AreApartRoles, IsOwn, all_left, apart_roles, duties_apart, duty_role, duty_tasks, left_by, map_append, passages_by, passage_by, tasks_by, tasks_by_roles}
+use Rattle.vk_threads.proofs.Dealt.{AreApartRoles, IsOwn, all_left, apart_roles, duties_apart, duty_role, duty_tasks, left_by, passages_by, passage_by, tasks_by, tasks_by_roles}
 use Rattle.vk_udp.specs.Asked.{HasCarried}
 use Rattle.vk_udp.specs.Carried.{IsStationPort}
 use Rattle.vk_udp.specs.Dealt.{AreProcesses, IsNodePort, IsProcessJob}

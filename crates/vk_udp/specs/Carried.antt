@@ -1,6 +1,7 @@
 -- What the job that carries frames does with its port, its seat at the hub and the link.
 use Rattle.std.specs.Prelude.{ℕ, ◌≡◌, ◌≤◌, ◌⊎◌, Bool, true, false, Option, Some, None, List, [], ◌∷◌, ◌++◌, cond, filter, Result, Ok, Err, option_map}
 use mathlib.Core.List.{IsPrefix}
+use Rattle.vk_types.specs.Types.{EventAnswer}
 use Rattle.turn_cell.specs.Seats.{IsSameSeat, Sitting}
 use Rattle.turn_cell.specs.declared.replay.Room.{Room}
 use Rattle.vk_base.specs.Settings.{Settings, has_station}
@@ -9,7 +10,6 @@ use Rattle.vk_hub.specs.declared.event.HubEvent.TheVariants as hub_events
 use Rattle.vk_hub.specs.Hubs.{HubLog, has_halt, others}
 use Rattle.vk_hub.specs.Links.{Frame}
 use Rattle.vk_io.specs.Causes.{Rose}
-use Rattle.vk_base.specs.declared.event.EventAnswer.{EventAnswer}
 use Rattle.vk_base.specs.declared.event.StationEvent.TheVariants as events
 use Rattle.vk_port.specs.Ports.{Action, Does, HasMade, IsCutEvent, IsRefused, PortValue}
 use Rattle.vk_port.specs.Stations.{is_used_up}

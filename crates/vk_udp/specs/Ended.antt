@@ -1,9 +1,8 @@
 -- What has come back once all jobs of a node have ended.
 use Rattle.std.specs.Prelude.{ℕ, ◌≡◌, ◌+◌, ◌++◌, true, Option, List, [], ◌∷◌, length, map, option_map}
 use mathlib.Core.List.{IsPrefix}
+use Rattle.vk_types.specs.Types.{Answer, Call}
 use Rattle.turn_cell.specs.Seats.{Cell, IsSeatOf, Sitting}
-use Rattle.vk_base.specs.declared.answer.Answer.{Answer}
-use Rattle.vk_base.specs.declared.call.Call.{Call}
 use Rattle.vk_base.specs.Settings.{Settings}
 use Rattle.vk_event.specs.declared.port.StationPort.{StationPort}
 use Rattle.vk_hub.specs.declared.event.HubEvent.{HubEvent}

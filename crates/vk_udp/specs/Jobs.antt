@@ -1,8 +1,7 @@
 -- The jobs of a node, and what their ends may be.
 use Rattle.std.specs.Prelude.{ℕ, ◌≡◌, ◌++◌, ◌⊎◌, true, false, Option, None, List, [], ◌∷◌, option_map}
+use Rattle.vk_types.specs.Types.{Answer, Call}
 use Rattle.turn_cell.specs.declared.replay.Room.{Room}
-use Rattle.vk_base.specs.declared.answer.Answer.{Answer}
-use Rattle.vk_base.specs.declared.call.Call.{Call}
 use Rattle.vk_base.specs.Settings.{Settings}
 use Rattle.vk_hub.specs.Hubs.{has_halt}
 use Rattle.vk_hub.specs.Links.{Frame}

@@ -1,7 +1,6 @@
 -- What the run of a node comes to, and what it does to its wire's and its crew's counts.
 use Rattle.std.specs.Prelude.{ℕ, ◌≡◌, ◌≤◌, ◌++◌, ◌⊎◌, Bool, true, Option, Some, List, length, Result, Ok, Err}
-use Rattle.vk_base.specs.declared.config.ProcessSpec.{ProcessSpec}
-use Rattle.vk_base.specs.declared.event.StationEvent.{StationEvent}
+use Rattle.vk_types.specs.Types.{ProcessSpec, StationEvent}
 use Rattle.vk_base.specs.declared.limits.TheConstants.{EVENTS}
 use Rattle.vk_base.specs.Settings.{Settings, has_process, has_station, stations_of}
 use Rattle.vk_event.specs.declared.port.StationPort.{StationPort}

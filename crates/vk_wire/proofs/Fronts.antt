@@ -5,27 +5,26 @@ use Rattle.std.proofs.lemmas.List.{append_assoc, drop_at, length-append, length-
 use Rattle.std.proofs.lemmas.Option.{cond_some, same_Some}
 use Rattle.byteorder.specs.Endian.{big_bytes, big_number}
 use Rattle.byteorder.specs.Numbers.{big_from-lt, big_number-reads_back, length-bytes_high_first}
+use Rattle.vk_types.specs.Types.{Message, Pid}
 use Rattle.vk_base.proofs.PidLemmas.{numbers_of, own_numbers}
 use Rattle.vk_base.proofs.OptionLemmas.{bind_is}
 use Rattle.vk_base.specs.Messages.{IsMessage}
 use Rattle.vk_base.specs.Pids.{IsPid, pid_of_numbers}
-use Rattle.vk_base.specs.declared.message.Message.{Message}
-use Rattle.vk_base.specs.declared.pid.Pid.{Pid}
 use Rattle.vk_wire.specs.Fields.{IsBytes, pid_bytes, number_at, pid_at, message_at, NumbersAreSpelledOnce, PidsAreSpelledOnce, MessagesAreSpelledOnce}
 use Rattle.vk_wire.proofs.Numbers.{first_bytes, take_bytes, drop_bytes}
 
 -- what a number that stands first leaves
-pub record Stands (n : ℕ) (bytes : List ℕ) (x : ℕ) (rest : List ℕ) : Type 0 where
+pub record NumberStands (n : ℕ) (bytes : List ℕ) (x : ℕ) (rest : List ℕ) : Type 0 where
   pub bytes_are : bytes ≡ big_bytes n x ++ rest
   pub below : x < 256 ^ n
   pub rest_bytes : IsBytes rest
 
-pub number_stands : (n : ℕ) (bytes : List ℕ) (r : ℕ × List ℕ) → IsBytes bytes → number_at n bytes ≡ Some r → Stands n bytes r.0 r.1
+pub number_stands : (n : ℕ) (bytes : List ℕ) (r : ℕ × List ℕ) → IsBytes bytes → number_at n bytes ≡ Some r → NumberStands n bytes r.0 r.1
 unfolding number_at
 number_stands n bytes r h e =
     let is = cond_some (nat_le n (length bytes)) (big_number n bytes, drop n bytes) r e in
     let long = leb-true n (length bytes) is.0 in
-    subst (λ (r : ℕ × List ℕ). Stands n bytes r.0 r.1) is.1 (record {
+    subst (λ (r : ℕ × List ℕ). NumberStands n bytes r.0 r.1) is.1 (record {
       bytes_are = sym (take-append-drop n bytes) ∙ ap (λ (front : List ℕ). front ++ drop n bytes) (first_bytes n bytes h long);
       below = big_from-lt 0 n bytes h;
       rest_bytes = drop_bytes n bytes h;
@@ -50,7 +49,7 @@ pub record PidStands (bytes : List ℕ) (p : Pid) (rest : List ℕ) : Type 0 whe
   pub is : IsPid p
   pub rest_bytes : IsBytes rest
 
-pid_stands_by : (bytes : List ℕ) (host local : ℕ × List ℕ) (p : Pid) → Stands 2 bytes host.0 host.1 → Stands 2 host.1 local.0 local.1 →
+pid_stands_by : (bytes : List ℕ) (host local : ℕ × List ℕ) (p : Pid) → NumberStands 2 bytes host.0 host.1 → NumberStands 2 host.1 local.0 local.1 →
     pid_of_numbers host.0 local.0 ≡ Some p → PidStands bytes p local.1
 pid_stands_by bytes host local p h l e =
     let n = numbers_of host.0 local.0 p e in

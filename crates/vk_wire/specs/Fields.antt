@@ -1,12 +1,11 @@
 -- Fields: numbers, pids and messages as bytes. Of a number the highest byte comes first, and a pid is its host and its local.
 use Rattle.std.specs.Prelude.{◌≡◌, ℕ, ◌^◌, ◌<◌, nat_le, List, ◌++◌, length, take, drop, slice_index, Option, Some, None, if◌then◌else◌}
 use Rattle.byteorder.specs.Endian.{big_bytes, big_number}
+use Rattle.vk_types.specs.Types.{Message, Pid}
 use Rattle.vk_base.specs.Messages.{IsMessage}
 pub use Rattle.vk_base.specs.Options.{◌>>=◌}
 use Rattle.vk_base.specs.Pids.{IsPid, pid_of_numbers}
 use Rattle.vk_base.specs.declared.limits.TheConstants.{MESSAGE_BYTES}
-use Rattle.vk_base.specs.declared.message.Message.{Message}
-use Rattle.vk_base.specs.declared.pid.Pid.{Pid}
 
 abbrev pub IsBytes : List ℕ → Type 0
 IsBytes bytes = (i : ℕ) → slice_index bytes i < 256

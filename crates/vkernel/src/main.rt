@@ -4,37 +4,11 @@
 #![tactic(auto)]
 
 use std::process::ExitCode;
-use std::rt::Env;
-use std::{env, io, str};
+use vk_edge::program_words;
 use vk_io::{StdSink, StdSource};
 use vk_threads::{SleepPacer, ThreadCrew};
 use vk_top::{Status, vkernel};
 use vk_udp::UdpWire;
-
-/// The arguments behind the program's own name.
-fn words<R: Env + AllocGlobal>(rt: &R) -> Result<Vec<String>, Status> {
-    let arguments = match env::args(rt) {
-        Ok(arguments) => arguments,
-        Err(error) if error.kind() == io::ErrorKind::OutOfMemory => return Err(Status::NoMemory),
-        Err(_) => return Err(Status::Usage),
-    };
-    let mut words = Vec::new(rt.alloc());
-    for word in arguments.skip(1) {
-        if words.push(word).is_err() {
-            return Err(Status::NoMemory);
-        }
-    }
-    Ok(words)
-}
-
-/// Tells on standard error how the work ended.
-fn tell(rt: &HostRuntime, status: Status) {
-    let text = status.text();
-    if let Ok(text) = str::from_utf8(text.as_slice()) {
-        // Nothing is left to tell it to where this fails too.
-        let _ = eprintln!(rt; "{text}");
-    }
-}
 
 fn main(rt: HostRuntime) -> ExitCode {
     let mut input = StdSource::new(rt.stdin());
@@ -42,7 +16,7 @@ fn main(rt: HostRuntime) -> ExitCode {
     let mut crew = ThreadCrew::new();
     let mut pacer = SleepPacer::new();
     let mut wire = UdpWire::new();
-    let status = match words(&rt) {
+    let status = match program_words(&rt, Status::Usage, Status::NoMemory) {
         Ok(words) => vkernel(
             &rt,
             rt.alloc(),
@@ -56,7 +30,8 @@ fn main(rt: HostRuntime) -> ExitCode {
         Err(status) => status,
     };
     if status != Status::Done {
-        tell(&rt, status);
+        // Nothing is left to tell it to where this fails too.
+        let _ = eprintln!(rt; "{status}");
     }
     ExitCode::from(status.number())
 }

@@ -1,7 +1,7 @@
 //! Access to a segment of a sender that is held.
 
 ghost use Rattle.std.specs.Prelude.{◌≡◌, ◌<◌, ◌∷◌, [], ◌&&◌, not, length, Some, if◌then◌else◌};
-ghost use Rattle.vk_base.specs.declared.kernel.Exchange.{Exchange};
+ghost use Rattle.vk_types.specs.Types.{Exchange};
 ghost use Rattle.vk_base.specs.declared.pid.Pid.{Pid as ThePid};
 ghost use Rattle.vk_base.specs.Calls.{first_that_holds};
 ghost use Rattle.vk_base.specs.Kernel.{name_of};

@@ -10,6 +10,7 @@ use crate::calls::held::held;
 use crate::calls::response::Response;
 use crate::refusal::ApplyRefusal;
 use crate::tables::arrivals::{make_way, push_name};
+use crate::tables::handed::Handing;
 use crate::tables::put::find_live;
 use crate::tables::{Store, sends};
 use std::alloc::Global;
@@ -42,7 +43,11 @@ pub fn forward(
         number: holding.number,
     };
     make_way(store, there, name)?;
-    hand_on(store, alloc, holding.at, there, name, message, to)?;
+    let on = Handing {
+        at: to,
+        shown: message,
+    };
+    hand_on(store, alloc, holding.at, there, name, on)?;
     Ok(Response::Ok)
 }
 
@@ -66,20 +71,19 @@ fn hand_on(
     at: usize,
     there: usize,
     name: Name,
-    message: Message,
-    to: Pid,
+    on: Handing,
 ) -> Result<(), NoMemory>
     requires kept { IsKept store.old }
     requires here { IsAt store.old name.sender at }
-    requires there { IsAt store.old to there }
+    requires there { IsAt store.old on.at there }
     requires taken { IsTaken (kernel_in store.old) name }
     requires way { HasWay store.old there name }
-    ensures ok { OnOk result (HandsOn name message to store.old store.new) }
+    ensures ok { OnOk result (HandsOn name on.shown on.at store.old store.new) }
     ensures err { OnErr result (Stays store.old store.new) }
 {
     let waiting = store.queues[there].len();
     store.queues[there].push(name)?;
-    if sends::hand_on(&mut store.sends[at], alloc, name.number, message, to).is_err() {
+    if sends::hand_on(&mut store.sends[at], alloc, name.number, on.shown, on.at).is_err() {
         store.queues[there].truncate(waiting);
         return Err(NoMemory);
     }

@@ -1,7 +1,7 @@
 //! Load.
 
 ghost use Rattle.std.specs.Prelude.{◌≡◌, ◌≤◌, ◌∷◌, [], not, true, nat_lt, length, Some};
-ghost use Rattle.vk_base.specs.declared.kernel.Process.{Process};
+ghost use Rattle.vk_types.specs.Types.{Process};
 ghost use Rattle.vk_base.specs.Calls.{first_that_holds};
 ghost use Rattle.vk_base.specs.Ranges.{range_of, lies_in, bytes_in};
 ghost use Rattle.v_machine.specs.Kept.{IsKept, IsAt, kernel_in};

@@ -1,7 +1,7 @@
 //! Lookups of names.
 
 ghost use Rattle.std.specs.Prelude.{◌≡◌, ◌<◌, length, Some, Ok, OnOk, OnErr};
-ghost use Rattle.vk_base.specs.declared.kernel.Process.{Process};
+ghost use Rattle.vk_types.specs.Types.{Process};
 ghost use Rattle.vk_base.specs.declared.pid.Pid.{Pid as ThePid};
 ghost use Rattle.vk_base.specs.Calls.{is_local_scope, lookup_begun};
 ghost use Rattle.v_machine.specs.Kept.{IsKept, IsAt, IsIndexed, kernel_in};

@@ -1,19 +1,19 @@
 //! The calls MoveTo and MoveFrom.
 
 ghost use Rattle.std.specs.Prelude.{◌≡◌, ◌<◌, ◌+◌, [], true, length, Ok, Some, None, OnOk, OnErr};
-ghost use Rattle.vk_base.specs.declared.kernel.Exchange.{Exchange};
-ghost use Rattle.vk_base.specs.declared.kernel.Process.{Process};
+ghost use Rattle.vk_types.specs.Types.{Exchange, Process};
 ghost use Rattle.vk_base.specs.declared.pid.Pid.{Pid as ThePid};
 ghost use Rattle.vk_base.specs.Calls.{is_at_once, new_move};
 ghost use Rattle.vk_base.specs.Kernel.{name_of};
 ghost use Rattle.vk_base.specs.Ranges.{range_of, lies_in, bytes_in};
 ghost use Rattle.vk_base.specs.Activities.{call_of};
 ghost use Rattle.v_machine.specs.Kept.{IsKept, IsIndexed, IsAt, kernel_in};
-ghost use Rattle.v_machine.specs.Moves.{JudgesBegun, Copies, Begins, BeginsOrNot};
+ghost use Rattle.v_machine.specs.Moves.{JudgesBegun, Copies, Begins, BeginsOrNot, call_moving};
 ghost use Rattle.v_machine.specs.Places.{place_in};
 ghost use Rattle.v_machine.specs.Rules.{Judges, Stays};
 
 use crate::calls::access::{Access, held_for};
+use crate::calls::caller::Caller;
 use crate::calls::held::Holding;
 use crate::calls::response::Response;
 use crate::refusal::ApplyRefusal;
@@ -66,7 +66,7 @@ pub fn move_to(
         Err(why) => return Ok(Response::Refused { why }),
     };
     if !is_at_once(pid, asked.partner, asked.count) {
-        return begin_to(store, alloc, at, pid, holding, asked, room);
+        return begin_to(store, alloc, Caller { at, pid }, holding, asked, room);
     }
     copy_now(store, alloc, at, holding.at, own, asked.dest)?;
     Ok(Response::Ok)
@@ -103,7 +103,7 @@ pub fn move_from(
         Err(why) => return Ok(Response::Refused { why }),
     };
     if !is_at_once(pid, asked.partner, asked.count) {
-        return begin_from(store, alloc, at, pid, holding, asked);
+        return begin_from(store, alloc, Caller { at, pid }, holding, asked);
     }
     copy_now(store, alloc, holding.at, at, granted, asked.dest)?;
     Ok(Response::Ok)
@@ -140,19 +140,18 @@ fn copy_now(
 fn begin_to(
     store: &mut Store,
     alloc: Global,
-    at: usize,
-    pid: Pid,
+    caller: Caller,
     holding: Holding,
     asked: MoveRequest,
     room: u64,
 ) -> Result<Response, ApplyRefusal>
     requires indexed { IsIndexed store.old }
-    requires here { IsAt store.old pid at }
+    requires here { IsAt store.old caller.pid caller.at }
     requires there { IsAt store.old asked.partner holding.at }
-    ensures { (p : Process) → (kernel_in store.old).procs pid ≡ Some p → lies_in (range_of asked.src asked.count) (length p.memory) ≡ true →
-        BeginsOrNot pid (Call.MoveTo asked.partner asked.dest asked.src asked.count)
+    ensures { (p : Process) → (kernel_in store.old).procs caller.pid ≡ Some p → lies_in (range_of asked.src asked.count) (length p.memory) ≡ true →
+        BeginsOrNot caller.pid (Call.MoveTo asked.partner asked.dest asked.src asked.count)
         asked.partner holding.number asked.count room
-        (new_move pid Direction.To asked.dest asked.src asked.count (bytes_in (range_of asked.src asked.count) p.memory))
+        (new_move caller.pid Direction.To asked.dest asked.src asked.count (bytes_in (range_of asked.src asked.count) p.memory))
         store.old store.new result }
 {
     if u64::from(asked.count) > room {
@@ -162,21 +161,9 @@ fn begin_to(
         start: asked.src,
         len: asked.count,
     };
-    let bytes = own_bytes(store, alloc, at, own)?;
-    let MoveRequest {
-        partner,
-        dest,
-        src,
-        count,
-    } = asked;
-    let waiting = Waiting::MoveTo {
-        partner,
-        dest,
-        src,
-        count,
-    };
-    let begun = new_move(pid, Direction::To, asked, bytes);
-    begin(store, alloc, at, holding, partner, waiting, begun)?;
+    let bytes = own_bytes(store, alloc, caller.at, own)?;
+    let begun = new_move(caller.pid, Direction::To, asked, bytes);
+    begin(store, alloc, caller.at, holding, asked.partner, begun)?;
     Ok(Response::Begun)
 }
 
@@ -184,31 +171,18 @@ fn begin_to(
 fn begin_from(
     store: &mut Store,
     alloc: Global,
-    at: usize,
-    pid: Pid,
+    caller: Caller,
     holding: Holding,
     asked: MoveRequest,
 ) -> Result<Response, ApplyRefusal>
     requires indexed { IsIndexed store.old }
-    requires here { IsAt store.old pid at }
+    requires here { IsAt store.old caller.pid caller.at }
     requires there { IsAt store.old asked.partner holding.at }
-    ensures { BeginsOrNot pid (Call.MoveFrom asked.partner asked.dest asked.src asked.count) asked.partner holding.number 0 0
-        (new_move pid Direction.From asked.dest asked.src asked.count []) store.old store.new result }
+    ensures { BeginsOrNot caller.pid (Call.MoveFrom asked.partner asked.dest asked.src asked.count) asked.partner holding.number 0 0
+        (new_move caller.pid Direction.From asked.dest asked.src asked.count []) store.old store.new result }
 {
-    let MoveRequest {
-        partner,
-        dest,
-        src,
-        count,
-    } = asked;
-    let waiting = Waiting::MoveFrom {
-        partner,
-        dest,
-        src,
-        count,
-    };
-    let begun = new_move(pid, Direction::From, asked, List::empty(alloc));
-    begin(store, alloc, at, holding, partner, waiting, begun)?;
+    let begun = new_move(caller.pid, Direction::From, asked, List::empty(alloc));
+    begin(store, alloc, caller.at, holding, asked.partner, begun)?;
     Ok(Response::Begun)
 }
 
@@ -232,15 +206,15 @@ fn begin(
     at: usize,
     holding: Holding,
     partner: Pid,
-    waiting: Waiting,
     begun: Move,
 ) -> Result<(), NoMemory>
     requires indexed { IsIndexed store.old }
     requires here { IsAt store.old begun.mover at }
     requires there { IsAt store.old partner holding.at }
-    ensures ok { OnOk result (Begins begun.mover (call_of waiting) partner holding.number begun store.old store.new) }
+    ensures ok { OnOk result (Begins begun.mover (call_moving partner begun) partner holding.number begun store.old store.new) }
     ensures err { OnErr result (Stays store.old store.new) }
 {
+    let waiting = waiting_for(partner, &begun);
     let number = next_move(store, holding);
     push_move(store, alloc, holding.at, holding.number, begun)?;
     let name = MoveName {
@@ -252,6 +226,26 @@ fn begin(
     };
     put_moving(store, at, waiting, name);
     Ok(())
+}
+
+/// The call in which the mover waits for a move of this partner's segment.
+fn waiting_for(partner: Pid, begun: &Move) -> Waiting
+    ensures { call_of result ≡ call_moving partner begun.now }
+{
+    match begun.direction {
+        Direction::To => Waiting::MoveTo {
+            partner,
+            dest: begun.dest,
+            src: begun.src,
+            count: begun.count,
+        },
+        Direction::From => Waiting::MoveFrom {
+            partner,
+            dest: begun.dest,
+            src: begun.src,
+            count: begun.count,
+        },
+    }
 }
 
 /// The number that the next move of a Send gets.

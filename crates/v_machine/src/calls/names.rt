@@ -1,12 +1,16 @@
 //! The names that stations have registered.
 
-ghost use Rattle.std.specs.Prelude.{◌≡◌, length, filter, find, option_map, Ok, OnOk, OnErr};
+ghost use Rattle.std.specs.Prelude.{◌≡◌, ◌<◌, ◌≤◌, ◌++◌, ◌∷◌, [], not, nat_le, length, filter, find, position, option_map, vec_len, vec_capacity, Ok, OnOk, OnErr};
+ghost use Rattle.std.specs.List.{IsDistinct};
 ghost use Rattle.vk_base.specs.declared.kernel.Registration.{Registration as TheRegistration};
 ghost use Rattle.vk_base.specs.Calls.{found_at_once};
 ghost use Rattle.vk_base.specs.Kernel.{is_found_here};
+ghost use Rattle.vk_base.specs.declared.limits.TheConstants.{NAMES};
+ghost use Rattle.v_laws.specs.Sound.{same_logical};
 ghost use Rattle.v_machine.specs.Kept.{IsKept, kernel_in};
 ghost use Rattle.v_machine.specs.Names.{is_other, is_older, with_registered, answers_here};
 ghost use Rattle.v_machine.specs.Rules.{Judges};
+ghost use Rattle.v_machine.specs.Tables.{names_by};
 
 use crate::calls::response::Response;
 use crate::refusal::ApplyRefusal;
@@ -25,13 +29,33 @@ pub fn set_pid(store: &mut Store, pid: Pid, name: Registration) -> Result<Respon
             why: Refusal::NoProcess,
         });
     }
-    if count_others(&store.names, pid.host, name.logical) >= NAMES {
+    let older = place_of(&store.names, name.pid.host, name.logical);
+    if is_full(&store.names, older, name.pid.host, name.logical) {
         return Ok(Response::Refused {
             why: Refusal::NamesFull,
         });
     }
-    register(&mut store.names, name)?;
+    register(&mut store.names, older, name)?;
     Ok(Response::Ok)
+}
+
+/// Where the name stands that the host's station has registered under the logical id.
+fn place_of(names: &[Registration], host: u16, logical: u32) -> Option<usize>
+    ensures { result ≡ position (is_older host logical) names.now }
+{
+    names.iter().position(|r| is_older(r, host, logical))
+}
+
+/// Whether the host's station has registered as many names as it can under other logical ids. It has not where the older name is one
+/// of so few in all.
+fn is_full(names: &[Registration], older: Option<usize>, host: u16, logical: u32) -> bool
+    requires { older ≡ position (is_older host logical) names.now }
+    ensures { result ≡ nat_le NAMES (length (filter (is_other host logical) names.now)) }
+{
+    if older.is_some() && names.len() <= NAMES {
+        return false;
+    }
+    count_others(names, host, logical) >= NAMES
 }
 
 /// How many names the host's station has registered under other logical ids.
@@ -47,19 +71,44 @@ fn is_other(registration: &Registration, host: u16, logical: u32) -> bool
     registration.pid.host == host && registration.logical != logical
 }
 
-/// Registers a process. Where memory is wanting nothing changes.
-fn register(names: &mut Vec<Registration>, name: Registration) -> Result<(), NoMemory>
+/// Registers a process, in place of the older name where there is one. Where memory is wanting nothing changes.
+fn register(
+    names: &mut Vec<Registration>,
+    older: Option<usize>,
+    name: Registration,
+) -> Result<(), NoMemory>
+    requires older { older ≡ position (is_older name.pid.host name.logical) names.old.items }
+    requires once { IsDistinct same_logical (names_by names.old.items name.pid.host) }
     ensures ok { OnOk result (names.new.items ≡ with_registered names.old.items name) }
     ensures err { OnErr result (names.new.items ≡ names.old.items) }
 {
     names.reserve(1)?;
-    let host = name.pid.host;
-    let logical = name.logical;
-    names.retain(|r| !is_older(r, host, logical));
+    take_out(names, older, name.pid.host, name.logical);
+    push_name(names, name);
+    Ok(())
+}
+
+/// Takes out the older name, where there is one.
+fn take_out(names: &mut Vec<Registration>, older: Option<usize>, host: u16, logical: u32)
+    requires older { older ≡ position (is_older host logical) names.old.items }
+    requires once { IsDistinct same_logical (names_by names.old.items host) }
+    ensures items { names.new.items ≡ filter (λ r. not (is_older host logical r)) names.old.items }
+    ensures len { vec_len names.new ≤ vec_len names.old }
+    ensures capacity { vec_capacity names.new ≡ vec_capacity names.old }
+{
+    if let Some(at) = older {
+        let _older = names.remove(at);
+    }
+}
+
+/// One more name, for which there is room.
+fn push_name(names: &mut Vec<Registration>, name: Registration)
+    requires { vec_len names.old < vec_capacity names.old }
+    ensures { names.new.items ≡ names.old.items ++ name ∷ [] }
+{
     if names.push(name).is_err() {
         unreachable!();
     }
-    Ok(())
 }
 
 fn is_older(registration: &Registration, host: u16, logical: u32) -> bool

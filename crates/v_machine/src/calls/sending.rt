@@ -1,7 +1,7 @@
 //! Sends, and messages that come to a queue.
 
 ghost use Rattle.std.specs.Prelude.{◌≡◌, ◌<◌, [], true, false, length, Some, OnOk, OnErr, IfOk};
-ghost use Rattle.vk_base.specs.declared.kernel.Process.{Process};
+ghost use Rattle.vk_types.specs.Types.{Process};
 ghost use Rattle.vk_base.specs.declared.pid.Pid.{Pid as ThePid};
 ghost use Rattle.vk_base.specs.Calls.{first_part};
 ghost use Rattle.vk_base.specs.Kernel.{is_live, is_queued};
@@ -13,6 +13,7 @@ ghost use Rattle.v_machine.specs.Places.{place_in};
 ghost use Rattle.v_machine.specs.Rules.{Judges, Fits, HasRoomFor, Posts, Stays};
 ghost use Rattle.v_machine.specs.Sent.{first_stage};
 
+use crate::calls::caller::Caller;
 use crate::calls::response::Response;
 use crate::refusal::ApplyRefusal;
 use crate::tables::Store;
@@ -44,10 +45,11 @@ pub fn send(
             why: Refusal::BadSegment,
         });
     }
+    let caller = Caller { at, pid };
     if pid.host == target.host {
-        send_here(store, alloc, at, pid, target, message)
+        send_here(store, alloc, caller, target, message)
     } else {
-        send_away(store, alloc, at, pid, target, message)
+        send_away(store, alloc, caller, target, message)
     }
 }
 
@@ -55,47 +57,45 @@ pub fn send(
 fn send_here(
     store: &mut Store,
     alloc: Global,
-    at: usize,
-    pid: Pid,
+    caller: Caller,
     target: Pid,
     message: Message,
 ) -> Result<Response, ApplyRefusal>
     requires kept { IsKept store.old }
-    requires here { IsAt store.old pid at }
-    requires local { same_host pid target ≡ true }
-    ensures { Fits store.old pid message → Judges pid (Call.Send target message) store.old store.new result }
+    requires here { IsAt store.old caller.pid caller.at }
+    requires local { same_host caller.pid target ≡ true }
+    ensures { Fits store.old caller.pid message → Judges caller.pid (Call.Send target message) store.old store.new result }
 {
     let Some(to) = find_live(store, target) else {
         return Ok(Response::Refused {
             why: Refusal::NoProcess,
         });
     };
-    make_room(store, at, pid.host)?;
-    send_with_room(store, alloc, at, to, pid, target, message)
+    make_room(store, caller.at, caller.pid.host)?;
+    send_with_room(store, alloc, caller, to, target, message)
 }
 
 /// A Send to a process of the caller's station that is alive, where there is room for its name.
 fn send_with_room(
     store: &mut Store,
     alloc: Global,
-    at: usize,
+    caller: Caller,
     to: usize,
-    pid: Pid,
     target: Pid,
     message: Message,
 ) -> Result<Response, ApplyRefusal>
     requires kept { IsKept store.old }
-    requires here { IsAt store.old pid at }
+    requires here { IsAt store.old caller.pid caller.at }
     requires there { IsAt store.old target to }
-    requires local { same_host pid target ≡ true }
+    requires local { same_host caller.pid target ≡ true }
     requires live { is_live ((kernel_in store.old).procs target) ≡ true }
-    requires room { HasRoomFor store.old at pid.host }
-    ensures { Fits store.old pid message → Judges pid (Call.Send target message) store.old store.new result }
+    requires room { HasRoomFor store.old caller.at caller.pid.host }
+    ensures { Fits store.old caller.pid message → Judges caller.pid (Call.Send target message) store.old store.new result }
 {
-    let sent = new_sent(store, alloc, at, target, message, Phase::Queued)?;
-    post_here(store, at, to, pid, sent)?;
+    let sent = new_sent(store, alloc, caller.at, target, message, Phase::Queued)?;
+    post_here(store, caller.at, to, caller.pid, sent)?;
     let waiting = Waiting::Send { target, message };
-    put_activity(store, at, Activity::Blocked { waiting });
+    put_activity(store, caller.at, Activity::Blocked { waiting });
     Ok(Response::Begun)
 }
 
@@ -103,20 +103,19 @@ fn send_with_room(
 fn send_away(
     store: &mut Store,
     alloc: Global,
-    at: usize,
-    pid: Pid,
+    caller: Caller,
     target: Pid,
     message: Message,
 ) -> Result<Response, ApplyRefusal>
     requires kept { IsKept store.old }
-    requires here { IsAt store.old pid at }
-    requires away { same_host pid target ≡ false }
-    ensures { Fits store.old pid message → Judges pid (Call.Send target message) store.old store.new result }
+    requires here { IsAt store.old caller.pid caller.at }
+    requires away { same_host caller.pid target ≡ false }
+    ensures { Fits store.old caller.pid message → Judges caller.pid (Call.Send target message) store.old store.new result }
 {
-    let sent = new_sent(store, alloc, at, target, message, Phase::Posted)?;
-    store.sends[at].push(sent)?;
+    let sent = new_sent(store, alloc, caller.at, target, message, Phase::Posted)?;
+    store.sends[caller.at].push(sent)?;
     let waiting = Waiting::Send { target, message };
-    put_activity(store, at, Activity::Blocked { waiting });
+    put_activity(store, caller.at, Activity::Blocked { waiting });
     Ok(Response::Begun)
 }
 

@@ -1,8 +1,8 @@
 //! Steps of remote moves.
 
 ghost use Rattle.std.specs.Prelude.{◌≡◌, ◌<◌, ◌≤◌, ◌+◌, ℕ, true, nat_lt, length, Some, None, IfSome, IfNone, is_some, option_copied, option_map};
+ghost use Rattle.vk_types.specs.Types.{Process};
 ghost use Rattle.vk_base.specs.declared.kernel.Move.{Move as TheMove};
-ghost use Rattle.vk_base.specs.declared.kernel.Process.{Process};
 ghost use Rattle.vk_base.specs.declared.pid.Pid.{Pid as ThePid};
 ghost use Rattle.vk_base.specs.Kernel.{holds_of, move_of};
 ghost use Rattle.vk_base.specs.Steps.{only_if, is_next, is_in_move, is_complete, written_process, move_ending, copy_step, end_step};

@@ -1,7 +1,7 @@
 //! Bytes of memories.
 
 ghost use Rattle.std.specs.Prelude.{◌≡◌, ◌<◌, ◌≤◌, ◌+◌, ◌++◌, [], true, length, Some, IfOk, OnOk};
-ghost use Rattle.vk_base.specs.declared.kernel.Process.{Process};
+ghost use Rattle.vk_types.specs.Types.{Process};
 ghost use Rattle.vk_base.specs.declared.pid.Pid.{Pid as ThePid};
 ghost use Rattle.vk_base.specs.Ranges.{range_of, lies_in, bytes_in};
 ghost use Rattle.v_machine.specs.Kept.{kernel_in};

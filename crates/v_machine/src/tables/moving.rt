@@ -1,7 +1,7 @@
 //! Changes of the remote moves of a Send of the store; the moves themselves are `remote.rt`.
 
 ghost use Rattle.std.specs.Prelude.{◌≡◌, ◌<◌, ◌≤◌, ◌+◌, length, Some, None, IfSome, IfNone, OnOk, OnErr, option_copied};
-ghost use Rattle.vk_base.specs.declared.kernel.Process.{Process};
+ghost use Rattle.vk_types.specs.Types.{Process};
 ghost use Rattle.vk_base.specs.declared.kernel.Exchange.{Exchange as TheExchange};
 ghost use Rattle.vk_base.specs.declared.kernel.Move.{Move as TheMove};
 ghost use Rattle.vk_base.specs.declared.pid.Pid.{Pid as ThePid};

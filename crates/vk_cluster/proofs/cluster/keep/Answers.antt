@@ -3,11 +3,12 @@ use Rattle.std.specs.Prelude.{slice_get, sum_by, Some}
 use Rattle.std.specs.Global.{Vec}
 use Rattle.std.proofs.lemmas.List.{length-map, take_all}
 use Rattle.std.proofs.lemmas.List.Sums.{sum_by-append}
+use Rattle.vk_rules.proofs.Lists.{each_at}
 use Rattle.vk_cluster.specs.declared.emitted.Piece.{Piece}
 use Rattle.vk_cluster.specs.Blocks.{IsFrame}
 use Rattle.vk_cluster.specs.Piles.{IsAdding, items_of, pile_of}
+use Rattle.vk_cluster.proofs.Handed.{named_again}
 use Rattle.vk_cluster.proofs.Loops.{adding_count, sum_next, take_get}
-use Rattle.vk_cluster.proofs.Pieces.{each_at}
 use Rattle.vk_cluster.proofs.Piles.{added, adding_more, adding_none}
 use Rattle.vk_cluster.proofs.cluster.keep.Goals as goal
 
@@ -27,6 +28,8 @@ put-requires c =
     let room = c.requires.room in
     let kept = c.loop-at.invariant in
     record {
+      to = named_again c.frame.result.now c.packet-to.result.0 (c.loop-at.at + 1) c.packet-to.result.1.now
+          (c.packet-to.ensures.opens c.frame.result.now c.frame.ensures);
       frame = each_at IsFrame c.args.host.now.frames c.loop-at.at c.frame.result.now c.requires.few.each c.frame.ensures;
       bytes = omega arith;
       frames = omega arith;

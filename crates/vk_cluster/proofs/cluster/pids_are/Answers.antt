@@ -1,6 +1,6 @@
 use Rattle.std.proofs.Common.{subst, arith}
 use Rattle.std.proofs.lemmas.List.{take_all}
-use Rattle.vk_base.specs.declared.config.ProcessSpec.{ProcessSpec}
+use Rattle.vk_types.specs.Types.{ProcessSpec}
 use Rattle.vk_base.specs.Pids.{IsPid}
 use Rattle.vk_rules.specs.Each.{Each}
 use Rattle.vk_cluster.proofs.Loops.{pid_more}

@@ -5,4 +5,4 @@ use Rattle.vk_draw.specs.Rows.{frame_mark}
 use Rattle.vk_draw.proofs.frames.frame_marks.Given as goal
 
 abbrev pub invariant-loop-at : goal.invariant-loop-at
-invariant-loop-at l = (fs : List Frame) → Sends l.station fs → l.marks ++ map frame_mark (drop l.at fs) ≡ map frame_mark fs
+invariant-loop-at l = (fs : List Frame) → Sends l.station fs → l.marks ++ drop l.at (map frame_mark fs) ≡ map frame_mark fs

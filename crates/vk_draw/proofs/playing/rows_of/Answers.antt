@@ -1,7 +1,9 @@
-use Rattle.std.proofs.Common.{Err, ◌<◌, List, get_or, inr, length, refl, subst, sym, take, ap, ◌∙◌, arith}
+use Rattle.std.proofs.Common.{Err, ◌<◌, List, get_or, length, subst, sym, take, ap, ◌∙◌, arith}
+use Rattle.std.proofs.lemmas.Result.{err_from_is_err_and}
 use Rattle.vk_schedule.specs.declared.event.Event.{Event}
 use Rattle.vk_picture.specs.declared.picture.Row.{Row}
 use Rattle.vk_draw.specs.Playing.{ArePlayed}
+use Rattle.vk_draw.proofs.Answered.{event_refused}
 use Rattle.vk_draw.proofs.Played.{acts, all_fit, played_all, played_more, played_none, somewhere, too_large}
 use Rattle.vk_draw.proofs.playing.rows_of.Goals as goal
 
@@ -36,20 +38,20 @@ loop-event-preserved c =
     played_more s c.loop-event.event-index c.loop-event.rows c.loop-event.cluster c.loop-event.invariant
     c.event-item.result (subst (λ (es : List Event). c.loop-event.event-index < length es) c.requires.events c.loop-event-test.true)
     (c.event-item.is ∙ ap (λ (es : List Event). get_or es c.loop-event.event-index c.event-item.result) c.requires.events)
-    c.put_event.new.rows c.put_event.new.cluster c.in-Ok.ensures.room
-    (c.in-Ok.ensures.had s.config (take c.loop-event.event-index s.events) c.loop-event.invariant.stands)
+    c.put_event.new.rows c.put_event.new.cluster c.in_ok-put_event.ensures.room
+    (c.in_ok-put_event.ensures.had s.config (take c.loop-event.event-index s.events) c.loop-event.invariant.stands)
 
-pub returns-in-Err-Limit-clause-refused : goal.returns-in-Err-Limit-clause-refused
-returns-in-Err-Limit-clause-refused c =
+pub returns-in_err-put_event-clause-refused : goal.returns-in_err-put_event-clause-refused
+returns-in_err-put_event-clause-refused c =
     let few = c.requires.few in
     let same = ap (λ (es : List Event). length es) c.requires.events in
-    inr (
-      refl,
-      too_large c.args.schedule.now c.loop-event.event-index c.loop-event.rows c.loop-event.cluster c.loop-event.invariant
-          c.event-item.result (subst (λ (es : List Event). c.loop-event.event-index < length es) c.requires.events c.loop-event-test.true)
-          (c.event-item.is ∙ ap (λ (es : List Event). get_or es c.loop-event.event-index c.event-item.result) c.requires.events)
-          (omega (arith, few, same)) (c.in-Err-Limit.ensures.refused (ap Err c.in-Err-Limit.field-0-is)),
-    )
+    let left = err_from_is_err_and c.from_residual.result c.from_residual.ensures.1 in
+    rw (left.1, left.2)
+    (event_refused _ _
+    (λ limit. too_large c.args.schedule.now c.loop-event.event-index c.loop-event.rows c.loop-event.cluster c.loop-event.invariant
+    c.event-item.result (subst (λ (es : List Event). c.loop-event.event-index < length es) c.requires.events c.loop-event-test.true)
+    (c.event-item.is ∙ ap (λ (es : List Event). get_or es c.loop-event.event-index c.event-item.result) c.requires.events)
+    (omega (arith, few, same)) (c.in_err-put_event.ensures.refused (ap Err limit))))
 
 pub returns-clause-rows : goal.returns-clause-rows
 returns-clause-rows c =

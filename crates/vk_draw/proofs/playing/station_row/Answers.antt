@@ -12,8 +12,8 @@ returns c = λ e last.
     let frames = c.in_ok-frame_marks.ensures e.frames last.sends in
     (λ i. record {
       number = c.args.number;
-      host = c.args.host;
-      own = c.args.own;
+      host = c.args.report.now.host;
+      own = c.args.report.now.event;
       act = c.act_of.ensures i;
       said = said i;
       steps = steps i;

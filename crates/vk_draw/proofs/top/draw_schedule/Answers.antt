@@ -1,4 +1,5 @@
 use Rattle.std.proofs.Common.{length, ap, ◌∙◌, arith}
+use Rattle.std.proofs.lemmas.Result.{err_from_is_err_and}
 use Rattle.vk_schedule.proofs.Lawfulness.{only_lawful}
 use Rattle.vk_picture.specs.declared.picture.Picture.{Picture}
 use Rattle.vk_draw.proofs.Answered.{refusal_by, spelled_some}
@@ -11,16 +12,20 @@ picture_of-requires-clause-lawful c = only_lawful c.args.text.now c.args.schedul
 pub picture_text-requires-clause-rows : goal.picture_text-requires-clause-rows
 picture_text-requires-clause-rows c =
     let s = c.args.schedule.now in
-    let same = ap (λ (p : Picture). length p.rows) c.in-Ok.ensures.picture ∙ as_many s.config s.events in
+    let same = ap (λ (p : Picture). length p.rows) c.in_ok-picture.ensures.picture ∙ as_many s.config s.events in
     let few = c.if-len-gt-ROWS.false in
     let counted = c.len.ensures in
     omega (arith, same, few, counted)
 
-pub returns-in-Err-clause-refused : goal.returns-in-Err-clause-refused
-returns-in-Err-clause-refused c =
+pub returns-in_err-picture-clause-refused : goal.returns-in_err-picture-clause-refused
+returns-in_err-picture-clause-refused c =
     let few = c.if-len-gt-ROWS.false in
     let counted = c.len.ensures in
-    refusal_by c.args.text.now c.args.schedule.now c.in-Err.status c.requires (omega (arith, few, counted)) c.in-Err.ensures.refused
+    let left = err_from_is_err_and c.from_residual.result c.from_residual.ensures.1 in
+    rw (left.1, left.2)
+    (refusal_by c.args.text.now c.args.schedule.now _ c.requires (omega (arith, few, counted)) c.in_err-picture.ensures.refused)
 
-pub returns-clause-refused : goal.returns-clause-refused
-returns-clause-refused c = spelled_some c.args.text.now c.args.schedule.now c.requires
+pub returns-in_err-drawn-clause-refused : goal.returns-in_err-drawn-clause-refused
+returns-in_err-drawn-clause-refused c =
+    let left = err_from_is_err_and c.from_residual-in_err-drawn.result c.from_residual-in_err-drawn.ensures.1 in
+    rw (left.1, left.2) (spelled_some c.args.text.now c.args.schedule.now c.requires)

@@ -1,6 +1,6 @@
 use Rattle.std.proofs.Common.{ap}
+use Rattle.vk_types.specs.Types.{Pid}
 use Rattle.vk_base.proofs.PidLemmas.{of_numbers}
-use Rattle.vk_base.specs.declared.pid.Pid.{Pid}
 use Rattle.vk_event.specs.declared.task.Task.{Task}
 use Rattle.vk_event.specs.declared.task.TaskKind.TheVariants as kinds
 use Rattle.vk_drive.proofs.tasks.server.Goals as goal

@@ -1,5 +1,5 @@
 use Rattle.std.proofs.Common.{◌≡◌, map, take}
-use Rattle.vk_base.specs.declared.config.ProcessSpec.{ProcessSpec}
+use Rattle.vk_types.specs.Types.{ProcessSpec}
 use Rattle.vk_event.specs.declared.task.Task.{Task}
 use Rattle.vk_text.specs.Heads.{settings_of}
 use Rattle.vk_drive.proofs.tasks.settings.Given as goal

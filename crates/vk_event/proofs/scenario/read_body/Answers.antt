@@ -1,6 +1,6 @@
 use Rattle.std.proofs.Common.{◌<◌, ◌∙◌, List, Some, None, ap, arith, cond, inr, length, subst, sym}
+use Rattle.vk_types.specs.Types.{ProcessSpec}
 use Rattle.vk_base.specs.Settings.{Settings}
-use Rattle.vk_base.specs.declared.config.ProcessSpec.{ProcessSpec}
 use Rattle.vk_event.specs.Tasks.{with_task_line}
 use Rattle.vk_event.proofs.ScenarioLines.{line_given, line_ends, text_ends, told_ok, told_err}
 use Rattle.vk_event.proofs.scenario.read_body.Goals as goal

@@ -1,7 +1,7 @@
 use Rattle.std.proofs.Common.{◌≡◌, ◌<◌, ◌∙◌, List, length, ap, arith, inr, sym}
-use Rattle.vk_base.specs.declared.config.ProcessSpec.{ProcessSpec}
 use Rattle.std.proofs.lemmas.Bool.{eqb-true}
 use Rattle.std.proofs.lemmas.Result.{IfErr-weaker}
+use Rattle.vk_types.specs.Types.{ProcessSpec}
 use Rattle.vk_event.proofs.ScenarioHeads.{refused_as, no_process, with_body, has_process, ok_of, err_of}
 use Rattle.vk_event.proofs.ScenarioRanges.{read_lawful}
 use Rattle.vk_event.proofs.ScenarioRefusals.{never_limit}

@@ -3,7 +3,7 @@ use Rattle.vk_base.specs.declared.call.Call.TheVariants as calls
 use Rattle.vk_base.specs.declared.step.Step.TheVariants as steps
 use Rattle.vk_brief.specs.declared.call.BriefCall.{BriefCall}
 use Rattle.vk_brief.specs.Brief.{call_with}
-use Rattle.vk_move.specs.Begun.{IsMoveBegun, doing_in, is_away}
+use Rattle.vk_move.specs.Begun.{IsMoveBegun, doing_of, is_away}
 use Rattle.vk_move.proofs.BegunRule.{begun_rule}
 use Rattle.vk_move.proofs.begun.begin.Goals as goal
 
@@ -13,8 +13,8 @@ returns-in-MoveTo c =
     let is = c.parts.ensures.call ∙ ap (call_with p.1.now) c.in-MoveTo.is in
     let way = c.begin_way in
     subst (λ x. IsMoveBegun c.args.times.now c.args.now c.args.pid x way.result
-    (doing_in c.args.procs.now c.args.aliens.now c.args.steps.now c.args.out.now)
-    (doing_in way.new.procs way.new.aliens c.push.new.self way.new.out)) (sym is)
+    (doing_of c.args.procs.now c.args.aliens.now c.args.steps.now c.args.out.now)
+    (doing_of way.new.procs way.new.aliens c.push.new.self way.new.out)) (sym is)
     (begun_rule c.args.times.now c.args.now c.args.pid c.args.procs.now c.args.aliens.now c.requires.moves c.requires.ready
     c.args.steps.now c.args.out.now (calls.MoveTo c.in-MoveTo.partner c.in-MoveTo.dest c.in-MoveTo.src c.in-MoveTo.count) refl
     (sym (ap (is_away c.args.pid) is) ∙ c.requires.away) way.result way.new.procs way.new.aliens
@@ -28,8 +28,8 @@ returns-in-MoveFrom c =
     let is = c.parts.ensures.call ∙ ap (call_with p.1.now) c.in-MoveFrom.is in
     let way = c.begin_way-in-MoveFrom in
     subst (λ x. IsMoveBegun c.args.times.now c.args.now c.args.pid x way.result
-    (doing_in c.args.procs.now c.args.aliens.now c.args.steps.now c.args.out.now)
-    (doing_in way.new.procs way.new.aliens c.push-in-MoveFrom.new.self way.new.out)) (sym is)
+    (doing_of c.args.procs.now c.args.aliens.now c.args.steps.now c.args.out.now)
+    (doing_of way.new.procs way.new.aliens c.push-in-MoveFrom.new.self way.new.out)) (sym is)
     (begun_rule c.args.times.now c.args.now c.args.pid c.args.procs.now c.args.aliens.now c.requires.moves c.requires.ready
     c.args.steps.now c.args.out.now
     (calls.MoveFrom c.in-MoveFrom.partner c.in-MoveFrom.dest c.in-MoveFrom.src c.in-MoveFrom.count) refl

@@ -10,7 +10,7 @@ post_bytes_piece-requires-clause-room c =
     let few : length c.loop-piece.out.posts ≡ length c.args.out.now.posts + c.loop-piece.piece =
     ap (λ (o : Posts). length o.posts) c.loop-piece.invariant
     ∙ how_many post_of
-    (bytes_packet c.args.moving.name.exchange c.args.moving.mover c.args.moving.name.number c.args.asked.src
+    (bytes_packet c.args.subject.name.exchange c.args.subject.mover c.args.subject.name.number c.args.asked.src
     c.args.asked.total c.args.memory.now)
     c.args.asked.offset c.loop-piece.piece c.args.out.now.posts in
     let room = ap (λ (o : Posts). o.room) c.loop-piece.invariant in
@@ -21,11 +21,11 @@ loop-piece-preserved c =
     c.post_bytes_piece.ensures
     ∙ (λ i. record (c.loop-piece.invariant i) {
       posts = (ap (λ (o : Posts). o.posts
-          ++ post_of (bytes_packet c.args.moving.name.exchange c.args.moving.mover c.args.moving.name.number c.args.asked.src
+          ++ post_of (bytes_packet c.args.subject.name.exchange c.args.subject.mover c.args.subject.name.number c.args.asked.src
           c.args.asked.total c.args.memory.now
           (c.args.asked.offset + 1024 * c.loop-piece.piece)) ∷ []) c.loop-piece.invariant
           ∙ one_more post_of
-          (bytes_packet c.args.moving.name.exchange c.args.moving.mover c.args.moving.name.number c.args.asked.src
+          (bytes_packet c.args.subject.name.exchange c.args.subject.mover c.args.subject.name.number c.args.asked.src
           c.args.asked.total c.args.memory.now)
           c.args.asked.offset c.loop-piece.piece c.args.out.now.posts) i;
     })

@@ -6,5 +6,5 @@ use Rattle.vk_move.proofs.rounds.post_bytes.Given as goal
 
 abbrev pub invariant-loop-piece : goal.invariant-loop-piece
 invariant-loop-piece l = l.out ≡ posted l.initial.out
-    (map (bytes_packet l.moving.name.exchange l.moving.mover l.moving.name.number l.asked.src l.asked.total l.memory)
+    (map (bytes_packet l.subject.name.exchange l.subject.mover l.subject.name.number l.asked.src l.asked.total l.memory)
     (map (λ i. l.asked.offset + 1024 * i) (range_with_len 0 l.piece)))

@@ -10,8 +10,8 @@ post_data_piece-requires-clause-room c =
     let few : length c.loop-piece.out.posts ≡ length c.args.out.now.posts + c.loop-piece.piece =
     ap (λ (o : Posts). length o.posts) c.loop-piece.invariant
     ∙ how_many post_of
-    (data_packet c.args.moving.mover c.args.transfer.partner c.args.memory.now c.args.transfer.dest c.args.transfer.src
-    c.args.transfer.count c.args.moving.name)
+    (data_packet c.args.subject.mover c.args.transfer.partner c.args.memory.now c.args.transfer.dest c.args.transfer.src
+    c.args.transfer.count c.args.subject.name)
     c.args.from c.loop-piece.piece c.args.out.now.posts in
     let room = ap (λ (o : Posts). o.room) c.loop-piece.invariant in
     omega arith
@@ -21,11 +21,11 @@ loop-piece-preserved c =
     c.post_data_piece.ensures
     ∙ (λ i. record (c.loop-piece.invariant i) {
       posts = (ap (λ (o : Posts). o.posts
-          ++ post_of (data_packet c.args.moving.mover c.args.transfer.partner c.args.memory.now c.args.transfer.dest c.args.transfer.src
-          c.args.transfer.count c.args.moving.name
+          ++ post_of (data_packet c.args.subject.mover c.args.transfer.partner c.args.memory.now c.args.transfer.dest c.args.transfer.src
+          c.args.transfer.count c.args.subject.name
           (c.args.from + 1024 * c.loop-piece.piece)) ∷ []) c.loop-piece.invariant
           ∙ one_more post_of
-          (data_packet c.args.moving.mover c.args.transfer.partner c.args.memory.now c.args.transfer.dest c.args.transfer.src
-          c.args.transfer.count c.args.moving.name)
+          (data_packet c.args.subject.mover c.args.transfer.partner c.args.memory.now c.args.transfer.dest c.args.transfer.src
+          c.args.transfer.count c.args.subject.name)
           c.args.from c.loop-piece.piece c.args.out.now.posts) i;
     })

@@ -6,5 +6,5 @@ use Rattle.vk_move.proofs.rounds.post_data.Given as goal
 
 abbrev pub invariant-loop-piece : goal.invariant-loop-piece
 invariant-loop-piece l = l.out ≡ posted l.initial.out
-    (map (data_packet l.moving.mover l.transfer.partner l.memory l.transfer.dest l.transfer.src l.transfer.count l.moving.name)
+    (map (data_packet l.subject.mover l.transfer.partner l.memory l.transfer.dest l.transfer.src l.transfer.count l.subject.name)
     (map (λ i. l.from + 1024 * i) (range_with_len 0 l.piece)))

@@ -5,7 +5,7 @@ use Rattle.vk_move.proofs.sender.take_request.Goals as goal
 
 pub post_asked-requires-clause-inside : goal.post_asked-requires-clause-inside
 post_asked-requires-clause-inside c =
-    let m = c.args.moving in
+    let m = c.args.subject in
     readable c.args.procs.now c.requires.fit m.name.exchange.sender m.mover m.name.exchange.number m.name.number c.args.asked.src
     c.args.asked.total c.in-Wanted.opens c.in-Wanted.before
     (c.in-Wanted.ensures ∙ ap (bytes_wanted m.name.number c.args.asked.src c.args.asked.total)

@@ -9,7 +9,7 @@ use Rattle.vk_move.proofs.tick.due.Goals as goal
 
 pub go_on-requires-clause-goes : goal.go_on-requires-clause-goes
 go_on-requires-clause-goes c =
-    tick_goes_on c.args.procs.now c.requires.fit c.args.pid c.args.times.now c.args.now c.in-Again.tries c.in-Again.from
+    tick_goes_on c.args.procs.now c.requires.fit c.args.pid c.args.times.now c.args.now c.in-Again.work c.in-Again.from
     (c.in-Again.ensures ∙ ap (ticked_in c.args.times.now c.args.now) c.seat.ensures)
 
 pub returns-in-Nothing : goal.returns-in-Nothing
@@ -27,6 +27,6 @@ returns-in-Ends c =
 pub returns-in-Again : goal.returns-in-Again
 returns-in-Again c =
     is_due c.args.times.now c.args.now c.args.pid c.args.procs.now c.go_on.new.procs c.args.steps.now c.args.steps.now c.args.out.now
-    c.go_on.new.out c.requires.fit (ticks.Again c.in-Again.tries c.in-Again.from)
+    c.go_on.new.out c.requires.fit (ticks.Again c.in-Again.work c.in-Again.from)
     (c.in-Again.ensures ∙ ap (ticked_in c.args.times.now c.args.now) c.seat.ensures) c.go_on.ensures.seats
     (sym (append-nil c.args.steps.now)) c.go_on.ensures.packets

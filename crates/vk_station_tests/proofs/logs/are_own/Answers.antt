@@ -1,8 +1,8 @@
 use Rattle.std.proofs.Common.{subst, arith}
 use Rattle.std.proofs.lemmas.List.{take_all}
 use Rattle.vk_join.specs.Logs.{IsOfStation}
+use Rattle.vk_join.proofs.Takes.{each_more}
 use Rattle.vk_rules.specs.Each.{Each}
-use Rattle.vk_station_tests.proofs.Joining.{each_more}
 use Rattle.vk_station_tests.proofs.logs.are_own.Goals as goal
 
 pub loop-event-preserved : goal.loop-event-preserved

@@ -1,5 +1,6 @@
 use Rattle.std.proofs.Common.{arith, eq-eqb, get_or, refl, false, ◌==◌, ◌≡◌, true, eqb-true, Bool}
-use Rattle.vk_threads.proofs.Dealing.{count_more, not_equal}
+use Rattle.std.proofs.lemmas.Bool.{ne_eqb}
+use Rattle.vk_threads.proofs.Dealing.{count_more}
 use Rattle.vk_threads.proofs.opening.count_of.Goals as goal
 use Rattle.vk_threads.proofs.opening.count_of.Goals.{then-h-host, else-h-host}
 
@@ -20,7 +21,7 @@ loop-h-preserved c =
       }
       | else-h-host w ↦ record {
         count = let is = w.count-is in count_more hosts i c.args.host c.loop-h.count c.if-h-host.count false low c.loop-h.invariant.count
-            (not_equal (get_or hosts i 0) c.args.host w.if-h-host.false) (omega arith);
+            (ne_eqb (get_or hosts i 0) c.args.host w.if-h-host.false) (omega arith);
         few = let is = w.count-is in omega arith;
       }
     ]

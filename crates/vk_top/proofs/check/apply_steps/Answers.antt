@@ -3,7 +3,7 @@ use Rattle.v_machine.specs.Follows.{Follows}
 use Rattle.v_trace.specs.Remaining.{Remaining}
 use Rattle.vk_top.proofs.Nexts.{fewer_steps, next_step, no_step}
 use Rattle.vk_top.proofs.Verdicts.{as_far_at_first, as_far_more, as_far_refused, as_far_too_much, as_far_over, next_far}
-use Rattle.vk_top.specs.Check.{ending}
+use Rattle.vk_top.specs.Check.{without_steps}
 use Rattle.vk_top.proofs.check.apply_steps.Goals as goal
 
 pub loop-alloc-init : goal.loop-alloc-init
@@ -23,7 +23,7 @@ returns-in-Err-NotAllowed-clause-verdict c = λ k stands.
 
 pub returns-in-Err-NotAllowed-clause-ending : goal.returns-in-Err-NotAllowed-clause-ending
 returns-in-Err-NotAllowed-clause-ending c =
-    ap ending (sym (next_step _ _ _ _ c.loop-alloc-test.true c.next.ensures.next)) ∙ c.loop-alloc.invariant.ends
+    ap without_steps (sym (next_step _ _ _ _ c.loop-alloc-test.true c.next.ensures.next)) ∙ c.loop-alloc.invariant.ends
 
 pub returns-in-Err-Limit-clause-verdict : goal.returns-in-Err-Limit-clause-verdict
 returns-in-Err-Limit-clause-verdict c = λ k stands.
@@ -35,18 +35,18 @@ returns-in-Err-Limit-clause-verdict c = λ k stands.
 
 pub returns-in-Err-Limit-clause-ending : goal.returns-in-Err-Limit-clause-ending
 returns-in-Err-Limit-clause-ending c =
-    ap ending (sym (next_step _ _ _ _ c.loop-alloc-test.true c.next.ensures.next)) ∙ c.loop-alloc.invariant.ends
+    ap without_steps (sym (next_step _ _ _ _ c.loop-alloc-test.true c.next.ensures.next)) ∙ c.loop-alloc.invariant.ends
 
 pub returns-in-Err-NoMemory-clause-ending : goal.returns-in-Err-NoMemory-clause-ending
 returns-in-Err-NoMemory-clause-ending c =
-    ap ending (sym (next_step _ _ _ _ c.loop-alloc-test.true c.next.ensures.next)) ∙ c.loop-alloc.invariant.ends
+    ap without_steps (sym (next_step _ _ _ _ c.loop-alloc-test.true c.next.ensures.next)) ∙ c.loop-alloc.invariant.ends
 
 pub loop-alloc-preserved : goal.loop-alloc-preserved
 loop-alloc-preserved c =
     let next = next_step _ _ _ _ c.loop-alloc-test.true c.next.ensures.next in
     record {
       counted = omega (arith, c.loop-alloc.invariant.counted, ap (λ (r : Remaining). length r.steps) next);
-      ends = ap ending (sym next) ∙ c.loop-alloc.invariant.ends;
+      ends = ap without_steps (sym next) ∙ c.loop-alloc.invariant.ends;
       verdict = λ k stands.
           let far = next_far k _ _ _ _ _ _ _ next (c.loop-alloc.invariant.verdict k stands) in
           as_far_more k _ _ _ c.apply.new.machine _ _ _ far _ c.in-Ok.ensures;
@@ -63,4 +63,4 @@ returns-clause-verdict c = λ k stands.
 pub returns-clause-ending : goal.returns-clause-ending
 returns-clause-ending c =
     let end = no_step _ _ _ _ c.loop-alloc-test.false c.next.ensures.next in
-    ap ending end.1 ∙ c.loop-alloc.invariant.ends
+    ap without_steps end.1 ∙ c.loop-alloc.invariant.ends

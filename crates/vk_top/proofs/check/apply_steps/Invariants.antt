@@ -1,14 +1,14 @@
 use Rattle.std.proofs.Common.{◌≡◌, ◌+◌, length}
 use Rattle.vk_base.specs.Kernel.{Kernel}
 use Rattle.v_machine.specs.Follows.{StandsFor}
-use Rattle.vk_top.specs.Check.{ending}
+use Rattle.vk_top.specs.Check.{without_steps}
 use Rattle.vk_top.proofs.Verdicts.{IsAsFar}
 use Rattle.vk_top.proofs.check.apply_steps.Given as goal
 
 abbrev pub invariant-loop-alloc : goal.invariant-loop-alloc
 invariant-loop-alloc l = record {
   counted : l.number + length l.reader.steps ≡ length l.fn.reader.steps;
-  ends : ending l.reader ≡ ending l.fn.reader;
+  ends : without_steps l.reader ≡ without_steps l.fn.reader;
   verdict : (k : Kernel) → StandsFor l.fn.machine k →
       IsAsFar k l.fn.machine.noted l.fn.reader.steps l.machine l.number l.reader.steps;
 }

@@ -1,19 +1,20 @@
-use Rattle.std.proofs.Common.{subst, sym}
+use Rattle.std.proofs.lemmas.Result.{err_from_is_err_and}
 use Rattle.vk_top.proofs.Joins.{unjoined_nodes, unread_nodes, unwritten_nodes}
-use Rattle.vk_top.specs.declared.words.Asked.TheVariants as asked
-use Rattle.vk_top.specs.Work.{IsRefusal}
 use Rattle.vk_top.proofs.join.joined_text.Goals as goal
 
-pub returns-in-Err-clause-refused : goal.returns-in-Err-clause-refused
-returns-in-Err-clause-refused c =
-    subst (IsRefusal asked.Join c.args.text.now) (sym c.refused.ensures)
-    (unread_nodes c.args.text.now c.in-Err.refusal c.in-Err.ensures.refused)
+pub returns-in_err-nodes-clause-refused : goal.returns-in_err-nodes-clause-refused
+returns-in_err-nodes-clause-refused c =
+    let left = err_from_is_err_and c.from_residual.result c.from_residual.ensures.1 in
+    rw (left.1, left.2) (unread_nodes c.args.text.now _ c.in_err-nodes.ensures.refused)
 
-pub returns-in-Err-joined-clause-refused : goal.returns-in-Err-joined-clause-refused
-returns-in-Err-joined-clause-refused c =
-    subst (IsRefusal asked.Join c.args.text.now) (sym c.unjoined.ensures)
-    (unjoined_nodes c.args.text.now c.in-Ok.nodes c.in-Err-joined.refusal c.in-Ok.ensures.nodes c.in-Ok.ensures.lawful
-    c.in-Err-joined.ensures.refused)
+pub returns-in_err-schedule-clause-refused : goal.returns-in_err-schedule-clause-refused
+returns-in_err-schedule-clause-refused c =
+    let left = err_from_is_err_and c.from_residual-in_err-schedule.result c.from_residual-in_err-schedule.ensures.1 in
+    rw (left.1, left.2)
+    (unjoined_nodes c.args.text.now c.in_ok-nodes.nodes _ c.in_ok-nodes.ensures.nodes c.in_ok-nodes.ensures.lawful
+    c.in_err-schedule.ensures.refused)
 
-pub returns-clause-refused : goal.returns-clause-refused
-returns-clause-refused c = unwritten_nodes c.args.text.now c.in-Ok.nodes c.in-Ok.ensures.nodes
+pub returns-in_err-output-clause-refused : goal.returns-in_err-output-clause-refused
+returns-in_err-output-clause-refused c =
+    let left = err_from_is_err_and c.from_residual-in_err-output.result c.from_residual-in_err-output.ensures.1 in
+    rw (left.1, left.2) (unwritten_nodes c.args.text.now c.in_ok-nodes.nodes c.in_ok-nodes.ensures.nodes)

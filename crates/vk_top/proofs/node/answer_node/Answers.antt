@@ -1,6 +1,10 @@
-use Rattle.std.proofs.Common.{◌≡◌, refl}
-use Rattle.vk_top.proofs.Threaded.{refusal_count, run_refused, work_late, work_written, written_tells}
+use Rattle.std.proofs.Common.{◌≡◌, inr, refl}
+use Rattle.vk_edge.proofs.Answers.{other_than}
+use Rattle.vk_top.proofs.Outcomes.{done_flushed}
+use Rattle.vk_top.proofs.Threaded.{run_refused, work_late, work_written, written_tells}
 use Rattle.vk_top.specs.Nodes.{IsNodeFailure, node_asked}
+use Rattle.vk_top.specs.Threaded.{IsThreadedRefusal}
+use Rattle.vk_top.specs.declared.status.Status.TheVariants as status
 use Rattle.vk_top.proofs.node.answer_node.Goals as goal
 
 pub write_work-requires : goal.write_work-requires
@@ -9,6 +13,9 @@ write_work-requires g c = work_late _ _ _ _ c.in-Ok.ensures.work
 pub returns-in-Ok-clause-answered : goal.returns-in-Ok-clause-answered
 returns-in-Ok-clause-answered g c =
     work_written _ _ _ _ _ _ _ _ _ _ c.requires c.in-Ok.ensures.work c.write_work.ensures.written c.write_work.ensures.front
+
+pub returns-in-Ok-clause-flushed : goal.returns-in-Ok-clause-flushed
+returns-in-Ok-clause-flushed g c = done_flushed _ _ c.write_work.ensures.flushed
 
 pub returns-in-Ok-clause-crew_faults : goal.returns-in-Ok-clause-crew_faults
 returns-in-Ok-clause-crew_faults g c =
@@ -21,8 +28,16 @@ returns-in-Ok-clause-link_faults g c =
 pub returns-in-Err-clause-answered : goal.returns-in-Err-clause-answered
 returns-in-Err-clause-answered g c = run_refused _ _ _ _ _ _ _ _ refl c.requires c.in-Err.ensures.refused
 
+pub returns-in-Err-clause-flushed : goal.returns-in-Err-clause-flushed
+returns-in-Err-clause-flushed g c =
+    let Failure = IsNodeFailure c.args.host (g.C.Crew.job_count c.args.crew.now) (g.C.Crew.job_count c.node_work.new.crew) in
+    let Unasked = (c.node_work.new.crew ≡ c.args.crew.now) × (c.node_work.new.wire ≡ c.args.wire.now) in
+    let Refusal = IsThreadedRefusal (node_asked c.args.host) Failure Unasked c.args.text.now in
+    λ is. absurd (other_than Refusal c.in-Err.status status.Done c.in-Err.ensures.refused (λ none. none) is)
+
 pub returns-in-Err-clause-write_count : goal.returns-in-Err-clause-write_count
 returns-in-Err-clause-write_count g c =
     let Failure = IsNodeFailure c.args.host (g.C.Crew.job_count c.args.crew.now) (g.C.Crew.job_count c.node_work.new.crew) in
     let Unasked = (c.node_work.new.crew ≡ c.args.crew.now) × (c.node_work.new.wire ≡ c.args.wire.now) in
-    refusal_count (node_asked c.args.host) Failure Unasked c.args.text.now c.in-Err.status _ c.in-Err.ensures.refused
+    let Refusal = IsThreadedRefusal (node_asked c.args.host) Failure Unasked c.args.text.now in
+    inr (other_than Refusal c.in-Err.status status.WriteFault c.in-Err.ensures.refused (λ none. none), refl)

@@ -9,6 +9,6 @@ abbrev pub invariant-loop-at : goal.invariant-loop-at
 invariant-loop-at l = record {
   counted : l.output ≡ l.at;
   lines : (fs : List Frame) → Sends l.station fs →
-      l.text.items ++ frames_from l.form l.host l.own l.at (map emitted_of (drop l.at fs))
+      l.text.items ++ frames_from l.form l.host l.own l.at (drop l.at (map emitted_of fs))
       ≡ l.fn.text.items ++ frames_from l.form l.host l.own 0 (map emitted_of fs);
 }

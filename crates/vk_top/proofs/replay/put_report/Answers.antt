@@ -3,7 +3,7 @@ use Rattle.std.proofs.lemmas.Option.{slice_get_within}
 use Rattle.std.proofs.lemmas.Result.{on_ok_weaker}
 use Rattle.vk_cluster.proofs.Told.{station_told}
 use Rattle.vk_report.specs.declared.entry.Counts.{Counts}
-use Rattle.vk_report.specs.declared.entry.Place.{Place}
+use Rattle.vk_report.specs.declared.entry.EventPlace.{EventPlace}
 use Rattle.vk_report.specs.Histories.{told_lines}
 use Rattle.vk_top.specs.Playing.{told_entry}
 use Rattle.vk_top.proofs.Events.{last_advanced, missing_told, told_advanced}
@@ -35,8 +35,8 @@ returns-in-Event c =
     let before = c.args.counts.now in
     let steps = c.len.ensures.len ∙ ap length c.steps.ensures in
     let frames = c.from.ensures ∙ c.frame_count.ensures in
-    let own : Place = record { number = before.events + 1; host = c.host.result; own = c.events.result } in
-    let shown : Place = record {
+    let own : EventPlace = record { number = before.events + 1; host = c.host.result; own = c.events.result } in
+    let shown : EventPlace = record {
       number = before.events + 1;
       host = c.station-station.result.now.host;
       own = c.station-station.result.now.events;

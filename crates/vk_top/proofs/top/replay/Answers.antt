@@ -1,10 +1,8 @@
-use Rattle.vk_top.proofs.Told.{replay_limited, replay_wanted}
+use Rattle.std.proofs.lemmas.Result.{err_from_is_err_and}
+use Rattle.vk_top.proofs.Told.{replay_refused}
 use Rattle.vk_top.proofs.top.replay.Goals as goal
 
-pub returns-in-Err-NoMemory-clause-refused : goal.returns-in-Err-NoMemory-clause-refused
-returns-in-Err-NoMemory-clause-refused c =
-    replay_wanted c.args.form c.args.text.now c.in-Err-NoMemory.field-0 c.in-Err-NoMemory.field-0-is c.in-Err-NoMemory.ensures.refused
-
-pub returns-in-Err-Limit-clause-refused : goal.returns-in-Err-Limit-clause-refused
-returns-in-Err-Limit-clause-refused c =
-    replay_limited c.args.form c.args.text.now c.in-Err-Limit.field-0 c.in-Err-Limit.field-0-is c.in-Err-Limit.ensures.refused
+pub returns-in_err-written-clause-refused : goal.returns-in_err-written-clause-refused
+returns-in_err-written-clause-refused c =
+    let left = err_from_is_err_and c.from_residual.result c.from_residual.ensures.1 in
+    rw (left.1, left.2) (replay_refused c.args.form c.args.text.now _ c.in_err-written.ensures.refused)

@@ -1,4 +1,4 @@
-use Rattle.std.proofs.Common.{◌≡◌, inl, refl, subst}
+use Rattle.std.proofs.Common.{◌≡◌, inl, refl, subst, arith}
 use Rattle.vk_top.proofs.Threaded.{wanting_is}
 use Rattle.vk_top.specs.Nodes.{IsNodeAnswer}
 use Rattle.vk_top.proofs.whole.in_threads.Goals as goal
@@ -22,3 +22,6 @@ returns-in-Err-clause-run g c = λ is. wanting_is _ _ _ _ _ _ _ _ _ refl refl re
 
 pub returns-in-Err-clause-node : goal.returns-in-Err-clause-node
 returns-in-Err-clause-node g c = λ host is. wanting_is _ _ _ _ _ _ _ _ _ refl refl (refl, refl) (λ i. inl refl) refl
+
+pub returns-in-Err-clause-flushed : goal.returns-in-Err-clause-flushed
+returns-in-Err-clause-flushed g c = λ is. absurd (grind (arith, is))

@@ -1,10 +1,11 @@
 use Rattle.std.proofs.Common.{arith, ap, ◌∙◌, ◌+◌, ◌≡◌, [], suc, sym, subst, true, false, length}
+use Rattle.vk_threads.proofs.Ending.{process_here}
 use Rattle.vk_port.specs.Stations.{StationHistory, is_process_of}
 use Rattle.vk_program.specs.declared.assigned.Assigned.{Assigned}
 use Rattle.vk_rules.specs.Each.{Each}
 use Rattle.turn_cell.specs.Seats.{Cell}
 use Rattle.vk_udp.specs.Dealt.{IsNodePort, IsStocked}
-use Rattle.vk_udp.proofs.Dealing.{as_named, next_stock, process_host, program_job}
+use Rattle.vk_udp.proofs.Dealing.{as_named, next_stock, program_job}
 use Rattle.vk_udp.proofs.deal.add_programs.Goals as goal
 
 pub port-requires : goal.port-requires
@@ -36,7 +37,7 @@ new-requires-clause-host g c =
     let was = c.loop-assigned.invariant in
     let a = c.in-Some.assigned in
     let own = (subst (Each (λ (b : Assigned _). is_process_of self.cell.now.origin b.pid ≡ true)) c.in-Some.ensures.steps.0 was.processes).0 in
-    process_host self.cell.now.origin a.pid own ∙ c.requires.stock.1.at ∙ sym was.host ∙ sym c.in_ok-port.ensures.port.at
+    process_here self.cell.now.origin a.pid own ∙ c.requires.stock.1.at ∙ sym was.host ∙ sym c.in_ok-port.ensures.port.at
 
 pub new-requires-clause-fresh : goal.new-requires-clause-fresh
 new-requires-clause-fresh g c =

@@ -1,7 +1,7 @@
 use Rattle.std.proofs.Common.{◌≡◌, length, Some, sym, ap, ◌∙◌, arith}
 use Rattle.std.proofs.lemmas.Bool.{le-ltb}
 use Rattle.std.proofs.lemmas.Option.{same_Some}
-use Rattle.vk_base.specs.declared.kernel.Process.{Process}
+use Rattle.vk_types.specs.Types.{Process}
 use Rattle.vk_base.specs.Kernel.{held}
 use Rattle.vk_base.specs.Ranges.{range_of, lies_in}
 use Rattle.v_laws.proofs.Held.{holding_is}

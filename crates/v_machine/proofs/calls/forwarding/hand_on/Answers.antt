@@ -1,6 +1,6 @@
 use Rattle.std.proofs.Common.{◌≡◌, true, set, refl, sym, ap, ◌∙◌}
 use Rattle.std.proofs.lemmas.Option.{same_Some}
-use Rattle.vk_base.specs.declared.kernel.Exchange.{Exchange}
+use Rattle.vk_types.specs.Types.{Exchange}
 use Rattle.vk_base.specs.Calls.{forwarded}
 use Rattle.vk_base.specs.Kernel.{is_taken, put_exchange}
 use Rattle.v_machine.specs.Kept.{kernel_in, newest}
@@ -38,13 +38,13 @@ returns-clause-ok c = λ e is.
     let changed = on_ok c.hand_on.result _ (sym c.is_err.ensures.value ∙ c.if-is_err.false) c.hand_on.ensures.ok in
     let arrived = ap newest c.push_name.ensures ∙ newest_on name s.arrived.items in (
       kernel-exchange s.places s.procs.items s.sends.items s.asked.items s.names.items (newest c.push_name.new.names.items)
-          (handed_on c.args.message c.args.to) name.sender c.args.at name.number s0 c.hand_on.new.sends e here.place here.sends
+          (handed_on c.args.on.shown c.args.on.at) name.sender c.args.at name.number s0 c.hand_on.new.sends e here.place here.sends
           c.index_mut-2.ensures.value is changed
           ∙ ap (λ a. record (kernel_in s) {
-            exchanges = put_exchange (exchanges_by s.places s.sends.items) name (handed_on c.args.message c.args.to e);
+            exchanges = put_exchange (exchanges_by s.places s.sends.items) name (handed_on c.args.on.shown c.args.on.at e);
             arrived = a;
           }) arrived,
-      indexed_forwarded s c.args.at c.args.there name c.args.to e c.args.message c.requires.kept here c.requires.there is taken _ s0
+      indexed_forwarded s c.args.at c.args.there name c.args.on.at e c.args.on.shown c.requires.kept here c.requires.there is taken _ s0
           c.hand_on.new.sends q0 refl refl refl c.index_mut-2.ensures.value refl changed arrived
           (c.requires.way.absent q0 c.index_mut.ensures.value) c.index_mut.ensures.value
           (ap (set s.queues.items c.args.there) c.in_ok-push.ensures.ok) refl,

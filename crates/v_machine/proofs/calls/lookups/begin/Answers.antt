@@ -1,6 +1,6 @@
 use Rattle.std.proofs.Common.{◌≡◌, List, [], ◌∷◌, ◌++◌, refl, ap, ◌∙◌}
+use Rattle.vk_types.specs.Types.{Pid}
 use Rattle.vk_base.specs.declared.call.Call.TheVariants as calls
-use Rattle.vk_base.specs.declared.pid.Pid.{Pid}
 use Rattle.v_machine.specs.Kept.{arrived_in}
 use Rattle.v_machine.proofs.Asking.{kernel-asked}
 use Rattle.v_machine.proofs.calls.lookups.begin.Goals as goal

@@ -1,18 +1,17 @@
 use Rattle.std.proofs.Common.{refl, ap, subst, ◌∙◌, arith}
-use Rattle.vk_base.specs.declared.call.Call.TheVariants as calls
+use Rattle.vk_types.specs.Types.{Move}
 use Rattle.vk_base.specs.declared.kernel.Direction.TheVariants as directions
-use Rattle.vk_base.specs.declared.kernel.Move.{Move}
 use Rattle.vk_base.specs.Calls.{new_move}
-use Rattle.v_machine.specs.Moves.{Begins}
+use Rattle.v_machine.specs.Moves.{Begins, call_moving}
 use Rattle.v_machine.proofs.calls.moves.begin_from.Goals as goal
 
 pub returns : goal.returns
 returns c =
     let a = c.args.asked in
-    let move = c.new_move-begun.ensures ∙ ap (new_move c.args.pid directions.From a.dest a.src a.count) c.empty.ensures in (
+    let move = c.new_move-begun.ensures ∙ ap (new_move c.args.caller.pid directions.From a.dest a.src a.count) c.empty.ensures in (
       refl,
       omega arith,
-      subst (λ (m : Move). Begins m.mover (calls.MoveFrom a.partner a.dest a.src a.count) a.partner c.args.holding.number m c.args.store.now
+      subst (λ (m : Move). Begins m.mover (call_moving a.partner m) a.partner c.args.holding.number m c.args.store.now
           c.begin.new.store) move
           c.in_ok-begin.ensures.ok,
     )

@@ -1,6 +1,6 @@
 use Rattle.std.proofs.Common.{ℕ, ◌+◌, false, length, sym, subst, ◌∙◌}
 use Rattle.std.proofs.lemmas.Bool.{leb-true, le-leb}
-use Rattle.vk_base.specs.declared.pid.Pid.{Pid}
+use Rattle.vk_types.specs.Types.{Pid}
 use Rattle.vk_base.specs.Ranges.{range_of}
 use Rattle.v_laws.proofs.Held.{holding_is}
 use Rattle.v_machine.specs.declared.calls.access.Access.{Access}

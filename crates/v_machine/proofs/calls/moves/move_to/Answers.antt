@@ -1,5 +1,5 @@
 use Rattle.std.proofs.Common.{ℕ, true, sym, subst, ◌∙◌}
-use Rattle.vk_base.specs.declared.pid.Pid.{Pid}
+use Rattle.vk_types.specs.Types.{Pid}
 use Rattle.vk_base.specs.Ranges.{range_of}
 use Rattle.v_laws.proofs.Held.{holding_is}
 use Rattle.v_machine.specs.declared.calls.access.Access.{Access}

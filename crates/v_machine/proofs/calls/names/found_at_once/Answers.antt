@@ -1,9 +1,7 @@
 use Rattle.std.proofs.Common.{◌≡◌, ℕ, List, option_map, refl, sym, ap, ◌∙◌}
 use Rattle.std.specs.List.{find}
-use Rattle.vk_base.specs.declared.call.Scope.{Scope}
+use Rattle.vk_types.specs.Types.{Pid, Registration, Scope}
 use Rattle.vk_base.specs.declared.call.Scope.TheVariants as scopes
-use Rattle.vk_base.specs.declared.kernel.Registration.{Registration}
-use Rattle.vk_base.specs.declared.pid.Pid.{Pid}
 use Rattle.vk_base.specs.Calls.{found_at_once}
 use Rattle.vk_base.specs.Kernel.{Kernel, found_here}
 use Rattle.v_machine.specs.Kept.{kernel_in}

@@ -1,5 +1,5 @@
 use Rattle.std.proofs.Common.{◌≡◌, true, Option, is_some, refl, ap, ◌∙◌, lit≤}
-use Rattle.vk_base.specs.declared.answer.Refusal.{Refusal}
+use Rattle.vk_types.specs.Types.{Refusal}
 use Rattle.vk_base.specs.declared.call.Call.TheVariants as calls
 use Rattle.vk_base.specs.declared.kernel.Stage.TheVariants as stages
 use Rattle.vk_base.specs.Calls.{called}

@@ -1,7 +1,6 @@
 use Rattle.std.proofs.Common.{◌≡◌, ℕ, ◌+◌, true, min, List, [], length, sym, ap, subst, ◌∙◌, arith, IfOk}
 use Rattle.std.proofs.lemmas.Bool.{leb-true, le-leb, not-false, cond-true}
-use Rattle.vk_base.specs.declared.message.Grants.{Grants}
-use Rattle.vk_base.specs.declared.message.Range.{Range}
+use Rattle.vk_types.specs.Types.{Grants, Range}
 use Rattle.vk_base.specs.Calls.{first_part}
 use Rattle.vk_base.specs.Messages.{segment_of, grants_read}
 use Rattle.vk_base.specs.Ranges.{range_of, lies_in, bytes_in}

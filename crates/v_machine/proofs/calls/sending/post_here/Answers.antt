@@ -1,7 +1,7 @@
 use Rattle.std.proofs.Common.{◌≡◌, ◌+◌, ◌==◌, [], ◌∷◌, ◌++◌, List, length, set, Some, refl, sym, ap, ◌∙◌, arith, length-append, if◌then◌else◌}
 use Rattle.std.proofs.lemmas.Bool.{cond-true}
-use Rattle.std.proofs.lemmas.Option.{same_Some}
-use Rattle.vk_base.specs.declared.kernel.Exchange.{Exchange}
+use Rattle.std.proofs.lemmas.Option.{same_Some, slice_get-get_or}
+use Rattle.vk_types.specs.Types.{Exchange}
 use Rattle.vk_base.specs.Kernel.{name_of}
 use Rattle.vk_base.specs.Pids.{same_host}
 use Rattle.v_machine.specs.Latest.{latest_in}
@@ -10,7 +10,6 @@ use Rattle.v_machine.specs.Rules.{posted}
 use Rattle.v_machine.proofs.Indexes.{list_at_is}
 use Rattle.v_machine.proofs.KernelLemmas.{set_self, count_pushed, exchanges-pushed, kernel-pushed}
 use Rattle.v_machine.proofs.Newest.{newest_new}
-use Rattle.v_machine.proofs.PlaceLemmas.{get_of_or}
 use Rattle.v_machine.proofs.SendLemmas.{stays_alike, truncated, new, indexed_posted}
 use Rattle.v_machine.proofs.Stores.{on_ok, on_err}
 use Rattle.v_machine.proofs.calls.sending.post_here.Goals as goal
@@ -38,8 +37,8 @@ returns-clause-ok c = λ p there ready.
     let counted = count_pushed s.places s.procs.items s.sends.items s.asked.items pid at p c.args.sent s0 c.push-2.new.self here.place
     here.procs here.sends c.index_mut-2.ensures.value pushed there in
     let one : c.index.result.now ≡ s0 = same_Some c.index.result.now s0
-    (sym (get_of_or s.sends.items at c.index.result.now here.sends ∙ ap Some (sym c.index.ensures))
-    ∙ get_of_or s.sends.items at s0 here.sends ∙ ap Some (sym c.index_mut-2.ensures.value)) in
+    (sym (slice_get-get_or s.sends.items at c.index.result.now here.sends ∙ ap Some (sym c.index.ensures))
+    ∙ slice_get-get_or s.sends.items at s0 here.sends ∙ ap Some (sym c.index_mut-2.ensures.value)) in
     let number : c.next_number-number.result ≡ p.sends + 1 = c.next_number-number.ensures ∙ ap (λ (ss : List Exchange). length ss + 1) one
     ∙ sym counted in
     let unknown = new s pid at c.args.to p x c.requires.kept here c.requires.there c.requires.local c.requires.queued there ready in

@@ -1,9 +1,7 @@
 use Rattle.std.proofs.Common.{◌≡◌, ◌+◌, [], ◌∷◌, ◌++◌, length, set, not, is_some, Option, Some, false, refl, sym, ap, ◌∙◌, arith, lit≤, length-append}
 use Rattle.std.proofs.lemmas.Bool.{cond-false, and_left}
-use Rattle.vk_base.specs.declared.answer.Refusal.{Refusal}
+use Rattle.vk_types.specs.Types.{Exchange, Process, Refusal}
 use Rattle.vk_base.specs.declared.call.Call.TheVariants as calls
-use Rattle.vk_base.specs.declared.kernel.Exchange.{Exchange}
-use Rattle.vk_base.specs.declared.kernel.Process.{Process}
 use Rattle.vk_base.specs.declared.kernel.Stage.TheVariants as stages
 use Rattle.vk_base.specs.declared.kernel.State.TheVariants as states
 use Rattle.vk_base.specs.Calls.{called, unseen, sent_exchange}
@@ -21,12 +19,12 @@ pub returns-in_err-push : goal.returns-in_err-push
 returns-in_err-push c = λ fits p there ready.
     let s = c.args.store.now in
     let k = kernel_in s in
-    let pid = c.args.pid in
+    let pid = c.args.caller.pid in
     let call = calls.Send c.args.target c.args.message in
     let passes = send_tests k pid p c.args.target c.args.message (fits p there)
     (and_left (same_host pid c.args.target) (not (is_live (k.procs c.args.target))) c.requires.away) in
-    let sends = ap (set s.sends.items c.args.at) c.in_err-push.ensures.err
-    ∙ set_self s.sends.items c.args.at c.index_mut.result.now c.index_mut.ensures.value in
+    let sends = ap (set s.sends.items c.args.caller.at) c.in_err-push.ensures.err
+    ∙ set_self s.sends.items c.args.caller.at c.index_mut.result.now c.index_mut.ensures.value in
     rw (is_error c.from_residual-in_err-push.result _ c.from_residual-in_err-push.ensures.1) (
       ap (λ (o : Option Refusal). is_some (called k pid p call o)) passes,
       lit≤ tt,
@@ -37,8 +35,8 @@ pub returns : goal.returns
 returns c = λ fits p there ready.
     let s = c.args.store.now in
     let k = kernel_in s in
-    let pid = c.args.pid in
-    let at = c.args.at in
+    let pid = c.args.caller.pid in
+    let at = c.args.caller.at in
     let here = c.requires.here in
     let x = c.in_ok-sent.sent in
     let call = calls.Send c.args.target c.args.message in

@@ -9,7 +9,7 @@ send_with_room-requires-clause-kept c = kept_stays c.args.store.now c.make_room.
 
 pub send_with_room-requires-clause-here : goal.send_with_room-requires-clause-here
 send_with_room-requires-clause-here c =
-    at_stays c.args.store.now c.make_room.new.store c.args.pid c.args.at c.make_room.ensures.stays c.requires.here
+    at_stays c.args.store.now c.make_room.new.store c.args.caller.pid c.args.caller.at c.make_room.ensures.stays c.requires.here
 
 pub send_with_room-requires-clause-there : goal.send_with_room-requires-clause-there
 send_with_room-requires-clause-there c =
@@ -20,7 +20,7 @@ send_with_room-requires-clause-live c =
     ap (λ (k : Kernel). is_live (k.procs c.args.target)) (ap kernel_of (c.make_room.ensures.stays.tables 0)) ∙ sym c.in-Some.ensures.live
 
 pub returns : goal.returns
-returns c = λ fits. judges_on c.args.pid _ c.args.store.now c.make_room.new.store c.send_with_room.new.store c.send_with_room.result
+returns c = λ fits. judges_on c.args.caller.pid _ c.args.store.now c.make_room.new.store c.send_with_room.new.store c.send_with_room.result
     c.make_room.ensures.stays
     (c.send_with_room.ensures
-    (λ p there. fits p (ap (λ (k : Kernel). k.procs c.args.pid) (sym (ap kernel_of (c.make_room.ensures.stays.tables 0))) ∙ there)))
+    (λ p there. fits p (ap (λ (k : Kernel). k.procs c.args.caller.pid) (sym (ap kernel_of (c.make_room.ensures.stays.tables 0))) ∙ there)))

@@ -1,8 +1,7 @@
 use Rattle.std.proofs.Common.{◌≡◌, ◌+◌, ◌<◌, not, Option, Some, sym, ap, subst, ◌∙◌, lit≤}
 use Rattle.std.proofs.lemmas.Bool.{cond-true, and_right}
-use Rattle.vk_base.specs.declared.answer.Refusal.{Refusal}
+use Rattle.vk_types.specs.Types.{Process, Refusal}
 use Rattle.vk_base.specs.declared.call.Call.TheVariants as calls
-use Rattle.vk_base.specs.declared.kernel.Process.{Process}
 use Rattle.vk_base.specs.declared.kernel.Stage.TheVariants as stages
 use Rattle.vk_base.specs.declared.kernel.State.TheVariants as states
 use Rattle.vk_base.specs.Calls.{called, unseen, sent_exchange}
@@ -14,13 +13,13 @@ use Rattle.v_machine.proofs.SendLemmas.{sent_is, posted_there, send_tests}
 use Rattle.v_machine.proofs.calls.sending.send_with_room.Goals as goal
 
 pub put_activity-requires : goal.put_activity-requires
-put_activity-requires c = subst (λ n. c.args.at < n) (sym c.post_here.ensures.procs) c.requires.here.procs
+put_activity-requires c = subst (λ n. c.args.caller.at < n) (sym c.post_here.ensures.procs) c.requires.here.procs
 
 pub returns : goal.returns
 returns c = λ fits p there ready.
     let s = c.args.store.now in
     let k = kernel_in s in
-    let pid = c.args.pid in
+    let pid = c.args.caller.pid in
     let x = c.in_ok-sent.sent in
     let call = calls.Send c.args.target c.args.message in
     let grown : Process = record p { sends = p.sends + 1 } in

@@ -1,6 +1,7 @@
 use Rattle.std.proofs.Common.{◌≡◌, ◌≤◌, ◌==◌, length, set, option_map, is_some, Some, refl, sym, ap, subst, ◌∙◌, arith, lit≤, if◌then◌else◌}
+use Rattle.std.proofs.lemmas.Option.{slice_get-get_or}
+use Rattle.vk_types.specs.Types.{Pid}
 use Rattle.vk_base.specs.declared.kernel.Stage.TheVariants as stages
-use Rattle.vk_base.specs.declared.pid.Pid.{Pid}
 use Rattle.vk_base.specs.Calls.{unseen}
 use Rattle.vk_base.specs.Kernel.{is_live}
 use Rattle.vk_base.specs.Steps.{after_arrival, with_arrival}
@@ -14,7 +15,6 @@ use Rattle.v_machine.proofs.Arrive.{arrive_allowed, latest_is_before, arrive_oth
 use Rattle.v_machine.proofs.Indexes.{list_at_is}
 use Rattle.v_machine.proofs.KernelLemmas.{set_self, sent_there}
 use Rattle.v_machine.proofs.Newest.{newest_on, newest_new}
-use Rattle.v_machine.proofs.PlaceLemmas.{get_of_or}
 use Rattle.v_machine.proofs.SendLemmas.{stays_alike}
 use Rattle.v_machine.proofs.TableLemmas.{procs-even, count-set_even, numbered_low}
 use Rattle.v_machine.proofs.Stores.{is_error}
@@ -71,7 +71,7 @@ returns c =
     (λ n x was mine near. subst (λ l. IsLatest l n x) latest
     (arrive_latest s name c.args.at c.args.to e c.requires.kept here there is.is is.posted n x was mine near)) in
     let counts = count-set_even s.sends.items c.args.at s0 s'
-    (get_of_or s.sends.items c.args.at s0 here.sends ∙ ap Some (sym c.index_mut-2.ensures.value)) c.come.ensures.count in
+    (slice_get-get_or s.sends.items c.args.at s0 here.sends ∙ ap Some (sym c.index_mut-2.ensures.value)) c.come.ensures.count in
     let processes =
     procs-even s.places s.procs.items s.sends.items (set s.sends.items c.args.at s') s.asked.items s.asked.items counts (λ to. refl) in
     let sent : numbered s0 name.number ≡ Some e = sym

@@ -1,8 +1,8 @@
 use Rattle.std.proofs.Common.{◌≡◌, Some, refl, arith, length-set}
 use Rattle.std.proofs.lemmas.Grind.{common_steps}
+use Rattle.vk_types.specs.Types.{Process}
 use Rattle.vk_base.specs.declared.answer.Answer.TheVariants as answers
 use Rattle.vk_base.specs.declared.call.Call.TheVariants as calls
-use Rattle.vk_base.specs.declared.kernel.Process.{Process}
 use Rattle.vk_base.specs.declared.kernel.State.TheVariants as states
 use Rattle.vk_base.specs.Kernel.{name_of, sending}
 use Rattle.vk_base.specs.Ranges.{with_bytes}

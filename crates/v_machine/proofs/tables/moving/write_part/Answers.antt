@@ -1,7 +1,7 @@
 use Rattle.std.proofs.Common.{◌≡◌, ◌+◌, ◌≤◌, length, sym, ap, subst, ◌∙◌, arith}
 use Rattle.std.proofs.lemmas.Grind.{common_steps}
 use Rattle.std.proofs.lemmas.Option.{none-some}
-use Rattle.vk_base.specs.declared.kernel.Move.{Move}
+use Rattle.vk_types.specs.Types.{Move}
 use Rattle.vk_base.specs.Kernel.{move_of}
 use Rattle.vk_base.specs.Ranges.{with_bytes, bytes_in}
 use Rattle.v_machine.specs.Kept.{arrived_in}

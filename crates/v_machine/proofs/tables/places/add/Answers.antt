@@ -1,6 +1,6 @@
 use Rattle.std.proofs.Common.{◌≡◌, ◌<◌, ◌++◌, ◌∷◌, [], List, length, set, arith}
 use Rattle.std.proofs.lemmas.Result.{on_ok_weaker}
-use Rattle.vk_base.specs.declared.pid.Pid.{Pid}
+use Rattle.vk_types.specs.Types.{Pid}
 use Rattle.v_machine.specs.Places.{AreGrouped}
 use Rattle.v_machine.proofs.Grouping.{grouped_put}
 use Rattle.v_machine.proofs.tables.places.add.Goals as goal

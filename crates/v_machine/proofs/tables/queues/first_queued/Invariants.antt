@@ -1,6 +1,6 @@
 use Rattle.std.proofs.Common.{◌≡◌, true, length, filter}
 use Rattle.std.specs.List.{list_any}
-use Rattle.vk_base.specs.declared.kernel.Name.{Name}
+use Rattle.vk_types.specs.Types.{Name}
 use Rattle.vk_base.specs.Kernel.{same_name}
 use Rattle.v_machine.specs.Kept.{queued_at}
 use Rattle.v_machine.specs.Tables.{exchanges_by}

@@ -1,6 +1,6 @@
 use Rattle.std.proofs.Common.{◌≡◌, List, filter, refl, subst, ◌∙◌, ap}
+use Rattle.vk_types.specs.Types.{Exchange}
 use Rattle.vk_base.specs.Steps.{first_of}
-use Rattle.vk_base.specs.declared.kernel.Exchange.{Exchange}
 use Rattle.v_machine.specs.Kept.{queued_at}
 use Rattle.v_machine.specs.Tables.{exchanges_by}
 use Rattle.v_machine.proofs.Indexes.{indexed_cleaned, queue_first}

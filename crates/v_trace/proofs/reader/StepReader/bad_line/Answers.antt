@@ -1,5 +1,5 @@
 use Rattle.std.proofs.Common.{◌+◌, List, length, Some, sym, ap, ◌∙◌}
-use Rattle.vk_base.specs.declared.config.ProcessSpec.{ProcessSpec}
+use Rattle.vk_types.specs.Types.{ProcessSpec}
 use Rattle.v_trace.specs.Remaining.{Remaining}
 use Rattle.v_trace.proofs.RemainingSteps.{nothing_left, bad_next}
 use Rattle.v_trace.proofs.reader.StepReader.bad_line.Goals as goal

@@ -11,11 +11,12 @@ invariant_of-self c =
     let full : List (List ℕ) = map bytes_of c.self.inside.full.items in
     let last : List ℕ = c.self.inside.last.items in
     let f : List ℕ = c.args.frame.now in
-    let place : Place = record { from = c.len.result; count = length f; block = c.len-2.result } in
+    let place : Place = record { from = c.len.result; count = length f; block = c.len-2.result; to = c.args.to } in
     let is : IsNewPlace full last f place = record {
       from = omega (arith, c.self.inside.last.ok.0);
       count = λ k. length f;
       block = omega (arith, c.self.inside.full.ok.0, length-map c.self.inside.full.items bytes_of);
+      to = c.requires.to;
     } in
     let kept = c.self.invariant.0 in
     let all : c.self.inside.size ≡ sum_by length c.args.self.now.items =
@@ -41,11 +42,12 @@ returns-clause-items c =
     let full : List (List ℕ) = map bytes_of c.self.inside.full.items in
     let last : List ℕ = c.self.inside.last.items in
     let f : List ℕ = c.args.frame.now in
-    let place : Place = record { from = c.len.result; count = length f; block = c.len-2.result } in
+    let place : Place = record { from = c.len.result; count = length f; block = c.len-2.result; to = c.args.to } in
     let is : IsNewPlace full last f place = record {
       from = omega (arith, c.self.inside.last.ok.0);
       count = λ k. length f;
       block = omega (arith, c.self.inside.full.ok.0, length-map c.self.inside.full.items bytes_of);
+      to = c.requires.to;
     } in
     ap (λ l. map (frame_in full l) c.push_reserved.new.self.items) c.push_bytes.ensures.items
     ∙ ap (map (frame_in full (last ++ f))) c.push_reserved.ensures.items

@@ -1,20 +1,22 @@
-use Rattle.std.proofs.Common.{refl}
+use Rattle.std.proofs.Common.{◌≡◌, true, refl, sym, subst, ◌∙◌, ap}
 use Rattle.vk_cluster.specs.Standing.{logs_of}
-use Rattle.vk_rules.specs.Histories.{happened}
-use Rattle.vk_drive.specs.Driving.{history_so_far}
+use Rattle.vk_rules.specs.Histories.{happened, history_of}
+use Rattle.vk_schedule.specs.Lawful.{has_actors}
+use Rattle.vk_drive.specs.Driving.{is_quiet}
 use Rattle.vk_drive.specs.Storms.{chosen}
-use Rattle.vk_drive.specs.Tasks.{settings, task_at}
+use Rattle.vk_drive.specs.Tasks.{settings, specs, task_at}
 use Rattle.vk_drive.proofs.Chosen.{quiet_tells}
 use Rattle.vk_drive.proofs.Places.{quiet_at}
 use Rattle.vk_drive.proofs.Playing.{played}
 use Rattle.vk_drive.proofs.driver.Driver.happen.Goals as goal
 
 pub returns-clause-played : goal.returns-clause-played
-returns-clause-played c =
+returns-clause-played c es is =
     let old = c.args.self.now in
-    let logs = logs_of settings old.course.events in
-    let happens = c.in_ok-_advance.ensures in
-    played old _ (chosen old.generator c.args.event) c.args.event c.requires.driver refl happens.course refl refl happens.events
-    (quiet_at old.actors.items (history_so_far old) c.requires.driver.actors (happened settings logs c.args.event)
-    (λ q. quiet_tells settings logs c.args.event (task_at q).pid c.requires.quiet))
-    happens.fits
+    let e = c.view.result in
+    let logs = logs_of settings es in
+    let quiet : is_quiet e ≡ true = ap is_quiet c.view.ensures ∙ c.requires.quiet in
+    played es old _ (chosen old.generator old.next) e c.in_ok-_advance._advance is refl (c.in_ok-_advance.ensures.happened es is.course) refl
+    (sym c.view.ensures) c.view.ensures
+    (quiet_at old.actors.items (history_of settings es) is.actors (happened settings logs e)
+    (λ q. quiet_tells settings logs e (task_at q).pid quiet))

@@ -2,7 +2,7 @@ use Rattle.std.proofs.Common.{subst, ◌∙◌}
 use Rattle.vk_files.proofs.Directories.{few_entries}
 use Rattle.vk_files.proofs.Stepping.{serving_fine, step_made, still_serving}
 use Rattle.vk_files.specs.Disks.{block_at}
-use Rattle.vk_files.specs.Tasks.{FileState, IsStep}
+use Rattle.vk_files.specs.Tasks.{FileState, IsServerStep}
 use Rattle.vk_files.proofs.server.FileServer.answer.Goals as goal
 
 pub turn-turn-requires-clause-files : goal.turn-turn-requires-clause-files
@@ -33,7 +33,7 @@ returns g c =
       stage = c.act-self-inside.result;
       reading = c.act-self-inside.new.reading;
     } in
-    subst (λ (s : FileState). IsStep c.args.answer.now s new) c.self.view_is
+    subst (λ (s : FileState). IsServerStep c.args.answer.now s new) c.self.view_is
     (step_made first c.self.inside.files c.as_slice.result.now c.self.inside.requests c.self.inside.replies
     c.replies_after-self-inside.result c.self.inside.stage c.act-self-inside.result c.self.inside.reading c.act-self-inside.new.reading
     c.args.answer.now c.turn-turn.result c.self.invariant c.as_slice.ensures c.turn-turn.ensures c.replies_after-self-inside.ensures

@@ -1,5 +1,5 @@
 use Rattle.std.proofs.Common.{Bor, Option, option_copied, ap, refl}
-use Rattle.vk_base.specs.declared.answer.Answer.{Answer}
+use Rattle.vk_types.specs.Types.{Answer}
 use Rattle.vk_program.specs.Tasks.{told_by}
 use Rattle.vk_group.proofs.Following.{after_last}
 use Rattle.vk_group.proofs.coordinator.Coordinator.hear.Goals as goal

@@ -1,5 +1,5 @@
 use Rattle.std.proofs.Common.{Bor, Option, option_copied, ap}
-use Rattle.vk_base.specs.declared.answer.Answer.{Answer}
+use Rattle.vk_types.specs.Types.{Answer}
 use Rattle.vk_program.specs.Tasks.{told_by}
 use Rattle.vk_group.proofs.Following.{helper_after}
 use Rattle.vk_group.proofs.helper.Helper.hear.Goals as goal

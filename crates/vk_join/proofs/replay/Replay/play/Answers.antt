@@ -83,7 +83,7 @@ returns-clause-played c =
     let again = put_there p s t c.index-2.result.now here c.index-2.ensures in
     let pile = pile_of c.keep_frames.new.emitted in
     played_next p s t c.event-answer.result
-    (record { hosts = with_item r.hosts c.args.position.place t; emitted = c.keep_frames.new.emitted; keys = c.push_key.new.keys })
+    (record { alloc = r.alloc; hosts = with_item r.hosts c.args.position.place t; emitted = c.keep_frames.new.emitted; keys = c.push_key.new.keys })
     c.number-number.result here c.event-answer.ensures.event
     (subst (λ (w : StationValue). IsAdded (pile_of r.emitted) pile c.args.position.place w.frames) same c.in_ok-keep_frames.ensures.added)
     refl (c.number-number.ensures ∙ ap (λ (w : StationValue). w.number) again) c.in_ok-push_key.ensures

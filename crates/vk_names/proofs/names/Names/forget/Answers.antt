@@ -1,6 +1,6 @@
 use Rattle.std.proofs.Common.{not, sym, subst, arith}
 use Rattle.std.specs.List.{IsDistinct}
-use Rattle.vk_base.specs.declared.kernel.Registration.{Registration}
+use Rattle.vk_types.specs.Types.{Registration}
 use Rattle.vk_base.specs.Pids.{same_pid}
 use Rattle.vk_names.specs.Kept.{same_id}
 use Rattle.vk_names.proofs.Entries.{kept_apart}

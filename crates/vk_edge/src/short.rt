@@ -4,6 +4,7 @@ ghost use Rattle.std.specs.Prelude.{◌≡◌, ◌≤◌, ◌+◌, ◌++◌, len
 
 use arrayvec::ArrayVec;
 use itoa::Buffer;
+use std::{fmt, str};
 
 /// The most bytes of such a text.
 const MOST: usize = 96;
@@ -50,7 +51,7 @@ pub fn numbered_text(before: &[u8], number: u64, behind: &[u8]) -> ArrayVec<u8, 
 }
 
 /// A text with two numbers, each of at most 20 digits and behind a text. The bytes of these are at most 56.
-pub(crate) fn twice_numbered_text(
+pub fn twice_numbered_text(
     before: &[u8],
     number: u64,
     between: &[u8],
@@ -64,4 +65,12 @@ pub(crate) fn twice_numbered_text(
     put(&mut text, between);
     put_number(&mut text, other);
     text
+}
+
+/// Writes the text where a value is shown.
+pub fn put_short<W: fmt::Write>(text: &[u8], to: &mut fmt::Formatter<W>) -> fmt::Result {
+    match str::from_utf8(text) {
+        Ok(text) => to.write_str(text),
+        Err(_) => Err(fmt::Error),
+    }
 }

@@ -1,7 +1,0 @@
-use Rattle.vk_drive.proofs.Places.{next_at}
-use Rattle.vk_drive.proofs.actors.next_event.Goals as goal
-
-pub returns : goal.returns
-returns c hs are =
-    next_at c.args.actors.now.items hs are c.args.place c.index_mut.result.now c.next_event.new.self c.requires c.index_mut.ensures.value
-    c.next_event.result c.next_event.ensures
