@@ -12,9 +12,11 @@ use Rattle.v_laws.proofs.Sizes.{fit_put}
 use Rattle.v_laws.proofs.SoundChanges.{goes_exchange, one_exchange_changes}
 use Rattle.v_machine.specs.Lists.{change_at, change_numbered}
 use Rattle.v_machine.specs.Moves.{with_exchange}
+use Rattle.v_machine.specs.Places.{numbered}
 use Rattle.v_machine.specs.Sends.{emptied_between, given_back}
 use Rattle.v_machine.specs.Lean.{IsAlike}
-use Rattle.v_machine.specs.Spent.{emptied, all_emptied, lean}
+use Rattle.v_machine.specs.Spent.{emptied, all_emptied, is_spent, lean}
+use Rattle.v_machine.proofs.Changes.{change_numbered-set, set_numbered-same}
 use Rattle.v_machine.proofs.LeanExchanges.{length-given}
 use Rattle.v_machine.proofs.Spent.{absorbed}
 use Rattle.v_machine.proofs.SpentKernels.{alike_put}
@@ -130,3 +132,20 @@ module _ (k : Kernel) (name : Name) (e : Exchange) (from to : ℕ) (at : k.excha
 
   pub alike_given_back : IsAlike k (with_exchange k name (given_back from to e))
   alike_given_back = alike_put k name e (given_back from to e) at (sym (lean_given_back from to e))
+
+-- A move that is not spent stays as it is.
+pub unspent_stays : (opened done number : ℕ) (ms : List Move) (m : Move) → Some m ≡ numbered ms number → is_spent opened done number m ≡ false
+    → change_numbered number (emptied opened done number) ms ≡ ms
+unspent_stays opened done number ms m is unspent =
+    sym (change_numbered-set (emptied opened done number) number ms m m is same) ∙ set_numbered-same number ms m m is refl
+  where
+    same : m ≡ emptied opened done number m
+    same = λ i. record m { bytes = cond (sym unspent i) [] m.bytes }
+
+-- and alone leaves all as they are
+pub alone_stays : (opened done from to : ℕ) (ms : List Move) → from ≡ to → change_numbered to (emptied opened done to) ms ≡ ms
+    → ms ≡ emptied_between opened done from (to + 1) 1 ms
+alone_stays opened done from to ms alone stays =
+    sym stays
+    ∙ ap (change_numbered to (emptied opened done to)) (between_start opened done from ms ∙ ap (λ n. emptied_between opened done from n 1 ms) alone)
+    ∙ between_more opened done from to ms (omega (arith, alone))

@@ -1,5 +1,6 @@
 -- The law of closed histories of a node.
 use Rattle.std.specs.Prelude.{ℕ, ◌≡◌, ◌≢◌, ◌<◌, Bool, true, false, List, map}
+use Rattle.vk_base.specs.declared.limits.TheConstants.{EVERY_STATION}
 use Rattle.vk_types.specs.Types.{ProcessSpec, StationEvent}
 use Rattle.vk_base.specs.Pids.{IsPid}
 use Rattle.vk_base.specs.Settings.{AreLawful, Settings}
@@ -23,7 +24,7 @@ abbrev pub IsForOthers : ℕ → Frame → Type 0
 IsForOthers host f = destination_of f.packet ≢ host
 
 abbrev pub FramesGoToOthers : Type 0
-FramesGoToOthers = (c : Settings) (host : ℕ) (is : List Input) → host < 65535 → AreOwnInputs host is
+FramesGoToOthers = (c : Settings) (host : ℕ) (is : List Input) → host < EVERY_STATION → AreOwnInputs host is
     → Each (λ (e : Entry). Each (IsForOthers host) e.frames) (entries_of c host is)
 
 -- What code can hold: the configuration's pids have their ranges, and so has each field of an event.

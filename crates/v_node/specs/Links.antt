@@ -1,6 +1,7 @@
 -- What the link of a node does: by its port it delivers the datagrams that come, and by one more seat of the hub, its carrier, it fetches
 -- frames for all stations: for its own there are none, but it hears so that the hub has ended.
 use Rattle.std.specs.Prelude.{ℕ, ◌≡◌, ◌≢◌, ◌+◌, ◌==◌, ◌&&◌, ◌||◌, not, Bool, List, [], ◌∷◌, ◌++◌, flat_map}
+use Rattle.vk_base.specs.declared.limits.TheConstants.{LAST_NUMBER}
 use mathlib.Core.List.{IsPrefix}
 use Rattle.vk_types.specs.Types.{StationEvent}
 use Rattle.turn_cell.specs.History.{events_of}
@@ -13,7 +14,6 @@ use Rattle.vk_hub.specs.declared.event.HubEvent.{HubEvent}
 use Rattle.vk_hub.specs.declared.event.HubEvent.TheVariants as hub_events
 use Rattle.vk_hub.specs.Hubs.{HubLog, fetched_from, traffic_of}
 use Rattle.vk_hub.specs.Links.{Frame, header_of}
-use Rattle.vk_port.specs.declared.station.TheConstants.{LAST_NUMBER}
 use Rattle.vk_port.specs.Ports.{Action, Enters, Delivers, Drops, Hears}
 use Rattle.vk_rules.specs.Frames.{every_station}
 

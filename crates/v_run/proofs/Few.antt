@@ -1,5 +1,6 @@
 -- No Lamport number of a schedule's entries is above the count of its events.
 use Rattle.std.proofs.Common.{◌≡◌, ◌≢◌, ℕ, suc, ◌+◌, ◌-◌, ◌^◌, ◌<◌, ◌≤◌, ◌==◌, eqb-true, eq-eqb, Bool, true, false, Option, Some, None, List, [], ◌∷◌, find, length, cond, refl, sym, ap, ◌∙◌, subst, arith, ◌⊎◌, inl, inr}
+use Rattle.vk_base.specs.declared.limits.TheConstants.{LAST_NUMBER}
 use Rattle.std.proofs.lemmas.Bool.{cases_Bool}
 use Rattle.vk_base.specs.Settings.{Settings}
 use Rattle.vk_cluster.proofs.Logs.{with_other}
@@ -7,7 +8,6 @@ use Rattle.vk_cluster.specs.Standing.{logs_of}
 use Rattle.vk_schedule.specs.declared.event.Event.{Event}
 use Rattle.vk_schedule.specs.declared.event.Event.TheVariants as scheduled
 use Rattle.vk_join.proofs.Numbers.{NoneAbove, few_later, few_next, number_came}
-use Rattle.vk_port.specs.declared.station.TheConstants.{LAST_NUMBER}
 use Rattle.vk_rules.specs.Each.{Each}
 use Rattle.vk_rules.specs.Entries.{Called, Collected, Delivered, Entry, Input, Ticked}
 use Rattle.vk_rules.specs.Frames.{Frame, Framed}

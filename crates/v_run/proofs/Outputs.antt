@@ -3,6 +3,7 @@ use Rattle.std.proofs.Common.{◌≡◌, ℕ, zero, suc, ◌+◌, ◌-◌, ◌*�
 use Rattle.std.specs.Cmp.Lexicographic.{pointwise}
 use Rattle.std.specs.Option.{option_map}
 use Rattle.std.specs.Prelude.{slice_get}
+use Rattle.vk_base.specs.declared.limits.TheConstants.{LAST_NUMBER}
 use Rattle.std.proofs.lemmas.Bool.{and_parts, or_parts}
 use Rattle.std.proofs.lemmas.Bool.Decides.{Decides-eqb}
 use Rattle.std.proofs.lemmas.Slice.Eq.{slice_eq-Decides}
@@ -28,7 +29,6 @@ use Rattle.vk_join.specs.Logs.{events_at}
 use Rattle.vk_join.specs.Logs as joined
 use Rattle.vk_join.specs.Stray.{join_refusal}
 use Rattle.vk_packet.specs.Reading.{packet_of}
-use Rattle.vk_port.specs.declared.station.TheConstants.{LAST_NUMBER}
 use Rattle.vk_port.specs.Stations.{brings_last_number, entries_at, event_of, frames_at, is_used_up}
 use Rattle.vk_rules.proofs.Lists.{each_append, each_at, each_with}
 use Rattle.vk_rules.specs.Each.{Each}

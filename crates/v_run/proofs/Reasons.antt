@@ -8,7 +8,7 @@ use Rattle.std.proofs.lemmas.Bool.{or_cases, or_left, or_right}
 use Rattle.vk_types.specs.Types.{StationEvent}
 use Rattle.vk_base.specs.declared.event.StationEvent.TheVariants as events
 use Rattle.vk_base.specs.Settings.{Settings, has_station, stations_of}
-use Rattle.vk_base.specs.declared.limits.TheConstants.{EVENTS}
+use Rattle.vk_base.specs.declared.limits.TheConstants.{EVENTS, LAST_NUMBER}
 use Rattle.vk_frame.specs.declared.header.Header.{Header}
 use Rattle.vk_frame.specs.Reading.{frame_of}
 use Rattle.vk_packet.specs.Reading.{packet_of}
@@ -22,7 +22,7 @@ use Rattle.vk_hub.proofs.Counts.{counted}
 use Rattle.vk_host.specs.Sealed.{sealed}
 use Rattle.vk_port.specs.Ports.{Action, Enters, Delivers, Drops, Hears, Berth, IsLog, Stand, entered_at, fetched_at}
 use Rattle.vk_port.specs.Stations.{StationHistory, brings_last_number, bytes_of, emitted_bytes, entries_at, entry_at, frames_at, is_used_up, is_used_up_by}
-use Rattle.vk_port.specs.declared.station.TheConstants.{EMITTED_BYTES, EVENT_BYTES, LAST_NUMBER}
+use Rattle.vk_port.specs.declared.station.TheConstants.{EMITTED_BYTES, EVENT_BYTES}
 use Rattle.vk_port.proofs.Histories.{entries_more}
 use Rattle.vk_rules.specs.Each.{Each}
 use Rattle.vk_rules.specs.Entries.{Entry}

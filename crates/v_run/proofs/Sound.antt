@@ -1,9 +1,9 @@
 -- What is true of the entries of all stations in every schedule.
 use Rattle.std.specs.Prelude.{ℕ, ◌≡◌, ◌<◌, true, Some, List}
+use Rattle.vk_base.specs.declared.limits.TheConstants.{LAST_NUMBER}
 use Rattle.vk_base.specs.Settings.{Settings, has_station}
 use Rattle.vk_host.specs.Sealed.{sealed}
 use Rattle.vk_hub.specs.Links.{header_of}
-use Rattle.vk_port.specs.declared.station.TheConstants.{LAST_NUMBER}
 use Rattle.vk_rules.specs.Each.{Each}
 use Rattle.vk_rules.specs.Entries.{Entry}
 use Rattle.vk_rules.specs.Frames.{Frame}

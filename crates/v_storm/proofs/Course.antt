@@ -11,7 +11,7 @@ use Rattle.vk_base.specs.Pids.{same_pid}
 use Rattle.vk_base.proofs.PidLemmas.{same_pid_self}
 use Rattle.vk_cluster.specs.Standing.{logs_of}
 use Rattle.vk_cluster.proofs.Logs.{logs_next, with_other}
-use Rattle.vk_drive.specs.Driving.{is_quiet}
+use Rattle.vk_drive.specs.Driving.{is_of_no_process}
 use Rattle.vk_drive.specs.Storms.{Choice, Storm, before_last, call_event, choice, chosen, delivery_choice, delivery_event, delivery_of, process_choice, process_event, tick_choice}
 unfoldable use Rattle.vk_drive.specs.Storms.{storm_after}
 use Rattle.vk_drive.specs.Tasks.{settings, specs, task_at}
@@ -147,7 +147,7 @@ unfolding IsSeen
 came_or_not most logs place to None are sent o d = d
 came_or_not most logs place to (Some f) are sent o d = let s = sent f refl in came most logs place to (length (logs to) + 1) f are s.0 s.1 o d
 
-quiet_seen : (most : ℕ) (logs : Logs) (place : ℕ) (e : Event) → AreLogs most logs → is_quiet e ≡ true →
+quiet_seen : (most : ℕ) (logs : Logs) (place : ℕ) (e : Event) → AreLogs most logs → is_of_no_process e ≡ true →
     IsSeen logs place (happened settings logs e)
 unfolding happened
 quiet_seen most logs place (events.Call pid call) are quiet = absurd (both_ways false refl quiet)
@@ -193,11 +193,11 @@ more es e so few fit =
     }
 
 -- An event of no process.
-plain_quiet : (e : Event) → is_quiet e ≡ true → IsPlainEvent e
+plain_quiet : (e : Event) → is_of_no_process e ≡ true → IsPlainEvent e
 plain_quiet (events.Call pid call) quiet = absurd (both_ways false refl quiet)
 plain_quiet e quiet = tt
 
-quiet_fit : (es : List Event) (e : Event) → IsLawfulSoFar es → IsReadableEvent e → has_actors specs e ≡ true → is_quiet e ≡ true → IsFit es e
+quiet_fit : (es : List Event) (e : Event) → IsLawfulSoFar es → IsReadableEvent e → has_actors specs e ≡ true → is_of_no_process e ≡ true → IsFit es e
 unfolding IsSeen
 quiet_fit es e so readable acts quiet = record {
   readable = readable;

@@ -7,7 +7,7 @@ use Rattle.vk_types.specs.Types.{Pid}
 use Rattle.vk_base.specs.Packets.{Packet, Send, Reply, Pending, Negative}
 unfoldable use Rattle.vk_base.specs.Settings.{fault_of}
 use Rattle.vk_base.specs.Settings.{AreLawful, has_station}
-use Rattle.vk_cluster.specs.Standing.{logs_of, report_of}
+use Rattle.vk_cluster.specs.Standing.{logs_of, step_report}
 use Rattle.vk_cluster.proofs.Logs.{logs_next}
 use Rattle.vk_drive.specs.Tasks.{settings, specs}
 use Rattle.vk_drive.specs.Told.{emitted_in, headers}
@@ -190,7 +190,8 @@ newest_headers es host e log readable few acts station is plain =
     (each_front (λ (f : Frame). IsPlainPacket f.packet) e.frames (emitted log) plain.frames) acts
 
 -- who acts is a station of the storm
-station_acts : (logs : Logs) (e : Event) → has_actors specs e ≡ true → has_station specs (report_of (happened settings logs e)).host ≡ true
+station_acts : (logs : Logs) (e : Event) → has_actors specs e ≡ true →
+    has_station specs (step_report (happened settings logs e)).host ≡ true
 unfolding happened
 station_acts logs (events.Call pid call) t = our_station pid t
 station_acts logs (events.Collect pid) t = our_station pid t
@@ -200,23 +201,23 @@ station_acts logs (events.Deliver to from event output) t = by (handed_over logs
     to_acts : has_station specs to ≡ true
     to_acts = (and_parts (has_station specs to) (has_station specs from) t).0
 
-    by : (o : Option Frame) → has_station specs (report_of (delivered settings logs to o)).host ≡ true
+    by : (o : Option Frame) → has_station specs (step_report (delivered settings logs to o)).host ≡ true
     by None = to_acts
     by (Some f) = to_acts
 
-station_is : (logs : Logs) (e : Event) → IsReadableEvent e → IsStation (report_of (happened settings logs e)).host
+station_is : (logs : Logs) (e : Event) → IsReadableEvent e → IsStation (step_report (happened settings logs e)).host
 unfolding happened
 station_is logs (events.Call pid call) is = (pid.some_host, pid.one_host)
 station_is logs (events.Collect pid) is = (pid.some_host, pid.one_host)
 station_is logs (events.Tick host) is = is
 station_is logs (events.Deliver to from event output) is = by (handed_over logs to from event output)
   where
-    by : (o : Option Frame) → IsStation (report_of (delivered settings logs to o)).host
+    by : (o : Option Frame) → IsStation (step_report (delivered settings logs to o)).host
     by None = is.0
     by (Some f) = is.0
 
 headers_by : (es : List Event) (logs : Logs) (h : Happened) → Each IsReadableEvent es → length es ≤ 100000 →
-    has_station specs (report_of h).host ≡ true → IsStation (report_of h).host → logs_of settings es ≡ logs_after logs h →
+    has_station specs (step_report h).host ≡ true → IsStation (step_report h).host → logs_of settings es ≡ logs_after logs h →
     AreLogs (length es) (logs_of settings es) → Each IsGoodHeader (emitted_in h)
 headers_by es logs (Missing host) readable few acts station is are = tt
 headers_by es logs (At host event e) readable few acts station is are =

@@ -4,7 +4,7 @@ use Rattle.std.proofs.lemmas.Bool.{and_parts, cases_Bool, leb-true, leb-false}
 use Rattle.std.proofs.lemmas.List.{take_all}
 use Rattle.std.specs.List.{AllByRecursion}
 use Rattle.vk_base.specs.Settings.{has_station}
-use Rattle.vk_drive.specs.Storms.{call_event, schedule_of}
+use Rattle.vk_drive.specs.Storms.{call_event, storm_schedule_of}
 unfoldable use Rattle.vk_drive.specs.Storms.{storm_after}
 use Rattle.vk_drive.specs.Tasks.{settings, specs, task_at}
 use Rattle.vk_drive.specs.Told.{is_waiting}
@@ -46,7 +46,7 @@ fronts_are_lawful n count few = elim (cases_Bool (nat_le count n)) [
   | inr f ↦
       let high = leb-false count n f in
       subst (λ es. IsLawful (record { config = settings; events = es }))
-      (sym (take_all count (schedule_of n).events (omega (arith, high, storm_count n n)))) (lawful_front n n few)
+      (sym (take_all count (storm_schedule_of n).events (omega (arith, high, storm_count n n)))) (lawful_front n n few)
 ]
 
 pub programs_go_on : ProgramsGoOn

@@ -3,7 +3,7 @@ use Rattle.std.specs.Prelude.{◌≡◌, ℕ, ◌<◌, ◌≤◌, true, List, ta
 use Rattle.vk_types.specs.Types.{Call, EventAnswer}
 use Rattle.vk_base.specs.declared.limits.TheConstants.{EVENTS}
 use Rattle.vk_base.specs.Settings.{has_station}
-use Rattle.vk_drive.specs.Storms.{delivery_of, process_event, schedule_of, storm_after}
+use Rattle.vk_drive.specs.Storms.{delivery_of, process_event, storm_after, storm_schedule_of}
 use Rattle.vk_drive.specs.Tasks.{settings, specs, task_at}
 use Rattle.vk_drive.specs.Told.{all_emitted, answered_to, is_waiting, told}
 use Rattle.vk_event.specs.declared.task.Task.{Task}
@@ -16,11 +16,11 @@ use Rattle.vk_schedule.specs.Lawful.{IsLawful}
 
 -- the schedule of each storm is lawful
 abbrev pub StormsAreLawful : Type 0
-StormsAreLawful = (n : ℕ) → n ≤ EVENTS → IsLawful (schedule_of n)
+StormsAreLawful = (n : ℕ) → n ≤ EVENTS → IsLawful (storm_schedule_of n)
 
 -- and so are its first events, however many: also those up to one before which the frames hold too many bytes
 abbrev pub FrontsAreLawful : Type 0
-FrontsAreLawful = (n count : ℕ) → n ≤ EVENTS → IsLawful (record { config = settings; events = take count (schedule_of n).events })
+FrontsAreLawful = (n count : ℕ) → n ≤ EVENTS → IsLawful (record { config = settings; events = take count (storm_schedule_of n).events })
 
 -- the process has a next call, and makes it unless its last one is to be collected
 pub record GoesOn (t : Task) (heard : List EventAnswer) : Type 0 where

@@ -1,5 +1,6 @@
 -- Steps as words.
-use Rattle.std.specs.Prelude.{ℕ, ◌-◌, ◌^◌, List, [], ◌∷◌, codes, bytes_eq, Option, Some, None, if◌then◌else◌}
+use Rattle.std.specs.Prelude.{ℕ, List, [], ◌∷◌, codes, bytes_eq, Option, Some, None, if◌then◌else◌}
+use Rattle.vk_base.specs.declared.limits.TheConstants.{LAST_NUMBER}
 use Rattle.vk_types.specs.Types.{Ending, Pid, Step}
 use Rattle.vk_base.specs.Options.{◌>>=◌}
 use Rattle.vk_base.specs.declared.answer.Ending.TheVariants as endings
@@ -9,7 +10,7 @@ use Rattle.vk_text.specs.Words.{positive_of, count_of, pid_of}
 
 -- the number of a Send, a move or a lookup: 1 to 2^63 - 1
 abbrev pub ordinal_of : List ℕ → Option ℕ
-ordinal_of word = positive_of (2 ^ 63 - 1) word
+ordinal_of word = positive_of LAST_NUMBER word
 
 -- how a Send fails
 abbrev pub failure_of : List ℕ → Option Ending

@@ -1,10 +1,12 @@
 -- The texts of steps and of answers.
-use Rattle.std.specs.Prelude.{ℕ, List, [], ◌∷◌, decimal, codes}
+use Rattle.std.specs.Prelude.{Bool, ℕ, List, [], ◌∷◌, true, false, decimal, codes}
 use Rattle.vk_types.specs.Types.{Answer, Ending, Refusal, Step}
 use Rattle.vk_base.specs.declared.answer.Answer.TheVariants as answers
 use Rattle.vk_base.specs.declared.answer.Ending.TheVariants as endings
 use Rattle.vk_base.specs.declared.answer.Refusal.TheVariants as refusals
 use Rattle.vk_base.specs.declared.step.Step.TheVariants as steps
+use Rattle.vk_brief.specs.declared.step.BriefStep.{BriefStep}
+use Rattle.vk_brief.specs.declared.step.BriefStep.TheVariants as brief_steps
 use Rattle.vk_text.specs.Spelling.{spaced, joined, pid_text, bytes_text, message_text, call_words}
 
 abbrev pub refusal_text : Refusal → List ℕ
@@ -55,3 +57,8 @@ step_words (steps.Collect pid) = codes "collect" ∷ pid_text pid ∷ []
 
 unfoldable pub step_text : Step → List ℕ
 step_text step = joined (step_words step)
+
+-- whether it is a call
+abbrev pub is_call : BriefStep → Bool
+is_call (brief_steps.Call pid call) = true
+is_call step = false

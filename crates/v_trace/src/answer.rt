@@ -1,17 +1,19 @@
 //! The text of an answer.
 
-ghost use Rattle.std.specs.Prelude.{◌≡◌, ◌≤◌, [], ◌∷◌, ◌++◌, codes, decimal, length, OnOk, OnErr};
+ghost use Rattle.std.specs.Prelude.{◌≡◌, ◌+◌, ◌≤◌, [], ◌∷◌, ◌++◌, codes, decimal, length, OnOk, OnErr};
 ghost use Rattle.vk_base.specs.declared.limits.TheConstants.{DATA_BYTES};
 ghost use Rattle.vk_base.specs.Activities.{answer_of};
 ghost use Rattle.vk_text.specs.Spelling.{StartsWith, spaced, pid_text, message_text, bytes_text};
+ghost use Rattle.vk_text.specs.declared.draft.TheConstants.{DRAFT_ROOM as ROOM};
 ghost use Rattle.v_trace.specs.Texts.{refusal_text, answer_text};
 
 use std::alloc::Global;
 use vk_base::{Answer, Message, NoMemory, Outcome, Pid, Refusal};
-use vk_text::{put, write_bytes, write_message, write_number, write_pid};
+use vk_text::{Draft, draft_count, draft_message, draft_pid, put, write_bytes};
 
 fn refusal_word(why: Refusal) -> &'static [u8]
-    ensures { result.now ≡ refusal_text why }
+    ensures word { result.now ≡ refusal_text why }
+    ensures few { length result.now ≤ 11 }
 {
     match why {
         Refusal::NoProcess => b"noprocess",
@@ -30,53 +32,77 @@ fn refusal_word(why: Refusal) -> &'static [u8]
     }
 }
 
-/// Appends `ok M`.
-fn write_replied(alloc: Global, into: &mut Vec<u8>, message: &Message) -> Result<(), NoMemory>
-    ensures ok { OnOk result (into.new.items ≡ into.old.items ++ spaced (codes "ok") (message_text message.now ∷ [])) }
-    ensures front { OnErr result (StartsWith into.old.items into.new.items) }
+/// Writes `ok M`.
+fn draft_replied(into: &mut Draft, message: &Message)
+    requires { length into.old + 67 ≤ ROOM }
+    ensures text { into.new ≡ into.old ++ spaced (codes "ok") (message_text message.now ∷ []) }
+    ensures few { length into.new ≤ length into.old + 67 }
 {
-    put(into, b"ok")?;
-    write_message(alloc, into, message)
+    into.put(b"ok");
+    draft_message(into, message);
 }
 
-/// Appends `ok PID M`.
-fn write_received(
-    alloc: Global,
-    into: &mut Vec<u8>,
-    from: Pid,
-    message: &Message,
-) -> Result<(), NoMemory>
-    ensures ok { OnOk result (into.new.items ≡ into.old.items ++ spaced (codes "ok") (pid_text from ∷ message_text message.now ∷ [])) }
-    ensures front { OnErr result (StartsWith into.old.items into.new.items) }
+/// Writes `ok PID M`.
+fn draft_received(into: &mut Draft, from: Pid, message: &Message)
+    requires { length into.old + 79 ≤ ROOM }
+    ensures text { into.new ≡ into.old ++ spaced (codes "ok") (pid_text from ∷ message_text message.now ∷ []) }
+    ensures few { length into.new ≤ length into.old + 79 }
 {
-    put(into, b"ok")?;
-    write_pid(alloc, into, from)?;
-    write_message(alloc, into, message)
+    into.put(b"ok");
+    draft_pid(into, from);
+    draft_message(into, message);
 }
 
-/// Appends `ok PID M COUNT`.
-fn write_received_segment(
-    alloc: Global,
-    into: &mut Vec<u8>,
-    from: Pid,
-    message: &Message,
-    count: u32,
-) -> Result<(), NoMemory>
-    ensures ok { OnOk result (into.new.items ≡ into.old.items
-        ++ spaced (codes "ok") (pid_text from ∷ message_text message.now ∷ decimal count ∷ [])) }
-    ensures front { OnErr result (StartsWith into.old.items into.new.items) }
+/// Writes `ok PID M COUNT`.
+fn draft_received_segment(into: &mut Draft, from: Pid, message: &Message, count: u32)
+    requires { length into.old + 100 ≤ ROOM }
+    ensures text { into.new ≡ into.old ++ spaced (codes "ok") (pid_text from ∷ message_text message.now ∷ decimal count ∷ []) }
+    ensures few { length into.new ≤ length into.old + 90 }
 {
-    write_received(alloc, into, from, message)?;
-    write_number(alloc, into, u64::from(count))
+    draft_received(into, from, message);
+    draft_count(into, count);
 }
 
-/// Appends `ok PID`.
-fn write_found(alloc: Global, into: &mut Vec<u8>, pid: Pid) -> Result<(), NoMemory>
-    ensures ok { OnOk result (into.new.items ≡ into.old.items ++ spaced (codes "ok") (pid_text pid ∷ [])) }
-    ensures front { OnErr result (StartsWith into.old.items into.new.items) }
+/// Writes `ok PID`.
+fn draft_found(into: &mut Draft, pid: Pid)
+    requires { length into.old + 33 ≤ ROOM }
+    ensures text { into.new ≡ into.old ++ spaced (codes "ok") (pid_text pid ∷ []) }
+    ensures few { length into.new ≤ length into.old + 14 }
 {
-    put(into, b"ok")?;
-    write_pid(alloc, into, pid)
+    into.put(b"ok");
+    draft_pid(into, pid);
+}
+
+/// Writes what a call ended with. It stays a function of its own, so that an outcome is not taken into registers byte by byte.
+#[inline(never)]
+#[tactic(auto, unfolding(crate::specs::Texts::answer_text))]
+pub fn draft_outcome(into: &mut Draft, outcome: &Outcome)
+    requires { length into.old + 100 ≤ ROOM }
+    ensures text { into.new ≡ into.old ++ answer_text (answer_of outcome.now) }
+    ensures few { length into.new ≤ length into.old + 90 }
+{
+    match *outcome {
+        Outcome::Ok => into.put(b"ok"),
+        Outcome::Replied { ref message } => draft_replied(into, message),
+        Outcome::Received { from, ref message } => draft_received(into, from, message),
+        Outcome::ReceivedSegment {
+            from,
+            ref message,
+            count,
+        } => draft_received_segment(into, from, message, count),
+        Outcome::Found { pid } => draft_found(into, pid),
+        Outcome::Refused { why } => into.put(refusal_word(why)),
+    }
+}
+
+/// Appends the text of what a call ended with. A refusal changes nothing.
+pub fn put_outcome(_alloc: Global, into: &mut Vec<u8>, outcome: &Outcome) -> Result<(), NoMemory>
+    ensures ok { OnOk result (into.new.items ≡ into.old.items ++ answer_text (answer_of outcome.now)) }
+    ensures err { OnErr result (into.new.items ≡ into.old.items) }
+{
+    let mut draft = Draft::new();
+    draft_outcome(&mut draft, outcome);
+    put(into, draft.as_slice())
 }
 
 /// Appends `ok B`.
@@ -87,39 +113,6 @@ fn write_loaded(alloc: Global, into: &mut Vec<u8>, bytes: &[u8]) -> Result<(), N
 {
     put(into, b"ok")?;
     write_bytes(alloc, into, bytes)
-}
-
-/// Appends what a call ended with; a refusal may leave a part of it.
-#[tactic(auto, unfolding(crate::specs::Texts::answer_text))]
-fn write_outcome(alloc: Global, into: &mut Vec<u8>, outcome: &Outcome) -> Result<(), NoMemory>
-    ensures ok { OnOk result (into.new.items ≡ into.old.items ++ answer_text (answer_of outcome.now)) }
-    ensures front { OnErr result (StartsWith into.old.items into.new.items) }
-{
-    match *outcome {
-        Outcome::Ok => put(into, b"ok"),
-        Outcome::Replied { ref message } => write_replied(alloc, into, message),
-        Outcome::Received { from, ref message } => write_received(alloc, into, from, message),
-        Outcome::ReceivedSegment {
-            from,
-            ref message,
-            count,
-        } => write_received_segment(alloc, into, from, message, count),
-        Outcome::Found { pid } => write_found(alloc, into, pid),
-        Outcome::Refused { why } => put(into, refusal_word(why)),
-    }
-}
-
-/// Appends the text of what a call ended with. A refusal changes nothing.
-pub fn put_outcome(alloc: Global, into: &mut Vec<u8>, outcome: &Outcome) -> Result<(), NoMemory>
-    ensures ok { OnOk result (into.new.items ≡ into.old.items ++ answer_text (answer_of outcome.now)) }
-    ensures err { OnErr result (into.new.items ≡ into.old.items) }
-{
-    let len = into.len();
-    let written = write_outcome(alloc, into, outcome);
-    if written.is_err() {
-        into.truncate(len);
-    }
-    written
 }
 
 /// Appends the text of the bytes that a Load gives, at most 1,024. A refusal changes nothing.
@@ -137,36 +130,27 @@ pub fn put_loaded(alloc: Global, into: &mut Vec<u8>, bytes: &[u8]) -> Result<(),
     written
 }
 
-/// Appends the answer; a refusal may leave a part of it.
-#[tactic(auto, unfolding(crate::specs::Texts::answer_text))]
-fn write_answer(alloc: Global, into: &mut Vec<u8>, answer: &Answer) -> Result<(), NoMemory>
-    ensures ok { OnOk result (into.new.items ≡ into.old.items ++ answer_text answer.now) }
-    ensures front { OnErr result (StartsWith into.old.items into.new.items) }
-{
-    match *answer {
-        Answer::Ok => put(into, b"ok"),
-        Answer::Replied { ref message } => write_replied(alloc, into, message),
-        Answer::Received { from, ref message } => write_received(alloc, into, from, message),
-        Answer::ReceivedSegment {
-            from,
-            ref message,
-            count,
-        } => write_received_segment(alloc, into, from, message, count),
-        Answer::Found { pid } => write_found(alloc, into, pid),
-        Answer::Loaded { ref bytes } => write_loaded(alloc, into, bytes.as_slice()),
-        Answer::Refused { why } => put(into, refusal_word(why)),
-    }
-}
-
 /// Appends the text of the answer. A refusal changes nothing.
 pub fn put_answer(alloc: Global, into: &mut Vec<u8>, answer: &Answer) -> Result<(), NoMemory>
     ensures ok { OnOk result (into.new.items ≡ into.old.items ++ answer_text answer.now) }
     ensures err { OnErr result (into.new.items ≡ into.old.items) }
 {
-    let len = into.len();
-    let written = write_answer(alloc, into, answer);
-    if written.is_err() {
-        into.truncate(len);
-    }
-    written
+    let outcome = match *answer {
+        Answer::Loaded { ref bytes } => return put_loaded(alloc, into, bytes.as_slice()),
+        Answer::Ok => Outcome::Ok,
+        Answer::Replied { message } => Outcome::Replied { message },
+        Answer::Received { from, message } => Outcome::Received { from, message },
+        Answer::ReceivedSegment {
+            from,
+            message,
+            count,
+        } => Outcome::ReceivedSegment {
+            from,
+            message,
+            count,
+        },
+        Answer::Found { pid } => Outcome::Found { pid },
+        Answer::Refused { why } => Outcome::Refused { why },
+    };
+    put_outcome(alloc, into, &outcome)
 }

@@ -4,17 +4,18 @@ ghost use Rattle.std.specs.Prelude.{◌≡◌, ◌≤◌, length};
 ghost use Rattle.vk_base.specs.declared.limits.TheConstants.{DATA_BYTES as BYTES};
 ghost use Rattle.vk_base.specs.declared.step.Step.TheVariants as steps;
 ghost use Rattle.vk_brief.specs.Brief.{step_with};
+ghost use Rattle.v_trace.specs.Buffers.{bytes_in};
 
 use std::marker::Model;
 use vk_base::{Pid, Step};
-use vk_brief::{BriefStep, CallBuffer};
+use vk_brief::{BriefCall, BriefStep, CallBuffer, CallView, StepView};
 
 /// Room for any step, which contracts see.
 #[derive(Drop)]
 pub struct StepBuffer {
-    /// The step. Of a call, only who makes it counts here.
+    /// The step without its bytes.
     pub(crate) step: BriefStep,
-    /// The call, where one is made.
+    /// Where calls are read. Of the last one the bytes count, where the step is the call of a Store.
     pub(crate) call: CallBuffer,
 }
 
@@ -43,12 +44,14 @@ impl StepBuffer {
         ensures step { self.now ≡ step_with result.1.now result.0 }
         ensures few { length result.1.now ≤ BYTES }
     {
-        if let BriefStep::Call { pid, .. } = self.step {
-            let view = self.call.view();
-            let (call, bytes) = view.parts();
-            return (BriefStep::Call { pid, call: *call }, bytes);
-        }
-        (self.step, &[])
+        (self.step, bytes_of(&self.call))
+    }
+
+    /// The step, of which nothing is copied.
+    pub fn view(&self) -> StepView<'_>
+        ensures { result ≡ self.now }
+    {
+        StepView::new(&self.step, bytes_of(&self.call))
     }
 
     /// The step itself.
@@ -56,9 +59,9 @@ impl StepBuffer {
         ensures { result ≡ self.now }
     {
         match self.step {
-            BriefStep::Call { pid, .. } => Step::Call {
+            BriefStep::Call { pid, call } => Step::Call {
                 pid,
-                call: self.call.view().whole(),
+                call: CallView::new(&call, bytes_of(&self.call)).whole(),
             },
             BriefStep::Arrive { sender, number } => Step::Arrive { sender, number },
             BriefStep::Take { pid } => Step::Take { pid },
@@ -92,5 +95,18 @@ impl StepBuffer {
             BriefStep::Lost { asker } => Step::Lost { asker },
             BriefStep::Collect { pid } => Step::Collect { pid },
         }
+    }
+}
+
+/// The bytes of a Store.
+fn bytes_of(call: &CallBuffer) -> &[u8]
+    ensures bytes { result.now ≡ bytes_in call.now }
+    ensures few { length result.now ≤ BYTES }
+{
+    let view = call.view();
+    let (brief, bytes) = view.parts();
+    match *brief {
+        BriefCall::Store { .. } => bytes,
+        _ => &[],
     }
 }

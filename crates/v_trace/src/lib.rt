@@ -12,9 +12,9 @@ mod step;
 mod trace;
 mod word;
 
-pub use answer::{put_answer, put_loaded, put_outcome};
+pub use answer::{draft_outcome, put_answer, put_loaded, put_outcome};
 pub use buffer::StepBuffer;
 pub use law::{steps_are_spelled_once, traces_are_spelled_once};
 pub use reader::StepReader;
-pub use step::put_step;
+pub use step::{go_on_with_step, put_step};
 pub use trace::{Trace, TraceRefusal, read_trace};

@@ -11,25 +11,26 @@ ghost use Rattle.v_trace.specs.Traces.{has_actor};
 use crate::buffer::StepBuffer;
 use crate::word::{last_count, last_ending, last_failure, last_ordinal, last_pid, next_ordinal};
 use vk_base::Config;
-use vk_brief::{BriefCall, BriefStep};
-use vk_text::{next_count, next_pid, take_call};
+use vk_brief::BriefStep;
+use vk_text::{leads, next_count, next_pid, take_call};
 
 /// `PID CALLTEXT`
 #[tactic(auto, unfolding(crate::specs::Steps::call_step_of))]
+#[inline(always)]
 fn read_call_step(line: &[u8], at: usize, into: &mut StepBuffer) -> Option<()>
     ensures { option_map (λ _. into.new) result ≡ call_step_of (words_from line.now at) }
 {
     let (pid, at) = next_pid(line, at)?;
     take_call(line, at, &mut into.call)?;
-    into.step = BriefStep::Call {
-        pid,
-        call: BriefCall::Receive,
-    };
+    let view = into.call.view();
+    let (call, _) = view.parts();
+    into.step = BriefStep::Call { pid, call: *call };
     Some(())
 }
 
 /// `SENDER NUMBER`
 #[tactic(auto, unfolding(crate::specs::Steps::arrive_of))]
+#[inline(always)]
 fn read_arrive(line: &[u8], at: usize, into: &mut StepBuffer) -> Option<()>
     ensures { option_map (λ _. into.new) result ≡ arrive_of (words_from line.now at) }
 {
@@ -40,6 +41,7 @@ fn read_arrive(line: &[u8], at: usize, into: &mut StepBuffer) -> Option<()>
 }
 
 #[tactic(auto, unfolding(crate::specs::Steps::pid_step_of))]
+#[inline(always)]
 fn read_take(line: &[u8], at: usize, into: &mut StepBuffer) -> Option<()>
     ensures { option_map (λ _. into.new) result ≡ pid_step_of steps.Take (words_from line.now at) }
 {
@@ -49,6 +51,7 @@ fn read_take(line: &[u8], at: usize, into: &mut StepBuffer) -> Option<()>
 }
 
 #[tactic(auto, unfolding(crate::specs::Steps::pid_step_of))]
+#[inline(always)]
 fn read_finish(line: &[u8], at: usize, into: &mut StepBuffer) -> Option<()>
     ensures { option_map (λ _. into.new) result ≡ pid_step_of steps.Finish (words_from line.now at) }
 {
@@ -70,6 +73,7 @@ fn read_fail(line: &[u8], at: usize, into: &mut StepBuffer) -> Option<()>
 
 /// `SENDER NUMBER MOVE`
 #[tactic(auto, unfolding(crate::specs::Steps::open_of))]
+#[inline(always)]
 fn read_open(line: &[u8], at: usize, into: &mut StepBuffer) -> Option<()>
     ensures { option_map (λ _. into.new) result ≡ open_of (words_from line.now at) }
 {
@@ -86,6 +90,7 @@ fn read_open(line: &[u8], at: usize, into: &mut StepBuffer) -> Option<()>
 
 /// `SENDER NUMBER MOVE OFFSET COUNT`
 #[tactic(auto, unfolding(crate::specs::Steps::copy_of))]
+#[inline(always)]
 fn read_copy(line: &[u8], at: usize, into: &mut StepBuffer) -> Option<()>
     ensures { option_map (λ _. into.new) result ≡ copy_of (words_from line.now at) }
 {
@@ -106,6 +111,7 @@ fn read_copy(line: &[u8], at: usize, into: &mut StepBuffer) -> Option<()>
 
 /// `PID ENDING`
 #[tactic(auto, unfolding(crate::specs::Steps::end_of))]
+#[inline(always)]
 fn read_end(line: &[u8], at: usize, into: &mut StepBuffer) -> Option<()>
     ensures { option_map (λ _. into.new) result ≡ end_of (words_from line.now at) }
 {
@@ -148,6 +154,7 @@ fn read_lost(line: &[u8], at: usize, into: &mut StepBuffer) -> Option<()>
 }
 
 #[tactic(auto, unfolding(crate::specs::Steps::pid_step_of))]
+#[inline(always)]
 fn read_collect(line: &[u8], at: usize, into: &mut StepBuffer) -> Option<()>
     ensures { option_map (λ _. into.new) result ≡ pid_step_of steps.Collect (words_from line.now at) }
 {
@@ -157,35 +164,55 @@ fn read_collect(line: &[u8], at: usize, into: &mut StepBuffer) -> Option<()>
 }
 
 /// The step that the line spells.
-fn read_words(line: &[u8], into: &mut StepBuffer) -> Option<()>
+#[inline(always)]
+fn read_led(line: &[u8], into: &mut StepBuffer) -> Option<()>
     ensures { option_map (λ _. into.new) result ≡ step_of (words_from line.now 0) }
 {
-    if line.starts_with(b"call ") {
+    if leads(line, b"call ") {
         read_call_step(line, 5, into)
-    } else if line.starts_with(b"collect ") {
+    } else if leads(line, b"collect ") {
         read_collect(line, 8, into)
-    } else if line.starts_with(b"take ") {
+    } else if leads(line, b"take ") {
         read_take(line, 5, into)
-    } else if line.starts_with(b"finish ") {
+    } else if leads(line, b"finish ") {
         read_finish(line, 7, into)
-    } else if line.starts_with(b"copy ") {
+    } else if leads(line, b"copy ") {
         read_copy(line, 5, into)
-    } else if line.starts_with(b"arrive ") {
+    } else if leads(line, b"arrive ") {
         read_arrive(line, 7, into)
-    } else if line.starts_with(b"end ") {
+    } else if leads(line, b"end ") {
         read_end(line, 4, into)
-    } else if line.starts_with(b"open ") {
+    } else if leads(line, b"open ") {
         read_open(line, 5, into)
-    } else if line.starts_with(b"fail ") {
+    } else if leads(line, b"fail ") {
         read_fail(line, 5, into)
-    } else if line.starts_with(b"hear ") {
+    } else if leads(line, b"hear ") {
         read_hear(line, 5, into)
-    } else if line.starts_with(b"found ") {
+    } else if leads(line, b"found ") {
         read_found(line, 6, into)
-    } else if line.starts_with(b"lost ") {
+    } else if leads(line, b"lost ") {
         read_lost(line, 5, into)
     } else {
         None
+    }
+}
+
+/// The same of any line.
+#[inline(never)]
+fn read_rare(line: &[u8], into: &mut StepBuffer) -> Option<()>
+    ensures { option_map (λ _. into.new) result ≡ step_of (words_from line.now 0) }
+{
+    read_led(line, into)
+}
+
+/// The step that the line spells. Where it has eight bytes, as all that are no bad ones, the tests of its first word ask for no length.
+fn read_words(line: &[u8], into: &mut StepBuffer) -> Option<()>
+    ensures { option_map (λ _. into.new) result ≡ step_of (words_from line.now 0) }
+{
+    if line.len() < 8 {
+        read_rare(line, into)
+    } else {
+        read_led(line, into)
     }
 }
 

@@ -6,11 +6,9 @@ ghost use Rattle.vk_text.specs.Lines.{words_from};
 ghost use Rattle.vk_text.specs.Words.{count_of, pid_of};
 ghost use Rattle.v_trace.specs.Steps.{ordinal_of, failure_of, ending_of, last_as};
 
+use vk_base::limits::LAST_NUMBER;
 use vk_base::{Ending, Pid};
 use vk_text::{is_end, next_count, next_pid, next_positive, next_word};
-
-/// The greatest number of a Send, a move or a lookup.
-const ORDINAL: u64 = 9_223_372_036_854_775_807;
 
 /// How a Send fails.
 fn failure(word: &[u8]) -> Option<Ending>
@@ -41,14 +39,16 @@ fn ending(word: &[u8]) -> Option<Ending>
 }
 
 /// The next word as the number of a Send, a move or a lookup, and where the word after it would start.
+#[inline(always)]
 pub fn next_ordinal(line: &[u8], at: usize) -> Option<(u64, usize)>
     ensures { MatchOption result (first_as ordinal_of (words_from line.now at) ≡ None)
         (λ r. first_as ordinal_of (words_from line.now at) ≡ Some (r.0, words_from line.now r.1)) }
 {
-    next_positive(line, at, ORDINAL)
+    next_positive(line, at, LAST_NUMBER)
 }
 
 /// The number of 32 bits, which is the last word.
+#[inline(always)]
 pub fn last_count(line: &[u8], at: usize) -> Option<u32>
     ensures { result ≡ last_as count_of (words_from line.now at) }
 {
@@ -66,6 +66,7 @@ pub fn last_pid(line: &[u8], at: usize) -> Option<Pid>
 }
 
 /// The number from 1, which is the last word.
+#[inline(always)]
 pub fn last_ordinal(line: &[u8], at: usize) -> Option<u64>
     ensures { result ≡ last_as ordinal_of (words_from line.now at) }
 {

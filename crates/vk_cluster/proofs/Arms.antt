@@ -36,9 +36,9 @@ use Rattle.vk_cluster.specs.declared.emitted.TheConstants.{EVENT_BYTES}
 use Rattle.vk_cluster.specs.declared.report.Advance.{Advance}
 use Rattle.vk_cluster.specs.declared.report.Advance.TheVariants as advances
 use Rattle.vk_cluster.specs.Events.{ComesWith, FindsNone, input_with, is_own}
-use Rattle.vk_cluster.specs.Found.{bytes_for, sent_of}
-use Rattle.vk_cluster.specs.Piles.{AreFrames, shown}
-use Rattle.vk_cluster.specs.Standing.{AreAt, IsAdvance, IsFinished, IsNext, IsStep, ShowsLast, StandsFor, StandsSomewhere, Tells, bytes_of, logs_of, report_by, report_of}
+use Rattle.vk_cluster.specs.Found.{bytes_for, sealed_events}
+use Rattle.vk_cluster.specs.Piles.{AreFrames, frames_by_event}
+use Rattle.vk_cluster.specs.Standing.{AreAt, IsAdvance, IsEventFinished, IsNextReported, IsStep, ShowsLast, StandsFor, StandsSomewhere, TellsReport, event_bytes, logs_of, report_by, step_report}
 use Rattle.vk_cluster.specs.Values.{ClusterValue}
 use Rattle.vk_cluster.proofs.Handed.{found_bytes, opens_again}
 use Rattle.vk_cluster.proofs.Logs.{get_set_same, with_other}
@@ -159,7 +159,7 @@ stepped : (old new : ClusterValue) (place : ℕ) (s t : StationValue) (i : Input
     slice_get old.hosts place ≡ Some s → IsEvent s t i (answer_of t given) → IsInput s.host i → old.events < EVENTS →
     IsOfProcess old.config.specs e →
     ((c : Settings) (es : List Event) → StandsFor c es old → happened c (logs_of c es) e ≡ happens_at c (logs_of c es) s.host i) →
-    IsFinished (record old { hosts = set old.hosts place t }) new place t → IsStep old new e (report_by t given)
+    IsEventFinished (record old { hosts = set old.hosts place t }) new place t → IsStep old new e (report_by t given)
 stepped old new place s t i response e found event input few process happens done c es st =
     let given : EventAnswer = answer_of t response in
     let logs : Logs = logs_of c es in
@@ -175,7 +175,7 @@ stepped old new place s t i response e found event input few process happens don
     (acted c logs old.hosts old.pile place s t i given fine input short st.stands found event new.pile done.pile) in
     let frames : t.frames ≡ map sealed entry.frames =
     frames_are c logs old.hosts old.pile place s t i given fine input short st.stands found event in
-    let bytes : length new.pile.bytes ≡ length old.pile.bytes + bytes_of (happens_at c logs s.host i) =
+    let bytes : length new.pile.bytes ≡ length old.pile.bytes + event_bytes (happens_at c logs s.host i) =
     done.pile.bytes ∙ ap (λ fs. length old.pile.bytes + sum_by length fs) frames in
     let own : IsOfProcess c.specs e = subst (λ (d : Settings). IsOfProcess d.specs e) st.config process in
     let shown = event.shows c (logs s.host) here in
@@ -183,7 +183,7 @@ stepped old new place s t i response e found event input few process happens don
       report =
           report_is t given s.host (length (logs s.host) + 1) entry event.host
           (event.events ∙ ap (λ n. n + 1) (here.events ∙ events_are c s.host (logs s.host))) shown.answer
-          ∙ ap report_of (sym is);
+          ∙ ap step_report (sym is);
       shows =
           subst (ShowsLast new.hosts) (sym is)
           (subst (λ hs. ShowsLast hs (happens_at c logs s.host i)) (sym done.hosts)
@@ -195,7 +195,7 @@ pub station_step : (old new : ClusterValue) (place : ℕ) (s t : StationValue) (
     slice_get old.hosts place ≡ Some s → IsEvent s t i (answer_of t given) → IsInput s.host i → old.events < EVENTS →
     IsOfProcess old.config.specs e →
     ((c : Settings) (es : List Event) → StandsFor c es old → happened c (logs_of c es) e ≡ happens_at c (logs_of c es) s.host i) →
-    IsFinished (record old { hosts = set old.hosts place t }) new place t → IsAdvance old new e (advances.Event place given)
+    IsEventFinished (record old { hosts = set old.hosts place t }) new place t → IsAdvance old new e (advances.Event place given)
 station_step old new place s t i given e found event input few process happens done =
     let there : slice_get new.hosts place ≡ Some t =
     ap (λ hs. slice_get hs place) done.hosts ∙ get_set_same old.hosts place t s found in
@@ -208,14 +208,14 @@ station_step old new place s t i given e found event input few process happens d
 -- A missing delivery is one.
 missed_step : (old new : ClusterValue) (to : ℕ) (e : Event) → old.events < EVENTS → IsOfProcess old.config.specs e →
     ((c : Settings) (es : List Event) → StandsFor c es old → happened c (logs_of c es) e ≡ Missing to) →
-    new ≡ record old { events = old.events + 1 } → IsStep old new e (report_of (Missing to))
+    new ≡ record old { events = old.events + 1 } → IsStep old new e (step_report (Missing to))
 missed_step old new to e few process happens is c es st =
     let next : ClusterValue = record old { events = old.events + 1 } in
     let missed = happens c es st in
     let own : IsOfProcess c.specs e = subst (λ (d : Settings). IsOfProcess d.specs e) st.config process in
     let same : length old.pile.bytes ≡ length old.pile.bytes + 0 = omega arith in
-    subst (λ k. IsNext c es k e (report_of (Missing to))) (sym is) (record {
-      report = ap report_of (sym missed);
+    subst (λ k. IsNextReported c es k e (step_report (Missing to))) (sym is) (record {
+      report = ap step_report (sym missed);
       shows = subst (ShowsLast next.hosts) (sym missed) tt;
       stands = next_stands c es old next e (Missing to) st missed st.stands same refl refl few own;
     })
@@ -224,8 +224,8 @@ pub missing_step : (old new : ClusterValue) (to : ℕ) (e : Event) (a : Advance)
     ((c : Settings) (es : List Event) → StandsFor c es old → happened c (logs_of c es) e ≡ Missing to) →
     a ≡ advances.Missing to → new ≡ record old { events = old.events + 1 } → IsAdvance old new e a
 missing_step old new to e a few process happens told is = record {
-  report = report_of (Missing to);
-  told = subst (λ x. Tells new x (report_of (Missing to))) (sym told) refl;
+  report = step_report (Missing to);
+  told = subst (λ x. TellsReport new x (step_report (Missing to))) (sym told) refl;
   step = missed_step old new to e few process happens is;
 }
 
@@ -264,19 +264,19 @@ lawful_of c es v source from st there =
 
 handed_bytes : FramesUnsealAgain → (c : Settings) (es : List Event) (v : ClusterValue) (source to from event output : ℕ) → StandsFor c es v →
     slice_get (stations_of v.config.specs) source ≡ Some from →
-    bytes_for to (shown v.pile) source event output ≡ option_map sealed (handed_over (logs_of c es) to from event output)
+    bytes_for to (frames_by_event v.pile) source event output ≡ option_map sealed (handed_over (logs_of c es) to from event output)
 handed_bytes unseal c es v source to from event output st there =
-    let f : ℕ → List (List (List ℕ)) = λ q. sent_of (logs_of c es q) in
+    let f : ℕ → List (List (List ℕ)) = λ q. sealed_events (logs_of c es q) in
     let station : slice_get (stations_of c.specs) source ≡ Some from =
     ap (λ (d : Settings). slice_get (stations_of d.specs) source) (sym st.config) ∙ there in
-    let at : slice_get (shown v.pile) source ≡ Some (sent_of (logs_of c es from)) =
+    let at : slice_get (frames_by_event v.pile) source ≡ Some (sealed_events (logs_of c es from)) =
     ap (λ l. slice_get l source) st.stands.emitted ∙ slice_get-map f (stations_of c.specs) source
     ∙ ap (λ (o : Option ℕ). option_map f o) station in
-    found_bytes unseal (shown v.pile) source from to event output (logs_of c es from) at (entries_rise c es from)
+    found_bytes unseal (frames_by_event v.pile) source from to event output (logs_of c es from) at (entries_rise c es from)
     (lawful_of c es v source from st there)
 
 -- these bytes are of a lawful frame that is handed over
-pub record IsHanded (logs : Logs) (to from event output : ℕ) (bytes : List ℕ) : Type 0 where
+pub record IsHandedOver (logs : Logs) (to from event output : ℕ) (bytes : List ℕ) : Type 0 where
   pub frame : Frame
   pub found : handed_over logs to from event output ≡ Some frame
   pub opens : unsealed_of bytes ≡ Framed frame.header frame.packet
@@ -284,7 +284,7 @@ pub record IsHanded (logs : Logs) (to from event output : ℕ) (bytes : List ℕ
 
 handed_by : FramesUnsealAgain → (logs : Logs) (to from event output : ℕ) (bytes : List ℕ) (o : Option Frame) →
     handed_over logs to from event output ≡ o → option_map sealed o ≡ Some bytes → Each IsLawfulEntry (logs from) →
-    IsHanded logs to from event output bytes
+    IsHandedOver logs to from event output bytes
 handed_by unseal logs to from event output bytes None is b lawful = absurd (none-some bytes b)
 handed_by unseal logs to from event output bytes (Some f) is b lawful =
     let one : IsLawfulFrame f =
@@ -297,15 +297,15 @@ handed_by unseal logs to from event output bytes (Some f) is b lawful =
     }
 
 handed : FramesUnsealAgain → (c : Settings) (es : List Event) (v : ClusterValue) (source to from event output : ℕ) (bytes : List ℕ) →
-    StandsFor c es v → slice_get (stations_of v.config.specs) source ≡ Some from → bytes_for to (shown v.pile) source event output ≡ Some bytes →
-    IsHanded (logs_of c es) to from event output bytes
+    StandsFor c es v → slice_get (stations_of v.config.specs) source ≡ Some from → bytes_for to (frames_by_event v.pile) source event output ≡ Some bytes →
+    IsHandedOver (logs_of c es) to from event output bytes
 handed unseal c es v source to from event output bytes st there found =
     handed_by unseal (logs_of c es) to from event output bytes (handed_over (logs_of c es) to from event output) refl
     (sym (handed_bytes unseal c es v source to from event output st there) ∙ found) (lawful_of c es v source from st there)
 
 delivered_happens : FramesUnsealAgain → (c : Settings) (es : List Event) (v : ClusterValue) (source host to from event output : ℕ)
     (bytes : List ℕ) → StandsFor c es v → slice_get (stations_of v.config.specs) source ≡ Some from →
-    bytes_for to (shown v.pile) source event output ≡ Some bytes → host ≡ to →
+    bytes_for to (frames_by_event v.pile) source event output ≡ Some bytes → host ≡ to →
     happened c (logs_of c es) (scheduled.Deliver to from event output) ≡ happens_at c (logs_of c es) host (Delivered (unsealed_of bytes))
 unfolding happened
 delivered_happens unseal c es v source host to from event output bytes st there found same =
@@ -315,7 +315,7 @@ delivered_happens unseal c es v source host to from event output bytes st there 
     ∙ ap (λ n. happens_at c (logs_of c es) n (Delivered (unsealed_of bytes))) (sym same)
 
 delivered_input : FramesUnsealAgain → (v : ClusterValue) (source to from event output host : ℕ) (bytes : List ℕ) → StandsSomewhere v →
-    slice_get (stations_of v.config.specs) source ≡ Some from → bytes_for to (shown v.pile) source event output ≡ Some bytes →
+    slice_get (stations_of v.config.specs) source ≡ Some from → bytes_for to (frames_by_event v.pile) source event output ≡ Some bytes →
     IsInput host (Delivered (unsealed_of bytes))
 delivered_input unseal v source to from event output host bytes some there found =
     let h = handed unseal some.0 some.1 v source to from event output bytes some.2 there found in
@@ -326,7 +326,7 @@ none_handed None e = refl
 none_handed (Some f) e = absurd (none-some (sealed f) (sym e))
 
 missing_happens : FramesUnsealAgain → (c : Settings) (es : List Event) (v : ClusterValue) (source to from event output : ℕ) → StandsFor c es v →
-    slice_get (stations_of v.config.specs) source ≡ Some from → bytes_for to (shown v.pile) source event output ≡ None →
+    slice_get (stations_of v.config.specs) source ≡ Some from → bytes_for to (frames_by_event v.pile) source event output ≡ None →
     happened c (logs_of c es) (scheduled.Deliver to from event output) ≡ Missing to
 unfolding happened
 missing_happens unseal c es v source to from event output st there none =
@@ -335,7 +335,8 @@ missing_happens unseal c es v source to from event output st there none =
     (sym (handed_bytes unseal c es v source to from event output st there) ∙ none))
 
 -- What an event is at its station, whatever kind it is of.
-pub event_happens : FramesUnsealAgain → (v : ClusterValue) (e : Event) (frame : List ℕ) → ComesWith v.config.specs (shown v.pile) e frame →
+pub event_happens : FramesUnsealAgain → (v : ClusterValue) (e : Event) (frame : List ℕ) →
+    ComesWith v.config.specs (frames_by_event v.pile) e frame →
     (host : ℕ) → host ≡ station_of e → (c : Settings) (es : List Event) → StandsFor c es v →
     happened c (logs_of c es) e ≡ happens_at c (logs_of c es) host (input_with frame e)
 event_happens unseal v (scheduled.Call pid call) frame comes host same c es st = call_happens c es host pid call same
@@ -345,14 +346,14 @@ event_happens unseal v (scheduled.Deliver to from event output) frame comes host
     delivered_happens unseal c es v comes.0 host to from event output frame st comes.1 comes.2 same
 
 pub event_input : FramesUnsealAgain → (v : ClusterValue) → StandsSomewhere v → (e : Event) (frame : List ℕ) →
-    ComesWith v.config.specs (shown v.pile) e frame → (host : ℕ) → host ≡ station_of e → IsInput host (input_with frame e)
+    ComesWith v.config.specs (frames_by_event v.pile) e frame → (host : ℕ) → host ≡ station_of e → IsInput host (input_with frame e)
 event_input unseal v some (scheduled.Call pid call) frame comes host same = call_input host pid call same comes.0 comes.1
 event_input unseal v some (scheduled.Collect pid) frame comes host same = tt
 event_input unseal v some (scheduled.Tick at) frame comes host same = tt
 event_input unseal v some (scheduled.Deliver to from event output) frame comes host same =
     delivered_input unseal v comes.0 to from event output host frame some comes.1 comes.2
 
-pub none_happens : FramesUnsealAgain → (v : ClusterValue) (e : Event) → FindsNone v.config.specs (shown v.pile) e → (c : Settings)
+pub none_happens : FramesUnsealAgain → (v : ClusterValue) (e : Event) → FindsNone v.config.specs (frames_by_event v.pile) e → (c : Settings)
     (es : List Event) → StandsFor c es v → happened c (logs_of c es) e ≡ Missing (station_of e)
 none_happens unseal v (scheduled.Call pid call) none c es st = absurd none
 none_happens unseal v (scheduled.Collect pid) none c es st = absurd none

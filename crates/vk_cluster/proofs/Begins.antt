@@ -8,16 +8,16 @@ use Rattle.vk_rules.specs.Histories.{no_entries}
 unfoldable use Rattle.vk_rules.specs.Histories.{history, logs_from}
 use Rattle.v_lawful.proofs.Entries.{none_sent}
 use Rattle.vk_host.specs.Values.{StationValue}
-use Rattle.vk_cluster.specs.Found.{sent_of}
-use Rattle.vk_cluster.specs.Piles.{IsWithin, Pile, piece}
+use Rattle.vk_cluster.specs.Found.{sealed_events}
+use Rattle.vk_cluster.specs.Piles.{IsSpanWithin, Pile, spanned}
 use Rattle.vk_cluster.specs.Standing.{AreAt, AreHosts, StandsFor}
 
-none_within : (n : ℕ) → Each (Each (IsWithin 0)) (replicate n [])
+none_within : (n : ℕ) → Each (Each (IsSpanWithin 0)) (replicate n [])
 none_within zero = tt
 none_within (suc n) = (tt, none_within n)
 
 none_shown : (frames : List (List ℕ)) (hosts : List ℕ) →
-    map (map (piece frames)) (replicate (length hosts) []) ≡ map (λ host. sent_of []) hosts
+    map (map (spanned frames)) (replicate (length hosts) []) ≡ map (λ host. sealed_events []) hosts
 none_shown frames [] = refl
 none_shown frames (h ∷ hs) = ap (λ l. [] ∷ l) (none_shown frames hs)
 

@@ -7,16 +7,16 @@ use Rattle.std.proofs.lemmas.List.Sums.{sum_by-append}
 use Rattle.vk_frame.specs.Reading.{frame_of}
 use Rattle.vk_rules.specs.Each.{Each}
 use Rattle.vk_rules.proofs.Lists.{each_append, each_weaker}
-use Rattle.vk_cluster.specs.declared.emitted.Piece.{Piece}
-use Rattle.vk_cluster.specs.declared.frames.Place.{Place}
+use Rattle.vk_cluster.specs.declared.emitted.Span.{Span}
+use Rattle.vk_cluster.specs.declared.frames.FramePlace.{FramePlace}
 use Rattle.vk_cluster.specs.declared.frames.TheConstants.{HALF_BYTES, MOST_BYTES}
-use Rattle.vk_cluster.specs.Blocks.{AreKept, IsIn, frame_in, named_by}
-use Rattle.vk_cluster.specs.Piles.{IsWithin, piece}
+use Rattle.vk_cluster.specs.Blocks.{AreKept, IsInBlock, named_by, placed_bytes}
+use Rattle.vk_cluster.specs.Piles.{IsSpanWithin, spanned}
 use Rattle.vk_cluster.proofs.Pieces.{last_piece, piece_more}
 
 -- The block with a number, where the last one grows, and where it becomes a full one.
-grown_piece : (full : List (List ℕ)) (last f : List ℕ) (n : ℕ) (p : Piece) → IsWithin (length (get_or full n last)) p →
-    piece (get_or full n (last ++ f)) p ≡ piece (get_or full n last) p
+grown_piece : (full : List (List ℕ)) (last f : List ℕ) (n : ℕ) (p : Span) → IsSpanWithin (length (get_or full n last)) p →
+    spanned (get_or full n (last ++ f)) p ≡ spanned (get_or full n last) p
 grown_piece [] last f n p within = piece_more last f p within
 grown_piece (b ∷ bs) last f zero p within = refl
 grown_piece (b ∷ bs) last f (suc n) p within = grown_piece bs last f n p within
@@ -33,35 +33,36 @@ left_block (b ∷ bs) last zero low = refl
 left_block (b ∷ bs) last (suc n) low = left_block bs last n (omega arith)
 
 -- The frames, where the last block grows.
-grown_in : (full : List (List ℕ)) (last f : List ℕ) (p : Place) → IsIn full last p → IsIn full (last ++ f) p
+grown_in : (full : List (List ℕ)) (last f : List ℕ) (p : FramePlace) → IsInBlock full last p → IsInBlock full (last ++ f) p
 grown_in full last f p within =
     let more = grown_length full last f p.block in
     let same = grown_piece full last f p.block (record { from = p.from; count = p.count }) within.1 in
     (within.0, omega arith, ap (λ b. named_by (frame_of b)) same ∙ within.2)
 
-grown_frames : (full : List (List ℕ)) (last f : List ℕ) (ps : List Place) → Each (IsIn full last) ps →
-    map (frame_in full (last ++ f)) ps ≡ map (frame_in full last) ps
+grown_frames : (full : List (List ℕ)) (last f : List ℕ) (ps : List FramePlace) → Each (IsInBlock full last) ps →
+    map (placed_bytes full (last ++ f)) ps ≡ map (placed_bytes full last) ps
 grown_frames full last f [] h = refl
 grown_frames full last f (p ∷ ps) h =
-    ap (λ x. x ∷ map (frame_in full (last ++ f)) ps) (grown_piece full last f p.block (record { from = p.from; count = p.count }) h.0.1)
-    ∙ ap (λ l. frame_in full last p ∷ l) (grown_frames full last f ps h.1)
+    ap (λ x. x ∷ map (placed_bytes full (last ++ f)) ps) (grown_piece full last f p.block (record { from = p.from; count = p.count }) h.0.1)
+    ∙ ap (λ l. placed_bytes full last p ∷ l) (grown_frames full last f ps h.1)
 
 -- One frame more: its bytes are the last of the last block.
-pub record IsNewPlace (full : List (List ℕ)) (last f : List ℕ) (p : Place) : Type 0 where
+pub record IsNewPlace (full : List (List ℕ)) (last f : List ℕ) (p : FramePlace) : Type 0 where
   pub from : p.from ≡ length last
   pub count : p.count ≡ length f
   pub block : p.block ≡ length full
   pub to : named_by (frame_of f) ≡ p.to
 
-new_block : (full : List (List ℕ)) (last f : List ℕ) (p : Place) → IsNewPlace full last f p → get_or full p.block (last ++ f) ≡ last ++ f
+new_block : (full : List (List ℕ)) (last f : List ℕ) (p : FramePlace) → IsNewPlace full last f p →
+    get_or full p.block (last ++ f) ≡ last ++ f
 new_block full last f p is = let low : length full ≤ p.block = let at = is.block in omega arith in get_or-eq_default full (last ++ f) low
 
-new_frame : (full : List (List ℕ)) (last f : List ℕ) (p : Place) → IsNewPlace full last f p → frame_in full (last ++ f) p ≡ f
+new_frame : (full : List (List ℕ)) (last f : List ℕ) (p : FramePlace) → IsNewPlace full last f p → placed_bytes full (last ++ f) p ≡ f
 new_frame full last f p is =
     ap (λ b. take p.count (drop p.from b)) (new_block full last f p is)
     ∙ last_piece last f (record { from = p.from; count = p.count }) is.from is.count
 
-new_in : (full : List (List ℕ)) (last f : List ℕ) (p : Place) → IsNewPlace full last f p → IsIn full (last ++ f) p
+new_in : (full : List (List ℕ)) (last f : List ℕ) (p : FramePlace) → IsNewPlace full last f p → IsInBlock full (last ++ f) p
 new_in full last f p is =
     let long : length (get_or full p.block (last ++ f)) ≡ length (last ++ f) = ap length (new_block full last f p is) in
     let from = is.from in
@@ -69,27 +70,29 @@ new_in full last f p is =
     let block = is.block in
     (omega arith, omega (arith, length-append last f), ap (λ b. named_by (frame_of b)) (new_frame full last f p is) ∙ is.to)
 
-pub put_frames : (full : List (List ℕ)) (last f : List ℕ) (ps : List Place) (p : Place) → Each (IsIn full last) ps →
-    IsNewPlace full last f p → map (frame_in full (last ++ f)) (ps ++ p ∷ []) ≡ map (frame_in full last) ps ++ f ∷ []
+pub put_frames : (full : List (List ℕ)) (last f : List ℕ) (ps : List FramePlace) (p : FramePlace) → Each (IsInBlock full last) ps →
+    IsNewPlace full last f p → map (placed_bytes full (last ++ f)) (ps ++ p ∷ []) ≡ map (placed_bytes full last) ps ++ f ∷ []
 put_frames full last f ps p within is =
-    map_push (frame_in full (last ++ f)) ps p
-    ∙ ap (λ l. l ++ frame_in full (last ++ f) p ∷ []) (grown_frames full last f ps within)
-    ∙ ap (λ x. map (frame_in full last) ps ++ x ∷ []) (new_frame full last f p is)
+    map_push (placed_bytes full (last ++ f)) ps p
+    ∙ ap (λ l. l ++ placed_bytes full (last ++ f) p ∷ []) (grown_frames full last f ps within)
+    ∙ ap (λ x. map (placed_bytes full last) ps ++ x ∷ []) (new_frame full last f p is)
 
-pub put_kept : (full : List (List ℕ)) (last f : List ℕ) (ps : List Place) (size : ℕ) (p : Place) → AreKept full last ps size →
+pub put_kept : (full : List (List ℕ)) (last f : List ℕ) (ps : List FramePlace) (size : ℕ) (p : FramePlace) → AreKept full last ps size →
     IsNewPlace full last f p → 0 < length f → size + length f ≤ MOST_BYTES →
     AreKept full (last ++ f) (ps ++ p ∷ []) (size + length f)
 put_kept full last f ps size p kept is some most =
     let blocks = kept.blocks in
     let frames = kept.frames in
     let few = kept.few in
-    let one : sum_by length (map (frame_in full last) ps ++ f ∷ []) ≡ sum_by length (map (frame_in full last) ps) + sum_by length (f ∷ []) =
-    sum_by-append length (map (frame_in full last) ps) (f ∷ []) in
-    let all : sum_by length (map (frame_in full (last ++ f)) (ps ++ p ∷ [])) ≡ sum_by length (map (frame_in full last) ps ++ f ∷ []) =
+    let one : sum_by length (map (placed_bytes full last) ps ++ f ∷ [])
+    ≡ sum_by length (map (placed_bytes full last) ps) + sum_by length (f ∷ []) =
+    sum_by-append length (map (placed_bytes full last) ps) (f ∷ []) in
+    let all : sum_by length (map (placed_bytes full (last ++ f)) (ps ++ p ∷ []))
+    ≡ sum_by length (map (placed_bytes full last) ps ++ f ∷ []) =
     ap (sum_by length) (put_frames full last f ps p kept.within is) in
     record {
-      within = each_append (IsIn full (last ++ f)) ps (p ∷ [])
-          (each_weaker (IsIn full last) (IsIn full (last ++ f)) ps kept.within (λ q within. grown_in full last f q within))
+      within = each_append (IsInBlock full (last ++ f)) ps (p ∷ [])
+          (each_weaker (IsInBlock full last) (IsInBlock full (last ++ f)) ps kept.within (λ q within. grown_in full last f q within))
           (new_in full last f p is, tt);
       blocks = omega (arith, length-append last f);
       frames = omega arith;
@@ -99,34 +102,35 @@ put_kept full last f ps size p kept is some most =
     }
 
 -- The last block becomes a full one, and an empty one is the last.
-left_in : (full : List (List ℕ)) (last : List ℕ) (p : Place) → IsIn full last p → IsIn (full ++ last ∷ []) [] p
+left_in : (full : List (List ℕ)) (last : List ℕ) (p : FramePlace) → IsInBlock full last p → IsInBlock (full ++ last ∷ []) [] p
 left_in full last p within =
     let long : length (get_or (full ++ last ∷ []) p.block []) ≡ length (get_or full p.block last) =
     ap length (left_block full last p.block within.0) in
     let low = within.0 in
-    let same : frame_in (full ++ last ∷ []) [] p ≡ frame_in full last p =
+    let same : placed_bytes (full ++ last ∷ []) [] p ≡ placed_bytes full last p =
     ap (λ b. take p.count (drop p.from b)) (left_block full last p.block within.0) in
     (omega (arith, length-append full (last ∷ [])), omega arith, ap (λ b. named_by (frame_of b)) same ∙ within.2)
 
-pub left_frames : (full : List (List ℕ)) (last : List ℕ) (ps : List Place) → Each (IsIn full last) ps →
-    map (frame_in (full ++ last ∷ []) []) ps ≡ map (frame_in full last) ps
+pub left_frames : (full : List (List ℕ)) (last : List ℕ) (ps : List FramePlace) → Each (IsInBlock full last) ps →
+    map (placed_bytes (full ++ last ∷ []) []) ps ≡ map (placed_bytes full last) ps
 left_frames full last [] h = refl
 left_frames full last (p ∷ ps) h =
-    ap (λ b. take p.count (drop p.from b) ∷ map (frame_in (full ++ last ∷ []) []) ps) (left_block full last p.block h.0.0)
-    ∙ ap (λ l. frame_in full last p ∷ l) (left_frames full last ps h.1)
+    ap (λ b. take p.count (drop p.from b) ∷ map (placed_bytes (full ++ last ∷ []) []) ps) (left_block full last p.block h.0.0)
+    ∙ ap (λ l. placed_bytes full last p ∷ l) (left_frames full last ps h.1)
 
-pub left_kept : (full : List (List ℕ)) (last : List ℕ) (ps : List Place) (size : ℕ) → AreKept full last ps size → HALF_BYTES ≤ length last →
+pub left_kept : (full : List (List ℕ)) (last : List ℕ) (ps : List FramePlace) (size : ℕ) → AreKept full last ps size →
+    HALF_BYTES ≤ length last →
     AreKept (full ++ last ∷ []) [] ps size
 left_kept full last ps size kept half =
     let blocks = kept.blocks in
     let frames = kept.frames in
     let used = kept.used in
     let one : sum_by length (full ++ last ∷ []) ≡ sum_by length full + sum_by length (last ∷ []) = sum_by-append length full (last ∷ []) in
-    let all : sum_by length (map (frame_in (full ++ last ∷ []) []) ps) ≡ sum_by length (map (frame_in full last) ps) =
+    let all : sum_by length (map (placed_bytes (full ++ last ∷ []) []) ps) ≡ sum_by length (map (placed_bytes full last) ps) =
     ap (sum_by length) (left_frames full last ps kept.within) in
     record {
       within =
-          each_weaker (IsIn full last) (IsIn (full ++ last ∷ []) []) ps kept.within (λ q within. left_in full last q within);
+          each_weaker (IsInBlock full last) (IsInBlock (full ++ last ∷ []) []) ps kept.within (λ q within. left_in full last q within);
       blocks = omega arith;
       frames = omega arith;
       few = kept.few;

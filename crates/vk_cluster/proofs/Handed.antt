@@ -24,8 +24,8 @@ use Rattle.vk_rules.proofs.Lengths.{frames_fit}
 use Rattle.vk_rules.proofs.Lists.{each_append, each_weaker}
 use Rattle.v_lawful.specs.Sending.{IsLawfulEntry, IsLawfulFrame, IsSendable}
 use Rattle.vk_host.specs.Sealed.{OpensAs, sealed}
-use Rattle.vk_cluster.specs.Blocks.{IsFrame, named_by}
-use Rattle.vk_cluster.specs.Found.{bytes_for, events_in, if_addressed, if_for, is_addressed, opens_for, sent_of}
+use Rattle.vk_cluster.specs.Blocks.{IsFrameSized, named_by}
+use Rattle.vk_cluster.specs.Found.{bytes_for, events_in, if_addressed, if_for, is_addressed, opens_for, sealed_events}
 use Rattle.vk_cluster.specs.Piles.{from_one}
 use Rattle.vk_cluster.proofs.Found.{found_by_position}
 use Rattle.vk_cluster.proofs.Pieces.{each_one, from_one-map}
@@ -90,7 +90,7 @@ each_event P (e ∷ es) h = each_append (Each P) (events_in es) (e.frames ∷ []
 
 -- The bytes that are found by position are those of the frame that is found among all.
 pub found_bytes : FramesUnsealAgain → (logs : List (List (List (List ℕ)))) (place host to event output : ℕ) (es : List Entry) →
-    slice_get logs place ≡ Some (sent_of es) →
+    slice_get logs place ≡ Some (sealed_events es) →
     AllRise host es → Each IsLawfulEntry es →
     bytes_for to logs place event output ≡ option_map sealed (find (is_output to event output) (emitted es))
 found_bytes unseal logs place host to event output es at rise lawful =
@@ -122,12 +122,12 @@ header_some h =
     big_bytes 2 mark ++ big_bytes 2 h.source ++ big_bytes 2 h.destination ++ big_bytes 8 h.stamp ++ big_bytes 8 h.number ++ big_bytes 8 h.event in
     omega (arith, length-append front (big_bytes 2 h.output), length-bytes_high_first 2 h.output)
 
-sealed_frame : (f : Frame) → IsSendable f.packet → IsFrame (sealed f)
+sealed_frame : (f : Frame) → IsSendable f.packet → IsFrameSized (sealed f)
 sealed_frame f sendable = record {
   some = let some = header_some f.header in omega (arith, length-append (header_bytes f.header) (packet_bytes f.packet));
   few = sealed_length f sendable;
 }
 
-pub sealed_frames : (fs : List Frame) → Each (λ (f : Frame). IsSendable f.packet) fs → Each IsFrame (map sealed fs)
+pub sealed_frames : (fs : List Frame) → Each (λ (f : Frame). IsSendable f.packet) fs → Each IsFrameSized (map sealed fs)
 sealed_frames [] h = tt
 sealed_frames (f ∷ fs) h = (sealed_frame f h.0, sealed_frames fs h.1)

@@ -12,7 +12,7 @@ use Rattle.vk_rules.specs.Histories.{Logs, logs_after, no_entries}
 unfoldable use Rattle.vk_rules.specs.Histories.{with_entry, happened, history, logs_from}
 use Rattle.v_whole.specs.Schedules.{AreOfProcesses, IsOfProcess}
 use Rattle.v_whole.proofs.Histories.{logs_more}
-use Rattle.vk_cluster.specs.Standing.{bytes_of, emitted_bytes, logs_of}
+use Rattle.vk_cluster.specs.Standing.{emitted_bytes, event_bytes, logs_of}
 
 pub with_other : (logs : Logs) (host : ℕ) (e : Entry) (q : ℕ) → q ≢ host → with_entry logs host e q ≡ logs q
 unfolding with_entry
@@ -33,13 +33,14 @@ history_more c (x ∷ xs) logs e =
     ap (λ hs. happened c logs x ∷ hs) (history_more c xs (logs_after logs (happened c logs x)) e)
 
 pub bytes_next : (c : Settings) (es : List Event) (e : Event) →
-    emitted_bytes (history c no_entries (es ++ e ∷ [])) ≡ emitted_bytes (history c no_entries es) + bytes_of (happened c (logs_of c es) e)
+    emitted_bytes (history c no_entries (es ++ e ∷ []))
+    ≡ emitted_bytes (history c no_entries es) + event_bytes (happened c (logs_of c es) e)
 bytes_next c es e =
     let before = emitted_bytes (history c no_entries es) in
-    let last = bytes_of (happened c (logs_of c es) e) in
+    let last = event_bytes (happened c (logs_of c es) e) in
     let one : before + (0 + last) ≡ before + last = omega arith in
     ap emitted_bytes (history_more c es no_entries e)
-    ∙ sum_by-append bytes_of (history c no_entries es) (happened c (logs_of c es) e ∷ [])
+    ∙ sum_by-append event_bytes (history c no_entries es) (happened c (logs_of c es) e ∷ [])
     ∙ one
 
 pub processes_more : (specs : List ProcessSpec) (es : List Event) (e : Event) → AreOfProcesses specs es → IsOfProcess specs e →

@@ -4,8 +4,8 @@ use Rattle.std.proofs.lemmas.List.{length-drop, take-append-le, drop-append-le, 
 use Rattle.std.proofs.lemmas.Option.{none-some, slice_get-map}
 use Rattle.vk_rules.specs.Each.{Each}
 use Rattle.vk_rules.proofs.Lists.{each_weaker, each_at}
-use Rattle.vk_cluster.specs.declared.emitted.Piece.{Piece}
-use Rattle.vk_cluster.specs.Piles.{IsWithin, from_one, piece}
+use Rattle.vk_cluster.specs.declared.emitted.Span.{Span}
+use Rattle.vk_cluster.specs.Piles.{IsSpanWithin, from_one, spanned}
 
 -- What holds of each element holds of the one at a place, and of one that is written.
 
@@ -14,34 +14,34 @@ each_one P xs zero x h found = absurd (none-some x found)
 each_one P xs (suc n) x h found = each_at P xs n x h found
 
 -- A list that grows.
-pub piece_more : {A : Type 0} (xs ys : List A) (p : Piece) → IsWithin (length xs) p → piece (xs ++ ys) p ≡ piece xs p
+pub piece_more : {A : Type 0} (xs ys : List A) (p : Span) → IsSpanWithin (length xs) p → spanned (xs ++ ys) p ≡ spanned xs p
 piece_more xs ys p within =
     let start : p.from ≤ length xs = omega arith in
     let rest : p.count ≤ length (drop p.from xs) = omega (arith, length-drop p.from xs) in
     ap (take p.count) (drop-append-le p.from xs ys start) ∙ take-append-le p.count (drop p.from xs) ys rest
 
-pub pieces_more : {A : Type 0} (xs ys : List A) (ps : List Piece) → Each (IsWithin (length xs)) ps →
-    map (piece (xs ++ ys)) ps ≡ map (piece xs) ps
+pub pieces_more : {A : Type 0} (xs ys : List A) (ps : List Span) → Each (IsSpanWithin (length xs)) ps →
+    map (spanned (xs ++ ys)) ps ≡ map (spanned xs) ps
 pieces_more xs ys [] h = refl
 pieces_more xs ys (p ∷ ps) h =
-    ap (λ x. x ∷ map (piece (xs ++ ys)) ps) (piece_more xs ys p h.0) ∙ ap (λ l. piece xs p ∷ l) (pieces_more xs ys ps h.1)
+    ap (λ x. x ∷ map (spanned (xs ++ ys)) ps) (piece_more xs ys p h.0) ∙ ap (λ l. spanned xs p ∷ l) (pieces_more xs ys ps h.1)
 
-pub all_pieces_more : {A : Type 0} (xs ys : List A) (pss : List (List Piece)) → Each (Each (IsWithin (length xs))) pss →
-    map (map (piece (xs ++ ys))) pss ≡ map (map (piece xs)) pss
+pub all_pieces_more : {A : Type 0} (xs ys : List A) (pss : List (List Span)) → Each (Each (IsSpanWithin (length xs))) pss →
+    map (map (spanned (xs ++ ys))) pss ≡ map (map (spanned xs)) pss
 all_pieces_more xs ys [] h = refl
 all_pieces_more xs ys (ps ∷ pss) h =
-    ap (λ x. x ∷ map (map (piece (xs ++ ys))) pss) (pieces_more xs ys ps h.0)
-    ∙ ap (λ l. map (piece xs) ps ∷ l) (all_pieces_more xs ys pss h.1)
+    ap (λ x. x ∷ map (map (spanned (xs ++ ys))) pss) (pieces_more xs ys ps h.0)
+    ∙ ap (λ l. map (spanned xs) ps ∷ l) (all_pieces_more xs ys pss h.1)
 
-pub within_more : (n m : ℕ) (ps : List Piece) → n ≤ m → Each (IsWithin n) ps → Each (IsWithin m) ps
-within_more n m ps more h = each_weaker (IsWithin n) (IsWithin m) ps h (λ p in_n. omega arith)
+pub within_more : (n m : ℕ) (ps : List Span) → n ≤ m → Each (IsSpanWithin n) ps → Each (IsSpanWithin m) ps
+within_more n m ps more h = each_weaker (IsSpanWithin n) (IsSpanWithin m) ps h (λ p in_n. omega arith)
 
-pub all_within_more : (n m : ℕ) (pss : List (List Piece)) → n ≤ m → Each (Each (IsWithin n)) pss → Each (Each (IsWithin m)) pss
+pub all_within_more : (n m : ℕ) (pss : List (List Span)) → n ≤ m → Each (Each (IsSpanWithin n)) pss → Each (Each (IsSpanWithin m)) pss
 all_within_more n m pss more h =
-    each_weaker (Each (IsWithin n)) (Each (IsWithin m)) pss h (λ ps in_n. within_more n m ps more in_n)
+    each_weaker (Each (IsSpanWithin n)) (Each (IsSpanWithin m)) pss h (λ ps in_n. within_more n m ps more in_n)
 
 -- the last piece
-pub last_piece : {A : Type 0} (xs ys : List A) (p : Piece) → p.from ≡ length xs → p.count ≡ length ys → piece (xs ++ ys) p ≡ ys
+pub last_piece : {A : Type 0} (xs ys : List A) (p : Span) → p.from ≡ length xs → p.count ≡ length ys → spanned (xs ++ ys) p ≡ ys
 last_piece xs ys p start size =
     ap (λ n. take n (drop p.from (xs ++ ys))) size
     ∙ ap (λ n. take (length ys) (drop n (xs ++ ys))) start

@@ -8,8 +8,8 @@ use Rattle.std.proofs.lemmas.List.Folds.{concat-append}
 use Rattle.std.proofs.lemmas.List.Sums.{sum_by-append}
 use Rattle.vk_rules.specs.Each.{Each}
 use Rattle.vk_rules.proofs.Lists.{each_append}
-use Rattle.vk_cluster.specs.declared.emitted.Piece.{Piece}
-use Rattle.vk_cluster.specs.Piles.{IsWithin, piece, Pile, IsKept, shown, with_event, put_frame, end_event, IsAdding, IsAdded}
+use Rattle.vk_cluster.specs.declared.emitted.Span.{Span}
+use Rattle.vk_cluster.specs.Piles.{IsAdded, IsAdding, IsPileKept, IsSpanWithin, Pile, end_event, event_added, frames_by_event, put_frame, spanned}
 use Rattle.vk_cluster.proofs.Pieces.{all_pieces_more, all_within_more, last_piece}
 
 -- The bytes of all frames.
@@ -20,7 +20,7 @@ pub concat_push : (fs : List (List ℕ)) (f : List ℕ) → concat (fs ++ f ∷ 
 concat_push fs f = concat-append fs (f ∷ []) ∙ ap (λ l. concat fs ++ l) (append-nil f)
 
 -- Frames that are added.
-pub adding_none : (p : Pile) → IsKept p → IsAdding p p []
+pub adding_none : (p : Pile) → IsPileKept p → IsAdding p p []
 adding_none p kept = record {
   kept = kept;
   frames = sym (append-nil p.frames);
@@ -29,7 +29,7 @@ adding_none p kept = record {
   bytes = omega arith;
 }
 
-put_kept : (p : Pile) (f : List ℕ) → IsKept p → IsKept (put_frame p f)
+put_kept : (p : Pile) (f : List ℕ) → IsPileKept p → IsPileKept (put_frame p f)
 put_kept p f kept =
     let more : length p.frames ≤ length (p.frames ++ f ∷ []) = omega (arith, length-append p.frames (f ∷ [])) in
     all_within_more (length p.frames) (length (p.frames ++ f ∷ [])) p.events more kept
@@ -63,38 +63,38 @@ each_get P [] i d h none = none
 each_get P (y ∷ ys) zero d h none = h.0
 each_get P (y ∷ ys) (suc i) d h none = each_get P ys i d h.1 none
 
-ended_kept : (p : Pile) (place first : ℕ) → first ≤ length p.frames → IsKept p → IsKept (end_event p place first)
+ended_kept : (p : Pile) (place first : ℕ) → first ≤ length p.frames → IsPileKept p → IsPileKept (end_event p place first)
 ended_kept p place first low kept =
-    let one : Piece = record { from = first; count = length p.frames - first } in
-    let fits : IsWithin (length p.frames) one = omega arith in
-    each_set (Each (IsWithin (length p.frames))) p.events place (get_or p.events place [] ++ one ∷ []) kept
-    (each_append (IsWithin (length p.frames)) (get_or p.events place []) (one ∷ [])
-    (each_get (Each (IsWithin (length p.frames))) p.events place [] kept tt) (fits, tt))
+    let one : Span = record { from = first; count = length p.frames - first } in
+    let fits : IsSpanWithin (length p.frames) one = omega arith in
+    each_set (Each (IsSpanWithin (length p.frames))) p.events place (get_or p.events place [] ++ one ∷ []) kept
+    (each_append (IsSpanWithin (length p.frames)) (get_or p.events place []) (one ∷ [])
+    (each_get (Each (IsSpanWithin (length p.frames))) p.events place [] kept tt) (fits, tt))
 
-event_shown : (frames : List (List ℕ)) (events : List (List Piece)) (place : ℕ) (one : Piece) → place < length events →
-    map (map (piece frames)) (with_event events place one) ≡ with_event (map (map (piece frames)) events) place (piece frames one)
+event_shown : (frames : List (List ℕ)) (events : List (List Span)) (place : ℕ) (one : Span) → place < length events →
+    map (map (spanned frames)) (event_added events place one) ≡ event_added (map (map (spanned frames)) events) place (spanned frames one)
 event_shown frames events place one low =
-    let f : List Piece → List (List (List ℕ)) = map (piece frames) in
+    let f : List Span → List (List (List ℕ)) = map (spanned frames) in
     let old = get_or events place [] in
     map-set f events place (old ++ one ∷ [])
-    ∙ ap (set (map f events) place) (map_push (piece frames) old one
-    ∙ ap (λ l. l ++ piece frames one ∷ []) (sym (get_or-map f events place [] [] low)))
+    ∙ ap (set (map f events) place) (map_push (spanned frames) old one
+    ∙ ap (λ l. l ++ spanned frames one ∷ []) (sym (get_or-map f events place [] [] low)))
 
 added_one : (before now : Pile) (fs : List (List ℕ)) (place first : ℕ) → place < length before.events → first ≡ length before.frames →
     IsAdding before now fs →
     IsAdded before (end_event now place first) place fs
 added_one before now fs place first low at is =
     let count : length now.frames ≡ length before.frames + length fs = ap length is.frames ∙ length-append before.frames fs in
-    let one : Piece = record { from = first; count = length now.frames - first } in
+    let one : Span = record { from = first; count = length now.frames - first } in
     let size : length now.frames - first ≡ length fs = omega arith in
-    let below : place < length now.events = subst (λ (l : List (List Piece)). place < length l) (sym is.events) low in
+    let below : place < length now.events = subst (λ (l : List (List Span)). place < length l) (sym is.events) low in
     record {
       kept = ended_kept now place first (omega arith) is.kept;
       shown =
           event_shown now.frames now.events place one below
-          ∙ ap (λ l. with_event l place (piece now.frames one)) is.shown
-          ∙ ap (λ l. with_event (shown before) place (piece l one)) is.frames
-          ∙ ap (with_event (shown before) place) (last_piece before.frames fs one at size);
+          ∙ ap (λ l. event_added l place (spanned now.frames one)) is.shown
+          ∙ ap (λ l. event_added (frames_by_event before) place (spanned l one)) is.frames
+          ∙ ap (event_added (frames_by_event before) place) (last_piece before.frames fs one at size);
       bytes = is.bytes;
     }
 

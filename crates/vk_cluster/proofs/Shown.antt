@@ -1,14 +1,14 @@
 -- What a cluster shows of the event that it had last: the station that acted, and its frames.
-use Rattle.std.proofs.Common.{◌≡◌, ℕ, zero, suc, ◌+◌, ◌<◌, ◌≤◌, true, List, [], ◌∷◌, ◌++◌, length, map, drop, get_or, Option, Some, None, refl, sym, ap, subst, ◌∙◌, arith}
+use Rattle.std.proofs.Common.{◌≡◌, ℕ, zero, suc, ◌+◌, ◌<◌, ◌≤◌, true, List, [], ◌∷◌, ◌++◌, length, map, get_or, Option, Some, None, refl, sym, ap, subst, ◌∙◌, arith}
 use Rattle.std.specs.Prelude.{slice_get}
+use Rattle.vk_base.specs.declared.limits.TheConstants.{TICK_PACKETS}
 use Rattle.std.proofs.lemmas.Option.{none-some, same_Some, slice_get-get_or}
 use Rattle.vk_types.specs.Types.{EventAnswer}
 use Rattle.vk_base.specs.Packets.{Packet, Send, Reply, Pending, Negative, MoveData, MoveAck, MoveRequest, MoveBytes, MoveNegative, AskPid, TellPid}
 use Rattle.vk_base.specs.Settings.{Settings, has_station}
-use Rattle.vk_cluster.specs.declared.emitted.TheConstants.{EVENT_FRAMES}
 use Rattle.vk_cluster.specs.declared.report.ClusterAnswer.TheVariants as answers
 use Rattle.vk_cluster.specs.declared.report.StepReport.{StepReport}
-use Rattle.vk_cluster.specs.Standing.{ShowsLast, logs_of, report_of}
+use Rattle.vk_cluster.specs.Standing.{ShowsLast, logs_of, step_report}
 use Rattle.vk_cluster.specs.Values.{ClusterValue}
 use Rattle.vk_cluster.proofs.Logs.{logs_next}
 use Rattle.vk_cluster.proofs.Taking.{actor_station}
@@ -20,76 +20,43 @@ use Rattle.vk_frame.proofs.Opening.{again}
 use Rattle.vk_host.specs.Sealed.{OpensAs, sealed}
 use Rattle.vk_host.specs.Standing.{Shows}
 use Rattle.vk_host.specs.Values.{StationValue}
-use Rattle.vk_packet.specs.Reading.{packet_of}
 use Rattle.vk_packet.specs.Spelling.{packet_bytes}
 use Rattle.vk_rules.specs.Each.{Each}
 use Rattle.vk_rules.specs.Entries.{Entry}
-use Rattle.vk_rules.specs.Frames.{Frame, Framed, unsealed_behind, unsealed_by, unsealed_of}
+use Rattle.vk_rules.specs.Frames.{Frame}
 use Rattle.vk_rules.specs.Histories.{At, Happened, Logs, Missing, delivered, handed_over, logs_after}
 unfoldable use Rattle.vk_rules.specs.Histories.{happened}
-use Rattle.vk_rules.specs.Laws.{FramesUnsealAgain, station_of}
+use Rattle.vk_rules.specs.Laws.{AllRise, HaveHeaders, station_of}
 use Rattle.vk_rules.proofs.Headers.{headers_are_lawful}
 use Rattle.vk_rules.proofs.OwnEvents.{own_log}
-use Rattle.vk_rules.proofs.Rising.{entries_rise}
+use Rattle.vk_rules.proofs.Rising.{entries_rise, events_are}
 use Rattle.v_lawful.specs.Sending.{IsLawfulEntry, IsLawfulFrame}
 use Rattle.v_lawful.proofs.Schedules.{lawful_log, most_is}
-use Rattle.vk_cluster.specs.Shown.{HasReported, IsLast, Sends}
-
--- The bytes of a lawful frame open as its header and its packet.
-
-pub record IsOpened (f : Frame) (o : Option (Header × List ℕ)) : Type 0 where
-  pub rest : List ℕ
-  pub found : o ≡ Some (f.header, rest)
-  pub packet : packet_of rest ≡ Some f.packet
-
-opened_behind : (f : Frame) (g : Header) (rest : List ℕ) (o : Option Packet) → packet_of rest ≡ o →
-    unsealed_behind g o ≡ Framed f.header f.packet → IsOpened f (Some (g, rest))
-opened_behind f g rest None is e = absurd (cc)
-opened_behind f g rest (Some p) is e =
-    let header : g ≡ f.header = cc in
-    let packet : p ≡ f.packet = cc in
-    record { rest = rest; found = ap (λ h. Some (h, rest)) header; packet = is ∙ ap Some packet }
-
-opened_by : (f : Frame) (o : Option (Header × List ℕ)) → unsealed_by o ≡ Framed f.header f.packet → IsOpened f o
-opened_by f None e = absurd (cc)
-opened_by f (Some x) e = opened_behind f x.0 x.1 (packet_of x.1) refl e
-
-pub opened : FramesUnsealAgain → (f : Frame) (bytes : List ℕ) → IsLawfulFrame f → bytes ≡ sealed f → IsOpened f (frame_of bytes)
-opened unseal f bytes lawful is =
-    opened_by f (frame_of bytes)
-    (ap unsealed_of is ∙ unseal f.header f.packet lawful.header lawful.packet.packet lawful.packet.lawful)
+use Rattle.vk_cluster.specs.Shown.{HasReported, IsLastEvent, Sends}
 
 -- The frames of an event, one after another.
 
-pub record IsSent (fs : List Frame) (at : ℕ) (bytes : List ℕ) : Type 0 where
+pub record IsSentFrame (fs : List Frame) (at : ℕ) (bytes : List ℕ) : Type 0 where
   pub frame : Frame
   pub found : slice_get fs at ≡ Some frame
-  pub left : drop at fs ≡ frame ∷ drop (at + 1) fs
   pub lawful : IsLawfulFrame frame
   pub bytes_are : bytes ≡ sealed frame
 
 sent_at : (fs : List Frame) (at : ℕ) (bytes : List ℕ) → Each IsLawfulFrame fs → slice_get (map sealed fs) at ≡ Some bytes →
-    IsSent fs at bytes
+    IsSentFrame fs at bytes
 sent_at [] at bytes lawful found = absurd (none-some bytes found)
 sent_at (f ∷ fs) zero bytes lawful found =
-    record { frame = f; found = refl; left = refl; lawful = lawful.0; bytes_are = sym (same_Some (sealed f) bytes found) }
+    record { frame = f; found = refl; lawful = lawful.0; bytes_are = sym (same_Some (sealed f) bytes found) }
 sent_at (f ∷ fs) (suc at) bytes lawful found =
     let rest = sent_at fs at bytes lawful.1 found in
-    let same : suc (at + 1) ≡ suc at + 1 = omega arith in
-    record {
-      frame = rest.frame;
-      found = rest.found;
-      left = rest.left ∙ ap (λ n. rest.frame ∷ drop n (f ∷ fs)) same;
-      lawful = rest.lawful;
-      bytes_are = rest.bytes_are;
-    }
+    record { frame = rest.frame; found = rest.found; lawful = rest.lawful; bytes_are = rest.bytes_are }
 
 pub sent : (s : StationValue) (fs : List Frame) (at : ℕ) (bytes : List ℕ) → Sends s fs → slice_get s.frames at ≡ Some bytes →
-    IsSent fs at bytes
+    IsSentFrame fs at bytes
 sent s fs at bytes sends found =
     sent_at fs at bytes sends.lawful (ap (λ l. slice_get l at) (sym sends.frames) ∙ found)
 
-pub some_bytes : (p : Packet) → 1 ≤ length (packet_bytes p)
+some_bytes : (p : Packet) → 1 ≤ length (packet_bytes p)
 some_bytes (Send from to number message part) = omega arith
 some_bytes (Reply from to number message dest bytes) = omega arith
 some_bytes (Pending from to number) = omega arith
@@ -131,13 +98,13 @@ told s fs at to packet sends low opens =
 
 -- What is reported.
 
-pub record IsEntry (r : StepReport) (answer : EventAnswer) (h : Happened) : Type 0 where
+pub record IsReportedEntry (r : StepReport) (answer : EventAnswer) (h : Happened) : Type 0 where
   pub entry : Entry
   pub is : h ≡ At r.host r.event entry
   pub answered : answer ≡ entry.answer
 
-pub reported_entry : (r : StepReport) (answer : EventAnswer) (h : Happened) → r ≡ report_of h → r.answer ≡ answers.Event answer →
-    IsEntry r answer h
+pub reported_entry : (r : StepReport) (answer : EventAnswer) (h : Happened) → r ≡ step_report h → r.answer ≡ answers.Event answer →
+    IsReportedEntry r answer h
 reported_entry r answer (At host event e) is given =
     let at : At host event e ≡ At r.host r.event e = λ i. At (sym is i).host (sym is i).event e in
     let same : answers.Event answer ≡ answers.Event e.answer = sym given ∙ ap (λ (x : StepReport). x.answer) is in
@@ -145,16 +112,16 @@ reported_entry r answer (At host event e) is given =
 reported_entry r answer (Missing host) is given =
     let none : answers.Event answer ≡ answers.Missing = sym given ∙ ap (λ (x : StepReport). x.answer) is in absurd (cc)
 
-pub reported_missing : (r : StepReport) (h : Happened) → r ≡ report_of h → r.answer ≡ answers.Missing → h ≡ Missing r.host
+pub reported_missing : (r : StepReport) (h : Happened) → r ≡ step_report h → r.answer ≡ answers.Missing → h ≡ Missing r.host
 reported_missing r (At host event e) is given =
     let none : answers.Missing ≡ answers.Event e.answer = sym given ∙ ap (λ (x : StepReport). x.answer) is in absurd (cc)
 reported_missing r (Missing host) is given = ap (λ (x : StepReport). Missing x.host) (sym is)
 
-delivered_host : (c : Settings) (logs : Logs) (to : ℕ) (o : Option Frame) → (report_of (delivered c logs to o)).host ≡ to
+delivered_host : (c : Settings) (logs : Logs) (to : ℕ) (o : Option Frame) → (step_report (delivered c logs to o)).host ≡ to
 delivered_host c logs to None = refl
 delivered_host c logs to (Some f) = refl
 
-happened_host : (c : Settings) (logs : Logs) (e : Event) → (report_of (happened c logs e)).host ≡ station_of e
+happened_host : (c : Settings) (logs : Logs) (e : Event) → (step_report (happened c logs e)).host ≡ station_of e
 unfolding happened
 happened_host c logs (scheduled.Call pid call) = refl
 happened_host c logs (scheduled.Collect pid) = refl
@@ -191,7 +158,7 @@ module _ (c : Settings) (es : List Event) (now : ClusterValue) (e : Event) (r : 
         (headers_are_lawful c (es ++ e ∷ []) r.host some_host one_host (omega (arith, few))) (reported.next.stands.stands.sent r.host) in
         (subst (Each IsLawfulEntry) log_is all).0
 
-    pub few_frames : length entry.frames ≤ EVENT_FRAMES
+    pub few_frames : length entry.frames ≤ TICK_PACKETS
     few_frames = omega (arith, lawful_entry.few, most_is entry.input)
 
     pub shown : Shows s entry.answer entry
@@ -200,7 +167,20 @@ module _ (c : Settings) (es : List Event) (now : ClusterValue) (e : Event) (r : 
     pub sends : Sends s entry.frames
     sends = record { frames = shown.frames; lawful = lawful_entry.frames; few = few_frames }
 
-    pub last_is : (answer : EventAnswer) → answer ≡ entry.answer → IsLast s answer entry
+    -- the headers of its frames say what the station shows
+    pub headed : HaveHeaders r.host s.now s.number s.events 1 entry.frames
+    headed =
+        let before = logs_of c es r.host in
+        let rises = subst (AllRise r.host) log_is (entries_rise c (es ++ e ∷ []) r.host) in
+        let log : logs_of c (es ++ e ∷ []) s.host ≡ entry ∷ before = ap (logs_of c (es ++ e ∷ [])) here ∙ log_is in
+        let events = (reported.next.stands.stands.at place s found).events in
+        let read = events_are c s.host (logs_of c (es ++ e ∷ []) s.host) in
+        let count : s.events ≡ length before + 1 = let long = ap length log in omega (arith, events, read, long) in
+        subst (λ n. HaveHeaders r.host s.now s.number n 1 entry.frames) (sym count)
+        (subst (λ n. HaveHeaders r.host s.now n (length before + 1) 1 entry.frames) (sym shown.number)
+        (subst (λ n. HaveHeaders r.host n entry.number (length before + 1) 1 entry.frames) (sym shown.tick) rises.0.frames))
+
+    pub last_is : (answer : EventAnswer) → answer ≡ entry.answer → IsLastEvent s answer entry
     last_is answer given = record {
       shows = record {
         answer = given;

@@ -6,7 +6,7 @@ use Rattle.std.proofs.lemmas.Bool.{cases_eq}
 use Rattle.std.proofs.lemmas.List.{length-map, length_push, map_push}
 use Rattle.std.proofs.lemmas.Option.{get_or_from_slice_get, same_Some, slice_get-map}
 use Rattle.vk_types.specs.Types.{EventAnswer}
-use Rattle.vk_base.specs.declared.limits.TheConstants.{EVENTS}
+use Rattle.vk_base.specs.declared.limits.TheConstants.{EVENTS, TICK_PACKETS}
 use Rattle.vk_base.specs.Settings.{Settings, stations_of}
 use Rattle.vk_schedule.specs.declared.event.Event.{Event}
 use Rattle.vk_rules.specs.Each.{Each}
@@ -21,12 +21,12 @@ use Rattle.v_whole.specs.Schedules.{IsOfProcess}
 use Rattle.vk_host.specs.Sealed.{sealed}
 use Rattle.vk_host.specs.Standing.{StandsAt, IsEvent, Shows}
 use Rattle.vk_host.specs.Values.{StationValue}
-use Rattle.vk_cluster.specs.declared.emitted.TheConstants.{EVENT_BYTES, EVENT_FRAMES}
+use Rattle.vk_cluster.specs.declared.emitted.TheConstants.{EVENT_BYTES}
 use Rattle.vk_cluster.specs.declared.report.ClusterAnswer.TheVariants as answers
-use Rattle.vk_cluster.specs.Found.{events_in, sent_of}
-use Rattle.vk_cluster.specs.Blocks.{IsFrame}
-use Rattle.vk_cluster.specs.Piles.{AreFrames, IsAdded, Pile, piece, shown, with_event}
-use Rattle.vk_cluster.specs.Standing.{AreAt, ShowsLast, ShowsNewest, StandsFor, bytes_of, logs_of, report_of}
+use Rattle.vk_cluster.specs.Found.{events_in, sealed_events}
+use Rattle.vk_cluster.specs.Blocks.{IsFrameSized}
+use Rattle.vk_cluster.specs.Piles.{AreFrames, IsAdded, Pile, event_added, frames_by_event, spanned}
+use Rattle.vk_cluster.specs.Standing.{AreAt, ShowsLast, ShowsNewest, StandsFor, event_bytes, logs_of, step_report}
 use Rattle.vk_cluster.specs.Values.{ClusterValue}
 use Rattle.vk_cluster.proofs.Handed.{sealed_frames, sealed_size}
 use Rattle.vk_cluster.proofs.Logs.{bytes_next, get_set_other, get_set_same, logs_next, processes_more, with_other}
@@ -55,29 +55,29 @@ as_many c logs hosts pile at = sym (length-map hosts (λ (t : StationValue). t.h
 pub as_many_events : (c : Settings) (logs : Logs) (hosts : List StationValue) (pile : Pile) → AreAt c logs hosts pile →
     length pile.events ≡ length (stations_of c.specs)
 as_many_events c logs hosts pile at =
-    sym (length-map pile.events (map (piece pile.frames)))
+    sym (length-map pile.events (map (spanned pile.frames)))
     ∙ ap length at.emitted
-    ∙ length-map (stations_of c.specs) (λ host. sent_of (logs host))
+    ∙ length-map (stations_of c.specs) (λ host. sealed_events (logs host))
 
 -- The frames of all stations with one entry more.
 emitted_more : (c : Settings) (logs : Logs) (before : List (List (List (List ℕ)))) (place host : ℕ) (e : Entry) (fs : List (List ℕ)) →
-    slice_get (stations_of c.specs) place ≡ Some host → before ≡ map (λ q. sent_of (logs q)) (stations_of c.specs) →
+    slice_get (stations_of c.specs) place ≡ Some host → before ≡ map (λ q. sealed_events (logs q)) (stations_of c.specs) →
     fs ≡ map sealed e.frames →
-    with_event before place fs ≡ map (λ q. sent_of (with_entry logs host e q)) (stations_of c.specs)
+    event_added before place fs ≡ map (λ q. sealed_events (with_entry logs host e q)) (stations_of c.specs)
 emitted_more c logs before place host e fs there is frames =
-    let f : ℕ → List (List (List ℕ)) = λ q. sent_of (logs q) in
-    let g : ℕ → List (List (List ℕ)) = λ q. sent_of (with_entry logs host e q) in
+    let f : ℕ → List (List (List ℕ)) = λ q. sealed_events (logs q) in
+    let g : ℕ → List (List (List ℕ)) = λ q. sealed_events (with_entry logs host e q) in
     let hs = stations_of c.specs in
     let old : get_or (map f hs) place [] ≡ f host =
     get_or_from_slice_get (map f hs) place (f host) [] (slice_get-map f hs place
     ∙ ap (λ (o : Option ℕ). option_map f o) there) in
     let more : g host ≡ f host ++ map sealed e.frames ∷ [] =
-    ap sent_of (own_log logs host e) ∙ map_push (map sealed) (events_in (logs host)) e.frames in
-    ap (λ l. with_event l place fs) is
-    ∙ ap (with_event (map f hs) place) frames
+    ap sealed_events (own_log logs host e) ∙ map_push (map sealed) (events_in (logs host)) e.frames in
+    ap (λ l. event_added l place fs) is
+    ∙ ap (event_added (map f hs) place) frames
     ∙ ap (λ l. set (map f hs) place (l ++ map sealed e.frames ∷ [])) old
     ∙ ap (set (map f hs) place) (sym more)
-    ∙ set_map f g hs place host (stations_apart c.specs) there (λ q apart. ap sent_of (with_other logs host e q apart))
+    ∙ set_map f g hs place host (stations_apart c.specs) there (λ q apart. ap sealed_events (with_other logs host e q apart))
 
 -- One station has an event.
 module _ (c : Settings) (logs : Logs) (hosts : List StationValue) (before : Pile) (place : ℕ) (s t : StationValue) (i : Input)
@@ -94,7 +94,7 @@ module _ (c : Settings) (logs : Logs) (hosts : List StationValue) (before : Pile
   frames_are = (event.shows c (logs s.host) here).frames
 
   -- not too many frames, and not too many bytes
-  frame_count : length t.frames ≤ EVENT_FRAMES
+  frame_count : length t.frames ≤ TICK_PACKETS
   frame_count =
       let few = log.entries.0.few in
       let most : most_packets (entry_of c s.host (logs s.host) i).input ≤ 2048 =
@@ -107,7 +107,7 @@ module _ (c : Settings) (logs : Logs) (hosts : List StationValue) (before : Pile
   few_frames = record {
     few = frame_count;
     each =
-        subst (Each IsFrame) (sym frames_are)
+        subst (Each IsFrameSized) (sym frames_are)
         (sealed_frames (entry_of c s.host (logs s.host) i).frames log.entries.0.packets);
   }
 
@@ -184,7 +184,7 @@ module _ (c : Settings) (logs : Logs) (hosts : List StationValue) (before : Pile
     kept = added.kept;
     emitted =
         added.shown
-        ∙ emitted_more c logs (shown before) place s.host (entry_of c s.host (logs s.host) i) t.frames
+        ∙ emitted_more c logs (frames_by_event before) place s.host (entry_of c s.host (logs s.host) i) t.frames
         (place_host c logs hosts before place s all found) all.emitted frames_are;
     sent = λ host. (new_log host).entries;
     fitting = λ host. (new_log host).fitting;
@@ -193,7 +193,7 @@ module _ (c : Settings) (logs : Logs) (hosts : List StationValue) (before : Pile
 -- A cluster with one event more.
 pub next_stands : (c : Settings) (es : List Event) (old new : ClusterValue) (e : Event) (h : Happened) → StandsFor c es old →
     happened c (logs_of c es) e ≡ h → AreAt c (logs_after (logs_of c es) h) new.hosts new.pile →
-    length new.pile.bytes ≡ length old.pile.bytes + bytes_of h → new.events ≡ old.events + 1 → new.config ≡ old.config → old.events < EVENTS →
+    length new.pile.bytes ≡ length old.pile.bytes + event_bytes h → new.events ≡ old.events + 1 → new.config ≡ old.config → old.events < EVENTS →
     IsOfProcess c.specs e →
     StandsFor c (es ++ e ∷ []) new
 next_stands c es old new e h st is all bytes events config few process =
@@ -201,7 +201,7 @@ next_stands c es old new e h st is all bytes events config few process =
     let before = st.events in
     let size = st.bytes in
     let grown = bytes_next c es e in
-    let more : bytes_of (happened c (logs_of c es) e) ≡ bytes_of h = ap bytes_of is in
+    let more : event_bytes (happened c (logs_of c es) e) ≡ event_bytes h = ap event_bytes is in
     record {
       config = config ∙ st.config;
       lawful = st.lawful;
@@ -232,6 +232,6 @@ shows_last c logs hosts before place s t i given all found event q u there at = 
 ]
 
 pub report_is : (t : StationValue) (given : EventAnswer) (host event : ℕ) (e : Entry) → t.host ≡ host → t.events ≡ event → given ≡ e.answer →
-    record { host = t.host; event = t.events; answer = answers.Event given } ≡ report_of (At host event e)
+    record { host = t.host; event = t.events; answer = answers.Event given } ≡ step_report (At host event e)
 report_is t given host event e a b x =
     λ k. record { host = a k; event = b k; answer = answers.Event (x k) }

@@ -4,7 +4,7 @@ use Rattle.std.specs.Prelude.{slice_get}
 use Rattle.std.specs.List.{concat}
 use Rattle.std.proofs.lemmas.Bool.{and_parts, leb-false, ltb-false, or_cases, or_left, or_parts, or_right}
 use Rattle.vk_types.specs.Types.{Pid, ProcessSpec}
-use Rattle.vk_base.specs.declared.limits.TheConstants.{EVENTS}
+use Rattle.vk_base.specs.declared.limits.TheConstants.{EVENTS, TICK_PACKETS}
 use Rattle.vk_base.specs.Options.{◌>>=◌}
 use Rattle.vk_base.specs.Settings.{Settings, has_process, has_station, is_on, is_process}
 use Rattle.vk_schedule.specs.declared.event.Event.{Event}
@@ -14,13 +14,13 @@ use Rattle.vk_frame.specs.Reading.{frame_of}
 use Rattle.vk_rules.specs.Laws.{station_of}
 use Rattle.vk_host.specs.Standing.{StandsAt}
 use Rattle.vk_host.specs.Values.{StationValue}
-use Rattle.vk_cluster.specs.declared.cluster.Parts.{Parts}
-use Rattle.vk_cluster.specs.declared.emitted.Emitted.{Emitted}
-use Rattle.vk_cluster.specs.declared.emitted.TheConstants.{EVENT_BYTES, EVENT_FRAMES, LAST_BYTES}
-use Rattle.vk_cluster.specs.Clusters.{value_of}
+use Rattle.vk_cluster.specs.declared.cluster.ClusterParts.{ClusterParts}
+use Rattle.vk_cluster.specs.declared.emitted.EmittedFrames.{EmittedFrames}
+use Rattle.vk_cluster.specs.declared.emitted.TheConstants.{EVENT_BYTES, LAST_BYTES}
+use Rattle.vk_cluster.specs.Clusters.{cluster_of}
 use Rattle.vk_cluster.specs.Found.{if_for, opens_for}
-use Rattle.vk_cluster.specs.Piles.{HasRoom, IsAdded, Pile, items_of, pile_of}
-use Rattle.vk_cluster.specs.Standing.{IsFinished, ShowsNewest, StandsFor, logs_of}
+use Rattle.vk_cluster.specs.Piles.{HasFrameRoom, IsAdded, Pile, items_of, pile_of}
+use Rattle.vk_cluster.specs.Standing.{IsEventFinished, ShowsNewest, StandsFor, logs_of}
 use Rattle.vk_cluster.specs.Values.{ClusterValue}
 
 -- who acts has a station in the configuration
@@ -47,12 +47,13 @@ pub few_bytes : (over : Bool) (bytes : ℕ) → (over || nat_lt LAST_BYTES bytes
 few_bytes over bytes h = ltb-false LAST_BYTES bytes (or_parts over (nat_lt LAST_BYTES bytes) h).1
 
 -- room alone changes nothing that is kept
-pub same_pile : (old new : Emitted) → new.frames.items ≡ old.frames.items →
+pub same_pile : (old new : EmittedFrames) → new.frames.items ≡ old.frames.items →
     map items_of new.events.items ≡ map items_of old.events.items → pile_of new ≡ pile_of old
 same_pile old new frames events = λ k. record { bytes = concat (frames k); frames = frames k; events = events k }
 
-pub same_value : (k : Parts) (e : Emitted) → pile_of e ≡ pile_of k.emitted → value_of (record k { emitted = e }) ≡ value_of k
-same_value k e same = ap (λ p. record (value_of k) { pile = p }) same
+pub same_value : (k : ClusterParts) (e : EmittedFrames) → pile_of e ≡ pile_of k.emitted →
+    cluster_of (record k { emitted = e }) ≡ cluster_of k
+same_value k e same = ap (λ p. record (cluster_of k) { pile = p }) same
 
 -- the station at a place stands for its entries
 pub station_at : (c : Settings) (es : List Event) (v : ClusterValue) (place host : ℕ) (s : StationValue) → StandsFor c es v →
@@ -66,7 +67,7 @@ newest_at c es v place host s st found same = subst (λ h. ShowsNewest (logs_of 
 
 -- what is left to do once the station at a place has had its event
 pub finished : (mid : ClusterValue) (pile : Pile) (place : ℕ) (t : StationValue) → IsAdded mid.pile pile place t.frames →
-    IsFinished mid (record mid { pile = pile; events = mid.events + 1 }) place t
+    IsEventFinished mid (record mid { pile = pile; events = mid.events + 1 }) place t
 finished mid pile place t added = record { config = refl; hosts = refl; pile = added; events = refl }
 
 -- the bytes that are found are handed over where they are for this station
@@ -79,8 +80,8 @@ pub refused_if : (to : ℕ) (bytes : List ℕ) (o : Option (List ℕ)) → o ≡
 refused_if to bytes o found is = ap (λ p. p >>= if_for to) found ∙ ap (λ b. cond b (Some bytes) None) is
 
 -- room for more is room for less
-pub room_for : (e : Emitted) (place bytes frames : ℕ) → bytes ≤ EVENT_BYTES → frames ≤ EVENT_FRAMES →
-    HasRoom e place EVENT_BYTES EVENT_FRAMES → HasRoom e place bytes frames
+pub room_for : (e : EmittedFrames) (place bytes frames : ℕ) → bytes ≤ EVENT_BYTES → frames ≤ TICK_PACKETS →
+    HasFrameRoom e place EVENT_BYTES TICK_PACKETS → HasFrameRoom e place bytes frames
 room_for e place bytes frames low few room =
     let for_bytes = room.for_bytes in
     let for_frames = room.for_frames in

@@ -7,14 +7,14 @@ use Rattle.vk_host.specs.Values.{StationValue}
 use Rattle.vk_cluster.specs.declared.report.Advance.{Advance}
 use Rattle.vk_cluster.specs.declared.report.Advance.TheVariants as advances
 use Rattle.vk_cluster.specs.declared.report.StepReport.{StepReport}
-use Rattle.vk_cluster.specs.Standing.{Tells, report_by}
+use Rattle.vk_cluster.specs.Standing.{TellsReport, report_by}
 use Rattle.vk_cluster.specs.Values.{ClusterValue}
 
-module _ (k : ClusterValue) (a : Advance) (place : ℕ) (given : Response) (r : StepReport) (is : a ≡ advances.Event place given) (told : Tells k a r)
+module _ (k : ClusterValue) (a : Advance) (place : ℕ) (given : Response) (r : StepReport) (is : a ≡ advances.Event place given) (told : TellsReport k a r)
   where
     -- a station is in the place
     pub station_told : (s : StationValue) × (slice_get k.hosts place ≡ Some s) × (r ≡ report_by s given)
-    station_told = subst (λ x. Tells k x r) is told
+    station_told = subst (λ x. TellsReport k x r) is told
 
     -- and its report is told
     pub report_told : (s : StationValue) → slice_get k.hosts place ≡ Some s → r ≡ report_by s given

@@ -7,7 +7,7 @@ use Rattle.vk_frame.specs.declared.header.Header.{Header}
 use Rattle.vk_frame.specs.Reading.{frame_of}
 use Rattle.vk_rules.specs.Each.{Each}
 use Rattle.vk_rules.specs.Frames.{every_station}
-use Rattle.vk_cluster.specs.declared.frames.Place.{Place}
+use Rattle.vk_cluster.specs.declared.frames.FramePlace.{FramePlace}
 use Rattle.vk_cluster.specs.declared.frames.TheConstants.{HALF_BYTES, MOST_BYTES}
 
 -- what contracts see of them: the frames, and for how many bytes and frames more memory is taken
@@ -17,34 +17,34 @@ pub record FrameList : Type 0 where
   pub places : ℕ
 
 -- what is put has bytes, and not too many
-pub record IsFrame (bytes : List ℕ) : Type 0 where
+pub record IsFrameSized (bytes : List ℕ) : Type 0 where
   pub some : 0 < length bytes
   pub few : length bytes ≤ FRAME_BYTES
 
-abbrev pub bytes_of : Vec ℕ → List ℕ
-bytes_of v = v.items
+abbrev pub block_bytes : Vec ℕ → List ℕ
+block_bytes v = v.items
 
 -- the block with this number, counted from 0: one of the full ones, or the last behind them
-abbrev pub block_at : List (List ℕ) → List ℕ → ℕ → List ℕ
-block_at full last n = slice_index_or full n last
+abbrev pub frame_block : List (List ℕ) → List ℕ → ℕ → List ℕ
+frame_block full last n = slice_index_or full n last
 
 -- the station that a frame which was opened is for; every station, too, where the bytes open as none
 abbrev pub named_by : Option (Header × List ℕ) → ℕ
 named_by o = option_map_or (λ (f : Header × List ℕ). f.0.destination) o every_station
 
 -- the bytes of a frame that stands there, and that they lie within the block, and are for the station of the place
-abbrev pub frame_in : List (List ℕ) → List ℕ → Place → List ℕ
-frame_in full last p = take p.count (drop p.from (block_at full last p.block))
+abbrev pub placed_bytes : List (List ℕ) → List ℕ → FramePlace → List ℕ
+placed_bytes full last p = take p.count (drop p.from (frame_block full last p.block))
 
-abbrev pub IsIn : List (List ℕ) → List ℕ → Place → Type 0
-IsIn full last p = (p.block ≤ length full) × (p.from + p.count ≤ length (block_at full last p.block))
-    × (named_by (frame_of (frame_in full last p)) ≡ p.to)
+abbrev pub IsInBlock : List (List ℕ) → List ℕ → FramePlace → Type 0
+IsInBlock full last p = (p.block ≤ length full) × (p.from + p.count ≤ length (frame_block full last p.block))
+    × (named_by (frame_of (placed_bytes full last p)) ≡ p.to)
 
 -- Each frame lies within its block, all bytes are those of frames, none of which is empty, and each full block is half used.
-pub record AreKept (full : List (List ℕ)) (last : List ℕ) (places : List Place) (size : ℕ) : Type 0 where
-  pub within : Each (IsIn full last) places
+pub record AreKept (full : List (List ℕ)) (last : List ℕ) (places : List FramePlace) (size : ℕ) : Type 0 where
+  pub within : Each (IsInBlock full last) places
   pub blocks : size ≡ sum_by length full + length last
-  pub frames : size ≡ sum_by length (map (frame_in full last) places)
+  pub frames : size ≡ sum_by length (map (placed_bytes full last) places)
   pub few : length places ≤ size
   pub most : size ≤ MOST_BYTES
   pub used : HALF_BYTES * length full ≤ sum_by length full

@@ -13,8 +13,8 @@ abbrev pub events_in : List Entry → List (List Frame)
 events_in [] = []
 events_in (e ∷ es) = events_in es ++ e.frames ∷ []
 
-abbrev pub sent_of : List Entry → List (List (List ℕ))
-sent_of es = map (map sealed) (events_in es)
+abbrev pub sealed_events : List Entry → List (List (List ℕ))
+sealed_events es = map (map sealed) (events_in es)
 
 -- a header is for a station where it names it, or names every station and comes from another
 abbrev pub is_addressed : ℕ → Header → Bool

@@ -1,11 +1,11 @@
 -- Of the code alone, no law rests on it: what a cluster tells and shows of the event that it had last.
 use Rattle.std.specs.Prelude.{◌≡◌, ◌≤◌, List, length, map, true}
+use Rattle.vk_base.specs.declared.limits.TheConstants.{TICK_PACKETS}
 use Rattle.vk_types.specs.Types.{EventAnswer}
 use Rattle.vk_base.specs.Settings.{Settings}
-use Rattle.vk_cluster.specs.declared.emitted.TheConstants.{EVENT_FRAMES}
 use Rattle.vk_cluster.specs.declared.report.Advance.{Advance}
 use Rattle.vk_cluster.specs.declared.report.StepReport.{StepReport}
-use Rattle.vk_cluster.specs.Standing.{IsNext, Tells}
+use Rattle.vk_cluster.specs.Standing.{IsNextReported, TellsReport}
 use Rattle.vk_cluster.specs.Values.{ClusterValue}
 use Rattle.vk_schedule.specs.declared.event.Event.{Event}
 use Rattle.vk_schedule.specs.Lawful.{has_actors}
@@ -21,20 +21,20 @@ use Rattle.v_lawful.specs.Sending.{IsLawfulFrame}
 pub record Sends (s : StationValue) (fs : List Frame) : Type 0 where
   pub frames : s.frames ≡ map sealed fs
   pub lawful : Each IsLawfulFrame fs
-  pub few : length fs ≤ EVENT_FRAMES
+  pub few : length fs ≤ TICK_PACKETS
 
 -- the station's last event is this entry, and was answered so
-pub record IsLast (s : StationValue) (answer : EventAnswer) (e : Entry) : Type 0 where
+pub record IsLastEvent (s : StationValue) (answer : EventAnswer) (e : Entry) : Type 0 where
   pub shows : Shows s answer e
   pub sends : Sends s e.frames
 
 -- the cluster reports so of this event, which is behind these and of a process or of stations of the configuration
 pub record HasReported (c : Settings) (es : List Event) (now : ClusterValue) (e : Event) (r : StepReport) : Type 0 where
   pub actors : has_actors c.specs e ≡ true
-  pub next : IsNext c es now e r
+  pub next : IsNextReported c es now e r
 
 -- the cluster reports so of this event, in few bytes
 pub record HasAdvanced (c : Settings) (es : List Event) (now : ClusterValue) (e : Event) (a : Advance) : Type 0 where
   pub report : StepReport
-  pub told : Tells now a report
+  pub told : TellsReport now a report
   pub reported : HasReported c es now e report

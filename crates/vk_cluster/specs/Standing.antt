@@ -23,8 +23,8 @@ use Rattle.vk_cluster.specs.declared.report.ClusterAnswer.TheVariants as answers
 use Rattle.vk_cluster.specs.declared.report.ClusterRefusal.{ClusterRefusal}
 use Rattle.vk_cluster.specs.declared.report.ClusterRefusal.TheVariants as refusals
 use Rattle.vk_cluster.specs.declared.report.StepReport.{StepReport}
-use Rattle.vk_cluster.specs.Found.{sent_of}
-use Rattle.vk_cluster.specs.Piles.{IsAdded, IsKept, Pile, shown}
+use Rattle.vk_cluster.specs.Found.{sealed_events}
+use Rattle.vk_cluster.specs.Piles.{IsAdded, IsPileKept, Pile, frames_by_event}
 use Rattle.vk_cluster.specs.Values.{ClusterValue}
 
 -- the entries of each station after these events
@@ -32,12 +32,12 @@ abbrev pub logs_of : Settings → List Event → Logs
 logs_of c es = logs_from c no_entries es
 
 -- how many bytes the frames of an event have, and those of all
-abbrev pub bytes_of : Happened → ℕ
-bytes_of (At host event e) = sum_by length (map sealed e.frames)
-bytes_of (Missing host) = 0
+abbrev pub event_bytes : Happened → ℕ
+event_bytes (At host event e) = sum_by length (map sealed e.frames)
+event_bytes (Missing host) = 0
 
 abbrev pub emitted_bytes : List Happened → ℕ
-emitted_bytes hs = sum_by bytes_of hs
+emitted_bytes hs = sum_by event_bytes hs
 
 -- a station shows its newest entry, if it has any, with the steps and the frames of that event
 abbrev pub ShowsNewest : List Entry → StationValue → Type 0
@@ -50,8 +50,8 @@ pub record AreAt (c : Settings) (logs : Logs) (hosts : List StationValue) (pile 
   pub order : map (λ (s : StationValue). s.host) hosts ≡ stations_of c.specs
   pub at : (place : ℕ) (s : StationValue) → slice_get hosts place ≡ Some s → StandsAt c (logs s.host) s
   pub newest : (place : ℕ) (s : StationValue) → slice_get hosts place ≡ Some s → ShowsNewest (logs s.host) s
-  pub kept : IsKept pile
-  pub emitted : shown pile ≡ map (λ host. sent_of (logs host)) (stations_of c.specs)
+  pub kept : IsPileKept pile
+  pub emitted : frames_by_event pile ≡ map (λ host. sealed_events (logs host)) (stations_of c.specs)
   pub sent : (host : ℕ) → Each IsSentEntry (logs host)
   pub fitting : (host : ℕ) → IsFitting c host (reading c host (logs host))
 
@@ -80,9 +80,9 @@ is_limit refusals.Limit = true
 is_limit refusals.NoMemory = false
 
 -- what is told of what happened
-abbrev pub report_of : Happened → StepReport
-report_of (At host event e) = record { host = host; event = event; answer = answers.Event e.answer }
-report_of (Missing host) = record { host = host; event = 0; answer = answers.Missing }
+abbrev pub step_report : Happened → StepReport
+step_report (At host event e) = record { host = host; event = event; answer = answers.Event e.answer }
+step_report (Missing host) = record { host = host; event = 0; answer = answers.Missing }
 
 -- the station that acted shows the entry, with the steps and the frames of the event
 abbrev pub ShowsLast : List StationValue → Happened → Type 0
@@ -90,32 +90,32 @@ ShowsLast hosts (At host event e) = (place : ℕ) (s : StationValue) → slice_g
 ShowsLast hosts (Missing host) = Unit {0}
 
 -- An event behind others: the report is what is told of what happens, the station shows it, and the cluster stands for one event more.
-pub record IsNext (c : Settings) (es : List Event) (new : ClusterValue) (e : Event) (r : StepReport) : Type 0 where
-  pub report : r ≡ report_of (happened c (logs_of c es) e)
+pub record IsNextReported (c : Settings) (es : List Event) (new : ClusterValue) (e : Event) (r : StepReport) : Type 0 where
+  pub report : r ≡ step_report (happened c (logs_of c es) e)
   pub shows : ShowsLast new.hosts (happened c (logs_of c es) e)
   pub stands : StandsFor c (es ++ e ∷ []) new
 
 -- It is so whatever events the cluster stood for.
 abbrev pub IsStep : ClusterValue → ClusterValue → Event → StepReport → Type 0
-IsStep old new e r = (c : Settings) (es : List Event) → StandsFor c es old → IsNext c es new e r
+IsStep old new e r = (c : Settings) (es : List Event) → StandsFor c es old → IsNextReported c es new e r
 
 -- A report of few bytes stands for this one, until the next event: there was nothing to deliver to a station; or the station in a place
 -- had the event, and answers so.
 abbrev pub report_by : StationValue → Response → StepReport
 report_by s given = record { host = s.host; event = s.events; answer = answers.Event (answer_of s given) }
 
-abbrev pub Tells : ClusterValue → Advance → StepReport → Type 0
-Tells k (advances.Missing host) r = r ≡ report_of (Missing host)
-Tells k (advances.Event place given) r = (s : StationValue) × (slice_get k.hosts place ≡ Some s) × (r ≡ report_by s given)
+abbrev pub TellsReport : ClusterValue → Advance → StepReport → Type 0
+TellsReport k (advances.Missing host) r = r ≡ step_report (Missing host)
+TellsReport k (advances.Event place given) r = (s : StationValue) × (slice_get k.hosts place ≡ Some s) × (r ≡ report_by s given)
 
 -- a step, of which so is told
 pub record IsAdvance (old new : ClusterValue) (e : Event) (a : Advance) : Type 0 where
   pub report : StepReport
-  pub told : Tells new a report
+  pub told : TellsReport new a report
   pub step : IsStep old new e report
 
 -- Of the code alone: what is left to do once the station at a place has had its event and been put back, as this value.
-pub record IsFinished (mid new : ClusterValue) (place : ℕ) (t : StationValue) : Type 0 where
+pub record IsEventFinished (mid new : ClusterValue) (place : ℕ) (t : StationValue) : Type 0 where
   pub config : new.config ≡ mid.config
   pub hosts : new.hosts ≡ mid.hosts
   pub pile : IsAdded mid.pile new.pile place t.frames

@@ -1,6 +1,7 @@
 //! The cluster and its events.
 
-ghost use Rattle.std.specs.Prelude.{◌≡◌, ◌≤◌, ◌<◌, ◌+◌, ◌^◌, ◌||◌, ℕ, List, [], true, false, None, Some, length, map, sum_by, nat_le, nat_lt, slice_get, slice_index, IfOk, IfErr, OnErr, MatchOption};
+ghost use Rattle.std.specs.Prelude.{◌≡◌, ◌≤◌, ◌<◌, ◌+◌, ◌||◌, ℕ, List, [], true, false, None, Some, length, map, sum_by, nat_le, nat_lt, slice_get, slice_index, IfOk, IfErr, OnErr, MatchOption};
+ghost use Rattle.vk_base.specs.declared.limits.TheConstants.{STATION_EVENTS};
 ghost use Rattle.vk_base.specs.Pids.{IsPid};
 ghost use Rattle.vk_base.specs.Settings.{Settings, has_station, stations_of};
 ghost use Rattle.vk_schedule.specs.declared.event.Event.{Event as TheEvent};
@@ -16,41 +17,38 @@ ghost use Rattle.vk_cluster.specs.declared.report.StepReport.{StepReport as TheR
 ghost use Rattle.vk_cluster.specs.Blocks.{named_by};
 ghost use Rattle.vk_cluster.specs.Events.{ComesWith, FindsNone, input_with, is_own};
 ghost use Rattle.vk_cluster.specs.Found.{bytes_for, is_addressed, opens_for};
-ghost use Rattle.vk_cluster.specs.Piles.{AreFrames, HasRoom, IsAdded, IsKept, pile_of, shown};
-ghost use Rattle.vk_cluster.specs.Standing.{AreHosts, IsAdvance, IsFinished, IsStep, ShowsNewest, StandsFor, StandsSomewhere, Tells, is_limit, logs_of};
-ghost use Rattle.vk_cluster.specs.Clusters.{value_of};
+ghost use Rattle.vk_cluster.specs.Piles.{AreFrames, HasFrameRoom, IsAdded, IsPileKept, frames_by_event, pile_of};
+ghost use Rattle.vk_cluster.specs.Standing.{AreHosts, IsAdvance, IsEventFinished, IsStep, ShowsNewest, StandsFor, StandsSomewhere, TellsReport, is_limit, logs_of};
+ghost use Rattle.vk_cluster.specs.Clusters.{cluster_of};
 ghost use Rattle.vk_cluster.specs.Values.{is_full};
 
-use crate::emitted::{EVENT_BYTES, EVENT_FRAMES, Emitted, LAST_BYTES};
+use crate::emitted::{EVENT_BYTES, EmittedFrames, LAST_BYTES};
 use crate::report::{Advance, ClusterAnswer, ClusterRefusal, StepReport};
 use std::alloc::Global;
 use std::marker::Model;
-use vk_base::limits::EVENTS;
+use vk_base::limits::{EVENTS, EVERY_STATION, TICK_PACKETS};
 use vk_base::{Config, NoMemory, ProcessSpec};
 use vk_frame::{Header, unseal};
 use vk_host::{Host, Response, are_in_range, pid_is};
 use vk_rules::frames_unseal_again;
 use vk_schedule::{Event, EventKind, EventView};
 
-/// The destination of a frame for every station.
-const EVERY_STATION: u16 = 65_535;
-
 /// All stations of a configuration, and the frames that they emitted.
 #[derive(Drop)]
 pub struct Cluster {
-    parts: Parts,
+    parts: ClusterParts,
 }
 
 impl Model for Cluster {
-    ghost use Rattle.vk_cluster.specs.Clusters.{value_of};
+    ghost use Rattle.vk_cluster.specs.Clusters.{cluster_of};
     ghost use Rattle.vk_cluster.specs.Standing.{StandsSomewhere};
     ghost use Rattle.vk_cluster.specs.Values.{ClusterValue};
 
     ghost Value = { ClusterValue };
 
-    ghost view = { λ k. value_of k.parts };
+    ghost view = { λ k. cluster_of k.parts };
 
-    ghost invariant = { λ k. StandsSomewhere (value_of k.parts) };
+    ghost invariant = { λ k. StandsSomewhere (cluster_of k.parts) };
 }
 
 impl Cluster {
@@ -65,10 +63,10 @@ impl Cluster {
         let _lawful = config.times();
         pids_are(config.specs());
         Ok(Cluster {
-            parts: Parts {
+            parts: ClusterParts {
                 config: config.copy(alloc)?,
                 hosts: new_hosts(alloc, config)?,
-                emitted: Emitted::new(alloc, config.station_count() as usize)?,
+                emitted: EmittedFrames::new(alloc, config.station_count() as usize)?,
                 events: 0,
             },
         })
@@ -112,8 +110,8 @@ impl Cluster {
 
     /// The report that this stands for, before the next event.
     pub fn report(&self, advance: Advance) -> StepReport
-        requires { (r : TheReport) × Tells self.now advance r }
-        ensures { (r : TheReport) → Tells self.now advance r → result ≡ r }
+        requires { (r : TheReport) × TellsReport self.now advance r }
+        ensures { (r : TheReport) → TellsReport self.now advance r → result ≡ r }
     {
         match advance {
             Advance::Missing { host } => StepReport {
@@ -159,42 +157,42 @@ impl Cluster {
 
 /// What a cluster is made of: its configuration, its stations, the frames that they emitted, and how many events there were.
 #[derive(Drop)]
-pub struct Parts {
+pub struct ClusterParts {
     config: Config,
     hosts: Vec<Host>,
-    emitted: Emitted,
+    emitted: EmittedFrames,
     events: usize,
 }
 
-impl Parts {
+impl ClusterParts {
     /// One event, or why there is none. Memory is taken before the station acts.
     #[inline(always)]
     fn advance(&mut self, alloc: Global, event: &EventView) -> Result<Advance, ClusterRefusal>
-        requires somewhere { StandsSomewhere (value_of self.old) }
+        requires somewhere { StandsSomewhere (cluster_of self.old) }
         requires actors { has_actors self.old.config.specs event.now ≡ true }
-        ensures step { IfOk result (IsAdvance (value_of self.old) (value_of self.new) event.now) }
-        ensures room { IfOk result (λ _. is_full (value_of self.old) ≡ false) }
-        ensures cause { IfErr result (λ e. is_full (value_of self.old) ≡ is_limit e) }
-        ensures same { OnErr result (value_of self.new ≡ value_of self.old) }
+        ensures step { IfOk result (IsAdvance (cluster_of self.old) (cluster_of self.new) event.now) }
+        ensures room { IfOk result (λ _. is_full (cluster_of self.old) ≡ false) }
+        ensures cause { IfErr result (λ e. is_full (cluster_of self.old) ≡ is_limit e) }
+        ensures same { OnErr result (cluster_of self.new ≡ cluster_of self.old) }
     {
         if is_full(self.events, self.emitted.size()) {
             return Err(ClusterRefusal::Limit);
         }
         let place = place_of(&self.config, acting(event));
         self.emitted
-            .make_room(alloc, place, EVENT_BYTES, EVENT_FRAMES)?;
+            .make_room(alloc, place, EVENT_BYTES, TICK_PACKETS as usize)?;
         Ok(self.play(place, event))
     }
 
     /// The event at the station of this place, for which there is room.
     #[inline(always)]
     fn play(&mut self, place: usize, event: &EventView) -> Advance
-        requires somewhere { StandsSomewhere (value_of self.old) }
+        requires somewhere { StandsSomewhere (cluster_of self.old) }
         requires few { self.old.events < EVENTS }
         requires actors { has_actors self.old.config.specs event.now ≡ true }
         requires place { slice_get (stations_of self.old.config.specs) place ≡ Some (station_of event.now) }
-        requires room { HasRoom self.old.emitted place EVENT_BYTES EVENT_FRAMES }
-        ensures { IsAdvance (value_of self.old) (value_of self.new) event.now result }
+        requires room { HasFrameRoom self.old.emitted place EVENT_BYTES TICK_PACKETS }
+        ensures { IsAdvance (cluster_of self.old) (cluster_of self.new) event.now result }
     {
         frames_unseal_again();
         match frame_with(&self.config, &self.emitted, event) {
@@ -213,12 +211,12 @@ impl Parts {
         requires count { self.old.events < EVENTS }
         requires place { place < length self.old.hosts.items }
         requires events { place < length self.old.emitted.events.items }
-        requires kept { IsKept (pile_of self.old.emitted) }
-        requires room { HasRoom self.old.emitted place EVENT_BYTES EVENT_FRAMES }
+        requires kept { IsPileKept (pile_of self.old.emitted) }
+        requires room { HasFrameRoom self.old.emitted place EVENT_BYTES TICK_PACKETS }
         requires few { (t : StationValue) → slice_get self.old.hosts.items place ≡ Some t → AreFrames t.frames }
         requires bytes { (t : StationValue) → slice_get self.old.hosts.items place ≡ Some t → sum_by length t.frames ≤ EVENT_BYTES }
         ensures { (t : StationValue) → slice_get self.old.hosts.items place ≡ Some t →
-            IsFinished (value_of self.old) (value_of self.new) place t }
+            IsEventFinished (cluster_of self.old) (cluster_of self.new) place t }
     {
         keep(&mut self.emitted, &self.hosts[place], place);
         self.events += 1;
@@ -228,7 +226,7 @@ impl Parts {
     fn missing(&mut self, to: u16) -> Advance
         requires { self.old.events < EVENTS }
         ensures advance { result ≡ Advance.Missing to }
-        ensures value { value_of self.new ≡ record (value_of self.old) { events = self.old.events + 1 } }
+        ensures value { cluster_of self.new ≡ record (cluster_of self.old) { events = self.old.events + 1 } }
     {
         self.events += 1;
         Advance::Missing { host: to }
@@ -238,11 +236,15 @@ impl Parts {
 /// The bytes of the frame that comes with the event, where it is a delivery, `None` where there is nothing to deliver; and no bytes with
 /// any other event, of whose call the fields are in their ranges.
 #[inline(always)]
-fn frame_with<'a>(config: &Config, emitted: &'a Emitted, event: &EventView) -> Option<&'a [u8]>
-    requires kept { IsKept (pile_of emitted.now) }
+fn frame_with<'a>(
+    config: &Config,
+    emitted: &'a EmittedFrames,
+    event: &EventView,
+) -> Option<&'a [u8]>
+    requires kept { IsPileKept (pile_of emitted.now) }
     requires actors { has_actors config.now.specs event.now ≡ true }
-    ensures { MatchOption result (FindsNone config.now.specs (shown (pile_of emitted.now)) event.now)
-        (λ r. ComesWith config.now.specs (shown (pile_of emitted.now)) event.now r.now) }
+    ensures { MatchOption result (FindsNone config.now.specs (frames_by_event (pile_of emitted.now)) event.now)
+        (λ r. ComesWith config.now.specs (frames_by_event (pile_of emitted.now)) event.now r.now) }
 {
     let (kind, call) = event.parts();
     match kind {
@@ -264,7 +266,7 @@ fn frame_with<'a>(config: &Config, emitted: &'a Emitted, event: &EventView) -> O
 /// The station has the event, with which this frame comes where it is a delivery.
 #[inline(always)]
 fn respond(host: &mut Host, event: &EventView, frame: &[u8]) -> Response
-    requires few { host.old.events + 1 < 2 ^ 48 }
+    requires few { host.old.events + 1 < STATION_EVENTS }
     requires own { is_own host.old event.now ≡ true }
     ensures { IsEvent host.old host.new (input_with frame.now event.now) (answer_of host.new result) }
 {
@@ -279,10 +281,10 @@ fn respond(host: &mut Host, event: &EventView, frame: &[u8]) -> Response
 
 /// Keeps the frames of the last event of the station at this place.
 #[inline(always)]
-pub fn keep(emitted: &mut Emitted, host: &Host, place: usize)
-    requires kept { IsKept (pile_of emitted.old) }
+pub fn keep(emitted: &mut EmittedFrames, host: &Host, place: usize)
+    requires kept { IsPileKept (pile_of emitted.old) }
     requires place { place < length emitted.old.events.items }
-    requires room { HasRoom emitted.old place (sum_by length host.now.frames) (length host.now.frames) }
+    requires room { HasFrameRoom emitted.old place (sum_by length host.now.frames) (length host.now.frames) }
     requires few { AreFrames host.now.frames }
     ensures { IsAdded (pile_of emitted.old) (pile_of emitted.new) place host.now.frames }
 {
@@ -297,15 +299,15 @@ pub fn keep(emitted: &mut Emitted, host: &Host, place: usize)
 /// The bytes that a delivery hands over to this station: the frame with this output number of the event with this number of the station
 /// at the place, where it is addressed to it.
 pub fn handed_over<'a>(
-    emitted: &'a Emitted,
+    emitted: &'a EmittedFrames,
     to: u16,
     place: usize,
     event: u64,
     output: u16,
 ) -> Option<&'a [u8]>
-    requires { IsKept (pile_of emitted.now) }
-    ensures { MatchOption result (bytes_for to (shown (pile_of emitted.now)) place event output ≡ None)
-        (λ r. bytes_for to (shown (pile_of emitted.now)) place event output ≡ Some r.now) }
+    requires { IsPileKept (pile_of emitted.now) }
+    ensures { MatchOption result (bytes_for to (frames_by_event (pile_of emitted.now)) place event output ≡ None)
+        (λ r. bytes_for to (frames_by_event (pile_of emitted.now)) place event output ≡ Some r.now) }
 {
     match emitted.find(place, event, output) {
         Some((bytes, destination)) => {

@@ -2,7 +2,7 @@
 
 ghost use Rattle.std.specs.Prelude.{◌≡◌, ◌<◌, ◌≤◌, ◌+◌, ◌-◌, ◌++◌, ◌∷◌, [], None, Some, length, map, slice_get, slice_index_or, sum_by, vec_len, vec_capacity, IfOk, IfSome, OnOk, OnErr, MatchOption};
 ghost use Rattle.vk_frame.specs.Reading.{frame_of};
-ghost use Rattle.vk_cluster.specs.Blocks.{AreKept, IsIn, bytes_of, frame_in, named_by};
+ghost use Rattle.vk_cluster.specs.Blocks.{AreKept, IsInBlock, block_bytes, named_by, placed_bytes};
 
 use std::alloc::Global;
 use std::marker::Model;
@@ -20,7 +20,7 @@ pub const MOST_BYTES: usize = 268_435_456;
 /// Where the bytes of a frame stand: from which one on, and how many they are, in the block with this number, counted from 0; and
 /// the station that the frame is for, so that it is not opened to find it: 65,535 where it is for all, or opens as no frame.
 #[derive(Clone, Copy)]
-pub struct Place {
+pub struct FramePlace {
     pub from: u32,
     pub count: u16,
     pub block: u16,
@@ -34,24 +34,24 @@ pub struct Place {
 pub struct Frames {
     full: Vec<Vec<u8>>,
     last: Vec<u8>,
-    places: Vec<Place>,
+    places: Vec<FramePlace>,
     size: usize,
 }
 
 impl Model for Frames {
     ghost use Rattle.std.specs.Prelude.{◌≤◌, ◌-◌, length, map, vec_len, vec_capacity};
-    ghost use Rattle.vk_cluster.specs.Blocks.{AreKept, FrameList, bytes_of, frame_in};
+    ghost use Rattle.vk_cluster.specs.Blocks.{AreKept, FrameList, block_bytes, placed_bytes};
     ghost use Rattle.vk_cluster.specs.declared.frames.TheConstants.{BLOCK_BYTES};
 
     ghost Value = { FrameList };
 
     ghost view = { λ f. record {
-      items = map (frame_in (map bytes_of f.full.items) f.last.items) f.places.items;
+      items = map (placed_bytes (map block_bytes f.full.items) f.last.items) f.places.items;
       bytes = BLOCK_BYTES - length f.last.items;
       places = vec_capacity f.places - vec_len f.places;
     } };
 
-    ghost invariant = { λ f. AreKept (map bytes_of f.full.items) f.last.items f.places.items f.size
+    ghost invariant = { λ f. AreKept (map block_bytes f.full.items) f.last.items f.places.items f.size
         × (length f.last.items ≤ BLOCK_BYTES) × (BLOCK_BYTES ≤ vec_capacity f.last) };
 }
 
@@ -103,7 +103,7 @@ impl Frames {
         ensures bytes { self.new.bytes + length frame.now ≡ self.old.bytes }
         ensures places { self.old.places ≤ self.new.places + 1 }
     {
-        let place = Place {
+        let place = FramePlace {
             from: self.last.len() as u32,
             count: frame.len() as u16,
             block: self.full.len() as u16,
@@ -142,7 +142,7 @@ impl Frames {
 
 /// The last block is a full one from now on, and the next one, which is empty, the last.
 fn next_block(alloc: Global, full: &mut Vec<Vec<u8>>, last: &mut Vec<u8>) -> Result<(), NoMemory>
-    ensures full { OnOk result (map bytes_of full.new.items ≡ map bytes_of full.old.items ++ last.old.items ∷ []) }
+    ensures full { OnOk result (map block_bytes full.new.items ≡ map block_bytes full.old.items ++ last.old.items ∷ []) }
     ensures last { OnOk result (last.new.items ≡ []) }
     ensures room { OnOk result (BLOCK_BYTES ≤ vec_capacity last.new) }
     ensures full_same { OnErr result (full.new.items ≡ full.old.items) }
@@ -166,18 +166,18 @@ fn push_bytes(bytes: &mut Vec<u8>, more: &[u8])
 }
 
 /// The bytes of a frame that stands there.
-fn bytes_at<'a>(full: &'a [Vec<u8>], last: &'a [u8], place: Place) -> &'a [u8]
-    requires { IsIn (map bytes_of full.now) last.now place }
-    ensures { result.now ≡ frame_in (map bytes_of full.now) last.now place }
+fn bytes_at<'a>(full: &'a [Vec<u8>], last: &'a [u8], place: FramePlace) -> &'a [u8]
+    requires { IsInBlock (map block_bytes full.now) last.now place }
+    ensures { result.now ≡ placed_bytes (map block_bytes full.now) last.now place }
 {
-    let block = block_at(full, last, place.block as usize);
+    let block = frame_block(full, last, place.block as usize);
     let from = place.from as usize;
     &block[from..from + place.count as usize]
 }
 
 /// The block with this number, the last one behind the full ones.
-fn block_at<'a>(full: &'a [Vec<u8>], last: &'a [u8], at: usize) -> &'a [u8]
-    ensures { result.now ≡ slice_index_or (map bytes_of full.now) at last.now }
+fn frame_block<'a>(full: &'a [Vec<u8>], last: &'a [u8], at: usize) -> &'a [u8]
+    ensures { result.now ≡ slice_index_or (map block_bytes full.now) at last.now }
 {
     match full.get(at) {
         Some(block) => block.as_slice(),

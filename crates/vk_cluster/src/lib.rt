@@ -5,7 +5,8 @@
 //! the report is what the history tells of the event, and the cluster then stands for the list with it. Stands on the stations of
 //! `vk_host` and on the definitions of `vk_rules`; that emitted frames are lawful is from `v_lawful`. All frames lie in blocks of bytes
 //! that are never copied again (`src/frames.rt`, `specs/Blocks.antt`) and are found by position (`src/emitted.rt`, `specs/Piles.antt`);
-//! that this finds what the definitions hand over is `proofs/Found.antt` and `Handed.antt`. Entries and events are not kept.
+//! that this finds what the definitions hand over is `proofs/Found.antt` and `Handed.antt`. Entries and events are not kept. Other crates
+//! put frames among those that were emitted by [`keep`] alone, and find them by [`handed_over`].
 #![tactic(auto)]
 
 mod cluster;
@@ -15,7 +16,7 @@ mod law;
 mod report;
 
 pub use cluster::{Cluster, handed_over, keep, new_hosts, pids_are, place_of};
-pub use emitted::Emitted;
+pub use emitted::EmittedFrames;
 pub use frames::MOST_BYTES;
 pub use law::clusters_run;
 pub use report::{Advance, ClusterAnswer, ClusterRefusal, StepReport};

@@ -11,12 +11,12 @@ use Rattle.vk_top.proofs.Fronts.{fits_all, full_before, refused_within}
 use Rattle.vk_top.specs.Report.{is_cut, taken_of}
 use Rattle.vk_draw.specs.declared.status.Status.{Status}
 use Rattle.vk_draw.specs.declared.status.Status.TheVariants as status
-use Rattle.vk_draw.specs.Top.{Fits, HasTooLarge, HasTooMany, IsDecided, IsDrawn, IsFront, IsOfText, IsPicture, IsRefusal, IsRefused, IsTooLarge, schedule_status, status_of, text_status}
+use Rattle.vk_draw.specs.Top.{FitsPicture, HasTooLarge, HasTooMany, IsDecided, IsDrawn, IsFront, IsOfText, IsPicture, IsRefusal, IsRefused, IsTooLarge, schedule_status, status_of, text_status}
 use Rattle.vk_draw.specs.Work.{IsOutcome}
 
 -- a schedule is cut exactly where before one of its events too many bytes are emitted
 
-whole_is : (s : Schedule) → Fits s → is_cut s ≡ false
+whole_is : (s : Schedule) → FitsPicture s → is_cut s ≡ false
 whole_is s fits =
     elim (cases_Bool (is_cut s)) [
       | inl cut ↦

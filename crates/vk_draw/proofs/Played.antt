@@ -18,18 +18,18 @@ use Rattle.vk_top.proofs.Fronts.{taken_more}
 use Rattle.vk_top.proofs.Plays.{full_by}
 use Rattle.vk_picture.specs.declared.picture.Row.{Row}
 use Rattle.vk_draw.specs.Playing.{ArePlayed, IsHad, next_row}
-use Rattle.vk_draw.specs.Rows.{row_of, rows_of}
+use Rattle.vk_draw.specs.Rows.{picture_row, rows_of}
 unfoldable use Rattle.vk_draw.specs.Rows.{rows_from}
-use Rattle.vk_draw.specs.Top.{Fits, IsTooLarge}
+use Rattle.vk_draw.specs.Top.{FitsPicture, IsTooLarge}
 
 -- one row more
 rows_more : (c : Settings) (es : List Event) (logs : Logs) (n m : ℕ) (e : Event) → m ≡ n + length es + 1 →
-    rows_from c logs n (es ++ e ∷ []) ≡ rows_from c logs n es ++ row_of m e (happened c (logs_from c logs es) e) ∷ []
+    rows_from c logs n (es ++ e ∷ []) ≡ rows_from c logs n es ++ picture_row m e (happened c (logs_from c logs es) e) ∷ []
 unfolding rows_from logs_from
 rows_more c [] logs n m e is =
-    let same : n + 1 ≡ m = omega (arith, is) in ap (λ k. row_of k e (happened c logs e) ∷ []) same
+    let same : n + 1 ≡ m = omega (arith, is) in ap (λ k. picture_row k e (happened c logs e) ∷ []) same
 rows_more c (x ∷ xs) logs n m e is =
-    ap (λ rs. row_of (n + 1) x (happened c logs x) ∷ rs)
+    ap (λ rs. picture_row (n + 1) x (happened c logs x) ∷ rs)
     (rows_more c xs (logs_after logs (happened c logs x)) (n + 1) m e (omega (arith, is)))
 
 rows_many : (c : Settings) (es : List Event) (logs : Logs) (n : ℕ) → length (rows_from c logs n es) ≡ length es
@@ -70,7 +70,7 @@ module _ (s : Schedule) (n : ℕ) (rows : List Row) (now : ClusterValue) (played
       omega (arith, low, played.stands.bytes)
 
   -- all of them
-  pub all_fit : length s.events ≤ n → Fits s
+  pub all_fit : length s.events ≤ n → FitsPicture s
   all_fit all m low = played.fits m (omega (arith, all, low))
 
   pub played_all : length s.events ≤ n → rows ≡ rows_of s.config s.events

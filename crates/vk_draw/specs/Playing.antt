@@ -7,11 +7,11 @@ use Rattle.vk_cluster.specs.Values.{ClusterValue}
 use Rattle.vk_schedule.specs.declared.event.Event.{Event}
 use Rattle.vk_rules.specs.Histories.{happened, history_of}
 use Rattle.vk_picture.specs.declared.picture.Row.{Row}
-use Rattle.vk_draw.specs.Rows.{row_of, rows_of}
+use Rattle.vk_draw.specs.Rows.{picture_row, rows_of}
 
 -- the row of an event behind these
 abbrev pub next_row : Settings → List Event → Event → ℕ → Row
-next_row c es e number = row_of number e (happened c (logs_of c es) e)
+next_row c es e number = picture_row number e (happened c (logs_of c es) e)
 
 -- the cluster had this event behind these, and its row is added
 pub record IsHad (c : Settings) (es : List Event) (e : Event) (before after : List Row) (now : ClusterValue) : Type 0 where

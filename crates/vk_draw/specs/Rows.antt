@@ -88,8 +88,8 @@ abbrev pub frame_mark : Frame → FrameMark
 frame_mark f = record { kind = kind_of f.packet; output = f.header.output }
 
 -- an event of this number in the schedule, and what happened at it
-abbrev pub row_of : ℕ → Event → Happened → Row
-row_of number e (At host own entry) = record {
+abbrev pub picture_row : ℕ → Event → Happened → Row
+picture_row number e (At host own entry) = record {
   number = number;
   host = host;
   own = own;
@@ -98,14 +98,14 @@ row_of number e (At host own entry) = record {
   steps = map step_mark entry.steps;
   frames = map frame_mark entry.frames;
 }
-row_of number e (Missing host) =
+picture_row number e (Missing host) =
     record { number = number; host = host; own = 0; act = act_of e; said = said.Missing; steps = []; frames = [] }
 
 -- the rows of events behind so many others, which left these entries
 unfoldable pub rows_from : Settings → Logs → ℕ → List Event → List Row
 rows_from c logs before [] = []
 rows_from c logs before (e ∷ es) =
-    row_of (before + 1) e (happened c logs e) ∷ rows_from c (logs_after logs (happened c logs e)) (before + 1) es
+    picture_row (before + 1) e (happened c logs e) ∷ rows_from c (logs_after logs (happened c logs e)) (before + 1) es
 
 abbrev pub rows_of : Settings → List Event → List Row
 rows_of c es = rows_from c no_entries 0 es

@@ -22,8 +22,8 @@ abbrev pub IsTooLarge : Schedule → Type 0
 IsTooLarge s = (n : ℕ) × (n < length s.events) × (LAST_BYTES < emitted_bytes (history_before n s))
 
 -- before none of its events they do
-abbrev pub Fits : Schedule → Type 0
-Fits s = (n : ℕ) → n < length s.events → emitted_bytes (history_before n s) ≤ LAST_BYTES
+abbrev pub FitsPicture : Schedule → Type 0
+FitsPicture s = (n : ℕ) → n < length s.events → emitted_bytes (history_before n s) ≤ LAST_BYTES
 
 -- the text spells a schedule of not too many events, before none of which too many bytes are emitted, and this is the picture of its
 -- history
@@ -31,7 +31,7 @@ pub record IsPicture (text drawn : List ℕ) : Type 0 where
   pub schedule : Schedule
   pub spells : schedule_of text ≡ Ok schedule
   pub few : length schedule.events ≤ ROWS
-  pub fits : Fits schedule
+  pub fits : FitsPicture schedule
   pub is : drawn ≡ picture_text (picture_of schedule)
 
 -- there are more events than are drawn, all before any line that is bad

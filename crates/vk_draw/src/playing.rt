@@ -9,11 +9,11 @@ ghost use Rattle.vk_schedule.specs.declared.event.Event.{Event as TheEvent};
 ghost use Rattle.vk_schedule.specs.Lawful.{IsLawful, has_actors};
 ghost use Rattle.vk_rules.specs.Entries.{Entry};
 ghost use Rattle.vk_rules.specs.Histories.{At, Missing};
-ghost use Rattle.vk_cluster.specs.Shown.{HasReported, IsLast};
+ghost use Rattle.vk_cluster.specs.Shown.{HasReported, IsLastEvent};
 ghost use Rattle.vk_picture.specs.declared.svg.TheConstants.{COLUMNS, ROWS};
 ghost use Rattle.vk_draw.specs.Playing.{ArePlayed, IsHad, next_row};
-ghost use Rattle.vk_draw.specs.Rows.{picture_of, row_of};
-ghost use Rattle.vk_draw.specs.Top.{Fits, IsTooLarge};
+ghost use Rattle.vk_draw.specs.Rows.{picture_of, picture_row};
+ghost use Rattle.vk_draw.specs.Top.{FitsPicture, IsTooLarge};
 
 use crate::frames::frame_marks;
 use crate::rows::{act_of, said_of, step_marks};
@@ -34,9 +34,9 @@ fn station_row(
     report: &StepReport,
     answer: &EventAnswer,
 ) -> Result<Row, NoMemory>
-    requires { (e : Entry) × IsLast station.now answer.now e }
-    ensures { IfOk result (λ row. (e : Entry) → IsLast station.now answer.now e →
-        row ≡ row_of number event.now (At report.now.host report.now.event e)) }
+    requires { (e : Entry) × IsLastEvent station.now answer.now e }
+    ensures { IfOk result (λ row. (e : Entry) → IsLastEvent station.now answer.now e →
+        row ≡ picture_row number event.now (At report.now.host report.now.event e)) }
 {
     Ok(Row {
         number,
@@ -51,7 +51,7 @@ fn station_row(
 
 /// A delivery to this station, of what was not emitted for it.
 fn missing_row(alloc: Global, number: u16, event: &Event, host: u16) -> Row
-    ensures { result ≡ row_of number event.now (Missing host) }
+    ensures { result ≡ picture_row number event.now (Missing host) }
 {
     Row {
         number,
@@ -140,7 +140,7 @@ fn rows_of(
     requires few { length events.now ≤ ROWS }
     requires stands { StandsFor schedule.now.config [] cluster.old }
     ensures rows { IfOk result (λ rows. rows ≡ (picture_of schedule.now).rows) }
-    ensures fits { OnOk result (Fits schedule.now) }
+    ensures fits { OnOk result (FitsPicture schedule.now) }
     ensures refused { IfErr result (λ e. (e ≡ Status.NoMemory) ⊎ ((e ≡ Status.Limit) × IsTooLarge schedule.now)) }
 {
     let mut rows = List::empty(alloc);
@@ -156,7 +156,7 @@ pub(crate) fn picture_of(alloc: Global, schedule: &Schedule) -> Result<Picture, 
     requires few { length schedule.now.events ≤ ROWS }
     ensures picture { IfOk result (λ p. p ≡ picture_of schedule.now) }
     ensures columns { IfOk result (λ p. length p.columns ≤ COLUMNS) }
-    ensures fits { OnOk result (Fits schedule.now) }
+    ensures fits { OnOk result (FitsPicture schedule.now) }
     ensures refused { IfErr result (λ e. (e ≡ Status.NoMemory) ⊎ ((e ≡ Status.Limit) × IsTooLarge schedule.now)) }
 {
     let columns = columns_of(alloc, schedule.config.specs())?;

@@ -13,7 +13,7 @@ use Rattle.vk_pages.specs.Any.{IsAfter, call_by}
 use Rattle.vk_program.specs.Tasks.{told_by}
 use Rattle.vk_rules.specs.Observed.{handed_out, is_not_yet}
 use Rattle.vk_drive.specs.declared.actor.Actor.{Actor}
-use Rattle.vk_drive.specs.Driving.{IsActor}
+use Rattle.vk_drive.specs.Driving.{IsActor, tells_too_early}
 use Rattle.vk_drive.specs.Told.{is_waiting, told, waits_after, waits_from}
 
 pub told_more : (heard : List EventAnswer) (a : EventAnswer) → told (heard ++ a ∷ []) ≡ told heard ++ option_to_list (handed_out a)
@@ -83,10 +83,15 @@ module _ (t : Task) (heard : List EventAnswer) where
   })
 
   -- its collect came too early
-  pub hears_not_yet : (a : Actor) (x : Answer) → IsActor a t heard → is_not_yet x ≡ true → IsActor a t (heard ++ given.Answered x ∷ [])
-  hears_not_yet a x is early =
+  pub hears_early : (a : Actor) (x : EventAnswer) → IsActor a t heard → tells_too_early x ≡ true → IsActor a t (heard ++ x ∷ [])
+  hears_early a (given.Answered x) is early =
       hears_nothing a (given.Answered x) is (cond-true (is_not_yet x) None (Some x) early)
       (cond-true (is_not_yet x) (is_waiting heard) false early)
+  hears_early a given.Begun is early = absurd (cc)
+  hears_early a (given.Ticked now) is early = absurd (cc)
+  hears_early a given.Taken is early = absurd (cc)
+  hears_early a given.Old is early = absurd (cc)
+  hears_early a given.Bad is early = absurd (cc)
 
 -- what is told is one answer
 pub one_answer : (x y : EventAnswer) (told_is : ClusterAnswer) → told_is ≡ answers.Event x → told_is ≡ answers.Event y → x ≡ y

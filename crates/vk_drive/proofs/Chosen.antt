@@ -6,7 +6,7 @@ use Rattle.vk_base.specs.Pids.{same_pid}
 use Rattle.vk_base.specs.Settings.{Settings, has_process}
 use Rattle.vk_base.proofs.PidLemmas.{same_pid_self}
 use Rattle.vk_cluster.specs.declared.report.ClusterAnswer.TheVariants as answers
-use Rattle.vk_cluster.specs.Standing.{report_of}
+use Rattle.vk_cluster.specs.Standing.{step_report}
 use Rattle.vk_schedule.specs.declared.event.Event.{Event}
 use Rattle.vk_schedule.specs.declared.event.Event.TheVariants as events
 use Rattle.vk_schedule.specs.Lawful.{has_actors}
@@ -16,7 +16,7 @@ use Rattle.vk_rules.specs.Histories.{Logs, delivered, handed_over}
 unfoldable use Rattle.vk_rules.specs.Histories.{happened}
 unfoldable use Rattle.vk_rules.specs.Right.{right_entry}
 use Rattle.vk_rules.specs.Right.{entry_of}
-use Rattle.vk_drive.specs.Driving.{is_quiet}
+use Rattle.vk_drive.specs.Driving.{is_of_no_process}
 use Rattle.vk_drive.specs.Storms.{call_event, process_event}
 use Rattle.vk_drive.specs.Tasks.{specs, task_at}
 use Rattle.vk_drive.specs.Told.{answered_in, is_waiting}
@@ -48,7 +48,8 @@ process_acts place heard low = own_acts (task_at place).pid (is_waiting heard) _
 
 -- What is told the processes of an event.
 
-pub quiet_tells : (c : Settings) (logs : Logs) (e : Event) (pid : Pid) → is_quiet e ≡ true → answered_in pid (happened c logs e) ≡ []
+pub quiet_tells : (c : Settings) (logs : Logs) (e : Event) (pid : Pid) → is_of_no_process e ≡ true →
+    answered_in pid (happened c logs e) ≡ []
 unfolding happened right_entry
 quiet_tells c logs (events.Call p call) pid is = cc
 quiet_tells c logs (events.Collect p) pid is = cc
@@ -60,13 +61,13 @@ quiet_tells c logs (events.Deliver to from event output) pid is = delivered_tell
     delivered_tells (Some f) = refl
 
 -- the event of a process tells it one answer, and the others nothing
-pub record IsHeard (c : Settings) (logs : Logs) (pid : Pid) (e : Event) : Type 0 where
+pub record HearsOneAnswer (c : Settings) (logs : Logs) (pid : Pid) (e : Event) : Type 0 where
   pub answer : EventAnswer
-  pub reported : (report_of (happened c logs e)).answer ≡ answers.Event answer
+  pub reported : (step_report (happened c logs e)).answer ≡ answers.Event answer
   pub own : answered_in pid (happened c logs e) ≡ answer ∷ []
   pub others : (q : Pid) → same_pid pid q ≡ false → answered_in q (happened c logs e) ≡ []
 
-heard_call : (c : Settings) (logs : Logs) (pid : Pid) (call : Call) → IsHeard c logs pid (events.Call pid call)
+heard_call : (c : Settings) (logs : Logs) (pid : Pid) (call : Call) → HearsOneAnswer c logs pid (events.Call pid call)
 unfolding happened right_entry
 heard_call c logs pid call =
     let a : EventAnswer = (entry_of c pid.host (logs pid.host) (Called pid call)).answer in
@@ -77,7 +78,7 @@ heard_call c logs pid call =
       others = λ q apart. cond-false (same_pid pid q) (a ∷ []) [] apart;
     }
 
-heard_collect : (c : Settings) (logs : Logs) (pid : Pid) → IsHeard c logs pid (events.Collect pid)
+heard_collect : (c : Settings) (logs : Logs) (pid : Pid) → HearsOneAnswer c logs pid (events.Collect pid)
 unfolding happened right_entry
 heard_collect c logs pid =
     let a : EventAnswer = (entry_of c pid.host (logs pid.host) (Collected pid)).answer in
@@ -89,13 +90,13 @@ heard_collect c logs pid =
     }
 
 heard_either : (c : Settings) (logs : Logs) (pid : Pid) (b : Bool) (o : Option Call) →
-    IsHeard c logs pid (cond b (events.Collect pid) (call_event pid o))
+    HearsOneAnswer c logs pid (cond b (events.Collect pid) (call_event pid o))
 heard_either c logs pid true o = heard_collect c logs pid
 heard_either c logs pid false None = heard_collect c logs pid
 heard_either c logs pid false (Some call) = heard_call c logs pid call
 
 pub process_hears : (c : Settings) (logs : Logs) (place : ℕ) (heard : List EventAnswer) →
-    IsHeard c logs (task_at place).pid (process_event (task_at place) heard)
+    HearsOneAnswer c logs (task_at place).pid (process_event (task_at place) heard)
 process_hears c logs place heard = heard_either c logs (task_at place).pid (is_waiting heard) _
 
 -- the processes are of different hosts

@@ -6,7 +6,7 @@ use Rattle.vk_cluster.specs.declared.emitted.TheConstants.{LAST_BYTES}
 use Rattle.vk_cluster.specs.Standing.{emitted_bytes}
 use Rattle.vk_rules.specs.Histories.{history_of}
 unfoldable use Rattle.vk_drive.specs.Storms.{storm_after}
-use Rattle.vk_drive.specs.Storms.{Fits, IsTooMuch, Storm, bytes_before, choice, one_more}
+use Rattle.vk_drive.specs.Storms.{IsStormTooMuch, Storm, StormFits, bytes_before, choice, one_more}
 use Rattle.vk_drive.specs.Tasks.{settings}
 
 -- each event is one
@@ -61,8 +61,8 @@ fits_more n most before last count low = either (nat_lt count most) refl
         let same : count ≡ most = omega (arith, low) in
         subst (λ k. emitted_bytes (history_of settings (storm_after n k).events) ≤ LAST_BYTES) (sym same) last
 
-pub fits_all : (n : ℕ) → FitsFront n n → Fits n
+pub fits_all : (n : ℕ) → FitsFront n n → StormFits n
 fits_all n fits count low = subst (λ k. k ≤ LAST_BYTES) (sym (bytes_are n count (omega arith))) (fits count low)
 
-pub too_much : (n count : ℕ) → count < n → LAST_BYTES < emitted_bytes (history_of settings (storm_after n count).events) → IsTooMuch n
+pub too_much : (n count : ℕ) → count < n → LAST_BYTES < emitted_bytes (history_of settings (storm_after n count).events) → IsStormTooMuch n
 too_much n count low over = (count, low, subst (λ k. LAST_BYTES < k) (sym (bytes_are n count (omega arith))) over)

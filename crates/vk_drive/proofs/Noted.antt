@@ -8,10 +8,10 @@ use Rattle.vk_base.specs.declared.limits.TheConstants.{EVENTS}
 use Rattle.vk_cluster.specs.declared.emitted.TheConstants.{LAST_BYTES}
 use Rattle.vk_cluster.specs.declared.report.Advance.{Advance}
 use Rattle.vk_cluster.specs.declared.report.Advance.TheVariants as advances
-use Rattle.vk_cluster.specs.Shown.{HasAdvanced, HasReported, Sends}
-use Rattle.vk_cluster.specs.Standing.{IsAdvance, Tells, logs_of, report_by, report_of}
+use Rattle.vk_cluster.specs.Shown.{HasAdvanced, HasReported}
+use Rattle.vk_cluster.specs.Standing.{IsAdvance, TellsReport, logs_of, report_by, step_report}
 use Rattle.vk_cluster.specs.Values.{ClusterValue, is_full}
-use Rattle.vk_cluster.proofs.Shown.{IsEntry, reported_entry, reported_missing, sends}
+use Rattle.vk_cluster.proofs.Shown.{IsReportedEntry, headed, reported_entry, reported_missing, sends}
 use Rattle.vk_cluster.proofs.Told.{report_told}
 use Rattle.vk_schedule.specs.declared.event.Event.{Event}
 use Rattle.vk_schedule.specs.Lawful.{has_actors}
@@ -22,14 +22,14 @@ use Rattle.vk_host.specs.Sealed.{sealed}
 use Rattle.vk_host.specs.Values.{StationValue}
 use Rattle.vk_rules.specs.Frames.{Frame}
 use Rattle.vk_rules.specs.Histories.{At, Missing, happened, history_of}
-use Rattle.vk_drive.specs.declared.counts.Counts.{Counts}
-use Rattle.vk_drive.specs.declared.course.Course.{Course}
-use Rattle.vk_drive.specs.Driving.{IsBelow, IsCourse, IsNoted, counted, last_of}
+use Rattle.vk_drive.specs.declared.counts.StormCounts.{StormCounts}
+use Rattle.vk_drive.specs.declared.course.StormCourse.{StormCourse}
+use Rattle.vk_drive.specs.Driving.{EmitsFewBytes, IsCourse, IsNoted, ShowsHeaders, counts_with, last_of}
 use Rattle.vk_drive.specs.Tasks.{settings, specs}
 use Rattle.vk_drive.specs.Told.{all_emitted, headers}
 use Rattle.vk_drive.proofs.Behind.{history_with, noted_at, noted_missing}
 
-pub advanced : (es : List Event) (old : Course) (new : ClusterValue) (e : Event) (a : Advance) → IsCourse es old →
+pub advanced : (es : List Event) (old : StormCourse) (new : ClusterValue) (e : Event) (a : Advance) → IsCourse es old →
     has_actors specs e ≡ true → IsAdvance old.cluster new e a → HasAdvanced settings es new e a
 advanced es old new e a is acts step = record {
   report = step.report;
@@ -38,11 +38,11 @@ advanced es old new e a is acts step = record {
 }
 
 pub tells : (es : List Event) (now : ClusterValue) (e : Event) (a : Advance) → HasAdvanced settings es now e a →
-    Tells now a (report_of (happened settings (logs_of settings es) e))
-tells es now e a had = subst (Tells now a) had.reported.next.report had.told
+    TellsReport now a (step_report (happened settings (logs_of settings es) e))
+tells es now e a had = subst (TellsReport now a) had.reported.next.report had.told
 
 -- there was room for one event more
-pub below : (es : List Event) (c : Course) → IsCourse es c → is_full c.cluster ≡ false → IsBelow es
+pub below : (es : List Event) (c : StormCourse) → IsCourse es c → is_full c.cluster ≡ false → EmitsFewBytes es
 below es c is not_full =
     let low = ltb-false LAST_BYTES (length c.cluster.pile.bytes) (or_parts (nat_le EVENTS c.cluster.events) (nat_lt LAST_BYTES (length c.cluster.pile.bytes)) not_full).1 in
     let bytes = is.stands.bytes in
@@ -50,12 +50,13 @@ below es c is not_full =
 
 -- there was nothing to deliver
 pub missing_noted : (es : List Event) (now : ClusterValue) (e : Event) (a : Advance) (host : ℕ) → HasAdvanced settings es now e a →
-    a ≡ advances.Missing host → (recent : Buffer Header) (counts : Counts) → IsNoted (history_of settings es) recent counts →
+    a ≡ advances.Missing host → (recent : Buffer Header) (counts : StormCounts) → IsNoted (history_of settings es) recent counts →
     IsNoted (history_of settings (es ++ e ∷ [])) recent counts
 missing_noted es now e a host had is recent counts noted =
-    let report : had.report ≡ report_of (Missing host) = subst (λ x. Tells now x had.report) is had.told in
+    let report : had.report ≡ step_report (Missing host) = subst (λ x. TellsReport now x had.report) is had.told in
     let missed : happened settings (logs_of settings es) e ≡ Missing host =
-    reported_missing (report_of (Missing host)) (happened settings (logs_of settings es) e) (sym report ∙ had.reported.next.report) refl in
+    reported_missing (step_report (Missing host)) (happened settings (logs_of settings es) e) (sym report
+    ∙ had.reported.next.report) refl in
     subst (λ hs. IsNoted hs recent counts) (sym (history_with es e (Missing host) missed))
     (noted_missing (history_of settings es) host recent counts noted)
 
@@ -65,20 +66,23 @@ module _ (es : List Event) (now : ClusterValue) (e : Event) (a : Advance) (had :
   reported_by : HasReported settings es now e (report_by s given)
   reported_by = subst (HasReported settings es now e) (report_told now a place given had.report is had.told s found) had.reported
 
-  one : IsEntry (report_by s given) (answer_of s given) (happened settings (logs_of settings es) e)
+  pub one : IsReportedEntry (report_by s given) (answer_of s given) (happened settings (logs_of settings es) e)
   one =
       reported_entry (report_by s given) (answer_of s given) (happened settings (logs_of settings es) e) reported_by.next.report refl
 
-  sent : Sends s one.entry.frames
-  sent = sends settings es now e (report_by s given) reported_by one.entry one.is place s found refl
+  pub shows : ShowsHeaders s one.entry.frames
+  shows = record {
+    sends = sends settings es now e (report_by s given) reported_by one.entry one.is place s found refl;
+    have = headed settings es now e (report_by s given) reported_by one.entry one.is place s found refl;
+  }
 
-  pub event_noted : (recent after : Buffer Header) (before counts : Counts) (frames : ℕ) → frames ≡ length s.frames →
-      ((fs : List Frame) (hs : List Header) → Sends s fs → recent ≡ last_of hs → after ≡ last_of (hs ++ headers fs)) →
-      counts ≡ counted before frames (answer_of s given) → IsNoted (history_of settings es) recent before →
+  pub event_noted : (recent after : Buffer Header) (before counts : StormCounts) (frames : ℕ) → frames ≡ length s.frames →
+      ((fs : List Frame) (hs : List Header) → ShowsHeaders s fs → recent ≡ last_of hs → after ≡ last_of (hs ++ headers fs)) →
+      counts ≡ counts_with before frames (answer_of s given) → IsNoted (history_of settings es) recent before →
       IsNoted (history_of settings (es ++ e ∷ [])) after counts
   event_noted recent after before counts frames many kept counted_is noted =
       let hs = history_of settings es in
-      let all = many ∙ ap length sent.frames ∙ length-map one.entry.frames sealed in
+      let all = many ∙ ap length shows.sends.frames ∙ length-map one.entry.frames sealed in
       subst (λ l. IsNoted l after counts) (sym (history_with es e (At s.host s.events one.entry) one.is))
       (noted_at hs s.host s.events one.entry after before counts frames (answer_of s given) all one.answered noted.counts_are
-      (kept one.entry.frames (all_emitted hs) sent noted.recent_is) counted_is)
+      (kept one.entry.frames (all_emitted hs) shows noted.recent_is) counted_is)

@@ -10,7 +10,7 @@ use Rattle.vk_event.specs.declared.task.Task.{Task}
 use Rattle.vk_cluster.proofs.Logs.{get_set_same, get_set_other}
 use Rattle.vk_rules.specs.Histories.{Happened}
 use Rattle.vk_drive.specs.declared.actor.Actor.{Actor}
-use Rattle.vk_drive.specs.Driving.{AreActors, IsActor, IsNextEvent, IsNextOf}
+use Rattle.vk_drive.specs.Driving.{AreActors, ChoosesEvent, IsActor, IsChosenAt}
 use Rattle.vk_drive.specs.Tasks.{task_at}
 use Rattle.vk_drive.specs.Told.{answered_in, answered_to}
 use Rattle.vk_drive.proofs.Behind.{answered_more}
@@ -43,8 +43,8 @@ module _ (actors : List Actor) (hs : List Happened) (are : AreActors actors hs) 
     at_place = stands_at actors place a low is
 
     -- its next event was asked for
-    pub next_at : (e : Event) → ((t : Task) (heard : List EventAnswer) → IsActor a t heard → IsNextEvent b t heard e) →
-        IsNextOf (set actors place b) hs place e
+    pub next_at : (e : Event) → ((t : Task) (heard : List EventAnswer) → IsActor a t heard → ChoosesEvent b t heard e) →
+        IsChosenAt (set actors place b) hs place e
     next_at e step =
         let next = step (task_at place) (answered_to (task_at place).pid hs) (are.each place a at_place) in
         record {

@@ -1,14 +1,16 @@
 -- The last headers of a list, and of it with more.
-use Rattle.std.proofs.Common.{◌≡◌, ℕ, zero, suc, ◌+◌, ◌-◌, ◌<◌, ◌≤◌, min, List, [], ◌∷◌, ◌++◌, length, take, drop, refl, sym, ap, ◌∙◌, append_assoc, length-append, length-drop, drop-drop, arith}
+use Rattle.std.proofs.Common.{◌≡◌, ℕ, zero, suc, ◌+◌, ◌-◌, ◌<◌, ◌≤◌, min, List, [], ◌∷◌, ◌++◌, length, drop, Some, sym, ap, subst, ◌∙◌, length-append, length-drop, drop-drop, arith}
 use Rattle.std.specs.Prelude.{slice_get}
 use Rattle.std.proofs.lemmas.List.{drop-append-le}
+use Rattle.std.proofs.lemmas.Option.{none-some, same_Some}
 use Rattle.circular_buffer.specs.Buffer.{Buffer, buffer, keep_last}
 use Rattle.circular_buffer.proofs.Places.{slice_get-drop}
 use Rattle.vk_frame.specs.declared.header.Header.{Header}
+use Rattle.vk_host.specs.Sealed.{header_for}
 use Rattle.vk_rules.specs.Frames.{Frame}
+use Rattle.vk_rules.specs.Laws.{HaveHeaders}
 use Rattle.vk_drive.specs.Driving.{last_of}
 use Rattle.vk_drive.specs.Storms.{before_last}
-use Rattle.vk_drive.specs.Told.{headers}
 
 kept_again : {A : Type 0} (n : ℕ) (xs ys : List A) → keep_last n (keep_last n xs ++ ys) ≡ keep_last n (xs ++ ys)
 kept_again n xs ys =
@@ -26,25 +28,19 @@ pushed old new hs h before is =
     is ∙ ap (λ (b : Buffer Header). buffer (keep_last b.capacity (b.items ++ h ∷ [])) b.capacity) before
     ∙ ap (λ l. buffer l 32) (kept_again 32 hs (h ∷ []))
 
-pub taken_one : {A : Type 0} (xs : List A) (at : ℕ) (x : A) (rest : List A) → drop at xs ≡ x ∷ rest →
-    take (at + 1) xs ≡ take at xs ++ x ∷ []
-taken_one [] zero x rest is = absurd (cc)
-taken_one [] (suc at) x rest is = absurd (cc)
-taken_one (y ∷ ys) zero x rest is = let same : y ≡ x = cc in ap (λ z. z ∷ []) same
-taken_one (y ∷ ys) (suc at) x rest is =
-    let one : suc at + 1 ≡ suc (at + 1) = omega arith in
-    ap (λ n. take n (y ∷ ys)) one ∙ ap (λ l. y ∷ l) (taken_one ys at x rest is)
-
--- one frame more of an event
-pub headers_one : (fs : List Frame) (at : ℕ) (f : Frame) (rest : List Frame) (hs : List Header) → drop at fs ≡ f ∷ rest →
-    (hs ++ headers (take at fs)) ++ f.header ∷ [] ≡ hs ++ headers (take (at + 1) fs)
-headers_one fs at f rest hs left =
-    append_assoc hs (headers (take at fs)) (f.header ∷ [])
-    ∙ ap (λ l. hs ++ l) (sym (ap headers (taken_one fs at f rest left) ∙ mapped (take at fs) f))
-  where
-    mapped : (gs : List Frame) (g : Frame) → headers (gs ++ g ∷ []) ≡ headers gs ++ g.header ∷ []
-    mapped [] g = refl
-    mapped (x ∷ gs) g = ap (λ l. x.header ∷ l) (mapped gs g)
+-- the header of a frame is that of its place
+pub header_at : (host stamp number event first output : ℕ) (fs : List Frame) (at : ℕ) (f : Frame) →
+    HaveHeaders host stamp number event first fs → slice_get fs at ≡ Some f → output ≡ first + at →
+    f.header ≡ header_for host stamp number event output f.header.destination
+header_at host stamp number event first output [] at f have found is = absurd (none-some f found)
+header_at host stamp number event first output (g ∷ gs) zero f have found is =
+    let same : g ≡ f = same_Some g f found in
+    let one : first ≡ output = omega (arith, is) in
+    subst (λ (x : Frame). x.header ≡ header_for host stamp number event output x.header.destination) same
+    (have.0
+    ∙ (λ i. header_for host stamp number event (one i) (sym (ap (λ (h : Header). h.destination) have.0) i)))
+header_at host stamp number event first output (g ∷ gs) (suc at) f have found is =
+    header_at host stamp number event (first + 1) output gs at f have.1 found (omega (arith, is))
 
 -- how many there are
 pub recent_count : (hs : List Header) → length (last_of hs).items ≡ min 32 (length hs)

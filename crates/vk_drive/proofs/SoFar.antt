@@ -1,35 +1,34 @@
 -- The storm of a number, under way behind so many of its events.
 use Rattle.std.proofs.Common.{◌≡◌, ℕ, ◌+◌, ◌<◌, ◌≤◌, List, [], ◌∷◌, ◌++◌, refl, sym, ap, subst, ◌∙◌, arith}
-use Rattle.std.specs.Prelude.{length}
 use Rattle.vk_base.specs.declared.limits.TheConstants.{EVENTS}
 use Rattle.vk_schedule.specs.declared.event.Event.{Event}
 use Rattle.vk_rules.specs.Histories.{history_of}
 use Rattle.vk_drive.specs.declared.driver.Driver.{Driver}
-use Rattle.vk_drive.specs.Driving.{IsDriver, IsOpen, IsPlayed}
+use Rattle.vk_drive.specs.Driving.{IsDriver, IsPlayed, IsStormOpen}
 unfoldable use Rattle.vk_drive.specs.Storms.{storm_after}
 use Rattle.vk_drive.specs.Storms.{Storm, choice}
 use Rattle.vk_drive.specs.Tasks.{settings}
 use Rattle.vk_drive.proofs.Fronts.{FitsFront, fits_more, storm_count, storm_next}
 
-pub record IsSoFar (n count : ℕ) (d : Driver) : Type 0 where
+pub record IsStormSoFar (n count : ℕ) (d : Driver) : Type 0 where
   pub driver : IsDriver (storm_after n count).events d
   pub state : d.generator ≡ (storm_after n count).state
   pub fits : FitsFront n count
 
 -- before the first event
-pub begun : (n : ℕ) (d : Driver) → IsDriver [] d → d.generator ≡ n → IsSoFar n 0 d
+pub begun : (n : ℕ) (d : Driver) → IsDriver [] d → d.generator ≡ n → IsStormSoFar n 0 d
 unfolding storm_after
 begun n d is state = record { driver = is; state = state; fits = λ count low. absurd (omega arith) }
 
-pub may_go_on : (n count : ℕ) (d : Driver) → IsSoFar n count d → count < n → n ≤ EVENTS → IsOpen d
+pub may_go_on : (n count : ℕ) (d : Driver) → IsStormSoFar n count d → count < n → n ≤ EVENTS → IsStormOpen d
 may_go_on n count d so_far low few =
     let long = storm_count n count in
     ((storm_after n count).events, so_far.driver, omega (arith, long, low, few))
 
 -- one event more
-pub goes_on : (n count : ℕ) (old new : Driver) → IsSoFar n count old →
+pub goes_on : (n count : ℕ) (old new : Driver) → IsStormSoFar n count old →
     IsPlayed (storm_after n count).events new (choice old.generator (history_of settings (storm_after n count).events)) →
-    IsSoFar n (count + 1) new
+    IsStormSoFar n (count + 1) new
 goes_on n count old new so_far played =
     let s : Storm = storm_after n count in
     let hs = history_of settings s.events in
@@ -46,7 +45,7 @@ pub no_events : (n : ℕ) → [] ≡ (storm_after n 0).events
 unfolding storm_after
 no_events n = refl
 
-pub events_more : (n count : ℕ) (old new : Driver) → IsSoFar n count old →
+pub events_more : (n count : ℕ) (old new : Driver) → IsStormSoFar n count old →
     IsPlayed (storm_after n count).events new (choice old.generator (history_of settings (storm_after n count).events)) →
     (before after : List Event) (e : Event) → before ≡ (storm_after n count).events → e ≡ new.next → after ≡ before ++ e ∷ [] →
     after ≡ (storm_after n (count + 1)).events

@@ -3,25 +3,31 @@ use Rattle.std.specs.Prelude.{◌≡◌, ℕ, ◌+◌, ◌*◌, ◌<◌, ◌≤�
 use Rattle.circular_buffer.specs.Buffer.{Buffer, buffer, keep_last}
 use Rattle.vk_types.specs.Types.{Answer, EventAnswer}
 use Rattle.vk_base.specs.declared.limits.TheConstants.{EVENTS}
+use Rattle.vk_base.specs.declared.event.EventAnswer.TheVariants as given
 use Rattle.vk_cluster.specs.declared.emitted.TheConstants.{LAST_BYTES}
 use Rattle.vk_cluster.specs.declared.report.Advance.{Advance}
-use Rattle.vk_cluster.specs.Standing.{StandsFor, Tells, emitted_bytes, logs_of, report_of}
+use Rattle.vk_cluster.specs.Shown.{Sends}
+use Rattle.vk_cluster.specs.Standing.{StandsFor, TellsReport, emitted_bytes, logs_of, step_report}
 use Rattle.vk_schedule.specs.declared.event.Event.{Event}
 use Rattle.vk_schedule.specs.declared.event.Event.TheVariants as events
 use Rattle.vk_event.specs.declared.task.Task.{Task}
 use Rattle.vk_frame.specs.declared.header.Header.{Header}
+use Rattle.vk_host.specs.Values.{StationValue}
 use Rattle.vk_pages.specs.Any.{IsAfter, call_by}
 use Rattle.vk_pages.specs.Programs.{task_call}
 use Rattle.vk_program.specs.Tasks.{told_by}
 use Rattle.vk_rules.specs.Entries.{is_frame_taken}
+use Rattle.vk_rules.specs.Frames.{Frame}
 use Rattle.vk_rules.specs.Histories.{Happened, happened, history_of}
+use Rattle.vk_rules.specs.Laws.{HaveHeaders}
+use Rattle.vk_rules.specs.Observed.{is_not_yet}
 use Rattle.vk_drive.specs.declared.actor.Actor.{Actor}
-use Rattle.vk_drive.specs.declared.course.Course.{Course}
-use Rattle.vk_drive.specs.declared.counts.Counts.{Counts}
+use Rattle.vk_drive.specs.declared.course.StormCourse.{StormCourse}
+use Rattle.vk_drive.specs.declared.counts.StormCounts.{StormCounts}
 use Rattle.vk_drive.specs.declared.driver.Driver.{Driver}
 use Rattle.vk_drive.specs.Storms.{Choice, process_event, storm_after}
 use Rattle.vk_drive.specs.Tasks.{settings, task_at}
-use Rattle.vk_drive.specs.Told.{all_emitted, answered_to, count_answered, is_old, is_timed_out, is_told, is_waiting, told}
+use Rattle.vk_drive.specs.Told.{all_emitted, answered_to, count_answered, is_old, is_timed_out, is_waiting, tells_answer, told}
 
 -- the process of the task, whose events were answered so: its program knows all that it was told, but for what waits to be passed on
 pub record IsActor (a : Actor) (t : Task) (heard : List EventAnswer) : Type 0 where
@@ -33,8 +39,13 @@ pub record IsActor (a : Actor) (t : Task) (heard : List EventAnswer) : Type 0 wh
   pub waits : a.waits ≡ is_waiting heard
   pub none : a.waits ≡ true → a.told ≡ None
 
+-- it tells that a collect came too early
+abbrev pub tells_too_early : EventAnswer → Bool
+tells_too_early (given.Answered a) = is_not_yet a
+tells_too_early a = false
+
 -- this is its next event, and nothing waits to be passed on
-pub record IsNextEvent (a : Actor) (t : Task) (heard : List EventAnswer) (e : Event) : Type 0 where
+pub record ChoosesEvent (a : Actor) (t : Task) (heard : List EventAnswer) (e : Event) : Type 0 where
   pub actor : IsActor a t heard
   pub event : e ≡ process_event t heard
   pub none : a.told ≡ None
@@ -49,18 +60,18 @@ abbrev pub HasPassedOn : List Actor → ℕ → Type 0
 HasPassedOn actors place = (a : Actor) → slice_get actors place ≡ Some a → a.told ≡ None
 
 -- this is the next event of the process at this place
-pub record IsNextOf (actors : List Actor) (hs : List Happened) (place : ℕ) (e : Event) : Type 0 where
+pub record IsChosenAt (actors : List Actor) (hs : List Happened) (place : ℕ) (e : Event) : Type 0 where
   pub actors_are : AreActors actors hs
   pub event : e ≡ process_event (task_at place) (answered_to (task_at place).pid hs)
   pub none : HasPassedOn actors place
 
 -- The numbers that are told.
-abbrev pub counts_of : List Happened → Counts
+abbrev pub counts_of : List Happened → StormCounts
 counts_of hs = record {
   frames = length (all_emitted hs);
   taken = count_answered is_frame_taken hs;
   late = count_answered is_old hs;
-  answers = count_answered is_told hs;
+  answers = count_answered tells_answer hs;
   timedout = count_answered is_timed_out hs;
 }
 
@@ -68,17 +79,17 @@ abbrev pub one_if : Bool → ℕ
 one_if b = if b then 1 else 0
 
 -- with an event more, answered so, at which so many frames were emitted
-abbrev pub counted : Counts → ℕ → EventAnswer → Counts
-counted c frames a = record {
+abbrev pub counts_with : StormCounts → ℕ → EventAnswer → StormCounts
+counts_with c frames a = record {
   frames = c.frames + frames;
   taken = c.taken + one_if (is_frame_taken a);
   late = c.late + one_if (is_old a);
-  answers = c.answers + one_if (is_told a);
+  answers = c.answers + one_if (tells_answer a);
   timedout = c.timedout + one_if (is_timed_out a);
 }
 
 -- there is room for more
-pub record AreLow (c : Counts) : Type 0 where
+pub record AreLow (c : StormCounts) : Type 0 where
   pub taken : c.taken < 2 ^ 63
   pub late : c.late < 2 ^ 63
   pub answers : c.answers < 2 ^ 63
@@ -88,36 +99,41 @@ pub record AreLow (c : Counts) : Type 0 where
 abbrev pub last_of : List Header → Buffer Header
 last_of hs = buffer (keep_last 32 hs) 32
 
+-- the frames of the station's last event are these, and their headers say what the station shows
+pub record ShowsHeaders (s : StationValue) (fs : List Frame) : Type 0 where
+  pub sends : Sends s fs
+  pub have : HaveHeaders s.host s.now s.number s.events 1 fs
+
 -- what is kept of a history
-pub record IsNoted (hs : List Happened) (recent : Buffer Header) (counts : Counts) : Type 0 where
+pub record IsNoted (hs : List Happened) (recent : Buffer Header) (counts : StormCounts) : Type 0 where
   pub recent_is : recent ≡ last_of (all_emitted hs)
   pub counts_are : counts ≡ counts_of hs
 
 -- the frames of these events hold too many bytes for one more to happen, or not
-abbrev pub IsOver : List Event → Type 0
-IsOver es = LAST_BYTES < emitted_bytes (history_of settings es)
+abbrev pub EmitsManyBytes : List Event → Type 0
+EmitsManyBytes es = LAST_BYTES < emitted_bytes (history_of settings es)
 
-abbrev pub IsBelow : List Event → Type 0
-IsBelow es = emitted_bytes (history_of settings es) ≤ LAST_BYTES
+abbrev pub EmitsFewBytes : List Event → Type 0
+EmitsFewBytes es = emitted_bytes (history_of settings es) ≤ LAST_BYTES
 
 -- what is kept of the history of these events
-pub record IsCourse (es : List Event) (c : Course) : Type 0 where
+pub record IsCourse (es : List Event) (c : StormCourse) : Type 0 where
   pub stands : StandsFor settings es c.cluster
   pub noted : IsNoted (history_of settings es) c.recent c.counts
   pub few : c.counts.frames ≤ 4294967296 * length es
 
 -- one event more happened behind these, and so is told of it
-pub record HasHappened (es : List Event) (new : Course) (e : Event) (a : Advance) : Type 0 where
+pub record HasHappened (es : List Event) (new : StormCourse) (e : Event) (a : Advance) : Type 0 where
   pub course : IsCourse (es ++ e ∷ []) new
-  pub told : Tells new.cluster a (report_of (happened settings (logs_of settings es) e))
-  pub below : IsBelow es
+  pub told : TellsReport new.cluster a (step_report (happened settings (logs_of settings es) e))
+  pub below : EmitsFewBytes es
 
 -- the event is none of a process
-abbrev pub is_quiet : Event → Bool
-is_quiet (events.Call pid call) = false
-is_quiet (events.Collect pid) = false
-is_quiet (events.Tick host) = true
-is_quiet (events.Deliver to from event output) = true
+abbrev pub is_of_no_process : Event → Bool
+is_of_no_process (events.Call pid call) = false
+is_of_no_process (events.Collect pid) = false
+is_of_no_process (events.Tick host) = true
+is_of_no_process (events.Deliver to from event output) = true
 
 -- A storm under way, behind these events.
 pub record IsDriver (es : List Event) (d : Driver) : Type 0 where
@@ -126,18 +142,18 @@ pub record IsDriver (es : List Event) (d : Driver) : Type 0 where
   pub actors : AreActors d.actors.items (history_of settings es)
 
 -- behind some, of which there may be more
-abbrev pub IsOpen : Driver → Type 0
-IsOpen d = (es : List Event) × IsDriver es d × (length es < EVENTS)
+abbrev pub IsStormOpen : Driver → Type 0
+IsStormOpen d = (es : List Event) × IsDriver es d × (length es < EVENTS)
 
 -- the event of this choice happened behind these
 pub record IsPlayed (es : List Event) (new : Driver) (c : Choice) : Type 0 where
   pub driver : IsDriver (es ++ c.event ∷ []) new
   pub state : new.generator ≡ c.state
   pub event : new.next ≡ c.event
-  pub below : IsBelow es
+  pub below : EmitsFewBytes es
 
 -- the storm of this number, behind so many of its events
 pub record IsStorm (n count : ℕ) (d : Driver) : Type 0 where
   pub driver : IsDriver (storm_after n count).events d
   pub state : d.generator ≡ (storm_after n count).state
-  pub below : (before : ℕ) → before < count → IsBelow (storm_after n before).events
+  pub below : (before : ℕ) → before < count → EmitsFewBytes (storm_after n before).events

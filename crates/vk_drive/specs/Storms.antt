@@ -15,7 +15,7 @@ use Rattle.vk_rules.specs.Entries.{is_frame_taken}
 use Rattle.vk_rules.specs.Histories.{Happened, history_of}
 use Rattle.vk_drive.specs.declared.summary.StormSummary.{StormSummary}
 use Rattle.vk_drive.specs.Tasks.{settings, specs, task_at}
-use Rattle.vk_drive.specs.Told.{all_emitted, answered_to, count_answered, is_old, is_timed_out, is_told, is_waiting, told}
+use Rattle.vk_drive.specs.Told.{all_emitted, answered_to, count_answered, is_old, is_timed_out, is_waiting, tells_answer, told}
 
 -- Once the numbers for an event are drawn: the generator's state, and the event.
 pub record Choice : Type 0 where
@@ -89,8 +89,8 @@ storm_after seed zero = record { state = seed; events = [] }
 storm_after seed (suc count) = one_more (storm_after seed count)
 
 -- the schedule of storm n: n events from the seed n
-abbrev pub schedule_of : ℕ → Schedule
-schedule_of n = record { config = settings; events = (storm_after n n).events }
+abbrev pub storm_schedule_of : ℕ → Schedule
+storm_schedule_of n = record { config = settings; events = (storm_after n n).events }
 
 -- what is told of the storm's history
 abbrev pub summary_by : ℕ → List Happened → StormSummary
@@ -99,21 +99,21 @@ summary_by n hs = record {
   frames = length (all_emitted hs);
   taken = count_answered is_frame_taken hs;
   old = count_answered is_old hs;
-  answers = count_answered is_told hs;
+  answers = count_answered tells_answer hs;
   timedout = count_answered is_timed_out hs;
 }
 
 abbrev pub summary_of : ℕ → StormSummary
-summary_of n = summary_by n (history_of settings (schedule_of n).events)
+summary_of n = summary_by n (history_of settings (storm_schedule_of n).events)
 
 -- the bytes of the frames that are emitted at the first so many events of a storm
 abbrev pub bytes_before : (count n : ℕ) → ℕ
-bytes_before count n = emitted_bytes (history_of settings (take count (schedule_of n).events))
+bytes_before count n = emitted_bytes (history_of settings (take count (storm_schedule_of n).events))
 
 -- before none of its events the frames hold too many bytes
-abbrev pub Fits : ℕ → Type 0
-Fits n = (count : ℕ) → count < n → bytes_before count n ≤ LAST_BYTES
+abbrev pub StormFits : ℕ → Type 0
+StormFits n = (count : ℕ) → count < n → bytes_before count n ≤ LAST_BYTES
 
 -- before one of its events they do
-abbrev pub IsTooMuch : ℕ → Type 0
-IsTooMuch n = (count : ℕ) × (count < n) × (LAST_BYTES < bytes_before count n)
+abbrev pub IsStormTooMuch : ℕ → Type 0
+IsStormTooMuch n = (count : ℕ) × (count < n) × (LAST_BYTES < bytes_before count n)

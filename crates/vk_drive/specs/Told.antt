@@ -65,9 +65,9 @@ abbrev pub is_old : EventAnswer → Bool
 is_old given.Old = true
 is_old a = false
 
-abbrev pub is_told : EventAnswer → Bool
-is_told (given.Answered a) = not (is_not_yet a)
-is_told a = false
+abbrev pub tells_answer : EventAnswer → Bool
+tells_answer (given.Answered a) = not (is_not_yet a)
+tells_answer a = false
 
 abbrev pub is_timed_out_refusal : Refusal → Bool
 is_timed_out_refusal refusals.TimedOut = true

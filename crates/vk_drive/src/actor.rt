@@ -1,17 +1,17 @@
 //! A process of a storm.
 
-ghost use Rattle.std.specs.Prelude.{◌≡◌, [], ◌∷◌, ◌++◌, List, None, false, IfOk};
+ghost use Rattle.std.specs.Prelude.{◌≡◌, [], ◌∷◌, ◌++◌, List, None, Some, false, IfOk};
 ghost use Rattle.vk_base.specs.declared.event.EventAnswer.{EventAnswer as TheAnswer};
-ghost use Rattle.vk_base.specs.declared.event.EventAnswer.TheVariants as given;
 ghost use Rattle.vk_event.specs.declared.task.Task.{Task as TheTask};
-ghost use Rattle.vk_host.specs.Responses.{answer_of};
+ghost use Rattle.vk_host.specs.Responses.{answer_given, answer_of};
 ghost use Rattle.vk_pages.specs.Any.{IsTaskOf};
-ghost use Rattle.vk_rules.specs.Observed.{is_not_yet};
-ghost use Rattle.vk_drive.specs.Driving.{IsActor, IsNextEvent};
+ghost use Rattle.vk_procs.specs.declared.seat.Seat.{Seat as TheSeat};
+ghost use Rattle.vk_stands.specs.Rules.{given_by};
+ghost use Rattle.vk_drive.specs.Driving.{ChoosesEvent, IsActor, tells_too_early};
 
 use crate::next::NextEvent;
 use std::alloc::Global;
-use vk_base::{Answer, Config, EventAnswer, NoMemory, Pid, Refusal};
+use vk_base::{Answer, Config, EventAnswer, NoMemory, Outcome, Pid, Refusal};
 use vk_event::Task;
 use vk_host::{Host, Response};
 use vk_pages::AnyProgram;
@@ -29,12 +29,22 @@ pub struct Actor {
     waits: bool,
 }
 
-/// Whether the answer tells that a collect came too early.
-fn is_not_yet(answer: &Answer) -> bool
-    ensures { result ≡ is_not_yet answer.now }
+/// Whether the outcome tells that a collect came too early.
+fn is_not_yet(outcome: Outcome) -> bool
+    ensures { result ≡ tells_too_early (given_by (Some outcome)) }
 {
-    match answer {
-        Answer::Refused { why } => *why == Refusal::NotYet,
+    match outcome {
+        Outcome::Refused { why } => why == Refusal::NotYet,
+        _ => false,
+    }
+}
+
+/// Whether the response tells that a collect came too early.
+fn is_too_early(response: Response) -> bool
+    ensures { (seats : List TheSeat) → result ≡ tells_too_early (answer_given seats response) }
+{
+    match response {
+        Response::Given { outcome } => is_not_yet(outcome),
         _ => false,
     }
 }
@@ -59,7 +69,7 @@ impl Actor {
 
     /// Its next event: it collects, or makes its program's next call.
     pub fn choose(&mut self, next: &mut NextEvent)
-        ensures { (t : TheTask) (heard : List TheAnswer) → IsActor self.old t heard → IsNextEvent self.new t heard next.new }
+        ensures { (t : TheTask) (heard : List TheAnswer) → IsActor self.old t heard → ChoosesEvent self.new t heard next.new }
     {
         if self.waits {
             next.set(EventKind::Collect { pid: self.pid });
@@ -73,7 +83,7 @@ impl Actor {
     #[inline(never)]
     fn call(&mut self, next: &mut NextEvent)
         requires { self.old.waits ≡ false }
-        ensures { (t : TheTask) (heard : List TheAnswer) → IsActor self.old t heard → IsNextEvent self.new t heard next.new }
+        ensures { (t : TheTask) (heard : List TheAnswer) → IsActor self.old t heard → ChoosesEvent self.new t heard next.new }
     {
         let pid = self.pid;
         match self.program.next(self.told.as_ref()) {
@@ -83,37 +93,33 @@ impl Actor {
         self.told = None;
     }
 
-    /// Its last call or collect was answered with this.
-    fn hear_answer(&mut self, answer: Answer)
-        requires { self.old.told ≡ None }
-        ensures { (t : TheTask) (heard : List TheAnswer) → IsActor self.old t heard →
-            IsActor self.new t (heard ++ given.Answered answer ∷ []) }
-    {
-        if !is_not_yet(&answer) {
-            self.told = Some(answer);
-            self.waits = false;
-        }
-    }
-
-    /// Its last event was answered so.
+    /// Its last event was answered so, and not that a collect came too early.
     fn hear_whole(&mut self, answer: EventAnswer)
-        requires { self.old.told ≡ None }
+        requires told { self.old.told ≡ None }
+        requires late { tells_too_early answer ≡ false }
         ensures { (t : TheTask) (heard : List TheAnswer) → IsActor self.old t heard → IsActor self.new t (heard ++ answer ∷ []) }
     {
         match answer {
             EventAnswer::Begun => self.waits = true,
-            EventAnswer::Answered { answer } => self.hear_answer(answer),
+            EventAnswer::Answered { answer } => {
+                self.told = Some(answer);
+                self.waits = false;
+            }
             EventAnswer::Ticked { .. } | EventAnswer::Taken | EventAnswer::Old | EventAnswer::Bad =>
                 {}
         }
     }
 
-    /// The same, in few bytes of this station. No answer is made of a call that begins.
+    /// Its last event was answered so, in few bytes of this station. No answer is made of a call that begins, nor of a collect that came
+    /// too early.
     pub fn hear(&mut self, station: &Host, response: Response)
         requires { self.old.told ≡ None }
         ensures { (t : TheTask) (heard : List TheAnswer) → IsActor self.old t heard →
             IsActor self.new t (heard ++ answer_of station.now response ∷ []) }
     {
+        if is_too_early(response) {
+            return;
+        }
         match response {
             Response::Begun => self.waits = true,
             _ => self.hear_whole(station.answer(response)),

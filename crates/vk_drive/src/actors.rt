@@ -4,9 +4,9 @@ ghost use Rattle.std.specs.Prelude.{◌≡◌, ◌≢◌, ◌<◌, [], ◌∷◌
 ghost use Rattle.vk_base.specs.declared.event.EventAnswer.{EventAnswer as TheAnswer};
 ghost use Rattle.vk_cluster.specs.declared.report.ClusterAnswer.TheVariants as answered;
 ghost use Rattle.vk_cluster.specs.declared.report.StepReport.{StepReport as TheReport};
-ghost use Rattle.vk_cluster.specs.Standing.{Tells};
+ghost use Rattle.vk_cluster.specs.Standing.{TellsReport};
 ghost use Rattle.vk_rules.specs.Histories.{Happened};
-ghost use Rattle.vk_drive.specs.Driving.{AreActors, HasPassedOn, IsNextOf};
+ghost use Rattle.vk_drive.specs.Driving.{AreActors, HasPassedOn, IsChosenAt};
 ghost use Rattle.vk_drive.specs.Tasks.{settings, task_at};
 ghost use Rattle.vk_drive.specs.Told.{answered_in};
 
@@ -33,7 +33,7 @@ pub fn new_actors(alloc: Global, config: &Config) -> Result<Vec<Actor>, NoMemory
 /// The process at this place chooses its next event.
 pub fn choose(actors: &mut Vec<Actor>, place: usize, next: &mut NextEvent)
     requires { place < length actors.old.items }
-    ensures { (hs : List Happened) → AreActors actors.old.items hs → IsNextOf actors.new.items hs place next.new }
+    ensures { (hs : List Happened) → AreActors actors.old.items hs → IsChosenAt actors.new.items hs place next.new }
 {
     actors[place].choose(next);
 }
@@ -42,9 +42,9 @@ pub fn choose(actors: &mut Vec<Actor>, place: usize, next: &mut NextEvent)
 pub fn hear(actors: &mut Vec<Actor>, place: usize, cluster: &Cluster, advance: Advance)
     requires within { place < length actors.old.items }
     requires none { HasPassedOn actors.old.items place }
-    requires told { (r : TheReport) × Tells cluster.now advance r }
+    requires told { (r : TheReport) × TellsReport cluster.now advance r }
     ensures { (hs : List Happened) (h : Happened) (a : TheAnswer) (r : TheReport) → AreActors actors.old.items hs →
-        Tells cluster.now advance r → r.answer ≡ answered.Event a →
+        TellsReport cluster.now advance r → r.answer ≡ answered.Event a →
         answered_in (task_at place).pid h ≡ a ∷ [] → ((q : ℕ) → q < 4 → q ≢ place → answered_in (task_at q).pid h ≡ []) →
         AreActors actors.new.items (hs ++ h ∷ []) }
 {

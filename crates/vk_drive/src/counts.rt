@@ -5,8 +5,8 @@ ghost use Rattle.vk_procs.specs.declared.seat.Seat.{Seat as TheSeat};
 ghost use Rattle.vk_host.specs.Responses.{answer_given};
 ghost use Rattle.vk_rules.specs.Observed.{is_not_yet_refusal};
 ghost use Rattle.vk_stands.specs.Rules.{given_by};
-ghost use Rattle.vk_drive.specs.Driving.{AreLow, counted, one_if};
-ghost use Rattle.vk_drive.specs.Told.{is_timed_out, is_timed_out_refusal, is_told};
+ghost use Rattle.vk_drive.specs.Driving.{AreLow, counts_with, one_if};
+ghost use Rattle.vk_drive.specs.Told.{is_timed_out, is_timed_out_refusal, tells_answer};
 
 use vk_base::{Outcome, Refusal};
 use vk_host::Response;
@@ -14,7 +14,7 @@ use vk_host::Response;
 /// How many frames were emitted, how many deliveries were taken and how many were too old, how many answers processes were told, and how
 /// many of these said that nobody answered in time.
 #[derive(Clone, Copy, Debug, PartialEq, Eq)]
-pub struct Counts {
+pub struct StormCounts {
     pub frames: u64,
     pub taken: u64,
     pub late: u64,
@@ -22,11 +22,11 @@ pub struct Counts {
     pub timedout: u64,
 }
 
-impl Counts {
+impl StormCounts {
     pub fn new() -> Self
         ensures { result ≡ record { frames = 0; taken = 0; late = 0; answers = 0; timedout = 0 } }
     {
-        Counts {
+        StormCounts {
             frames: 0,
             taken: 0,
             late: 0,
@@ -57,7 +57,7 @@ impl Counts {
     fn count_outcome(&mut self, outcome: Outcome)
         requires { AreLow self.old }
         ensures { self.new ≡ record self.old {
-          answers = self.old.answers + one_if (is_told (given_by (Some outcome)));
+          answers = self.old.answers + one_if (tells_answer (given_by (Some outcome)));
           timedout = self.old.timedout + one_if (is_timed_out (given_by (Some outcome)));
         } }
     {
@@ -71,7 +71,7 @@ impl Counts {
     pub fn count(&mut self, frames: u32, response: Response)
         requires frames { self.old.frames < 2 ^ 63 }
         requires low { AreLow self.old }
-        ensures { (seats : List TheSeat) → self.new ≡ counted self.old frames (answer_given seats response) }
+        ensures { (seats : List TheSeat) → self.new ≡ counts_with self.old frames (answer_given seats response) }
     {
         self.frames += u64::from(frames);
         match response {

@@ -1,28 +1,25 @@
 //! What happens in a storm, and what is told of it.
 
-ghost use Rattle.std.specs.Prelude.{◌≡◌, ◌≤◌, ◌<◌, ◌+◌, ◌^◌, [], ◌∷◌, ◌++◌, List, length, true, Err, IfOk};
+ghost use Rattle.std.specs.Prelude.{◌≡◌, ◌≤◌, ◌<◌, ◌+◌, ◌^◌, [], ◌∷◌, ◌++◌, List, length, slice_get, true, Some, Err, IfOk};
 ghost use Rattle.vk_base.specs.declared.limits.TheConstants.{EVENTS};
 ghost use Rattle.vk_schedule.specs.declared.event.Event.{Event as TheEvent};
 ghost use Rattle.vk_schedule.specs.Lawful.{has_actors};
 ghost use Rattle.vk_frame.specs.declared.header.Header.{Header as TheHeader};
-ghost use Rattle.vk_host.specs.Sealed.{sealed};
 ghost use Rattle.vk_rules.specs.Frames.{Frame as TheFrame};
 ghost use Rattle.vk_rules.specs.Histories.{history_of};
-ghost use Rattle.v_lawful.specs.Sending.{IsLawfulFrame};
-ghost use Rattle.vk_drive.specs.Driving.{AreLow, HasHappened, IsBelow, IsCourse, IsNoted, IsOver, last_of};
-ghost use Rattle.vk_cluster.specs.Shown.{HasAdvanced, Sends};
+ghost use Rattle.vk_drive.specs.Driving.{AreLow, EmitsFewBytes, EmitsManyBytes, HasHappened, IsCourse, IsNoted, ShowsHeaders, last_of};
+ghost use Rattle.vk_cluster.specs.Shown.{HasAdvanced};
 ghost use Rattle.vk_drive.specs.Tasks.{settings, specs};
 ghost use Rattle.vk_drive.specs.Told.{headers};
 
-use crate::counts::Counts;
+use crate::counts::StormCounts;
 use crate::summary::StormRefusal;
 use circular_buffer::HeapCircularBuffer;
 use std::alloc::Global;
 use vk_base::{Config, NoMemory};
 use vk_cluster::{Advance, Cluster};
-use vk_frame::{Header, unseal};
+use vk_frame::Header;
 use vk_host::Host;
-use vk_rules::frames_unseal_again;
 use vk_schedule::EventView;
 
 /// The frames of which a delivery chooses one.
@@ -30,33 +27,37 @@ const RECENT: usize = 32;
 
 /// The stations, the frames that were emitted last, and the numbers that are told.
 #[derive(Drop)]
-pub struct Course {
+pub struct StormCourse {
     pub cluster: Cluster,
     pub recent: HeapCircularBuffer<Header>,
-    pub counts: Counts,
+    pub counts: StormCounts,
 }
 
-/// Puts the header of the frame of these bytes behind the others.
-fn keep_frame(recent: &mut HeapCircularBuffer<Header>, bytes: &[u8])
-    ensures { (f : TheFrame) (hs : List TheHeader) → IsLawfulFrame f → bytes.now ≡ sealed f → recent.old ≡ last_of hs →
-        recent.new ≡ last_of (hs ++ f.header ∷ []) }
+/// The header of frame number `at` of the station's last event, counted from 0. The station tells all of it: the frame is not opened.
+fn header_of(station: &Host, at: u32) -> Header
+    requires at { at < length station.now.frames }
+    requires told { (fs : List TheFrame) × ShowsHeaders station.now fs }
+    ensures { (fs : List TheFrame) → ShowsHeaders station.now fs → slice_get (headers fs) at ≡ Some result }
 {
-    frames_unseal_again();
-    match unseal(bytes) {
-        Some((header, _)) => {
-            let _oldest = recent.push_back(header);
-        }
-        None => {}
+    let (destination, _) = station.packet(at);
+    Header {
+        source: station.host(),
+        destination,
+        stamp: station.now(),
+        number: station.number(),
+        event: station.events(),
+        output: at as u16 + 1,
     }
 }
 
 /// Puts the headers of the frames of the station's last event behind the others.
 fn keep(recent: &mut HeapCircularBuffer<Header>, station: &Host)
-    ensures { (fs : List TheFrame) (hs : List TheHeader) → Sends station.now fs → recent.old ≡ last_of hs →
+    requires { (fs : List TheFrame) × ShowsHeaders station.now fs }
+    ensures { (fs : List TheFrame) (hs : List TheHeader) → ShowsHeaders station.now fs → recent.old ≡ last_of hs →
         recent.new ≡ last_of (hs ++ headers fs) }
 {
     for at in 0..station.frame_count() {
-        keep_frame(recent, station.frame(at));
+        let _oldest = recent.push_back(header_of(station, at));
     }
 }
 
@@ -64,7 +65,7 @@ fn keep(recent: &mut HeapCircularBuffer<Header>, station: &Host)
 fn note(
     cluster: &Cluster,
     recent: &mut HeapCircularBuffer<Header>,
-    counts: &mut Counts,
+    counts: &mut StormCounts,
     advance: Advance,
 )
     requires frames { counts.old.frames < 2 ^ 63 }
@@ -84,7 +85,7 @@ fn note(
     }
 }
 
-impl Course {
+impl StormCourse {
     /// Before the first event.
     ///
     /// # Errors
@@ -94,10 +95,10 @@ impl Course {
         requires { config.now ≡ settings }
         ensures { IfOk result (IsCourse []) }
     {
-        Ok(Course {
+        Ok(StormCourse {
             cluster: Cluster::new(alloc, config)?,
             recent: HeapCircularBuffer::with_capacity(alloc, RECENT)?,
-            counts: Counts::new(),
+            counts: StormCounts::new(),
         })
     }
 
@@ -111,8 +112,8 @@ impl Course {
         requires course { (es : List TheEvent) × IsCourse es self.old × (length es < EVENTS) }
         requires actors { has_actors specs event.now ≡ true }
         ensures happened { (es : List TheEvent) → IsCourse es self.old → IfOk result (HasHappened es self.new event.now) }
-        ensures limit { (es : List TheEvent) → IsCourse es self.old → result ≡ Err StormRefusal.Limit → IsOver es }
-        ensures memory { (es : List TheEvent) → IsCourse es self.old → result ≡ Err StormRefusal.NoMemory → IsBelow es }
+        ensures limit { (es : List TheEvent) → IsCourse es self.old → result ≡ Err StormRefusal.Limit → EmitsManyBytes es }
+        ensures memory { (es : List TheEvent) → IsCourse es self.old → result ≡ Err StormRefusal.NoMemory → EmitsFewBytes es }
     {
         let told = self.cluster.advance(alloc, event)?;
         note(&self.cluster, &mut self.recent, &mut self.counts, told);

@@ -7,15 +7,15 @@ ghost use Rattle.vk_schedule.specs.Lawful.{has_actors};
 ghost use Rattle.vk_schedule.specs.Views.{event_by};
 ghost use Rattle.vk_schedule.specs.declared.event.Event.{Event as TheEvent};
 ghost use Rattle.vk_rules.specs.Histories.{Happened, history_of};
-ghost use Rattle.vk_drive.specs.Driving.{IsBelow, IsCourse, IsDriver, IsOpen, IsOver, IsPlayed, counts_of, is_quiet};
-ghost use Rattle.vk_drive.specs.Storms.{Fits, IsTooMuch, choice, chosen, delivery_choice, delivery_of, process_choice, schedule_of, summary_by, summary_of, tick_choice};
+ghost use Rattle.vk_drive.specs.Driving.{EmitsFewBytes, EmitsManyBytes, IsCourse, IsDriver, IsPlayed, IsStormOpen, counts_of, is_of_no_process};
+ghost use Rattle.vk_drive.specs.Storms.{IsStormTooMuch, StormFits, choice, chosen, delivery_choice, delivery_of, process_choice, storm_schedule_of, summary_by, summary_of, tick_choice};
 ghost use Rattle.vk_drive.specs.Tasks.{settings, specs};
 ghost use Rattle.vk_drive.specs.Told.{all_emitted};
 
 use crate::actor::Actor;
 use crate::actors::{choose, hear, new_actors};
-use crate::counts::Counts;
-use crate::course::Course;
+use crate::counts::StormCounts;
+use crate::course::StormCourse;
 use crate::next::NextEvent;
 use crate::summary::{StormRefusal, StormSummary};
 use crate::tasks::settings;
@@ -31,7 +31,7 @@ struct Driver {
     config: Config,
     generator: Generator,
     actors: Vec<Actor>,
-    course: Course,
+    course: StormCourse,
     /// What happens next, once it is chosen; until then what happened last.
     next: NextEvent,
 }
@@ -54,7 +54,7 @@ fn delivery_of(config: &Config, header: &Header) -> EventKind
 }
 
 /// One of the frames that were emitted last comes; or station 1 ticks, where there is none.
-fn delivery(generator: &mut Generator, config: &Config, course: &Course) -> EventKind
+fn delivery(generator: &mut Generator, config: &Config, course: &StormCourse) -> EventKind
     requires { config.now ≡ settings }
     ensures { (es : List TheEvent) → IsCourse es course.now →
         chosen generator.new (event_by result calls.Receive) ≡ delivery_choice generator.old (all_emitted (history_of settings es)) }
@@ -71,7 +71,7 @@ fn delivery(generator: &mut Generator, config: &Config, course: &Course) -> Even
 }
 
 /// What is told of a storm with these numbers.
-fn summary_by(n: u32, counts: &Counts) -> StormSummary
+fn summary_by(n: u32, counts: &StormCounts) -> StormSummary
     ensures { (hs : List Happened) → counts.now ≡ counts_of hs → result ≡ summary_by n hs }
 {
     StormSummary {
@@ -92,7 +92,7 @@ impl Driver {
     {
         let config = settings(alloc)?;
         let actors = new_actors(alloc, &config)?;
-        let course = Course::new(alloc, &config)?;
+        let course = StormCourse::new(alloc, &config)?;
         Ok(Driver {
             config,
             generator: Generator::new(u64::from(n)),
@@ -104,13 +104,13 @@ impl Driver {
 
     /// What was chosen happens, an event of no process.
     fn happen(&mut self, alloc: Global) -> Result<(), StormRefusal>
-        requires more { IsOpen self.old }
-        requires quiet { is_quiet self.old.next ≡ true }
+        requires more { IsStormOpen self.old }
+        requires quiet { is_of_no_process self.old.next ≡ true }
         requires actors { has_actors specs self.old.next ≡ true }
         ensures played { (es : List TheEvent) → IsDriver es self.old →
             OnOk result (IsPlayed es self.new (chosen self.old.generator self.old.next)) }
-        ensures limit { (es : List TheEvent) → IsDriver es self.old → result ≡ Err StormRefusal.Limit → IsOver es }
-        ensures memory { (es : List TheEvent) → IsDriver es self.old → result ≡ Err StormRefusal.NoMemory → IsBelow es }
+        ensures limit { (es : List TheEvent) → IsDriver es self.old → result ≡ Err StormRefusal.Limit → EmitsManyBytes es }
+        ensures memory { (es : List TheEvent) → IsDriver es self.old → result ≡ Err StormRefusal.NoMemory → EmitsFewBytes es }
     {
         let _advance = self.course.happen(alloc, &self.next.view())?;
         Ok(())
@@ -118,11 +118,11 @@ impl Driver {
 
     /// A process calls or collects.
     fn act(&mut self, alloc: Global) -> Result<(), StormRefusal>
-        requires { IsOpen self.old }
+        requires { IsStormOpen self.old }
         ensures played { (es : List TheEvent) → IsDriver es self.old →
             OnOk result (IsPlayed es self.new (process_choice self.old.generator (history_of settings es))) }
-        ensures limit { (es : List TheEvent) → IsDriver es self.old → result ≡ Err StormRefusal.Limit → IsOver es }
-        ensures memory { (es : List TheEvent) → IsDriver es self.old → result ≡ Err StormRefusal.NoMemory → IsBelow es }
+        ensures limit { (es : List TheEvent) → IsDriver es self.old → result ≡ Err StormRefusal.Limit → EmitsManyBytes es }
+        ensures memory { (es : List TheEvent) → IsDriver es self.old → result ≡ Err StormRefusal.NoMemory → EmitsFewBytes es }
     {
         let place = (self.generator.draw() % 4) as usize;
         choose(&mut self.actors, place, &mut self.next);
@@ -133,11 +133,11 @@ impl Driver {
 
     /// A frame comes.
     fn deliver(&mut self, alloc: Global) -> Result<(), StormRefusal>
-        requires { IsOpen self.old }
+        requires { IsStormOpen self.old }
         ensures played { (es : List TheEvent) → IsDriver es self.old →
             OnOk result (IsPlayed es self.new (delivery_choice self.old.generator (all_emitted (history_of settings es)))) }
-        ensures limit { (es : List TheEvent) → IsDriver es self.old → result ≡ Err StormRefusal.Limit → IsOver es }
-        ensures memory { (es : List TheEvent) → IsDriver es self.old → result ≡ Err StormRefusal.NoMemory → IsBelow es }
+        ensures limit { (es : List TheEvent) → IsDriver es self.old → result ≡ Err StormRefusal.Limit → EmitsManyBytes es }
+        ensures memory { (es : List TheEvent) → IsDriver es self.old → result ≡ Err StormRefusal.NoMemory → EmitsFewBytes es }
     {
         let kind = delivery(&mut self.generator, &self.config, &self.course);
         self.next.set(kind);
@@ -146,10 +146,10 @@ impl Driver {
 
     /// A station ticks.
     fn tick(&mut self, alloc: Global) -> Result<(), StormRefusal>
-        requires { IsOpen self.old }
+        requires { IsStormOpen self.old }
         ensures played { (es : List TheEvent) → IsDriver es self.old → OnOk result (IsPlayed es self.new (tick_choice self.old.generator)) }
-        ensures limit { (es : List TheEvent) → IsDriver es self.old → result ≡ Err StormRefusal.Limit → IsOver es }
-        ensures memory { (es : List TheEvent) → IsDriver es self.old → result ≡ Err StormRefusal.NoMemory → IsBelow es }
+        ensures limit { (es : List TheEvent) → IsDriver es self.old → result ≡ Err StormRefusal.Limit → EmitsManyBytes es }
+        ensures memory { (es : List TheEvent) → IsDriver es self.old → result ≡ Err StormRefusal.NoMemory → EmitsFewBytes es }
     {
         let host = 1 + (self.generator.draw() % 4) as u16;
         self.next.set(EventKind::Tick { host });
@@ -158,11 +158,11 @@ impl Driver {
 
     /// The next event.
     fn advance(&mut self, alloc: Global) -> Result<(), StormRefusal>
-        requires { IsOpen self.old }
+        requires { IsStormOpen self.old }
         ensures played { (es : List TheEvent) → IsDriver es self.old →
             OnOk result (IsPlayed es self.new (choice self.old.generator (history_of settings es))) }
-        ensures limit { (es : List TheEvent) → IsDriver es self.old → result ≡ Err StormRefusal.Limit → IsOver es }
-        ensures memory { (es : List TheEvent) → IsDriver es self.old → result ≡ Err StormRefusal.NoMemory → IsBelow es }
+        ensures limit { (es : List TheEvent) → IsDriver es self.old → result ≡ Err StormRefusal.Limit → EmitsManyBytes es }
+        ensures memory { (es : List TheEvent) → IsDriver es self.old → result ≡ Err StormRefusal.NoMemory → EmitsFewBytes es }
     {
         let kind = self.generator.draw() % 8;
         if kind < 3 {
@@ -185,8 +185,8 @@ impl Driver {
 pub fn storm(alloc: Global, n: u32) -> Result<StormSummary, StormRefusal>
     requires { n ≤ EVENTS }
     ensures summary { IfOk result (λ s. s ≡ summary_of n) }
-    ensures fits { OnOk result (Fits n) }
-    ensures limit { result ≡ Err StormRefusal.Limit → IsTooMuch n }
+    ensures fits { OnOk result (StormFits n) }
+    ensures limit { result ≡ Err StormRefusal.Limit → IsStormTooMuch n }
 {
     let mut driver = Driver::new(alloc, n)?;
     for _event in 0..n {
@@ -202,9 +202,9 @@ pub fn storm(alloc: Global, n: u32) -> Result<StormSummary, StormRefusal>
 /// Those of [`storm`].
 pub fn storm_schedule(alloc: Global, n: u32) -> Result<Schedule, StormRefusal>
     requires { n ≤ EVENTS }
-    ensures schedule { IfOk result (λ s. s ≡ schedule_of n) }
-    ensures fits { OnOk result (Fits n) }
-    ensures limit { result ≡ Err StormRefusal.Limit → IsTooMuch n }
+    ensures schedule { IfOk result (λ s. s ≡ storm_schedule_of n) }
+    ensures fits { OnOk result (StormFits n) }
+    ensures limit { result ≡ Err StormRefusal.Limit → IsStormTooMuch n }
 {
     let mut driver = Driver::new(alloc, n)?;
     let mut events = List::empty(alloc);

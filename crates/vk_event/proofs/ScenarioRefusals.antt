@@ -55,6 +55,9 @@ bad_text text = bad_by (lines_of text) (opened (lines_of text))
 pub no_limit : (text : List ℕ) → scenario_of text ≡ Err refusals.Limit → ⊥
 no_limit text is = subst IsBadText is (bad_text text)
 
+pub no_want : (text : List ℕ) → scenario_of text ≡ Err refusals.NoMemory → ⊥
+no_want text is = subst IsBadText is (bad_text text)
+
 -- so no reader answers Limit
 
 pub never_limit : (text : List ℕ) (e : TextRefusal) → ((e ≡ refusals.NoMemory) × HasScenarioProcess text) ⊎ (scenario_of text ≡ Err e)

@@ -23,6 +23,13 @@ pub enum Due {
     Events { log: StationLog },
 }
 
+/// The lines that are left of an opening: so many, from a place of the first text on.
+#[derive(Clone, Copy)]
+struct LinesLeft {
+    at: usize,
+    count: u64,
+}
+
 /// The opening of the first text, which is that of each.
 #[derive(Drop)]
 pub struct FirstText<'a> {
@@ -113,21 +120,20 @@ impl<'a> FirstText<'a> {
         &self,
         alloc: Global,
         logs: &[StationLog],
-        at: usize,
-        left: u64,
+        left: LinesLeft,
         number: u64,
         line: &[u8],
     ) -> Result<Due, TextRefusal>
         ensures { IsRead self.now.config (lines_at self.now.text.now self.now.second self.now.count) number
-            (Reading.Opening logs.now (lines_at self.now.text.now at left)) line.now self.now.text.now logs.now result }
+            (Reading.Opening logs.now (lines_at self.now.text.now left.at left.count)) line.now self.now.text.now logs.now result }
     {
-        let Some((due, next)) = self.due_line(at, left) else {
+        let Some((due, next)) = self.due_line(left.at, left.count) else {
             return self.begin(alloc, logs, number, line);
         };
         if line == due {
             Ok(Due::Opening {
                 at: next,
-                left: left - 1,
+                left: left.count - 1,
             })
         } else {
             Err(TextRefusal::BadInput { line: number })
@@ -182,7 +188,8 @@ impl<'a> FirstText<'a> {
     {
         match due {
             Due::Opening { at, left } => {
-                self.open(alloc, logs.as_slice(), at, left, number, line)
+                let left = LinesLeft { at, count: left };
+                self.open(alloc, logs.as_slice(), left, number, line)
             }
             Due::Events { log } => self.note(logs, log, number, line),
         }

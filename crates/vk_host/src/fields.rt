@@ -1,6 +1,6 @@
 //! That the fields of a call are numbers, pids, messages and bytes that code can hold.
 
-ghost use Rattle.std.specs.Prelude.{◌≡◌, ◌<◌, ◌≤◌, ℕ, length, slice_index};
+ghost use Rattle.std.specs.Prelude.{◌<◌, ◌≤◌, ℕ, length, slice_index};
 ghost use Rattle.vk_base.specs.declared.limits.TheConstants.{DATA_BYTES as BYTES};
 ghost use Rattle.vk_base.specs.Messages.{IsMessage};
 ghost use Rattle.vk_base.specs.Pids.{IsPid};

@@ -2,7 +2,7 @@
 
 ghost use Rattle.std.specs.Prelude.{◌≡◌, ◌<◌, ◌≤◌, ◌+◌, ◌-◌, ◌^◌, ℕ, List, [], length, max, min, slice_get, true, None, Some, IfOk};
 ghost use Rattle.v_lawful.specs.Sending.{most_packets};
-ghost use Rattle.vk_base.specs.declared.limits.TheConstants.{DATA_BYTES, STEPS};
+ghost use Rattle.vk_base.specs.declared.limits.TheConstants.{DATA_BYTES, EVERY_STATION, STATION_EVENTS, STEPS};
 ghost use Rattle.vk_base.specs.Settings.{Settings};
 ghost use Rattle.vk_base.specs.Steps.{is_allowed};
 ghost use Rattle.vk_packet.specs.Posts.{framed};
@@ -55,7 +55,7 @@ impl Host {
     /// [`NoMemory`] where memory is wanting.
     pub fn new(alloc: Global, config: &Config, host: u16) -> Result<Self, NoMemory>
         requires some_host { 0 < host }
-        requires one_host { host < 65535 }
+        requires one_host { host < EVERY_STATION }
         ensures stands { IfOk result (λ h. StandsAt config.now [] h) }
         ensures host { IfOk result (λ h. h.host ≡ host) }
     {
@@ -111,7 +111,7 @@ impl Host {
     }
 
     fn make(&mut self, pid: Pid, call: &Call) -> Response
-        requires few { self.old.events < 2 ^ 48 }
+        requires few { self.old.events < STATION_EVENTS }
         requires own { has self.old pid ≡ true }
         ensures event { IsEvent self.old self.new (Called pid call.now) (answer_of self.new result) }
         ensures frames { length self.new.frames ≤ most_packets (Called pid call.now) }
@@ -123,7 +123,7 @@ impl Host {
 
     /// The event that the process makes the call. Takes no memory.
     pub fn call(&mut self, pid: Pid, call: &CallView) -> Response
-        requires few { self.old.events < 2 ^ 48 }
+        requires few { self.old.events < STATION_EVENTS }
         requires own { has self.old pid ≡ true }
         ensures event { IsEvent self.old self.new (Called pid call.now) (answer_of self.new result) }
         ensures frames { length self.new.frames ≤ most_packets (Called pid call.now) }
@@ -144,7 +144,7 @@ impl Host {
 
     /// The event that the process collects its answer. Takes no memory.
     pub fn collect(&mut self, pid: Pid) -> Response
-        requires few { self.old.events < 2 ^ 48 }
+        requires few { self.old.events < STATION_EVENTS }
         requires own { has self.old pid ≡ true }
         ensures event { IsEvent self.old self.new (Collected pid) (answer_of self.new result) }
         ensures frames { length self.new.frames ≤ most_packets (Collected pid) }
@@ -165,7 +165,7 @@ impl Host {
 
     /// The event that the station's clock ticks. Takes no memory.
     pub fn tick(&mut self) -> Response
-        requires few { self.old.events + 1 < 2 ^ 48 }
+        requires few { self.old.events + 1 < STATION_EVENTS }
         ensures event { IsEvent self.old self.new Ticked (answer_of self.new result) }
         ensures frames { length self.new.frames ≤ most_packets Ticked }
         ensures steps { length self.new.doing.steps ≤ STEPS }
@@ -185,7 +185,7 @@ impl Host {
 
     /// The event that these bytes come, a frame or not. Takes no memory.
     pub fn deliver(&mut self, bytes: &[u8]) -> Response
-        requires few { self.old.events < 2 ^ 48 }
+        requires few { self.old.events < STATION_EVENTS }
         ensures event { IsEvent self.old self.new (Delivered (unsealed_of bytes.now)) (answer_of self.new result) }
         ensures frames { length self.new.frames ≤ most_packets (Delivered (unsealed_of bytes.now)) }
         ensures steps { length self.new.doing.steps ≤ STEPS }
@@ -292,7 +292,7 @@ fn are_few(steps: &Steps, out: &Outbox)
 
 /// Counts an event with which no Lamport number came.
 fn count(events: &mut u64, number: &mut u64)
-    requires { events.old < 2 ^ 48 }
+    requires { events.old < STATION_EVENTS }
     ensures events { events.new ≡ events.old + 1 }
     ensures number { number.new ≡ min (number.old + 1) (2 ^ 63 - 1) }
 {
@@ -302,7 +302,7 @@ fn count(events: &mut u64, number: &mut u64)
 
 /// Counts an event with which this came.
 fn count_frame(events: &mut u64, number: &mut u64, opened: &Opened)
-    requires { events.old < 2 ^ 48 }
+    requires { events.old < STATION_EVENTS }
     ensures events { events.new ≡ events.old + 1 }
     ensures number { number.new ≡ min (max number.old (number_in (unsealed_as opened.now)) + 1) (2 ^ 63 - 1) }
 {

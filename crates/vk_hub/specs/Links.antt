@@ -1,5 +1,6 @@
 -- The link plan: what waits for each station, and what a post and a fetch make of it.
 use Rattle.std.specs.Prelude.{ℕ, ◌%◌, ◌==◌, ◌&&◌, ◌||◌, not, Bool, false, Option, Some, None, List, [], ◌∷◌, ◌++◌, nat_lt, if◌then◌else◌}
+use Rattle.vk_base.specs.declared.limits.TheConstants.{EVERY_STATION}
 use Rattle.std.specs.Option.{option_map}
 use Rattle.circular_buffer.specs.Buffer.{keep_last}
 use Rattle.vk_frame.specs.Reading.{frame_of}
@@ -68,7 +69,7 @@ header_of frame = option_map (λ (h : Header × List ℕ). h.0) (frame_of frame)
 -- to the station of its destination, or to all but the sender; without a header to none
 abbrev pub is_addressed : Option Header → ℕ → Bool
 is_addressed None station = false
-is_addressed (Some h) station = (h.destination == station) || ((h.destination == 65535) && not (h.source == station))
+is_addressed (Some h) station = (h.destination == station) || ((h.destination == EVERY_STATION) && not (h.source == station))
 
 -- a post to each station in turn to which the frame is addressed; each takes three draws
 abbrev pub posted_all : LinkPlan → ℕ → List Waiting → Option Header → Frame → ℕ × List Waiting

@@ -5,7 +5,7 @@ ghost use Rattle.vk_base.specs.declared.limits.TheConstants.{EVENTS};
 ghost use Rattle.vk_base.specs.Settings.{stations_of};
 ghost use Rattle.vk_cluster.specs.declared.emitted.TheConstants.{EVENT_BYTES};
 ghost use Rattle.vk_cluster.specs.declared.frames.TheConstants.{MOST_BYTES as MOST};
-ghost use Rattle.vk_cluster.specs.Piles.{AreFrames, IsAdded, IsKept, pile_of};
+ghost use Rattle.vk_cluster.specs.Piles.{AreFrames, IsAdded, IsPileKept, pile_of};
 ghost use Rattle.vk_schedule.specs.declared.log.StationLog.{StationLog as TheLog};
 ghost use Rattle.vk_join.specs.Laws.{AreGiven};
 ghost use Rattle.vk_join.specs.Logs.{byte_count, event_count};
@@ -14,7 +14,7 @@ ghost use Rattle.vk_join.specs.Replays.{HasReplayed, IsNextPlayed, IsOverLimit, 
 use crate::log::JoinRefusal;
 use std::alloc::Global;
 use vk_base::{Config, NoMemory, StationEvent};
-use vk_cluster::{Emitted, MOST_BYTES, keep, new_hosts, place_of};
+use vk_cluster::{EmittedFrames, MOST_BYTES, keep, new_hosts, place_of};
 use vk_frame::frames_are_spelled_once;
 use vk_host::Host;
 use vk_packet::packets_are_spelled_once;
@@ -43,7 +43,7 @@ pub struct Position {
 pub struct Replay {
     pub alloc: Global,
     pub hosts: Vec<Host>,
-    pub emitted: Emitted,
+    pub emitted: EmittedFrames,
     pub keys: Vec<Key>,
 }
 
@@ -73,7 +73,7 @@ fn started(alloc: Global, config: &Config) -> Result<Replay, NoMemory>
     Ok(Replay {
         alloc,
         hosts: new_hosts(alloc, config)?,
-        emitted: Emitted::new(alloc, config.station_count() as usize)?,
+        emitted: EmittedFrames::new(alloc, config.station_count() as usize)?,
         keys: Vec::new(alloc),
     })
 }
@@ -135,11 +135,11 @@ impl Replay {
 /// Limit where all frames would have more than 268,435,456 bytes.
 fn keep_frames(
     alloc: Global,
-    emitted: &mut Emitted,
+    emitted: &mut EmittedFrames,
     host: &Host,
     place: usize,
 ) -> Result<(), JoinRefusal>
-    requires kept { IsKept (pile_of emitted.old) }
+    requires kept { IsPileKept (pile_of emitted.old) }
     requires place { place < length emitted.old.events.items }
     requires most { length (pile_of emitted.old).bytes ≤ MOST }
     requires few { AreFrames host.now.frames }

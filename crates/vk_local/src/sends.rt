@@ -1,7 +1,7 @@
 //! A Send to a process of the same station.
 
-ghost use Rattle.std.specs.Prelude.{◌≡◌, ◌<◌, ◌≤◌, ◌+◌, ◌^◌, length, true, Some};
-ghost use Rattle.vk_base.specs.declared.limits.TheConstants.{STATION_PROCESSES, STEPS};
+ghost use Rattle.std.specs.Prelude.{◌≡◌, ◌<◌, ◌≤◌, ◌+◌, length, true, Some};
+ghost use Rattle.vk_base.specs.declared.limits.TheConstants.{STATION_EVENTS, STATION_PROCESSES, STEPS};
 ghost use Rattle.vk_base.specs.Pids.{same_host};
 ghost use Rattle.vk_procs.specs.declared.seat.Seat.{Seat as TheSeat};
 ghost use Rattle.vk_procs.specs.Seats.{pids, seat_in};
@@ -58,7 +58,7 @@ pub fn send(
 ) -> Option<Outcome>
     requires near { same_host pid target ≡ true }
     requires ready { may_call procs.old pid ≡ true }
-    requires few { (s : TheSeat) → seat_in procs.old pid ≡ Some s → s.note.sends < 2 ^ 48 }
+    requires few { (s : TheSeat) → seat_in procs.old pid ≡ Some s → s.note.sends < STATION_EVENTS }
     requires lists { length queues.old.lists ≡ STATION_PROCESSES }
     requires slots { STATION_PROCESSES ≤ queues.old.slots }
     requires room { length steps.old + 2 ≤ STEPS }

@@ -9,7 +9,7 @@ use Rattle.vk_base.specs.declared.activity.Waiting.TheVariants as waitings
 use Rattle.vk_base.specs.declared.answer.Refusal.TheVariants as refusals
 use Rattle.vk_base.specs.declared.call.Call.TheVariants as calls
 use Rattle.vk_base.specs.declared.kernel.Direction.TheVariants as directions
-use Rattle.vk_base.specs.declared.limits.TheConstants.{MOVE_BYTES}
+use Rattle.vk_base.specs.declared.limits.TheConstants.{MOVE_BYTES, STATION_EVENTS}
 use Rattle.vk_base.specs.declared.step.Step.TheVariants as made
 use Rattle.vk_base.specs.Firsts.{change_first}
 use Rattle.vk_base.specs.Kernel.{name_of}
@@ -171,7 +171,7 @@ HasFitAliens slots = (host : ℕ) × ((i : ℕ) (a : Alien) → alien_at slots i
 
 -- of each Send so few moves were begun that there may be more
 abbrev pub HasFewMoves : List (Option Alien) → Type 0
-HasFewMoves slots = (i : ℕ) (a : Alien) → alien_at slots i ≡ Some a → a.moves < 2 ^ 48
+HasFewMoves slots = (i : ℕ) (a : Alien) → alien_at slots i ≡ Some a → a.moves < STATION_EVENTS
 
 -- The partner is of another station.
 abbrev pub is_away : Pid → Call → Bool

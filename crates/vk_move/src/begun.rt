@@ -1,24 +1,25 @@
 //! A process begins a move.
 
-ghost use Rattle.std.specs.Prelude.{◌≡◌, ◌≤◌, ◌<◌, ◌+◌, ◌^◌, true, length, option_copied, None};
+ghost use Rattle.std.specs.Prelude.{◌≡◌, ◌≤◌, ◌<◌, ◌+◌, true, length, option_copied, None};
+ghost use Rattle.vk_base.specs.declared.limits.TheConstants.{ROUND_PACKETS, STATION_EVENTS, STEPS};
 ghost use Rattle.std.specs.List.{position};
 ghost use Rattle.vk_base.specs.Kernel.{is_move};
 ghost use Rattle.vk_local.specs.Rules.{may_call};
 ghost use Rattle.vk_move.specs.Begun.{CanBegin, HasFewMoves, HasFitAliens, IsMoveBegun, begun_note, counted, doing_of, grants_access, has_ranges, is_away, message_held, moves_of, next_name, size_of, transfer_begun, transfer_by, verdict_by, verdict_in, verdict_on, waiting_in, waiting_seats};
 ghost use Rattle.vk_move.specs.Moved.{change_note};
-ghost use Rattle.vk_pool.specs.Aliens.{alien_from, is_alien_from};
+ghost use Rattle.vk_pool.specs.Aliens.{is_alien_from};
 ghost use Rattle.vk_procs.specs.Seats.{seat_in};
 ghost use Rattle.vk_stands.specs.Rules.{posted};
 
-use crate::moves::{Tick, Transfer};
+use crate::moves::Transfer;
 use crate::rounds::post_round;
 use vk_base::limits::MOVE_BYTES;
 use vk_base::{Direction, Message, MoveName, Name, Outcome, Pid, Refusal, Times, Waiting};
 use vk_brief::{BriefCall, BriefStep, CallView, Steps};
 use vk_packet::Outbox;
 use vk_pool::{Alien, AlienPool, AlienStage};
-use vk_procs::{ProcNote, Procs, Seat};
-use vk_timer::Work;
+use vk_procs::{ProcNote, Procs};
+use vk_timer::{Tick, Work};
 
 /// Whether a move may be made: it is refused; it is made at once, of no bytes; or it begins.
 #[derive(Clone, Copy)]
@@ -184,7 +185,7 @@ fn verdict_in(procs: &Procs, aliens: &AlienPool, pid: Pid, transfer: Transfer) -
 
 /// The name of the next move of the partner's Send, which is counted.
 fn next_name(aliens: &mut AlienPool, partner: Pid) -> Option<MoveName>
-    requires { moves_of aliens.old partner < 2 ^ 48 }
+    requires { moves_of aliens.old partner < STATION_EVENTS }
     ensures name { result ≡ next_name aliens.old partner (position (is_alien_from partner) aliens.old) }
     ensures slots { aliens.new ≡ counted aliens.old (position (is_alien_from partner) aliens.old) }
 {
@@ -201,7 +202,7 @@ fn next_name(aliens: &mut AlienPool, partner: Pid) -> Option<MoveName>
 }
 
 fn note_begun(procs: &mut Procs, pid: Pid, tick: Tick, name: MoveName)
-    requires { tick.at < 2 ^ 48 }
+    requires { tick.at < STATION_EVENTS }
     ensures { procs.new ≡ change_note pid (begun_note tick.times tick.at name) procs.old }
 {
     if let Some(seat) = procs.seat(pid) {
@@ -218,7 +219,7 @@ fn note_begun(procs: &mut Procs, pid: Pid, tick: Tick, name: MoveName)
 
 /// The process waits in its move from now on.
 fn wait(procs: &mut Procs, pid: Pid, tick: Tick, waiting: Waiting, name: MoveName)
-    requires { tick.at < 2 ^ 48 }
+    requires { tick.at < STATION_EVENTS }
     ensures { procs.new ≡ waiting_seats tick.times tick.at pid waiting name procs.old }
 {
     procs.wait(pid, waiting);
@@ -235,11 +236,11 @@ fn run(
     pid: Pid,
     transfer: Transfer,
 )
-    requires now { tick.at < 2 ^ 48 }
-    requires moves { moves_of aliens.old transfer.partner < 2 ^ 48 }
+    requires now { tick.at < STATION_EVENTS }
+    requires moves { moves_of aliens.old transfer.partner < STATION_EVENTS }
     requires goes { CanBegin procs.old aliens.old pid transfer.partner
         (waiting_in transfer.way transfer.partner transfer.dest transfer.src transfer.count) }
-    requires room { length out.old.posts + 64 ≤ out.old.room }
+    requires room { length out.old.posts + ROUND_PACKETS ≤ out.old.room }
     ensures seats { procs.new ≡ (transfer_by tick.times tick.at pid transfer Verdict.Begins procs.old aliens.old).seats }
     ensures slots { aliens.new ≡ (transfer_by tick.times tick.at pid transfer Verdict.Begins procs.old aliens.old).slots }
     ensures packets { out.new ≡ posted out.old
@@ -261,10 +262,10 @@ fn begin_way(
     pid: Pid,
     transfer: Transfer,
 ) -> Option<Outcome>
-    requires now { tick.at < 2 ^ 48 }
+    requires now { tick.at < STATION_EVENTS }
     requires moves { HasFewMoves aliens.old }
     requires fit { HasFitAliens aliens.old }
-    requires room { length out.old.posts + 64 ≤ out.old.room }
+    requires room { length out.old.posts + ROUND_PACKETS ≤ out.old.room }
     ensures answer { result ≡ (transfer_begun tick.times tick.at pid transfer procs.old aliens.old).answer }
     ensures seats { procs.new ≡ (transfer_begun tick.times tick.at pid transfer procs.old aliens.old).seats }
     ensures slots { aliens.new ≡ (transfer_begun tick.times tick.at pid transfer procs.old aliens.old).slots }
@@ -293,14 +294,14 @@ pub fn begin(
     pid: Pid,
     call: &CallView,
 ) -> Option<Outcome>
-    requires now { now < 2 ^ 48 }
+    requires now { now < STATION_EVENTS }
     requires call { is_move call.now ≡ true }
     requires away { is_away pid call.now ≡ true }
     requires ready { may_call procs.old pid ≡ true }
     requires moves { HasFewMoves aliens.old }
     requires fit { HasFitAliens aliens.old }
-    requires packets { length out.old.posts + 64 ≤ out.old.room }
-    requires room { length steps.old + 1 ≤ 40 }
+    requires packets { length out.old.posts + ROUND_PACKETS ≤ out.old.room }
+    requires room { length steps.old + 1 ≤ STEPS }
     ensures { IsMoveBegun times.now now pid call.now result (doing_of procs.old aliens.old steps.old out.old)
         (doing_of procs.new aliens.new steps.new out.new) }
 {

@@ -1,16 +1,14 @@
 //! The mover's end of a move.
 
-ghost use Rattle.std.specs.Prelude.{◌≡◌, ◌≤◌, ◌<◌, ◌+◌, ◌++◌, ◌∷◌, [], ◌^◌, length, option_copied};
-ghost use Rattle.vk_base.specs.Firsts.{change_first};
+ghost use Rattle.std.specs.Prelude.{◌≡◌, ◌≤◌, ◌<◌, ◌+◌, ◌++◌, length, option_copied};
 ghost use Rattle.vk_base.specs.Kernel.{holds_of};
 ghost use Rattle.vk_move.specs.Moved.{CanGoOn, HasFitSeats, answered, change_note, received, restarted};
-ghost use Rattle.vk_move.specs.Mover.{ack_moved, ack_taken, acked_by, acked_in, brought_by, brought_in, bytes_moved, bytes_taken, ended, ended_seats, gone_taken, goes_on, is_mover, piece_written};
-ghost use Rattle.vk_rules.specs.PacketOutcomes.{copies_bytes};
-ghost use Rattle.vk_base.specs.declared.limits.TheConstants.{MOVE_BYTES};
-ghost use Rattle.vk_procs.specs.Seats.{is_seat, seat_in};
+ghost use Rattle.vk_move.specs.Mover.{ack_taken, acked_by, acked_in, brought_by, brought_in, bytes_taken, ended, ended_seats, gone_taken, goes_on, is_mover};
+ghost use Rattle.vk_base.specs.declared.limits.TheConstants.{MOVE_BYTES, ROUND_PACKETS, STATION_EVENTS, STEPS};
+ghost use Rattle.vk_procs.specs.Seats.{seat_in};
 ghost use Rattle.vk_stands.specs.Rules.{posted};
 
-use crate::moves::{Piece, Subject, Tick, end_of};
+use crate::moves::{Piece, Subject, end_of};
 use crate::places::write_piece;
 use crate::rounds::post_round;
 use vk_base::limits::DATA_BYTES;
@@ -18,7 +16,7 @@ use vk_base::{Activity, Ending, MoveName, Outcome, Pid, Refusal, Waiting};
 use vk_brief::{BriefStep, Steps};
 use vk_packet::Outbox;
 use vk_procs::{ProcNote, Procs, Seat};
-use vk_timer::Work;
+use vk_timer::{Tick, Work};
 
 /// What an acknowledgement does to a move: nothing; its work has new patience; it goes on from the acknowledged bytes; or it ends.
 #[derive(Clone, Copy)]
@@ -134,7 +132,7 @@ fn brought_in(seat: Option<&Seat>, name: MoveName, total: u32, offset: u32, end:
 
 /// The work of the process was answered at this tick.
 fn answer(procs: &mut Procs, pid: Pid, tick: Tick)
-    requires { tick.at < 2 ^ 48 }
+    requires { tick.at < STATION_EVENTS }
     ensures { procs.new ≡ change_note pid (answered tick.times tick.at) procs.old }
 {
     if let Some(seat) = procs.seat(pid) {
@@ -161,7 +159,7 @@ fn restart(procs: &mut Procs, pid: Pid, work: Work, offset: u32)
 
 /// So many bytes of the process's move were received at this tick.
 fn receive(procs: &mut Procs, pid: Pid, tick: Tick, offset: u32)
-    requires { tick.at < 2 ^ 48 }
+    requires { tick.at < STATION_EVENTS }
     ensures { procs.new ≡ change_note pid (received tick.times tick.at offset) procs.old }
 {
     if let Some(seat) = procs.seat(pid) {
@@ -179,7 +177,7 @@ fn receive(procs: &mut Procs, pid: Pid, tick: Tick, offset: u32)
 
 /// The process's move ends.
 pub fn end(procs: &mut Procs, steps: &mut Steps, pid: Pid, why: Ending)
-    requires { length steps.old + 1 ≤ 40 }
+    requires { length steps.old + 1 ≤ STEPS }
     ensures seats { procs.new ≡ ended_seats pid why procs.old }
     ensures steps { steps.new ≡ steps.old ++ (ended pid why procs.old).steps }
 {
@@ -200,7 +198,7 @@ pub fn end(procs: &mut Procs, steps: &mut Steps, pid: Pid, why: Ending)
 /// A round of the process's move goes out from an offset on, and its work is this one then.
 pub fn go_on(procs: &mut Procs, out: &mut Outbox, pid: Pid, work: Work, from: u32)
     requires goes { CanGoOn procs.old pid from }
-    requires room { length out.old.posts + 64 ≤ out.old.room }
+    requires room { length out.old.posts + ROUND_PACKETS ≤ out.old.room }
     ensures seats { procs.new ≡ (goes_on work pid from procs.old).seats }
     ensures packets { out.new ≡ posted out.old (goes_on work pid from procs.old).packets }
 {
@@ -217,10 +215,10 @@ pub fn take_ack(
     subject: Subject,
     received: u32,
 )
-    requires now { tick.at < 2 ^ 48 }
+    requires now { tick.at < STATION_EVENTS }
     requires fit { HasFitSeats procs.old }
-    requires packets { length out.old.posts + 64 ≤ out.old.room }
-    requires room { length steps.old + 1 ≤ 40 }
+    requires packets { length out.old.posts + ROUND_PACKETS ≤ out.old.room }
+    requires room { length steps.old + 1 ≤ STEPS }
     ensures seats { procs.new ≡ (ack_taken tick.times tick.at subject received procs.old).seats }
     ensures steps { steps.new ≡ steps.old ++ (ack_taken tick.times tick.at subject received procs.old).steps }
     ensures packets { out.new ≡ posted out.old (ack_taken tick.times tick.at subject received procs.old).packets }
@@ -246,11 +244,11 @@ pub fn take_bytes(
     subject: Subject,
     piece: Piece<'_>,
 )
-    requires now { tick.at < 2 ^ 48 }
+    requires now { tick.at < STATION_EVENTS }
     requires fit { HasFitSeats procs.old }
     requires few { piece.offset + length piece.bytes.now ≤ MOVE_BYTES }
-    requires packets { length out.old.posts + 64 ≤ out.old.room }
-    requires room { length steps.old + 2 ≤ 40 }
+    requires packets { length out.old.posts + ROUND_PACKETS ≤ out.old.room }
+    requires room { length steps.old + 2 ≤ STEPS }
     ensures seats { procs.new ≡
         (bytes_taken tick.times tick.at subject piece.entry.total piece.entry.offset piece.entry.bytes.now procs.old).seats }
     ensures steps { steps.new ≡ steps.old
@@ -286,7 +284,7 @@ pub fn take_bytes(
 
 /// The partner of a move no longer waits.
 pub fn take_gone(procs: &mut Procs, steps: &mut Steps, subject: Subject)
-    requires { length steps.old + 1 ≤ 40 }
+    requires { length steps.old + 1 ≤ STEPS }
     ensures seats { procs.new ≡ (gone_taken subject procs.old).seats }
     ensures steps { steps.new ≡ steps.old ++ (gone_taken subject procs.old).steps }
 {

@@ -4,14 +4,7 @@ ghost use Rattle.std.specs.Prelude.{◌≡◌, ◌≤◌, ◌+◌, length};
 ghost use Rattle.vk_base.specs.declared.limits.TheConstants.{MOVE_BYTES};
 ghost use Rattle.vk_move.specs.Moved.{subject_by};
 
-use vk_base::{Direction, MoveName, Name, Pid, Times};
-
-/// A tick of the clock, and how often and how long a station tries.
-#[derive(Clone, Copy)]
-pub struct Tick {
-    pub at: u64,
-    pub times: Times,
-}
+use vk_base::{Direction, MoveName, Name, Pid};
 
 /// What a packet is about: which move, and who makes it. `moving` is the number of a move, as in packets and steps.
 #[derive(Clone, Copy)]

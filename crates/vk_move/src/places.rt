@@ -1,6 +1,7 @@
 //! Bytes of a move are written so far behind a place of a memory.
 
 ghost use Rattle.std.specs.Prelude.{◌≡◌, ◌≤◌, ◌<◌, ◌+◌, ◌++◌, ◌∷◌, [], ◌^◌, length, option_copied};
+ghost use Rattle.vk_base.specs.declared.limits.TheConstants.{STEPS};
 ghost use Rattle.vk_base.specs.Firsts.{change_first};
 ghost use Rattle.vk_move.specs.Moved.{place_behind, place_in};
 ghost use Rattle.vk_move.specs.Mover.{piece_written};
@@ -45,7 +46,7 @@ pub fn write_piece(
     piece: Piece<'_>,
 )
     requires few { length piece.bytes.now < 2 ^ 32 }
-    requires room { length steps.old + 1 ≤ 40 }
+    requires room { length steps.old + 1 ≤ STEPS }
     ensures seats { procs.new ≡ piece_written pid dest piece.entry.offset piece.entry.bytes.now procs.old }
     ensures steps { steps.new ≡ steps.old
         ++ copies_bytes name.exchange name.number piece.entry.offset piece.entry.bytes.now ∷ [] }

@@ -1,6 +1,7 @@
 //! The packets of moves: the bytes of a memory, and the request for them.
 
 ghost use Rattle.std.specs.Prelude.{◌≡◌, ◌≤◌, ◌<◌, ◌+◌, ◌-◌, ◌*◌, ◌/◌, ℕ, ◌++◌, ◌∷◌, [], true, ◌&&◌, length};
+ghost use Rattle.vk_base.specs.declared.limits.TheConstants.{ROUND_PACKETS};
 ghost use Rattle.vk_packet.specs.Rules.{is_number, is_place};
 ghost use Rattle.vk_rules.specs.Rounds.{data_packet, data_packets, request_packet};
 ghost use Rattle.vk_rules.specs.PacketOutcomes.{bytes_packet};
@@ -22,7 +23,7 @@ fn pieces(total: u32, offset: u32) -> u32
     requires { is_place total offset ≡ true }
     ensures count { result ≡ (total - offset + 1023) / DATA_BYTES }
     ensures inside { (i : ℕ) → i < result → offset + 1024 * i < total }
-    ensures few { result ≤ 64 }
+    ensures few { result ≤ ROUND_PACKETS }
 {
     (total - offset + (PIECE_BYTES - 1)) / PIECE_BYTES
 }
@@ -70,7 +71,7 @@ fn post_data(memory: &Memory, out: &mut Outbox, subject: Subject, transfer: Tran
     requires numbers { (is_number subject.name.exchange.number && is_number subject.name.number) ≡ true }
     requires place { is_place transfer.count from ≡ true }
     requires inside { transfer.src + transfer.count ≤ length memory.now }
-    requires room { length out.old.posts + 64 ≤ out.old.room }
+    requires room { length out.old.posts + ROUND_PACKETS ≤ out.old.room }
     ensures { out.new ≡ posted out.old (data_packets subject.mover transfer.partner memory.now transfer.dest transfer.src
         transfer.count from subject.name) }
 {
@@ -135,7 +136,7 @@ pub fn post_bytes(memory: &Memory, out: &mut Outbox, subject: Subject, asked: As
     requires numbers { (is_number subject.name.exchange.number && is_number subject.name.number) ≡ true }
     requires place { is_place asked.total asked.offset ≡ true }
     requires inside { asked.src + asked.total ≤ length memory.now }
-    requires room { length out.old.posts + 64 ≤ out.old.room }
+    requires room { length out.old.posts + ROUND_PACKETS ≤ out.old.room }
     ensures { out.new ≡ posted out.old (asked_packets subject.name.exchange subject.mover subject.name.number asked.src asked.total
         asked.offset memory.now) }
 {
@@ -154,7 +155,7 @@ pub fn post_bytes(memory: &Memory, out: &mut Outbox, subject: Subject, asked: As
 /// The round of a process that waits in a move, from an offset on.
 pub fn post_round(procs: &Procs, out: &mut Outbox, pid: Pid, from: u32)
     requires goes { CanGoOn procs.now pid from }
-    requires room { length out.old.posts + 64 ≤ out.old.room }
+    requires room { length out.old.posts + ROUND_PACKETS ≤ out.old.room }
     ensures { out.new ≡ posted out.old (round_from pid from (seat_in procs.now pid)) }
 {
     let Some(seat) = procs.seat(pid) else {
@@ -165,7 +166,7 @@ pub fn post_round(procs: &Procs, out: &mut Outbox, pid: Pid, from: u32)
 
 fn post_round_of(seat: &Seat, out: &mut Outbox, pid: Pid, from: u32)
     requires goes { going (length seat.now.memory) from seat.now.note.moving seat.now.doing ≡ true }
-    requires room { length out.old.posts + 64 ≤ out.old.room }
+    requires room { length out.old.posts + ROUND_PACKETS ≤ out.old.room }
     ensures { out.new ≡ posted out.old (round_by pid seat.now.memory from seat.now.note.moving seat.now.doing) }
 {
     let Some(name) = seat.note.moving else {

@@ -1,7 +1,7 @@
 //! The other end of a move: the sender's, whose memory is moved.
 
 ghost use Rattle.std.specs.Prelude.{◌≡◌, ◌≤◌, ◌<◌, ◌+◌, ◌++◌, ◌∷◌, [], ◌^◌, ◌==◌, ◌&&◌, true, length, option_copied};
-ghost use Rattle.vk_base.specs.declared.limits.TheConstants.{MOVE_BYTES};
+ghost use Rattle.vk_base.specs.declared.limits.TheConstants.{MOVE_BYTES, ROUND_PACKETS, STEPS};
 ghost use Rattle.vk_base.specs.Packets as packets;
 ghost use Rattle.vk_move.specs.Moved.{HasFitSeats, change_note, progressed};
 ghost use Rattle.vk_move.specs.Sender.{bytes_of, bytes_wanted, data_taken, data_wanted, done_after, made_by, may_read, may_write, opening, request_taken, sender_by, wanted, written_if_next, IsSourceReadable};
@@ -9,7 +9,6 @@ ghost use Rattle.vk_packet.specs.Rules.{is_number, is_place};
 ghost use Rattle.vk_procs.specs.Seats.{seat_in};
 ghost use Rattle.vk_rules.specs.PacketOutcomes.{copies_bytes};
 ghost use Rattle.vk_rules.specs.Rounds.{list_if};
-ghost use Rattle.vk_rules.specs.Works.{is_last};
 ghost use Rattle.vk_stands.specs.Rules.{posted};
 
 use crate::moves::{Asked, Piece, Subject, end_of};
@@ -174,7 +173,7 @@ fn post_gone(out: &mut Outbox, subject: Subject)
 /// A move is opened, where it is not yet.
 #[tactic(auto, using(crate::proofs::Pieces::none_posted))]
 fn open_move(steps: &mut Steps, name: MoveName, opens: bool)
-    requires { length steps.old + 1 ≤ 40 }
+    requires { length steps.old + 1 ≤ STEPS }
     ensures { steps.new ≡ steps.old ++ opening name.exchange name.number opens }
 {
     if opens {
@@ -196,7 +195,7 @@ fn write_if_next(
     before: u32,
 )
     requires few { length piece.bytes.now < 2 ^ 32 }
-    requires room { length steps.old + 1 ≤ 40 }
+    requires room { length steps.old + 1 ≤ STEPS }
     ensures seats { procs.new ≡ written_if_next (piece.entry.offset == before) name.exchange.sender dest piece.entry.offset
         piece.entry.bytes.now procs.old }
     ensures steps { steps.new ≡ steps.old ++ list_if (piece.entry.offset == before)
@@ -269,7 +268,7 @@ pub fn take_data(
     requires few { piece.offset + length piece.bytes.now ≤ MOVE_BYTES }
     requires fit { HasFitSeats procs.old }
     requires packets { length out.old.posts < out.old.room }
-    requires room { length steps.old + 2 ≤ 40 }
+    requires room { length steps.old + 2 ≤ STEPS }
     ensures seats { procs.new ≡
         (data_taken subject dest piece.entry.total piece.entry.offset piece.entry.bytes.now procs.old).seats }
     ensures steps { steps.new ≡ steps.old
@@ -299,7 +298,7 @@ fn post_asked(procs: &Procs, out: &mut Outbox, subject: Subject, asked: Asked)
     requires numbers { (is_number subject.name.exchange.number && is_number subject.name.number) ≡ true }
     requires place { is_place asked.total asked.offset ≡ true }
     requires inside { IsSourceReadable asked.src asked.total (seat_in procs.now subject.name.exchange.sender) }
-    requires room { length out.old.posts + 64 ≤ out.old.room }
+    requires room { length out.old.posts + ROUND_PACKETS ≤ out.old.room }
     ensures { out.new ≡ posted out.old (bytes_of subject.name.exchange subject.mover subject.name.number
         asked.src asked.total asked.offset (seat_in procs.now subject.name.exchange.sender)) }
 {
@@ -319,8 +318,8 @@ pub fn take_request(
     requires numbers { (is_number subject.name.exchange.number && is_number subject.name.number) ≡ true }
     requires place { is_place asked.total asked.offset ≡ true }
     requires fit { HasFitSeats procs.old }
-    requires packets { length out.old.posts + 64 ≤ out.old.room }
-    requires room { length steps.old + 1 ≤ 40 }
+    requires packets { length out.old.posts + ROUND_PACKETS ≤ out.old.room }
+    requires room { length steps.old + 1 ≤ STEPS }
     ensures seats { procs.new ≡ (request_taken subject asked.src asked.total asked.offset procs.old).seats }
     ensures steps { steps.new ≡ steps.old ++ (request_taken subject asked.src asked.total asked.offset procs.old).steps }
     ensures packets { out.new ≡ posted out.old (request_taken subject asked.src asked.total asked.offset procs.old).packets }

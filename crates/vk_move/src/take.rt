@@ -1,6 +1,7 @@
 //! A packet of a move comes.
 
-ghost use Rattle.std.specs.Prelude.{◌≡◌, ◌≤◌, ◌<◌, ◌+◌, ◌++◌, ◌^◌, true, length};
+ghost use Rattle.std.specs.Prelude.{◌≡◌, ◌≤◌, ◌<◌, ◌+◌, ◌++◌, true, length};
+ghost use Rattle.vk_base.specs.declared.limits.TheConstants.{ROUND_PACKETS, STATION_EVENTS, STEPS};
 ghost use Rattle.vk_move.specs.Moved.{HasFitSeats};
 ghost use Rattle.vk_move.specs.Right.{IsPacketTaken};
 ghost use Rattle.vk_move.specs.Taken.{mover_taken};
@@ -9,12 +10,13 @@ ghost use Rattle.vk_packet.specs.Views.{value_of};
 ghost use Rattle.vk_stands.specs.Rules.{posted};
 
 use crate::mover::{take_ack, take_bytes, take_gone};
-use crate::moves::{Asked, Piece, Tick, subject_by};
+use crate::moves::{Asked, Piece, subject_by};
 use crate::sender::{take_data, take_request};
 use vk_base::Times;
 use vk_brief::Steps;
 use vk_packet::{Outbox, PacketView};
 use vk_procs::Procs;
+use vk_timer::Tick;
 
 /// What a packet of a move does at the tick `now`, below 2^48: a MoveData, MoveAck, MoveRequest, MoveBytes or MoveNegative that keeps to
 /// the rules. Any other changes nothing. There is room for two steps and 64 packets.
@@ -26,11 +28,11 @@ pub fn take_packet(
     steps: &mut Steps,
     packet: &PacketView,
 )
-    requires now { now < 2 ^ 48 }
+    requires now { now < STATION_EVENTS }
     requires lawful { is_lawful (value_of packet.now) ≡ true }
     requires fit { HasFitSeats procs.old }
-    requires packets { length out.old.posts + 64 ≤ out.old.room }
-    requires room { length steps.old + 2 ≤ 40 }
+    requires packets { length out.old.posts + ROUND_PACKETS ≤ out.old.room }
+    requires room { length steps.old + 2 ≤ STEPS }
     ensures { IsPacketTaken times.now now (value_of packet.now) procs.old procs.new steps.old steps.new out.old out.new }
 {
     match *packet {
@@ -83,11 +85,11 @@ fn take_to_mover(
     steps: &mut Steps,
     packet: &PacketView,
 )
-    requires now { tick.at < 2 ^ 48 }
+    requires now { tick.at < STATION_EVENTS }
     requires lawful { is_lawful (value_of packet.now) ≡ true }
     requires fit { HasFitSeats procs.old }
-    requires packets { length out.old.posts + 64 ≤ out.old.room }
-    requires room { length steps.old + 2 ≤ 40 }
+    requires packets { length out.old.posts + ROUND_PACKETS ≤ out.old.room }
+    requires room { length steps.old + 2 ≤ STEPS }
     ensures seats { procs.new ≡ (mover_taken tick.times tick.at (value_of packet.now) procs.old).seats }
     ensures steps { steps.new ≡ steps.old ++ (mover_taken tick.times tick.at (value_of packet.now) procs.old).steps }
     ensures packets { out.new ≡ posted out.old (mover_taken tick.times tick.at (value_of packet.now) procs.old).packets }

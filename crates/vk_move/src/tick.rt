@@ -1,6 +1,7 @@
 //! A tick of the clock, for a process that waits in a move.
 
-ghost use Rattle.std.specs.Prelude.{◌≡◌, ◌≤◌, ◌<◌, ◌+◌, ◌++◌, ◌^◌, length, option_copied};
+ghost use Rattle.std.specs.Prelude.{◌≡◌, ◌≤◌, ◌<◌, ◌+◌, length, option_copied};
+ghost use Rattle.vk_base.specs.declared.limits.TheConstants.{ROUND_PACKETS, STATION_EVENTS, STEPS};
 ghost use Rattle.vk_move.specs.Due.{IsDue, ticked_at, ticked_in};
 ghost use Rattle.vk_move.specs.Moved.{HasFitSeats};
 
@@ -9,7 +10,7 @@ use vk_base::{Ending, Pid, Times};
 use vk_brief::Steps;
 use vk_packet::Outbox;
 use vk_procs::{Procs, Seat};
-use vk_timer::{Due, Work};
+use vk_timer::{Due, Tick, Work};
 
 /// What a tick finds of a move: nothing; it was tried often enough, and ends; or its round goes out again, from this offset on, and its
 /// work is this one then.
@@ -20,12 +21,12 @@ pub enum Ticked {
     Again { work: Work, from: u32 },
 }
 
-fn ticked_at(seat: &Seat, now: u64, times: &Times) -> Ticked
-    requires { now < 2 ^ 48 }
-    ensures { result ≡ ticked_at times.now now seat.now }
+fn ticked_at(seat: &Seat, tick: Tick) -> Ticked
+    requires { tick.at < STATION_EVENTS }
+    ensures { result ≡ ticked_at tick.times tick.at seat.now }
 {
     let mut work = seat.note.work;
-    match work.due(now, times) {
+    match work.due(tick.at, &tick.times) {
         Due::NotDue => Ticked::Nothing,
         Due::GiveUp => Ticked::Ends,
         Due::Resend => Ticked::Again {
@@ -35,15 +36,15 @@ fn ticked_at(seat: &Seat, now: u64, times: &Times) -> Ticked
     }
 }
 
-fn ticked_in(seat: Option<&Seat>, now: u64, times: &Times) -> Ticked
-    requires { now < 2 ^ 48 }
-    ensures { result ≡ ticked_in times.now now (option_copied seat.entry) }
+fn ticked_in(seat: Option<&Seat>, tick: Tick) -> Ticked
+    requires { tick.at < STATION_EVENTS }
+    ensures { result ≡ ticked_in tick.times tick.at (option_copied seat.entry) }
 {
     let Some(seat) = seat else {
         return Ticked::Nothing;
     };
     if seat.doing.is_moving() {
-        ticked_at(seat, now, times)
+        ticked_at(seat, tick)
     } else {
         Ticked::Nothing
     }
@@ -60,13 +61,17 @@ pub fn due(
     steps: &mut Steps,
     pid: Pid,
 )
-    requires now { now < 2 ^ 48 }
+    requires now { now < STATION_EVENTS }
     requires fit { HasFitSeats procs.old }
-    requires packets { length out.old.posts + 64 ≤ out.old.room }
-    requires room { length steps.old + 1 ≤ 40 }
+    requires packets { length out.old.posts + ROUND_PACKETS ≤ out.old.room }
+    requires room { length steps.old + 1 ≤ STEPS }
     ensures { IsDue times.now now pid procs.old procs.new steps.old steps.new out.old out.new }
 {
-    match ticked_in(procs.seat(pid), now, times) {
+    let tick = Tick {
+        at: now,
+        times: *times,
+    };
+    match ticked_in(procs.seat(pid), tick) {
         Ticked::Nothing => {}
         Ticked::Ends => end(procs, steps, pid, Ending::TimedOut),
         Ticked::Again { work, from } => go_on(procs, out, pid, work, from),

@@ -1,9 +1,12 @@
-ghost use Rattle.std.specs.Prelude.{◌≡◌, ◌<◌, ◌≤◌, ◌==◌, ◌++◌, ◌∷◌, [], not, nat_le, length, filter, is_err, vec_len, vec_capacity, IfOk, OnOk, OnErr};
+ghost use Rattle.std.specs.Prelude.{◌≡◌, ◌<◌, ◌≤◌, ◌++◌, ◌∷◌, [], not, nat_le, length, filter, is_err, position, vec_len, vec_capacity, IfOk, OnOk, OnErr};
+ghost use Rattle.std.specs.List.{IsDistinct};
+ghost use Rattle.vk_base.specs.declared.limits.TheConstants.{NAMES};
 ghost use Rattle.vk_base.specs.declared.kernel.Registration.{Registration as TheRegistration};
 ghost use Rattle.vk_base.specs.declared.pid.Pid.{Pid as ThePid};
 ghost use Rattle.vk_base.specs.Calls.{with_name};
 ghost use Rattle.vk_base.specs.Kernel.{found_here, found_there, holds_of, is_found_here, is_found_there, is_told, others};
 ghost use Rattle.vk_base.specs.Pids.{same_pid};
+ghost use Rattle.vk_names.specs.Kept.{is_under, same_id};
 
 use std::alloc::Global;
 use std::marker::Model;
@@ -54,10 +57,11 @@ impl Names {
         ensures ok { OnOk result (self.new ≡ with_name self.old (record { logical = logical; pid = pid; scope = scope })) }
         ensures err { OnErr result (self.new ≡ self.old) }
     {
-        if count_others(&self.entries, logical) >= NAMES {
+        let older = place_of(&self.entries, logical);
+        if is_full(&self.entries, older, logical) {
             return Err(NamesFull);
         }
-        keep_others(&mut self.entries, logical);
+        keep_others(&mut self.entries, older, logical);
         let name = Registration {
             logical,
             pid,
@@ -94,19 +98,35 @@ impl Names {
     }
 }
 
-/// How many of the names stand under other logical ids.
-fn count_others(names: &[Registration], logical: u32) -> usize
-    ensures { result ≡ length (others names.now logical) }
+/// Where the name stands that is registered under the logical id.
+fn place_of(names: &[Registration], logical: u32) -> Option<usize>
+    ensures { result ≡ position (is_under logical) names.now }
 {
-    names.iter().filter(|r| r.logical != logical).count()
+    names.iter().position(|r| r.logical == logical)
 }
 
-/// Takes out what stands under the logical id.
-fn keep_others(names: &mut Vec<Registration>, logical: u32)
+/// Whether as many names as can be are registered under other logical ids.
+fn is_full(names: &[Registration], older: Option<usize>, logical: u32) -> bool
+    requires older { older ≡ position (is_under logical) names.now }
+    requires once { IsDistinct same_id names.now }
+    ensures { result ≡ nat_le NAMES (length (others names.now logical)) }
+{
+    match older {
+        Some(_) => names.len() > NAMES,
+        None => names.len() >= NAMES,
+    }
+}
+
+/// Takes out the older name, where there is one.
+fn keep_others(names: &mut Vec<Registration>, older: Option<usize>, logical: u32)
+    requires older { older ≡ position (is_under logical) names.old.items }
+    requires once { IsDistinct same_id names.old.items }
     ensures items { names.new.items ≡ others names.old.items logical }
     ensures capacity { vec_capacity names.new ≡ vec_capacity names.old }
 {
-    names.retain(|r| r.logical != logical);
+    if let Some(at) = older {
+        let _older = names.remove(at);
+    }
 }
 
 /// Takes out the names of the process.

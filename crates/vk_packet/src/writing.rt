@@ -15,6 +15,23 @@ use vk_base::limits::{DATA_BYTES, FRAME_BYTES, HEADER_BYTES, SEGMENT_BYTES};
 use vk_base::{Message, Pid};
 use vk_wire::{PACKET_BYTES, bytes_of_pid, bytes_of_u16, bytes_of_u32, bytes_of_u64};
 
+/// The exchange that a packet is of, and between whom it goes.
+#[derive(Clone, Copy)]
+struct Exchange {
+    from: Pid,
+    to: Pid,
+    number: u64,
+}
+
+/// The move that a packet is of, and between whom it goes.
+#[derive(Clone, Copy)]
+struct Moving {
+    from: Pid,
+    to: Pid,
+    number: u64,
+    moving: u64,
+}
+
 /// Appends the packet, which keeps to the rules. Before it there are at most 32 bytes, a frame's header.
 pub fn encode(packet: &PacketView, into: &mut ArrayVec<u8, FRAME_BYTES>)
     requires lawful { is_lawful (value_of packet.now) ≡ true }
@@ -30,7 +47,7 @@ pub fn encode(packet: &PacketView, into: &mut ArrayVec<u8, FRAME_BYTES>)
             number,
             ref message,
             part,
-        } => put_send(into, from, to, number, message, part),
+        } => put_send(into, Exchange { from, to, number }, message, part),
         PacketView::Reply {
             from,
             to,
@@ -38,15 +55,32 @@ pub fn encode(packet: &PacketView, into: &mut ArrayVec<u8, FRAME_BYTES>)
             ref message,
             dest,
             bytes,
-        } => put_reply(into, from, to, number, message, dest, bytes),
-        PacketView::Pending { from, to, number } => put_exchange(into, 3, from, to, number),
-        PacketView::Negative { from, to, number } => put_exchange(into, 4, from, to, number),
+        } => put_reply(into, Exchange { from, to, number }, message, dest, bytes),
+        PacketView::Pending { from, to, number } => put_exchange(
+            into,
+            3,
+            Exchange { from, to, number },
+        ),
+        PacketView::Negative { from, to, number } => put_exchange(
+            into,
+            4,
+            Exchange { from, to, number },
+        ),
         PacketView::MoveNegative {
             from,
             to,
             number,
             moving,
-        } => put_move(into, 9, from, to, number, moving),
+        } => put_move(
+            into,
+            9,
+            Moving {
+                from,
+                to,
+                number,
+                moving,
+            },
+        ),
         PacketView::AskPid {
             asker,
             lookup,
@@ -80,14 +114,35 @@ fn put_of_bytes(into: &mut ArrayVec<u8, FRAME_BYTES>, packet: &PacketView)
             total,
             offset,
             bytes,
-        } => put_move_data(into, from, to, number, moving, dest, total, offset, bytes),
+        } => put_move_data(
+            into,
+            Moving {
+                from,
+                to,
+                number,
+                moving,
+            },
+            dest,
+            total,
+            offset,
+            bytes,
+        ),
         PacketView::MoveAck {
             from,
             to,
             number,
             moving,
             received,
-        } => put_move_ack(into, from, to, number, moving, received),
+        } => put_move_ack(
+            into,
+            Moving {
+                from,
+                to,
+                number,
+                moving,
+            },
+            received,
+        ),
         PacketView::MoveRequest {
             from,
             to,
@@ -96,7 +151,18 @@ fn put_of_bytes(into: &mut ArrayVec<u8, FRAME_BYTES>, packet: &PacketView)
             src,
             total,
             offset,
-        } => put_move_request(into, from, to, number, moving, src, total, offset),
+        } => put_move_request(
+            into,
+            Moving {
+                from,
+                to,
+                number,
+                moving,
+            },
+            src,
+            total,
+            offset,
+        ),
         PacketView::MoveBytes {
             from,
             to,
@@ -105,7 +171,18 @@ fn put_of_bytes(into: &mut ArrayVec<u8, FRAME_BYTES>, packet: &PacketView)
             total,
             offset,
             bytes,
-        } => put_move_bytes(into, from, to, number, moving, total, offset, bytes),
+        } => put_move_bytes(
+            into,
+            Moving {
+                from,
+                to,
+                number,
+                moving,
+            },
+            total,
+            offset,
+            bytes,
+        ),
         _ => unreachable!(),
     }
 }
@@ -133,49 +210,41 @@ fn put_kind(into: &mut ArrayVec<u8, FRAME_BYTES>, kind: u8, first: Pid)
 
 /// Appends the kind, and what every packet of an exchange begins with.
 #[tactic(auto, unfolding(crate::specs::Spelling::exchange_bytes))]
-fn put_exchange(into: &mut ArrayVec<u8, FRAME_BYTES>, kind: u8, from: Pid, to: Pid, number: u64)
+fn put_exchange(into: &mut ArrayVec<u8, FRAME_BYTES>, kind: u8, of: Exchange)
     requires { array_vec_len into.old ≤ HEADER_BYTES }
-    ensures bytes { into.new.items ≡ into.old.items ++ kind ∷ exchange_bytes from to number }
+    ensures bytes { into.new.items ≡ into.old.items ++ kind ∷ exchange_bytes of.from of.to of.number }
     ensures few { array_vec_len into.new ≡ array_vec_len into.old + 17 }
 {
-    put_kind(into, kind, from);
-    put(into, &bytes_of_pid(to));
-    put(into, &bytes_of_u64(number));
+    put_kind(into, kind, of.from);
+    put(into, &bytes_of_pid(of.to));
+    put(into, &bytes_of_u64(of.number));
 }
 
 /// Appends the kind, and what every packet of a move begins with.
 #[tactic(auto, unfolding(crate::specs::Spelling::move_bytes))]
-fn put_move(
-    into: &mut ArrayVec<u8, FRAME_BYTES>,
-    kind: u8,
-    from: Pid,
-    to: Pid,
-    number: u64,
-    moving: u64,
-)
+fn put_move(into: &mut ArrayVec<u8, FRAME_BYTES>, kind: u8, of: Moving)
     requires { array_vec_len into.old ≤ HEADER_BYTES }
-    ensures bytes { into.new.items ≡ into.old.items ++ kind ∷ move_bytes from to number moving }
+    ensures bytes { into.new.items ≡ into.old.items ++ kind ∷ move_bytes of.from of.to of.number of.moving }
     ensures few { array_vec_len into.new ≡ array_vec_len into.old + 25 }
 {
-    put_exchange(into, kind, from, to, number);
+    let Moving {
+        from,
+        to,
+        number,
+        moving,
+    } = of;
+    put_exchange(into, kind, Exchange { from, to, number });
     put(into, &bytes_of_u64(moving));
 }
 
 /// Appends a message and the first part of its segment.
-fn put_send(
-    into: &mut ArrayVec<u8, FRAME_BYTES>,
-    from: Pid,
-    to: Pid,
-    number: u64,
-    message: &Message,
-    part: &[u8],
-)
+fn put_send(into: &mut ArrayVec<u8, FRAME_BYTES>, of: Exchange, message: &Message, part: &[u8])
     requires part { length part.now ≤ SEGMENT_BYTES }
     requires room { array_vec_len into.old ≤ HEADER_BYTES }
-    ensures bytes { into.new.items ≡ into.old.items ++ packet_bytes (packets.Send from to number message.now part.now) }
+    ensures bytes { into.new.items ≡ into.old.items ++ packet_bytes (packets.Send of.from of.to of.number message.now part.now) }
     ensures few { array_vec_len into.new ≤ array_vec_len into.old + PACKET_BYTES }
 {
-    put_exchange(into, 1, from, to, number);
+    put_exchange(into, 1, of);
     put(into, &message.0);
     put(into, part);
 }
@@ -183,19 +252,17 @@ fn put_send(
 /// Appends a reply and its bytes.
 fn put_reply(
     into: &mut ArrayVec<u8, FRAME_BYTES>,
-    from: Pid,
-    to: Pid,
-    number: u64,
+    of: Exchange,
     message: &Message,
     dest: u32,
     bytes: &[u8],
 )
     requires part { length bytes.now ≤ SEGMENT_BYTES }
     requires room { array_vec_len into.old ≤ HEADER_BYTES }
-    ensures bytes { into.new.items ≡ into.old.items ++ packet_bytes (packets.Reply from to number message.now dest bytes.now) }
+    ensures bytes { into.new.items ≡ into.old.items ++ packet_bytes (packets.Reply of.from of.to of.number message.now dest bytes.now) }
     ensures few { array_vec_len into.new ≤ array_vec_len into.old + PACKET_BYTES }
 {
-    put_exchange(into, 2, from, to, number);
+    put_exchange(into, 2, of);
     put(into, &message.0);
     put(into, &bytes_of_u32(dest));
     put(into, &bytes_of_u16(bytes.len() as u16));
@@ -205,10 +272,7 @@ fn put_reply(
 /// Appends bytes of a move to the sender.
 fn put_move_data(
     into: &mut ArrayVec<u8, FRAME_BYTES>,
-    from: Pid,
-    to: Pid,
-    number: u64,
-    moving: u64,
+    of: Moving,
     dest: u32,
     total: u32,
     offset: u32,
@@ -216,10 +280,11 @@ fn put_move_data(
 )
     requires part { length bytes.now ≤ DATA_BYTES }
     requires room { array_vec_len into.old ≤ HEADER_BYTES }
-    ensures bytes { into.new.items ≡ into.old.items ++ packet_bytes (packets.MoveData from to number moving dest total offset bytes.now) }
+    ensures bytes { into.new.items ≡ into.old.items
+        ++ packet_bytes (packets.MoveData of.from of.to of.number of.moving dest total offset bytes.now) }
     ensures few { array_vec_len into.new ≤ array_vec_len into.old + PACKET_BYTES }
 {
-    put_move(into, 5, from, to, number, moving);
+    put_move(into, 5, of);
     put(into, &bytes_of_u32(dest));
     put(into, &bytes_of_u32(total));
     put(into, &bytes_of_u32(offset));
@@ -227,38 +292,29 @@ fn put_move_data(
 }
 
 /// Appends how many bytes of a move were received.
-fn put_move_ack(
-    into: &mut ArrayVec<u8, FRAME_BYTES>,
-    from: Pid,
-    to: Pid,
-    number: u64,
-    moving: u64,
-    received: u32,
-)
+fn put_move_ack(into: &mut ArrayVec<u8, FRAME_BYTES>, of: Moving, received: u32)
     requires { array_vec_len into.old ≤ HEADER_BYTES }
-    ensures bytes { into.new.items ≡ into.old.items ++ packet_bytes (packets.MoveAck from to number moving received) }
+    ensures bytes { into.new.items ≡ into.old.items ++ packet_bytes (packets.MoveAck of.from of.to of.number of.moving received) }
     ensures few { array_vec_len into.new ≤ array_vec_len into.old + PACKET_BYTES }
 {
-    put_move(into, 6, from, to, number, moving);
+    put_move(into, 6, of);
     put(into, &bytes_of_u32(received));
 }
 
 /// Appends the question for bytes of a move from the sender.
 fn put_move_request(
     into: &mut ArrayVec<u8, FRAME_BYTES>,
-    from: Pid,
-    to: Pid,
-    number: u64,
-    moving: u64,
+    of: Moving,
     src: u32,
     total: u32,
     offset: u32,
 )
     requires { array_vec_len into.old ≤ HEADER_BYTES }
-    ensures bytes { into.new.items ≡ into.old.items ++ packet_bytes (packets.MoveRequest from to number moving src total offset) }
+    ensures bytes { into.new.items ≡ into.old.items
+        ++ packet_bytes (packets.MoveRequest of.from of.to of.number of.moving src total offset) }
     ensures few { array_vec_len into.new ≤ array_vec_len into.old + PACKET_BYTES }
 {
-    put_move(into, 7, from, to, number, moving);
+    put_move(into, 7, of);
     put(into, &bytes_of_u32(src));
     put(into, &bytes_of_u32(total));
     put(into, &bytes_of_u32(offset));
@@ -267,20 +323,18 @@ fn put_move_request(
 /// Appends bytes that were asked for.
 fn put_move_bytes(
     into: &mut ArrayVec<u8, FRAME_BYTES>,
-    from: Pid,
-    to: Pid,
-    number: u64,
-    moving: u64,
+    of: Moving,
     total: u32,
     offset: u32,
     bytes: &[u8],
 )
     requires part { length bytes.now ≤ DATA_BYTES }
     requires room { array_vec_len into.old ≤ HEADER_BYTES }
-    ensures bytes { into.new.items ≡ into.old.items ++ packet_bytes (packets.MoveBytes from to number moving total offset bytes.now) }
+    ensures bytes { into.new.items ≡ into.old.items
+        ++ packet_bytes (packets.MoveBytes of.from of.to of.number of.moving total offset bytes.now) }
     ensures few { array_vec_len into.new ≤ array_vec_len into.old + PACKET_BYTES }
 {
-    put_move(into, 8, from, to, number, moving);
+    put_move(into, 8, of);
     put(into, &bytes_of_u32(total));
     put(into, &bytes_of_u32(offset));
     put(into, bytes);

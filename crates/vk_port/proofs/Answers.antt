@@ -17,7 +17,7 @@ use Rattle.vk_rules.specs.Entries.{Called, Collected, Entry, Input, Ticked}
 use Rattle.vk_rules.specs.Readings.{reading}
 use Rattle.vk_rules.specs.Right.{answer_to, entry_of}
 unfoldable use Rattle.vk_rules.specs.Right.{right_entry}
-use Rattle.vk_port.specs.Turns.{IsAnswered, IsCallAnswer}
+use Rattle.vk_port.specs.Turns.{HoldsAnswer, IsCallAnswer}
 use Rattle.vk_port.specs.Stations.{StationHistory, entries_at, entry_at, is_process_of, is_ready}
 
 pub answer_is : (c : Settings) (host : ℕ) (es : List Entry) (i : Input) → (entry_of c host es i).answer ≡ answer_to c host (reading c host es) i
@@ -42,15 +42,15 @@ call_answer o history pid call =
 -- What is collected once a process is done.
 collect_given : (k : Kernel) (pid : Pid) (o : Option Collecting) →
     is_some (o >>= λ d. Some (answered (with_state k pid d.process states.Ready) pid d.call d.answer)) ≡ true →
-    IsAnswered (effect_answer (o >>= λ d. Some (answered (with_state k pid d.process states.Ready) pid d.call d.answer)))
+    HoldsAnswer (effect_answer (o >>= λ d. Some (answered (with_state k pid d.process states.Ready) pid d.call d.answer)))
 collect_given k pid None none = absurd (cc none)
 collect_given k pid (Some d) some = (d.answer, refl)
 
 pub collect_answer : (o : StationHistory) (history : List (ℕ × StationEvent)) (pid : Pid) → is_ready o history (events.Collect pid) ≡ true →
-    IsAnswered (entry_at o history (events.Collect pid)).answer
+    HoldsAnswer (entry_at o history (events.Collect pid)).answer
 collect_answer o history pid ready =
     let k : Kernel = (reading o.config o.host (entries_at o history)).view in
-    subst IsAnswered (sym (answer_is o.config o.host (entries_at o history) (Collected pid)))
+    subst HoldsAnswer (sym (answer_is o.config o.host (entries_at o history) (Collected pid)))
     (collect_given k pid (collecting k pid) (and_parts (is_process_of o pid) (is_allowed k (steps.Collect pid)) ready).1)
 
 -- A tick is answered with the new tick.

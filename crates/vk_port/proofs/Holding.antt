@@ -32,7 +32,7 @@ use Rattle.vk_host.specs.Standing.{StandsAt, IsEvent, Shows}
 use Rattle.vk_host.specs.Values.{StationValue, has, input_of, most_before}
 use Rattle.vk_host.specs.Values as values
 use Rattle.vk_port.specs.declared.station.TheConstants.{EMITTED_BYTES, EVENT_BYTES}
-use Rattle.vk_port.specs.Kept.{IsHeld, IsStationKept, IsShort, first_of}
+use Rattle.vk_port.specs.Kept.{IsFrameShort, IsHeldEvent, IsStationKept, first_history}
 use Rattle.vk_port.specs.Stations.{StationHistory, brings_last_number, bytes_of, emitted_bytes, entries_at, entry_at, is_full, is_own, is_process_of, is_ready, is_used_up_by, most_frames}
 use Rattle.vk_port.proofs.Fronts.{grown}
 use Rattle.vk_port.proofs.Histories.{emitted_more, entries_more, entries_size}
@@ -54,11 +54,11 @@ pub entries_low : (n : ℕ) → EVENTS / n ≤ EVENTS
 entries_low n = div-le_self EVENTS n
 
 -- What bytes the frames of an entry have.
-sealed_short : (fs : List Frame) → Each (λ (f : Frame). IsSendable f.packet) fs → Each IsShort (map sealed fs)
+sealed_short : (fs : List Frame) → Each (λ (f : Frame). IsSendable f.packet) fs → Each IsFrameShort (map sealed fs)
 sealed_short [] h = tt
 sealed_short (f ∷ fs) h = (frames_fit f.header f.packet h.0.packet h.0.lawful, sealed_short fs h.1)
 
-short_bytes : (bs : List (List ℕ)) → Each IsShort bs → sum_by length bs ≤ 1152 * length bs
+short_bytes : (bs : List (List ℕ)) → Each IsFrameShort bs → sum_by length bs ≤ 1152 * length bs
 short_bytes [] h = omega arith
 short_bytes (b ∷ bs) h =
     let one : length b ≤ 1152 = h.0 in
@@ -66,7 +66,8 @@ short_bytes (b ∷ bs) h =
     omega (arith, sum_by-cons length b bs)
 
 -- Events of the station are inputs of it.
-event_input : (c : Settings) (host : ℕ) (e : StationEvent) → IsHeld e → is_own (first_of c host) e ≡ true → IsInput host (input_of e)
+event_input : (c : Settings) (host : ℕ) (e : StationEvent) → IsHeldEvent e → is_own (first_history c host) e ≡ true →
+    IsInput host (input_of e)
 event_input c host (events.Call pid call) held own =
     ((and_parts (has_process c.specs pid) (pid.host == host) own).1, held.0, held.1)
 event_input c host (events.Collect pid) held own = tt
@@ -112,7 +113,7 @@ low_before n (events.Deliver frame) low = omega arith
 module _ (c : Settings) (items : List (ℕ × StationEvent)) (s : StationValue) (stations bytes : ℕ)
     (kept : IsStationKept c s.host items s stations bytes) where
   abbrev pub o : StationHistory
-  o = first_of c s.host
+  o = first_history c s.host
 
   abbrev pub es : List Entry
   es = entries_at o items
@@ -147,7 +148,7 @@ module _ (c : Settings) (items : List (ℕ × StationEvent)) (s : StationValue) 
       sym (ap (λ b. b && is_allowed (reading c s.host es).view (steps.Collect pid)) other)
 
   -- what it gives
-  module _ (t : StationValue) (k : ℕ) (e : StationEvent) (given : EventAnswer) (held : IsHeld e) (own : is_own o e ≡ true)
+  module _ (t : StationValue) (k : ℕ) (e : StationEvent) (given : EventAnswer) (held : IsHeldEvent e) (own : is_own o e ≡ true)
       (event : IsEvent s t (input_of e) given) (frames : length t.frames ≤ most_frames e) where
     abbrev pub entry : Entry
     entry = entry_at o items e
@@ -163,8 +164,8 @@ module _ (c : Settings) (items : List (ℕ × StationEvent)) (s : StationValue) 
     shows : Shows t given entry
     shows = event.shows c es kept.stands
 
-    pub short : Each IsShort t.frames
-    short = subst (Each IsShort) (sym shows.frames) (sealed_short entry.frames log.entries.0.packets)
+    pub short : Each IsFrameShort t.frames
+    short = subst (Each IsFrameShort) (sym shows.frames) (sealed_short entry.frames log.entries.0.packets)
 
     pub few_bytes : sum_by length t.frames ≤ EVENT_BYTES
     few_bytes =

@@ -7,7 +7,7 @@ use Rattle.vk_base.specs.declared.event.StationEvent.TheVariants as events
 use Rattle.vk_hub.specs.declared.event.Fetched.{Fetched}
 use Rattle.vk_hub.specs.declared.event.HubEvent.{HubEvent}
 use Rattle.vk_hub.specs.declared.event.HubEvent.TheVariants as hub_events
-use Rattle.vk_port.specs.Ports.{Action, Berth, Delivers, Does, Drops, Enters, EntersAt, FetchesAt, Hears, IsLog, IsRight, IsSamePort, PortValue, Stand, after, berth_of, entered_at, fetched_at, posts, stand_of}
+use Rattle.vk_port.specs.Ports.{Action, Berth, Delivers, Does, Drops, Enters, EntersAt, FetchesAt, Hears, IsLog, IsRightAction, IsSamePort, PortValue, Stand, after, berth_of, entered_at, fetched_at, posts, stand_of}
 use Rattle.vk_port.proofs.Fronts.{prefix_over}
 
 -- the second has seen as much or more, and entered the same
@@ -61,7 +61,7 @@ module _ (b : Berth) where
   after_later s t (Drops heard frame) later = fetched_later s t heard later
   after_later s t (Hears heard) later = fetched_later s t heard later
 
-  right_before : (s t : Stand) (a : Action) → IsLater s t → IsRight b t a → IsRight b s a
+  right_before : (s t : Stand) (a : Action) → IsLater s t → IsRightAction b t a → IsRightAction b s a
   right_before s t (Enters before e posted) later at = enters_before s t before e posted later at
   right_before s t (Delivers heard frame before posted) later at = (
     fetches_before s t heard _ later at.0,

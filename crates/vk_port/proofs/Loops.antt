@@ -12,7 +12,7 @@ use Rattle.vk_base.specs.Settings.{has_station, is_on}
 use Rattle.vk_base.proofs.BoolLemmas.{or_rest}
 use Rattle.vk_rules.specs.Each.{Each}
 use Rattle.vk_rules.proofs.Lists.{each_append}
-use Rattle.vk_port.specs.Kept.{IsShort}
+use Rattle.vk_port.specs.Kept.{IsFrameShort}
 
 pub pid_more : (specs : List ProcessSpec) (n : ℕ) (s : ProcessSpec) → n < length specs → s ≡ get_or specs n s → IsPid s.pid →
     Each (λ (t : ProcessSpec). IsPid t.pid) (take n specs) → Each (λ (t : ProcessSpec). IsPid t.pid) (take (n + 1) specs)
@@ -30,9 +30,9 @@ pub bytes_more : (frames : List (List ℕ)) (n : ℕ) (f : List ℕ) → slice_g
     sum_by length (take (n + 1) frames) ≡ sum_by length (take n frames) + length f
 bytes_more frames n f there = ap (sum_by length) (frame_more frames n f there) ∙ sum_by_push length (take n frames) f
 
-pub short_at : (frames : List (List ℕ)) (n : ℕ) (f : List ℕ) → Each IsShort frames → slice_get frames n ≡ Some f → length f ≤ 1152
+pub short_at : (frames : List (List ℕ)) (n : ℕ) (f : List ℕ) → Each IsFrameShort frames → slice_get frames n ≡ Some f → length f ≤ 1152
 short_at [] n f all there = absurd (none-some f there)
-short_at (g ∷ frames) zero f all there = subst IsShort (same_Some g f there) all.0
+short_at (g ∷ frames) zero f all there = subst IsFrameShort (same_Some g f there) all.0
 short_at (g ∷ frames) (suc n) f all there = short_at frames n f all.1 there
 
 sum_low : (frames rest : List (List ℕ)) → sum_by length frames ≤ sum_by length (frames ++ rest)

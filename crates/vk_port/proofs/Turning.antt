@@ -19,8 +19,8 @@ use Rattle.vk_hub.specs.Links.{Frame}
 use Rattle.vk_rules.specs.Each.{Each}
 use Rattle.vk_rules.proofs.Lists.{each_append}
 use Rattle.vk_port.specs.Ports.{Action, AtHub, AtStation, Delivers, Does, Drops, Enters, HasDelivered, HasHeard, HasMade, Hears, IsCutEvent, IsCutPump, IsLog, IsMet, IsPumping, IsRefused, Met, PortValue, berth_of, fetched_at, stand_of}
-use Rattle.vk_port.specs.Stations.{Given, StationHistory, entry_at, frames_at, is_full, is_own, is_ready, shown}
-use Rattle.vk_port.specs.Turns.{HasFetched, HasPosted, HasStopped, IsAnswered, IsCallAnswer, IsTicked}
+use Rattle.vk_port.specs.Stations.{EntryShown, StationHistory, entry_at, entry_shown, frames_at, is_full, is_own, is_ready}
+use Rattle.vk_port.specs.Turns.{HasFetchedFrame, HasPosted, HasStoppedPosting, HoldsAnswer, HoldsTick, IsCallAnswer}
 use Rattle.vk_port.proofs.Answers.{call_answer, collect_answer, tick_answer}
 use Rattle.vk_port.proofs.Logs.{berth_same, does_more, same_over}
 
@@ -41,9 +41,9 @@ module _ (host : ℕ) (station : Cell StationHistory) (hub : Cell HubLog) (ticks
 
   -- An event was entered.
   module _ (s t : Sitting StationHistory StationEvent) (g : Sitting HubLog HubEvent) (e : StationEvent)
-      (old new : Given) (same : IsSameSeat s t) (complete : IsComplete t) (own : is_own station.origin e ≡ true)
+      (old new : EntryShown) (same : IsSameSeat s t) (complete : IsComplete t) (own : is_own station.origin e ≡ true)
       (turn : HasEntered (λ before. (is_ready station.origin before e ≡ true) × (is_full station.origin before e ≡ false)
-      × (new ≡ shown old.room (entry_at station.origin before e))) s t e) where
+      × (new ≡ entry_shown old.room (entry_at station.origin before e))) s t e) where
     abbrev pub before : List (ℕ × StationEvent)
     before = turn.before
 
@@ -51,10 +51,10 @@ module _ (host : ℕ) (station : Cell StationHistory) (hub : Cell HubLog) (ticks
     frames = frames_at station.origin before e
 
     frames_are : new.frames ≡ frames
-    frames_are = ap (λ (x : Given). x.frames) turn.gives.2
+    frames_are = ap (λ (x : EntryShown). x.frames) turn.gives.2
 
     pub some_answer : new.answer ≡ Some (entry_at station.origin before e).answer
-    some_answer = ap (λ (x : Given). x.answer) turn.gives.2
+    some_answer = ap (λ (x : EntryShown). x.answer) turn.gives.2
 
     entered : (h : Sitting HubLog HubEvent) (count : ℕ) → count ≤ length frames → HasPosted g h (take count frames) →
         Does (port_at s g) (port_at t h) (Enters before e count ∷ [])
@@ -90,7 +90,7 @@ module _ (host : ℕ) (station : Cell StationHistory) (hub : Cell HubLog) (ticks
     }
 
     -- or some of them, before the hub refused one
-    pub cut : (h : Sitting HubLog HubEvent) (why : Room) → HasStopped g h new.frames why →
+    pub cut : (h : Sitting HubLog HubEvent) (why : Room) → HasStoppedPosting g h new.frames why →
         IsRefused (port_at s g) (port_at t h) why [] (IsCutEvent station.origin e)
     cut h why stopped =
         let few : stopped.count < length frames = let low = stopped.few in omega (arith, ap length frames_are) in
@@ -125,7 +125,7 @@ module _ (host : ℕ) (station : Cell StationHistory) (hub : Cell HubLog) (ticks
   pub fetched_some : (s : Sitting StationHistory StationEvent) (g h : Sitting HubLog HubEvent) (f : Fetched) → IsSameSeat g h → IsComplete h →
       HasEntered (λ before. (is_at_limit before (hub_events.Fetch host) ≡ false)
       × (f ≡ fetched_from hub.origin.programs (traffic_of hub.origin before) host)) g h (hub_events.Fetch host) →
-      HasFetched (port_at s g) (port_at s h) f
+      HasFetchedFrame (port_at s g) (port_at s h) f
   fetched_some s g h f same complete turn = record {
     same = record { host = refl; station = refl; hub = refl; ticks = refl; seat = (refl, refl, refl); hub_seat = same };
     heard = turn.before;
@@ -139,7 +139,7 @@ module _ (host : ℕ) (station : Cell StationHistory) (hub : Cell HubLog) (ticks
   }
 
 -- A frame that was fetched is delivered, or refused; or the fetch heard that the hub has ended.
-module _ (p q : PortValue) (frame : Frame) (got : HasFetched p q (fetched.Frame frame)) where
+module _ (p q : PortValue) (frame : Frame) (got : HasFetchedFrame p q (fetched.Frame frame)) where
   abbrev pub e : StationEvent
   e = events.Deliver frame
 
@@ -234,16 +234,16 @@ pub made_call : (p q : PortValue) (first : List Action) (pid : Pid) (call : Call
     HasMade p q first (events.Call pid call) given → IsCallAnswer given
 made_call p q first pid call given made = subst IsCallAnswer (sym made.answer) (call_answer p.station.origin made.before pid call)
 
-pub made_tick : (p q : PortValue) (first : List Action) (given : EventAnswer) → HasMade p q first events.Tick given → IsTicked given
-made_tick p q first given made = subst IsTicked (sym made.answer) (tick_answer p.station.origin made.before)
+pub made_tick : (p q : PortValue) (first : List Action) (given : EventAnswer) → HasMade p q first events.Tick given → HoldsTick given
+made_tick p q first given made = subst HoldsTick (sym made.answer) (tick_answer p.station.origin made.before)
 
-pub made_collect : (p q : PortValue) (pid : Pid) (given : EventAnswer) → HasMade p q [] (events.Collect pid) given → IsAnswered given
+pub made_collect : (p q : PortValue) (pid : Pid) (given : EventAnswer) → HasMade p q [] (events.Collect pid) given → HoldsAnswer given
 made_collect p q pid given made =
-    subst IsAnswered (sym made.answer) (collect_answer p.station.origin made.before pid made.does.log.0.ready)
+    subst HoldsAnswer (sym made.answer) (collect_answer p.station.origin made.before pid made.does.log.0.ready)
 
-pub got_frame : (p q : PortValue) (f : Fetched) (frame : Frame) → f ≡ fetched.Frame frame → (f ≢ fetched.Nothing → HasFetched p q f) →
-    HasFetched p q (fetched.Frame frame)
-got_frame p q f frame is got = subst (HasFetched p q) is (got (λ none. let bad : fetched.Frame frame ≡ fetched.Nothing = sym is ∙ none in cc))
+pub got_frame : (p q : PortValue) (f : Fetched) (frame : Frame) → f ≡ fetched.Frame frame → (f ≢ fetched.Nothing → HasFetchedFrame p q f) →
+    HasFetchedFrame p q (fetched.Frame frame)
+got_frame p q f frame is got = subst (HasFetchedFrame p q) is (got (λ none. let bad : fetched.Frame frame ≡ fetched.Nothing = sym is ∙ none in cc))
 
 -- A refusal after frames that were delivered before.
 module _ (p q r : PortValue) (first : List Action) (does : Does p q first) (why : Room) (e : StationEvent) where

@@ -27,18 +27,18 @@ with_callers (k ∷ ks) (e ∷ es) = (k, e) ∷ with_callers ks es
 with_callers ks es = []
 
 -- an event that code can hold: numbers, pids, messages and bytes are such
-abbrev pub IsHeld : StationEvent → Type 0
-IsHeld (events.Call pid call) = IsPid pid × IsReadable call
-IsHeld (events.Collect pid) = Unit {0}
-IsHeld events.Tick = Unit {0}
-IsHeld (events.Deliver frame) = IsUnsealed (unsealed_of frame)
+abbrev pub IsHeldEvent : StationEvent → Type 0
+IsHeldEvent (events.Call pid call) = IsPid pid × IsReadable call
+IsHeldEvent (events.Collect pid) = Unit {0}
+IsHeldEvent events.Tick = Unit {0}
+IsHeldEvent (events.Deliver frame) = IsUnsealed (unsealed_of frame)
 
 -- What callers see of a station with this configuration and host: with these entries, and before the first.
-abbrev pub history_of : Settings → ℕ → EntryList → StationHistory
-history_of c host list = record { config = c; host = host; history = list.items; spare = list.spare }
+abbrev pub station_history : Settings → ℕ → EntryList → StationHistory
+station_history c host list = record { config = c; host = host; history = list.items; spare = list.spare }
 
-abbrev pub first_of : Settings → ℕ → StationHistory
-first_of c host = record { config = c; host = host; history = []; spare = 0 }
+abbrev pub first_history : Settings → ℕ → StationHistory
+first_history c host = record { config = c; host = host; history = []; spare = 0 }
 
 -- The host stands for the entries that these events make. So many stations share, and so many bytes were emitted here.
 pub record IsStationKept (c : Settings) (host : ℕ) (items : List (ℕ × StationEvent)) (s : StationValue) (stations bytes : ℕ) : Type 0 where
@@ -49,15 +49,15 @@ pub record IsStationKept (c : Settings) (host : ℕ) (items : List (ℕ × Stati
   pub count : stations ≡ length (stations_of c.specs)
   pub few_stations : stations ≤ STATIONS
   pub some_station : 1 ≤ stations
-  pub stands : StandsAt c (entries_at (first_of c host) items) s
-  pub sent : Each IsSentEntry (entries_at (first_of c host) items)
-  pub fitting : IsFitting c host (reading c host (entries_at (first_of c host) items))
-  pub emitted : bytes ≡ emitted_bytes (entries_at (first_of c host) items)
+  pub stands : StandsAt c (entries_at (first_history c host) items) s
+  pub sent : Each IsSentEntry (entries_at (first_history c host) items)
+  pub fitting : IsFitting c host (reading c host (entries_at (first_history c host) items))
+  pub emitted : bytes ≡ emitted_bytes (entries_at (first_history c host) items)
   pub low : bytes ≤ EMITTED_BYTES / stations
   pub few : length items ≤ EVENTS / stations
-  pub own : Each (λ (x : ℕ × StationEvent). is_own (first_of c host) x.1 ≡ true) items
-  pub had_room : HadRoom (first_of c host) items
+  pub own : Each (λ (x : ℕ × StationEvent). is_own (first_history c host) x.1 ≡ true) items
+  pub had_room : HadRoom (first_history c host) items
 
 -- a frame that code can hold
-abbrev pub IsShort : List ℕ → Type 0
-IsShort bytes = length bytes ≤ FRAME_BYTES
+abbrev pub IsFrameShort : List ℕ → Type 0
+IsFrameShort bytes = length bytes ≤ FRAME_BYTES

@@ -109,12 +109,12 @@ module _ (b : Berth) where
   }
 
   -- the action is right where its seats stand, and leads here
-  abbrev pub IsRight : Stand → Action → Type 0
-  IsRight s (Enters before e posted) = EntersAt s before e posted
-  IsRight s (Delivers heard frame before posted) =
+  abbrev pub IsRightAction : Stand → Action → Type 0
+  IsRightAction s (Enters before e posted) = EntersAt s before e posted
+  IsRightAction s (Delivers heard frame before posted) =
       FetchesAt s heard (fetched.Frame frame) × EntersAt (fetched_at s heard) before (events.Deliver frame) posted
-  IsRight s (Drops heard frame) = FetchesAt s heard (fetched.Frame frame)
-  IsRight s (Hears heard) = FetchesAt s heard fetched.Stopped
+  IsRightAction s (Drops heard frame) = FetchesAt s heard (fetched.Frame frame)
+  IsRightAction s (Hears heard) = FetchesAt s heard fetched.Stopped
 
   abbrev pub after : Stand → Action → Stand
   after s (Enters before e posted) = entered_at s before e posted
@@ -125,7 +125,7 @@ module _ (b : Berth) where
   -- THE PORT'S LOG. Each of these actions is right after those before it, and its seats have done nothing else.
   abbrev pub IsLog : Stand → List Action → Stand → Type 0
   IsLog s [] t = IsPrefix s.seen t.seen × IsPrefix s.heard t.heard × (t.mine ≡ s.mine) × (t.sent ≡ s.sent)
-  IsLog s (a ∷ acts) t = IsRight s a × IsLog (after s a) acts t
+  IsLog s (a ∷ acts) t = IsRightAction s a × IsLog (after s a) acts t
 
 -- a port stays what it is but for what its seats have seen and entered
 pub record IsSamePort (old new : PortValue) : Type 0 where

@@ -3,7 +3,7 @@ use Rattle.std.specs.Prelude.{ℕ, ◌≡◌, ◌≤◌, ◌-◌, ◌/◌, ◌==
 use Rattle.vk_types.specs.Types.{EventAnswer, Pid, StationEvent}
 use Rattle.v_lawful.specs.Sending.{most_packets}
 use Rattle.vk_base.specs.declared.event.StationEvent.TheVariants as events
-use Rattle.vk_base.specs.declared.limits.TheConstants.{EVENTS}
+use Rattle.vk_base.specs.declared.limits.TheConstants.{EVENTS, LAST_NUMBER}
 use Rattle.vk_base.specs.declared.step.Step.TheVariants as steps
 use Rattle.vk_base.specs.Settings.{AreLawful, Settings, has_process, has_station, stations_of}
 use Rattle.vk_base.specs.Steps.{is_allowed}
@@ -14,7 +14,7 @@ use Rattle.vk_rules.specs.Entries.{Entry}
 use Rattle.vk_rules.specs.Frames.{number_in, unsealed_of}
 use Rattle.vk_rules.specs.Readings.{reading}
 use Rattle.vk_rules.specs.Right.{entry_of}
-use Rattle.vk_port.specs.declared.station.TheConstants.{EMITTED_BYTES, EVENT_BYTES, LAST_NUMBER}
+use Rattle.vk_port.specs.declared.station.TheConstants.{EMITTED_BYTES, EVENT_BYTES}
 
 -- A station, as callers see it: its configuration, which station it is, its history, and the room that is left for entries.
 pub record StationHistory : Type 0 where
@@ -95,14 +95,14 @@ is_ready o history (events.Collect pid) =
 is_ready o history e = true
 
 -- The place for what an event gives: the answer of the last event, `None` before the first; its frames; and for how many there is room.
-pub record Given : Type 0 where
+pub record EntryShown : Type 0 where
   pub answer : Option EventAnswer
   pub frames : List (List ℕ)
   pub room : ℕ
 
 -- what is shown of an entry
-abbrev pub shown : ℕ → Entry → Given
-shown room e = record { answer = Some e.answer; frames = map sealed e.frames; room = room }
+abbrev pub entry_shown : ℕ → Entry → EntryShown
+entry_shown room e = record { answer = Some e.answer; frames = map sealed e.frames; room = room }
 
 -- how many frames an event may have
 abbrev pub most_frames : StationEvent → ℕ

@@ -5,7 +5,7 @@ ghost use Rattle.turn_cell.specs.Seats.{IsComplete, IsSameSeat, IsSeatOf};
 ghost use Rattle.vk_hub.specs.declared.event.HubEvent.TheVariants as hub_events;
 ghost use Rattle.vk_port.specs.Ports.{AtHub, Does, HasPumped, HasMade, HasWaited, IsCutEvent, IsCutPump, IsMet, IsRefused, IsWaitRefused, answer_as};
 ghost use Rattle.vk_port.specs.Stations.{is_own, is_process_of, is_ready, most_frames};
-ghost use Rattle.vk_port.specs.Turns.{HasFetched, HasPosted, HasStopped, IsAnswered, IsCallAnswer, IsTicked, is_collect, room_of};
+ghost use Rattle.vk_port.specs.Turns.{HasFetchedFrame, HasPosted, HasStoppedPosting, HoldsAnswer, HoldsTick, IsCallAnswer, is_collect, room_of};
 
 use crate::patience::Patience;
 use crate::station::Station;
@@ -15,14 +15,9 @@ use std::marker::Model;
 use std::sync::Wait;
 use std::time::Clock;
 use turn_cell::{Ready, Room, TurnCell, TurnSeat};
+use vk_base::limits::{ROUND_PACKETS, TICK_PACKETS};
 use vk_base::{Answer, Call, CallOutcome, EventAnswer, FrameBytes, Pid, StationEvent};
 use vk_hub::{Fetched, Hub, HubState};
-
-/// The most frames that a tick has.
-const TICK_FRAMES: u32 = 2_048;
-
-/// The most frames that any other event has.
-const FRAMES: u32 = 64;
 
 /// Microseconds of the longest sleep of a thread that waits for an answer. Deliveries do not wait for it where another thread pumps.
 const LONGEST_SLEEP: u32 = 20_000;
@@ -118,7 +113,7 @@ impl<'a> Port<'a> {
         ensures seat { IfErr result (λ e. e.seat ≡ seat) }
         ensures hub_seat { IfErr result (λ e. e.hub_seat ≡ hub_seat) }
     {
-        match StationOut::new(alloc, if ticks { TICK_FRAMES } else { FRAMES }) {
+        match StationOut::new(alloc, if ticks { TICK_PACKETS } else { ROUND_PACKETS }) {
             Ok(out) => Ok(Port {
                 host,
                 station,
@@ -272,7 +267,7 @@ impl<'a> Port<'a> {
 
     /// Fetches once.
     fn fetch<R: Wait>(&mut self, rt: &R, alloc: Global) -> Result<Fetched, Room>
-        ensures fetched { IfOk result (λ f. f ≢ Fetched.Nothing → HasFetched self.old self.new f) }
+        ensures fetched { IfOk result (λ f. f ≢ Fetched.Nothing → HasFetchedFrame self.old self.new f) }
         ensures nothing { IfOk result (λ f. f ≡ Fetched.Nothing → HasPumped self.old self.new Pumped.Nothing) }
         ensures err { IfErr result (λ why. Does self.old self.new [] × IsMet self.new why (AtHub (hub_events.Fetch self.old.host))) }
     {
@@ -345,7 +340,7 @@ fn post_all<R: Wait>(
     ensures room { out.new.room ≡ out.old.room }
     ensures answer { IfOk result (λ given. out.old.answer ≡ Some given) }
     ensures ok { OnOk result (HasPosted seat.old seat.new out.old.frames) }
-    ensures err { IfErr result (HasStopped seat.old seat.new out.old.frames) }
+    ensures err { IfErr result (HasStoppedPosting seat.old seat.new out.old.frames) }
 {
     match post_frames(rt, alloc, hub, seat, out) {
         Ok(()) => match out.take_answer() {
@@ -369,7 +364,7 @@ fn post_frames<R: Wait>(
     ensures same { IsSameSeat seat.old seat.new }
     ensures complete { IsComplete seat.new }
     ensures ok { OnOk result (HasPosted seat.old seat.new out.now.frames) }
-    ensures err { IfErr result (HasStopped seat.old seat.new out.now.frames) }
+    ensures err { IfErr result (HasStoppedPosting seat.old seat.new out.now.frames) }
 {
     for at in 0..out.frame_count() {
         match hub.post(rt, alloc, seat, out.frame(at)) {
@@ -394,7 +389,7 @@ fn outcome_of(answer: EventAnswer) -> CallOutcome
 
 /// What was collected.
 fn answer_in(answer: EventAnswer) -> Answer
-    requires { IsAnswered answer }
+    requires { HoldsAnswer answer }
     ensures { EventAnswer.Answered result ≡ answer }
 {
     match answer {
@@ -405,7 +400,7 @@ fn answer_in(answer: EventAnswer) -> Answer
 
 /// The new tick.
 fn tick_in(answer: EventAnswer) -> u64
-    requires { IsTicked answer }
+    requires { HoldsTick answer }
     ensures { EventAnswer.Ticked result ≡ answer }
 {
     match answer {

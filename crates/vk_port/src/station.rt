@@ -6,8 +6,8 @@ ghost use Rattle.vk_base.specs.Pids.{IsPid};
 ghost use Rattle.vk_base.specs.Settings.{has_station};
 ghost use Rattle.vk_rules.specs.Each.{Each};
 ghost use Rattle.vk_rules.specs.Frames.{number_in, unsealed_of};
-ghost use Rattle.vk_port.specs.Kept.{IsHeld};
-ghost use Rattle.vk_port.specs.Stations.{IsLawfulHistory, brings_last_number, entry_at, event_of, is_full, is_own, is_ready, is_used_up_by, most_frames, origin_of, shown};
+ghost use Rattle.vk_port.specs.Kept.{IsHeldEvent};
+ghost use Rattle.vk_port.specs.Stations.{IsLawfulHistory, brings_last_number, entry_at, entry_shown, event_of, is_full, is_own, is_ready, is_used_up_by, most_frames, origin_of};
 
 use crate::entries::Entries;
 use crate::opened::frame_is;
@@ -16,7 +16,7 @@ use std::alloc::Global;
 use std::marker::Model;
 use std::snapshot::Snapshot;
 use turn_cell::{Replay, Room};
-use vk_base::limits::EVENTS;
+use vk_base::limits::{EVENTS, LAST_NUMBER};
 use vk_base::{Config, List, NoMemory, ProcessSpec, StationEvent};
 use vk_brief::{BriefCall, CallView};
 use vk_frame::unseal;
@@ -26,9 +26,6 @@ use vk_host::{Host, are_in_range, pid_is};
 pub const EMITTED_BYTES: usize = 268_435_456;
 /// The most bytes that the frames of one event have: 2,048 frames of 1,152 bytes.
 pub const EVENT_BYTES: usize = 2_359_296;
-/// The greatest Lamport number, 2^63 - 1.
-pub const LAST_NUMBER: u64 = 9_223_372_036_854_775_807;
-
 /// A station with its history, of which it is the replay. Contracts see its configuration, which station it is, its history, and the
 /// room that is left for entries.
 #[derive(Drop)]
@@ -41,12 +38,12 @@ pub struct Station {
 }
 
 impl Model for Station {
-    ghost use Rattle.vk_port.specs.Kept.{IsStationKept, history_of};
+    ghost use Rattle.vk_port.specs.Kept.{IsStationKept, station_history};
     ghost use Rattle.vk_port.specs.Stations.{StationHistory};
 
     ghost Value = { StationHistory };
 
-    ghost view = { λ s. history_of s.config.value s.host.host s.entries };
+    ghost view = { λ s. station_history s.config.value s.host.host s.entries };
 
     ghost invariant = { λ s. IsStationKept s.config.value s.host.host s.entries.items s.host s.stations s.bytes };
 }
@@ -120,7 +117,7 @@ impl Replay for Station {
 
     ghost has_room = { λ s e. (is_full s s.history e ≡ false) × (1 ≤ s.spare) };
 
-    ghost gives = { λ o h caller e out new. new ≡ shown out.room (entry_at o h e) };
+    ghost gives = { λ o h caller e out new. new ≡ entry_shown out.room (entry_at o h e) };
 
     fn room(&mut self, _alloc: Global, event: &StationEvent) -> Result<(), Room> {
         if is_used_up(self.entries.len(), self.bytes, self.stations as usize)
@@ -180,7 +177,7 @@ fn bears_last_number(bytes: &[u8]) -> bool
 
 /// Each field of the event is in its range. Changes nothing.
 fn is_held(event: &StationEvent)
-    ensures { IsHeld event.now }
+    ensures { IsHeldEvent event.now }
 {
     match event {
         StationEvent::Call { pid, call } => {

@@ -1,8 +1,8 @@
 //! The deadlines of a station's processes, in a wheel that is told of new ones when it is asked.
 
 ghost use Rattle.std.specs.Int.{bit_at};
-ghost use Rattle.std.specs.Prelude.{◌≡◌, ◌==◌, ◌&&◌, ◌≤◌, ◌<◌, ◌+◌, ◌^◌, ℕ, List, length, slice_set, IfOk, if◌then◌else◌};
-ghost use Rattle.vk_base.specs.declared.limits.TheConstants.{STATION_PROCESSES as PROCESSES};
+ghost use Rattle.std.specs.Prelude.{◌≡◌, ◌==◌, ◌&&◌, ◌≤◌, ◌<◌, ◌+◌, ℕ, List, length, slice_set, IfOk, if◌then◌else◌};
+ghost use Rattle.vk_base.specs.declared.limits.TheConstants.{STATION_EVENTS, STATION_PROCESSES as PROCESSES};
 ghost use Rattle.vk_procs.specs.declared.seat.Seat.{Seat as TheSeat};
 ghost use Rattle.vk_procs.specs.Awaited.{due_places};
 ghost use Rattle.vk_procs.specs.Kept.{AreFollowed, AreHeard, AreSameBut, awaited_at, due_bit, is_far, near};
@@ -50,7 +50,7 @@ impl Deadlines {
     /// The places of the processes that wait for the tick `now`, from 1 and below 2^48, a bit for each.
     pub fn due(&mut self, seats: &[Seat], now: u64) -> u32
         requires some { 0 < now }
-        requires low { now < 2 ^ 48 }
+        requires low { now < STATION_EVENTS }
         requires few { length seats.now ≤ PROCESSES }
         requires followed { AreFollowed self.old seats.now }
         ensures due { result ≡ due_places now seats.now }

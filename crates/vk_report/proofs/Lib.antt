@@ -1,2 +1,3 @@
+mod Drafts
 mod StepLines
 pub mod Traces

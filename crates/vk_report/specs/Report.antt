@@ -1,5 +1,6 @@
 -- What is written of a history: its report, or its trace.
 use Rattle.std.specs.Prelude.{ℕ, ◌==◌, List, [], ◌∷◌, ◌++◌, flat_map, decimal, codes, if◌then◌else◌}
+use Rattle.vk_base.specs.declared.limits.TheConstants.{EVERY_STATION}
 use Rattle.vk_types.specs.Types.{EventAnswer, ProcessSpec, Step}
 use Rattle.vk_base.specs.Packets.{Packet, Send, Reply, Pending, Negative, MoveData, MoveAck, MoveRequest, MoveBytes, MoveNegative, AskPid, TellPid}
 use Rattle.vk_base.specs.declared.event.EventAnswer.TheVariants as answers
@@ -95,7 +96,7 @@ kind_text kinds.TellPid = codes "tellpid"
 
 -- a station, or all
 abbrev pub destination_text : ℕ → List ℕ
-destination_text host = if host == 65535 then codes "all" else decimal host
+destination_text host = if host == EVERY_STATION then codes "all" else decimal host
 
 -- `frame H:E.O`: the event, and which of its outputs the frame is
 abbrev pub frame_place : ℕ → ℕ → ℕ → List ℕ

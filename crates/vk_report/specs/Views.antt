@@ -1,5 +1,5 @@
 -- What a view of an answer stands for.
-use Rattle.std.specs.Prelude.{◌≤◌, length}
+use Rattle.std.specs.Prelude.{Bool, ◌≤◌, true, false, length}
 use Rattle.vk_types.specs.Types.{EventAnswer}
 use Rattle.vk_base.specs.declared.answer.Answer.TheVariants as answers
 use Rattle.vk_base.specs.declared.event.EventAnswer.TheVariants as events_answered
@@ -21,3 +21,8 @@ viewed views.Bad = events_answered.Bad
 abbrev pub IsShort : AnswerView → Type 0
 IsShort (views.Loaded bytes) = length bytes.now ≤ DATA_BYTES
 IsShort a = Unit {0}
+
+-- whether it is what a Load gives
+abbrev pub is_loaded : AnswerView → Bool
+is_loaded (views.Loaded bytes) = true
+is_loaded a = false

@@ -1,24 +1,16 @@
 //! The line of an event and its answer.
 
-ghost use Rattle.std.specs.Prelude.{◌≡◌, ◌++◌, OnOk, OnErr};
+ghost use Rattle.std.specs.Prelude.{◌≡◌, ◌+◌, ◌≤◌, ◌++◌, false, length, OnOk};
 ghost use Rattle.vk_text.specs.Spelling.{StartsWith};
+ghost use Rattle.vk_text.specs.declared.draft.TheConstants.{DRAFT_ROOM as ROOM};
 ghost use Rattle.vk_report.specs.Report.{place_text, answer_text_of, answer_line, number_and_host, missing_line, event_place};
-ghost use Rattle.vk_report.specs.Views.{IsShort, viewed};
+ghost use Rattle.vk_report.specs.Views.{IsShort, is_loaded, viewed};
 
 use crate::entry::EventPlace;
 use std::alloc::Global;
-use v_trace::{put_loaded, put_outcome};
+use v_trace::{draft_outcome, put_loaded};
 use vk_base::{Answer, EventAnswer, NoMemory, Outcome};
-use vk_text::{put, put_byte, put_number, write_number};
-
-/// `now TICK`
-fn write_ticked(alloc: Global, text: &mut Vec<u8>, now: u64) -> Result<(), NoMemory>
-    ensures ok { OnOk result (text.new.items ≡ text.old.items ++ answer_text_of (EventAnswer.Ticked now)) }
-    ensures front { OnErr result (StartsWith text.old.items text.new.items) }
-{
-    put(text, b"now")?;
-    write_number(alloc, text, now)
-}
+use vk_text::{Draft, add_number, draft_number, give};
 
 /// What an event is answered, in few bytes: those that a Load gives, at most 1,024, are lent.
 #[derive(Clone, Copy)]
@@ -78,85 +70,119 @@ fn given(answer: &Answer) -> AnswerView<'_>
     AnswerView::Given { outcome }
 }
 
-/// What an event is answered.
-fn write_answer(alloc: Global, text: &mut Vec<u8>, answer: &AnswerView) -> Result<(), NoMemory>
-    requires { IsShort answer.now }
-    ensures ok { OnOk result (text.new.items ≡ text.old.items ++ answer_text_of (viewed answer.now)) }
-    ensures front { OnErr result (StartsWith text.old.items text.new.items) }
+/// `now TICK`
+fn draft_ticked(into: &mut Draft, now: u64)
+    requires { length into.old + 24 ≤ ROOM }
+    ensures text { into.new ≡ into.old ++ answer_text_of (EventAnswer.Ticked now) }
+    ensures few { length into.new ≤ length into.old + 24 }
+{
+    into.put(b"now");
+    draft_number(into, now);
+}
+
+/// What an event is answered, which is not what a Load gives.
+#[inline(always)]
+fn draft_answer(into: &mut Draft, answer: &AnswerView)
+    requires plain { is_loaded answer.now ≡ false }
+    requires room { length into.old + 100 ≤ ROOM }
+    ensures text { into.new ≡ into.old ++ answer_text_of (viewed answer.now) }
+    ensures few { length into.new ≤ length into.old + 90 }
 {
     match answer {
-        AnswerView::Begun => put(text, b"begun"),
-        AnswerView::Given { outcome } => put_outcome(alloc, text, outcome),
-        AnswerView::Loaded { bytes } => put_loaded(alloc, text, bytes),
-        AnswerView::Ticked { now } => write_ticked(alloc, text, *now),
-        AnswerView::Taken => put(text, b"taken"),
-        AnswerView::Old => put(text, b"old"),
-        AnswerView::Bad => put(text, b"bad"),
+        AnswerView::Begun => into.put(b"begun"),
+        AnswerView::Given { outcome } => draft_outcome(into, outcome),
+        AnswerView::Loaded { .. } => unreachable!(),
+        AnswerView::Ticked { now } => draft_ticked(into, *now),
+        AnswerView::Taken => into.put(b"taken"),
+        AnswerView::Old => into.put(b"old"),
+        AnswerView::Bad => into.put(b"bad"),
     }
+}
+
+/// What an event is answered. The bytes that a Load gives stand behind the draft.
+#[inline(always)]
+fn go_on_with_answer(
+    alloc: Global,
+    text: &mut Vec<u8>,
+    draft: &mut Draft,
+    answer: &AnswerView,
+) -> Result<(), NoMemory>
+    requires short { IsShort answer.now }
+    requires room { length draft.old + 100 ≤ ROOM }
+    ensures ok { OnOk result (text.new.items ++ draft.new ≡ (text.old.items ++ draft.old) ++ answer_text_of (viewed answer.now)) }
+    ensures few { OnOk result (length draft.new ≤ length draft.old + 90) }
+    ensures front { StartsWith text.old.items text.new.items }
+{
+    if let AnswerView::Loaded { bytes } = answer {
+        give(text, draft)?;
+        return put_loaded(alloc, text, bytes);
+    }
+    draft_answer(draft, answer);
+    Ok(())
 }
 
 /// `H:E`
 #[inline(always)]
-pub fn write_event(alloc: Global, text: &mut Vec<u8>, host: u16, own: u64) -> Result<(), NoMemory>
-    ensures ok { OnOk result (text.new.items ≡ text.old.items ++ event_place host own) }
-    ensures front { OnErr result (StartsWith text.old.items text.new.items) }
+pub fn draft_event(into: &mut Draft, host: u16, own: u64)
+    requires { length into.old + 41 ≤ ROOM }
+    ensures text { into.new ≡ into.old ++ event_place host own }
+    ensures few { length into.new ≤ length into.old + 41 }
 {
-    put_number(alloc, text, u64::from(host))?;
-    put_byte(text, b':')?;
-    put_number(alloc, text, own)
+    add_number(into, u64::from(host));
+    into.byte(b':');
+    add_number(into, own);
 }
 
 /// `N H:E `
-fn write_place(alloc: Global, text: &mut Vec<u8>, place: EventPlace) -> Result<(), NoMemory>
-    ensures ok { OnOk result (text.new.items ≡ text.old.items ++ place_text place) }
-    ensures front { OnErr result (StartsWith text.old.items text.new.items) }
+#[inline(always)]
+fn draft_place(into: &mut Draft, place: EventPlace)
+    requires { length into.old + 63 ≤ ROOM }
+    ensures text { into.new ≡ into.old ++ place_text place }
+    ensures few { length into.new ≤ length into.old + 63 }
 {
-    put_number(alloc, text, place.number)?;
-    put_byte(text, b' ')?;
-    write_event(alloc, text, place.host, place.own)?;
-    put_byte(text, b' ')
+    add_number(into, place.number);
+    into.byte(b' ');
+    draft_event(into, place.host, place.own);
+    into.byte(b' ');
 }
 
 /// `N H:E ANSWER`
+#[inline(always)]
 pub fn write_answer_line(
     alloc: Global,
     text: &mut Vec<u8>,
+    draft: &mut Draft,
     place: EventPlace,
     answer: &AnswerView,
 ) -> Result<(), NoMemory>
-    requires { IsShort answer.now }
-    ensures ok { OnOk result (text.new.items ≡ text.old.items ++ answer_line place (viewed answer.now)) }
-    ensures front { OnErr result (StartsWith text.old.items text.new.items) }
+    requires short { IsShort answer.now }
+    requires room { length draft.old + 163 ≤ ROOM }
+    ensures ok { OnOk result (text.new.items ++ draft.new ≡ (text.old.items ++ draft.old) ++ answer_line place (viewed answer.now)) }
+    ensures few { OnOk result (length draft.new ≤ length draft.old + 154) }
+    ensures front { StartsWith text.old.items text.new.items }
 {
-    write_place(alloc, text, place)?;
-    write_answer(alloc, text, answer)?;
-    put_byte(text, b'\n')
+    draft_place(draft, place);
+    go_on_with_answer(alloc, text, draft, answer)?;
+    draft.byte(b'\n');
+    Ok(())
 }
 
 /// `N H`
-fn write_number_and_host(
-    alloc: Global,
-    text: &mut Vec<u8>,
-    number: u64,
-    host: u16,
-) -> Result<(), NoMemory>
-    ensures ok { OnOk result (text.new.items ≡ text.old.items ++ number_and_host number host) }
-    ensures front { OnErr result (StartsWith text.old.items text.new.items) }
+fn draft_number_and_host(into: &mut Draft, number: u64, host: u16)
+    requires { length into.old + 41 ≤ ROOM }
+    ensures text { into.new ≡ into.old ++ number_and_host number host }
+    ensures few { length into.new ≤ length into.old + 41 }
 {
-    put_number(alloc, text, number)?;
-    write_number(alloc, text, u64::from(host))
+    add_number(into, number);
+    draft_number(into, u64::from(host));
 }
 
 /// `N H:- missing`
-pub fn write_missing_line(
-    alloc: Global,
-    text: &mut Vec<u8>,
-    number: u64,
-    host: u16,
-) -> Result<(), NoMemory>
-    ensures ok { OnOk result (text.new.items ≡ text.old.items ++ missing_line number host) }
-    ensures front { OnErr result (StartsWith text.old.items text.new.items) }
+pub fn draft_missing_line(into: &mut Draft, number: u64, host: u16)
+    requires { length into.old + 60 ≤ ROOM }
+    ensures text { into.new ≡ into.old ++ missing_line number host }
+    ensures few { length into.new ≤ length into.old + 60 }
 {
-    write_number_and_host(alloc, text, number, host)?;
-    put(text, b":- missing\n")
+    draft_number_and_host(into, number, host);
+    into.put(b":- missing\n");
 }

@@ -1,17 +1,18 @@
 //! What is written before the first entry, of each, and behind the last. Each call appends, and a refusal changes nothing.
 
-ghost use Rattle.std.specs.Prelude.{◌≡◌, ◌++◌, OnOk, OnErr};
+ghost use Rattle.std.specs.Prelude.{◌≡◌, ◌+◌, ◌≤◌, ◌++◌, [], length, OnOk, OnErr};
 ghost use Rattle.vk_text.specs.Spelling.{StartsWith};
+ghost use Rattle.vk_text.specs.declared.draft.TheConstants.{DRAFT_ROOM as ROOM};
 ghost use Rattle.vk_report.specs.Views.{IsShort, viewed};
 ghost use Rattle.vk_report.specs.Report.{step_line, step_lines, report_entry, entry_lines, missing_lines, frame_lines, end_line, end_lines, opening_lines};
 
-use crate::answer::{AnswerView, write_answer_line, write_missing_line};
-use crate::frame::{Emitted, write_frame_line};
+use crate::answer::{AnswerView, draft_missing_line, write_answer_line};
+use crate::frame::{Emitted, draft_frame_line};
 use std::alloc::Global;
-use v_trace::put_step;
+use v_trace::go_on_with_step;
 use vk_base::{Config, NoMemory};
 use vk_brief::{StepView, Steps};
-use vk_text::{put, put_byte, put_head, write_number};
+use vk_text::{DRAFT_ROOM, Draft, draft_number, give, put, put_head};
 
 /// What is written of a history.
 #[derive(Clone, Copy, Debug, PartialEq, Eq)]
@@ -41,20 +42,40 @@ pub struct Counts {
     pub frames: u64,
 }
 
+/// The most bytes of a line that go through a draft.
+const DRAFTED_LINE: usize = 160;
+
+/// Appends the draft where it may have no room for one more line.
+#[inline(always)]
+fn make_room(text: &mut Vec<u8>, draft: &mut Draft) -> Result<(), NoMemory>
+    ensures ok { OnOk result (text.new.items ++ draft.new ≡ text.old.items ++ draft.old) }
+    ensures room { OnOk result (length draft.new + DRAFTED_LINE ≤ ROOM) }
+    ensures front { StartsWith text.old.items text.new.items }
+{
+    if draft.len() > DRAFT_ROOM - DRAFTED_LINE {
+        return give(text, draft);
+    }
+    Ok(())
+}
+
 /// The step behind this word.
 #[inline(always)]
 fn write_step_line(
     alloc: Global,
     text: &mut Vec<u8>,
+    draft: &mut Draft,
     word: &[u8],
     step: &StepView,
 ) -> Result<(), NoMemory>
-    ensures ok { OnOk result (text.new.items ≡ text.old.items ++ step_line word.now step.now) }
-    ensures front { OnErr result (StartsWith text.old.items text.new.items) }
+    requires { length word.now ≤ 5 }
+    ensures ok { OnOk result (text.new.items ++ draft.new ≡ (text.old.items ++ draft.old) ++ step_line word.now step.now) }
+    ensures front { StartsWith text.old.items text.new.items }
 {
-    put(text, word)?;
-    put_step(alloc, text, step)?;
-    put_byte(text, b'\n')
+    make_room(text, draft)?;
+    draft.put(word);
+    go_on_with_step(alloc, text, draft, step)?;
+    draft.byte(b'\n');
+    Ok(())
 }
 
 /// The steps, each on a line of its own behind this word.
@@ -62,14 +83,16 @@ fn write_step_line(
 fn write_steps(
     alloc: Global,
     text: &mut Vec<u8>,
+    draft: &mut Draft,
     word: &[u8],
     steps: &Steps,
 ) -> Result<(), NoMemory>
-    ensures ok { OnOk result (text.new.items ≡ text.old.items ++ step_lines word.now steps.now) }
-    ensures front { OnErr result (StartsWith text.old.items text.new.items) }
+    requires { length word.now ≤ 5 }
+    ensures ok { OnOk result (text.new.items ++ draft.new ≡ (text.old.items ++ draft.old) ++ step_lines word.now steps.now) }
+    ensures front { StartsWith text.old.items text.new.items }
 {
     for at in 0..steps.len() {
-        write_step_line(alloc, text, word, &steps.get(at))?;
+        write_step_line(alloc, text, draft, word, &steps.get(at))?;
     }
     Ok(())
 }
@@ -85,8 +108,19 @@ fn write_report_entry(
     ensures ok { OnOk result (text.new.items ≡ text.old.items ++ report_entry place (viewed answer.now) steps.now) }
     ensures front { OnErr result (StartsWith text.old.items text.new.items) }
 {
-    write_answer_line(alloc, text, place, answer)?;
-    write_steps(alloc, text, b"step ", steps)
+    let mut draft = Draft::new();
+    write_answer_line(alloc, text, &mut draft, place, answer)?;
+    write_steps(alloc, text, &mut draft, b"step ", steps)?;
+    put(text, draft.as_slice())
+}
+
+fn write_trace_entry(alloc: Global, text: &mut Vec<u8>, steps: &Steps) -> Result<(), NoMemory>
+    ensures ok { OnOk result (text.new.items ≡ text.old.items ++ step_lines [] steps.now) }
+    ensures front { OnErr result (StartsWith text.old.items text.new.items) }
+{
+    let mut draft = Draft::new();
+    write_steps(alloc, text, &mut draft, b"", steps)?;
+    put(text, draft.as_slice())
 }
 
 /// Appends the entry of an event: in a report the line of its answer and those of its steps, in a trace its steps.
@@ -105,7 +139,7 @@ pub fn put_entry(
     let len = text.len();
     let written = match form {
         Form::Report => write_report_entry(alloc, text, place, answer, steps),
-        Form::Trace => write_steps(alloc, text, b"", steps),
+        Form::Trace => write_trace_entry(alloc, text, steps),
     };
     if written.is_err() {
         text.truncate(len);
@@ -125,15 +159,14 @@ pub fn put_missing(
     ensures ok { OnOk result (text.new.items ≡ text.old.items ++ missing_lines form number host) }
     ensures err { OnErr result (text.new.items ≡ text.old.items) }
 {
-    let len = text.len();
-    let written = match form {
-        Form::Report => write_missing_line(alloc, text, number, host),
+    match form {
+        Form::Report => {
+            let mut draft = Draft::new();
+            draft_missing_line(&mut draft, number, host);
+            put(text, draft.as_slice())
+        }
         Form::Trace => Ok(()),
-    };
-    if written.is_err() {
-        text.truncate(len);
     }
-    written
 }
 
 /// Appends the frame that is the output `output`, from 1, of the event `own` of the station `host`: a line of a report,
@@ -150,27 +183,27 @@ pub fn put_frame(
     ensures ok { OnOk result (text.new.items ≡ text.old.items ++ frame_lines form host own output frame) }
     ensures err { OnErr result (text.new.items ≡ text.old.items) }
 {
-    let len = text.len();
-    let written = match form {
-        Form::Report => write_frame_line(alloc, text, host, own, output, frame),
+    match form {
+        Form::Report => {
+            let mut draft = Draft::new();
+            draft_frame_line(&mut draft, host, own, output, frame);
+            put(text, draft.as_slice())
+        }
         Form::Trace => Ok(()),
-    };
-    if written.is_err() {
-        text.truncate(len);
     }
-    written
 }
 
 /// `end EVENTS STEPS FRAMES`
-fn write_end_line(alloc: Global, text: &mut Vec<u8>, counts: Counts) -> Result<(), NoMemory>
-    ensures ok { OnOk result (text.new.items ≡ text.old.items ++ end_line counts) }
-    ensures front { OnErr result (StartsWith text.old.items text.new.items) }
+fn draft_end_line(into: &mut Draft, counts: Counts)
+    requires { length into.old + 70 ≤ ROOM }
+    ensures text { into.new ≡ into.old ++ end_line counts }
+    ensures few { length into.new ≤ length into.old + 70 }
 {
-    put(text, b"end")?;
-    write_number(alloc, text, counts.events)?;
-    write_number(alloc, text, counts.steps)?;
-    write_number(alloc, text, counts.frames)?;
-    put_byte(text, b'\n')
+    into.put(b"end");
+    draft_number(into, counts.events);
+    draft_number(into, counts.steps);
+    draft_number(into, counts.frames);
+    into.byte(b'\n');
 }
 
 /// Appends what stands behind the last entry: the last line of a report, nothing of a trace.
@@ -183,15 +216,14 @@ pub fn put_end(
     ensures ok { OnOk result (text.new.items ≡ text.old.items ++ end_lines form counts) }
     ensures err { OnErr result (text.new.items ≡ text.old.items) }
 {
-    let len = text.len();
-    let written = match form {
-        Form::Report => write_end_line(alloc, text, counts),
+    match form {
+        Form::Report => {
+            let mut draft = Draft::new();
+            draft_end_line(&mut draft, counts);
+            put(text, draft.as_slice())
+        }
         Form::Trace => Ok(()),
-    };
-    if written.is_err() {
-        text.truncate(len);
     }
-    written
 }
 
 /// Appends what stands before the first entry: the title of a report, the title and the processes of a trace.

@@ -1,18 +1,14 @@
 //! The line of a frame, and the kinds of packets.
 
-ghost use Rattle.std.specs.Prelude.{◌≡◌, ◌++◌, ◌∷◌, OnOk, OnErr, slice_index};
+ghost use Rattle.std.specs.Prelude.{◌≡◌, ◌+◌, ◌≤◌, ◌++◌, ◌∷◌, length, slice_index};
 ghost use Rattle.vk_base.specs.Packets.{Packet};
 ghost use Rattle.vk_packet.specs.Spelling.{packet_bytes};
-ghost use Rattle.vk_text.specs.Spelling.{StartsWith};
+ghost use Rattle.vk_text.specs.declared.draft.TheConstants.{DRAFT_ROOM as ROOM};
 ghost use Rattle.vk_report.specs.Report.{kind_text, destination_text, frame_place, frame_line, kind_of};
 
-use crate::answer::write_event;
-use std::alloc::Global;
-use vk_base::NoMemory;
-use vk_text::{put, put_byte, put_number, write_number, write_word};
-
-/// The destination of a frame that is for all stations.
-const ALL: u16 = 65_535;
+use crate::answer::draft_event;
+use vk_base::limits::EVERY_STATION;
+use vk_text::{Draft, add_number, draft_number};
 
 /// What kind of packet a frame brings.
 #[derive(Clone, Copy, Debug, PartialEq, Eq)]
@@ -65,7 +61,8 @@ pub fn kind_of(first: u8) -> PacketKind
 
 /// The kind's name in a report.
 pub fn kind_word(kind: PacketKind) -> &'static [u8]
-    ensures { result.now ≡ kind_text kind }
+    ensures word { result.now ≡ kind_text kind }
+    ensures few { length result.now ≤ 12 }
 {
     match kind {
         PacketKind::Send => b"send",
@@ -83,49 +80,51 @@ pub fn kind_word(kind: PacketKind) -> &'static [u8]
 }
 
 /// ` DEST`
-fn write_destination(alloc: Global, text: &mut Vec<u8>, destination: u16) -> Result<(), NoMemory>
-    ensures ok { OnOk result (text.new.items ≡ text.old.items ++ 32 ∷ destination_text destination) }
-    ensures front { OnErr result (StartsWith text.old.items text.new.items) }
+fn draft_destination(into: &mut Draft, destination: u16)
+    requires { length into.old + 21 ≤ ROOM }
+    ensures text { into.new ≡ into.old ++ 32 ∷ destination_text destination }
+    ensures few { length into.new ≤ length into.old + 21 }
 {
-    if destination == ALL {
-        write_word(text, b"all")
+    if destination == EVERY_STATION {
+        into.put(b" all");
     } else {
-        write_number(alloc, text, u64::from(destination))
+        draft_number(into, u64::from(destination));
     }
 }
 
-/// `frame H:E.O`
-fn write_frame_place(
-    alloc: Global,
-    text: &mut Vec<u8>,
-    host: u16,
-    own: u64,
-    output: u16,
-) -> Result<(), NoMemory>
-    ensures ok { OnOk result (text.new.items ≡ text.old.items ++ frame_place host own output) }
-    ensures front { OnErr result (StartsWith text.old.items text.new.items) }
+/// ` KIND`
+fn draft_kind(into: &mut Draft, kind: PacketKind)
+    requires { length into.old + 13 ≤ ROOM }
+    ensures text { into.new ≡ into.old ++ 32 ∷ kind_text kind }
+    ensures few { length into.new ≤ length into.old + 13 }
 {
-    put(text, b"frame ")?;
-    write_event(alloc, text, host, own)?;
-    put_byte(text, b'.')?;
-    put_number(alloc, text, u64::from(output))
+    into.byte(b' ');
+    into.put(kind_word(kind));
+}
+
+/// `frame H:E.O`
+#[inline(always)]
+fn draft_frame_place(into: &mut Draft, host: u16, own: u64, output: u16)
+    requires { length into.old + 70 ≤ ROOM }
+    ensures text { into.new ≡ into.old ++ frame_place host own output }
+    ensures few { length into.new ≤ length into.old + 70 }
+{
+    into.put(b"frame ");
+    draft_event(into, host, own);
+    into.byte(b'.');
+    add_number(into, u64::from(output));
 }
 
 /// `frame H:E.O DEST KIND LENGTH`
-pub fn write_frame_line(
-    alloc: Global,
-    text: &mut Vec<u8>,
-    host: u16,
-    own: u64,
-    output: u16,
-    frame: Emitted,
-) -> Result<(), NoMemory>
-    ensures ok { OnOk result (text.new.items ≡ text.old.items ++ frame_line host own output frame) }
-    ensures front { OnErr result (StartsWith text.old.items text.new.items) }
+#[inline(always)]
+pub fn draft_frame_line(into: &mut Draft, host: u16, own: u64, output: u16, frame: Emitted)
+    requires { length into.old + 130 ≤ ROOM }
+    ensures text { into.new ≡ into.old ++ frame_line host own output frame }
+    ensures few { length into.new ≤ length into.old + 130 }
 {
-    write_frame_place(alloc, text, host, own, output)?;
-    write_destination(alloc, text, frame.destination)?;
-    write_word(text, kind_word(frame.kind))?;
-    write_number(alloc, text, u64::from(frame.length))?;
-    put_byte(text, b'\n')
+    draft_frame_place(into, host, own, output);
+    draft_destination(into, frame.destination);
+    draft_kind(into, frame.kind);
+    draft_number(into, u64::from(frame.length));
+    into.byte(b'\n');
 }

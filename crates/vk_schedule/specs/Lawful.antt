@@ -2,7 +2,7 @@
 use Rattle.std.specs.Prelude.{◌≡◌, ℕ, ◌<◌, ◌^◌, ◌≤◌, ◌&&◌, Bool, true, List, length}
 use Rattle.std.specs.List.{list_all, AllByRecursion}
 use Rattle.vk_types.specs.Types.{ProcessSpec}
-use Rattle.vk_base.specs.declared.limits.TheConstants.{EVENTS}
+use Rattle.vk_base.specs.declared.limits.TheConstants.{EVENTS, EVERY_STATION}
 use Rattle.vk_base.specs.Pids.{IsPid}
 use Rattle.vk_base.specs.Settings.{has_process, has_station}
 use Rattle.vk_text.specs.Laws.{IsOrdinal, IsReadable}
@@ -19,7 +19,7 @@ has_actors specs (events.Tick host) = has_station specs host
 has_actors specs (events.Deliver to from event output) = has_station specs to && has_station specs from
 
 abbrev pub IsStation : ℕ → Type 0
-IsStation host = (0 < host) × (host < 65535)
+IsStation host = (0 < host) × (host < EVERY_STATION)
 
 -- the number of a frame of an event
 abbrev pub IsOutputNumber : ℕ → Type 0

@@ -1,7 +1,7 @@
 -- The schedule of a text.
 use Rattle.std.specs.Prelude.{ℕ, ◌+◌, ◌<◌, nat_lt, List, [], ◌∷◌, ◌++◌, length, codes, bytes_eq, Option, Some, None, Result, Ok, Err, if◌then◌else◌}
 use Rattle.vk_types.specs.Types.{ProcessSpec}
-use Rattle.vk_base.specs.declared.limits.TheConstants.{EVENTS}
+use Rattle.vk_base.specs.declared.limits.TheConstants.{EVENTS, LAST_NUMBER, SHORT_NUMBER}
 use Rattle.vk_base.specs.Options.{◌>>=◌}
 use Rattle.vk_base.specs.Settings.{Settings}
 use Rattle.vk_text.specs.Calls.{first_as, ended, call_of}
@@ -35,7 +35,7 @@ tick_event_of ws = first_as station_of ws >>= λ (host, ws). ended ws (events.Ti
 unfoldable pub deliver_event_of : List (List ℕ) → Option Event
 deliver_event_of ws =
     first_as station_of ws >>= λ (to, ws). first_as station_of ws >>= λ (from, ws).
-    first_as (positive_of 9223372036854775807) ws >>= λ (event, ws). first_as (positive_of 65535) ws >>= λ (output, ws).
+    first_as (positive_of LAST_NUMBER) ws >>= λ (event, ws). first_as (positive_of SHORT_NUMBER) ws >>= λ (output, ws).
     ended ws (events.Deliver to from event output)
 
 -- the event that these words spell

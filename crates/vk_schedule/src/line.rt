@@ -8,13 +8,8 @@ ghost use Rattle.vk_schedule.specs.Schedule.{acting, call_event_of, collect_even
 
 use crate::view::{EventBuffer, EventKind};
 use vk_base::Config;
-use vk_text::{is_end, next_pid, next_positive, next_station, take_call};
-
-/// The greatest number of an event of a station.
-const EVENT: u64 = 9_223_372_036_854_775_807;
-
-/// The greatest number of a frame of an event.
-const OUTPUT: u64 = 65_535;
+use vk_base::limits::{LAST_NUMBER, SHORT_NUMBER};
+use vk_text::{is_end, leads, next_pid, next_positive, next_station, take_call};
 
 /// `PID CALLTEXT`
 #[tactic(auto, unfolding(crate::specs::Schedule::call_event_of))]
@@ -60,8 +55,8 @@ fn read_delivery(line: &[u8], at: usize, into: &mut EventBuffer) -> Option<()>
 {
     let (to, at) = next_station(line, at)?;
     let (from, at) = next_station(line, at)?;
-    let (event, at) = next_positive(line, at, EVENT)?;
-    let (output, at) = next_positive(line, at, OUTPUT)?;
+    let (event, at) = next_positive(line, at, LAST_NUMBER)?;
+    let (output, at) = next_positive(line, at, SHORT_NUMBER)?;
     if !is_end(line, at) {
         return None;
     }
@@ -79,13 +74,13 @@ fn read_delivery(line: &[u8], at: usize, into: &mut EventBuffer) -> Option<()>
 fn read_words(line: &[u8], into: &mut EventBuffer) -> Option<()>
     ensures { option_map (λ _. into.new) result ≡ event_of (words_from line.now 0) }
 {
-    if line.starts_with(b"call ") {
+    if leads(line, b"call ") {
         read_call_event(line, 5, into)
-    } else if line.starts_with(b"collect ") {
+    } else if leads(line, b"collect ") {
         read_collect(line, 8, into)
-    } else if line.starts_with(b"tick ") {
+    } else if leads(line, b"tick ") {
         read_tick(line, 5, into)
-    } else if line.starts_with(b"deliver ") {
+    } else if leads(line, b"deliver ") {
         read_delivery(line, 8, into)
     } else {
         None

@@ -12,7 +12,7 @@ use crate::schedule::Schedule;
 use std::alloc::Global;
 use vk_base::{Call, NoMemory, Pid};
 use vk_brief::{BriefCall, CallView};
-use vk_text::{put, put_opening, write_call, write_number, write_pid};
+use vk_text::{Draft, draft_number, draft_pid, put, put_opening, write_call, write_pid};
 
 /// Appends `call PID CALLTEXT`.
 #[tactic(auto, using(crate::proofs::Events::call_event_text))]
@@ -32,7 +32,6 @@ fn write_call_event(
 
 /// Appends `deliver TO FROM EVENT OUTPUT`.
 fn write_delivery(
-    alloc: Global,
     into: &mut Vec<u8>,
     to: u16,
     from: u16,
@@ -41,27 +40,33 @@ fn write_delivery(
 ) -> Result<(), NoMemory>
     ensures { OnOk result (into.new.items ≡ into.old.items ++ event_text (events.Deliver to from event output)) }
 {
-    put(into, b"deliver")?;
-    write_number(alloc, into, u64::from(to))?;
-    write_number(alloc, into, u64::from(from))?;
-    write_number(alloc, into, event)?;
-    write_number(alloc, into, u64::from(output))
+    let mut draft = Draft::new();
+    draft.put(b"deliver");
+    draft_number(&mut draft, u64::from(to));
+    draft_number(&mut draft, u64::from(from));
+    draft_number(&mut draft, event);
+    draft_number(&mut draft, u64::from(output));
+    put(into, draft.as_slice())
 }
 
 /// Appends `collect PID`.
-fn write_collect(alloc: Global, into: &mut Vec<u8>, pid: Pid) -> Result<(), NoMemory>
+fn write_collect(into: &mut Vec<u8>, pid: Pid) -> Result<(), NoMemory>
     ensures { OnOk result (into.new.items ≡ into.old.items ++ event_text (events.Collect pid)) }
 {
-    put(into, b"collect")?;
-    write_pid(alloc, into, pid)
+    let mut draft = Draft::new();
+    draft.put(b"collect");
+    draft_pid(&mut draft, pid);
+    put(into, draft.as_slice())
 }
 
 /// Appends `tick H`.
-fn write_tick(alloc: Global, into: &mut Vec<u8>, host: u16) -> Result<(), NoMemory>
+fn write_tick(into: &mut Vec<u8>, host: u16) -> Result<(), NoMemory>
     ensures { OnOk result (into.new.items ≡ into.old.items ++ event_text (events.Tick host)) }
 {
-    put(into, b"tick")?;
-    write_number(alloc, into, u64::from(host))
+    let mut draft = Draft::new();
+    draft.put(b"tick");
+    draft_number(&mut draft, u64::from(host));
+    put(into, draft.as_slice())
 }
 
 /// Appends the line of the event.
@@ -70,14 +75,14 @@ fn write_event(alloc: Global, into: &mut Vec<u8>, event: &Event) -> Result<(), N
 {
     match *event {
         Event::Call { pid, ref call } => write_call_event(alloc, into, pid, call)?,
-        Event::Collect { pid } => write_collect(alloc, into, pid)?,
-        Event::Tick { host } => write_tick(alloc, into, host)?,
+        Event::Collect { pid } => write_collect(into, pid)?,
+        Event::Tick { host } => write_tick(into, host)?,
         Event::Deliver {
             to,
             from,
             event,
             output,
-        } => write_delivery(alloc, into, to, from, event, output)?,
+        } => write_delivery(into, to, from, event, output)?,
     }
     put(into, b"\n")
 }

@@ -32,6 +32,14 @@ pub struct Stock<'a> {
     pub hub_seats: Vec<TurnSeat<HubState>>,
 }
 
+/// Who runs, and how long: the programs, the stations by rising hosts, and the rounds of ticks at most.
+#[derive(Drop)]
+pub struct Roster<G: Program> {
+    pub programs: Vec<Assigned<G>>,
+    pub stations: Vec<u16>,
+    pub rounds: u32,
+}
+
 /// The cell of the station.
 fn cell_at<'a>(sites: &'a [Site], host: u16) -> &'a TurnCell<Station>
     requires { HasSite sites.now host }
@@ -166,18 +174,21 @@ impl<'a> Stock<'a> {
 /// The jobs of a run: one for each program, one for each station that delivers what comes for it, and the clock.
 pub fn jobs_of<'a, 'p, G: Program, P: Pacer>(
     stock: Stock<'a>,
-    programs: Vec<Assigned<G>>,
-    stations: Vec<u16>,
-    rounds: u32,
+    roster: Roster<G>,
     pacer: &'a Mutex<&'p mut P>,
 ) -> Result<Vec<Work<'a, 'p, G, P>>, NoMemory>
     requires stock { IsStocked stock.sites.now stock.hub.now stock.spares.items stock.hub_seats.items
-        (hosts_for programs.items stations.items) }
-    requires processes { Each (IsOwnAt stock.sites.now) programs.items }
-    requires fresh { Each (λ (a : Assigned G). G.is_after a.program []) programs.items }
-    ensures { IfOk result (λ jobs. AreDealt G.task stock.entry.sites.now stock.entry.hub.now programs.items stations.items rounds
-        jobs.items) }
+        (hosts_for roster.programs.items roster.stations.items) }
+    requires processes { Each (IsOwnAt stock.sites.now) roster.programs.items }
+    requires fresh { Each (λ (a : Assigned G). G.is_after a.program []) roster.programs.items }
+    ensures { IfOk result (λ jobs. AreDealt G.task stock.entry.sites.now stock.entry.hub.now roster.programs.items roster.stations.items
+        roster.rounds jobs.items) }
 {
+    let Roster {
+        programs,
+        stations,
+        rounds,
+    } = roster;
     let mut stock = stock;
     let (alloc, hub) = (stock.alloc, stock.hub);
     let mut jobs = Vec::new(alloc);

@@ -11,7 +11,7 @@ ghost use Rattle.vk_threads.specs.Dealt.{HasRunJobs, IsOwnAt, IsStocked, TellsJo
 ghost use Rattle.vk_pages.specs.Any.{IsTaskOf, are_any_kinds};
 ghost use Rattle.vk_program.specs.declared.assigned.Assigned.{Assigned};
 
-use crate::deal::{Stock, jobs_of, take_hub_seat};
+use crate::deal::{Roster, Stock, jobs_of, take_hub_seat};
 use crate::end::End;
 use crate::halt::HubHalt;
 use crate::opening::{open_all, stations};
@@ -34,27 +34,26 @@ fn run_jobs<'a, 'p, G: Program + Send, C: Crew, P: Pacer + Send, R: Wait + Threa
     rt: &R,
     stock: Stock<'a>,
     halt: TurnSeat<HubState>,
-    programs: Vec<Assigned<G>>,
-    stations: Vec<u16>,
-    rounds: u32,
+    roster: Roster<G>,
     crew: &mut C,
     pacer: &'a Mutex<&'p mut P>,
 ) -> Result<(Vec<End>, TurnSeat<HubState>), RunRefusal>
     requires halt { IsSeatOf stock.hub.now halt }
     requires unhalted { halt.mine ≡ [] }
     requires stock { IsStocked stock.sites.now stock.hub.now stock.spares.items stock.hub_seats.items
-        (hosts_for programs.items stations.items) }
-    requires processes { Each (IsOwnAt stock.sites.now) programs.items }
-    requires fresh { Each (λ (a : Assigned G). G.is_after a.program []) programs.items }
-    ensures ended { IfOk result (λ r. HasRunJobs G P G.task stock.entry.sites.now stock.entry.hub.now programs.items stations.items rounds
-        r.0.items r.1) }
+        (hosts_for roster.programs.items roster.stations.items) }
+    requires processes { Each (IsOwnAt stock.sites.now) roster.programs.items }
+    requires fresh { Each (λ (a : Assigned G). G.is_after a.program []) roster.programs.items }
+    ensures ended { IfOk result (λ r. HasRunJobs G P G.task stock.entry.sites.now stock.entry.hub.now roster.programs.items
+        roster.stations.items roster.rounds r.0.items r.1) }
     ensures jobs { TellsJobs (C.job_count crew.old)
-        (min (C.job_count crew.old + (length programs.items + length stations.items + 1)) (2 ^ 64 - 1)) (C.job_count crew.new) result }
+        (min (C.job_count crew.old + (length roster.programs.items + length roster.stations.items + 1)) (2 ^ 64 - 1))
+        (C.job_count crew.new) result }
     ensures fault { TellsRunFault (C.fault_count crew.old) (C.fault_count crew.new) result }
 {
     let (alloc, hub) = (stock.alloc, stock.hub);
     let mut halt = HubHalt::new(hub, halt);
-    let Ok(jobs) = jobs_of(stock, programs, stations, rounds, pacer) else {
+    let Ok(jobs) = jobs_of(stock, roster, pacer) else {
         return Err(RunRefusal::NoMemory);
     };
     match crew.run_all(rt, alloc, jobs, &mut halt) {
@@ -141,8 +140,13 @@ pub fn run_programs<G: Program + Send, C: Crew, P: Pacer + Send, R: Wait + Threa
         spares,
         hub_seats,
     };
+    let roster = Roster {
+        programs,
+        stations,
+        rounds,
+    };
     let shared = Mutex::new(&mut *pacer);
-    match run_jobs(rt, stock, halt, programs, stations, rounds, crew, &shared) {
+    match run_jobs(rt, stock, halt, roster, crew, &shared) {
         Ok((ends, halt)) => record_of(alloc, config, sites, hub, ends, halt),
         Err(why) => Err(why),
     }

@@ -8,10 +8,10 @@ use Rattle.vk_base.specs.Settings.{Settings}
 use Rattle.vk_cluster.specs.declared.report.Advance.{Advance}
 use Rattle.vk_cluster.specs.declared.report.Advance.TheVariants as advances
 use Rattle.vk_cluster.specs.declared.report.StepReport.{StepReport}
-use Rattle.vk_cluster.specs.Shown.{HasAdvanced, HasReported, IsLast}
-use Rattle.vk_cluster.specs.Standing.{Tells, logs_of, report_by, report_of}
+use Rattle.vk_cluster.specs.Shown.{HasAdvanced, HasReported, IsLastEvent}
+use Rattle.vk_cluster.specs.Standing.{TellsReport, logs_of, report_by, step_report}
 use Rattle.vk_cluster.specs.Values.{ClusterValue}
-use Rattle.vk_cluster.proofs.Shown.{IsEntry, last_is, lawful_entry, reported_entry, reported_missing}
+use Rattle.vk_cluster.proofs.Shown.{IsReportedEntry, last_is, lawful_entry, reported_entry, reported_missing}
 use Rattle.vk_cluster.proofs.Told.{report_told}
 use Rattle.vk_schedule.specs.declared.event.Event.{Event}
 use Rattle.vk_host.specs.declared.response.Response.{Response}
@@ -47,7 +47,7 @@ frames_more form host own at es e text whole found so_far =
 -- The lines of an entry.
 
 pub entry_told : (form : Form) (s : StationValue) (place : EventPlace) (answer : EventAnswer) (e : Entry) (front mid text : List ℕ) →
-    IsLast s answer e → mid ≡ front ++ entry_lines form place answer s.doing.steps →
+    IsLastEvent s answer e → mid ≡ front ++ entry_lines form place answer s.doing.steps →
     text ≡ mid ++ frames_from form place.host place.own 0 (map emitted_of e.frames) → text ≡ front ++ told_lines form (told_entry place e)
 entry_told form s place answer e front mid text last entry frames =
     let rest = frames_from form place.host place.own 0 (map emitted_of e.frames) in
@@ -57,7 +57,7 @@ entry_told form s place answer e front mid text last entry frames =
     ∙ append_assoc front (entry_lines form place e.answer e.steps) rest
 
 pub trace_told : (form : Form) (s : StationValue) (place : EventPlace) (answer : EventAnswer) (e : Entry) (front mid : List ℕ) →
-    form ≡ forms.Trace → IsLast s answer e → mid ≡ front ++ entry_lines form place answer s.doing.steps →
+    form ≡ forms.Trace → IsLastEvent s answer e → mid ≡ front ++ entry_lines form place answer s.doing.steps →
     mid ≡ front ++ told_lines form (told_entry place e)
 trace_told form s place answer e front mid is last entry =
     let none : frames_from form place.host place.own 0 (map emitted_of e.frames) ≡ [] =
@@ -69,7 +69,7 @@ trace_told form s place answer e front mid is last entry =
 module _ (c : Settings) (es : List Event) (now : ClusterValue) (e : Event) (r : StepReport) (reported : HasReported c es now e r)
     (entry : Entry) (is : happened c (logs_of c es) e ≡ At r.host r.event entry) (place : ℕ) (s : StationValue)
     (found : slice_get now.hosts place ≡ Some s) (here : s.host ≡ r.host) where
-  lasts : IsLast s entry.answer entry
+  lasts : IsLastEvent s entry.answer entry
   lasts = last_is c es now e r reported entry is place s found here entry.answer refl
 
   lawful : IsLawfulEntry entry
@@ -103,17 +103,17 @@ module _ (c : Settings) (es : List Event) (now : ClusterValue) (e : Event) (a : 
   reported_by : HasReported c es now e (report_by s given)
   reported_by = subst (HasReported c es now e) (report_told now a place given had.report is had.told s found) had.reported
 
-  one : IsEntry (report_by s given) (answer_of s given) (happened c (logs_of c es) e)
+  one : IsReportedEntry (report_by s given) (answer_of s given) (happened c (logs_of c es) e)
   one = reported_entry (report_by s given) (answer_of s given) (happened c (logs_of c es) e) reported_by.next.report refl
 
-  last : IsLast s (answer_of s given) one.entry
+  last : IsLastEvent s (answer_of s given) one.entry
   last = last_is c es now e (report_by s given) reported_by one.entry one.is place s found refl (answer_of s given) one.answered
 
-  pub last_advanced : (entry : Entry) × IsLast s (answer_of s given) entry
+  pub last_advanced : (entry : Entry) × IsLastEvent s (answer_of s given) entry
   last_advanced = (one.entry, last)
 
   pub told_advanced : (form : Form) (before after : Counts) (front text : List ℕ) →
-      ((entry : Entry) → IsLast s (answer_of s given) entry →
+      ((entry : Entry) → IsLastEvent s (answer_of s given) entry →
       text ≡ front ++ told_lines form (told_entry (record { number = before.events + 1; host = s.host; own = s.events }) entry)) →
       after ≡ record {
         events = before.events + 1;
@@ -130,9 +130,9 @@ pub missing_told : (c : Settings) (es : List Event) (now : ClusterValue) (e : Ev
     text ≡ front ++ told_lines form (told_of (before.events + 1) (Missing host)) →
     after ≡ record before { events = before.events + 1 } → IsReported form before after front text (happened c (logs_of c es) e)
 missing_told c es now e a host had is form before after front text lines counts =
-    let report : had.report ≡ report_of (Missing host) = subst (λ x. Tells now x had.report) is had.told in
+    let report : had.report ≡ step_report (Missing host) = subst (λ x. TellsReport now x had.report) is had.told in
     let missed : happened c (logs_of c es) e ≡ Missing host =
-    reported_missing (report_of (Missing host)) (happened c (logs_of c es) e) (sym report ∙ had.reported.next.report) refl in
+    reported_missing (step_report (Missing host)) (happened c (logs_of c es) e) (sym report ∙ had.reported.next.report) refl in
     let steps : before.steps ≡ before.steps + 0 = omega arith in
     let frames : before.frames ≡ before.frames + 0 = omega arith in
     subst (IsReported form before after front text) (sym missed) (record {

@@ -7,7 +7,7 @@ use Rattle.std.proofs.lemmas.List.Concat.{flat_map-append, flat_map-cons}
 use Rattle.std.proofs.lemmas.List.Sums.{sum_by-append, sum_by-cons}
 use Rattle.vk_base.specs.Settings.{Settings}
 use Rattle.vk_cluster.specs.declared.emitted.TheConstants.{LAST_BYTES}
-use Rattle.vk_cluster.specs.Standing.{bytes_of, emitted_bytes, logs_of}
+use Rattle.vk_cluster.specs.Standing.{emitted_bytes, event_bytes, logs_of}
 use Rattle.vk_cluster.proofs.Logs.{bytes_next, history_more, logs_next}
 use Rattle.vk_schedule.specs.declared.event.Event.{Event}
 use Rattle.vk_schedule.specs.declared.schedule.Schedule.{Schedule}
@@ -111,7 +111,7 @@ module _ (s : Schedule) (n : ℕ) (e : Event) (low : n < length s.events) (is : 
       ∙ ap (λ logs. then_happens ∷ history s.config logs (drop (n + 1) s.events))
       (sym (ap (logs_of s.config) (taken_more s n e low is) ∙ logs_next s.config (take n s.events) e))
 
-  bytes_more : emitted_bytes (history_before n s) + bytes_of then_happens ≡ emitted_bytes (history_before (n + 1) s)
+  bytes_more : emitted_bytes (history_before n s) + event_bytes then_happens ≡ emitted_bytes (history_before (n + 1) s)
   bytes_more =
       sym (ap (λ es. emitted_bytes (history s.config no_entries es)) (taken_more s n e low is) ∙ bytes_next s.config (take n s.events) e)
 
@@ -123,7 +123,7 @@ module _ (s : Schedule) (n : ℕ) (e : Event) (low : n < length s.events) (is : 
       let more : left_taken s n ≡ suc (left_taken s (n + 1)) =
       ap (taken_from (emitted_bytes (history_before n s))) left_is
       ∙ cond-false (nat_lt LAST_BYTES (emitted_bytes (history_before n s))) 0
-      (suc (taken_from (emitted_bytes (history_before n s) + bytes_of then_happens) rest)) room
+      (suc (taken_from (emitted_bytes (history_before n s) + event_bytes then_happens) rest)) room
       ∙ ap (λ b. suc (taken_from b rest)) bytes_more in
       omega (arith, so_far, more)
 
@@ -134,7 +134,7 @@ module _ (s : Schedule) (n : ℕ) (e : Event) (low : n < length s.events) (is : 
       let none : left_taken s n ≡ 0 =
       ap (taken_from (emitted_bytes (history_before n s))) left_is
       ∙ cond-true (nat_lt LAST_BYTES (emitted_bytes (history_before n s))) 0
-      (suc (taken_from (emitted_bytes (history_before n s) + bytes_of then_happens) rest)) full in
+      (suc (taken_from (emitted_bytes (history_before n s) + event_bytes then_happens) rest)) full in
       omega (arith, so_far, none)
 
 -- no event is left
@@ -169,31 +169,31 @@ whole_text form s n all is =
 -- What that says of the bytes that are emitted before each event.
 
 low_by : (b : ℕ) (h : Happened) (hs : List Happened) (n : ℕ) → b ≤ LAST_BYTES →
-    ((m : ℕ) → m < taken_from (b + bytes_of h) hs → b + bytes_of h + emitted_bytes (take m hs) ≤ LAST_BYTES) →
-    n < suc (taken_from (b + bytes_of h) hs) → b + emitted_bytes (take n (h ∷ hs)) ≤ LAST_BYTES
+    ((m : ℕ) → m < taken_from (b + event_bytes h) hs → b + event_bytes h + emitted_bytes (take m hs) ≤ LAST_BYTES) →
+    n < suc (taken_from (b + event_bytes h) hs) → b + emitted_bytes (take n (h ∷ hs)) ≤ LAST_BYTES
 low_by b h hs zero fits rest low = omega (arith, fits)
 low_by b h hs (suc m) fits rest low =
-    let behind = rest m (omega (arith, low)) in omega (arith, behind, sum_by-cons bytes_of h (take m hs))
+    let behind = rest m (omega (arith, low)) in omega (arith, behind, sum_by-cons event_bytes h (take m hs))
 
 taken_low : (b : ℕ) (hs : List Happened) (n : ℕ) → n < taken_from b hs → b + emitted_bytes (take n hs) ≤ LAST_BYTES
 taken_low b [] n low = absurd (omega (arith, low))
 taken_low b (h ∷ hs) n low =
-    let rest = taken_low (b + bytes_of h) hs in
+    let rest = taken_low (b + event_bytes h) hs in
     elim (cases_Bool (nat_lt LAST_BYTES b)) [
       | inl full ↦
-          let none : taken_from b (h ∷ hs) ≡ 0 = cond-true (nat_lt LAST_BYTES b) 0 (suc (taken_from (b + bytes_of h) hs)) full in
+          let none : taken_from b (h ∷ hs) ≡ 0 = cond-true (nat_lt LAST_BYTES b) 0 (suc (taken_from (b + event_bytes h) hs)) full in
           absurd (omega (arith, low, none))
       | inr room ↦
-          let more : taken_from b (h ∷ hs) ≡ suc (taken_from (b + bytes_of h) hs) =
-          cond-false (nat_lt LAST_BYTES b) 0 (suc (taken_from (b + bytes_of h) hs)) room in
+          let more : taken_from b (h ∷ hs) ≡ suc (taken_from (b + event_bytes h) hs) =
+          cond-false (nat_lt LAST_BYTES b) 0 (suc (taken_from (b + event_bytes h) hs)) room in
           low_by b h hs n (ltb-false LAST_BYTES b room) rest (omega (arith, low, more))
     ]
 
 taken_full : (b : ℕ) (hs : List Happened) → taken_from b hs < length hs → LAST_BYTES < b + emitted_bytes (take (taken_from b hs) hs)
 taken_full b [] low = absurd (omega (arith, low))
 taken_full b (h ∷ hs) low =
-    let t = taken_from (b + bytes_of h) hs in
-    let rest = taken_full (b + bytes_of h) hs in
+    let t = taken_from (b + event_bytes h) hs in
+    let rest = taken_full (b + event_bytes h) hs in
     let P : ℕ → Type 0 = λ m. LAST_BYTES < b + emitted_bytes (take m (h ∷ hs)) in
     elim (cases_Bool (nat_lt LAST_BYTES b)) [
       | inl full ↦
@@ -202,8 +202,8 @@ taken_full b (h ∷ hs) low =
           subst P (sym none) (omega (arith, over))
       | inr room ↦
           let more : taken_from b (h ∷ hs) ≡ suc t = cond-false (nat_lt LAST_BYTES b) 0 (suc t) room in
-          let over : LAST_BYTES < b + bytes_of h + emitted_bytes (take t hs) = rest (omega (arith, low, more)) in
-          subst P (sym more) (omega (arith, over, sum_by-cons bytes_of h (take t hs)))
+          let over : LAST_BYTES < b + event_bytes h + emitted_bytes (take t hs) = rest (omega (arith, low, more)) in
+          subst P (sym more) (omega (arith, over, sum_by-cons event_bytes h (take t hs)))
     ]
 
 front_bytes : (s : Schedule) (n : ℕ) → emitted_bytes (history_before n s) ≡ emitted_bytes (take n (history_of_schedule s))

@@ -16,7 +16,8 @@ use Rattle.vk_rules.proofs.Lists.{each_both}
 use Rattle.vk_schedule.specs.declared.schedule.TextRefusal.{TextRefusal}
 use Rattle.vk_schedule.specs.declared.schedule.TextRefusal.TheVariants as texts
 use Rattle.vk_schedule.specs.declared.log.StationLog.{StationLog}
-use Rattle.vk_top.proofs.Runs.{no_limit, no_want, some_process}
+use Rattle.vk_event.proofs.ScenarioRefusals.{no_limit, no_want}
+use Rattle.vk_top.proofs.Runs.{some_process}
 use Rattle.vk_top.proofs.Stations.{station_have, station_own}
 use Rattle.vk_top.specs.declared.program.TopProgram.{TopProgram}
 use Rattle.vk_top.specs.declared.status.Status.{Status}

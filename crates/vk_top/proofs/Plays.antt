@@ -2,8 +2,8 @@
 use Rattle.std.proofs.Common.{◌≡◌, ℕ, ◌+◌, ◌*◌, ◌<◌, ◌≤◌, Bool, true, false, nat_le, nat_lt, ◌||◌, List, [], ◌++◌, get_or, length, take, refl, sym, ap, subst, ◌∙◌, arith}
 use Rattle.std.proofs.lemmas.Bool.{leb-true, ltb-false, or_parts}
 use Rattle.std.proofs.lemmas.List.{append-nil, length-take-le}
-use Rattle.vk_base.specs.declared.limits.TheConstants.{EVENTS, STEPS}
-use Rattle.vk_cluster.specs.declared.emitted.TheConstants.{EVENT_FRAMES, LAST_BYTES}
+use Rattle.vk_base.specs.declared.limits.TheConstants.{EVENTS, STEPS, TICK_PACKETS}
+use Rattle.vk_cluster.specs.declared.emitted.TheConstants.{LAST_BYTES}
 use Rattle.vk_cluster.specs.Standing.{StandsFor, emitted_bytes, logs_of}
 use Rattle.vk_cluster.specs.Values.{ClusterValue, is_full}
 use Rattle.vk_schedule.specs.declared.event.Event.{Event}
@@ -58,7 +58,7 @@ module _ (form : Form) (s : Schedule) (n : ℕ) (k : ClusterValue) (counts : Cou
       events = omega (arith, so_many_counted, low, most);
       steps = let same : STEPS * n ≡ STEPS * counts.events = ap (λ m. STEPS * m) (sym so_many_counted) in omega (arith, same, played.steps);
       frames =
-          let same : EVENT_FRAMES * n ≡ EVENT_FRAMES * counts.events = ap (λ m. EVENT_FRAMES * m) (sym so_many_counted) in
+          let same : TICK_PACKETS * n ≡ TICK_PACKETS * counts.events = ap (λ m. TICK_PACKETS * m) (sym so_many_counted) in
           omega (arith, same, played.frames);
     }
 

@@ -2,7 +2,7 @@
 use Rattle.std.proofs.Common.{◌≡◌, ℕ, ◌+◌, ◌⊎◌, true, false, List, [], ◌∷◌, take, Option, refl, sym, subst, ◌∙◌, inl, inr, arith}
 use Rattle.std.specs.Io.KnownBytes.{Appends}
 use Rattle.std.proofs.lemmas.Bool.{cases_Bool, cond-true, cond-false}
-use Rattle.vk_drive.specs.Storms.{Fits, IsTooMuch, schedule_of, summary_of}
+use Rattle.vk_drive.specs.Storms.{IsStormTooMuch, StormFits, storm_schedule_of, summary_of}
 use Rattle.vk_drive.proofs.Fronts.{storm_count}
 use Rattle.vk_edge.specs.Answers.{IsWritten}
 use Rattle.vk_top.proofs.Fronts.{fits_all, full_before, refused_within}
@@ -13,8 +13,8 @@ use Rattle.vk_top.specs.Jobs.{IsStormAnswered}
 use Rattle.vk_top.specs.Report.{is_cut, taken_of}
 use Rattle.vk_top.specs.Storm.{storm_output, storm_status, summary_text}
 
-pub not_cut : (n : ℕ) → Fits n → is_cut (schedule_of n) ≡ false
-not_cut n fits = let s = schedule_of n in
+pub not_cut : (n : ℕ) → StormFits n → is_cut (storm_schedule_of n) ≡ false
+not_cut n fits = let s = storm_schedule_of n in
     elim (cases_Bool (is_cut s)) [
       | inl cut ↦
           let over = full_before s cut in
@@ -23,8 +23,8 @@ not_cut n fits = let s = schedule_of n in
       | inr whole ↦ whole
     ]
 
-pub cut_is : (n : ℕ) → IsTooMuch n → is_cut (schedule_of n) ≡ true
-cut_is n much = let s = schedule_of n in
+pub cut_is : (n : ℕ) → IsStormTooMuch n → is_cut (storm_schedule_of n) ≡ true
+cut_is n much = let s = storm_schedule_of n in
     elim (cases_Bool (is_cut s)) [
       | inl cut ↦ cut
       | inr whole ↦
@@ -32,17 +32,17 @@ cut_is n much = let s = schedule_of n in
           absurd (omega (arith, fit, much.2))
     ]
 
-done_status : (n : ℕ) → Fits n → status.Done ≡ storm_status n
+done_status : (n : ℕ) → StormFits n → status.Done ≡ storm_status n
 done_status n fits = sym (cond-false _ _ _ (not_cut n fits))
 
-limit_status : (n : ℕ) → IsTooMuch n → status.Limit ≡ storm_status n
+limit_status : (n : ℕ) → IsStormTooMuch n → status.Limit ≡ storm_status n
 limit_status n much = sym (cond-true _ _ _ (cut_is n much))
 
-told_output : (n : ℕ) → Fits n → summary_text (summary_of n) ≡ storm_output n
+told_output : (n : ℕ) → StormFits n → summary_text (summary_of n) ≡ storm_output n
 told_output n fits = sym (cond-false _ _ _ (not_cut n fits))
 
 -- all was written, or a write failed
-pub storm_written : (Unchanged : Type 0) (n : ℕ) (text : List ℕ) (old new : Option (List ℕ)) (s : Status) → Fits n →
+pub storm_written : (Unchanged : Type 0) (n : ℕ) (text : List ℕ) (old new : Option (List ℕ)) (s : Status) → StormFits n →
     text ≡ summary_text (summary_of n) → IsWritten status.Done status.WriteFault text old new s → (count : ℕ) × Appends old new (take count text) →
     IsStormAnswered Unchanged n old new s
 storm_written Unchanged n text old new s fits is (inl (done, written)) front = subst (IsStormAnswered Unchanged n old new) (sym done) (record {
@@ -63,7 +63,7 @@ storm_written Unchanged n text old new s fits is (inr failed) front = subst (IsS
 })
 
 -- nothing was written
-pub storm_limit : (Unchanged : Type 0) (n : ℕ) (old : Option (List ℕ)) → Unchanged → IsTooMuch n →
+pub storm_limit : (Unchanged : Type 0) (n : ℕ) (old : Option (List ℕ)) → Unchanged → IsStormTooMuch n →
     IsStormAnswered Unchanged n old old status.Limit
 storm_limit Unchanged n old same much = record {
   done = λ is. absurd (grind (arith, is));

@@ -4,7 +4,7 @@ use Rattle.std.specs.Prelude.{ℕ, ◌≡◌, ◌⊎◌, List, [], take, Option,
 use Rattle.clap.specs.Walk.{Text}
 use Rattle.std.specs.Io.KnownBytes.{Appends}
 use Rattle.vk_edge.specs.Inputs.{IsReadOver, IsReadWhole, IsReadWithin, IsWanting, OfInput}
-use Rattle.vk_drive.specs.Storms.{Fits, IsTooMuch, summary_of}
+use Rattle.vk_drive.specs.Storms.{IsStormTooMuch, StormFits, summary_of}
 use Rattle.vk_top.specs.declared.status.Status.{Status}
 use Rattle.vk_top.specs.declared.status.Status.TheVariants as status
 use Rattle.vk_top.specs.declared.words.Asked.{Asked}
@@ -20,7 +20,7 @@ Asks words told Holds = IsSomeAnd (job_of words) (λ j. OfInput told (Holds j))
 
 -- before none of the storm's events its frames hold too many bytes, and its summary is written
 pub record IsStormTold (n : ℕ) (old new : Option (List ℕ)) : Type 0 where
-  pub fits : Fits n
+  pub fits : StormFits n
   pub output : Appends old new (summary_text (summary_of n))
 
 abbrev pub IsJobDone : Job → List ℕ → Option (List ℕ) → Option (List ℕ) → Type 0
@@ -51,7 +51,7 @@ abbrev pub IsJobOverLimit : Job → List ℕ → Type 0
 IsJobOverLimit (jobs.OfText a) input = IsOverLimit a input
 IsJobOverLimit jobs.Run input = ⊥
 IsJobOverLimit (jobs.Node host) input = ⊥
-IsJobOverLimit (jobs.Storm n) input = IsTooMuch n
+IsJobOverLimit (jobs.Storm n) input = IsStormTooMuch n
 
 abbrev pub IsJobCutShort : Job → List ℕ → Option (List ℕ) → Option (List ℕ) → Type 0
 IsJobCutShort (jobs.OfText a) input old new = IsCutShort a input old new
@@ -64,7 +64,7 @@ abbrev pub IsJobToWrite : Job → List ℕ → Type 0
 IsJobToWrite (jobs.OfText a) input = IsToWrite a input
 IsJobToWrite jobs.Run input = ⊥
 IsJobToWrite (jobs.Node host) input = ⊥
-IsJobToWrite (jobs.Storm n) input = Fits n
+IsJobToWrite (jobs.Storm n) input = StormFits n
 
 -- so many bytes of what is to be written stand behind what stood written
 abbrev pub IsJobPart : Job → List ℕ → Option (List ℕ) → Option (List ℕ) → Type 0
@@ -92,8 +92,8 @@ IsJobDecided (jobs.Storm n) told s = IsStormDecided n s
 -- what the answer to a storm says
 pub record IsStormAnswered (Unchanged : Type 0) (n : ℕ) (old new : Option (List ℕ)) (s : Status) : Type 0 where
   pub done : s ≡ status.Done → IsStormTold n old new
-  pub limit : s ≡ status.Limit → IsTooMuch n × Unchanged
-  pub writing : s ≡ status.WriteFault → Fits n
+  pub limit : s ≡ status.Limit → IsStormTooMuch n × Unchanged
+  pub writing : s ≡ status.WriteFault → StormFits n
   pub complete : IsStormDecided n s
   pub kinds : (s ≡ status.Done) ⊎ (s ≡ status.Limit) ⊎ (s ≡ status.WriteFault) ⊎ (s ≡ status.NoMemory)
   pub front : (count : ℕ) × Appends old new (take count (storm_output n))

@@ -1,8 +1,8 @@
 -- Of the code alone, no law rests on it: playing a schedule on its stations, one event after another.
 use Rattle.std.specs.Prelude.{◌≡◌, ℕ, ◌+◌, ◌*◌, ◌≤◌, ◌<◌, List, [], ◌∷◌, ◌++◌, drop, length, map, take, Some, Ok}
-use Rattle.vk_base.specs.declared.limits.TheConstants.{EVENTS, STEPS}
+use Rattle.vk_base.specs.declared.limits.TheConstants.{EVENTS, STEPS, TICK_PACKETS}
 use Rattle.vk_base.specs.Settings.{Settings}
-use Rattle.vk_cluster.specs.declared.emitted.TheConstants.{EVENT_FRAMES, LAST_BYTES}
+use Rattle.vk_cluster.specs.declared.emitted.TheConstants.{LAST_BYTES}
 use Rattle.vk_cluster.specs.Standing.{StandsFor, emitted_bytes, logs_of}
 use Rattle.vk_cluster.specs.Values.{ClusterValue}
 use Rattle.vk_schedule.specs.declared.event.Event.{Event}
@@ -27,7 +27,7 @@ told_entry place e = record { place = place; answer = Some e.answer; steps = e.s
 pub record AreFew (c : Counts) : Type 0 where
   pub events : c.events < EVENTS
   pub steps : c.steps ≤ STEPS * c.events
-  pub frames : c.frames ≤ EVENT_FRAMES * c.events
+  pub frames : c.frames ≤ TICK_PACKETS * c.events
 
 -- the counts with what happened at one event more
 abbrev pub counts_after : Counts → Happened → Counts
@@ -38,7 +38,7 @@ pub record IsReported (form : Form) (before after : Counts) (front text : List �
   pub lines : text ≡ front ++ told_lines form (told_of (before.events + 1) h)
   pub counts : after ≡ counts_after before h
   pub steps : length (steps_in h) ≤ STEPS
-  pub frames : frame_count h ≤ EVENT_FRAMES
+  pub frames : frame_count h ≤ TICK_PACKETS
 
 -- the cluster had this event behind these
 pub record IsHad (form : Form) (c : Settings) (es : List Event) (e : Event) (before after : Counts) (front text : List ℕ)
@@ -52,7 +52,7 @@ pub record HasPlayed (form : Form) (s : Schedule) (n : ℕ) (now : ClusterValue)
   pub lines : text ≡ front_text form n s
   pub counted : counts ≡ counts_of (history_before n s)
   pub steps : counts.steps ≤ STEPS * n
-  pub frames : counts.frames ≤ EVENT_FRAMES * n
+  pub frames : counts.frames ≤ TICK_PACKETS * n
   pub taken : taken_of s ≡ n
       + taken_from (emitted_bytes (history_before n s)) (history s.config (logs_of s.config (take n s.events)) (drop n s.events))
 

@@ -1,7 +1,7 @@
 -- What is written of a schedule: the report or the trace of its history.
 use Rattle.std.specs.Prelude.{ℕ, suc, ◌+◌, nat_lt, Bool, List, [], ◌∷◌, ◌++◌, flat_map, length, map, sum_by, take, Some, None, if◌then◌else◌}
 use Rattle.vk_cluster.specs.declared.emitted.TheConstants.{LAST_BYTES}
-use Rattle.vk_cluster.specs.Standing.{bytes_of}
+use Rattle.vk_cluster.specs.Standing.{event_bytes}
 use Rattle.vk_schedule.specs.declared.schedule.Schedule.{Schedule}
 use Rattle.vk_host.specs.Sealed.{sealed}
 use Rattle.vk_report.specs.declared.entry.Counts.{Counts}
@@ -51,7 +51,7 @@ output_text form s =
 -- refused, behind others whose frames hold so many bytes.
 abbrev pub taken_from : ℕ → List Happened → ℕ
 taken_from bytes [] = 0
-taken_from bytes (h ∷ hs) = if nat_lt LAST_BYTES bytes then 0 else suc (taken_from (bytes + bytes_of h) hs)
+taken_from bytes (h ∷ hs) = if nat_lt LAST_BYTES bytes then 0 else suc (taken_from (bytes + event_bytes h) hs)
 
 abbrev pub taken_of : Schedule → ℕ
 taken_of s = taken_from 0 (history_of_schedule s)

@@ -1,6 +1,6 @@
 -- What is written of a storm.
 use Rattle.std.specs.Prelude.{ℕ, List, [], ◌++◌, codes, decimal, if◌then◌else◌}
-use Rattle.vk_drive.specs.Storms.{schedule_of, summary_of}
+use Rattle.vk_drive.specs.Storms.{storm_schedule_of, summary_of}
 use Rattle.vk_drive.specs.declared.summary.StormSummary.{StormSummary}
 use Rattle.vk_top.specs.declared.status.Status.{Status}
 use Rattle.vk_top.specs.declared.status.Status.TheVariants as status
@@ -22,7 +22,7 @@ summary_text s =
 
 -- the answer to a storm, an event of which may be refused, and what is written
 abbrev pub storm_status : ℕ → Status
-storm_status n = if is_cut (schedule_of n) then status.Limit else status.Done
+storm_status n = if is_cut (storm_schedule_of n) then status.Limit else status.Done
 
 abbrev pub storm_output : ℕ → List ℕ
-storm_output n = if is_cut (schedule_of n) then [] else summary_text (summary_of n)
+storm_output n = if is_cut (storm_schedule_of n) then [] else summary_text (summary_of n)

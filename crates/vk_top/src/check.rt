@@ -12,7 +12,6 @@ use std::alloc::Global;
 use v_machine::{ApplyRefusal, LeanMachine};
 use v_trace::{StepBuffer, StepReader, TraceRefusal};
 use vk_base::{NoMemory, Observation, Pid};
-use vk_brief::StepView;
 use vk_text::{put, put_number};
 
 /// Any pid.
@@ -39,8 +38,7 @@ fn apply(
 ) -> Result<Option<Observation>, ApplyRefusal>
     ensures { Follows step.now machine.old machine.new result }
 {
-    let (brief, bytes) = step.parts();
-    machine.advance(alloc, &StepView::new(&brief, bytes))
+    machine.advance(alloc, &step.view())
 }
 
 /// Applies the steps that are left in the reader, in turn, up to the first that decides.

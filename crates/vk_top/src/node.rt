@@ -26,6 +26,21 @@ use vk_event::{Scenario, has_all_ports, line_behind, read_scenario, write_node};
 use vk_io::{Crew, Pacer, Sink, Source};
 use vk_udp::{NodeRecord, NodeRefusal, Wire, run_node};
 
+/// The text of a scenario, and the station that is asked for.
+#[derive(Drop)]
+struct NodeText<'a> {
+    alloc: Global,
+    host: u16,
+    text: &'a [u8],
+}
+
+/// A scenario, and the station that is asked for.
+#[derive(Drop)]
+struct NodeScenario {
+    host: u16,
+    scenario: Scenario,
+}
+
 /// The scenario that the text spells. It has the station, and a port for each; else the line behind its last is bad.
 fn read_for(alloc: Global, host: u16, text: &[u8]) -> Result<Scenario, Status>
     ensures scenario { IfOk result (λ s. node_scenario host text.now ≡ Ok s) }
@@ -68,18 +83,17 @@ fn written(
 fn run_station<C: Crew, P: Pacer + Send, W: Wire, R: Wait + Threads + Clock + Net + Sync>(
     rt: &R,
     alloc: Global,
-    host: u16,
-    scenario: &Scenario,
+    asked: &NodeScenario,
     crew: &mut C,
     pacer: &mut P,
     wire: &mut W,
 ) -> Result<NodeRecord, NodeRefusal>
-    requires lawful { IsLawfulScenario scenario.now }
-    requires ports { has_all_ports scenario.now.config.specs scenario.now.ports host ≡ true }
-    ensures ran { IfOk result (λ r. IsNodeRecord scenario.now.config host scenario.now.rounds (assignments_at host scenario.now.tasks)
-        (W.handed wire.old) (W.handed wire.new) r.limited r.log) }
-    ensures jobs { TellsNodeJobs (C.job_count crew.old) (min (C.job_count crew.old + jobs_at host scenario.now) (2 ^ 64 - 1))
-        (C.job_count crew.new) result }
+    requires lawful { IsLawfulScenario asked.now.scenario }
+    requires ports { has_all_ports asked.now.scenario.config.specs asked.now.scenario.ports asked.now.host ≡ true }
+    ensures ran { IfOk result (λ r. IsNodeRecord asked.now.scenario.config asked.now.host asked.now.scenario.rounds
+        (assignments_at asked.now.host asked.now.scenario.tasks) (W.handed wire.old) (W.handed wire.new) r.limited r.log) }
+    ensures jobs { TellsNodeJobs (C.job_count crew.old)
+        (min (C.job_count crew.old + jobs_at asked.now.host asked.now.scenario) (2 ^ 64 - 1)) (C.job_count crew.new) result }
     ensures fault { TellsNodeFault (W.fault_count wire.old) (W.fault_count wire.new) (C.fault_count crew.old) (C.fault_count crew.new)
         result }
     ensures crew_faults_never_fall { C.fault_count crew.old ≤ C.fault_count crew.new }
@@ -87,6 +101,8 @@ fn run_station<C: Crew, P: Pacer + Send, W: Wire, R: Wait + Threads + Clock + Ne
 {
     let _crew_faults = crew.faults();
     let _link_faults = wire.faults();
+    let scenario = &asked.scenario;
+    let host = asked.host;
     let Ok(config) = scenario.config.copy(alloc) else {
         return Err(NodeRefusal::NoMemory);
     };
@@ -111,47 +127,47 @@ fn run_station<C: Crew, P: Pacer + Send, W: Wire, R: Wait + Threads + Clock + Ne
 /// `node H`: what happened at the station where it ran.
 fn node_work<C: Crew, P: Pacer + Send, W: Wire, R: Wait + Threads + Clock + Net + Sync>(
     rt: &R,
-    alloc: Global,
-    host: u16,
-    text: &[u8],
+    asked: &NodeText,
     crew: &mut C,
     pacer: &mut P,
     wire: &mut W,
 ) -> Result<Work, Status>
-    requires { length text.now ≤ INPUT_BYTES }
-    ensures work { IfOk result (IsThreadedWork (TellsNode host (record { handed = W.handed wire.old; jobs = C.job_count crew.old })
-        (record { handed = W.handed wire.new; jobs = C.job_count crew.new })) (node_asked host) text.now) }
-    ensures refused { IfErr result (IsThreadedRefusal (node_asked host)
-        (IsNodeFailure host (C.job_count crew.old) (C.job_count crew.new)) ((crew.new ≡ crew.old) × (wire.new ≡ wire.old)) text.now) }
+    requires { length asked.now.text.now ≤ INPUT_BYTES }
+    ensures work { IfOk result (IsThreadedWork (TellsNode asked.now.host
+        (record { handed = W.handed wire.old; jobs = C.job_count crew.old })
+        (record { handed = W.handed wire.new; jobs = C.job_count crew.new })) (node_asked asked.now.host) asked.now.text.now) }
+    ensures refused { IfErr result (IsThreadedRefusal (node_asked asked.now.host)
+        (IsNodeFailure asked.now.host (C.job_count crew.old) (C.job_count crew.new))
+        ((crew.new ≡ crew.old) × (wire.new ≡ wire.old)) asked.now.text.now) }
     ensures kept { OnOk result ((C.fault_count crew.new ≡ C.fault_count crew.old) × (W.fault_count wire.new ≡ W.fault_count wire.old)) }
     ensures crew_faults { IfErr result (λ s. TellsFaults Status.CrewFault s (C.fault_count crew.old) (C.fault_count crew.new)) }
     ensures link_faults { IfErr result (λ s. TellsFaults Status.LinkFault s (W.fault_count wire.old) (W.fault_count wire.new)) }
     ensures crew_faults_never_fall { C.fault_count crew.old ≤ C.fault_count crew.new }
     ensures link_faults_never_fall { W.fault_count wire.old ≤ W.fault_count wire.new }
 {
-    let scenario = read_for(alloc, host, text)?;
-    let ran = run_station(rt, alloc, host, &scenario, crew, pacer, wire)?;
+    let (alloc, host) = (asked.alloc, asked.host);
+    let scenario = read_for(alloc, host, asked.text)?;
+    let asked = NodeScenario { host, scenario };
+    let ran = run_station(rt, alloc, &asked, crew, pacer, wire)?;
     let events = ran.log.events.as_slice();
-    written(alloc, &scenario.config, host, events, ran.limited)
+    written(alloc, &asked.scenario.config, host, events, ran.limited)
 }
 
 /// The whole work on the text of a scenario that was read.
 fn answer_node<K: Sink, C: Crew, P: Pacer + Send, W: Wire, R: Wait + Threads + Clock + Net + Sync>(
     rt: &R,
-    alloc: Global,
-    host: u16,
-    text: &[u8],
+    asked: &NodeText,
     output: &mut K,
     crew: &mut C,
     pacer: &mut P,
     wire: &mut W,
 ) -> Status
-    requires { length text.now ≤ INPUT_BYTES }
-    ensures answered { IsThreadedAnswered (TellsNode host (record { handed = W.handed wire.old; jobs = C.job_count crew.old })
-        (record { handed = W.handed wire.new; jobs = C.job_count crew.new })) (node_asked host)
-        (IsNodeFailure host (C.job_count crew.old) (C.job_count crew.new))
+    requires { length asked.now.text.now ≤ INPUT_BYTES }
+    ensures answered { IsThreadedAnswered (TellsNode asked.now.host (record { handed = W.handed wire.old; jobs = C.job_count crew.old })
+        (record { handed = W.handed wire.new; jobs = C.job_count crew.new })) (node_asked asked.now.host)
+        (IsNodeFailure asked.now.host (C.job_count crew.old) (C.job_count crew.new))
         (output.new ≡ output.old) ((crew.new ≡ crew.old) × (wire.new ≡ wire.old))
-        text.now (K.written output.old) (K.written output.new) result }
+        asked.now.text.now (K.written output.old) (K.written output.new) result }
     ensures flushed { result ≡ Status.Done → K.flushed output.new }
     ensures write_count { CountsFaults Status.WriteFault result (K.fault_count output.old) (K.fault_count output.new) }
     ensures crew_faults { TellsFaults Status.CrewFault result (C.fault_count crew.old) (C.fault_count crew.new) }
@@ -160,7 +176,7 @@ fn answer_node<K: Sink, C: Crew, P: Pacer + Send, W: Wire, R: Wait + Threads + C
     ensures crew_faults_never_fall { C.fault_count crew.old ≤ C.fault_count crew.new }
     ensures link_faults_never_fall { W.fault_count wire.old ≤ W.fault_count wire.new }
 {
-    match node_work(rt, alloc, host, text, crew, pacer, wire) {
+    match node_work(rt, asked, crew, pacer, wire) {
         Ok(work) => write_work(output, &work),
         Err(status) => status,
     }
@@ -199,7 +215,11 @@ pub(crate) fn node<
     ensures link_faults_never_fall { W.fault_count wire.old ≤ W.fault_count wire.new }
 {
     match read_text(alloc, input) {
-        Ok(text) => answer_node(rt, alloc, host, &text, output, crew, pacer, wire),
+        Ok(text) => {
+            let text = text.as_slice();
+            let asked = NodeText { alloc, host, text };
+            answer_node(rt, &asked, output, crew, pacer, wire)
+        }
         Err(refusal) => Status::from(refusal),
     }
 }

@@ -14,7 +14,7 @@ ghost use Rattle.vk_report.specs.Report.{opening_lines};
 ghost use Rattle.vk_rules.specs.Entries.{Entry};
 ghost use Rattle.vk_rules.specs.Frames.{Frame as TheFrame};
 ghost use Rattle.vk_rules.specs.Histories.{happened};
-ghost use Rattle.vk_cluster.specs.Shown.{HasAdvanced, IsLast, Sends};
+ghost use Rattle.vk_cluster.specs.Shown.{HasAdvanced, IsLastEvent, Sends};
 ghost use Rattle.vk_top.specs.Playing.{AreFew, HasHadRoom, IsHad, IsReported, IsWrittenOf, without_events, told_entry};
 ghost use Rattle.vk_top.specs.Report.{emitted_of, is_cut, written_text};
 ghost use Rattle.vk_top.specs.Work.{KeepsLines};
@@ -88,8 +88,8 @@ fn put_told(
     place: EventPlace,
     response: Response,
 ) -> Result<(), NoMemory>
-    requires { (e : Entry) × IsLast station.now (answer_of station.now response) e }
-    ensures { OnOk result ((e : Entry) → IsLast station.now (answer_of station.now response) e →
+    requires { (e : Entry) × IsLastEvent station.now (answer_of station.now response) e }
+    ensures { OnOk result ((e : Entry) → IsLastEvent station.now (answer_of station.now response) e →
         text.new.items ≡ text.old.items ++ told_lines form (told_entry place e)) }
 {
     let answer = answer_view(station, response);

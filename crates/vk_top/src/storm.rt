@@ -2,7 +2,7 @@
 
 ghost use Rattle.std.specs.Prelude.{◌≡◌, ◌≤◌, ◌++◌, Err, IfOk, OnOk};
 ghost use Rattle.vk_base.specs.declared.limits.TheConstants.{EVENTS};
-ghost use Rattle.vk_drive.specs.Storms.{Fits, IsTooMuch, summary_of};
+ghost use Rattle.vk_drive.specs.Storms.{IsStormTooMuch, StormFits, summary_of};
 ghost use Rattle.vk_top.specs.Storm.{number_line, summary_text};
 
 use crate::check::put_line;
@@ -40,8 +40,8 @@ fn put_summary(alloc: Global, text: &mut Vec<u8>, summary: &StormSummary) -> Res
 pub(crate) fn summary_of(alloc: Global, n: u32) -> Result<Vec<u8>, StormRefusal>
     requires { n ≤ EVENTS }
     ensures summary { IfOk result (λ text. text.items ≡ summary_text (summary_of n)) }
-    ensures fits { OnOk result (Fits n) }
-    ensures limit { result ≡ Err StormRefusal.Limit → IsTooMuch n }
+    ensures fits { OnOk result (StormFits n) }
+    ensures limit { result ≡ Err StormRefusal.Limit → IsStormTooMuch n }
 {
     let summary = storm(alloc, n)?;
     let mut text = Vec::new(alloc);

@@ -1,6 +1,6 @@
 //! The whole top call: what runs in threads, and behind it all that needs no runtime.
 
-ghost use Rattle.std.specs.Prelude.{◌≡◌, ◌≤◌, ℕ, false, true, Some, map, string_bytes};
+ghost use Rattle.std.specs.Prelude.{◌≡◌, ◌≤◌, ℕ, false, Some, map, string_bytes};
 ghost use Rattle.vk_edge.specs.Answers.{TellsFaults};
 ghost use Rattle.vk_top.specs.Jobs.{IsAloneAnswer};
 ghost use Rattle.vk_top.specs.Nodes.{IsNodeAnswer, Passed};
@@ -20,52 +20,6 @@ use std::time::Clock;
 use vk_base::NoMemory;
 use vk_io::{Crew, Pacer, Sink, Source};
 use vk_udp::Wire;
-
-/// The whole work of words that are those of `run` or of `node H`.
-fn in_threads<
-    S: Source,
-    K: Sink,
-    C: Crew,
-    P: Pacer + Send,
-    W: Wire,
-    R: Wait + Threads + Clock + Net + Sync,
->(
-    rt: &R,
-    alloc: Global,
-    words: &[String],
-    input: &mut S,
-    output: &mut K,
-    crew: &mut C,
-    pacer: &mut P,
-    wire: &mut W,
-) -> Status
-    requires { is_threaded (job_of (map string_bytes words.now)) ≡ true }
-    ensures run { job_of (map string_bytes words.now) ≡ Some Job.Run →
-        IsRunAnswer (input.new ≡ input.old) (output.new ≡ output.old) (crew.new ≡ crew.old) (S.left input.old) (S.left input.new)
-        (C.job_count crew.old) (C.job_count crew.new) (K.written output.old) (K.written output.new) result }
-    ensures unlinked { job_of (map string_bytes words.now) ≡ Some Job.Run → wire.new ≡ wire.old }
-    ensures node { (host : ℕ) → job_of (map string_bytes words.now) ≡ Some (Job.Node host) →
-        IsNodeAnswer host (input.new ≡ input.old) (output.new ≡ output.old) ((crew.new ≡ crew.old) × (wire.new ≡ wire.old))
-        (S.left input.old) (S.left input.new)
-        (record { handed = W.handed wire.old; jobs = C.job_count crew.old })
-        (record { handed = W.handed wire.new; jobs = C.job_count crew.new }) (K.written output.old) (K.written output.new) result }
-    ensures flushed { result ≡ Status.Done → K.flushed output.new }
-    ensures read_faults { TellsFaults Status.ReadFault result (S.fault_count input.old) (S.fault_count input.new) }
-    ensures write_faults { TellsFaults Status.WriteFault result (K.fault_count output.old) (K.fault_count output.new) }
-    ensures crew_faults { TellsFaults Status.CrewFault result (C.fault_count crew.old) (C.fault_count crew.new) }
-    ensures link_faults { TellsFaults Status.LinkFault result (W.fault_count wire.old) (W.fault_count wire.new) }
-    ensures read_faults_never_fall { S.fault_count input.old ≤ S.fault_count input.new }
-    ensures write_faults_never_fall { K.fault_count output.old ≤ K.fault_count output.new }
-    ensures crew_faults_never_fall { C.fault_count crew.old ≤ C.fault_count crew.new }
-    ensures link_faults_never_fall { W.fault_count wire.old ≤ W.fault_count wire.new }
-{
-    match read_words(alloc, words) {
-        Ok(Some(Job::Run)) => run(rt, alloc, input, output, crew, pacer),
-        Ok(Some(Job::Node { host })) => node(rt, alloc, host, input, output, crew, pacer, wire),
-        Ok(_) => unreachable!(),
-        Err(NoMemory) => Status::NoMemory,
-    }
-}
 
 /// The whole work that the words ask for. For all words but those of `run` and `node H` it is that of [`vkernel_alone`], and crew, pacer and
 /// wire are not asked. `run` reads a scenario, runs its stations beside each other, each process and each station's pump in a job of its own
@@ -128,6 +82,11 @@ pub fn vkernel<
 {
     match vkernel_alone(alloc, words, input, output) {
         Some(status) => status,
-        None => in_threads(rt, alloc, words, input, output, crew, pacer, wire),
+        None => match read_words(alloc, words) {
+            Ok(Some(Job::Run)) => run(rt, alloc, input, output, crew, pacer),
+            Ok(Some(Job::Node { host })) => node(rt, alloc, host, input, output, crew, pacer, wire),
+            Ok(_) => unreachable!(),
+            Err(NoMemory) => Status::NoMemory,
+        },
     }
 }

@@ -1,6 +1,7 @@
 -- What a link handed out, and what the port delivered of it.
 use Rattle.std.proofs.Common.{◌≡◌, ◌==◌, ◌&&◌, ◌||◌, not, ℕ, inl, inr, Bool, true, false, Option, Some, None, List, [], ◌∷◌, ◌++◌, filter, length, refl, sym, ap, ◌∙◌, subst, append_assoc, append-nil}
 use Rattle.std.specs.Prelude.{Err, Ok, Result, cond, option_map}
+use Rattle.vk_base.specs.declared.limits.TheConstants.{LAST_NUMBER}
 use Rattle.std.proofs.lemmas.List.Elements.{filter-append}
 use mathlib.Core.List.{IsPrefix}
 use Rattle.vk_types.specs.Types.{EventAnswer, StationEvent}
@@ -15,7 +16,6 @@ use Rattle.vk_hub.specs.Links.{Frame}
 use Rattle.vk_port.specs.Ports.{Action, AtHub, AtStation, Delivers, Drops, Enters, HasMade, Hears, IsCutEvent, IsMet, IsRefused, Met, PortValue}
 use Rattle.vk_packet.specs.Reading.{packet_of}
 use Rattle.vk_rules.specs.Frames.{every_station, number_in, unsealed_by}
-use Rattle.vk_port.specs.declared.station.TheConstants.{LAST_NUMBER}
 use Rattle.vk_port.specs.Stations.{StationHistory, brings_last_number, frames_at, is_used_up}
 use Rattle.vk_port.proofs.Logs.{does_more, does_nothing}
 use Rattle.vk_port.proofs.Opening.{number_behind}

@@ -12,6 +12,7 @@ use std::marker::Model;
 use std::sync::Wait;
 use std::time::Clock;
 use turn_cell::{Room, TurnSeat};
+use vk_base::limits::LAST_NUMBER;
 use vk_base::{FrameBytes, NoMemory};
 use vk_event::StationPort;
 use vk_frame::unseal;
@@ -26,19 +27,22 @@ const LONGEST_SLEEP: u32 = 1_000;
 /// The destination of a frame that is for all stations.
 const TO_ALL: u16 = u16::MAX;
 
-/// The greatest Lamport number, 2^63 - 1.
-const LAST_NUMBER: u64 = (1 << 63) - 1;
+/// Between what frames are carried: the hub of this station, and the ports of all stations.
+#[derive(Drop)]
+pub struct Route<'a> {
+    pub alloc: Global,
+    pub hub: &'a Hub,
+    pub host: u16,
+    pub ports: &'a [StationPort],
+}
 
 /// Sends what is posted for the other stations to their ports, and delivers at its own what comes at the link, until the hub has ended.
 /// There is room for the seats of its port.
 #[derive(Drop)]
 pub struct Carrier<'a, L: Link> {
-    alloc: Global,
-    hub: &'a Hub,
-    host: u16,
+    route: Route<'a>,
     port: Port<'a>,
     hub_seat: TurnSeat<HubState>,
-    ports: &'a [StationPort],
     link: L,
     seats: Vec<Seats>,
 }
@@ -50,36 +54,30 @@ impl<'a, L: Link> Model for Carrier<'a, L> {
 
     ghost Value = { CarrierDuty L };
 
-    ghost view = { λ w. record { port = w.port; carrier = w.hub_seat; ports = w.ports.now; link = w.link } };
+    ghost view = { λ w. record { port = w.port; carrier = w.hub_seat; ports = w.route.ports.now; link = w.link } };
 
-    ghost invariant = { λ w. (w.port.hub ≡ w.hub.now) × (w.host ≡ w.port.host) × IsSeatOf w.hub.now w.hub_seat × (w.seats.items ≡ [])
-        × (1 ≤ vec_capacity w.seats) };
+    ghost invariant = { λ w. (w.port.hub ≡ w.route.hub.now) × (w.route.host ≡ w.port.host) × IsSeatOf w.route.hub.now w.hub_seat
+        × (w.seats.items ≡ []) × (1 ≤ vec_capacity w.seats) };
 }
 
 impl<'a, L: Link> Carrier<'a, L> {
-    /// The job of these ports, with this seat at the hub and this link.
+    /// The job that carries frames so, by this port, with this seat at the hub and this link.
     pub fn new(
-        alloc: Global,
-        hub: &'a Hub,
-        host: u16,
+        route: Route<'a>,
         port: Port<'a>,
         hub_seat: TurnSeat<HubState>,
-        ports: &'a [StationPort],
         link: L,
     ) -> Result<Carrier<'a, L>, NoMemory>
-        requires hub { port.hub ≡ hub.now }
-        requires host { host ≡ port.host }
-        requires seat { IsSeatOf hub.now hub_seat }
-        ensures { IfOk result (λ w. w ≡ record { port = port.entry; carrier = hub_seat; ports = ports.now; link = link }) }
+        requires hub { port.hub ≡ route.hub.now }
+        requires host { route.host ≡ port.host }
+        requires seat { IsSeatOf route.hub.now hub_seat }
+        ensures { IfOk result (λ w. w ≡ record { port = port.entry; carrier = hub_seat; ports = route.entry.ports.now; link = link }) }
     {
-        let seats = Vec::with_capacity(alloc, 1)?;
+        let seats = Vec::with_capacity(route.alloc, 1)?;
         Ok(Carrier {
-            alloc,
-            hub,
-            host,
+            route,
             port,
             hub_seat,
-            ports,
             link,
             seats,
         })
@@ -91,29 +89,17 @@ pub fn carrier_end<L: Link, R: Wait + Clock>(rt: &R, work: Carrier<L>) -> Carrie
     ensures { EndsCarrier L.handed L.sent L.fault_count work.entry result }
 {
     let Carrier {
-        alloc,
-        hub,
-        host,
+        route,
         mut port,
         mut hub_seat,
-        ports,
         mut link,
         mut seats,
     } = work;
-    let stop = carry_on(
-        rt,
-        alloc,
-        hub,
-        host,
-        &mut port,
-        &mut hub_seat,
-        ports,
-        &mut link,
-    );
-    let met = halt_by(rt, hub, &mut hub_seat, stop);
+    let stop = carry_on(rt, &route, &mut port, &mut hub_seat, &mut link);
+    let met = halt_by(rt, route.hub, &mut hub_seat, stop);
     let (seat, port_seat) = port.end();
     seats.push_reserved(Seats {
-        host,
+        host: route.host,
         seat,
         hub_seat: port_seat,
     });
@@ -171,31 +157,29 @@ fn no_bytes() -> FrameBytes
 /// Carries frames until the hub has ended, or the link fails, or a `Room` is met.
 fn carry_on<L: Link, R: Wait + Clock>(
     rt: &R,
-    alloc: Global,
-    hub: &Hub,
-    host: u16,
+    route: &Route,
     port: &mut Port,
     hub_seat: &mut TurnSeat<HubState>,
-    ports: &[StationPort],
     link: &mut L,
 ) -> Stop
-    requires seat { IsSeatOf hub.now hub_seat.old }
-    ensures brought { HasBrought L.handed host port.old port.new link.old link.new (met_by result) }
-    ensures fetched { HasGoneAround L.sent hub.now.origin ports.now hub_seat.old hub_seat.new link.old link.new (stops_of result) }
+    requires seat { IsSeatOf route.now.hub.now hub_seat.old }
+    ensures brought { HasBrought L.handed route.now.host port.old port.new link.old link.new (met_by result) }
+    ensures fetched { HasGoneAround L.sent route.now.hub.now.origin route.now.ports.now hub_seat.old hub_seat.new link.old link.new
+        (stops_of result) }
     ensures full { met_by result ≡ Some Room.Full → IsPortFull port.old port.new ⊎ IsHubFull hub_seat.new }
     ensures faults { TellsStop (L.fault_count link.old) (L.fault_count link.new) result }
 {
     let mut patience = Patience::new(LONGEST_SLEEP);
     let mut datagram = no_bytes();
     for _ in rt.forever() {
-        let sent = match send_each(rt, alloc, hub, hub_seat, ports, link) {
+        let sent = match send_each(rt, route.alloc, route.hub, hub_seat, route.ports, link) {
             Ok(sent) => sent,
             Err(why) => return Stop::Met { why },
         };
         if sent.ended {
             return Stop::Ended;
         }
-        match hear(rt, alloc, host, port, link, &mut datagram) {
+        match hear(rt, route.alloc, route.host, port, link, &mut datagram) {
             Ok(Heard::Nothing) => rest(rt, &mut patience, sent.moved),
             Ok(Heard::Datagram) => patience.renew(),
             Ok(Heard::Failed) => return Stop::Failed,

@@ -6,7 +6,7 @@ ghost use Rattle.vk_rules.specs.Each.{Each};
 ghost use Rattle.vk_udp.specs.Dealt.{AreNodeDealt, AreProcesses, IsNodePort, IsStocked};
 ghost use Rattle.vk_program.specs.declared.assigned.Assigned.{Assigned};
 
-use crate::carrier::Carrier;
+use crate::carrier::{Carrier, Route};
 use crate::clock::NodeClock;
 use crate::link::Link;
 use crate::work::NodeWork;
@@ -30,6 +30,17 @@ pub struct NodeStock<'a> {
     pub hub: &'a Hub,
     pub seats: Vec<TurnSeat<Station>>,
     pub hub_seats: Vec<TurnSeat<HubState>>,
+}
+
+/// What the jobs of a node are given: the programs, the rounds of ticks at most, and for what carries frames the ports of all stations, a
+/// seat at the hub and the link.
+#[derive(Drop)]
+pub struct NodeRoster<'a, G: Program, L: Link> {
+    pub programs: Vec<Assigned<G>>,
+    pub rounds: u32,
+    pub ports: &'a [StationPort],
+    pub fetches: TurnSeat<HubState>,
+    pub link: L,
 }
 
 /// Takes a seat of the station out of these.
@@ -99,20 +110,24 @@ fn add_programs<'a, 'p, G: Program, P: Pacer, L: Link>(
 /// The jobs of a node: one for each program, the clock, and what carries frames.
 pub fn jobs_of<'a, 'p, G: Program, P: Pacer, L: Link>(
     stock: NodeStock<'a>,
-    programs: Vec<Assigned<G>>,
-    rounds: u32,
-    ports: &'a [StationPort],
-    hub_seat: TurnSeat<HubState>,
+    roster: NodeRoster<'a, G, L>,
     pacer: &'a Mutex<&'p mut P>,
-    link: L,
 ) -> Result<Vec<NodeWork<'a, 'p, G, P, L>>, NoMemory>
-    requires stock { IsStocked stock.cell.now stock.hub.now stock.host (length programs.items + 2) stock.seats.items stock.hub_seats.items }
-    requires processes { Each (λ (a : Assigned G). is_process_of stock.cell.now.origin a.pid ≡ true) programs.items }
-    requires fresh { Each (λ (a : Assigned G). G.is_after a.program []) programs.items }
-    requires seat { IsSeatOf stock.hub.now hub_seat }
-    ensures { IfOk result (λ jobs. AreNodeDealt stock.entry.cell.now stock.entry.hub.now stock.entry.host programs.items rounds ports.now
-        hub_seat link jobs.items) }
+    requires stock { IsStocked stock.cell.now stock.hub.now stock.host (length roster.programs.items + 2) stock.seats.items
+        stock.hub_seats.items }
+    requires processes { Each (λ (a : Assigned G). is_process_of stock.cell.now.origin a.pid ≡ true) roster.programs.items }
+    requires fresh { Each (λ (a : Assigned G). G.is_after a.program []) roster.programs.items }
+    requires seat { IsSeatOf stock.hub.now roster.fetches }
+    ensures { IfOk result (λ jobs. AreNodeDealt stock.entry.cell.now stock.entry.hub.now stock.entry.host roster.entry.programs.items
+        roster.entry.rounds roster.entry.ports.now roster.entry.fetches roster.entry.link jobs.items) }
 {
+    let NodeRoster {
+        programs,
+        rounds,
+        ports,
+        fetches,
+        link,
+    } = roster;
     let mut stock = stock;
     let (alloc, hub, host) = (stock.alloc, stock.hub, stock.host);
     let mut jobs = Vec::new(alloc);
@@ -121,7 +136,13 @@ pub fn jobs_of<'a, 'p, G: Program, P: Pacer, L: Link>(
     let clock = NodeClock::new(alloc, hub, host, port, rounds, pacer)?;
     jobs.push(NodeWork::Clock(clock))?;
     let port = stock.port(false)?;
-    let carrier = Carrier::new(alloc, hub, host, port, hub_seat, ports, link)?;
+    let route = Route {
+        alloc,
+        hub,
+        host,
+        ports,
+    };
+    let carrier = Carrier::new(route, port, fetches, link)?;
     jobs.push(NodeWork::Carrier(carrier))?;
     Ok(jobs)
 }

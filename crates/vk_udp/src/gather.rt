@@ -20,6 +20,14 @@ use vk_join::StationLog;
 use vk_port::Station;
 use vk_threads::{End, Gathered, Site, close_all, gather_all};
 
+/// The station of a node under a turn, and its hub.
+#[derive(Drop)]
+pub struct NodeSite {
+    pub host: u16,
+    pub cell: TurnCell<Station>,
+    pub hub: Hub,
+}
+
 /// Takes out what the last job gave back, which carried frames.
 pub fn take_carried<L: Link>(ends: &mut Vec<NodeEnd<L>>) -> Carried<L>
     requires { (front : List (TheEnd L)) × (end : TheCarried L) × (ends.old.items ≡ front ++ carried_end end ∷ []) }
@@ -82,18 +90,17 @@ fn one_site(alloc: Global, host: u16, cell: TurnCell<Station>) -> Result<Vec<Sit
 /// Closes the station and the hub, once all jobs have ended. Gives the station's log.
 pub fn close_node(
     alloc: Global,
-    host: u16,
-    cell: TurnCell<Station>,
-    hub: Hub,
+    node: NodeSite,
     ends: Vec<End>,
     fetches: TurnSeat<HubState>,
     halt: TurnSeat<HubState>,
 ) -> Result<StationLog, NoMemory>
-    requires ready { AreReady (site_of host cell ∷ []) (all_spares ends.items) }
-    requires seats { All (λ s. IsSeatOf hub s) (hub_seats_of ends.items fetches halt) }
-    requires all { length (hub_seats_of ends.items fetches halt) ≡ hub.seats }
-    ensures { IfOk result (HasClosedNode host cell hub ends.items fetches halt) }
+    requires ready { AreReady (site_of node.host node.cell ∷ []) (all_spares ends.items) }
+    requires seats { All (λ s. IsSeatOf node.hub s) (hub_seats_of ends.items fetches halt) }
+    requires all { length (hub_seats_of ends.items fetches halt) ≡ node.hub.seats }
+    ensures { IfOk result (HasClosedNode node.host node.cell node.hub ends.items fetches halt) }
 {
+    let NodeSite { host, cell, hub } = node;
     let Gathered {
         seats,
         mut hub_seats,

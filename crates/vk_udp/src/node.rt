@@ -13,7 +13,8 @@ ghost use Rattle.vk_udp.specs.Dealt.{IsStocked};
 ghost use Rattle.vk_udp.specs.Ended.{HasRunNodeJobs};
 ghost use Rattle.vk_udp.specs.Node.{HasSent, HavePort, IsNodeRecord, IsProcessAt, TellsCrew, TellsNodeFault, TellsNodeJobs};
 
-use crate::deal::{NodeStock, jobs_of};
+use crate::deal::{NodeRoster, NodeStock, jobs_of};
+use crate::gather::NodeSite;
 use crate::link::{Link, Wire};
 use crate::record::{NodeRecord, NodeRefusal, record_of};
 use crate::work::NodeEnd;
@@ -44,29 +45,26 @@ fn run_jobs<
     rt: &R,
     stock: NodeStock<'a>,
     halt: TurnSeat<HubState>,
-    programs: Vec<Assigned<G>>,
-    rounds: u32,
-    ports: &'a [StationPort],
-    fetches: TurnSeat<HubState>,
+    roster: NodeRoster<'a, G, L>,
     crew: &mut C,
     pacer: &'a Mutex<&'p mut P>,
-    link: L,
 ) -> Result<(Vec<NodeEnd<L>>, TurnSeat<HubState>), NodeRefusal>
     requires halt { IsSeatOf stock.hub.now halt }
     requires unhalted { halt.mine ≡ [] }
-    requires stock { IsStocked stock.cell.now stock.hub.now stock.host (length programs.items + 2) stock.seats.items
+    requires stock { IsStocked stock.cell.now stock.hub.now stock.host (length roster.programs.items + 2) stock.seats.items
         stock.hub_seats.items }
-    requires processes { Each (λ (a : Assigned G). is_process_of stock.cell.now.origin a.pid ≡ true) programs.items }
-    requires fresh { Each (λ (a : Assigned G). G.is_after a.program []) programs.items }
-    requires seat { IsSeatOf stock.hub.now fetches }
+    requires processes { Each (λ (a : Assigned G). is_process_of stock.cell.now.origin a.pid ≡ true) roster.programs.items }
+    requires fresh { Each (λ (a : Assigned G). G.is_after a.program []) roster.programs.items }
+    requires seat { IsSeatOf stock.hub.now roster.fetches }
     ensures ended { IfOk result (λ r. HasRunNodeJobs G P L G.task L.handed L.sent L.fault_count stock.entry.cell.now
-        stock.entry.hub.now stock.entry.host programs.items rounds ports.now fetches link r.0.items r.1) }
+        stock.entry.hub.now stock.entry.host roster.entry.programs.items roster.entry.rounds roster.entry.ports.now roster.entry.fetches
+        roster.entry.link r.0.items r.1) }
     ensures crew { TellsCrew (C.fault_count crew.old) (C.fault_count crew.new) (C.job_count crew.old)
-        (min (C.job_count crew.old + (length programs.items + 2)) (2 ^ 64 - 1)) (C.job_count crew.new) result }
+        (min (C.job_count crew.old + (length roster.entry.programs.items + 2)) (2 ^ 64 - 1)) (C.job_count crew.new) result }
 {
     let (alloc, hub) = (stock.alloc, stock.hub);
     let mut halt = HubHalt::new(hub, halt);
-    let Ok(jobs) = jobs_of(stock, programs, rounds, ports, fetches, pacer, link) else {
+    let Ok(jobs) = jobs_of(stock, roster, pacer) else {
         return Err(NodeRefusal::NoMemory);
     };
     match crew.run_all(rt, alloc, jobs, &mut halt) {
@@ -163,11 +161,19 @@ pub fn run_node<
         seats,
         hub_seats,
     };
+    let roster = NodeRoster {
+        programs,
+        rounds,
+        ports,
+        fetches,
+        link,
+    };
     let shared = Mutex::new(&mut *pacer);
-    match run_jobs(
-        rt, stock, halt, programs, rounds, ports, fetches, crew, &shared, link,
-    ) {
-        Ok((ends, halt)) => record_of(alloc, &config, host, cell, hub, ends, halt, wire),
+    match run_jobs(rt, stock, halt, roster, crew, &shared) {
+        Ok((ends, halt)) => {
+            let node = NodeSite { host, cell, hub };
+            record_of(alloc, &config, node, ends, halt, wire)
+        }
         Err(why) => Err(why),
     }
 }

@@ -12,17 +12,16 @@ ghost use Rattle.vk_udp.specs.Gathered.{own_end};
 ghost use Rattle.vk_udp.specs.Node.{HasSent, IsNodeRecord, IsRecordOf, TellsLink};
 ghost use Rattle.vk_udp.specs.Wires.{HasNothing, IsNewLink};
 
-use crate::gather::{all_fit, close_node, own_ends, take_carried};
+use crate::gather::{NodeSite, all_fit, close_node, own_ends, take_carried};
 use crate::link::{Link, Wire};
 use crate::work::{Carried, NodeEnd};
 use std::alloc::Global;
-use turn_cell::{TurnCell, TurnSeat};
+use turn_cell::TurnSeat;
 use v_node::{closed_nodes_are_runs, nodes_send_their_own};
 use vk_base::{Config, NoMemory};
 use vk_cluster::pids_are;
-use vk_hub::{Hub, HubState};
+use vk_hub::HubState;
 use vk_join::{StationLog, all_readable};
-use vk_port::Station;
 use vk_threads::{End, has_met_full, has_met_no_memory};
 
 /// What happened at a node.
@@ -48,22 +47,20 @@ pub enum NodeRefusal {
 fn whole_record(
     alloc: Global,
     config: &Config,
-    host: u16,
-    cell: TurnCell<Station>,
-    hub: Hub,
+    node: NodeSite,
     ends: Vec<End>,
     fetches: TurnSeat<HubState>,
     halt: TurnSeat<HubState>,
 ) -> Result<NodeRecord, NoMemory>
-    requires station { cell.origin ≡ fresh_station config.now host }
+    requires station { node.cell.origin ≡ fresh_station config.now node.host }
     requires ended { (rounds : ℕ) × (tasks : List Assignment) × (n : AllEnds) ×
-        HaveNodeEnded config.now host cell hub rounds tasks n ends.items fetches halt }
+        HaveNodeEnded config.now node.host node.cell node.hub rounds tasks n ends.items fetches halt }
     ensures ran { IfOk result (λ r. (rounds : ℕ) (tasks : List Assignment) (n : AllEnds) →
-        HaveNodeEnded config.now host cell hub rounds tasks n ends.items fetches halt → n.link.failed ≡ false →
-        IsRecordOf config.now host rounds tasks n.link.handed r.limited r.log) }
+        HaveNodeEnded config.now node.host node.cell node.hub rounds tasks n ends.items fetches halt → n.link.failed ≡ false →
+        IsRecordOf config.now node.host rounds tasks n.link.handed r.limited r.log) }
     ensures own { IfOk result (λ r. (rounds : ℕ) (tasks : List Assignment) (n : AllEnds) →
-        HaveNodeEnded config.now host cell hub rounds tasks n ends.items fetches halt →
-        AreOwnFrames hub.origin.plan host n.link.errands (entries_after config.now host r.log.events)) }
+        HaveNodeEnded config.now node.host node.cell node.hub rounds tasks n ends.items fetches halt →
+        AreOwnFrames node.hub.origin.plan node.host n.link.errands (entries_after config.now node.host r.log.events)) }
 {
     let _lawful = config.times();
     pids_are(config.specs());
@@ -73,7 +70,7 @@ fn whole_record(
     if has_met_no_memory(&ends) {
         return Err(NoMemory);
     }
-    let log = close_node(alloc, host, cell, hub, ends, fetches, halt)?;
+    let log = close_node(alloc, node, ends, fetches, halt)?;
     all_readable(log.events.as_slice());
     all_fit(log.events.as_slice());
     Ok(NodeRecord { log, limited })
@@ -92,25 +89,23 @@ fn all_ends<L: Link>(alloc: Global, ends: Vec<NodeEnd<L>>, last: End) -> Result<
 pub fn record_of<W: Wire>(
     alloc: Global,
     config: &Config,
-    host: u16,
-    cell: TurnCell<Station>,
-    hub: Hub,
+    node: NodeSite,
     ends: Vec<NodeEnd<W::L>>,
     halt: TurnSeat<HubState>,
     wire: &mut W,
 ) -> Result<NodeRecord, NodeRefusal>
-    requires station { cell.origin ≡ fresh_station config.now host }
+    requires station { node.cell.origin ≡ fresh_station config.now node.host }
     requires ended { (rounds : ℕ) × (ports : List ThePort) × (tasks : List Assignment) × (start : W.L) ×
-        HasNodeEnds W.L.handed W.L.sent W.L.fault_count config.now host cell hub rounds ports tasks start ends.items halt }
+        HasNodeEnds W.L.handed W.L.sent W.L.fault_count config.now node.host node.cell node.hub rounds ports tasks start ends.items halt }
     ensures ran { IfOk result (λ r. (rounds : ℕ) (ports : List ThePort) (tasks : List Assignment) (start : W.L) →
         IsNewLink (W.handed wire.old) (W.L.handed start) (W.L.fault_count start) →
-        HasNodeEnds W.L.handed W.L.sent W.L.fault_count config.now host cell hub rounds ports tasks start ends.items halt →
-        IsNodeRecord config.now host rounds tasks (W.handed wire.old) (W.handed wire.new) r.limited r.log) }
+        HasNodeEnds W.L.handed W.L.sent W.L.fault_count config.now node.host node.cell node.hub rounds ports tasks start ends.items halt →
+        IsNodeRecord config.now node.host rounds tasks (W.handed wire.old) (W.handed wire.new) r.limited r.log) }
     ensures sent { IfOk result (λ r. (rounds : ℕ) (ports : List ThePort) (tasks : List Assignment) (start : W.L) →
         HasNothing (W.sent wire.old) (W.L.sent start) →
-        HasNodeEnds W.L.handed W.L.sent W.L.fault_count config.now host cell hub rounds ports tasks start ends.items halt →
-        hub.origin.stations ≡ stations_of config.now.specs →
-        HasSent config.now host hub.origin.plan ports r.log.events (W.sent wire.old) (W.sent wire.new)) }
+        HasNodeEnds W.L.handed W.L.sent W.L.fault_count config.now node.host node.cell node.hub rounds ports tasks start ends.items halt →
+        node.hub.origin.stations ≡ stations_of config.now.specs →
+        HasSent config.now node.host node.hub.origin.plan ports r.log.events (W.sent wire.old) (W.sent wire.new)) }
     ensures fault { TellsLink (W.fault_count wire.old) (W.fault_count wire.new) result }
 {
     let mut ends = ends;
@@ -127,7 +122,7 @@ pub fn record_of<W: Wire>(
     let Ok(all) = all_ends(alloc, ends, end) else {
         return Err(NodeRefusal::NoMemory);
     };
-    match whole_record(alloc, config, host, cell, hub, all, hub_seat, halt) {
+    match whole_record(alloc, config, node, all, hub_seat, halt) {
         Ok(record) => Ok(record),
         Err(NoMemory) => Err(NodeRefusal::NoMemory),
     }

@@ -11,6 +11,7 @@ use crate::refusal::ApplyRefusal;
 use crate::tables::Store;
 use crate::tables::bytes::own_bytes;
 use crate::tables::put::{put_answer, put_answer_with};
+use crate::tables::sent::Replied;
 use std::alloc::Global;
 use vk_base::limits::SEGMENT_BYTES;
 use vk_base::{Call, Message, Pid, Range, Refusal};
@@ -69,15 +70,11 @@ pub fn reply_segment(
         Err(why) => return Ok(Response::Refused { why }),
     };
     let bytes = own_bytes(store, alloc, at, access.own)?;
-    let SegmentReply { message, dest, .. } = reply;
-    put_answer_with(
-        store,
-        alloc,
-        holding.at,
-        holding.number,
-        message,
-        dest,
+    let replied = Replied {
+        message: reply.message,
+        dest: reply.dest,
         bytes,
-    )?;
+    };
+    put_answer_with(store, alloc, holding.at, holding.number, replied)?;
     Ok(Response::Ok)
 }

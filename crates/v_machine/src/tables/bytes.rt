@@ -13,7 +13,7 @@ use std::alloc::Global;
 use vk_base::{List, Memory, NoMemory, Range};
 
 /// How many bytes are read at once.
-const PIECE: u32 = 1024;
+const PIECE: u32 = 2_000;
 
 /// Whether a range lies in a memory of this size.
 pub fn lies_in(start: u32, count: u32, size: u32) -> bool

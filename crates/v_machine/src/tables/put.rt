@@ -15,10 +15,10 @@ ghost use Rattle.v_machine.specs.Rules.{Stays};
 ghost use Rattle.v_machine.specs.Tables.{process_of};
 
 use crate::tables::proc::Proc;
-use crate::tables::sent::Sent;
+use crate::tables::sent::{Replied, Sent};
 use crate::tables::{Store, sends};
 use std::alloc::Global;
-use vk_base::{Activity, List, Message, NoMemory, Pid};
+use vk_base::{Activity, Message, NoMemory, Pid};
 
 /// The place of a process, if it is in the configuration.
 pub fn find(store: &Store, pid: Pid) -> Option<usize>
@@ -136,18 +136,17 @@ pub fn put_answer_with(
     alloc: Global,
     at: usize,
     number: u64,
-    message: Message,
-    dest: u32,
-    bytes: List<u8>,
+    reply: Replied,
 ) -> Result<(), NoMemory>
     requires { at < length store.old.sends.items }
     ensures kernel { OnOk result ((pid : ThePid) (e : TheExchange) → place_in store.old.places pid ≡ Some at →
         (kernel_in store.old).exchanges (name_of pid number) ≡ Some e →
-        kernel_in store.new ≡ with_stage (kernel_in store.old) (name_of pid number) e (stages.Replied message dest bytes)) }
+        kernel_in store.new ≡ with_stage (kernel_in store.old) (name_of pid number) e
+        (stages.Replied reply.message reply.dest reply.bytes)) }
     ensures indexed { OnOk result ((pid : ThePid) (e : TheExchange) → place_in store.old.places pid ≡ Some at →
         (kernel_in store.old).exchanges (name_of pid number) ≡ Some e →
-        IsNoNearer e.stage (stages.Replied message dest bytes) → IsIndexed store.old → IsIndexed store.new) }
+        IsNoNearer e.stage (stages.Replied reply.message reply.dest reply.bytes) → IsIndexed store.old → IsIndexed store.new) }
     ensures err { OnErr result (IsIndexed store.old → Stays store.old store.new) }
 {
-    sends::answer_with(&mut store.sends[at], alloc, number, message, dest, bytes)
+    sends::answer_with(&mut store.sends[at], alloc, number, reply)
 }

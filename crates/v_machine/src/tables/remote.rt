@@ -5,7 +5,7 @@ ghost use Rattle.v_machine.specs.Lists.{change_numbered};
 ghost use Rattle.v_machine.specs.Sends.{opened_moving, written_moving, emptied_moving, with_noted};
 
 use crate::tables::numbered::Numbered;
-use crate::tables::spent::empty_moves;
+use crate::tables::spent::{empty_moves, keeps_bytes};
 use std::alloc::Global;
 use std::mem;
 use vk_base::{List, Move};
@@ -46,6 +46,18 @@ impl Moving {
 
     /// Of the moves from one number up to another, the spent ones give their bytes back.
     pub fn give_back(&mut self, alloc: Global, from: u64, to: u64)
+        requires { from ≤ to }
+        ensures { self.new ≡ emptied_moving from to self.old }
+    {
+        // Most steps write bytes of a move that is not spent by them.
+        if from != to || !keeps_bytes(&self.moves, self.opened, self.done, to) {
+            self.give_all_back(alloc, from, to);
+        }
+    }
+
+    /// The same, whether there are some or not. It stays a function of its own, so that those who give nothing back do not pay for it.
+    #[inline(never)]
+    fn give_all_back(&mut self, alloc: Global, from: u64, to: u64)
         requires { from ≤ to }
         ensures { self.new ≡ emptied_moving from to self.old }
     {

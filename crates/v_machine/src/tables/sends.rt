@@ -9,7 +9,7 @@ ghost use Rattle.v_machine.specs.Places.{numbered};
 ghost use Rattle.v_machine.specs.Sends.{at_stage, dropped_to, handed_on, come_at, with_begun, with_opened, with_written, given_back};
 
 use crate::tables::numbered::Numbered;
-use crate::tables::sent::Sent;
+use crate::tables::sent::{Replied, Sent};
 use std::alloc::Global;
 use vk_base::{List, Message, Move, NoMemory, Pid};
 
@@ -64,15 +64,14 @@ pub fn answer_with(
     sends: &mut Numbered<Sent>,
     alloc: Global,
     number: u64,
-    message: Message,
-    dest: u32,
-    bytes: List<u8>,
+    reply: Replied,
 ) -> Result<(), NoMemory>
-    ensures ok { OnOk result (sends.new ≡ change_numbered number (at_stage (stages.Replied message dest bytes)) sends.old) }
+    ensures ok { OnOk result (sends.new ≡ change_numbered number
+        (at_stage (stages.Replied reply.message reply.dest reply.bytes)) sends.old) }
     ensures err { OnErr result (sends.new ≡ sends.old) }
 {
     match sends.get_mut(number) {
-        Some(sent) => sent.answer_with(alloc, message, dest, bytes),
+        Some(sent) => sent.answer_with(alloc, reply),
         None => Ok(()),
     }
 }

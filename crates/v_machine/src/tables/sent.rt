@@ -22,6 +22,14 @@ pub enum Phase {
     Dropped,
 }
 
+/// What a reply brings: its message, and bytes for the memory of the sender from `dest` on.
+#[derive(Drop)]
+pub struct Replied {
+    pub message: Message,
+    pub dest: u32,
+    pub bytes: List<u8>,
+}
+
 /// An exchange of the kernel in few bytes. What most have not lies apart.
 #[derive(Drop)]
 pub struct Sent {
@@ -209,16 +217,15 @@ impl Sent {
     }
 
     /// The reply has bytes for the sender's memory. Where memory is wanting nothing changes.
-    pub fn answer_with(
-        &mut self,
-        alloc: Global,
-        message: Message,
-        dest: u32,
-        bytes: List<u8>,
-    ) -> Result<(), NoMemory>
-        ensures ok { OnOk result (self.new ≡ at_stage (stages.Replied message dest bytes) self.old) }
+    pub fn answer_with(&mut self, alloc: Global, reply: Replied) -> Result<(), NoMemory>
+        ensures ok { OnOk result (self.new ≡ at_stage (stages.Replied reply.message reply.dest reply.bytes) self.old) }
         ensures err { OnErr result (self.new ≡ self.old) }
     {
+        let Replied {
+            message,
+            dest,
+            bytes,
+        } = reply;
         self.apart.put_answer(alloc, dest, bytes)?;
         self.reply = message;
         self.phase = Phase::Replied;

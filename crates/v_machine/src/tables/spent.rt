@@ -1,11 +1,12 @@
 //! Remote moves of which no byte can be written any more: their bytes are given back.
 
-ghost use Rattle.std.specs.Prelude.{◌≡◌, ◌≤◌, ◌+◌};
+ghost use Rattle.std.specs.Prelude.{◌≡◌, ◌≤◌, ◌+◌, true, option_copied};
 ghost use Rattle.v_machine.specs.Lists.{change_numbered};
+ghost use Rattle.v_machine.specs.Places.{numbered};
 ghost use Rattle.v_machine.specs.Sends.{emptied_between};
 ghost use Rattle.v_machine.specs.Spent.{emptied, is_spent};
 
-use crate::tables::numbered::Numbered;
+use crate::tables::numbered::{Numbered, index_of};
 use std::alloc::Global;
 use vk_base::{List, Move};
 
@@ -35,6 +36,23 @@ fn empty_move(moves: &mut Numbered<Move>, alloc: Global, opened: u64, done: u32,
         if is_spent(opened, done, number, begun) {
             begun.bytes = List::empty(alloc);
         }
+    }
+}
+
+/// The move of a number.
+fn begun(moves: &List<Move>, number: u64) -> Option<&Move>
+    ensures { option_copied result ≡ numbered moves.now number }
+{
+    moves.as_slice().get(index_of(number))
+}
+
+/// Whether the move of a number has nothing to give back: it is not spent, or there is none.
+pub fn keeps_bytes(moves: &List<Move>, opened: u64, done: u32, number: u64) -> bool
+    ensures { result ≡ true → change_numbered number (emptied opened done number) moves.now ≡ moves.now }
+{
+    match begun(moves, number) {
+        Some(found) => !is_spent(opened, done, number, found),
+        None => true,
     }
 }
 

@@ -4,8 +4,8 @@ use Rattle.std.specs.Global.{Vec}
 use Rattle.std.proofs.lemmas.List.{length-map, take_all}
 use Rattle.std.proofs.lemmas.List.Sums.{sum_by-append}
 use Rattle.vk_rules.proofs.Lists.{each_at}
-use Rattle.vk_cluster.specs.declared.emitted.Piece.{Piece}
-use Rattle.vk_cluster.specs.Blocks.{IsFrame}
+use Rattle.vk_cluster.specs.declared.emitted.Span.{Span}
+use Rattle.vk_cluster.specs.Blocks.{IsFrameSized}
 use Rattle.vk_cluster.specs.Piles.{IsAdding, items_of, pile_of}
 use Rattle.vk_cluster.proofs.Handed.{named_again}
 use Rattle.vk_cluster.proofs.Loops.{adding_count, sum_next, take_get}
@@ -30,7 +30,7 @@ put-requires c =
     record {
       to = named_again c.frame.result.now c.packet-to.result.0 (c.loop-at.at + 1) c.packet-to.result.1.now
           (c.packet-to.ensures.opens c.frame.result.now c.frame.ensures);
-      frame = each_at IsFrame c.args.host.now.frames c.loop-at.at c.frame.result.now c.requires.few.each c.frame.ensures;
+      frame = each_at IsFrameSized c.args.host.now.frames c.loop-at.at c.frame.result.now c.requires.few.each c.frame.ensures;
       bytes = omega arith;
       frames = omega arith;
       most = omega arith;
@@ -63,10 +63,10 @@ end_event-requires c =
     let count = adding_count (pile_of c.args.emitted.now) (pile_of c.loop-at.emitted) fs c.loop-at.invariant.adding in
     let same = sym c.loop-at.invariant.events in
     record {
-      place = subst (λ (v : Vec (Vec Piece)). c.args.place < length v.items) same c.requires.place;
+      place = subst (λ (v : Vec (Vec Span)). c.args.place < length v.items) same c.requires.place;
       first = let from = c.len-first.ensures in omega arith;
       room =
-          subst (λ (v : Vec (Vec Piece)). (s : Vec Piece) → slice_get v.items c.args.place ≡ Some s → vec_len s < vec_capacity s) same
+          subst (λ (v : Vec (Vec Span)). (s : Vec Span) → slice_get v.items c.args.place ≡ Some s → vec_len s < vec_capacity s) same
           c.requires.room.for_event;
     }
 

@@ -3,7 +3,7 @@ use Rattle.std.proofs.lemmas.Result.{IfOk-weaker}
 use Rattle.vk_cluster.specs.Standing.{logs_of}
 use Rattle.vk_rules.specs.Histories.{happened}
 use Rattle.vk_cluster.proofs.Shown.{is_station, last_is, reported_entry, reported_missing}
-use Rattle.vk_draw.specs.Rows.{row_of}
+use Rattle.vk_draw.specs.Rows.{picture_row}
 use Rattle.vk_draw.proofs.playing.row_by.Goals as goal
 
 pub host-station-requires : goal.host-station-requires
@@ -29,11 +29,11 @@ returns-in-Event c =
     is one.entry
     (last_is s es c.args.cluster.now event report r one.entry one.is c.host-station.ensures.found.0 c.host-station.result.now
     c.host-station.ensures.found.1 c.host-station.ensures.host c.in-Event.answer one.answered)
-    ∙ ap (row_of c.args.number event) (sym one.is))
+    ∙ ap (picture_row c.args.number event) (sym one.is))
     c.station_row.ensures
 
 pub returns-in-Missing : goal.returns-in-Missing
 returns-in-Missing c = λ s es r.
     let h = happened s (logs_of s es) c.args.event.now in
     c.missing_row.ensures
-    ∙ ap (row_of c.args.number c.args.event.now) (sym (reported_missing c.args.report.now h r.next.report c.in-Missing.is))
+    ∙ ap (picture_row c.args.number c.args.event.now) (sym (reported_missing c.args.report.now h r.next.report c.in-Missing.is))

@@ -2,7 +2,7 @@ use Rattle.std.proofs.Common.{◌≡◌, [], ◌∷◌, ◌++◌, sym, ap, subst
 use Rattle.std.proofs.lemmas.Option.{slice_get_within}
 use Rattle.vk_cluster.specs.declared.report.ClusterAnswer.TheVariants as answers
 use Rattle.vk_cluster.specs.declared.report.StepReport.{StepReport}
-use Rattle.vk_cluster.specs.Standing.{Tells, report_of}
+use Rattle.vk_cluster.specs.Standing.{TellsReport, step_report}
 use Rattle.vk_cluster.proofs.Told.{report_told, station_told}
 use Rattle.vk_host.specs.Responses.{answer_of}
 use Rattle.vk_rules.specs.Histories.{Missing}
@@ -20,7 +20,7 @@ station-station-requires c =
 
 pub returns-in-Missing : goal.returns-in-Missing
 returns-in-Missing c hs h a r are told answered own others =
-    let report : r ≡ report_of (Missing c.in-Missing.host) = subst (λ x. Tells c.args.cluster.now x r) c.in-Missing.is told in
+    let report : r ≡ step_report (Missing c.in-Missing.host) = subst (λ x. TellsReport c.args.cluster.now x r) c.in-Missing.is told in
     let none : answers.Missing ≡ answers.Event a = sym (ap (λ (x : StepReport). x.answer) report) ∙ answered in absurd (cc)
 
 pub returns-in-Event : goal.returns-in-Event

@@ -1,6 +1,10 @@
 use Rattle.std.proofs.Common.{◌≡◌, ◌++◌, take}
+use Rattle.vk_text.specs.Spelling.{StartsWith}
 use Rattle.vk_report.specs.Report.{step_lines}
 use Rattle.vk_report.proofs.entry.write_steps.Given as goal
 
 abbrev pub invariant-loop-at : goal.invariant-loop-at
-invariant-loop-at l = l.text.items ≡ l.fn.text.items ++ step_lines l.word (take l.at l.steps)
+invariant-loop-at l = record {
+  text : l.text.items ++ l.draft ≡ l.fn.text.items ++ l.fn.draft ++ step_lines l.word (take l.at l.steps);
+  front : StartsWith l.fn.text.items l.text.items;
+}

@@ -7,7 +7,7 @@ use Rattle.vk_threads.proofs.run.run_jobs.Goals as goal
 
 pub returns-in-Ok-run_all-clause-jobs : goal.returns-in-Ok-run_all-clause-jobs
 returns-in-Ok-run_all-clause-jobs g c =
-    let count = dealt_count g.G.Program.task c.args.stock.sites.now c.args.stock.hub.now c.args.programs.items c.args.stations.items c.args.rounds
+    let count = dealt_count g.G.Program.task c.args.stock.sites.now c.args.stock.hub.now c.args.roster.programs.items c.args.roster.stations.items c.args.roster.rounds
     c.in-Ok.jobs.items c.in-Ok.ensures in
     c.in-Ok-run_all.ensures.jobs ∙ ap (λ n. min (g.C.Crew.job_count c.args.crew.now + n) 18446744073709551615) (omega (arith, c.in-Ok.jobs.ok.0, count))
 

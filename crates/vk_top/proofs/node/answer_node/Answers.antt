@@ -30,14 +30,14 @@ returns-in-Err-clause-answered g c = run_refused _ _ _ _ _ _ _ _ refl c.requires
 
 pub returns-in-Err-clause-flushed : goal.returns-in-Err-clause-flushed
 returns-in-Err-clause-flushed g c =
-    let Failure = IsNodeFailure c.args.host (g.C.Crew.job_count c.args.crew.now) (g.C.Crew.job_count c.node_work.new.crew) in
+    let Failure = IsNodeFailure c.args.asked.now.host (g.C.Crew.job_count c.args.crew.now) (g.C.Crew.job_count c.node_work.new.crew) in
     let Unasked = (c.node_work.new.crew ≡ c.args.crew.now) × (c.node_work.new.wire ≡ c.args.wire.now) in
-    let Refusal = IsThreadedRefusal (node_asked c.args.host) Failure Unasked c.args.text.now in
+    let Refusal = IsThreadedRefusal (node_asked c.args.asked.now.host) Failure Unasked c.args.asked.now.text.now in
     λ is. absurd (other_than Refusal c.in-Err.status status.Done c.in-Err.ensures.refused (λ none. none) is)
 
 pub returns-in-Err-clause-write_count : goal.returns-in-Err-clause-write_count
 returns-in-Err-clause-write_count g c =
-    let Failure = IsNodeFailure c.args.host (g.C.Crew.job_count c.args.crew.now) (g.C.Crew.job_count c.node_work.new.crew) in
+    let Failure = IsNodeFailure c.args.asked.now.host (g.C.Crew.job_count c.args.crew.now) (g.C.Crew.job_count c.node_work.new.crew) in
     let Unasked = (c.node_work.new.crew ≡ c.args.crew.now) × (c.node_work.new.wire ≡ c.args.wire.now) in
-    let Refusal = IsThreadedRefusal (node_asked c.args.host) Failure Unasked c.args.text.now in
+    let Refusal = IsThreadedRefusal (node_asked c.args.asked.now.host) Failure Unasked c.args.asked.now.text.now in
     inr (other_than Refusal c.in-Err.status status.WriteFault c.in-Err.ensures.refused (λ none. none), refl)

@@ -7,7 +7,7 @@ use Rattle.vk_top.proofs.node.node.Goals as goal
 
 pub returns-in-Ok-clause-answer : goal.returns-in-Ok-clause-answer
 returns-in-Ok-clause-answer g c =
-    run_served _ _ _ _ _ _ _ _ _ _ _ _ _ c.in-Ok.ensures.text c.deref.ensures.value c.answer_node.ensures.answered
+    run_served _ _ _ _ _ _ _ _ _ _ _ _ _ c.in-Ok.ensures.text c.as_slice-text.ensures.value c.answer_node.ensures.answered
 
 pub returns-in-Ok-clause-read_count : goal.returns-in-Ok-clause-read_count
 returns-in-Ok-clause-read_count g c = inr (c.answer_node.ensures.answered.reading, c.in-Ok.ensures.cause)

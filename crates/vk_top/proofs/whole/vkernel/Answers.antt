@@ -1,16 +1,48 @@
-use Rattle.std.proofs.Common.{ap, inl, refl}
-use Rattle.vk_top.proofs.Threaded.{run_begun, run_wanting}
-use Rattle.vk_top.specs.Nodes.{TellsNode, node_asked}
+use Rattle.std.proofs.Common.{◌≡◌, ap, arith, inl, refl, subst}
+use Rattle.vk_top.proofs.Threaded.{run_begun, run_wanting, wanting_is}
+use Rattle.vk_top.specs.Nodes.{IsNodeAnswer, TellsNode, node_asked}
 use Rattle.vk_top.specs.Runs.{TellsRun, run_asked}
 use Rattle.vk_top.specs.Words.{is_threaded}
 use Rattle.vk_top.proofs.whole.vkernel.Goals as goal
 
-pub returns-in-None-clause-node : goal.returns-in-None-clause-node
-returns-in-None-clause-node g c =
+pub returns-in-Ok-Some-Run-clause-run : goal.returns-in-Ok-Some-Run-clause-run
+returns-in-Ok-Some-Run-clause-run g c =
+    λ is.
+    let alone = c.vkernel_alone.ensures.threaded (ap is_threaded is) in
+    run_begun (TellsRun _ _) run_asked _ g.S.Source.left g.K.Sink.written _ _ _ _ _ _ _ _ (alone.1, alone.2) c.run.ensures.answer
+
+pub returns-in-Ok-Some-Node-clause-node : goal.returns-in-Ok-Some-Node-clause-node
+returns-in-Ok-Some-Node-clause-node g c =
+    λ host is.
+    let alone = c.vkernel_alone.ensures.threaded (ap is_threaded is) in
+    let job = c.in-Ok-Some-Node.ensures.job in
+    let some = c.in-Ok-Some-Node.field-0-is in
+    let node = c.in-Ok-Some-Node.field-0-0-is in
+    let same : c.in-Ok-Some-Node.host ≡ host = cc in
+    run_begun (TellsNode host _ _) (node_asked host) _ g.S.Source.left g.K.Sink.written _ _ _ _ _ _ _ _ (alone.1, alone.2)
+    (subst (λ h. IsNodeAnswer h (c.node.new.input ≡ c.vkernel_alone.new.input) (c.node.new.output ≡ c.vkernel_alone.new.output)
+    ((c.node.new.crew ≡ c.args.crew.now) × (c.node.new.wire ≡ c.args.wire.now))
+    (g.S.Source.left c.vkernel_alone.new.input) (g.S.Source.left c.node.new.input)
+    (record { handed = g.W.Wire.handed c.args.wire.now; jobs = g.C.Crew.job_count c.args.crew.now })
+    (record { handed = g.W.Wire.handed c.node.new.wire; jobs = g.C.Crew.job_count c.node.new.crew })
+    (g.K.Sink.written c.vkernel_alone.new.output) (g.K.Sink.written c.node.new.output) c.node.result) same c.node.ensures.answer)
+
+pub returns-in-Err-clause-run : goal.returns-in-Err-clause-run
+returns-in-Err-clause-run g c =
+    λ is.
+    let alone = c.vkernel_alone.ensures.threaded (ap is_threaded is) in
+    run_begun (TellsRun _ _) run_asked _ g.S.Source.left g.K.Sink.written _ _ _ _ _ _ _ _ (alone.1, alone.2)
+    (wanting_is _ _ _ _ _ _ _ _ _ refl refl refl (λ i. inl refl) refl)
+
+pub returns-in-Err-clause-node : goal.returns-in-Err-clause-node
+returns-in-Err-clause-node g c =
     λ host is.
     let alone = c.vkernel_alone.ensures.threaded (ap is_threaded is) in
     run_begun (TellsNode host _ _) (node_asked host) _ g.S.Source.left g.K.Sink.written _ _ _ _ _ _ _ _ (alone.1, alone.2)
-    (c.in_threads.ensures.node host is)
+    (wanting_is _ _ _ _ _ _ _ _ _ refl refl (refl, refl) (λ i. inl refl) refl)
+
+pub returns-in-Err-clause-flushed : goal.returns-in-Err-clause-flushed
+returns-in-Err-clause-flushed g c = λ is. absurd (grind (arith, is))
 
 pub returns-in-Some-clause-run : goal.returns-in-Some-clause-run
 returns-in-Some-clause-run g c =

@@ -10,26 +10,26 @@ pub loop-init : goal.loop-init
 loop-init g c = record {
   next = tt;
   finite = tt;
-  brought = brought_none g.L.Link.handed c.args.host c.args.port.now c.args.link.now c.args.link.now refl;
-  fetched = (0, fetched_none g.L.Link.sent c.args.hub.now.origin c.args.hub_seat.now c.args.link.now (more_none (g.L.Link.sent c.args.link.now)));
+  brought = brought_none g.L.Link.handed c.args.route.now.host c.args.port.now c.args.link.now c.args.link.now refl;
+  fetched = (0, fetched_none g.L.Link.sent c.args.route.now.hub.now.origin c.args.hub_seat.now c.args.link.now (more_none (g.L.Link.sent c.args.link.now)));
   faults = refl;
 }
 
 pub returns-in-Err-clause-fetched : goal.returns-in-Err-clause-fetched
 returns-in-Err-clause-fetched g c =
-    around_cut g.L.Link.sent c.args.hub.now.origin c.args.ports.now c.args.hub_seat.now c.loop.hub_seat c.send_each.new.hub_seat c.args.link.now
+    around_cut g.L.Link.sent c.args.route.now.hub.now.origin c.args.route.now.ports.now c.args.hub_seat.now c.loop.hub_seat c.send_each.new.hub_seat c.args.link.now
     c.loop.link c.send_each.new.link (Err c.in-Err.why) 0 c.loop.invariant.fetched c.in-Err.ensures.fetched refl
 
 pub returns-then-sent-clause-fetched : goal.returns-then-sent-clause-fetched
 returns-then-sent-clause-fetched g c =
-    around_cut g.L.Link.sent c.args.hub.now.origin c.args.ports.now c.args.hub_seat.now c.loop.hub_seat c.send_each.new.hub_seat c.args.link.now
+    around_cut g.L.Link.sent c.args.route.now.hub.now.origin c.args.route.now.ports.now c.args.hub_seat.now c.loop.hub_seat c.send_each.new.hub_seat c.args.link.now
     c.loop.link c.send_each.new.link (Ok c.in-Ok.sent) 1 c.loop.invariant.fetched c.in-Ok.ensures.fetched (gone c.in-Ok.sent.ended c.if-sent.true)
 
 pub loop-preserved-in-Ok-Nothing : goal.loop-preserved-in-Ok-Nothing
 loop-preserved-in-Ok-Nothing g c =
     let handed = g.L.Link.handed in
     let faults = g.L.Link.fault_count in
-    let host = c.args.host in
+    let host = c.args.route.now.host in
     let mid = c.send_each.new.link in
     let was = c.loop.invariant in
     let so = brought_more handed host c.args.port.now c.loop.port c.loop.port c.args.link.now c.loop.link mid None was.brought
@@ -38,9 +38,9 @@ loop-preserved-in-Ok-Nothing g c =
       next = tt;
       finite = tt;
       brought = brought_more handed host c.args.port.now c.loop.port c.hear.new.port c.args.link.now mid c.hear.new.link None so c.in-Ok-Nothing.ensures.brought;
-      fetched = rounds_still g.L.Link.sent c.args.hub.now.origin c.args.ports.now c.args.hub_seat.now c.send_each.new.hub_seat c.args.link.now
+      fetched = rounds_still g.L.Link.sent c.args.route.now.hub.now.origin c.args.route.now.ports.now c.args.hub_seat.now c.send_each.new.hub_seat c.args.link.now
           c.send_each.new.link c.hear.new.link
-          (rounds_on g.L.Link.sent c.args.hub.now.origin c.args.ports.now c.args.hub_seat.now c.loop.hub_seat c.send_each.new.hub_seat c.args.link.now
+          (rounds_on g.L.Link.sent c.args.route.now.hub.now.origin c.args.route.now.ports.now c.args.hub_seat.now c.loop.hub_seat c.send_each.new.hub_seat c.args.link.now
           c.loop.link c.send_each.new.link (Ok c.in-Ok.sent) c.loop.invariant.fetched c.in-Ok.ensures.fetched
           (going_on c.in-Ok.sent.ended c.if-sent.false) refl) c.in-Ok-Nothing.ensures.sent;
       faults = subst (λ h. TellsHeard (faults mid) (faults c.hear.new.link) (Ok h)) c.in-Ok-Nothing.field-0-is c.in-Ok-Nothing.ensures.faults
@@ -51,7 +51,7 @@ pub loop-preserved : goal.loop-preserved
 loop-preserved g c =
     let handed = g.L.Link.handed in
     let faults = g.L.Link.fault_count in
-    let host = c.args.host in
+    let host = c.args.route.now.host in
     let mid = c.send_each.new.link in
     let was = c.loop.invariant in
     let so = brought_more handed host c.args.port.now c.loop.port c.loop.port c.args.link.now c.loop.link mid None was.brought
@@ -60,9 +60,9 @@ loop-preserved g c =
       next = tt;
       finite = tt;
       brought = brought_more handed host c.args.port.now c.loop.port c.hear.new.port c.args.link.now mid c.hear.new.link None so c.in-Ok-Datagram.ensures.brought;
-      fetched = rounds_still g.L.Link.sent c.args.hub.now.origin c.args.ports.now c.args.hub_seat.now c.send_each.new.hub_seat c.args.link.now
+      fetched = rounds_still g.L.Link.sent c.args.route.now.hub.now.origin c.args.route.now.ports.now c.args.hub_seat.now c.send_each.new.hub_seat c.args.link.now
           c.send_each.new.link c.hear.new.link
-          (rounds_on g.L.Link.sent c.args.hub.now.origin c.args.ports.now c.args.hub_seat.now c.loop.hub_seat c.send_each.new.hub_seat c.args.link.now
+          (rounds_on g.L.Link.sent c.args.route.now.hub.now.origin c.args.route.now.ports.now c.args.hub_seat.now c.loop.hub_seat c.send_each.new.hub_seat c.args.link.now
           c.loop.link c.send_each.new.link (Ok c.in-Ok.sent) c.loop.invariant.fetched c.in-Ok.ensures.fetched
           (going_on c.in-Ok.sent.ended c.if-sent.false) refl) c.in-Ok-Datagram.ensures.sent;
       faults = subst (λ h. TellsHeard (faults mid) (faults c.hear.new.link) (Ok h)) c.in-Ok-Datagram.field-0-is c.in-Ok-Datagram.ensures.faults
@@ -72,7 +72,7 @@ loop-preserved g c =
 pub returns-in-Ok-Failed-clause-brought : goal.returns-in-Ok-Failed-clause-brought
 returns-in-Ok-Failed-clause-brought g c =
     let handed = g.L.Link.handed in
-    let host = c.args.host in
+    let host = c.args.route.now.host in
     let mid = c.send_each.new.link in
     let so = brought_more handed host c.args.port.now c.loop.port c.loop.port c.args.link.now c.loop.link mid None c.loop.invariant.brought
     (brought_none handed host c.loop.port c.loop.link mid c.in-Ok.ensures.handed) in
@@ -80,17 +80,17 @@ returns-in-Ok-Failed-clause-brought g c =
 
 pub returns-in-Ok-Failed-clause-fetched : goal.returns-in-Ok-Failed-clause-fetched
 returns-in-Ok-Failed-clause-fetched g c =
-    around_whole g.L.Link.sent c.args.hub.now.origin c.args.ports.now c.args.hub_seat.now c.send_each.new.hub_seat c.args.link.now c.hear.new.link
-    (rounds_still g.L.Link.sent c.args.hub.now.origin c.args.ports.now c.args.hub_seat.now c.send_each.new.hub_seat c.args.link.now
+    around_whole g.L.Link.sent c.args.route.now.hub.now.origin c.args.route.now.ports.now c.args.hub_seat.now c.send_each.new.hub_seat c.args.link.now c.hear.new.link
+    (rounds_still g.L.Link.sent c.args.route.now.hub.now.origin c.args.route.now.ports.now c.args.hub_seat.now c.send_each.new.hub_seat c.args.link.now
     c.send_each.new.link c.hear.new.link
-    (rounds_on g.L.Link.sent c.args.hub.now.origin c.args.ports.now c.args.hub_seat.now c.loop.hub_seat c.send_each.new.hub_seat c.args.link.now
+    (rounds_on g.L.Link.sent c.args.route.now.hub.now.origin c.args.route.now.ports.now c.args.hub_seat.now c.loop.hub_seat c.send_each.new.hub_seat c.args.link.now
     c.loop.link c.send_each.new.link (Ok c.in-Ok.sent) c.loop.invariant.fetched c.in-Ok.ensures.fetched
     (going_on c.in-Ok.sent.ended c.if-sent.false) refl) c.in-Ok-Failed.ensures.sent)
 
 pub returns-in-Err-hear-clause-brought : goal.returns-in-Err-hear-clause-brought
 returns-in-Err-hear-clause-brought g c =
     let handed = g.L.Link.handed in
-    let host = c.args.host in
+    let host = c.args.route.now.host in
     let mid = c.send_each.new.link in
     let so = brought_more handed host c.args.port.now c.loop.port c.loop.port c.args.link.now c.loop.link mid None c.loop.invariant.brought
     (brought_none handed host c.loop.port c.loop.link mid c.in-Ok.ensures.handed) in
@@ -98,9 +98,9 @@ returns-in-Err-hear-clause-brought g c =
 
 pub returns-in-Err-hear-clause-fetched : goal.returns-in-Err-hear-clause-fetched
 returns-in-Err-hear-clause-fetched g c =
-    around_whole g.L.Link.sent c.args.hub.now.origin c.args.ports.now c.args.hub_seat.now c.send_each.new.hub_seat c.args.link.now c.hear.new.link
-    (rounds_still g.L.Link.sent c.args.hub.now.origin c.args.ports.now c.args.hub_seat.now c.send_each.new.hub_seat c.args.link.now
+    around_whole g.L.Link.sent c.args.route.now.hub.now.origin c.args.route.now.ports.now c.args.hub_seat.now c.send_each.new.hub_seat c.args.link.now c.hear.new.link
+    (rounds_still g.L.Link.sent c.args.route.now.hub.now.origin c.args.route.now.ports.now c.args.hub_seat.now c.send_each.new.hub_seat c.args.link.now
     c.send_each.new.link c.hear.new.link
-    (rounds_on g.L.Link.sent c.args.hub.now.origin c.args.ports.now c.args.hub_seat.now c.loop.hub_seat c.send_each.new.hub_seat c.args.link.now
+    (rounds_on g.L.Link.sent c.args.route.now.hub.now.origin c.args.route.now.ports.now c.args.hub_seat.now c.loop.hub_seat c.send_each.new.hub_seat c.args.link.now
     c.loop.link c.send_each.new.link (Ok c.in-Ok.sent) c.loop.invariant.fetched c.in-Ok.ensures.fetched
     (going_on c.in-Ok.sent.ended c.if-sent.false) refl) c.in-Err-hear.ensures.sent)

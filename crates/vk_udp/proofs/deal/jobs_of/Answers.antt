@@ -47,6 +47,6 @@ returns g c =
     let carries = as_named (λ s h k. IsNodePort s h k false c.in_ok-port-2.port) stock.cell.now new.cell.now stock.hub.now new.hub.now stock.host
     new.host (ap (λ s. s.now) c.port.ensures.cell ∙ cell) (ap (λ h. h.now) c.port.ensures.hub ∙ hub) (c.port.ensures.host ∙ host)
     c.in_ok-port-2.ensures.port in
-    node_dealt stock.cell.now stock.hub.now stock.host c.args.programs.items c.args.rounds c.args.ports.now c.args.hub_seat c.args.link
+    node_dealt stock.cell.now stock.hub.now stock.host c.args.roster.programs.items c.args.roster.rounds c.args.roster.ports.now c.args.roster.fetches c.args.roster.link
     c.add_programs.new.jobs.items c.push.new.self.items c.push-2.new.self.items c.in_ok-port.port c.in_ok-port-2.port c.in_ok-clock.clock
     c.in_ok-carrier.carrier each c.in_ok-push.ensures.items c.in_ok-push-2.ensures.items ticks c.in_ok-clock.ensures carries c.in_ok-carrier.ensures

@@ -18,9 +18,9 @@ returns c =
     ∙ append_assoc (all_hub_seats ends) (c.args.fetches ∷ []) (c.args.halt ∷ []) in
     record {
       heard = c.close-closed.result.history;
-      back = subst (λ (l : List (Sitting HubLog HubEvent)). HaveComeBack c.args.hub.seats l c.close-closed.result.history) seated
+      back = subst (λ (l : List (Sitting HubLog HubEvent)). HaveComeBack c.args.node.hub.seats l c.close-closed.result.history) seated
           (record { seen = closed.seen; mine = closed.mine; others = closed.others; different = closed.different; numbers = closed.numbers });
-      shut = subst (AreShut (site_of c.args.host c.args.cell ∷ []) (all_spares ends)) c.one_log.ensures
-          (subst (λ (l : List Spare). AreShut (site_of c.args.host c.args.cell ∷ []) l c.in_ok-logs.logs.items) c.in_ok-seats.ensures.spares
+      shut = subst (AreShut (site_of c.args.node.host c.args.node.cell ∷ []) (all_spares ends)) c.one_log.ensures
+          (subst (λ (l : List Spare). AreShut (site_of c.args.node.host c.args.node.cell ∷ []) l c.in_ok-logs.logs.items) c.in_ok-seats.ensures.spares
           (subst (λ (l : List Site). AreShut l c.in_ok-seats.field-0.seats.items c.in_ok-logs.logs.items) c.in_ok-sites.ensures c.in_ok-logs.ensures));
     }

@@ -8,7 +8,7 @@ use Rattle.vk_udp.proofs.node.run_jobs.Goals as goal
 pub returns-in-Ok-run_all-clause-crew : goal.returns-in-Ok-run_all-clause-crew
 returns-in-Ok-run_all-clause-crew g c =
     let stock = c.args.stock in
-    let count = dealt_count stock.cell.now stock.hub.now stock.host c.args.programs.items c.args.rounds c.args.ports.now c.args.fetches c.args.link
+    let count = dealt_count stock.cell.now stock.hub.now stock.host c.args.roster.programs.items c.args.roster.rounds c.args.roster.ports.now c.args.roster.fetches c.args.roster.link
     c.in-Ok.jobs.items c.in-Ok.ensures in (
       c.in-Ok-run_all.ensures.cause,
       c.in-Ok-run_all.ensures.jobs

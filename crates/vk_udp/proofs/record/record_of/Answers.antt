@@ -8,7 +8,7 @@ whole_record-requires-clause-ended g c =
       t.0,
       t.2,
       t.4.n,
-      ended g.W.L.Link.handed g.W.L.Link.sent g.W.L.Link.fault_count c.args.config.now c.args.host c.args.cell c.args.hub t.0 t.1 t.2 t.3 c.args.ends.items
+      ended g.W.L.Link.handed g.W.L.Link.sent g.W.L.Link.fault_count c.args.config.now c.args.node.host c.args.node.cell c.args.node.hub t.0 t.1 t.2 t.3 c.args.ends.items
           c.args.halt t.4
           c.take_carried-end.new.ends.items c.take_carried-end.result c.take_carried-end.ensures c.in-Ok.all.items c.in-Ok.ensures,
     )
@@ -23,12 +23,12 @@ returns-in-Ok-whole_record-clause-ran g c = λ rounds ports tasks start new it.
     let sound : faults x.link ≡ 0 = omega (arith, c.faults-failed.ensures, c.if-failed.false) in
     let limited = c.in-Ok-whole_record.record.limited in
     let log = c.in-Ok-whole_record.record.log in
-    node_record handed given faults c.args.config.now c.args.host c.args.cell c.args.hub rounds ports tasks start c.args.ends.items c.args.halt it rest x
+    node_record handed given faults c.args.config.now c.args.node.host c.args.node.cell c.args.node.hub rounds ports tasks start c.args.ends.items c.args.halt it rest x
     c.take_carried-end.ensures (g.W.Wire.handed c.args.wire.now) (g.W.Wire.handed c.close.new.self) new sound c.close.ensures.handed limited log
     (c.in-Ok-whole_record.ensures.ran rounds tasks it.n
-    (ended handed given faults c.args.config.now c.args.host c.args.cell c.args.hub rounds ports tasks start c.args.ends.items c.args.halt it rest x
+    (ended handed given faults c.args.config.now c.args.node.host c.args.node.cell c.args.node.hub rounds ports tasks start c.args.ends.items c.args.halt it rest x
     c.take_carried-end.ensures c.in-Ok.all.items c.in-Ok.ensures)
-    (sound_link handed given faults c.args.config.now c.args.host c.args.cell c.args.hub rounds ports tasks start c.args.ends.items c.args.halt it rest x
+    (sound_link handed given faults c.args.config.now c.args.node.host c.args.node.cell c.args.node.hub rounds ports tasks start c.args.ends.items c.args.halt it rest x
     c.take_carried-end.ensures (g.W.Wire.handed c.args.wire.now) (g.W.Wire.handed c.close.new.self) new sound c.close.ensures.handed))
 
 pub returns-in-Ok-whole_record-clause-sent : goal.returns-in-Ok-whole_record-clause-sent
@@ -38,9 +38,9 @@ returns-in-Ok-whole_record-clause-sent g c = λ rounds ports tasks start new it 
     let handed = g.W.L.Link.handed in
     let given = g.W.L.Link.sent in
     let faults = g.W.L.Link.fault_count in
-    node_sent handed given faults c.args.config.now c.args.host c.args.cell c.args.hub rounds ports tasks start c.args.ends.items c.args.halt it rest x
+    node_sent handed given faults c.args.config.now c.args.node.host c.args.node.cell c.args.node.hub rounds ports tasks start c.args.ends.items c.args.halt it rest x
     c.take_carried-end.ensures (g.W.Wire.sent c.args.wire.now) (g.W.Wire.sent c.close.new.self) c.in-Ok-whole_record.record.log.events new
     c.close.ensures.sent stations
     (c.in-Ok-whole_record.ensures.own rounds tasks it.n
-    (ended handed given faults c.args.config.now c.args.host c.args.cell c.args.hub rounds ports tasks start c.args.ends.items c.args.halt it rest x
+    (ended handed given faults c.args.config.now c.args.node.host c.args.node.cell c.args.node.hub rounds ports tasks start c.args.ends.items c.args.halt it rest x
     c.take_carried-end.ensures c.in-Ok.all.items c.in-Ok.ensures))

@@ -11,21 +11,21 @@ use Rattle.vk_udp.proofs.record.whole_record.Goals as goal
 pub close_node-requires-clause-ready : goal.close_node-requires-clause-ready
 close_node-requires-clause-ready c =
     let t = c.requires.ended in
-    all_ready c.args.config.now c.args.host c.args.cell c.args.hub t.0 t.1 t.2 c.args.ends.items c.args.fetches c.args.halt c.requires.station t.3
+    all_ready c.args.config.now c.args.node.host c.args.node.cell c.args.node.hub t.0 t.1 t.2 c.args.ends.items c.args.fetches c.args.halt c.requires.station t.3
 
 pub close_node-requires-clause-seats : goal.close_node-requires-clause-seats
 close_node-requires-clause-seats c =
     let t = c.requires.ended in
-    hub_all c.args.config.now c.args.host c.args.cell c.args.hub t.0 t.1 t.2 c.args.ends.items c.args.fetches c.args.halt c.requires.station t.3
+    hub_all c.args.config.now c.args.node.host c.args.node.cell c.args.node.hub t.0 t.1 t.2 c.args.ends.items c.args.fetches c.args.halt c.requires.station t.3
 
 pub close_node-requires-clause-all : goal.close_node-requires-clause-all
 close_node-requires-clause-all c =
     let t = c.requires.ended in
-    hub_count c.args.config.now c.args.host c.args.cell c.args.hub t.0 t.1 t.2 c.args.ends.items c.args.fetches c.args.halt c.requires.station t.3
+    hub_count c.args.config.now c.args.node.host c.args.node.cell c.args.node.hub t.0 t.1 t.2 c.args.ends.items c.args.fetches c.args.halt c.requires.station t.3
 
 pub returns-clause-ran : goal.returns-clause-ran
 returns-clause-ran c = λ rounds tasks n ended failed.
-    recorded c.args.config.now c.args.host c.args.cell c.args.hub rounds tasks n c.args.ends.items c.args.fetches c.args.halt c.requires.station ended
+    recorded c.args.config.now c.args.node.host c.args.node.cell c.args.node.hub rounds tasks n c.args.ends.items c.args.fetches c.args.halt c.requires.station ended
     c.in_ok-log.log c.in_ok-log.ensures c.closed_nodes_are_runs.ensures c.times-lawful.ensures.lawful
     (subst (Each (λ (s : ProcessSpec). IsPid s.pid)) c.specs.ensures.specs c.pids_are.ensures)
     (subst (Each IsReadableEvent) c.as_slice.ensures c.all_readable.ensures) (subst (Each Fits) c.as_slice-2.ensures c.all_fit.ensures)
@@ -33,7 +33,7 @@ returns-clause-ran c = λ rounds tasks n ended failed.
 
 pub returns-clause-own : goal.returns-clause-own
 returns-clause-own c = λ rounds tasks n ended.
-    sends_own c.args.config.now c.args.host c.args.cell c.args.hub rounds tasks n c.args.ends.items c.args.fetches c.args.halt c.requires.station ended
+    sends_own c.args.config.now c.args.node.host c.args.node.cell c.args.node.hub rounds tasks n c.args.ends.items c.args.fetches c.args.halt c.requires.station ended
     c.in_ok-log.log c.in_ok-log.ensures c.nodes_send_their_own.ensures c.times-lawful.ensures.lawful
     (subst (Each (λ (s : ProcessSpec). IsPid s.pid)) c.specs.ensures.specs c.pids_are.ensures)
     (subst (Each IsReadableEvent) c.as_slice.ensures c.all_readable.ensures)

@@ -10,14 +10,14 @@ use Rattle.v_machine.proofs.tables.put.put_answer_with.Goals as goal
 pub returns-clause-kernel : goal.returns-clause-kernel
 returns-clause-kernel c = on_ok_weaker c.answer_with.result
     (λ put. λ pid e is there.
-    kernel-exchange _ _ _ _ _ _ (at_stage (stages.Replied c.args.message c.args.dest c.args.bytes)) pid c.args.at c.args.number
+    kernel-exchange _ _ _ _ _ _ (at_stage (stages.Replied c.args.reply.message c.args.reply.dest c.args.reply.bytes)) pid c.args.at c.args.number
     c.index_mut.result.now c.answer_with.new.sends e is c.requires c.index_mut.ensures.value there put)
     c.answer_with.ensures.ok
 
 pub returns-clause-indexed : goal.returns-clause-indexed
 returns-clause-indexed c = on_ok_weaker c.answer_with.result
     (λ put. λ pid e is there less old.
-    let change = at_stage (stages.Replied c.args.message c.args.dest c.args.bytes) in
+    let change = at_stage (stages.Replied c.args.reply.message c.args.reply.dest c.args.reply.bytes) in
     indexed_later c.args.store.now _ refl refl (length-set c.args.store.now.sends.items c.args.at c.answer_with.new.sends) refl refl refl
     refl
     (sends_even c.args.store.now.places c.args.store.now.procs.items c.args.store.now.sends.items c.args.store.now.asked.items

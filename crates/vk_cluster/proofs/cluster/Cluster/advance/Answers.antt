@@ -1,7 +1,7 @@
 use Rattle.std.proofs.Common.{◌≡◌, false, sym, ap, subst, ◌∙◌}
 use Rattle.std.specs.Prelude.{IfErr, IfOk, OnErr, true}
 use Rattle.vk_schedule.specs.Lawful.{has_actors}
-use Rattle.vk_cluster.specs.Clusters.{value_of}
+use Rattle.vk_cluster.specs.Clusters.{cluster_of}
 use Rattle.vk_cluster.specs.Standing.{IsAdvance, is_limit}
 use Rattle.vk_cluster.specs.Values.{ClusterValue, is_full}
 use Rattle.vk_cluster.proofs.Lasting.{stands_on}
@@ -16,7 +16,7 @@ advance-requires c = record {
 pub returns : goal.returns
 returns c =
     let r = c.advance.result in
-    let new = value_of c.advance.new.self in
+    let new = cluster_of c.advance.new.self in
     record {
       step = subst (λ (k : ClusterValue). IfOk r (IsAdvance k new c.args.event.now)) c.self.view_is c.advance.ensures.step;
       room = subst (λ (k : ClusterValue). IfOk r (λ _. is_full k ≡ false)) c.self.view_is c.advance.ensures.room;

@@ -1,7 +1,7 @@
 use Rattle.std.proofs.Common.{ap, sym, subst, ◌∙◌, arith}
 use Rattle.std.specs.Prelude.{slice_get}
 use Rattle.vk_base.specs.Settings.{has_station}
-use Rattle.vk_cluster.specs.Clusters.{value_of}
+use Rattle.vk_cluster.specs.Clusters.{cluster_of}
 use Rattle.vk_cluster.specs.Standing.{StandsFor}
 use Rattle.vk_cluster.specs.Values.{ClusterValue}
 use Rattle.vk_cluster.proofs.Arms.{found_at, host_is, place_low}
@@ -14,12 +14,12 @@ place_of-requires c = ap (λ (k : ClusterValue). has_station k.config.specs c.ar
 pub index-requires : goal.index-requires
 index-requires c =
     let parts = c.self.inside.parts in
-    let low = place_low (value_of parts) c.self.invariant c.place_of.result c.args.host c.place_of.ensures in
+    let low = place_low (cluster_of parts) c.self.invariant c.place_of.result c.args.host c.place_of.ensures in
     omega (arith, parts.hosts.ok.0)
 
 pub returns : goal.returns
 returns c =
-    let v = value_of c.self.inside.parts in
+    let v = cluster_of c.self.inside.parts in
     let low = place_low v c.self.invariant c.place_of.result c.args.host c.place_of.ensures in
     let s = c.index.result.now in
     let found = found_at v.hosts c.place_of.result s low c.index.ensures in

@@ -2,7 +2,7 @@ use Rattle.std.proofs.Common.{◌≡◌, sym, subst, ◌∙◌}
 use Rattle.std.proofs.lemmas.Option.{slice_get_within}
 use Rattle.vk_cluster.specs.declared.report.ClusterAnswer.TheVariants as answers
 use Rattle.vk_cluster.specs.declared.report.StepReport.{StepReport}
-use Rattle.vk_cluster.specs.Standing.{Tells, report_by}
+use Rattle.vk_cluster.specs.Standing.{TellsReport, report_by}
 use Rattle.vk_cluster.proofs.Told.{report_told, station_told}
 use Rattle.vk_cluster.proofs.cluster.Cluster.report.Goals as goal
 
@@ -12,7 +12,7 @@ station-station-requires c =
     slice_get_within c.args.self.now.hosts c.in-Event.place s.0 s.1
 
 pub returns-in-Missing : goal.returns-in-Missing
-returns-in-Missing c = λ r told. sym (subst (λ a. Tells c.args.self.now a r) c.in-Missing.is told)
+returns-in-Missing c = λ r told. sym (subst (λ a. TellsReport c.args.self.now a r) c.in-Missing.is told)
 
 pub returns-in-Event : goal.returns-in-Event
 returns-in-Event c = λ r told.

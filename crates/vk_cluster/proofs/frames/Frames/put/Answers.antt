@@ -1,21 +1,21 @@
 use Rattle.std.proofs.Common.{◌≡◌, ℕ, ◌+◌, List, ◌∷◌, ◌++◌, [], length, map, sym, ap, subst, ◌∙◌, arith}
 use Rattle.std.specs.Prelude.{sum_by}
 use Rattle.std.proofs.lemmas.List.{length-append, length-map}
-use Rattle.vk_cluster.specs.declared.frames.Place.{Place}
-use Rattle.vk_cluster.specs.Blocks.{AreKept, FrameList, bytes_of, frame_in}
+use Rattle.vk_cluster.specs.declared.frames.FramePlace.{FramePlace}
+use Rattle.vk_cluster.specs.Blocks.{AreKept, FrameList, block_bytes, placed_bytes}
 use Rattle.vk_cluster.proofs.Blocks.{IsNewPlace, put_frames, put_kept}
 use Rattle.vk_cluster.proofs.frames.Frames.put.Goals as goal
 
 pub invariant_of-self : goal.invariant_of-self
 invariant_of-self c =
-    let full : List (List ℕ) = map bytes_of c.self.inside.full.items in
+    let full : List (List ℕ) = map block_bytes c.self.inside.full.items in
     let last : List ℕ = c.self.inside.last.items in
     let f : List ℕ = c.args.frame.now in
-    let place : Place = record { from = c.len.result; count = length f; block = c.len-2.result; to = c.args.to } in
+    let place : FramePlace = record { from = c.len.result; count = length f; block = c.len-2.result; to = c.args.to } in
     let is : IsNewPlace full last f place = record {
       from = omega (arith, c.self.inside.last.ok.0);
       count = λ k. length f;
-      block = omega (arith, c.self.inside.full.ok.0, length-map c.self.inside.full.items bytes_of);
+      block = omega (arith, c.self.inside.full.ok.0, length-map c.self.inside.full.items block_bytes);
       to = c.requires.to;
     } in
     let kept = c.self.invariant.0 in
@@ -25,7 +25,7 @@ invariant_of-self c =
     let put =
     put_kept full last f c.self.inside.places.items c.self.inside.size place kept is c.requires.some (omega arith) in
     let P : List ℕ → Type 0 = λ l. AreKept full l (c.self.inside.places.items ++ place ∷ []) (c.self.inside.size + length f) in
-    let Q : List Place → Type 0 = λ ps. AreKept full c.push_bytes.new.bytes.items ps (c.self.inside.size + length f) in
+    let Q : List FramePlace → Type 0 = λ ps. AreKept full c.push_bytes.new.bytes.items ps (c.self.inside.size + length f) in
     let longer : length c.push_bytes.new.bytes.items ≡ length (last ++ f) = ap length c.push_bytes.ensures.items in
     let free = ap (λ (v : FrameList). v.bytes) c.self.view_is in
     let low = c.self.invariant.1 in
@@ -39,17 +39,17 @@ invariant_of-self c =
 
 pub returns-clause-items : goal.returns-clause-items
 returns-clause-items c =
-    let full : List (List ℕ) = map bytes_of c.self.inside.full.items in
+    let full : List (List ℕ) = map block_bytes c.self.inside.full.items in
     let last : List ℕ = c.self.inside.last.items in
     let f : List ℕ = c.args.frame.now in
-    let place : Place = record { from = c.len.result; count = length f; block = c.len-2.result; to = c.args.to } in
+    let place : FramePlace = record { from = c.len.result; count = length f; block = c.len-2.result; to = c.args.to } in
     let is : IsNewPlace full last f place = record {
       from = omega (arith, c.self.inside.last.ok.0);
       count = λ k. length f;
-      block = omega (arith, c.self.inside.full.ok.0, length-map c.self.inside.full.items bytes_of);
+      block = omega (arith, c.self.inside.full.ok.0, length-map c.self.inside.full.items block_bytes);
       to = c.requires.to;
     } in
-    ap (λ l. map (frame_in full l) c.push_reserved.new.self.items) c.push_bytes.ensures.items
-    ∙ ap (map (frame_in full (last ++ f))) c.push_reserved.ensures.items
+    ap (λ l. map (placed_bytes full l) c.push_reserved.new.self.items) c.push_bytes.ensures.items
+    ∙ ap (map (placed_bytes full (last ++ f))) c.push_reserved.ensures.items
     ∙ put_frames full last f c.self.inside.places.items place c.self.invariant.0.within is
     ∙ ap (λ (v : FrameList). v.items ++ f ∷ []) c.self.view_is

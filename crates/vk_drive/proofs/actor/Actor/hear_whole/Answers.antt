@@ -1,15 +1,19 @@
-use Rattle.std.proofs.Common.{[], ◌∷◌, ◌++◌, refl, sym, subst, inl, inr}
+use Rattle.std.proofs.Common.{[], ◌∷◌, ◌++◌, Some, false, refl, sym, ap, subst, ◌∙◌, inl, inr}
 use Rattle.vk_base.specs.declared.event.EventAnswer.TheVariants as given
-use Rattle.vk_drive.specs.Driving.{IsActor}
-use Rattle.vk_drive.proofs.Acting.{hears_begun, hears_silent}
+use Rattle.vk_drive.specs.declared.actor.Actor.{Actor}
+use Rattle.vk_drive.specs.Driving.{IsActor, tells_too_early}
+use Rattle.vk_drive.proofs.Acting.{hears_answer, hears_begun, hears_silent}
 use Rattle.vk_drive.proofs.actor.Actor.hear_whole.Goals as goal
 
 pub returns-in-Begun : goal.returns-in-Begun
-returns-in-Begun c t heard is = hears_begun t heard c.args.self.now _ c.args.answer is c.requires c.in-Begun.is refl
+returns-in-Begun c t heard is = hears_begun t heard c.args.self.now _ c.args.answer is c.requires.told c.in-Begun.is refl
 
 pub returns-in-Answered : goal.returns-in-Answered
 returns-in-Answered c t heard is =
-    subst (λ x. IsActor c.hear_answer.new.self t (heard ++ x ∷ [])) (sym c.in-Answered.is) (c.hear_answer.ensures t heard is)
+    let answer = c.in-Answered.answer in
+    let new : Actor = record c.args.self.now { told = Some answer; waits = false } in
+    subst (λ x. IsActor new t (heard ++ x ∷ [])) (sym c.in-Answered.is)
+    (hears_answer t heard c.args.self.now new answer is c.requires.told (ap tells_too_early (sym c.in-Answered.is) ∙ c.requires.late) refl)
 
 pub returns-in-Ticked : goal.returns-in-Ticked
 returns-in-Ticked c t heard is =

@@ -1,12 +1,12 @@
 use Rattle.std.proofs.Common.{◌≡◌, ℕ, ◌<◌, ◌%◌, refl, sym, ap, subst, ◌∙◌, arith}
-use Rattle.vk_cluster.specs.Standing.{logs_of, report_of}
+use Rattle.vk_cluster.specs.Standing.{logs_of, step_report}
 use Rattle.vk_schedule.specs.Lawful.{has_actors}
 use Rattle.vk_generator.specs.Numbers.{drawn, next}
 use Rattle.vk_rules.specs.Histories.{happened, history_of}
 use Rattle.vk_drive.specs.Storms.{process_choice, process_event}
 use Rattle.vk_drive.specs.Tasks.{settings, specs, task_at}
 use Rattle.vk_drive.specs.Told.{answered_to}
-use Rattle.vk_drive.proofs.Chosen.{IsHeard, process_acts, process_hears, processes_differ}
+use Rattle.vk_drive.proofs.Chosen.{HearsOneAnswer, process_acts, process_hears, processes_differ}
 use Rattle.vk_drive.proofs.Playing.{played}
 use Rattle.vk_drive.proofs.driver.Driver.act.Goals as goal
 
@@ -37,7 +37,7 @@ pub hear-requires-clause-told : goal.hear-requires-clause-told
 hear-requires-clause-told c =
     let es = c.requires.0 in
     let h = happened settings (logs_of settings es) c.view.result in
-    (report_of h, (c.in_ok-advance.ensures.happened es c.requires.1.course).told)
+    (step_report h, (c.in_ok-advance.ensures.happened es c.requires.1.course).told)
 
 pub returns-clause-played : goal.returns-clause-played
 returns-clause-played c es is =
@@ -50,13 +50,13 @@ returns-clause-played c es is =
     let e = c.view.result in
     let h = happened settings logs e in
     let event : e ≡ process_event (task_at place) (answered_to (task_at place).pid hs) = c.view.ensures ∙ its.event in
-    let heard : IsHeard settings logs (task_at place).pid e =
-    subst (IsHeard settings logs (task_at place).pid) (sym event)
+    let heard : HearsOneAnswer settings logs (task_at place).pid e =
+    subst (HearsOneAnswer settings logs (task_at place).pid) (sym event)
     (process_hears settings logs place (answered_to (task_at place).pid hs)) in
     let happens = c.in_ok-advance.ensures.happened es is.course in
     let drawn_is : place ≡ drawn (next old.generator) % 4 =
     ap (λ d. d % 4) (c.draw.ensures.drawn ∙ ap drawn c.draw.ensures.state) in
     played es old _ (process_choice old.generator hs) e c.in_ok-advance.advance is refl happens c.draw.ensures.state (sym c.view.ensures)
     (event ∙ ap (λ p. process_event (task_at p) (answered_to (task_at p).pid hs)) drawn_is)
-    (c.hear.ensures hs h heard.answer (report_of h) its.actors_are happens.told heard.reported heard.own
+    (c.hear.ensures hs h heard.answer (step_report h) its.actors_are happens.told heard.reported heard.own
     (λ q few apart. heard.others (task_at q).pid (processes_differ place q low few apart)))

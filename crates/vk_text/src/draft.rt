@@ -1,0 +1,111 @@
+//! Text that is written into known room, where nothing fails, before it is appended at once.
+
+ghost use Rattle.std.specs.Prelude.{◌≡◌, ◌+◌, ◌<◌, ◌≤◌, ◌++◌, ◌∷◌, [], length, OnOk, OnErr};
+ghost use Rattle.hex.specs.Hex.{encode_lower};
+
+use crate::digits::encode;
+use crate::spelling::put;
+use std::marker::Model;
+use vk_base::NoMemory;
+
+/// The bytes that a draft has room for. So many are cleared without a call.
+pub const DRAFT_ROOM: usize = 240;
+
+/// Text that is being written. Contracts see its bytes.
+#[derive(Drop)]
+pub struct Draft {
+    bytes: [u8; DRAFT_ROOM],
+    len: usize,
+}
+
+impl Model for Draft {
+    ghost use Rattle.std.specs.Prelude.{ℕ, List, ◌≡◌, ◌≤◌, length, take};
+
+    ghost Value = { List ℕ };
+
+    ghost view = { λ d. take d.len d.bytes };
+
+    ghost invariant = { λ d. (d.len ≤ 240) × (length d.bytes ≡ 240) };
+}
+
+impl Draft {
+    /// No text.
+    pub fn new() -> Self
+        ensures { result ≡ [] }
+    {
+        Draft {
+            bytes: [0; DRAFT_ROOM],
+            len: 0,
+        }
+    }
+
+    /// How many bytes are written.
+    #[inline(always)]
+    pub fn len(&self) -> usize
+        ensures value { result ≡ length self.now }
+        ensures fits { result ≤ DRAFT_ROOM }
+    {
+        self.len
+    }
+
+    /// What is written.
+    #[inline(always)]
+    pub fn as_slice(&self) -> &[u8]
+        ensures { result.now ≡ self.now }
+    {
+        &self.bytes[..self.len]
+    }
+
+    /// Begins anew.
+    #[inline(always)]
+    pub fn clear(&mut self)
+        ensures { self.new ≡ [] }
+    {
+        self.len = 0;
+    }
+
+    /// Writes one byte, for which there is room.
+    #[inline(always)]
+    pub fn byte(&mut self, byte: u8)
+        requires { length self.old < DRAFT_ROOM }
+        ensures { self.new ≡ self.old ++ byte ∷ [] }
+    {
+        self.bytes[self.len] = byte;
+        self.len += 1;
+    }
+
+    /// Writes the bytes, for which there is room. Where it is known how many they are, nothing is called for them.
+    #[inline(always)]
+    pub fn put(&mut self, bytes: &[u8])
+        requires { length self.old + length bytes.now ≤ DRAFT_ROOM }
+        ensures { self.new ≡ self.old ++ bytes.now }
+    {
+        let end = self.len + bytes.len();
+        self.bytes[self.len..end].copy_from_slice(bytes);
+        self.len = end;
+    }
+
+    /// Writes the hexadecimal of at most 32 bytes.
+    #[inline(always)]
+    pub fn hexadecimal(&mut self, bytes: &[u8])
+        requires few { length bytes.now ≤ 32 }
+        requires room { length self.old + 64 ≤ DRAFT_ROOM }
+        ensures { self.new ≡ self.old ++ encode_lower bytes.now }
+    {
+        let end = self.len + 2 * bytes.len();
+        encode(bytes, &mut self.bytes[self.len..end]);
+        self.len = end;
+    }
+}
+
+/// Appends what is written, and begins anew. A refusal appends nothing.
+#[inline(always)]
+pub fn give(into: &mut Vec<u8>, draft: &mut Draft) -> Result<(), NoMemory>
+    ensures ok { OnOk result (into.new.items ≡ into.old.items ++ draft.old) }
+    ensures empty { OnOk result (draft.new ≡ []) }
+    ensures err { OnErr result (into.new.items ≡ into.old.items) }
+{
+    put(into, draft.as_slice())?;
+    draft.clear();
+    Ok(())
+}
