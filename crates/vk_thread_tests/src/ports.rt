@@ -20,6 +20,7 @@ const TIMES: Times = Times {
     life: 8,
 };
 
+/// The configuration of these processes, where there is one, with the times of all tests here and a pool of 16.
 pub fn config_of(alloc: Global, specs: &[ProcessSpec]) -> Option<Config> {
     match Config::new(alloc, TIMES, 16, specs) {
         Ok(config) => Some(config),
@@ -27,6 +28,7 @@ pub fn config_of(alloc: Global, specs: &[ProcessSpec]) -> Option<Config> {
     }
 }
 
+/// A process of these numbers, with 64 bytes of memory.
 pub fn process(host: u16, local: u16) -> ProcessSpec
     requires { (0 < host) × (host < 65535) × (0 < local) }
 {

@@ -60,6 +60,7 @@ impl Tally {
     }
 }
 
+/// Whether the gate goes up while it is looked at.
 pub fn is_up(gate: &AtomicBool) -> bool {
     for _ in 0..10_000_000 {
         if gate.load(SeqCst) {
@@ -245,14 +246,14 @@ fn both_go<R: Threads + Wait + Sync>(
     rt: &R,
     alloc: Global,
     waiting: &TurnCell<Tally>,
-    one: TurnSeat<Tally>,
     going: &TurnCell<Tally>,
-    two: TurnSeat<Tally>,
+    seats: (TurnSeat<Tally>, TurnSeat<Tally>),
     gate: &AtomicBool,
 ) -> (TurnSeat<Tally>, TurnSeat<Tally>)
-    requires { IsSeatOf waiting.now one × IsSeatOf going.now two }
-    ensures { IsSameSeat one result.0 × IsSameSeat two result.1 }
+    requires { IsSeatOf waiting.now seats.0 × IsSeatOf going.now seats.1 }
+    ensures { IsSameSeat seats.0 result.0 × IsSameSeat seats.1 result.1 }
 {
+    let (one, two) = seats;
     join(
         rt,
         || enter_one(rt, alloc, waiting, one),
@@ -274,7 +275,7 @@ fn cells_go_on_beside_each_other(rt: HostRuntime) -> Result<(), Fail> {
     };
     let one = ones.pop().expect(&rt, "a seat");
     let two = twos.pop().expect(&rt, "a seat");
-    let (one, _two) = both_go(&rt, alloc, &waiting, one, &going, two, &gate);
+    let (one, _two) = both_go(&rt, alloc, &waiting, &going, (one, two), &gate);
     let tally = close_one(waiting, ones, one);
     assert!(rt; tally.saw_gate && tally.len() == 1);
     Ok(())
