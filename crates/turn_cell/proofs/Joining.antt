@@ -1,5 +1,5 @@
 -- A seat that ends in another keeps the rule.
-use Rattle.std.proofs.Common.{◌≡◌, ◌≢◌, ℕ, ◌<◌, ◌≤◌, true, false, true≢false, List, set, refl, sym, ◌∙◌, subst, arith, ◌⊎◌, ⊎_elim, inl, inr, le_refl}
+use Rattle.std.proofs.Common.{◌≡◌, ◌≢◌, ℕ, ◌<◌, ◌≤◌, true, false, List, set, refl, sym, ◌∙◌, subst, arith, ◌⊎◌, ⊎_elim, inl, inr, le_refl}
 use mathlib.Core.Option.{some}
 use lib.ListN.{get_elem?}
 use Rattle.atomic_table.specs.Table.{State, Joins}

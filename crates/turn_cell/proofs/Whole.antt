@@ -1,5 +1,5 @@
 -- n different numbers below n are all of them, in some order.
-use Rattle.std.proofs.Common.{◌≡◌, ℕ, zero, suc, ◌+◌, ◌<◌, List, [], ◌∷◌, ◌++◌, length, get_or, refl, sym, ap, ◌∙◌, subst, arith, Bool, true, false, true≢false, eqb, eqb-true, eq-eqb, ne_eqb, ◌||◌, map, map-id, All, Contains}
+use Rattle.std.proofs.Common.{◌≡◌, ℕ, zero, suc, ◌+◌, ◌<◌, List, [], ◌∷◌, ◌++◌, length, get_or, refl, sym, ap, ◌∙◌, subst, arith, Bool, true, false, eqb, eqb-true, eq-eqb, ne_eqb, ◌||◌, map-id}
 use Rattle.std.specs.List.{IsDistinct, AllByRecursion, list_any, range_with_len, remove}
 use Rattle.std.specs.List.Sorted.{IsPermutation}
 use Rattle.std.proofs.lemmas.List.Elements.{All-from_recursion, recursion_from_All}

@@ -3,11 +3,14 @@ ghost use Rattle.std.specs.Prelude.{◌≡◌, ℕ, ◌+◌, ◌^◌, ◌<◌, B
 ghost use Rattle.turn_cell.specs.Rooms.{is_full};
 
 use std::alloc::Global;
+use thiserror::Error;
 
 /// Why an event is not entered: the history may not grow by it, or memory was wanting.
-#[derive(Clone, Copy, Debug, PartialEq, Eq)]
+#[derive(Clone, Copy, Debug, PartialEq, Eq, Error)]
 pub enum Room {
+    #[error("the history is full")]
     Full,
+    #[error("out of memory")]
     NoMemory,
 }
 

@@ -2,7 +2,7 @@
 use Rattle.std.proofs.Common.{◌≡◌, ℕ, ◌<◌, List, slice_get, Option, Some, sym, ap, subst, ◌∙◌}
 use Rattle.std.proofs.lemmas.Option.{same_Some}
 use Rattle.v_whole.proofs.Traced.{finished_is}
-use Rattle.vk_types.specs.Types.{Answer, Call, Message, Observation, Pid, Process, ProcessSpec, State, Step}
+use Rattle.vk_types.specs.Types.{Answer, Call, Message, Observation, Pid, Process, ProcessSpec, Step}
 use Rattle.vk_base.specs.declared.answer.Answer.TheVariants as answers
 use Rattle.vk_base.specs.declared.call.Call.TheVariants as calls
 use Rattle.vk_base.specs.declared.kernel.State.TheVariants as states

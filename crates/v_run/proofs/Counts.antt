@@ -6,7 +6,7 @@ use Rattle.vk_base.specs.declared.event.StationEvent.TheVariants as events
 use Rattle.vk_hub.specs.declared.event.Fetched.{Fetched}
 use Rattle.vk_hub.specs.declared.event.HubEvent.{HubEvent}
 use Rattle.vk_hub.specs.declared.event.HubEvent.TheVariants as hub_events
-use Rattle.vk_hub.specs.Counting.{all_gets, all_posts, copies, gets, hits}
+use Rattle.vk_hub.specs.Counting.{all_gets, all_posts, gets, hits}
 use Rattle.vk_hub.specs.Counting as counting
 use Rattle.vk_hub.specs.Hubs.{HubLog, Traffic, fetched_from, first_traffic, is_halt, others, traffic_of}
 use Rattle.vk_hub.specs.Links.{Frame}

@@ -1,5 +1,5 @@
 -- Where no job met a Room every program has finished: one that was told to stop has not, so the hub was halted, or another finished twice.
-use Rattle.std.proofs.Common.{◌≡◌, ◌≢◌, ℕ, ◌+◌, ◌*◌, ◌<◌, ◌≤◌, ◌||◌, Bool, true, false, Option, Some, None, List, [], ◌∷◌, ◌++◌, cond, refl, sym, ap, ◌∙◌, subst, arith, ◌⊎◌, inl, inr, nat_le}
+use Rattle.std.proofs.Common.{◌≡◌, ◌≢◌, ℕ, ◌+◌, ◌*◌, ◌<◌, ◌≤◌, Bool, true, false, Option, Some, None, List, [], ◌∷◌, ◌++◌, cond, refl, sym, ap, ◌∙◌, subst, arith, ◌⊎◌, inl, inr, nat_le}
 use Rattle.std.proofs.lemmas.Bool.{leb-true}
 use mathlib.Core.List.{IsPrefix}
 use Rattle.std.specs.Prelude.{if◌then◌else◌}

@@ -6,7 +6,7 @@ use Rattle.vk_types.specs.Types.{StationEvent}
 use Rattle.vk_base.proofs.SettingsLemmas.{among_stations}
 use Rattle.vk_base.specs.Settings.{Settings, has_station, stations_of}
 use Rattle.vk_hub.specs.declared.event.HubEvent.{HubEvent}
-use Rattle.vk_hub.specs.Counting.{all_gets, all_posts, copies, gets}
+use Rattle.vk_hub.specs.Counting.{all_posts, copies, gets}
 use Rattle.vk_hub.specs.Counting as counting
 use Rattle.vk_hub.specs.Hubs.{HubLog, traffic_of}
 use Rattle.vk_hub.specs.Links.{Frame, header_of, is_addressed}

@@ -155,9 +155,11 @@ fn write_made(
     call: &CallView,
 ) -> Result<(), NoMemory>
     requires { length draft.old + 152 ≤ ROOM }
-    ensures ok { OnOk result (into.new.items ++ draft.new ≡ (into.old.items ++ draft.old) ++ spaced (codes "call") (pid_text pid ∷ call_words call.now)) }
+    ensures ok { OnOk result (into.new.items ++ draft.new
+        ≡ (into.old.items ++ draft.old) ++ spaced (codes "call") (pid_text pid ∷ call_words call.now)) }
     ensures few { OnOk result (length draft.new ≤ length draft.old + 142) }
     ensures front { StartsWith into.old.items into.new.items }
+    ensures whole { StartsWith (into.old.items ++ draft.old) (into.new.items ++ draft.new) }
 {
     draft_of(draft, b"call", pid);
     draft.byte(b' ');
@@ -176,6 +178,7 @@ pub fn go_on_with_step(
     ensures ok { OnOk result (into.new.items ++ draft.new ≡ (into.old.items ++ draft.old) ++ step_text step.now) }
     ensures few { OnOk result (length draft.new ≤ length draft.old + 142) }
     ensures front { StartsWith into.old.items into.new.items }
+    ensures whole { StartsWith (into.old.items ++ draft.old) (into.new.items ++ draft.new) }
 {
     let (brief, bytes) = step.parts();
     if let BriefStep::Call { pid, ref call } = *brief {

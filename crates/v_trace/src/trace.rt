@@ -7,6 +7,7 @@ ghost use Rattle.v_trace.specs.Traces.{KeepsLines, trace_of};
 use crate::buffer::StepBuffer;
 use crate::reader::StepReader;
 use std::alloc::Global;
+use thiserror::Error;
 use vk_base::{Config, List, Pid, Step};
 
 /// Any pid.
@@ -20,10 +21,12 @@ pub struct Trace {
 }
 
 /// Why a text gives no trace.
-#[derive(Clone, Copy, Debug, PartialEq, Eq)]
+#[derive(Clone, Copy, Debug, PartialEq, Eq, Error)]
 pub enum TraceRefusal {
     /// The first bad line. Lines count from 1; the empty text is bad in line 1.
+    #[error("line {line} is not valid")]
     BadInput { line: u64 },
+    #[error("out of memory")]
     NoMemory,
 }
 

@@ -179,7 +179,9 @@ fn reserve_one(spans: &mut Vec<Span>) -> Result<(), NoMemory>
     ensures same { spans.new.items ≡ spans.old.items }
     ensures room { OnOk result (vec_len spans.new < vec_capacity spans.new) }
 {
-    spans.reserve(1)?;
+    if spans.len() == spans.capacity() {
+        spans.reserve(1)?;
+    }
     Ok(())
 }
 

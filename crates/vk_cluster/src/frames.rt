@@ -84,7 +84,7 @@ impl Frames {
         ensures bytes { OnOk result (bytes ≤ self.new.bytes) }
         ensures frames { OnOk result (frames ≤ self.new.places) }
     {
-        self.places.reserve(frames)?;
+        room_for_places(&mut self.places, frames)?;
         if BLOCK_BYTES - self.last.len() < bytes {
             next_block(alloc, &mut self.full, &mut self.last)?;
         }
@@ -151,6 +151,18 @@ fn next_block(alloc: Global, full: &mut Vec<Vec<u8>>, last: &mut Vec<u8>) -> Res
     full.reserve(1)?;
     let block = Vec::with_capacity(alloc, BLOCK_BYTES)?;
     full.push_reserved(replace(last, block));
+    Ok(())
+}
+
+/// Makes room for so many frames more. Most events find it.
+#[inline(always)]
+fn room_for_places(places: &mut Vec<FramePlace>, frames: usize) -> Result<(), NoMemory>
+    ensures same { places.new.items ≡ places.old.items }
+    ensures room { OnOk result (vec_len places.new + frames ≤ vec_capacity places.new) }
+{
+    if places.capacity() - places.len() < frames {
+        places.reserve(frames)?;
+    }
     Ok(())
 }
 

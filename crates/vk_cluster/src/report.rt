@@ -3,6 +3,7 @@
 ghost use Rattle.std.specs.Prelude.{◌≡◌};
 ghost use Rattle.vk_cluster.specs.declared.report.ClusterRefusal.TheVariants.{NoMemory as memory_wanting};
 
+use thiserror::Error;
 use vk_base::{EventAnswer, NoMemory};
 use vk_host::Response;
 
@@ -33,10 +34,12 @@ pub enum ClusterAnswer {
 }
 
 /// Why no event happened. Nothing has changed.
-#[derive(Clone, Copy, Debug, PartialEq, Eq)]
+#[derive(Clone, Copy, Debug, PartialEq, Eq, Error)]
 pub enum ClusterRefusal {
     /// There were 100,000 events, or the frames so far hold more than 266,076,160 bytes.
+    #[error("there are too many events, or too many bytes of frames")]
     Limit,
+    #[error("out of memory")]
     NoMemory,
 }
 

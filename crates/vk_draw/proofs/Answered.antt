@@ -6,7 +6,7 @@ use Rattle.vk_cluster.specs.declared.report.ClusterRefusal.{ClusterRefusal}
 use Rattle.vk_cluster.specs.declared.report.ClusterRefusal.TheVariants as clusters
 use Rattle.vk_edge.proofs.Inputs.{is_all, partly, too_many}
 use Rattle.vk_edge.specs.Answers.{CountsFaults, IsWritten}
-use Rattle.vk_edge.specs.Inputs.{IsReadOver, IsText, IsUnread, OfInput}
+use Rattle.vk_edge.specs.Inputs.{IsReadOver, IsText, IsUnread}
 use Rattle.vk_types.specs.Types.{ProcessSpec}
 use Rattle.vk_base.specs.declared.limits.TheConstants.{INPUT_BYTES}
 use Rattle.vk_schedule.specs.declared.schedule.Schedule.{Schedule}

@@ -4,6 +4,7 @@ ghost use Rattle.std.specs.Prelude.{◌≡◌, if◌then◌else◌};
 ghost use Rattle.vk_cluster.specs.Standing.{is_limit};
 ghost use Rattle.vk_drive.specs.declared.summary.StormRefusal.TheVariants.{Limit as too_much, NoMemory as memory_wanting};
 
+use thiserror::Error;
 use vk_base::NoMemory;
 use vk_cluster::ClusterRefusal;
 
@@ -25,10 +26,12 @@ pub struct StormSummary {
 }
 
 /// Why a storm is not told.
-#[derive(Clone, Copy, Debug, PartialEq, Eq)]
+#[derive(Clone, Copy, Debug, PartialEq, Eq, Error)]
 pub enum StormRefusal {
     /// The frames that were emitted before an event hold more than 266,076,160 bytes.
+    #[error("there are too many bytes of frames")]
     Limit,
+    #[error("out of memory")]
     NoMemory,
 }
 

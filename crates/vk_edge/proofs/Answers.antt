@@ -1,5 +1,5 @@
 -- What is told of faults.
-use Rattle.std.proofs.Common.{◌≡◌, ℕ, ◌<◌, ◌⊎◌, inl, inr, subst, arith}
+use Rattle.std.proofs.Common.{◌≡◌, ℕ, ◌<◌, inl, inr, subst, arith}
 use Rattle.vk_edge.specs.Answers.{CountsFaults, TellsFaults}
 use Rattle.vk_io.specs.Causes.{Rose}
 

@@ -1,5 +1,5 @@
 -- What a text of a scenario spells is lawful.
-use Rattle.std.proofs.Common.{◌≡◌, ℕ, ◌<◌, ◌≤◌, ◌==◌, ◌&&◌, ◌||◌, length, nat_le, Bool, true, false, cond, List, [], ◌∷◌, ◌++◌, map, Some, Result, Err, IfOk, None, Ok, refl, ap, sym, ◌∙◌, subst, append_assoc, arith}
+use Rattle.std.proofs.Common.{◌≡◌, ℕ, ◌<◌, ◌≤◌, ◌==◌, ◌&&◌, length, nat_le, Bool, true, false, cond, List, [], ◌∷◌, ◌++◌, map, Some, Result, Err, IfOk, None, Ok, refl, ap, sym, ◌∙◌, subst, append_assoc, arith}
 use Rattle.std.specs.List.{AllByRecursion, list_all, list_any}
 use Rattle.std.specs.Option.{option_map}
 use Rattle.std.proofs.lemmas.Bool.{and_from, and_parts, eqb-true, le-leb, or_right}

@@ -3,7 +3,6 @@ use Rattle.std.proofs.Common.{◌≡◌, ℕ, List, [], ◌∷◌, length, None,
 use Rattle.std.specs.Option.{option_map}
 use Rattle.std.proofs.lemmas.List.{length-map, length-replicate}
 use Rattle.v_lawful.proofs.Events.{slots_length}
-use Rattle.vk_base.specs.Kernel.{◌>>=◌}
 use Rattle.vk_base.specs.Settings.{Settings, pool_of}
 use Rattle.vk_rules.specs.Entries.{Entry}
 unfoldable use Rattle.vk_rules.specs.Readings.{reading, reading_after}

@@ -8,6 +8,7 @@ use std::alloc::Global;
 use std::sync::Wait;
 use std::thread::Threads;
 use std::time::Clock;
+use thiserror::Error;
 
 /// Some work, and what it gives back.
 pub trait Job: Send + Drop {
@@ -35,11 +36,13 @@ pub trait Pacer {
 }
 
 /// Why a crew ran its jobs to no end.
-#[derive(Clone, Copy, Debug, PartialEq, Eq)]
+#[derive(Clone, Copy, Debug, PartialEq, Eq, Error)]
 pub enum CrewError {
     /// The crew's count of faults rose.
+    #[error("the crew failed")]
     Failed,
     /// There was no memory for the jobs, or for their ends.
+    #[error("out of memory")]
     NoMemory,
 }
 

@@ -5,12 +5,16 @@ ghost use Rattle.std.specs.Io.KnownBytes.{ReadConsumes, WriteAppends, Keeps};
 ghost use Rattle.vk_io.specs.Tallies.{after_answer};
 ghost use Rattle.vk_io.specs.declared.edge.Tally.{Tally};
 
+use thiserror::Error;
+
 /// Why a call did nothing.
-#[derive(Clone, Copy, Debug, PartialEq, Eq)]
+#[derive(Clone, Copy, Debug, PartialEq, Eq, Error)]
 pub enum Hitch {
     /// Something came between. The call may be made again.
+    #[error("the call was interrupted")]
     Interrupted,
     /// The call met a fault.
+    #[error("the call met a fault")]
     Fault,
 }
 

@@ -27,7 +27,7 @@ use Rattle.vk_stands.proofs.ExitStands.{exit_answer, exit_packets_are, exit_stan
 use Rattle.vk_stands.proofs.Seats.{placed}
 use Rattle.vk_local.specs.Done.{IsExit}
 use Rattle.vk_local.specs.Exits as exits
-use Rattle.vk_local.specs.Exits.{is_left, left_in, left_of, negatives, sent_by, told_left, told_slot}
+use Rattle.vk_local.specs.Exits.{is_left, negatives, sent_by, told_left, told_slot}
 use Rattle.vk_local.specs.Rules.{IsExitRule, may_call}
 use Rattle.vk_local.proofs.Decided.{MayCall, ready_refusal}
 use Rattle.vk_local.proofs.Rules.{at_times, may_be}

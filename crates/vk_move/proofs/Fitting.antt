@@ -2,7 +2,7 @@
 use Rattle.std.proofs.Common.{◌≡◌, ◌≤◌, ◌<◌, ℕ, ◌+◌, Bool, true, false, cond, ◌&&◌, List, length, refl, ap, sym, ◌∙◌, subst, Option, Some, None}
 use Rattle.std.proofs.lemmas.Bool.{and_parts, leb-true}
 use Rattle.std.specs.Cmp.Derive.{both_true}
-use Rattle.vk_types.specs.Types.{Activity, Ending, MoveName, Outcome, Pid, Times, Waiting}
+use Rattle.vk_types.specs.Types.{Ending, MoveName, Outcome, Pid, Times, Waiting}
 use Rattle.vk_base.specs.declared.activity.Activity.TheVariants as activities
 use Rattle.vk_base.specs.declared.activity.Outcome.TheVariants as outcomes
 use Rattle.vk_base.specs.declared.activity.Waiting.TheVariants as waitings

@@ -10,11 +10,13 @@ ghost use Rattle.vk_names.specs.Kept.{is_under, same_id};
 
 use std::alloc::Global;
 use std::marker::Model;
+use thiserror::Error;
 use vk_base::limits::NAMES;
 use vk_base::{NoMemory, Pid, Registration, Scope};
 
 /// A station has registered as many names under other logical ids as it can.
-#[derive(Clone, Copy, Debug, PartialEq, Eq)]
+#[derive(Clone, Copy, Debug, PartialEq, Eq, Error)]
+#[error("no more logical ids can be registered")]
 pub struct NamesFull;
 
 /// The names that one station has registered, at most one under each logical id.

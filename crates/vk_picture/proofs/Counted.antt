@@ -1,5 +1,5 @@
 -- Which marks there are.
-use Rattle.std.proofs.Common.{◌≡◌, ℕ, Bool, true, false, cond, List, [], ◌∷◌, ◌++◌, map, Option, Some, None, refl, ap, sym, ◌∙◌, append-nil, append_assoc}
+use Rattle.std.proofs.Common.{◌≡◌, Bool, true, false, cond, List, [], ◌∷◌, ◌++◌, map, Option, Some, None, refl, ap, sym, ◌∙◌, append-nil, append_assoc}
 use Rattle.std.specs.Prelude.{is_some}
 use Rattle.std.specs.List.{flat_map}
 use Rattle.std.specs.Option.{option_map_or}
@@ -11,8 +11,8 @@ use Rattle.vk_picture.specs.declared.picture.Picture.{Picture}
 use Rattle.vk_picture.specs.declared.picture.Row.{Row}
 use Rattle.vk_picture.specs.declared.places.Point.{Point}
 use Rattle.vk_picture.specs.Law.{event_in, arrow_in, dot_in, cross_in, hand_in, arrival, handing, frame_name, stray, HasOneMarkEach, EachHasOneMark}
-use Rattle.vk_picture.specs.Marks.{Mark, Arrow, Dot, Cross, Event, act_marks, arrives, arrow_marks, brought, cross_marks, event_mark, event_point, frame_marks, frame_point, hand_mark, hand_marks, handed, is_light, marks_of, row_marks}
-use Rattle.vk_picture.specs.Svg.{mark_text, marks_text}
+use Rattle.vk_picture.specs.Marks.{Mark, Arrow, Cross, act_marks, arrives, arrow_marks, brought, cross_marks, event_mark, event_point, frame_marks, frame_point, hand_mark, hand_marks, handed, is_light, marks_of, row_marks}
+use Rattle.vk_picture.specs.Svg.{mark_text}
 unfoldable use Rattle.vk_picture.specs.Svg.{arrow_line, frame_line, hand_line, row_line}
 
 -- what is said of each part is said of the whole

@@ -1,5 +1,5 @@
 -- Nothing is drawn twice, and nothing is left out.
-use Rattle.std.specs.Prelude.{ℕ, ◌≡◌, Bool, List, [], ◌∷◌, ◌++◌, flat_map, map, is_some, if◌then◌else◌}
+use Rattle.std.specs.Prelude.{ℕ, ◌≡◌, List, [], ◌∷◌, ◌++◌, flat_map, map, is_some, if◌then◌else◌}
 use Rattle.vk_picture.specs.declared.picture.FrameMark.{FrameMark}
 use Rattle.vk_picture.specs.declared.picture.Picture.{Picture}
 use Rattle.vk_picture.specs.declared.picture.Row.{Row}

@@ -1,5 +1,5 @@
 -- Where things stand on the page. Whole numbers, of the page's own unit; y grows downwards.
-use Rattle.std.specs.Prelude.{ℕ, ◌+◌, ◌*◌, Bool, false, ◌==◌, ◌&&◌, is_none, List, [], ◌∷◌, ◌++◌, find, length, max, min, Option, Some, None, if◌then◌else◌}
+use Rattle.std.specs.Prelude.{ℕ, ◌+◌, ◌*◌, Bool, false, ◌==◌, ◌&&◌, is_none, List, [], ◌∷◌, ◌++◌, find, length, max, min, Some, None, if◌then◌else◌}
 use Rattle.std.specs.Option.{option_map_or}
 use Rattle.vk_types.specs.Types.{Pid, ProcessSpec}
 use Rattle.vk_base.specs.declared.limits.TheConstants.{STEPS}

@@ -1,6 +1,5 @@
 -- The picture of a history as a text of SVG.
-use Rattle.std.specs.Prelude.{ℕ, ◌+◌, ◌*◌, Bool, List, [], ◌∷◌, ◌++◌, flat_map, length, map, codes, decimal, Option, Some, None, if◌then◌else◌}
-use Rattle.std.specs.Option.{option_map_or}
+use Rattle.std.specs.Prelude.{ℕ, ◌+◌, Bool, List, [], ◌∷◌, ◌++◌, flat_map, codes, decimal, Option, Some, None, if◌then◌else◌}
 use Rattle.vk_types.specs.Types.{Pid}
 use Rattle.vk_text.specs.Spelling.{pid_text}
 use Rattle.vk_report.specs.declared.frame.PacketKind.{PacketKind}

@@ -1,6 +1,5 @@
 -- Words of the labels.
 use Rattle.std.specs.Prelude.{ℕ, List, [], ◌∷◌, ◌++◌, codes, decimal, Option, Some, None}
-use Rattle.std.specs.Option.{option_map_or}
 use Rattle.vk_types.specs.Types.{Pid}
 use Rattle.vk_text.specs.Spelling.{pid_text}
 use Rattle.v_trace.specs.Texts.{refusal_text}

@@ -11,6 +11,7 @@ use crate::patience::Patience;
 use crate::station::Station;
 use crate::station_out::StationOut;
 use std::alloc::Global;
+use std::fmt;
 use std::marker::Model;
 use std::sync::Wait;
 use std::time::Clock;
@@ -27,6 +28,12 @@ const LONGEST_SLEEP: u32 = 20_000;
 pub struct PortNoMemory {
     pub seat: TurnSeat<Station>,
     pub hub_seat: TurnSeat<HubState>,
+}
+
+impl fmt::Display for PortNoMemory {
+    fn fmt<W: fmt::Write>(&self, f: &mut fmt::Formatter<W>) -> fmt::Result {
+        f.write_str("out of memory")
+    }
 }
 
 /// What a wait for an answer gives.

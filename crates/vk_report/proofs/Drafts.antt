@@ -1,5 +1,6 @@
 -- What a text and a draft behind it are together.
-use Rattle.std.proofs.Common.{◌≡◌, ℕ, List, ◌++◌, length, drop, ap, sym, ◌∙◌, append_assoc}
+use Rattle.std.proofs.Common.{◌≡◌, ℕ, List, ◌++◌, length, take, drop, ap, sym, ◌∙◌, append_assoc}
+use Rattle.std.proofs.Math.Seq.{take-append_seam}
 use Rattle.std.proofs.lemmas.List.{take-append-drop}
 use Rattle.vk_text.specs.Spelling.{StartsWith}
 use Rattle.vk_text.proofs.Fronts.{front_before}
@@ -17,6 +18,16 @@ line_written whole text draft begun later left done first second third so begins
     (goes ∙ ap (λ (l : List ℕ). l ++ second) (written text draft first begun whole so begins)) ends
     ∙ ap (λ (l : List ℕ). l ++ third) (append_assoc whole first second)
     ∙ append_assoc whole (first ++ second) third
+
+-- what begins with more than the whole begins with the whole
+pub front_kept : (whole text draft begun later first : List ℕ) → text ++ draft ≡ whole → begun ≡ draft ++ first → StartsWith (text ++ begun) later
+    → StartsWith whole later
+front_kept whole text draft begun later first so begins h =
+    front_before whole first (text ++ begun) later (written text draft first begun whole so begins) h
+
+-- so does what stands behind it
+pub front_behind : (whole later more : List ℕ) → later ≡ whole ++ more → StartsWith whole later
+front_behind whole later more is = ap (take (length whole)) is ∙ take-append_seam whole more
 
 -- a front of a front
 pub front_on : (a b c : List ℕ) → StartsWith a b → StartsWith b c → StartsWith a c

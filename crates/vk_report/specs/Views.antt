@@ -10,7 +10,7 @@ use Rattle.vk_report.specs.declared.answer.AnswerView.TheVariants as views
 
 abbrev pub viewed : AnswerView → EventAnswer
 viewed views.Begun = events_answered.Begun
-viewed (views.Given outcome) = events_answered.Answered (answer_of outcome)
+viewed (views.Given outcome) = events_answered.Answered (answer_of outcome.now)
 viewed (views.Loaded bytes) = events_answered.Answered (answers.Loaded bytes.now)
 viewed (views.Ticked now) = events_answered.Ticked now
 viewed views.Taken = events_answered.Taken

@@ -2,21 +2,23 @@
 
 ghost use Rattle.std.specs.Prelude.{◌≡◌, ◌+◌, ◌≤◌, ◌++◌, false, length, OnOk};
 ghost use Rattle.vk_text.specs.Spelling.{StartsWith};
+ghost use Rattle.vk_text.specs.Texts.{shown};
 ghost use Rattle.vk_text.specs.declared.draft.TheConstants.{DRAFT_ROOM as ROOM};
 ghost use Rattle.vk_report.specs.Report.{place_text, answer_text_of, answer_line, number_and_host, missing_line, event_place};
+ghost use Rattle.vk_base.specs.declared.event.EventAnswer.TheVariants as answers;
 ghost use Rattle.vk_report.specs.Views.{IsShort, is_loaded, viewed};
 
 use crate::entry::EventPlace;
 use std::alloc::Global;
 use v_trace::{draft_outcome, put_loaded};
-use vk_base::{Answer, EventAnswer, NoMemory, Outcome};
-use vk_text::{Draft, add_number, draft_number, give};
+use vk_base::{NoMemory, Outcome};
+use vk_text::{Draft, Text, add_number, draft_number, give};
 
-/// What an event is answered, in few bytes: those that a Load gives, at most 1,024, are lent.
+/// What an event is answered: what a call ended with is lent, and the bytes that a Load gives, at most 1,024.
 #[derive(Clone, Copy)]
 pub enum AnswerView<'a> {
     Begun,
-    Given { outcome: Outcome },
+    Given { outcome: &'a Outcome },
     Loaded { bytes: &'a [u8] },
     Ticked { now: u64 },
     Taken,
@@ -24,56 +26,10 @@ pub enum AnswerView<'a> {
     Bad,
 }
 
-impl AnswerView<'_> {
-    /// The view of an answer.
-    pub fn of(answer: &EventAnswer) -> AnswerView<'_>
-        ensures value { viewed result ≡ answer.now }
-        ensures short { IsShort result }
-    {
-        match answer {
-            EventAnswer::Begun => AnswerView::Begun,
-            EventAnswer::Answered { answer } => given(answer),
-            EventAnswer::Ticked { now } => AnswerView::Ticked { now: *now },
-            EventAnswer::Taken => AnswerView::Taken,
-            EventAnswer::Old => AnswerView::Old,
-            EventAnswer::Bad => AnswerView::Bad,
-        }
-    }
-}
-
-/// The view of the answer of a call.
-fn given(answer: &Answer) -> AnswerView<'_>
-    ensures value { viewed result ≡ EventAnswer.Answered answer.now }
-    ensures short { IsShort result }
-{
-    let outcome = match *answer {
-        Answer::Ok => Outcome::Ok,
-        Answer::Replied { message } => Outcome::Replied { message },
-        Answer::Received { from, message } => Outcome::Received { from, message },
-        Answer::ReceivedSegment {
-            from,
-            message,
-            count,
-        } => Outcome::ReceivedSegment {
-            from,
-            message,
-            count,
-        },
-        Answer::Found { pid } => Outcome::Found { pid },
-        Answer::Loaded { ref bytes } => {
-            return AnswerView::Loaded {
-                bytes: bytes.as_slice(),
-            };
-        }
-        Answer::Refused { why } => Outcome::Refused { why },
-    };
-    AnswerView::Given { outcome }
-}
-
 /// `now TICK`
 fn draft_ticked(into: &mut Draft, now: u64)
     requires { length into.old + 24 ≤ ROOM }
-    ensures text { into.new ≡ into.old ++ answer_text_of (EventAnswer.Ticked now) }
+    ensures text { into.new ≡ into.old ++ answer_text_of (answers.Ticked now) }
     ensures few { length into.new ≤ length into.old + 24 }
 {
     into.put(b"now");
@@ -101,23 +57,19 @@ fn draft_answer(into: &mut Draft, answer: &AnswerView)
 
 /// What an event is answered. The bytes that a Load gives stand behind the draft.
 #[inline(always)]
-fn go_on_with_answer(
-    alloc: Global,
-    text: &mut Vec<u8>,
-    draft: &mut Draft,
-    answer: &AnswerView,
-) -> Result<(), NoMemory>
+fn go_on_with_answer(alloc: Global, text: &mut Text, answer: &AnswerView) -> Result<(), NoMemory>
     requires short { IsShort answer.now }
-    requires room { length draft.old + 100 ≤ ROOM }
-    ensures ok { OnOk result (text.new.items ++ draft.new ≡ (text.old.items ++ draft.old) ++ answer_text_of (viewed answer.now)) }
-    ensures few { OnOk result (length draft.new ≤ length draft.old + 90) }
-    ensures front { StartsWith text.old.items text.new.items }
+    requires room { length text.old.draft + 100 ≤ ROOM }
+    ensures ok { OnOk result (shown text.new ≡ shown text.old ++ answer_text_of (viewed answer.now)) }
+    ensures few { OnOk result (length text.new.draft ≤ length text.old.draft + 90) }
+    ensures front { StartsWith text.old.bytes.items text.new.bytes.items }
+    ensures whole { StartsWith (shown text.old) (shown text.new) }
 {
     if let AnswerView::Loaded { bytes } = answer {
-        give(text, draft)?;
-        return put_loaded(alloc, text, bytes);
+        give(&mut text.bytes, &mut text.draft)?;
+        return put_loaded(alloc, &mut text.bytes, bytes);
     }
-    draft_answer(draft, answer);
+    draft_answer(&mut text.draft, answer);
     Ok(())
 }
 
@@ -150,20 +102,19 @@ fn draft_place(into: &mut Draft, place: EventPlace)
 #[inline(always)]
 pub fn write_answer_line(
     alloc: Global,
-    text: &mut Vec<u8>,
-    draft: &mut Draft,
+    text: &mut Text,
     place: EventPlace,
     answer: &AnswerView,
 ) -> Result<(), NoMemory>
-    requires short { IsShort answer.now }
-    requires room { length draft.old + 163 ≤ ROOM }
-    ensures ok { OnOk result (text.new.items ++ draft.new ≡ (text.old.items ++ draft.old) ++ answer_line place (viewed answer.now)) }
-    ensures few { OnOk result (length draft.new ≤ length draft.old + 154) }
-    ensures front { StartsWith text.old.items text.new.items }
+    requires { IsShort answer.now }
+    ensures ok { OnOk result (shown text.new ≡ shown text.old ++ answer_line place (viewed answer.now)) }
+    ensures front { StartsWith text.old.bytes.items text.new.bytes.items }
+    ensures whole { StartsWith (shown text.old) (shown text.new) }
 {
-    draft_place(draft, place);
-    go_on_with_answer(alloc, text, draft, answer)?;
-    draft.byte(b'\n');
+    text.make_room()?;
+    draft_place(&mut text.draft, place);
+    go_on_with_answer(alloc, text, answer)?;
+    text.draft.byte(b'\n');
     Ok(())
 }
 

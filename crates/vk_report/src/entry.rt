@@ -2,6 +2,7 @@
 
 ghost use Rattle.std.specs.Prelude.{◌≡◌, ◌+◌, ◌≤◌, ◌++◌, [], length, OnOk, OnErr};
 ghost use Rattle.vk_text.specs.Spelling.{StartsWith};
+ghost use Rattle.vk_text.specs.Texts.{shown};
 ghost use Rattle.vk_text.specs.declared.draft.TheConstants.{DRAFT_ROOM as ROOM};
 ghost use Rattle.vk_report.specs.Views.{IsShort, viewed};
 ghost use Rattle.vk_report.specs.Report.{step_line, step_lines, report_entry, entry_lines, missing_lines, frame_lines, end_line, end_lines, opening_lines};
@@ -12,7 +13,7 @@ use std::alloc::Global;
 use v_trace::go_on_with_step;
 use vk_base::{Config, NoMemory};
 use vk_brief::{StepView, Steps};
-use vk_text::{DRAFT_ROOM, Draft, draft_number, give, put, put_head};
+use vk_text::{Draft, Text, draft_number, put, put_head};
 
 /// What is written of a history.
 #[derive(Clone, Copy, Debug, PartialEq, Eq)]
@@ -42,128 +43,92 @@ pub struct Counts {
     pub frames: u64,
 }
 
-/// The most bytes of a line that go through a draft.
-const DRAFTED_LINE: usize = 160;
-
-/// Appends the draft where it may have no room for one more line.
-#[inline(always)]
-fn make_room(text: &mut Vec<u8>, draft: &mut Draft) -> Result<(), NoMemory>
-    ensures ok { OnOk result (text.new.items ++ draft.new ≡ text.old.items ++ draft.old) }
-    ensures room { OnOk result (length draft.new + DRAFTED_LINE ≤ ROOM) }
-    ensures front { StartsWith text.old.items text.new.items }
-{
-    if draft.len() > DRAFT_ROOM - DRAFTED_LINE {
-        return give(text, draft);
-    }
-    Ok(())
-}
-
 /// The step behind this word.
 #[inline(always)]
 fn write_step_line(
     alloc: Global,
-    text: &mut Vec<u8>,
-    draft: &mut Draft,
+    text: &mut Text,
     word: &[u8],
     step: &StepView,
 ) -> Result<(), NoMemory>
     requires { length word.now ≤ 5 }
-    ensures ok { OnOk result (text.new.items ++ draft.new ≡ (text.old.items ++ draft.old) ++ step_line word.now step.now) }
-    ensures front { StartsWith text.old.items text.new.items }
+    ensures ok { OnOk result (shown text.new ≡ shown text.old ++ step_line word.now step.now) }
+    ensures front { StartsWith text.old.bytes.items text.new.bytes.items }
+    ensures whole { StartsWith (shown text.old) (shown text.new) }
 {
-    make_room(text, draft)?;
-    draft.put(word);
-    go_on_with_step(alloc, text, draft, step)?;
-    draft.byte(b'\n');
+    text.make_room()?;
+    text.draft.put(word);
+    go_on_with_step(alloc, &mut text.bytes, &mut text.draft, step)?;
+    text.draft.byte(b'\n');
     Ok(())
 }
 
 /// The steps, each on a line of its own behind this word.
 #[inline(always)]
-fn write_steps(
-    alloc: Global,
-    text: &mut Vec<u8>,
-    draft: &mut Draft,
-    word: &[u8],
-    steps: &Steps,
-) -> Result<(), NoMemory>
+fn write_steps(alloc: Global, text: &mut Text, word: &[u8], steps: &Steps) -> Result<(), NoMemory>
     requires { length word.now ≤ 5 }
-    ensures ok { OnOk result (text.new.items ++ draft.new ≡ (text.old.items ++ draft.old) ++ step_lines word.now steps.now) }
-    ensures front { StartsWith text.old.items text.new.items }
+    ensures ok { OnOk result (shown text.new ≡ shown text.old ++ step_lines word.now steps.now) }
+    ensures front { StartsWith text.old.bytes.items text.new.bytes.items }
+    ensures whole { StartsWith (shown text.old) (shown text.new) }
 {
     for at in 0..steps.len() {
-        write_step_line(alloc, text, draft, word, &steps.get(at))?;
+        write_step_line(alloc, text, word, &steps.get(at))?;
     }
     Ok(())
 }
 
+#[inline(always)]
 fn write_report_entry(
     alloc: Global,
-    text: &mut Vec<u8>,
+    text: &mut Text,
     place: EventPlace,
     answer: &AnswerView,
     steps: &Steps,
 ) -> Result<(), NoMemory>
     requires { IsShort answer.now }
-    ensures ok { OnOk result (text.new.items ≡ text.old.items ++ report_entry place (viewed answer.now) steps.now) }
-    ensures front { OnErr result (StartsWith text.old.items text.new.items) }
+    ensures ok { OnOk result (shown text.new ≡ shown text.old ++ report_entry place (viewed answer.now) steps.now) }
+    ensures front { StartsWith text.old.bytes.items text.new.bytes.items }
+    ensures whole { StartsWith (shown text.old) (shown text.new) }
 {
-    let mut draft = Draft::new();
-    write_answer_line(alloc, text, &mut draft, place, answer)?;
-    write_steps(alloc, text, &mut draft, b"step ", steps)?;
-    put(text, draft.as_slice())
-}
-
-fn write_trace_entry(alloc: Global, text: &mut Vec<u8>, steps: &Steps) -> Result<(), NoMemory>
-    ensures ok { OnOk result (text.new.items ≡ text.old.items ++ step_lines [] steps.now) }
-    ensures front { OnErr result (StartsWith text.old.items text.new.items) }
-{
-    let mut draft = Draft::new();
-    write_steps(alloc, text, &mut draft, b"", steps)?;
-    put(text, draft.as_slice())
+    write_answer_line(alloc, text, place, answer)?;
+    write_steps(alloc, text, b"step ", steps)
 }
 
 /// Appends the entry of an event: in a report the line of its answer and those of its steps, in a trace its steps.
 pub fn put_entry(
     alloc: Global,
-    text: &mut Vec<u8>,
+    text: &mut Text,
     form: Form,
     place: EventPlace,
     answer: &AnswerView,
     steps: &Steps,
 ) -> Result<(), NoMemory>
     requires { IsShort answer.now }
-    ensures ok { OnOk result (text.new.items ≡ text.old.items ++ entry_lines form place (viewed answer.now) steps.now) }
-    ensures err { OnErr result (text.new.items ≡ text.old.items) }
+    ensures ok { OnOk result (shown text.new ≡ shown text.old ++ entry_lines form place (viewed answer.now) steps.now) }
+    ensures err { OnErr result (shown text.new ≡ shown text.old) }
 {
-    let len = text.len();
+    let end = text.end();
     let written = match form {
         Form::Report => write_report_entry(alloc, text, place, answer, steps),
-        Form::Trace => write_trace_entry(alloc, text, steps),
+        Form::Trace => write_steps(alloc, text, b"", steps),
     };
     if written.is_err() {
-        text.truncate(len);
+        text.cut_back(end);
     }
     written
 }
 
 /// Appends the entry of a delivery whose frame was never emitted: a line of a report, nothing of a trace. It is no event of
 /// the station `host`, to which the frame should have come.
-pub fn put_missing(
-    alloc: Global,
-    text: &mut Vec<u8>,
-    form: Form,
-    number: u64,
-    host: u16,
-) -> Result<(), NoMemory>
-    ensures ok { OnOk result (text.new.items ≡ text.old.items ++ missing_lines form number host) }
-    ensures err { OnErr result (text.new.items ≡ text.old.items) }
+pub fn put_missing(text: &mut Text, form: Form, number: u64, host: u16) -> Result<(), NoMemory>
+    ensures ok { OnOk result (shown text.new ≡ shown text.old ++ missing_lines form number host) }
+    ensures err { OnErr result (shown text.new ≡ shown text.old) }
 {
     match form {
         Form::Report => {
-            let mut draft = Draft::new();
-            draft_missing_line(&mut draft, number, host);
-            put(text, draft.as_slice())
+            text.make_room()?;
+            draft_missing_line(&mut text.draft, number, host);
+            Ok(())
         }
         Form::Trace => Ok(()),
     }
@@ -172,22 +137,21 @@ pub fn put_missing(
 /// Appends the frame that is the output `output`, from 1, of the event `own` of the station `host`: a line of a report,
 /// nothing of a trace. The frames of an event stand behind its entry, in order of their outputs.
 pub fn put_frame(
-    alloc: Global,
-    text: &mut Vec<u8>,
+    text: &mut Text,
     form: Form,
     host: u16,
     own: u64,
     output: u16,
     frame: Emitted,
 ) -> Result<(), NoMemory>
-    ensures ok { OnOk result (text.new.items ≡ text.old.items ++ frame_lines form host own output frame) }
-    ensures err { OnErr result (text.new.items ≡ text.old.items) }
+    ensures ok { OnOk result (shown text.new ≡ shown text.old ++ frame_lines form host own output frame) }
+    ensures err { OnErr result (shown text.new ≡ shown text.old) }
 {
     match form {
         Form::Report => {
-            let mut draft = Draft::new();
-            draft_frame_line(&mut draft, host, own, output, frame);
-            put(text, draft.as_slice())
+            text.make_room()?;
+            draft_frame_line(&mut text.draft, host, own, output, frame);
+            Ok(())
         }
         Form::Trace => Ok(()),
     }
@@ -207,20 +171,15 @@ fn draft_end_line(into: &mut Draft, counts: Counts)
 }
 
 /// Appends what stands behind the last entry: the last line of a report, nothing of a trace.
-pub fn put_end(
-    alloc: Global,
-    text: &mut Vec<u8>,
-    form: Form,
-    counts: Counts,
-) -> Result<(), NoMemory>
-    ensures ok { OnOk result (text.new.items ≡ text.old.items ++ end_lines form counts) }
-    ensures err { OnErr result (text.new.items ≡ text.old.items) }
+pub fn put_end(text: &mut Text, form: Form, counts: Counts) -> Result<(), NoMemory>
+    ensures ok { OnOk result (shown text.new ≡ shown text.old ++ end_lines form counts) }
+    ensures err { OnErr result (shown text.new ≡ shown text.old) }
 {
     match form {
         Form::Report => {
-            let mut draft = Draft::new();
-            draft_end_line(&mut draft, counts);
-            put(text, draft.as_slice())
+            text.make_room()?;
+            draft_end_line(&mut text.draft, counts);
+            Ok(())
         }
         Form::Trace => Ok(()),
     }

@@ -71,3 +71,12 @@ call_event_text front pid call =
     let text : List ℕ = codes "call" ++ 32 ∷ pid_text pid in
     ap (λ l. l ++ 32 ∷ call_text call) (append_assoc front (codes "call") (32 ∷ pid_text pid))
     ∙ append_assoc front text (32 ∷ call_text call) ∙ ap (λ l. front ++ l) (sym (spaced_call text call))
+
+-- the same behind a draft, where the space is written first
+pub call_behind : (front draft : List ℕ) (pid : Pid) (call : Call)
+    → front ++ (((draft ++ codes "call") ++ 32 ∷ pid_text pid) ++ 32 ∷ []) ++ call_text call ≡ (front ++ draft) ++ event_text (events.Call pid call)
+call_behind front draft pid call =
+    let begun : List ℕ = (draft ++ codes "call") ++ 32 ∷ pid_text pid in
+    append_assoc front (begun ++ 32 ∷ []) (call_text call)
+    ∙ ap (λ l. front ++ l) (append_assoc begun (32 ∷ []) (call_text call) ∙ call_event_text draft pid call)
+    ∙ sym (append_assoc front draft (event_text (events.Call pid call)))

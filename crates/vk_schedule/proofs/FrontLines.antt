@@ -1,5 +1,5 @@
 -- The lines of a front, one after another, and as texts.
-use Rattle.std.proofs.Common.{◌≡◌, ℕ, ◌+◌, ◌⊎◌, nat_lt, Bool, true, false, cond, List, [], ◌∷◌, ◌++◌, length, map, codes, Option, Some, None, Result, Ok, Err, refl, sym, subst, ap, ◌∙◌, append-nil}
+use Rattle.std.proofs.Common.{◌≡◌, ℕ, ◌+◌, nat_lt, Bool, true, false, cond, List, [], ◌∷◌, ◌++◌, length, Option, Some, None, Result, Ok, Err, refl, sym, subst, ap, ◌∙◌, append-nil}
 use Rattle.vk_base.specs.Settings.{Settings}
 use Rattle.vk_text.specs.Lines.{lines_of, words_from}
 use Rattle.vk_text.specs.Spelling.{joined}
@@ -9,11 +9,10 @@ use Rattle.vk_text.proofs.ReadBack.{line_joined}
 use Rattle.vk_schedule.specs.declared.event.Event.{Event}
 use Rattle.vk_schedule.specs.declared.schedule.Front.{Front}
 use Rattle.vk_schedule.specs.declared.schedule.Schedule.{Schedule}
-use Rattle.vk_schedule.specs.declared.schedule.TextRefusal.{TextRefusal}
 use Rattle.vk_schedule.specs.declared.schedule.TextRefusal.TheVariants as refusals
 use Rattle.vk_schedule.specs.Lawful.{has_actors}
 use Rattle.vk_schedule.specs.Laws.{SchedulesAreSpelled, FrontsHaveTheirLines}
-use Rattle.vk_schedule.specs.Schedule.{event_of, acting, more, with_event, or_end, front_from, without_events, front_by, front_of, opened, plain_title, schedule_of, timed_title}
+use Rattle.vk_schedule.specs.Schedule.{event_of, acting, more, with_event, or_end, front_from, without_events, front_by, front_of, opened, plain_title, timed_title}
 use Rattle.vk_schedule.specs.Spelling.{IsScheduleFront, event_text, schedule_lines, text_of}
 use Rattle.vk_schedule.proofs.Events.{event_spelled}
 use Rattle.vk_schedule.proofs.Lawfulness.{whole_is}

@@ -8,6 +8,7 @@ use crate::event::Event;
 use crate::reader::EventReader;
 use crate::view::EventBuffer;
 use std::alloc::Global;
+use thiserror::Error;
 use vk_base::{Config, List, NoMemory};
 use vk_text::{OpeningRefusal, empty_config};
 
@@ -19,12 +20,15 @@ pub struct Schedule {
 }
 
 /// Why a text gives no value.
-#[derive(Clone, Copy, Debug, PartialEq, Eq)]
+#[derive(Clone, Copy, Debug, PartialEq, Eq, Error)]
 pub enum TextRefusal {
     /// The first bad line. Lines count from 1; a text that ends too early is bad in the line after its last.
+    #[error("line {line} is not valid")]
     BadInput { line: u64 },
     /// There are more than 100,000 events.
+    #[error("there are too many events")]
     Limit,
+    #[error("out of memory")]
     NoMemory,
 }
 

@@ -1,7 +1,9 @@
 //! Schedules, written.
 
-ghost use Rattle.std.specs.Prelude.{◌≡◌, ◌++◌, Ok, flat_map, codes, IfOk, OnOk};
+ghost use Rattle.std.specs.Prelude.{◌≡◌, ◌+◌, ◌≤◌, ◌++◌, Ok, length, flat_map, codes, IfOk, OnOk};
 ghost use Rattle.vk_text.specs.Heads.{line_text};
+ghost use Rattle.vk_text.specs.Texts.{shown};
+ghost use Rattle.vk_text.specs.declared.draft.TheConstants.{DRAFT_ROOM as ROOM};
 ghost use Rattle.vk_schedule.specs.Lawful.{IsLawful};
 ghost use Rattle.vk_schedule.specs.Schedule.{schedule_of};
 ghost use Rattle.vk_schedule.specs.Spelling.{event_text, schedule_text};
@@ -12,87 +14,95 @@ use crate::schedule::Schedule;
 use std::alloc::Global;
 use vk_base::{Call, NoMemory, Pid};
 use vk_brief::{BriefCall, CallView};
-use vk_text::{Draft, draft_number, draft_pid, put, put_opening, write_call, write_pid};
+use vk_text::{Draft, Text, draft_number, draft_pid, go_on_with_call, put_opening};
 
-/// Appends `call PID CALLTEXT`.
-#[tactic(auto, using(crate::proofs::Events::call_event_text))]
-fn write_call_event(
-    alloc: Global,
-    into: &mut Vec<u8>,
-    pid: Pid,
-    call: &Call,
-) -> Result<(), NoMemory>
-    ensures { OnOk result (into.new.items ≡ into.old.items ++ event_text (events.Call pid call.now)) }
+/// Writes `call PID CALLTEXT`.
+fn write_call_event(alloc: Global, text: &mut Text, pid: Pid, call: &Call) -> Result<(), NoMemory>
+    requires { length text.old.draft + 170 ≤ ROOM }
+    ensures ok { OnOk result (shown text.new ≡ shown text.old ++ event_text (events.Call pid call.now)) }
+    ensures few { OnOk result (length text.new.draft ≤ length text.old.draft + 150) }
 {
-    put(into, b"call")?;
-    write_pid(alloc, into, pid)?;
+    text.draft.put(b"call");
+    draft_pid(&mut text.draft, pid);
+    text.draft.byte(b' ');
     let (call, bytes) = BriefCall::of(call);
-    write_call(alloc, into, &CallView::new(&call, bytes))
+    go_on_with_call(
+        alloc,
+        &mut text.bytes,
+        &mut text.draft,
+        &CallView::new(&call, bytes),
+    )
 }
 
-/// Appends `deliver TO FROM EVENT OUTPUT`.
-fn write_delivery(
-    into: &mut Vec<u8>,
-    to: u16,
-    from: u16,
-    event: u64,
-    output: u16,
-) -> Result<(), NoMemory>
-    ensures { OnOk result (into.new.items ≡ into.old.items ++ event_text (events.Deliver to from event output)) }
+/// Writes `deliver TO FROM EVENT OUTPUT`.
+fn draft_delivery(into: &mut Draft, to: u16, from: u16, event: u64, output: u16)
+    requires { length into.old + 100 ≤ ROOM }
+    ensures text { into.new ≡ into.old ++ event_text (events.Deliver to from event output) }
+    ensures few { length into.new ≤ length into.old + 100 }
 {
-    let mut draft = Draft::new();
-    draft.put(b"deliver");
-    draft_number(&mut draft, u64::from(to));
-    draft_number(&mut draft, u64::from(from));
-    draft_number(&mut draft, event);
-    draft_number(&mut draft, u64::from(output));
-    put(into, draft.as_slice())
+    into.put(b"deliver");
+    draft_number(into, u64::from(to));
+    draft_number(into, u64::from(from));
+    draft_number(into, event);
+    draft_number(into, u64::from(output));
 }
 
-/// Appends `collect PID`.
-fn write_collect(into: &mut Vec<u8>, pid: Pid) -> Result<(), NoMemory>
-    ensures { OnOk result (into.new.items ≡ into.old.items ++ event_text (events.Collect pid)) }
+/// Writes `collect PID`.
+fn draft_collect(into: &mut Draft, pid: Pid)
+    requires { length into.old + 50 ≤ ROOM }
+    ensures text { into.new ≡ into.old ++ event_text (events.Collect pid) }
+    ensures few { length into.new ≤ length into.old + 50 }
 {
-    let mut draft = Draft::new();
-    draft.put(b"collect");
-    draft_pid(&mut draft, pid);
-    put(into, draft.as_slice())
+    into.put(b"collect");
+    draft_pid(into, pid);
 }
 
-/// Appends `tick H`.
-fn write_tick(into: &mut Vec<u8>, host: u16) -> Result<(), NoMemory>
-    ensures { OnOk result (into.new.items ≡ into.old.items ++ event_text (events.Tick host)) }
+/// Writes `tick H`.
+fn draft_tick(into: &mut Draft, host: u16)
+    requires { length into.old + 50 ≤ ROOM }
+    ensures text { into.new ≡ into.old ++ event_text (events.Tick host) }
+    ensures few { length into.new ≤ length into.old + 50 }
 {
-    let mut draft = Draft::new();
-    draft.put(b"tick");
-    draft_number(&mut draft, u64::from(host));
-    put(into, draft.as_slice())
+    into.put(b"tick");
+    draft_number(into, u64::from(host));
 }
 
-/// Appends the line of the event.
-fn write_event(alloc: Global, into: &mut Vec<u8>, event: &Event) -> Result<(), NoMemory>
-    ensures { OnOk result (into.new.items ≡ into.old.items ++ line_text (event_text event.now)) }
+/// Writes the event, for which there is room.
+fn write_event(alloc: Global, text: &mut Text, event: &Event) -> Result<(), NoMemory>
+    requires { length text.old.draft + 170 ≤ ROOM }
+    ensures ok { OnOk result (shown text.new ≡ shown text.old ++ event_text event.now) }
+    ensures few { OnOk result (length text.new.draft ≤ length text.old.draft + 150) }
 {
     match *event {
-        Event::Call { pid, ref call } => write_call_event(alloc, into, pid, call)?,
-        Event::Collect { pid } => write_collect(into, pid)?,
-        Event::Tick { host } => write_tick(into, host)?,
+        Event::Call { pid, ref call } => return write_call_event(alloc, text, pid, call),
+        Event::Collect { pid } => draft_collect(&mut text.draft, pid),
+        Event::Tick { host } => draft_tick(&mut text.draft, host),
         Event::Deliver {
             to,
             from,
             event,
             output,
-        } => write_delivery(into, to, from, event, output)?,
+        } => draft_delivery(&mut text.draft, to, from, event, output),
     }
-    put(into, b"\n")
+    Ok(())
 }
 
-/// Appends the lines of the events.
-fn write_events(alloc: Global, into: &mut Vec<u8>, events: &[Event]) -> Result<(), NoMemory>
-    ensures { OnOk result (into.new.items ≡ into.old.items ++ flat_map (λ e. line_text (event_text e)) events.now) }
+/// Writes the line of the event.
+fn write_line(alloc: Global, text: &mut Text, event: &Event) -> Result<(), NoMemory>
+    ensures { OnOk result (shown text.new ≡ shown text.old ++ line_text (event_text event.now)) }
+{
+    text.make_room()?;
+    write_event(alloc, text, event)?;
+    text.draft.byte(b'\n');
+    Ok(())
+}
+
+/// Writes the lines of the events.
+fn write_events(alloc: Global, text: &mut Text, events: &[Event]) -> Result<(), NoMemory>
+    ensures { OnOk result (shown text.new ≡ shown text.old ++ flat_map (λ e. line_text (event_text e)) events.now) }
 {
     for event in events {
-        write_event(alloc, into, event)?;
+        write_line(alloc, text, event)?;
     }
     Ok(())
 }
@@ -104,14 +114,15 @@ pub fn write_schedule(alloc: Global, schedule: &Schedule) -> Result<Vec<u8>, NoM
     ensures text { IfOk result (λ v. v.items ≡ schedule_text schedule.now) }
     ensures read { IfOk result (λ v. schedule_of v.items ≡ Ok schedule.now) }
 {
-    let mut text = Vec::new(alloc);
+    let mut bytes = Vec::new(alloc);
     put_opening(
         alloc,
-        &mut text,
+        &mut bytes,
         b"vkernel 1",
         b"vkernel 2",
         &schedule.config,
     )?;
+    let mut text = Text::new(bytes);
     write_events(alloc, &mut text, schedule.events.as_slice())?;
-    Ok(text)
+    text.into_bytes()
 }

@@ -7,7 +7,7 @@ use Rattle.vk_pool.specs.declared.alien.Alien.{Alien}
 use Rattle.vk_pool.specs.Aliens.{is_alien_from, alien_from, alien_at}
 use Rattle.vk_pool.proofs.Shown.{position-mapped}
 use Rattle.vk_rules.specs.Aliens as readings
-use Rattle.vk_rules.specs.Aliens.{place_for, is_copy}
+use Rattle.vk_rules.specs.Aliens.{place_for}
 use Rattle.vk_stands.specs.Tables.{read_alien}
 use Rattle.vk_stands.proofs.Lists.{find-position, find-mapped}
 

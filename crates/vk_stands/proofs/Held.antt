@@ -3,7 +3,7 @@ use Rattle.std.proofs.Common.{◌≡◌, ℕ, zero, suc, ◌^◌, nat_lt, ◌<�
 use Rattle.std.specs.Option.{option_map, is_none}
 use Rattle.std.proofs.lemmas.Bool.{both_ways, and_parts, and_from, cond-true, false_from_ne_true, eq-eqb, eqb-true, ltb-true}
 use Rattle.std.proofs.lemmas.Option.{same_Some, none-some}
-use Rattle.vk_types.specs.Types.{Activity, Exchange, Message, Name, Pid, Process, Stage, Times}
+use Rattle.vk_types.specs.Types.{Activity, Exchange, Message, Name, Pid, Process, Times}
 use Rattle.vk_base.specs.declared.activity.Activity.TheVariants as activities
 use Rattle.vk_base.specs.declared.activity.Waiting.TheVariants as waitings
 use Rattle.vk_base.specs.declared.kernel.Stage.TheVariants as stages

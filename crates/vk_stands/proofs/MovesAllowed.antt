@@ -1,6 +1,6 @@
 -- That a move which its partner has acknowledged in full ends in the view, and that its next bytes are written there: whatever frames
 -- were forged, the view has the mover's own move for the event.
-use Rattle.std.proofs.Common.{◌≡◌, ◌<◌, ◌≤◌, ℕ, zero, suc, ◌+◌, Bool, true, false, cond, ◌==◌, List, [], ◌∷◌, length, refl, sym, ap, ◌∙◌, subst, Option, Some}
+use Rattle.std.proofs.Common.{◌≡◌, ◌<◌, ◌≤◌, ℕ, zero, suc, ◌+◌, Bool, true, false, cond, ◌==◌, List, [], length, refl, sym, ap, ◌∙◌, subst, Option, Some}
 use Rattle.std.specs.Option.{option_map, option_map_or}
 use Rattle.std.proofs.lemmas.Bool.{and_from, eq-eqb, le-leb}
 use Rattle.vk_types.specs.Types.{Direction, Exchange, Move, MoveName, Name, Pid}

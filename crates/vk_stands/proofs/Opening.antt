@@ -1,5 +1,5 @@
 -- The tables of a new station fit each other, and stand for the reading of no entries.
-use Rattle.std.proofs.Common.{◌≡◌, ◌⊎◌, ℕ, zero, suc, ◌+◌, ◌<◌, ◌≤◌, ◌==◌, Bool, true, false, cond, not, List, [], ◌∷◌, filter, length, map, replicate, get_or, refl, ap, sym, ◌∙◌, subst, Some, None, arith, ltb}
+use Rattle.std.proofs.Common.{◌≡◌, ℕ, zero, suc, ◌+◌, ◌<◌, ◌≤◌, ◌==◌, Bool, true, false, cond, not, List, [], ◌∷◌, filter, length, map, replicate, get_or, refl, ap, sym, ◌∙◌, subst, Some, None, arith, ltb}
 use Rattle.std.specs.Option.{option_map, option_flatten}
 use Rattle.std.specs.List.{find, position, position_or_len, slice_get}
 use Rattle.std.proofs.lemmas.Bool.{cond-true, eq-eqb, eqb-true, lt-ltb}

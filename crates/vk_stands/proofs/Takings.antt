@@ -20,7 +20,7 @@ use Rattle.v_laws.proofs.Tables.{put_exchange_at, put_exchange_other, same_name_
 use Rattle.vk_pool.specs.declared.alien.Alien.{Alien}
 use Rattle.vk_pool.specs.declared.alien.AlienStage.{AlienStage}
 use Rattle.vk_pool.specs.declared.alien.AlienStage.TheVariants as alien_stages
-use Rattle.vk_pool.specs.Aliens.{alien_at, alien_from, closed_in}
+use Rattle.vk_pool.specs.Aliens.{alien_at, closed_in}
 use Rattle.vk_pool.specs.Aliens as pool
 use Rattle.vk_procs.specs.declared.seat.Seat.{Seat}
 use Rattle.vk_procs.specs.Seats.{is_seat, marked_taken, process_of, seat_in}

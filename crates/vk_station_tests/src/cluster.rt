@@ -4,12 +4,13 @@ ghost use Rattle.std.specs.Prelude.{◌≡◌};
 ghost use Rattle.vk_schedule.specs.Lawful.{has_actors};
 
 use crate::frames::is_bad;
+use crate::told::{entry_text, missing_text, out_of_memory};
 use std::alloc::Global;
 use std::io;
 use std::marker::Model;
 use vk_base::Config;
 use vk_cluster::{Cluster, ClusterAnswer, ClusterRefusal, StepReport};
-use vk_report::{AnswerView, EventPlace, Form, put_entry, put_missing};
+use vk_report::EventPlace;
 use vk_schedule::Event;
 
 /// The stations, how many events they had, and how many of these were deliveries of what was not emitted.
@@ -42,10 +43,6 @@ fn has_actors(config: &Config, event: &Event) -> bool
         Event::Tick { host } => config.has_station(*host),
         Event::Deliver { to, from, .. } => config.has_station(*to) && config.has_station(*from),
     }
-}
-
-fn out_of_memory() -> io::Error {
-    io::Error::from(io::ErrorKind::OutOfMemory)
 }
 
 impl Stations {
@@ -83,10 +80,8 @@ impl Stations {
     /// Appends the lines of the entry, as a report has them, and the bytes of each frame.
     fn tell(&self, alloc: Global, report: &StepReport, told: &mut Vec<u8>) -> io::Result<()> {
         let ClusterAnswer::Event { answer } = &report.answer else {
-            return match put_missing(alloc, told, Form::Report, self.events, report.host) {
-                Ok(()) => Ok(()),
-                Err(_) => Err(out_of_memory()),
-            };
+            let missing = missing_text(alloc, self.events, report.host)?;
+            return Ok(told.extend_from_slice(missing.as_slice())?);
         };
         if !self.config.has_station(report.host) {
             return Err(is_bad());
@@ -97,11 +92,8 @@ impl Stations {
             host: report.host,
             own: report.event,
         };
-        let answer = AnswerView::of(answer);
-        let steps = station.steps();
-        if put_entry(alloc, told, Form::Report, place, &answer, steps).is_err() {
-            return Err(out_of_memory());
-        }
+        let entry = entry_text(alloc, place, answer, station.steps())?;
+        told.extend_from_slice(entry.as_slice())?;
         for at in 0..station.frame_count() {
             told.extend_from_slice(b"frame ")?;
             told.extend_from_slice(hex::encode(alloc, station.frame(at))?.as_bytes())?;

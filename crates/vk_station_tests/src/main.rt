@@ -14,6 +14,7 @@ mod frames;
 mod logs;
 mod schedule;
 mod station;
+mod told;
 mod transcript;
 
 use std::alloc::Global;

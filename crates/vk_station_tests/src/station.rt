@@ -1,13 +1,14 @@
 //! A station that plays events and tells of them.
 
 use crate::frames::{frame_named, is_bad, name_of};
+use crate::told::entry_text;
 use std::alloc::Global;
 use std::io;
 use std::marker::Model;
 use vk_base::{Config, Pid, ProcessSpec, Times};
 use vk_brief::{BriefCall, CallView};
 use vk_host::{Host, Response};
-use vk_report::{AnswerView, EventPlace, Form, put_entry};
+use vk_report::EventPlace;
 use vk_text::{next_pid, pid, read_call};
 
 /// How often and how long a station tries.
@@ -173,11 +174,8 @@ impl Station {
             own: self.host.events(),
         };
         let answer = self.host.answer(response);
-        let answer = AnswerView::of(&answer);
-        let steps = self.host.steps();
-        if put_entry(alloc, told, Form::Report, place, &answer, steps).is_err() {
-            return Err(io::Error::from(io::ErrorKind::OutOfMemory));
-        }
+        let entry = entry_text(alloc, place, &answer, self.host.steps())?;
+        told.extend_from_slice(entry.as_slice())?;
         for at in 0..self.host.frame_count() {
             let name = name_of(alloc, text, self.host.frame(at))?;
             told.extend_from_slice(b"frame ")?;

@@ -1,6 +1,6 @@
 //! Text that is written into known room, where nothing fails, before it is appended at once.
 
-ghost use Rattle.std.specs.Prelude.{◌≡◌, ◌+◌, ◌<◌, ◌≤◌, ◌++◌, ◌∷◌, [], length, OnOk, OnErr};
+ghost use Rattle.std.specs.Prelude.{◌≡◌, ◌+◌, ◌<◌, ◌≤◌, ◌++◌, ◌∷◌, [], length, take, OnOk, OnErr};
 ghost use Rattle.hex.specs.Hex.{encode_lower};
 
 use crate::digits::encode;
@@ -8,8 +8,8 @@ use crate::spelling::put;
 use std::marker::Model;
 use vk_base::NoMemory;
 
-/// The bytes that a draft has room for. So many are cleared without a call.
-pub const DRAFT_ROOM: usize = 240;
+/// The bytes that a draft has room for.
+pub const DRAFT_ROOM: usize = 1_024;
 
 /// Text that is being written. Contracts see its bytes.
 #[derive(Drop)]
@@ -25,7 +25,7 @@ impl Model for Draft {
 
     ghost view = { λ d. take d.len d.bytes };
 
-    ghost invariant = { λ d. (d.len ≤ 240) × (length d.bytes ≡ 240) };
+    ghost invariant = { λ d. (d.len ≤ 1024) × (length d.bytes ≡ 1024) };
 }
 
 impl Draft {
@@ -64,6 +64,13 @@ impl Draft {
         self.len = 0;
     }
 
+    /// Takes away what stands behind so many bytes.
+    pub fn truncate(&mut self, len: usize)
+        ensures { self.new ≡ take len self.old }
+    {
+        self.len = self.len.min(len);
+    }
+
     /// Writes one byte, for which there is room.
     #[inline(always)]
     pub fn byte(&mut self, byte: u8)
@@ -98,12 +105,12 @@ impl Draft {
     }
 }
 
-/// Appends what is written, and begins anew. A refusal appends nothing.
+/// Appends what is written, and begins anew. A refusal changes nothing.
 #[inline(always)]
 pub fn give(into: &mut Vec<u8>, draft: &mut Draft) -> Result<(), NoMemory>
     ensures ok { OnOk result (into.new.items ≡ into.old.items ++ draft.old) }
     ensures empty { OnOk result (draft.new ≡ []) }
-    ensures err { OnErr result (into.new.items ≡ into.old.items) }
+    ensures err { OnErr result ((into.new.items ≡ into.old.items) × (draft.new ≡ draft.old)) }
 {
     put(into, draft.as_slice())?;
     draft.clear();

@@ -19,14 +19,17 @@ use crate::next::{is_end, next_number, next_positive, next_station};
 use crate::spelling::{put, put_byte};
 use crate::writing::write_number;
 use std::alloc::Global;
+use thiserror::Error;
 use vk_base::limits::{INTERVAL, LIFE, POOL, TRIES};
 use vk_base::{Config, NoMemory, Times};
 
 /// Why a text has no opening.
-#[derive(Clone, Copy, Debug, PartialEq, Eq)]
+#[derive(Clone, Copy, Debug, PartialEq, Eq, Error)]
 pub enum OpeningRefusal {
     /// The line of this number, 1 or 2, is none of the two titles, or not that of the times.
+    #[error("line {line} is not valid")]
     Bad { line: u64 },
+    #[error("out of memory")]
     NoMemory,
 }
 

@@ -1,7 +1,7 @@
 -- A call and the way to its answer.
-use Rattle.std.proofs.Common.{◌≡◌, ℕ, ◌+◌, ◌≤◌, Bool, true, false, Option, Some, None, List, [], ◌∷◌, ◌++◌, length, refl, sym, ap, ◌∙◌, subst, arith, append_assoc, append-nil, length-append, ◌⊎◌, inl, inr}
+use Rattle.std.proofs.Common.{◌≡◌, ℕ, ◌+◌, ◌≤◌, true, false, Option, Some, None, List, [], ◌∷◌, ◌++◌, length, refl, sym, ap, ◌∙◌, subst, arith, append_assoc, append-nil, length-append, ◌⊎◌, inl, inr}
 use Rattle.std.specs.Prelude.{option_to_list}
-use Rattle.vk_types.specs.Types.{Answer, Call, EventAnswer, Pid, StationEvent}
+use Rattle.vk_types.specs.Types.{Answer, Call, Pid, StationEvent}
 use Rattle.turn_cell.specs.declared.replay.Room.{Room}
 use Rattle.turn_cell.specs.declared.replay.Room.TheVariants as rooms
 use Rattle.vk_base.specs.declared.answer.CallOutcome.TheVariants as outcomes
@@ -9,15 +9,15 @@ use Rattle.vk_base.specs.declared.event.EventAnswer.TheVariants as answered
 use Rattle.vk_base.specs.declared.event.StationEvent.TheVariants as events
 use Rattle.vk_hub.specs.declared.event.HubEvent.TheVariants as hub_events
 use Rattle.vk_port.specs.declared.port.Collected.TheVariants as collected
-use Rattle.vk_port.specs.Ports.{Action, AtHub, AtStation, Delivers, Does, Drops, Enters, HasHeard as HeardOnce, HasMade, HasWaited, Hears, IsCutEvent, IsCutPump, IsMet, IsPumping, IsRefused, Met, PortValue}
-use Rattle.vk_port.specs.Stations.{StationHistory, brings_last_number, entry_at, frames_at, is_full, is_used_up}
+use Rattle.vk_port.specs.Ports.{Action, AtHub, AtStation, Delivers, Does, Drops, Enters, HasMade, HasWaited, Hears, IsCutEvent, IsCutPump, IsMet, IsPumping, IsRefused, Met, PortValue}
+use Rattle.vk_port.specs.Stations.{StationHistory, entry_at, frames_at}
 use Rattle.vk_rules.specs.CallOutcomes.{given}
 use Rattle.vk_rules.specs.Each.{Each}
-use Rattle.v_run.specs.Passages.{HasHeard, IsAtEnd, IsNext, IsNextCall, Plays, answer_in, answers_by, call_in, calls_by, lost_count}
+use Rattle.v_run.specs.Passages.{IsNextCall, Plays, answer_in, answers_by, calls_by, lost_count}
 use Rattle.vk_threads.specs.Works.{FindsFull, HasCalled, HasCalledBy, HasCalledCut, HasPlayed, HasPlayedCut}
 use Rattle.vk_port.proofs.Logs.{does_more, does_nothing}
 use Rattle.vk_threads.proofs.Full.{full_after}
-use Rattle.vk_threads.proofs.Playing.{IsQuiet, answers_append, calls_append, heard_append, lost_append, met_own, met_pump, plays_append, pumping_plays, pumping_quiet}
+use Rattle.vk_threads.proofs.Playing.{answers_append, calls_append, heard_append, lost_append, met_own, met_pump, plays_append, pumping_plays, pumping_quiet}
 
 -- the call itself
 abbrev first_of : (o : StationHistory) → (before : List (ℕ × StationEvent)) → Pid → Call → List Action

@@ -1,6 +1,6 @@
 -- What the clock's ports do, one stretch behind the other.
-use Rattle.std.proofs.Common.{◌≡◌, ℕ, zero, suc, ◌+◌, ◌≤◌, ◌<◌, Bool, true, false, List, [], ◌∷◌, ◌++◌, length, get_or, slice_set, refl, sym, ap, ◌∙◌, subst, arith, ◌⊎◌, inl, inr}
-use Rattle.vk_types.specs.Types.{EventAnswer, StationEvent}
+use Rattle.std.proofs.Common.{◌≡◌, ℕ, zero, suc, ◌+◌, ◌≤◌, ◌<◌, true, List, [], ◌∷◌, ◌++◌, length, get_or, slice_set, refl, sym, ◌∙◌, subst, arith, inl, inr}
+use Rattle.vk_types.specs.Types.{EventAnswer}
 use Rattle.turn_cell.specs.declared.replay.Room.{Room}
 use Rattle.turn_cell.specs.declared.replay.Room.TheVariants as rooms
 use Rattle.vk_base.specs.declared.event.StationEvent.TheVariants as events
@@ -10,7 +10,7 @@ use Rattle.vk_port.specs.Ports.{Action, AtHub, AtStation, Delivers, Does, Drops,
 use Rattle.vk_port.specs.Stations.{frames_at}
 use Rattle.vk_port.proofs.Logs.{does_more, does_nothing}
 use Rattle.vk_rules.specs.Each.{Each}
-use Rattle.v_run.specs.Passages.{HasDropped, HasHeard, OnlyTicks, lost_count, tick_count}
+use Rattle.v_run.specs.Passages.{HasHeard, OnlyTicks, lost_count, tick_count}
 use Rattle.vk_threads.specs.Clocks.{AreTicked, FirstPumps, HaveLooked, HaveRounds, HaveRoundsCut, HaveTicked, HaveTickedCut, OneFindsFull, OneHears, TickBetween, all_lost, may_tick}
 use Rattle.vk_threads.specs.Works.{FindsFull}
 use Rattle.vk_threads.proofs.Playing.{heard_append, lost_append, met_own, met_pump}

@@ -1,5 +1,5 @@
 -- Seats that are dealt: counts of stations, and what is left.
-use Rattle.std.proofs.Common.{◌≡◌, ◌≤◌, ◌<◌, ℕ, zero, suc, ◌+◌, ◌==◌, eqb-true, Bool, true, false, cond, Option, Some, None, List, [], ◌∷◌, ◌++◌, append_assoc, append-nil, length, map, take, drop, get_or, refl, sym, ap, ◌∙◌, subst, arith}
+use Rattle.std.proofs.Common.{◌≡◌, ◌≤◌, ◌<◌, ℕ, zero, suc, ◌+◌, ◌==◌, eqb-true, Bool, true, false, cond, Option, Some, List, [], ◌∷◌, ◌++◌, append_assoc, length, map, take, drop, get_or, refl, sym, ap, ◌∙◌, subst, arith}
 use Rattle.std.specs.Prelude.{slice_get}
 use Rattle.std.proofs.lemmas.List.{length-append}
 use Rattle.std.proofs.lemmas.Option.{none-some, same_Some, slice_get-get_or}
@@ -12,7 +12,7 @@ use Rattle.vk_port.specs.Ports.{PortValue, stand_of}
 use Rattle.vk_port.specs.Stations.{StationHistory}
 use Rattle.vk_rules.specs.Each.{Each}
 use Rattle.vk_rules.proofs.Lists.{each_append, each_front, each_behind}
-use Rattle.v_run.specs.Passages.{Role, Runs, nowhere}
+use Rattle.v_run.specs.Passages.{Role, Runs}
 use Rattle.vk_threads.specs.declared.opening.Site.{Site}
 use Rattle.vk_threads.specs.declared.opening.Spare.{Spare}
 use Rattle.vk_threads.specs.declared.work.Work.{Work}
@@ -24,7 +24,7 @@ use Rattle.vk_pages.specs.Programs.{task_call}
 use Rattle.vk_pages.specs.declared.any.AnyProgram.{AnyProgram}
 use Rattle.vk_threads.specs.Assigned.{ArePrograms, assignment_of, assignments_of, pid_of, program_task}
 use Rattle.vk_threads.specs.Clocks.{may_tick}
-use Rattle.vk_threads.specs.Dealt.{AreDealt, AreJobsAt, ArePorts, HasSite, IsJobAt, IsNewAt, IsPort, IsSpare, IsStocked, IsTaken, pumps_at, runs_by, spare_host}
+use Rattle.vk_threads.specs.Dealt.{AreDealt, AreJobsAt, ArePorts, IsJobAt, IsNewAt, IsPort, IsSpare, IsStocked, IsTaken, pumps_at, runs_by, spare_host}
 use Rattle.vk_threads.specs.Duties.{ClockDuty, ProcessDuty}
 use Rattle.vk_threads.specs.Ends.{IsAt, port_host}
 use Rattle.vk_threads.specs.Ended.{cell_at}

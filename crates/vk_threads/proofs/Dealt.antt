@@ -1,23 +1,20 @@
 -- All jobs of a run, from what each of them came to.
-use Rattle.std.proofs.Common.{◌≡◌, ◌≤◌, ◌<◌, ℕ, zero, suc, ◌+◌, ◌*◌, ◌==◌, ◌&&◌, ◌||◌, Bool, true, false, cond, Option, Some, None, List, [], ◌∷◌, ◌++◌, append_assoc, append-nil, length, map, refl, sym, ap, ◌∙◌, subst, arith}
-use Rattle.std.specs.Prelude.{slice_get}
-use Rattle.std.proofs.lemmas.List.{length-append}
-use Rattle.std.proofs.lemmas.Option.{none-some, same_Some}
+use Rattle.std.proofs.Common.{◌≡◌, ℕ, suc, ◌+◌, ◌==◌, Bool, true, false, cond, Option, Some, List, [], ◌∷◌, ◌++◌, append-nil, length, map, refl, sym, ap, ◌∙◌, subst, arith}
 use Rattle.vk_types.specs.Types.{Answer, Call, Pid}
-use Rattle.turn_cell.specs.Seats.{Cell, IsSeatOf, Sitting}
+use Rattle.turn_cell.specs.Seats.{Cell}
 use Rattle.vk_base.specs.Pids.{same_pid}
 use Rattle.vk_base.specs.Settings.{Settings}
 use Rattle.vk_base.proofs.ListLemmas.{map_append}
 use Rattle.vk_hub.specs.Hubs.{HubLog}
 use Rattle.vk_io.specs.Crews.{AllEnd}
-use Rattle.vk_port.specs.Ports.{Berth, IsLog, PortValue, Stand, berth_of, stand_of}
+use Rattle.vk_port.specs.Ports.{Berth, IsLog, PortValue, Stand, berth_of}
 use Rattle.vk_port.specs.Stations.{StationHistory}
 use Rattle.vk_rules.specs.Each.{Each}
 use Rattle.vk_rules.proofs.Lists.{each_append}
 use Rattle.v_run.specs.Closed.{numbers_at}
 use Rattle.v_run.specs.Jobs.{IsJobEnd, JobEnd, KeepsTime, clocks_at, is_clock, runs_pid}
 use Rattle.v_run.specs.Outcomes.{Assignment}
-use Rattle.v_run.specs.Passages.{IsPassage, IsRole, Passage, Pumps, Role, Runs, Ticks, fresh_station, host_of, hub_number_of, nowhere, number_of}
+use Rattle.v_run.specs.Passages.{IsPassage, IsRole, Passage, Pumps, Role, Runs, Ticks, fresh_station, host_of, nowhere, number_of}
 use Rattle.v_run.specs.Runs.{AreApart, IsApart, passages_of, task_in, tasks_of}
 use Rattle.vk_threads.specs.declared.end.End.{End}
 use Rattle.vk_threads.specs.declared.end.Seats.{Seats}
@@ -26,14 +23,13 @@ use Rattle.vk_program.specs.declared.assigned.Assigned.{Assigned}
 use Rattle.vk_threads.specs.declared.work.Work.{Work}
 use Rattle.vk_threads.specs.declared.work.Work.TheVariants as works
 use Rattle.vk_threads.specs.Assigned.{AreDifferent, pid_of, program_task}
-use Rattle.vk_threads.specs.Dealt.{AreJobsAt, ArePorts, IsJobAt, IsPort, hosts_for, pumps_at, runs_by}
+use Rattle.vk_threads.specs.Dealt.{AreJobsAt, ArePorts, IsPort, pumps_at, runs_by}
 use Rattle.vk_threads.specs.Dealt.{host_of as program_host}
 use Rattle.vk_threads.specs.Duties.{ClockDuty}
 use Rattle.vk_threads.specs.Ended.{AllLeft, AreEndsOf, AreLeft, cell_at}
-use Rattle.vk_threads.specs.Ends.{AreThrough, IsOf, IsThrough, MayEnd, port_host, role_of, ticking}
-use Rattle.vk_threads.specs.Jobs.{ends_as, ports_of, roles_of, rounds_of}
+use Rattle.vk_threads.specs.Ends.{AreThrough, IsOf, IsThrough, port_host, role_of, ticking}
+use Rattle.vk_threads.specs.Jobs.{ends_as, ports_of}
 use Rattle.vk_threads.specs.Opened.{count_of}
-use Rattle.vk_threads.proofs.Dealing.{count_append}
 
 -- what is known of roles alone
 abbrev pub tasks_by : List Role → List Assignment

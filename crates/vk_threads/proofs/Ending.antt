@@ -1,8 +1,8 @@
 -- From what a job did through its one port, and what came behind that, to its end.
-use Rattle.std.proofs.Common.{◌≡◌, ◌≢◌, ℕ, ◌+◌, ◌≤◌, true, false, Option, Some, None, is_some, List, [], ◌∷◌, ◌++◌, length, refl, sym, ap, ◌∙◌, subst, arith, append-nil, ◌&&◌, ◌==◌, ◌⊎◌, inl, inr}
+use Rattle.std.proofs.Common.{◌≡◌, ◌≢◌, ℕ, ◌+◌, ◌≤◌, true, false, Option, Some, None, is_some, List, [], ◌∷◌, ◌++◌, length, refl, sym, ap, ◌∙◌, subst, arith, append-nil, ◌==◌, ◌⊎◌, inl, inr}
 use Rattle.std.proofs.lemmas.Bool.Decides.{nat_tests}
 use mathlib.Core.List.{IsPrefix}
-use Rattle.vk_types.specs.Types.{Answer, Call, Pid, StationEvent}
+use Rattle.vk_types.specs.Types.{Answer, Call, Pid}
 use Rattle.turn_cell.proofs.Histories.{prefix_self}
 use Rattle.turn_cell.specs.declared.replay.Room.{Room}
 use Rattle.turn_cell.specs.declared.replay.Room.TheVariants as rooms
@@ -12,16 +12,16 @@ use Rattle.vk_base.specs.Settings.{Settings, has_process}
 use Rattle.vk_base.proofs.BoolLemmas.{and_second}
 use Rattle.vk_hub.specs.declared.event.HubEvent.{HubEvent}
 use Rattle.vk_hub.specs.declared.event.HubEvent.TheVariants as hub_events
-use Rattle.vk_hub.specs.Hubs.{has_halt, others}
+use Rattle.vk_hub.specs.Hubs.{has_halt}
 use Rattle.vk_port.specs.Ports.{Action, Berth, Does, IsLog, PortValue, Stand, after, berth_of, stand_of}
-use Rattle.vk_port.specs.Stations.{StationHistory, brings_last_number, is_process_of, is_used_up}
+use Rattle.vk_port.specs.Stations.{StationHistory, is_process_of, is_used_up}
 use Rattle.vk_port.proofs.Fronts.{prefix_over}
 use Rattle.vk_rules.specs.Each.{Each}
-use Rattle.v_run.specs.Jobs.{EndsRole, GoesOn, IsJobEnd, JobEnd, KeepsTime, MetFull, OneOf}
-use Rattle.v_run.specs.Passages.{HasDropped, HasHeard, IsAtEnd, IsLast, IsRole, OnlyPumps, Passage, Plays, Pumps, Role, Runs, answers_by, calls_by, fresh_station, lost_count}
+use Rattle.v_run.specs.Jobs.{EndsRole, GoesOn, KeepsTime, MetFull}
+use Rattle.v_run.specs.Passages.{IsAtEnd, IsLast, IsRole, Passage, Pumps, Role, Runs, answers_by, calls_by, fresh_station, lost_count}
 use Rattle.vk_threads.specs.declared.end.Seats.{Seats}
-use Rattle.vk_threads.specs.Works.{FindsFull, HasClosed, HasEnded, HasFinished, HasHalted, HasPlayed, HasPlayedCut, HasPumped, HasPumpedCut}
-use Rattle.vk_threads.specs.Ends.{AreThrough, EndsProcess, FinishesOrWaits, IsOf, IsThrough, MayEnd, TicksAll}
+use Rattle.vk_threads.specs.Works.{FindsFull, HasClosed, HasEnded, HasHalted, HasPlayed, HasPlayedCut, HasPumped, HasPumpedCut}
+use Rattle.vk_threads.specs.Ends.{EndsProcess, FinishesOrWaits, IsOf, IsThrough, MayEnd, TicksAll}
 
 -- a log's end may have heard more
 pub log_later : (b : Berth) (s t : Stand) (acts : List Action) (looked : List (ℕ × HubEvent)) → IsLog b s acts t → IsPrefix t.heard looked

@@ -1,9 +1,9 @@
 -- Processes of a configuration that differ are no more than it has.
-use Rattle.std.proofs.Common.{◌≡◌, ◌≤◌, ◌<◌, ℕ, zero, suc, ◌+◌, ◌==◌, ◌&&◌, ◌||◌, eqb-true, eq-eqb, Bool, true, false, cond, List, [], ◌∷◌, length, map, refl, sym, ap, ◌∙◌, subst, arith}
+use Rattle.std.proofs.Common.{◌≡◌, ◌≤◌, suc, ◌==◌, ◌||◌, eqb-true, eq-eqb, Bool, true, false, cond, List, [], ◌∷◌, length, map, refl, sym, ap, ◌∙◌, arith}
 use Rattle.std.proofs.lemmas.Bool.{and_from, and_parts}
 use Rattle.vk_types.specs.Types.{Pid, ProcessSpec}
 use Rattle.vk_base.specs.Pids.{same_pid}
-use Rattle.vk_base.specs.Settings.{has_process, has_station, is_process}
+use Rattle.vk_base.specs.Settings.{has_process, is_process}
 use Rattle.vk_rules.specs.Each.{Each}
 use Rattle.std.proofs.lemmas.List.{length-map}
 use Rattle.vk_program.specs.declared.assigned.Assigned.{Assigned}

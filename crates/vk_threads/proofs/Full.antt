@@ -1,5 +1,5 @@
 -- What finds no room finds none with more actions either.
-use Rattle.std.proofs.Common.{List, ◌++◌, ◌⊎◌, inl, inr}
+use Rattle.std.proofs.Common.{List, ◌++◌, inl, inr}
 use Rattle.vk_port.specs.Ports.{Action, PortValue}
 use Rattle.vk_threads.specs.Works.{FindsFull}
 use Rattle.vk_threads.proofs.Playing.{dropped_append}

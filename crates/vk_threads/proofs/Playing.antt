@@ -1,11 +1,9 @@
 -- What a job's actions say, one behind the other.
-use Rattle.std.proofs.Common.{◌≡◌, ℕ, ◌+◌, ◌≤◌, ◌||◌, Bool, true, false, Option, Some, None, List, [], ◌∷◌, ◌++◌, length, refl, sym, ap, ◌∙◌, subst, arith, append_assoc, append-nil, ◌⊎◌, inl, inr}
-use Rattle.std.specs.Prelude.{option_to_list}
+use Rattle.std.proofs.Common.{◌≡◌, ℕ, ◌+◌, ◌≤◌, ◌||◌, Bool, true, false, Option, List, [], ◌∷◌, ◌++◌, length, refl, sym, ap, ◌∙◌, subst, arith, append_assoc, append-nil, ◌⊎◌, inl, inr}
 use Rattle.std.proofs.lemmas.Bool.{or_cases}
 use Rattle.vk_types.specs.Types.{Answer, Call, EventAnswer, Pid, StationEvent}
 use Rattle.turn_cell.specs.declared.replay.Room.{Room}
 use Rattle.turn_cell.specs.declared.replay.Room.TheVariants as rooms
-use Rattle.turn_cell.specs.Rooms.{is_full as is_room_full}
 use Rattle.vk_base.specs.declared.answer.CallOutcome.TheVariants as outcomes
 use Rattle.vk_base.specs.declared.event.EventAnswer.TheVariants as answered
 use Rattle.vk_base.specs.declared.event.StationEvent.TheVariants as events
@@ -14,12 +12,11 @@ use Rattle.vk_hub.specs.declared.event.HubEvent.TheVariants as hub_events
 use Rattle.vk_hub.specs.Hubs.{is_at_limit, others}
 use Rattle.vk_port.specs.declared.port.Collected.TheVariants as collected
 use Rattle.vk_port.specs.declared.port.Pumped.TheVariants as pumped
-use Rattle.vk_port.specs.Ports.{Action, AtHub, AtStation, Delivers, Does, Drops, Enters, HasDelivered, HasMade, HasPumped as PumpedOnce, HasHeard as HeardOnce, HasWaited, Hears, IsCutEvent, IsCutPump, IsMet, IsPumping, IsRefused, Met, PortValue, answer_as}
-use Rattle.vk_port.specs.Stations.{StationHistory, brings_last_number, entry_at, frames_at, is_full, is_used_up}
-use Rattle.vk_rules.specs.CallOutcomes.{given}
+use Rattle.vk_port.specs.Ports.{Action, AtHub, AtStation, Delivers, Does, Drops, Enters, HasDelivered, HasHeard as HeardOnce, Hears, IsCutEvent, IsCutPump, IsMet, IsPumping, IsRefused, Met, PortValue}
+use Rattle.vk_port.specs.Stations.{StationHistory, brings_last_number, frames_at, is_full, is_used_up}
 use Rattle.vk_rules.specs.Each.{Each}
-use Rattle.v_run.specs.Passages.{HasDropped, HasHeard, IsNext, IsNextCall, OnlyPumps, Plays, answer_in, answers_by, call_in, calls_by, lost_count}
-use Rattle.vk_threads.specs.Works.{FindsFull, HasCalled, HasCalledBy, HasCalledCut, HasPumped, HasPumpedCut}
+use Rattle.v_run.specs.Passages.{HasDropped, HasHeard, OnlyPumps, Plays, answer_in, answers_by, call_in, calls_by, lost_count}
+use Rattle.vk_threads.specs.Works.{FindsFull, HasPumped, HasPumpedCut}
 use Rattle.vk_threads.proofs.Finishing.{at_limit}
 use Rattle.vk_port.proofs.Logs.{does_more}
 

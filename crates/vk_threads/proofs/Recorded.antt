@@ -1,9 +1,8 @@
 -- From the ends of all jobs to the record of a run.
-use Rattle.std.proofs.Common.{◌≡◌, ℕ, zero, suc, ◌+◌, ◌≤◌, ◌<◌, ◌==◌, ◌||◌, eqb, eqb-true, eq-eqb, nat_lt, ltb-true, ltb-false, Bool, true, false, cond, Option, Some, None, All, IsPermutation, List, [], ◌∷◌, ◌++◌, filter, flat_map, length, map, refl, sym, ap, ◌∙◌, subst, arith, inl, inr, ◌⊎◌, ⊎_elim}
+use Rattle.std.proofs.Common.{◌≡◌, ℕ, zero, suc, ◌+◌, ◌≤◌, ◌<◌, ◌==◌, ◌||◌, eqb, eqb-true, eq-eqb, nat_lt, ltb-true, ltb-false, Bool, true, false, cond, Some, All, IsPermutation, List, [], ◌∷◌, ◌++◌, length, map, refl, sym, ap, ◌∙◌, subst, arith, ◌⊎◌, ⊎_elim}
 use mathlib.Core.List.{IsPrefix}
 use Rattle.std.specs.List.{list_any, range_with_len}
 unfoldable use Rattle.std.specs.List.{IsDistinct}
-use Rattle.std.proofs.lemmas.Bool.{or_parts}
 use Rattle.std.proofs.lemmas.List.Elements.{All-append, All-cons, All-head, All-nil}
 use Rattle.std.proofs.lemmas.List.Folds.{list_any-append}
 use Rattle.std.proofs.lemmas.List.Sorted.{list_any-IsPermutation}
@@ -25,20 +24,18 @@ use Rattle.vk_join.specs.Joined.{IsJoined}
 use Rattle.vk_join.specs.Laws.{AreGiven}
 use Rattle.vk_join.specs.Logs.{AreLogs}
 use Rattle.vk_join.specs.Stray.{join_refusal}
-use Rattle.vk_port.specs.Stations.{IsLawfulHistory, StationHistory}
+use Rattle.vk_port.specs.Stations.{StationHistory}
 use Rattle.vk_rules.specs.Each.{Each}
-use Rattle.v_run.specs.Closed.{AreClosed, numbers_at}
-use Rattle.v_run.specs.Laws.{AreLogsOf, ClosedRunsAreJoined, JoinedRunsAreRuns, LogsMayBeJoined, closed_station}
+use Rattle.v_run.specs.Closed.{AreClosed}
+use Rattle.v_run.specs.Laws.{AreLogsOf, ClosedRunsAreJoined, JoinedRunsAreRuns, LogsMayBeJoined}
 use Rattle.v_run.specs.Outcomes.{Assignment}
-use Rattle.v_run.specs.Passages.{Passage, fresh_station, host_of, hub_number_of}
+use Rattle.v_run.specs.Passages.{Passage, fresh_station, hub_number_of}
 use Rattle.v_run.specs.Ran.{IsRun}
-use Rattle.v_run.specs.Runs.{passages_of, tasks_of}
+use Rattle.v_run.specs.Runs.{passages_of}
 use Rattle.vk_threads.specs.Ended.{AllLeft, AreSites, HaveEnded, cell_at}
-use Rattle.vk_threads.specs.Gathered.{AreReady, AreShut, HaveClosed, HaveComeBack, all_hub_seats, all_seats, all_spares, hub_seat_in, met_full, met_no_memory, seats_at, spare_of, with_halt}
+use Rattle.vk_threads.specs.Gathered.{AreReady, AreShut, HaveClosed, HaveComeBack, all_hub_seats, all_seats, all_spares, met_full, met_no_memory, seats_at, with_halt}
 use Rattle.vk_threads.specs.declared.end.End.{End}
-use Rattle.vk_threads.specs.declared.end.Seats.{Seats}
 use Rattle.vk_threads.specs.declared.opening.Site.{Site}
-use Rattle.vk_threads.specs.declared.opening.Spare.{Spare}
 use Rattle.vk_threads.proofs.Returned.{all_closed, all_left, at_stations, hub_numbers, hub_seats, limited, of_cell, sat_at, station_numbers, unlimited}
 use Rattle.vk_threads.proofs.Sitting.{AreAllOf, AreSingle, histories, logs_of_sites, logs_say, ready, shut_at, site_host, there}
 

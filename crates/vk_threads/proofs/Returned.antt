@@ -1,16 +1,16 @@
 -- What seats came back, against the passages that left them.
-use Rattle.std.proofs.Common.{append_assoc, ◌≡◌, ℕ, ◌+◌, ◌≤◌, ◌<◌, ◌==◌, ◌||◌, not, eqb, eqb-true, eq-eqb, Bool, true, false, cond, Option, Some, None, All, List, [], ◌∷◌, ◌++◌, filter, flat_map, length, map, refl, sym, ap, ◌∙◌, subst, arith, inl, inr, ◌⊎◌}
+use Rattle.std.proofs.Common.{append_assoc, ◌≡◌, ℕ, ◌+◌, ◌==◌, ◌||◌, eqb-true, eq-eqb, Bool, true, false, cond, Option, Some, None, All, List, [], ◌∷◌, ◌++◌, filter, map, refl, sym, ap, ◌∙◌, subst, inl, inr}
 use mathlib.Core.List.{IsPrefix}
 use Rattle.std.specs.List.{list_any}
 use Rattle.std.proofs.lemmas.Bool.{or_parts}
-use Rattle.std.proofs.lemmas.Option.{none-some, same_Some}
+use Rattle.std.proofs.lemmas.Option.{same_Some}
 use Rattle.std.proofs.lemmas.List.Elements.{All-cons, All-head, All-nil, All-tail}
 use Rattle.vk_types.specs.Types.{StationEvent}
 use Rattle.turn_cell.specs.declared.replay.Room.{Room}
 use Rattle.turn_cell.specs.declared.replay.Room.TheVariants as rooms
 use Rattle.turn_cell.specs.History.{events_of}
 use Rattle.turn_cell.specs.Seats.{Cell, IsSeatOf, Sitting, numbers_of}
-use Rattle.vk_base.specs.Settings.{Settings, has_station, stations_of}
+use Rattle.vk_base.specs.Settings.{Settings, has_station}
 use Rattle.vk_hub.specs.declared.event.HubEvent.{HubEvent}
 use Rattle.vk_hub.specs.Hubs.{HubLog}
 use Rattle.vk_port.specs.Stations.{StationHistory}
@@ -24,7 +24,6 @@ use Rattle.vk_threads.specs.Gathered.{all_seats, hub_seat_in, is_at, is_met_full
 use Rattle.vk_threads.specs.declared.end.End.{End}
 use Rattle.vk_threads.specs.declared.end.Seats.{Seats}
 use Rattle.vk_threads.specs.declared.opening.Site.{Site}
-use Rattle.vk_threads.specs.declared.opening.Spare.{Spare}
 use Rattle.vk_threads.proofs.Sitting.{among, site_host}
 
 abbrev pub sat_at : ℕ → List Seats → List (Sitting StationHistory StationEvent)

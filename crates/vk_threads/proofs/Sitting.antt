@@ -1,11 +1,10 @@
 -- The seats of one station among all, and the histories of the stations that they close.
-use Rattle.std.proofs.Common.{◌≡◌, ℕ, ◌≤◌, ◌==◌, not, eqb, eqb-true, eq-eqb, Bool, true, false, cond, Option, Some, None, All, List, [], ◌∷◌, ◌||◌, filter, length, map, refl, sym, ap, ◌∙◌, subst, arith}
+use Rattle.std.proofs.Common.{◌≡◌, ℕ, ◌==◌, not, eqb-true, eq-eqb, Bool, true, false, cond, Option, Some, All, List, [], ◌∷◌, ◌||◌, filter, length, map, refl, sym, ap, ◌∙◌, subst, arith}
 use Rattle.std.specs.List.{list_any}
-use Rattle.std.proofs.lemmas.Bool.{or_parts}
 use Rattle.std.proofs.lemmas.Option.{none-some, same_Some}
 use Rattle.vk_types.specs.Types.{StationEvent}
 use Rattle.turn_cell.specs.Seats.{Cell, IsSeatOf, Sitting}
-use Rattle.vk_base.specs.Settings.{Settings, stations_of}
+use Rattle.vk_base.specs.Settings.{Settings}
 use Rattle.vk_schedule.specs.declared.log.StationLog.{StationLog}
 use Rattle.vk_join.specs.Logs.{events_at}
 use Rattle.vk_port.specs.Stations.{IsLawfulHistory, StationHistory, event_of, origin_of}

@@ -9,15 +9,15 @@ use Rattle.vk_base.proofs.ListLemmas.{all_written}
 use Rattle.vk_hub.specs.Hubs.{HubLog, has_halt}
 use Rattle.vk_hub.specs.declared.event.HubEvent.{HubEvent}
 use Rattle.vk_hub.specs.declared.event.HubEvent.TheVariants as hub_events
-use Rattle.vk_port.specs.Ports.{Action, Does, PortValue}
+use Rattle.vk_port.specs.Ports.{Action, PortValue}
 use Rattle.vk_rules.specs.Each.{Each}
-use Rattle.v_run.specs.Jobs.{EndsRole, GoesOn, IsJobEnd, KeepsTime, MetFull, OneOf, last_entries, losses}
-use Rattle.v_run.specs.Passages.{HasHeard, OnlyTicks, Passage, Role, Ticks, tick_count}
+use Rattle.v_run.specs.Jobs.{EndsRole, GoesOn, KeepsTime, MetFull, OneOf, last_entries, losses}
+use Rattle.v_run.specs.Passages.{HasHeard, Passage, Ticks}
 use Rattle.vk_threads.specs.declared.end.Seats.{Seats}
-use Rattle.vk_threads.specs.Clocks.{AreTicked, HaveRounds, HaveRoundsCut, HaveTicked, HaveTickedCut, OneFindsFull, OneHears, TickBetween, all_lost}
+use Rattle.vk_threads.specs.Clocks.{AreTicked, HaveRounds, HaveRoundsCut, OneFindsFull, OneHears, TickBetween, all_lost}
 use Rattle.vk_threads.specs.Ends.{AreThrough, ArePortsClosed, GoesAllRounds, IsAt, IsOf, MayEnd, TicksAll, port_host, role_of, ticking}
 use Rattle.vk_threads.specs.Works.{HasClosed}
-use Rattle.vk_threads.proofs.Ending.{Behind, closed_behind, halt_finished, halted_behind, is_through, last_halt, last_none, met_full, none_finished, none_halt, passage_of}
+use Rattle.vk_threads.proofs.Ending.{Behind, closed_behind, halt_finished, halted_behind, is_through, last_none, met_full, none_finished, none_halt, passage_of}
 
 -- one passage for each port, of which the first may have halted the hub
 abbrev pub quiet : List PortValue → List PortValue → List (List Action) → List Passage

@@ -1,10 +1,10 @@
 -- ALL JOBS HAVE ENDED: what has come back is that of a run.
-use Rattle.std.proofs.Common.{◌≡◌, ◌≤◌, ◌<◌, ℕ, zero, suc, ◌+◌, ◌*◌, ◌==◌, ◌||◌, eqb-true, eq-eqb, Bool, true, false, cond, Option, Some, None, List, [], ◌∷◌, ◌++◌, append_assoc, length, map, refl, sym, ap, ◌∙◌, subst, arith}
+use Rattle.std.proofs.Common.{◌≡◌, ◌≤◌, ◌<◌, ℕ, suc, ◌+◌, ◌==◌, ◌||◌, eqb-true, eq-eqb, Bool, true, false, cond, Option, Some, List, [], ◌∷◌, ◌++◌, append_assoc, length, map, refl, sym, ap, ◌∙◌, subst, arith}
 use Rattle.std.specs.List.{list_any}
 use Rattle.std.proofs.lemmas.List.{length-append, length-map}
 use Rattle.std.proofs.lemmas.Bool.{or_parts, ne_eqb}
 use Rattle.vk_types.specs.Types.{Answer, Call, Pid, ProcessSpec}
-use Rattle.turn_cell.specs.Seats.{Cell, IsSeatOf, Sitting}
+use Rattle.turn_cell.specs.Seats.{Cell, Sitting}
 use Rattle.std.specs.Prelude.{IfOk, slice_get, Result, Ok, Err}
 use Rattle.std.proofs.lemmas.Bool.{and_from, and_parts}
 use Rattle.std.proofs.lemmas.Option.{same_Some}
@@ -18,16 +18,14 @@ use Rattle.vk_cluster.proofs.Stations.{Apart, stations_apart}
 use Rattle.vk_hub.specs.declared.event.HubEvent.{HubEvent}
 use Rattle.vk_hub.specs.Hubs.{HubLog}
 use Rattle.vk_io.specs.Crews.{AllEnd}
-use Rattle.vk_port.specs.Ports.{PortValue}
 use Rattle.vk_port.specs.Stations.{StationHistory}
 use Rattle.vk_rules.specs.Each.{Each}
 use Rattle.vk_rules.proofs.Lists.{each_weaker, each_front, each_behind}
-use Rattle.v_run.specs.Jobs.{JobEnd}
 use Rattle.v_run.specs.Outcomes.{Assignment}
 use Rattle.v_run.specs.Ran.{IsRun}
 use Rattle.vk_schedule.specs.declared.plan.LinkPlan.{LinkPlan}
 use Rattle.vk_threads.specs.declared.record.RunRecord.{RunRecord}
-use Rattle.v_run.specs.Passages.{Passage, host_of}
+use Rattle.v_run.specs.Passages.{host_of}
 use Rattle.v_run.specs.Runs.{passages_of, tasks_of}
 use Rattle.vk_threads.specs.declared.end.End.{End}
 use Rattle.vk_threads.specs.declared.opening.Site.{Site}
@@ -38,7 +36,7 @@ use Rattle.vk_threads.specs.declared.work.Work.TheVariants as works
 use Rattle.vk_threads.specs.Assigned.{AreDifferent, pid_of, program_task}
 use Rattle.vk_threads.specs.Dealt.{AreDealt, HasRunJobs, IsNewAt, IsOwnAt, IsStocked, hosts_for}
 use Rattle.vk_threads.specs.Dealt.{host_of as program_host}
-use Rattle.vk_threads.specs.Ended.{AreSites, HaveEnded, cell_at}
+use Rattle.vk_threads.specs.Ended.{AreSites, HaveEnded}
 use Rattle.vk_threads.specs.Ends.{IsOf, port_host, role_of, ticking}
 use Rattle.vk_threads.specs.Jobs.{ends_as, ports_of}
 use Rattle.vk_threads.specs.Opened.{AreOpened, count_of}

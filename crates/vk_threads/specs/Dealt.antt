@@ -1,6 +1,6 @@
 -- Seats that are dealt to ports, and the jobs that have them.
 use Rattle.std.specs.Prelude.{ℕ, ◌≡◌, ◌++◌, Bool, true, false, Option, Some, Result, Ok, Err, List, [], ◌∷◌, length, map}
-use Rattle.vk_types.specs.Types.{Answer, Call, Pid, StationEvent}
+use Rattle.vk_types.specs.Types.{Answer, Call, StationEvent}
 use Rattle.turn_cell.specs.Seats.{Cell, IsSeatOf, Sitting, fresh}
 use Rattle.vk_hub.specs.declared.event.HubEvent.{HubEvent}
 use Rattle.vk_hub.specs.Hubs.{HubLog}

@@ -1,5 +1,5 @@
 -- What the end of a job may be.
-use Rattle.std.specs.Prelude.{ℕ, ◌≡◌, ◌+◌, ◌⊎◌, true, List, [], ◌∷◌, ◌++◌, Option, Some, None, is_some, length, map}
+use Rattle.std.specs.Prelude.{ℕ, ◌≡◌, ◌+◌, ◌⊎◌, true, List, [], ◌∷◌, ◌++◌, Option, None, is_some, length, map}
 use mathlib.Core.List.{IsPrefix}
 use Rattle.vk_types.specs.Types.{Answer, Call, Pid}
 use Rattle.turn_cell.specs.Seats.{Cell, IsSameSeat}
@@ -10,8 +10,8 @@ use Rattle.vk_base.specs.Settings.{Settings}
 use Rattle.vk_port.specs.Ports.{IsLog, PortValue, berth_of, stand_of}
 use Rattle.vk_port.specs.Stations.{StationHistory}
 use Rattle.vk_rules.specs.Each.{Each}
-use Rattle.v_run.specs.Jobs.{IsJobEnd, JobEnd, KeepsTime, OneOf}
-use Rattle.v_run.specs.Passages.{HasHeard, IsLast, IsRole, Passage, Pumps, Role, Runs, Ticks, answers_by, calls_by, fresh_station, tick_count}
+use Rattle.v_run.specs.Jobs.{IsJobEnd, KeepsTime, OneOf}
+use Rattle.v_run.specs.Passages.{HasHeard, IsLast, IsRole, Passage, Role, Runs, Ticks, answers_by, calls_by, fresh_station, tick_count}
 use Rattle.vk_threads.specs.declared.end.Seats.{Seats}
 use Rattle.vk_threads.specs.Works.{HasClosed}
 

@@ -1,5 +1,5 @@
 -- Cells of stations that were opened, and their seats.
-use Rattle.std.specs.Prelude.{ℕ, ◌≡◌, ◌+◌, ◌==◌, ◌++◌, Bool, true, false, Some, List, [], ◌∷◌, cond, length, map}
+use Rattle.std.specs.Prelude.{ℕ, ◌≡◌, ◌+◌, ◌==◌, ◌++◌, List, [], ◌∷◌, cond, length}
 use Rattle.vk_types.specs.Types.{StationEvent}
 use Rattle.turn_cell.specs.Seats.{Cell, Sitting, fresh}
 use Rattle.vk_base.specs.Settings.{Settings}

@@ -8,6 +8,7 @@ use crate::end::End;
 use crate::gather::{close_run, has_met_full, has_met_no_memory};
 use crate::opening::Site;
 use std::alloc::Global;
+use thiserror::Error;
 use turn_cell::TurnSeat;
 use v_run::{closed_runs_are_joined, joined_runs_are_runs};
 use vk_base::Config;
@@ -24,11 +25,13 @@ pub struct RunRecord {
 }
 
 /// Why there is no record of a run.
-#[derive(Clone, Copy, Debug, PartialEq, Eq)]
+#[derive(Clone, Copy, Debug, PartialEq, Eq, Error)]
 pub enum RunRefusal {
     /// The crew failed.
+    #[error("the crew failed")]
     CrewFault,
     /// There was no memory.
+    #[error("out of memory")]
     NoMemory,
 }
 

@@ -1,5 +1,5 @@
 -- From the answer to a text to that to an input.
-use Rattle.std.proofs.Common.{◌≡◌, ℕ, ◌<◌, ◌≤◌, List, length, Option, inl, inr, refl, subst, sym, ◌∙◌, ◌⊎◌, Err, arith}
+use Rattle.std.proofs.Common.{◌≡◌, ℕ, ◌<◌, List, length, Option, inl, inr, subst, sym, ◌∙◌, ◌⊎◌, Err, arith}
 use Rattle.std.proofs.lemmas.Bool.{cond-true, lt-ltb}
 use Rattle.vk_edge.proofs.Inputs.{is_all, of_text, partly, read_whole, some_input, too_many, weaker}
 use Rattle.vk_edge.specs.Answers.{CountsFaults, IsWritten}

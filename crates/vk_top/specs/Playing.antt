@@ -1,5 +1,5 @@
 -- Of the code alone, no law rests on it: playing a schedule on its stations, one event after another.
-use Rattle.std.specs.Prelude.{◌≡◌, ℕ, ◌+◌, ◌*◌, ◌≤◌, ◌<◌, List, [], ◌∷◌, ◌++◌, drop, length, map, take, Some, Ok}
+use Rattle.std.specs.Prelude.{◌≡◌, ℕ, ◌+◌, ◌*◌, ◌≤◌, ◌<◌, List, [], ◌∷◌, ◌++◌, drop, length, map, take, vec_len, vec_capacity, Some, Ok}
 use Rattle.vk_base.specs.declared.limits.TheConstants.{EVENTS, STEPS, TICK_PACKETS}
 use Rattle.vk_base.specs.Settings.{Settings}
 use Rattle.vk_cluster.specs.declared.emitted.TheConstants.{LAST_BYTES}
@@ -17,6 +17,7 @@ use Rattle.vk_rules.specs.Entries.{Entry}
 use Rattle.vk_rules.specs.Histories.{Happened, happened, history}
 use Rattle.vk_rules.specs.Observed.{steps_in}
 use Rattle.vk_top.specs.Report.{counts_of, emitted_of, frame_count, front_text, history_before, is_cut, taken_from, taken_of, told_of, written_text}
+use Rattle.vk_text.specs.declared.text.Text.{Text}
 use Rattle.vk_top.specs.declared.replay.Written.{Written}
 
 -- what is told of an entry at this place
@@ -28,6 +29,10 @@ pub record AreFew (c : Counts) : Type 0 where
   pub events : c.events < EVENTS
   pub steps : c.steps ≤ STEPS * c.events
   pub frames : c.frames ≤ TICK_PACKETS * c.events
+
+-- there is room for what stands in the draft
+abbrev pub CanEnd : Text → Type 0
+CanEnd t = vec_len t.bytes + length t.draft ≤ vec_capacity t.bytes
 
 -- the counts with what happened at one event more
 abbrev pub counts_after : Counts → Happened → Counts

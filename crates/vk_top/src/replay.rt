@@ -11,11 +11,12 @@ ghost use Rattle.vk_host.specs.Responses.{answer_of};
 ghost use Rattle.vk_report.specs.Histories.{frames_from, told_lines};
 ghost use Rattle.vk_report.specs.Views.{IsShort, viewed};
 ghost use Rattle.vk_report.specs.Report.{opening_lines};
+ghost use Rattle.vk_text.specs.Texts.{shown};
 ghost use Rattle.vk_rules.specs.Entries.{Entry};
 ghost use Rattle.vk_rules.specs.Frames.{Frame as TheFrame};
 ghost use Rattle.vk_rules.specs.Histories.{happened};
 ghost use Rattle.vk_cluster.specs.Shown.{HasAdvanced, IsLastEvent, Sends};
-ghost use Rattle.vk_top.specs.Playing.{AreFew, HasHadRoom, IsHad, IsReported, IsWrittenOf, without_events, told_entry};
+ghost use Rattle.vk_top.specs.Playing.{AreFew, CanEnd, HasHadRoom, IsHad, IsReported, IsWrittenOf, without_events, told_entry};
 ghost use Rattle.vk_top.specs.Report.{emitted_of, is_cut, written_text};
 ghost use Rattle.vk_top.specs.Work.{KeepsLines};
 ghost use Rattle.vk_top.specs.declared.words.Asked.TheVariants as asked;
@@ -29,6 +30,7 @@ use vk_report::{
     AnswerView, Counts, EventPlace, Form, put_end, put_entry, put_frame, put_missing, put_opening,
 };
 use vk_schedule::{EventBuffer, EventReader, TextRefusal};
+use vk_text::Text;
 
 /// What is written of a schedule.
 #[derive(Drop)]
@@ -41,38 +43,37 @@ pub(crate) struct Written {
 
 /// The frames of the station's last event, which is the event `own` of the station `host`.
 fn put_frames(
-    alloc: Global,
     station: &Host,
-    text: &mut Vec<u8>,
+    text: &mut Text,
     form: Form,
     host: u16,
     own: u64,
 ) -> Result<(), NoMemory>
     requires { (fs : List TheFrame) × Sends station.now fs }
     ensures { OnOk result ((fs : List TheFrame) → Sends station.now fs →
-        text.new.items ≡ text.old.items ++ frames_from form host own 0 (map emitted_of fs)) }
+        shown text.new ≡ shown text.old ++ frames_from form host own 0 (map emitted_of fs)) }
 {
     let mut output = 0u16;
     for at in 0..station.frame_count() {
         output += 1;
         let frame = emitted_of(station, at);
-        put_frame(alloc, text, form, host, own, output, frame)?;
+        put_frame(text, form, host, own, output, frame)?;
     }
     Ok(())
 }
 
 /// The answer that the station's response stands for.
-fn answer_view(station: &Host, response: Response) -> AnswerView<'_>
-    ensures value { viewed result ≡ answer_of station.now response }
+fn answer_view<'a>(station: &'a Host, response: &'a Response) -> AnswerView<'a>
+    ensures value { viewed result ≡ answer_of station.now response.now }
     ensures short { IsShort result }
 {
     match response {
         Response::Begun => AnswerView::Begun,
         Response::Given { outcome } => AnswerView::Given { outcome },
         Response::Loaded { pid, start, count } => AnswerView::Loaded {
-            bytes: station.loaded(pid, start, count),
+            bytes: station.loaded(*pid, *start, *count),
         },
-        Response::Ticked { now } => AnswerView::Ticked { now },
+        Response::Ticked { now } => AnswerView::Ticked { now: *now },
         Response::Taken => AnswerView::Taken,
         Response::Old => AnswerView::Old,
         Response::Bad => AnswerView::Bad,
@@ -83,19 +84,19 @@ fn answer_view(station: &Host, response: Response) -> AnswerView<'_>
 fn put_told(
     alloc: Global,
     station: &Host,
-    text: &mut Vec<u8>,
+    text: &mut Text,
     form: Form,
     place: EventPlace,
-    response: Response,
+    response: &Response,
 ) -> Result<(), NoMemory>
-    requires { (e : Entry) × IsLastEvent station.now (answer_of station.now response) e }
-    ensures { OnOk result ((e : Entry) → IsLastEvent station.now (answer_of station.now response) e →
-        text.new.items ≡ text.old.items ++ told_lines form (told_entry place e)) }
+    requires { (e : Entry) × IsLastEvent station.now (answer_of station.now response.now) e }
+    ensures { OnOk result ((e : Entry) → IsLastEvent station.now (answer_of station.now response.now) e →
+        shown text.new ≡ shown text.old ++ told_lines form (told_entry place e)) }
 {
     let answer = answer_view(station, response);
     put_entry(alloc, text, form, place, &answer, station.steps())?;
     match form {
-        Form::Report => put_frames(alloc, station, text, form, place.host, place.own),
+        Form::Report => put_frames(station, text, form, place.host, place.own),
         Form::Trace => Ok(()),
     }
 }
@@ -104,7 +105,7 @@ fn put_told(
 fn put_report(
     alloc: Global,
     cluster: &Cluster,
-    text: &mut Vec<u8>,
+    text: &mut Text,
     form: Form,
     counts: &mut Counts,
     advance: Advance,
@@ -112,12 +113,12 @@ fn put_report(
     requires few { AreFew counts.old }
     requires advanced { (c : Settings) × (es : List TheEvent) × (e : TheEvent) × HasAdvanced c es cluster.now e advance }
     ensures { OnOk result ((c : Settings) (es : List TheEvent) (e : TheEvent) → HasAdvanced c es cluster.now e advance →
-        IsReported form counts.old counts.new text.old.items text.new.items (happened c (logs_of c es) e)) }
+        IsReported form counts.old counts.new (shown text.old) (shown text.new) (happened c (logs_of c es) e)) }
 {
     let number = counts.events + 1;
     counts.events = number;
     match advance {
-        Advance::Missing { host } => put_missing(alloc, text, form, number, host),
+        Advance::Missing { host } => put_missing(text, form, number, host),
         Advance::Event { place, response } => {
             let station = cluster.station(place);
             counts.steps += station.steps().len() as u64;
@@ -127,16 +128,59 @@ fn put_report(
                 host: station.host(),
                 own: station.events(),
             };
-            put_told(alloc, station, text, form, place, response)
+            put_told(alloc, station, text, form, place, &response)
         }
     }
+}
+
+/// Makes room for what stands in the draft, so that the text can end without more memory.
+#[inline(always)]
+fn keep_room(text: &mut Text) -> Result<(), NoMemory>
+    ensures same { shown text.new ≡ shown text.old }
+    ensures room { OnOk result (CanEnd text.new) }
+{
+    if text.bytes.capacity() - text.bytes.len() < text.draft.len() {
+        text.bytes.reserve(text.draft.len())?;
+    }
+    Ok(())
+}
+
+/// The bytes of the text, for which there is room.
+fn ended(text: Text) -> Vec<u8>
+    requires { CanEnd text }
+    ensures { result.items ≡ shown text }
+{
+    let Text { mut bytes, draft } = text;
+    match bytes.extend_from_slice(draft.as_slice()) {
+        Ok(()) => bytes,
+        Err(_) => unreachable!(),
+    }
+}
+
+/// The same as [`put_report`], and room for the end of the text.
+fn put_played(
+    alloc: Global,
+    cluster: &Cluster,
+    text: &mut Text,
+    form: Form,
+    counts: &mut Counts,
+    advance: Advance,
+) -> Result<(), NoMemory>
+    requires few { AreFew counts.old }
+    requires advanced { (c : Settings) × (es : List TheEvent) × (e : TheEvent) × HasAdvanced c es cluster.now e advance }
+    ensures lines { OnOk result ((c : Settings) (es : List TheEvent) (e : TheEvent) → HasAdvanced c es cluster.now e advance →
+        IsReported form counts.old counts.new (shown text.old) (shown text.new) (happened c (logs_of c es) e)) }
+    ensures end { OnOk result (CanEnd text.new) }
+{
+    put_report(alloc, cluster, text, form, counts, advance)?;
+    keep_room(text)
 }
 
 /// One event, and its lines.
 fn put_event(
     alloc: Global,
     cluster: &mut Cluster,
-    text: &mut Vec<u8>,
+    text: &mut Text,
     form: Form,
     counts: &mut Counts,
     event: &EventBuffer,
@@ -145,13 +189,14 @@ fn put_event(
     requires somewhere { StandsSomewhere cluster.old }
     requires actors { has_actors cluster.old.config.specs event.now ≡ true }
     ensures had { OnOk result ((c : Settings) (es : List TheEvent) → StandsFor c es cluster.old →
-        IsHad form c es event.now counts.old counts.new text.old.items text.new.items cluster.new) }
+        IsHad form c es event.now counts.old counts.new (shown text.old) (shown text.new) cluster.new) }
     ensures room { OnOk result (is_full cluster.old ≡ false) }
-    ensures refused { result ≡ Err ClusterRefusal.Limit → (is_full cluster.old ≡ true) × (text.new.items ≡ text.old.items) }
+    ensures end { OnOk result (CanEnd text.new) }
+    ensures refused { result ≡ Err ClusterRefusal.Limit → (is_full cluster.old ≡ true) × (text.new ≡ text.old) }
     ensures memory { result ≡ Err ClusterRefusal.NoMemory → is_full cluster.old ≡ false }
 {
     match cluster.advance(alloc, &event.view()) {
-        Ok(advance) => match put_report(alloc, cluster, text, form, counts, advance) {
+        Ok(advance) => match put_played(alloc, cluster, text, form, counts, advance) {
             Ok(()) => Ok(()),
             Err(NoMemory) => Err(ClusterRefusal::NoMemory),
         },
@@ -164,15 +209,17 @@ fn put_event(
 fn put_events(
     alloc: Global,
     cluster: &mut Cluster,
-    text: &mut Vec<u8>,
+    text: &mut Text,
     form: Form,
     reader: &mut EventReader<'_>,
 ) -> Result<bool, NoMemory>
     requires lawful { IsLawful reader.old.schedule }
     requires stands { StandsFor reader.old.schedule.config [] cluster.old }
-    requires opening { text.old.items ≡ opening_lines form reader.old.schedule.config.specs }
+    requires opening { shown text.old ≡ opening_lines form reader.old.schedule.config.specs }
+    requires end { CanEnd text.old }
     ensures cut { IfOk result (λ cut. cut ≡ is_cut reader.old.schedule) }
-    ensures text { OnOk result (text.new.items ≡ written_text form reader.old.schedule) }
+    ensures text { OnOk result (shown text.new ≡ written_text form reader.old.schedule) }
+    ensures end { OnOk result (CanEnd text.new) }
     ensures memory { OnErr result (HasHadRoom reader.old reader.new) }
     ensures ending { without_events reader.new ≡ without_events reader.old }
 {
@@ -189,7 +236,8 @@ fn put_events(
             Err(ClusterRefusal::NoMemory) => return Err(NoMemory),
         }
     }
-    put_end(alloc, text, form, counts)?;
+    put_end(text, form, counts)?;
+    keep_room(text)?;
     Ok(false)
 }
 
@@ -206,10 +254,13 @@ fn put_schedule(
     ensures memory { OnErr result (HasHadRoom reader.old reader.new) }
     ensures ending { without_events reader.new ≡ without_events reader.old }
 {
-    let mut text = Vec::new(alloc);
-    put_opening(alloc, &mut text, form, reader.config())?;
+    let mut opening = Vec::new(alloc);
+    put_opening(alloc, &mut opening, form, reader.config())?;
+    let mut text = Text::new(opening);
+    keep_room(&mut text)?;
     let mut cluster = Cluster::new(alloc, reader.config())?;
     let is_cut = put_events(alloc, &mut cluster, &mut text, form, reader)?;
+    let text = ended(text);
     Ok(Written { text, is_cut })
 }
 

@@ -1,7 +1,6 @@
 -- The asks of one seat of the hub, one behind the other, and what is sent for them.
 use Rattle.std.proofs.Common.{◌≡◌, ℕ, zero, suc, ◌+◌, Option, Some, None, List, [], ◌∷◌, ◌++◌, map, refl, sym, ap, ◌∙◌, subst, append_assoc, append-nil, arith}
 use mathlib.Core.List.{IsPrefix}
-use Rattle.turn_cell.specs.History.{events_of}
 use Rattle.vk_event.specs.declared.port.StationPort.{StationPort}
 use Rattle.vk_hub.specs.declared.event.Fetched.{Fetched}
 use Rattle.vk_hub.specs.declared.event.Fetched.TheVariants as fetched
@@ -14,7 +13,7 @@ use Rattle.vk_rules.specs.Each.{Each}
 use Rattle.vk_rules.proofs.Lists.{each_append, each_front}
 use Rattle.v_node.specs.Links.{AreErrands, Errand, HubStand, stop_count}
 use Rattle.vk_udp.specs.Asked.{AreAsks, Ask, IsAsk, after_ask, entered, errands_in, own_behind, rounds_of, seen_behind, sending, sent_for}
-use Rattle.vk_udp.specs.Wires.{Datagram, IsMore}
+use Rattle.vk_udp.specs.Wires.{IsMore}
 
 -- WHAT IS TOLD
 pub more_none : {A : Type 0} (told : Option (List A)) → IsMore told told []

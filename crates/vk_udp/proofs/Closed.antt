@@ -1,5 +1,5 @@
 -- What closed histories of a node's station and hub say of its jobs.
-use Rattle.std.proofs.Common.{append_assoc, ◌≡◌, ◌+◌, ◌==◌, ◌||◌, ℕ, eqb, eqb-true, eq-eqb, Bool, true, false, cond, Some, None, All, List, [], ◌∷◌, ◌++◌, length, map, refl, sym, ap, ◌∙◌, subst, arith, inl, inr, ◌⊎◌}
+use Rattle.std.proofs.Common.{append_assoc, ◌≡◌, ◌+◌, ◌==◌, ℕ, eqb, eqb-true, eq-eqb, Bool, true, false, cond, Some, None, All, List, [], ◌∷◌, ◌++◌, length, map, refl, sym, ap, ◌∙◌, subst, arith, inl, inr, ◌⊎◌}
 use mathlib.Core.List.{IsPrefix}
 use Rattle.std.specs.List.{list_any}
 unfoldable use Rattle.std.specs.List.{IsDistinct}

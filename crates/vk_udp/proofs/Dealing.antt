@@ -1,5 +1,5 @@
 -- Seats of a station and of the hub that are dealt to the jobs of its node, and what is left.
-use Rattle.std.proofs.Common.{◌≡◌, ℕ, suc, ◌+◌, ◌==◌, Bool, true, false, List, [], ◌∷◌, ◌++◌, append_assoc, length, refl, sym, ap, ◌∙◌, subst, arith}
+use Rattle.std.proofs.Common.{◌≡◌, ℕ, suc, ◌+◌, Bool, true, false, List, [], ◌∷◌, ◌++◌, append_assoc, length, refl, sym, ap, ◌∙◌, subst, arith}
 use Rattle.std.proofs.lemmas.List.{length-append}
 use Rattle.vk_types.specs.Types.{ProcessSpec, StationEvent}
 use Rattle.turn_cell.specs.Seats.{Cell, IsSeatOf, Sitting, fresh}

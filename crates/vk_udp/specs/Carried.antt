@@ -13,7 +13,6 @@ use Rattle.vk_io.specs.Causes.{Rose}
 use Rattle.vk_base.specs.declared.event.StationEvent.TheVariants as events
 use Rattle.vk_port.specs.Ports.{Action, Does, HasMade, IsCutEvent, IsRefused, PortValue}
 use Rattle.vk_port.specs.Stations.{is_used_up}
-use Rattle.vk_rules.specs.Each.{Each}
 use Rattle.v_node.specs.Links.{OnlyBrings, brought_by, is_kept, stop_count}
 use Rattle.v_node.specs.Seats.{hub_stand_of}
 use Rattle.vk_udp.specs.Asked.{HasAsked, errands_in, rounds_of, sent_for}

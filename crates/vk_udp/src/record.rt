@@ -16,6 +16,7 @@ use crate::gather::{NodeSite, all_fit, close_node, own_ends, take_carried};
 use crate::link::{Link, Wire};
 use crate::work::{Carried, NodeEnd};
 use std::alloc::Global;
+use thiserror::Error;
 use turn_cell::TurnSeat;
 use v_node::{closed_nodes_are_runs, nodes_send_their_own};
 use vk_base::{Config, NoMemory};
@@ -33,13 +34,16 @@ pub struct NodeRecord {
 }
 
 /// Why there is no record of a node.
-#[derive(Clone, Copy, Debug, PartialEq, Eq)]
+#[derive(Clone, Copy, Debug, PartialEq, Eq, Error)]
 pub enum NodeRefusal {
     /// The wire failed, or a link of it.
+    #[error("the link failed")]
     LinkFault,
     /// The crew failed.
+    #[error("the crew failed")]
     CrewFault,
     /// There was no memory.
+    #[error("out of memory")]
     NoMemory,
 }
 

@@ -1,7 +1,13 @@
-use Rattle.vk_report.proofs.Drafts.{line_written}
+use Rattle.vk_text.specs.Texts.{shown}
+use Rattle.vk_report.proofs.Drafts.{front_kept, line_written}
 use Rattle.vk_report.proofs.entry.write_step_line.Goals as goal
 
 pub returns-clause-ok : goal.returns-clause-ok
 returns-clause-ok c =
-    line_written _ c.make_room.new.text.items c.make_room.new.draft _ _ _ _ _ _ _ c.in_ok-make_room.ensures.ok c.put.ensures
-    c.in_ok-go_on_with_step.ensures.ok c.byte.ensures
+    line_written (shown c.args.text.now) c.make_room.new.self.bytes.items c.make_room.new.self.draft _ _ _ _ _ _ _ c.in_ok-make_room.ensures.same
+    c.put.ensures c.in_ok-go_on_with_step.ensures.ok c.byte.ensures
+
+pub returns-in_err-go_on_with_step-clause-whole : goal.returns-in_err-go_on_with_step-clause-whole
+returns-in_err-go_on_with_step-clause-whole c =
+    front_kept (shown c.args.text.now) c.make_room.new.self.bytes.items c.make_room.new.self.draft _ _ _ c.in_ok-make_room.ensures.same
+    c.put.ensures c.in_err-go_on_with_step.ensures.whole

@@ -1,10 +1,11 @@
 use Rattle.std.proofs.Common.{◌≡◌, ◌++◌, take}
 use Rattle.vk_text.specs.Spelling.{StartsWith}
+use Rattle.vk_text.specs.Texts.{shown}
 use Rattle.vk_report.specs.Report.{step_lines}
 use Rattle.vk_report.proofs.entry.write_steps.Given as goal
 
 abbrev pub invariant-loop-at : goal.invariant-loop-at
 invariant-loop-at l = record {
-  text : l.text.items ++ l.draft ≡ l.fn.text.items ++ l.fn.draft ++ step_lines l.word (take l.at l.steps);
-  front : StartsWith l.fn.text.items l.text.items;
+  text : shown l.text ≡ shown l.fn.text ++ step_lines l.word (take l.at l.steps);
+  front : StartsWith l.fn.text.bytes.items l.text.bytes.items;
 }

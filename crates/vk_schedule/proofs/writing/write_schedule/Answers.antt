@@ -1,4 +1,5 @@
 use Rattle.std.proofs.Common.{ap, ◌∙◌, ◌++◌, List, ℕ}
+use Rattle.std.proofs.lemmas.Result.{IfOk-weaker}
 use Rattle.std.specs.Prelude.{flat_map}
 use Rattle.vk_text.specs.Heads.{line_text}
 use Rattle.vk_text.specs.Openings.{opening_text}
@@ -14,6 +15,6 @@ returns-clause-read c =
     let text =
     c.in_ok-write_events.ensures
     ∙ ap (λ (l : List ℕ). l ++ flat_map (λ e. line_text (event_text e)) c.as_slice.result.now)
-    (c.in_ok-put_opening.ensures.ok ∙ ap (λ (l : List ℕ). l ++ opening) c.new-text.ensures.items)
+    (c.new-text.ensures ∙ c.in_ok-put_opening.ensures.ok ∙ ap (λ (l : List ℕ). l ++ opening) c.new-bytes.ensures.items)
     ∙ ap (λ (es : List Event). opening ++ flat_map (λ e. line_text (event_text e)) es) c.as_slice.ensures in
-    ap schedule_of text ∙ written_back c.args.schedule.now c.requires
+    IfOk-weaker c.into_bytes.result _ _ (λ v h. ap schedule_of (h ∙ text) ∙ written_back c.args.schedule.now c.requires) c.into_bytes.ensures

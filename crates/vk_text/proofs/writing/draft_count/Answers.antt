@@ -1,4 +1,4 @@
-use Rattle.std.proofs.Common.{ℕ, List, ◌∷◌, [], arith, decimal}
+use Rattle.std.proofs.Common.{◌∷◌, [], arith, decimal}
 use Rattle.vk_text.proofs.Lengths.{length_added, length_middle}
 use Rattle.vk_text.proofs.writing.draft_count.Goals as goal
 

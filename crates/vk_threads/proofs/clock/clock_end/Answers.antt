@@ -1,4 +1,4 @@
-use Rattle.std.proofs.Common.{◌≡◌, None, Some, subst}
+use Rattle.std.proofs.Common.{None, Some, subst}
 use Rattle.vk_threads.specs.Duties.{ClockDuty}
 use Rattle.vk_threads.specs.Ends.{MayEnd, ticking}
 use Rattle.vk_threads.proofs.Ticking.{closing_at, closing_cut, closing_done, closing_hosts}

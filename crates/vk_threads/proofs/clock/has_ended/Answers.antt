@@ -1,4 +1,4 @@
-use Rattle.std.proofs.Common.{arith, ap, get_or, sym, ◌≡◌, subst}
+use Rattle.std.proofs.Common.{arith, ap, get_or, sym, subst}
 use Rattle.vk_port.specs.Ports.{HasPumped}
 use Rattle.vk_threads.proofs.Clocks.{first_cut, first_delivers, first_pumps, first_rests, first_stops}
 use Rattle.vk_threads.proofs.clock.has_ended.Goals as goal

@@ -1,4 +1,4 @@
-use Rattle.std.proofs.Common.{arith, ap, get_or, sym, ◌≡◌, ◌∙◌}
+use Rattle.std.proofs.Common.{arith, ap, get_or, sym, ◌∙◌}
 use Rattle.vk_threads.proofs.Clocks.{may_at, may_more, so_all, so_cut, so_more, so_none}
 use Rattle.vk_threads.proofs.clock.tick_each.Goals as goal
 

@@ -1,4 +1,4 @@
-use Rattle.std.proofs.Common.{arith, ◌≡◌, false, true, subst}
+use Rattle.std.proofs.Common.{arith, subst}
 use Rattle.vk_threads.specs.Clocks.{HaveLooked}
 use Rattle.vk_threads.proofs.Clocks.{rounds_cut, rounds_cut_late, rounds_end, rounds_more, rounds_over, still, ticked_none}
 use Rattle.vk_threads.proofs.clock.tick_on.Goals as goal

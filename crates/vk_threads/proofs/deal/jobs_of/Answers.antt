@@ -1,5 +1,5 @@
-use Rattle.std.proofs.Common.{◌≡◌, ◌++◌, [], ap, append_assoc, append-nil, map, subst, sym, ◌∙◌}
-use Rattle.vk_threads.specs.Dealt.{AreJobsAt, IsStocked, host_of, pumps_at, runs_by}
+use Rattle.std.proofs.Common.{◌++◌, [], ap, append_assoc, append-nil, map, subst, sym, ◌∙◌}
+use Rattle.vk_threads.specs.Dealt.{AreJobsAt, IsStocked, host_of, runs_by}
 use Rattle.vk_threads.proofs.Dealing.{due_by, jobs_by, jobs_dealt, ports_at_hub, ports_by, ports_hosts, ports_may}
 use Rattle.vk_threads.proofs.deal.jobs_of.Goals as goal
 

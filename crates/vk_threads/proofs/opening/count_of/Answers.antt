@@ -1,4 +1,4 @@
-use Rattle.std.proofs.Common.{arith, eq-eqb, get_or, refl, false, ◌==◌, ◌≡◌, true, eqb-true, Bool}
+use Rattle.std.proofs.Common.{arith, eq-eqb, get_or, false, true}
 use Rattle.std.proofs.lemmas.Bool.{ne_eqb}
 use Rattle.vk_threads.proofs.Dealing.{count_more}
 use Rattle.vk_threads.proofs.opening.count_of.Goals as goal

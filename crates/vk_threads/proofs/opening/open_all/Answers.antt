@@ -1,6 +1,4 @@
 use Rattle.std.proofs.Common.{drop, get_or, ◌+◌}
-use Rattle.std.proofs.lemmas.Option.{slice_get-get_or}
-use Rattle.vk_rules.proofs.Lists.{each_at}
 use Rattle.vk_threads.proofs.Dealing.{drop_whole, dropped_on}
 use Rattle.vk_threads.proofs.Opened.{opened_all, opened_more}
 use Rattle.vk_threads.proofs.opening.open_all.Goals as goal

@@ -1,4 +1,4 @@
-use Rattle.std.proofs.Common.{arith, ◌∙◌, ◌≡◌, length}
+use Rattle.std.proofs.Common.{arith, ◌∙◌}
 use denote.Param.Send.{sendable}
 use Rattle.std.proofs.Crossing.{crosses}
 use Rattle.vk_port.proofs.Crossing.{station_send}

@@ -1,6 +1,6 @@
-use Rattle.std.proofs.Common.{◌≡◌, ◌∙◌, ◌++◌, ◌∷◌, [], Some, None, ap, false, true, subst, sym}
+use Rattle.std.proofs.Common.{◌∙◌, ◌++◌, ◌∷◌, [], Some, None, ap, subst, sym}
 use Rattle.vk_threads.specs.Ends.{EndsProcess}
-use Rattle.vk_threads.specs.Works.{HasPlayed, HasPlayedCut}
+use Rattle.vk_threads.specs.Works.{HasPlayed}
 use Rattle.vk_threads.proofs.Ending.{process_cut, process_done, process_here, process_stopped}
 use Rattle.vk_threads.proofs.process.process_end.Goals as goal
 

@@ -1,7 +1,7 @@
-use Rattle.std.proofs.Common.{◌≡◌, ◌∙◌, ◌++◌, ◌∷◌, [], Some, None, ap, subst, sym}
+use Rattle.std.proofs.Common.{◌∙◌, ◌++◌, ◌∷◌, [], Some, None, ap, subst, sym}
 use Rattle.v_run.specs.Passages.{Pumps}
 use Rattle.vk_threads.specs.Ends.{MayEnd}
-use Rattle.vk_threads.specs.Works.{HasClosed, HasPumped, HasPumpedCut}
+use Rattle.vk_threads.specs.Works.{HasPumped, HasPumpedCut}
 use Rattle.vk_threads.proofs.Ending.{pump_cut, pump_stopped}
 use Rattle.vk_threads.proofs.pump.pump_end.Goals as goal
 

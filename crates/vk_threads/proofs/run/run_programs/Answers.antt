@@ -1,4 +1,4 @@
-use Rattle.std.proofs.Common.{arith, ap, length, map, ◌∙◌, ◌≡◌, ◌+◌, sym, subst}
+use Rattle.std.proofs.Common.{arith, ap, length, map, ◌∙◌, ◌+◌, sym, subst}
 use Rattle.turn_cell.specs.Seats.{Sitting}
 use Rattle.vk_hub.specs.declared.event.HubEvent.{HubEvent}
 use Rattle.vk_hub.specs.Hubs.{HubLog}

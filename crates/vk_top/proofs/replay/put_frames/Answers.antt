@@ -1,4 +1,5 @@
 use Rattle.std.proofs.Common.{◌++◌, ◌+◌, map, drop, ap, ◌∙◌, arith}
+use Rattle.vk_text.specs.Texts.{shown}
 use Rattle.vk_report.specs.Histories.{frames_from}
 use Rattle.vk_report.specs.Report.{frame_lines}
 use Rattle.vk_top.specs.Report.{emitted_of}
@@ -11,7 +12,7 @@ loop-at-preserved c =
     let host = c.args.host in
     let own = c.args.own in
     let at = c.loop-at.at in
-    let text = c.loop-at.text.items in
+    let text = shown c.loop-at.text in
     record {
       counted = omega (arith, c.loop-at.invariant.counted);
       lines = λ fs sends.

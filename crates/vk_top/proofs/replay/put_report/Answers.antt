@@ -1,6 +1,7 @@
 use Rattle.std.proofs.Common.{◌≡◌, ◌+◌, ◌++◌, length, refl, ap, ◌∙◌}
 use Rattle.std.proofs.lemmas.Option.{slice_get_within}
 use Rattle.std.proofs.lemmas.Result.{on_ok_weaker}
+use Rattle.vk_text.specs.Texts.{shown}
 use Rattle.vk_cluster.proofs.Told.{station_told}
 use Rattle.vk_report.specs.declared.entry.Counts.{Counts}
 use Rattle.vk_report.specs.declared.entry.EventPlace.{EventPlace}
@@ -28,7 +29,7 @@ returns-in-Missing c =
     let after : Counts = record { events = before.events + 1; steps = before.steps; frames = before.frames } in
     on_ok_weaker c.put_missing.result
     (λ lines s es e had. missing_told s es c.args.cluster.now e c.args.advance c.in-Missing.host had c.in-Missing.is c.args.form
-    before after c.args.text.now.items _ lines refl) c.put_missing.ensures.ok
+    before after (shown c.args.text.now) _ lines refl) c.put_missing.ensures.ok
 
 pub returns-in-Event : goal.returns-in-Event
 returns-in-Event c =
@@ -36,15 +37,15 @@ returns-in-Event c =
     let steps = c.len.ensures.len ∙ ap length c.steps.ensures in
     let frames = c.from.ensures ∙ c.frame_count.ensures in
     let own : EventPlace = record { number = before.events + 1; host = c.host.result; own = c.events.result } in
-    let shown : EventPlace = record {
+    let told : EventPlace = record {
       number = before.events + 1;
       host = c.station-station.result.now.host;
       own = c.station-station.result.now.events;
     } in
-    let placed : own ≡ shown = λ i. record { number = before.events + 1; host = c.host.ensures i; own = c.events.ensures i } in
+    let placed : own ≡ told = λ i. record { number = before.events + 1; host = c.host.ensures i; own = c.events.ensures i } in
     on_ok_weaker c.put_told.result
     (λ lines s es e had. told_advanced s es c.args.cluster.now e c.args.advance had c.in-Event.place c.in-Event.response
-    c.in-Event.is c.station-station.result.now c.station-station.ensures c.args.form before _ c.args.text.now.items _
+    c.in-Event.is c.station-station.result.now c.station-station.ensures c.args.form before _ (shown c.args.text.now) _
     (λ entry last. lines entry last
-    ∙ (λ i. c.args.text.now.items ++ told_lines c.args.form (told_entry (placed i) entry))) (λ i. record { events = before.events + 1; steps = before.steps + steps i; frames = before.frames + frames i }))
+    ∙ (λ i. (shown c.args.text.now) ++ told_lines c.args.form (told_entry (placed i) entry))) (λ i. record { events = before.events + 1; steps = before.steps + steps i; frames = before.frames + frames i }))
     c.put_told.ensures

@@ -1,5 +1,6 @@
 use Rattle.std.proofs.Common.{◌++◌, ◌∙◌}
 use Rattle.std.proofs.lemmas.Result.{on_ok_weaker}
+use Rattle.vk_text.specs.Texts.{shown}
 use Rattle.vk_host.specs.Responses.{answer_of}
 use Rattle.vk_report.specs.Report.{entry_lines}
 use Rattle.vk_top.proofs.Events.{entry_told, trace_told}
@@ -7,8 +8,8 @@ use Rattle.vk_top.proofs.replay.put_told.Goals as goal
 
 pub returns-in-Report : goal.returns-in-Report
 returns-in-Report c =
-    let front = c.args.text.now.items in
-    let answer = answer_of c.args.station.now c.args.response in
+    let front = shown c.args.text.now in
+    let answer = answer_of c.args.station.now c.args.response.now in
     let entry = c.in_ok-put_entry.ensures.ok
     ∙ (λ i. front ++ entry_lines c.args.form c.args.place (c.answer_view-answer.ensures.value i) (c.steps.ensures i))
     in on_ok_weaker c.put_frames.result
@@ -17,8 +18,8 @@ returns-in-Report c =
 
 pub returns-in-Trace : goal.returns-in-Trace
 returns-in-Trace c =
-    let front = c.args.text.now.items in
-    let answer = answer_of c.args.station.now c.args.response in
+    let front = shown c.args.text.now in
+    let answer = answer_of c.args.station.now c.args.response.now in
     let entry = c.in_ok-put_entry.ensures.ok
     ∙ (λ i. front ++ entry_lines c.args.form c.args.place (c.answer_view-answer.ensures.value i) (c.steps.ensures i))
     in λ e last. trace_told c.args.form c.args.station.now c.args.place answer e front _ c.in-Trace.is last entry

@@ -1,4 +1,4 @@
-use Rattle.std.proofs.Common.{◌≡◌, ◌∙◌, All, map, vec_len, sym, ap, subst, arith}
+use Rattle.std.proofs.Common.{◌∙◌, All, sym, ap, subst, arith}
 use Rattle.std.specs.List.{range_with_len}
 use Rattle.std.specs.List.Sorted.{IsPermutation}
 use Rattle.turn_cell.specs.Accounts.{IsAccountOf}

@@ -1,5 +1,5 @@
-use Rattle.std.proofs.Common.{◌≡◌, false, sym, ap, subst, ◌∙◌}
-use Rattle.std.specs.Prelude.{IfErr, IfOk, OnErr, true}
+use Rattle.std.proofs.Common.{◌≡◌, false, ap, subst, ◌∙◌}
+use Rattle.std.specs.Prelude.{IfErr, IfOk, OnErr}
 use Rattle.vk_schedule.specs.Lawful.{has_actors}
 use Rattle.vk_cluster.specs.Clusters.{cluster_of}
 use Rattle.vk_cluster.specs.Standing.{IsAdvance, is_limit}

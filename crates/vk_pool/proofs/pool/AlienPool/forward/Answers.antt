@@ -1,4 +1,4 @@
-use Rattle.std.proofs.Common.{◌<◌, ap, length, arith, subst, sym}
+use Rattle.std.proofs.Common.{◌<◌, ap, length, arith}
 use Rattle.vk_pool.specs.declared.alien.Alien.{Alien}
 use Rattle.vk_pool.specs.Aliens.{closed_in, forwarded}
 use Rattle.vk_pool.proofs.Closing.{still_open}

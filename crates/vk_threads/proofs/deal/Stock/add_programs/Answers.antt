@@ -1,7 +1,6 @@
 use Rattle.std.proofs.Common.{ap, ◌∙◌, ◌++◌, map, subst}
 use Rattle.vk_rules.specs.Each.{Each}
 use Rattle.vk_threads.specs.Dealt.{IsOwnAt, host_of}
-use Rattle.vk_program.specs.declared.assigned.Assigned.{Assigned}
 use Rattle.vk_threads.proofs.Dealing.{program_job, stock_next}
 use Rattle.vk_threads.proofs.deal.Stock.add_programs.Goals as goal
 
