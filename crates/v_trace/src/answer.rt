@@ -91,7 +91,7 @@ pub fn draft_outcome(into: &mut Draft, outcome: &Outcome)
             count,
         } => draft_received_segment(into, from, message, count),
         Outcome::Found { pid } => draft_found(into, pid),
-        Outcome::Refused { why } => into.put(refusal_word(why)),
+        Outcome::Refused { why } => into.copy(refusal_word(why)),
     }
 }
 

@@ -81,9 +81,18 @@ impl Draft {
         self.len += 1;
     }
 
-    /// Writes the bytes, for which there is room. Where it is known how many they are, nothing is called for them.
+    /// Writes the bytes, for which there is room. Where it is known how many they are, nothing is called for them, and no loop is left.
     #[inline(always)]
     pub fn put(&mut self, bytes: &[u8])
+        requires { length self.old + length bytes.now ≤ DRAFT_ROOM }
+        ensures { self.new ≡ self.old ++ bytes.now }
+    {
+        write_at(&mut self.bytes, self.len, bytes);
+        self.len += bytes.len();
+    }
+
+    /// The same, for bytes of which it is not known how many they are: they are copied at once.
+    pub fn copy(&mut self, bytes: &[u8])
         requires { length self.old + length bytes.now ≤ DRAFT_ROOM }
         ensures { self.new ≡ self.old ++ bytes.now }
     {
@@ -102,6 +111,19 @@ impl Draft {
         let end = self.len + 2 * bytes.len();
         encode(bytes, &mut self.bytes[self.len..end]);
         self.len = end;
+    }
+}
+
+/// Writes the bytes over those that stand at this place and behind it, one by one: a loop of known length is unrolled, and its bytes are
+/// written together.
+#[inline(always)]
+fn write_at(text: &mut [u8; DRAFT_ROOM], place: usize, bytes: &[u8])
+    requires { place + length bytes.now ≤ DRAFT_ROOM }
+    ensures written { take (place + length bytes.now) text.new ≡ take place text.old ++ bytes.now }
+    ensures same { length text.new ≡ length text.old }
+{
+    for at in 0..bytes.len() {
+        text[place + at] = bytes[at];
     }
 }
 
