@@ -1,5 +1,5 @@
 -- What is written of a history: its report, or its trace.
-use Rattle.std.specs.Prelude.{ℕ, ◌==◌, List, [], ◌∷◌, ◌++◌, flat_map, decimal, codes, if◌then◌else◌}
+use Rattle.std.specs.Prelude.{ℕ, ◌≡◌, ◌==◌, List, [], ◌∷◌, ◌++◌, flat_map, decimal, codes, if◌then◌else◌}
 use Rattle.vk_base.specs.declared.limits.TheConstants.{EVERY_STATION}
 use Rattle.vk_types.specs.Types.{EventAnswer, ProcessSpec, Step}
 use Rattle.vk_base.specs.Packets.{Packet, Send, Reply, Pending, Negative, MoveData, MoveAck, MoveRequest, MoveBytes, MoveNegative, AskPid, TellPid}
@@ -51,6 +51,11 @@ step_line word s = word ++ step_text s ++ codes "\n"
 
 abbrev pub step_lines : List ℕ → List Step → List ℕ
 step_lines word steps = flat_map (step_line word) steps
+
+-- the first step, where there is one, is spelled as this line
+abbrev pub BeginsAs : List ℕ → List Step → Type 0
+BeginsAs line [] = Unit {0}
+BeginsAs line (s ∷ steps) = step_text s ≡ line
 
 abbrev pub report_entry : EventPlace → EventAnswer → List Step → List ℕ
 report_entry p answer steps = answer_line p answer ++ step_lines (codes "step ") steps

@@ -92,14 +92,26 @@ fn draft_destination(into: &mut Draft, destination: u16)
     }
 }
 
-/// ` KIND`
+/// ` KIND`. Each word is of known length, so nothing is called for it.
+#[inline(always)]
 fn draft_kind(into: &mut Draft, kind: PacketKind)
     requires { length into.old + 13 ≤ ROOM }
     ensures text { into.new ≡ into.old ++ 32 ∷ kind_text kind }
     ensures few { length into.new ≤ length into.old + 13 }
 {
-    into.byte(b' ');
-    into.put(kind_word(kind));
+    match kind {
+        PacketKind::Send => into.put(b" send"),
+        PacketKind::Reply => into.put(b" reply"),
+        PacketKind::Pending => into.put(b" pending"),
+        PacketKind::Negative => into.put(b" negative"),
+        PacketKind::MoveData => into.put(b" movedata"),
+        PacketKind::MoveAck => into.put(b" moveack"),
+        PacketKind::MoveRequest => into.put(b" moverequest"),
+        PacketKind::MoveBytes => into.put(b" movebytes"),
+        PacketKind::MoveNegative => into.put(b" movenegative"),
+        PacketKind::AskPid => into.put(b" askpid"),
+        PacketKind::TellPid => into.put(b" tellpid"),
+    }
 }
 
 /// `frame H:E.O`

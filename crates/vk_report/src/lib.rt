@@ -13,7 +13,8 @@ mod law;
 
 pub use answer::AnswerView;
 pub use entry::{
-    Counts, EventPlace, Form, put_end, put_entry, put_frame, put_missing, put_opening,
+    Counts, EventPlace, Form, ToldSteps, put_end, put_entry, put_frame, put_missing, put_opening,
+    put_told_entry,
 };
 pub use frame::{Emitted, PacketKind, kind_of, kind_word};
 pub use law::traces_are_of_their_steps;

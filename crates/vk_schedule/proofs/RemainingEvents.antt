@@ -13,6 +13,10 @@ use Rattle.vk_schedule.specs.declared.schedule.TextRefusal.TheVariants as refusa
 use Rattle.vk_schedule.specs.Lawful.{IsLawful, IsReadableEvent, has_actors}
 use Rattle.vk_schedule.specs.Remaining.{IsNextEvent, behind, end_of, left_by, front_left}
 use Rattle.vk_schedule.specs.Schedule.{acting, event_of, more, or_end, with_event, next_event, front_from, without_events, front_by, front_of, opened}
+use Rattle.vk_text.specs.Spelling.{joined}
+use Rattle.vk_text.proofs.ReadBack.{line_joined}
+use Rattle.vk_schedule.specs.Spelling.{event_text}
+use Rattle.vk_schedule.proofs.Events.{event_spelled}
 use Rattle.vk_schedule.proofs.Lawfulness.{event_fits}
 use Rattle.vk_schedule.proofs.Wanted.{some_actor}
 
@@ -147,6 +151,11 @@ pub given_fits : (f : Front) (c : Settings) (given n : ℕ) (lines : List (List 
 given_fits f c given n lines l e left is =
     let same : c ≡ f.schedule.config = sym (config_left c given n lines) ∙ ap (λ (x : Front). x.schedule.config) left in
     subst (λ (d : Settings). IsReadableEvent e × (has_actors d.specs e ≡ true)) same (fits c.specs l e is)
+
+-- its line is spelled as it is
+pub line_spelled : (specs : List ProcessSpec) (l : List ℕ) (e : Event) → Some e ≡ acting specs (event_of (words_from l 0)) → l ≡ event_text e
+line_spelled specs l e is =
+    sym (line_joined l) ∙ ap joined (event_spelled (words_from l 0) e (acting_some specs (event_of (words_from l 0)) e (sym is)).0)
 
 -- a loop over what is left
 

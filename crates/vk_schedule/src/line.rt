@@ -1,7 +1,8 @@
 //! The line of an event. Each of these reads the words from `at` on, and writes their event over the one that it is given. `None`
 //! is a bad line.
 
-ghost use Rattle.std.specs.Prelude.{◌≡◌, option_map};
+ghost use Rattle.std.specs.Prelude.{◌≡◌, option_map, true};
+ghost use Rattle.vk_base.specs.Settings.{has_station};
 ghost use Rattle.vk_text.specs.Lines.{words_from};
 ghost use Rattle.vk_schedule.specs.Lawful.{has_actors};
 ghost use Rattle.vk_schedule.specs.Schedule.{acting, call_event_of, collect_event_of, tick_event_of, deliver_event_of, event_of};
@@ -93,9 +94,27 @@ fn has_actors(config: &Config, event: &EventBuffer) -> bool
 {
     match event.kind {
         EventKind::Call { pid } | EventKind::Collect { pid } => config.has_process(pid),
-        EventKind::Tick { host } => config.has_station(host),
-        EventKind::Deliver { to, from, .. } => config.has_station(to) && config.has_station(from),
+        EventKind::Tick { host } => has_station(config, host),
+        EventKind::Deliver { to, from, .. } => {
+            has_station(config, to) && has_station(config, from)
+        }
     }
+}
+
+/// Whether the host is one of a process. It is looked for first where it stands if the stations are numbered from 1 on, as in most
+/// configurations.
+fn has_station(config: &Config, host: u16) -> bool
+    ensures { result ≡ has_station config.now.specs host }
+{
+    stands_first(config, host) || config.has_station(host)
+}
+
+/// Whether the station stands in the place of its number.
+fn stands_first(config: &Config, host: u16) -> bool
+    ensures { result ≡ true → has_station config.now.specs host ≡ true }
+{
+    let place = u32::from(host).wrapping_sub(1);
+    place < config.station_count() && config.station(place) == host
 }
 
 /// The event of the line, where it is one of processes and stations of the configuration.

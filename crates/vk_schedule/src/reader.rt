@@ -1,9 +1,10 @@
 //! The events of a schedule's text, one after another.
 
-ghost use Rattle.std.specs.Prelude.{◌≡◌, ◌⊎◌, ℕ, true, [], None, IfOk, IfErr, if◌then◌else◌};
+ghost use Rattle.std.specs.Prelude.{◌≡◌, ◌⊎◌, ℕ, true, [], None, IfOk, IfErr, IfSome, option_map, if◌then◌else◌};
 ghost use Rattle.vk_schedule.specs.Lawful.{IsLawful, IsReadableEvent, has_actors};
 ghost use Rattle.vk_schedule.specs.Remaining.{IsNextEvent, end_of};
 ghost use Rattle.vk_schedule.specs.Schedule.{HasProcess, front_of, unopened};
+ghost use Rattle.vk_schedule.specs.Spelling.{event_text};
 
 use crate::event::Event;
 use crate::line::read_event;
@@ -97,19 +98,28 @@ impl<'a> EventReader<'a> {
         ensures next { IsNextEvent self.old self.new (if result then Some event.new else None) }
         ensures lawful { result ≡ true → IsReadableEvent event.new × (has_actors self.old.schedule.config.specs event.new ≡ true) }
     {
+        self.next_with_line(event).is_some()
+    }
+
+    /// The same, and gives the event's line, which is spelled as it is, without the line's end; `None` where there is no event.
+    pub fn next_with_line(&mut self, event: &mut EventBuffer) -> Option<&'a [u8]>
+        ensures next { IsNextEvent self.old self.new (option_map (λ _. event.new) result) }
+        ensures lawful { IfSome result (λ _. IsReadableEvent event.new × (has_actors self.old.schedule.config.specs event.new ≡ true)) }
+        ensures text { IfSome result (λ line. line.now ≡ event_text event.new) }
+    {
         let Some((line, next)) = next_line(self.text, self.at) else {
-            return false;
+            return None;
         };
         if self.given >= EVENTS {
-            return false;
+            return None;
         }
         let Some(()) = read_event(&self.config, line, event) else {
-            return false;
+            return None;
         };
         self.at = next;
         self.line += 1;
         self.given += 1;
-        true
+        Some(line)
     }
 
     /// How the reading ends, with the configuration of the text and with none of its events.

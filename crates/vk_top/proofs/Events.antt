@@ -1,9 +1,11 @@
 -- What a cluster shows of the event that it had last, and its lines.
-use Rattle.std.proofs.Common.{◌≡◌, ℕ, ◌+◌, List, [], ◌∷◌, ◌++◌, length, map, drop, Some, refl, sym, ap, subst, ◌∙◌, append_assoc, arith}
+use Rattle.std.proofs.Common.{◌≡◌, ℕ, ◌+◌, Bool, true, false, List, [], ◌∷◌, ◌++◌, length, map, drop, Some, refl, sym, ap, subst, ◌∙◌, append_assoc, arith}
 use Rattle.std.specs.Prelude.{slice_get}
 use Rattle.std.proofs.lemmas.List.{append-nil, drop_more, length-map}
 use Rattle.std.proofs.lemmas.Option.{get_or_from_slice_get, slice_get_within}
-use Rattle.vk_types.specs.Types.{EventAnswer}
+use Rattle.vk_types.specs.Types.{EventAnswer, Pid}
+use Rattle.vk_base.specs.declared.step.Step.TheVariants as steps
+use Rattle.vk_base.specs.Steps.{is_allowed}
 use Rattle.vk_base.specs.Settings.{Settings}
 use Rattle.vk_cluster.specs.declared.report.Advance.{Advance}
 use Rattle.vk_cluster.specs.declared.report.Advance.TheVariants as advances
@@ -14,6 +16,9 @@ use Rattle.vk_cluster.specs.Values.{ClusterValue}
 use Rattle.vk_cluster.proofs.Shown.{IsReportedEntry, last_is, lawful_entry, reported_entry, reported_missing}
 use Rattle.vk_cluster.proofs.Told.{report_told}
 use Rattle.vk_schedule.specs.declared.event.Event.{Event}
+use Rattle.vk_schedule.specs.declared.event.Event.TheVariants as scheduled
+use Rattle.vk_schedule.specs.Spelling.{event_text}
+use Rattle.v_trace.specs.Texts.{step_text, step_words}
 use Rattle.vk_host.specs.declared.response.Response.{Response}
 use Rattle.vk_host.specs.Responses.{answer_of}
 use Rattle.vk_host.specs.Sealed.{sealed}
@@ -24,13 +29,18 @@ use Rattle.vk_report.specs.declared.frame.Emitted.{Emitted}
 use Rattle.vk_report.specs.declared.entry.Form.TheVariants as forms
 use Rattle.vk_report.specs.declared.entry.EventPlace.{EventPlace}
 use Rattle.vk_report.specs.Histories.{frames_from, told_lines}
-use Rattle.vk_report.specs.Report.{entry_lines, frame_lines}
+use Rattle.vk_report.specs.Report.{BeginsAs, entry_lines, frame_lines}
 use Rattle.vk_report.proofs.Traces.{no_frames}
 use Rattle.vk_rules.specs.Entries.{Entry}
-use Rattle.vk_rules.specs.Histories.{At, Missing}
+use Rattle.vk_rules.specs.CallOutcomes.{call_outcome, collect_outcome}
+use Rattle.vk_rules.specs.Histories.{At, Logs, Missing}
+use Rattle.vk_rules.specs.Observed.{steps_in}
+use Rattle.vk_rules.specs.Readings.{reading}
+use Rattle.vk_rules.specs.Right.{right_entry}
+use Rattle.vk_rules.specs.Rounds.{list_if}
 unfoldable use Rattle.vk_rules.specs.Histories.{happened}
 use Rattle.v_lawful.specs.Sending.{IsLawfulEntry}
-use Rattle.vk_top.specs.Playing.{IsReported, told_entry}
+use Rattle.vk_top.specs.Playing.{IsOwnLine, IsReported, told_entry}
 use Rattle.vk_top.specs.Report.{emitted_of, told_of}
 
 -- The lines of the frames of an event, one after another.
@@ -64,6 +74,21 @@ trace_told form s place answer e front mid is last entry =
     ap (λ g. frames_from g place.host place.own 0 (map emitted_of e.frames)) is
     ∙ no_frames place.host place.own 0 (map emitted_of e.frames) in
     entry_told form s place answer e front mid mid last entry (sym (append-nil mid) ∙ ap (λ l. mid ++ l) (sym none))
+
+-- The step of a call or a collect comes first, and is spelled as the event.
+
+collect_first : (b : Bool) (pid : Pid) (line : List ℕ) → line ≡ event_text (scheduled.Collect pid) → BeginsAs line (list_if b (steps.Collect pid ∷ []))
+unfolding step_text step_words
+collect_first true pid line own = sym own
+collect_first false pid line own = tt
+
+own_first : (c : Settings) (logs : Logs) (e : Event) (line : List ℕ) → IsOwnLine line e → BeginsAs line (steps_in (happened c logs e))
+unfolding happened right_entry call_outcome collect_outcome step_text step_words
+own_first c logs (scheduled.Call pid call) line own = sym own
+own_first c logs (scheduled.Collect pid) line own =
+    collect_first (is_allowed (reading c pid.host (logs pid.host)).view (steps.Collect pid)) pid line own
+own_first c logs (scheduled.Tick host) line own = absurd own
+own_first c logs (scheduled.Deliver to from event output) line own = absurd own
 
 -- What is told of the station that acted.
 module _ (c : Settings) (es : List Event) (now : ClusterValue) (e : Event) (r : StepReport) (reported : HasReported c es now e r)
@@ -111,6 +136,12 @@ module _ (c : Settings) (es : List Event) (now : ClusterValue) (e : Event) (a : 
 
   pub last_advanced : (entry : Entry) × IsLastEvent s (answer_of s given) entry
   last_advanced = (one.entry, last)
+
+  -- the steps that it shows begin with the line of a call or a collect
+  pub shown_first : (line : List ℕ) → IsOwnLine line e → BeginsAs line s.doing.steps
+  shown_first line own =
+      subst (BeginsAs line) (sym last.shows.steps)
+      (subst (λ h. BeginsAs line (steps_in h)) one.is (own_first c (logs_of c es) e line own))
 
   pub told_advanced : (form : Form) (before after : Counts) (front text : List ℕ) →
       ((entry : Entry) → IsLastEvent s (answer_of s given) entry →

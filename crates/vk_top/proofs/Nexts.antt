@@ -12,11 +12,6 @@ pub next_event : (old new : Front) (b : Bool) (e : Event) → b ≡ true → eve
 next_event old new true e is next = next
 next_event old new false e is next = cc
 
-pub no_event : (old new : Front) (b : Bool) (e : Event) → b ≡ false → events.IsNextEvent old new (cond b (Some e) None) →
-    (old.schedule.events ≡ []) × (new ≡ old)
-no_event old new true e is next = cc
-no_event old new false e is next = next
-
 pub fewer_events : (old new : Front) (e : Event) → old ≡ events.behind (e ∷ []) new →
     length new.schedule.events < length old.schedule.events
 fewer_events old new e next = let count = ap (λ (f : Front). length f.schedule.events) next in omega (arith, count)

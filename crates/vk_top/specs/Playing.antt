@@ -6,6 +6,8 @@ use Rattle.vk_cluster.specs.declared.emitted.TheConstants.{LAST_BYTES}
 use Rattle.vk_cluster.specs.Standing.{StandsFor, emitted_bytes, logs_of}
 use Rattle.vk_cluster.specs.Values.{ClusterValue}
 use Rattle.vk_schedule.specs.declared.event.Event.{Event}
+use Rattle.vk_schedule.specs.declared.event.Event.TheVariants as events
+use Rattle.vk_schedule.specs.Spelling.{event_text}
 use Rattle.vk_schedule.specs.declared.schedule.Front.{Front}
 use Rattle.vk_schedule.specs.declared.schedule.Schedule.{Schedule}
 use Rattle.vk_schedule.specs.Schedule.{schedule_of}
@@ -37,6 +39,12 @@ CanEnd t = vec_len t.bytes + length t.draft ≤ vec_capacity t.bytes
 -- the counts with what happened at one event more
 abbrev pub counts_after : Counts → Happened → Counts
 counts_after c h = record { events = c.events + 1; steps = c.steps + length (steps_in h); frames = c.frames + frame_count h }
+
+-- the event is a call or a collect, and spelled as this line
+abbrev pub IsOwnLine : List ℕ → Event → Type 0
+IsOwnLine line (events.Call pid call) = line ≡ event_text (events.Call pid call)
+IsOwnLine line (events.Collect pid) = line ≡ event_text (events.Collect pid)
+IsOwnLine line e = ⊥
 
 -- this happened: its lines were appended, and it is counted
 pub record IsReported (form : Form) (before after : Counts) (front text : List ℕ) (h : Happened) : Type 0 where

@@ -1,22 +1,23 @@
 //! A schedule, played on all stations of its configuration, and the report or the trace of it.
 
-ghost use Rattle.std.specs.Prelude.{◌≡◌, ◌≤◌, ◌<◌, ◌++◌, ◌∷◌, ◌⊎◌, [], Ok, Err, List, length, map, true, false, IfOk, IfErr, OnErr, OnOk};
+ghost use Rattle.std.specs.Prelude.{◌≡◌, ◌≤◌, ◌<◌, ◌++◌, ◌∷◌, ◌⊎◌, [], Ok, Err, List, length, map, true, false, IfOk, IfErr, IfSome, OnErr, OnOk};
 ghost use Rattle.vk_base.specs.Settings.{Settings};
 ghost use Rattle.vk_schedule.specs.declared.event.Event.{Event as TheEvent};
 ghost use Rattle.vk_schedule.specs.Lawful.{IsLawful, has_actors};
 ghost use Rattle.vk_schedule.specs.Schedule.{schedule_of};
+ghost use Rattle.vk_schedule.specs.Spelling.{event_text};
 ghost use Rattle.vk_cluster.specs.Standing.{StandsFor, StandsSomewhere, logs_of};
 ghost use Rattle.vk_cluster.specs.Values.{is_full};
 ghost use Rattle.vk_host.specs.Responses.{answer_of};
 ghost use Rattle.vk_report.specs.Histories.{frames_from, told_lines};
 ghost use Rattle.vk_report.specs.Views.{IsShort, viewed};
-ghost use Rattle.vk_report.specs.Report.{opening_lines};
+ghost use Rattle.vk_report.specs.Report.{BeginsAs, opening_lines};
 ghost use Rattle.vk_text.specs.Texts.{shown};
 ghost use Rattle.vk_rules.specs.Entries.{Entry};
 ghost use Rattle.vk_rules.specs.Frames.{Frame as TheFrame};
 ghost use Rattle.vk_rules.specs.Histories.{happened};
 ghost use Rattle.vk_cluster.specs.Shown.{HasAdvanced, IsLastEvent, Sends};
-ghost use Rattle.vk_top.specs.Playing.{AreFew, CanEnd, HasHadRoom, IsHad, IsReported, IsWrittenOf, without_events, told_entry};
+ghost use Rattle.vk_top.specs.Playing.{AreFew, CanEnd, HasHadRoom, IsHad, IsOwnLine, IsReported, IsWrittenOf, without_events, told_entry};
 ghost use Rattle.vk_top.specs.Report.{emitted_of, is_cut, written_text};
 ghost use Rattle.vk_top.specs.Work.{KeepsLines};
 ghost use Rattle.vk_top.specs.declared.words.Asked.TheVariants as asked;
@@ -27,9 +28,10 @@ use vk_base::NoMemory;
 use vk_cluster::{Advance, Cluster, ClusterRefusal};
 use vk_host::{Host, Response};
 use vk_report::{
-    AnswerView, Counts, EventPlace, Form, put_end, put_entry, put_frame, put_missing, put_opening,
+    AnswerView, Counts, EventPlace, Form, ToldSteps, put_end, put_frame, put_missing, put_opening,
+    put_told_entry,
 };
-use vk_schedule::{EventBuffer, EventReader, TextRefusal};
+use vk_schedule::{EventBuffer, EventKind, EventReader, TextRefusal};
 use vk_text::Text;
 
 /// What is written of a schedule.
@@ -39,6 +41,25 @@ pub(crate) struct Written {
     /// Whether an event was refused, since the frames emitted before it hold too many bytes. Then the text is that of the events before it,
     /// without the last line.
     pub is_cut: bool,
+}
+
+/// How an event is written: in which form, and for a call or a collect behind which line, which its first step is copied from.
+#[derive(Clone, Copy)]
+struct Manner<'a> {
+    form: Form,
+    line: Option<&'a [u8]>,
+}
+
+/// The line of an event that is a call or a collect, whose own step is spelled so.
+#[inline(always)]
+fn own_line<'a>(event: &EventBuffer, line: &'a [u8]) -> Option<&'a [u8]>
+    requires { line.now ≡ event_text event.now }
+    ensures { IfSome result (λ own. IsOwnLine own.now event.now) }
+{
+    match event.view().parts().0 {
+        EventKind::Call { .. } | EventKind::Collect { .. } => Some(line),
+        EventKind::Tick { .. } | EventKind::Deliver { .. } => None,
+    }
 }
 
 /// The frames of the station's last event, which is the event `own` of the station `host`.
@@ -85,18 +106,23 @@ fn put_told(
     alloc: Global,
     station: &Host,
     text: &mut Text,
-    form: Form,
+    manner: Manner,
     place: EventPlace,
     response: &Response,
 ) -> Result<(), NoMemory>
-    requires { (e : Entry) × IsLastEvent station.now (answer_of station.now response.now) e }
+    requires last { (e : Entry) × IsLastEvent station.now (answer_of station.now response.now) e }
+    requires first { IfSome manner.line (λ line. BeginsAs line.now station.now.doing.steps) }
     ensures { OnOk result ((e : Entry) → IsLastEvent station.now (answer_of station.now response.now) e →
-        shown text.new ≡ shown text.old ++ told_lines form (told_entry place e)) }
+        shown text.new ≡ shown text.old ++ told_lines manner.entry.form (told_entry place e)) }
 {
     let answer = answer_view(station, response);
-    put_entry(alloc, text, form, place, &answer, station.steps())?;
-    match form {
-        Form::Report => put_frames(station, text, form, place.host, place.own),
+    let told = ToldSteps {
+        steps: station.steps(),
+        line: manner.line,
+    };
+    put_told_entry(alloc, text, manner.form, place, &answer, told)?;
+    match manner.form {
+        Form::Report => put_frames(station, text, manner.form, place.host, place.own),
         Form::Trace => Ok(()),
     }
 }
@@ -106,19 +132,20 @@ fn put_report(
     alloc: Global,
     cluster: &Cluster,
     text: &mut Text,
-    form: Form,
+    manner: Manner,
     counts: &mut Counts,
     advance: Advance,
 ) -> Result<(), NoMemory>
     requires few { AreFew counts.old }
-    requires advanced { (c : Settings) × (es : List TheEvent) × (e : TheEvent) × HasAdvanced c es cluster.now e advance }
+    requires advanced { (c : Settings) × (es : List TheEvent) × (e : TheEvent) × HasAdvanced c es cluster.now e advance
+        × IfSome manner.line (λ line. IsOwnLine line.now e) }
     ensures { OnOk result ((c : Settings) (es : List TheEvent) (e : TheEvent) → HasAdvanced c es cluster.now e advance →
-        IsReported form counts.old counts.new (shown text.old) (shown text.new) (happened c (logs_of c es) e)) }
+        IsReported manner.entry.form counts.old counts.new (shown text.old) (shown text.new) (happened c (logs_of c es) e)) }
 {
     let number = counts.events + 1;
     counts.events = number;
     match advance {
-        Advance::Missing { host } => put_missing(text, form, number, host),
+        Advance::Missing { host } => put_missing(text, manner.form, number, host),
         Advance::Event { place, response } => {
             let station = cluster.station(place);
             counts.steps += station.steps().len() as u64;
@@ -128,7 +155,7 @@ fn put_report(
                 host: station.host(),
                 own: station.events(),
             };
-            put_told(alloc, station, text, form, place, &response)
+            put_told(alloc, station, text, manner, place, &response)
         }
     }
 }
@@ -162,17 +189,18 @@ fn put_played(
     alloc: Global,
     cluster: &Cluster,
     text: &mut Text,
-    form: Form,
+    manner: Manner,
     counts: &mut Counts,
     advance: Advance,
 ) -> Result<(), NoMemory>
     requires few { AreFew counts.old }
-    requires advanced { (c : Settings) × (es : List TheEvent) × (e : TheEvent) × HasAdvanced c es cluster.now e advance }
+    requires advanced { (c : Settings) × (es : List TheEvent) × (e : TheEvent) × HasAdvanced c es cluster.now e advance
+        × IfSome manner.line (λ line. IsOwnLine line.now e) }
     ensures lines { OnOk result ((c : Settings) (es : List TheEvent) (e : TheEvent) → HasAdvanced c es cluster.now e advance →
-        IsReported form counts.old counts.new (shown text.old) (shown text.new) (happened c (logs_of c es) e)) }
+        IsReported manner.entry.form counts.old counts.new (shown text.old) (shown text.new) (happened c (logs_of c es) e)) }
     ensures end { OnOk result (CanEnd text.new) }
 {
-    put_report(alloc, cluster, text, form, counts, advance)?;
+    put_report(alloc, cluster, text, manner, counts, advance)?;
     keep_room(text)
 }
 
@@ -181,22 +209,23 @@ fn put_event(
     alloc: Global,
     cluster: &mut Cluster,
     text: &mut Text,
-    form: Form,
+    manner: Manner,
     counts: &mut Counts,
     event: &EventBuffer,
 ) -> Result<(), ClusterRefusal>
     requires few { AreFew counts.old }
+    requires line { IfSome manner.line (λ line. IsOwnLine line.now event.now) }
     requires somewhere { StandsSomewhere cluster.old }
     requires actors { has_actors cluster.old.config.specs event.now ≡ true }
     ensures had { OnOk result ((c : Settings) (es : List TheEvent) → StandsFor c es cluster.old →
-        IsHad form c es event.now counts.old counts.new (shown text.old) (shown text.new) cluster.new) }
+        IsHad manner.entry.form c es event.now counts.old counts.new (shown text.old) (shown text.new) cluster.new) }
     ensures room { OnOk result (is_full cluster.old ≡ false) }
     ensures end { OnOk result (CanEnd text.new) }
     ensures refused { result ≡ Err ClusterRefusal.Limit → (is_full cluster.old ≡ true) × (text.new ≡ text.old) }
     ensures memory { result ≡ Err ClusterRefusal.NoMemory → is_full cluster.old ≡ false }
 {
     match cluster.advance(alloc, &event.view()) {
-        Ok(advance) => match put_played(alloc, cluster, text, form, counts, advance) {
+        Ok(advance) => match put_played(alloc, cluster, text, manner, counts, advance) {
             Ok(()) => Ok(()),
             Err(NoMemory) => Err(ClusterRefusal::NoMemory),
         },
@@ -229,8 +258,16 @@ fn put_events(
         frames: 0,
     };
     let mut event = EventBuffer::new();
-    while reader.next(&mut event) {
-        match put_event(alloc, cluster, text, form, &mut counts, &event) {
+    while let Some(line) = reader.next_with_line(&mut event) {
+        let line = own_line(&event, line);
+        match put_event(
+            alloc,
+            cluster,
+            text,
+            Manner { form, line },
+            &mut counts,
+            &event,
+        ) {
             Ok(()) => {}
             Err(ClusterRefusal::Limit) => return Ok(true),
             Err(ClusterRefusal::NoMemory) => return Err(NoMemory),

@@ -1,5 +1,5 @@
 use Rattle.std.proofs.Common.{◌≡◌, ◌+◌, ◌++◌, length, refl, ap, ◌∙◌}
-use Rattle.std.proofs.lemmas.Option.{slice_get_within}
+use Rattle.std.proofs.lemmas.Option.{IfSome_then, slice_get_within}
 use Rattle.std.proofs.lemmas.Result.{on_ok_weaker}
 use Rattle.vk_text.specs.Texts.{shown}
 use Rattle.vk_cluster.proofs.Told.{station_told}
@@ -7,7 +7,7 @@ use Rattle.vk_report.specs.declared.entry.Counts.{Counts}
 use Rattle.vk_report.specs.declared.entry.EventPlace.{EventPlace}
 use Rattle.vk_report.specs.Histories.{told_lines}
 use Rattle.vk_top.specs.Playing.{told_entry}
-use Rattle.vk_top.proofs.Events.{last_advanced, missing_told, told_advanced}
+use Rattle.vk_top.proofs.Events.{last_advanced, missing_told, shown_first, told_advanced}
 use Rattle.vk_top.proofs.replay.put_report.Goals as goal
 
 pub station-station-requires : goal.station-station-requires
@@ -17,18 +17,25 @@ station-station-requires c =
     let s = station_told now c.args.advance c.in-Event.place c.in-Event.response had.report c.in-Event.is had.told in
     slice_get_within now.hosts c.in-Event.place s.0 s.1
 
-pub put_told-requires : goal.put_told-requires
-put_told-requires c =
+pub put_told-requires-clause-last : goal.put_told-requires-clause-last
+put_told-requires-clause-last c =
     let r = c.requires.advanced in
     last_advanced r.0 r.1 c.args.cluster.now r.2 c.args.advance r.3 c.in-Event.place c.in-Event.response c.in-Event.is
     c.station-station.result.now c.station-station.ensures
+
+pub put_told-requires-clause-first : goal.put_told-requires-clause-first
+put_told-requires-clause-first c =
+    let r = c.requires.advanced in
+    IfSome_then c.args.manner.line r.4
+    (λ line own. shown_first r.0 r.1 c.args.cluster.now r.2 c.args.advance r.3 c.in-Event.place c.in-Event.response c.in-Event.is
+    c.station-station.result.now c.station-station.ensures line.now own)
 
 pub returns-in-Missing : goal.returns-in-Missing
 returns-in-Missing c =
     let before = c.args.counts.now in
     let after : Counts = record { events = before.events + 1; steps = before.steps; frames = before.frames } in
     on_ok_weaker c.put_missing.result
-    (λ lines s es e had. missing_told s es c.args.cluster.now e c.args.advance c.in-Missing.host had c.in-Missing.is c.args.form
+    (λ lines s es e had. missing_told s es c.args.cluster.now e c.args.advance c.in-Missing.host had c.in-Missing.is c.args.manner.form
     before after (shown c.args.text.now) _ lines refl) c.put_missing.ensures.ok
 
 pub returns-in-Event : goal.returns-in-Event
@@ -45,7 +52,7 @@ returns-in-Event c =
     let placed : own ≡ told = λ i. record { number = before.events + 1; host = c.host.ensures i; own = c.events.ensures i } in
     on_ok_weaker c.put_told.result
     (λ lines s es e had. told_advanced s es c.args.cluster.now e c.args.advance had c.in-Event.place c.in-Event.response
-    c.in-Event.is c.station-station.result.now c.station-station.ensures c.args.form before _ (shown c.args.text.now) _
+    c.in-Event.is c.station-station.result.now c.station-station.ensures c.args.manner.form before _ (shown c.args.text.now) _
     (λ entry last. lines entry last
-    ∙ (λ i. (shown c.args.text.now) ++ told_lines c.args.form (told_entry (placed i) entry))) (λ i. record { events = before.events + 1; steps = before.steps + steps i; frames = before.frames + frames i }))
+    ∙ (λ i. (shown c.args.text.now) ++ told_lines c.args.manner.form (told_entry (placed i) entry))) (λ i. record { events = before.events + 1; steps = before.steps + steps i; frames = before.frames + frames i }))
     c.put_told.ensures

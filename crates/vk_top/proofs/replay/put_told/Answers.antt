@@ -10,16 +10,16 @@ pub returns-in-Report : goal.returns-in-Report
 returns-in-Report c =
     let front = shown c.args.text.now in
     let answer = answer_of c.args.station.now c.args.response.now in
-    let entry = c.in_ok-put_entry.ensures.ok
-    ∙ (λ i. front ++ entry_lines c.args.form c.args.place (c.answer_view-answer.ensures.value i) (c.steps.ensures i))
+    let entry = c.in_ok-put_told_entry.ensures.ok
+    ∙ (λ i. front ++ entry_lines c.args.manner.form c.args.place (c.answer_view-answer.ensures.value i) (c.steps.ensures i))
     in on_ok_weaker c.put_frames.result
-    (λ frames e last. entry_told c.args.form c.args.station.now c.args.place answer e front _ _ last entry (frames e.frames last.sends))
+    (λ frames e last. entry_told c.args.manner.form c.args.station.now c.args.place answer e front _ _ last entry (frames e.frames last.sends))
     c.put_frames.ensures
 
 pub returns-in-Trace : goal.returns-in-Trace
 returns-in-Trace c =
     let front = shown c.args.text.now in
     let answer = answer_of c.args.station.now c.args.response.now in
-    let entry = c.in_ok-put_entry.ensures.ok
-    ∙ (λ i. front ++ entry_lines c.args.form c.args.place (c.answer_view-answer.ensures.value i) (c.steps.ensures i))
-    in λ e last. trace_told c.args.form c.args.station.now c.args.place answer e front _ c.in-Trace.is last entry
+    let entry = c.in_ok-put_told_entry.ensures.ok
+    ∙ (λ i. front ++ entry_lines c.args.manner.form c.args.place (c.answer_view-answer.ensures.value i) (c.steps.ensures i))
+    in λ e last. trace_told c.args.manner.form c.args.station.now c.args.place answer e front _ c.in-Trace.is last entry

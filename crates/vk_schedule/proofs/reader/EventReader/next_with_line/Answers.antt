@@ -1,7 +1,7 @@
 use Rattle.std.proofs.Common.{sym, ap, refl, ◌∙◌, None, arith}
 use Rattle.vk_schedule.specs.declared.schedule.Front.{Front}
-use Rattle.vk_schedule.proofs.RemainingEvents.{nothing_left, line_left, none_at_limit, event_next, given_fits}
-use Rattle.vk_schedule.proofs.reader.EventReader.next.Goals as goal
+use Rattle.vk_schedule.proofs.RemainingEvents.{nothing_left, line_left, none_at_limit, event_next, given_fits, line_spelled}
+use Rattle.vk_schedule.proofs.reader.EventReader.next_with_line.Goals as goal
 
 pub returns-in_default-clause-next : goal.returns-in_default-clause-next
 returns-in_default-clause-next c =
@@ -28,4 +28,7 @@ returns-clause-next c =
     (omega (arith, c.if-self-ge-EVENTS.false))
 
 pub returns-clause-lawful : goal.returns-clause-lawful
-returns-clause-lawful c = λ _. given_fits _ _ _ _ _ _ _ c.self.view_is c.in-Some-read_event.ensures
+returns-clause-lawful c = given_fits _ _ _ _ _ _ _ c.self.view_is c.in-Some-read_event.ensures
+
+pub returns-clause-text : goal.returns-clause-text
+returns-clause-text c = line_spelled _ _ _ c.in-Some-read_event.ensures
