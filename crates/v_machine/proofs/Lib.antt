@@ -27,6 +27,7 @@ pub mod Newest
 pub mod InitialLemmas
 pub mod Pieces
 pub mod PlaceLemmas
+pub mod Popping
 pub mod Replaced
 pub mod SendLemmas
 pub mod Spent

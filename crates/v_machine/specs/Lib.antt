@@ -13,6 +13,7 @@ pub mod Lists
 pub mod Moves
 pub mod Names
 pub mod Places
+pub mod Queues
 pub mod Rules
 pub mod Sends
 pub mod Sent

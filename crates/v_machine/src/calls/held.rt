@@ -19,6 +19,7 @@ pub struct Holding {
 }
 
 /// The Send of the sender that the process holds: it can only be the latest to its host.
+#[inline(always)]
 pub fn held(store: &Store, pid: Pid, sender: Pid) -> Option<Holding>
     requires { IsKept store.now }
     ensures number { option_map (λ h. h.number) result ≡ held (kernel_in store.now) pid sender }

@@ -1,11 +1,13 @@
 //! Steps of messages.
 
-ghost use Rattle.std.specs.Prelude.{◌≡◌, ◌<◌, length, min, ℕ};
+ghost use Rattle.std.specs.Prelude.{◌≡◌, ◌+◌, ◌<◌, ◌≤◌, length, min, ℕ};
 ghost use Rattle.vk_base.specs.declared.kernel.Exchange.{Exchange as TheExchange};
 ghost use Rattle.vk_base.specs.Kernel.{Kernel, is_live};
+ghost use Rattle.vk_base.specs.Ranges.{with_bytes};
 ghost use Rattle.vk_base.specs.Steps.{collect_step, take_step, finish_step, fail_step, failure, received, with_part};
 ghost use Rattle.v_machine.specs.Kept.{IsKept, kernel_in};
 ghost use Rattle.vk_base.specs.Activities.{call_of, answer_of};
+ghost use Rattle.v_machine.specs.Queues.{LeadsQueue};
 ghost use Rattle.v_machine.specs.Rules.{Answers, GoesOrNot, Delivers, HasRoom};
 
 use crate::refusal::ApplyRefusal;
@@ -28,10 +30,14 @@ pub fn take(store: &mut Store, pid: Pid) -> Option<()>
     deliver(store, at, from, name, waiting)
 }
 
-/// The process of the first place takes the message of a name of the process of the second, in this receive.
+/// The process of the first place takes the message of a name of the process of the second, in this receive. The name, which is the
+/// first that is kept for its queue, is taken away there, so that the next Take does not look at it.
+#[inline(always)]
 fn deliver(store: &mut Store, at: usize, from: usize, name: Name, waiting: Waiting) -> Option<()>
     requires at { at < length store.old.procs.items }
     requires from { from < length store.old.sends.items }
+    requires queue { at < length store.old.queues.items }
+    requires first { LeadsQueue store.old at name }
     ensures { Delivers at from name (call_of waiting) store.old store.new result }
 {
     let sent = store.sends[from].get(name.number)?;
@@ -39,6 +45,7 @@ fn deliver(store: &mut Store, at: usize, from: usize, name: Name, waiting: Waiti
     let outcome = receive_into(&mut proc.memory, sent, waiting, name.sender);
     proc.activity = Activity::Done { waiting, outcome };
     sends::take(&mut store.sends[from], name.number);
+    store.queues[at].pop();
     Some(())
 }
 
@@ -77,6 +84,17 @@ fn part_count(count: u32, part: &[u8]) -> u32
     }
 }
 
+/// Writes the bytes of a reply into its sender's memory, where it has some: most have none.
+#[inline(always)]
+fn write_reply(memory: &mut Memory, dest: u32, bytes: &[u8])
+    requires { dest + length bytes.now ≤ length memory.old }
+    ensures { memory.new ≡ with_bytes memory.old dest bytes.now }
+{
+    if !bytes.is_empty() {
+        let _fits = memory.write(dest, bytes);
+    }
+}
+
 /// Finish.
 #[tactic(auto, unfolding(vk_base::specs::Steps::finishing))]
 pub fn finish(store: &mut Store, pid: Pid) -> Option<()>
@@ -89,7 +107,7 @@ pub fn finish(store: &mut Store, pid: Pid) -> Option<()>
     let sent = store.sends[at].get(number)?;
     let (message, dest, bytes) = sent.replied()?;
     let proc = &mut store.procs[at];
-    let _fits = proc.memory.write(dest, bytes);
+    write_reply(&mut proc.memory, dest, bytes);
     proc.activity = Activity::Done {
         waiting: Waiting::Send {
             target: send.0,

@@ -51,6 +51,11 @@ impl Handed {
         ensures ok { OnOk result (self.new ≡ Some handing) }
         ensures err { OnErr result (self.new ≡ self.old) }
     {
+        // A message that is handed on once more takes no memory for it.
+        if let Some(last) = &mut self.last {
+            **last = handing;
+            return Ok(());
+        }
         let last = Box::new(alloc, handing)?;
         self.last = Some(last);
         Ok(())

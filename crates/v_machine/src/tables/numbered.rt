@@ -77,7 +77,9 @@ impl<T> Numbered<T> {
         self.items.get_mut(index_of(number))
     }
 
-    /// One more item. Where memory is wanting nothing changes.
+    /// One more item. Where memory is wanting nothing changes. It is put into its callers, so that the item is written where it
+    /// stays.
+    #[inline(always)]
     pub fn push(&mut self, item: T) -> Result<(), NoMemory>
     where
         T: Drop,

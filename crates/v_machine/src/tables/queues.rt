@@ -1,11 +1,12 @@
 //! The queues of processes, read.
 
-ghost use Rattle.std.specs.Prelude.{◌≡◌, ℕ, true, filter, option_copied};
+ghost use Rattle.std.specs.Prelude.{◌≡◌, ◌<◌, ℕ, true, filter, length, slice_get, option_copied, Some, IfSome};
 ghost use Rattle.std.specs.List.{list_any};
 ghost use Rattle.vk_base.specs.declared.kernel.Name.{Name as TheName};
 ghost use Rattle.vk_base.specs.Kernel.{same_name, queue_of};
 ghost use Rattle.vk_base.specs.Steps.{first_of};
 ghost use Rattle.v_machine.specs.Kept.{IsIndexed, IsAt, kernel_in, tables_in, queued_at};
+ghost use Rattle.v_machine.specs.Queues.{LeadsQueue};
 ghost use Rattle.v_machine.specs.Tables.{exchanges_by};
 
 use crate::tables::Store;
@@ -44,6 +45,7 @@ fn first_queued(
         ≡ filter (queued_at (exchanges_by places.now sends.now) pid) queue.old }
     ensures first { result ≡ first_of (filter (queued_at (exchanges_by places.now sends.now) pid) queue.old) }
     ensures among { (n : TheName) → list_any (same_name n) queue.new ≡ true → list_any (same_name n) queue.old ≡ true }
+    ensures head { IfSome result (λ n. slice_get queue.new 0 ≡ Some n) }
 {
     while let Some(name) = queue.front() {
         if is_queued(places, sends, pid, name) {
@@ -61,6 +63,8 @@ pub fn front(store: &mut Store, at: usize, pid: Pid) -> Option<Name>
     ensures first { result ≡ first_of (queue_of (kernel_in store.old) pid) }
     ensures tables { (noted : ℕ) → tables_in store.new noted ≡ tables_in store.old noted }
     ensures indexed { IsIndexed store.new }
+    ensures head { IfSome result (LeadsQueue store.new at) }
+    ensures low { at < length store.new.queues.items }
 {
     first_queued(&store.places, &store.sends, &mut store.queues[at], pid)
 }

@@ -11,8 +11,9 @@ use Rattle.v_machine.specs.Places.{count_at}
 use Rattle.v_machine.specs.Rules.{HasRoom}
 use Rattle.v_machine.specs.Sends.{at_stage}
 use Rattle.v_machine.specs.Tables.{exchanges_by, process_of}
-use Rattle.v_machine.proofs.Indexes.{indexed_later, put_no_nearer}
+use Rattle.v_machine.proofs.Indexes.{put_no_nearer}
 use Rattle.v_machine.proofs.KernelLemmas.{kernel-exchange, kernel-process, exchanges-change, sends_even, sent_there, proc_is}
+use Rattle.v_machine.proofs.Popping.{indexed_popped, taken_nowhere}
 use Rattle.v_machine.proofs.Taking.{taken_is_nearer}
 use Rattle.v_machine.proofs.steps.messages.deliver.Goals as goal
 
@@ -56,8 +57,11 @@ returns c = λ pid p e place sender there at_name room queued indexed.
     c.take.ensures in (
       exchanges ∙ ap (λ (k : Kernel).
           record k { exchanges = put_exchange (exchanges_by s.places s.sends.items) c.args.name (at_stage stages.Taken e) }) processes,
-      indexed_later s _ refl (length-set s.procs.items c.args.at _) (length-set s.sends.items c.args.from c.take.new.sends) refl refl
-          refl refl (sends_even s.places s.procs.items s.sends.items s.asked.items (at_stage stages.Taken) c.args.from c.args.name.number
+      indexed_popped s _ pid c.args.at c.index_mut-2.result.now c.pop.new.self c.args.name place c.index_mut-2.ensures.value
+          (c.requires.first c.index_mut-2.result.now c.index_mut-2.ensures.value) c.pop.ensures refl (length-set s.procs.items c.args.at _)
+          (length-set s.sends.items c.args.from c.take.new.sends) refl refl refl refl
+          (sends_even s.places s.procs.items s.sends.items s.asked.items (at_stage stages.Taken) c.args.from c.args.name.number
           c.index_mut.result.now c.take.new.sends c.requires.from c.index_mut.ensures.value c.take.ensures)
-          (put_no_nearer _ _ _ e _ at_name later refl refl (taken_is_nearer e.stage queued)) indexed,
+          (put_no_nearer _ _ _ e _ at_name later refl refl (taken_is_nearer e.stage queued))
+          (taken_nowhere _ _ _ e pid later) indexed,
     )
