@@ -48,6 +48,7 @@ fn push_receive(steps: &mut Steps, pid: Pid, waiting: Waiting)
 }
 
 /// A process, which is alive and ready, waits for a message: this is its receive. It takes the first message that waits at it.
+#[inline(always)]
 pub fn receive(
     procs: &mut Procs,
     queues: &mut Queues,

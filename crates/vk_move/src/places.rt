@@ -37,6 +37,7 @@ fn write_behind(procs: &mut Procs, pid: Pid, start: u32, offset: u32, bytes: &[u
 }
 
 /// The next bytes of a move are written into the memory of the process, of a range that starts at `dest`.
+#[inline(always)]
 pub fn write_piece(
     procs: &mut Procs,
     steps: &mut Steps,

@@ -207,6 +207,7 @@ fn write_if_next(
 }
 
 /// So many bytes of the move are done, which is open.
+#[inline(always)]
 fn progress(procs: &mut Procs, pid: Pid, moving: u64, done: u32)
     ensures { procs.new ≡ change_note pid (progressed moving done) procs.old }
 {

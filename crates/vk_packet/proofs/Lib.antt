@@ -2,3 +2,4 @@ mod Again
 mod Appended
 pub mod Placing
 mod Stands
+mod Written

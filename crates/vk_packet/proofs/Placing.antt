@@ -1,6 +1,6 @@
 -- Packets behind their fronts: in one slot, and in all.
 use Rattle.std.proofs.Common.{◌≡◌, ◌≢◌, ◌≤◌, ◌<◌, ℕ, zero, suc, ◌+◌, ◌-◌, List, [], ◌∷◌, ◌++◌, length, map, replicate, take, drop, Some, refl, sym, ap, subst, ◌∙◌, append_assoc, inl, inr, arith}
-use Rattle.std.specs.List.{refill, take-map}
+use Rattle.std.specs.List.{take-map}
 use Rattle.std.specs.Prelude.{slice_get, slice_set, slice_index_or}
 use Rattle.std.proofs.Math.ListN.{length-set}
 use Rattle.std.proofs.Math.Seq.{drop-append_seam, map-set_same, take-append_seam}
@@ -8,7 +8,6 @@ use Rattle.std.proofs.lemmas.Bool.{cases_eq}
 use Rattle.std.proofs.lemmas.List.{get_or-set_same, length-append, length-drop, length-map, length-replicate, length-take-le, map-append, map-set, map_push, replicate-append-replicate, set-append_left, take-append-le, take_more_set}
 use Rattle.std.proofs.lemmas.Option.{same_Some, slice_get-get_or}
 use Rattle.vk_base.specs.declared.limits.TheConstants.{HEADER_BYTES}
-use Rattle.vk_base.proofs.Pools.{refilled}
 use Rattle.vk_packet.specs.Posts.{Posts, behind, framed}
 use Rattle.vk_packet.specs.Slots.{AreSome, SlotValue, empty_slot, front_of, fronts_of, post_of, posts_of}
 
@@ -25,14 +24,10 @@ placed to front packet size =
     ap (λ n. drop n (front ++ packet)) (sym size) ∙ drop-append_seam front packet in
     λ i. record { to = to; front = first i; packet = rest i }
 
-pub front_put : (to : ℕ) (old written front : List ℕ) (now : SlotValue) → length front ≡ HEADER_BYTES → HEADER_BYTES ≤ length old →
-    written ≡ front ++ drop HEADER_BYTES old → slot_of to old ≡ now →
-    slot_of to (refill (length old) old written) ≡ record now { front = front }
-front_put to old written front now size low is was =
-    let more : length written ≡ length front + length (drop HEADER_BYTES old) = ap length is ∙ length-append front (drop HEADER_BYTES old) in
-    let same : length written ≡ length old = omega (arith, length-drop HEADER_BYTES old) in
-    ap (slot_of to) (refilled old written same ∙ is) ∙ placed to front (drop HEADER_BYTES old) size
-    ∙ ap (λ (s : SlotValue). record s { front = front }) was
+pub front_put : (to : ℕ) (old written front : List ℕ) (now : SlotValue) → length front ≡ HEADER_BYTES →
+    written ≡ front ++ drop HEADER_BYTES old → slot_of to old ≡ now → slot_of to written ≡ record now { front = front }
+front_put to old written front now size is was =
+    ap (slot_of to) is ∙ placed to front (drop HEADER_BYTES old) size ∙ ap (λ (s : SlotValue). record s { front = front }) was
 
 pub filled : (to next : ℕ) (old cut new packet : List ℕ) (now : SlotValue) → HEADER_BYTES ≤ length old → cut ≡ take HEADER_BYTES old →
     new ≡ cut ++ packet → slot_of to old ≡ now → slot_of next new ≡ record now { to = next; packet = packet }
@@ -40,6 +35,17 @@ filled to next old cut new packet now low is more was =
     ap (slot_of next) (more ∙ ap (λ l. l ++ packet) is)
     ∙ placed next (take HEADER_BYTES old) packet (length-take-le HEADER_BYTES old low)
     ∙ ap (λ (s : SlotValue). record s { to = next; packet = packet }) was
+
+pub kept_size : (old cut : List ℕ) → HEADER_BYTES ≤ length old → cut ≡ take HEADER_BYTES old → length cut ≤ HEADER_BYTES
+kept_size old cut low is =
+    let size : length cut ≡ HEADER_BYTES = ap length is ∙ length-take-le HEADER_BYTES old low in
+    omega arith
+
+pub filled_size : (old cut new : List ℕ) → HEADER_BYTES ≤ length old → cut ≡ take HEADER_BYTES old → length cut < length new →
+    HEADER_BYTES ≤ length new
+filled_size old cut new low is more =
+    let size : length cut ≡ HEADER_BYTES = ap length is ∙ length-take-le HEADER_BYTES old low in
+    omega arith
 
 pub filled_some : (old cut new : List ℕ) → HEADER_BYTES ≤ length old → cut ≡ take HEADER_BYTES old → length cut < length new →
     0 < length (drop HEADER_BYTES new)

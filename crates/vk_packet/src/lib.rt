@@ -4,6 +4,7 @@
 //! are said above.
 #![tactic(auto)]
 
+mod draft;
 mod law;
 mod outbox;
 mod packet;

@@ -63,7 +63,8 @@ impl Outbox {
         self.used = 0;
     }
 
-    /// Appends a packet that keeps to the rules, for the station `to`.
+    /// Appends a packet that keeps to the rules, for the station `to`. It is put into its callers, each of which posts one kind.
+    #[inline(always)]
     pub fn post(&mut self, to: u16, packet: &PacketView)
         requires lawful { is_lawful (value_of packet.now) ≡ true }
         requires room { length self.old.posts < self.old.room }
@@ -96,6 +97,7 @@ impl Outbox {
     }
 
     /// Writes these bytes in front of place number `at`, counted from 0.
+    #[inline(always)]
     pub fn put_front(&mut self, at: u32, front: &[u8; HEADER_BYTES])
         requires { at < self.old.room }
         ensures { self.new ≡ record self.old { fronts = slice_set self.old.fronts at front.now } }
@@ -114,8 +116,20 @@ impl Outbox {
     }
 }
 
-/// Makes the slots that are wanting up to this place, for which there is room.
+/// Makes the slots that are wanting up to this place, for which there is room: none but for the most packets so far.
+#[inline(always)]
 fn make_slots(slots: &mut Vec<Slot>, at: usize)
+    requires { at < vec_capacity slots.old }
+    ensures items { slots.new.items ≡ slots.old.items ++ replicate (at + 1 - length slots.old.items) empty_slot }
+    ensures capacity { vec_capacity slots.new ≡ vec_capacity slots.old }
+{
+    if slots.len() <= at {
+        push_slots(slots, at);
+    }
+}
+
+#[inline(never)]
+fn push_slots(slots: &mut Vec<Slot>, at: usize)
     requires { at < vec_capacity slots.old }
     ensures items { slots.new.items ≡ slots.old.items ++ replicate (at + 1 - length slots.old.items) empty_slot }
     ensures capacity { vec_capacity slots.new ≡ vec_capacity slots.old }

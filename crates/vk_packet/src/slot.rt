@@ -1,12 +1,10 @@
 //! A place for one packet.
 
-ghost use Rattle.std.specs.Prelude.{◌≡◌, ◌≤◌, ◌++◌, drop, length};
-
+use crate::draft::FrameDraft;
 use crate::packet::PacketView;
-use crate::writing::{encode, put};
-use arrayvec::ArrayVec;
+use crate::writing::write;
 use std::marker::Model;
-use vk_base::limits::{FRAME_BYTES, HEADER_BYTES};
+use vk_base::limits::HEADER_BYTES;
 use vk_wire::PACKET_BYTES;
 
 /// Room for one frame: the bytes in front of the packet, as many as a header has, and the packet's behind them; and the station that
@@ -14,7 +12,7 @@ use vk_wire::PACKET_BYTES;
 #[derive(Drop)]
 pub struct Slot {
     to: u16,
-    bytes: ArrayVec<u8, FRAME_BYTES>,
+    bytes: FrameDraft,
 }
 
 impl Model for Slot {
@@ -24,9 +22,9 @@ impl Model for Slot {
 
     ghost Value = { SlotValue };
 
-    ghost view = { λ s. record { to = s.to; front = take HEADER_BYTES s.bytes.items; packet = drop HEADER_BYTES s.bytes.items } };
+    ghost view = { λ s. record { to = s.to; front = take HEADER_BYTES s.bytes; packet = drop HEADER_BYTES s.bytes } };
 
-    ghost invariant = { λ s. HEADER_BYTES ≤ length s.bytes.items };
+    ghost invariant = { λ s. HEADER_BYTES ≤ length s.bytes };
 }
 
 impl Slot {
@@ -40,27 +38,29 @@ impl Slot {
     pub fn empty() -> Self
         ensures { result ≡ empty_slot }
     {
-        let mut bytes = ArrayVec::new();
-        put(&mut bytes, &[0; HEADER_BYTES]);
+        let mut bytes = FrameDraft::new();
+        bytes.put(&[0; HEADER_BYTES]);
         Slot { to: 0, bytes }
     }
 
     /// Has this packet from now on, behind the same front.
+    #[inline(always)]
     pub fn fill(&mut self, to: u16, packet: &PacketView)
         requires { is_lawful (value_of packet.now) ≡ true }
         ensures value { self.new ≡ record self.old { to = to; packet = packet_bytes (value_of packet.now) } }
         ensures some { 0 < length self.new.packet }
     {
         self.to = to;
-        self.bytes.truncate(HEADER_BYTES);
-        encode(packet, &mut self.bytes);
+        self.bytes.cut_back(HEADER_BYTES);
+        write(packet, &mut self.bytes);
     }
 
     /// Has these bytes in front of the packet from now on.
+    #[inline(always)]
     pub fn put_front(&mut self, front: &[u8; HEADER_BYTES])
         ensures { self.new ≡ record self.old { front = front.now } }
     {
-        write_front(self.bytes.as_mut_slice(), front);
+        self.bytes.put_first(front);
     }
 
     /// The station that the packet is for.
@@ -85,12 +85,4 @@ impl Slot {
     {
         self.bytes.as_slice()
     }
-}
-
-/// Writes the front over the first bytes.
-fn write_front(bytes: &mut [u8], front: &[u8; HEADER_BYTES])
-    requires { HEADER_BYTES ≤ length bytes.old }
-    ensures { bytes.new ≡ front.now ++ drop HEADER_BYTES bytes.old }
-{
-    bytes[..HEADER_BYTES].copy_from_slice(front);
 }

@@ -6,7 +6,7 @@ use Rattle.vk_packet.proofs.writing.put_tell_pid.Goals as goal
 
 pub returns-clause-bytes : goal.returns-clause-bytes
 returns-clause-bytes c =
-    let asker = appended c.args.into.now.items (11 ∷ pid_bytes c.args.found) _ (11 ∷ pid_bytes c.args.found) (pid_bytes c.args.asker) _ _
+    let asker = appended c.args.into.now (11 ∷ pid_bytes c.args.found) _ (11 ∷ pid_bytes c.args.found) (pid_bytes c.args.asker) _ _
     c.put_kind.ensures.bytes c.put.ensures refl c.bytes_of_pid.ensures in
-    appended c.args.into.now.items _ _ (11 ∷ pid_bytes c.args.found ++ pid_bytes c.args.asker) (big_bytes 8 c.args.lookup) _ _ asker
+    appended c.args.into.now _ _ (11 ∷ pid_bytes c.args.found ++ pid_bytes c.args.asker) (big_bytes 8 c.args.lookup) _ _ asker
     c.put-2.ensures refl c.bytes_of_u64.ensures

@@ -6,5 +6,5 @@ use Rattle.vk_packet.proofs.slot.Slot.framed.Goals as goal
 
 pub returns : goal.returns
 returns c =
-    c.as_slice.ensures.value ∙ sym (take-append-drop HEADER_BYTES c.self.inside.bytes.items)
+    c.as_slice.ensures.value ∙ sym (take-append-drop HEADER_BYTES c.self.inside.bytes)
     ∙ ap (λ (s : SlotValue). s.front ++ s.packet) c.self.view_is

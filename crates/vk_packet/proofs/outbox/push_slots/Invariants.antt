@@ -1,6 +1,6 @@
 use Rattle.std.proofs.Common.{◌≡◌, ◌≤◌, ◌+◌, ◌-◌, ◌++◌, length, replicate, vec_capacity}
 use Rattle.vk_packet.specs.Slots.{empty_slot}
-use Rattle.vk_packet.proofs.outbox.make_slots.Given as goal
+use Rattle.vk_packet.proofs.outbox.push_slots.Given as goal
 
 abbrev pub invariant-loop-made : goal.invariant-loop-made
 invariant-loop-made l = record {

@@ -1,6 +1,6 @@
 use Rattle.std.proofs.Common.{◌≡◌, ◌+◌, ◌-◌, ◌++◌, length, replicate, ap, ◌∙◌, arith}
 use Rattle.vk_packet.specs.Slots.{empty_slot}
-use Rattle.vk_packet.proofs.outbox.make_slots.Goals as goal
+use Rattle.vk_packet.proofs.outbox.push_slots.Goals as goal
 
 pub returns-clause-items : goal.returns-clause-items
 returns-clause-items c =
