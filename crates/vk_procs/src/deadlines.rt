@@ -1,203 +1,143 @@
-//! The deadlines of a station's processes, in a wheel that is told of new ones when it is asked.
+//! The deadlines of a station's processes, in a wheel that is told of each when it is set.
 
 ghost use Rattle.std.specs.Int.{bit_at};
-ghost use Rattle.std.specs.Prelude.{◌≡◌, ◌==◌, ◌&&◌, ◌≤◌, ◌<◌, ◌+◌, ℕ, List, length, slice_set, IfOk, if◌then◌else◌};
+ghost use Rattle.std.specs.Prelude.{◌≡◌, ◌==◌, ◌&&◌, ◌≤◌, ◌<◌, ◌+◌, ◌-◌, ◌^◌, ◌%◌, ℕ, List, Some, length, if◌then◌else◌};
 ghost use Rattle.vk_base.specs.declared.limits.TheConstants.{STATION_EVENTS, STATION_PROCESSES as PROCESSES};
 ghost use Rattle.vk_procs.specs.declared.seat.Seat.{Seat as TheSeat};
 ghost use Rattle.vk_procs.specs.Awaited.{due_places};
-ghost use Rattle.vk_procs.specs.Kept.{AreFollowed, AreHeard, AreSameBut, awaited_at, due_bit, is_far, near};
-ghost use Rattle.vk_timer.specs.Wheels.{AreFrom, is_due};
+ghost use Rattle.vk_procs.specs.Kept.{AreAsked, AreFollowed, HasHeard, awaited_at, deadline_at};
+ghost use Rattle.vk_timer.specs.Wheels.{is_due};
 
-use crate::seat::Seat;
-use std::alloc::Global;
+use crate::seat::{Seat, seat_in};
 use vk_base::limits::STATION_PROCESSES;
-use vk_base::{Activity, NoMemory};
-use vk_timer::{Wheel, next_slot, with_slot};
+use vk_timer::{next_slot, with_slot, without_slot};
 
-/// The wheel has ticks less than so many behind the next one.
-const AHEAD: u64 = 64;
+/// How many ticks the wheel has places for: the next one, and those behind it.
+const PLACES: u64 = 64;
 
-/// A wheel with the deadlines of the processes that it was told of. It has those of some that wait no more, too.
+/// The deadlines of processes, in a wheel. Whom it tells of may wait no more, or have another deadline by then: so the seats are asked.
 #[derive(Drop)]
 pub struct Deadlines {
-    wheel: Wheel,
-    /// The tick that the wheel is asked for next. It has none before.
+    /// In the place of a tick, its number modulo 64, the processes of which that was a deadline, a bit for each.
+    wheel: [u32; PLACES as usize],
+    /// The tick that the wheel is asked for next.
     next: u64,
-    /// The places of the processes that began to wait, or to wait for another tick, since the wheel was told of them, a bit for each.
+    /// The places of the processes whose deadlines are too far ahead for the wheel, a bit for each. They are asked at each tick.
     noted: u32,
 }
 
 impl Deadlines {
-    /// The wheel was told of nobody. All memory is taken here.
-    pub fn new(alloc: Global) -> Result<Self, NoMemory>
-        ensures { IfOk result (λ d. (seats : List TheSeat) → AreFollowed d seats) }
+    /// The wheel was told of nobody.
+    pub fn new() -> Self
+        ensures { (seats : List TheSeat) → AreFollowed result seats }
     {
-        Ok(Deadlines {
-            wheel: Wheel::new(alloc, STATION_PROCESSES as u32)?,
+        Deadlines {
+            wheel: [0; PLACES as usize],
             next: 1,
             noted: u32::MAX,
-        })
+        }
     }
 
-    /// The process in this place waits from now on, or until another tick.
-    pub fn note(&mut self, at: usize)
-        requires { at < PROCESSES }
-        ensures { (old new : List TheSeat) → AreFollowed self.old old → AreSameBut at old new → AreFollowed self.new new }
+    /// The process in this place has this deadline from now on. One that is over is nobody's any more.
+    pub fn tell(&mut self, at: u32, tick: u64)
+        requires at { at < PROCESSES }
+        requires long { length self.old.wheel ≡ PLACES }
+        ensures { HasHeard self.old self.new at (Some tick) }
     {
-        self.noted = with_slot(self.noted, at as u32);
+        if self.next <= tick {
+            self.put(at, tick);
+        }
     }
 
-    /// The places of the processes that wait for the tick `now`, from 1 and below 2^48, a bit for each.
+    fn put(&mut self, at: u32, tick: u64)
+        requires at { at < PROCESSES }
+        requires long { length self.old.wheel ≡ PLACES }
+        requires tick { self.old.next ≤ tick }
+        ensures { HasHeard self.old self.new at (Some tick) }
+    {
+        if tick - self.next < PLACES {
+            let place = place_of(tick);
+            self.wheel[place] = with_slot(self.wheel[place], at);
+        } else {
+            self.noted = with_slot(self.noted, at);
+        }
+    }
+
+    /// The places of the processes that wait for the tick `now`, below 2^48, a bit for each.
     pub fn due(&mut self, seats: &[Seat], now: u64) -> u32
-        requires some { 0 < now }
         requires low { now < STATION_EVENTS }
         requires few { length seats.now ≤ PROCESSES }
         requires followed { AreFollowed self.old seats.now }
         ensures due { result ≡ due_places now seats.now }
         ensures followed { AreFollowed self.new seats.now }
     {
-        self.turn_to(now);
-        self.hear(seats);
-        self.next = now + 1;
-        let told = self.wheel.due(now);
-        still_due(seats, told, now)
-    }
-
-    /// The wheel is asked for this tick next. Mostly it is the one behind the last.
-    fn turn_to(&mut self, now: u64)
-        requires some { 0 < now }
-        requires many { length self.old.wheel ≡ PROCESSES }
-        ensures next { self.new.next ≡ now }
-        ensures followed { (seats : List TheSeat) → AreFollowed self.old seats → AreFollowed self.new seats }
-    {
-        if now != self.next {
-            self.start(now);
-        }
-    }
-
-    /// The wheel is asked for this tick next, and is to be told of all again.
-    fn start(&mut self, now: u64)
-        requires some { 0 < now }
-        requires many { length self.old.wheel ≡ PROCESSES }
-        ensures next { self.new.next ≡ now }
-        ensures followed { (seats : List TheSeat) → AreFollowed self.new seats }
-    {
-        for at in 0..STATION_PROCESSES as u32 {
-            self.wheel.clear(at);
-        }
-        self.next = now;
-        self.noted = u32::MAX;
-    }
-
-    /// Tells the wheel of those that it does not know of.
-    fn hear(&mut self, seats: &[Seat])
-        requires { AreFollowed self.old seats.now }
-        ensures next { self.new.next ≡ self.old.next }
-        ensures heard { AreHeard self.new seats.now }
-    {
-        let places = self.noted;
-        self.noted = 0;
-        let mut from = 0;
+        let mut left = self.turn_to(now);
+        let mut due = 0;
         for _turn in 0..STATION_PROCESSES {
-            match next_slot(places, from) {
-                None => return,
+            match next_slot(left, 0) {
+                None => return due,
                 Some(at) => {
-                    self.tell(at, awaited(seats, at));
-                    from = at + 1;
+                    left = without_slot(left, at);
+                    due = with_due(due, at, self.ask(seats, at, now));
                 }
             }
         }
+        due
     }
 
-    /// Tells the wheel what the process in this place waits for. Where that is too far ahead, it is told again.
-    fn tell(&mut self, at: u32, tick: Option<u64>)
-        requires at { at < length self.old.wheel }
-        requires few { length self.old.wheel ≤ PROCESSES }
-        requires some { 0 < self.old.next }
-        requires from { AreFrom self.old.next self.old.wheel }
-        ensures next { self.new.next ≡ self.old.next }
-        ensures wheel { self.new.wheel ≡ slice_set self.old.wheel at (near self.old.next tick) }
-        ensures noted { (k : ℕ) →
-            bit_at self.new.noted k ≡ (if is_far self.old.next tick && (k == at) then 1 else bit_at self.old.noted k) }
+    /// The wheel is asked for this tick. Those that it may be for are to be asked, and neither the wheel nor the note has them any more.
+    fn turn_to(&mut self, now: u64) -> u32
+        requires { now < STATION_EVENTS }
+        ensures { (seats : List TheSeat) → AreFollowed self.old seats → AreAsked self.new seats now result }
     {
-        match near(self.next, tick) {
-            Some(tick) => self.wheel.set(self.next - 1, at, tick),
-            None => self.wheel.clear(at),
+        let noted = self.noted_at(now);
+        self.noted = 0;
+        self.next = now + 1;
+        let place = place_of(now);
+        let told = self.wheel[place];
+        self.wheel[place] = 0;
+        noted | told
+    }
+
+    /// Those that are asked beside those of the wheel: all where this is not the tick that it was to be asked for.
+    fn noted_at(&self, now: u64) -> u32
+        ensures { result ≡ (if now == self.now.next then self.now.noted else 2 ^ 32 - 1) }
+    {
+        if now == self.next {
+            self.noted
+        } else {
+            u32::MAX
         }
-        if is_far(self.next, tick) {
-            self.noted = with_slot(self.noted, at);
+    }
+
+    /// Whether the process in this place waits for the tick `now`, the last one. The wheel is told of its deadline, if that is to come.
+    fn ask(&mut self, seats: &[Seat], at: u32, now: u64) -> bool
+        requires at { at < PROCESSES }
+        requires long { length self.old.wheel ≡ PLACES }
+        requires next { self.old.next ≡ now + 1 }
+        ensures due { result ≡ is_due now (awaited_at seats.now at) }
+        ensures heard { HasHeard self.old self.new at (deadline_at seats.now at) }
+    {
+        match seat_in(seats, at as usize) {
+            Some(seat) => {
+                self.tell(at, seat.note.work.deadline);
+                seat.awaits(now)
+            }
+            None => false,
         }
     }
 }
 
-/// Those of the places whose processes do wait for the tick.
-fn still_due(seats: &[Seat], places: u32, now: u64) -> u32
-    ensures { (k : ℕ) → k < PROCESSES → bit_at result k ≡ due_bit now seats.now places k }
+fn place_of(tick: u64) -> usize
+    ensures { result ≡ tick % 64 }
 {
-    let mut due = 0;
-    let mut from = 0;
-    for _turn in 0..STATION_PROCESSES {
-        match next_slot(places, from) {
-            None => return due,
-            Some(at) => {
-                due = with_due(seats, due, at, now);
-                from = at + 1;
-            }
-        }
-    }
-    due
+    (tick % PLACES) as usize
 }
 
 /// These places, with this one where its process waits for the tick.
-fn with_due(seats: &[Seat], due: u32, at: u32, now: u64) -> u32
+fn with_due(due: u32, at: u32, waits: bool) -> u32
     requires { at < PROCESSES }
-    ensures { (k : ℕ) → bit_at result k ≡ (if is_due now (awaited_at seats.now at) && (k == at) then 1 else bit_at due k) }
+    ensures { (k : ℕ) → bit_at result k ≡ (if waits && (k == at) then 1 else bit_at due k) }
 {
-    if is_due(awaited(seats, at), now) {
-        with_slot(due, at)
-    } else {
-        due
-    }
-}
-
-fn is_due(tick: Option<u64>, now: u64) -> bool
-    ensures { result ≡ is_due now tick }
-{
-    match tick {
-        Some(tick) => tick == now,
-        None => false,
-    }
-}
-
-/// The tick that the process in a place waits for.
-fn awaited(seats: &[Seat], at: u32) -> Option<u64>
-    ensures { result ≡ awaited_at seats.now at }
-{
-    let seat = seats.get(at as usize)?;
-    match seat.doing {
-        Activity::Blocked { .. } => Some(seat.note.work.deadline),
-        _ => None,
-    }
-}
-
-/// The tick, where it is not before the next one, and less than 64 ticks behind it.
-fn near(next: u64, tick: Option<u64>) -> Option<u64>
-    ensures { result ≡ near next tick }
-{
-    let tick = tick?;
-    if next <= tick && tick.saturating_sub(next) < AHEAD {
-        Some(tick)
-    } else {
-        None
-    }
-}
-
-/// Whether the tick is 64 ticks and more behind the next one.
-fn is_far(next: u64, tick: Option<u64>) -> bool
-    ensures { result ≡ is_far next tick }
-{
-    match tick {
-        Some(tick) => tick.saturating_sub(next) >= AHEAD,
-        None => false,
-    }
+    if waits { with_slot(due, at) } else { due }
 }

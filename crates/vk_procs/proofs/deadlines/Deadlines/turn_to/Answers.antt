@@ -1,4 +1,5 @@
+use Rattle.vk_procs.proofs.Followed.{turned_at}
 use Rattle.vk_procs.proofs.deadlines.Deadlines.turn_to.Goals as goal
 
-pub returns-then-now-self-clause-followed : goal.returns-then-now-self-clause-followed
-returns-then-now-self-clause-followed c = λ seats followed. c.start.ensures.followed seats
+pub returns : goal.returns
+returns c = turned_at c.args.self.now c.args.now _ _ c.noted_at-noted.ensures c.place_of-place.ensures

@@ -1,14 +1,14 @@
-use Rattle.std.proofs.Common.{ap}
+use Rattle.std.proofs.Common.{ap, sym}
 use Rattle.vk_procs.specs.declared.seat.Seat.{Seat}
 use Rattle.vk_procs.proofs.Changes.{changed}
-use Rattle.vk_procs.proofs.Once.{kept_noted}
+use Rattle.vk_procs.proofs.Once.{kept_dated}
 use Rattle.vk_procs.proofs.procs.Procs.count_round.Goals as goal
 
 pub invariant_of-self : goal.invariant_of-self
 invariant_of-self c =
-    kept_noted _ _ _ _ _ c.index_mut.result.now _ c.index_mut.ensures.value (ap (λ (s : Seat). s.pid) c.count_round.ensures) c.self.invariant
-    c.note.ensures
+    kept_dated _ _ _ _ _ _ c.index_mut.result.now _ c.index_mut.ensures.value (ap (λ (s : Seat). s.pid) c.count_round-deadline.ensures.new)
+    (sym c.count_round-deadline.ensures.deadline) c.self.invariant c.tell.ensures
 
 pub returns-in-Some : goal.returns-in-Some
 returns-in-Some c =
-    changed _ _ _ _ _ c.index_mut.result.now _ c.in-Some.ensures.place c.self.view_is c.index_mut.ensures.value c.count_round.ensures
+    changed _ _ _ _ _ c.index_mut.result.now _ c.in-Some.ensures.place c.self.view_is c.index_mut.ensures.value c.count_round-deadline.ensures.new
