@@ -1,12 +1,10 @@
 -- A station plays one event more of its log.
-use Rattle.std.proofs.Common.{◌≡◌, ℕ, zero, suc, ◌+◌, ◌^◌, ◌<◌, ◌≤◌, true, List, [], ◌∷◌, ◌++◌, get_or, length, map, set, take, Option, Some, refl, sym, ap, subst, ◌∙◌, inl, inr, arith}
-use Rattle.std.specs.Prelude.{slice_get, sum_by, unwrap_or}
-use Rattle.std.specs.Option.{option_map_or}
+use Rattle.std.proofs.Common.{◌≡◌, ℕ, zero, suc, ◌+◌, ◌^◌, ◌<◌, ◌≤◌, true, List, [], ◌∷◌, ◌++◌, get_or, length, map, set, take, Some, refl, sym, ap, subst, ◌∙◌, inl, inr, arith}
+use Rattle.std.specs.Prelude.{slice_get, sum_by}
 use Rattle.std.proofs.lemmas.List.{length-set, map_push}
 use Rattle.std.proofs.lemmas.Option.{same_Some, slice_get_within}
 use Rattle.vk_types.specs.Types.{EventAnswer, StationEvent}
 use Rattle.vk_base.specs.declared.event.StationEvent.TheVariants as events
-use Rattle.vk_base.specs.Options.{◌>>=◌}
 use Rattle.vk_base.specs.Settings.{Settings, stations_of}
 use Rattle.vk_frame.specs.Law.{FramesAreSpelledOnce}
 use Rattle.vk_packet.specs.Laws.{NothingElseIsRead}
@@ -37,7 +35,8 @@ use Rattle.vk_join.specs.declared.replay.Replay.{Replay}
 use Rattle.vk_join.specs.Laws.{AreGiven}
 use Rattle.vk_join.specs.Logs.{IsOfStation, IsReadableEvent, byte_count, entries_at, entries_for}
 use Rattle.vk_join.specs.Merges.{Turn}
-use Rattle.vk_join.specs.Replays.{HasReplayed, IsNextPlayed, IsOverLimit, event_for, front_of, host_for, turn_for, turns_of}
+use Rattle.vk_join.specs.Replays.{HasReplayed, IsNextPlayed, IsOverLimit, front_of, turn_for, turns_of}
+use Rattle.vk_join.proofs.Keyed.{turn_is}
 use Rattle.vk_join.proofs.Fronts.{all_below_at, bytes_next, bytes_start, bytes_within, entries_next, entries_own, entries_start, few_in, front_whole, turns_next, turns_start, AreBelow}
 use Rattle.vk_join.proofs.Given.{behind_length, input_is, map_count}
 
@@ -87,18 +86,6 @@ own_event c s host es (events.Call pid call) same at own = has_own c s pid at.or
 own_event c s host es (events.Collect pid) same at own = has_own c s pid at.order (own.0 ∙ sym same) own.1
 own_event c s host es events.Tick same at own = refl
 own_event c s host es (events.Deliver frame) same at own = refl
-
--- a key at a place of a log stands for the event there
-turn_is : (all : List StationLog) (n at number : ℕ) (l : StationLog) (e : StationEvent) → slice_get all n ≡ Some l →
-    slice_get l.events at ≡ Some e →
-    turn_for all (record { number = number; log = n; at = at }) ≡ record { host = l.host; number = number; event = e }
-turn_is all n at number l e found there =
-    let host : host_for all (record { number = number; log = n; at = at }) ≡ l.host =
-    ap (λ (o : Option StationLog). option_map_or (λ (m : StationLog). m.host) o 0) found in
-    let event : event_for all (record { number = number; log = n; at = at }) ≡ e =
-    ap (λ (o : Option StationLog). unwrap_or (o >>= λ (m : StationLog). slice_get m.events at) events.Tick) found
-    ∙ ap (λ o. unwrap_or o events.Tick) there in
-    λ k. record { host = host k; number = number; event = event k }
 
 take_short : {A : Type 0} (n : ℕ) (xs : List A) → length (take n xs) ≤ length xs
 take_short zero xs = omega arith

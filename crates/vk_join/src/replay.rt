@@ -169,7 +169,8 @@ fn frame_bytes(host: &Host) -> usize
     bytes
 }
 
-fn push_key(keys: &mut Vec<Key>, key: Key) -> Result<(), NoMemory>
+/// One key more.
+pub fn push_key(keys: &mut Vec<Key>, key: Key) -> Result<(), NoMemory>
     ensures { OnOk result (keys.new.items ≡ keys.old.items ++ key ∷ []) }
 {
     keys.push(key)?;

@@ -1,5 +1,5 @@
 -- From the ends of all jobs to the record of a run.
-use Rattle.std.proofs.Common.{◌≡◌, ℕ, zero, suc, ◌+◌, ◌≤◌, ◌<◌, ◌==◌, ◌||◌, eqb, eqb-true, eq-eqb, nat_lt, ltb-true, ltb-false, Bool, true, false, cond, Some, All, IsPermutation, List, [], ◌∷◌, ◌++◌, length, map, refl, sym, ap, ◌∙◌, subst, arith, ◌⊎◌, ⊎_elim}
+use Rattle.std.proofs.Common.{◌≡◌, ℕ, zero, suc, ◌+◌, ◌≤◌, ◌<◌, ◌==◌, ◌||◌, eqb, eqb-true, eq-eqb, nat_lt, ltb-true, ltb-false, Bool, true, false, cond, None, Some, All, IsPermutation, List, [], ◌∷◌, ◌++◌, length, map, refl, sym, ap, ◌∙◌, subst, arith}
 use mathlib.Core.List.{IsPrefix}
 use Rattle.std.specs.List.{list_any, range_with_len}
 unfoldable use Rattle.std.specs.List.{IsDistinct}
@@ -17,8 +17,6 @@ use Rattle.vk_cluster.proofs.Stations.{Apart, stations_apart}
 use Rattle.vk_schedule.specs.declared.schedule.Schedule.{Schedule}
 use Rattle.vk_hub.specs.declared.event.HubEvent.{HubEvent}
 use Rattle.vk_hub.specs.Hubs.{HubLog}
-use Rattle.vk_join.specs.declared.log.JoinRefusal.{JoinRefusal}
-use Rattle.vk_join.specs.declared.log.JoinRefusal.TheVariants as refusals
 use Rattle.vk_schedule.specs.declared.log.StationLog.{StationLog}
 use Rattle.vk_join.specs.Joined.{IsJoined}
 use Rattle.vk_join.specs.Laws.{AreGiven}
@@ -210,12 +208,9 @@ module _ (c : Settings) (sites : List Site) (hub : Cell HubLog) (rounds : ℕ) (
     pub asked : LogsMayBeJoined → AreLawful c → AreLogs c logs
     asked law lawful = law c closed_at logs lawful are_logs
 
-    -- a join is refused only for want of memory
-    pub cannot_refuse : ClosedRunsAreJoined → AreGiven c logs → (e : JoinRefusal) → (e ≡ refusals.NoMemory → ⊥)
-        → (e ≡ refusals.NoMemory) ⊎ (join_refusal c logs ≡ Some e) → ⊥
-    cannot_refuse law given e other refused =
-        ⊎_elim other
-        (λ is. none-some e (sym (law c hub.origin closed_at heard ended.jobs logs are_closed are_logs given) ∙ is)) refused
+    -- a join refuses nothing
+    pub none_refused : ClosedRunsAreJoined → AreGiven c logs → join_refusal c logs ≡ None
+    none_refused law given = law c hub.origin closed_at heard ended.jobs logs are_closed are_logs given
 
     pub ran : JoinedRunsAreRuns → AreGiven c logs → (s : Schedule) → IsJoined c logs s → (was_limited : Bool) → list_any met_no_memory ends ≡ false
         → list_any met_full ends ≡ was_limited → IsRun c hub.origin.plan rounds tasks was_limited s

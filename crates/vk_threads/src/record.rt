@@ -11,9 +11,9 @@ use std::alloc::Global;
 use thiserror::Error;
 use turn_cell::TurnSeat;
 use v_run::{closed_runs_are_joined, joined_runs_are_runs};
-use vk_base::Config;
+use vk_base::{Config, NoMemory};
 use vk_hub::{Hub, HubState};
-use vk_join::{JoinRefusal, join_stations};
+use vk_join::merge_stations;
 use vk_schedule::Schedule;
 
 /// What a run was, as a schedule.
@@ -60,10 +60,8 @@ pub fn record_of(
     let Ok(logs) = close_run(alloc, sites, hub, ends, halt) else {
         return Err(RunRefusal::NoMemory);
     };
-    match join_stations(alloc, &config, logs) {
+    match merge_stations(alloc, &config, &logs) {
         Ok(schedule) => Ok(RunRecord { schedule, limited }),
-        Err(JoinRefusal::NoMemory) => Err(RunRefusal::NoMemory),
-        Err(JoinRefusal::Limit) => unreachable!(),
-        Err(JoinRefusal::Stray { .. }) => unreachable!(),
+        Err(NoMemory) => Err(RunRefusal::NoMemory),
     }
 }

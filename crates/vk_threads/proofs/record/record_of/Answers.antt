@@ -1,5 +1,10 @@
-use Rattle.std.proofs.Common.{rules}
-use Rattle.vk_threads.proofs.Recorded.{all_ready, asked, cannot_refuse, hub_all, hub_count, ran}
+use Rattle.std.proofs.Common.{rules, ◌≡◌, List, None, sym, subst}
+use Rattle.vk_schedule.specs.declared.log.StationLog.{StationLog}
+use Rattle.vk_join.specs.Joined.{IsJoined}
+use Rattle.vk_join.specs.Laws.{AreGiven}
+use Rattle.vk_join.specs.Logs.{AreLogs}
+use Rattle.vk_join.specs.Stray.{join_refusal}
+use Rattle.vk_threads.proofs.Recorded.{all_ready, asked, hub_all, hub_count, none_refused, ran}
 use Rattle.vk_threads.proofs.record.record_of.Goals as goal
 
 pub close_run-requires-clause-ready : goal.close_run-requires-clause-ready
@@ -17,31 +22,31 @@ close_run-requires-clause-all c =
     let t = c.requires.ended in
     hub_count c.args.config c.args.sites.items c.args.hub t.0 t.1 c.args.ends.items c.args.halt c.requires.sites t.2
 
-pub join_stations-requires : goal.join_stations-requires
-join_stations-requires c =
+pub merge_stations-requires-clause-asked : goal.merge_stations-requires-clause-asked
+merge_stations-requires-clause-asked c =
     let t = c.requires.ended in
-    asked c.args.config c.args.sites.items c.args.hub t.0 t.1 c.args.ends.items c.args.halt c.requires.sites t.2
-    c.in-Ok.logs.items c.in-Ok.ensures c.closed_runs_are_joined.ensures.asked c.times-lawful.ensures.lawful
+    subst (AreLogs c.args.config) (sym c.deref-3.ensures.value)
+    (asked c.args.config c.args.sites.items c.args.hub t.0 t.1 c.args.ends.items c.args.halt c.requires.sites t.2
+    c.in-Ok.logs.items c.in-Ok.ensures c.closed_runs_are_joined.ensures.asked c.times-lawful.ensures.lawful)
 
-pub returns-in-Ok-join_stations : goal.returns-in-Ok-join_stations
-returns-in-Ok-join_stations c = record {
-  ran = λ rounds tasks ended.
-      ran c.args.config c.args.sites.items c.args.hub rounds tasks c.args.ends.items c.args.halt c.requires.sites ended
-      c.in-Ok.logs.items c.in-Ok.ensures c.joined_runs_are_runs.ensures c.join_stations.ensures.given c.in-Ok-join_stations.schedule
-      c.in-Ok-join_stations.ensures.joined c.has_met_full-limited.result (search rules) (search rules);
-  refused = tt;
-}
-
-pub unreachable-requires : goal.unreachable-requires
-unreachable-requires c =
+pub merge_stations-requires-clause-none : goal.merge_stations-requires-clause-none
+merge_stations-requires-clause-none c =
     let t = c.requires.ended in
-    cannot_refuse c.args.config c.args.sites.items c.args.hub t.0 t.1 c.args.ends.items c.args.halt c.requires.sites t.2
-    c.in-Ok.logs.items c.in-Ok.ensures c.closed_runs_are_joined.ensures.joined c.join_stations.ensures.given c.in-Err-Limit.field-0
-    (λ none. cc (none, c.in-Err-Limit.field-0-is)) c.in-Err-Limit.ensures.refused
+    let P : List StationLog → Type 0 = λ ls. AreGiven c.args.config ls → join_refusal c.args.config ls ≡ None in
+    subst P (sym c.deref-3.ensures.value)
+    (none_refused c.args.config c.args.sites.items c.args.hub t.0 t.1 c.args.ends.items c.args.halt c.requires.sites t.2
+    c.in-Ok.logs.items c.in-Ok.ensures c.closed_runs_are_joined.ensures.joined)
 
-pub unreachable-requires-in-Err-Stray : goal.unreachable-requires-in-Err-Stray
-unreachable-requires-in-Err-Stray c =
-    let t = c.requires.ended in
-    cannot_refuse c.args.config c.args.sites.items c.args.hub t.0 t.1 c.args.ends.items c.args.halt c.requires.sites t.2
-    c.in-Ok.logs.items c.in-Ok.ensures c.closed_runs_are_joined.ensures.joined c.join_stations.ensures.given c.in-Err-Stray.field-0
-    (λ none. cc (none, c.in-Err-Stray.field-0-is)) c.in-Err-Stray.ensures.refused
+pub returns-in-Ok-merge_stations : goal.returns-in-Ok-merge_stations
+returns-in-Ok-merge_stations c =
+    let logs = c.in-Ok.logs.items in
+    let s = c.in-Ok-merge_stations.schedule in
+    let given = subst (AreGiven c.args.config) c.deref-3.ensures.value c.merge_stations.ensures.given in
+    let J : List StationLog → Type 0 = λ ls. IsJoined c.args.config ls s in
+    let joined = subst J c.deref-3.ensures.value c.in-Ok-merge_stations.ensures.joined in
+    record {
+      ran = λ rounds tasks ended.
+          ran c.args.config c.args.sites.items c.args.hub rounds tasks c.args.ends.items c.args.halt c.requires.sites ended
+          logs c.in-Ok.ensures c.joined_runs_are_runs.ensures given s joined c.has_met_full-limited.result (search rules) (search rules);
+      refused = tt;
+    }
