@@ -23,4 +23,4 @@ pub use plan::LinkPlan;
 pub use reader::EventReader;
 pub use schedule::{Front, Schedule, TextRefusal, read_front, read_schedule, refused};
 pub use view::{EventBuffer, EventKind, EventView};
-pub use writing::write_schedule;
+pub use writing::{ScheduleWriter, write_schedule};

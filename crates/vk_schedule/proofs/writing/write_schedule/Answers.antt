@@ -14,7 +14,6 @@ returns-clause-read c =
     let opening : List ℕ = opening_text plain_title timed_title c.args.schedule.now.config in
     let text =
     c.in_ok-write_events.ensures
-    ∙ ap (λ (l : List ℕ). l ++ flat_map (λ e. line_text (event_text e)) c.as_slice.result.now)
-    (c.new-text.ensures ∙ c.in_ok-put_opening.ensures.ok ∙ ap (λ (l : List ℕ). l ++ opening) c.new-bytes.ensures.items)
+    ∙ ap (λ (l : List ℕ). l ++ flat_map (λ e. line_text (event_text e)) c.as_slice.result.now) c.in_ok-writer.ensures
     ∙ ap (λ (es : List Event). opening ++ flat_map (λ e. line_text (event_text e)) es) c.as_slice.ensures in
     IfOk-weaker c.into_bytes.result _ _ (λ v h. ap schedule_of (h ∙ text) ∙ written_back c.args.schedule.now c.requires) c.into_bytes.ensures
