@@ -88,7 +88,10 @@ fn accept(
 {
     let (brief, bytes) = call.parts();
     match *brief {
-        BriefCall::Send { target, message } => send(store, alloc, at, pid, target, message),
+        BriefCall::Send {
+            target,
+            ref message,
+        } => send(store, alloc, at, pid, target, message),
         BriefCall::Receive => Ok(receive(store, at, pid)),
         BriefCall::ReceiveSegment { start, count } => Ok(receive_segment(
             store, at, pid, start, count,

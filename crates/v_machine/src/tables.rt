@@ -16,6 +16,7 @@ pub mod put;
 pub mod queue;
 pub mod queues;
 pub mod remote;
+pub mod same;
 pub mod sends;
 pub mod sent;
 pub mod spent;

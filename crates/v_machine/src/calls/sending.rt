@@ -33,11 +33,11 @@ pub fn send(
     at: usize,
     pid: Pid,
     target: Pid,
-    message: Message,
+    message: &Message,
 ) -> Result<Response, ApplyRefusal>
     requires kept { IsKept store.old }
     requires here { IsAt store.old pid at }
-    ensures { Judges pid (Call.Send target message) store.old store.new result }
+    ensures { Judges pid (Call.Send target message.now) store.old store.new result }
 {
     let segment = message.grants().range;
     if !lies_in(segment.start, segment.len, size_of(store, at)) {
@@ -59,12 +59,12 @@ fn send_here(
     alloc: Global,
     caller: Caller,
     target: Pid,
-    message: Message,
+    message: &Message,
 ) -> Result<Response, ApplyRefusal>
     requires kept { IsKept store.old }
     requires here { IsAt store.old caller.pid caller.at }
     requires local { same_host caller.pid target ≡ true }
-    ensures { Fits store.old caller.pid message → Judges caller.pid (Call.Send target message) store.old store.new result }
+    ensures { Fits store.old caller.pid message.now → Judges caller.pid (Call.Send target message.now) store.old store.new result }
 {
     let Some(to) = find_live(store, target) else {
         return Ok(Response::Refused {
@@ -82,7 +82,7 @@ fn send_with_room(
     caller: Caller,
     to: usize,
     target: Pid,
-    message: Message,
+    message: &Message,
 ) -> Result<Response, ApplyRefusal>
     requires kept { IsKept store.old }
     requires here { IsAt store.old caller.pid caller.at }
@@ -90,11 +90,14 @@ fn send_with_room(
     requires local { same_host caller.pid target ≡ true }
     requires live { is_live ((kernel_in store.old).procs target) ≡ true }
     requires room { HasRoomFor store.old caller.at caller.pid.host }
-    ensures { Fits store.old caller.pid message → Judges caller.pid (Call.Send target message) store.old store.new result }
+    ensures { Fits store.old caller.pid message.now → Judges caller.pid (Call.Send target message.now) store.old store.new result }
 {
     let sent = new_sent(store, alloc, caller.at, target, message, Phase::Queued)?;
     post_here(store, caller.at, to, caller.pid, sent)?;
-    let waiting = Waiting::Send { target, message };
+    let waiting = Waiting::Send {
+        target,
+        message: *message,
+    };
     put_activity(store, caller.at, Activity::Blocked { waiting });
     Ok(Response::Begun)
 }
@@ -105,16 +108,19 @@ fn send_away(
     alloc: Global,
     caller: Caller,
     target: Pid,
-    message: Message,
+    message: &Message,
 ) -> Result<Response, ApplyRefusal>
     requires kept { IsKept store.old }
     requires here { IsAt store.old caller.pid caller.at }
     requires away { same_host caller.pid target ≡ false }
-    ensures { Fits store.old caller.pid message → Judges caller.pid (Call.Send target message) store.old store.new result }
+    ensures { Fits store.old caller.pid message.now → Judges caller.pid (Call.Send target message.now) store.old store.new result }
 {
     let sent = new_sent(store, alloc, caller.at, target, message, Phase::Posted)?;
     store.sends[caller.at].push(sent)?;
-    let waiting = Waiting::Send { target, message };
+    let waiting = Waiting::Send {
+        target,
+        message: *message,
+    };
     put_activity(store, caller.at, Activity::Blocked { waiting });
     Ok(Response::Begun)
 }
@@ -156,29 +162,29 @@ fn new_sent(
     alloc: Global,
     at: usize,
     target: Pid,
-    message: Message,
+    message: &Message,
     phase: Phase,
 ) -> Result<Sent, NoMemory>
     requires { at < length store.now.procs.items }
     ensures target { IfOk result (λ s. s.target ≡ target) }
     ensures at { IfOk result (λ s. s.at ≡ target) }
-    ensures stage { IfOk result (λ s. s.stage ≡ first_stage phase message) }
+    ensures stage { IfOk result (λ s. s.stage ≡ first_stage phase message.now) }
     ensures value { (pid : ThePid) (p : Process) → place_in store.now.places pid ≡ Some at → (kernel_in store.now).procs pid ≡ Some p →
-        lies_in (segment_of message) (length p.memory) ≡ true →
+        lies_in (segment_of message.now) (length p.memory) ≡ true →
         IfOk result (λ s. s ≡ record {
           target = target;
-          message = message;
-          part = first_part message p.memory;
+          message = message.now;
+          part = first_part message.now p.memory;
           at = target;
-          shown = message;
-          stage = first_stage phase message;
+          shown = message.now;
+          stage = first_stage phase message.now;
           moves = [];
           opened = 0;
           done = 0;
         }) }
 {
     let part = first_part(store, alloc, at, message)?;
-    Sent::new(alloc, target, message, part, phase)
+    Sent::new(alloc, target, *message, part, phase)
 }
 
 /// The first part of the granted segment, if it may be read.
@@ -186,12 +192,12 @@ fn first_part(
     store: &Store,
     alloc: Global,
     at: usize,
-    message: Message,
+    message: &Message,
 ) -> Result<List<u8>, NoMemory>
     requires { at < length store.now.procs.items }
     ensures { (pid : ThePid) (p : Process) → place_in store.now.places pid ≡ Some at → (kernel_in store.now).procs pid ≡ Some p →
-        lies_in (segment_of message) (length p.memory) ≡ true →
-        IfOk result (λ l. l ≡ first_part message p.memory) }
+        lies_in (segment_of message.now) (length p.memory) ≡ true →
+        IfOk result (λ l. l ≡ first_part message.now p.memory) }
 {
     let grants = message.grants();
     if !grants.read {

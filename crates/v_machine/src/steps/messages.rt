@@ -50,6 +50,7 @@ fn deliver(store: &mut Store, at: usize, from: usize, name: Name, waiting: Waiti
 }
 
 /// What a receive gives, and the first bytes of the part into the memory, where they were asked for.
+#[inline(always)]
 fn receive_into(memory: &mut Memory, sent: &Sent, waiting: Waiting, sender: Pid) -> Outcome
     ensures answer { answer_of result ≡ received (call_of waiting) sender sent.now }
     ensures memory { HasRoom (call_of waiting) memory.old → memory.new ≡ with_part (call_of waiting) sent.now memory.old }

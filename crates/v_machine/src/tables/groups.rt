@@ -3,6 +3,7 @@
 ghost use Rattle.std.specs.Prelude.{◌≡◌, ◌++◌, ◌∷◌, [], OnOk};
 ghost use Rattle.v_machine.specs.Places.{found_in};
 
+use crate::tables::same::is_same;
 use std::alloc::Global;
 use std::marker::Model;
 use vk_base::{NoMemory, Pid};
@@ -58,6 +59,6 @@ impl Group {
 fn found_in(items: &[Placed], pid: Pid) -> Option<usize>
     ensures { result ≡ found_in items.now pid }
 {
-    let placed = items.iter().find(|p| p.pid == pid)?;
+    let placed = items.iter().find(|p| is_same(p.pid, pid))?;
     Some(placed.at)
 }

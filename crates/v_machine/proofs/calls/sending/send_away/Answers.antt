@@ -20,8 +20,8 @@ returns-in_err-push c = λ fits p there ready.
     let s = c.args.store.now in
     let k = kernel_in s in
     let pid = c.args.caller.pid in
-    let call = calls.Send c.args.target c.args.message in
-    let passes = send_tests k pid p c.args.target c.args.message (fits p there)
+    let call = calls.Send c.args.target c.args.message.now in
+    let passes = send_tests k pid p c.args.target c.args.message.now (fits p there)
     (and_left (same_host pid c.args.target) (not (is_live (k.procs c.args.target))) c.requires.away) in
     let sends = ap (set s.sends.items c.args.caller.at) c.in_err-push.ensures.err
     ∙ set_self s.sends.items c.args.caller.at c.index_mut.result.now c.index_mut.ensures.value in
@@ -39,7 +39,7 @@ returns c = λ fits p there ready.
     let at = c.args.caller.at in
     let here = c.requires.here in
     let x = c.in_ok-sent.sent in
-    let call = calls.Send c.args.target c.args.message in
+    let call = calls.Send c.args.target c.args.message.now in
     let grown : Process = record p { sends = p.sends + 1 } in
     let s0 = c.index_mut.result.now in
     let pushed = c.in_ok-push.ensures.ok in
@@ -59,15 +59,15 @@ returns c = λ fits p there ready.
     let mine = ap length (list_at_is s.places s.sends.items pid at s0 here.place here.sends c.index_mut.ensures.value) in
     let indexed = indexed_away s pid at p x c.requires.kept here away (ap (λ (e : Exchange). e.stage) value) there _ c.push.new.self refl
     refl refl refl length_now (omega (arith, mine, counted)) exchanges refl refl refl in
-    let made : x ≡ sent_exchange pid p c.args.target c.args.message =
-    value ∙ (λ i. record (sent_exchange pid p c.args.target c.args.message)
+    let made : x ≡ sent_exchange pid p c.args.target c.args.message.now =
+    value ∙ (λ i. record (sent_exchange pid p c.args.target c.args.message.now)
     { stage = sym (cond-false (same_host pid c.args.target) stages.Queued stages.Posted c.requires.away) i }) in
     let now = ap (λ (z : Kernel). z.procs pid) begun ∙ posted_there k pid p x in
     let kernel = c.put_activity.ensures.kernel pid grown here.place now ∙ ap (λ z. with_state z pid grown (states.Blocked call)) begun
-    ∙ sent_is k pid p c.args.target c.args.message x made in (
+    ∙ sent_is k pid p c.args.target c.args.message.now x made in (
       record {
         effect = ap (λ (o : Option Refusal). called k pid p call o)
-            (send_tests k pid p c.args.target c.args.message (fits p there)
+            (send_tests k pid p c.args.target c.args.message.now (fits p there)
             (and_left (same_host pid c.args.target) (not (is_live (k.procs c.args.target))) c.requires.away))
             ∙ ap (λ z. Some (unseen z)) (sym kernel);
         indexed = c.put_activity.ensures.indexed indexed;

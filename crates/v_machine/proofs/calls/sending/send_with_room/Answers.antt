@@ -21,20 +21,20 @@ returns c = λ fits p there ready.
     let k = kernel_in s in
     let pid = c.args.caller.pid in
     let x = c.in_ok-sent.sent in
-    let call = calls.Send c.args.target c.args.message in
+    let call = calls.Send c.args.target c.args.message.now in
     let grown : Process = record p { sends = p.sends + 1 } in
     let done = c.in_ok-post_here.ensures.ok p there ready in
-    let made : x ≡ sent_exchange pid p c.args.target c.args.message =
+    let made : x ≡ sent_exchange pid p c.args.target c.args.message.now =
     c.in_ok-sent.ensures.value pid p c.requires.here.place there (fits p there)
-    ∙ (λ i. record (sent_exchange pid p c.args.target c.args.message)
+    ∙ (λ i. record (sent_exchange pid p c.args.target c.args.message.now)
     { stage = sym (cond-true (same_host pid c.args.target) stages.Queued stages.Posted c.requires.local) i }) in
     let place = ap (λ ps. place_in ps pid) c.post_here.ensures.places ∙ c.requires.here.place in
     let now = ap (λ (z : Kernel). z.procs pid) done.0 ∙ posted_there k pid p x in
     let kernel = c.put_activity.ensures.kernel pid grown place now ∙ ap (λ z. with_state z pid grown (states.Blocked call)) done.0
-    ∙ sent_is k pid p c.args.target c.args.message x made in (
+    ∙ sent_is k pid p c.args.target c.args.message.now x made in (
       record {
         effect = ap (λ (o : Option Refusal). called k pid p call o)
-            (send_tests k pid p c.args.target c.args.message (fits p there)
+            (send_tests k pid p c.args.target c.args.message.now (fits p there)
             (and_right (same_host pid c.args.target) (not (is_live (k.procs c.args.target))) (ap not c.requires.live)))
             ∙ ap (λ z. Some (unseen z)) (sym kernel);
         indexed = c.put_activity.ensures.indexed done.1;
