@@ -1,4 +1,5 @@
 pub mod Closing
+pub mod Crossing
 pub mod Gathering
 pub mod Giving
 pub mod Handed

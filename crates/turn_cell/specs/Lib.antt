@@ -5,3 +5,4 @@ pub mod Standings
 pub mod Turns
 pub mod Seats
 pub mod Held
+pub mod Entries

@@ -4,15 +4,18 @@
 //!
 //! Stands on `atomic_table` alone. What callers know: `specs/Seats.antt`, and of the state what it says itself as a [`Replay`].
 //! The table and its rule are private: the rule is `specs/Turns.antt`, what a seat knows at the table `specs/Standings.antt`;
-//! `src/turn.rt` is one turn, `src/cell.rt` the public calls. No proof says that anybody gets the turn.
+//! `src/turn.rt` is one turn, `src/cell.rt` the public calls. A state whose history no code reads keeps it as a [`Past`]. No proof says
+//! that anybody gets the turn.
 #![tactic(auto)]
 
 mod cell;
+mod past;
 mod replay;
 mod rule;
 mod seat;
 mod turn;
 
 pub use cell::{NoMemory, Ready, TurnCell};
+pub use past::Past;
 pub use replay::{Replay, Room};
 pub use seat::TurnSeat;

@@ -14,8 +14,8 @@ pub enum Room {
     NoMemory,
 }
 
-/// A state that stores its history, a list of events each with its caller's number, and is the replay of it: what it answers
-/// is a function of the state with which the history began, its *origin*, and of the history.
+/// A state that keeps its history, a list of events each with its caller's number, in memory or for clauses alone, and is the
+/// replay of it: what it answers is a function of the state with which the history began, its *origin*, and of the history.
 pub trait Replay: Send + Drop {
     type Event;
 

@@ -95,7 +95,8 @@ impl Host {
         loaded(&self.desk.procs, pid, start, count)
     }
 
-    fn respond(&mut self, event: &StationEvent) -> Response
+    /// The same, whose answer stands in few bytes until the next event.
+    pub fn respond(&mut self, event: &StationEvent) -> Response
         requires few { self.old.events < most_before event.now }
         requires own { is_own self.old event.now ≡ true }
         ensures event { IsEvent self.old self.new (input_of event.now) (answer_of self.new result) }

@@ -1,8 +1,9 @@
 -- One more entry in a hub's history.
-use Rattle.std.proofs.Common.{◌≡◌, ℕ, ◌+◌, ◌-◌, ◌<◌, ◌≤◌, ◌||◌, Bool, true, false, List, [], ◌∷◌, ◌++◌, nat_le, cond, refl, sym, ap, ◌∙◌, subst, arith, length-append}
+use Rattle.std.proofs.Common.{◌≡◌, ℕ, ◌+◌, ◌<◌, ◌≤◌, ◌||◌, Bool, true, false, List, [], ◌∷◌, ◌++◌, nat_le, cond, not, refl, sym, ap, ◌∙◌, subst, arith, length-append}
+use mir.Val.{bool_byte}
 use Rattle.std.proofs.lemmas.Bool.Decides.{nat_tests}
 use Rattle.vk_hub.specs.Hubs.{Traffic, changed, first_traffic, has_halt, is_at_limit, is_halt, others, traffic_after}
-use Rattle.vk_hub.specs.Kept.{IsHubKept, room_for}
+use Rattle.vk_hub.specs.Kept.{IsHubKept}
 use Rattle.vk_schedule.specs.declared.plan.LinkPlan.{LinkPlan}
 use Rattle.vk_hub.specs.declared.event.HubEvent.{HubEvent}
 use Rattle.vk_hub.specs.declared.event.HubEvent.TheVariants.{Post, Fetch, Finished, Halt}
@@ -39,21 +40,29 @@ others_more k (Fetch h) [] = refl
 others_more k Finished [] = refl
 others_more k e (x ∷ xs) = others_step (is_halt x.1) (others xs) (cond (is_halt e) 0 1) (others (xs ++ (k, e) ∷ [])) (others_more k e xs)
 
+-- what an entry adds to a count of those that are no halt
+pub counts_one : (b : Bool) → bool_byte (not b) ≡ cond {A = ℕ} b 0 1
+counts_one true = refl
+counts_one false = refl
+
 below_limit : (n : ℕ) → nat_le 200000 n ≡ false → n < 200000
 below_limit n e = grind (arith, nat_tests)
 
-module _ (plan : LinkPlan) (stations : List ℕ) (n k : ℕ) (t : Traffic) (xs : List (ℕ × HubEvent)) (spare : ℕ)
-    (kept : IsHubKept plan stations n t xs spare) where
+module _ (plan : LinkPlan) (stations : List ℕ) (n k : ℕ) (t : Traffic) (xs : List (ℕ × HubEvent)) (counted : ℕ)
+    (kept : IsHubKept plan stations n t xs counted) where
   abbrev Next : HubEvent → Type 0
-  Next e = IsHubKept plan stations n (changed plan n t e) (xs ++ (k, e) ∷ []) (spare - 1)
+  Next e = IsHubKept plan stations n (changed plan n t e) (xs ++ (k, e) ∷ []) (counted + cond (is_halt e) 0 1)
 
   replayed_more : (e : HubEvent) → changed plan n t e ≡ traffic_after plan n (first_traffic plan stations) (xs ++ (k, e) ∷ [])
   replayed_more e = ap (λ u. changed plan n u e) kept.replayed ∙ sym (traffic_more plan n k e (first_traffic plan stations) xs)
 
+  counted_more : (e : HubEvent) → counted + cond (is_halt e) 0 1 ≡ others (xs ++ (k, e) ∷ [])
+  counted_more e = ap (λ m. m + cond (is_halt e) 0 1) kept.same_count ∙ sym (others_more k e xs)
+
   -- an entry that is no halt
   plain : (e : HubEvent) → is_halt e ≡ false → (changed plan n t e).halted ≡ t.halted → (changed plan n t e).finished ≤ t.finished + 1
-      → is_at_limit xs e ≡ false → room_for (has_halt xs) (is_halt e) ≤ spare → Next e
-  plain e no_halt halted finished grows room =
+      → is_at_limit xs e ≡ false → Next e
+  plain e no_halt halted finished grows =
       let test : nat_le 200000 (others xs) ≡ false = subst (λ b. cond b (has_halt xs) (nat_le 200000 (others xs)) ≡ false) no_halt grows in
       let under : others xs < 200000 = below_limit (others xs) test in
       let more : others (xs ++ (k, e) ∷ []) ≡ others xs + 1 = others_more k e xs ∙ ap (λ b. others xs + cond b 0 1) no_halt in
@@ -66,10 +75,7 @@ module _ (plan : LinkPlan) (stations : List ℕ) (n k : ℕ) (t : Traffic) (xs :
         count = omega (arith, length-append xs ((k, e) ∷ []));
         few = omega arith;
         finished = omega arith;
-        room = λ goes_on.
-            let none : has_halt xs ≡ false = kept.halts ∙ (sym halted ∙ goes_on) in
-            let two : 2 ≤ spare = subst (λ (b : Bool × Bool). room_for b.0 b.1 ≤ spare) (λ i. (none i, no_halt i)) room in
-            omega arith;
+        same_count = counted_more e;
       }
 
   the_halt : is_at_limit xs Halt ≡ false → Next Halt
@@ -86,11 +92,11 @@ module _ (plan : LinkPlan) (stations : List ℕ) (n k : ℕ) (t : Traffic) (xs :
         count = omega (arith, length-append xs ((k, Halt) ∷ []));
         few = omega arith;
         finished = omega arith;
-        room = λ never. absurd (cc never);
+        same_count = counted_more Halt;
       }
 
-  pub kept_more : (e : HubEvent) → is_at_limit xs e ≡ false → room_for (has_halt xs) (is_halt e) ≤ spare → Next e
-  kept_more (Post f) grows room = plain (Post f) refl refl (omega arith) grows room
-  kept_more (Fetch h) grows room = plain (Fetch h) refl refl (omega arith) grows room
-  kept_more Finished grows room = plain Finished refl refl (omega arith) grows room
-  kept_more Halt grows room = the_halt grows
+  pub kept_more : (e : HubEvent) → is_at_limit xs e ≡ false → Next e
+  kept_more (Post f) grows = plain (Post f) refl refl (omega arith) grows
+  kept_more (Fetch h) grows = plain (Fetch h) refl refl (omega arith) grows
+  kept_more Finished grows = plain Finished refl refl (omega arith) grows
+  kept_more Halt grows = the_halt grows

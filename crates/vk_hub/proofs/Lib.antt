@@ -1,4 +1,5 @@
 pub mod Counts
+pub mod Crossing
 pub mod Entries
 pub mod Fetching
 pub mod Posted

@@ -7,18 +7,16 @@ use Rattle.vk_hub.specs.declared.event.HubEvent.TheVariants as event
 use Rattle.vk_hub.specs.declared.event.Fetched.{Fetched}
 use Rattle.vk_hub.specs.declared.event.Fetched.TheVariants as fetched
 
--- A hub's state, as callers see it: its link plan, its stations, how many programs there are, its history, and the room that is
--- left for entries
+-- A hub's state, as callers see it: its link plan, its stations, how many programs there are, and its history
 pub record HubLog : Type 0 where
   pub plan : LinkPlan
   pub stations : List ℕ
   pub programs : ℕ
   pub history : List (ℕ × HubEvent)
-  pub spare : ℕ
 
 -- what its history began with
 abbrev pub origin_of : HubLog → HubLog
-origin_of h = record h { history = []; spare = 0 }
+origin_of h = record h { history = [] }
 
 -- what is under way: the generator's state, what waits for each station, how many programs have finished, and whether the hub is halted
 pub record Traffic : Type 0 where

@@ -33,20 +33,6 @@ pub struct HubOut {
 }
 
 impl HubEvent {
-    /// An equal event.
-    pub fn copy(&self) -> HubEvent
-        ensures { result ≡ self.now }
-    {
-        match self {
-            HubEvent::Post { frame } => HubEvent::Post {
-                frame: frame.copy(),
-            },
-            HubEvent::Fetch { host } => HubEvent::Fetch { host: *host },
-            HubEvent::Finished => HubEvent::Finished,
-            HubEvent::Halt => HubEvent::Halt,
-        }
-    }
-
     pub fn is_halt(&self) -> bool
         ensures { result ≡ is_halt self.now }
     {

@@ -1,48 +1,41 @@
-ghost use Rattle.std.specs.Prelude.{◌≡◌, ◌+◌, ◌≤◌, false, [], length, map, slice_index, IfOk, vec_len};
+ghost use Rattle.std.specs.Prelude.{◌≡◌, ◌+◌, ◌≤◌, false, [], length, map, slice_index, IfOk};
 ghost use Rattle.vk_base.specs.Settings.{stations_of};
-ghost use Rattle.vk_hub.specs.Hubs.{answered, has_halt, is_at_limit, is_halt, is_ready, nothing_for, origin_of, others, traffic_of};
-ghost use Rattle.vk_hub.specs.Kept.{room_for};
+ghost use Rattle.vk_hub.specs.Hubs.{answered, is_at_limit, is_halt, is_ready, nothing_for, origin_of, others, traffic_of};
 
 use crate::event::{HubEvent, HubOut};
 use crate::inbox::Inbox;
 use crate::links::Links;
 use std::alloc::{AllocError, Global};
 use std::marker::Model;
-use turn_cell::{Replay, Room};
+use turn_cell::{Past, Replay, Room};
 use vk_base::Config;
 use vk_schedule::LinkPlan;
 
 /// The greatest number of entries that are no halt.
 const MOST: usize = 200_000;
 
-/// The state of a hub, which is the replay of its history. Contracts see its link plan, its stations, how many programs there are, the
-/// history, and the room that is left for entries.
+/// The state of a hub, which is the replay of its history. Contracts see its link plan, its stations, how many programs there are, and the
+/// history, which no code sees.
 #[derive(Drop)]
 pub struct HubState {
     plan: LinkPlan,
     stations: Vec<u16>,
     programs: u32,
-    history: Vec<(u32, HubEvent)>,
+    past: Past<HubEvent>,
+    // How many entries are no halt.
+    others: usize,
     links: Links,
 }
 
 impl Model for HubState {
-    ghost use Rattle.std.specs.Prelude.{◌-◌, vec_len, vec_capacity};
     ghost use Rattle.vk_hub.specs.Hubs.{HubLog};
     ghost use Rattle.vk_hub.specs.Kept.{IsHubKept};
 
     ghost Value = { HubLog };
 
-    ghost view = { λ h. record {
-      plan = h.plan;
-      stations = h.stations.items;
-      programs = h.programs;
-      history = h.history.items;
-      spare = vec_capacity h.history - vec_len h.history;
-    } };
+    ghost view = { λ h. record { plan = h.plan; stations = h.stations.items; programs = h.programs; history = h.past } };
 
-    ghost invariant = { λ h. IsHubKept h.plan h.stations.items h.programs h.links h.history.items
-        (vec_capacity h.history - vec_len h.history) };
+    ghost invariant = { λ h. IsHubKept h.plan h.stations.items h.programs h.links h.past h.others };
 }
 
 // The stations, by rising hosts.
@@ -69,7 +62,7 @@ fn inboxes_of(alloc: Global, stations: &[u16]) -> Result<Vec<Inbox>, AllocError>
 }
 
 impl HubState {
-    /// With no entry, and room for a halt.
+    /// With no entry.
     pub fn new(
         alloc: Global,
         config: &Config,
@@ -83,12 +76,12 @@ impl HubState {
     {
         let stations = stations_of(alloc, config)?;
         let inboxes = inboxes_of(alloc, &stations)?;
-        let history = Vec::with_capacity(alloc, 1)?;
         Ok(HubState {
             plan,
             stations,
             programs,
-            history,
+            past: Past::new(),
+            others: 0,
             links: Links::new(plan.seed, inboxes),
         })
     }
@@ -99,7 +92,7 @@ impl HubState {
         ensures one_halt { length self.now.history ≤ others self.now.history + 1 }
         ensures few { others self.now.history ≤ 200000 }
     {
-        self.history.len()
+        self.others + self.links.is_halted() as usize
     }
 }
 
@@ -122,22 +115,17 @@ impl Replay for HubState {
 
     ghost has_own_room = { is_halt };
 
-    ghost has_room = { λ s e. (is_at_limit s.history e ≡ false) × (room_for (has_halt s.history) (is_halt e) ≤ s.spare) };
+    ghost has_room = { λ s e. is_at_limit s.history e ≡ false };
 
     ghost gives = { λ o h caller e out new. new.fetched ≡ answered o.programs (traffic_of o h) e };
 
     fn room(&mut self, _alloc: Global, event: &HubEvent) -> Result<(), Room> {
-        let halted = self.links.is_halted();
-        if event.is_halt() {
-            return if halted { Err(Room::Full) } else { Ok(()) };
-        }
-        if self.history.len() - halted as usize >= MOST {
-            return Err(Room::Full);
-        }
-        match self.history.reserve(if halted { 1 } else { 2 }) {
-            Ok(()) => Ok(()),
-            Err(_) => Err(Room::NoMemory),
-        }
+        let full = if event.is_halt() {
+            self.links.is_halted()
+        } else {
+            self.others >= MOST
+        };
+        if full { Err(Room::Full) } else { Ok(()) }
     }
 
     fn is_ready(&self, event: &HubEvent) -> bool {
@@ -146,6 +134,7 @@ impl Replay for HubState {
 
     fn act(&mut self, caller: u32, event: &HubEvent, out: &mut HubOut) {
         out.fetched = self.links.change(&self.plan, self.programs, event);
-        self.history.push_reserved((caller, event.copy()));
+        self.past.push(caller, event);
+        self.others += !event.is_halt() as usize;
     }
 }

@@ -19,7 +19,7 @@ use Rattle.vk_schedule.specs.declared.log.StationLog.{StationLog}
 use Rattle.vk_join.specs.declared.replay.Key.{Key}
 use Rattle.vk_join.specs.Keys.{AreKeys, number_behind}
 use Rattle.vk_join.specs.Logs.{entries_for}
-use Rattle.vk_join.specs.Merges.{Turn}
+use Rattle.vk_join.specs.Merges.{Turn, event_of, events_of}
 use Rattle.vk_join.specs.Replays.{event_for, front_of, host_for, turn_for, turns_of}
 use Rattle.vk_join.proofs.Fronts.{entries_more, front_whole, turns_own, turns_start}
 
@@ -91,3 +91,12 @@ pub counted_whole : (all : List StationLog) (log : ℕ) (l : StationLog) (at num
     length l.events ≤ at → AreCounted all log l at number keys → AreKeys all (take (log + 1) all) keys
 counted_whole all log l at number keys found whole counted =
     subst (λ ls. AreKeys all ls keys) (front_whole (take log all) l at whole ∙ sym (take_get all log l found)) counted.are
+
+-- the events that the keys stand for, with one key more
+pub events_next : (logs : List StationLog) (ks : List Key) (n : ℕ) (k : Key) → slice_get ks n ≡ Some k →
+    events_of (map (turn_for logs) (take (n + 1) ks))
+    ≡ events_of (map (turn_for logs) (take n ks)) ++ event_of (host_for logs k) (event_for logs k) ∷ []
+events_next logs ks n k found =
+    ap (λ l. events_of (map (turn_for logs) l)) (take_get ks n k found)
+    ∙ ap events_of (map_push (turn_for logs) (take n ks) k)
+    ∙ map_push (λ (t : Turn). event_of t.host t.event) (map (turn_for logs) (take n ks)) (turn_for logs k)

@@ -3,17 +3,19 @@
 ghost use Rattle.std.specs.Prelude.{◌≡◌, ◌<◌, ◌+◌, ◌-◌, ◌^◌, length, min, take, IfOk, OnOk};
 ghost use Rattle.vk_host.specs.Values.{input_of};
 ghost use Rattle.vk_join.specs.Keys.{AreKeys, number_behind};
+ghost use Rattle.vk_log.specs.Logs.{event_of as event_seen};
 ghost use Rattle.vk_rules.specs.Frames.{number_in, unsealed_of};
 
+use crate::brief_log::BriefLog;
 use crate::replay::{Key, push_key};
 use std::alloc::Global;
+use vk_base::NoMemory;
 use vk_base::limits::LAST_NUMBER;
-use vk_base::{NoMemory, StationEvent};
 use vk_frame::unseal;
-use vk_schedule::StationLog;
+use vk_log::StationEventView;
 
 /// A key for each event of the logs, one log behind the other.
-pub fn keys_of(alloc: Global, logs: &[StationLog]) -> Result<Vec<Key>, NoMemory>
+pub fn keys_of(alloc: Global, logs: &[BriefLog]) -> Result<Vec<Key>, NoMemory>
     ensures { IfOk result (λ keys. AreKeys logs.now logs.now keys.items) }
 {
     let mut keys = Vec::new(alloc);
@@ -24,29 +26,28 @@ pub fn keys_of(alloc: Global, logs: &[StationLog]) -> Result<Vec<Key>, NoMemory>
 }
 
 /// A key for each event of the log at this place, behind those of the logs before it.
-fn push_keys(keys: &mut Vec<Key>, logs: &[StationLog], log: usize) -> Result<(), NoMemory>
+fn push_keys(keys: &mut Vec<Key>, logs: &[BriefLog], log: usize) -> Result<(), NoMemory>
     requires log { log < length logs.now }
     requires before { AreKeys logs.now (take log logs.now) keys.old.items }
     ensures { OnOk result (AreKeys logs.now (take (log + 1) logs.now) keys.new.items) }
 {
     let entry = &logs[log];
     let mut number = 0;
-    for at in 0..entry.events.len() {
-        number = number_behind(number, &entry.events.as_slice()[at]);
+    for at in 0..entry.len() {
+        number = number_behind(number, &entry.get(at));
         push_key(keys, Key { number, log, at })?;
     }
     Ok(())
 }
 
 /// The number that an event's entry has behind one with that number.
-fn number_behind(number: u64, event: &StationEvent) -> u64
-    ensures { result ≡ number_behind number (input_of event.now) }
+fn number_behind(number: u64, event: &StationEventView) -> u64
+    ensures { result ≡ number_behind number (input_of (event_seen event.now)) }
 {
     match event {
-        StationEvent::Deliver { frame } => next_number(number.max(number_in(frame.as_slice()))),
-        StationEvent::Call { .. } | StationEvent::Collect { .. } | StationEvent::Tick => {
-            next_number(number)
-        }
+        StationEventView::Deliver { frame } => next_number(number.max(number_in(frame))),
+        StationEventView::Call { .. } | StationEventView::Collect { .. } | StationEventView::Tick =>
+            next_number(number),
     }
 }
 

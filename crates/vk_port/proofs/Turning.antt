@@ -3,7 +3,7 @@ use Rattle.std.proofs.Common.{◌≡◌, ◌≢◌, ◌⊎◌, inl, inr, ℕ, �
 use mathlib.Core.List.{IsPrefix}
 use Rattle.std.proofs.lemmas.List.{append-nil, append_cancel_right, take_all}
 use Rattle.std.proofs.lemmas.Option.{same_Some}
-use Rattle.vk_types.specs.Types.{Call, EventAnswer, Pid, StationEvent}
+use Rattle.vk_types.specs.Types.{Answer, Call, EventAnswer, Pid, StationEvent}
 use Rattle.turn_cell.specs.History.{events_of}
 use Rattle.turn_cell.specs.Rooms.{is_full as is_room_full}
 use Rattle.turn_cell.specs.Seats.{Cell, HasEntered, HasLooked, IsComplete, IsSameSeat, Sitting}
@@ -20,7 +20,7 @@ use Rattle.vk_rules.specs.Each.{Each}
 use Rattle.vk_rules.proofs.Lists.{each_append}
 use Rattle.vk_port.specs.Ports.{Action, AtHub, AtStation, Delivers, Does, Drops, Enters, HasDelivered, HasHeard, HasMade, Hears, IsCutEvent, IsCutPump, IsLog, IsMet, IsPumping, IsRefused, Met, PortValue, berth_of, fetched_at, stand_of}
 use Rattle.vk_port.specs.Stations.{EntryShown, StationHistory, entry_at, entry_shown, frames_at, is_full, is_own, is_ready}
-use Rattle.vk_port.specs.Turns.{HasFetchedFrame, HasPosted, HasStoppedPosting, HoldsAnswer, HoldsTick, IsCallAnswer}
+use Rattle.vk_port.specs.Turns.{HasFetchedFrame, HasPosted, HasStoppedPosting, HoldsAnswer, HoldsTick, IsCallAnswer, is_collect}
 use Rattle.vk_port.proofs.Answers.{call_answer, collect_answer, tick_answer}
 use Rattle.vk_port.proofs.Logs.{berth_same, does_more, same_over}
 
@@ -223,11 +223,9 @@ pumped_more p q r first given all does made =
 pub rested_more : (p q r : PortValue) (first : List Action) → Does p q first → Does q r [] → Does p r first
 rested_more p q r first does none = subst (Does p r) (append-nil first) (does_more p q r first [] does none)
 
-pub unready_more : (p q r : PortValue) (first : List Action) (e : StationEvent) (given : Option EventAnswer) → Does p q first → given ≡ None →
-    IfNone given (Does q r [] × (is_ready q.station.origin r.seat.seen e ≡ false)) → Does p r first
-unready_more p q r first e given does none found =
-    rested_more p q r first does
-    (subst (λ o. IfNone o (Does q r [] × (is_ready q.station.origin r.seat.seen e ≡ false))) none found).0
+pub unready_more : (p q r : PortValue) (first : List Action) (given : Option Answer) → Does p q first → given ≡ None →
+    IfNone given (Does q r []) → Does p r first
+unready_more p q r first given does none found = rested_more p q r first does (subst (λ o. IfNone o (Does q r [])) none found)
 
 -- What was made is answered so.
 pub made_call : (p q : PortValue) (first : List Action) (pid : Pid) (call : Call) (given : EventAnswer) →
@@ -237,9 +235,12 @@ made_call p q first pid call given made = subst IsCallAnswer (sym made.answer) (
 pub made_tick : (p q : PortValue) (first : List Action) (given : EventAnswer) → HasMade p q first events.Tick given → HoldsTick given
 made_tick p q first given made = subst HoldsTick (sym made.answer) (tick_answer p.station.origin made.before)
 
-pub made_collect : (p q : PortValue) (pid : Pid) (given : EventAnswer) → HasMade p q [] (events.Collect pid) given → HoldsAnswer given
-made_collect p q pid given made =
+pub made_collect : (p q : PortValue) (e : StationEvent) (given : EventAnswer) → is_collect e ≡ true → HasMade p q [] e given → HoldsAnswer given
+made_collect p q (events.Collect pid) given is made =
     subst HoldsAnswer (sym made.answer) (collect_answer p.station.origin made.before pid made.does.log.0.ready)
+made_collect p q (events.Call pid call) given is made = absurd (cc is)
+made_collect p q events.Tick given is made = absurd (cc is)
+made_collect p q (events.Deliver frame) given is made = absurd (cc is)
 
 pub got_frame : (p q : PortValue) (f : Fetched) (frame : Frame) → f ≡ fetched.Frame frame → (f ≢ fetched.Nothing → HasFetchedFrame p q f) →
     HasFetchedFrame p q (fetched.Frame frame)

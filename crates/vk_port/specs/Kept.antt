@@ -1,5 +1,5 @@
 -- Internal. What a station keeps: its host stands for the entries of its history, and these are within its share.
-use Rattle.std.specs.Prelude.{ℕ, ◌≡◌, ◌≤◌, ◌/◌, true, List, [], ◌∷◌, length}
+use Rattle.std.specs.Prelude.{ℕ, ◌≡◌, ◌≤◌, ◌/◌, true, List, [], length}
 use Rattle.vk_types.specs.Types.{ProcessSpec, StationEvent}
 use Rattle.vk_base.specs.declared.event.StationEvent.TheVariants as events
 use Rattle.vk_base.specs.declared.limits.TheConstants.{EVENTS, FRAME_BYTES, STATIONS}
@@ -20,11 +20,6 @@ use Rattle.vk_port.specs.Stations.{HadRoom, StationHistory, emitted_bytes, entri
 pub record EntryList : Type 0 where
   pub items : List (ℕ × StationEvent)
   pub spare : ℕ
-
--- the events, each with its caller
-abbrev pub with_callers : List ℕ → List StationEvent → List (ℕ × StationEvent)
-with_callers (k ∷ ks) (e ∷ es) = (k, e) ∷ with_callers ks es
-with_callers ks es = []
 
 -- an event that code can hold: numbers, pids, messages and bytes are such
 abbrev pub IsHeldEvent : StationEvent → Type 0

@@ -1,5 +1,5 @@
 -- What a station's history makes of it, and what it answers.
-use Rattle.std.specs.Prelude.{ℕ, ◌≡◌, ◌≤◌, ◌-◌, ◌/◌, ◌==◌, ◌&&◌, ◌||◌, Bool, true, false, Option, Some, None, List, [], ◌∷◌, ◌++◌, length, map, nat_le, nat_lt, sum_by}
+use Rattle.std.specs.Prelude.{ℕ, ◌≡◌, ◌≤◌, ◌-◌, ◌/◌, ◌==◌, ◌&&◌, ◌||◌, Bool, true, false, Option, Some, List, [], ◌∷◌, ◌++◌, length, map, nat_le, nat_lt, sum_by}
 use Rattle.vk_types.specs.Types.{EventAnswer, Pid, StationEvent}
 use Rattle.v_lawful.specs.Sending.{most_packets}
 use Rattle.vk_base.specs.declared.event.StationEvent.TheVariants as events

@@ -1,32 +1,32 @@
 //! The entries of a history: events, each with its caller's number.
 
 ghost use Rattle.std.specs.Prelude.{◌≡◌, ◌≤◌, ◌<◌, ◌++◌, ◌∷◌, [], length, map, slice_get, Some, OnOk};
+ghost use Rattle.vk_log.specs.Logs.{event_of as event_seen};
 ghost use Rattle.vk_port.specs.Stations.{event_of};
 
-use std::alloc::{AllocError, Global};
+use std::alloc::Global;
 use std::marker::Model;
-use vk_base::StationEvent;
+use turn_cell::Past;
+use vk_base::{NoMemory, StationEvent};
+use vk_log::{EventLog, StationEventView};
 
-/// Events in the order in which they were entered, and beside them the numbers of their callers: so the events can be handed on
-/// without a copy. An event lies whole in its place.
+/// Events in the order in which they were entered. Who entered them only clauses read.
 #[derive(Drop)]
 pub struct Entries {
-    callers: Vec<u32>,
-    events: Vec<StationEvent>,
+    past: Past<StationEvent>,
+    events: EventLog,
 }
 
 impl Model for Entries {
-    ghost use Rattle.std.specs.Prelude.{◌≡◌, ◌-◌, min, vec_len, vec_capacity};
-    ghost use Rattle.vk_port.specs.Kept.{EntryList, with_callers};
+    ghost use Rattle.std.specs.Prelude.{◌≡◌, map};
+    ghost use Rattle.vk_port.specs.Kept.{EntryList};
+    ghost use Rattle.vk_port.specs.Stations.{event_of};
 
     ghost Value = { EntryList };
 
-    ghost view = { λ e. record {
-      items = with_callers e.callers.items e.events.items;
-      spare = min (vec_capacity e.callers - vec_len e.callers) (vec_capacity e.events - vec_len e.events);
-    } };
+    ghost view = { λ e. record { items = e.past; spare = e.events.spare } };
 
-    ghost invariant = { λ e. vec_len e.callers ≡ vec_len e.events };
+    ghost invariant = { λ e. e.events.items ≡ map event_of e.past };
 }
 
 impl Entries {
@@ -35,32 +35,29 @@ impl Entries {
         ensures { result.items ≡ [] }
     {
         Entries {
-            callers: Vec::new(alloc),
-            events: Vec::new(alloc),
+            past: Past::new(),
+            events: EventLog::new(alloc),
         }
     }
 
     /// Makes room for one more.
-    pub fn reserve(&mut self) -> Result<(), AllocError>
+    pub fn reserve(&mut self) -> Result<(), NoMemory>
         ensures items { self.new.items ≡ self.old.items }
         ensures room { OnOk result (1 ≤ self.new.spare) }
     {
-        self.callers.reserve(1)?;
-        self.events.reserve(1)
+        self.events.reserve()
     }
 
     /// One more, for which there is room.
-    #[tactic(auto, using(crate::proofs::Histories::callers_more))]
-    pub fn push(&mut self, caller: u32, event: StationEvent)
+    pub fn push(&mut self, caller: u32, event: &StationEvent)
         requires { 1 ≤ self.old.spare }
-        ensures { self.new.items ≡ self.old.items ++ (caller, event) ∷ [] }
+        ensures { self.new.items ≡ self.old.items ++ (caller, event.now) ∷ [] }
     {
-        self.callers.push_reserved(caller);
-        self.events.push_reserved(event);
+        self.past.push(caller, event);
+        self.events.push(event);
     }
 
     /// How many there are.
-    #[tactic(auto, using(crate::proofs::Histories::callers_size))]
     pub fn len(&self) -> usize
         ensures { result ≡ length self.now.items }
     {
@@ -68,20 +65,18 @@ impl Entries {
     }
 
     /// The event with this number, counted from 0.
-    #[tactic(auto, using(crate::proofs::Histories::callers_events, crate::proofs::Histories::callers_size))]
-    pub fn get(&self, at: usize) -> &StationEvent
+    pub fn get(&self, at: usize) -> StationEventView<'_>
         requires { at < length self.now.items }
-        ensures { slice_get (map event_of self.now.items) at ≡ Some result.now }
+        ensures { slice_get (map event_of self.now.items) at ≡ Some (event_seen result) }
     {
-        &self.events[at]
+        self.events.get(at)
     }
 
     /// The events alone. It takes no memory.
-    #[tactic(auto, using(crate::proofs::Histories::callers_events))]
-    pub fn into_events(self) -> Vec<StationEvent>
+    pub fn into_events(self) -> EventLog
         ensures { result.items ≡ map event_of self.items }
     {
-        let Entries { callers: _, events } = self;
+        let Entries { past: _, events } = self;
         events
     }
 }

@@ -7,6 +7,7 @@
 //! nothing to do. Stands on `vk_host` and `vk_hub`.
 #![tactic(auto)]
 
+mod access;
 mod entries;
 mod opened;
 mod patience;

@@ -1,12 +1,12 @@
 //! A caller's access to a station and to the links.
 
-ghost use Rattle.std.specs.Prelude.{◌≡◌, ◌≢◌, ◌≤◌, ◌<◌, [], true, false, IfOk, IfErr, IfNone, IfSome, IsSome, OnOk, Some};
-ghost use Rattle.turn_cell.specs.Seats.{IsComplete, IsSameSeat, IsSeatOf};
-ghost use Rattle.vk_hub.specs.declared.event.HubEvent.TheVariants as hub_events;
-ghost use Rattle.vk_port.specs.Ports.{AtHub, Does, HasPumped, HasMade, HasWaited, IsCutEvent, IsCutPump, IsMet, IsRefused, IsWaitRefused, answer_as};
-ghost use Rattle.vk_port.specs.Stations.{is_own, is_process_of, is_ready, most_frames};
-ghost use Rattle.vk_port.specs.Turns.{HasFetchedFrame, HasPosted, HasStoppedPosting, HoldsAnswer, HoldsTick, IsCallAnswer, is_collect, room_of};
+ghost use Rattle.std.specs.Prelude.{◌≡◌, [], true, IfOk, IfErr, IfNone, IfSome};
+ghost use Rattle.turn_cell.specs.Seats.{IsComplete, IsSeatOf};
+ghost use Rattle.vk_port.specs.Ports.{Does, HasPumped, HasMade, HasWaited, IsCutEvent, IsCutPump, IsRefused, IsWaitRefused, answer_as};
+ghost use Rattle.vk_port.specs.Stations.{is_own, is_process_of};
+ghost use Rattle.vk_port.specs.Turns.{is_collect};
 
+use crate::access::Access;
 use crate::patience::Patience;
 use crate::station::Station;
 use crate::station_out::StationOut;
@@ -55,38 +55,24 @@ pub enum Pumped {
     Stopped,
 }
 
-/// One caller's access to a station and to the links, by a seat at each. Contracts see the station's number, its cell and the hub, the
-/// seats, and whether it may tick.
+/// One caller's access to a station and to the links, by a seat at each, and the place for what an event gives. Contracts see the station's
+/// number, its cell and the hub, the seats, and whether it may tick.
 #[derive(Drop)]
 pub struct Port<'a> {
-    host: u16,
-    station: &'a TurnCell<Station>,
-    seat: TurnSeat<Station>,
-    hub: &'a Hub,
-    hub_seat: TurnSeat<HubState>,
-    ticks: bool,
+    access: Access<'a>,
     out: StationOut,
 }
 
 impl<'a> Model for Port<'a> {
-    ghost use Rattle.std.specs.Prelude.{◌≡◌, ◌≤◌};
-    ghost use Rattle.turn_cell.specs.Seats.{IsComplete, IsSeatOf};
+    ghost use Rattle.std.specs.Prelude.{◌≤◌};
     ghost use Rattle.vk_port.specs.Ports.{PortValue};
     ghost use Rattle.vk_port.specs.Turns.{room_of};
 
     ghost Value = { PortValue };
 
-    ghost view = { λ p. record {
-      host = p.host;
-      station = p.station.now;
-      hub = p.hub.now;
-      seat = p.seat;
-      hub_seat = p.hub_seat;
-      ticks = p.ticks;
-    } };
+    ghost view = { λ p. p.access };
 
-    ghost invariant = { λ p. (p.station.now.origin.host ≡ p.host) × IsSeatOf p.station.now p.seat × IsSeatOf p.hub.now p.hub_seat
-        × IsComplete p.seat × IsComplete p.hub_seat × (room_of p.ticks ≤ p.out.room) };
+    ghost invariant = { λ p. room_of p.access.ticks ≤ p.out.room };
 }
 
 impl<'a> Port<'a> {
@@ -121,15 +107,10 @@ impl<'a> Port<'a> {
         ensures hub_seat { IfErr result (λ e. e.hub_seat ≡ hub_seat) }
     {
         match StationOut::new(alloc, if ticks { TICK_PACKETS } else { ROUND_PACKETS }) {
-            Ok(out) => Ok(Port {
-                host,
-                station,
-                seat,
-                hub,
-                hub_seat,
-                ticks,
-                out,
-            }),
+            Ok(out) => {
+                let access = Access::new(host, station, seat, hub, hub_seat, ticks);
+                Ok(Port { access, out })
+            }
             Err(_) => Err(PortNoMemory { seat, hub_seat }),
         }
     }
@@ -155,8 +136,8 @@ impl<'a> Port<'a> {
             pid,
             call: call.copy(),
         };
-        match self.enter(rt, alloc, &event) {
-            Ok(answer) => Ok(outcome_of(answer)),
+        match self.access.enter(rt, alloc, &event, &mut self.out) {
+            Ok(()) => Ok(self.out.outcome()),
             Err(why) => Err(why),
         }
     }
@@ -180,12 +161,8 @@ impl<'a> Port<'a> {
         let event = StationEvent::Collect { pid };
         let mut patience = Patience::new(LONGEST_SLEEP);
         for _ in rt.forever() {
-            match self.enter_when_ready(rt, alloc, &event) {
-                Ok(Some(answer)) => {
-                    return Ok(Collected::Answered {
-                        answer: answer_in(answer),
-                    });
-                }
+            match self.try_collect(rt, alloc, &event) {
+                Ok(Some(answer)) => return Ok(Collected::Answered { answer }),
                 Ok(None) => {}
                 Err(why) => return Err(why),
             }
@@ -208,11 +185,13 @@ impl<'a> Port<'a> {
         ensures ok { IfOk result (HasPumped self.old self.new) }
         ensures err { IfErr result (λ why. IsRefused self.old self.new why [] (IsCutPump self.old.station.origin self.old.host)) }
     {
-        match self.fetch(rt, alloc) {
+        match self.access.fetch(rt, alloc) {
             Ok(Fetched::Frame { frame }) => {
                 let event = StationEvent::Deliver { frame };
-                match self.enter(rt, alloc, &event) {
-                    Ok(answer) => Ok(Pumped::Delivered { answer }),
+                match self.access.enter(rt, alloc, &event, &mut self.out) {
+                    Ok(()) => Ok(Pumped::Delivered {
+                        answer: self.out.given(),
+                    }),
                     Err(why) => Err(why),
                 }
             }
@@ -232,8 +211,11 @@ impl<'a> Port<'a> {
         ensures ok { IfOk result (λ now. HasMade self.old self.new [] StationEvent.Tick (EventAnswer.Ticked now)) }
         ensures err { IfErr result (λ why. IsRefused self.old self.new why [] (IsCutEvent self.old.station.origin StationEvent.Tick)) }
     {
-        match self.enter(rt, alloc, &StationEvent::Tick) {
-            Ok(answer) => Ok(tick_in(answer)),
+        match self
+            .access
+            .enter(rt, alloc, &StationEvent::Tick, &mut self.out)
+        {
+            Ok(()) => Ok(self.out.ticked()),
             Err(why) => Err(why),
         }
     }
@@ -256,7 +238,10 @@ impl<'a> Port<'a> {
         let event = StationEvent::Deliver {
             frame: frame.copy(),
         };
-        self.enter(rt, alloc, &event)
+        match self.access.enter(rt, alloc, &event, &mut self.out) {
+            Ok(()) => Ok(self.out.given()),
+            Err(why) => Err(why),
+        }
     }
 
     /// Hands both seats back.
@@ -268,150 +253,29 @@ impl<'a> Port<'a> {
         ensures complete { IsComplete result.0 }
         ensures hub_complete { IsComplete result.1 }
     {
-        let Port { seat, hub_seat, .. } = self;
-        (seat, hub_seat)
+        self.access.end()
     }
 
-    /// Fetches once.
-    fn fetch<R: Wait>(&mut self, rt: &R, alloc: Global) -> Result<Fetched, Room>
-        ensures fetched { IfOk result (λ f. f ≢ Fetched.Nothing → HasFetchedFrame self.old self.new f) }
-        ensures nothing { IfOk result (λ f. f ≡ Fetched.Nothing → HasPumped self.old self.new Pumped.Nothing) }
-        ensures err { IfErr result (λ why. Does self.old self.new [] × IsMet self.new why (AtHub (hub_events.Fetch self.old.host))) }
-    {
-        self.hub.fetch(rt, alloc, &mut self.hub_seat, self.host)
-    }
-
-    /// Enters the event, which is ready at any time, posts its frames in order, and gives its answer.
-    fn enter<R: Wait>(
+    /// Collects what the process is answered, if it is done: `event` is that collect.
+    fn try_collect<R: Wait>(
         &mut self,
         rt: &R,
         alloc: Global,
         event: &StationEvent,
-    ) -> Result<EventAnswer, Room>
+    ) -> Result<Option<Answer>, Room>
         requires own { is_own self.old.station.origin event.now ≡ true }
-        requires no_collect { is_collect event.now ≡ false }
-        requires room { most_frames event.now ≤ room_of self.old.ticks }
-        ensures ok { IfOk result (HasMade self.old self.new [] event.now) }
-        ensures err { IfErr result (λ why. IsRefused self.old self.new why [] (IsCutEvent self.old.station.origin event.now)) }
-    {
-        match self.enter_when_ready(rt, alloc, event) {
-            Ok(Some(answer)) => Ok(answer),
-            Ok(None) => unreachable!(),
-            Err(why) => Err(why),
-        }
-    }
-
-    /// Enters the event if it is ready, posts its frames in order, and gives its answer; `None` where it is not ready.
-    fn enter_when_ready<R: Wait>(
-        &mut self,
-        rt: &R,
-        alloc: Global,
-        event: &StationEvent,
-    ) -> Result<Option<EventAnswer>, Room>
-        requires own { is_own self.old.station.origin event.now ≡ true }
-        requires room { most_frames event.now ≤ room_of self.old.ticks }
-        ensures ok { IfOk result (λ given. IfSome given (HasMade self.old self.new [] event.now)) }
-        ensures not_yet { IfOk result (λ given. IfNone given (Does self.old self.new []
-            × (is_ready self.old.station.origin self.new.seat.seen event.now ≡ false))) }
+        requires collect { is_collect event.now ≡ true }
+        ensures ok { IfOk result (λ given. IfSome given (λ a. HasMade self.old self.new [] event.now (EventAnswer.Answered a))) }
+        ensures not_yet { IfOk result (λ given. IfNone given (Does self.old self.new [])) }
         ensures err { IfErr result (λ why. IsRefused self.old self.new why [] (IsCutEvent self.old.station.origin event.now)) }
     {
         match self
-            .station
-            .step_when_ready(rt, alloc, &mut self.seat, event, &mut self.out)
+            .access
+            .enter_when_ready(rt, alloc, event, &mut self.out)
         {
-            Ok(Ready::Done) => {
-                match post_all(rt, alloc, self.hub, &mut self.hub_seat, &mut self.out) {
-                    Ok(answer) => Ok(Some(answer)),
-                    Err(why) => Err(why),
-                }
-            }
+            Ok(Ready::Done) => Ok(Some(self.out.collected())),
             Ok(Ready::NotYet) => Ok(None),
             Err(why) => Err(why),
         }
-    }
-}
-
-/// Posts the frames of the station's last event in order, and takes its answer.
-fn post_all<R: Wait>(
-    rt: &R,
-    alloc: Global,
-    hub: &Hub,
-    seat: &mut TurnSeat<HubState>,
-    out: &mut StationOut,
-) -> Result<EventAnswer, Room>
-    requires seat { IsSeatOf hub.now seat.old }
-    requires complete { IsComplete seat.old }
-    requires some { IsSome out.old.answer }
-    ensures same { IsSameSeat seat.old seat.new }
-    ensures complete { IsComplete seat.new }
-    ensures room { out.new.room ≡ out.old.room }
-    ensures answer { IfOk result (λ given. out.old.answer ≡ Some given) }
-    ensures ok { OnOk result (HasPosted seat.old seat.new out.old.frames) }
-    ensures err { IfErr result (HasStoppedPosting seat.old seat.new out.old.frames) }
-{
-    match post_frames(rt, alloc, hub, seat, out) {
-        Ok(()) => match out.take_answer() {
-            Some(answer) => Ok(answer),
-            None => unreachable!(),
-        },
-        Err(why) => Err(why),
-    }
-}
-
-/// Posts these frames in order.
-fn post_frames<R: Wait>(
-    rt: &R,
-    alloc: Global,
-    hub: &Hub,
-    seat: &mut TurnSeat<HubState>,
-    out: &StationOut,
-) -> Result<(), Room>
-    requires seat { IsSeatOf hub.now seat.old }
-    requires complete { IsComplete seat.old }
-    ensures same { IsSameSeat seat.old seat.new }
-    ensures complete { IsComplete seat.new }
-    ensures ok { OnOk result (HasPosted seat.old seat.new out.now.frames) }
-    ensures err { IfErr result (HasStoppedPosting seat.old seat.new out.now.frames) }
-{
-    for at in 0..out.frame_count() {
-        match hub.post(rt, alloc, seat, out.frame(at)) {
-            Ok(()) => {}
-            Err(why) => return Err(why),
-        }
-    }
-    Ok(())
-}
-
-/// What a call is answered.
-fn outcome_of(answer: EventAnswer) -> CallOutcome
-    requires { IsCallAnswer answer }
-    ensures { answer_as result ≡ answer }
-{
-    match answer {
-        EventAnswer::Begun => CallOutcome::Begun,
-        EventAnswer::Answered { answer } => CallOutcome::Now { answer },
-        _ => unreachable!(),
-    }
-}
-
-/// What was collected.
-fn answer_in(answer: EventAnswer) -> Answer
-    requires { HoldsAnswer answer }
-    ensures { EventAnswer.Answered result ≡ answer }
-{
-    match answer {
-        EventAnswer::Answered { answer } => answer,
-        _ => unreachable!(),
-    }
-}
-
-/// The new tick.
-fn tick_in(answer: EventAnswer) -> u64
-    requires { HoldsTick answer }
-    ensures { EventAnswer.Ticked result ≡ answer }
-{
-    match answer {
-        EventAnswer::Ticked { now } => now,
-        _ => unreachable!(),
     }
 }

@@ -4,6 +4,7 @@ ghost use Rattle.std.specs.Prelude.{◌≡◌, ◌≤◌, ◌<◌, ◌==◌, [],
 ghost use Rattle.vk_base.specs.declared.config.ProcessSpec.{ProcessSpec as TheProcessSpec};
 ghost use Rattle.vk_base.specs.Pids.{IsPid};
 ghost use Rattle.vk_base.specs.Settings.{has_station};
+ghost use Rattle.vk_log.specs.Logs.{event_of as event_seen};
 ghost use Rattle.vk_rules.specs.Each.{Each};
 ghost use Rattle.vk_rules.specs.Frames.{number_in, unsealed_of};
 ghost use Rattle.vk_port.specs.Kept.{IsHeldEvent};
@@ -17,10 +18,11 @@ use std::marker::Model;
 use std::snapshot::Snapshot;
 use turn_cell::{Replay, Room};
 use vk_base::limits::{EVENTS, LAST_NUMBER};
-use vk_base::{Config, List, NoMemory, ProcessSpec, StationEvent};
+use vk_base::{Config, NoMemory, ProcessSpec, StationEvent};
 use vk_brief::{BriefCall, CallView};
 use vk_frame::unseal;
 use vk_host::{Host, are_in_range, pid_is};
+use vk_log::{EventLog, StationEventView};
 
 /// The most bytes that the frames of all stations have.
 pub const EMITTED_BYTES: usize = 268_435_456;
@@ -80,19 +82,19 @@ impl Station {
     }
 
     /// The event with this number, counted from 0.
-    pub fn event_at(&self, at: u32) -> &StationEvent
+    pub fn event_at(&self, at: u32) -> StationEventView<'_>
         requires { at < length self.now.history }
-        ensures { slice_get (map event_of self.now.history) at ≡ Some result.now }
+        ensures { slice_get (map event_of self.now.history) at ≡ Some (event_seen result) }
     {
         self.entries.get(at as usize)
     }
 
     /// The events in order. It takes no memory.
-    pub fn into_events(self) -> List<StationEvent>
-        ensures { result ≡ map event_of self.history }
+    pub fn into_events(self) -> EventLog
+        ensures { result.items ≡ map event_of self.history }
     {
         let Station { entries, .. } = self;
-        List::new(entries.into_events())
+        entries.into_events()
     }
 }
 
@@ -140,9 +142,9 @@ impl Replay for Station {
 
     fn act(&mut self, caller: u32, event: &StationEvent, out: &mut StationOut) {
         is_held(event);
-        let answer = self.host.event(event);
-        self.bytes += out.show(&self.host, answer);
-        self.entries.push(caller, event.copy());
+        let response = self.host.respond(event);
+        self.bytes += out.show(&self.host, response);
+        self.entries.push(caller, event);
     }
 }
 

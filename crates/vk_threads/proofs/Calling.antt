@@ -1,10 +1,9 @@
 -- A call and the way to its answer.
-use Rattle.std.proofs.Common.{◌≡◌, ℕ, ◌+◌, ◌≤◌, true, false, Option, Some, None, List, [], ◌∷◌, ◌++◌, length, refl, sym, ap, ◌∙◌, subst, arith, append_assoc, append-nil, length-append, ◌⊎◌, inl, inr}
+use Rattle.std.proofs.Common.{◌≡◌, ℕ, ◌≤◌, true, false, Option, Some, None, List, [], ◌∷◌, ◌++◌, length, refl, sym, ap, ◌∙◌, subst, arith, append_assoc, append-nil, length-append, ◌⊎◌, inl, inr}
 use Rattle.std.specs.Prelude.{option_to_list}
 use Rattle.vk_types.specs.Types.{Answer, Call, Pid, StationEvent}
 use Rattle.turn_cell.specs.declared.replay.Room.{Room}
 use Rattle.turn_cell.specs.declared.replay.Room.TheVariants as rooms
-use Rattle.vk_base.specs.declared.answer.CallOutcome.TheVariants as outcomes
 use Rattle.vk_base.specs.declared.event.EventAnswer.TheVariants as answered
 use Rattle.vk_base.specs.declared.event.StationEvent.TheVariants as events
 use Rattle.vk_hub.specs.declared.event.HubEvent.TheVariants as hub_events

@@ -2,7 +2,6 @@
 use Rattle.std.proofs.Common.{◌≡◌, ℕ, zero, suc, ◌+◌, ◌≤◌, ◌<◌, true, List, [], ◌∷◌, ◌++◌, length, get_or, slice_set, refl, sym, ◌∙◌, subst, arith, inl, inr}
 use Rattle.vk_types.specs.Types.{EventAnswer}
 use Rattle.turn_cell.specs.declared.replay.Room.{Room}
-use Rattle.turn_cell.specs.declared.replay.Room.TheVariants as rooms
 use Rattle.vk_base.specs.declared.event.StationEvent.TheVariants as events
 use Rattle.vk_hub.specs.declared.event.HubEvent.TheVariants as hub_events
 use Rattle.vk_port.specs.declared.port.Pumped.{Pumped}

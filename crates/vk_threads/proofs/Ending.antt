@@ -1,5 +1,5 @@
 -- From what a job did through its one port, and what came behind that, to its end.
-use Rattle.std.proofs.Common.{◌≡◌, ◌≢◌, ℕ, ◌+◌, ◌≤◌, true, false, Option, Some, None, is_some, List, [], ◌∷◌, ◌++◌, length, refl, sym, ap, ◌∙◌, subst, arith, append-nil, ◌==◌, ◌⊎◌, inl, inr}
+use Rattle.std.proofs.Common.{◌≡◌, ◌≢◌, ℕ, ◌≤◌, true, false, Option, Some, None, is_some, List, [], ◌∷◌, ◌++◌, length, refl, sym, ap, ◌∙◌, subst, arith, append-nil, ◌==◌, ◌⊎◌, inl, inr}
 use Rattle.std.proofs.lemmas.Bool.Decides.{nat_tests}
 use mathlib.Core.List.{IsPrefix}
 use Rattle.vk_types.specs.Types.{Answer, Call, Pid}
@@ -7,7 +7,6 @@ use Rattle.turn_cell.proofs.Histories.{prefix_self}
 use Rattle.turn_cell.specs.declared.replay.Room.{Room}
 use Rattle.turn_cell.specs.declared.replay.Room.TheVariants as rooms
 use Rattle.turn_cell.specs.Seats.{IsSameSeat}
-use Rattle.vk_base.specs.declared.event.StationEvent.TheVariants as events
 use Rattle.vk_base.specs.Settings.{Settings, has_process}
 use Rattle.vk_base.proofs.BoolLemmas.{and_second}
 use Rattle.vk_hub.specs.declared.event.HubEvent.{HubEvent}

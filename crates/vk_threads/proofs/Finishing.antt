@@ -4,7 +4,6 @@ use Rattle.std.proofs.lemmas.Bool.Decides.{nat_tests}
 use mathlib.Core.List.{IsPrefix}
 use Rattle.vk_types.specs.Types.{StationEvent}
 use Rattle.turn_cell.specs.declared.replay.Room.{Room}
-use Rattle.turn_cell.specs.declared.replay.Room.TheVariants as rooms
 use Rattle.turn_cell.specs.Rooms.{is_full}
 use Rattle.turn_cell.specs.Seats.{HasEntered, HasLooked, IsSameSeat, Sitting}
 use Rattle.vk_hub.specs.declared.event.HubEvent.{HubEvent}

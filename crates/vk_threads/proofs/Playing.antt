@@ -4,14 +4,10 @@ use Rattle.std.proofs.lemmas.Bool.{or_cases}
 use Rattle.vk_types.specs.Types.{Answer, Call, EventAnswer, Pid, StationEvent}
 use Rattle.turn_cell.specs.declared.replay.Room.{Room}
 use Rattle.turn_cell.specs.declared.replay.Room.TheVariants as rooms
-use Rattle.vk_base.specs.declared.answer.CallOutcome.TheVariants as outcomes
-use Rattle.vk_base.specs.declared.event.EventAnswer.TheVariants as answered
 use Rattle.vk_base.specs.declared.event.StationEvent.TheVariants as events
 use Rattle.vk_hub.specs.declared.event.HubEvent.{HubEvent}
 use Rattle.vk_hub.specs.declared.event.HubEvent.TheVariants as hub_events
 use Rattle.vk_hub.specs.Hubs.{is_at_limit, others}
-use Rattle.vk_port.specs.declared.port.Collected.TheVariants as collected
-use Rattle.vk_port.specs.declared.port.Pumped.TheVariants as pumped
 use Rattle.vk_port.specs.Ports.{Action, AtHub, AtStation, Delivers, Does, Drops, Enters, HasDelivered, HasHeard as HeardOnce, Hears, IsCutEvent, IsCutPump, IsMet, IsPumping, IsRefused, Met, PortValue}
 use Rattle.vk_port.specs.Stations.{StationHistory, brings_last_number, frames_at, is_full, is_used_up}
 use Rattle.vk_rules.specs.Each.{Each}

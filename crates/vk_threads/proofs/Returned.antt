@@ -1,5 +1,5 @@
 -- What seats came back, against the passages that left them.
-use Rattle.std.proofs.Common.{append_assoc, ◌≡◌, ℕ, ◌+◌, ◌==◌, ◌||◌, eqb-true, eq-eqb, Bool, true, false, cond, Option, Some, None, All, List, [], ◌∷◌, ◌++◌, filter, map, refl, sym, ap, ◌∙◌, subst, inl, inr}
+use Rattle.std.proofs.Common.{append_assoc, ◌≡◌, ℕ, ◌==◌, ◌||◌, eqb-true, eq-eqb, Bool, true, false, cond, Option, Some, None, All, List, [], ◌∷◌, ◌++◌, filter, map, refl, sym, ap, ◌∙◌, subst, inl, inr}
 use mathlib.Core.List.{IsPrefix}
 use Rattle.std.specs.List.{list_any}
 use Rattle.std.proofs.lemmas.Bool.{or_parts}

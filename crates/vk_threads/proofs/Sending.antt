@@ -5,8 +5,7 @@ use denote.Param.Send.{IsSend, sendable}
 use Rattle.std.proofs.Crossing.{crosses}
 use Rattle.turn_cell.proofs.cell.TurnCell.TheSendSync.{the_sync as cell_sync}
 use Rattle.turn_cell.proofs.seat.TurnSeat.TheSendSync.{the_send as seat_send}
-use Rattle.vk_hub.proofs.hub.Hub.TheSendSync.{the_sync as hub_sync}
-use Rattle.vk_hub.proofs.state.HubState.TheSendSync.{the_send as hub_state_send}
+use Rattle.vk_hub.proofs.Crossing.{hub_state_send, hub_sync}
 use Rattle.vk_port.proofs.station_out.StationOut.TheSendSync.{the_send as station_out_send}
 use Rattle.vk_port.proofs.Crossing.{station_send}
 use Rattle.vk_port.specs.contracts.port.Port as port_row

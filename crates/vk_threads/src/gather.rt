@@ -10,7 +10,7 @@ use std::alloc::Global;
 use turn_cell::{Room, TurnSeat};
 use vk_base::NoMemory;
 use vk_hub::{Hub, HubState};
-use vk_join::StationLog;
+use vk_join::BriefLog;
 use vk_port::Station;
 
 /// All seats that came back, in order.
@@ -96,7 +96,7 @@ fn parted(
 }
 
 /// The log of a station, all of whose seats have come back.
-fn shut(site: Site, own: Vec<TurnSeat<Station>>) -> StationLog
+fn shut(site: Site, own: Vec<TurnSeat<Station>>) -> BriefLog
     requires seats { All (λ s. IsSeatOf site.cell s) own.items }
     requires all { vec_len own ≡ site.cell.seats }
     ensures { HasShut site own.items result }
@@ -104,10 +104,7 @@ fn shut(site: Site, own: Vec<TurnSeat<Station>>) -> StationLog
     let Site { host, cell } = site;
     let station = cell.close(own);
     let _count = station.event_count();
-    StationLog {
-        host,
-        events: station.into_events(),
-    }
+    BriefLog::new(host, station.into_events())
 }
 
 /// The logs of all stations, whose seats have come back.
@@ -115,7 +112,7 @@ pub fn close_all(
     alloc: Global,
     sites: Vec<Site>,
     seats: Vec<Spare>,
-) -> Result<Vec<StationLog>, NoMemory>
+) -> Result<Vec<BriefLog>, NoMemory>
     requires { AreReady sites.items seats.items }
     ensures { IfOk result (λ logs. AreShut sites.items seats.items logs.items) }
 {
@@ -136,7 +133,7 @@ pub fn close_run(
     hub: Hub,
     ends: Vec<End>,
     halt: TurnSeat<HubState>,
-) -> Result<Vec<StationLog>, NoMemory>
+) -> Result<Vec<BriefLog>, NoMemory>
     requires ready { AreReady sites.items (all_spares ends.items) }
     requires seats { All (λ s. IsSeatOf hub s) (with_halt ends.items halt) }
     requires all { length (with_halt ends.items halt) ≡ hub.seats }

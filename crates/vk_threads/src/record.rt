@@ -13,13 +13,12 @@ use turn_cell::TurnSeat;
 use v_run::{closed_runs_are_joined, joined_runs_are_runs};
 use vk_base::{Config, NoMemory};
 use vk_hub::{Hub, HubState};
-use vk_join::merge_stations;
-use vk_schedule::Schedule;
+use vk_join::{JoinedSchedule, merge_stations};
 
 /// What a run was, as a schedule.
 #[derive(Drop)]
 pub struct RunRecord {
-    pub schedule: Schedule,
+    pub schedule: JoinedSchedule,
     /// It was halted where a history could not grow any more.
     pub limited: bool,
 }
@@ -60,7 +59,7 @@ pub fn record_of(
     let Ok(logs) = close_run(alloc, sites, hub, ends, halt) else {
         return Err(RunRefusal::NoMemory);
     };
-    match merge_stations(alloc, &config, &logs) {
+    match merge_stations(alloc, &config, logs) {
         Ok(schedule) => Ok(RunRecord { schedule, limited }),
         Err(NoMemory) => Err(RunRefusal::NoMemory),
     }

@@ -23,17 +23,17 @@ use std::time::Clock;
 use vk_edge::read_text;
 use vk_event::{Scenario, read_scenario};
 use vk_io::{Crew, Pacer, Sink, Source};
-use vk_schedule::{Schedule, write_schedule};
+use vk_join::JoinedSchedule;
 use vk_threads::{RunRecord, RunRefusal, run_programs};
 
 /// The text of the schedule that a run gave, and the answer then.
-fn written(alloc: Global, schedule: &Schedule, limited: bool) -> Result<Work, Status>
+fn written(alloc: Global, schedule: &JoinedSchedule, limited: bool) -> Result<Work, Status>
     requires { IsLawful schedule.now }
     ensures work { IfOk result (λ w. (w.text.items ≡ schedule_text schedule.now) × (w.status ≡ ended limited)) }
     ensures read { OnOk result (schedule_of (schedule_text schedule.now) ≡ Ok schedule.now) }
     ensures refused { IfErr result (λ s. s ≡ Status.NoMemory) }
 {
-    let text = write_schedule(alloc, schedule)?;
+    let text = schedule.write(alloc)?;
     Ok(Work {
         text,
         status: ended(limited),

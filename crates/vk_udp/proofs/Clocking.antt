@@ -2,7 +2,6 @@
 use Rattle.std.proofs.Common.{◌≡◌, ℕ, ◌+◌, ◌≤◌, inr, true, false, Some, None, List, [], ◌∷◌, ◌++◌, length, refl, ◌∙◌, subst, arith}
 use Rattle.vk_types.specs.Types.{EventAnswer}
 use Rattle.turn_cell.specs.declared.replay.Room.{Room}
-use Rattle.turn_cell.specs.declared.replay.Room.TheVariants as rooms
 use Rattle.vk_base.specs.declared.event.StationEvent.TheVariants as events
 use Rattle.vk_port.specs.Ports.{Action, Delivers, Does, Enters, HasDelivered, HasHeard as HeardOnce, HasMade, Hears, IsCutEvent, IsCutPump, IsMet, IsRefused, PortValue}
 use Rattle.vk_port.specs.Stations.{frames_at}

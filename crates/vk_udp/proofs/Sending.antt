@@ -5,13 +5,10 @@ use denote.Param.Send.{IsSend, sendable}
 use denote.Param.SendFields.{variants_send}
 use Rattle.std.proofs.Crossing.{crosses}
 use Rattle.turn_cell.proofs.seat.TurnSeat.TheSendSync.{the_send as seat_send}
-use Rattle.vk_hub.proofs.hub.Hub.TheSendSync.{the_sync as hub_sync}
-use Rattle.vk_hub.proofs.state.HubState.TheSendSync.{the_send as hub_state_send}
+use Rattle.vk_hub.proofs.Crossing.{hub_state_send, hub_sync}
 use Rattle.vk_port.proofs.Crossing.{station_send}
-use Rattle.vk_port.specs.contracts.port.Port as port_row
 use Rattle.vk_program.specs.declared.program.Program.{Ghosts}
 use Rattle.vk_threads.specs.contracts.end.Seats as seats_row
-use Rattle.vk_threads.specs.contracts.process.ProcessWork as process_row
 use Rattle.vk_threads.proofs.Sending.{end_send, port_send, process_send}
 use Rattle.vk_udp.specs.contracts.carrier.Carrier as carrier_row
 use Rattle.vk_udp.specs.contracts.clock.NodeClock as clock_row

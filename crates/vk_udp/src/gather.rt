@@ -16,7 +16,7 @@ use std::alloc::Global;
 use turn_cell::{TurnCell, TurnSeat};
 use vk_base::{FrameBytes, NoMemory, StationEvent};
 use vk_hub::{Hub, HubState};
-use vk_join::StationLog;
+use vk_join::{BriefLog, StationLog};
 use vk_port::Station;
 use vk_threads::{End, Gathered, Site, close_all, gather_all};
 
@@ -67,7 +67,7 @@ pub fn own_ends<L: Link>(alloc: Global, ends: Vec<NodeEnd<L>>) -> Result<Vec<End
 }
 
 /// The one log.
-fn one_log(logs: Vec<StationLog>) -> StationLog
+fn one_log(logs: Vec<BriefLog>) -> BriefLog
     requires { (log : TheLog) × (logs.items ≡ log ∷ []) }
     ensures { logs.items ≡ result ∷ [] }
 {
@@ -110,7 +110,8 @@ pub fn close_node(
     let _closed = hub.close(hub_seats);
     let sites = one_site(alloc, host, cell)?;
     let logs = close_all(alloc, sites, seats)?;
-    Ok(one_log(logs))
+    let log = one_log(logs);
+    log.whole(alloc)
 }
 
 /// No frame has more than 1,152 bytes. Changes nothing.

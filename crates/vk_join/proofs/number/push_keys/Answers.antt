@@ -1,5 +1,5 @@
-use Rattle.std.proofs.Common.{◌+◌, length, sym, ap, subst, ◌∙◌, arith}
-use Rattle.std.specs.Prelude.{slice_get}
+use Rattle.std.proofs.Common.{◌+◌, sym, subst, arith}
+use Rattle.vk_log.specs.Logs.{event_of as event_seen}
 use Rattle.vk_join.proofs.Keyed.{AreCounted, counted_next, counted_start, counted_whole}
 use Rattle.vk_join.proofs.Takes.{found_from}
 use Rattle.vk_join.proofs.number.push_keys.Goals as goal
@@ -12,15 +12,10 @@ loop-at-preserved c =
     let logs = c.args.logs.now in
     let log = c.args.log in
     let entry = c.index-logs-log.result in
-    let events = c.as_slice.result.now in
     let at = c.loop-at.at in
-    let e = c.index-as_slice-at.result in
     let found = found_from logs log entry c.requires.log c.index-logs-log.is in
-    let size = ap length c.as_slice.ensures in
-    let there =
-    ap (λ es. slice_get es at) (sym c.as_slice.ensures) ∙ found_from events at e (omega arith) c.index-as_slice-at.is in
-    let counted = counted_next logs log entry at c.loop-at.number c.loop-at.keys.items e found there c.loop-at.invariant
-    c.number_behind-number.result c.number_behind-number.ensures in
+    let counted = counted_next logs log entry at c.loop-at.number c.loop-at.keys.items (event_seen c.get.result) found c.get.ensures.event
+    c.loop-at.invariant c.number_behind-number.result c.number_behind-number.ensures in
     subst (AreCounted logs log entry (at + 1) c.number_behind-number.result) (sym c.in_ok-push_key.ensures) counted
 
 pub returns : goal.returns

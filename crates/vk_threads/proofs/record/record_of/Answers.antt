@@ -1,9 +1,4 @@
-use Rattle.std.proofs.Common.{rules, ◌≡◌, List, None, sym, subst}
-use Rattle.vk_schedule.specs.declared.log.StationLog.{StationLog}
-use Rattle.vk_join.specs.Joined.{IsJoined}
-use Rattle.vk_join.specs.Laws.{AreGiven}
-use Rattle.vk_join.specs.Logs.{AreLogs}
-use Rattle.vk_join.specs.Stray.{join_refusal}
+use Rattle.std.proofs.Common.{rules}
 use Rattle.vk_threads.proofs.Recorded.{all_ready, asked, hub_all, hub_count, none_refused, ran}
 use Rattle.vk_threads.proofs.record.record_of.Goals as goal
 
@@ -25,28 +20,20 @@ close_run-requires-clause-all c =
 pub merge_stations-requires-clause-asked : goal.merge_stations-requires-clause-asked
 merge_stations-requires-clause-asked c =
     let t = c.requires.ended in
-    subst (AreLogs c.args.config) (sym c.deref-3.ensures.value)
-    (asked c.args.config c.args.sites.items c.args.hub t.0 t.1 c.args.ends.items c.args.halt c.requires.sites t.2
-    c.in-Ok.logs.items c.in-Ok.ensures c.closed_runs_are_joined.ensures.asked c.times-lawful.ensures.lawful)
+    asked c.args.config c.args.sites.items c.args.hub t.0 t.1 c.args.ends.items c.args.halt c.requires.sites t.2
+    c.in-Ok.logs.items c.in-Ok.ensures c.closed_runs_are_joined.ensures.asked c.times-lawful.ensures.lawful
 
 pub merge_stations-requires-clause-none : goal.merge_stations-requires-clause-none
 merge_stations-requires-clause-none c =
     let t = c.requires.ended in
-    let P : List StationLog → Type 0 = λ ls. AreGiven c.args.config ls → join_refusal c.args.config ls ≡ None in
-    subst P (sym c.deref-3.ensures.value)
-    (none_refused c.args.config c.args.sites.items c.args.hub t.0 t.1 c.args.ends.items c.args.halt c.requires.sites t.2
-    c.in-Ok.logs.items c.in-Ok.ensures c.closed_runs_are_joined.ensures.joined)
+    none_refused c.args.config c.args.sites.items c.args.hub t.0 t.1 c.args.ends.items c.args.halt c.requires.sites t.2
+    c.in-Ok.logs.items c.in-Ok.ensures c.closed_runs_are_joined.ensures.joined
 
 pub returns-in-Ok-merge_stations : goal.returns-in-Ok-merge_stations
-returns-in-Ok-merge_stations c =
-    let logs = c.in-Ok.logs.items in
-    let s = c.in-Ok-merge_stations.schedule in
-    let given = subst (AreGiven c.args.config) c.deref-3.ensures.value c.merge_stations.ensures.given in
-    let J : List StationLog → Type 0 = λ ls. IsJoined c.args.config ls s in
-    let joined = subst J c.deref-3.ensures.value c.in-Ok-merge_stations.ensures.joined in
-    record {
-      ran = λ rounds tasks ended.
-          ran c.args.config c.args.sites.items c.args.hub rounds tasks c.args.ends.items c.args.halt c.requires.sites ended
-          logs c.in-Ok.ensures c.joined_runs_are_runs.ensures given s joined c.has_met_full-limited.result (search rules) (search rules);
-      refused = tt;
-    }
+returns-in-Ok-merge_stations c = record {
+  ran = λ rounds tasks ended.
+      ran c.args.config c.args.sites.items c.args.hub rounds tasks c.args.ends.items c.args.halt c.requires.sites ended
+      c.in-Ok.logs.items c.in-Ok.ensures c.joined_runs_are_runs.ensures c.merge_stations.ensures.given c.in-Ok-merge_stations.schedule
+      c.in-Ok-merge_stations.ensures.joined c.has_met_full-limited.result (search rules) (search rules);
+  refused = tt;
+}

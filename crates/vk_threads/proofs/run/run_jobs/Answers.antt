@@ -1,6 +1,6 @@
 use denote.Param.Send.{sendable}
 use Rattle.std.proofs.Crossing.{crosses}
-use Rattle.std.proofs.Common.{arith, ap, ◌∙◌, ◌+◌, ◌-◌, min}
+use Rattle.std.proofs.Common.{arith, ap, ◌∙◌, ◌+◌, min}
 use Rattle.vk_threads.proofs.Sending.{end_send, work_send}
 use Rattle.vk_threads.proofs.WholeRun.{dealt_count}
 use Rattle.vk_threads.proofs.run.run_jobs.Goals as goal

@@ -1,4 +1,5 @@
-use Rattle.std.proofs.Common.{◌≡◌, ◌∙◌, ◌++◌, ◌∷◌, [], List, ap, append_assoc, subst}
+use Rattle.std.proofs.Common.{◌≡◌, ◌∙◌, ◌++◌, ◌∷◌, [], List, ap, append_assoc, subst, sym}
+use Rattle.std.proofs.lemmas.Result.{IfOk-weaker}
 use Rattle.turn_cell.specs.Seats.{Sitting}
 use Rattle.vk_hub.specs.declared.event.HubEvent.{HubEvent}
 use Rattle.vk_hub.specs.Hubs.{HubLog}
@@ -16,11 +17,13 @@ returns c =
     c.in_ok-push-2.ensures.items
     ∙ ap (λ l. l ++ c.args.halt ∷ []) (c.in_ok-push.ensures.items ∙ ap (λ l. l ++ c.args.fetches ∷ []) c.in_ok-seats.ensures.hub_seats)
     ∙ append_assoc (all_hub_seats ends) (c.args.fetches ∷ []) (c.args.halt ∷ []) in
-    record {
+    IfOk-weaker c.whole.result _ _
+    (λ log same. record {
       heard = c.close-closed.result.history;
       back = subst (λ (l : List (Sitting HubLog HubEvent)). HaveComeBack c.args.node.hub.seats l c.close-closed.result.history) seated
           (record { seen = closed.seen; mine = closed.mine; others = closed.others; different = closed.different; numbers = closed.numbers });
-      shut = subst (AreShut (site_of c.args.node.host c.args.node.cell ∷ []) (all_spares ends)) c.one_log.ensures
+      shut = subst (AreShut (site_of c.args.node.host c.args.node.cell ∷ []) (all_spares ends)) (c.one_log-log.ensures ∙ ap (λ l. l ∷ []) (sym same))
           (subst (λ (l : List Spare). AreShut (site_of c.args.node.host c.args.node.cell ∷ []) l c.in_ok-logs.logs.items) c.in_ok-seats.ensures.spares
           (subst (λ (l : List Site). AreShut l c.in_ok-seats.field-0.seats.items c.in_ok-logs.logs.items) c.in_ok-sites.ensures c.in_ok-logs.ensures));
-    }
+    })
+    c.whole.ensures

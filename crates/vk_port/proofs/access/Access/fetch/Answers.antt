@@ -1,6 +1,6 @@
 use Rattle.std.proofs.lemmas.Result.{IfOk-weaker}
 use Rattle.vk_port.proofs.Turning.{fetched_some}
-use Rattle.vk_port.proofs.port.Port.fetch.Goals as goal
+use Rattle.vk_port.proofs.access.Access.fetch.Goals as goal
 
 pub returns-clause-fetched : goal.returns-clause-fetched
 returns-clause-fetched g c =

@@ -1,0 +1,28 @@
+//! What an event has beside its bytes.
+
+use vk_base::Pid;
+use vk_brief::BriefCall;
+
+/// Where bytes stand: from which one on, counted from 0, and how many they are.
+#[derive(Clone, Copy)]
+pub struct Part {
+    pub from: usize,
+    pub count: usize,
+}
+
+/// An event of a station without its bytes: where those of a Store or of a frame stand, is told.
+#[derive(Clone, Copy)]
+pub enum Entry {
+    Call {
+        pid: Pid,
+        call: BriefCall,
+        part: Part,
+    },
+    Collect {
+        pid: Pid,
+    },
+    Tick,
+    Deliver {
+        part: Part,
+    },
+}

@@ -1,0 +1,185 @@
+//! The two seats of a port, and what is done by them.
+
+ghost use Rattle.std.specs.Prelude.{◌≡◌, ◌≢◌, ◌≤◌, [], true, false, IfOk, IfErr, OnOk, Some};
+ghost use Rattle.turn_cell.specs.Seats.{IsComplete, IsSameSeat, IsSeatOf};
+ghost use Rattle.vk_hub.specs.declared.event.HubEvent.TheVariants as hub_events;
+ghost use Rattle.vk_types.specs.Types.{EventAnswer as TheAnswer};
+ghost use Rattle.vk_port.specs.Ports.{AtHub, Does, HasMade, HasPumped, IsCutEvent, IsMet, IsRefused};
+ghost use Rattle.vk_port.specs.Stations.{is_own, is_ready, most_frames};
+ghost use Rattle.vk_port.specs.Turns.{HasFetchedFrame, HasPosted, HasStoppedPosting, is_collect};
+ghost use Rattle.vk_port.specs.declared.port.Pumped.TheVariants as pumped;
+
+use crate::station::Station;
+use crate::station_out::StationOut;
+use std::alloc::Global;
+use std::marker::Model;
+use std::sync::Wait;
+use turn_cell::{Ready, Room, TurnCell, TurnSeat};
+use vk_base::StationEvent;
+use vk_hub::{Fetched, Hub, HubState};
+
+/// A seat at a station's cell, and one at the hub.
+#[derive(Drop)]
+pub struct Access<'a> {
+    host: u16,
+    station: &'a TurnCell<Station>,
+    seat: TurnSeat<Station>,
+    hub: &'a Hub,
+    hub_seat: TurnSeat<HubState>,
+    ticks: bool,
+}
+
+impl<'a> Model for Access<'a> {
+    ghost use Rattle.std.specs.Prelude.{◌≡◌};
+    ghost use Rattle.turn_cell.specs.Seats.{IsComplete, IsSeatOf};
+    ghost use Rattle.vk_port.specs.Ports.{PortValue};
+
+    ghost Value = { PortValue };
+
+    ghost view = { λ p. record {
+      host = p.host;
+      station = p.station.now;
+      hub = p.hub.now;
+      seat = p.seat;
+      hub_seat = p.hub_seat;
+      ticks = p.ticks;
+    } };
+
+    ghost invariant = { λ p. (p.station.now.origin.host ≡ p.host) × IsSeatOf p.station.now p.seat × IsSeatOf p.hub.now p.hub_seat
+        × IsComplete p.seat × IsComplete p.hub_seat };
+}
+
+impl<'a> Access<'a> {
+    /// By these two seats.
+    pub fn new(
+        host: u16,
+        station: &'a TurnCell<Station>,
+        seat: TurnSeat<Station>,
+        hub: &'a Hub,
+        hub_seat: TurnSeat<HubState>,
+        ticks: bool,
+    ) -> Access<'a>
+        requires host { station.now.origin.host ≡ host }
+        requires seat { IsSeatOf station.now seat }
+        requires hub_seat { IsSeatOf hub.now hub_seat }
+        requires complete { IsComplete seat }
+        requires hub_complete { IsComplete hub_seat }
+        ensures { result ≡ record {
+          host = host;
+          station = station.now;
+          hub = hub.now;
+          seat = seat;
+          hub_seat = hub_seat;
+          ticks = ticks;
+        } }
+    {
+        Access {
+            host,
+            station,
+            seat,
+            hub,
+            hub_seat,
+            ticks,
+        }
+    }
+
+    /// Hands both seats back.
+    pub fn end(self) -> (TurnSeat<Station>, TurnSeat<HubState>)
+        ensures seat { result.0 ≡ self.entry.seat }
+        ensures hub_seat { result.1 ≡ self.entry.hub_seat }
+        ensures station { IsSeatOf self.entry.station result.0 }
+        ensures hub { IsSeatOf self.entry.hub result.1 }
+        ensures complete { IsComplete result.0 }
+        ensures hub_complete { IsComplete result.1 }
+    {
+        let Access { seat, hub_seat, .. } = self;
+        (seat, hub_seat)
+    }
+
+    /// Fetches once.
+    pub fn fetch<R: Wait>(&mut self, rt: &R, alloc: Global) -> Result<Fetched, Room>
+        ensures fetched { IfOk result (λ f. f ≢ Fetched.Nothing → HasFetchedFrame self.old self.new f) }
+        ensures nothing { IfOk result (λ f. f ≡ Fetched.Nothing → HasPumped self.old self.new pumped.Nothing) }
+        ensures err { IfErr result (λ why. Does self.old self.new [] × IsMet self.new why (AtHub (hub_events.Fetch self.old.host))) }
+    {
+        self.hub.fetch(rt, alloc, &mut self.hub_seat, self.host)
+    }
+
+    /// Enters the event, which is ready at any time, and posts its frames in order. What it gave stands in `out` then.
+    pub fn enter<R: Wait>(
+        &mut self,
+        rt: &R,
+        alloc: Global,
+        event: &StationEvent,
+        out: &mut StationOut,
+    ) -> Result<(), Room>
+        requires own { is_own self.old.station.origin event.now ≡ true }
+        requires no_collect { is_collect event.now ≡ false }
+        requires room { most_frames event.now ≤ out.old.room }
+        ensures room { out.new.room ≡ out.old.room }
+        ensures ticks { self.new.ticks ≡ self.old.ticks }
+        ensures ok { OnOk result ((given : TheAnswer) × (out.new.answer ≡ Some given) × HasMade self.old self.new [] event.now given) }
+        ensures err { IfErr result (λ why. IsRefused self.old self.new why [] (IsCutEvent self.old.station.origin event.now)) }
+    {
+        match self.enter_when_ready(rt, alloc, event, out) {
+            Ok(Ready::Done) => Ok(()),
+            Ok(Ready::NotYet) => unreachable!(),
+            Err(why) => Err(why),
+        }
+    }
+
+    /// The same for an event that may not be ready. Then nothing is entered.
+    pub fn enter_when_ready<R: Wait>(
+        &mut self,
+        rt: &R,
+        alloc: Global,
+        event: &StationEvent,
+        out: &mut StationOut,
+    ) -> Result<Ready, Room>
+        requires own { is_own self.old.station.origin event.now ≡ true }
+        requires room { most_frames event.now ≤ out.old.room }
+        ensures room { out.new.room ≡ out.old.room }
+        ensures ticks { self.new.ticks ≡ self.old.ticks }
+        ensures done { IfOk result (λ r. r ≡ Ready.Done →
+            (given : TheAnswer) × (out.new.answer ≡ Some given) × HasMade self.old self.new [] event.now given) }
+        ensures not_yet { IfOk result (λ r. r ≡ Ready.NotYet → Does self.old self.new []
+            × (is_ready self.old.station.origin self.new.seat.seen event.now ≡ false)) }
+        ensures err { IfErr result (λ why. IsRefused self.old self.new why [] (IsCutEvent self.old.station.origin event.now)) }
+    {
+        match self
+            .station
+            .step_when_ready(rt, alloc, &mut self.seat, event, out)
+        {
+            Ok(Ready::Done) => match post_frames(rt, alloc, self.hub, &mut self.hub_seat, out) {
+                Ok(()) => Ok(Ready::Done),
+                Err(why) => Err(why),
+            },
+            Ok(Ready::NotYet) => Ok(Ready::NotYet),
+            Err(why) => Err(why),
+        }
+    }
+}
+
+/// Posts these frames in order.
+fn post_frames<R: Wait>(
+    rt: &R,
+    alloc: Global,
+    hub: &Hub,
+    seat: &mut TurnSeat<HubState>,
+    out: &StationOut,
+) -> Result<(), Room>
+    requires seat { IsSeatOf hub.now seat.old }
+    requires complete { IsComplete seat.old }
+    ensures same { IsSameSeat seat.old seat.new }
+    ensures complete { IsComplete seat.new }
+    ensures ok { OnOk result (HasPosted seat.old seat.new out.now.frames) }
+    ensures err { IfErr result (HasStoppedPosting seat.old seat.new out.now.frames) }
+{
+    for at in 0..out.frame_count() {
+        match hub.post(rt, alloc, seat, out.frame(at)) {
+            Ok(()) => {}
+            Err(why) => return Err(why),
+        }
+    }
+    Ok(())
+}
