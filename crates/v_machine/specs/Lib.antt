@@ -2,6 +2,7 @@ pub mod Access
 pub mod Apart
 pub mod Apply
 pub mod Follows
+pub mod Groups
 pub mod Handed
 pub mod Initial
 pub mod Kept

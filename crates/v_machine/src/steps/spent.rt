@@ -58,6 +58,7 @@ pub fn give_back(store: &mut Store, alloc: Global, step: &StepView, before: u64)
 }
 
 /// Of the moves from one number up to another of an exchange, the spent ones give their bytes back.
+#[inline(always)]
 fn give_back_of(store: &mut Store, alloc: Global, name: Name, from: u64, to: u64)
     requires kept { IsKept store.old }
     requires order { from ≤ to }

@@ -1,6 +1,6 @@
 //! Groups of processes, so that each process is found among few.
 
-ghost use Rattle.std.specs.Prelude.{◌≡◌, ◌++◌, ◌∷◌, [], OnOk};
+ghost use Rattle.std.specs.Prelude.{◌≡◌, ◌++◌, ◌∷◌, [], OnOk, IfOk};
 ghost use Rattle.v_machine.specs.Places.{found_in};
 
 use crate::tables::same::is_same;
@@ -15,19 +15,27 @@ pub struct Placed {
     pub at: usize,
 }
 
+/// The processes of a group. One alone, as most are, stands in the group itself, and not in a list apart.
+#[derive(Drop)]
+pub enum Grouped {
+    One { placed: Placed },
+    List { items: Vec<Placed> },
+}
+
 /// The processes of one group.
 #[derive(Drop)]
 pub struct Group {
-    items: Vec<Placed>,
+    grouped: Grouped,
 }
 
 impl Model for Group {
     ghost use Rattle.std.specs.Prelude.{List};
     ghost use Rattle.v_machine.specs.declared.tables.groups.Placed.{Placed};
+    ghost use Rattle.v_machine.specs.Groups.{placed_in};
 
     ghost Value = { List Placed };
 
-    ghost view = { λ g. g.items.items };
+    ghost view = { λ g. placed_in g.grouped };
 }
 
 impl Group {
@@ -35,24 +43,59 @@ impl Group {
         ensures { result ≡ [] }
     {
         Group {
-            items: Vec::new(alloc),
+            grouped: Grouped::List {
+                items: Vec::new(alloc),
+            },
         }
     }
 
     /// One more process.
-    pub fn push(&mut self, placed: Placed) -> Result<(), NoMemory>
+    pub fn push(&mut self, alloc: Global, placed: Placed) -> Result<(), NoMemory>
         ensures { OnOk result (self.new ≡ self.old ++ placed ∷ []) }
     {
-        self.items.push(placed)?;
-        Ok(())
+        match &mut self.grouped {
+            Grouped::One { placed: first } => {
+                let items = pair(alloc, *first, placed)?;
+                self.grouped = Grouped::List { items };
+                Ok(())
+            }
+            Grouped::List { items } => {
+                if items.is_empty() {
+                    self.grouped = Grouped::One { placed };
+                    return Ok(());
+                }
+                items.push(placed)?;
+                Ok(())
+            }
+        }
     }
 
     /// The place of a process of the group.
+    #[tactic(auto, unfolding(crate::specs::Places::found_in))]
     pub fn find(&self, pid: Pid) -> Option<usize>
         ensures { result ≡ found_in self.now pid }
     {
-        found_in(&self.items, pid)
+        match &self.grouped {
+            Grouped::One { placed } => {
+                if is_same(placed.pid, pid) {
+                    Some(placed.at)
+                } else {
+                    None
+                }
+            }
+            Grouped::List { items } => found_in(items, pid),
+        }
     }
+}
+
+/// A list of two.
+fn pair(alloc: Global, first: Placed, second: Placed) -> Result<Vec<Placed>, NoMemory>
+    ensures { IfOk result (λ v. v.items ≡ first ∷ second ∷ []) }
+{
+    let mut items = Vec::new(alloc);
+    items.push(first)?;
+    items.push(second)?;
+    Ok(items)
 }
 
 #[tactic(auto, unfolding(crate::specs::Places::found_in))]

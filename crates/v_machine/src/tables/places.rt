@@ -41,7 +41,7 @@ impl Places {
         let mut pids = Vec::new(alloc);
         let mut groups = no_groups(alloc)?;
         for spec in specs {
-            add(&mut groups, spec.pid, pids.len())?;
+            add(&mut groups, alloc, spec.pid, pids.len())?;
             pids.push(spec.pid)?;
         }
         Ok(Places { pids, groups })
@@ -82,11 +82,11 @@ fn no_groups(alloc: Global) -> Result<Vec<Group>, NoMemory>
 }
 
 /// One more process, which has this place.
-fn add(groups: &mut Vec<Group>, pid: Pid, at: usize) -> Result<(), NoMemory>
+fn add(groups: &mut Vec<Group>, alloc: Global, pid: Pid, at: usize) -> Result<(), NoMemory>
     requires { length groups.old.items ≡ GROUPS }
     ensures count { length groups.new.items ≡ GROUPS }
     ensures grouped { OnOk result ((pids : List ThePid) → length pids ≡ at → AreGrouped pids groups.old.items →
         AreGrouped (pids ++ pid ∷ []) groups.new.items) }
 {
-    groups[group_of(pid)].push(Placed { pid, at })
+    groups[group_of(pid)].push(alloc, Placed { pid, at })
 }
