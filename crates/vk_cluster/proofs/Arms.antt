@@ -220,13 +220,13 @@ missed_step old new to e few process happens is c es st =
       stands = next_stands c es old next e (Missing to) st missed st.stands same refl refl few own;
     })
 
-pub missing_step : (old new : ClusterValue) (to : ℕ) (e : Event) (a : Advance) → old.events < EVENTS → IsOfProcess old.config.specs e →
-    ((c : Settings) (es : List Event) → StandsFor c es old → happened c (logs_of c es) e ≡ Missing to) →
-    a ≡ advances.Missing to → new ≡ record old { events = old.events + 1 } → IsAdvance old new e a
-missing_step old new to e a few process happens told is = record {
-  report = step_report (Missing to);
-  told = subst (λ x. TellsReport new x (step_report (Missing to))) (sym told) refl;
-  step = missed_step old new to e few process happens is;
+pub missing_step : (old new : ClusterValue) (e : Event) → old.events < EVENTS → IsOfProcess old.config.specs e →
+    ((c : Settings) (es : List Event) → StandsFor c es old → happened c (logs_of c es) e ≡ Missing (station_of e)) →
+    new ≡ record old { events = old.events + 1 } → IsAdvance old new e (advances.Missing (station_of e))
+missing_step old new e few process happens is = record {
+  report = step_report (Missing (station_of e));
+  told = refl;
+  step = missed_step old new (station_of e) e few process happens is;
 }
 
 -- What happens at a station with this number.

@@ -1,5 +1,5 @@
 -- When a cluster stands for the events so far, and what a step does.
-use Rattle.std.specs.Prelude.{ℕ, Bool, true, false, ◌≡◌, ◌+◌, ◌≤◌, List, [], ◌∷◌, ◌++◌, length, map, slice_get, sum_by, Some}
+use Rattle.std.specs.Prelude.{ℕ, Bool, true, false, ◌≡◌, ◌+◌, ◌≤◌, List, [], ◌∷◌, ◌++◌, length, map, slice_get, sum_by, Option, Some, None}
 use Rattle.vk_types.specs.Types.{ProcessSpec}
 use Rattle.vk_base.specs.declared.limits.TheConstants.{EVENTS}
 use Rattle.vk_base.specs.Pids.{IsPid}
@@ -107,6 +107,11 @@ report_by s given = record { host = s.host; event = s.events; answer = answers.E
 abbrev pub TellsReport : ClusterValue → Advance → StepReport → Type 0
 TellsReport k (advances.Missing host) r = r ≡ step_report (Missing host)
 TellsReport k (advances.Event place given) r = (s : StationValue) × (slice_get k.hosts place ≡ Some s) × (r ≡ report_by s given)
+
+-- what is told of an event of the station of this host: the station in this place had it and answers so, or there was nothing to deliver
+abbrev pub advanced : ℕ → Response → Option ℕ → Advance
+advanced host given (Some place) = advances.Event place given
+advanced host given None = advances.Missing host
 
 -- a step, of which so is told
 pub record IsAdvance (old new : ClusterValue) (e : Event) (a : Advance) : Type 0 where

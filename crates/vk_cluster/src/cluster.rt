@@ -18,7 +18,7 @@ ghost use Rattle.vk_cluster.specs.Blocks.{named_by};
 ghost use Rattle.vk_cluster.specs.Events.{ComesWith, FindsNone, input_with, is_own};
 ghost use Rattle.vk_cluster.specs.Found.{bytes_for, is_addressed, opens_for};
 ghost use Rattle.vk_cluster.specs.Piles.{AreFrames, HasFrameRoom, IsAdded, IsPileKept, frames_by_event, pile_of};
-ghost use Rattle.vk_cluster.specs.Standing.{AreHosts, IsAdvance, IsEventFinished, IsStep, ShowsNewest, StandsFor, StandsSomewhere, TellsReport, is_limit, logs_of};
+ghost use Rattle.vk_cluster.specs.Standing.{AreHosts, IsAdvance, IsEventFinished, IsStep, ShowsNewest, StandsFor, StandsSomewhere, TellsReport, advanced, is_limit, logs_of};
 ghost use Rattle.vk_cluster.specs.Clusters.{cluster_of};
 ghost use Rattle.vk_cluster.specs.Values.{is_full};
 
@@ -91,8 +91,7 @@ impl Cluster {
         Ok(self.report(advance))
     }
 
-    /// The same, with what it reports in few bytes. It is put into its caller, so that neither the event's view nor what is
-    /// reported is moved.
+    /// The same, with what it reports in few bytes.
     ///
     /// # Errors
     ///
@@ -105,7 +104,36 @@ impl Cluster {
         ensures cause { IfErr result (λ e. is_full self.old ≡ is_limit e) }
         ensures same { OnErr result (self.new ≡ self.old) }
     {
-        self.parts.advance(alloc, event)
+        let mut response = Response::Begun;
+        match self.advance_with(alloc, event, &mut response) {
+            Ok(Some(place)) => Ok(Advance::Event { place, response }),
+            Ok(None) => Ok(Advance::Missing {
+                host: acting(event),
+            }),
+            Err(refusal) => Err(refusal),
+        }
+    }
+
+    /// The same: gives the place of the station that had the event, whose answer stands in `response` then, or none where there was nothing
+    /// to deliver. It is put into its caller, so that neither the event's view nor the answer is moved.
+    ///
+    /// # Errors
+    ///
+    /// Those of [`Cluster::step`].
+    #[inline(always)]
+    pub fn advance_with(
+        &mut self,
+        alloc: Global,
+        event: &EventView,
+        response: &mut Response,
+    ) -> Result<Option<usize>, ClusterRefusal>
+        requires actors { has_actors self.old.config.specs event.now ≡ true }
+        ensures step { IfOk result (λ place. IsAdvance self.old self.new event.now (advanced (station_of event.now) response.new place)) }
+        ensures room { IfOk result (λ _. is_full self.old ≡ false) }
+        ensures cause { IfErr result (λ e. is_full self.old ≡ is_limit e) }
+        ensures same { OnErr result (self.new ≡ self.old) }
+    {
+        self.parts.advance(alloc, event, response)
     }
 
     /// The report that this stands for, before the next event.
@@ -167,10 +195,16 @@ pub struct ClusterParts {
 impl ClusterParts {
     /// One event, or why there is none. Memory is taken before the station acts.
     #[inline(always)]
-    fn advance(&mut self, alloc: Global, event: &EventView) -> Result<Advance, ClusterRefusal>
+    fn advance(
+        &mut self,
+        alloc: Global,
+        event: &EventView,
+        response: &mut Response,
+    ) -> Result<Option<usize>, ClusterRefusal>
         requires somewhere { StandsSomewhere (cluster_of self.old) }
         requires actors { has_actors self.old.config.specs event.now ≡ true }
-        ensures step { IfOk result (IsAdvance (cluster_of self.old) (cluster_of self.new) event.now) }
+        ensures step { IfOk result (λ place. IsAdvance (cluster_of self.old) (cluster_of self.new) event.now
+            (advanced (station_of event.now) response.new place)) }
         ensures room { IfOk result (λ _. is_full (cluster_of self.old) ≡ false) }
         ensures cause { IfErr result (λ e. is_full (cluster_of self.old) ≡ is_limit e) }
         ensures same { OnErr result (cluster_of self.new ≡ cluster_of self.old) }
@@ -181,27 +215,30 @@ impl ClusterParts {
         let place = place_of(&self.config, acting(event));
         self.emitted
             .make_room(alloc, place, EVENT_BYTES, TICK_PACKETS as usize)?;
-        Ok(self.play(place, event))
+        Ok(self.play(place, event, response))
     }
 
     /// The event at the station of this place, for which there is room.
     #[inline(always)]
-    fn play(&mut self, place: usize, event: &EventView) -> Advance
+    fn play(&mut self, place: usize, event: &EventView, response: &mut Response) -> Option<usize>
         requires somewhere { StandsSomewhere (cluster_of self.old) }
         requires few { self.old.events < EVENTS }
         requires actors { has_actors self.old.config.specs event.now ≡ true }
         requires place { slice_get (stations_of self.old.config.specs) place ≡ Some (station_of event.now) }
         requires room { HasFrameRoom self.old.emitted place EVENT_BYTES TICK_PACKETS }
-        ensures { IsAdvance (cluster_of self.old) (cluster_of self.new) event.now result }
+        ensures { IsAdvance (cluster_of self.old) (cluster_of self.new) event.now (advanced (station_of event.now) response.new result) }
     {
         frames_unseal_again();
         match frame_with(&self.config, &self.emitted, event) {
             Some(frame) => {
-                let response = respond(&mut self.hosts[place], event, frame);
+                *response = respond(&mut self.hosts[place], event, frame);
                 self.finish(place);
-                Advance::Event { place, response }
+                Some(place)
             }
-            None => self.missing(acting(event)),
+            None => {
+                self.missing();
+                None
+            }
         }
     }
 
@@ -222,14 +259,12 @@ impl ClusterParts {
         self.events += 1;
     }
 
-    /// There is nothing to deliver to this station.
-    fn missing(&mut self, to: u16) -> Advance
+    /// There is nothing to deliver. The event is counted.
+    fn missing(&mut self)
         requires { self.old.events < EVENTS }
-        ensures advance { result ≡ Advance.Missing to }
-        ensures value { cluster_of self.new ≡ record (cluster_of self.old) { events = self.old.events + 1 } }
+        ensures { cluster_of self.new ≡ record (cluster_of self.old) { events = self.old.events + 1 } }
     {
         self.events += 1;
-        Advance::Missing { host: to }
     }
 }
 
@@ -358,7 +393,7 @@ fn is_full(events: usize, size: usize) -> bool
 }
 
 /// The station that acts.
-fn acting(event: &EventView) -> u16
+pub fn acting(event: &EventView) -> u16
     ensures { result ≡ station_of event.now }
 {
     let (kind, _) = event.parts();

@@ -15,7 +15,7 @@ mod frames;
 mod law;
 mod report;
 
-pub use cluster::{Cluster, handed_over, keep, new_hosts, pids_are, place_of};
+pub use cluster::{Cluster, acting, handed_over, keep, new_hosts, pids_are, place_of};
 pub use emitted::EmittedFrames;
 pub use frames::MOST_BYTES;
 pub use law::clusters_run;

@@ -6,7 +6,7 @@ ghost use Rattle.vk_schedule.specs.declared.event.Event.{Event as TheEvent};
 ghost use Rattle.vk_schedule.specs.Lawful.{IsLawful, has_actors};
 ghost use Rattle.vk_schedule.specs.Schedule.{schedule_of};
 ghost use Rattle.vk_schedule.specs.Spelling.{event_text};
-ghost use Rattle.vk_cluster.specs.Standing.{StandsFor, StandsSomewhere, logs_of};
+ghost use Rattle.vk_cluster.specs.Standing.{StandsFor, StandsSomewhere, advanced, logs_of};
 ghost use Rattle.vk_cluster.specs.Values.{is_full};
 ghost use Rattle.vk_host.specs.Responses.{answer_of};
 ghost use Rattle.vk_report.specs.Histories.{frames_from, told_lines};
@@ -25,7 +25,7 @@ ghost use Rattle.vk_top.specs.declared.words.Asked.TheVariants as asked;
 use crate::emitted::emitted_of;
 use std::alloc::Global;
 use vk_base::NoMemory;
-use vk_cluster::{Advance, Cluster, ClusterRefusal};
+use vk_cluster::{Cluster, ClusterRefusal, acting};
 use vk_host::{Host, Response};
 use vk_report::{
     AnswerView, Counts, EventPlace, Form, ToldSteps, put_end, put_frame, put_missing, put_opening,
@@ -48,6 +48,22 @@ pub(crate) struct Written {
 struct Manner<'a> {
     form: Form,
     line: Option<&'a [u8]>,
+}
+
+/// Room for one event, and for what it was answered.
+#[derive(Drop)]
+struct Turn {
+    event: EventBuffer,
+    response: Response,
+}
+
+/// What the cluster reports of its last event, of the station of this host: the place of the station that had it, with its answer; or none,
+/// where there was nothing to deliver.
+#[derive(Clone, Copy)]
+struct Told<'a> {
+    host: u16,
+    place: Option<usize>,
+    response: &'a Response,
 }
 
 /// The line of an event that is a call or a collect, whose own step is spelled so.
@@ -134,19 +150,20 @@ fn put_report(
     text: &mut Text,
     manner: Manner,
     counts: &mut Counts,
-    advance: Advance,
+    told: Told,
 ) -> Result<(), NoMemory>
     requires few { AreFew counts.old }
-    requires advanced { (c : Settings) × (es : List TheEvent) × (e : TheEvent) × HasAdvanced c es cluster.now e advance
+    requires advanced { (c : Settings) × (es : List TheEvent) × (e : TheEvent) × HasAdvanced c es cluster.now e (advanced told.host told.response.now told.place)
         × IfSome manner.line (λ line. IsOwnLine line.now e) }
-    ensures { OnOk result ((c : Settings) (es : List TheEvent) (e : TheEvent) → HasAdvanced c es cluster.now e advance →
+    ensures { OnOk result ((c : Settings) (es : List TheEvent) (e : TheEvent) →
+        HasAdvanced c es cluster.now e (advanced told.entry.host told.entry.response.now told.entry.place) →
         IsReported manner.entry.form counts.old counts.new (shown text.old) (shown text.new) (happened c (logs_of c es) e)) }
 {
     let number = counts.events + 1;
     counts.events = number;
-    match advance {
-        Advance::Missing { host } => put_missing(text, manner.form, number, host),
-        Advance::Event { place, response } => {
+    match told.place {
+        None => put_missing(text, manner.form, number, told.host),
+        Some(place) => {
             let station = cluster.station(place);
             counts.steps += station.steps().len() as u64;
             counts.frames += u64::from(station.frame_count());
@@ -155,7 +172,7 @@ fn put_report(
                 host: station.host(),
                 own: station.events(),
             };
-            put_told(alloc, station, text, manner, place, &response)
+            put_told(alloc, station, text, manner, place, told.response)
         }
     }
 }
@@ -191,16 +208,17 @@ fn put_played(
     text: &mut Text,
     manner: Manner,
     counts: &mut Counts,
-    advance: Advance,
+    told: Told,
 ) -> Result<(), NoMemory>
     requires few { AreFew counts.old }
-    requires advanced { (c : Settings) × (es : List TheEvent) × (e : TheEvent) × HasAdvanced c es cluster.now e advance
+    requires advanced { (c : Settings) × (es : List TheEvent) × (e : TheEvent) × HasAdvanced c es cluster.now e (advanced told.host told.response.now told.place)
         × IfSome manner.line (λ line. IsOwnLine line.now e) }
-    ensures lines { OnOk result ((c : Settings) (es : List TheEvent) (e : TheEvent) → HasAdvanced c es cluster.now e advance →
+    ensures lines { OnOk result ((c : Settings) (es : List TheEvent) (e : TheEvent) →
+        HasAdvanced c es cluster.now e (advanced told.entry.host told.entry.response.now told.entry.place) →
         IsReported manner.entry.form counts.old counts.new (shown text.old) (shown text.new) (happened c (logs_of c es) e)) }
     ensures end { OnOk result (CanEnd text.new) }
 {
-    put_report(alloc, cluster, text, manner, counts, advance)?;
+    put_report(alloc, cluster, text, manner, counts, told)?;
     keep_room(text)
 }
 
@@ -211,24 +229,32 @@ fn put_event(
     text: &mut Text,
     manner: Manner,
     counts: &mut Counts,
-    event: &EventBuffer,
+    turn: &mut Turn,
 ) -> Result<(), ClusterRefusal>
     requires few { AreFew counts.old }
-    requires line { IfSome manner.line (λ line. IsOwnLine line.now event.now) }
+    requires line { IfSome manner.line (λ line. IsOwnLine line.now turn.old.event) }
     requires somewhere { StandsSomewhere cluster.old }
-    requires actors { has_actors cluster.old.config.specs event.now ≡ true }
+    requires actors { has_actors cluster.old.config.specs turn.old.event ≡ true }
     ensures had { OnOk result ((c : Settings) (es : List TheEvent) → StandsFor c es cluster.old →
-        IsHad manner.entry.form c es event.now counts.old counts.new (shown text.old) (shown text.new) cluster.new) }
+        IsHad manner.entry.form c es turn.old.event counts.old counts.new (shown text.old) (shown text.new) cluster.new) }
     ensures room { OnOk result (is_full cluster.old ≡ false) }
     ensures end { OnOk result (CanEnd text.new) }
     ensures refused { result ≡ Err ClusterRefusal.Limit → (is_full cluster.old ≡ true) × (text.new ≡ text.old) }
     ensures memory { result ≡ Err ClusterRefusal.NoMemory → is_full cluster.old ≡ false }
 {
-    match cluster.advance(alloc, &event.view()) {
-        Ok(advance) => match put_played(alloc, cluster, text, manner, counts, advance) {
-            Ok(()) => Ok(()),
-            Err(NoMemory) => Err(ClusterRefusal::NoMemory),
-        },
+    let event = turn.event.view();
+    match cluster.advance_with(alloc, &event, &mut turn.response) {
+        Ok(place) => {
+            let told = Told {
+                host: acting(&event),
+                place,
+                response: &turn.response,
+            };
+            match put_played(alloc, cluster, text, manner, counts, told) {
+                Ok(()) => Ok(()),
+                Err(NoMemory) => Err(ClusterRefusal::NoMemory),
+            }
+        }
         Err(refusal) => Err(refusal),
     }
 }
@@ -257,16 +283,19 @@ fn put_events(
         steps: 0,
         frames: 0,
     };
-    let mut event = EventBuffer::new();
-    while let Some(line) = reader.next_with_line(&mut event) {
-        let line = own_line(&event, line);
+    let mut turn = Turn {
+        event: EventBuffer::new(),
+        response: Response::Begun,
+    };
+    while let Some(line) = reader.next_with_line(&mut turn.event) {
+        let line = own_line(&turn.event, line);
         match put_event(
             alloc,
             cluster,
             text,
             Manner { form, line },
             &mut counts,
-            &event,
+            &mut turn,
         ) {
             Ok(()) => {}
             Err(ClusterRefusal::Limit) => return Ok(true),

@@ -6,7 +6,8 @@ use Rattle.vk_base.specs.Settings.{has_station}
 use Rattle.vk_cluster.specs.declared.emitted.TheConstants.{LAST_BYTES}
 use Rattle.vk_cluster.specs.Clusters.{cluster_of}
 use Rattle.vk_cluster.specs.Piles.{items_of}
-use Rattle.vk_cluster.specs.Standing.{IsAdvance, StandsSomewhere}
+use Rattle.vk_rules.specs.Laws.{station_of}
+use Rattle.vk_cluster.specs.Standing.{IsAdvance, StandsSomewhere, advanced}
 use Rattle.vk_cluster.specs.Values.{ClusterValue}
 use Rattle.vk_cluster.proofs.Arms.{events_low}
 use Rattle.vk_cluster.proofs.Taking.{actor_station, few_bytes, few_events, same_pile, same_value}
@@ -77,7 +78,8 @@ returns c =
     let same =
     same_value old e (same_pile old.emitted e c.in_ok-make_room.ensures.frames c.in_ok-make_room.ensures.events) in
     record {
-      step = subst (λ (v : ClusterValue). IsAdvance v (cluster_of c.play.new.self) c.args.event.now c.play.result) same c.play.ensures;
+      step = subst (λ (v : ClusterValue). IsAdvance v (cluster_of c.play.new.self) c.args.event.now
+          (advanced (station_of c.args.event.now) c.play.new.response c.play.result)) same c.play.ensures;
       room = ap (λ n. nat_le EVENTS old.events || nat_lt LAST_BYTES n) (sym c.size.ensures) ∙ sym c.is_full.ensures ∙ c.if-is_full.false;
       cause = tt;
       same = tt;

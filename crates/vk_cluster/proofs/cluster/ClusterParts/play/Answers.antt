@@ -1,6 +1,5 @@
-use Rattle.std.proofs.Common.{ap, sym, ◌∙◌, arith}
+use Rattle.std.proofs.Common.{arith}
 use Rattle.std.proofs.lemmas.List.{length-map, length-set}
-use Rattle.vk_rules.specs.Histories.{Missing}
 use Rattle.vk_rules.specs.Laws.{station_of}
 use Rattle.vk_host.specs.Responses.{answer_of}
 use Rattle.vk_cluster.specs.Clusters.{cluster_of}
@@ -18,8 +17,8 @@ index_mut-requires c =
     let low = place_low (cluster_of c.args.self.now) c.requires.somewhere c.args.place (station_of c.args.event.now) c.requires.place in
     omega (arith, c.args.self.now.hosts.ok.0)
 
-pub respond-response-requires : goal.respond-response-requires
-respond-response-requires c =
+pub respond-requires : goal.respond-requires
+respond-requires c =
     let v = cluster_of c.args.self.now in
     let some = c.requires.somewhere in
     let e = c.args.event.now in
@@ -37,13 +36,13 @@ finish-requires c =
     let e = c.args.event.now in
     let s = c.index_mut.result.now in
     let found = found_here v some c.args.place (station_of e) c.requires.place s c.index_mut.ensures.value in
-    let t = c.respond-response.new.host in
+    let t = c.respond.new.host in
     let host = host_is v some c.args.place (station_of e) c.requires.place s found in
     let frame = c.in-Some.frame.now in
     let input = event_input c.frames_unseal_again.ensures v some e frame c.in-Some.ensures s.host host in
     let fit =
-    fit_at v some c.args.place (station_of e) c.requires.place s t (input_with frame e) (answer_of t c.respond-response.result) found input
-    c.respond-response.ensures in
+    fit_at v some c.args.place (station_of e) c.requires.place s t (input_with frame e) (answer_of t c.respond.result) found input
+    c.respond.ensures in
     record {
       count = c.requires.few;
       place =
@@ -65,12 +64,12 @@ returns-in-Some c =
     let e = c.args.event.now in
     let s = c.index_mut.result.now in
     let found = found_here v some c.args.place (station_of e) c.requires.place s c.index_mut.ensures.value in
-    let t = c.respond-response.new.host in
+    let t = c.respond.new.host in
     let host = host_is v some c.args.place (station_of e) c.requires.place s found in
     let frame = c.in-Some.frame.now in
     let input = event_input c.frames_unseal_again.ensures v some e frame c.in-Some.ensures s.host host in
-    station_step v (cluster_of c.finish.new.self) c.args.place s t (input_with frame e) c.respond-response.result e found
-    c.respond-response.ensures input c.requires.few (of_process v.config.specs e c.requires.actors)
+    station_step v (cluster_of c.finish.new.self) c.args.place s t (input_with frame e) c.respond.result e found
+    c.respond.ensures input c.requires.few (of_process v.config.specs e c.requires.actors)
     (event_happens c.frames_unseal_again.ensures v e frame c.in-Some.ensures s.host host)
     (c.finish.ensures t (get_set_same v.hosts c.args.place t s found))
 
@@ -78,7 +77,5 @@ pub returns-in-None : goal.returns-in-None
 returns-in-None c =
     let v = cluster_of c.args.self.now in
     let e = c.args.event.now in
-    missing_step v (cluster_of c.missing.new.self) c.acting.result e c.missing.result c.requires.few
-    (of_process v.config.specs e c.requires.actors)
-    (λ d es st. none_happens c.frames_unseal_again.ensures v e c.in-None.ensures d es st ∙ ap Missing (sym c.acting.ensures))
-    c.missing.ensures.advance c.missing.ensures.value
+    missing_step v (cluster_of c.missing.new.self) e c.requires.few (of_process v.config.specs e c.requires.actors)
+    (λ d es st. none_happens c.frames_unseal_again.ensures v e c.in-None.ensures d es st) c.missing.ensures
