@@ -118,6 +118,10 @@ impl Model for ScheduleWriter {
 impl ScheduleWriter {
     /// What stands before the first event: in format 1 exactly where the times are 5, 4 and 8 and each pool is 16, in format 2 with the pools
     /// that are not 16.
+    ///
+    /// # Errors
+    ///
+    /// [`NoMemory`] where memory is wanting.
     pub fn new(alloc: Global, config: &Config) -> Result<Self, NoMemory>
         ensures { IfOk result (λ w. w ≡ opening_text plain_title timed_title config.now) }
     {
@@ -128,7 +132,11 @@ impl ScheduleWriter {
         })
     }
 
-    /// The line of the next event. Where it is refused, a part of the line may stand there.
+    /// The line of the next event.
+    ///
+    /// # Errors
+    ///
+    /// [`NoMemory`] where memory is wanting: then a part of the line may stand there.
     pub fn put(&mut self, alloc: Global, event: &EventView) -> Result<(), NoMemory>
         ensures { OnOk result (self.new ≡ self.old ++ line_text (event_text event.now)) }
     {
@@ -136,6 +144,10 @@ impl ScheduleWriter {
     }
 
     /// The bytes of the whole.
+    ///
+    /// # Errors
+    ///
+    /// [`NoMemory`] where memory is wanting.
     pub fn into_bytes(self) -> Result<Vec<u8>, NoMemory>
         ensures { IfOk result (λ bytes. bytes.items ≡ self) }
     {
