@@ -11,24 +11,26 @@ use std::alloc::Global;
 use vk_base::{Answer, Message, NoMemory, Outcome, Pid, Refusal};
 use vk_text::{Draft, draft_count, draft_message, draft_pid, put, write_bytes};
 
-fn refusal_word(why: Refusal) -> &'static [u8]
-    ensures word { result.now ≡ refusal_text why }
-    ensures few { length result.now ≤ 11 }
+/// Writes the word of a refusal. Each is of known length, so nothing is called for it.
+fn draft_refusal(into: &mut Draft, why: Refusal)
+    requires { length into.old + 11 ≤ ROOM }
+    ensures text { into.new ≡ into.old ++ refusal_text why }
+    ensures few { length into.new ≤ length into.old + 11 }
 {
     match why {
-        Refusal::NoProcess => b"noprocess",
-        Refusal::TimedOut => b"timedout",
-        Refusal::BadSegment => b"badsegment",
-        Refusal::NotAwaiting => b"notawaiting",
-        Refusal::NoAccess => b"noaccess",
-        Refusal::BadRange => b"badrange",
-        Refusal::TooLong => b"toolong",
-        Refusal::Gone => b"gone",
-        Refusal::NotFound => b"notfound",
-        Refusal::NamesFull => b"namesfull",
-        Refusal::Busy => b"busy",
-        Refusal::NotYet => b"notyet",
-        Refusal::Dead => b"dead",
+        Refusal::NoProcess => into.put(b"noprocess"),
+        Refusal::TimedOut => into.put(b"timedout"),
+        Refusal::BadSegment => into.put(b"badsegment"),
+        Refusal::NotAwaiting => into.put(b"notawaiting"),
+        Refusal::NoAccess => into.put(b"noaccess"),
+        Refusal::BadRange => into.put(b"badrange"),
+        Refusal::TooLong => into.put(b"toolong"),
+        Refusal::Gone => into.put(b"gone"),
+        Refusal::NotFound => into.put(b"notfound"),
+        Refusal::NamesFull => into.put(b"namesfull"),
+        Refusal::Busy => into.put(b"busy"),
+        Refusal::NotYet => into.put(b"notyet"),
+        Refusal::Dead => into.put(b"dead"),
     }
 }
 
@@ -91,7 +93,7 @@ pub fn draft_outcome(into: &mut Draft, outcome: &Outcome)
             count,
         } => draft_received_segment(into, from, message, count),
         Outcome::Found { pid } => draft_found(into, pid),
-        Outcome::Refused { why } => into.copy(refusal_word(why)),
+        Outcome::Refused { why } => draft_refusal(into, why),
     }
 }
 

@@ -231,7 +231,7 @@ impl ClusterParts {
         frames_unseal_again();
         match frame_with(&self.config, &self.emitted, event) {
             Some(frame) => {
-                *response = respond(&mut self.hosts[place], event, frame);
+                respond(&mut self.hosts[place], event, frame, response);
                 self.finish(place);
                 Some(place)
             }
@@ -300,17 +300,17 @@ fn frame_with<'a>(
 
 /// The station has the event, with which this frame comes where it is a delivery.
 #[inline(always)]
-fn respond(host: &mut Host, event: &EventView, frame: &[u8]) -> Response
+fn respond(host: &mut Host, event: &EventView, frame: &[u8], into: &mut Response)
     requires few { host.old.events + 1 < STATION_EVENTS }
     requires own { is_own host.old event.now ≡ true }
-    ensures { IsEvent host.old host.new (input_with frame.now event.now) (answer_of host.new result) }
+    ensures { IsEvent host.old host.new (input_with frame.now event.now) (answer_of host.new into.new) }
 {
     let (kind, call) = event.parts();
     match kind {
-        EventKind::Call { pid } => host.call(pid, call),
-        EventKind::Collect { pid } => host.collect(pid),
-        EventKind::Tick { .. } => host.tick(),
-        EventKind::Deliver { .. } => host.deliver(frame),
+        EventKind::Call { pid } => host.call(pid, call, into),
+        EventKind::Collect { pid } => host.collect(pid, into),
+        EventKind::Tick { .. } => host.tick(into),
+        EventKind::Deliver { .. } => host.deliver(frame, into),
     }
 }
 

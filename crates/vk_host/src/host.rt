@@ -22,7 +22,7 @@ use crate::response::{Response, loaded};
 use crate::{calls, deliveries, ticks};
 use std::alloc::Global;
 use std::marker::Model;
-use vk_base::{Call, Config, EventAnswer, NoMemory, Outcome, Pid, Refusal, StationEvent, Step};
+use vk_base::{Call, Config, EventAnswer, NoMemory, Pid, StationEvent, Step};
 use vk_brief::{BriefCall, CallView, Steps};
 use vk_packet::Outbox;
 
@@ -95,7 +95,7 @@ impl Host {
         loaded(&self.desk.procs, pid, start, count)
     }
 
-    /// The same, whose answer stands in few bytes until the next event.
+    /// The same as [`Host::event`], whose answer stands in few bytes until the next event.
     pub fn respond(&mut self, event: &StationEvent) -> Response
         requires few { self.old.events < most_before event.now }
         requires own { is_own self.old event.now ≡ true }
@@ -103,35 +103,37 @@ impl Host {
         ensures frames { length self.new.frames ≤ most_packets (input_of event.now) }
         ensures steps { length self.new.doing.steps ≤ STEPS }
     {
+        let mut response = Response::Begun;
         match event {
-            StationEvent::Call { pid, call } => self.make(*pid, call),
-            StationEvent::Collect { pid } => self.collect(*pid),
-            StationEvent::Tick => self.tick(),
-            StationEvent::Deliver { frame } => self.deliver(frame.as_slice()),
+            StationEvent::Call { pid, call } => self.make(*pid, call, &mut response),
+            StationEvent::Collect { pid } => self.collect(*pid, &mut response),
+            StationEvent::Tick => self.tick(&mut response),
+            StationEvent::Deliver { frame } => self.deliver(frame.as_slice(), &mut response),
         }
+        response
     }
 
-    fn make(&mut self, pid: Pid, call: &Call) -> Response
+    fn make(&mut self, pid: Pid, call: &Call, into: &mut Response)
         requires few { self.old.events < STATION_EVENTS }
         requires own { has self.old pid ≡ true }
-        ensures event { IsEvent self.old self.new (Called pid call.now) (answer_of self.new result) }
+        ensures event { IsEvent self.old self.new (Called pid call.now) (answer_of self.new into.new) }
         ensures frames { length self.new.frames ≤ most_packets (Called pid call.now) }
         ensures steps { length self.new.doing.steps ≤ STEPS }
     {
         let (call, bytes) = BriefCall::of(call);
-        self.call(pid, &CallView::new(&call, bytes))
+        self.call(pid, &CallView::new(&call, bytes), into);
     }
 
-    /// The event that the process makes the call. Takes no memory.
-    pub fn call(&mut self, pid: Pid, call: &CallView) -> Response
+    /// The event that the process makes the call, whose answer is put there. Takes no memory.
+    pub fn call(&mut self, pid: Pid, call: &CallView, into: &mut Response)
         requires few { self.old.events < STATION_EVENTS }
         requires own { has self.old pid ≡ true }
-        ensures event { IsEvent self.old self.new (Called pid call.now) (answer_of self.new result) }
+        ensures event { IsEvent self.old self.new (Called pid call.now) (answer_of self.new into.new) }
         ensures frames { length self.new.frames ≤ most_packets (Called pid call.now) }
         ensures steps { length self.new.doing.steps ≤ STEPS }
     {
         count(&mut self.events, &mut self.number);
-        let response = calls::call(&mut self.desk, pid, call);
+        calls::call(&mut self.desk, pid, call, into);
         seal(
             &mut self.desk.out,
             self.desk.host,
@@ -140,34 +142,26 @@ impl Host {
             self.events,
         );
         are_few(&self.desk.steps, &self.desk.out);
-        response
     }
 
-    /// The event that the process collects its answer. Takes no memory.
-    pub fn collect(&mut self, pid: Pid) -> Response
+    /// The event that the process collects its answer, which is put there. Takes no memory.
+    pub fn collect(&mut self, pid: Pid, into: &mut Response)
         requires few { self.old.events < STATION_EVENTS }
         requires own { has self.old pid ≡ true }
-        ensures event { IsEvent self.old self.new (Collected pid) (answer_of self.new result) }
+        ensures event { IsEvent self.old self.new (Collected pid) (answer_of self.new into.new) }
         ensures frames { length self.new.frames ≤ most_packets (Collected pid) }
         ensures steps { length self.new.doing.steps ≤ STEPS }
     {
         count(&mut self.events, &mut self.number);
         let outcome = calls::collect(&mut self.desk, pid);
         are_few(&self.desk.steps, &self.desk.out);
-        match outcome {
-            Some(outcome) => Response::Given { outcome },
-            None => Response::Given {
-                outcome: Outcome::Refused {
-                    why: Refusal::NotYet,
-                },
-            },
-        }
+        into.give_collected(outcome);
     }
 
-    /// The event that the station's clock ticks. Takes no memory.
-    pub fn tick(&mut self) -> Response
+    /// The event that the station's clock ticks, whose answer is put there. Takes no memory.
+    pub fn tick(&mut self, into: &mut Response)
         requires few { self.old.events + 1 < STATION_EVENTS }
-        ensures event { IsEvent self.old self.new Ticked (answer_of self.new result) }
+        ensures event { IsEvent self.old self.new Ticked (answer_of self.new into.new) }
         ensures frames { length self.new.frames ≤ most_packets Ticked }
         ensures steps { length self.new.doing.steps ≤ STEPS }
     {
@@ -181,13 +175,13 @@ impl Host {
             self.events,
         );
         are_few(&self.desk.steps, &self.desk.out);
-        Response::Ticked { now }
+        *into = Response::Ticked { now };
     }
 
-    /// The event that these bytes come, a frame or not. Takes no memory.
-    pub fn deliver(&mut self, bytes: &[u8]) -> Response
+    /// The event that these bytes come, a frame or not, whose answer is put there. Takes no memory.
+    pub fn deliver(&mut self, bytes: &[u8], into: &mut Response)
         requires few { self.old.events < STATION_EVENTS }
-        ensures event { IsEvent self.old self.new (Delivered (unsealed_of bytes.now)) (answer_of self.new result) }
+        ensures event { IsEvent self.old self.new (Delivered (unsealed_of bytes.now)) (answer_of self.new into.new) }
         ensures frames { length self.new.frames ≤ most_packets (Delivered (unsealed_of bytes.now)) }
         ensures steps { length self.new.doing.steps ≤ STEPS }
     {
@@ -202,7 +196,7 @@ impl Host {
             self.events,
         );
         are_few(&self.desk.steps, &self.desk.out);
-        judged.response()
+        *into = judged.response();
     }
 
     /// The steps of the last event, in order.

@@ -1,9 +1,8 @@
 //! Schedules that are joined, in few bytes.
 
-ghost use Rattle.std.specs.Prelude.{◌≡◌, ◌+◌, ◌++◌, ◌∷◌, ◌<◌, [], Ok, length, map, vec_capacity, vec_len, IfOk, OnOk};
-ghost use Rattle.vk_join.specs.Merges.{event_of, events_of};
-ghost use Rattle.vk_join.specs.Replays.{event_for, host_for, turn_for};
-ghost use Rattle.vk_log.specs.Logs.{event_of as event_seen};
+ghost use Rattle.std.specs.Prelude.{◌≡◌, Ok, map, IfOk};
+ghost use Rattle.vk_join.specs.Merges.{events_of};
+ghost use Rattle.vk_join.specs.Replays.{turn_for};
 ghost use Rattle.vk_schedule.specs.Lawful.{IsLawful};
 ghost use Rattle.vk_schedule.specs.Schedule.{schedule_of};
 ghost use Rattle.vk_schedule.specs.Spelling.{schedule_text};

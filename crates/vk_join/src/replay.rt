@@ -120,7 +120,7 @@ impl Replay {
         frames_are_spelled_once();
         packets_are_spelled_once();
         let Position { log, at, place } = position;
-        let _answer = self.hosts[place].event(event);
+        let _response = self.hosts[place].respond(event);
         keep_frames(self.alloc, &mut self.emitted, &self.hosts[place], place)?;
         let number = self.hosts[place].number();
         push_key(&mut self.keys, Key { number, log, at })?;

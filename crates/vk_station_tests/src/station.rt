@@ -82,7 +82,10 @@ impl Station {
         let call = read_call(text, at)?;
         if self.host.events() < EVENTS && self.host.has(pid) {
             let (call, bytes) = BriefCall::of(&call);
-            Some(self.host.call(pid, &CallView::new(&call, bytes)))
+            let mut response = Response::Begun;
+            self.host
+                .call(pid, &CallView::new(&call, bytes), &mut response);
+            Some(response)
         } else {
             None
         }
@@ -92,7 +95,9 @@ impl Station {
     #[tactic(auto, using(crate::proofs::Standing::goes_on))]
     fn collect(&mut self, pid: Pid) -> Option<Response> {
         if self.host.events() < EVENTS && self.host.has(pid) {
-            Some(self.host.collect(pid))
+            let mut response = Response::Begun;
+            self.host.collect(pid, &mut response);
+            Some(response)
         } else {
             None
         }
@@ -101,7 +106,9 @@ impl Station {
     #[tactic(auto, using(crate::proofs::Standing::goes_on))]
     fn tick(&mut self) -> Option<Response> {
         if self.host.events() < EVENTS {
-            Some(self.host.tick())
+            let mut response = Response::Begun;
+            self.host.tick(&mut response);
+            Some(response)
         } else {
             None
         }
@@ -110,7 +117,9 @@ impl Station {
     #[tactic(auto, using(crate::proofs::Standing::goes_on))]
     fn deliver(&mut self, frame: &[u8]) -> Option<Response> {
         if self.host.events() < EVENTS {
-            Some(self.host.deliver(frame))
+            let mut response = Response::Begun;
+            self.host.deliver(frame, &mut response);
+            Some(response)
         } else {
             None
         }

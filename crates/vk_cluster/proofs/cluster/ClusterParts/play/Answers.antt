@@ -41,7 +41,7 @@ finish-requires c =
     let frame = c.in-Some.frame.now in
     let input = event_input c.frames_unseal_again.ensures v some e frame c.in-Some.ensures s.host host in
     let fit =
-    fit_at v some c.args.place (station_of e) c.requires.place s t (input_with frame e) (answer_of t c.respond.result) found input
+    fit_at v some c.args.place (station_of e) c.requires.place s t (input_with frame e) (answer_of t c.respond.new.into) found input
     c.respond.ensures in
     record {
       count = c.requires.few;
@@ -68,7 +68,7 @@ returns-in-Some c =
     let host = host_is v some c.args.place (station_of e) c.requires.place s found in
     let frame = c.in-Some.frame.now in
     let input = event_input c.frames_unseal_again.ensures v some e frame c.in-Some.ensures s.host host in
-    station_step v (cluster_of c.finish.new.self) c.args.place s t (input_with frame e) c.respond.result e found
+    station_step v (cluster_of c.finish.new.self) c.args.place s t (input_with frame e) c.respond.new.into e found
     c.respond.ensures input c.requires.few (of_process v.config.specs e c.requires.actors)
     (event_happens c.frames_unseal_again.ensures v e frame c.in-Some.ensures s.host host)
     (c.finish.ensures t (get_set_same v.hosts c.args.place t s found))

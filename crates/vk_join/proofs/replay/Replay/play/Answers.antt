@@ -4,6 +4,7 @@ use Rattle.std.specs.Vec.{with_item}
 use Rattle.std.proofs.lemmas.List.{length-map}
 use Rattle.std.proofs.lemmas.Result.{err_from_is_err_and}
 use Rattle.vk_host.specs.Values.{StationValue}
+use Rattle.vk_host.specs.Responses.{answer_of}
 use Rattle.vk_cluster.specs.declared.emitted.TheConstants.{EVENT_BYTES}
 use Rattle.vk_cluster.specs.declared.frames.TheConstants.{MOST_BYTES}
 use Rattle.vk_cluster.specs.Piles.{AreFrames, IsAdded, items_of, pile_of}
@@ -16,8 +17,8 @@ index_mut-requires c =
     record { frames = c.frames_are_spelled_once.ensures; packets = c.packets_are_spelled_once.ensures.read; next = c.requires } in
     omega (arith, place_low p, c.args.self.now.hosts.ok.0)
 
-pub event-answer-requires : goal.event-answer-requires
-event-answer-requires c =
+pub respond-response-requires : goal.respond-response-requires
+respond-response-requires c =
     let p : IsPlaying c.args.config.now c.args.logs.now c.args.position c.args.entry.now c.args.event.now c.args.self.now =
     record { frames = c.frames_are_spelled_once.ensures; packets = c.packets_are_spelled_once.ensures.read; next = c.requires } in
     let s = c.index_mut.result.now in
@@ -35,7 +36,7 @@ keep_frames-requires c =
     let p : IsPlaying c.args.config.now c.args.logs.now c.args.position c.args.entry.now c.args.event.now c.args.self.now =
     record { frames = c.frames_are_spelled_once.ensures; packets = c.packets_are_spelled_once.ensures.read; next = c.requires } in
     let s = c.index_mut.result.now in
-    let t = c.event-answer.new.self in
+    let t = c.respond-response.new.self in
     let here = found_here p s c.index_mut.ensures.value in
     let same = put_there p s t c.index.result.now here c.index.ensures in
     let bytes = c.requires.played.bytes in
@@ -46,10 +47,10 @@ keep_frames-requires c =
       most = omega arith;
       few =
           subst (λ (v : StationValue). AreFrames v.frames) (sym same)
-          (frames_at p s t c.event-answer.result here c.event-answer.ensures.event);
+          (frames_at p s t (answer_of c.respond-response.new.self c.respond-response.result) here c.respond-response.ensures.event);
       bytes =
           subst (λ (v : StationValue). sum_by length v.frames ≤ EVENT_BYTES) (sym same)
-          (bytes_at p s t c.event-answer.result here c.event-answer.ensures.event);
+          (bytes_at p s t (answer_of c.respond-response.new.self c.respond-response.result) here c.respond-response.ensures.event);
     }
 
 pub returns-in_err-keep_frames-clause-refused : goal.returns-in_err-keep_frames-clause-refused
@@ -57,12 +58,12 @@ returns-in_err-keep_frames-clause-refused c =
     let p : IsPlaying c.args.config.now c.args.logs.now c.args.position c.args.entry.now c.args.event.now c.args.self.now =
     record { frames = c.frames_are_spelled_once.ensures; packets = c.packets_are_spelled_once.ensures.read; next = c.requires } in
     let s = c.index_mut.result.now in
-    let t = c.event-answer.new.self in
+    let t = c.respond-response.new.self in
     let here = found_here p s c.index_mut.ensures.value in
     let u = c.index.result.now in
     let left = err_from_is_err_and c.from_residual.result c.from_residual.ensures.1 in
     rw (left.1, left.2)
-    (over_at p s t u c.event-answer.result here c.event-answer.ensures.event (put_there p s t u here c.index.ensures)
+    (over_at p s t u (answer_of c.respond-response.new.self c.respond-response.result) here c.respond-response.ensures.event (put_there p s t u here c.index.ensures)
     c.in_err-keep_frames.ensures.refused)
 
 pub index-requires-2 : goal.index-requires-2
@@ -76,15 +77,15 @@ returns-clause-played c =
     let p : IsPlaying c.args.config.now c.args.logs.now c.args.position c.args.entry.now c.args.event.now c.args.self.now =
     record { frames = c.frames_are_spelled_once.ensures; packets = c.packets_are_spelled_once.ensures.read; next = c.requires } in
     let s = c.index_mut.result.now in
-    let t = c.event-answer.new.self in
+    let t = c.respond-response.new.self in
     let here = found_here p s c.index_mut.ensures.value in
     let r = c.args.self.now in
     let same = put_there p s t c.index.result.now here c.index.ensures in
     let again = put_there p s t c.index-2.result.now here c.index-2.ensures in
     let pile = pile_of c.keep_frames.new.emitted in
-    played_next p s t c.event-answer.result
+    played_next p s t (answer_of c.respond-response.new.self c.respond-response.result)
     (record { alloc = r.alloc; hosts = with_item r.hosts c.args.position.place t; emitted = c.keep_frames.new.emitted; keys = c.push_key.new.keys })
-    c.number-number.result here c.event-answer.ensures.event
+    c.number-number.result here c.respond-response.ensures.event
     (subst (λ (w : StationValue). IsAdded (pile_of r.emitted) pile c.args.position.place w.frames) same c.in_ok-keep_frames.ensures.added)
     refl (c.number-number.ensures ∙ ap (λ (w : StationValue). w.number) again) c.in_ok-push_key.ensures
     (subst (λ (w : StationValue). length (pile_of r.emitted).bytes + sum_by length w.frames ≤ MOST_BYTES) same
