@@ -50,9 +50,9 @@ struct Manner<'a> {
     line: Option<&'a [u8]>,
 }
 
-/// Room for one event, and for what it was answered.
+/// The place of one event, and of what it was answered.
 #[derive(Drop)]
-struct Turn {
+struct EventSlot {
     event: EventBuffer,
     response: Response,
 }
@@ -229,26 +229,26 @@ fn put_event(
     text: &mut Text,
     manner: Manner,
     counts: &mut Counts,
-    turn: &mut Turn,
+    slot: &mut EventSlot,
 ) -> Result<(), ClusterRefusal>
     requires few { AreFew counts.old }
-    requires line { IfSome manner.line (λ line. IsOwnLine line.now turn.old.event) }
+    requires line { IfSome manner.line (λ line. IsOwnLine line.now slot.old.event) }
     requires somewhere { StandsSomewhere cluster.old }
-    requires actors { has_actors cluster.old.config.specs turn.old.event ≡ true }
+    requires actors { has_actors cluster.old.config.specs slot.old.event ≡ true }
     ensures had { OnOk result ((c : Settings) (es : List TheEvent) → StandsFor c es cluster.old →
-        IsHad manner.entry.form c es turn.old.event counts.old counts.new (shown text.old) (shown text.new) cluster.new) }
+        IsHad manner.entry.form c es slot.old.event counts.old counts.new (shown text.old) (shown text.new) cluster.new) }
     ensures room { OnOk result (is_full cluster.old ≡ false) }
     ensures end { OnOk result (CanEnd text.new) }
     ensures refused { result ≡ Err ClusterRefusal.Limit → (is_full cluster.old ≡ true) × (text.new ≡ text.old) }
     ensures memory { result ≡ Err ClusterRefusal.NoMemory → is_full cluster.old ≡ false }
 {
-    let event = turn.event.view();
-    match cluster.advance_with(alloc, &event, &mut turn.response) {
+    let event = slot.event.view();
+    match cluster.advance_with(alloc, &event, &mut slot.response) {
         Ok(place) => {
             let told = Told {
                 host: acting(&event),
                 place,
-                response: &turn.response,
+                response: &slot.response,
             };
             match put_played(alloc, cluster, text, manner, counts, told) {
                 Ok(()) => Ok(()),
@@ -283,19 +283,19 @@ fn put_events(
         steps: 0,
         frames: 0,
     };
-    let mut turn = Turn {
+    let mut slot = EventSlot {
         event: EventBuffer::new(),
         response: Response::Begun,
     };
-    while let Some(line) = reader.next_with_line(&mut turn.event) {
-        let line = own_line(&turn.event, line);
+    while let Some(line) = reader.next_with_line(&mut slot.event) {
+        let line = own_line(&slot.event, line);
         match put_event(
             alloc,
             cluster,
             text,
             Manner { form, line },
             &mut counts,
-            &mut turn,
+            &mut slot,
         ) {
             Ok(()) => {}
             Err(ClusterRefusal::Limit) => return Ok(true),
