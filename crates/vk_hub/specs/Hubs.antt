@@ -6,6 +6,9 @@ use Rattle.vk_hub.specs.declared.event.HubEvent.{HubEvent}
 use Rattle.vk_hub.specs.declared.event.HubEvent.TheVariants as event
 use Rattle.vk_hub.specs.declared.event.Fetched.{Fetched}
 use Rattle.vk_hub.specs.declared.event.Fetched.TheVariants as fetched
+use Rattle.vk_hub.specs.declared.event.Arrival.{Arrival}
+use Rattle.vk_hub.specs.declared.event.Arrival.TheVariants as arrivals
+use Rattle.vk_hub.specs.declared.out.HubOut.{HubOut}
 
 -- A hub's state, as callers see it: its link plan, its stations, how many programs there are, and its history
 pub record HubLog : Type 0 where
@@ -72,6 +75,20 @@ fetched_from programs t host = if is_stopped programs t then fetched.Stopped els
 abbrev pub answered : ℕ → Traffic → HubEvent → Option Fetched
 answered programs t (event.Fetch host) = Some (fetched_from programs t host)
 answered programs t e = None
+
+-- what a fetch gave that was answered so, where this frame stands in the place for one
+abbrev pub fetched_as : Arrival → Frame → Fetched
+fetched_as arrivals.Frame frame = fetched.Frame frame
+fetched_as arrivals.Stopped frame = fetched.Stopped
+fetched_as arrivals.Nothing frame = fetched.Nothing
+
+abbrev pub fetched_by : Option Arrival → Frame → Option Fetched
+fetched_by (Some arrival) frame = Some (fetched_as arrival frame)
+fetched_by None frame = None
+
+-- what stands in a place for what an event gives
+abbrev pub fetched_in : HubOut → Option Fetched
+fetched_in out = fetched_by out.arrival out.delivery
 
 -- a fetch waits for a frame or the stop, a halt is entered once, and all else may come at any time
 abbrev pub is_ready : ℕ → Traffic → HubEvent → Bool

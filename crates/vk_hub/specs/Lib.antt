@@ -1,4 +1,5 @@
 pub mod Links
+pub mod Places
 pub mod Hubs
 pub mod Kept
 pub mod Counting

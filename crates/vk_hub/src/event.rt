@@ -26,10 +26,12 @@ pub enum Fetched {
     Nothing,
 }
 
-/// Where a hub puts what an event gives: `None` for all but a fetch.
-#[derive(Drop)]
-pub struct HubOut {
-    pub fetched: Option<Fetched>,
+/// A [`Fetched`] whose frame stands elsewhere.
+#[derive(Clone, Copy)]
+pub enum Arrival {
+    Frame,
+    Stopped,
+    Nothing,
 }
 
 impl HubEvent {

@@ -1,4 +1,4 @@
-ghost use Rattle.std.specs.Prelude.{◌≡◌, ◌≢◌, ℕ, ◌+◌, ◌≤◌, ◌<◌, ◌⊎◌, ◌++◌, ◌∷◌, [], true, false, Some, slice_get, vec_len, IfOk, IfErr, OnOk, OnErr, All, eqb, length};
+ghost use Rattle.std.specs.Prelude.{◌≡◌, ◌≢◌, ℕ, ◌+◌, ◌≤◌, ◌<◌, ◌⊎◌, ◌++◌, ◌∷◌, [], true, false, Some, None, slice_get, vec_len, IfOk, IfErr, OnOk, OnErr, All, eqb, length};
 ghost use Rattle.std.specs.List.{IsDistinct, range_with_len};
 ghost use Rattle.std.specs.List.Sorted.{IsPermutation};
 ghost use mathlib.Core.List.{IsPrefix};
@@ -6,10 +6,12 @@ ghost use Rattle.turn_cell.specs.History.{events_of};
 ghost use Rattle.turn_cell.specs.Rooms.{is_full};
 ghost use Rattle.turn_cell.specs.Seats.{HasEntered, HasLooked, IsComplete, IsSameSeat, IsSeatOf, fresh, numbers_of};
 ghost use Rattle.vk_base.specs.Settings.{stations_of};
-ghost use Rattle.vk_hub.specs.Hubs.{fetched_from, has_halt, is_at_limit, is_ready, others, traffic_of};
+ghost use Rattle.vk_hub.specs.Hubs.{fetched_as, fetched_from, fetched_in, has_halt, is_at_limit, is_ready, others, traffic_of};
 ghost use Rattle.vk_hub.specs.Posts.{IsFromPost};
 
-use crate::event::{Fetched, HubEvent, HubOut};
+use crate::event::{Arrival, Fetched, HubEvent};
+use crate::out::HubOut;
+use crate::places::Dispatch;
 use crate::state::HubState;
 use std::alloc::Global;
 use std::marker::Model;
@@ -75,11 +77,31 @@ impl Hub {
         ensures err { OnErr result (HasLooked seat.old seat.new) }
         ensures refused { IfErr result (λ why. is_at_limit seat.new.seen (HubEvent.Post frame.now) ≡ is_full why) }
     {
-        let mut out = HubOut { fetched: None };
-        let event = HubEvent::Post {
-            frame: frame.copy(),
-        };
-        self.cell.step(rt, alloc, seat, &event, &mut out)
+        let mut dispatch = Dispatch::new();
+        dispatch.fill(frame.as_slice());
+        self.post_in_place(rt, alloc, seat, &dispatch, &mut HubOut::new())
+    }
+
+    /// The same, where the frame stands in an event already, and the caller keeps the place for what events give.
+    pub fn post_in_place<R: Wait>(
+        &self,
+        rt: &R,
+        alloc: Global,
+        seat: &mut TurnSeat<HubState>,
+        dispatch: &Dispatch,
+        out: &mut HubOut,
+    ) -> Result<(), Room>
+        requires { IsSeatOf self.now seat.old }
+        ensures same { IsSameSeat seat.old seat.new }
+        ensures complete { IsComplete seat.new }
+        ensures turns { seat.new.turns ≡ seat.old.turns + 1 }
+        ensures ok { OnOk result (HasEntered (λ before. is_at_limit before (HubEvent.Post dispatch.now) ≡ false)
+            seat.old seat.new (HubEvent.Post dispatch.now)) }
+        ensures given { OnOk result (fetched_in out.new ≡ None) }
+        ensures err { OnErr result (HasLooked seat.old seat.new × (out.new ≡ out.old)) }
+        ensures refused { IfErr result (λ why. is_at_limit seat.new.seen (HubEvent.Post dispatch.now) ≡ is_full why) }
+    {
+        self.cell.step(rt, alloc, seat, dispatch.event(), out)
     }
 
     /// The oldest frame that waits for the station, or that the hub has ended. Both are entries, for which there was room. Where neither is
@@ -106,14 +128,44 @@ impl Hub {
             × (is_ready self.now.origin.programs (traffic_of self.now.origin seat.new.seen) (HubEvent.Fetch host) ≡ true)) }
         ensures refused { IfErr result (λ why. is_at_limit seat.new.seen (HubEvent.Fetch host) ≡ is_full why) }
     {
-        let mut out = HubOut { fetched: None };
+        let mut out = HubOut::new();
+        match self.fetch_in_place(rt, alloc, seat, host, &mut out) {
+            Ok(arrival) => Ok(out.fetched(arrival)),
+            Err(why) => Err(why),
+        }
+    }
+
+    /// The same, where the caller keeps the place for what events give: a frame that it gives stands there.
+    pub fn fetch_in_place<R: Wait>(
+        &self,
+        rt: &R,
+        alloc: Global,
+        seat: &mut TurnSeat<HubState>,
+        host: u16,
+        out: &mut HubOut,
+    ) -> Result<Arrival, Room>
+        requires { IsSeatOf self.now seat.old }
+        ensures same { IsSameSeat seat.old seat.new }
+        ensures complete { IsComplete seat.new }
+        ensures turns { seat.new.turns ≡ seat.old.turns + 1 }
+        ensures nothing { IfOk result (λ a. fetched_as a out.new.delivery ≡ Fetched.Nothing → HasLooked seat.old seat.new
+            × (fetched_from self.now.origin.programs (traffic_of self.now.origin seat.new.seen) host ≡ Fetched.Nothing)) }
+        ensures fetched { IfOk result (λ a. fetched_as a out.new.delivery ≢ Fetched.Nothing → HasEntered (λ before.
+            (is_at_limit before (HubEvent.Fetch host) ≡ false)
+            × (fetched_as a out.new.delivery ≡ fetched_from self.now.origin.programs (traffic_of self.now.origin before) host))
+            seat.old seat.new (HubEvent.Fetch host)) }
+        ensures posted { IfOk result (λ a. IsFromPost (fetched_as a out.new.delivery) host seat.new.seen) }
+        ensures err { OnErr result (HasLooked seat.old seat.new × (out.new ≡ out.old)
+            × (is_ready self.now.origin.programs (traffic_of self.now.origin seat.new.seen) (HubEvent.Fetch host) ≡ true)) }
+        ensures refused { IfErr result (λ why. is_at_limit seat.new.seen (HubEvent.Fetch host) ≡ is_full why) }
+    {
         let event = HubEvent::Fetch { host };
-        match self.cell.step_when_ready(rt, alloc, seat, &event, &mut out) {
-            Ok(Ready::Done) => match out.fetched {
-                Some(fetched) => Ok(fetched),
+        match self.cell.step_when_ready(rt, alloc, seat, &event, out) {
+            Ok(Ready::Done) => match out.arrival {
+                Some(arrival) => Ok(arrival),
                 None => unreachable!(),
             },
-            Ok(Ready::NotYet) => Ok(Fetched::Nothing),
+            Ok(Ready::NotYet) => Ok(Arrival::Nothing),
             Err(why) => Err(why),
         }
     }
@@ -133,7 +185,7 @@ impl Hub {
         ensures err { OnErr result (HasLooked seat.old seat.new) }
         ensures refused { IfErr result (λ why. is_at_limit seat.new.seen HubEvent.Finished ≡ is_full why) }
     {
-        let mut out = HubOut { fetched: None };
+        let mut out = HubOut::new();
         self.cell
             .step(rt, alloc, seat, &HubEvent::Finished, &mut out)
     }
@@ -149,7 +201,7 @@ impl Hub {
         ensures mine { (seat.new.mine ≡ seat.old.mine) ⊎ (seat.new.mine ≡ seat.old.mine ++ HubEvent.Halt ∷ []) }
         ensures once { HasEntered (λ before. has_halt before ≡ false) seat.old seat.new HubEvent.Halt ⊎ HasLooked seat.old seat.new }
     {
-        let mut out = HubOut { fetched: None };
+        let mut out = HubOut::new();
         match self
             .cell
             .step_when_ready(rt, self.alloc, seat, &HubEvent::Halt, &mut out)

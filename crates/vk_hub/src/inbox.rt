@@ -1,8 +1,9 @@
 // What waits for one station.
-ghost use Rattle.std.specs.Prelude.{◌≡◌, [], None, is_some, IfOk};
+ghost use Rattle.std.specs.Prelude.{◌≡◌, [], Some, None, if◌then◌else◌, is_some, IfOk};
 ghost use Rattle.vk_generator.specs.Numbers.{next};
 ghost use Rattle.vk_hub.specs.Links.{drawn_byte, first_of, posted, rest_of, third_next};
 
+use crate::places::Delivery;
 use circular_buffer::HeapCircularBuffer;
 use std::alloc::{AllocError, Global};
 use std::marker::Model;
@@ -86,14 +87,32 @@ impl Inbox {
         }
     }
 
-    /// Takes the oldest frame of the ring, else the held one.
-    pub fn take(&mut self) -> Option<FrameBytes>
-        ensures value { result ≡ first_of self.old.ring self.old.held }
+    /// Takes the oldest frame of the ring, else the held one, and puts it there. Whether there was one.
+    pub fn take(&mut self, into: &mut Delivery) -> bool
+        ensures value { first_of self.old.ring self.old.held ≡ (if result then Some into.new else None) }
         ensures rest { self.new ≡ rest_of self.old.station self.old.ring self.old.held }
     {
-        match self.ring.pop_front() {
-            Some(frame) => Some(frame),
-            None => self.held.take(),
+        if let Some(frame) = self.ring.front() {
+            into.fill(frame.as_slice());
+            self.ring.truncate_front(self.ring.len() - 1);
+            return true;
+        }
+        self.take_held(into)
+    }
+
+    /// Takes the frame that is held back, and puts it there. Whether there was one. It stays a function of its own, since it has room for a
+    /// frame.
+    #[inline(never)]
+    fn take_held(&mut self, into: &mut Delivery) -> bool
+        ensures value { self.old.held ≡ (if result then Some into.new else None) }
+        ensures rest { self.new ≡ record self.old { held = None } }
+    {
+        match self.held.take() {
+            Some(frame) => {
+                into.fill(frame.as_slice());
+                true
+            }
+            None => false,
         }
     }
 }

@@ -14,9 +14,13 @@ mod hub;
 mod inbox;
 mod law;
 mod links;
+mod out;
+mod places;
 mod state;
 
-pub use event::{Fetched, HubEvent, HubOut};
+pub use event::{Arrival, Fetched, HubEvent};
 pub use hub::Hub;
 pub use law::{fetches_are_posts, stopped_stays_stopped};
+pub use out::HubOut;
+pub use places::{Delivery, Dispatch};
 pub use state::HubState;

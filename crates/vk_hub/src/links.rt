@@ -1,10 +1,12 @@
 // The links between all stations.
-ghost use Rattle.std.specs.Prelude.{false, ◌≡◌, ◌<◌, ◌^◌, is_some};
-ghost use Rattle.vk_hub.specs.Hubs.{answered, changed, first_for, found, is_ready, is_stopped, without_first};
+ghost use Rattle.std.specs.Prelude.{false, ◌≡◌, ◌<◌, ◌^◌, Some, None, if◌then◌else◌, is_some};
+ghost use Rattle.vk_hub.specs.Hubs.{answered, changed, fetched_as, fetched_from, fetched_in, first_for, is_ready, is_stopped, without_first};
 ghost use Rattle.vk_hub.specs.Links.{header_of, is_addressed, posted_all};
 
-use crate::event::{Fetched, HubEvent};
+use crate::event::{Arrival, HubEvent};
 use crate::inbox::Inbox;
+use crate::out::HubOut;
+use crate::places::Delivery;
 use std::marker::Model;
 use vk_base::FrameBytes;
 use vk_frame::{Header, unseal};
@@ -80,26 +82,18 @@ fn has_frame_for(inboxes: &Vec<Inbox>, host: u16) -> bool
     false
 }
 
-fn take_for(inboxes: &mut Vec<Inbox>, host: u16) -> Option<FrameBytes>
-    ensures value { result ≡ first_for host inboxes.old.items }
+// Takes the frame that waits longest for the station, and puts it there. Whether there was one.
+fn take_for(inboxes: &mut Vec<Inbox>, host: u16, into: &mut Delivery) -> bool
+    ensures value { first_for host inboxes.old.items ≡ (if result then Some into.new else None) }
     ensures rest { inboxes.new.items ≡ without_first host inboxes.old.items }
 {
     for i in 0..inboxes.len() {
         let inbox = &mut inboxes[i];
         if inbox.station() == host {
-            return inbox.take();
+            return inbox.take(into);
         }
     }
-    None
-}
-
-fn found(frame: Option<FrameBytes>) -> Fetched
-    ensures { result ≡ found frame }
-{
-    match frame {
-        Some(frame) => Fetched::Frame { frame },
-        None => Fetched::Nothing,
-    }
+    false
 }
 
 impl Links {
@@ -138,23 +132,18 @@ impl Links {
         }
     }
 
-    /// What the event makes of it, and what it gives.
-    pub fn change(&mut self, plan: &LinkPlan, programs: u32, event: &HubEvent) -> Option<Fetched>
+    /// What the event makes of it. What it gives is put there.
+    pub fn change(&mut self, plan: &LinkPlan, programs: u32, event: &HubEvent, out: &mut HubOut)
         requires { self.old.finished < 2 ^ 63 }
         ensures traffic { self.new ≡ changed plan.now programs self.old event.now }
-        ensures answer { result ≡ answered programs self.old event.now }
+        ensures answer { fetched_in out.new ≡ answered programs self.old event.now }
     {
-        match event {
+        out.arrival = match event {
             HubEvent::Post { frame } => {
                 post_all(&mut self.inboxes, plan, &mut self.generator, frame);
                 None
             }
-            HubEvent::Fetch { host } => {
-                if self.is_stopped(programs) {
-                    return Some(Fetched::Stopped);
-                }
-                Some(found(take_for(&mut self.inboxes, *host)))
-            }
+            HubEvent::Fetch { host } => Some(self.fetch(programs, *host, &mut out.delivery)),
             HubEvent::Finished => {
                 self.finished += 1;
                 None
@@ -163,6 +152,22 @@ impl Links {
                 self.halted = true;
                 None
             }
+        };
+    }
+
+    // Takes what a fetch of the station gives, and puts the frame there.
+    fn fetch(&mut self, programs: u32, host: u16, into: &mut Delivery) -> Arrival
+        ensures traffic { self.new ≡ record self.old {
+          waiting = (if is_stopped programs self.old then self.old.waiting else without_first host self.old.waiting);
+        } }
+        ensures answer { fetched_as result into.new ≡ fetched_from programs self.old host }
+    {
+        if self.is_stopped(programs) {
+            Arrival::Stopped
+        } else if take_for(&mut self.inboxes, host, into) {
+            Arrival::Frame
+        } else {
+            Arrival::Nothing
         }
     }
 }

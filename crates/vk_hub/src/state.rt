@@ -1,10 +1,11 @@
-ghost use Rattle.std.specs.Prelude.{◌≡◌, ◌+◌, ◌≤◌, false, [], length, map, slice_index, IfOk};
+ghost use Rattle.std.specs.Prelude.{◌≡◌, ◌+◌, ◌≤◌, false, [], length, map, IfOk};
 ghost use Rattle.vk_base.specs.Settings.{stations_of};
-ghost use Rattle.vk_hub.specs.Hubs.{answered, is_at_limit, is_halt, is_ready, nothing_for, origin_of, others, traffic_of};
+ghost use Rattle.vk_hub.specs.Hubs.{answered, fetched_in, is_at_limit, is_halt, is_ready, nothing_for, origin_of, others, traffic_of};
 
-use crate::event::{HubEvent, HubOut};
+use crate::event::HubEvent;
 use crate::inbox::Inbox;
 use crate::links::Links;
+use crate::out::HubOut;
 use std::alloc::{AllocError, Global};
 use std::marker::Model;
 use turn_cell::{Past, Replay, Room};
@@ -117,7 +118,7 @@ impl Replay for HubState {
 
     ghost has_room = { λ s e. is_at_limit s.history e ≡ false };
 
-    ghost gives = { λ o h caller e out new. new.fetched ≡ answered o.programs (traffic_of o h) e };
+    ghost gives = { λ o h caller e out new. fetched_in new ≡ answered o.programs (traffic_of o h) e };
 
     fn room(&mut self, _alloc: Global, event: &HubEvent) -> Result<(), Room> {
         let full = if event.is_halt() {
@@ -133,7 +134,7 @@ impl Replay for HubState {
     }
 
     fn act(&mut self, caller: u32, event: &HubEvent, out: &mut HubOut) {
-        out.fetched = self.links.change(&self.plan, self.programs, event);
+        self.links.change(&self.plan, self.programs, event, out);
         self.past.push(caller, event);
         self.others += !event.is_halt() as usize;
     }

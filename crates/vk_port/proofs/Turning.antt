@@ -1,9 +1,9 @@
 -- From the turns at the cell and at the hub to what a port did.
-use Rattle.std.proofs.Common.{◌≡◌, ◌≢◌, ◌⊎◌, inl, inr, ℕ, ◌<◌, ◌≤◌, Bool, true, false, List, [], ◌∷◌, ◌++◌, length, take, Option, Some, None, IfNone, refl, sym, ap, subst, ◌∙◌, arith}
+use Rattle.std.proofs.Common.{◌≡◌, ◌≢◌, ◌⊎◌, inl, inr, ℕ, ◌<◌, ◌≤◌, Bool, true, false, List, [], ◌∷◌, ◌++◌, length, take, Some, refl, sym, ap, subst, ◌∙◌, arith}
 use mathlib.Core.List.{IsPrefix}
 use Rattle.std.proofs.lemmas.List.{append-nil, append_cancel_right, take_all}
 use Rattle.std.proofs.lemmas.Option.{same_Some}
-use Rattle.vk_types.specs.Types.{Answer, Call, EventAnswer, Pid, StationEvent}
+use Rattle.vk_types.specs.Types.{Call, EventAnswer, Pid, StationEvent}
 use Rattle.turn_cell.specs.History.{events_of}
 use Rattle.turn_cell.specs.Rooms.{is_full as is_room_full}
 use Rattle.turn_cell.specs.Seats.{Cell, HasEntered, HasLooked, IsComplete, IsSameSeat, Sitting}
@@ -222,10 +222,6 @@ pumped_more p q r first given all does made =
 
 pub rested_more : (p q r : PortValue) (first : List Action) → Does p q first → Does q r [] → Does p r first
 rested_more p q r first does none = subst (Does p r) (append-nil first) (does_more p q r first [] does none)
-
-pub unready_more : (p q r : PortValue) (first : List Action) (given : Option Answer) → Does p q first → given ≡ None →
-    IfNone given (Does q r []) → Does p r first
-unready_more p q r first given does none found = rested_more p q r first does (subst (λ o. IfNone o (Does q r [])) none found)
 
 -- What was made is answered so.
 pub made_call : (p q : PortValue) (first : List Action) (pid : Pid) (call : Call) (given : EventAnswer) →

@@ -9,6 +9,8 @@ use Rattle.turn_cell.specs.declared.replay.Room.{Room}
 use Rattle.vk_base.specs.declared.answer.CallOutcome.TheVariants as outcomes
 use Rattle.vk_base.specs.declared.event.EventAnswer.TheVariants as answers
 use Rattle.vk_base.specs.declared.event.StationEvent.TheVariants as events
+use Rattle.vk_hub.specs.declared.event.Arrival.{Arrival}
+use Rattle.vk_hub.specs.declared.event.Arrival.TheVariants as arrivals
 use Rattle.vk_hub.specs.declared.event.Fetched.{Fetched}
 use Rattle.vk_hub.specs.declared.event.Fetched.TheVariants as fetched
 use Rattle.vk_hub.specs.declared.event.HubEvent.{HubEvent}
@@ -230,3 +232,9 @@ HasPumped old new pumped.Nothing =
     Does old new [] × (fetched_from old.hub.origin.programs (traffic_of old.hub.origin new.hub_seat.seen) old.host ≡ fetched.Nothing)
     × (new.hub_seat.turns ≡ old.hub_seat.turns + 1)
 HasPumped old new pumped.Stopped = HasHeard old new []
+
+-- what a pump did that is told so, where this is the answer to what it delivered
+abbrev pub pumped_as : Arrival → EventAnswer → Pumped
+pumped_as arrivals.Frame given = pumped.Delivered given
+pumped_as arrivals.Stopped given = pumped.Stopped
+pumped_as arrivals.Nothing given = pumped.Nothing

@@ -2,11 +2,13 @@
 
 ghost use Rattle.std.specs.Prelude.{◌≡◌, ◌≢◌, ◌≤◌, [], true, false, IfOk, IfErr, OnOk, Some};
 ghost use Rattle.turn_cell.specs.Seats.{IsComplete, IsSameSeat, IsSeatOf};
+ghost use Rattle.vk_hub.specs.declared.event.Fetched.TheVariants as fetched;
 ghost use Rattle.vk_hub.specs.declared.event.HubEvent.TheVariants as hub_events;
+ghost use Rattle.vk_hub.specs.Hubs.{fetched_as};
 ghost use Rattle.vk_types.specs.Types.{EventAnswer as TheAnswer};
-ghost use Rattle.vk_port.specs.Ports.{AtHub, Does, HasMade, HasPumped, IsCutEvent, IsMet, IsRefused};
+ghost use Rattle.vk_port.specs.Ports.{AtHub, Does, HasMade, HasPumped, IsCutEvent, IsCutPump, IsMet, IsRefused, pumped_as};
 ghost use Rattle.vk_port.specs.Stations.{is_own, is_ready, most_frames};
-ghost use Rattle.vk_port.specs.Turns.{HasFetchedFrame, HasPosted, HasStoppedPosting, is_collect};
+ghost use Rattle.vk_port.specs.Turns.{HasFetchedFrame, HasPosted, HasStoppedPosting, is_collect, room_of};
 ghost use Rattle.vk_port.specs.declared.port.Pumped.TheVariants as pumped;
 
 use crate::station::Station;
@@ -16,7 +18,7 @@ use std::marker::Model;
 use std::sync::Wait;
 use turn_cell::{Ready, Room, TurnCell, TurnSeat};
 use vk_base::StationEvent;
-use vk_hub::{Fetched, Hub, HubState};
+use vk_hub::{Arrival, Hub, HubOut, HubState};
 
 /// A seat at a station's cell, and one at the hub.
 #[derive(Drop)]
@@ -27,6 +29,8 @@ pub struct Access<'a> {
     hub: &'a Hub,
     hub_seat: TurnSeat<HubState>,
     ticks: bool,
+    /// What its posts give, which is nothing.
+    posted: HubOut,
 }
 
 impl<'a> Model for Access<'a> {
@@ -80,6 +84,7 @@ impl<'a> Access<'a> {
             hub,
             hub_seat,
             ticks,
+            posted: HubOut::new(),
         }
     }
 
@@ -96,13 +101,41 @@ impl<'a> Access<'a> {
         (seat, hub_seat)
     }
 
-    /// Fetches once.
-    pub fn fetch<R: Wait>(&mut self, rt: &R, alloc: Global) -> Result<Fetched, Room>
-        ensures fetched { IfOk result (λ f. f ≢ Fetched.Nothing → HasFetchedFrame self.old self.new f) }
-        ensures nothing { IfOk result (λ f. f ≡ Fetched.Nothing → HasPumped self.old self.new pumped.Nothing) }
+    /// Fetches once. A frame that it gets stands in `heard` then.
+    fn fetch<R: Wait>(&mut self, rt: &R, alloc: Global, heard: &mut HubOut) -> Result<Arrival, Room>
+        ensures fetched { IfOk result (λ a. fetched_as a heard.new.delivery ≢ fetched.Nothing →
+            HasFetchedFrame self.old self.new (fetched_as a heard.new.delivery)) }
+        ensures nothing { IfOk result (λ a. fetched_as a heard.new.delivery ≡ fetched.Nothing → HasPumped self.old self.new pumped.Nothing) }
         ensures err { IfErr result (λ why. Does self.old self.new [] × IsMet self.new why (AtHub (hub_events.Fetch self.old.host))) }
     {
-        self.hub.fetch(rt, alloc, &mut self.hub_seat, self.host)
+        self.hub
+            .fetch_in_place(rt, alloc, &mut self.hub_seat, self.host, heard)
+    }
+
+    /// Fetches once, and delivers what it fetched to the station. What the delivery gave stands in `out` then.
+    pub fn pump<R: Wait>(
+        &mut self,
+        rt: &R,
+        alloc: Global,
+        heard: &mut HubOut,
+        out: &mut StationOut,
+    ) -> Result<Arrival, Room>
+        requires room { room_of false ≤ out.old.room }
+        ensures room { out.new.room ≡ out.old.room }
+        ensures ticks { self.new.ticks ≡ self.old.ticks }
+        ensures ok { IfOk result (λ a. (given : TheAnswer) × (a ≡ Arrival.Frame → out.new.answer ≡ Some given)
+            × HasPumped self.old self.new (pumped_as a given)) }
+        ensures err { IfErr result (λ why. IsRefused self.old self.new why [] (IsCutPump self.old.station.origin self.old.host)) }
+    {
+        match self.fetch(rt, alloc, heard) {
+            Ok(Arrival::Frame) => match self.enter(rt, alloc, heard.delivery.event(), out) {
+                Ok(()) => Ok(Arrival::Frame),
+                Err(why) => Err(why),
+            },
+            Ok(Arrival::Stopped) => Ok(Arrival::Stopped),
+            Ok(Arrival::Nothing) => Ok(Arrival::Nothing),
+            Err(why) => Err(why),
+        }
     }
 
     /// Enters the event, which is ready at any time, and posts its frames in order. What it gave stands in `out` then.
@@ -150,10 +183,19 @@ impl<'a> Access<'a> {
             .station
             .step_when_ready(rt, alloc, &mut self.seat, event, out)
         {
-            Ok(Ready::Done) => match post_frames(rt, alloc, self.hub, &mut self.hub_seat, out) {
-                Ok(()) => Ok(Ready::Done),
-                Err(why) => Err(why),
-            },
+            Ok(Ready::Done) => {
+                match post_frames(
+                    rt,
+                    alloc,
+                    self.hub,
+                    &mut self.hub_seat,
+                    out,
+                    &mut self.posted,
+                ) {
+                    Ok(()) => Ok(Ready::Done),
+                    Err(why) => Err(why),
+                }
+            }
             Ok(Ready::NotYet) => Ok(Ready::NotYet),
             Err(why) => Err(why),
         }
@@ -167,6 +209,7 @@ fn post_frames<R: Wait>(
     hub: &Hub,
     seat: &mut TurnSeat<HubState>,
     out: &StationOut,
+    posted: &mut HubOut,
 ) -> Result<(), Room>
     requires seat { IsSeatOf hub.now seat.old }
     requires complete { IsComplete seat.old }
@@ -176,7 +219,7 @@ fn post_frames<R: Wait>(
     ensures err { IfErr result (HasStoppedPosting seat.old seat.new out.now.frames) }
 {
     for at in 0..out.frame_count() {
-        match hub.post(rt, alloc, seat, out.frame(at)) {
+        match hub.post_in_place(rt, alloc, seat, out.dispatch(at), posted) {
             Ok(()) => {}
             Err(why) => return Err(why),
         }

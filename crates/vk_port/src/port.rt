@@ -1,8 +1,9 @@
 //! A caller's access to a station and to the links.
 
-ghost use Rattle.std.specs.Prelude.{◌≡◌, [], true, IfOk, IfErr, IfNone, IfSome};
+ghost use Rattle.std.specs.Prelude.{◌≡◌, [], true, false, if◌then◌else◌, IfOk, IfErr, OnErr};
 ghost use Rattle.turn_cell.specs.Seats.{IsComplete, IsSeatOf};
-ghost use Rattle.vk_port.specs.Ports.{Does, HasPumped, HasMade, HasWaited, IsCutEvent, IsCutPump, IsRefused, IsWaitRefused, answer_as};
+ghost use Rattle.vk_port.specs.Ports.{Does, HasPumped, HasMade, HasWaited, IsCutEvent, IsCutPump, IsRefused, IsWaitRefused, answer_as, pumped_as};
+ghost use Rattle.vk_types.specs.Types.{EventAnswer as TheAnswer};
 ghost use Rattle.vk_port.specs.Stations.{is_own, is_process_of};
 ghost use Rattle.vk_port.specs.Turns.{is_collect};
 
@@ -18,7 +19,7 @@ use std::time::Clock;
 use turn_cell::{Ready, Room, TurnCell, TurnSeat};
 use vk_base::limits::{ROUND_PACKETS, TICK_PACKETS};
 use vk_base::{Answer, Call, CallOutcome, EventAnswer, FrameBytes, Pid, StationEvent};
-use vk_hub::{Fetched, Hub, HubState};
+use vk_hub::{Arrival, Hub, HubOut, HubState};
 
 /// Microseconds of the longest sleep of a thread that waits for an answer. Deliveries do not wait for it where another thread pumps.
 const LONGEST_SLEEP: u32 = 20_000;
@@ -55,12 +56,13 @@ pub enum Pumped {
     Stopped,
 }
 
-/// One caller's access to a station and to the links, by a seat at each, and the place for what an event gives. Contracts see the station's
+/// One caller's access to a station and to the links, by a seat at each, and the places for what events give there. Contracts see the station's
 /// number, its cell and the hub, the seats, and whether it may tick.
 #[derive(Drop)]
 pub struct Port<'a> {
     access: Access<'a>,
     out: StationOut,
+    heard: HubOut,
 }
 
 impl<'a> Model for Port<'a> {
@@ -109,7 +111,8 @@ impl<'a> Port<'a> {
         match StationOut::new(alloc, if ticks { TICK_PACKETS } else { ROUND_PACKETS }) {
             Ok(out) => {
                 let access = Access::new(host, station, seat, hub, hub_seat, ticks);
-                Ok(Port { access, out })
+                let heard = HubOut::new();
+                Ok(Port { access, out, heard })
             }
             Err(_) => Err(PortNoMemory { seat, hub_seat }),
         }
@@ -132,12 +135,38 @@ impl<'a> Port<'a> {
         ensures err { IfErr result (λ why. IsRefused self.old self.new why []
             (IsCutEvent self.old.station.origin (StationEvent.Call pid call.now))) }
     {
-        let event = StationEvent::Call {
-            pid,
-            call: call.copy(),
-        };
+        let mut answer = Answer::Ok;
+        match self.call_into(rt, alloc, pid, call.copy(), &mut answer) {
+            Ok(true) => Ok(CallOutcome::Now { answer }),
+            Ok(false) => Ok(CallOutcome::Begun),
+            Err(why) => Err(why),
+        }
+    }
+
+    /// The same by a call that is not copied. Where it is answered at once, the answer is put there. Whether it is.
+    ///
+    /// # Errors
+    ///
+    /// As [`Port::call`].
+    pub fn call_into<R: Wait>(
+        &mut self,
+        rt: &R,
+        alloc: Global,
+        pid: Pid,
+        call: Call,
+        answer: &mut Answer,
+    ) -> Result<bool, Room>
+        requires { is_process_of self.old.station.origin pid ≡ true }
+        ensures ok { IfOk result (λ given. HasMade self.old self.new [] (StationEvent.Call pid call)
+            (if given then EventAnswer.Answered answer.new else EventAnswer.Begun)) }
+        ensures kept { IfOk result (λ given. given ≡ false → answer.new ≡ answer.old) }
+        ensures err { IfErr result (λ why. IsRefused self.old self.new why []
+            (IsCutEvent self.old.station.origin (StationEvent.Call pid call))) }
+        ensures kept_err { OnErr result (answer.new ≡ answer.old) }
+    {
+        let event = StationEvent::Call { pid, call };
         match self.access.enter(rt, alloc, &event, &mut self.out) {
-            Ok(()) => Ok(self.out.outcome()),
+            Ok(()) => Ok(self.out.outcome_into(answer)),
             Err(why) => Err(why),
         }
     }
@@ -158,18 +187,45 @@ impl<'a> Port<'a> {
         ensures ok { IfOk result (HasWaited self.old self.new pid) }
         ensures err { IfErr result (IsWaitRefused self.old self.new pid) }
     {
+        let mut answer = Answer::Ok;
+        match self.collect_into(rt, alloc, pid, &mut answer) {
+            Ok(true) => Ok(Collected::Answered { answer }),
+            Ok(false) => Ok(Collected::Stopped),
+            Err(why) => Err(why),
+        }
+    }
+
+    /// The same, where the answer is put there. Whether it is: else the hub has ended.
+    ///
+    /// # Errors
+    ///
+    /// As [`Port::collect_waiting`].
+    pub fn collect_into<R: Wait + Clock>(
+        &mut self,
+        rt: &R,
+        alloc: Global,
+        pid: Pid,
+        answer: &mut Answer,
+    ) -> Result<bool, Room>
+        requires { is_process_of self.old.station.origin pid ≡ true }
+        ensures ok { IfOk result (λ came. HasWaited self.old self.new pid
+            (if came then Collected.Answered answer.new else Collected.Stopped)) }
+        ensures kept { IfOk result (λ came. came ≡ false → answer.new ≡ answer.old) }
+        ensures err { IfErr result (IsWaitRefused self.old self.new pid) }
+        ensures kept_err { OnErr result (answer.new ≡ answer.old) }
+    {
         let event = StationEvent::Collect { pid };
         let mut patience = Patience::new(LONGEST_SLEEP);
         for _ in rt.forever() {
-            match self.try_collect(rt, alloc, &event) {
-                Ok(Some(answer)) => return Ok(Collected::Answered { answer }),
-                Ok(None) => {}
+            match self.try_collect(rt, alloc, &event, answer) {
+                Ok(true) => return Ok(true),
+                Ok(false) => {}
                 Err(why) => return Err(why),
             }
-            match self.pump(rt, alloc) {
-                Ok(Pumped::Delivered { .. }) => patience.renew(),
-                Ok(Pumped::Nothing) => patience.wait(rt),
-                Ok(Pumped::Stopped) => return Ok(Collected::Stopped),
+            match self.pump_once(rt, alloc) {
+                Ok(Arrival::Frame) => patience.renew(),
+                Ok(Arrival::Nothing) => patience.wait(rt),
+                Ok(Arrival::Stopped) => return Ok(false),
                 Err(why) => return Err(why),
             }
         }
@@ -185,20 +241,26 @@ impl<'a> Port<'a> {
         ensures ok { IfOk result (HasPumped self.old self.new) }
         ensures err { IfErr result (λ why. IsRefused self.old self.new why [] (IsCutPump self.old.station.origin self.old.host)) }
     {
-        match self.access.fetch(rt, alloc) {
-            Ok(Fetched::Frame { frame }) => {
-                let event = StationEvent::Deliver { frame };
-                match self.access.enter(rt, alloc, &event, &mut self.out) {
-                    Ok(()) => Ok(Pumped::Delivered {
-                        answer: self.out.given(),
-                    }),
-                    Err(why) => Err(why),
-                }
-            }
-            Ok(Fetched::Stopped) => Ok(Pumped::Stopped),
-            Ok(Fetched::Nothing) => Ok(Pumped::Nothing),
+        match self.access.pump(rt, alloc, &mut self.heard, &mut self.out) {
+            Ok(Arrival::Frame) => Ok(Pumped::Delivered {
+                answer: self.out.given(),
+            }),
+            Ok(Arrival::Stopped) => Ok(Pumped::Stopped),
+            Ok(Arrival::Nothing) => Ok(Pumped::Nothing),
             Err(why) => Err(why),
         }
+    }
+
+    /// The same, without the answer to what it delivered.
+    ///
+    /// # Errors
+    ///
+    /// As [`Port::pump`].
+    pub fn pump_once<R: Wait>(&mut self, rt: &R, alloc: Global) -> Result<Arrival, Room>
+        ensures ok { IfOk result (λ a. (given : TheAnswer) × HasPumped self.old self.new (pumped_as a given)) }
+        ensures err { IfErr result (λ why. IsRefused self.old self.new why [] (IsCutPump self.old.station.origin self.old.host)) }
+    {
+        self.access.pump(rt, alloc, &mut self.heard, &mut self.out)
     }
 
     /// The event that the station's clock ticks; then its frames are posted in order.
@@ -256,25 +318,30 @@ impl<'a> Port<'a> {
         self.access.end()
     }
 
-    /// Collects what the process is answered, if it is done: `event` is that collect.
+    /// Collects what the process is answered, if it is done, and puts it there: `event` is that collect. Whether it is.
     fn try_collect<R: Wait>(
         &mut self,
         rt: &R,
         alloc: Global,
         event: &StationEvent,
-    ) -> Result<Option<Answer>, Room>
+        answer: &mut Answer,
+    ) -> Result<bool, Room>
         requires own { is_own self.old.station.origin event.now ≡ true }
         requires collect { is_collect event.now ≡ true }
-        ensures ok { IfOk result (λ given. IfSome given (λ a. HasMade self.old self.new [] event.now (EventAnswer.Answered a))) }
-        ensures not_yet { IfOk result (λ given. IfNone given (Does self.old self.new [])) }
-        ensures err { IfErr result (λ why. IsRefused self.old self.new why [] (IsCutEvent self.old.station.origin event.now)) }
+        ensures ok { IfOk result (λ done. done ≡ true → HasMade self.old self.new [] event.now (EventAnswer.Answered answer.new)) }
+        ensures not_yet { IfOk result (λ done. done ≡ false → Does self.old self.new [] × (answer.new ≡ answer.old)) }
+        ensures err { IfErr result (λ why. IsRefused self.old self.new why [] (IsCutEvent self.old.station.origin event.now)
+            × (answer.new ≡ answer.old)) }
     {
         match self
             .access
             .enter_when_ready(rt, alloc, event, &mut self.out)
         {
-            Ok(Ready::Done) => Ok(Some(self.out.collected())),
-            Ok(Ready::NotYet) => Ok(None),
+            Ok(Ready::Done) => {
+                self.out.collected_into(answer);
+                Ok(true)
+            }
+            Ok(Ready::NotYet) => Ok(false),
             Err(why) => Err(why),
         }
     }

@@ -1,6 +1,6 @@
 -- A call and the way to its answer.
-use Rattle.std.proofs.Common.{◌≡◌, ℕ, ◌≤◌, true, false, Option, Some, None, List, [], ◌∷◌, ◌++◌, length, refl, sym, ap, ◌∙◌, subst, arith, append_assoc, append-nil, length-append, ◌⊎◌, inl, inr}
-use Rattle.std.specs.Prelude.{option_to_list}
+use Rattle.std.proofs.Common.{◌≡◌, ℕ, ◌≤◌, Bool, true, false, Option, Some, None, List, [], ◌∷◌, ◌++◌, length, refl, sym, ap, ◌∙◌, subst, arith, append_assoc, append-nil, length-append, ◌⊎◌, inl, inr}
+use Rattle.std.specs.Prelude.{if◌then◌else◌, option_to_list}
 use Rattle.vk_types.specs.Types.{Answer, Call, Pid, StationEvent}
 use Rattle.turn_cell.specs.declared.replay.Room.{Room}
 use Rattle.turn_cell.specs.declared.replay.Room.TheVariants as rooms
@@ -52,7 +52,7 @@ module _ (old mid new : PortValue) (pid : Pid) (call : Call) (made : HasMade old
       → Plays task pid O calls answers (Enters before (events.Collect pid) n ∷ [])
   collect_plays before n task calls answers = (refl, tt)
 
-  pub called_waited : (a : Answer) → HasWaited mid new pid (collected.Answered a) → HasCalled old new pid call (Some a)
+  called_waited : (a : Answer) → HasWaited mid new pid (collected.Answered a) → HasCalled old new pid call (Some a)
   called_waited a waited =
       let first = waited.0 in
       let pumping : Each (IsPumping O) first = subst (λ o. Each (IsPumping o) first) same waited.1 in
@@ -77,7 +77,7 @@ module _ (old mid new : PortValue) (pid : Pid) (call : Call) (made : HasMade old
         (let one = lost_append acts more in let two = lost_append first last in let none = quiet.lost in omega arith),
       )
 
-  pub called_stopped : HasWaited mid new pid collected.Stopped → HasCalled old new pid call None
+  called_stopped : HasWaited mid new pid collected.Stopped → HasCalled old new pid call None
   called_stopped waited =
       let first = waited.0 in
       let pumping : Each (IsPumping O) first = subst (λ o. Each (IsPumping o) first) same waited.1 in
@@ -98,6 +98,11 @@ module _ (old mid new : PortValue) (pid : Pid) (call : Call) (made : HasMade old
         heard_append acts more (heard_append first last tt),
         (let one = lost_append acts more in let two = lost_append first last in let none = quiet.lost in omega arith),
       )
+
+  pub called_either : (came : Bool) (a : Answer) → HasWaited mid new pid (if came then collected.Answered a else collected.Stopped) →
+      HasCalled old new pid call (if came then Some a else None)
+  called_either true a waited = called_waited a waited
+  called_either false a waited = called_stopped waited
 
   abbrev Cut : List Action → Met → Type 0
   Cut last m = IsCutEvent mid.station.origin (events.Collect pid) last m ⊎ IsCutPump mid.station.origin mid.host last m

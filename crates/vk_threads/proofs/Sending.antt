@@ -5,7 +5,7 @@ use denote.Param.Send.{IsSend, sendable}
 use Rattle.std.proofs.Crossing.{crosses}
 use Rattle.turn_cell.proofs.cell.TurnCell.TheSendSync.{the_sync as cell_sync}
 use Rattle.turn_cell.proofs.seat.TurnSeat.TheSendSync.{the_send as seat_send}
-use Rattle.vk_hub.proofs.Crossing.{hub_state_send, hub_sync}
+use Rattle.vk_hub.proofs.Crossing.{delivery_send, hub_state_send, hub_sync}
 use Rattle.vk_port.proofs.station_out.StationOut.TheSendSync.{the_send as station_out_send}
 use Rattle.vk_port.proofs.Crossing.{station_send}
 use Rattle.vk_port.specs.contracts.port.Port as port_row
@@ -18,7 +18,8 @@ use Rattle.vk_threads.specs.contracts.clock.ClockWork as clock_row
 use Rattle.vk_threads.specs.contracts.work.Work as work_row
 
 pub port_send : (κ : NamedLft) → IsSend (port_row.the_row κ)
-port_send κ = search (sendable, crosses, cell_sync, seat_send, hub_sync, hub_state_send, station_out_send, station_send) depth 40 fits 20000
+port_send κ =
+    search (sendable, crosses, cell_sync, seat_send, hub_sync, hub_state_send, delivery_send, station_out_send, station_send) depth 40 fits 20000
 
 seats_send : IsSend seats_row.the_row
 seats_send = search (sendable, crosses, seat_send, hub_state_send, station_send) depth 40 fits 20000

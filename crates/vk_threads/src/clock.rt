@@ -1,5 +1,5 @@
 //! The job that ticks all stations.
-ghost use Rattle.std.specs.Prelude.{◌≡◌, ◌≤◌, [], ◌++◌, map, length, IfOk, IfErr, vec_len, vec_capacity};
+ghost use Rattle.std.specs.Prelude.{◌≡◌, ◌≤◌, [], map, IfOk, IfErr, vec_len, vec_capacity};
 ghost use Rattle.vk_rules.specs.Each.{Each};
 ghost use Rattle.vk_threads.specs.Clocks.{HaveLooked, HaveRounds, HaveRoundsCut, HaveTicked, HaveTickedCut, may_tick};
 ghost use Rattle.vk_threads.specs.Ends.{ArePortsClosed, IsAt, MayEnd, port_host, ticking};
@@ -11,9 +11,9 @@ use std::sync::{Mutex, Wait};
 use std::time::Clock;
 use turn_cell::Room;
 use vk_base::NoMemory;
-use vk_hub::Hub;
+use vk_hub::{Arrival, Hub};
 use vk_io::Pacer;
-use vk_port::{Port, Pumped};
+use vk_port::Port;
 
 /// Ticks all stations, so many rounds or until the hub has ended. There is room for the seats of its ports.
 #[derive(Drop)]
@@ -143,10 +143,10 @@ fn has_ended<R: Wait>(rt: &R, alloc: Global, ports: &mut [Port]) -> Result<bool,
     if ports.is_empty() {
         return Ok(false);
     }
-    match ports[0].pump(rt, alloc) {
-        Ok(Pumped::Stopped) => Ok(true),
-        Ok(Pumped::Delivered { .. }) => Ok(false),
-        Ok(Pumped::Nothing) => Ok(false),
+    match ports[0].pump_once(rt, alloc) {
+        Ok(Arrival::Stopped) => Ok(true),
+        Ok(Arrival::Frame) => Ok(false),
+        Ok(Arrival::Nothing) => Ok(false),
         Err(why) => Err(why),
     }
 }

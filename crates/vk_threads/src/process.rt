@@ -1,5 +1,5 @@
 //! The job that runs a process with its program.
-ghost use Rattle.std.specs.Prelude.{◌≡◌, [], ◌∷◌, true, IfOk, IfErr};
+ghost use Rattle.std.specs.Prelude.{◌≡◌, [], true, Some, None, if◌then◌else◌, option_copied, IfOk, IfErr};
 ghost use Rattle.vk_port.specs.Stations.{is_process_of};
 ghost use Rattle.vk_threads.specs.Ends.{EndsProcess};
 ghost use Rattle.vk_threads.specs.Works.{HasCalled, HasCalledCut, HasPlayed, HasPlayedCut};
@@ -10,9 +10,9 @@ use std::marker::Model;
 use std::sync::Wait;
 use std::time::Clock;
 use turn_cell::Room;
-use vk_base::{Answer, Call, CallOutcome, NoMemory, Pid};
+use vk_base::{Answer, Call, NoMemory, Pid};
 use vk_hub::Hub;
-use vk_port::{Collected, Port};
+use vk_port::Port;
 use vk_program::Program;
 
 /// Runs a process with its program, to the program's end or until the hub has ended. There is room for the seats of its port.
@@ -96,27 +96,31 @@ pub fn process_end<G: Program, R: Wait + Clock>(rt: &R, work: ProcessWork<G>) ->
     }
 }
 
-/// Makes a call and waits for its answer. There is none where the hub ended before it came.
+/// Makes a call, waits for its answer, and puts it there. Whether it came: else the hub has ended before.
 fn make<R: Wait + Clock>(
     rt: &R,
     alloc: Global,
     port: &mut Port,
     pid: Pid,
-    call: &Call,
-) -> Result<Option<Answer>, Room>
+    call: Call,
+    answer: &mut Answer,
+) -> Result<bool, Room>
     requires { is_process_of port.old.station.origin pid ≡ true }
-    ensures made { IfOk result (HasCalled port.old port.new pid call.now) }
-    ensures cut { IfErr result (λ why. HasCalledCut port.old port.new pid call.now why) }
+    ensures made { IfOk result (λ came. HasCalled port.old port.new pid call (if came then Some answer.new else None)) }
+    ensures cut { IfErr result (λ why. HasCalledCut port.old port.new pid call why) }
 {
-    match port.call(rt, alloc, pid, call) {
-        Ok(CallOutcome::Now { answer }) => Ok(Some(answer)),
-        Ok(CallOutcome::Begun) => match port.collect_waiting(rt, alloc, pid) {
-            Ok(Collected::Answered { answer }) => Ok(Some(answer)),
-            Ok(Collected::Stopped) => Ok(None),
-            Err(why) => Err(why),
-        },
+    match port.call_into(rt, alloc, pid, call, answer) {
+        Ok(true) => Ok(true),
+        Ok(false) => port.collect_into(rt, alloc, pid, answer),
         Err(why) => Err(why),
     }
+}
+
+/// The answer, if there was one.
+fn last_of(is_answered: bool, answer: &Answer) -> Option<&Answer>
+    ensures { option_copied result ≡ (if is_answered then Some answer.now else None) }
+{
+    if is_answered { Some(answer) } else { None }
 }
 
 /// Makes the program's calls one after the other, each after the answer to the one before. True where the program came to its end,
@@ -133,14 +137,16 @@ pub fn play<G: Program, R: Wait + Clock>(
     ensures played { IfOk result (λ ended. HasPlayed port.old port.new pid (G.task program.old) ended) }
     ensures cut { IfErr result (λ why. HasPlayedCut port.old port.new pid (G.task program.old) why) }
 {
-    let mut last = None;
+    let mut answer = Answer::Ok;
+    let mut is_answered = false;
     for _ in rt.forever() {
-        let Some(call) = program.next(last.as_ref()) else {
+        let last = last_of(is_answered, &answer);
+        let Some(call) = program.next(last) else {
             return Ok(true);
         };
-        match make(rt, alloc, port, pid, &call) {
-            Ok(Some(answer)) => last = Some(answer),
-            Ok(None) => return Ok(false),
+        match make(rt, alloc, port, pid, call, &mut answer) {
+            Ok(true) => is_answered = true,
+            Ok(false) => return Ok(false),
             Err(why) => return Err(why),
         }
     }

@@ -11,8 +11,8 @@ use std::sync::Wait;
 use std::time::Clock;
 use turn_cell::Room;
 use vk_base::NoMemory;
-use vk_hub::Hub;
-use vk_port::{Patience, Port, Pumped};
+use vk_hub::{Arrival, Hub};
+use vk_port::{Patience, Port};
 
 /// Microseconds of the longest sleep of a thread that waits for frames.
 const LONGEST_SLEEP: u32 = 1_000;
@@ -92,10 +92,10 @@ pub fn pump_on<R: Wait + Clock>(rt: &R, alloc: Global, port: &mut Port) -> Resul
 {
     let mut patience = Patience::new(LONGEST_SLEEP);
     for _ in rt.forever() {
-        match port.pump(rt, alloc) {
-            Ok(Pumped::Delivered { .. }) => patience.renew(),
-            Ok(Pumped::Nothing) => patience.wait(rt),
-            Ok(Pumped::Stopped) => return Ok(()),
+        match port.pump_once(rt, alloc) {
+            Ok(Arrival::Frame) => patience.renew(),
+            Ok(Arrival::Nothing) => patience.wait(rt),
+            Ok(Arrival::Stopped) => return Ok(()),
             Err(why) => return Err(why),
         }
     }

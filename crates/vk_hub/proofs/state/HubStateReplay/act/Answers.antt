@@ -7,4 +7,4 @@ invariant_of-self c =
     let h = c.self.inside in
     let room = rw (← c.self.view_is) at c.requires.room in
     let next = kept_more h.plan h.stations.items h.programs c.args.caller h.links h.past h.others c.self.invariant c.args.event.now room in
-    rw (c.change-out.ensures.traffic, c.push.ensures, c.is_halt.ensures, counts_one (is_halt c.args.event.now)) next
+    rw (c.change.ensures.traffic, c.push.ensures, c.is_halt.ensures, counts_one (is_halt c.args.event.now)) next

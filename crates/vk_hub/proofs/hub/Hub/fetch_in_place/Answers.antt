@@ -1,6 +1,6 @@
 use Rattle.std.proofs.Common.{rules}
 use Rattle.vk_hub.proofs.Posted.{from_post}
-use Rattle.vk_hub.proofs.hub.Hub.fetch.Goals as goal
+use Rattle.vk_hub.proofs.hub.Hub.fetch_in_place.Goals as goal
 
 pub returns-in-Some-clause-posted : goal.returns-in-Some-clause-posted
 returns-in-Some-clause-posted g c =
