@@ -20,6 +20,7 @@ use Rattle.v_machine.proofs.Changes.{change_numbered-set, set_numbered-same}
 use Rattle.v_machine.proofs.LeanExchanges.{length-given}
 use Rattle.v_machine.proofs.Spent.{absorbed}
 use Rattle.v_machine.proofs.SpentKernels.{alike_put}
+use Rattle.v_machine.proofs.Standing.{alike_emptied}
 
 -- numbers that the range has all below it
 between_none : (opened done from to number : ℕ) (ms : List Move) → to ≤ number → emptied_between opened done from to number ms ≡ ms
@@ -131,7 +132,8 @@ module _ (k : Kernel) (name : Name) (e : Exchange) (from to : ℕ) (at : k.excha
       }
 
   pub alike_given_back : IsAlike k (with_exchange k name (given_back from to e))
-  alike_given_back = alike_put k name e (given_back from to e) at (sym (lean_given_back from to e))
+  alike_given_back = alike_emptied k (with_exchange k name (given_back from to e))
+      (alike_put k name e (given_back from to e) at (sym (lean_given_back from to e)))
 
 -- A move that is not spent stays as it is.
 pub unspent_stays : (opened done number : ℕ) (ms : List Move) (m : Move) → Some m ≡ numbered ms number → is_spent opened done number m ≡ false

@@ -1,4 +1,4 @@
--- What a machine without the bytes of spent moves keeps after a step, and what it answers.
+-- What a machine without the bytes of spent moves, and with fewer of the exchanges that are over, keeps after a step, and what it answers.
 use Rattle.std.proofs.Common.{◌≡◌, ℕ, true, false, Option, Result, Ok, Err, refl, sym, subst, ◌∙◌, arith}
 use Rattle.std.proofs.lemmas.Bool.{both_ways}
 use Rattle.std.specs.Result.{is_ok}
@@ -9,12 +9,14 @@ use Rattle.v_machine.specs.declared.refusal.ApplyRefusal.TheVariants as refused
 use Rattle.v_machine.specs.Apply.{Applied, IsRefused}
 use Rattle.v_machine.specs.Follows.{Follows, StandsFor}
 use Rattle.v_machine.specs.Lean.{AreLean, GivesBack, IsAlike, opened_before}
+use Rattle.v_machine.specs.Spent.{current_kernel}
 use Rattle.v_machine.specs.Tables.{Tables, kernel_of}
-use Rattle.v_machine.proofs.LeanExchanges.{lean_kernel_stays}
+use Rattle.v_machine.proofs.LeanExchanges.{current_lean, emptied_stays}
 use Rattle.v_machine.proofs.LeanSteps.{lean_after}
 use Rattle.v_machine.proofs.Standing.{effect_alike, none_alike, notes_alike, some_alike}
 
--- behind a step, which led from the first tables to the second, the bytes of spent moves are given back, which leads to the third
+-- behind a step, which led from the first tables to the second, bytes of spent moves are given back and exchanges that are over are
+-- forgotten, which leads to the third
 pub record IsGiven (s : Step) (old mid new : Tables) : Type 0 where
   pub alike : IsAlike (kernel_of mid) (kernel_of new)
   pub gives : GivesBack s (opened_before (kernel_of old) s) (kernel_of mid) (kernel_of new)
@@ -31,7 +33,7 @@ given_back_from s old mid new before is alike gives noted = record {
 
 module _ (s : Step) (old : Tables) (lean : AreLean (kernel_of old).exchanges) where
   own : StandsFor old (kernel_of old)
-  own = sym (lean_kernel_stays (kernel_of old) lean)
+  own = sym (emptied_stays (current_kernel (kernel_of old)) (current_lean (kernel_of old) lean))
 
   alike : (k : Kernel) → StandsFor old k → IsAlike k (kernel_of old)
   alike k stands = sym stands ∙ own
@@ -53,7 +55,8 @@ module _ (s : Step) (old : Tables) (lean : AreLean (kernel_of old).exchanges) wh
         record {
           after = like.same;
           is = like.is;
-          stands = sym (like.alike ∙ given.alike ∙ lean_kernel_stays (kernel_of new) (lean_done mid new seen done given));
+          stands = sym (like.alike ∙ given.alike
+              ∙ emptied_stays (current_kernel (kernel_of new)) (current_lean (kernel_of new) (lean_done mid new seen done given)));
           noted = omega arith;
           few = omega arith;
         },

@@ -6,13 +6,13 @@ use Rattle.std.proofs.lemmas.List.{length_push, length-set}
 use Rattle.std.proofs.lemmas.Option.{same_Some, none-some}
 use Rattle.vk_types.specs.Types.{Exchange, Message, Move, Name, Pid, Stage}
 use Rattle.vk_base.specs.Kernel.{Kernel, same_name, move_of, put_exchange}
-use Rattle.vk_base.proofs.OptionLemmas.{mapped_is}
+use Rattle.vk_base.proofs.OptionLemmas.{bind_is, mapped_is}
 use Rattle.v_laws.proofs.MoveLists.{no_move, move_within, pushed_cases, opened_other}
 use Rattle.v_laws.proofs.MoveSteps.{opened_with}
 use Rattle.v_laws.proofs.Tables.{put_exchange_at, put_exchange_other}
 use Rattle.v_machine.specs.Lean.{IsLean, AreLean}
 use Rattle.v_machine.specs.Sends.{emptied_between, given_back, handed_on}
-use Rattle.v_machine.specs.Spent.{is_spent, emptied, all_emptied, lean, lean_kernel}
+use Rattle.v_machine.specs.Spent.{is_spent, emptied, all_emptied, has_ended, is_past, lean, current_kernel, emptied_kernel}
 use Rattle.v_machine.proofs.Spent.{spent_low}
 
 -- Nothing is left to be given back of them.
@@ -38,15 +38,25 @@ lean_stays e l = ap (λ (ms : List Move). record e { moves = ms }) (all_empty e.
     let place : 1 + i ≡ suc i = omega arith in
     l.empty (suc i) m at (subst (λ n. is_spent e.opened e.done n m ≡ true) place t)))
 
-pub lean_kernel_stays : (k : Kernel) → AreLean k.exchanges → lean_kernel k ≡ k
-unfolding lean_kernel
-lean_kernel_stays k each =
+pub emptied_stays : (k : Kernel) → AreLean k.exchanges → emptied_kernel k ≡ k
+unfolding emptied_kernel
+emptied_stays k each =
     let same : (n : Name) → option_map lean (k.exchanges n) ≡ k.exchanges n = λ n. by_option (k.exchanges n) (each n) in
     λ i. record k { exchanges = λ n. same n i }
   where
     by_option : (o : Option Exchange) → ((e : Exchange) → o ≡ Some e → IsLean e) → option_map lean o ≡ o
     by_option None each = refl
     by_option (Some e) each = ap Some (lean_stays e (each e refl))
+
+pub current_lean : (k : Kernel) → AreLean k.exchanges → AreLean (current_kernel k).exchanges
+unfolding current_kernel
+current_lean k each n e is =
+    let x = bind_is (k.exchanges n) _ e is in
+    subst IsLean (kept (is_past n.number (k.procs n.sender) && has_ended x.0) x.0 x.2) (each n x.0 x.1)
+  where
+    kept : (b : Bool) (x : Exchange) → cond b None (Some x) ≡ Some e → x ≡ e
+    kept true x is = absurd (none-some e is)
+    kept false x is = same_Some x e is
 
 -- One exchange after a change.
 pub lean_stage : (e : Exchange) (s : Stage) → IsLean e → IsLean (record e { stage = s })

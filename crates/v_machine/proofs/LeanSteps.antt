@@ -154,14 +154,14 @@ lean_move_copied k u name number offset count c lean g gives =
 
 pub lean_after : (k u : Kernel) (s : Step) (e : Effect) → AreLean k.exchanges → effect k s ≡ Some e →
     GivesBack s (opened_before k s) e.after u → AreLean u.exchanges
-lean_after k u (steps.Call pid c) e lean g same = let p = bind_is (k.procs pid) _ e g in
-    unchanged u e.after same (lean_called k pid p.0 c (call_refusal k pid p.0 c) e lean p.2)
-lean_after k u (steps.Arrive sender number) e lean g same = let x = bind_is (arriving k (name_of sender number)) _ e g in
-    unchanged u e.after same (as_lean _ e x.2 (lean_arrived k (name_of sender number) x.0 lean))
-lean_after k u (steps.Take r) e lean g same = let t = bind_is (taking k r) _ e g in
-    unchanged u e.after same (as_lean _ e t.2 (lean_taken k r t.0 lean t.1))
-lean_after k u (steps.Finish s) e lean g same = let f = bind_is (finishing k s) _ e g in unchanged u e.after same (as_lean _ e f.2 lean)
-lean_after k u (steps.Fail s why) e lean g same = let f = bind_is (failing k s why) _ e g in unchanged u e.after same (as_lean _ e f.2 lean)
+lean_after k u (steps.Call pid c) e lean g keeps = let p = bind_is (k.procs pid) _ e g in
+    keeps (lean_called k pid p.0 c (call_refusal k pid p.0 c) e lean p.2)
+lean_after k u (steps.Arrive sender number) e lean g keeps = let x = bind_is (arriving k (name_of sender number)) _ e g in
+    keeps (as_lean _ e x.2 (lean_arrived k (name_of sender number) x.0 lean))
+lean_after k u (steps.Take r) e lean g keeps = let t = bind_is (taking k r) _ e g in
+    keeps (as_lean _ e t.2 (lean_taken k r t.0 lean t.1))
+lean_after k u (steps.Finish s) e lean g keeps = let f = bind_is (finishing k s) _ e g in keeps (as_lean _ e f.2 lean)
+lean_after k u (steps.Fail s why) e lean g keeps = let f = bind_is (failing k s why) _ e g in keeps (as_lean _ e f.2 lean)
 lean_after k u (steps.OpenMove sender number moving) e lean g gives =
     let name = name_of sender number in
     let o = bind_is (opening_move k name moving) _ e g in
@@ -173,12 +173,12 @@ lean_after k u (steps.Copy sender number moving offset count) e lean g gives =
     let c = bind_is (copying k name moving offset count) _ e g in
     let after : e.after ≡ copied k name offset count c.0 = ap (λ (x : Effect). x.after) (sym (same_Some _ e c.2)) in
     lean_move_copied k u name moving offset count c.0 lean c.1 (subst (λ l. GivesBackOf name moving moving l u) after gives)
-lean_after k u (steps.End r why) e lean g same = let x = bind_is (ending k r why) _ e g in unchanged u e.after same (as_lean _ e x.2 lean)
-lean_after k u (steps.Hear asker number pid) e lean g same = let l = bind_is (hearing k asker number pid) _ e g in
-    unchanged u e.after same (as_lean _ e l.2 lean)
-lean_after k u (steps.Found asker pid) e lean g same = let p = bind_is (finding k asker pid) _ e g in
-    unchanged u e.after same (as_lean _ e p.2 lean)
-lean_after k u (steps.Lost asker) e lean g same = let p = bind_is (asking k asker) _ e g in
-    unchanged u e.after same (as_lean _ e p.2 lean)
-lean_after k u (steps.Collect pid) e lean g same = let d = bind_is (collecting k pid) _ e g in
-    unchanged u e.after same (as_lean _ e d.2 lean)
+lean_after k u (steps.End r why) e lean g keeps = let x = bind_is (ending k r why) _ e g in keeps (as_lean _ e x.2 lean)
+lean_after k u (steps.Hear asker number pid) e lean g keeps = let l = bind_is (hearing k asker number pid) _ e g in
+    keeps (as_lean _ e l.2 lean)
+lean_after k u (steps.Found asker pid) e lean g keeps = let p = bind_is (finding k asker pid) _ e g in
+    keeps (as_lean _ e p.2 lean)
+lean_after k u (steps.Lost asker) e lean g keeps = let p = bind_is (asking k asker) _ e g in
+    keeps (as_lean _ e p.2 lean)
+lean_after k u (steps.Collect pid) e lean g keeps = let d = bind_is (collecting k pid) _ e g in
+    keeps (as_lean _ e d.2 lean)

@@ -3,13 +3,19 @@ pub mod Applying
 pub mod Arrivals
 pub mod Arrive
 pub mod Asking
+pub mod Behind
 pub mod CallSteps
 pub mod Changes
 pub mod Coming
+pub mod Current
+pub mod CurrentCalls
+pub mod CurrentSteps
 pub mod Each
+pub mod Effects
 pub mod Emptying
 pub mod Fits
 pub mod Forwarding
+pub mod Forgetting
 pub mod Following
 pub mod Grouping
 pub mod Holding
@@ -19,6 +25,7 @@ pub mod LatestLemmas
 pub mod LeanExchanges
 pub mod LeanSteps
 pub mod Leaving
+pub mod Live
 pub mod MoveCalls
 pub mod MoveLemmas
 pub mod MoveSteps
@@ -30,6 +37,7 @@ pub mod PlaceLemmas
 pub mod Popping
 pub mod Replaced
 pub mod SendLemmas
+pub mod Shifting
 pub mod Spent
 pub mod SpentCalls
 pub mod SpentKernels

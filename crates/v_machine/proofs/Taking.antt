@@ -16,8 +16,10 @@ use Rattle.v_laws.proofs.Queues.{first_is}
 use Rattle.v_machine.specs.declared.tables.Store.{Store}
 use Rattle.v_machine.specs.Kept.{IsKept, IsIndexed, IsAt, IsNoNearer, kernel_in, tables_in}
 use Rattle.v_machine.specs.Places.{place_in, at_place}
-use Rattle.v_machine.specs.Rules.{Goes, Stays, GoesOrNot, Delivers, HasRoom}
+use Rattle.v_machine.specs.Rules.{IsLive, Goes, Stays, GoesOrNot, Delivers, HasRoom}
+use Rattle.v_machine.specs.Spent.{has_ended}
 use Rattle.v_machine.specs.Tables.{Tables, kernel_of}
+use Rattle.v_machine.proofs.Current.{queued_open}
 use Rattle.v_machine.proofs.Fits.{asked_room}
 use Rattle.v_machine.proofs.PlaceLemmas.{nowhere}
 use Rattle.v_machine.proofs.StepLemmas.{found}
@@ -100,6 +102,14 @@ module _ (s between : Store) (pid : Pid) (at : ℕ) (p : Process) (c : Call) (na
         ∙ exchanges_nowhere between.places between.sends.items name (nowhere between.places between.sends.items name.sender (sym none))),
     record { tables = same; indexed = indexed },
   )
+
+  pub live_first : (from : ℕ) → IsAt between name.sender from → IsLive between from name.number
+  live_first from sender =
+      let e = first_is_queued (kernel_in s) pid name (sym first) in (
+        name.sender,
+        sender.place,
+        ap (λ (k : Kernel). holds_of has_ended (k.exchanges name)) same_kernel ∙ ap (holds_of has_ended) e.1 ∙ queued_open e.0 e.2,
+      )
 
   pub still_low : at < length between.procs.items
   still_low = subst (λ (n : ℕ). at < n) (ap (λ (x : Tables). length x.procs) (sym (same 0))) here.procs

@@ -1,16 +1,17 @@
--- What a machine that gives the bytes of spent moves back answers to a step.
+-- What a machine that gives the bytes of spent moves back, and forgets exchanges that are over, answers to a step.
 use Rattle.std.specs.Prelude.{◌≡◌, ◌+◌, ◌≤◌, Option, Some, Result, Ok, Err}
 use Rattle.vk_types.specs.Types.{Observation, Step}
 use Rattle.vk_base.specs.Kernel.{Kernel}
 use Rattle.vk_base.specs.Steps.{effect}
 use Rattle.v_machine.specs.declared.refusal.ApplyRefusal.{ApplyRefusal}
 use Rattle.v_machine.specs.Apply.{IsRefused, most, notes}
-use Rattle.v_machine.specs.Spent.{lean_kernel}
+use Rattle.v_machine.specs.Spent.{current_kernel, lean_kernel}
 use Rattle.v_machine.specs.Tables.{Tables, kernel_of}
 
--- It stands for a kernel where its tables are those of that kernel without these bytes.
+-- It stands for a kernel where its tables, without the exchanges that are over, are those of the kernel without these and without the bytes
+-- of spent moves. Which of these exchanges it still has, and how they look there, does not matter.
 abbrev pub StandsFor : Tables → Kernel → Type 0
-StandsFor t k = kernel_of t ≡ lean_kernel k
+StandsFor t k = current_kernel (kernel_of t) ≡ lean_kernel k
 
 -- the kernel takes the step, this is seen of it, and the machine stands for the kernel after it
 pub record Takes (k : Kernel) (s : Step) (old new : Tables) (seen : Option Observation) : Type 0 where

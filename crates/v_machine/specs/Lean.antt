@@ -1,4 +1,5 @@
--- Internal: no public contract rests on this file. Kernels that have no bytes of spent moves, and what gives such bytes back.
+-- Internal: no public contract rests on this file. Kernels that have no bytes of spent moves, and what gives such bytes back and forgets
+-- exchanges that are over.
 use Rattle.std.specs.Prelude.{ℕ, ◌≡◌, ◌≤◌, min, true, [], length, Option, Some, None}
 use Rattle.vk_types.specs.Types.{Exchange, Move, Name, Step}
 use Rattle.vk_base.specs.declared.step.Step.TheVariants as steps
@@ -15,7 +16,7 @@ pub record IsLean (e : Exchange) : Type 0 where
 abbrev pub AreLean : (Name → Option Exchange) → Type 0
 AreLean exchanges = (n : Name) (e : Exchange) → exchanges n ≡ Some e → IsLean e
 
--- two kernels are the same but for such bytes
+-- two kernels are the same but for such bytes, and for exchanges that are over
 abbrev pub IsAlike : Kernel → Kernel → Type 0
 IsAlike k l = lean_kernel k ≡ lean_kernel l
 
@@ -32,8 +33,9 @@ opened_before k s = 0
 abbrev pub GivesBackOf : Name → ℕ → ℕ → Kernel → Kernel → Type 0
 GivesBackOf name from to k l = (e : Exchange) → k.exchanges name ≡ Some e → l ≡ with_exchange k name (given_back from to e)
 
--- and that behind a step, before which this one was open: those up to the one that was opened, or the one that was written
+-- and that behind a step, before which this one was open: those up to the one that was opened, or the one that was written; behind all
+-- others no such byte comes
 abbrev pub GivesBack : Step → ℕ → Kernel → Kernel → Type 0
 GivesBack (steps.OpenMove sender number moving) before k l = GivesBackOf (name_of sender number) (min before moving) moving k l
 GivesBack (steps.Copy sender number moving offset count) before k l = GivesBackOf (name_of sender number) moving moving k l
-GivesBack s before k l = l ≡ k
+GivesBack s before k l = AreLean k.exchanges → AreLean l.exchanges

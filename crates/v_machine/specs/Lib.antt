@@ -1,6 +1,7 @@
 pub mod Access
 pub mod Apart
 pub mod Apply
+pub mod Begun
 pub mod Follows
 pub mod Groups
 pub mod Handed
@@ -18,5 +19,6 @@ pub mod Queues
 pub mod Rules
 pub mod Sends
 pub mod Sent
+pub mod Shortened
 pub mod Spent
 pub mod Tables

@@ -6,7 +6,7 @@ use Rattle.vk_types.specs.Types.{Call, Exchange, Message, Name, Observation, Pid
 use Rattle.vk_base.specs.declared.answer.Answer.TheVariants as answers
 use Rattle.vk_base.specs.declared.call.Call.TheVariants as calls
 use Rattle.vk_base.specs.Calls.{Effect, called, first_that_holds, forwarded, tests_of}
-use Rattle.vk_base.specs.Kernel.{Kernel, name_of, same_name, is_ready, is_queued, is_posted, is_taken, put_process, put_exchange}
+use Rattle.vk_base.specs.Kernel.{Kernel, holds_of, name_of, same_name, is_ready, is_queued, is_posted, is_taken, put_process, put_exchange}
 use Rattle.vk_base.specs.Messages.{segment_of}
 use Rattle.vk_base.specs.Pids.{same_host}
 use Rattle.vk_base.specs.Ranges.{lies_in}
@@ -22,6 +22,7 @@ use Rattle.v_machine.specs.Apply.{noted_by_call}
 use Rattle.v_machine.specs.Kept.{IsIndexed, kernel_in, tables_in}
 use Rattle.v_machine.specs.Latest.{has_host}
 use Rattle.v_machine.specs.Places.{place_in}
+use Rattle.v_machine.specs.Spent.{has_ended}
 
 -- the store stands for the same tables
 pub record Stays (old new : Store) : Type 0 where
@@ -166,3 +167,8 @@ is_access (calls.ReplySegment m to dest src count) = true
 is_access (calls.MoveTo partner dest src count) = true
 is_access (calls.MoveFrom partner dest src count) = true
 is_access c = false
+
+-- the Send of this number, of the process of this place, has not ended
+abbrev pub IsLive : Store → (at number : ℕ) → Type 0
+IsLive s at number = (pid : Pid) × (place_in s.places pid ≡ Some at)
+    × (holds_of has_ended ((kernel_in s).exchanges (name_of pid number)) ≡ false)

@@ -12,7 +12,7 @@ pub record Tables : Type 0 where
   -- the processes of the configuration
   pub pids : List Pid
   pub procs : List Proc
-  -- their Sends
+  -- their Sends; in a `LeanMachine` those that are over may stand there otherwise than they were
   pub sends : List (List Exchange)
   -- their lookups
   pub asked : List (List Lookup)

@@ -1,6 +1,6 @@
 //! The one-machine kernel as fast code, proved equal to its definition: `Machine::apply` answers NotAllowed exactly where the
 //! kernel does not allow the step (`specs/Apply.antt`). So does `LeanMachine`, for each kernel that it stands for; it keeps no
-//! bytes of remote moves that are spent (`specs/Follows.antt`).
+//! bytes of remote moves that are spent, and forgets exchanges that are over (`specs/Follows.antt`).
 //!
 //! Stands on the definition in `vk_base`, on what `v_laws` says of every kernel that a run reaches, and on the steps in few
 //! bytes of `vk_brief`.
@@ -10,7 +10,7 @@
 //! | `machine.rt`, `lean.rt` | the two machines, all that callers see; their errors are `refusal.rt`, a step in few bytes is `brief.rt` |
 //! | `tables.rt`, `tables/` | what is kept (`specs/Tables.antt`, `specs/Kept.antt`): a file for each table with what reads and changes it |
 //! | `calls.rt`, `calls/` | the step that is a call: a file for each kind; `access.rt`, `held.rt` where a partner is concerned |
-//! | `steps.rt`, `steps/` | the other steps: of messages, of remote moves, of lookups; `spent.rt` gives bytes of moves back behind them |
+//! | `steps.rt`, `steps/` | the other steps: of messages, of remote moves, of lookups; `spent.rt` gives bytes of moves back behind them, and forgets exchanges |
 #![tactic(auto)]
 
 mod brief;

@@ -110,7 +110,7 @@ impl Machine {
 
     /// Gives bytes back behind a step, where `before` is what [`Machine::opened_before`] gave before it. Behind a step that opened
     /// a move those of the spent moves from number `before` up to the opened one; behind one that wrote bytes of a move those of
-    /// this move, where it is spent; behind any other step none.
+    /// this move, where it is spent; behind any other step none. Behind a Send it may forget exchanges of its sender that are over.
     #[inline(always)]
     pub(crate) fn give_back(&mut self, alloc: Global, step: &StepView, before: u64)
         ensures alike { IsAlike (kernel_of self.old) (kernel_of self.new) }

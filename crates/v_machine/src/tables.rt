@@ -2,6 +2,7 @@
 
 pub mod apart;
 pub mod arrivals;
+pub mod begun;
 pub mod bytes;
 pub mod groups;
 pub mod handed;
@@ -21,19 +22,19 @@ pub mod sends;
 pub mod sent;
 pub mod spent;
 
+use crate::tables::begun::Begun;
 use crate::tables::latest::Latests;
 use crate::tables::numbered::Numbered;
 use crate::tables::places::Places;
 use crate::tables::proc::Proc;
 use crate::tables::queue::Queue;
-use crate::tables::sent::Sent;
 use vk_base::{Lookup, Name, Registration};
 
 #[derive(Drop)]
 pub struct Store {
     pub places: Places,
     pub procs: Vec<Proc>,
-    pub sends: Vec<Numbered<Sent>>,
+    pub sends: Vec<Begun>,
     pub asked: Vec<Numbered<Lookup>>,
     pub names: Vec<Registration>,
     /// What came to queues, in order. A name that came there anew stands here again: its last place counts.

@@ -12,12 +12,11 @@ ghost use Rattle.v_machine.specs.Tables.{process_of};
 
 use crate::calls::response::Response;
 use crate::tables::Store;
+use crate::tables::begun::{Begun, drop_at};
 use crate::tables::latest::Latests;
-use crate::tables::numbered::Numbered;
 use crate::tables::places::Places;
 use crate::tables::proc::Proc;
-use crate::tables::sends::{drop_at, is_message_at};
-use crate::tables::sent::Sent;
+use crate::tables::sends::is_message_at;
 use vk_base::{Activity, Call, Outcome, Pid, Refusal, Registration};
 
 /// Exit.
@@ -34,7 +33,7 @@ pub fn exit(store: &mut Store, at: usize, pid: Pid) -> Response
 }
 
 /// The processes of its station that wait on the one that is gone are refused.
-fn release(places: &Places, sends: &[Numbered<Sent>], procs: &mut [Proc], gone: Pid)
+fn release(places: &Places, sends: &[Begun], procs: &mut [Proc], gone: Pid)
     requires { length sends.now ≡ length procs.old }
     ensures each { Each (Leaves gone places.now sends.now) procs.old procs.new }
     ensures count { length procs.new ≡ length procs.old }
@@ -45,7 +44,7 @@ fn release(places: &Places, sends: &[Numbered<Sent>], procs: &mut [Proc], gone: 
     }
 }
 
-fn leave(proc: &mut Proc, pid: Pid, sends: &Numbered<Sent>, gone: Pid)
+fn leave(proc: &mut Proc, pid: Pid, sends: &Begun, gone: Pid)
     ensures { (s l : ℕ) → process_of proc.new s l ≡ left gone pid sends.now (process_of proc.old s l) }
 {
     if is_left(&proc.activity, pid, sends, gone) {
@@ -57,7 +56,7 @@ fn leave(proc: &mut Proc, pid: Pid, sends: &Numbered<Sent>, gone: Pid)
 }
 
 /// Whether the process of the first pid waits on the one that is gone.
-fn is_left(activity: &Activity, pid: Pid, sends: &Numbered<Sent>, gone: Pid) -> bool
+fn is_left(activity: &Activity, pid: Pid, sends: &Begun, gone: Pid) -> bool
     ensures { result ≡ is_left gone pid sends.now (state_of activity.now) }
 {
     if pid.host != gone.host || activity.sending().is_none() {
@@ -70,7 +69,7 @@ fn is_left(activity: &Activity, pid: Pid, sends: &Numbered<Sent>, gone: Pid) -> 
 }
 
 /// What is queued at the process that is gone, or held by it, is dropped: of each sender that can be only the latest.
-fn drop_at_target(latest: &[Latests], sends: &mut [Numbered<Sent>], gone: Pid)
+fn drop_at_target(latest: &[Latests], sends: &mut [Begun], gone: Pid)
     requires { length latest.now ≡ length sends.old }
     ensures each { Each (Drops gone latest.now) sends.old sends.new }
     ensures count { length sends.new ≡ length sends.old }

@@ -12,7 +12,7 @@ use crate::refusal::ApplyRefusal;
 use crate::tables::arrivals::{make_way, push_name};
 use crate::tables::handed::Handing;
 use crate::tables::put::find_live;
-use crate::tables::{Store, sends};
+use crate::tables::{Store, begun};
 use std::alloc::Global;
 use vk_base::{Call, Message, Name, NoMemory, Pid, Refusal};
 
@@ -83,7 +83,7 @@ fn hand_on(
 {
     let waiting = store.queues[there].len();
     store.queues[there].push(name)?;
-    if sends::hand_on(&mut store.sends[at], alloc, name.number, on.shown, on.at).is_err() {
+    if begun::hand_on(&mut store.sends[at], alloc, name.number, on.shown, on.at).is_err() {
         store.queues[there].truncate(waiting);
         return Err(NoMemory);
     }

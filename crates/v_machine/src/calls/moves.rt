@@ -10,7 +10,7 @@ ghost use Rattle.vk_base.specs.Activities.{call_of};
 ghost use Rattle.v_machine.specs.Kept.{IsKept, IsIndexed, IsAt, kernel_in};
 ghost use Rattle.v_machine.specs.Moves.{JudgesBegun, Copies, Begins, BeginsOrNot, call_moving};
 ghost use Rattle.v_machine.specs.Places.{place_in};
-ghost use Rattle.v_machine.specs.Rules.{Judges, Stays};
+ghost use Rattle.v_machine.specs.Rules.{IsLive, Judges, Stays};
 
 use crate::calls::access::{Access, held_for};
 use crate::calls::caller::Caller;
@@ -148,6 +148,7 @@ fn begin_to(
     requires indexed { IsIndexed store.old }
     requires here { IsAt store.old caller.pid caller.at }
     requires there { IsAt store.old asked.partner holding.at }
+    requires live { IsLive store.old holding.at holding.number }
     ensures { (p : Process) → (kernel_in store.old).procs caller.pid ≡ Some p → lies_in (range_of asked.src asked.count) (length p.memory) ≡ true →
         BeginsOrNot caller.pid (Call.MoveTo asked.partner asked.dest asked.src asked.count)
         asked.partner holding.number asked.count room
@@ -178,6 +179,7 @@ fn begin_from(
     requires indexed { IsIndexed store.old }
     requires here { IsAt store.old caller.pid caller.at }
     requires there { IsAt store.old asked.partner holding.at }
+    requires live { IsLive store.old holding.at holding.number }
     ensures { BeginsOrNot caller.pid (Call.MoveFrom asked.partner asked.dest asked.src asked.count) asked.partner holding.number 0 0
         (new_move caller.pid Direction.From asked.dest asked.src asked.count []) store.old store.new result }
 {
@@ -211,6 +213,7 @@ fn begin(
     requires indexed { IsIndexed store.old }
     requires here { IsAt store.old begun.mover at }
     requires there { IsAt store.old partner holding.at }
+    requires live { IsLive store.old holding.at holding.number }
     ensures ok { OnOk result (Begins begun.mover (call_moving partner begun) partner holding.number begun store.old store.new) }
     ensures err { OnErr result (Stays store.old store.new) }
 {

@@ -11,7 +11,7 @@ ghost use Rattle.v_machine.specs.Rules.{Answers, HasRoomFor, IsPostedTo, posted_
 use crate::refusal::ApplyRefusal;
 use crate::tables::arrivals::{make_room, push_name};
 use crate::tables::put::{find, find_live, sent_of};
-use crate::tables::{Store, sends};
+use crate::tables::{Store, begun};
 use vk_base::{Name, Pid};
 
 /// Arrive.
@@ -65,7 +65,7 @@ fn come(
 {
     store.queues[to].push(name)?;
     let latest = store.latest[at].get(target.host);
-    sends::come(&mut store.sends[at], latest, name.number, target.host);
+    begun::come(&mut store.sends[at], latest, name.number, target.host);
     store.latest[at].put(target.host, name.number);
     push_name(&mut store.arrived, name);
     Ok(())

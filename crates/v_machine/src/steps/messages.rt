@@ -8,13 +8,13 @@ ghost use Rattle.vk_base.specs.Steps.{collect_step, take_step, finish_step, fail
 ghost use Rattle.v_machine.specs.Kept.{IsKept, kernel_in};
 ghost use Rattle.vk_base.specs.Activities.{call_of, answer_of};
 ghost use Rattle.v_machine.specs.Queues.{LeadsQueue};
-ghost use Rattle.v_machine.specs.Rules.{Answers, GoesOrNot, Delivers, HasRoom};
+ghost use Rattle.v_machine.specs.Rules.{IsLive, Answers, GoesOrNot, Delivers, HasRoom};
 
 use crate::refusal::ApplyRefusal;
 use crate::tables::put::{find, is_live, proc, put_activity, sends_of, sent_of};
 use crate::tables::queues::front;
 use crate::tables::sent::Sent;
-use crate::tables::{Store, sends};
+use crate::tables::{Store, begun};
 use vk_base::{Activity, Ending, Memory, Name, Observation, Outcome, Pid, Refusal, Waiting};
 
 /// Take.
@@ -38,13 +38,14 @@ fn deliver(store: &mut Store, at: usize, from: usize, name: Name, waiting: Waiti
     requires from { from < length store.old.sends.items }
     requires queue { at < length store.old.queues.items }
     requires first { LeadsQueue store.old at name }
+    requires live { IsLive store.old from name.number }
     ensures { Delivers at from name (call_of waiting) store.old store.new result }
 {
     let sent = store.sends[from].get(name.number)?;
     let proc = &mut store.procs[at];
     let outcome = receive_into(&mut proc.memory, sent, waiting, name.sender);
     proc.activity = Activity::Done { waiting, outcome };
-    sends::take(&mut store.sends[from], name.number);
+    begun::take(&mut store.sends[from], name.number);
     store.queues[at].pop();
     Some(())
 }

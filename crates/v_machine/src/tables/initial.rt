@@ -6,6 +6,7 @@ ghost use Rattle.v_machine.specs.Kept.{IsIndexed, kernel_in};
 ghost use Rattle.v_machine.specs.Initial.{IsGrown, IsInitial};
 
 use crate::tables::Store;
+use crate::tables::begun::Begun;
 use crate::tables::latest::Latests;
 use crate::tables::numbered::Numbered;
 use crate::tables::places::Places;
@@ -53,7 +54,7 @@ fn add(store: &mut Store, alloc: Global, spec: &ProcessSpec) -> Result<(), NoMem
         activity: Activity::Ready,
         moving: None,
     })?;
-    store.sends.push(Numbered::new(alloc))?;
+    store.sends.push(Begun::new(alloc))?;
     store.asked.push(Numbered::new(alloc))?;
     store.queues.push(Queue::new(alloc))?;
     store.latest.push(Latests::new(alloc))?;

@@ -11,13 +11,13 @@ ghost use Rattle.vk_base.specs.Activities.{call_of};
 ghost use Rattle.v_machine.specs.Kept.{IsIndexed, IsAt, kernel_in};
 ghost use Rattle.v_machine.specs.Moves.{Puts, with_moving};
 ghost use Rattle.v_machine.specs.Places.{place_in};
-ghost use Rattle.v_machine.specs.Rules.{Stays};
+ghost use Rattle.v_machine.specs.Rules.{IsLive, Stays};
 ghost use Rattle.v_machine.specs.Sends.{given_back, with_begun, with_opened, with_written};
 
 use crate::tables::numbered::index_of;
 use crate::tables::put::{find, proc, sends_of};
 use crate::tables::sent::Sent;
-use crate::tables::{Store, sends};
+use crate::tables::{Store, begun};
 use std::alloc::Global;
 use vk_base::{Activity, List, Memory, Move, MoveName, Name, NoMemory, Range, Waiting};
 
@@ -29,13 +29,14 @@ pub fn push_move(
     number: u64,
     begun: Move,
 ) -> Result<(), NoMemory>
-    requires { at < length store.old.sends.items }
+    requires low { at < length store.old.sends.items }
+    requires live { IsLive store.old at number }
     ensures ok { OnOk result (Puts (with_begun begun) at number store.old store.new) }
     ensures err { OnErr result (IsIndexed store.old → Stays store.old store.new) }
     ensures places { store.new.places ≡ store.old.places }
     ensures procs { store.new.procs ≡ store.old.procs }
 {
-    sends::push_move(&mut store.sends[at], alloc, number, begun)
+    begun::push_move(&mut store.sends[at], alloc, number, begun)
 }
 
 /// A move of a Send of the process of this place is the open one from now on, with these bytes, if some are given.
@@ -51,7 +52,7 @@ pub fn put_open(
     requires { at < length store.old.sends.items }
     ensures { Puts (with_opened moving noted) at number store.old store.new }
 {
-    sends::open_move(&mut store.sends[at], alloc, number, moving, noted);
+    begun::open_move(&mut store.sends[at], alloc, number, moving, noted);
 }
 
 /// So many bytes of the open move of a Send of the process of this place were written. Where no move was begun nothing
@@ -60,7 +61,7 @@ pub fn put_done(store: &mut Store, at: usize, number: u64, done: u32)
     requires { at < length store.old.sends.items }
     ensures { Puts (with_written done) at number store.old store.new }
 {
-    sends::put_done(&mut store.sends[at], number, done);
+    begun::put_done(&mut store.sends[at], number, done);
 }
 
 /// Of the moves from one number up to another of a Send of the process of this place, the spent ones give their bytes back.
@@ -69,7 +70,7 @@ pub fn put_emptied(store: &mut Store, alloc: Global, at: usize, number: u64, fro
     requires order { from ≤ to }
     ensures { Puts (given_back from to) at number store.old store.new }
 {
-    sends::give_back(&mut store.sends[at], alloc, number, from, to);
+    begun::give_back(&mut store.sends[at], alloc, number, from, to);
 }
 
 /// The process of this place waits in a call for the end of a move.

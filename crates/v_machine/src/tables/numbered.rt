@@ -1,6 +1,6 @@
 //! Lists whose items are numbered from 1.
 
-ghost use Rattle.std.specs.Prelude.{◌≡◌, ◌++◌, ◌∷◌, [], length, option_copied, OnOk, OnErr};
+ghost use Rattle.std.specs.Prelude.{◌≡◌, ◌≤◌, ◌-◌, ◌++◌, ◌∷◌, [], drop, length, slice_get, option_copied, OnOk, OnErr};
 ghost use Rattle.std.specs.Borrow.{sem};
 ghost use Rattle.std.specs.Option.{option_copied_mut};
 ghost use Rattle.v_machine.specs.Places.{index_of, numbered};
@@ -62,11 +62,24 @@ impl<T> Numbered<T> {
         self.items.len() as u64
     }
 
+    /// Whether one more item takes more memory.
+    pub fn is_full(&self) -> bool {
+        self.items.len() == self.items.capacity()
+    }
+
     /// The item of a number.
     pub fn get(&self, number: u64) -> Option<&T>
         ensures { option_copied result ≡ numbered self.now number }
     {
         self.items.get(index_of(number))
+    }
+
+    /// The item of a number, where so many were forgotten: the first stands for each of these.
+    pub fn get_after(&self, forgotten: u64, number: u64) -> Option<&T>
+        ensures { option_copied result ≡ slice_get self.now (index_of number - forgotten) }
+    {
+        self.items
+            .get(index_of(number).saturating_sub(forgotten as usize))
     }
 
     /// The item of a number, to be changed.
@@ -88,6 +101,24 @@ impl<T> Numbered<T> {
     {
         self.items.push(item)?;
         Ok(())
+    }
+
+    /// The first items are forgotten, so many, and those behind them have the numbers from 1 on.
+    pub fn forget(&mut self, count: u64)
+    where
+        T: Drop,
+        requires { count ≤ length self.old }
+        ensures { self.new ≡ drop count self.old }
+    {
+        let count = count as usize;
+        let rest = self.items.len() - count;
+        if count == 0 {
+            return;
+        }
+        for at in 0..rest {
+            self.items.swap(at, count + at);
+        }
+        self.items.truncate(rest);
     }
 }
 

@@ -11,12 +11,12 @@ ghost use Rattle.vk_base.specs.Ranges.{with_bytes, range_of, lies_in};
 ghost use Rattle.vk_base.specs.Activities.{state_of};
 ghost use Rattle.v_machine.specs.Kept.{IsIndexed, IsAt, IsNoNearer, kernel_in};
 ghost use Rattle.v_machine.specs.Places.{place_in, count_at};
-ghost use Rattle.v_machine.specs.Rules.{Stays};
+ghost use Rattle.v_machine.specs.Rules.{IsLive, Stays};
 ghost use Rattle.v_machine.specs.Tables.{process_of};
 
 use crate::tables::proc::Proc;
 use crate::tables::sent::{Replied, Sent};
-use crate::tables::{Store, sends};
+use crate::tables::{Store, begun};
 use std::alloc::Global;
 use vk_base::{Activity, Message, NoMemory, Pid};
 
@@ -119,7 +119,8 @@ pub fn sent_of(store: &Store, at: usize, number: u64) -> Option<&Sent>
 
 /// The Send of this number is replied to, by a message alone.
 pub fn put_answer(store: &mut Store, alloc: Global, at: usize, number: u64, message: Message)
-    requires { at < length store.old.sends.items }
+    requires low { at < length store.old.sends.items }
+    requires live { IsLive store.old at number }
     ensures kernel { (pid : ThePid) (e : TheExchange) → place_in store.old.places pid ≡ Some at →
         (kernel_in store.old).exchanges (name_of pid number) ≡ Some e →
         kernel_in store.new ≡ with_stage (kernel_in store.old) (name_of pid number) e (stages.Replied message 0 []) }
@@ -127,7 +128,7 @@ pub fn put_answer(store: &mut Store, alloc: Global, at: usize, number: u64, mess
         (kernel_in store.old).exchanges (name_of pid number) ≡ Some e →
         IsNoNearer e.stage (stages.Replied message 0 []) → IsIndexed store.old → IsIndexed store.new }
 {
-    sends::answer(&mut store.sends[at], alloc, number, message);
+    begun::answer(&mut store.sends[at], alloc, number, message);
 }
 
 /// The Send of this number is replied to, with bytes for its sender's memory. Where memory is wanting nothing changes.
@@ -138,7 +139,8 @@ pub fn put_answer_with(
     number: u64,
     reply: Replied,
 ) -> Result<(), NoMemory>
-    requires { at < length store.old.sends.items }
+    requires low { at < length store.old.sends.items }
+    requires live { IsLive store.old at number }
     ensures kernel { OnOk result ((pid : ThePid) (e : TheExchange) → place_in store.old.places pid ≡ Some at →
         (kernel_in store.old).exchanges (name_of pid number) ≡ Some e →
         kernel_in store.new ≡ with_stage (kernel_in store.old) (name_of pid number) e
@@ -148,5 +150,5 @@ pub fn put_answer_with(
         IsNoNearer e.stage (stages.Replied reply.message reply.dest reply.bytes) → IsIndexed store.old → IsIndexed store.new) }
     ensures err { OnErr result (IsIndexed store.old → Stays store.old store.new) }
 {
-    sends::answer_with(&mut store.sends[at], alloc, number, reply)
+    begun::answer_with(&mut store.sends[at], alloc, number, reply)
 }

@@ -10,7 +10,7 @@ ghost use Rattle.v_machine.specs.Queues.{LeadsQueue};
 ghost use Rattle.v_machine.specs.Tables.{exchanges_by};
 
 use crate::tables::Store;
-use crate::tables::numbered::Numbered;
+use crate::tables::begun::Begun;
 use crate::tables::places::Places;
 use crate::tables::queue::Queue;
 use crate::tables::sent::Sent;
@@ -18,14 +18,14 @@ use vk_base::{Name, Pid};
 
 /// The Send of a name.
 #[tactic(auto, unfolding(crate::specs::Tables::exchanges_by, crate::specs::Places::at_place))]
-pub fn named<'a>(places: &Places, sends: &'a [Numbered<Sent>], name: Name) -> Option<&'a Sent>
+pub fn named<'a>(places: &Places, sends: &'a [Begun], name: Name) -> Option<&'a Sent>
     ensures { exchanges_by places.now sends.now name ≡ option_copied result }
 {
     let at = places.find(name.sender)?;
     sends.get(at)?.get(name.number)
 }
 
-fn is_queued(places: &Places, sends: &[Numbered<Sent>], pid: Pid, name: Name) -> bool
+fn is_queued(places: &Places, sends: &[Begun], pid: Pid, name: Name) -> bool
     ensures { result ≡ queued_at (exchanges_by places.now sends.now) pid name }
 {
     match named(places, sends, name) {
@@ -35,12 +35,7 @@ fn is_queued(places: &Places, sends: &[Numbered<Sent>], pid: Pid, name: Name) ->
 }
 
 /// The first name that is queued at the process. Those before it are taken away.
-fn first_queued(
-    places: &Places,
-    sends: &[Numbered<Sent>],
-    queue: &mut Queue,
-    pid: Pid,
-) -> Option<Name>
+fn first_queued(places: &Places, sends: &[Begun], queue: &mut Queue, pid: Pid) -> Option<Name>
     ensures same { filter (queued_at (exchanges_by places.now sends.now) pid) queue.new
         ≡ filter (queued_at (exchanges_by places.now sends.now) pid) queue.old }
     ensures first { result ≡ first_of (filter (queued_at (exchanges_by places.now sends.now) pid) queue.old) }

@@ -1,24 +1,16 @@
 //! The Sends of one process, which are the exchanges of the kernel: changes of one of them.
 
-ghost use Rattle.std.specs.Prelude.{◌≡◌, ◌≤◌, ◌+◌, ◌||◌, [], length, ℕ, option_map, OnOk, OnErr};
+ghost use Rattle.std.specs.Prelude.{◌≡◌, ◌≤◌, ◌||◌, [], OnOk, OnErr};
 ghost use Rattle.vk_base.specs.Calls.{is_message_at, dropped_at};
 ghost use Rattle.vk_base.specs.Kernel.{is_posted, is_at_target};
 ghost use Rattle.vk_base.specs.declared.kernel.Stage.TheVariants as stages;
 ghost use Rattle.v_machine.specs.Lists.{change_numbered};
-ghost use Rattle.v_machine.specs.Places.{numbered};
-ghost use Rattle.v_machine.specs.Sends.{at_stage, dropped_to, handed_on, come_at, with_begun, with_opened, with_written, given_back};
+ghost use Rattle.v_machine.specs.Sends.{at_stage, dropped_to, handed_on, with_begun, with_opened, with_written, given_back};
 
 use crate::tables::numbered::Numbered;
 use crate::tables::sent::{Replied, Sent};
 use std::alloc::Global;
 use vk_base::{List, Message, Move, NoMemory, Pid};
-
-/// The number of the next Send.
-pub fn next_number(sends: &Numbered<Sent>) -> u64
-    ensures { result ≡ length sends.now + 1 }
-{
-    sends.as_slice().len() as u64 + 1
-}
 
 /// The message of the Send of a number is taken.
 #[tactic(auto, using(crate::proofs::Changes::changes))]
@@ -76,21 +68,9 @@ pub fn answer_with(
     }
 }
 
-/// The Send of a number comes to a queue of the host. Those to the host before it, from the latest that came on, are
-/// dropped, where they are under way.
-pub fn come(sends: &mut Numbered<Sent>, latest: u64, number: u64, host: u16)
-    requires { latest ≤ number }
-    ensures value { (n : ℕ) → numbered sends.new n ≡ option_map (come_at latest number host n) (numbered sends.old n) }
-    ensures count { length sends.new ≡ length sends.old }
-{
-    for earlier in latest..number {
-        drop_to(sends, earlier, host);
-    }
-    queue(sends, number);
-}
-
+/// The Send of a number is queued.
 #[tactic(auto, using(crate::proofs::Changes::changes))]
-fn queue(sends: &mut Numbered<Sent>, number: u64)
+pub fn queue(sends: &mut Numbered<Sent>, number: u64)
     ensures { sends.new ≡ change_numbered number (at_stage stages.Queued) sends.old }
 {
     if let Some(sent) = sends.get_mut(number) {
@@ -100,7 +80,7 @@ fn queue(sends: &mut Numbered<Sent>, number: u64)
 
 /// The Send of a number is dropped, where it is under way to the host.
 #[tactic(auto, using(crate::proofs::Changes::changes))]
-fn drop_to(sends: &mut Numbered<Sent>, number: u64, host: u16)
+pub fn drop_to(sends: &mut Numbered<Sent>, number: u64, host: u16)
     ensures { sends.new ≡ change_numbered number (dropped_to host) sends.old }
 {
     if let Some(sent) = sends.get_mut(number) {

@@ -5,6 +5,7 @@ ghost use Rattle.vk_base.specs.declared.kernel.Stage.TheVariants as stages;
 ghost use Rattle.vk_base.specs.Kernel.{is_posted, is_queued, is_taken, reply_of};
 ghost use Rattle.v_machine.specs.Sends.{at_stage, handed_on, with_begun, with_opened, with_written, given_back};
 ghost use Rattle.v_machine.specs.Sent.{first_stage};
+ghost use Rattle.v_machine.specs.Spent.{has_ended};
 
 use crate::tables::apart::Apart;
 use crate::tables::handed::Handing;
@@ -165,6 +166,13 @@ impl Sent {
         ensures { result ≡ is_taken self.now.stage }
     {
         matches!(self.phase, Phase::Taken)
+    }
+
+    /// Whether nothing more becomes of it: it is replied to or dropped, and no remote move was begun.
+    pub fn has_ended(&self) -> bool
+        ensures { result ≡ has_ended self.now }
+    {
+        matches!(self.phase, Phase::Replied | Phase::Dropped) && self.moves().is_empty()
     }
 
     /// The message, the place and the bytes of the reply.

@@ -11,6 +11,7 @@ use Rattle.v_machine.proofs.KernelLemmas.{kernel-exchange, set_self}
 use Rattle.v_machine.proofs.Newest.{newest_on}
 use Rattle.v_machine.proofs.SendLemmas.{stays_alike, truncated}
 use Rattle.v_machine.proofs.Stores.{on_ok, on_err}
+use Rattle.v_machine.proofs.Live.{live_taken}
 use Rattle.v_machine.proofs.calls.forwarding.hand_on.Goals as goal
 
 pub returns-then-is_err-clause-err : goal.returns-then-is_err-clause-err
@@ -49,3 +50,7 @@ returns-clause-ok c = λ e is.
           (c.requires.way.absent q0 c.index_mut.ensures.value) c.index_mut.ensures.value
           (ap (set s.queues.items c.args.there) c.in_ok-push.ensures.ok) refl,
     )
+
+pub hand_on-requires : goal.hand_on-requires
+hand_on-requires c = live_taken c.args.store.now c.args.name.sender c.args.at c.args.name.number c.index_mut-2.result.now c.requires.here
+    c.index_mut-2.ensures.value c.requires.taken

@@ -10,6 +10,7 @@ use Rattle.v_machine.specs.Rules.{Stays}
 use Rattle.v_machine.proofs.Accessing.{ranges_lie}
 use Rattle.v_machine.proofs.MoveCalls.{granted_lies, from_begins, from_wants, from_copied}
 use Rattle.v_machine.proofs.Stores.{process_at, stays, is_error}
+use Rattle.v_machine.proofs.Live.{live_held}
 use Rattle.v_machine.proofs.calls.moves.move_from.Goals as goal
 
 abbrev asked_for : Pid → ℕ → ℕ → ℕ → Access
@@ -63,3 +64,9 @@ returns c = λ p there ready.
     (sym c.is_at_once.ensures ∙ c.if-not-is_at_once.false) q.1
     (copies a.partner c.args.pid q.0 p ok.2.place c.requires.here.place q.1 there (le-leb (a.src + a.count) (length q.0.memory) fits) own)
     (c.copy_now.ensures.indexed c.requires.kept.indexed)
+
+pub begin_from-requires-clause-live : goal.begin_from-requires-clause-live
+begin_from-requires-clause-live c =
+    let p = process_at c.args.store.now c.args.pid c.args.at c.requires.here in
+    let ok = c.in-Ok.ensures p.0 p.1 in
+    live_held c.args.store.now c.args.pid c.args.asked.partner c.in-Ok.holding.number c.in-Ok.holding.at ok.1 ok.2.place

@@ -6,6 +6,7 @@ use Rattle.vk_base.specs.Kernel.{held}
 use Rattle.v_laws.proofs.Held.{holding_is}
 use Rattle.v_machine.specs.Kept.{kernel_in}
 use Rattle.v_machine.proofs.StepLemmas.{reply_allowed, replied_is_nearer}
+use Rattle.v_machine.proofs.Live.{live_held}
 use Rattle.v_machine.proofs.calls.replies.reply.Goals as goal
 
 pub returns : goal.returns
@@ -26,3 +27,7 @@ returns c = λ p there ready.
       },
       lit≤ tt,
     )
+
+pub put_answer-requires-clause-live : goal.put_answer-requires-clause-live
+put_answer-requires-clause-live c = live_held c.args.store.now c.args.pid c.args.to c.in-Some.holding.number c.in-Some.holding.at
+    (sym c.in-Some.ensures.number) c.in-Some.ensures.here.place

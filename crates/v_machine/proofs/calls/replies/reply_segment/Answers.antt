@@ -11,10 +11,11 @@ use Rattle.v_machine.specs.Kept.{kernel_in}
 use Rattle.v_machine.proofs.Accessing.{ranges_lie}
 use Rattle.v_machine.proofs.Stores.{process_at, is_error}
 use Rattle.v_machine.proofs.StepLemmas.{reply_allowed, replied_is_nearer}
+use Rattle.v_machine.proofs.Live.{live_held}
 use Rattle.v_machine.proofs.calls.replies.reply_segment.Goals as goal
 
-pub put_answer_with-requires : goal.put_answer_with-requires
-put_answer_with-requires c =
+pub put_answer_with-requires-clause-low : goal.put_answer_with-requires-clause-low
+put_answer_with-requires-clause-low c =
     let p = process_at c.args.store.now c.args.pid c.args.at c.requires.here in
     (c.in-Ok.ensures p.0 p.1).2.sends
 
@@ -61,3 +62,9 @@ returns c = λ p there ready.
       },
       lit≤ tt,
     )
+
+pub put_answer_with-requires-clause-live : goal.put_answer_with-requires-clause-live
+put_answer_with-requires-clause-live c =
+    let p = process_at c.args.store.now c.args.pid c.args.at c.requires.here in
+    let ok = c.in-Ok.ensures p.0 p.1 in
+    live_held c.args.store.now c.args.pid c.args.reply.to c.in-Ok.holding.number c.in-Ok.holding.at ok.1 ok.2.place

@@ -1,9 +1,9 @@
 use Rattle.std.proofs.Common.{◌≡◌, ◌≤◌, ◌==◌, length, set, option_map, is_some, Some, refl, sym, ap, subst, ◌∙◌, arith, lit≤, if◌then◌else◌}
 use Rattle.std.proofs.lemmas.Option.{slice_get-get_or}
-use Rattle.vk_types.specs.Types.{Pid}
+use Rattle.vk_types.specs.Types.{Exchange, Pid}
 use Rattle.vk_base.specs.declared.kernel.Stage.TheVariants as stages
 use Rattle.vk_base.specs.Calls.{unseen}
-use Rattle.vk_base.specs.Kernel.{is_live}
+use Rattle.vk_base.specs.Kernel.{holds_of, is_live, is_posted}
 use Rattle.vk_base.specs.Steps.{after_arrival, with_arrival}
 use Rattle.v_machine.specs.Kept.{IsAt, IsLatest, IsWaiting, arrived_in, kernel_in, latest_by, newest}
 use Rattle.v_machine.specs.Latest.{latest_in}
@@ -34,8 +34,8 @@ returns-in_err-push c =
       stays_alike s _ refl refl refl refl refl refl queues refl (λ q h. refl) c.requires.kept.indexed,
     )
 
-pub come-requires : goal.come-requires
-come-requires c =
+pub come-requires-clause-order : goal.come-requires-clause-order
+come-requires-clause-order c =
     let s = c.args.store.now in
     let is = c.requires.posted in
     let before = latest_is_before s c.args.name c.args.at c.args.to is.exchange c.requires.kept c.requires.here
@@ -45,6 +45,15 @@ come-requires c =
     c.requires.here.place c.requires.here.latest c.index.ensures)
     ∙ ap (λ (t : Pid). latest_in c.index.result.now t.host) is.same_target ∙ sym c.get-latest.ensures in
     subst (λ n. n ≤ c.args.name.number) latest before
+
+pub come-requires-clause-live : goal.come-requires-clause-live
+come-requires-clause-live c =
+    let s = c.args.store.now in
+    let is = c.requires.posted in
+    let here = c.requires.here in
+    let sent = sent_there s.places s.procs.items s.sends.items s.asked.items c.args.name.sender c.args.at c.index_mut-2.result.now
+    c.args.name.number here.place here.sends c.index_mut-2.ensures.value in
+    ap (holds_of (λ (e : Exchange). is_posted e.stage)) (sym sent ∙ is.is) ∙ is.posted
 
 pub returns : goal.returns
 unfolding with_arrival

@@ -15,6 +15,7 @@ use Rattle.v_machine.proofs.Indexes.{put_no_nearer}
 use Rattle.v_machine.proofs.KernelLemmas.{kernel-exchange, kernel-process, exchanges-change, sends_even, sent_there, proc_is}
 use Rattle.v_machine.proofs.Popping.{indexed_popped, taken_nowhere}
 use Rattle.v_machine.proofs.Taking.{taken_is_nearer}
+use Rattle.v_machine.proofs.Live.{live_there}
 use Rattle.v_machine.proofs.steps.messages.deliver.Goals as goal
 
 pub returns-in_err-sent : goal.returns-in_err-sent
@@ -65,3 +66,7 @@ returns c = λ pid p e place sender there at_name room queued indexed.
           (put_no_nearer _ _ _ e _ at_name later refl refl (taken_is_nearer e.stage queued))
           (taken_nowhere _ _ _ e pid later) indexed,
     )
+
+pub take-requires : goal.take-requires
+take-requires c = live_there c.args.store.now c.args.from c.args.name.number c.index_mut.result.now c.requires.from
+    c.index_mut.ensures.value c.requires.live

@@ -1,7 +1,7 @@
 use Rattle.std.proofs.Common.{◌≡◌, ℕ, length, option_map}
 use Rattle.v_machine.specs.Places.{numbered}
 use Rattle.v_machine.specs.Sends.{dropped_between}
-use Rattle.v_machine.proofs.tables.sends.come.Given as goal
+use Rattle.v_machine.proofs.tables.begun.come.Given as goal
 
 abbrev pub invariant-loop-earlier : goal.invariant-loop-earlier
 invariant-loop-earlier l = record {
