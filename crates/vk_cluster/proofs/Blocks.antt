@@ -10,7 +10,7 @@ use Rattle.vk_rules.proofs.Lists.{each_append, each_weaker}
 use Rattle.vk_cluster.specs.declared.emitted.Span.{Span}
 use Rattle.vk_cluster.specs.declared.frames.FramePlace.{FramePlace}
 use Rattle.vk_cluster.specs.declared.frames.TheConstants.{HALF_BYTES, MOST_BYTES}
-use Rattle.vk_cluster.specs.Blocks.{AreKept, IsInBlock, named_by, placed_bytes}
+use Rattle.vk_cluster.specs.Blocks.{AreKept, IsInBlock, block_of, named_by, placed_bytes, start_of}
 use Rattle.vk_cluster.specs.Piles.{IsSpanWithin, spanned}
 use Rattle.vk_cluster.proofs.Pieces.{last_piece, piece_more}
 
@@ -35,36 +35,37 @@ left_block (b ∷ bs) last (suc n) low = left_block bs last n (omega arith)
 -- The frames, where the last block grows.
 grown_in : (full : List (List ℕ)) (last f : List ℕ) (p : FramePlace) → IsInBlock full last p → IsInBlock full (last ++ f) p
 grown_in full last f p within =
-    let more = grown_length full last f p.block in
-    let same = grown_piece full last f p.block (record { from = p.from; count = p.count }) within.1 in
+    let more = grown_length full last f (block_of p) in
+    let same = grown_piece full last f (block_of p) (record { from = start_of p; count = p.count }) within.1 in
     (within.0, omega arith, ap (λ b. named_by (frame_of b)) same ∙ within.2)
 
 grown_frames : (full : List (List ℕ)) (last f : List ℕ) (ps : List FramePlace) → Each (IsInBlock full last) ps →
     map (placed_bytes full (last ++ f)) ps ≡ map (placed_bytes full last) ps
 grown_frames full last f [] h = refl
 grown_frames full last f (p ∷ ps) h =
-    ap (λ x. x ∷ map (placed_bytes full (last ++ f)) ps) (grown_piece full last f p.block (record { from = p.from; count = p.count }) h.0.1)
+    ap (λ x. x ∷ map (placed_bytes full (last ++ f)) ps)
+    (grown_piece full last f (block_of p) (record { from = start_of p; count = p.count }) h.0.1)
     ∙ ap (λ l. placed_bytes full last p ∷ l) (grown_frames full last f ps h.1)
 
 -- One frame more: its bytes are the last of the last block.
 pub record IsNewPlace (full : List (List ℕ)) (last f : List ℕ) (p : FramePlace) : Type 0 where
-  pub from : p.from ≡ length last
+  pub from : start_of p ≡ length last
   pub count : p.count ≡ length f
-  pub block : p.block ≡ length full
+  pub block : block_of p ≡ length full
   pub to : named_by (frame_of f) ≡ p.to
 
 new_block : (full : List (List ℕ)) (last f : List ℕ) (p : FramePlace) → IsNewPlace full last f p →
-    get_or full p.block (last ++ f) ≡ last ++ f
-new_block full last f p is = let low : length full ≤ p.block = let at = is.block in omega arith in get_or-eq_default full (last ++ f) low
+    get_or full (block_of p) (last ++ f) ≡ last ++ f
+new_block full last f p is = let low : length full ≤ block_of p = let at = is.block in omega arith in get_or-eq_default full (last ++ f) low
 
 new_frame : (full : List (List ℕ)) (last f : List ℕ) (p : FramePlace) → IsNewPlace full last f p → placed_bytes full (last ++ f) p ≡ f
 new_frame full last f p is =
-    ap (λ b. take p.count (drop p.from b)) (new_block full last f p is)
-    ∙ last_piece last f (record { from = p.from; count = p.count }) is.from is.count
+    ap (λ b. take p.count (drop (start_of p) b)) (new_block full last f p is)
+    ∙ last_piece last f (record { from = start_of p; count = p.count }) is.from is.count
 
 new_in : (full : List (List ℕ)) (last f : List ℕ) (p : FramePlace) → IsNewPlace full last f p → IsInBlock full (last ++ f) p
 new_in full last f p is =
-    let long : length (get_or full p.block (last ++ f)) ≡ length (last ++ f) = ap length (new_block full last f p is) in
+    let long : length (get_or full (block_of p) (last ++ f)) ≡ length (last ++ f) = ap length (new_block full last f p is) in
     let from = is.from in
     let count = is.count in
     let block = is.block in
@@ -104,18 +105,18 @@ put_kept full last f ps size p kept is some most =
 -- The last block becomes a full one, and an empty one is the last.
 left_in : (full : List (List ℕ)) (last : List ℕ) (p : FramePlace) → IsInBlock full last p → IsInBlock (full ++ last ∷ []) [] p
 left_in full last p within =
-    let long : length (get_or (full ++ last ∷ []) p.block []) ≡ length (get_or full p.block last) =
-    ap length (left_block full last p.block within.0) in
+    let long : length (get_or (full ++ last ∷ []) (block_of p) []) ≡ length (get_or full (block_of p) last) =
+    ap length (left_block full last (block_of p) within.0) in
     let low = within.0 in
     let same : placed_bytes (full ++ last ∷ []) [] p ≡ placed_bytes full last p =
-    ap (λ b. take p.count (drop p.from b)) (left_block full last p.block within.0) in
+    ap (λ b. take p.count (drop (start_of p) b)) (left_block full last (block_of p) within.0) in
     (omega (arith, length-append full (last ∷ [])), omega arith, ap (λ b. named_by (frame_of b)) same ∙ within.2)
 
 pub left_frames : (full : List (List ℕ)) (last : List ℕ) (ps : List FramePlace) → Each (IsInBlock full last) ps →
     map (placed_bytes (full ++ last ∷ []) []) ps ≡ map (placed_bytes full last) ps
 left_frames full last [] h = refl
 left_frames full last (p ∷ ps) h =
-    ap (λ b. take p.count (drop p.from b) ∷ map (placed_bytes (full ++ last ∷ []) []) ps) (left_block full last p.block h.0.0)
+    ap (λ b. take p.count (drop (start_of p) b) ∷ map (placed_bytes (full ++ last ∷ []) []) ps) (left_block full last (block_of p) h.0.0)
     ∙ ap (λ l. placed_bytes full last p ∷ l) (left_frames full last ps h.1)
 
 pub left_kept : (full : List (List ℕ)) (last : List ℕ) (ps : List FramePlace) (size : ℕ) → AreKept full last ps size →

@@ -1,5 +1,5 @@
 -- Frames whose bytes stand in blocks.
-use Rattle.std.specs.Prelude.{ℕ, ◌≡◌, ◌+◌, ◌*◌, ◌<◌, ◌≤◌, List, length, map, take, drop, sum_by, slice_index_or, Option}
+use Rattle.std.specs.Prelude.{ℕ, ◌≡◌, ◌+◌, ◌*◌, ◌/◌, ◌%◌, ◌<◌, ◌≤◌, List, length, map, take, drop, sum_by, slice_index_or, Option}
 use Rattle.std.specs.Global.{Vec}
 use Rattle.std.specs.Option.{option_map_or}
 use Rattle.vk_base.specs.declared.limits.TheConstants.{FRAME_BYTES}
@@ -8,7 +8,7 @@ use Rattle.vk_frame.specs.Reading.{frame_of}
 use Rattle.vk_rules.specs.Each.{Each}
 use Rattle.vk_rules.specs.Frames.{every_station}
 use Rattle.vk_cluster.specs.declared.frames.FramePlace.{FramePlace}
-use Rattle.vk_cluster.specs.declared.frames.TheConstants.{HALF_BYTES, MOST_BYTES}
+use Rattle.vk_cluster.specs.declared.frames.TheConstants.{BLOCK_BYTES, HALF_BYTES, MOST_BYTES}
 
 -- what contracts see of them: the frames, and for how many bytes and frames more memory is taken
 pub record FrameList : Type 0 where
@@ -32,12 +32,19 @@ frame_block full last n = slice_index_or full n last
 abbrev pub named_by : Option (Header × List ℕ) → ℕ
 named_by o = option_map_or (λ (f : Header × List ℕ). f.0.destination) o every_station
 
+-- the block that a place is in, and from which byte of it on
+abbrev pub block_of : FramePlace → ℕ
+block_of p = p.from / BLOCK_BYTES
+
+abbrev pub start_of : FramePlace → ℕ
+start_of p = p.from % BLOCK_BYTES
+
 -- the bytes of a frame that stands there, and that they lie within the block, and are for the station of the place
 abbrev pub placed_bytes : List (List ℕ) → List ℕ → FramePlace → List ℕ
-placed_bytes full last p = take p.count (drop p.from (frame_block full last p.block))
+placed_bytes full last p = take p.count (drop (start_of p) (frame_block full last (block_of p)))
 
 abbrev pub IsInBlock : List (List ℕ) → List ℕ → FramePlace → Type 0
-IsInBlock full last p = (p.block ≤ length full) × (p.from + p.count ≤ length (frame_block full last p.block))
+IsInBlock full last p = (block_of p ≤ length full) × (start_of p + p.count ≤ length (frame_block full last (block_of p)))
     × (named_by (frame_of (placed_bytes full last p)) ≡ p.to)
 
 -- Each frame lies within its block, all bytes are those of frames, none of which is empty, and each full block is half used.

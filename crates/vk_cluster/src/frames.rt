@@ -17,13 +17,12 @@ pub const HALF_BYTES: usize = 4_194_304;
 /// The most bytes that all frames have.
 pub const MOST_BYTES: usize = 268_435_456;
 
-/// Where the bytes of a frame stand: from which one on, and how many they are, in the block with this number, counted from 0; and
-/// the station that the frame is for, so that it is not opened to find it: 65,535 where it is for all, or opens as no frame.
+/// Where the bytes of a frame stand: from which one on, where each block before counts as 8,388,608, and how many they are; and the station
+/// that the frame is for, so that it is not opened to find it: 65,535 where it is for all, or opens as no frame.
 #[derive(Clone, Copy)]
 pub struct FramePlace {
     pub from: u32,
     pub count: u16,
-    pub block: u16,
     pub to: u16,
 }
 
@@ -104,9 +103,8 @@ impl Frames {
         ensures places { self.old.places ≤ self.new.places + 1 }
     {
         let place = FramePlace {
-            from: self.last.len() as u32,
+            from: (self.full.len() * BLOCK_BYTES + self.last.len()) as u32,
             count: frame.len() as u16,
-            block: self.full.len() as u16,
             to,
         };
         push_bytes(&mut self.last, frame);
@@ -120,7 +118,7 @@ impl Frames {
         ensures to { IfSome result (λ r. named_by (frame_of r.0.now) ≡ r.1) }
     {
         match self.places.get(at) {
-            Some(place) => Some((bytes_at(&self.full, &self.last, *place), place.to)),
+            Some(place) => Some((bytes_at(&self.full, &self.last, place), place.to)),
             None => None,
         }
     }
@@ -178,12 +176,12 @@ fn push_bytes(bytes: &mut Vec<u8>, more: &[u8])
 }
 
 /// The bytes of a frame that stands there.
-fn bytes_at<'a>(full: &'a [Vec<u8>], last: &'a [u8], place: FramePlace) -> &'a [u8]
-    requires { IsInBlock (map block_bytes full.now) last.now place }
-    ensures { result.now ≡ placed_bytes (map block_bytes full.now) last.now place }
+fn bytes_at<'a>(full: &'a [Vec<u8>], last: &'a [u8], place: &FramePlace) -> &'a [u8]
+    requires { IsInBlock (map block_bytes full.now) last.now place.now }
+    ensures { result.now ≡ placed_bytes (map block_bytes full.now) last.now place.now }
 {
-    let block = frame_block(full, last, place.block as usize);
-    let from = place.from as usize;
+    let block = frame_block(full, last, place.from as usize / BLOCK_BYTES);
+    let from = place.from as usize % BLOCK_BYTES;
     &block[from..from + place.count as usize]
 }
 

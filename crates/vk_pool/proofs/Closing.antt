@@ -1,5 +1,5 @@
 -- Since when aliens are closed, through all changes of them, and that none is over before its time.
-use Rattle.std.proofs.Common.{◌≡◌, ℕ, zero, suc, ◌+◌, ◌-◌, ◌<◌, ◌≤◌, Bool, true, false, cond, nat_lt, List, [], ◌∷◌, length, map, max, min, replicate, set, arith, refl, ap, sym, subst, inl, inr, Option, Some, None, IfSome, ◌∙◌}
+use Rattle.std.proofs.Common.{◌≡◌, ℕ, zero, suc, ◌+◌, ◌-◌, ◌<◌, ◌≤◌, Bool, true, false, cond, nat_lt, List, [], ◌∷◌, ◌++◌, length, map, max, min, replicate, set, arith, refl, ap, sym, subst, inl, inr, Option, Some, None, IfSome, ◌∙◌}
 use Rattle.std.proofs.lemmas.Bool.{cases_eq, le-ltb}
 use Rattle.vk_types.specs.Types.{Times}
 use Rattle.vk_base.specs.Kernel.{holds_of}
@@ -58,6 +58,10 @@ closed_set oldest (x ∷ xs) (suc i) o all is = (all.0, closed_set oldest xs i o
 pub none_closed : (oldest n : ℕ) → AreClosedFrom oldest (replicate n None)
 none_closed oldest zero = tt
 none_closed oldest (suc n) = (tt, none_closed oldest n)
+
+pub closed_more : (oldest : ℕ) (xs : Aliens) (n : ℕ) → AreClosedFrom oldest xs → AreClosedFrom oldest (xs ++ replicate n None)
+closed_more oldest [] n all = none_closed oldest n
+closed_more oldest (x ∷ xs) n all = (all.0, closed_more oldest xs n all.1)
 
 -- so many are looked at
 abbrev pub AreFrontClosed : ℕ → ℕ → Aliens → Type 0
