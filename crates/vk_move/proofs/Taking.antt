@@ -33,12 +33,12 @@ is_taken times now p old new before after sent out fit lawful m is seats made po
 
 -- a packet that no mover sends is one to a mover, or of no move
 pub to_mover : (times : Times) (now : ℕ) (v : PacketView) (seats : List Seat) →
-    ((from to : Pid) (number moving dest total offset : ℕ) (bytes : Bor (List ℕ)) →
-    v ≡ views.MoveData from to number moving dest total offset bytes → ⊥) →
-    ((from to : Pid) (number moving src total offset : ℕ) → v ≡ views.MoveRequest from to number moving src total offset → ⊥) →
+    ((from : Pid) (number : ℕ) (to : Pid) (moving dest total offset : ℕ) (bytes : Bor (List ℕ)) →
+    v ≡ views.MoveData from number to moving dest total offset bytes → ⊥) →
+    ((from : Pid) (number : ℕ) (to : Pid) (moving src total offset : ℕ) → v ≡ views.MoveRequest from number to moving src total offset → ⊥) →
     mover_taken times now (value_of v) seats ≡ packet_taken times now (value_of v) seats
-to_mover times now (views.MoveData from to number moving dest total offset bytes) seats no_data no_request =
-    absurd (no_data from to number moving dest total offset bytes refl)
-to_mover times now (views.MoveRequest from to number moving src total offset) seats no_data no_request =
-    absurd (no_request from to number moving src total offset refl)
+to_mover times now (views.MoveData from number to moving dest total offset bytes) seats no_data no_request =
+    absurd (no_data from number to moving dest total offset bytes refl)
+to_mover times now (views.MoveRequest from number to moving src total offset) seats no_data no_request =
+    absurd (no_request from number to moving src total offset refl)
 to_mover times now v seats no_data no_request = refl

@@ -17,6 +17,8 @@ use Rattle.vk_base.specs.Packets.{Packet}
 use Rattle.vk_base.specs.Messages.{grants_read, grants_write, segment_of}
 use Rattle.vk_base.specs.Pids.{same_host}
 use Rattle.vk_base.specs.Ranges.{range_of, lies_in, lies_within}
+use Rattle.vk_brief.specs.declared.call.BriefCall.{BriefCall}
+use Rattle.vk_brief.specs.declared.call.BriefCall.TheVariants as brief_calls
 use Rattle.vk_packet.specs.Posts.{Posts}
 use Rattle.vk_pool.specs.declared.alien.Alien.{Alien}
 use Rattle.vk_pool.specs.Aliens.{alien_at, alien_from, changed_at, is_alien_from, moves_at, with_moves}
@@ -122,6 +124,11 @@ begun_by t now pid w slot partner verdicts.Begins seats slots = record {
 abbrev pub waiting_in : Direction → Pid → ℕ → ℕ → ℕ → Waiting
 waiting_in directions.To partner dest src count = waitings.MoveTo partner dest src count
 waiting_in directions.From partner dest src count = waitings.MoveFrom partner dest src count
+
+-- the call that it is
+abbrev pub call_in : Direction → Pid → ℕ → ℕ → ℕ → BriefCall
+call_in directions.To partner dest src count = brief_calls.MoveTo partner dest src count
+call_in directions.From partner dest src count = brief_calls.MoveFrom partner dest src count
 
 -- its place in the partner's memory, and in the own one
 abbrev pub theirs_of : Direction → ℕ → ℕ → ℕ

@@ -5,7 +5,7 @@ ghost use Rattle.vk_base.specs.declared.limits.TheConstants.{ROUND_PACKETS, STAT
 ghost use Rattle.std.specs.List.{position};
 ghost use Rattle.vk_base.specs.Kernel.{is_move};
 ghost use Rattle.vk_local.specs.Rules.{may_call};
-ghost use Rattle.vk_move.specs.Begun.{CanBegin, HasFewMoves, HasFitAliens, IsMoveBegun, begun_note, counted, doing_of, grants_access, has_ranges, is_away, message_held, moves_of, next_name, size_of, transfer_begun, transfer_by, verdict_by, verdict_in, verdict_on, waiting_in, waiting_seats};
+ghost use Rattle.vk_move.specs.Begun.{CanBegin, HasFewMoves, HasFitAliens, IsMoveBegun, begun_note, call_in, counted, doing_of, grants_access, has_ranges, is_away, message_held, moves_of, next_name, size_of, transfer_begun, transfer_by, verdict_by, verdict_in, verdict_on, waiting_in, waiting_seats};
 ghost use Rattle.vk_move.specs.Moved.{change_note};
 ghost use Rattle.vk_pool.specs.Aliens.{is_alien_from};
 ghost use Rattle.vk_procs.specs.Seats.{seat_in};
@@ -145,6 +145,34 @@ fn waiting_in(transfer: Transfer) -> Waiting
             count,
         },
         Direction::From => Waiting::MoveFrom {
+            partner,
+            dest,
+            src,
+            count,
+        },
+    }
+}
+
+/// The call that a move is. A call that is copied whole would be read in other pieces than it was written in.
+#[inline(always)]
+fn call_in(transfer: Transfer) -> BriefCall
+    ensures { result ≡ call_in transfer.way transfer.partner transfer.dest transfer.src transfer.count }
+{
+    let Transfer {
+        way,
+        partner,
+        dest,
+        src,
+        count,
+    } = transfer;
+    match way {
+        Direction::To => BriefCall::MoveTo {
+            partner,
+            dest,
+            src,
+            count,
+        },
+        Direction::From => BriefCall::MoveFrom {
             partner,
             dest,
             src,
@@ -317,15 +345,17 @@ pub fn begin(
             src,
             count,
         } => {
-            steps.push(BriefStep::Call { pid, call: *call });
-            let way = Direction::To;
             let transfer = Transfer {
-                way,
+                way: Direction::To,
                 partner,
                 dest,
                 src,
                 count,
             };
+            steps.push(BriefStep::Call {
+                pid,
+                call: call_in(transfer),
+            });
             begin_way(procs, aliens, tick, out, pid, transfer)
         }
         BriefCall::MoveFrom {
@@ -334,15 +364,17 @@ pub fn begin(
             src,
             count,
         } => {
-            steps.push(BriefStep::Call { pid, call: *call });
-            let way = Direction::From;
             let transfer = Transfer {
-                way,
+                way: Direction::From,
                 partner,
                 dest,
                 src,
                 count,
             };
+            steps.push(BriefStep::Call {
+                pid,
+                call: call_in(transfer),
+            });
             begin_way(procs, aliens, tick, out, pid, transfer)
         }
         _ => unreachable!(),

@@ -7,22 +7,23 @@ use vk_base::limits::{DATA_BYTES, MOVE_BYTES, SEGMENT_BYTES};
 use vk_base::{Message, Pid};
 
 /// A packet, whose part or bytes are lent. `number` counts the Sends of the process whose exchange the packet is of, `moving`
-/// the moves of that exchange, `lookup` the lookups of the asker, each from 1.
+/// the moves of that exchange, `lookup` the lookups of the asker, each from 1. Numbers stand behind the first process, so that in the one
+/// room of all packets no field lies across two of another: else a packet that is copied is read in other pieces than it was written in.
 #[derive(Clone, Copy)]
 pub enum PacketView<'a> {
     /// A message, and the first part of the segment that it lets its receiver read.
     Send {
         from: Pid,
-        to: Pid,
         number: u64,
+        to: Pid,
         message: Message,
         part: &'a [u8],
     },
     /// The reply to a Send, and at most 512 bytes for the place `dest` of the sender's memory.
     Reply {
         from: Pid,
-        to: Pid,
         number: u64,
+        to: Pid,
         message: Message,
         dest: u32,
         bytes: &'a [u8],
@@ -30,20 +31,20 @@ pub enum PacketView<'a> {
     /// The Send is known, and has no reply yet.
     Pending {
         from: Pid,
-        to: Pid,
         number: u64,
+        to: Pid,
     },
     /// The process that has the message of the Send is not alive; it is told in the name of the target.
     Negative {
         from: Pid,
-        to: Pid,
         number: u64,
+        to: Pid,
     },
     /// Bytes of a move to `to`, of `total` in all, which starts at `dest`. These are the ones from `offset` on.
     MoveData {
         from: Pid,
-        to: Pid,
         number: u64,
+        to: Pid,
         moving: u64,
         dest: u32,
         total: u32,
@@ -53,16 +54,16 @@ pub enum PacketView<'a> {
     /// So many bytes of the move were received.
     MoveAck {
         from: Pid,
-        to: Pid,
         number: u64,
+        to: Pid,
         moving: u64,
         received: u32,
     },
     /// Asks for the bytes of a move from `to`, of `total` in all, which starts at `src`, from `offset` on.
     MoveRequest {
         from: Pid,
-        to: Pid,
         number: u64,
+        to: Pid,
         moving: u64,
         src: u32,
         total: u32,
@@ -71,8 +72,8 @@ pub enum PacketView<'a> {
     /// Bytes that were asked for.
     MoveBytes {
         from: Pid,
-        to: Pid,
         number: u64,
+        to: Pid,
         moving: u64,
         total: u32,
         offset: u32,
@@ -81,8 +82,8 @@ pub enum PacketView<'a> {
     /// The process that the move concerns does not wait in that Send for a process of the mover's station.
     MoveNegative {
         from: Pid,
-        to: Pid,
         number: u64,
+        to: Pid,
         moving: u64,
     },
     /// Asks every station for the process that is registered under a logical id.
@@ -94,8 +95,8 @@ pub enum PacketView<'a> {
     /// It is `found`.
     TellPid {
         found: Pid,
-        asker: Pid,
         lookup: u64,
+        asker: Pid,
     },
 }
 

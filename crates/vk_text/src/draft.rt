@@ -6,6 +6,7 @@ ghost use Rattle.hex.specs.Hex.{encode_lower};
 use crate::digits::encode;
 use crate::spelling::put;
 use std::marker::Model;
+use std::simd::Simd;
 use vk_base::NoMemory;
 
 /// The bytes that a draft has room for.
@@ -92,12 +93,13 @@ impl Draft {
     }
 
     /// The same, for bytes of which it is not known how many they are: they are copied at once.
+    #[inline(always)]
     pub fn copy(&mut self, bytes: &[u8])
         requires { length self.old + length bytes.now ≤ DRAFT_ROOM }
         ensures { self.new ≡ self.old ++ bytes.now }
     {
         let end = self.len + bytes.len();
-        self.bytes[self.len..end].copy_from_slice(bytes);
+        copy_over(&mut self.bytes[self.len..end], bytes);
         self.len = end;
     }
 
@@ -111,6 +113,45 @@ impl Draft {
         let end = self.len + 2 * bytes.len();
         encode(bytes, &mut self.bytes[self.len..end]);
         self.len = end;
+    }
+}
+
+/// Writes the bytes over as many, the first sixteen and the last.
+#[inline(always)]
+fn copy_sixteens(into: &mut [u8], bytes: &[u8])
+    requires same { length into.old ≡ length bytes.now }
+    requires some { 16 ≤ length bytes.now }
+    requires few { length bytes.now ≤ 32 }
+    ensures { into.new ≡ bytes.now }
+{
+    let last = bytes.len() - 16;
+    Simd::<u8, 16>::from_slice(bytes).copy_to_slice(into);
+    Simd::<u8, 16>::from_slice(&bytes[last..]).copy_to_slice(&mut into[last..]);
+}
+
+/// Writes the bytes over as many, the first eight and the last.
+#[inline(always)]
+fn copy_eights(into: &mut [u8], bytes: &[u8])
+    requires same { length into.old ≡ length bytes.now }
+    requires some { 8 ≤ length bytes.now }
+    requires few { length bytes.now ≤ 16 }
+    ensures { into.new ≡ bytes.now }
+{
+    let last = bytes.len() - 8;
+    Simd::<u8, 8>::from_slice(bytes).copy_to_slice(into);
+    Simd::<u8, 8>::from_slice(&bytes[last..]).copy_to_slice(&mut into[last..]);
+}
+
+/// Writes the bytes over as many. For 8 to 32, as most lines have, nothing is called.
+#[inline(always)]
+fn copy_over(into: &mut [u8], bytes: &[u8])
+    requires { length into.old ≡ length bytes.now }
+    ensures { into.new ≡ bytes.now }
+{
+    match bytes.len() {
+        8..=15 => copy_eights(into, bytes),
+        16..=32 => copy_sixteens(into, bytes),
+        _ => into.copy_from_slice(bytes),
     }
 }
 

@@ -19,7 +19,7 @@ returns-in-MoveTo c =
     c.args.steps.now c.args.out.now (calls.MoveTo c.in-MoveTo.partner c.in-MoveTo.dest c.in-MoveTo.src c.in-MoveTo.count) refl
     (sym (ap (is_away c.args.pid) is) ∙ c.requires.away) way.result way.new.procs way.new.aliens
     c.push.new.self way.new.out way.ensures.answer way.ensures.seats way.ensures.slots
-    (c.push.ensures ∙ ap (λ (b : BriefCall). c.args.steps.now ++ steps.Call c.args.pid (call_with [] b) ∷ []) c.in-MoveTo.is)
+    (c.push.ensures ∙ ap (λ (b : BriefCall). c.args.steps.now ++ steps.Call c.args.pid (call_with [] b) ∷ []) c.call_in.ensures)
     way.ensures.packets)
 
 pub returns-in-MoveFrom : goal.returns-in-MoveFrom
@@ -36,5 +36,5 @@ returns-in-MoveFrom c =
     (sym (ap (is_away c.args.pid) is) ∙ c.requires.away) way.result way.new.procs way.new.aliens
     c.push-in-MoveFrom.new.self way.new.out way.ensures.answer way.ensures.seats way.ensures.slots
     (c.push-in-MoveFrom.ensures
-    ∙ ap (λ (b : BriefCall). c.args.steps.now ++ steps.Call c.args.pid (call_with [] b) ∷ []) c.in-MoveFrom.is)
+    ∙ ap (λ (b : BriefCall). c.args.steps.now ++ steps.Call c.args.pid (call_with [] b) ∷ []) c.call_in-in-MoveFrom.ensures)
     way.ensures.packets)
