@@ -1,5 +1,5 @@
--- Internal. Places for frames, each as the event that it is.
-use Rattle.std.specs.Prelude.{[]}
+-- Internal. Places for frames and requests, each as the event that it is.
+use Rattle.std.specs.Prelude.{ℕ, []}
 use Rattle.vk_base.specs.declared.event.StationEvent.{StationEvent}
 use Rattle.vk_base.specs.declared.event.StationEvent.TheVariants as events
 use Rattle.vk_hub.specs.declared.event.HubEvent.{HubEvent}
@@ -14,3 +14,8 @@ frame_brought e = []
 abbrev pub frame_posted : HubEvent → Frame
 frame_posted (hub_events.Post frame) = frame
 frame_posted e = []
+
+-- the station that an event asks for
+abbrev pub host_asking : HubEvent → ℕ
+host_asking (hub_events.Fetch host) = host
+host_asking e = 0

@@ -11,7 +11,7 @@ ghost use Rattle.vk_hub.specs.Posts.{IsFromPost};
 
 use crate::event::{Arrival, Fetched, HubEvent};
 use crate::out::HubOut;
-use crate::places::Dispatch;
+use crate::places::{Dispatch, Request};
 use crate::state::HubState;
 use std::alloc::Global;
 use std::marker::Model;
@@ -159,8 +159,37 @@ impl Hub {
             × (is_ready self.now.origin.programs (traffic_of self.now.origin seat.new.seen) (HubEvent.Fetch host) ≡ true)) }
         ensures refused { IfErr result (λ why. is_at_limit seat.new.seen (HubEvent.Fetch host) ≡ is_full why) }
     {
-        let event = HubEvent::Fetch { host };
-        match self.cell.step_when_ready(rt, alloc, seat, &event, out) {
+        self.fetch_by(rt, alloc, seat, &Request::new(host), out)
+    }
+
+    /// The same by a request that the caller keeps.
+    pub fn fetch_by<R: Wait>(
+        &self,
+        rt: &R,
+        alloc: Global,
+        seat: &mut TurnSeat<HubState>,
+        request: &Request,
+        out: &mut HubOut,
+    ) -> Result<Arrival, Room>
+        requires { IsSeatOf self.now seat.old }
+        ensures same { IsSameSeat seat.old seat.new }
+        ensures complete { IsComplete seat.new }
+        ensures turns { seat.new.turns ≡ seat.old.turns + 1 }
+        ensures nothing { IfOk result (λ a. fetched_as a out.new.delivery ≡ Fetched.Nothing → HasLooked seat.old seat.new
+            × (fetched_from self.now.origin.programs (traffic_of self.now.origin seat.new.seen) request.now ≡ Fetched.Nothing)) }
+        ensures fetched { IfOk result (λ a. fetched_as a out.new.delivery ≢ Fetched.Nothing → HasEntered (λ before.
+            (is_at_limit before (HubEvent.Fetch request.now) ≡ false)
+            × (fetched_as a out.new.delivery ≡ fetched_from self.now.origin.programs (traffic_of self.now.origin before) request.now))
+            seat.old seat.new (HubEvent.Fetch request.now)) }
+        ensures posted { IfOk result (λ a. IsFromPost (fetched_as a out.new.delivery) request.now seat.new.seen) }
+        ensures err { OnErr result (HasLooked seat.old seat.new × (out.new ≡ out.old)
+            × (is_ready self.now.origin.programs (traffic_of self.now.origin seat.new.seen) (HubEvent.Fetch request.now) ≡ true)) }
+        ensures refused { IfErr result (λ why. is_at_limit seat.new.seen (HubEvent.Fetch request.now) ≡ is_full why) }
+    {
+        match self
+            .cell
+            .step_when_ready(rt, alloc, seat, request.event(), out)
+        {
             Ok(Ready::Done) => match out.arrival {
                 Some(arrival) => Ok(arrival),
                 None => unreachable!(),

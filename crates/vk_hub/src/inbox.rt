@@ -1,5 +1,5 @@
 // What waits for one station.
-ghost use Rattle.std.specs.Prelude.{◌≡◌, [], Some, None, if◌then◌else◌, is_some, IfOk};
+ghost use Rattle.std.specs.Prelude.{◌≡◌, ◌<◌, [], drop, length, Some, None, if◌then◌else◌, is_some, IfOk};
 ghost use Rattle.vk_generator.specs.Numbers.{next};
 ghost use Rattle.vk_hub.specs.Links.{drawn_byte, first_of, posted, rest_of, third_next};
 
@@ -30,6 +30,20 @@ impl Model for Inbox {
     ghost view = { λ i. record { station = i.station; ring = i.ring.items; held = i.held } };
 
     ghost invariant = { λ i. i.ring.capacity ≡ 128 };
+}
+
+/// Drops the oldest frame, which there is. Where no other waits the next one comes to its place, which is in the cache.
+fn drop_oldest(ring: &mut HeapCircularBuffer<FrameBytes>)
+    requires { 0 < length ring.old.items }
+    ensures items { ring.new.items ≡ drop 1 ring.old.items }
+    ensures capacity { ring.new.capacity ≡ ring.old.capacity }
+{
+    let left = ring.len() - 1;
+    if left == 0 {
+        ring.clear();
+    } else {
+        ring.truncate_front(left);
+    }
 }
 
 /// A draw of the generator, of 256.
@@ -94,7 +108,7 @@ impl Inbox {
     {
         if let Some(frame) = self.ring.front() {
             into.fill(frame.as_slice());
-            self.ring.truncate_front(self.ring.len() - 1);
+            drop_oldest(&mut self.ring);
             return true;
         }
         self.take_held(into)

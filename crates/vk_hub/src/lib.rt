@@ -22,5 +22,5 @@ pub use event::{Arrival, Fetched, HubEvent};
 pub use hub::Hub;
 pub use law::{fetches_are_posts, stopped_stays_stopped};
 pub use out::HubOut;
-pub use places::{Delivery, Dispatch};
+pub use places::{Delivery, Dispatch, Request};
 pub use state::HubState;

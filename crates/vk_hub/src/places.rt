@@ -1,4 +1,5 @@
-//! Places for frames, each as the event that it is: so no frame is copied into an event.
+//! Places for frames and requests, each as the event that it is: so no frame is copied into an event, and for a request no room of a frame
+//! is cleared.
 ghost use Rattle.std.specs.Prelude.{◌≡◌, ◌≤◌, [], length};
 ghost use Rattle.vk_base.specs.declared.limits.TheConstants.{FRAME_BYTES as BYTES};
 ghost use Rattle.vk_base.specs.declared.event.StationEvent.TheVariants as events;
@@ -121,6 +122,42 @@ impl Dispatch {
             HubEvent::Post { frame } => fill(frame, bytes),
             _ => unreachable!(),
         }
+    }
+}
+
+/// A station's request for what waits for it. Contracts see the station's number.
+#[derive(Drop)]
+pub struct Request {
+    event: HubEvent,
+}
+
+impl Model for Request {
+    ghost use Rattle.std.specs.Prelude.{◌≡◌, ℕ};
+    ghost use Rattle.vk_hub.specs.declared.event.HubEvent.TheVariants as hub_events;
+    ghost use Rattle.vk_hub.specs.Places.{host_asking};
+
+    ghost Value = { ℕ };
+
+    ghost view = { λ r. host_asking r.event };
+
+    ghost invariant = { λ r. r.event ≡ hub_events.Fetch (host_asking r.event) };
+}
+
+impl Request {
+    /// Of this station.
+    pub fn new(host: u16) -> Request
+        ensures { result ≡ host }
+    {
+        Request {
+            event: HubEvent::Fetch { host },
+        }
+    }
+
+    /// The event that the station takes what has waited longest for it.
+    pub fn event(&self) -> &HubEvent
+        ensures { result.now ≡ hub_events.Fetch self.now }
+    {
+        &self.event
     }
 }
 

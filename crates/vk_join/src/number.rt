@@ -18,11 +18,20 @@ use vk_log::StationEventView;
 pub fn keys_of(alloc: Global, logs: &[BriefLog]) -> Result<Vec<Key>, NoMemory>
     ensures { IfOk result (λ keys. AreKeys logs.now logs.now keys.items) }
 {
-    let mut keys = Vec::new(alloc);
+    let mut keys = Vec::with_capacity(alloc, count_of(logs))?;
     for at in 0..logs.len() {
         push_keys(&mut keys, logs, at)?;
     }
     Ok(keys)
+}
+
+/// How many events the logs have, so that their keys do not grow.
+fn count_of(logs: &[BriefLog]) -> usize {
+    let mut count = 0_usize;
+    for log in logs {
+        count = count.saturating_add(log.len());
+    }
+    count
 }
 
 /// A key for each event of the log at this place, behind those of the logs before it.

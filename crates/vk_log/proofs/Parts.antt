@@ -21,7 +21,7 @@ part_more bytes more p within =
 
 -- They change no event of an entry that is within.
 event_more : (bytes more : List ℕ) (e : Entry) → IsWithin (length bytes) e → event_in (bytes ++ more) e ≡ event_in bytes e
-event_more bytes more (entries.Call pid call part) within = ap (λ b. events.Call pid (call_with b call)) (part_more bytes more part within.0)
+event_more bytes more (entries.Call pid part call) within = ap (λ b. events.Call pid (call_with b call)) (part_more bytes more part within.0)
 event_more bytes more (entries.Collect pid) within = refl
 event_more bytes more entries.Tick within = refl
 event_more bytes more (entries.Deliver part) within = ap (λ b. events.Deliver b) (part_more bytes more part within.0)
@@ -51,7 +51,7 @@ pushed bytes more es e event within is =
 
 -- An entry within these bytes is within more.
 within_more : (n m : ℕ) (e : Entry) → n ≤ m → IsWithin n e → IsWithin m e
-within_more n m (entries.Call pid call part) more within = (omega arith, within.1)
+within_more n m (entries.Call pid part call) more within = (omega arith, within.1)
 within_more n m (entries.Collect pid) more within = tt
 within_more n m entries.Tick more within = tt
 within_more n m (entries.Deliver part) more within = (omega arith, within.1)

@@ -33,13 +33,13 @@ part_in bytes p = slice_range bytes p.from (p.from + p.count)
 
 -- the event of an entry, whose bytes stand among these
 abbrev pub event_in : List ℕ → Entry → StationEvent
-event_in bytes (entries.Call pid call part) = events.Call pid (call_with (part_in bytes part) call)
+event_in bytes (entries.Call pid part call) = events.Call pid (call_with (part_in bytes part) call)
 event_in bytes (entries.Collect pid) = events.Collect pid
 event_in bytes entries.Tick = events.Tick
 event_in bytes (entries.Deliver part) = events.Deliver (part_in bytes part)
 
 -- the bytes of an entry stand among so many, and are no more than its event may have
 abbrev pub IsWithin : ℕ → Entry → Type 0
-IsWithin size (entries.Call pid call part) = (part.from + part.count ≤ size) × (part.count ≤ DATA_BYTES)
+IsWithin size (entries.Call pid part call) = (part.from + part.count ≤ size) × (part.count ≤ DATA_BYTES)
 IsWithin size (entries.Deliver part) = (part.from + part.count ≤ size) × (part.count ≤ FRAME_BYTES)
 IsWithin size e = Unit {0}

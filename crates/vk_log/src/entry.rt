@@ -13,10 +13,11 @@ pub struct Part {
 /// An event of a station without its bytes: where those of a Store or of a frame stand, is told.
 #[derive(Clone, Copy)]
 pub enum Entry {
+    /// Where its bytes stand comes before the call, so that it mostly lies in the cache when it is known which event this is.
     Call {
         pid: Pid,
-        call: BriefCall,
         part: Part,
+        call: BriefCall,
     },
     Collect {
         pid: Pid,

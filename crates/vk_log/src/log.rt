@@ -1,6 +1,6 @@
 //! A list of a station's events.
 
-ghost use Rattle.std.specs.Prelude.{◌≡◌, ◌+◌, ◌-◌, ◌≤◌, ◌<◌, ◌++◌, ◌∷◌, [], length, slice_get, Some, OnOk, vec_capacity, vec_len};
+ghost use Rattle.std.specs.Prelude.{◌≡◌, ◌+◌, ◌-◌, ◌≤◌, ◌<◌, ◌++◌, ◌∷◌, [], length, slice_get, Some, IfOk, OnOk, vec_capacity, vec_len};
 ghost use Rattle.vk_log.specs.Logs.{IsShort, event_of, part_in};
 
 use crate::entry::{Entry, Part};
@@ -44,6 +44,21 @@ impl EventLog {
         }
     }
 
+    /// No events, with room for so many of them and for so many bytes. A list that begins with many pages grows by moving them, whichever
+    /// thread makes it grow, and a page is taken when it is written.
+    ///
+    /// # Errors
+    ///
+    /// [`NoMemory`] where memory is wanting.
+    pub fn with_room(alloc: Global, events: usize, bytes: usize) -> Result<Self, NoMemory>
+        ensures { IfOk result (λ l. l.items ≡ []) }
+    {
+        Ok(EventLog {
+            entries: Vec::with_capacity(alloc, events)?,
+            bytes: Vec::with_capacity(alloc, bytes)?,
+        })
+    }
+
     /// Makes room for one more, whatever it is.
     ///
     /// # Errors
@@ -67,7 +82,7 @@ impl EventLog {
             StationEvent::Call { pid, ref call } => {
                 let (call, bytes) = BriefCall::of(call);
                 let part = put(&mut self.bytes, bytes);
-                self.entries.push_reserved(Entry::Call { pid, call, part });
+                self.entries.push_reserved(Entry::Call { pid, part, call });
             }
             StationEvent::Collect { pid } => self.entries.push_reserved(Entry::Collect { pid }),
             StationEvent::Tick => self.entries.push_reserved(Entry::Tick),
@@ -92,7 +107,7 @@ impl EventLog {
         ensures short { IsShort result }
     {
         match &self.entries[at] {
-            Entry::Call { pid, call, part } => StationEventView::Call {
+            Entry::Call { pid, part, call } => StationEventView::Call {
                 pid: *pid,
                 call: CallView::new(call, part_of(&self.bytes, *part)),
             },

@@ -18,12 +18,13 @@ use std::marker::Model;
 use std::sync::Wait;
 use turn_cell::{Ready, Room, TurnCell, TurnSeat};
 use vk_base::StationEvent;
-use vk_hub::{Arrival, Hub, HubOut, HubState};
+use vk_hub::{Arrival, Hub, HubOut, HubState, Request};
 
 /// A seat at a station's cell, and one at the hub.
 #[derive(Drop)]
 pub struct Access<'a> {
-    host: u16,
+    /// The station's, for what waits for it at the hub.
+    request: Request,
     station: &'a TurnCell<Station>,
     seat: TurnSeat<Station>,
     hub: &'a Hub,
@@ -41,7 +42,7 @@ impl<'a> Model for Access<'a> {
     ghost Value = { PortValue };
 
     ghost view = { λ p. record {
-      host = p.host;
+      host = p.request;
       station = p.station.now;
       hub = p.hub.now;
       seat = p.seat;
@@ -49,7 +50,7 @@ impl<'a> Model for Access<'a> {
       ticks = p.ticks;
     } };
 
-    ghost invariant = { λ p. (p.station.now.origin.host ≡ p.host) × IsSeatOf p.station.now p.seat × IsSeatOf p.hub.now p.hub_seat
+    ghost invariant = { λ p. (p.station.now.origin.host ≡ p.request) × IsSeatOf p.station.now p.seat × IsSeatOf p.hub.now p.hub_seat
         × IsComplete p.seat × IsComplete p.hub_seat };
 }
 
@@ -78,7 +79,7 @@ impl<'a> Access<'a> {
         } }
     {
         Access {
-            host,
+            request: Request::new(host),
             station,
             seat,
             hub,
@@ -109,7 +110,7 @@ impl<'a> Access<'a> {
         ensures err { IfErr result (λ why. Does self.old self.new [] × IsMet self.new why (AtHub (hub_events.Fetch self.old.host))) }
     {
         self.hub
-            .fetch_in_place(rt, alloc, &mut self.hub_seat, self.host, heard)
+            .fetch_by(rt, alloc, &mut self.hub_seat, &self.request, heard)
     }
 
     /// Fetches once, and delivers what it fetched to the station. What the delivery gave stands in `out` then.

@@ -1,6 +1,6 @@
 //! The entries of a history: events, each with its caller's number.
 
-ghost use Rattle.std.specs.Prelude.{◌≡◌, ◌≤◌, ◌<◌, ◌++◌, ◌∷◌, [], length, map, slice_get, Some, OnOk};
+ghost use Rattle.std.specs.Prelude.{◌≡◌, ◌≤◌, ◌<◌, ◌++◌, ◌∷◌, [], length, map, slice_get, Some, IfOk, OnOk};
 ghost use Rattle.vk_log.specs.Logs.{event_of as event_seen};
 ghost use Rattle.vk_port.specs.Stations.{event_of};
 
@@ -30,14 +30,14 @@ impl Model for Entries {
 }
 
 impl Entries {
-    /// No entries.
-    pub fn new(alloc: Global) -> Self
-        ensures { result.items ≡ [] }
+    /// No entries, with room for so many and for so many bytes.
+    pub fn with_room(alloc: Global, events: usize, bytes: usize) -> Result<Self, NoMemory>
+        ensures { IfOk result (λ e. e.items ≡ []) }
     {
-        Entries {
+        Ok(Entries {
             past: Past::new(),
-            events: EventLog::new(alloc),
-        }
+            events: EventLog::with_room(alloc, events, bytes)?,
+        })
     }
 
     /// Makes room for one more.

@@ -27,11 +27,12 @@ const DOUBLINGS: u32 = 16;
 /// How a thread waits that found nothing to do. Its first eight waits behind one another, and all others within 100 microseconds, let other
 /// threads have its processor, for two microseconds where nobody wants it: so who waits looks seldom, and those that have something to do get
 /// their turns. Each further wait is a sleep: the first of 50 microseconds, and each twice as long as that before it, up to a longest one. So
-/// who waits a short time hears soon, and who waits long takes little of the processor. Contracts see how many waits there were behind one
-/// another; how long they take no contract says.
+/// who waits a short time hears soon, and who waits long takes little of the processor. A sleeper, for which nobody waits, sleeps from its
+/// first wait on. Contracts see how many waits there were behind one another; how long they take no contract says.
 #[derive(Drop)]
 pub struct Patience {
     longest: u32,
+    is_sleeper: bool,
     waits: u32,
     sleeps: u32,
     since: Option<Instant>,
@@ -52,6 +53,20 @@ impl Patience {
     {
         Patience {
             longest,
+            is_sleeper: false,
+            waits: 0,
+            sleeps: 0,
+            since: None,
+        }
+    }
+
+    /// Of a sleeper that has not waited yet, and whose sleeps are of at most so many microseconds.
+    pub fn of_sleeper(longest: u32) -> Patience
+        ensures { result ≡ 0 }
+    {
+        Patience {
+            longest,
+            is_sleeper: true,
             waits: 0,
             sleeps: 0,
             since: None,
@@ -85,6 +100,9 @@ impl Patience {
     fn is_short<R: Clock>(&mut self, rt: &R) -> bool
         ensures { self.new ≡ self.old }
     {
+        if self.is_sleeper {
+            return false;
+        }
         match self.since {
             Some(since) => self.waits < FEW || !has_passed(rt, since, SHORT),
             None => {

@@ -28,6 +28,9 @@ use vk_log::{EventLog, StationEventView};
 pub const EMITTED_BYTES: usize = 268_435_456;
 /// The most bytes that the frames of one event have: 2,048 frames of 1,152 bytes.
 pub const EVENT_BYTES: usize = 2_359_296;
+/// The bytes of events for which the histories of all stations have room from the beginning.
+const FIRST_BYTES: usize = 6_400_000;
+
 /// A station with its history, of which it is the replay. Contracts see its configuration, which station it is, its history, and the
 /// room that is left for entries.
 #[derive(Drop)]
@@ -64,12 +67,14 @@ impl Station {
     {
         let _lawful = config.times();
         pids_are(config.specs());
+        let stations = config.station_count();
+        let sharing = stations as usize;
         Ok(Station {
             config: Snapshot::of(config),
-            stations: config.station_count(),
+            stations,
             host: Host::new(alloc, config, host)?,
             bytes: 0,
-            entries: Entries::new(alloc),
+            entries: Entries::with_room(alloc, EVENTS / sharing, FIRST_BYTES / sharing)?,
         })
     }
 

@@ -85,12 +85,13 @@ pub fn pump_end<R: Wait + Clock>(rt: &R, work: PumpWork) -> End
     }
 }
 
-/// Delivers frame after frame, until the hub has ended.
+/// Delivers frame after frame, until the hub has ended. It sleeps where nothing came: a process that waits for an answer looks for frames
+/// itself.
 pub fn pump_on<R: Wait + Clock>(rt: &R, alloc: Global, port: &mut Port) -> Result<(), Room>
     ensures stopped { IfOk result (λ _. HasPumped port.old port.new) }
     ensures cut { IfErr result (λ why. HasPumpedCut port.old port.new why) }
 {
-    let mut patience = Patience::new(LONGEST_SLEEP);
+    let mut patience = Patience::of_sleeper(LONGEST_SLEEP);
     for _ in rt.forever() {
         match port.pump_once(rt, alloc) {
             Ok(Arrival::Frame) => patience.renew(),

@@ -49,7 +49,7 @@ returns-in-Call c =
     let bytes : List ℕ = c.self.inside.bytes.items in
     let more : List ℕ = c.of-call.result.1.now in
     let event : StationEvent = c.args.event.now in
-    let entry : Entry = entries.Call c.in-Call.pid c.of-call.result.0 c.put-part.result in
+    let entry : Entry = entries.Call c.in-Call.pid c.put-part.result c.of-call.result.0 in
     let new : event_in (bytes ++ more) entry ≡ event =
     ap (λ b. events.Call c.in-Call.pid (call_with b c.of-call.result.0))
     (part_new bytes more c.put-part.result c.put-part.ensures.from c.put-part.ensures.count)

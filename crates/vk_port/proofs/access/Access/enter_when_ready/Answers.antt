@@ -18,7 +18,7 @@ returns-after-post_frames-clause-done g c =
     let own = rw (← c.self.view_is) at c.requires.own in
     let turn = c.in-Ok-Done.ensures.done c.in-Ok-Done.field-0-is in
     let given = (entry_at p.station.now.origin turn.before e).answer in
-    let shown = some_answer p.host p.station.now p.hub.now p.ticks p.seat t p.hub_seat e c.args.out.now out
+    let shown = some_answer p.request p.station.now p.hub.now p.ticks p.seat t p.hub_seat e c.args.out.now out
     c.step_when_ready.ensures.same c.step_when_ready.ensures.complete own turn in
     elim c.match-post_frames.branch [
       | in-Ok w ↦
@@ -26,7 +26,7 @@ returns-after-post_frames-clause-done g c =
           (λ done. (
             given,
             shown,
-            made p.host p.station.now p.hub.now p.ticks p.seat t p.hub_seat e c.args.out.now out
+            made p.request p.station.now p.hub.now p.ticks p.seat t p.hub_seat e c.args.out.now out
                 c.step_when_ready.ensures.same c.step_when_ready.ensures.complete own turn c.post_frames.new.seat given shown w.in-Ok.ensures.ok,
           ))
       | in-Err-post_frames w ↦ rw (w.result-is) tt
@@ -41,7 +41,7 @@ returns-after-post_frames-clause-err g c =
       | in-Ok w ↦ rw (w.result-is) tt
       | in-Err-post_frames w ↦
           rw (w.result-is, ← c.self.view_is)
-          (cut p.host p.station.now p.hub.now p.ticks p.seat c.step_when_ready.new.seat p.hub_seat c.args.event.now c.args.out.now
+          (cut p.request p.station.now p.hub.now p.ticks p.seat c.step_when_ready.new.seat p.hub_seat c.args.event.now c.args.out.now
           c.step_when_ready.new.out c.step_when_ready.ensures.same c.step_when_ready.ensures.complete own turn c.post_frames.new.seat
           w.in-Err-post_frames.why w.in-Err-post_frames.ensures.err)
     ]
@@ -50,5 +50,5 @@ pub returns-in-Err-clause-err : goal.returns-in-Err-clause-err
 returns-in-Err-clause-err g c =
     let p = c.self.inside in
     rw (← c.self.view_is)
-    (refused p.host p.station.now p.hub.now p.ticks p.seat c.step_when_ready.new.seat p.hub_seat c.args.event.now c.in-Err.why
+    (refused p.request p.station.now p.hub.now p.ticks p.seat c.step_when_ready.new.seat p.hub_seat c.args.event.now c.in-Err.why
     c.step_when_ready.ensures.same c.in-Err.ensures.err.0 c.in-Err.ensures.err.2 c.in-Err.ensures.refused)

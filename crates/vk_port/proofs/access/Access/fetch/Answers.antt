@@ -6,9 +6,9 @@ use Rattle.vk_port.proofs.access.Access.fetch.Goals as goal
 pub returns-clause-fetched : goal.returns-clause-fetched
 returns-clause-fetched g c =
     let p = c.self.inside in
-    let turn = c.fetch_in_place in
+    let turn = c.fetch_by in
     rw (← c.self.view_is)
     (IfOk-weaker turn.result _ _
-    (λ a h some. fetched_some p.host p.station.now p.hub.now p.ticks p.seat p.hub_seat turn.new.seat (fetched_as a turn.new.out.delivery)
+    (λ a h some. fetched_some p.request p.station.now p.hub.now p.ticks p.seat p.hub_seat turn.new.seat (fetched_as a turn.new.out.delivery)
     turn.ensures.same turn.ensures.complete (h some))
     turn.ensures.fetched)
