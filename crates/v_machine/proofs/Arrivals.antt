@@ -16,7 +16,7 @@ use Rattle.v_laws.proofs.Tables.{same_pid_is, same_name_is, same_name_self}
 use Rattle.v_laws.proofs.Without.{without_gone, anew_there}
 use Rattle.v_machine.specs.declared.tables.latest.Latest.{Latest}
 use Rattle.v_machine.specs.declared.tables.Store.{Store}
-use Rattle.v_machine.specs.Kept.{IsIndexed, IsAt, IsWaiting, IsLatest, IsNoNearer, queued_at, latest_by, arrived_in}
+use Rattle.v_machine.specs.Kept.{IsIndexed, IsAt, IsWaiting, IsLatest, IsNoNearer, queued_at, latest_by}
 use Rattle.v_machine.specs.Latest.{latest_in}
 use Rattle.v_machine.specs.Places.{place_in, list_at}
 use Rattle.v_machine.specs.Tables.{exchanges_by}
@@ -200,7 +200,7 @@ module _ (s t : Store) (sender : Pid) (at to number : ℕ) (x : Exchange) (after
       length t.procs.items ≡ length s.procs.items → length t.asked.items ≡ length s.asked.items →
       t.sends.items ≡ set s.sends.items at s' → number ≤ length s' → length (list_at s.places s.sends.items sender) ≤ length s' →
       exchanges_by s.places (set s.sends.items at s') ≡ after →
-      arrived_in t ≡ without (name_of sender number) (arrived_in s) ++ name_of sender number ∷ [] →
+      t.arrived ≡ without (name_of sender number) s.arrived ++ name_of sender number ∷ [] →
       list_any (same_name (name_of sender number)) names ≡ false → names ≡ get_or s.queues.items to names →
       t.queues.items ≡ set s.queues.items to (names ++ name_of sender number ∷ []) →
       l0 ≡ get_or s.latest.items at l0 → t.latest.items ≡ set s.latest.items at l2 →
@@ -222,7 +222,7 @@ module _ (s t : Store) (sender : Pid) (at to number : ℕ) (x : Exchange) (after
             (sym (λ i. list_at (places i) (sends i) q)) (low_at q host (cases_Bool (same_pid q sender))));
         open_last = λ n y is.
             subst (λ m. IsLatest m n y) (sym (λ i. latest_by (places i) (latest i) n.sender y.target.host))
-            (latest_arrived (exchanges_by s.places s.sends.items) after (arrived_in s) (name_of sender number) x at_name queued others
+            (latest_arrived (exchanges_by s.places s.sends.items) after s.arrived (name_of sender number) x at_name queued others
             (latest_by s.places s.latest.items) (latest_by s.places (set s.latest.items at l2)) number_by rest old.open_last n y
             (sym (ap (λ f. f n) all) ∙ is));
       }
@@ -231,23 +231,23 @@ module _ (s t : Store) (sender : Pid) (at to number : ℕ) (x : Exchange) (after
       all = (λ i. exchanges_by (places i) (sends i)) ∙ exchanges
 
       waits_at : (r : Pid) → IsSome (place_in s.places r) → (same_pid r x.at ≡ true) ⊎ (same_pid r x.at ≡ false) →
-          IsWaiting after (without (name_of sender number) (arrived_in s) ++ name_of sender number ∷ []) r
+          IsWaiting after (without (name_of sender number) s.arrived ++ name_of sender number ∷ []) r
           (list_at s.places (set s.queues.items to (names ++ name_of sender number ∷ [])) r)
       waits_at r in_config (inl u) =
           let same = same_pid_is r x.at u in
           let was = old.waiting x.at (subst (λ q. IsSome (place_in s.places q)) same in_config) in
           let mine = list_at_is s.places s.queues.items x.at to names there.place there.queues waits in
-          subst (λ q. IsWaiting after (without (name_of sender number) (arrived_in s) ++ name_of sender number ∷ []) q
+          subst (λ q. IsWaiting after (without (name_of sender number) s.arrived ++ name_of sender number ∷ []) q
           (list_at s.places (set s.queues.items to (names ++ name_of sender number ∷ [])) q)) (sym same)
-          (subst (IsWaiting after (without (name_of sender number) (arrived_in s) ++ name_of sender number ∷ []) x.at)
+          (subst (IsWaiting after (without (name_of sender number) s.arrived ++ name_of sender number ∷ []) x.at)
           (sym (list_at-set_same s.places s.queues.items x.at to (names ++ name_of sender number ∷ []) there.place there.queues))
-          (waiting_here (exchanges_by s.places s.sends.items) after (arrived_in s) (name_of sender number) x at_name queued others
-          names absent (subst (IsWaiting (exchanges_by s.places s.sends.items) (arrived_in s) x.at) mine was)))
+          (waiting_here (exchanges_by s.places s.sends.items) after s.arrived (name_of sender number) x at_name queued others
+          names absent (subst (IsWaiting (exchanges_by s.places s.sends.items) s.arrived x.at) mine was)))
       waits_at r in_config (inr f) =
           let was = old.waiting r in_config in
-          subst (IsWaiting after (without (name_of sender number) (arrived_in s) ++ name_of sender number ∷ []) r)
+          subst (IsWaiting after (without (name_of sender number) s.arrived ++ name_of sender number ∷ []) r)
           (sym (list_at-set_other s.places s.queues.items x.at r to (names ++ name_of sender number ∷ []) there.place f))
-          (waiting_there (exchanges_by s.places s.sends.items) after (arrived_in s) (name_of sender number) x at_name queued others r
+          (waiting_there (exchanges_by s.places s.sends.items) after s.arrived (name_of sender number) x at_name queued others r
           (list_at s.places s.queues.items r) (apart r f) was)
         where
           apart : (r : Pid) → same_pid r x.at ≡ false → same_pid x.at r ≡ false

@@ -14,7 +14,7 @@ use Rattle.vk_base.proofs.PidLemmas.{same_pid_self}
 use Rattle.v_laws.proofs.Tables.{same_pid_is, same_name_self}
 use Rattle.v_laws.proofs.MoveSteps.{arrival_place}
 use Rattle.v_machine.specs.declared.tables.Store.{Store}
-use Rattle.v_machine.specs.Kept.{IsKept, IsAt, IsLatest, IsNoNearer, arrived_in, kernel_in, latest_by}
+use Rattle.v_machine.specs.Kept.{IsKept, IsAt, IsLatest, IsNoNearer, kernel_in, latest_by}
 use Rattle.v_machine.specs.Places.{place_in, numbered}
 use Rattle.v_machine.specs.Rules.{IsPostedTo, posted_to}
 use Rattle.v_machine.specs.Sends.{dropped_between, come_at}
@@ -178,7 +178,7 @@ module _ (s : Store) (name : Name) (at to : ℕ) (e : Exchange) (kept : IsKept s
         ap (λ (z : Exchange). z.at) (sym x.2) ∙ arrival_place name e n x.0,
       )
 
-  pub arrive_new : list_any (same_name name) (arrived_in s) ≡ false
+  pub arrive_new : list_any (same_name name) s.arrived ≡ false
   arrive_new = (kept.sound.posted name e at_name posted).away
 
   pub arrive_at : option_map (after_arrival name e name) (exchanges_by s.places s.sends.items name) ≡ Some

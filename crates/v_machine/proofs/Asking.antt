@@ -15,7 +15,7 @@ use Rattle.vk_base.specs.Steps.{only_if, hearing, hear_step, asking, finding, fo
 use Rattle.v_laws.proofs.Tables.{same_pid_is}
 use Rattle.v_machine.specs.declared.tables.proc.Proc.{Proc}
 use Rattle.v_machine.specs.declared.tables.Store.{Store}
-use Rattle.v_machine.specs.Kept.{IsIndexed, arrived_in}
+use Rattle.v_machine.specs.Kept.{IsIndexed}
 use Rattle.v_machine.specs.Lists.{change_numbered}
 use Rattle.v_machine.specs.Names.{tells_of}
 use Rattle.v_machine.specs.Places.{place_in, at_place, count_at, numbered}
@@ -175,7 +175,7 @@ hears_is names seen asker logical pid is =
 -- lookups that are put back as they were
 pub asked_stay : (s t : Store) (at : ℕ) (a a' : List Lookup) → a ≡ get_or s.asked.items at a → a' ≡ a → t.places ≡ s.places →
     t.procs.items ≡ s.procs.items → t.sends.items ≡ s.sends.items → t.asked.items ≡ set s.asked.items at a' →
-    t.names.items ≡ s.names.items → arrived_in t ≡ arrived_in s → t.queues.items ≡ s.queues.items → t.latest.items ≡ s.latest.items →
+    t.names.items ≡ s.names.items → t.arrived ≡ s.arrived → t.queues.items ≡ s.queues.items → t.latest.items ≡ s.latest.items →
     IsIndexed s → Stays s t
 asked_stay s t at a a' there same places procs sends asked names arrived queues latest old =
     let put : t.asked.items ≡ s.asked.items = asked ∙ ap (set s.asked.items at) (same ∙ there) ∙ set-get_or s.asked.items at a in

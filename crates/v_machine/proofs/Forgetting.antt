@@ -15,7 +15,7 @@ use Rattle.v_laws.proofs.SoundChanges.{orderly_where}
 use Rattle.v_laws.proofs.Tables.{same_pid_is}
 use Rattle.v_machine.specs.declared.tables.Store.{Store}
 use Rattle.v_machine.specs.Begun.{Forgets, IsForgetting}
-use Rattle.v_machine.specs.Kept.{IsAt, IsIndexed, IsKept, IsLatest, IsWaiting, arrived_in, kernel_in, latest_by, newest, queued_at}
+use Rattle.v_machine.specs.Kept.{IsAt, IsIndexed, IsKept, IsLatest, IsWaiting, kernel_in, latest_by, queued_at}
 use Rattle.v_machine.specs.Lean.{AreLean, IsAlike, IsLean}
 use Rattle.v_machine.specs.Places.{count_at, list_at, numbered, place_in}
 use Rattle.v_machine.specs.Shortened.{IsShortened}
@@ -165,7 +165,7 @@ module _ (k : Kernel) (later : Name → Option Exchange) (pid : Pid) (low : ℕ)
 -- The same of the tables of a store.
 module _ (s t : Store) (pid : Pid) (at : ℕ) (xs ys : List Exchange) (low : ℕ) (here : IsAt s pid at) (is : xs ≡ get_or s.sends.items at xs)
     (places : t.places ≡ s.places) (procs : t.procs.items ≡ s.procs.items) (sends : t.sends.items ≡ set s.sends.items at ys)
-    (asked : t.asked.items ≡ s.asked.items) (names : t.names.items ≡ s.names.items) (arrived : t.arrived.items ≡ s.arrived.items)
+    (asked : t.asked.items ≡ s.asked.items) (names : t.names.items ≡ s.names.items) (arrived : t.arrived ≡ s.arrived)
     (queues : t.queues.items ≡ s.queues.items) (latest : t.latest.items ≡ s.latest.items) (f : IsForgetting low xs ys) where
   abbrev pub before : Name → Option Exchange
   before = exchanges_by s.places s.sends.items
@@ -224,7 +224,7 @@ module _ (s t : Store) (pid : Pid) (at : ℕ) (xs ys : List Exchange) (low : ℕ
 
   pub kernel_shorter : kernel_in t ≡ record (kernel_in s) { exchanges = after }
   kernel_shorter =
-      (λ i. kernel_by (places i) (procs i) (sends i) (asked i) (names i) (newest (arrived i)))
+      (λ i. kernel_by (places i) (procs i) (sends i) (asked i) (names i) (arrived i))
       ∙ ap (λ ps. record (kernel_in s) { procs = ps; exchanges = after })
       (procs-even s.places s.procs.items s.sends.items (set s.sends.items at ys) s.asked.items s.asked.items counts (λ to. refl))
 
@@ -262,9 +262,9 @@ module _ (s t : Store) (pid : Pid) (at : ℕ) (xs ys : List Exchange) (low : ℕ
     | inr w ↦ dead r (after n) (λ e is_e. last_over e (sym w.3 ∙ is_e)) ∙ sym (dead r (before n) (was_ended n w.0 w.2))
   ]
 
-  waits : (r : Pid) (ns : List Name) → IsWaiting before (arrived_in s) r ns → IsWaiting after (arrived_in s) r ns
+  waits : (r : Pid) (ns : List Name) → IsWaiting before s.arrived r ns → IsWaiting after s.arrived r ns
   waits r ns was = record {
-    queue = (λ i. filter (λ n. queued_same r n i) ns) ∙ was.queue ∙ sym (λ i. filter (λ n. queued_same r n i) (arrived_in s));
+    queue = (λ i. filter (λ n. queued_same r n i) ns) ∙ was.queue ∙ sym (λ i. filter (λ n. queued_same r n i) s.arrived);
     came = was.came;
   }
 
@@ -289,9 +289,9 @@ module _ (s t : Store) (pid : Pid) (at : ℕ) (xs ys : List Exchange) (low : ℕ
     latest = ap length latest ∙ old.latest ∙ sym (ap length places);
     waiting = λ r found.
         let was = waits r (list_at s.places s.queues.items r) (old.waiting r (subst (λ ps. IsSome (place_in ps r)) places found)) in
-        subst (λ ns. IsWaiting (exchanges_by t.places t.sends.items) (newest ns) r (list_at t.places t.queues.items r)) (sym arrived)
-        (subst (λ ex. IsWaiting ex (arrived_in s) r (list_at t.places t.queues.items r)) (λ i. exchanges_by (sym places i) (sym sends i))
-        (subst (IsWaiting after (arrived_in s) r) (λ i. list_at (sym places i) (sym queues i) r) was));
+        subst (λ ns. IsWaiting (exchanges_by t.places t.sends.items) ns r (list_at t.places t.queues.items r)) (sym arrived)
+        (subst (λ ex. IsWaiting ex s.arrived r (list_at t.places t.queues.items r)) (λ i. exchanges_by (sym places i) (sym sends i))
+        (subst (IsWaiting after s.arrived r) (λ i. list_at (sym places i) (sym queues i) r) was));
     low = λ sender host.
         let number : latest_by t.places t.latest.items sender host ≡ latest_by s.places s.latest.items sender host =
         λ i. latest_by (places i) (latest i) sender host in
@@ -309,17 +309,17 @@ module _ (s t : Store) (pid : Pid) (at : ℕ) (xs ys : List Exchange) (low : ℕ
 
 module _ (s t : Store) (pid : Pid) (at : ℕ) (xs ys : List Exchange) (here : IsAt s pid at) (is : xs ≡ get_or s.sends.items at xs)
     (places : t.places ≡ s.places) (procs : t.procs.items ≡ s.procs.items) (sends : t.sends.items ≡ set s.sends.items at ys)
-    (asked : t.asked.items ≡ s.asked.items) (names : t.names.items ≡ s.names.items) (arrived : t.arrived.items ≡ s.arrived.items)
+    (asked : t.asked.items ≡ s.asked.items) (names : t.names.items ≡ s.names.items) (arrived : t.arrived ≡ s.arrived)
     (queues : t.queues.items ≡ s.queues.items) (latest : t.latest.items ≡ s.latest.items) where
   pub shortened : Forgets xs ys → IsKept s → IsShortened s t
   shortened (inl same) kept =
       let even = sends ∙ ap (set s.sends.items at) same ∙ set_self s.sends.items at xs is in
       let kernel : kernel_in t ≡ kernel_in s =
-      λ i. kernel_by (places i) (procs i) (even i) (asked i) (names i) (newest (arrived i)) in
+      λ i. kernel_by (places i) (procs i) (even i) (asked i) (names i) (arrived i) in
       record {
         alike = ap lean_kernel (sym kernel);
         kept = record {
-          indexed = (stays_alike s t places procs even asked names (ap newest arrived) queues (ap length latest)
+          indexed = (stays_alike s t places procs even asked names arrived queues (ap length latest)
               (λ q h i. latest_by (places i) (latest i) q h) kept.indexed).indexed;
           sound = subst IsSound (sym kernel) kept.sound;
           size = kept.size;

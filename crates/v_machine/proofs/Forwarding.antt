@@ -12,7 +12,7 @@ use Rattle.v_laws.proofs.Tables.{same_pid_is, put_exchange_at, put_exchange_othe
 use Rattle.v_laws.proofs.Without.{without_gone, without_from, without_left}
 use Rattle.v_machine.specs.declared.tables.latest.Latest.{Latest}
 use Rattle.v_machine.specs.declared.tables.Store.{Store}
-use Rattle.v_machine.specs.Kept.{IsKept, IsIndexed, IsAt, arrived_in, kernel_in, latest_by, queued_at}
+use Rattle.v_machine.specs.Kept.{IsKept, IsIndexed, IsAt, kernel_in, latest_by, queued_at}
 use Rattle.v_machine.specs.Latest.{latest_in}
 use Rattle.v_machine.specs.Lists.{change_numbered}
 use Rattle.v_machine.specs.Rules.{IsTaken, Stays}
@@ -27,7 +27,7 @@ use Rattle.v_machine.proofs.TableLemmas.{length-change, numbered_low}
 -- a name that is not queued is taken out of a queue
 pub way_stays : (s t : Store) (pid : Pid) (to : ℕ) (name : Name) (names : List Name) → IsAt s pid to →
     names ≡ get_or s.queues.items to names → t.places ≡ s.places → t.procs.items ≡ s.procs.items → t.sends.items ≡ s.sends.items →
-    t.asked.items ≡ s.asked.items → t.names.items ≡ s.names.items → arrived_in t ≡ arrived_in s →
+    t.asked.items ≡ s.asked.items → t.names.items ≡ s.names.items → t.arrived ≡ s.arrived →
     t.queues.items ≡ set s.queues.items to (without name names) → t.latest.items ≡ s.latest.items →
     queued_at (exchanges_by s.places s.sends.items) pid name ≡ false → IsIndexed s → Stays s t
 way_stays s t pid to name names here is places procs sends asked registered arrived queues latest idle old = record {
@@ -114,7 +114,7 @@ module _ (s : Store) (at to : ℕ) (name : Name) (pid : Pid) (e : Exchange) (m :
   pub indexed_forwarded : (t : Store) (s0 s' : List Exchange) (names : List Name) → t.places ≡ s.places →
       length t.procs.items ≡ length s.procs.items → length t.asked.items ≡ length s.asked.items →
       s0 ≡ get_or s.sends.items at s0 → t.sends.items ≡ set s.sends.items at s' → s' ≡ change_numbered name.number (handed_on m pid) s0 →
-      arrived_in t ≡ without name (arrived_in s) ++ name ∷ [] → list_any (same_name name) names ≡ false →
+      t.arrived ≡ without name s.arrived ++ name ∷ [] → list_any (same_name name) names ≡ false →
       names ≡ get_or s.queues.items to names → t.queues.items ≡ set s.queues.items to (names ++ name ∷ []) →
       t.latest.items ≡ s.latest.items → IsIndexed t
   unfolding after

@@ -9,7 +9,7 @@ use Rattle.vk_base.specs.Pids.{same_pid}
 use Rattle.vk_base.specs.Steps.{first_of}
 use Rattle.v_laws.proofs.Tables.{same_pid_is, same_name_is, put_exchange_at, put_exchange_other}
 use Rattle.v_machine.specs.declared.tables.Store.{Store}
-use Rattle.v_machine.specs.Kept.{IsIndexed, IsAt, IsWaiting, IsNoNearer, queued_at, latest_by, arrived_in, kernel_in}
+use Rattle.v_machine.specs.Kept.{IsIndexed, IsAt, IsWaiting, IsNoNearer, queued_at, latest_by, kernel_in}
 use Rattle.v_machine.specs.Places.{place_in, list_at}
 use Rattle.v_machine.specs.Tables.{exchanges_by}
 use Rattle.v_machine.proofs.PlaceLemmas.{at_place_same, at_place_other, at_place_is}
@@ -49,7 +49,7 @@ queued_before before after r less n (Some y) is t =
 
 pub indexed_later : (s t : Store) → t.places ≡ s.places → length t.procs.items ≡ length s.procs.items →
     length t.sends.items ≡ length s.sends.items → length t.asked.items ≡ length s.asked.items →
-    arrived_in t ≡ arrived_in s → t.queues.items ≡ s.queues.items → t.latest.items ≡ s.latest.items →
+    t.arrived ≡ s.arrived → t.queues.items ≡ s.queues.items → t.latest.items ≡ s.latest.items →
     ((pid : Pid) → length (list_at s.places s.sends.items pid) ≤ length (list_at t.places t.sends.items pid)) →
     AreNoNearer (exchanges_by s.places s.sends.items) (exchanges_by t.places t.sends.items) → IsIndexed s → IsIndexed t
 indexed_later s t places procs sends asked arrived queues latest more less old =
@@ -67,7 +67,7 @@ indexed_later s t places procs sends asked arrived queues latest more less old =
           record {
             queue = ap (filter (queued_at after r)) names
                 ∙ alike_narrower (queued_at before r) (queued_at after r) (λ n. queued_before before after r less n (after n) refl)
-                (list_at s.places s.queues.items r) (arrived_in s) was.queue
+                (list_at s.places s.queues.items r) s.arrived was.queue
                 ∙ ap (filter (queued_at after r)) (sym arrived);
             came = λ n among. subst (λ ns. list_any (same_name n) ns ≡ true) (sym arrived)
                 (was.came n (subst (λ ns. list_any (same_name n) ns ≡ true) names among));
@@ -132,7 +132,7 @@ waiting_same ex ex' arrived arrived' r names names' e a n was =
 pub indexed_cleaned : (s t : Store) (pid : Pid) (at : ℕ) (names left : List Name) → IsAt s pid at → names ≡ get_or s.queues.items at names →
     t.places ≡ s.places → length t.procs.items ≡ length s.procs.items → t.sends.items ≡ s.sends.items →
     length t.asked.items ≡ length s.asked.items →
-    arrived_in t ≡ arrived_in s → t.queues.items ≡ set s.queues.items at left → t.latest.items ≡ s.latest.items →
+    t.arrived ≡ s.arrived → t.queues.items ≡ set s.queues.items at left → t.latest.items ≡ s.latest.items →
     filter (queued_at (exchanges_by s.places s.sends.items) pid) left ≡ filter (queued_at (exchanges_by s.places s.sends.items) pid) names →
     ((n : Name) → list_any (same_name n) left ≡ true → list_any (same_name n) names ≡ true) → IsIndexed s → IsIndexed t
 indexed_cleaned s t pid at names left here is places procs sends asked arrived queues latest alike among old =
@@ -163,19 +163,19 @@ indexed_cleaned s t pid at names left here is places procs sends asked arrived q
     }
   where
     waits : (r : Pid) → IsSome (place_in s.places r) → (same_pid r pid ≡ true) ⊎ (same_pid r pid ≡ false) →
-        IsWaiting (exchanges_by s.places s.sends.items) (arrived_in s) r (list_at s.places (set s.queues.items at left) r)
+        IsWaiting (exchanges_by s.places s.sends.items) s.arrived r (list_at s.places (set s.queues.items at left) r)
     waits r there (inl u) =
         let same = same_pid_is r pid u in
         let was = old.waiting pid (subst (λ q. IsSome (place_in s.places q)) same there) in
         let now = list_at-set_same s.places s.queues.items pid at left here.place here.queues in
         let before = list_at_is s.places s.queues.items pid at names here.place here.queues is in
-        subst (λ q. IsWaiting (exchanges_by s.places s.sends.items) (arrived_in s) q (list_at s.places (set s.queues.items at left) q))
+        subst (λ q. IsWaiting (exchanges_by s.places s.sends.items) s.arrived q (list_at s.places (set s.queues.items at left) q))
         (sym same)
-        (subst (IsWaiting (exchanges_by s.places s.sends.items) (arrived_in s) pid) (sym now) (record {
+        (subst (IsWaiting (exchanges_by s.places s.sends.items) s.arrived pid) (sym now) (record {
           queue = alike ∙ ap (filter (queued_at (exchanges_by s.places s.sends.items) pid)) (sym before) ∙ was.queue;
           came = λ n u. was.came n (subst (λ ns. list_any (same_name n) ns ≡ true) (sym before) (among n u));
         }))
-    waits r there (inr f) = subst (IsWaiting (exchanges_by s.places s.sends.items) (arrived_in s) r)
+    waits r there (inr f) = subst (IsWaiting (exchanges_by s.places s.sends.items) s.arrived r)
         (sym (list_at-set_other s.places s.queues.items pid r at left here.place f)) (old.waiting r there)
 
 -- the first of what passes, where the first passes
@@ -203,7 +203,7 @@ queue_first s pid at names found indexed here is first =
 -- where the Sends and the indexes stay
 pub indexed_same : (s t : Store) → t.places ≡ s.places → length t.procs.items ≡ length s.procs.items → t.sends.items ≡ s.sends.items →
     length t.asked.items ≡ length s.asked.items →
-    arrived_in t ≡ arrived_in s → t.queues.items ≡ s.queues.items → t.latest.items ≡ s.latest.items → IsIndexed s → IsIndexed t
+    t.arrived ≡ s.arrived → t.queues.items ≡ s.queues.items → t.latest.items ≡ s.latest.items → IsIndexed s → IsIndexed t
 indexed_same s t places procs sends asked arrived queues latest old =
     indexed_later s t places procs (ap length sends) asked arrived queues latest
     (λ pid. let same = ap (λ (ss : List Exchange). length ss) (λ i. list_at (places i) (sends i) pid) in omega arith)

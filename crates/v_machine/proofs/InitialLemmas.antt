@@ -11,7 +11,7 @@ use Rattle.vk_base.specs.Pids.{same_pid}
 use Rattle.vk_base.specs.Settings.{is_process}
 use Rattle.v_machine.specs.declared.tables.latest.Latest.{Latest}
 use Rattle.v_machine.specs.declared.tables.Store.{Store}
-use Rattle.v_machine.specs.Kept.{IsIndexed, kernel_in, newest}
+use Rattle.v_machine.specs.Kept.{IsIndexed, kernel_in}
 use Rattle.v_machine.specs.Latest.{latest_in}
 use Rattle.v_machine.specs.Initial.{IsInitial, initial_proc, nothing}
 use Rattle.v_machine.specs.Places.{pid_of, place_in, at_place, list_at, count_at, numbered}
@@ -108,7 +108,7 @@ module _ (specs : List ProcessSpec) where
 pub kernel_at_first : (s : Store) (specs : List ProcessSpec) → s.places ≡ map pid_of specs → IsInitial specs s →
     kernel_in s ≡ initial_kernel specs
 kernel_at_first s specs places filled =
-    (λ i. kernel_by (places i) (filled.procs i) (filled.sends i) (filled.asked i) (filled.names i) (newest (filled.arrived i)))
+    (λ i. kernel_by (places i) (filled.procs i) (filled.sends i) (filled.asked i) (filled.names i) (filled.arrived i))
     ∙ kernel_open specs
 
 empty_low : (ls : List Latest) (host n : ℕ) → ls ≡ [] → latest_in ls host ≤ n
@@ -129,7 +129,7 @@ indexed_at_first s specs places filled =
           let names : list_at s.places s.queues.items r ≡ [] =
           ap (λ xss. unwrap_or (place_in s.places r >>= slice_get xss) []) filled.queues ∙ list_open specs (place_in s.places r) in
           record {
-            queue = ap (filter _) (names ∙ sym (ap newest filled.arrived));
+            queue = ap (filter _) (names ∙ sym filled.arrived);
             came = λ n t. absurd (both_ways false refl (subst (λ ns. list_any (same_name n) ns ≡ true) names t));
           };
       low = λ sender host. empty_low (list_at s.places s.latest.items sender) host _

@@ -1,10 +1,11 @@
 -- Numbers of hosts after a change.
-use Rattle.std.proofs.Common.{◌≡◌, ℕ, zero, suc, ◌<◌, Bool, true, false, cond, ◌==◌, ◌||◌, List, [], ◌∷◌, ◌++◌, length, get_or, set, refl, ap, sym, subst, ◌∙◌, arith, nat_lt, Option, Some, None, option_map, unwrap_or, inl, inr}
-use Rattle.std.proofs.lemmas.Bool.{cases_Bool, both_ways, eqb-true, eq-eqb, lt-ltb, cond-true, cond-false, false_from_ne_true}
+use Rattle.std.proofs.Common.{◌≡◌, ℕ, zero, suc, ◌+◌, ◌<◌, Bool, true, false, cond, ◌==◌, List, [], ◌∷◌, ◌++◌, length, get_or, set, slice_get, length-append, refl, ap, sym, ◌∙◌, arith, nat_lt, Option, Some, None, option_map, unwrap_or, inl, inr}
+use Rattle.std.proofs.lemmas.Bool.{cases_Bool, cases_lt, both_ways, eqb-true, eq-eqb, lt-ltb, cond-true, cond-false, false_from_ne_true}
 use Rattle.std.proofs.lemmas.List.Quantifiers.{position-Some}
-use Rattle.std.proofs.lemmas.List.Folds.{find-append}
-use Rattle.std.proofs.lemmas.Option.{none-some}
-use Rattle.std.specs.List.{find, position, position_or_len, list_any}
+use Rattle.std.proofs.lemmas.List.Folds.{find-append, find_at, position_or_len_push}
+use Rattle.std.proofs.lemmas.List.Sums.{fails_before_first, position_or_len_is}
+use Rattle.std.proofs.lemmas.Option.{none-some, slice_get-get_or}
+use Rattle.std.specs.List.{find, position, position_or_len}
 use Rattle.std.specs.Option.{option_or}
 use Rattle.v_machine.specs.declared.tables.latest.Latest.{Latest}
 use Rattle.v_machine.specs.Latest.{is_for, latest_in}
@@ -68,21 +69,34 @@ latest-put ls at d v host h place same =
     let facts = position-Some (is_for host) ls at d place in
     ap number_in (find-put ls at d v host h facts.0 facts.1 facts.2 same) ∙ number-cond v (find (is_for h) ls) (h == host)
 
--- where some element passes there is a first
-passes_below : {X : Type 0} (p : X → Bool) (x : X) (xs : List X) (b : Bool) → p x ≡ b → (p x || list_any p xs) ≡ true →
-    (list_any p xs ≡ true → position_or_len p xs < length xs) → position_or_len p (x ∷ xs) < length (x ∷ xs)
-passes_below p x xs true e t again = rw e (omega arith)
-passes_below p x xs false e t again =
-    let rest : list_any p xs ≡ true = subst (λ c. (c || list_any p xs) ≡ true) e t in
-    let low = again rest in
-    rw e (omega arith)
+-- the number in the place of a host
+pub latest-there : (ls : List Latest) (at : ℕ) (l : Latest) (host : ℕ) → position (is_for host) ls ≡ Some at → l ≡ get_or ls at l →
+    l.number ≡ latest_in ls host
+unfolding latest_in
+latest-there ls at l host place is =
+    let facts = position-Some (is_for host) ls at l place in
+    let first : position_or_len (is_for host) ls ≡ at = position_or_len_is (is_for host) ls at l (omega (arith, facts.0)) facts.2
+    (λ less. facts.1) in
+    sym (ap number_in (find_at (is_for host) ls ∙ ap (slice_get ls) first ∙ slice_get-get_or ls at l facts.0 ∙ ap Some (sym is)))
 
-first_below : {X : Type 0} (p : X → Bool) (xs : List X) → list_any p xs ≡ true → position_or_len p xs < length xs
-first_below p [] t = absurd (both_ways false refl t)
-first_below p (x ∷ xs) t = passes_below p x xs (p x) refl t (first_below p xs)
-
-pub none_passes : {X : Type 0} (p : X → Bool) (xs : List X) → list_any p xs ≡ true → position p xs ≡ None → ⊥
-none_passes p xs t none =
-    let low = first_below p xs t in
-    none-some (position_or_len p xs) (sym none ∙ cond-true (nat_lt (position_or_len p xs) (length xs)) (Some (position_or_len p xs)) None
-    (lt-ltb (position_or_len p xs) (length xs) low))
+-- the place of one more
+pub place-new : (ls : List Latest) (host number : ℕ) → position (is_for host) ls ≡ None →
+    position (is_for host) (ls ++ record { host = host; number = number } ∷ []) ≡ Some (length ls)
+place-new ls host number none =
+    let p = is_for host in
+    let l : Latest = record { host = host; number = number } in
+    let past : position_or_len p ls ≡ length ls = elim (cases_lt (position_or_len p ls) (length ls)) [
+      | inl low ↦ absurd
+          (none-some (position_or_len p ls)
+          (sym none ∙ cond-true (nat_lt (position_or_len p ls) (length ls)) (Some (position_or_len p ls)) None (lt-ltb _ _ low)))
+      | inr high ↦ position_or_len_is p ls (length ls) l (omega arith) (λ k less. fails_before_first p ls k l (omega arith))
+          (λ less. absurd (omega arith))
+    ] in
+    let here : position_or_len p (ls ++ l ∷ []) ≡ length ls = position_or_len_push p ls l
+    ∙ cond-true (position_or_len p ls == length ls) _ _ (eq-eqb (position_or_len p ls) (length ls) past)
+    ∙ ap (λ b. length ls + cond b 0 1) (eq-eqb host host refl)
+    ∙ omega arith in
+    let long = length-append ls (l ∷ []) in
+    cond-true (nat_lt (position_or_len p (ls ++ l ∷ [])) (length (ls ++ l ∷ []))) (Some (position_or_len p (ls ++ l ∷ []))) None
+    (lt-ltb (position_or_len p (ls ++ l ∷ [])) (length (ls ++ l ∷ [])) (omega (arith, here, long)))
+    ∙ ap Some here

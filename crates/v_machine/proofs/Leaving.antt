@@ -18,7 +18,7 @@ use Rattle.v_laws.proofs.Tables.{same_pid_is, put_process_at, put_process_other}
 use Rattle.v_machine.specs.declared.tables.latest.Latest.{Latest}
 use Rattle.v_machine.specs.declared.tables.proc.Proc.{Proc}
 use Rattle.v_machine.specs.declared.tables.Store.{Store}
-use Rattle.v_machine.specs.Kept.{IsKept, IsAt, IsLatest, IsNoNearer, arrived_in, kernel_in, latest_by}
+use Rattle.v_machine.specs.Kept.{IsKept, IsAt, IsLatest, IsNoNearer, kernel_in, latest_by}
 use Rattle.v_machine.specs.Latest.{latest_in}
 use Rattle.v_machine.specs.Leaving.{left, is_left, Leaves, Drops}
 use Rattle.v_machine.specs.Lists.{Each, change_numbered}
@@ -259,7 +259,7 @@ module _ (s t : Store) (pid : Pid) (at : ℕ) (p : Process) (procs : List Proc) 
     (drops : Each (Drops pid s.latest.items) s.sends.items t.sends.items) (sends : length t.sends.items ≡ length s.sends.items)
     (is : x ≡ get_or procs at x) (put : t.procs.items ≡ set procs at (record x { alive = false }))
     (names : t.names.items ≡ filter (λ r. not (same_pid r.pid pid)) s.names.items) (places : t.places ≡ s.places)
-    (asked : t.asked.items ≡ s.asked.items) (arrived : arrived_in t ≡ arrived_in s) (queues : t.queues.items ≡ s.queues.items)
+    (asked : t.asked.items ≡ s.asked.items) (arrived : t.arrived ≡ s.arrived) (queues : t.queues.items ≡ s.queues.items)
     (latest : t.latest.items ≡ s.latest.items) where
   exchanges_are : exchanges_by t.places t.sends.items ≡ (λ n. option_map (dropped_at pid) (exchanges_by s.places s.sends.items n))
   exchanges_are = ap (λ ps. exchanges_by ps t.sends.items) places

@@ -30,7 +30,6 @@ pub mod MoveCalls
 pub mod MoveLemmas
 pub mod MoveSteps
 pub mod Naming
-pub mod Newest
 pub mod InitialLemmas
 pub mod Pieces
 pub mod PlaceLemmas

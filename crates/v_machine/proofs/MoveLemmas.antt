@@ -4,7 +4,7 @@ use Rattle.std.proofs.lemmas.List.{set-get_or}
 use Rattle.std.specs.Vec.{with_item}
 use Rattle.vk_types.specs.Types.{Exchange}
 use Rattle.v_machine.specs.declared.tables.Store.{Store}
-use Rattle.v_machine.specs.Kept.{IsIndexed, IsNoNearer, tables_in, arrived_in}
+use Rattle.v_machine.specs.Kept.{IsIndexed, IsNoNearer, tables_in}
 use Rattle.v_machine.specs.Lists.{change_numbered}
 use Rattle.v_machine.specs.Moves.{Puts}
 use Rattle.v_machine.specs.Rules.{Stays}
@@ -18,7 +18,7 @@ pub puts : (s : Store) (f : Exchange → Exchange) (at number : ℕ) (x x' : Lis
     at < length s.sends.items → x ≡ get_or s.sends.items at x → x' ≡ change_numbered number f x →
     Puts f at number s (record s { sends = with_item s.sends at x' })
 puts s f at number x x' target held stage low there changed = λ pid e place at_name. (
-  kernel-exchange s.places s.procs.items s.sends.items s.asked.items s.names.items (arrived_in s) f pid at number x x' e place low there
+  kernel-exchange s.places s.procs.items s.sends.items s.asked.items s.names.items s.arrived f pid at number x x' e place low there
       at_name changed,
   λ old. indexed_later s _ refl refl (length-set s.sends.items at x') refl refl refl refl
       (sends_even s.places s.procs.items s.sends.items s.asked.items f at number x x' low there changed)

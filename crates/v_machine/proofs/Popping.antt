@@ -9,7 +9,7 @@ use Rattle.vk_base.specs.Kernel.{same_name, holds_of, is_queued_at, put_exchange
 use Rattle.vk_base.specs.Pids.{same_pid}
 use Rattle.v_laws.proofs.Tables.{put_exchange_here}
 use Rattle.v_machine.specs.declared.tables.Store.{Store}
-use Rattle.v_machine.specs.Kept.{IsIndexed, queued_at, arrived_in}
+use Rattle.v_machine.specs.Kept.{IsIndexed, queued_at}
 use Rattle.v_machine.specs.Places.{place_in, list_at}
 use Rattle.v_machine.specs.Sends.{at_stage}
 use Rattle.v_machine.specs.Tables.{exchanges_by}
@@ -41,7 +41,7 @@ taken_nowhere before after name e pid is =
 pub indexed_popped : (s t : Store) (pid : Pid) (at : ℕ) (names left : List Name) (name : Name) → place_in s.places pid ≡ Some at →
     names ≡ get_or s.queues.items at names → slice_get names 0 ≡ Some name → left ≡ drop 1 names → t.places ≡ s.places →
     length t.procs.items ≡ length s.procs.items → length t.sends.items ≡ length s.sends.items →
-    length t.asked.items ≡ length s.asked.items → arrived_in t ≡ arrived_in s → t.queues.items ≡ set s.queues.items at left →
+    length t.asked.items ≡ length s.asked.items → t.arrived ≡ s.arrived → t.queues.items ≡ set s.queues.items at left →
     t.latest.items ≡ s.latest.items →
     ((pid : Pid) → length (list_at s.places s.sends.items pid) ≤ length (list_at t.places t.sends.items pid)) →
     AreNoNearer (exchanges_by s.places s.sends.items) (exchanges_by t.places t.sends.items) →

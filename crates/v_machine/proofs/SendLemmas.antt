@@ -23,7 +23,7 @@ use Rattle.v_machine.specs.declared.refusal.ApplyRefusal.{ApplyRefusal}
 use Rattle.v_machine.specs.declared.refusal.ApplyRefusal.TheVariants as refused
 use Rattle.v_machine.specs.declared.calls.response.Response.{Response}
 use Rattle.v_laws.specs.Sizes.{IsSized}
-use Rattle.v_machine.specs.Kept.{IsKept, IsIndexed, IsAt, IsWaiting, IsLatest, arrived_in, kernel_in, latest_by, queued_at}
+use Rattle.v_machine.specs.Kept.{IsKept, IsIndexed, IsAt, IsWaiting, IsLatest, kernel_in, latest_by, queued_at}
 use Rattle.v_machine.specs.Latest.{latest_in}
 use Rattle.v_machine.specs.Places.{place_in, at_place, list_at}
 use Rattle.v_machine.specs.Rules.{Stays, posted, Answers, Judges, judged, seen_result}
@@ -90,7 +90,7 @@ judges_on pid c s t u r st judges = λ p there ready.
 
 -- a store whose numbers of hosts are the same stands for the same tables
 pub stays_alike : (s t : Store) → t.places ≡ s.places → t.procs.items ≡ s.procs.items → t.sends.items ≡ s.sends.items →
-    t.asked.items ≡ s.asked.items → t.names.items ≡ s.names.items → arrived_in t ≡ arrived_in s → t.queues.items ≡ s.queues.items →
+    t.asked.items ≡ s.asked.items → t.names.items ≡ s.names.items → t.arrived ≡ s.arrived → t.queues.items ≡ s.queues.items →
     length t.latest.items ≡ length s.latest.items →
     ((q : Pid) (h : ℕ) → latest_by t.places t.latest.items q h ≡ latest_by s.places s.latest.items q h) → IsIndexed s → Stays s t
 stays_alike s t places procs sends asked names arrived queues latest numbers old =
@@ -114,9 +114,9 @@ stays_alike s t places procs sends asked names arrived queues latest numbers old
         waiting = λ r there.
             let was = old.waiting r (subst (λ ps. IsSome (place_in ps r)) places there) in
             let names : list_at t.places t.queues.items r ≡ list_at s.places s.queues.items r = λ i. list_at (places i) (queues i) r in
-            subst (λ ns. IsWaiting (exchanges_by t.places t.sends.items) (arrived_in t) r ns) (sym names)
+            subst (λ ns. IsWaiting (exchanges_by t.places t.sends.items) t.arrived r ns) (sym names)
             (subst (λ a. IsWaiting (exchanges_by t.places t.sends.items) a r (list_at s.places s.queues.items r)) (sym arrived)
-            (subst (λ f. IsWaiting f (arrived_in s) r (list_at s.places s.queues.items r)) (sym exchanges) was));
+            (subst (λ f. IsWaiting f s.arrived r (list_at s.places s.queues.items r)) (sym exchanges) was));
         low = λ sender host.
             let was = old.low sender host in
             let number = numbers sender host in
@@ -147,8 +147,8 @@ module _ (s : Store) (pid : Pid) (at to : ℕ) (p : Process) (x : Exchange) (kep
           subst (λ (b : Process). p.sends + 1 ≤ b.sends) (same_Some begun.process p (sym begun.is ∙ at_pid)) begun.last in
           absurd (omega arith)
 
-  pub new : list_any (same_name (name_of pid (p.sends + 1))) (arrived_in s) ≡ false
-  new = false_from_ne_true (list_any (same_name (name_of pid (p.sends + 1))) (arrived_in s))
+  pub new : list_any (same_name (name_of pid (p.sends + 1))) s.arrived ≡ false
+  new = false_from_ne_true (list_any (same_name (name_of pid (p.sends + 1))) s.arrived)
       (λ t. is_there (kernel_in s).exchanges (kept.sound.known (name_of pid (p.sends + 1)) t))
     where
       is_there : (exchanges : Name → Option Exchange) → IsSome ((kernel_in s).exchanges (name_of pid (p.sends + 1))) → ⊥
@@ -158,8 +158,8 @@ module _ (s : Store) (pid : Pid) (at to : ℕ) (p : Process) (x : Exchange) (kep
   absent : (names : List Name) → names ≡ get_or s.queues.items to names →
       list_any (same_name (name_of pid (p.sends + 1))) names ≡ false
   absent names waits =
-      not_waiting (exchanges_by s.places s.sends.items) (arrived_in s) (name_of pid (p.sends + 1)) x.at names new
-      (subst (IsWaiting (exchanges_by s.places s.sends.items) (arrived_in s) x.at)
+      not_waiting (exchanges_by s.places s.sends.items) s.arrived (name_of pid (p.sends + 1)) x.at names new
+      (subst (IsWaiting (exchanges_by s.places s.sends.items) s.arrived x.at)
       (list_at_is s.places s.queues.items x.at to names there.place there.queues waits)
       (kept.indexed.waiting x.at (ap is_some there.place)))
 
@@ -193,7 +193,7 @@ module _ (s : Store) (pid : Pid) (at to : ℕ) (p : Process) (x : Exchange) (kep
       t.sends.items ≡ set s.sends.items at s' → length s' ≡ p.sends + 1 → length (list_at s.places s.sends.items pid) ≤ length s' →
       exchanges_by s.places (set s.sends.items at s') ≡ put_exchange (exchanges_by s.places s.sends.items) (name_of pid (p.sends + 1))
       x →
-      arrived_in t ≡ arrived_in s ++ name_of pid (p.sends + 1) ∷ [] →
+      t.arrived ≡ s.arrived ++ name_of pid (p.sends + 1) ∷ [] →
       names ≡ get_or s.queues.items to names → t.queues.items ≡ set s.queues.items to (names ++ name_of pid (p.sends + 1) ∷ []) →
       l0 ≡ get_or s.latest.items at l0 → t.latest.items ≡ set s.latest.items at l2 →
       ((h : ℕ) → latest_in l2 h ≡ (if h == pid.host then p.sends + 1 else latest_in l0 h)) →
@@ -204,7 +204,7 @@ module _ (s : Store) (pid : Pid) (at to : ℕ) (p : Process) (x : Exchange) (kep
       (put_exchange_at (exchanges_by s.places s.sends.items) (name_of pid (p.sends + 1)) x (name_of pid (p.sends + 1))
       (same_name_self (name_of pid (p.sends + 1)))) queued others rest
       s' names l0 l2 places procs asked sends (omega arith) longer exchanges
-      (arrived ∙ ap (λ ns. ns ++ name_of pid (p.sends + 1) ∷ []) (sym (without_none (name_of pid (p.sends + 1)) (arrived_in s) new)))
+      (arrived ∙ ap (λ ns. ns ++ name_of pid (p.sends + 1) ∷ []) (sym (without_none (name_of pid (p.sends + 1)) s.arrived new)))
       (absent names waits) waits queues old_number latest
       (λ h. number h ∙ ap (λ z. if h == z then p.sends + 1 else latest_in l0 h) (eqb-true pid.host x.target.host local))
 
@@ -277,7 +277,7 @@ module _ (s : Store) (pid : Pid) (at : ℕ) (p : Process) (x : Exchange) (kept :
       t.sends.items ≡ set s.sends.items at s' → length s' ≡ p.sends + 1 → length (list_at s.places s.sends.items pid) ≤ p.sends + 1 →
       exchanges_by s.places (set s.sends.items at s') ≡ put_exchange (exchanges_by s.places s.sends.items) (name_of pid (p.sends + 1))
       x →
-      arrived_in t ≡ arrived_in s → t.queues.items ≡ s.queues.items → t.latest.items ≡ s.latest.items → IsIndexed t
+      t.arrived ≡ s.arrived → t.queues.items ≡ s.queues.items → t.latest.items ≡ s.latest.items → IsIndexed t
   indexed_away t s' places procs asked sends grown longer exchanges arrived queues latest =
       let all : exchanges_by t.places t.sends.items ≡ put_exchange (exchanges_by s.places s.sends.items) (name_of pid (p.sends + 1)) x =
       (λ i. exchanges_by (places i) (sends i)) ∙ exchanges in
@@ -292,7 +292,7 @@ module _ (s : Store) (pid : Pid) (at : ℕ) (p : Process) (x : Exchange) (kept :
             waiting_same _ _ _ _ r _ _ all arrived (λ i. list_at (places i) (queues i) r) (record {
               queue = alike_narrower (queued_at (exchanges_by s.places s.sends.items) r)
                   (queued_at (put_exchange (exchanges_by s.places s.sends.items) (name_of pid (p.sends + 1)) x) r)
-                  (λ n. no_queue r n (same_name n (name_of pid (p.sends + 1))) refl) (list_at s.places s.queues.items r) (arrived_in s)
+                  (λ n. no_queue r n (same_name n (name_of pid (p.sends + 1))) refl) (list_at s.places s.queues.items r) s.arrived
                   was.queue;
               came = was.came;
             });

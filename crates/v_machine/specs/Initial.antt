@@ -19,7 +19,7 @@ pub record IsInitial (specs : List ProcessSpec) (s : Store) : Type 0 where
   pub queues : s.queues.items ≡ map nothing specs
   pub latest : s.latest.items ≡ map nothing specs
   pub names : s.names.items ≡ []
-  pub arrived : s.arrived.items ≡ []
+  pub arrived : s.arrived ≡ []
 
 -- the lists have one more process, which has begun nothing
 pub record IsGrown (spec : ProcessSpec) (old new : Store) : Type 0 where
@@ -30,4 +30,4 @@ pub record IsGrown (spec : ProcessSpec) (old new : Store) : Type 0 where
   pub queues : new.queues.items ≡ old.queues.items ++ [] ∷ []
   pub latest : new.latest.items ≡ old.latest.items ++ [] ∷ []
   pub names : new.names.items ≡ old.names.items
-  pub arrived : new.arrived.items ≡ old.arrived.items
+  pub arrived : new.arrived ≡ old.arrived

@@ -1,5 +1,5 @@
 -- Internal: no public contract rests on this file. What holds of the tables of a machine, and of the indexes beside them.
-use Rattle.std.specs.Prelude.{ℕ, ◌≡◌, ◌≤◌, ◌<◌, Bool, true, List, [], ◌∷◌, length, filter, Option, Some, IsSome, if◌then◌else◌}
+use Rattle.std.specs.Prelude.{ℕ, ◌≡◌, ◌≤◌, ◌<◌, Bool, true, List, length, filter, Option, Some, IsSome}
 use Rattle.std.specs.List.{list_any}
 use Rattle.vk_types.specs.Types.{Exchange, Name, Pid, Stage}
 use Rattle.vk_base.specs.Kernel.{Kernel, same_name, holds_of, is_queued_at, is_queued, is_at_target, is_posted}
@@ -11,18 +11,9 @@ use Rattle.v_machine.specs.Latest.{latest_in}
 use Rattle.v_machine.specs.Places.{place_in, list_at}
 use Rattle.v_machine.specs.Tables.{Tables, kernel_by, exchanges_by}
 
--- these names, of each the last
-abbrev pub newest : List Name → List Name
-newest [] = []
-newest (n ∷ ns) = if list_any (same_name n) ns then newest ns else n ∷ newest ns
-
--- what came to queues, in the order in which it came there last: a name that comes anew is put behind the others
-abbrev pub arrived_in : Store → List Name
-arrived_in s = newest s.arrived.items
-
 -- the kernel that the tables of a store spell
 abbrev pub kernel_in : Store → Kernel
-kernel_in s = kernel_by s.places s.procs.items s.sends.items s.asked.items s.names.items (arrived_in s)
+kernel_in s = kernel_by s.places s.procs.items s.sends.items s.asked.items s.names.items s.arrived
 
 abbrev pub tables_in : Store → ℕ → Tables
 tables_in s noted = record {
@@ -31,7 +22,7 @@ tables_in s noted = record {
   sends = s.sends.items;
   asked = s.asked.items;
   names = s.names.items;
-  arrived = arrived_in s;
+  arrived = s.arrived;
   noted = noted;
 }
 
@@ -60,7 +51,7 @@ pub record IsIndexed (s : Store) : Type 0 where
   pub queues : length s.queues.items ≡ length s.places
   pub latest : length s.latest.items ≡ length s.places
   pub waiting : (r : Pid) → IsSome (place_in s.places r) →
-      IsWaiting (exchanges_by s.places s.sends.items) (arrived_in s) r (list_at s.places s.queues.items r)
+      IsWaiting (exchanges_by s.places s.sends.items) s.arrived r (list_at s.places s.queues.items r)
   -- a Send that came to a queue was begun
   pub low : (sender : Pid) (host : ℕ) → latest_by s.places s.latest.items sender host ≤ length (list_at s.places s.sends.items sender)
   pub open_last : (n : Name) (e : Exchange) → exchanges_by s.places s.sends.items n ≡ Some e →

@@ -1,6 +1,7 @@
 pub mod Access
 pub mod Apart
 pub mod Apply
+pub mod Arrived
 pub mod Begun
 pub mod Follows
 pub mod Groups

@@ -1,7 +1,6 @@
 -- Internal: no public contract rests on this file. What the steps of a store answer.
-use Rattle.std.specs.Prelude.{ℕ, ◌≡◌, ◌≤◌, ◌<◌, ◌+◌, List, [], ◌∷◌, ◌++◌, length, vec_len, slice_index_or, if◌then◌else◌, Bool, true, false, Option, Some, None, IsSome, Result, Ok, Err}
+use Rattle.std.specs.Prelude.{ℕ, ◌≡◌, ◌≤◌, ◌<◌, ◌+◌, List, [], ◌∷◌, ◌++◌, length, position, slice_index_or, if◌then◌else◌, Bool, true, false, Option, Some, None, IsSome, Result, Ok, Err}
 use Rattle.std.specs.List.{list_any}
-use Rattle.std.specs.Vec.{vec_capacity}
 use Rattle.vk_types.specs.Types.{Call, Exchange, Message, Name, Observation, Pid, Process, Step}
 use Rattle.vk_base.specs.declared.answer.Answer.TheVariants as answers
 use Rattle.vk_base.specs.declared.call.Call.TheVariants as calls
@@ -20,7 +19,7 @@ use Rattle.v_machine.specs.declared.calls.response.Response.{Response}
 use Rattle.v_machine.specs.declared.calls.response.Response.TheVariants as responses
 use Rattle.v_machine.specs.Apply.{noted_by_call}
 use Rattle.v_machine.specs.Kept.{IsIndexed, kernel_in, tables_in}
-use Rattle.v_machine.specs.Latest.{has_host}
+use Rattle.v_machine.specs.Latest.{is_for}
 use Rattle.v_machine.specs.Places.{place_in}
 use Rattle.v_machine.specs.Spent.{has_ended}
 
@@ -92,15 +91,13 @@ posted k pid p x = record k {
   arrived = if same_host pid x.target then k.arrived ++ name_of pid (p.sends + 1) ∷ [] else k.arrived;
 }
 
--- there is room for one more name, and for the host's number at this place
-pub record HasRoomFor (s : Store) (at host : ℕ) : Type 0 where
-  pub arrived : vec_len s.arrived < vec_capacity s.arrived
-  pub latest : (ls : List Latest) → ls ≡ slice_index_or s.latest.items at ls → has_host ls host ≡ true
+-- of the numbers of this process the host's has this place
+abbrev pub HasRoomFor : Store → (at host place : ℕ) → Type 0
+HasRoomFor s at host place = (ls : List Latest) → ls ≡ slice_index_or s.latest.items at ls → position (is_for host) ls ≡ Some place
 
--- there is room for one more name, and this one is not among those that are kept for the queue of this place
-pub record HasWay (s : Store) (to : ℕ) (name : Name) : Type 0 where
-  pub arrived : vec_len s.arrived < vec_capacity s.arrived
-  pub absent : (ns : List Name) → ns ≡ slice_index_or s.queues.items to ns → list_any (same_name name) ns ≡ false
+-- this name is not among those that are kept for the queue of this place
+abbrev pub HasWay : Store → (to : ℕ) → Name → Type 0
+HasWay s to name = (ns : List Name) → ns ≡ slice_index_or s.queues.items to ns → list_any (same_name name) ns ≡ false
 
 -- a process has taken the message of this exchange, and it is not replied to
 pub record IsTaken (k : Kernel) (name : Name) : Type 0 where

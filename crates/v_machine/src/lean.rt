@@ -15,8 +15,8 @@ use vk_brief::StepView;
 /// A [`Machine`] without the bytes of remote moves that are spent: a later move of the exchange was opened, or all bytes of this
 /// one were written. It also forgets exchanges that are over: replied to or dropped, with no remote move, and the sender has begun
 /// a later Send. No step reads any of this again, so it follows each kernel whose tables, without it, are its own
-/// (`specs/Follows.antt`). Its memory grows neither with the bytes that were moved nor, but for the list of what came to queues,
-/// with the Sends that are over, where they stand before all others of their sender.
+/// (`specs/Follows.antt`). Its memory grows neither with the bytes that were moved nor with the Sends that are over, where they stand
+/// before all others of their sender.
 #[derive(Drop)]
 pub struct LeanMachine {
     machine: Machine,

@@ -10,7 +10,7 @@
 //! | `machine.rt`, `lean.rt` | the two machines, all that callers see; their errors are `refusal.rt`, a step in few bytes is `brief.rt` |
 //! | `tables.rt`, `tables/` | what is kept (`specs/Tables.antt`, `specs/Kept.antt`): a file for each table with what reads and changes it |
 //! | `calls.rt`, `calls/` | the step that is a call: a file for each kind; `access.rt`, `held.rt` where a partner is concerned |
-//! | `steps.rt`, `steps/` | the other steps: of messages, of remote moves, of lookups; `spent.rt` gives bytes of moves back behind them, and forgets exchanges |
+//! | `steps.rt`, `steps/` | the other steps, of messages, moves and lookups; `spent.rt` gives bytes of moves back, and forgets exchanges |
 #![tactic(auto)]
 
 mod brief;

@@ -2,6 +2,7 @@
 
 pub mod apart;
 pub mod arrivals;
+pub mod arrived;
 pub mod begun;
 pub mod bytes;
 pub mod groups;
@@ -22,13 +23,14 @@ pub mod sends;
 pub mod sent;
 pub mod spent;
 
+use crate::tables::arrived::Arrived;
 use crate::tables::begun::Begun;
 use crate::tables::latest::Latests;
 use crate::tables::numbered::Numbered;
 use crate::tables::places::Places;
 use crate::tables::proc::Proc;
 use crate::tables::queue::Queue;
-use vk_base::{Lookup, Name, Registration};
+use vk_base::{Lookup, Registration};
 
 #[derive(Drop)]
 pub struct Store {
@@ -37,8 +39,9 @@ pub struct Store {
     pub sends: Vec<Begun>,
     pub asked: Vec<Numbered<Lookup>>,
     pub names: Vec<Registration>,
-    /// What came to queues, in order. A name that came there anew stands here again: its last place counts.
-    pub arrived: Vec<Name>,
+    pub arrived: Arrived,
+    /// Whether the list of Sends that one was put into last has no room for another one.
+    pub crowded: bool,
     /// For each process what came to its queue, and may still be queued.
     pub queues: Vec<Queue>,
     /// For each process and each host the last Send to the host that came to a queue.

@@ -164,8 +164,7 @@ fn read_collect(line: &[u8], at: usize, into: &mut StepBuffer) -> Option<()>
 }
 
 /// The step that the line spells.
-#[inline(always)]
-fn read_led(line: &[u8], into: &mut StepBuffer) -> Option<()>
+fn read_words(line: &[u8], into: &mut StepBuffer) -> Option<()>
     ensures { option_map (λ _. into.new) result ≡ step_of (words_from line.now 0) }
 {
     if leads(line, b"call ") {
@@ -178,12 +177,12 @@ fn read_led(line: &[u8], into: &mut StepBuffer) -> Option<()>
         read_finish(line, 7, into)
     } else if leads(line, b"copy ") {
         read_copy(line, 5, into)
-    } else if leads(line, b"arrive ") {
-        read_arrive(line, 7, into)
-    } else if leads(line, b"end ") {
-        read_end(line, 4, into)
     } else if leads(line, b"open ") {
         read_open(line, 5, into)
+    } else if leads(line, b"end ") {
+        read_end(line, 4, into)
+    } else if leads(line, b"arrive ") {
+        read_arrive(line, 7, into)
     } else if leads(line, b"fail ") {
         read_fail(line, 5, into)
     } else if leads(line, b"hear ") {
@@ -194,25 +193,6 @@ fn read_led(line: &[u8], into: &mut StepBuffer) -> Option<()>
         read_lost(line, 5, into)
     } else {
         None
-    }
-}
-
-/// The same of any line.
-#[inline(never)]
-fn read_rare(line: &[u8], into: &mut StepBuffer) -> Option<()>
-    ensures { option_map (λ _. into.new) result ≡ step_of (words_from line.now 0) }
-{
-    read_led(line, into)
-}
-
-/// The step that the line spells. Where it has eight bytes, as all that are no bad ones, the tests of its first word ask for no length.
-fn read_words(line: &[u8], into: &mut StepBuffer) -> Option<()>
-    ensures { option_map (λ _. into.new) result ≡ step_of (words_from line.now 0) }
-{
-    if line.len() < 8 {
-        read_rare(line, into)
-    } else {
-        read_led(line, into)
     }
 }
 

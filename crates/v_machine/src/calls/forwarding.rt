@@ -9,7 +9,7 @@ ghost use Rattle.v_machine.specs.Rules.{HandsOn, HasWay, IsTaken, Judges, Stays}
 use crate::calls::held::held;
 use crate::calls::response::Response;
 use crate::refusal::ApplyRefusal;
-use crate::tables::arrivals::{make_way, push_name};
+use crate::tables::arrivals::make_way;
 use crate::tables::handed::Handing;
 use crate::tables::put::find_live;
 use crate::tables::{Store, begun};
@@ -42,7 +42,7 @@ pub fn forward(
         sender: from,
         number: holding.number,
     };
-    make_way(store, there, name)?;
+    make_way(store, there, name);
     let on = Handing {
         at: to,
         shown: message,
@@ -87,6 +87,6 @@ fn hand_on(
         store.queues[there].truncate(waiting);
         return Err(NoMemory);
     }
-    push_name(&mut store.arrived, name);
+    store.arrived.push(name);
     Ok(())
 }

@@ -149,7 +149,8 @@ fn begin_to(
     requires here { IsAt store.old caller.pid caller.at }
     requires there { IsAt store.old asked.partner holding.at }
     requires live { IsLive store.old holding.at holding.number }
-    ensures { (p : Process) → (kernel_in store.old).procs caller.pid ≡ Some p → lies_in (range_of asked.src asked.count) (length p.memory) ≡ true →
+    ensures { (p : Process) → (kernel_in store.old).procs caller.pid ≡ Some p →
+        lies_in (range_of asked.src asked.count) (length p.memory) ≡ true →
         BeginsOrNot caller.pid (Call.MoveTo asked.partner asked.dest asked.src asked.count)
         asked.partner holding.number asked.count room
         (new_move caller.pid Direction.To asked.dest asked.src asked.count (bytes_in (range_of asked.src asked.count) p.memory))

@@ -17,7 +17,7 @@ use crate::calls::caller::Caller;
 use crate::calls::response::Response;
 use crate::refusal::ApplyRefusal;
 use crate::tables::Store;
-use crate::tables::arrivals::{make_room, push_name};
+use crate::tables::arrivals::{Coming, make_room};
 use crate::tables::begun::next_number;
 use crate::tables::bytes::{lies_in, own_bytes};
 use crate::tables::put::{find_live, put_activity, size_of};
@@ -71,8 +71,9 @@ fn send_here(
             why: Refusal::NoProcess,
         });
     };
-    make_room(store, caller.at, caller.pid.host)?;
-    send_with_room(store, alloc, caller, to, target, message)
+    let latest = make_room(store, caller.at, caller.pid.host)?;
+    let coming = Coming { to, latest };
+    send_with_room(store, alloc, caller, coming, target, message)
 }
 
 /// A Send to a process of the caller's station that is alive, where there is room for its name.
@@ -80,20 +81,20 @@ fn send_with_room(
     store: &mut Store,
     alloc: Global,
     caller: Caller,
-    to: usize,
+    coming: Coming,
     target: Pid,
     message: &Message,
 ) -> Result<Response, ApplyRefusal>
     requires kept { IsKept store.old }
     requires here { IsAt store.old caller.pid caller.at }
-    requires there { IsAt store.old target to }
+    requires there { IsAt store.old target coming.to }
     requires local { same_host caller.pid target ≡ true }
     requires live { is_live ((kernel_in store.old).procs target) ≡ true }
-    requires room { HasRoomFor store.old caller.at caller.pid.host }
+    requires room { HasRoomFor store.old caller.at caller.pid.host coming.latest }
     ensures { Fits store.old caller.pid message.now → Judges caller.pid (Call.Send target message.now) store.old store.new result }
 {
     let sent = new_sent(store, alloc, caller.at, target, message, Phase::Queued)?;
-    post_here(store, caller.at, to, caller.pid, sent)?;
+    post_here(store, caller, coming, sent)?;
     let waiting = Waiting::Send {
         target,
         message: *message,
@@ -117,6 +118,7 @@ fn send_away(
 {
     let sent = new_sent(store, alloc, caller.at, target, message, Phase::Posted)?;
     store.sends[caller.at].push(sent)?;
+    store.crowded = store.sends[caller.at].is_full();
     let waiting = Waiting::Send {
         target,
         message: *message,
@@ -127,31 +129,32 @@ fn send_away(
 
 /// One more Send of the process of the first place, to the process of the second, which has the same host. Where memory is
 /// wanting the tables stay.
-fn post_here(store: &mut Store, at: usize, to: usize, pid: Pid, sent: Sent) -> Result<(), NoMemory>
+fn post_here(store: &mut Store, caller: Caller, coming: Coming, sent: Sent) -> Result<(), NoMemory>
     requires kept { IsKept store.old }
-    requires here { IsAt store.old pid at }
-    requires there { IsAt store.old sent.at to }
-    requires local { same_host pid sent.target ≡ true }
+    requires here { IsAt store.old caller.pid caller.at }
+    requires there { IsAt store.old sent.at coming.to }
+    requires local { same_host caller.pid sent.target ≡ true }
     requires queued { is_queued sent.stage ≡ true }
-    requires room { HasRoomFor store.old at pid.host }
+    requires room { HasRoomFor store.old caller.at caller.pid.host coming.latest }
     ensures places { store.new.places ≡ store.old.places }
     ensures procs { length store.new.procs.items ≡ length store.old.procs.items }
-    ensures ok { OnOk result (Posts pid sent store.old store.new) }
+    ensures ok { OnOk result (Posts caller.pid sent store.old store.new) }
     ensures err { OnErr result (Stays store.old store.new) }
 {
-    let number = next_number(&store.sends[at]);
+    let number = next_number(&store.sends[caller.at]);
     let name = Name {
-        sender: pid,
+        sender: caller.pid,
         number,
     };
-    let waiting = store.queues[to].len();
-    store.queues[to].push(name)?;
-    if store.sends[at].push(sent).is_err() {
-        store.queues[to].truncate(waiting);
+    let waiting = store.queues[coming.to].len();
+    store.queues[coming.to].push(name)?;
+    if store.sends[caller.at].push(sent).is_err() {
+        store.queues[coming.to].truncate(waiting);
         return Err(NoMemory);
     }
-    store.latest[at].put(pid.host, number);
-    push_name(&mut store.arrived, name);
+    store.crowded = store.sends[caller.at].is_full();
+    store.latest[caller.at].put(coming.latest, number);
+    store.arrived.push(name);
     Ok(())
 }
 

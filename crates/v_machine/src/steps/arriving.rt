@@ -9,7 +9,7 @@ ghost use Rattle.v_machine.specs.Places.{place_in};
 ghost use Rattle.v_machine.specs.Rules.{Answers, HasRoomFor, IsPostedTo, posted_to, quiet};
 
 use crate::refusal::ApplyRefusal;
-use crate::tables::arrivals::{make_room, push_name};
+use crate::tables::arrivals::{Coming, make_room};
 use crate::tables::put::{find, find_live, sent_of};
 use crate::tables::{Store, begun};
 use vk_base::{Name, Pid};
@@ -29,9 +29,9 @@ pub fn arrive(store: &mut Store, sender: Pid, number: u64) -> Result<(), ApplyRe
     let Some(to) = find_live(store, target) else {
         return Err(ApplyRefusal::NotAllowed);
     };
-    make_room(store, at, target.host)?;
+    let latest = make_room(store, at, target.host)?;
     let name = Name { sender, number };
-    come(store, at, to, name, target)
+    come(store, at, Coming { to, latest }, name, target)
 }
 
 /// The target of a Send that is posted.
@@ -51,22 +51,22 @@ fn posted_target(store: &Store, at: usize, number: u64) -> Option<Pid>
 fn come(
     store: &mut Store,
     at: usize,
-    to: usize,
+    coming: Coming,
     name: Name,
     target: Pid,
 ) -> Result<(), ApplyRefusal>
     requires kept { IsKept store.old }
     requires here { IsAt store.old name.sender at }
-    requires there { IsAt store.old target to }
+    requires there { IsAt store.old target coming.to }
     requires live { is_live ((kernel_in store.old).procs target) ≡ true }
     requires posted { IsPostedTo (kernel_in store.old) name target }
-    requires room { HasRoomFor store.old at target.host }
+    requires room { HasRoomFor store.old at target.host coming.latest }
     ensures { Answers (arrive_step (kernel_in store.old) name) 0 0 store.old store.new (quiet result) }
 {
-    store.queues[to].push(name)?;
-    let latest = store.latest[at].get(target.host);
+    store.queues[coming.to].push(name)?;
+    let latest = store.latest[at].number(coming.latest);
     begun::come(&mut store.sends[at], latest, name.number, target.host);
-    store.latest[at].put(target.host, name.number);
-    push_name(&mut store.arrived, name);
+    store.latest[at].put(coming.latest, name.number);
+    store.arrived.push(name);
     Ok(())
 }

@@ -92,6 +92,9 @@ fn forget(store: &mut Store, pid: Pid)
     requires { IsKept store.old }
     ensures { IsShortened store.old store.new }
 {
+    if !store.crowded {
+        return;
+    }
     let Some(at) = find(store, pid) else {
         return;
     };

@@ -46,7 +46,7 @@ pub fn open_move(
         return Err(ApplyRefusal::NotAllowed);
     };
     let noted = noted_bytes(store, alloc, at, later, room)?;
-    put_open(store, alloc, at, name.number, moving, noted);
+    put_open(store, at, name.number, moving, noted);
     Ok(())
 }
 

@@ -5,6 +5,7 @@ ghost use Rattle.v_machine.specs.Apart.{only_part, answer_in, handed_in, moves_i
 ghost use Rattle.v_machine.specs.Sends.{begun_moving, opened_moving, written_moving, emptied_moving};
 
 use crate::tables::handed::{Handed, Handing};
+use crate::tables::numbered::Numbered;
 use crate::tables::remote::Moving;
 use std::alloc::Global;
 use std::marker::Model;
@@ -169,11 +170,11 @@ impl Apart {
 
     /// The move of a number is the open one from now on, with these bytes, if some are given. Where no move was begun
     /// nothing changes.
-    pub fn open(&mut self, alloc: Global, number: u64, noted: Option<List<u8>>)
+    pub fn open(&mut self, number: u64, noted: Option<List<u8>>)
         ensures { self.new ≡ moves_in (opened_moving number noted) self.old }
     {
         if let Some(rare) = &mut self.rare {
-            rare.moving.open(alloc, number, noted);
+            rare.moving.open(number, noted);
         }
     }
 
@@ -205,7 +206,7 @@ fn boxed(alloc: Global, part: List<u8>) -> Result<Box<Rare>, NoMemory>
         dest: 0,
         bytes: List::empty(alloc),
         moving: Moving {
-            moves: List::empty(alloc),
+            moves: Numbered::new(alloc),
             opened: 0,
             done: 0,
         },

@@ -1,7 +1,6 @@
-//! The names of what came to queues.
+//! What a message needs that comes to a queue: a place for the number of its Send, and way for its name.
 
-ghost use Rattle.std.specs.Prelude.{◌≡◌, ◌<◌, ◌∷◌, ◌++◌, [], false, length, vec_len, OnOk};
-ghost use Rattle.std.specs.Vec.{vec_capacity};
+ghost use Rattle.std.specs.Prelude.{◌≡◌, ◌<◌, false, length, IfOk};
 ghost use Rattle.vk_base.specs.declared.pid.Pid.{Pid as ThePid};
 ghost use Rattle.v_machine.specs.Kept.{IsIndexed, IsAt, kernel_in, queued_at};
 ghost use Rattle.v_machine.specs.Rules.{HasRoomFor, HasWay, Stays};
@@ -9,36 +8,31 @@ ghost use Rattle.v_machine.specs.Rules.{HasRoomFor, HasWay, Stays};
 use crate::tables::Store;
 use vk_base::{Name, NoMemory};
 
-/// Makes room for one more name of the Sends of this place to the host, which changes no table.
-pub fn make_room(store: &mut Store, at: usize, host: u16) -> Result<(), NoMemory>
+/// Where a message comes to: the place of the process to whose queue, and the place of the number of its sender's last Send to the host.
+#[derive(Clone, Copy)]
+pub struct Coming {
+    pub to: usize,
+    pub latest: usize,
+}
+
+/// The place of the number of the last Send of the process of this place to the host, which is made where there is none. That changes no
+/// table.
+pub fn make_room(store: &mut Store, at: usize, host: u16) -> Result<usize, NoMemory>
     requires indexed { IsIndexed store.old }
     requires low { at < length store.old.latest.items }
     ensures stays { Stays store.old store.new }
-    ensures room { OnOk result (HasRoomFor store.new at host) }
+    ensures room { IfOk result (HasRoomFor store.new at host) }
 {
-    store.arrived.reserve(1)?;
     store.latest[at].make_room(host)
 }
 
 /// Makes way for a name in the queue of the process of this place: takes it out where it may still stand, though it is not queued
-/// there, and makes room for one more name. That changes no table.
-pub fn make_way(store: &mut Store, to: usize, name: Name) -> Result<(), NoMemory>
+/// there. That changes no table.
+pub fn make_way(store: &mut Store, to: usize, name: Name)
     requires { to < length store.old.queues.items }
     ensures stays { (pid : ThePid) → IsIndexed store.old → IsAt store.old pid to →
         queued_at (kernel_in store.old).exchanges pid name ≡ false → Stays store.old store.new }
-    ensures way { OnOk result (HasWay store.new to name) }
+    ensures way { HasWay store.new to name }
 {
-    store.arrived.reserve(1)?;
     store.queues[to].remove(name);
-    Ok(())
-}
-
-/// One more name, for which there is room.
-pub fn push_name(names: &mut Vec<Name>, name: Name)
-    requires { vec_len names.old < vec_capacity names.old }
-    ensures { names.new.items ≡ names.old.items ++ name ∷ [] }
-{
-    if names.push(name).is_err() {
-        unreachable!();
-    }
 }

@@ -68,6 +68,11 @@ impl Begun {
         self.rest.get_after(self.forgotten, number)
     }
 
+    /// Whether one more Send takes more memory.
+    pub fn is_full(&self) -> bool {
+        self.rest.is_full()
+    }
+
     /// One more Send. It is put into its callers, so that the Send is written where it stays.
     #[inline(always)]
     pub fn push(&mut self, sent: Sent) -> Result<(), NoMemory>
@@ -232,17 +237,11 @@ pub fn push_move(sends: &mut Begun, alloc: Global, number: u64, begun: Move) -> 
 /// The move of a number of the Send of a number is the open one from now on, with these bytes, if some are given.
 /// Where no move was begun nothing changes.
 #[inline(always)]
-pub fn open_move(
-    sends: &mut Begun,
-    alloc: Global,
-    number: u64,
-    moving: u64,
-    noted: Option<List<u8>>,
-)
+pub fn open_move(sends: &mut Begun, number: u64, moving: u64, noted: Option<List<u8>>)
     ensures { sends.new ≡ change_numbered number (with_opened moving noted) sends.old }
 {
     let number = number.saturating_sub(sends.forgotten);
-    sends::open_move(&mut sends.rest, alloc, number, moving, noted);
+    sends::open_move(&mut sends.rest, number, moving, noted);
 }
 
 /// So many bytes of the open move of the Send of a number were written. Where no move was begun nothing changes.

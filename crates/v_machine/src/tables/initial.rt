@@ -6,6 +6,7 @@ ghost use Rattle.v_machine.specs.Kept.{IsIndexed, kernel_in};
 ghost use Rattle.v_machine.specs.Initial.{IsGrown, IsInitial};
 
 use crate::tables::Store;
+use crate::tables::arrived::Arrived;
 use crate::tables::begun::Begun;
 use crate::tables::latest::Latests;
 use crate::tables::numbered::Numbered;
@@ -38,7 +39,8 @@ fn empty(alloc: Global, places: Places) -> Store
         sends: Vec::new(alloc),
         asked: Vec::new(alloc),
         names: Vec::new(alloc),
-        arrived: Vec::new(alloc),
+        arrived: Arrived::new(),
+        crowded: false,
         queues: Vec::new(alloc),
         latest: Vec::new(alloc),
     }

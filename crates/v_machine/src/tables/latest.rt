@@ -1,7 +1,7 @@
 //! For each host the last Send of a process to it whose message has come to a queue.
 
-ghost use Rattle.std.specs.Prelude.{◌≡◌, ℕ, ◌==◌, [], true, OnOk, position, if◌then◌else◌};
-ghost use Rattle.v_machine.specs.Latest.{is_for, latest_in, has_host};
+ghost use Rattle.std.specs.Prelude.{◌≡◌, ℕ, ◌==◌, [], Some, IfOk, position, if◌then◌else◌};
+ghost use Rattle.v_machine.specs.Latest.{is_for, latest_in};
 
 use std::alloc::Global;
 use std::marker::Model;
@@ -45,24 +45,44 @@ impl Latests {
         number_of(&self.items, host)
     }
 
-    /// Makes room for the number of a host, which changes none.
-    pub fn make_room(&mut self, host: u16) -> Result<(), NoMemory>
+    /// The place of the number of a host, which is made where there is none. That changes no number.
+    pub fn make_room(&mut self, host: u16) -> Result<usize, NoMemory>
         ensures same { (h : ℕ) → latest_in self.new h ≡ latest_in self.old h }
-        ensures room { OnOk result (has_host self.new host ≡ true) }
+        ensures room { IfOk result (λ at. position (is_for host) self.new ≡ Some at) }
     {
-        if has_host(&self.items, host) {
-            return Ok(());
+        if let Some(at) = place_of(&self.items, host) {
+            return Ok(at);
         }
+        let at = self.items.len();
         self.items.push(Latest { host, number: 0 })?;
-        Ok(())
+        Ok(at)
     }
 
-    /// This is the number of the host from now on, for which there is room.
-    pub fn put(&mut self, host: u16, number: u64)
-        requires { has_host self.old host ≡ true }
-        ensures { (h : ℕ) → latest_in self.new h ≡ (if h == host then number else latest_in self.old h) }
+    /// The number in a place.
+    pub fn number(&self, at: usize) -> u64
+        ensures { (host : ℕ) → position (is_for host) self.now ≡ Some at → result ≡ latest_in self.now host }
     {
-        put_number(&mut self.items, host, number);
+        match self.items.get(at) {
+            Some(latest) => latest.number,
+            None => 0,
+        }
+    }
+
+    /// This is the number in the place from now on.
+    pub fn put(&mut self, at: usize, number: u64)
+        ensures { (host h : ℕ) → position (is_for host) self.old ≡ Some at →
+            latest_in self.new h ≡ (if h == host then number else latest_in self.old h) }
+    {
+        put_number(&mut self.items, at, number);
+    }
+}
+
+fn put_number(items: &mut [Latest], at: usize, number: u64)
+    ensures { (host h : ℕ) → position (is_for host) items.old ≡ Some at →
+        latest_in items.new h ≡ (if h == host then number else latest_in items.old h) }
+{
+    if at < items.len() {
+        items[at].number = number;
     }
 }
 
@@ -73,21 +93,6 @@ fn number_of(items: &[Latest], host: u16) -> u64
     match items.iter().find(|l| l.host == host) {
         Some(latest) => latest.number,
         None => 0,
-    }
-}
-
-fn has_host(items: &[Latest], host: u16) -> bool
-    ensures { result ≡ has_host items.now host }
-{
-    items.iter().any(|l| l.host == host)
-}
-
-fn put_number(items: &mut [Latest], host: u16, number: u64)
-    requires { has_host items.old host ≡ true }
-    ensures { (h : ℕ) → latest_in items.new h ≡ (if h == host then number else latest_in items.old h) }
-{
-    if let Some(at) = place_of(items, host) {
-        items[at].number = number;
     }
 }
 

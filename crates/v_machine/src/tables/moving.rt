@@ -41,18 +41,11 @@ pub fn push_move(
 
 /// A move of a Send of the process of this place is the open one from now on, with these bytes, if some are given.
 /// Where no move was begun nothing changes.
-pub fn put_open(
-    store: &mut Store,
-    alloc: Global,
-    at: usize,
-    number: u64,
-    moving: u64,
-    noted: Option<List<u8>>,
-)
+pub fn put_open(store: &mut Store, at: usize, number: u64, moving: u64, noted: Option<List<u8>>)
     requires { at < length store.old.sends.items }
     ensures { Puts (with_opened moving noted) at number store.old store.new }
 {
-    begun::open_move(&mut store.sends[at], alloc, number, moving, noted);
+    begun::open_move(&mut store.sends[at], number, moving, noted);
 }
 
 /// So many bytes of the open move of a Send of the process of this place were written. Where no move was begun nothing

@@ -34,20 +34,6 @@ impl<T> Numbered<T> {
         }
     }
 
-    /// These items, of which the first has the number 1.
-    pub fn of(items: Vec<T>) -> Self
-        ensures { result ≡ items.items }
-    {
-        Numbered { items }
-    }
-
-    /// The items as a vector, which takes no memory.
-    pub fn into_vec(self) -> Vec<T>
-        ensures { result.items ≡ self }
-    {
-        self.items
-    }
-
     /// The items, in order.
     pub fn as_slice(&self) -> &[T]
         ensures { result.now ≡ self.now }

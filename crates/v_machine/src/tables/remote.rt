@@ -7,14 +7,13 @@ ghost use Rattle.v_machine.specs.Sends.{opened_moving, written_moving, emptied_m
 use crate::tables::numbered::Numbered;
 use crate::tables::spent::{empty_moves, keeps_bytes};
 use std::alloc::Global;
-use std::mem;
 use vk_base::{List, Move};
 
 /// The remote moves of an exchange, the number of the one that was opened last, 0 where none was, and how many bytes of
 /// it were written.
 #[derive(Drop)]
 pub struct Moving {
-    pub moves: List<Move>,
+    pub moves: Numbered<Move>,
     pub opened: u64,
     pub done: u32,
 }
@@ -22,14 +21,14 @@ pub struct Moving {
 impl Moving {
     /// The move of a number is the open one from now on, with these bytes, if some are given. Where there is no move nothing
     /// changes, as where nothing lies apart.
-    pub fn open(&mut self, alloc: Global, number: u64, noted: Option<List<u8>>)
+    pub fn open(&mut self, number: u64, noted: Option<List<u8>>)
         ensures { self.new ≡ opened_moving number noted self.old }
     {
-        if self.moves.len() == 0 {
+        if self.moves.count() == 0 {
             return;
         }
         if let Some(bytes) = noted {
-            note(alloc, &mut self.moves, number, bytes);
+            put_bytes(&mut self.moves, number, bytes);
         }
         self.opened = number;
         self.done = 0;
@@ -39,7 +38,7 @@ impl Moving {
     pub fn put_done(&mut self, done: u32)
         ensures { self.new ≡ written_moving done self.old }
     {
-        if self.moves.len() > 0 {
+        if self.moves.count() > 0 {
             self.done = done;
         }
     }
@@ -61,21 +60,11 @@ impl Moving {
         requires { from ≤ to }
         ensures { self.new ≡ emptied_moving from to self.old }
     {
-        let mut moves = Numbered::of(mem::replace(&mut self.moves, List::empty(alloc)).into_vec());
-        empty_moves(&mut moves, alloc, self.opened, self.done, from, to);
-        self.moves = List::new(moves.into_vec());
+        empty_moves(&mut self.moves, alloc, self.opened, self.done, from, to);
     }
 }
 
 /// The move of this number has these bytes.
-fn note(alloc: Global, list: &mut List<Move>, number: u64, bytes: List<u8>)
-    ensures { list.new ≡ change_numbered number (with_noted bytes) list.old }
-{
-    let mut moves = Numbered::of(mem::replace(list, List::empty(alloc)).into_vec());
-    put_bytes(&mut moves, number, bytes);
-    *list = List::new(moves.into_vec());
-}
-
 #[tactic(auto, using(crate::proofs::Changes::changes))]
 fn put_bytes(moves: &mut Numbered<Move>, number: u64, bytes: List<u8>)
     ensures { moves.new ≡ change_numbered number (with_noted bytes) moves.old }

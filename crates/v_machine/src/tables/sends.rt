@@ -136,17 +136,11 @@ pub fn push_move(
 /// The move of a number of the Send of a number is the open one from now on, with these bytes, if some are given.
 /// Where no move was begun nothing changes.
 #[tactic(auto, using(crate::proofs::Changes::changes))]
-pub fn open_move(
-    sends: &mut Numbered<Sent>,
-    alloc: Global,
-    number: u64,
-    moving: u64,
-    noted: Option<List<u8>>,
-)
+pub fn open_move(sends: &mut Numbered<Sent>, number: u64, moving: u64, noted: Option<List<u8>>)
     ensures { sends.new ≡ change_numbered number (with_opened moving noted) sends.old }
 {
     if let Some(sent) = sends.get_mut(number) {
-        sent.open(alloc, moving, noted);
+        sent.open(moving, noted);
     }
 }
 

@@ -250,10 +250,10 @@ impl Sent {
 
     /// The move of a number is the open one from now on, with these bytes, if some are given. Where no move was begun
     /// nothing changes.
-    pub fn open(&mut self, alloc: Global, moving: u64, noted: Option<List<u8>>)
+    pub fn open(&mut self, moving: u64, noted: Option<List<u8>>)
         ensures { self.new ≡ with_opened moving noted self.old }
     {
-        self.apart.open(alloc, moving, noted);
+        self.apart.open(moving, noted);
     }
 
     /// So many bytes of the open move were written. Where no move was begun nothing changes.

@@ -1,12 +1,11 @@
 //! Remote moves of which no byte can be written any more: their bytes are given back.
 
-ghost use Rattle.std.specs.Prelude.{◌≡◌, ◌≤◌, ◌+◌, true, option_copied};
+ghost use Rattle.std.specs.Prelude.{◌≡◌, ◌≤◌, ◌+◌, true};
 ghost use Rattle.v_machine.specs.Lists.{change_numbered};
-ghost use Rattle.v_machine.specs.Places.{numbered};
 ghost use Rattle.v_machine.specs.Sends.{emptied_between};
 ghost use Rattle.v_machine.specs.Spent.{emptied, is_spent};
 
-use crate::tables::numbered::{Numbered, index_of};
+use crate::tables::numbered::Numbered;
 use std::alloc::Global;
 use vk_base::{List, Move};
 
@@ -39,18 +38,11 @@ fn empty_move(moves: &mut Numbered<Move>, alloc: Global, opened: u64, done: u32,
     }
 }
 
-/// The move of a number.
-fn begun(moves: &List<Move>, number: u64) -> Option<&Move>
-    ensures { option_copied result ≡ numbered moves.now number }
-{
-    moves.as_slice().get(index_of(number))
-}
-
 /// Whether the move of a number has nothing to give back: it is not spent, or there is none.
-pub fn keeps_bytes(moves: &List<Move>, opened: u64, done: u32, number: u64) -> bool
+pub fn keeps_bytes(moves: &Numbered<Move>, opened: u64, done: u32, number: u64) -> bool
     ensures { result ≡ true → change_numbered number (emptied opened done number) moves.now ≡ moves.now }
 {
-    match begun(moves, number) {
+    match moves.get(number) {
         Some(found) => !is_spent(opened, done, number, found),
         None => true,
     }

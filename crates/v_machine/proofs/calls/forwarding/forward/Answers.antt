@@ -49,21 +49,6 @@ hand_on-requires-clause-taken c =
     (way_made c.args.store.now c.make_way.new.store c.args.pid c.args.from c.args.to c.in-Some-find_near.there c.in-Some.holding.number
     c.requires (sym c.in-Some.ensures.number) c.in-Some-find_near.ensures.here c.make_way.ensures.stays)
 
-pub returns-in_err-make_way : goal.returns-in_err-make_way
-returns-in_err-make_way c = λ p there ready.
-    let s = c.args.store.now in
-    let k = kernel_in s in
-    let number = c.in-Some.holding.number in
-    let holds : held k c.args.pid c.args.from ≡ Some number = sym c.in-Some.ensures.number in
-    let near : (same_host c.args.pid c.args.to && is_live (k.procs c.args.to)) ≡ true = sym c.in-Some-find_near.ensures.live in
-    let x = holding_is k c.args.pid c.args.from number holds in
-    rw (is_error c.from_residual.result _ c.from_residual.ensures.1) (
-      ap is_some (forward_allowed k _ c.args.pid p c.args.message c.args.from c.args.to number x.exchange holds near x.is refl),
-      lit≤ tt,
-      way_made s c.make_way.new.store c.args.pid c.args.from c.args.to c.in-Some-find_near.there number c.requires holds
-          c.in-Some-find_near.ensures.here c.make_way.ensures.stays,
-    )
-
 pub returns-in_err-hand_on : goal.returns-in_err-hand_on
 returns-in_err-hand_on c = λ p there ready.
     let s = c.args.store.now in
@@ -72,7 +57,7 @@ returns-in_err-hand_on c = λ p there ready.
     let holds : held k c.args.pid c.args.from ≡ Some number = sym c.in-Some.ensures.number in
     let near : (same_host c.args.pid c.args.to && is_live (k.procs c.args.to)) ≡ true = sym c.in-Some-find_near.ensures.live in
     let x = holding_is k c.args.pid c.args.from number holds in
-    rw (is_error c.from_residual-in_err-hand_on.result _ c.from_residual-in_err-hand_on.ensures.1) (
+    rw (is_error c.from_residual.result _ c.from_residual.ensures.1) (
       ap is_some (forward_allowed k _ c.args.pid p c.args.message c.args.from c.args.to number x.exchange holds near x.is refl),
       lit≤ tt,
       stays_on s c.make_way.new.store c.hand_on.new.store (way_made s c.make_way.new.store c.args.pid c.args.from c.args.to

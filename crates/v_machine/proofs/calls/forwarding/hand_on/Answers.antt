@@ -3,12 +3,11 @@ use Rattle.std.proofs.lemmas.Option.{same_Some}
 use Rattle.vk_types.specs.Types.{Exchange}
 use Rattle.vk_base.specs.Calls.{forwarded}
 use Rattle.vk_base.specs.Kernel.{is_taken, put_exchange}
-use Rattle.v_machine.specs.Kept.{kernel_in, newest}
+use Rattle.v_machine.specs.Kept.{kernel_in}
 use Rattle.v_machine.specs.Sends.{handed_on}
 use Rattle.v_machine.specs.Tables.{exchanges_by}
 use Rattle.v_machine.proofs.Forwarding.{indexed_forwarded}
 use Rattle.v_machine.proofs.KernelLemmas.{kernel-exchange, set_self}
-use Rattle.v_machine.proofs.Newest.{newest_on}
 use Rattle.v_machine.proofs.SendLemmas.{stays_alike, truncated}
 use Rattle.v_machine.proofs.Stores.{on_ok, on_err}
 use Rattle.v_machine.proofs.Live.{live_taken}
@@ -37,8 +36,8 @@ returns-clause-ok c = λ e is.
     let s0 = c.index_mut-2.result.now in
     let q0 = c.index_mut.result.now in
     let changed = on_ok c.hand_on.result _ (sym c.is_err.ensures.value ∙ c.if-is_err.false) c.hand_on.ensures.ok in
-    let arrived = ap newest c.push_name.ensures ∙ newest_on name s.arrived.items in (
-      kernel-exchange s.places s.procs.items s.sends.items s.asked.items s.names.items (newest c.push_name.new.names.items)
+    let arrived = c.push-2.ensures in (
+      kernel-exchange s.places s.procs.items s.sends.items s.asked.items s.names.items c.push-2.new.self
           (handed_on c.args.on.shown c.args.on.at) name.sender c.args.at name.number s0 c.hand_on.new.sends e here.place here.sends
           c.index_mut-2.ensures.value is changed
           ∙ ap (λ a. record (kernel_in s) {
@@ -47,7 +46,7 @@ returns-clause-ok c = λ e is.
           }) arrived,
       indexed_forwarded s c.args.at c.args.there name c.args.on.at e c.args.on.shown c.requires.kept here c.requires.there is taken _ s0
           c.hand_on.new.sends q0 refl refl refl c.index_mut-2.ensures.value refl changed arrived
-          (c.requires.way.absent q0 c.index_mut.ensures.value) c.index_mut.ensures.value
+          (c.requires.way q0 c.index_mut.ensures.value) c.index_mut.ensures.value
           (ap (set s.queues.items c.args.there) c.in_ok-push.ensures.ok) refl,
     )
 

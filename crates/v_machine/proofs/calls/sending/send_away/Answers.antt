@@ -7,7 +7,7 @@ use Rattle.vk_base.specs.declared.kernel.State.TheVariants as states
 use Rattle.vk_base.specs.Calls.{called, unseen, sent_exchange}
 use Rattle.vk_base.specs.Kernel.{Kernel, name_of, with_state, is_live}
 use Rattle.vk_base.specs.Pids.{same_host}
-use Rattle.v_machine.specs.Kept.{arrived_in, kernel_in}
+use Rattle.v_machine.specs.Kept.{kernel_in}
 use Rattle.v_machine.specs.Rules.{posted}
 use Rattle.v_machine.proofs.Indexes.{list_at_is}
 use Rattle.v_machine.proofs.KernelLemmas.{set_self, count_pushed, exchanges-pushed, kernel-pushed}
@@ -52,9 +52,9 @@ returns c = λ fits p there ready.
     here.place here.procs here.sends c.index_mut.ensures.value pushed there in
     let begun =
     kernel-pushed s.places s.procs.items s.sends.items s.asked.items pid at p c.in_ok-sent.sent s0 c.push.new.self here.place here.procs
-    here.sends c.index_mut.ensures.value pushed there s.names.items (arrived_in s) (arrived_in s)
+    here.sends c.index_mut.ensures.value pushed there s.names.items s.arrived s.arrived
     ∙ ap (λ a. record (posted k pid p x) { arrived = a })
-    (sym (cond-false (same_host pid x.target) (arrived_in s ++ name_of pid (p.sends + 1) ∷ []) (arrived_in s) away)) in
+    (sym (cond-false (same_host pid x.target) (s.arrived ++ name_of pid (p.sends + 1) ∷ []) s.arrived away)) in
     let length_now : length c.push.new.self ≡ p.sends + 1 = ap length pushed ∙ length-append s0 (c.in_ok-sent.sent ∷ []) ∙ sym counted in
     let mine = ap length (list_at_is s.places s.sends.items pid at s0 here.place here.sends c.index_mut.ensures.value) in
     let indexed = indexed_away s pid at p x c.requires.kept here away (ap (λ (e : Exchange). e.stage) value) there _ c.push.new.self refl

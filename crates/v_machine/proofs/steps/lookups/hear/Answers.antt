@@ -1,7 +1,7 @@
 use Rattle.std.proofs.Common.{◌≡◌, true, false, ◌&&◌, not, Some, is_some, option_copied, refl, sym, ap, ◌∙◌, lit≤, length-set}
 use Rattle.vk_base.specs.Kernel.{is_told}
 use Rattle.vk_base.specs.Pids.{same_host}
-use Rattle.v_machine.specs.Kept.{arrived_in, kernel_in}
+use Rattle.v_machine.specs.Kept.{kernel_in}
 use Rattle.v_machine.specs.Lists.{change_numbered}
 use Rattle.v_machine.specs.Tables.{lookups_by, names_by, with_candidate}
 use Rattle.v_machine.proofs.Asking.{lookups_nowhere, kernel-lookup, hear_allowed, hear_not, hear_nowhere, hears_is, asked_stay}
@@ -71,7 +71,7 @@ returns c =
       record {
         effect = hear_allowed (kernel_in s) _ c.args.asker c.args.number c.args.pid l at told
             (kernel-lookup s.places s.procs.items s.sends.items s.asked.items c.args.asker c.in-Some.at c.args.number c.index_mut.result.now
-            here.place here.asked c.index_mut.ensures.value s.names.items (arrived_in s) (with_candidate c.args.pid) c.tell.new.lookups
+            here.place here.asked c.index_mut.ensures.value s.names.items s.arrived (with_candidate c.args.pid) c.tell.new.lookups
             l at changed);
         indexed =
             indexed_same s _ refl refl refl (length-set s.asked.items c.in-Some.at c.tell.new.lookups) refl refl refl c.requires.indexed;

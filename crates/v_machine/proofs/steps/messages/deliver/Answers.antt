@@ -6,7 +6,6 @@ use Rattle.vk_base.specs.declared.kernel.State.TheVariants as states
 use Rattle.vk_base.specs.Kernel.{Kernel, put_exchange}
 use Rattle.vk_base.specs.Steps.{taken, received, with_part}
 use Rattle.vk_base.specs.Activities.{call_of, answer_of}
-use Rattle.v_machine.specs.Kept.{arrived_in}
 use Rattle.v_machine.specs.Places.{count_at}
 use Rattle.v_machine.specs.Rules.{HasRoom}
 use Rattle.v_machine.specs.Sends.{at_stage}
@@ -46,11 +45,11 @@ returns c = λ pid p e place sender there at_name room queued indexed.
     ∙ ap (λ y. with_part w y x.memory) sent in
     let answer : answer_of c.receive_into-outcome.result ≡ received w c.args.name.sender e = c.receive_into-outcome.ensures.answer
     ∙ ap (received w c.args.name.sender) sent in
-    let processes = kernel-process s.places s.procs.items s.sends.items s.asked.items s.names.items (arrived_in s) into pid c.args.at x _ p
+    let processes = kernel-process s.places s.procs.items s.sends.items s.asked.items s.names.items s.arrived into pid c.args.at x _ p
     place c.requires.at c.index_mut-proc.ensures.value there
     (λ i. record (process_of x (count_at s.sends.items c.args.at) (count_at s.asked.items c.args.at))
     { memory = memory i; state = states.Done w (answer i) }) in
-    let exchanges = kernel-exchange s.places _ s.sends.items s.asked.items s.names.items (arrived_in s) (at_stage stages.Taken)
+    let exchanges = kernel-exchange s.places _ s.sends.items s.asked.items s.names.items s.arrived (at_stage stages.Taken)
     c.args.name.sender c.args.from c.args.name.number c.index_mut.result.now c.take.new.sends e sender c.requires.from
     c.index_mut.ensures.value at_name c.take.ensures in
     let later = exchanges-change s.places s.procs.items s.sends.items s.asked.items (at_stage stages.Taken) c.args.name.sender c.args.from

@@ -7,7 +7,7 @@ use Rattle.vk_base.specs.declared.kernel.State.TheVariants as states
 use Rattle.vk_base.specs.Kernel.{name_of, sending}
 use Rattle.vk_base.specs.Ranges.{with_bytes}
 use Rattle.vk_base.specs.Activities.{state_of}
-use Rattle.v_machine.specs.Kept.{arrived_in, kernel_in}
+use Rattle.v_machine.specs.Kept.{kernel_in}
 use Rattle.v_machine.specs.Places.{count_at}
 use Rattle.v_machine.specs.Tables.{exchanges_by, process_of}
 use Rattle.v_machine.proofs.Fits.{reply_room}
@@ -68,7 +68,7 @@ returns c =
     record {
       effect = finish_allowed (kernel_in s) _ c.args.pid _ c.in_ok-send.send _ reply.message reply.dest reply.bytes.now
           there blocked at replied
-          (kernel-process s.places s.procs.items s.sends.items s.asked.items s.names.items (arrived_in s) into c.args.pid c.in_ok-at.at x _
+          (kernel-process s.places s.procs.items s.sends.items s.asked.items s.names.items s.arrived into c.args.pid c.in_ok-at.at x _
           _ here.place here.procs c.index_mut-proc.ensures.value there
           (λ i. record (process_of x (count_at s.sends.items c.in_ok-at.at) (count_at s.asked.items c.in_ok-at.at)) {
             memory = c.write_reply.ensures i;

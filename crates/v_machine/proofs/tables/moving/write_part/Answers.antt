@@ -4,7 +4,6 @@ use Rattle.std.proofs.lemmas.Option.{none-some}
 use Rattle.vk_types.specs.Types.{Move}
 use Rattle.vk_base.specs.Kernel.{move_of}
 use Rattle.vk_base.specs.Ranges.{with_bytes, bytes_in}
-use Rattle.v_machine.specs.Kept.{arrived_in}
 use Rattle.v_machine.specs.Places.{count_at}
 use Rattle.v_machine.specs.Tables.{process_of}
 use Rattle.v_machine.proofs.KernelLemmas.{kernel-process, sent_there, memory_is}
@@ -42,7 +41,7 @@ returns-clause-kernel c = λ sender pid p e m place into there at_name is fits.
     (subst (λ (y : Move). y.dest + (c.args.part.start + c.args.part.len) ≤ length p.memory) (sym opened) fits) in
     let written = c.copy_part.ensures room
     ∙ ap (λ (y : Move). with_bytes x.memory (y.dest + c.args.part.start) (bytes_in c.args.part y.bytes)) opened in
-    kernel-process s.places s.procs.items s.sends.items s.asked.items s.names.items (arrived_in s)
+    kernel-process s.places s.procs.items s.sends.items s.asked.items s.names.items s.arrived
     (λ q. record q { memory = with_bytes q.memory (m.dest + c.args.part.start) (bytes_in c.args.part m.bytes) }) pid c.args.to x _ p
     into c.requires.to c.index_mut-proc.ensures.value there
     (ap (λ b. process_of (record x { memory = b }) (count_at s.sends.items c.args.to) (count_at s.asked.items c.args.to)) written)

@@ -1,6 +1,6 @@
 use Rattle.std.proofs.Common.{sym, ◌∙◌}
 use Rattle.v_trace.proofs.Leading.{arrives, called, collects, copies, ends, fails, finds, finishes, hears, loses, no_step, opens, takes}
-use Rattle.v_trace.proofs.reading.read_led.Goals as goal
+use Rattle.v_trace.proofs.reading.read_words.Goals as goal
 
 pub returns-then-leads : goal.returns-then-leads
 returns-then-leads c = c.read_call_step.ensures ∙ sym (called c.args.line.now (sym c.if-leads.ensures))
@@ -18,13 +18,13 @@ pub returns-then-leads-5 : goal.returns-then-leads-5
 returns-then-leads-5 c = c.read_copy.ensures ∙ sym (copies c.args.line.now (sym c.if-leads-5.ensures))
 
 pub returns-then-leads-6 : goal.returns-then-leads-6
-returns-then-leads-6 c = c.read_arrive.ensures ∙ sym (arrives c.args.line.now (sym c.if-leads-6.ensures))
+returns-then-leads-6 c = c.read_open.ensures ∙ sym (opens c.args.line.now (sym c.if-leads-6.ensures))
 
 pub returns-then-leads-7 : goal.returns-then-leads-7
 returns-then-leads-7 c = c.read_end.ensures ∙ sym (ends c.args.line.now (sym c.if-leads-7.ensures))
 
 pub returns-then-leads-8 : goal.returns-then-leads-8
-returns-then-leads-8 c = c.read_open.ensures ∙ sym (opens c.args.line.now (sym c.if-leads-8.ensures))
+returns-then-leads-8 c = c.read_arrive.ensures ∙ sym (arrives c.args.line.now (sym c.if-leads-8.ensures))
 
 pub returns-then-leads-9 : goal.returns-then-leads-9
 returns-then-leads-9 c = c.read_fail.ensures ∙ sym (fails c.args.line.now (sym c.if-leads-9.ensures))
@@ -46,9 +46,9 @@ returns-else-leads-12 c =
     (sym c.if-leads-3.ensures)
     (sym c.if-leads-4.ensures)
     (sym c.if-leads-5.ensures)
-    (sym c.if-leads-6.ensures)
-    (sym c.if-leads-7.ensures)
     (sym c.if-leads-8.ensures)
+    (sym c.if-leads-7.ensures)
+    (sym c.if-leads-6.ensures)
     (sym c.if-leads-9.ensures)
     (sym c.if-leads-10.ensures)
     (sym c.if-leads-11.ensures)
