@@ -40,7 +40,7 @@ pub struct Store {
     pub asked: Vec<Numbered<Lookup>>,
     pub names: Vec<Registration>,
     pub arrived: Arrived,
-    /// Whether the list of Sends that one was put into last has no room for another one.
+    /// Whether the list of Sends that one was put into last had no room for another one then. Nothing but a cost hangs on it.
     pub crowded: bool,
     /// For each process what came to its queue, and may still be queued.
     pub queues: Vec<Queue>,

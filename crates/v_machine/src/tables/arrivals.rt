@@ -8,15 +8,16 @@ ghost use Rattle.v_machine.specs.Rules.{HasRoomFor, HasWay, Stays};
 use crate::tables::Store;
 use vk_base::{Name, NoMemory};
 
-/// Where a message comes to: the place of the process to whose queue, and the place of the number of its sender's last Send to the host.
+/// Where a message comes to a queue: the place of the process whose queue it is, and among the numbers of the sender that of its last Send
+/// to the host.
 #[derive(Clone, Copy)]
 pub struct Coming {
     pub to: usize,
     pub latest: usize,
 }
 
-/// The place of the number of the last Send of the process of this place to the host, which is made where there is none. That changes no
-/// table.
+/// Where, among the numbers of the process of this place, that of its last Send to the host stands. The place is made where there is none,
+/// which changes no table.
 pub fn make_room(store: &mut Store, at: usize, host: u16) -> Result<usize, NoMemory>
     requires indexed { IsIndexed store.old }
     requires low { at < length store.old.latest.items }

@@ -1,4 +1,4 @@
-//! What came to queues, which only clauses read: for a process its queue is kept apart.
+//! What came to queues, which only clauses read. What code reads of it is kept for each process (`queue.rt`).
 
 ghost use Rattle.std.specs.Prelude.{◌≡◌, ◌++◌, ◌∷◌, []};
 ghost use Rattle.vk_base.specs.Kernel.{without};
@@ -10,7 +10,7 @@ use vk_base::Name;
 
 /// How such a list came about.
 #[derive(Drop)]
-pub enum Growth {
+enum Growth {
     Start,
     Then {
         before: Snapshot<Growth>,
