@@ -31,7 +31,6 @@ pub mod MoveLemmas
 pub mod MoveSteps
 pub mod Naming
 pub mod InitialLemmas
-pub mod Pieces
 pub mod PlaceLemmas
 pub mod Popping
 pub mod Replaced

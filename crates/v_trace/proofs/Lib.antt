@@ -1,6 +1,7 @@
 mod LastWords
 mod Leading
-mod RemainingSteps
+pub mod Pieces
+pub mod RemainingSteps
 pub mod StepTexts
 pub mod StepWords
 pub mod TraceLines

@@ -23,7 +23,7 @@ more t s = record t { steps = t.steps ++ s ∷ [] }
 abbrev with_steps : Remaining → List Step → Remaining
 with_steps r ss = record r { steps = ss }
 
-behind_both : (xs ys : List Step) (r : Remaining) → behind (xs ++ ys) r ≡ behind xs (behind ys r)
+pub behind_both : (xs ys : List Step) (r : Remaining) → behind (xs ++ ys) r ≡ behind xs (behind ys r)
 behind_both xs ys r = ap (with_steps r) (append_assoc xs ys r.steps)
 
 -- what is behind all steps
@@ -46,7 +46,7 @@ by_step t ls None left after = refl
 by_step t ls (Some s) left after = after s ∙ ap whole (behind_both t.steps (s ∷ []) left)
 
 -- what is left stands behind what was taken
-from_left : (t : Trace) (lines : List (List ℕ))
+pub from_left : (t : Trace) (lines : List (List ℕ))
     → with_lines t lines ≡ whole (behind t.steps (steps_left t.config (length t.steps) lines))
 unfolding with_lines steps_left
 from_left t [] = ap whole (sym (ending (end_of t.config None) t.steps refl))
@@ -117,7 +117,7 @@ lines_by : (end : Bool) (b : ℕ) (ls : List (List ℕ)) (n : ℕ) → length ls
 lines_by true b ls n few = omega (arith, few)
 lines_by false b ls n few = more_lines b ls n few
 
-few_lines : (text : List ℕ) → length (lines_of text) ≤ length text
+pub few_lines : (text : List ℕ) → length (lines_of text) ≤ length text
 unfolding lines_of
 few_lines [] = omega arith
 few_lines (b ∷ bs) = lines_by (b == 10) b (lines_of bs) (length bs) (few_lines bs)
@@ -127,7 +127,7 @@ few_by : (c : Settings) (given : ℕ) (o : Option Step) (rest : Remaining) (n : 
 few_by c given None rest n few = omega arith
 few_by c given (Some s) rest n few = omega (arith, few)
 
-few_steps : (c : Settings) (given : ℕ) (lines : List (List ℕ)) → length (steps_left c given lines).steps ≤ length lines
+pub few_steps : (c : Settings) (given : ℕ) (lines : List (List ℕ)) → length (steps_left c given lines).steps ≤ length lines
 unfolding steps_left
 few_steps c given [] = omega arith
 few_steps c given (l ∷ ls) =

@@ -3,9 +3,9 @@ use Rattle.std.specs.Prelude.{◌≡◌, ℕ, ◌+◌, List, [], ◌∷◌, ◌+
 use Rattle.std.specs.Option.{option_map_or}
 use Rattle.vk_types.specs.Types.{ProcessSpec, Step}
 use Rattle.vk_base.specs.Settings.{Settings}
-use Rattle.vk_text.specs.Lines.{words_from}
+use Rattle.vk_text.specs.Lines.{lines_of, words_from}
 use Rattle.v_trace.specs.Steps.{step_of}
-use Rattle.v_trace.specs.Traces.{has_actor}
+use Rattle.v_trace.specs.Traces.{has_actor, trace_of}
 use Rattle.v_trace.specs.declared.trace.Trace.{Trace}
 use Rattle.v_trace.specs.declared.trace.TraceRefusal.{TraceRefusal}
 use Rattle.v_trace.specs.declared.trace.TraceRefusal.TheVariants as refusals
@@ -48,3 +48,7 @@ left_by c given (Some s) rest = behind (s ∷ []) rest
 unfoldable pub steps_left : Settings → ℕ → List (List ℕ) → Remaining
 steps_left c given [] = end_of c None
 steps_left c given (l ∷ ls) = left_by c given (acting c.specs (step_of (words_from l 0))) (steps_left c (given + 1) ls)
+
+-- these bytes begin the text of a trace with this configuration and these steps: whatever stands behind them is read as steps behind these
+abbrev pub IsReadTo : List ℕ → Settings → List Step → Type 0
+IsReadTo text c ss = (more : List ℕ) → trace_of (text ++ more) ≡ whole (behind ss (steps_left c (length ss) (lines_of more)))

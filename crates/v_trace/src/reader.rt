@@ -1,8 +1,9 @@
 //! The steps of a trace's text, one after another.
 
-ghost use Rattle.std.specs.Prelude.{◌≡◌, ◌+◌, ◌≤◌, ◌⊎◌, true, [], length, Some, None, Err, IfOk, IfErr, IfSome, if◌then◌else◌};
-ghost use Rattle.v_trace.specs.Remaining.{IsNextStep, whole};
+ghost use Rattle.std.specs.Prelude.{◌≡◌, ◌+◌, ◌^◌, ◌≤◌, ◌⊎◌, true, [], length, Some, None, Err, IfOk, IfErr, IfSome, if◌then◌else◌};
+ghost use Rattle.v_trace.specs.Remaining.{IsNextStep, steps_left, whole};
 ghost use Rattle.v_trace.specs.Traces.{KeepsLines, has_actor, trace_of};
+ghost use Rattle.vk_text.specs.Lines.{lines_of};
 
 use crate::buffer::StepBuffer;
 use crate::reading::read_step;
@@ -20,12 +21,12 @@ pub struct StepReader<'a> {
     text: &'a [u8],
     /// Where the next line starts.
     at: usize,
-    /// How many steps were given.
+    /// How many steps were given, those before this text counted.
     given: usize,
 }
 
 impl<'a> Model for StepReader<'a> {
-    ghost use Rattle.std.specs.Prelude.{drop, length, ◌≤◌};
+    ghost use Rattle.std.specs.Prelude.{drop, length, ◌+◌, ◌^◌, ◌≤◌};
     ghost use Rattle.vk_text.specs.Lines.{lines_of};
     ghost use Rattle.v_trace.specs.Remaining.{Remaining, steps_left};
 
@@ -33,7 +34,7 @@ impl<'a> Model for StepReader<'a> {
 
     ghost view = { λ r. steps_left r.config r.given (lines_of (drop r.at r.text.now)) };
 
-    ghost invariant = { λ r. (r.given ≤ r.at) × (r.at ≤ length r.text.now) };
+    ghost invariant = { λ r. (r.given ≤ 2 ^ 32 + r.at) × (r.at ≤ length r.text.now) };
 }
 
 impl<'a> StepReader<'a> {
@@ -54,6 +55,19 @@ impl<'a> StepReader<'a> {
             }),
             Err(HeadRefusal::NoTitle) => Err(TraceRefusal::BadInput { line: 1 }),
             Err(HeadRefusal::NoMemory) => Err(TraceRefusal::NoMemory),
+        }
+    }
+
+    /// The steps of a text whose head and first steps, so many, were read before it.
+    pub fn resume(config: Config, given: usize, text: &'a [u8]) -> Self
+        requires { given ≤ 2 ^ 32 }
+        ensures { result ≡ steps_left config given (lines_of text.now) }
+    {
+        StepReader {
+            config,
+            text,
+            at: 0,
+            given,
         }
     }
 

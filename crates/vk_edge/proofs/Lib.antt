@@ -1,2 +1,4 @@
 pub mod Answers
+mod Gathering
 pub mod Inputs
+pub mod PieceTexts

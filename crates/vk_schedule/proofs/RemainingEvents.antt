@@ -20,7 +20,7 @@ use Rattle.vk_schedule.proofs.Events.{event_spelled}
 use Rattle.vk_schedule.proofs.Lawfulness.{event_fits}
 use Rattle.vk_schedule.proofs.Wanted.{some_actor}
 
-behind_both : (xs ys : List Event) (f : Front) → behind (xs ++ ys) f ≡ behind xs (behind ys f)
+pub behind_both : (xs ys : List Event) (f : Front) → behind (xs ++ ys) f ≡ behind xs (behind ys f)
 behind_both xs ys f =
     ap (λ (es : List Event). let g : Front = record f { schedule = record f.schedule { events = es } } in g)
     (append_assoc xs ys f.schedule.events)
@@ -44,7 +44,7 @@ from_event n s None rest left after = sym (ending (end_of s.config (Some (refusa
 from_event n s (Some e) rest left after = from_room s e (nat_lt (length s.events) 100000) rest left (after e)
 
 -- what is left stands behind what was taken
-from_left : (n : ℕ) (s : Schedule) (lines : List (List ℕ)) → front_from n s lines ≡ behind s.events (front_left s.config (length s.events) n lines)
+pub from_left : (n : ℕ) (s : Schedule) (lines : List (List ℕ)) → front_from n s lines ≡ behind s.events (front_left s.config (length s.events) n lines)
 unfolding front_from front_left
 from_left n s [] = sym (ending (end_of s.config None None) s.events refl)
 from_left n s (l ∷ ls) =

@@ -1,13 +1,13 @@
 -- What is left of a front when its first events were read.
-use Rattle.std.specs.Prelude.{◌≡◌, ℕ, ◌+◌, ◌≤◌, nat_lt, List, [], ◌∷◌, ◌++◌, Option, Some, None, if◌then◌else◌}
+use Rattle.std.specs.Prelude.{◌≡◌, ℕ, ◌+◌, ◌≤◌, nat_lt, List, [], ◌∷◌, ◌++◌, length, Option, Some, None, if◌then◌else◌}
 use Rattle.vk_base.specs.Settings.{Settings}
 use Rattle.vk_base.specs.declared.limits.TheConstants.{EVENTS, PROCESSES, STATIONS}
-use Rattle.vk_text.specs.Lines.{words_from}
+use Rattle.vk_text.specs.Lines.{lines_of, words_from}
 use Rattle.vk_schedule.specs.declared.event.Event.{Event}
 use Rattle.vk_schedule.specs.declared.schedule.Front.{Front}
 use Rattle.vk_schedule.specs.declared.schedule.TextRefusal.{TextRefusal}
 use Rattle.vk_schedule.specs.declared.schedule.TextRefusal.TheVariants as refusals
-use Rattle.vk_schedule.specs.Schedule.{acting, event_of}
+use Rattle.vk_schedule.specs.Schedule.{acting, event_of, front_of}
 
 -- the front with these events before its own
 abbrev pub behind : List Event → Front → Front
@@ -38,3 +38,8 @@ left_by c given n (Some e) rest = if nat_lt given EVENTS then behind (e ∷ []) 
 unfoldable pub front_left : Settings → ℕ → ℕ → List (List ℕ) → Front
 front_left c given n [] = end_of c None None
 front_left c given n (l ∷ ls) = left_by c given n (acting c.specs (event_of (words_from l 0))) (front_left c (given + 1) (n + 1) ls)
+
+-- These bytes begin the text of a schedule with this configuration and these events, whose next line has this number: whatever stands
+-- behind them is read as events behind these.
+abbrev pub IsReadTo : List ℕ → Settings → List Event → ℕ → Type 0
+IsReadTo text c es line = (more : List ℕ) → front_of (text ++ more) ≡ behind es (front_left c (length es) line (lines_of more))

@@ -2,7 +2,8 @@
 
 ghost use Rattle.std.specs.Prelude.{◌≡◌, ◌⊎◌, ℕ, true, [], None, IfOk, IfErr, IfSome, option_map, if◌then◌else◌};
 ghost use Rattle.vk_schedule.specs.Lawful.{IsLawful, IsReadableEvent, has_actors};
-ghost use Rattle.vk_schedule.specs.Remaining.{IsNextEvent, end_of};
+ghost use Rattle.vk_text.specs.Lines.{lines_of};
+ghost use Rattle.vk_schedule.specs.Remaining.{HasFewLines, IsNextEvent, end_of, front_left};
 ghost use Rattle.vk_schedule.specs.Schedule.{HasProcess, front_of, unopened};
 ghost use Rattle.vk_schedule.specs.Spelling.{event_text};
 
@@ -83,6 +84,21 @@ impl<'a> EventReader<'a> {
                 given: 0,
             }),
             Err(refusal) => Err(refused(refusal)),
+        }
+    }
+
+    /// The events of a text whose opening and first events, so many, were read before it. Its first line has this number.
+    pub fn resume(alloc: Global, config: Config, given: usize, line: u64, text: &'a [u8]) -> Self
+        requires { HasFewLines given line }
+        ensures { result ≡ front_left config given line (lines_of text.now) }
+    {
+        EventReader {
+            alloc,
+            config,
+            text,
+            at: 0,
+            line,
+            given,
         }
     }
 

@@ -1,3 +1,5 @@
+pub mod PieceInputs
+pub mod Checked
 pub mod Endings
 pub mod Events
 pub mod Fronts
@@ -8,6 +10,7 @@ pub mod Lefts
 pub mod Nexts
 pub mod Nodes
 pub mod Outcomes
+pub mod Played
 pub mod Plays
 pub mod Programs
 pub mod Runs

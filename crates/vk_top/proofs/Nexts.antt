@@ -1,5 +1,5 @@
 -- What a reader leaves when it gave its next event or step, or has none.
-use Rattle.std.proofs.Common.{◌≡◌, ◌<◌, Bool, true, false, cond, [], ◌∷◌, length, Some, None, ap, arith}
+use Rattle.std.proofs.Common.{◌≡◌, ℕ, ◌+◌, ◌<◌, Bool, true, false, cond, [], ◌∷◌, length, Some, None, ap, arith}
 use Rattle.vk_types.specs.Types.{Step}
 use Rattle.vk_schedule.specs.declared.event.Event.{Event}
 use Rattle.vk_schedule.specs.declared.schedule.Front.{Front}
@@ -28,3 +28,9 @@ no_step old new false s is next = next
 
 pub fewer_steps : (old new : Remaining) (s : Step) → old ≡ steps.behind (s ∷ []) new → length new.steps < length old.steps
 fewer_steps old new s next = let count = ap (λ (r : Remaining). length r.steps) next in omega (arith, count)
+
+-- with one step more read, the others are left
+pub step_counted : (old new : Remaining) (s : Step) (read whole : ℕ) → old ≡ steps.behind (s ∷ []) new
+    → read + length old.steps ≡ whole → read + 1 + length new.steps ≡ whole
+step_counted old new s read whole next counted =
+    let count = ap (λ (r : Remaining). length r.steps) next in omega (arith, count, counted)

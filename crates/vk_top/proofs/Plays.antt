@@ -1,6 +1,6 @@
 -- The events of a schedule, played one after another.
 use Rattle.std.proofs.Common.{◌≡◌, ℕ, ◌+◌, ◌*◌, ◌<◌, ◌≤◌, Bool, true, false, nat_le, nat_lt, ◌||◌, List, [], ◌++◌, get_or, length, take, refl, sym, ap, subst, ◌∙◌, arith}
-use Rattle.std.proofs.lemmas.Bool.{leb-true, ltb-false, or_parts}
+use Rattle.std.proofs.lemmas.Bool.{leb-true, or_parts}
 use Rattle.std.proofs.lemmas.List.{append-nil, length-take-le}
 use Rattle.vk_base.specs.declared.limits.TheConstants.{EVENTS, STEPS, TICK_PACKETS}
 use Rattle.vk_cluster.specs.declared.emitted.TheConstants.{LAST_BYTES}
@@ -13,9 +13,9 @@ use Rattle.vk_report.specs.declared.entry.Form.{Form}
 use Rattle.vk_report.specs.Histories.{told_lines}
 use Rattle.vk_report.specs.Report.{end_lines, opening_lines}
 use Rattle.vk_rules.specs.Histories.{happened}
-unfoldable use Rattle.vk_rules.specs.Histories.{history, logs_from}
+unfoldable use Rattle.vk_rules.specs.Histories.{history}
 use Rattle.vk_rules.proofs.OneHistory.{histories_have_all}
-use Rattle.vk_top.proofs.Fronts.{counts_next, cut_is, cut_text, fits_before, front_next, none_taken, taken_more, takes_all, takes_next, takes_no_more, whole_is, whole_text}
+use Rattle.vk_top.proofs.Fronts.{counts_next, cut_is, cut_text, front_next, none_taken, taken_more, takes_all, takes_next, takes_no_more, whole_is, whole_text}
 use Rattle.vk_top.specs.Playing.{AreFew, HasPlayed, IsHad, counts_after}
 use Rattle.vk_top.specs.Report.{counts_of, history_before, is_cut, taken_of, told_of, written_text}
 
@@ -99,15 +99,6 @@ module _ (form : Form) (s : Schedule) (n : ℕ) (k : ClusterValue) (counts : Cou
 
     pub refused_text : length s.events ≤ EVENTS → is_full k ≡ true → text ≡ written_text form s
     refused_text most full = played.lines ∙ cut_text form s n low (refused_at most full)
-
-  -- so far, and at the next one where there is room
-  pub room_before : (m : ℕ) → m < n → emitted_bytes (history_before m s) ≤ LAST_BYTES
-  room_before m low = fits_before s m (omega (arith, low, played.taken))
-
-  pub room_now : is_full k ≡ false → emitted_bytes (history_before n s) ≤ LAST_BYTES
-  room_now room =
-      ltb-false LAST_BYTES (emitted_bytes (history_before n s))
-      (sym bytes_are ∙ room_by (nat_le EVENTS k.events) (nat_lt LAST_BYTES (length k.pile.bytes)) room)
 
   -- all of them
   pub ended_whole : length s.events ≤ n → false ≡ is_cut s

@@ -41,7 +41,9 @@ use Rattle.vk_top.specs.declared.check.TraceVerdict.TheVariants as verdicts
 use Rattle.vk_report.specs.declared.entry.Form.{Form}
 use Rattle.vk_top.specs.declared.status.Status.{Status}
 use Rattle.vk_top.specs.declared.status.Status.TheVariants as status
+use Rattle.vk_top.specs.declared.replay.Written.{Written}
 use Rattle.vk_top.specs.declared.top.Work.{Work}
+use Rattle.vk_top.specs.Playing.{IsWrittenOf}
 use Rattle.vk_top.specs.declared.words.Asked.{Asked}
 use Rattle.vk_top.specs.declared.words.Asked.TheVariants as asked
 
@@ -91,11 +93,32 @@ cut_short form text old new small refused written =
       run = front_is_run s (taken_of s) (only_lawful text s refused.text);
     }
 
+work_by : (form : Form) (text : List ℕ) (w : Written) (b : Bool) → w.is_cut ≡ b → IsWrittenOf form text w
+    → IsWork (asked.Replay form) text (record { text = w.text; status = cond b status.Limit status.Done })
+work_by form text w true cut is = record {
+  late = tt;
+  limit = λ limit. record { schedule = is.schedule; text = is.spells; cut = sym is.cut ∙ cut };
+  output = is.lines ∙ sym (ap (replay_output form) is.spells);
+  status = sym (ap replay_status is.spells ∙ ap (λ b. cond b status.Limit status.Done) (sym is.cut ∙ cut));
+}
+work_by form text w false cut is = record {
+  late = tt;
+  limit = λ limit. absurd (grind (arith, limit));
+  output = is.lines ∙ sym (ap (replay_output form) is.spells);
+  status = sym (ap replay_status is.spells ∙ ap (λ b. cond b status.Limit status.Done) (sym is.cut ∙ cut));
+}
+
+-- the work on a schedule of which this is written
+pub replay_work : (form : Form) (text : List ℕ) (w : Written) (s : Status) → IsWrittenOf form text w
+    → s ≡ cond w.is_cut status.Limit status.Done → IsWork (asked.Replay form) text (record { text = w.text; status = s })
+replay_work form text w s is told =
+    subst (λ t. IsWork (asked.Replay form) text (record { text = w.text; status = t })) (sym told) (work_by form text w w.is_cut refl is)
+
 cut_not : (b : Bool) (t : Status) → cond b status.Limit status.Done ≡ t → (t ≡ status.Limit) ⊎ (t ≡ status.Done)
 cut_not true t is = inl (sym is)
 cut_not false t is = inr (sym is)
 
-replay_bad : (r : Result Schedule TextRefusal) (line : ℕ) → replay_status r ≡ status.BadInput line → r ≡ Err (schedules.BadInput line)
+pub replay_bad : (r : Result Schedule TextRefusal) (line : ℕ) → replay_status r ≡ status.BadInput line → r ≡ Err (schedules.BadInput line)
 replay_bad (Ok s) line is = elim (cut_not (is_cut s) (status.BadInput line) is) [
   | inl limit ↦ absurd (grind (arith, limit))
   | inr done ↦ absurd (grind (arith, done))

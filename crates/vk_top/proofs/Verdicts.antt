@@ -1,5 +1,5 @@
 -- What the verdict on steps says of them.
-use Rattle.std.proofs.Common.{◌≡◌, ℕ, zero, ◌+◌, ◌-◌, ◌≤◌, ◌<◌, nat_lt, Bool, true, false, cond, List, [], ◌∷◌, ◌++◌, length, take, suc, Option, Some, None, Ok, Err, is_some, option_to_list, refl, ap, subst, sym, ◌∙◌, arith}
+use Rattle.std.proofs.Common.{◌≡◌, ℕ, zero, ◌+◌, ◌-◌, ◌≤◌, ◌<◌, nat_lt, Bool, true, false, cond, List, [], ◌∷◌, ◌++◌, length, take, suc, Option, Some, None, Ok, Err, is_some, option_to_list, refl, ap, subst, sym, ◌∙◌, arith, append-nil, append_assoc, length-append}
 use Rattle.std.specs.Option.{IsSome, option_map_or}
 use Rattle.std.proofs.lemmas.Bool.{cond-true, cond-false, le-ltb, lt-ltb, ltb-true}
 use borrow.Author.Tests.{ltb-false}
@@ -13,6 +13,7 @@ use Rattle.v_machine.specs.Tables.{Tables}
 use Rattle.v_machine.specs.declared.refusal.ApplyRefusal.TheVariants as refusals
 use Rattle.v_trace.specs.Remaining.{Remaining, behind}
 use Rattle.v_trace.specs.declared.trace.Trace.{Trace}
+use Rattle.vk_top.specs.Checking.{IsAsFar, IsFound}
 use Rattle.vk_top.specs.Check.{IsRun, IsVerdict, VerdictsAreExact, noted_by, noted_from, verdict_from, verdict_of}
 use Rattle.vk_top.specs.declared.check.TraceVerdict.{TraceVerdict}
 use Rattle.vk_top.specs.declared.check.TraceVerdict.TheVariants as verdicts
@@ -55,29 +56,30 @@ pub verdict-end : (k : Kernel) (n noted : ℕ) (ss : List Step) → ss ≡ [] �
 unfolding verdict_from
 verdict-end k n noted ss none = ap (verdict_from k n noted) none
 
--- Behind n steps the machine stands for a kernel from which the steps that are left have the verdict of all steps from k.
-pub record IsAsFar (k : Kernel) (noted : ℕ) (steps : List Step) (machine : Tables) (n : ℕ) (left : List Step) : Type 0 where
-  pub kernel : Kernel
-  pub stands : StandsFor machine kernel
-  pub verdict : verdict_from k 0 noted steps ≡ verdict_from kernel n machine.noted left
+-- how far the checking of steps has come, behind others
 
-pub as_far_at_first : (k : Kernel) (steps : List Step) (machine : Tables) → StandsFor machine k →
-    IsAsFar k machine.noted steps machine 0 steps
-as_far_at_first k steps machine stands = record { kernel = k; stands = stands; verdict = refl }
+pub as_far_at_first : (k : Kernel) (before : ℕ) (steps : List Step) (machine : Tables) → StandsFor machine k →
+    IsAsFar k before machine.noted steps machine before steps
+as_far_at_first k before steps machine stands = record { kernel = k; stands = stands; verdict = λ later. refl }
 
 -- with the next step taken off
-pub next_far : (k : Kernel) (noted : ℕ) (steps : List Step) (machine : Tables) (n : ℕ) (old new : Remaining) (s : Step) →
-    old ≡ behind (s ∷ []) new → IsAsFar k noted steps machine n old.steps → IsAsFar k noted steps machine n (s ∷ new.steps)
-next_far k noted steps machine n old new s next far =
-    subst (IsAsFar k noted steps machine n) (ap (λ (r : Remaining). r.steps) next) far
+pub next_far : (k : Kernel) (before noted : ℕ) (steps : List Step) (machine : Tables) (n : ℕ) (old new : Remaining) (s : Step) →
+    old ≡ behind (s ∷ []) new → IsAsFar k before noted steps machine n old.steps → IsAsFar k before noted steps machine n (s ∷ new.steps)
+next_far k before noted steps machine n old new s next far =
+    subst (IsAsFar k before noted steps machine n) (ap (λ (r : Remaining). r.steps) next) far
 
-pub as_far_over : (k : Kernel) (noted : ℕ) (steps : List Step) (machine : Tables) (n : ℕ) (left : List Step) → left ≡ [] →
-    IsAsFar k noted steps machine n left → verdict_from k 0 noted steps ≡ verdicts.Run n
-as_far_over k noted steps machine n left none far = far.verdict ∙ verdict-end far.kernel n machine.noted left none
+-- with no step left all were allowed
+pub as_far_over : (k : Kernel) (before noted : ℕ) (steps : List Step) (machine : Tables) (n : ℕ) (left : List Step) → left ≡ [] →
+    n + length left ≡ before + length steps → IsAsFar k before noted steps machine n left
+    → IsFound k before noted steps machine (verdicts.Run n)
+as_far_over k before noted steps machine n left none counted far = (
+  omega (arith, counted, ap (λ (l : List Step). length l) none),
+  subst (IsAsFar k before noted steps machine n) none far,
+)
 
-module _ (k : Kernel) (noted : ℕ) (steps : List Step) (old new : Tables) (n : ℕ) (s : Step) (ss : List Step)
-    (far : IsAsFar k noted steps old n (s ∷ ss)) where
-  pub as_far_more : (seen : Option Observation) → Follows s old new (Ok seen) → IsAsFar k noted steps new (n + 1) ss
+module _ (k : Kernel) (before noted : ℕ) (steps : List Step) (old new : Tables) (n : ℕ) (s : Step) (ss : List Step)
+    (far : IsAsFar k before noted steps old n (s ∷ ss)) where
+  pub as_far_more : (seen : Option Observation) → Follows s old new (Ok seen) → IsAsFar k before noted steps new (n + 1) ss
   as_far_more seen applied =
       let took = applied.1 far.kernel far.stands in
       let few = took.few in
@@ -85,17 +87,54 @@ module _ (k : Kernel) (noted : ℕ) (steps : List Step) (old new : Tables) (n : 
       record {
         kernel = took.after;
         stands = took.stands;
-        verdict = far.verdict ∙ verdict-more far.kernel n old.noted s ss _ took.is (omega arith)
-            ∙ ap (λ m. verdict_from took.after (n + 1) m ss) (sym more);
+        verdict = λ later. far.verdict later ∙ verdict-more far.kernel n old.noted s (ss ++ later) _ took.is (omega arith)
+            ∙ ap (λ m. verdict_from took.after (n + 1) m (ss ++ later)) (sym more);
       }
 
-  pub as_far_refused : Follows s old new (Err refusals.NotAllowed) → verdict_from k 0 noted steps ≡ verdicts.Refused (n + 1)
-  as_far_refused applied = far.verdict ∙ verdict-refused far.kernel n old.noted s ss (applied.1 far.kernel far.stands).0
+  pub as_far_refused : Follows s old new (Err refusals.NotAllowed) → IsFound k before noted steps new (verdicts.Refused (n + 1))
+  as_far_refused applied later =
+      far.verdict later ∙ verdict-refused far.kernel n old.noted s (ss ++ later) (applied.1 far.kernel far.stands).0
 
-  pub as_far_too_much : Follows s old new (Err refusals.Limit) → verdict_from k 0 noted steps ≡ verdicts.TooMuch
-  as_far_too_much applied =
+  pub as_far_too_much : Follows s old new (Err refusals.Limit) → IsFound k before noted steps new verdicts.TooMuch
+  as_far_too_much applied later =
       let limit = (applied.1 far.kernel far.stands).0 in
-      far.verdict ∙ verdict-too_much far.kernel n old.noted s ss limit.0 limit.1
+      far.verdict later ∙ verdict-too_much far.kernel n old.noted s (ss ++ later) limit.0 limit.1
+
+-- what was found of all steps is the verdict on them
+pub found_verdict : (k : Kernel) (before noted : ℕ) (steps : List Step) (machine : Tables) (v : TraceVerdict)
+    → IsFound k before noted steps machine v → v ≡ verdict_from k before noted steps
+found_verdict k before noted steps machine (verdicts.Run n) found =
+    sym (ap (verdict_from k before noted) (sym (append-nil steps)) ∙ found.1.verdict []
+    ∙ verdict-end found.1.kernel n machine.noted [] refl)
+found_verdict k before noted steps machine (verdicts.Refused step) found =
+    sym (ap (verdict_from k before noted) (sym (append-nil steps)) ∙ found [])
+found_verdict k before noted steps machine verdicts.TooMuch found =
+    sym (ap (verdict_from k before noted) (sym (append-nil steps)) ∙ found [])
+
+-- what was found of steps behind others that were all allowed
+pub found_behind : (k : Kernel) (before noted n : ℕ) (steps more : List Step) (old new : Tables) (v : TraceVerdict)
+    → (far : IsAsFar k before noted steps old n []) → n ≡ before + length steps → IsFound far.kernel n old.noted more new v
+    → IsFound k before noted (steps ++ more) new v
+found_behind k before noted n steps more old new (verdicts.Run m) far counted found = (
+  omega (arith, counted, found.0, length-append steps more),
+  record {
+    kernel = found.1.kernel;
+    stands = found.1.stands;
+    verdict = λ later. ap (verdict_from k before noted) (append_assoc steps more later) ∙ far.verdict (more ++ later)
+        ∙ found.1.verdict later;
+  },
+)
+found_behind k before noted n steps more old new (verdicts.Refused step) far counted found =
+    λ later. ap (verdict_from k before noted) (append_assoc steps more later) ∙ far.verdict (more ++ later) ∙ found later
+found_behind k before noted n steps more old new verdicts.TooMuch far counted found =
+    λ later. ap (verdict_from k before noted) (append_assoc steps more later) ∙ far.verdict (more ++ later) ∙ found later
+
+-- what decided decides with more steps
+pub decided_behind : (k : Kernel) (before noted : ℕ) (steps more : List Step) (v : TraceVerdict)
+    → ((later : List Step) → verdict_from k before noted (steps ++ later) ≡ v)
+    → (later : List Step) → verdict_from k before noted (steps ++ more ++ later) ≡ v
+decided_behind k before noted steps more v decided later =
+    ap (verdict_from k before noted) (append_assoc steps more later) ∙ decided (more ++ later)
 
 -- runs and what they note, by their first step
 

@@ -1,7 +1,10 @@
+pub mod Begun
 pub mod Check
+pub mod Checking
 pub mod Jobs
 pub mod Joins
 pub mod Nodes
+pub mod Pieces
 pub mod Playing
 pub mod Programs
 pub mod Report

@@ -2,7 +2,6 @@
 use Rattle.std.specs.Prelude.{◌≡◌, ℕ, ◌+◌, ◌*◌, ◌≤◌, ◌<◌, List, [], ◌∷◌, ◌++◌, drop, length, map, take, vec_len, vec_capacity, Some, Ok}
 use Rattle.vk_base.specs.declared.limits.TheConstants.{EVENTS, STEPS, TICK_PACKETS}
 use Rattle.vk_base.specs.Settings.{Settings}
-use Rattle.vk_cluster.specs.declared.emitted.TheConstants.{LAST_BYTES}
 use Rattle.vk_cluster.specs.Standing.{StandsFor, emitted_bytes, logs_of}
 use Rattle.vk_cluster.specs.Values.{ClusterValue}
 use Rattle.vk_schedule.specs.declared.event.Event.{Event}
@@ -78,13 +77,6 @@ pub record IsUnderWay (form : Form) (all left : Front) (now : ClusterValue) (cou
   pub played : HasPlayed form all.schedule counts.events now counts text
   pub rest : left.schedule.events ≡ drop counts.events all.schedule.events
   pub same : without_events left ≡ without_events all
-
--- so many events of a front were read, and the others are left; before none of those the emitted frames hold too many bytes
-pub record HasHadRoom (all left : Front) : Type 0 where
-  pub count : ℕ
-  pub within : count ≤ length all.schedule.events
-  pub rest : left.schedule.events ≡ drop count all.schedule.events
-  pub room : (n : ℕ) → n < count → emitted_bytes (history_before n all.schedule) ≤ LAST_BYTES
 
 -- the text is that of this schedule, and so it is written
 pub record IsWrittenOf (form : Form) (text : List ℕ) (w : Written) : Type 0 where

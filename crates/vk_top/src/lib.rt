@@ -15,11 +15,14 @@
 //! a node `specs/Nodes.antt`; the program of each task of a scenario is `src/program.rt`, `specs/Programs.antt`.
 #![tactic(auto)]
 
+mod begun;
 mod check;
+mod checking;
 mod emitted;
 mod join;
 mod law;
 mod node;
+mod playing;
 mod program;
 mod replay;
 mod run;

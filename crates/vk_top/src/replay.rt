@@ -1,26 +1,23 @@
-//! A schedule, played on all stations of its configuration, and the report or the trace of it.
+//! One event of a schedule, had by the stations of its configuration, and its lines in the report or the trace.
 
-ghost use Rattle.std.specs.Prelude.{◌≡◌, ◌≤◌, ◌<◌, ◌++◌, ◌∷◌, ◌⊎◌, [], Ok, Err, List, length, map, true, false, IfOk, IfErr, IfSome, OnErr, OnOk};
+ghost use Rattle.std.specs.Prelude.{◌≡◌, ◌<◌, ◌++◌, Ok, Err, List, map, true, false, IfSome, OnOk};
 ghost use Rattle.vk_base.specs.Settings.{Settings};
 ghost use Rattle.vk_schedule.specs.declared.event.Event.{Event as TheEvent};
-ghost use Rattle.vk_schedule.specs.Lawful.{IsLawful, has_actors};
-ghost use Rattle.vk_schedule.specs.Schedule.{schedule_of};
+ghost use Rattle.vk_schedule.specs.Lawful.{has_actors};
 ghost use Rattle.vk_schedule.specs.Spelling.{event_text};
 ghost use Rattle.vk_cluster.specs.Standing.{StandsFor, StandsSomewhere, advanced, logs_of};
 ghost use Rattle.vk_cluster.specs.Values.{is_full};
 ghost use Rattle.vk_host.specs.Responses.{answer_of};
 ghost use Rattle.vk_report.specs.Histories.{frames_from, told_lines};
 ghost use Rattle.vk_report.specs.Views.{IsShort, viewed};
-ghost use Rattle.vk_report.specs.Report.{BeginsAs, opening_lines};
+ghost use Rattle.vk_report.specs.Report.{BeginsAs};
 ghost use Rattle.vk_text.specs.Texts.{shown};
 ghost use Rattle.vk_rules.specs.Entries.{Entry};
 ghost use Rattle.vk_rules.specs.Frames.{Frame as TheFrame};
 ghost use Rattle.vk_rules.specs.Histories.{happened};
 ghost use Rattle.vk_cluster.specs.Shown.{HasAdvanced, IsLastEvent, Sends};
-ghost use Rattle.vk_top.specs.Playing.{AreFew, CanEnd, HasHadRoom, IsHad, IsOwnLine, IsReported, IsWrittenOf, without_events, told_entry};
-ghost use Rattle.vk_top.specs.Report.{emitted_of, is_cut, written_text};
-ghost use Rattle.vk_top.specs.Work.{KeepsLines};
-ghost use Rattle.vk_top.specs.declared.words.Asked.TheVariants as asked;
+ghost use Rattle.vk_top.specs.Playing.{AreFew, CanEnd, IsHad, IsOwnLine, IsReported, told_entry};
+ghost use Rattle.vk_top.specs.Report.{emitted_of};
 
 use crate::emitted::emitted_of;
 use std::alloc::Global;
@@ -28,10 +25,9 @@ use vk_base::NoMemory;
 use vk_cluster::{Cluster, ClusterRefusal, acting};
 use vk_host::{Host, Response};
 use vk_report::{
-    AnswerView, Counts, EventPlace, Form, ToldSteps, put_end, put_frame, put_missing, put_opening,
-    put_told_entry,
+    AnswerView, Counts, EventPlace, Form, ToldSteps, put_frame, put_missing, put_told_entry,
 };
-use vk_schedule::{EventBuffer, EventKind, EventReader, TextRefusal};
+use vk_schedule::{EventBuffer, EventKind};
 use vk_text::Text;
 
 /// What is written of a schedule.
@@ -45,16 +41,16 @@ pub(crate) struct Written {
 
 /// How an event is written: in which form, and for a call or a collect behind which line, which its first step is copied from.
 #[derive(Clone, Copy)]
-struct Manner<'a> {
-    form: Form,
-    line: Option<&'a [u8]>,
+pub(crate) struct Manner<'a> {
+    pub form: Form,
+    pub line: Option<&'a [u8]>,
 }
 
 /// The place of one event, and of what it was answered.
 #[derive(Drop)]
-struct EventSlot {
-    event: EventBuffer,
-    response: Response,
+pub(crate) struct EventSlot {
+    pub event: EventBuffer,
+    pub response: Response,
 }
 
 /// What the cluster reports of its last event, of the station of this host: the place of the station that had it, with its answer; or none,
@@ -68,7 +64,7 @@ struct Told<'a> {
 
 /// The line of an event that is a call or a collect, whose own step is spelled so.
 #[inline(always)]
-fn own_line<'a>(event: &EventBuffer, line: &'a [u8]) -> Option<&'a [u8]>
+pub(crate) fn own_line<'a>(event: &EventBuffer, line: &'a [u8]) -> Option<&'a [u8]>
     requires { line.now ≡ event_text event.now }
     ensures { IfSome result (λ own. IsOwnLine own.now event.now) }
 {
@@ -179,7 +175,7 @@ fn put_report(
 
 /// Makes room for what stands in the draft, so that the text can end without more memory.
 #[inline(always)]
-fn keep_room(text: &mut Text) -> Result<(), NoMemory>
+pub(crate) fn keep_room(text: &mut Text) -> Result<(), NoMemory>
     ensures same { shown text.new ≡ shown text.old }
     ensures room { OnOk result (CanEnd text.new) }
 {
@@ -190,7 +186,7 @@ fn keep_room(text: &mut Text) -> Result<(), NoMemory>
 }
 
 /// The bytes of the text, for which there is room.
-fn ended(text: Text) -> Vec<u8>
+pub(crate) fn ended(text: Text) -> Vec<u8>
     requires { CanEnd text }
     ensures { result.items ≡ shown text }
 {
@@ -223,7 +219,7 @@ fn put_played(
 }
 
 /// One event, and its lines.
-fn put_event(
+pub(crate) fn put_event(
     alloc: Global,
     cluster: &mut Cluster,
     text: &mut Text,
@@ -256,103 +252,5 @@ fn put_event(
             }
         }
         Err(refusal) => Err(refusal),
-    }
-}
-
-/// The events that are left in the reader, of which the cluster had none, up to the first that is refused, and their lines. Whether one is
-/// refused; if not, the last line too. Where memory is wanting, none of the events that were read is one that is refused.
-fn put_events(
-    alloc: Global,
-    cluster: &mut Cluster,
-    text: &mut Text,
-    form: Form,
-    reader: &mut EventReader<'_>,
-) -> Result<bool, NoMemory>
-    requires lawful { IsLawful reader.old.schedule }
-    requires stands { StandsFor reader.old.schedule.config [] cluster.old }
-    requires opening { shown text.old ≡ opening_lines form reader.old.schedule.config.specs }
-    requires end { CanEnd text.old }
-    ensures cut { IfOk result (λ cut. cut ≡ is_cut reader.old.schedule) }
-    ensures text { OnOk result (shown text.new ≡ written_text form reader.old.schedule) }
-    ensures end { OnOk result (CanEnd text.new) }
-    ensures memory { OnErr result (HasHadRoom reader.old reader.new) }
-    ensures ending { without_events reader.new ≡ without_events reader.old }
-{
-    let mut counts = Counts {
-        events: 0,
-        steps: 0,
-        frames: 0,
-    };
-    let mut slot = EventSlot {
-        event: EventBuffer::new(),
-        response: Response::Begun,
-    };
-    while let Some(line) = reader.next_with_line(&mut slot.event) {
-        let line = own_line(&slot.event, line);
-        match put_event(
-            alloc,
-            cluster,
-            text,
-            Manner { form, line },
-            &mut counts,
-            &mut slot,
-        ) {
-            Ok(()) => {}
-            Err(ClusterRefusal::Limit) => return Ok(true),
-            Err(ClusterRefusal::NoMemory) => return Err(NoMemory),
-        }
-    }
-    put_end(text, form, counts)?;
-    keep_room(text)?;
-    Ok(false)
-}
-
-/// The report of the schedule that is left in the reader, or its trace. Where memory is wanting, none of the events that were read is one
-/// that is refused.
-fn put_schedule(
-    alloc: Global,
-    form: Form,
-    reader: &mut EventReader<'_>,
-) -> Result<Written, NoMemory>
-    requires { IsLawful reader.old.schedule }
-    ensures text { IfOk result (λ w. w.text.items ≡ written_text form reader.old.schedule) }
-    ensures cut { IfOk result (λ w. w.is_cut ≡ is_cut reader.old.schedule) }
-    ensures memory { OnErr result (HasHadRoom reader.old reader.new) }
-    ensures ending { without_events reader.new ≡ without_events reader.old }
-{
-    let mut opening = Vec::new(alloc);
-    put_opening(alloc, &mut opening, form, reader.config())?;
-    let mut text = Text::new(opening);
-    keep_room(&mut text)?;
-    let mut cluster = Cluster::new(alloc, reader.config())?;
-    let is_cut = put_events(alloc, &mut cluster, &mut text, form, reader)?;
-    let text = ended(text);
-    Ok(Written { text, is_cut })
-}
-
-/// Reads all that is left.
-fn read_on(reader: &mut EventReader<'_>)
-    ensures { reader.new ≡ without_events reader.old }
-{
-    let mut event = EventBuffer::new();
-    while reader.next(&mut event) {}
-}
-
-/// The report of the schedule that the text spells, or its trace, in one pass. The first line that is bad, or that has an event too many,
-/// decides, also where an event or memory ends the playing before it.
-pub(crate) fn output(alloc: Global, form: Form, text: &[u8]) -> Result<Written, TextRefusal>
-    ensures written { IfOk result (IsWrittenOf form text.now) }
-    ensures refused { IfErr result (λ e. ((e ≡ TextRefusal.NoMemory) × KeepsLines (asked.Replay form) text.now)
-        ⊎ (schedule_of text.now ≡ Err e)) }
-{
-    let mut reader = EventReader::new(alloc, text)?;
-    let written = put_schedule(alloc, form, &mut reader);
-    read_on(&mut reader);
-    if let Some(refusal) = reader.into_front().refused {
-        return Err(refusal);
-    }
-    match written {
-        Ok(written) => Ok(written),
-        Err(NoMemory) => Err(TextRefusal::NoMemory),
     }
 }

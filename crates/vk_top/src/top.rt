@@ -1,24 +1,31 @@
-ghost use Rattle.std.specs.Prelude.{◌≡◌, ◌≢◌, ◌≤◌, ◌⊎◌, ℕ, length, true, Some, None, Ok, Err, map, take, string_bytes, IfSome, IfOk, IfErr, if◌then◌else◌};
+ghost use Rattle.std.specs.Prelude.{◌≡◌, ◌≢◌, ◌≤◌, ◌⊎◌, ℕ, false, length, true, List, Option, Some, None, Ok, Err, map, take, string_bytes, IfSome, IfOk, IfErr, OnOk, if◌then◌else◌};
 ghost use Rattle.std.specs.Io.KnownBytes.{Appends};
 ghost use Rattle.vk_base.specs.declared.limits.TheConstants.{EVENTS, INPUT_BYTES};
 ghost use Rattle.vk_edge.specs.Answers.{CountsFaults, IsWritten, TellsFaults};
+ghost use Rattle.vk_edge.specs.Pieces.{EndsLine};
+ghost use Rattle.vk_top.specs.Begun.{HasBegun, IsFirstPiece, IsInputRefused, IsRefusedAt, IsWorkOfInput};
+ghost use Rattle.vk_report.specs.declared.entry.Form.{Form as TheForm};
 ghost use Rattle.vk_top.specs.Check.{verdict_text};
 ghost use Rattle.vk_top.specs.Jobs.{IsAloneAnswer, IsStormAnswered};
+ghost use Rattle.vk_top.specs.Playing.{IsWrittenOf};
 ghost use Rattle.vk_top.specs.Top.{IsEarly, IsToldWhole, verdict_status};
-ghost use Rattle.vk_top.specs.Work.{IsAnswered, IsLate, IsOutcome, IsRefusal, IsWork};
+ghost use Rattle.vk_top.specs.Work.{IsLate, IsOutcome, IsRefusal, IsWork};
 ghost use Rattle.vk_top.specs.Words.{is_threaded, job_of};
+ghost use Rattle.vk_top.specs.declared.words.Asked.{Asked as TheAsked};
 ghost use Rattle.vk_top.specs.declared.words.Asked.TheVariants as asked;
 
+use crate::begun::{Begun, begin};
 use crate::check::{TraceVerdict, put_line, verdict_of};
 use crate::join::joined_text;
-use crate::replay::{Written, output};
+use crate::playing::output;
+use crate::replay::Written;
 use crate::status::Status;
 use crate::storm::summary_of;
 use crate::words::{Asked, Job, read_words};
 use std::alloc::Global;
 use vk_base::NoMemory;
 use vk_drive::StormRefusal;
-use vk_edge::{read_text, write_text};
+use vk_edge::{TextPieces, write_text};
 use vk_io::{Sink, Source};
 use vk_report::Form;
 
@@ -36,21 +43,28 @@ pub(crate) fn ended(limited: bool) -> Status
     if limited { Status::Limit } else { Status::Done }
 }
 
+/// The work on a schedule of which this is written.
+pub(crate) fn work_of(written: Written) -> Work
+    ensures { (form : TheForm) (text : List ℕ) → IsWrittenOf form text written → IsWork (asked.Replay form) text result }
+{
+    let Written { text, is_cut } = written;
+    Work {
+        text,
+        status: ended(is_cut),
+    }
+}
+
 /// `replay`: the report or the trace of a schedule.
 fn replay(alloc: Global, form: Form, text: &[u8]) -> Result<Work, Status>
     ensures work { IfOk result (IsWork (asked.Replay form) text.now) }
     ensures refused { IfErr result (IsRefusal (asked.Replay form) text.now) }
 {
     let written = output(alloc, form, text)?;
-    let Written { text, is_cut } = written;
-    Ok(Work {
-        text,
-        status: ended(is_cut),
-    })
+    Ok(work_of(written))
 }
 
 /// What is told of a trace, by its verdict.
-fn told(alloc: Global, verdict: TraceVerdict) -> Result<Work, Status>
+pub(crate) fn told(alloc: Global, verdict: TraceVerdict) -> Result<Work, Status>
     ensures work { IfOk result (λ w. (w.text.items ≡ verdict_text verdict) × (w.status ≡ verdict_status verdict) × IsToldWhole w.status) }
     ensures refused { IfErr result (λ s. (¬ (verdict ≡ TraceVerdict.TooMuch) × (s ≡ Status.NoMemory))
         ⊎ ((verdict ≡ TraceVerdict.TooMuch) × (s ≡ Status.Limit))) }
@@ -110,19 +124,84 @@ pub(crate) fn write_work<K: Sink>(output: &mut K, work: &Work) -> Status
     write_text(output, &work.text, work.status, Status::WriteFault)
 }
 
-/// The whole work on a text that was read.
-fn answer<K: Sink>(alloc: Global, asked: Asked, text: &[u8], output: &mut K) -> Status
-    requires { length text.now ≤ INPUT_BYTES }
-    ensures answered { IsAnswered (output.new ≡ output.old) asked text.now (K.written output.old) (K.written output.new) result }
-    ensures flushed { result ≡ Status.Done → K.flushed output.new }
-    ensures count { CountsFaults Status.WriteFault result (K.fault_count output.old) (K.fault_count output.new) }
-    ensures nothing { IsEarly result → output.new ≡ output.old }
-    ensures never_falls { K.fault_count output.old ≤ K.fault_count output.new }
+/// What is asked for of a text that is not begun by its first piece: it is read whole first.
+fn work_on_rest<S: Source>(
+    alloc: Global,
+    asked: Asked,
+    pieces: &mut TextPieces,
+    input: &mut S,
+) -> Result<Work, Status>
+    ensures work { (left : Option (List ℕ)) → IsFirstPiece left (S.left input.old) pieces.old →
+        IfOk result (IsWorkOfInput asked left (S.left input.new)) }
+    ensures refused { (left : Option (List ℕ)) → IsFirstPiece left (S.left input.old) pieces.old →
+        IfErr result (IsInputRefused asked left (S.left input.new)) }
+    ensures kept { OnOk result (S.fault_count input.new ≡ S.fault_count input.old) }
+    ensures read_count { IfErr result (λ s. CountsFaults Status.ReadFault s (S.fault_count input.old) (S.fault_count input.new)) }
+    ensures never_falls { S.fault_count input.old ≤ S.fault_count input.new }
 {
-    match work_on(alloc, asked, text) {
-        Ok(work) => write_work(output, &work),
-        Err(status) => status,
+    if !pieces.is_last() {
+        match pieces.read_rest(input) {
+            Ok(()) => {}
+            Err(refusal) => return Err(Status::from(refusal)),
+        }
     }
+    work_on(alloc, asked, pieces.piece())
+}
+
+/// The work on the text, where its first piece is not all of it and begins it.
+fn begun_by(alloc: Global, asked: Asked, pieces: &TextPieces) -> Option<Begun>
+    requires { length pieces.now.piece ≤ INPUT_BYTES }
+    ensures { IfSome result (λ b. (pieces.now.is_last ≡ false) × (EndsLine pieces.now.piece → HasBegun asked pieces.now.piece b)) }
+{
+    if pieces.is_last() {
+        return None;
+    }
+    begin(alloc, asked, pieces.piece())
+}
+
+/// The answer to a text that is refused so, of which the rest is read: an input that is too long is refused before all else.
+fn refused_late<S: Source>(status: Status, pieces: &mut TextPieces, input: &mut S) -> Status
+    requires { status ≢ Status.ReadFault }
+    ensures refused { (a : TheAsked) (left : Option (List ℕ)) → IsRefusedAt a left (S.left input.old) pieces.old status →
+        IsInputRefused a left (S.left input.new) result }
+    ensures read_count { CountsFaults Status.ReadFault result (S.fault_count input.old) (S.fault_count input.new) }
+    ensures never_falls { S.fault_count input.old ≤ S.fault_count input.new }
+{
+    if pieces.is_last() {
+        return status;
+    }
+    match pieces.skip_rest(input) {
+        Ok(()) => status,
+        Err(refusal) => Status::from(refusal),
+    }
+}
+
+/// What is asked for of the text that the input holds, which is read piece by piece.
+fn work_on_input<S: Source>(alloc: Global, asked: Asked, input: &mut S) -> Result<Work, Status>
+    ensures work { IfOk result (IsWorkOfInput asked (S.left input.old) (S.left input.new)) }
+    ensures refused { IfErr result (IsInputRefused asked (S.left input.old) (S.left input.new)) }
+    ensures kept { OnOk result (S.fault_count input.new ≡ S.fault_count input.old) }
+    ensures read_count { IfErr result (λ s. CountsFaults Status.ReadFault s (S.fault_count input.old) (S.fault_count input.new)) }
+    ensures never_falls { S.fault_count input.old ≤ S.fault_count input.new }
+{
+    let mut pieces = match TextPieces::first(alloc, input) {
+        Ok(pieces) => pieces,
+        Err(refusal) => return Err(Status::from(refusal)),
+    };
+    let Some(mut begun) = begun_by(alloc, asked, &pieces) else {
+        return work_on_rest(alloc, asked, &mut pieces, input);
+    };
+    while !pieces.is_last() {
+        match pieces.next(input) {
+            Ok(()) => {}
+            Err(refusal) => return Err(Status::from(refusal)),
+        }
+        match begun.go_on(alloc, asked, pieces.piece()) {
+            Ok(further) => begun = further,
+            Err(status) => return Err(refused_late(status, &mut pieces, input)),
+        }
+    }
+    begun.finish(alloc, asked)
 }
 
 /// The whole work that is asked for.
@@ -136,9 +215,9 @@ fn serve<S: Source, K: Sink>(alloc: Global, asked: Asked, input: &mut S, output:
     ensures read_faults_never_fall { S.fault_count input.old ≤ S.fault_count input.new }
     ensures write_faults_never_fall { K.fault_count output.old ≤ K.fault_count output.new }
 {
-    match read_text(alloc, input) {
-        Ok(text) => answer(alloc, asked, &text, output),
-        Err(refusal) => Status::from(refusal),
+    match work_on_input(alloc, asked, input) {
+        Ok(work) => write_work(output, &work),
+        Err(status) => status,
     }
 }
 

@@ -12,9 +12,6 @@ use crate::tables::put::proc;
 use std::alloc::Global;
 use vk_base::{List, Memory, NoMemory, Range};
 
-/// How many bytes are read at once.
-const PIECE: u32 = 2_000;
-
 /// Whether a range lies in a memory of this size.
 pub fn lies_in(start: u32, count: u32, size: u32) -> bool
     ensures { result ≡ lies_in (range_of start count) size }
@@ -22,32 +19,17 @@ pub fn lies_in(start: u32, count: u32, size: u32) -> bool
     u64::from(start) + u64::from(count) <= u64::from(size)
 }
 
-/// The bytes of a range, if it lies in the memory. They are copied in pieces of a size that an instruction counter takes
-/// for the few instructions that it is, and not for one a byte (`docs/SPEED.md`).
+/// The bytes of a range, if it lies in the memory.
 fn bytes_of(memory: &Memory, alloc: Global, start: u32, count: u32) -> Result<List<u8>, NoMemory>
     ensures { lies_in (range_of start count) (length memory.now) ≡ true →
         IfOk result (λ l. l ≡ bytes_in (range_of start count) memory.now) }
 {
-    if count == 0 {
-        return Ok(List::empty(alloc));
-    }
-    if !lies_in(start, count, memory.size()) {
+    if count == 0 || !lies_in(start, count, memory.size()) {
         return Ok(List::empty(alloc));
     }
     let mut bytes = Vec::with_capacity(alloc, count as usize)?;
-    'pieces: while bytes.len() < count as usize {
-        let done = bytes.len() as u32;
-        append(memory, &mut bytes, start + done, (count - done).min(PIECE))?;
-    }
-    Ok(List::new(bytes))
-}
-
-/// Appends what there is of a range of the memory.
-fn append(memory: &Memory, bytes: &mut Vec<u8>, start: u32, count: u32) -> Result<(), NoMemory>
-    ensures { OnOk result (bytes.new.items ≡ bytes.old.items ++ bytes_in (range_of start count) memory.now) }
-{
     bytes.extend_from_slice(memory.bytes(start, count))?;
-    Ok(())
+    Ok(List::new(bytes))
 }
 
 /// The bytes of a range of the memory of the process of this place, if it lies there.

@@ -1,22 +1,33 @@
 use Rattle.std.proofs.Common.{inr, refl}
-use Rattle.vk_top.proofs.Outcomes.{served_is, unread_counts, unread_is, unread_other}
+use Rattle.vk_top.proofs.Outcomes.{done_flushed, served_is, written_late}
+use Rattle.vk_top.proofs.PieceInputs.{refused_other, refused_outcome}
+use Rattle.vk_top.proofs.Told.{written_is}
 use Rattle.vk_top.specs.declared.status.Status.TheVariants as status
 use Rattle.vk_top.proofs.top.serve.Goals as goal
 
-pub returns-in-Ok-clause-outcome : goal.returns-in-Ok-clause-outcome
-returns-in-Ok-clause-outcome g c = served_is _ _ _ _ _ _ _ _ _ c.in-Ok.ensures.text c.deref.ensures.value c.answer.ensures.answered
+pub write_work-requires : goal.write_work-requires
+write_work-requires g c = c.in-Ok.ensures.work.work.late
 
-pub returns-in-Ok-clause-read_count : goal.returns-in-Ok-clause-read_count
-returns-in-Ok-clause-read_count g c = inr (c.answer.ensures.answered.kinds.1, c.in-Ok.ensures.cause)
+pub returns-in-Ok-clause-outcome : goal.returns-in-Ok-clause-outcome
+returns-in-Ok-clause-outcome g c =
+    let is = c.in-Ok.ensures.work in
+    served_is _ _ _ _ _ _ is.text is.text _ is.read refl
+    (written_is _ _ is.text _ _ _ _ is.read.small is.work c.write_work.ensures.written c.write_work.ensures.front)
+
+pub returns-in-Ok-clause-nothing : goal.returns-in-Ok-clause-nothing
+returns-in-Ok-clause-nothing g c = λ early.
+    absurd (written_late _ _ _ _ _ c.in-Ok.ensures.work.work.late c.write_work.ensures.written early)
+
+pub returns-in-Ok-clause-flushed : goal.returns-in-Ok-clause-flushed
+returns-in-Ok-clause-flushed g c = done_flushed _ _ c.write_work.ensures.flushed
 
 pub returns-in-Err-clause-outcome : goal.returns-in-Err-clause-outcome
-returns-in-Err-clause-outcome g c = unread_is _ _ _ _ _ c.in-Err.refusal _ c.from.ensures refl c.in-Err.ensures.refused
+returns-in-Err-clause-outcome g c = refused_outcome _ _ _ _ _ _ refl c.in-Err.ensures.refused
 
 pub returns-in-Err-clause-flushed : goal.returns-in-Err-clause-flushed
-returns-in-Err-clause-flushed g c = λ is. absurd (unread_other c.in-Err.refusal _ status.Done c.from.ensures tt is)
-
-pub returns-in-Err-clause-read_count : goal.returns-in-Err-clause-read_count
-returns-in-Err-clause-read_count g c = unread_counts c.in-Err.refusal _ _ _ c.from.ensures c.in-Err.ensures.cause
+returns-in-Err-clause-flushed g c = λ is.
+    absurd (refused_other _ _ _ _ status.Done (λ text none. none) tt c.in-Err.ensures.refused is)
 
 pub returns-in-Err-clause-write_count : goal.returns-in-Err-clause-write_count
-returns-in-Err-clause-write_count g c = inr (unread_other c.in-Err.refusal _ status.WriteFault c.from.ensures tt, refl)
+returns-in-Err-clause-write_count g c =
+    inr (refused_other _ _ _ _ status.WriteFault (λ text none. none) tt c.in-Err.ensures.refused, refl)

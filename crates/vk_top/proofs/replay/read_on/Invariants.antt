@@ -1,9 +1,0 @@
-use Rattle.std.proofs.Common.{◌≡◌, length}
-use Rattle.vk_top.specs.Playing.{without_events}
-use Rattle.vk_top.proofs.replay.read_on.Given as goal
-
-abbrev pub invariant-loop-event : goal.invariant-loop-event
-invariant-loop-event l = without_events l.reader ≡ without_events l.fn.reader
-
-abbrev pub decreases-loop-event : goal.decreases-loop-event
-decreases-loop-event l = length l.reader.schedule.events
