@@ -12,7 +12,8 @@
 //! What the words ask for is `specs/Words.antt`, what is written of a schedule `specs/Report.antt`, of a storm `specs/Storm.antt`, what is said
 //! of a trace `specs/Check.antt`, and of texts of stations `specs/Joins.antt`; what each status says of a text is `specs/Top.antt`, of all that
 //! the words ask for without a runtime `specs/Jobs.antt`, and of what runs in threads `specs/Threaded.antt`, of a run `specs/Runs.antt`, and of
-//! a node `specs/Nodes.antt`; the program of each task of a scenario is `src/program.rt`, `specs/Programs.antt`.
+//! a node `specs/Nodes.antt`; the program of each task of a scenario is `src/program.rt`, `specs/Programs.antt`. An input of `replay` or `check` is
+//! worked on piece by piece (`src/begun.rt`): a schedule is played (`src/playing.rt`), a trace checked (`src/checking.rt`).
 #![tactic(auto)]
 
 mod begun;
