@@ -1,6 +1,6 @@
 -- The tables of a station still fit after a rule of moves.
-use Rattle.std.proofs.Common.{◌≡◌, ◌≤◌, ◌<◌, ℕ, ◌+◌, Bool, true, false, cond, ◌&&◌, List, length, refl, ap, sym, ◌∙◌, subst, Option, Some, None}
-use Rattle.std.proofs.lemmas.Bool.{and_parts, leb-true}
+use Rattle.std.proofs.Common.{◌≡◌, ◌≤◌, ◌<◌, ℕ, true, ◌&&◌, List, length, refl, ap, sym, ◌∙◌, subst, Option, Some, None}
+use Rattle.std.proofs.lemmas.Bool.{and_parts}
 use Rattle.std.specs.Cmp.Derive.{both_true}
 use Rattle.vk_types.specs.Types.{Ending, MoveName, Outcome, Pid, Times, Waiting}
 use Rattle.vk_base.specs.declared.activity.Activity.TheVariants as activities
@@ -11,11 +11,11 @@ use Rattle.vk_base.specs.declared.answer.Refusal.TheVariants as refusals
 use Rattle.vk_base.specs.Firsts.{change_first}
 use Rattle.vk_base.specs.Kernel.{holds_of}
 use Rattle.vk_packet.specs.Rules.{is_number, is_place}
-use Rattle.vk_base.specs.Ranges.{range_of, lies_in, with_bytes}
-use Rattle.v_laws.proofs.Sizes.{length-with_bytes}
+use Rattle.vk_base.specs.Ranges.{range_of, lies_in}
 use Rattle.vk_procs.specs.declared.seat.ProcNote.{ProcNote}
 use Rattle.vk_procs.specs.declared.seat.Seat.{Seat}
-use Rattle.vk_procs.specs.Seats.{finished, is_seat, overwritten, seat_in, written}
+use Rattle.vk_procs.specs.Seats.{finished, is_seat, seat_in, written}
+use Rattle.vk_procs.proofs.Rooms.{length_overwritten}
 use Rattle.vk_stands.specs.Fit.{IsFitSeat, is_move_of, may_go_on, may_wait}
 use Rattle.vk_stands.proofs.Fits.{fit_seated}
 use Rattle.vk_stands.proofs.FitSeats.{not_blocked}
@@ -52,15 +52,6 @@ fit_noted host g s sends lookups low goes f = record {
   begun = λ target m is. subst (λ n. 0 < n) (sym sends) (f.begun target m is);
   asked = λ logical scope is. subst (λ n. 0 < n) (sym lookups) (f.asked logical scope is);
 }
-
--- bytes written change no size
-length_by : (b : Bool) (memory : List ℕ) (at : ℕ) (bytes : List ℕ) → lies_in (range_of at (length bytes)) (length memory) ≡ b →
-    length (cond b (with_bytes memory at bytes) memory) ≡ length memory
-length_by true memory at bytes t = length-with_bytes memory at bytes (leb-true (at + length bytes) (length memory) t)
-length_by false memory at bytes f = refl
-
-pub length_overwritten : (memory : List ℕ) (at : ℕ) (bytes : List ℕ) → length (overwritten at bytes memory) ≡ length memory
-length_overwritten memory at bytes = length_by (lies_in (range_of at (length bytes)) (length memory)) memory at bytes refl
 
 pub fit_written : (host at : ℕ) (bytes : List ℕ) (s : Seat) → IsFitSeat host s → IsFitSeat host (written at bytes s)
 fit_written host at bytes s f = record {

@@ -26,7 +26,7 @@ pub steady_reached : (from : Pid) (m : Message) (part : List ℕ) (s : Seat) →
 steady_reached from m part s = reached_steady (receive_in s.doing) from m part s
 
 steady_got : (what : Passed) (giver s : Seat) → IsSteady s (got what giver s)
-steady_got (gifts.Message m) giver s = steady_reached giver.pid m giver.part s
+steady_got (gifts.Message m) giver s = steady_reached giver.pid m giver.part.bytes s
 steady_got (gifts.Bytes src count dest) giver s = refl
 
 bereft_by : (s : Seat) (b : Bool) → IsSteady s (cond b (finished (outcomes.Refused refusals.NoProcess) s) s)

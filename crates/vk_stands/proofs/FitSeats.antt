@@ -11,7 +11,7 @@ use Rattle.vk_procs.specs.Seats.{finished}
 use Rattle.vk_stands.specs.Fit.{IsFitSeat, may_go_on, may_wait}
 
 -- one that waits in nothing, whatever it does and has in its memory
-pub fit_idle : (host : ℕ) (s y : Seat) → y.pid ≡ s.pid → y.note ≡ s.note → y.part ≡ s.part →
+pub fit_idle : (host : ℕ) (s y : Seat) → y.pid ≡ s.pid → y.note ≡ s.note → y.part.bytes ≡ s.part.bytes →
     ((w : Waiting) → y.doing ≡ activities.Blocked w → ⊥) → IsFitSeat host s → IsFitSeat host y
 fit_idle host s y pid note part idle h = record {
   own = ap (λ (p : Pid). p.host) pid ∙ h.own;

@@ -103,7 +103,7 @@ module _ (host : ℕ) (t : Tables) (k : Kernel) (part : Part host t k) (pid : Pi
     -- The tables then. The message is of a process of the station, which is noted to be taken.
     abbrev pub local_served : Seat → Tables
     local_served x = record t {
-      seats = change_first (is_seat pid) (reached x.pid x.shown x.part) (change_first (is_seat x.pid) marked_taken t.seats);
+      seats = change_first (is_seat pid) (reached x.pid x.shown x.part.bytes) (change_first (is_seat x.pid) marked_taken t.seats);
       lists = first_out t.lists at;
     }
 

@@ -101,7 +101,7 @@ module _ (k : Kernel) (pid : Pid) (tk : Taking) (is : taking k pid ≡ Some tk) 
 pub record TakenFrom (k : Kernel) (t : Tables) (pid : Pid) (tk : Taking) (x : Seat) : Type 0 where
   pub sender : tk.name.sender ≡ x.pid
   pub waits : x.doing ≡ activities.Blocked (waitings.Send tk.exchange.target tk.exchange.message)
-  pub part : tk.exchange.part ≡ x.part
+  pub part : tk.exchange.part ≡ x.part.bytes
   pub shown : tk.exchange.shown ≡ x.shown
 
 module _ (host : ℕ) (t : Tables) (k : Kernel) (part : Part host t k) (pid : Pid) (own : pid.host ≡ host) (s : Seat)

@@ -36,7 +36,7 @@ pub record IsSeatTicked (s y : Seat) : Type 0 where
   pub pid : y.pid ≡ s.pid
   pub alive : y.alive ≡ s.alive
   pub memory : y.memory ≡ s.memory
-  pub part : y.part ≡ s.part
+  pub part : y.part.bytes ≡ s.part.bytes
   pub spot : seat_spot y ≡ seat_spot s
   pub sends : y.note.sends ≡ s.note.sends
   pub lookups : y.note.lookups ≡ s.note.lookups

@@ -55,7 +55,7 @@ seats_changed pid f keeps seats q = elim (cases_Bool (same_pid q pid)) [
 -- What a process waits in stands in the new kernel too.
 pub record IsSameSeat (s y : Seat) : Type 0 where
   pub pid : y.pid ≡ s.pid
-  pub part : y.part ≡ s.part
+  pub part : y.part.bytes ≡ s.part.bytes
   pub sends : y.note.sends ≡ s.note.sends
   pub lookups : y.note.lookups ≡ s.note.lookups
   pub moving : y.note.moving ≡ s.note.moving

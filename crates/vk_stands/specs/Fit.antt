@@ -49,8 +49,8 @@ pub record IsFitSeat (host : ℕ) (s : Seat) : Type 0 where
   pub moves : (w : Waiting) → s.doing ≡ activities.Blocked w → may_go_on s.note w ≡ true
   pub done : s.note.done ≤ MOVE_BYTES
   -- its first part is that of the Send in which it waits
-  pub part : (target : Pid) (m : Message) → s.doing ≡ activities.Blocked (waitings.Send target m) → length s.part ≡ part_len m
-  pub few : length s.part ≤ SEGMENT_BYTES
+  pub part : (target : Pid) (m : Message) → s.doing ≡ activities.Blocked (waitings.Send target m) → length s.part.bytes ≡ part_len m
+  pub few : length s.part.bytes ≤ SEGMENT_BYTES
   -- of what it sent to another station, no frame tells that it was handed on
   pub away : (target : Pid) (m : Message) → s.doing ≡ activities.Blocked (waitings.Send target m) → same_host s.pid target ≡ false →
       s.at ≡ target

@@ -40,7 +40,7 @@ pub record IsSending (k : Kernel) (s : Seat) (target : Pid) (m : Message) : Type
   pub is : k.exchanges (name_of s.pid s.note.sends) ≡ Some exchange
   pub target_is : exchange.target ≡ target
   pub message_is : exchange.message ≡ m
-  pub part_is : exchange.part ≡ s.part
+  pub part_is : exchange.part ≡ s.part.bytes
   pub spot_is : spot_of exchange ≡ seat_spot s
   pub stage_is : same_host s.pid target ≡ true → exchange.stage ≡ (if s.note.taken then stages.Taken else stages.Queued)
   pub opened : exchange.opened ≡ s.note.opened

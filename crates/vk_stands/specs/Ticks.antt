@@ -27,7 +27,7 @@ use Rattle.vk_timer.specs.Works.{due_at, sent_again}
 
 -- The round of a work: the Send with its part, the data or the request of a move from where it is, or the question of a lookup.
 abbrev pub work_round : Seat → Waiting → List Packet
-work_round s (waitings.Send target m) = Send s.pid target s.note.sends m s.part ∷ []
+work_round s (waitings.Send target m) = Send s.pid target s.note.sends m s.part.bytes ∷ []
 work_round s (waitings.MoveTo partner dest src count) =
     option_map_or (data_packets s.pid partner s.memory dest src count s.note.offset) s.note.moving []
 work_round s (waitings.MoveFrom partner dest src count) =

@@ -1,5 +1,6 @@
-use Rattle.std.proofs.Common.{ap, sym}
+use Rattle.std.proofs.Common.{ap, subst, sym}
 use Rattle.vk_procs.specs.declared.seat.Seat.{Seat}
+use Rattle.vk_procs.specs.Kept.{HasRoom}
 use Rattle.vk_procs.proofs.Changes.{changed}
 use Rattle.vk_procs.proofs.Once.{kept_dated}
 use Rattle.vk_procs.proofs.procs.Procs.count_round.Goals as goal
@@ -7,7 +8,8 @@ use Rattle.vk_procs.proofs.procs.Procs.count_round.Goals as goal
 pub invariant_of-self : goal.invariant_of-self
 invariant_of-self c =
     kept_dated _ _ _ _ _ _ c.index_mut.result.now _ c.index_mut.ensures.value (ap (λ (s : Seat). s.pid) c.count_round-deadline.ensures.new)
-    (sym c.count_round-deadline.ensures.deadline) c.self.invariant c.tell.ensures
+    (sym c.count_round-deadline.ensures.deadline)
+    (subst HasRoom (sym c.count_round-deadline.ensures.new)) c.self.invariant c.tell.ensures
 
 pub returns-in-Some : goal.returns-in-Some
 returns-in-Some c =
