@@ -2,11 +2,11 @@
 use Rattle.std.proofs.Common.{◌≡◌, ℕ, ◌+◌, ◌-◌, ◌<◌, ◌≤◌, Result, Ok, Err, IfOk, length-take, length-drop, List, [], ◌++◌, length, take, drop, Option, ap, subst, ◌∙◌, arith, length-append}
 use Rattle.std.proofs.KnownBytes.{Consumes-nil, Consumes-trans}
 use Rattle.std.proofs.Math.Seq.{take-add}
-use Rattle.std.proofs.lemmas.List.{take_at, drop_at, take-append-le, length-take-le}
+use Rattle.std.proofs.lemmas.List.{take_at, drop_at, nil_from_length, take-append-le, length-take-le}
 use Rattle.std.specs.Io.{ReadsAtMost}
 use Rattle.std.specs.Io.KnownBytes.{ReadConsumes}
 use Rattle.vk_base.specs.declared.limits.TheConstants.{INPUT_BYTES}
-use Rattle.vk_edge.specs.Pieces.{IsReadBehind, IsReadOn, IsReadSince}
+use Rattle.vk_edge.specs.Pieces.{Gathered, IsFilled, IsReadBehind, IsReadOn, IsReadSince}
 
 -- what a read leaves of the filled bytes, and behind them
 pub read_in : (xs into rest : List ℕ) (filled n : ℕ) → filled ≤ length xs → n ≤ length into
@@ -36,6 +36,13 @@ pub since_more : (left mid rest : Option (List ℕ)) (cs : List ℕ) (before cou
     → from ≡ count → IsReadOn mid rest cs from now → IsReadSince left rest before now
 since_more left mid rest cs before count from now first same second =
     (first.0 ++ cs, on_more left mid rest first.0 cs before count now first.1 (subst (λ n. IsReadOn mid rest cs n now) same second))
+
+-- where nothing was kept and a read brings none, nothing is kept
+pub none_behind : (left rest : Option (List ℕ)) (old new : Gathered) (n : ℕ) → IsFilled left rest old new n → old.bytes ≡ [] → n ≡ 0 →
+    new.bytes ≡ []
+none_behind left rest old new n filled empty none =
+    filled.more.kept ∙ ap (λ bs. bs ++ filled.more.bytes) empty
+    ∙ nil_from_length filled.more.bytes (omega (arith, filled.step, filled.more.read.count, none))
 
 -- what stands in a vector once its whole slice was written
 pub vec_written : (xs ys : List ℕ) (n : ℕ) → length ys ≡ n → take n (ys ++ drop (length ys) xs) ≡ ys

@@ -213,13 +213,11 @@ impl Buffer {
         ensures cause { IfErr result (λ e. TellsFault (S.fault_count input.old) (S.fault_count input.new) (Err e)) }
         ensures never_falls { S.fault_count input.old ≤ S.fault_count input.new }
     {
-        let mut count = self.filled;
-        loop {
+        let mut count = self.count;
+        while count > 0 {
             count = self.fill(input)?;
-            if count == 0 {
-                return Ok(());
-            }
         }
+        Ok(())
     }
 
     /// Reads on to the end, and keeps nothing.
@@ -233,13 +231,11 @@ impl Buffer {
         ensures cause { IfErr result (λ e. TellsFault (S.fault_count input.old) (S.fault_count input.new) (Err e)) }
         ensures never_falls { S.fault_count input.old ≤ S.fault_count input.new }
     {
-        let _read = self.count;
-        loop {
+        let mut count = self.count;
+        while count > 0 {
             self.clear();
-            let count = self.fill(input)?;
-            if count == 0 {
-                return Ok(());
-            }
+            count = self.fill(input)?;
         }
+        Ok(())
     }
 }

@@ -1,17 +1,8 @@
-use Rattle.std.proofs.Common.{◌≤◌, [], refl, ◌∙◌, subst, arith}
+use Rattle.std.proofs.Common.{◌∙◌, arith}
 use Rattle.std.proofs.lemmas.Result.{err_from_is_err_and}
-use Rattle.vk_base.specs.declared.limits.TheConstants.{INPUT_BYTES}
-use Rattle.vk_edge.specs.Pieces.{Gathered}
-use Rattle.vk_edge.proofs.Gathering.{none_on, since_more}
+use Rattle.vk_edge.proofs.Gathering.{none_behind, since_more}
 use Rattle.vk_edge.proofs.PieceTexts.{unread_since}
 use Rattle.vk_edge.proofs.buffer.Buffer.skip_rest.Goals as goal
-
-pub loop-count-init : goal.loop-count-init
-loop-count-init g c = record {
-  more = ([], none_on _ _ (subst (λ (b : Gathered). b.count ≤ INPUT_BYTES) c.self.view_is c.self.invariant.few));
-  some = c.requires;
-  kept = refl;
-}
 
 pub returns-in_err-count-clause-refused : goal.returns-in_err-count-clause-refused
 returns-in_err-count-clause-refused g c =
@@ -22,9 +13,11 @@ returns-in_err-count-clause-refused g c =
 
 pub loop-count-preserved : goal.loop-count-preserved
 loop-count-preserved g c =
-    let next = c.in_ok-count.ensures.read.more in
+    let filled = c.in_ok-count.ensures.read in
     record {
-      more = since_more _ _ _ next.bytes _ _ _ _ c.loop-count.invariant.more c.clear.ensures.count next.read;
+      more = since_more _ _ _ filled.more.bytes _ _ _ _ c.loop-count.invariant.more c.clear.ensures.count filled.more.read;
       some = omega (arith, c.loop-count.invariant.some, c.clear.ensures.count, c.in_ok-count.ensures.grows);
       kept = c.in_ok-count.ensures.kept ∙ c.loop-count.invariant.kept;
+      at_end = filled.at_end;
+      none = λ over. none_behind _ _ _ _ _ filled c.clear.ensures.bytes over;
     }
