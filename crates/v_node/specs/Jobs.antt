@@ -98,7 +98,8 @@ pub record NodeEnd : Type 0 where
 abbrev pub passages_in : NodeEnd → List Passage
 passages_in n = passages_of n.programs ++ n.clock.passage ∷ []
 
--- They ended so. No process is run twice, there are no more than a configuration may have processes, and the hub waits for one more to finish.
+-- They ended so. No process is run twice, there are no more than a configuration may have processes, and the hub waits for one more to
+-- finish.
 pub record AreNodeJobs (c : Settings) (host : ℕ) (o : HubLog) (rounds : ℕ) (n : NodeEnd) : Type 0 where
   pub programs : Each (IsProgramEnd c) n.programs
   pub clock : IsClockEnd c rounds n.clock

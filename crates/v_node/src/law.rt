@@ -15,10 +15,10 @@ pub fn frames_go_to_others()
     views_and_aliens_hold_anyhow();
 }
 
-/// Whatever the jobs of a node did by their seats, each in its role: where all seats have come back, the events of its station are the run of
-/// a node. Each program's process follows its task, no collect is answered that it comes too early, and what is delivered are datagrams that
-/// the link was handed and kept, in order. A node that was not limited ticks once a round and delivers all of them; one that was ticks no more
-/// often and delivers the first of them, and it was limited only where the station is full or its frames are many.
+/// Whatever the jobs of a node did by their seats, each in its role: where all seats have come back, the events of its station are the run
+/// of a node. Each program's process follows its task, no collect is answered that it comes too early, and what is delivered are datagrams
+/// that the link was handed and kept, in order. A node that was not limited ticks once a round and delivers all of them; one that was ticks
+/// no more often and delivers the first of them, and it was limited only where the station is full or its frames are many.
 pub fn closed_nodes_are_runs()
     ensures { ClosedNodesAreRuns }
 {

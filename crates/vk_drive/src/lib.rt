@@ -3,7 +3,8 @@
 //!
 //! Stands on the stations of `vk_cluster`, the page programs of `vk_pages` and the generator of `vk_generator`. What a storm is stands in
 //! `specs/Storms.antt`, its processes in `specs/Tasks.antt`, what is read off a history in `specs/Told.antt`; what the code keeps of a
-//! storm under way is `specs/Driving.antt`. Of the events nothing is kept but what the stations keep of them, where their schedule is not asked for.
+//! storm under way is `specs/Driving.antt`. Of the events nothing is kept but what the stations keep of them, where their schedule is not
+//! asked for.
 #![tactic(auto)]
 
 mod actor;

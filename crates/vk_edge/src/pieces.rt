@@ -90,7 +90,8 @@ impl TextPieces {
     pub fn read_rest<S: Source>(&mut self, input: &mut S) -> Result<(), ReadRefusal>
         requires { self.old.is_last ≡ false }
         ensures last { OnOk result (self.new.is_last ≡ true) }
-        ensures piece { OnOk result (IsNextPiece (S.left input.old) (S.left input.new) (self.old.piece ++ self.old.behind) self.old.count self.new) }
+        ensures piece { OnOk result (IsNextPiece (S.left input.old) (S.left input.new)
+            (self.old.piece ++ self.old.behind) self.old.count self.new) }
         ensures refused { IfErr result (IsUnreadBehind self.old.count (S.left input.old) (S.left input.new)) }
         ensures kept { OnOk result (S.fault_count input.new ≡ S.fault_count input.old) }
         ensures cause { IfErr result (λ e. TellsFault (S.fault_count input.old) (S.fault_count input.new) (Err e)) }

@@ -32,7 +32,8 @@ IsRead c opening n before line text logs (Err e) =
 
 -- what the texts tell, where these logs are whole, this is due and no line is left; or why they are refused
 abbrev pub IsEnd : ℕ → List StationLog → Due → Result (List StationLog) TextRefusal → Type 0
-IsEnd n logs due (Ok whole) = (c : Settings) (text : List ℕ) → all_read c n (reading_by text logs due) ≡ Ok (record { config = c; logs = whole })
+IsEnd n logs due (Ok whole) = (c : Settings) (text : List ℕ) →
+    all_read c n (reading_by text logs due) ≡ Ok (record { config = c; logs = whole })
 IsEnd n logs due (Err e) =
     (c : Settings) (text : List ℕ) → IsOfStation c due →
     ((e ≡ refusals.NoMemory) × (0 < length c.specs)) ⊎ (all_read c n (reading_by text logs due) ≡ Err e)

@@ -91,7 +91,8 @@ file_server_of ws =
 
 -- `SERVER I`
 unfoldable pub loader_of : List (List ℕ) → Option TaskKind
-loader_of ws = first_as pid_of ws >>= λ (server, ws). first_as (number_of (FILES - 1)) ws >>= λ (file, ws). ended ws (kinds.Loader server file)
+loader_of ws = first_as pid_of ws >>= λ (server, ws). first_as (number_of (FILES - 1)) ws
+    >>= λ (file, ws). ended ws (kinds.Loader server file)
 
 -- `REQUESTS`
 unfoldable pub pipe_server_of : List (List ℕ) → Option TaskKind

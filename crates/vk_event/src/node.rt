@@ -91,8 +91,8 @@ fn read_logs(
 }
 
 /// The configuration and the logs that texts of stations tell, which stand one directly behind the other. Each begins with a line
-/// `vkernel node 1`, a line `times TRIES INTERVAL LIFE`, `process` lines and `pool` lines, as a schedule of format 2 behind its title; all of
-/// them begin alike. Then come a line `station H`, of a station that has no other text, and lines `call PID CALLTEXT`, `collect PID`,
+/// `vkernel node 1`, a line `times TRIES INTERVAL LIFE`, `process` lines and `pool` lines, as a schedule of format 2 behind its title; all
+/// of them begin alike. Then come a line `station H`, of a station that has no other text, and lines `call PID CALLTEXT`, `collect PID`,
 /// `tick` and `frame F`, where F is the hexadecimal of a frame of 33 to 1,152 bytes, and the process is one of that station.
 ///
 /// # Errors

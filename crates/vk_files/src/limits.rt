@@ -1,7 +1,7 @@
 //! The limits of files. docs/RULES.md has them in a table.
 //!
-//! Two of them stand in `vk_event` too, since this crate stands on no scenario: what a scenario may ask for is bounded by the `FILES` there,
-//! and what memory it gives is the `IMAGE_BYTES`, the same number as [`FILE_BYTES`].
+//! Two of them stand in `vk_event` too, since this crate stands on no scenario: what a scenario may ask for is bounded by the `FILES`
+//! there, and what memory it gives is the `IMAGE_BYTES`, the same number as [`FILE_BYTES`].
 
 /// Bytes of a block of a disk, and of a page of a file.
 pub const BLOCK_BYTES: usize = 512;

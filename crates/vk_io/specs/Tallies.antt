@@ -30,8 +30,8 @@ abbrev pub after_interruptions : Tally → ℕ → Tally
 after_interruptions t zero = t
 after_interruptions t (suc k) = after_interruption (after_interruptions t k)
 
--- A call that is made again as long as it is interrupted, up to 64 times in all. Ok: the last call did what it is for, and those before it were
--- interrupted. Failed: the last call met a fault, the first one that did, or 64 were interrupted.
+-- A call that is made again as long as it is interrupted, up to 64 times in all. Ok: the last call did what it is for, and those before it
+-- were interrupted. Failed: the last call met a fault, the first one that did, or 64 were interrupted.
 abbrev pub IsRetried : {T : Type 0} → (before after : Tally) → Result T Failed → Type 0
 IsRetried before after (Ok x) = (k : ℕ) × (k < 64) × (after ≡ after_done (after_interruptions before k))
 IsRetried before after (Err e) =

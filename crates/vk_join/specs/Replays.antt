@@ -45,7 +45,8 @@ pub record HasReplayed (c : Settings) (all logs : List StationLog) (r : Replay) 
   pub most : byte_count c logs ≤ MOST_BYTES
 
 -- The event of this log is the next that is played: it stands at this position, and all before it were played.
-pub record IsNextPlayed (c : Settings) (all : List StationLog) (p : Position) (l : StationLog) (e : StationEvent) (r : Replay) : Type 0 where
+pub record IsNextPlayed (c : Settings) (all : List StationLog) (p : Position) (l : StationLog) (e : StationEvent)
+    (r : Replay) : Type 0 where
   pub given : AreGiven c all
   pub few : event_count all ≤ EVENTS
   pub found : slice_get all p.log ≡ Some l

@@ -160,8 +160,8 @@ transfer_begun t now pid x seats slots =
     transfer_by t now pid x (verdict_in seats slots pid x.partner x.way x.dest x.src x.count) seats slots
 
 abbrev pub move_begun : Times → ℕ → Pid → Call → List Seat → List (Option Alien) → Begun
-move_begun t now pid (calls.MoveTo partner dest src count) seats slots = begun_by_fields t now pid directions.To partner dest src count seats
-    slots
+move_begun t now pid (calls.MoveTo partner dest src count) seats slots =
+    begun_by_fields t now pid directions.To partner dest src count seats slots
 move_begun t now pid (calls.MoveFrom partner dest src count) seats slots =
     begun_by_fields t now pid directions.From partner dest src count seats slots
 move_begun t now pid c seats slots = record { answer = None; seats = seats; slots = slots; packets = [] }

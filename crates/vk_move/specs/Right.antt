@@ -54,7 +54,8 @@ IsSenderRule times now (MoveRequest from to number moving src total offset) seat
 IsSenderRule times now p seats = Unit {0}
 
 -- What comes of a packet: the processes, steps and packets that its rule makes, which fit as before, and that it is right.
-pub record IsPacketTaken (times : Times) (now : ℕ) (p : Packet) (old new : List Seat) (before after : List Step) (sent out : Posts) : Type 0 where
+pub record IsPacketTaken (times : Times) (now : ℕ) (p : Packet) (old new : List Seat) (before after : List Step)
+    (sent out : Posts) : Type 0 where
   pub seats : new ≡ (packet_taken times now p old).seats
   pub steps : after ≡ before ++ (packet_taken times now p old).steps
   pub packets : out ≡ posted sent (packet_taken times now p old).packets

@@ -106,7 +106,8 @@ impl<'a> Access<'a> {
     fn fetch<R: Wait>(&mut self, rt: &R, alloc: Global, heard: &mut HubOut) -> Result<Arrival, Room>
         ensures fetched { IfOk result (λ a. fetched_as a heard.new.delivery ≢ fetched.Nothing →
             HasFetchedFrame self.old self.new (fetched_as a heard.new.delivery)) }
-        ensures nothing { IfOk result (λ a. fetched_as a heard.new.delivery ≡ fetched.Nothing → HasPumped self.old self.new pumped.Nothing) }
+        ensures nothing { IfOk result (λ a. fetched_as a heard.new.delivery ≡ fetched.Nothing →
+            HasPumped self.old self.new pumped.Nothing) }
         ensures err { IfErr result (λ why. Does self.old self.new [] × IsMet self.new why (AtHub (hub_events.Fetch self.old.host))) }
     {
         self.hub

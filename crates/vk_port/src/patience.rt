@@ -25,10 +25,10 @@ const FIRST_SLEEP: u32 = 50;
 const DOUBLINGS: u32 = 16;
 
 /// How a thread waits that found nothing to do. Its first eight waits behind one another, and all others within 100 microseconds, let other
-/// threads have its processor, for two microseconds where nobody wants it: so who waits looks seldom, and those that have something to do get
-/// their turns. Each further wait is a sleep: the first of 50 microseconds, and each twice as long as that before it, up to a longest one. So
-/// who waits a short time hears soon, and who waits long takes little of the processor. A sleeper, for which nobody waits, sleeps from its
-/// first wait on. Contracts see how many waits there were behind one another; how long they take no contract says.
+/// threads have its processor, for two microseconds where nobody wants it: so who waits looks seldom, and those that have something to do
+/// get their turns. Each further wait is a sleep: the first of 50 microseconds, and each twice as long as that before it, up to a longest
+/// one. So who waits a short time hears soon, and who waits long takes little of the processor. A sleeper, for which nobody waits, sleeps
+/// from its first wait on. Contracts see how many waits there were behind one another; how long they take no contract says.
 #[derive(Drop)]
 pub struct Patience {
     longest: u32,

@@ -56,8 +56,8 @@ pub enum Pumped {
     Stopped,
 }
 
-/// One caller's access to a station and to the links, by a seat at each, and the places for what events give there. Contracts see the station's
-/// number, its cell and the hub, the seats, and whether it may tick.
+/// One caller's access to a station and to the links, by a seat at each, and the places for what events give there. Contracts see the
+/// station's number, its cell and the hub, the seats, and whether it may tick.
 #[derive(Drop)]
 pub struct Port<'a> {
     access: Access<'a>,

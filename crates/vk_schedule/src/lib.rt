@@ -1,4 +1,5 @@
-//! Schedules: the events of a run, and the text that gives a configuration and its events; and the plan of what becomes of frames on the way.
+//! Schedules: the events of a run, and the text that gives a configuration and its events; and the plan of what becomes of frames on the
+//! way.
 //!
 //! A schedule is a configuration and a list of events (`specs/Schedule.antt`); which of them have a text is `specs/Lawful.antt`, how it is
 //! spelled `specs/Spelling.antt`. An event more is a variant of [`Event`], a line in `src/line.rt` and one in `src/view.rt`.

@@ -116,8 +116,8 @@ impl Model for ScheduleWriter {
 }
 
 impl ScheduleWriter {
-    /// What stands before the first event: in format 1 exactly where the times are 5, 4 and 8 and each pool is 16, in format 2 with the pools
-    /// that are not 16.
+    /// What stands before the first event: in format 1 exactly where the times are 5, 4 and 8 and each pool is 16, in format 2 with the
+    /// pools that are not 16.
     ///
     /// # Errors
     ///

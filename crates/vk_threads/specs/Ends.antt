@@ -72,7 +72,8 @@ FinishesOrWaits o g =
     (g.last ≡ hub_events.Finished ∷ []) ⊎ (length (calls_by g.actions) ≡ length (answers_by o g.actions) + 1)
 
 -- A process's job with this port and task may hand back these seats with this Room.
-pub record EndsProcess (p : PortValue) (pid : Pid) (task : List Answer → Option Call) (seats : List Seats) (met : Option Room) : Type 0 where
+pub record EndsProcess (p : PortValue) (pid : Pid) (task : List Answer → Option Call) (seats : List Seats)
+    (met : Option Room) : Type 0 where
   pub may : MayEnd (p ∷ []) (Runs pid task ∷ []) 0 seats met
   pub waits : met ≡ None → Each (FinishesOrWaits p.station.origin) may.passages
 

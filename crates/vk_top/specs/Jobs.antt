@@ -120,7 +120,8 @@ pub record IsAloneAnswer (Unread Unwritten : Type 0) (words : List Text) (left r
   pub stray : (host event : ℕ) → s ≡ status.Stray host event → Asks words left (λ j i. IsJobStrayAt j i host event)
   -- Limit comes only where the input has too many bytes, or too many events or noted bytes before any line or step that is refused, or
   -- where before an event of a storm, or by the stations of which texts tell, too many bytes were emitted, and then nothing is written; or
-  -- where before an event of a schedule too many bytes were emitted, and then the events before it are written, of which the steps are a run.
+  -- where before an event of a schedule too many bytes were emitted, and then the events before it are written, of which the steps are a
+  -- run.
   pub limit : s ≡ status.Limit → Asks words left (λ j i. (IsJobOverLimit j i × Unwritten) ⊎ IsJobCutShort j i old new)
   -- Where something is asked of a text, a byte too many was read then, and nothing is written, or the input was read to its end.
   pub limit_whole : (a : Asked) → job_of words ≡ Some (jobs.OfText a) → s ≡ status.Limit →

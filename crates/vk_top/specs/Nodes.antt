@@ -34,10 +34,10 @@ pub record Passed : Type 0 where
   pub handed : Option (List (List ℕ))
   pub jobs : ℕ
 
--- The input is the text of a scenario for this station. The station's run, which was limited or not, came to these events: its processes did
--- what their tasks say and no others did anything, its clock ticked, and what was delivered are datagrams that the wire's links handed out,
--- in order. The crew's count of jobs rose by as many as one call of it has for the station, up to its last value. The node text reads as
--- these events again.
+-- The input is the text of a scenario for this station. The station's run, which was limited or not, came to these events: its processes
+-- did what their tasks say and no others did anything, its clock ticked, and what was delivered are datagrams that the wire's links handed
+-- out, in order. The crew's count of jobs rose by as many as one call of it has for the station, up to its last value. The node text reads
+-- as these events again.
 pub record HasNodeRun (host : ℕ) (before now : Passed) (limited : Bool) (input : List ℕ) (scenario : Scenario) (events : List StationEvent)
     : Type 0 where
   pub small : length input ≤ INPUT_BYTES

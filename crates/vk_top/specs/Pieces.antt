@@ -28,8 +28,8 @@ schedule_with c es = record { config = c; events = es }
 abbrev pub followed : Front → List Event → Front
 followed f later = record f { schedule = record f.schedule { events = f.schedule.events ++ later } }
 
--- how the first so many events of a schedule were played: all were had; or one of the schedule's is refused, and its text is there; or memory
--- was wanting
+-- how the first so many events of a schedule were played: all were had; or one of the schedule's is refused, and its text is there; or
+-- memory was wanting
 abbrev pub IsWay : Form → Way → Schedule → ℕ → ClusterValue → Counts → Text → Type 0
 IsWay form ways.On s n now counts text = HasPlayed form s n now counts (shown text)
 IsWay form ways.Cut s n now counts text = (is_cut s ≡ true) × (shown text ≡ written_text form s)
@@ -38,7 +38,8 @@ IsWay form ways.WantsMemory s n now counts text = Unit {0}
 -- these events were played so, whatever comes behind them
 abbrev pub GoesWay : Form → Way → Settings → List Event → Played → Type 0
 GoesWay form way c es p =
-    (later : List Event) → length (es ++ later) ≤ EVENTS → IsWay form way (schedule_with c (es ++ later)) (length es) p.cluster p.counts p.text
+    (later : List Event) → length (es ++ later) ≤ EVENTS →
+    IsWay form way (schedule_with c (es ++ later)) (length es) p.cluster p.counts p.text
 
 -- these events were read, and so they were played
 pub record ArePlayed (form : Form) (way : Way) (c : Settings) (es : List Event) (p : Played) : Type 0 where

@@ -1,4 +1,5 @@
--- What `run` answers and writes: the input is a scenario, its stations are run beside each other, and the schedule of what happened is written.
+-- What `run` answers and writes: the input is a scenario, its stations are run beside each other, and the schedule of what happened is
+-- written.
 use Rattle.std.specs.Prelude.{ℕ, ◌≡◌, ◌+◌, ◌-◌, ◌^◌, ◌≤◌, min, Bool, List, length, Option, Ok}
 use Rattle.vk_base.specs.declared.limits.TheConstants.{INPUT_BYTES}
 use Rattle.vk_base.specs.Settings.{stations_of}
@@ -16,9 +17,9 @@ use Rattle.vk_top.specs.Threaded.{IsThreadedAnswer, LeavesCrew, scenario_status}
 abbrev pub jobs_of : Scenario → ℕ
 jobs_of s = length s.tasks + length (stations_of s.config.specs) + 1
 
--- The input is the text of a scenario. Its run, which was limited or not, gave this schedule: what it did is as a run does, and its steps are
--- a run of the one-machine kernel, with exactly the observations of the processes. The crew's count of jobs rose
--- by as many as one call of it has for the scenario, up to its last value. The text of the schedule reads as it again.
+-- The input is the text of a scenario. Its run, which was limited or not, gave this schedule: what it did is as a run does, and its steps
+-- are a run of the one-machine kernel, with exactly the observations of the processes. The crew's count of jobs rose by as many as one call
+-- of it has for the scenario, up to its last value. The text of the schedule reads as it again.
 pub record HasRun (limited : Bool) (input : List ℕ) (before now : ℕ) (schedule : Schedule) : Type 0 where
   pub small : length input ≤ INPUT_BYTES
   pub scenario : Scenario
@@ -49,8 +50,8 @@ abbrev pub IsRunFailure : (before now : ℕ) → Status → List ℕ → Type 0
 IsRunFailure before now s input = LeavesCrew NeedsRun ⊥ before now s input
 
 -- What the answer to the words of `run` says. `Unread`, `Unwritten` and `Unasked` are that input, output and crew are as they were; of the
--- input these bytes were left, and are; the crew had run so many jobs before, and now; to the output those bytes were written, and are. There
--- is no link.
+-- input these bytes were left, and are; the crew had run so many jobs before, and now; to the output those bytes were written, and are.
+-- There is no link.
 abbrev pub IsRunAnswer : (Unread Unwritten Unasked : Type 0) → (left rest : Option (List ℕ)) → (before now : ℕ) →
     (old new : Option (List ℕ)) → Status → Type 0
 IsRunAnswer Unread Unwritten Unasked left rest before now old new s =

@@ -65,9 +65,9 @@ IsFailure s = ⊥
 abbrev pub counted : (before jobs : ℕ) → ℕ
 counted before jobs = min (before + jobs) (2 ^ 64 - 1)
 
--- The crew counted so many jobs before, and now. `Needs input jobs` is that the input is the text of a scenario, for whose run a crew has so
--- many; `Linked` that the run has a link. Crew and link fail only behind such a text. Where the crew failed, no jobs were counted; the link
--- may fail, and memory be wanting, before the crew's call or behind it.
+-- The crew counted so many jobs before, and now. `Needs input jobs` is that the input is the text of a scenario, for whose run a crew has
+-- so many; `Linked` that the run has a link. Crew and link fail only behind such a text. Where the crew failed, no jobs were counted; the
+-- link may fail, and memory be wanting, before the crew's call or behind it.
 abbrev pub LeavesCrew : (Needs : List ℕ → ℕ → Type 0) (Linked : Type 0) (before now : ℕ) → Status → List ℕ → Type 0
 LeavesCrew Needs Linked before now status.CrewFault input = (jobs : ℕ) × Needs input jobs × (now ≡ before)
 LeavesCrew Needs Linked before now status.LinkFault input =
@@ -107,7 +107,8 @@ pub record IsThreadedAnswer (Tells : Bool → List ℕ → List ℕ → Type 0) 
 -- Of the code alone from here on.
 
 -- what is written of a scenario, and the answer then
-pub record IsThreadedWork (Tells : Bool → List ℕ → List ℕ → Type 0) (asked : Bool → List ℕ → Status) (text : List ℕ) (w : Work) : Type 0 where
+pub record IsThreadedWork (Tells : Bool → List ℕ → List ℕ → Type 0) (asked : Bool → List ℕ → Status) (text : List ℕ)
+    (w : Work) : Type 0 where
   pub limited : Bool
   pub tells : Tells limited text w.text.items
   pub status : w.status ≡ ended limited

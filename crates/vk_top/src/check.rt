@@ -51,8 +51,8 @@ fn apply(
     machine.advance(alloc, &step.view())
 }
 
-/// Applies the steps that are left in the reader behind so many that were read before, in turn, up to the first that decides. All checks have
-/// this one loop, since a reader's next step costs a call each where more loops ask for it.
+/// Applies the steps that are left in the reader behind so many that were read before, in turn, up to the first that decides. All checks
+/// have this one loop, since a reader's next step costs a call each where more loops ask for it.
 #[inline(never)]
 pub(crate) fn apply_steps(
     alloc: Global,

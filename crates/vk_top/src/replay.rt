@@ -149,7 +149,8 @@ fn put_report(
     told: Told,
 ) -> Result<(), NoMemory>
     requires few { AreFew counts.old }
-    requires advanced { (c : Settings) × (es : List TheEvent) × (e : TheEvent) × HasAdvanced c es cluster.now e (advanced told.host told.response.now told.place)
+    requires advanced { (c : Settings) × (es : List TheEvent) × (e : TheEvent)
+        × HasAdvanced c es cluster.now e (advanced told.host told.response.now told.place)
         × IfSome manner.line (λ line. IsOwnLine line.now e) }
     ensures { OnOk result ((c : Settings) (es : List TheEvent) (e : TheEvent) →
         HasAdvanced c es cluster.now e (advanced told.entry.host told.entry.response.now told.entry.place) →
@@ -207,7 +208,8 @@ fn put_played(
     told: Told,
 ) -> Result<(), NoMemory>
     requires few { AreFew counts.old }
-    requires advanced { (c : Settings) × (es : List TheEvent) × (e : TheEvent) × HasAdvanced c es cluster.now e (advanced told.host told.response.now told.place)
+    requires advanced { (c : Settings) × (es : List TheEvent) × (e : TheEvent)
+        × HasAdvanced c es cluster.now e (advanced told.host told.response.now told.place)
         × IfSome manner.line (λ line. IsOwnLine line.now e) }
     ensures lines { OnOk result ((c : Settings) (es : List TheEvent) (e : TheEvent) →
         HasAdvanced c es cluster.now e (advanced told.entry.host told.entry.response.now told.entry.place) →

@@ -243,16 +243,17 @@ fn storm<K: Sink>(alloc: Global, n: u32, output: &mut K) -> Status
     }
 }
 
-/// The whole work that the words ask for, where it waits for nobody; no answer for the words of `run` and of `node H`, of which nothing is read
-/// or written here. `replay` reads a schedule and writes its report, `replay --trace` the trace of its steps. `check` reads a trace and writes
-/// `yes STEPS` where its steps are a run of the one-machine kernel, else `no STEP` with the first that is not allowed. `join` reads texts of
-/// single stations, one behind the other, and writes the schedule of what happened at all of them; `Stray` comes where a station took a frame
-/// that no other sent to it. `storm N` reads nothing and writes the summary of the storm of this number. The words come first, then the input
-/// is read to its end, by `replay` and `check` piece by piece, each of which is worked on before the next is read, and only behind the last is
-/// anything written. `Limit` comes for more than 16,777,216 bytes, for more than 100,000 events before any line that is bad, where `check`
-/// finds that more than 268,435,456 bytes would be noted for remote moves by steps that are allowed, where the stations of `join` emitted more
-/// than 268,435,456 bytes, and at an event of `replay` or of a storm before which the emitted frames hold more than 266,076,160 bytes: then
-/// what `replay` writes ends before that event, and of the others nothing is written. After the output it is flushed once.
+/// The whole work that the words ask for, where it waits for nobody; no answer for the words of `run` and of `node H`, of which nothing is
+/// read or written here. `replay` reads a schedule and writes its report, `replay --trace` the trace of its steps. `check` reads a trace
+/// and writes `yes STEPS` where its steps are a run of the one-machine kernel, else `no STEP` with the first that is not allowed. `join`
+/// reads texts of single stations, one behind the other, and writes the schedule of what happened at all of them; `Stray` comes where a
+/// station took a frame that no other sent to it. `storm N` reads nothing and writes the summary of the storm of this number. The words
+/// come first, then the input is read to its end, by `replay` and `check` piece by piece, each of which is worked on before the next is
+/// read, and only behind the last is anything written. `Limit` comes for more than 16,777,216 bytes, for more than 100,000 events before
+/// any line that is bad, where `check` finds that more than 268,435,456 bytes would be noted for remote moves by steps that are allowed,
+/// where the stations of `join` emitted more than 268,435,456 bytes, and at an event of `replay` or of a storm before which the emitted
+/// frames hold more than 266,076,160 bytes: then what `replay` writes ends before that event, and of the others nothing is written. After
+/// the output it is flushed once.
 ///
 /// Where the source does not tell what is left, the clauses speak of some input that it may have had.
 pub fn vkernel_alone<S: Source, K: Sink>(

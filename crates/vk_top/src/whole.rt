@@ -21,18 +21,18 @@ use vk_base::NoMemory;
 use vk_io::{Crew, Pacer, Sink, Source};
 use vk_udp::Wire;
 
-/// The whole work that the words ask for. For all words but those of `run` and `node H` it is that of [`vkernel_alone`], and crew, pacer and
-/// wire are not asked. `run` reads a scenario, runs its stations beside each other, each process and each station's pump in a job of its own
-/// and the clock in one more, and writes the schedule of what happened, which `replay` reads. `node H` reads a scenario that has the station
-/// H and a port of each station, runs the programs of its station H, and by the wire sends frames to the ports of the others and takes those
-/// that come at its own; it writes what happened there, a node text, which `join` reads. The input is read to its end, then its text is
-/// read, then the jobs run, and only then is anything written; after it is flushed once. `Limit` comes for more than 16,777,216 bytes, and
-/// then nothing is written; or where a limit of events, emitted bytes or frames ended the run, and then all that happened is written.
-/// `CrewFault` comes where the crew failed, `LinkFault` where the wire or its link did. The pacer waits between the ticks of the stations'
-/// clocks.
+/// The whole work that the words ask for. For all words but those of `run` and `node H` it is that of [`vkernel_alone`], and crew, pacer
+/// and wire are not asked. `run` reads a scenario, runs its stations beside each other, each process and each station's pump in a job of
+/// its own and the clock in one more, and writes the schedule of what happened, which `replay` reads. `node H` reads a scenario that has
+/// the station H and a port of each station, runs the programs of its station H, and by the wire sends frames to the ports of the others
+/// and takes those that come at its own; it writes what happened there, a node text, which `join` reads. The input is read to its end, then
+/// its text is read, then the jobs run, and only then is anything written; after it is flushed once. `Limit` comes for more than 16,777,216
+/// bytes, and then nothing is written; or where a limit of events, emitted bytes or frames ended the run, and then all that happened is
+/// written. `CrewFault` comes where the crew failed, `LinkFault` where the wire or its link did. The pacer waits between the ticks of the
+/// stations' clocks.
 ///
-/// `run` and `node H` may wait for their jobs. Where the source does not tell what is left, the clauses speak of some input that it may have
-/// had.
+/// `run` and `node H` may wait for their jobs. Where the source does not tell what is left, the clauses speak of some input that it may
+/// have had.
 pub fn vkernel<
     S: Source,
     K: Sink,

@@ -39,7 +39,8 @@ pub record IsNodePort (cell : Cell StationHistory) (hub : Cell HubLog) (host : �
   pub may : p.ticks ≡ ticks
 
 -- The job of this process with its program.
-pub record IsProcessJob {G P L : Type 0} (cell : Cell StationHistory) (hub : Cell HubLog) (host : ℕ) (a : Assigned G) (w : NodeWork G P L) : Type
+pub record IsProcessJob {G P L : Type 0} (cell : Cell StationHistory) (hub : Cell HubLog) (host : ℕ) (a : Assigned G)
+    (w : NodeWork G P L) : Type
     0 where
   pub duty : ProcessDuty G
   pub is : w ≡ works.Process duty
@@ -53,7 +54,8 @@ AreProcesses cell hub host (a ∷ all) (w ∷ ws) = IsProcessJob cell hub host a
 AreProcesses cell hub host all ws = ⊥
 
 -- THE JOBS OF A NODE: one for each program, the clock, and what carries frames.
-pub record AreNodeDealt {G P L : Type 0} (cell : Cell StationHistory) (hub : Cell HubLog) (host : ℕ) (programs : List (Assigned G)) (rounds : ℕ)
+pub record AreNodeDealt {G P L : Type 0} (cell : Cell StationHistory) (hub : Cell HubLog) (host : ℕ) (programs : List (Assigned G))
+    (rounds : ℕ)
     (ports : List StationPort) (carrier : Sitting HubLog HubEvent) (link : L) (jobs : List (NodeWork G P L)) : Type 0 where
   pub first : List (NodeWork G P L)
   pub clock : ClockDuty

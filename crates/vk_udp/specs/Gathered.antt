@@ -27,7 +27,8 @@ abbrev pub site_of : ℕ → Cell StationHistory → Site
 site_of host cell = record { host = host; cell = cell }
 
 -- Once all seats have come back, the hub has this history, and the station this log.
-pub record HasClosedNode (host : ℕ) (cell : Cell StationHistory) (hub : Cell HubLog) (all : List End) (fetches halt : Sitting HubLog HubEvent)
+pub record HasClosedNode (host : ℕ) (cell : Cell StationHistory) (hub : Cell HubLog) (all : List End)
+    (fetches halt : Sitting HubLog HubEvent)
     (log : StationLog) : Type 0 where
   pub heard : List (ℕ × HubEvent)
   pub back : HaveComeBack hub.seats (hub_seats_of all fetches halt) heard

@@ -34,8 +34,8 @@ pub record EndsClock (p : PortValue) (rounds : ℕ) (back : List Seats) (why : O
   pub halted : has_halt seat.hub_seat.seen ≡ true
 
 -- What carries frames may come to this end: the link handed out these datagrams, and met a fault exactly where the job says so. Round after
--- round the job asked for the stations of its ports, and the link was given to send, in order, each frame that was answered, for its station's
--- port, and nothing else. It ended where it heard that the hub had ended; else the hub is halted.
+-- round the job asked for the stations of its ports, and the link was given to send, in order, each frame that was answered, for its
+-- station's port, and nothing else. It ended where it heard that the hub had ended; else the hub is halted.
 pub record EndsCarrier {L : Type 0} (handed : L → Option (List Frame)) (sent : L → Option (List Datagram)) (faults : L → ℕ)
     (d : CarrierDuty L) (e : Carried L) : Type 0 where
   pub end : LinkEnd

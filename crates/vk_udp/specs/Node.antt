@@ -53,8 +53,8 @@ pub record IsNodeRecord (c : Settings) (host rounds : ℕ) (tasks : List Assignm
   pub is : IsRecordOf c host rounds tasks handed limited log
 
 -- WHAT A NODE SENT: its carrier asked a hub with this link plan, round after round, for the stations of these ports. The frames that it was
--- handed out were sent, each to its station's port, in order, and nothing else was. They are frames that the station made by these events, and
--- none is for the station itself.
+-- handed out were sent, each to its station's port, in order, and nothing else was. They are frames that the station made by these events,
+-- and none is for the station itself.
 pub record HasSent (c : Settings) (host : ℕ) (plan : LinkPlan) (ports : List StationPort) (events : List StationEvent)
     (before now : Option (List Datagram)) : Type 0 where
   pub hub : HubLog
@@ -73,8 +73,8 @@ TellsNodeFault wire wire_now crew crew_now (Err refusals.LinkFault) = Rose wire 
 TellsNodeFault wire wire_now crew crew_now (Err refusals.CrewFault) = (wire_now ≡ wire) × Rose crew crew_now
 TellsNodeFault wire wire_now crew crew_now (Err refusals.NoMemory) = (wire_now ≡ wire) × (crew_now ≡ crew)
 
--- The crew's count of jobs has grown where there is a record. Where there is none, it is as it was where the crew failed; the wire may fail,
--- and memory be wanting, before the crew's call or behind it.
+-- The crew's count of jobs has grown where there is a record. Where there is none, it is as it was where the crew failed; the wire may
+-- fail, and memory be wanting, before the crew's call or behind it.
 abbrev pub TellsNodeJobs : {T : Type 0} → (before grown now : ℕ) → Result T NodeRefusal → Type 0
 TellsNodeJobs before grown now (Ok r) = now ≡ grown
 TellsNodeJobs before grown now (Err refusals.LinkFault) = (now ≡ before) ⊎ (now ≡ grown)

@@ -57,7 +57,8 @@ fn take_seat(seats: &mut Vec<TurnSeat<Station>>) -> TurnSeat<Station>
 impl<'a> NodeStock<'a> {
     /// A port with the next two seats.
     fn port(&mut self, ticks: bool) -> Result<Port<'a>, NoMemory>
-        requires { (n : ℕ) × IsStocked self.old.cell.now self.old.hub.now self.old.host (suc n) self.old.seats.items self.old.hub_seats.items }
+        requires { (n : ℕ) × IsStocked self.old.cell.now self.old.hub.now self.old.host
+            (suc n) self.old.seats.items self.old.hub_seats.items }
         ensures host { self.new.host ≡ self.old.host }
         ensures cell { self.new.cell ≡ self.old.cell }
         ensures hub { self.new.hub ≡ self.old.hub }
@@ -83,7 +84,8 @@ fn add_programs<'a, 'p, G: Program, P: Pacer, L: Link>(
     programs: Vec<Assigned<G>>,
     jobs: &mut Vec<NodeWork<'a, 'p, G, P, L>>,
 ) -> Result<(), NoMemory>
-    requires stock { (n : ℕ) × IsStocked stock.old.cell.now stock.old.hub.now stock.old.host (length programs.items + n) stock.old.seats.items
+    requires stock { (n : ℕ) × IsStocked stock.old.cell.now stock.old.hub.now stock.old.host
+        (length programs.items + n) stock.old.seats.items
         stock.old.hub_seats.items }
     requires processes { Each (λ (a : Assigned G). is_process_of stock.old.cell.now.origin a.pid ≡ true) programs.items }
     requires fresh { Each (λ (a : Assigned G). G.is_after a.program []) programs.items }

@@ -146,8 +146,8 @@ impl Model for MemoryWire {
 
 impl MemoryWire {
     /// Opens these links, the last one first, and behind them links without datagrams. Its opens are numbered from 1, and those whose
-    /// numbers stand in `failing` fail. It keeps what comes back, and tells of as many links as these. It tells no more what they were given
-    /// to send once one comes back that does not tell it.
+    /// numbers stand in `failing` fail. It keeps what comes back, and tells of as many links as these. It tells no more what they were
+    /// given to send once one comes back that does not tell it.
     pub fn new(
         alloc: Global,
         ready: Vec<MemoryLink>,
