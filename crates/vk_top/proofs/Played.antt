@@ -1,5 +1,5 @@
 -- A schedule that is played piece by piece.
-use Rattle.std.proofs.Common.{◌≡◌, ℕ, zero, suc, ◌+◌, ◌-◌, ◌<◌, ◌≤◌, true, false, List, [], ◌∷◌, ◌++◌, drop, length, take, Some, Ok, Err, refl, sym, ap, subst, ◌∙◌, arith, append_assoc, nat_lt, Bool, cond, Option, None}
+use Rattle.std.proofs.Common.{◌≡◌, ℕ, zero, suc, ◌+◌, ◌-◌, ◌<◌, ◌≤◌, true, false, List, [], ◌∷◌, ◌++◌, drop, length, take, Some, Ok, Err, refl, sym, ap, subst, ◌∙◌, arith, append_assoc, None}
 use Rattle.std.proofs.lemmas.List.{append-nil, length-append, length-drop, length-take-le, take_all}
 use Rattle.vk_base.specs.declared.limits.TheConstants.{EVENTS}
 use Rattle.vk_base.specs.Settings.{Settings}
@@ -11,15 +11,15 @@ use Rattle.vk_schedule.specs.declared.schedule.Schedule.{Schedule}
 use Rattle.vk_schedule.specs.Lawful.{has_actors}
 use Rattle.vk_schedule.specs.declared.schedule.TextRefusal.{TextRefusal}
 use Rattle.vk_schedule.specs.declared.schedule.TextRefusal.TheVariants as refusals
-use Rattle.vk_schedule.specs.Remaining.{HasFewLines, IsReadTo, behind, end_of, front_left, left_by}
-use Rattle.vk_schedule.specs.Schedule.{acting, event_of, front_of, opened, schedule_of, whole}
+use Rattle.vk_schedule.specs.Remaining.{HasFewLines, IsReadTo, behind, front_left}
+use Rattle.vk_schedule.specs.Schedule.{front_of, opened, schedule_of, whole}
 use Rattle.vk_schedule.proofs.RemainingEvents.{config_left}
 use Rattle.vk_report.specs.declared.entry.Counts.{Counts}
 use Rattle.vk_report.specs.declared.entry.Form.{Form}
 use Rattle.vk_report.specs.Report.{end_lines, opening_lines}
 use Rattle.vk_rules.proofs.OneHistory.{histories_have_all}
 use Rattle.vk_text.specs.declared.text.Text.{Text}
-use Rattle.vk_text.specs.Lines.{lines_of, words_from}
+use Rattle.vk_text.specs.Lines.{lines_of}
 use Rattle.vk_text.specs.Openings.{line_number}
 use Rattle.vk_text.specs.Texts.{shown}
 use Rattle.vk_top.proofs.Lefts.{actors_stand, few_so_far, under_way_more, way_cut, way_text}
@@ -218,29 +218,6 @@ module _ (form : Form) (text : List ℕ) (way : Way) (c : Settings) (es : List E
         few = few_now_read;
         played = now_played;
       }
-
--- why a line is refused
-
-told_by_room : (c : Settings) (e : Event) (b : Bool) (rest : Front) (why : TextRefusal)
-    → (rest.refused ≡ Some why → ¬ (why ≡ refusals.NoMemory))
-    → (cond b (behind (e ∷ []) rest) (end_of c (Some refusals.Limit) (Some e))).refused ≡ Some why → ¬ (why ≡ refusals.NoMemory)
-told_by_room c e true rest why after refused is = after refused is
-told_by_room c e false rest why after refused is = cc
-
-told_by : (c : Settings) (given n : ℕ) (o : Option Event) (rest : Front) (why : TextRefusal)
-    → (rest.refused ≡ Some why → ¬ (why ≡ refusals.NoMemory)) → (left_by c given n o rest).refused ≡ Some why
-    → ¬ (why ≡ refusals.NoMemory)
-told_by c given n None rest why after refused is = cc
-told_by c given n (Some e) rest why after refused is = told_by_room c e (nat_lt given 100000) rest why after refused is
-
--- it is bad, or has an event too many
-pub told_why : (c : Settings) (given n : ℕ) (lines : List (List ℕ)) (why : TextRefusal) → (front_left c given n lines).refused ≡ Some why
-    → ¬ (why ≡ refusals.NoMemory)
-unfolding front_left
-told_why c given n [] why refused is = cc
-told_why c given n (l ∷ ls) why refused is =
-    told_by c given n (acting c.specs (event_of (words_from l 0))) (front_left c (given + 1) (n + 1) ls) why
-    (told_why c (given + 1) (n + 1) ls why) refused is
 
 -- what stands behind the opening of the first piece
 pub behind_opening : (left : Front) (piece : List ℕ) (c : Settings) (at line : ℕ)

@@ -246,7 +246,6 @@ impl Playing {
         ensures all { IfOk result (λ p. (text : List ℕ) → HasCome form text self → HasPlayedAll form (text ++ piece.now) p) }
         ensures refused { IfErr result (λ e. (text : List ℕ) → HasCome form text self → (schedule_of (text ++ piece.now) ≡ Err e)
             × ((front more : List ℕ) → piece.now ≡ front ++ 10 ∷ [] → schedule_of (text ++ piece.now ++ more) ≡ Err e)) }
-        ensures told { IfErr result (λ e. ¬ (e ≡ TextRefusal.NoMemory)) }
     {
         let Playing {
             config,

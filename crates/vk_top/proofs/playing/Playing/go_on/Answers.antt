@@ -1,8 +1,6 @@
-use Rattle.std.proofs.Common.{sym, ap, ◌∙◌}
 use Rattle.std.proofs.lemmas.Result.{IfErr-weaker, IfOk-weaker}
-use Rattle.vk_schedule.specs.declared.schedule.Front.{Front}
 use Rattle.vk_text.specs.Lines.{lines_of}
-use Rattle.vk_top.proofs.Played.{last_come, left_few, left_played, next_come, piece_refused, told_why}
+use Rattle.vk_top.proofs.Played.{last_come, left_few, left_played, next_come, piece_refused}
 use Rattle.vk_top.proofs.playing.Playing.go_on.Goals as goal
 
 pub play_lines-requires-clause-few : goal.play_lines-requires-clause-few
@@ -37,12 +35,4 @@ returns-clause-refused c =
     IfErr-weaker c.play_lines.result _ _
     (λ e refused text come. piece_refused c.args.form c.args.piece.now c.args.self c.resume-reader.result c.resume-reader.ensures e refused
     text come)
-    c.play_lines.ensures.refused
-
-pub returns-clause-told : goal.returns-clause-told
-returns-clause-told c =
-    let was = c.args.self in
-    IfErr-weaker c.play_lines.result _ _
-    (λ e refused. told_why was.config was.played.read was.line (lines_of c.args.piece.now) e
-    (ap (λ (f : Front). f.refused) (sym c.resume-reader.ensures) ∙ refused))
     c.play_lines.ensures.refused
