@@ -43,6 +43,13 @@ impl Part {
         })
     }
 
+    /// No bytes from now on.
+    pub fn clear(&mut self)
+        ensures { self.new ≡ record self.old { bytes = [] } }
+    {
+        self.bytes.clear();
+    }
+
     /// These bytes from now on, for which there is room. It takes no memory.
     pub fn fill(&mut self, bytes: &[u8])
         requires { length bytes.now ≤ self.old.room }
