@@ -1,11 +1,10 @@
 -- What a buffer gathers, read by read.
 use Rattle.std.proofs.Common.{◌≡◌, ℕ, ◌+◌, ◌-◌, ◌<◌, ◌≤◌, Result, Ok, Err, IfOk, length-take, length-drop, List, [], ◌++◌, length, take, drop, Option, ap, subst, ◌∙◌, arith, length-append}
-use Rattle.std.proofs.KnownBytes.{Consumes-nil, Consumes-trans}
+use Rattle.std.proofs.KnownBytes.{Consumes-trans}
 use Rattle.std.proofs.Math.Seq.{take-add}
 use Rattle.std.proofs.lemmas.List.{take_at, drop_at, nil_from_length, take-append-le, length-take-le}
 use Rattle.std.specs.Io.{ReadsAtMost}
 use Rattle.std.specs.Io.KnownBytes.{ReadConsumes}
-use Rattle.vk_base.specs.declared.limits.TheConstants.{INPUT_BYTES}
 use Rattle.vk_edge.specs.Pieces.{Gathered, IsFilled, IsReadBehind, IsReadOn, IsReadSince}
 
 -- what a read leaves of the filled bytes, and behind them
@@ -18,10 +17,6 @@ read_in xs into rest filled n within fits =
     let behind : drop filled all ≡ into ++ rest = drop_at (take filled xs) (into ++ rest) filled short in
     take-add filled n all ∙ ap (λ l. l ++ take n (drop filled all)) front
     ∙ ap (λ l. take filled xs ++ l) (ap (take n) behind ∙ take-append-le n into rest fits)
-
--- nothing is read at first
-pub none_on : (left : Option (List ℕ)) (count : ℕ) → count ≤ INPUT_BYTES → IsReadOn left left [] count count
-none_on left count few = record { taken = Consumes-nil left; count = omega arith; few = few }
 
 -- and then more
 pub on_more : (left mid rest : Option (List ℕ)) (bs cs : List ℕ) (before count now : ℕ) → IsReadOn left mid bs before count
