@@ -10,16 +10,18 @@ use Rattle.vk_cluster.specs.Standing.{step_report}
 use Rattle.vk_schedule.specs.declared.event.Event.{Event}
 use Rattle.vk_schedule.specs.declared.event.Event.TheVariants as events
 use Rattle.vk_schedule.specs.Lawful.{has_actors}
+use Rattle.vk_frame.specs.declared.header.Header.{Header}
 use Rattle.vk_rules.specs.Entries.{Called, Collected}
 use Rattle.vk_rules.specs.Frames.{Frame}
-use Rattle.vk_rules.specs.Histories.{Logs, delivered, handed_over}
+use Rattle.vk_rules.specs.Histories.{Happened, Logs, delivered, handed_over}
 unfoldable use Rattle.vk_rules.specs.Histories.{happened}
 unfoldable use Rattle.vk_rules.specs.Right.{right_entry}
 use Rattle.vk_rules.specs.Right.{entry_of}
-use Rattle.vk_drive.specs.Driving.{is_of_no_process}
-use Rattle.vk_drive.specs.Storms.{call_event, process_event}
+use Rattle.vk_drive.specs.declared.actor.Actor.{Actor}
+use Rattle.vk_drive.specs.Driving.{IsNextOf, IsOfStation, is_of_no_process}
+use Rattle.vk_drive.specs.Storms.{call_event, delivery_of, process_event}
 use Rattle.vk_drive.specs.Tasks.{specs, task_at}
-use Rattle.vk_drive.specs.Told.{answered_in, is_waiting}
+use Rattle.vk_drive.specs.Told.{answered_in, answered_to, is_waiting}
 
 -- Who acts is there.
 
@@ -45,6 +47,27 @@ own_acts pid false (Some call) there = there
 
 pub process_acts : (place : ℕ) (heard : List EventAnswer) → place < 4 → has_actors specs (process_event (task_at place) heard) ≡ true
 process_acts place heard low = own_acts (task_at place).pid (is_waiting heard) _ (process_there place low)
+
+-- what comes next has who acts
+pub next_acts : (place : Option ℕ) (actors : List Actor) (hs : List Happened) (e : Event) → IsNextOf place actors hs e →
+    has_actors specs e ≡ true
+next_acts (Some place) actors hs e next =
+    ap (has_actors specs) next.1.event ∙ process_acts place (answered_to (task_at place).pid hs) next.0
+next_acts None actors hs e next = next.1.acts
+
+-- a tick, or a delivery, is of a station
+pub ticks_at : (d : ℕ) → d < 4 → IsOfStation (events.Tick (1 + d))
+ticks_at d low = record { acts = tick_acts d low; quiet = refl }
+
+pub comes_to : (h : Header) → IsOfStation (delivery_of h)
+comes_to h = either (has_actors specs delivery) refl
+  where
+    delivery : Event
+    delivery = events.Deliver h.destination h.source h.event h.output
+
+    either : (b : Bool) → has_actors specs delivery ≡ b → IsOfStation (cond b delivery (events.Tick 1))
+    either true is = record { acts = is; quiet = refl }
+    either false is = ticks_at 0 (omega arith)
 
 -- What is told the processes of an event.
 

@@ -1,9 +1,8 @@
 -- One event of a storm.
-use Rattle.std.proofs.Common.{◌≡◌, ℕ, ◌-◌, ◌%◌, ◌<◌, ◌==◌, min, nat_lt, false, cond, List, [], ◌∷◌, ◌++◌, length, Option, None, refl, sym, ap, subst, ◌∙◌, arith, inl, inr}
+use Rattle.std.proofs.Common.{◌≡◌, ℕ, ◌-◌, ◌%◌, ◌<◌, ◌≤◌, ◌==◌, min, nat_lt, false, cond, List, [], ◌∷◌, ◌++◌, length, Option, None, refl, sym, ap, subst, ◌∙◌, arith, inl, inr}
 use Rattle.std.specs.Prelude.{slice_get}
-use Rattle.std.proofs.lemmas.Bool.{cases_Bool, cond-true, cond-false, eqb-true, lt-ltb}
+use Rattle.std.proofs.lemmas.Bool.{cases_Bool, cond-true, cond-false, eqb-true, le-ltb, lt-ltb}
 use Rattle.circular_buffer.specs.Buffer.{Buffer}
-use Rattle.vk_cluster.specs.declared.report.Advance.{Advance}
 use Rattle.vk_cluster.specs.Standing.{logs_of}
 use Rattle.vk_schedule.specs.declared.event.Event.{Event}
 use Rattle.vk_frame.specs.declared.header.Header.{Header}
@@ -11,16 +10,17 @@ use Rattle.vk_generator.specs.Numbers.{drawn, next}
 use Rattle.vk_rules.specs.Histories.{Happened, happened, history_of}
 use Rattle.vk_drive.specs.declared.driver.Driver.{Driver}
 use Rattle.vk_drive.specs.Driving.{AreActors, HasHappened, IsDriver, IsPlayed, last_of}
-use Rattle.vk_drive.specs.Storms.{Choice, before_last, choice, chosen, delivery_choice, delivery_event, process_choice}
+use Rattle.vk_drive.specs.Storms.{Choice, before_last, choice, choice_by, chosen, delivery_choice, delivery_event, process_choice, tick_choice}
 use Rattle.vk_drive.specs.Tasks.{settings}
+use Rattle.vk_drive.specs.Told.{all_emitted}
 use Rattle.vk_drive.proofs.Behind.{history_with}
 use Rattle.vk_drive.proofs.Recent.{recent_back, recent_count}
 
 -- the event of this choice happened, and the processes heard of it
-pub played : (es : List Event) (old new : Driver) (c : Choice) (e : Event) (a : Advance) → IsDriver es old → new.config ≡ old.config →
-    HasHappened es new.course e a → new.generator ≡ c.state → new.next ≡ e → e ≡ c.event →
+pub played : (es : List Event) (old new : Driver) (c : Choice) (e : Event) (place : Option ℕ) → IsDriver es old →
+    new.config ≡ old.config → HasHappened es new.course e place → new.generator ≡ c.state → new.next ≡ e → e ≡ c.event →
     AreActors new.actors.items (history_of settings es ++ happened settings (logs_of settings es) e ∷ []) → IsPlayed es new c
-played es old new c e a is config happens state next event actors = record {
+played es old new c e place is config happens state next event actors = record {
   driver =
       subst (λ x. IsDriver (es ++ x ∷ []) new) event
       (record {
@@ -75,10 +75,25 @@ module _ (fs : List Header) (x : ℕ) where
       ∙ (λ i. cond (nat_lt (drawn_is i % len) (all i)) (slice_get (last_of fs).items (all i - drawn_is i % len - 1)) None))
 
 -- what the first draw says
-pub choice_process : (x kind state : ℕ) (hs : List Happened) → state ≡ next x → kind ≡ drawn state → kind % 8 < 3 →
-    choice x hs ≡ process_choice state hs
-choice_process x kind state hs is drawn_is low =
-    let same : kind ≡ drawn (next x) = drawn_is ∙ ap drawn is in
-    let below : drawn (next x) % 8 < 3 = subst (λ k. k % 8 < 3) same low in
-    cond-true (nat_lt (drawn (next x) % 8) 3) (process_choice (next x) hs) _ (lt-ltb (drawn (next x) % 8) 3 below)
-    ∙ ap (λ k. process_choice k hs) (sym is)
+module _ (x kind state : ℕ) (hs : List Happened) (is : state ≡ next x) (drawn_is : kind ≡ drawn state) where
+  by_kind : choice x hs ≡ choice_by (kind % 8) state hs
+  by_kind =
+      let same : kind ≡ drawn (next x) = drawn_is ∙ ap drawn is in
+      (λ i. choice_by (sym same i % 8) (sym is i) hs)
+
+  not_process : 3 ≤ kind % 8 →
+      choice x hs ≡ cond (nat_lt (kind % 8) 6) (delivery_choice state (all_emitted hs)) (tick_choice state)
+  not_process some = by_kind ∙ cond-false (nat_lt (kind % 8) 3) (process_choice state hs) _ (le-ltb (kind % 8) 3 some)
+
+  pub choice_process : kind % 8 < 3 → choice x hs ≡ process_choice state hs
+  choice_process low = by_kind ∙ cond-true (nat_lt (kind % 8) 3) (process_choice state hs) _ (lt-ltb (kind % 8) 3 low)
+
+  pub choice_delivery : 3 ≤ kind % 8 → kind % 8 < 6 → choice x hs ≡ delivery_choice state (all_emitted hs)
+  choice_delivery some low =
+      not_process some
+      ∙ cond-true (nat_lt (kind % 8) 6) (delivery_choice state (all_emitted hs)) (tick_choice state) (lt-ltb (kind % 8) 6 low)
+
+  pub choice_tick : 3 ≤ kind % 8 → 6 ≤ kind % 8 → choice x hs ≡ tick_choice state
+  choice_tick some more =
+      not_process some
+      ∙ cond-false (nat_lt (kind % 8) 6) (delivery_choice state (all_emitted hs)) (tick_choice state) (le-ltb (kind % 8) 6 more)

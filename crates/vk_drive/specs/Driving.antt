@@ -1,15 +1,15 @@
 -- Of the code alone, no law rests on it: what it keeps of a storm under way.
-use Rattle.std.specs.Prelude.{◌≡◌, ℕ, ◌+◌, ◌*◌, ◌<◌, ◌≤◌, ◌^◌, Bool, true, false, List, [], ◌∷◌, ◌++◌, length, slice_get, None, Some, if◌then◌else◌}
+use Rattle.std.specs.Prelude.{◌≡◌, ℕ, ◌+◌, ◌*◌, ◌<◌, ◌≤◌, ◌^◌, Bool, true, false, List, [], ◌∷◌, ◌++◌, length, slice_get, Option, None, Some, if◌then◌else◌}
 use Rattle.circular_buffer.specs.Buffer.{Buffer, buffer, keep_last}
 use Rattle.vk_types.specs.Types.{Answer, EventAnswer}
 use Rattle.vk_base.specs.declared.limits.TheConstants.{EVENTS}
 use Rattle.vk_base.specs.declared.event.EventAnswer.TheVariants as given
 use Rattle.vk_cluster.specs.declared.emitted.TheConstants.{LAST_BYTES}
-use Rattle.vk_cluster.specs.declared.report.Advance.{Advance}
 use Rattle.vk_cluster.specs.Shown.{Sends}
-use Rattle.vk_cluster.specs.Standing.{StandsFor, TellsReport, emitted_bytes, logs_of, step_report}
+use Rattle.vk_cluster.specs.Standing.{StandsFor, TellsReport, advanced, emitted_bytes, logs_of, step_report}
 use Rattle.vk_schedule.specs.declared.event.Event.{Event}
 use Rattle.vk_schedule.specs.declared.event.Event.TheVariants as events
+use Rattle.vk_schedule.specs.Lawful.{has_actors}
 use Rattle.vk_event.specs.declared.task.Task.{Task}
 use Rattle.vk_frame.specs.declared.header.Header.{Header}
 use Rattle.vk_host.specs.Values.{StationValue}
@@ -19,14 +19,14 @@ use Rattle.vk_program.specs.Tasks.{told_by}
 use Rattle.vk_rules.specs.Entries.{is_frame_taken}
 use Rattle.vk_rules.specs.Frames.{Frame}
 use Rattle.vk_rules.specs.Histories.{Happened, happened, history_of}
-use Rattle.vk_rules.specs.Laws.{HaveHeaders}
+use Rattle.vk_rules.specs.Laws.{HaveHeaders, station_of}
 use Rattle.vk_rules.specs.Observed.{is_not_yet}
 use Rattle.vk_drive.specs.declared.actor.Actor.{Actor}
 use Rattle.vk_drive.specs.declared.course.StormCourse.{StormCourse}
 use Rattle.vk_drive.specs.declared.counts.StormCounts.{StormCounts}
 use Rattle.vk_drive.specs.declared.driver.Driver.{Driver}
-use Rattle.vk_drive.specs.Storms.{Choice, process_event, storm_after}
-use Rattle.vk_drive.specs.Tasks.{settings, task_at}
+use Rattle.vk_drive.specs.Storms.{Choice, choice, chosen, process_event, storm_after}
+use Rattle.vk_drive.specs.Tasks.{settings, specs, task_at}
 use Rattle.vk_drive.specs.Told.{all_emitted, answered_to, count_answered, is_old, is_timed_out, is_waiting, tells_answer, told}
 
 -- the process of the task, whose events were answered so: its program knows all that it was told, but for what waits to be passed on
@@ -122,10 +122,11 @@ pub record IsCourse (es : List Event) (c : StormCourse) : Type 0 where
   pub noted : IsNoted (history_of settings es) c.recent c.counts
   pub few : c.counts.frames ≤ 4294967296 * length es
 
--- one event more happened behind these, and so is told of it
-pub record HasHappened (es : List Event) (new : StormCourse) (e : Event) (a : Advance) : Type 0 where
+-- one event more happened behind these: the station at this place had it and answered as the course says, or there was nothing to deliver
+pub record HasHappened (es : List Event) (new : StormCourse) (e : Event) (place : Option ℕ) : Type 0 where
   pub course : IsCourse (es ++ e ∷ []) new
-  pub told : TellsReport new.cluster a (step_report (happened settings (logs_of settings es) e))
+  pub told :
+      TellsReport new.cluster (advanced (station_of e) new.response place) (step_report (happened settings (logs_of settings es) e))
   pub below : EmitsFewBytes es
 
 -- the event is none of a process
@@ -134,6 +135,16 @@ is_of_no_process (events.Call pid call) = false
 is_of_no_process (events.Collect pid) = false
 is_of_no_process (events.Tick host) = true
 is_of_no_process (events.Deliver to from event output) = true
+
+-- the event is one of a station of the storm, and none of a process
+pub record IsOfStation (e : Event) : Type 0 where
+  pub acts : has_actors specs e ≡ true
+  pub quiet : is_of_no_process e ≡ true
+
+-- this event comes next: one of the process at this place, where there is a place, else one of a station
+abbrev pub IsNextOf : Option ℕ → List Actor → List Happened → Event → Type 0
+IsNextOf (Some place) actors hs e = (place < 4) × IsChosenAt actors hs place e
+IsNextOf None actors hs e = AreActors actors hs × IsOfStation e
 
 -- A storm under way, behind these events.
 pub record IsDriver (es : List Event) (d : Driver) : Type 0 where
@@ -144,6 +155,13 @@ pub record IsDriver (es : List Event) (d : Driver) : Type 0 where
 -- behind some, of which there may be more
 abbrev pub IsStormOpen : Driver → Type 0
 IsStormOpen d = (es : List Event) × IsDriver es d × (length es < EVENTS)
+
+-- what comes next behind these was chosen: an event of the process at this place, where there is a place
+pub record IsChosen (es : List Event) (old new : Driver) (place : Option ℕ) : Type 0 where
+  pub config : new.config ≡ old.config
+  pub course : new.course ≡ old.course
+  pub next : IsNextOf place new.actors.items (history_of settings es) new.next
+  pub choice_is : chosen new.generator new.next ≡ choice old.generator (history_of settings es)
 
 -- the event of this choice happened behind these
 pub record IsPlayed (es : List Event) (new : Driver) (c : Choice) : Type 0 where

@@ -16,7 +16,6 @@ use vk_event::Task;
 use vk_host::{Host, Response};
 use vk_pages::AnyProgram;
 use vk_program::Program;
-use vk_schedule::EventKind;
 
 /// A process and its program.
 #[derive(Drop)]
@@ -30,18 +29,18 @@ pub struct Actor {
 }
 
 /// Whether the outcome tells that a collect came too early.
-fn is_not_yet(outcome: Outcome) -> bool
-    ensures { result ≡ tells_too_early (given_by (Some outcome)) }
+fn is_not_yet(outcome: &Outcome) -> bool
+    ensures { result ≡ tells_too_early (given_by (Some outcome.now)) }
 {
     match outcome {
-        Outcome::Refused { why } => why == Refusal::NotYet,
+        Outcome::Refused { why } => *why == Refusal::NotYet,
         _ => false,
     }
 }
 
 /// Whether the response tells that a collect came too early.
-fn is_too_early(response: Response) -> bool
-    ensures { (seats : List TheSeat) → result ≡ tells_too_early (answer_given seats response) }
+fn is_too_early(response: &Response) -> bool
+    ensures { (seats : List TheSeat) → result ≡ tells_too_early (answer_given seats response.now) }
 {
     match response {
         Response::Given { outcome } => is_not_yet(outcome),
@@ -72,7 +71,7 @@ impl Actor {
         ensures { (t : TheTask) (heard : List TheAnswer) → IsActor self.old t heard → ChoosesEvent self.new t heard next.new }
     {
         if self.waits {
-            next.set(EventKind::Collect { pid: self.pid });
+            next.set_collect(self.pid);
         } else {
             self.call(next);
         }
@@ -88,7 +87,7 @@ impl Actor {
         let pid = self.pid;
         match self.program.next(self.told.as_ref()) {
             Some(call) => next.set_call(pid, &call),
-            None => next.set(EventKind::Collect { pid }),
+            None => next.set_collect(pid),
         }
         self.told = None;
     }
@@ -112,17 +111,17 @@ impl Actor {
 
     /// Its last event was answered so, in few bytes of this station. No answer is made of a call that begins, nor of a collect that came
     /// too early.
-    pub fn hear(&mut self, station: &Host, response: Response)
+    pub fn hear(&mut self, station: &Host, response: &Response)
         requires { self.old.told ≡ None }
         ensures { (t : TheTask) (heard : List TheAnswer) → IsActor self.old t heard →
-            IsActor self.new t (heard ++ answer_of station.now response ∷ []) }
+            IsActor self.new t (heard ++ answer_of station.now response.now ∷ []) }
     {
         if is_too_early(response) {
             return;
         }
         match response {
             Response::Begun => self.waits = true,
-            _ => self.hear_whole(station.answer(response)),
+            _ => self.hear_whole(station.answer(*response)),
         }
     }
 }

@@ -4,18 +4,19 @@ ghost use Rattle.std.specs.Prelude.{◌≡◌, ◌≢◌, ◌<◌, [], ◌∷◌
 ghost use Rattle.vk_base.specs.declared.event.EventAnswer.{EventAnswer as TheAnswer};
 ghost use Rattle.vk_cluster.specs.declared.report.ClusterAnswer.TheVariants as answered;
 ghost use Rattle.vk_cluster.specs.declared.report.StepReport.{StepReport as TheReport};
-ghost use Rattle.vk_cluster.specs.Standing.{TellsReport};
-ghost use Rattle.vk_rules.specs.Histories.{Happened};
-ghost use Rattle.vk_drive.specs.Driving.{AreActors, HasPassedOn, IsChosenAt};
+ghost use Rattle.vk_cluster.specs.Standing.{TellsReport, advanced, logs_of};
+ghost use Rattle.vk_schedule.specs.declared.event.Event.{Event as TheEvent};
+ghost use Rattle.vk_rules.specs.Histories.{Happened, happened, history_of};
+ghost use Rattle.vk_drive.specs.Driving.{AreActors, HasHappened, HasPassedOn, IsChosenAt, IsNextOf};
 ghost use Rattle.vk_drive.specs.Tasks.{settings, task_at};
 ghost use Rattle.vk_drive.specs.Told.{answered_in};
 
 use crate::actor::Actor;
+use crate::course::StormCourse;
 use crate::next::NextEvent;
 use crate::tasks::tasks;
 use std::alloc::Global;
 use vk_base::{Config, NoMemory};
-use vk_cluster::{Advance, Cluster};
 
 /// The processes before their first calls.
 pub fn new_actors(alloc: Global, config: &Config) -> Result<Vec<Actor>, NoMemory>
@@ -38,24 +39,31 @@ pub fn choose(actors: &mut Vec<Actor>, place: usize, next: &mut NextEvent)
     actors[place].choose(next);
 }
 
-/// The last event of the cluster, which was that of the process at this place, is told so.
-pub fn hear(actors: &mut Vec<Actor>, place: usize, cluster: &Cluster, advance: Advance)
+/// The last event was that of the process at this place, which is told what the station at the other answered.
+fn hear_at(actors: &mut Vec<Actor>, place: usize, course: &StormCourse, at: Option<usize>)
     requires within { place < length actors.old.items }
     requires none { HasPassedOn actors.old.items place }
-    requires told { (r : TheReport) × TellsReport cluster.now advance r }
-    ensures { (hs : List Happened) (h : Happened) (a : TheAnswer) (r : TheReport) → AreActors actors.old.items hs →
-        TellsReport cluster.now advance r → r.answer ≡ answered.Event a →
+    requires told { (host : ℕ) × (r : TheReport) × TellsReport course.now.cluster (advanced host course.now.response at) r }
+    ensures { (hs : List Happened) (h : Happened) (a : TheAnswer) (host : ℕ) (r : TheReport) → AreActors actors.old.items hs →
+        TellsReport course.now.cluster (advanced host course.now.response at) r → r.answer ≡ answered.Event a →
         answered_in (task_at place).pid h ≡ a ∷ [] → ((q : ℕ) → q < 4 → q ≢ place → answered_in (task_at q).pid h ≡ []) →
         AreActors actors.new.items (hs ++ h ∷ []) }
 {
-    match advance {
-        Advance::Missing { .. } => {}
-        Advance::Event {
-            place: at,
-            response,
-        } => {
-            let station = cluster.station(at);
-            actors[place].hear(station, response);
-        }
+    if let Some(at) = at {
+        let station = course.cluster.station(at);
+        actors[place].hear(station, &course.response);
+    }
+}
+
+/// The last event was that of the process at this place, where there is one, and of the station at the other: the process is told of it.
+pub fn hear(actors: &mut Vec<Actor>, place: Option<usize>, course: &StormCourse, at: Option<usize>)
+    requires { (es : List TheEvent) × (e : TheEvent) × IsNextOf place actors.old.items (history_of settings es) e
+        × HasHappened es course.now e at }
+    ensures { (es : List TheEvent) (e : TheEvent) → IsNextOf place actors.old.items (history_of settings es) e →
+        HasHappened es course.now e at →
+        AreActors actors.new.items (history_of settings es ++ happened settings (logs_of settings es) e ∷ []) }
+{
+    if let Some(place) = place {
+        hear_at(actors, place, course, at);
     }
 }

@@ -54,24 +54,24 @@ impl StormCounts {
     }
 
     /// A process was answered so.
-    fn count_outcome(&mut self, outcome: Outcome)
+    fn count_outcome(&mut self, outcome: &Outcome)
         requires { AreLow self.old }
         ensures { self.new ≡ record self.old {
-          answers = self.old.answers + one_if (tells_answer (given_by (Some outcome)));
-          timedout = self.old.timedout + one_if (is_timed_out (given_by (Some outcome)));
+          answers = self.old.answers + one_if (tells_answer (given_by (Some outcome.now)));
+          timedout = self.old.timedout + one_if (is_timed_out (given_by (Some outcome.now)));
         } }
     {
         match outcome {
-            Outcome::Refused { why } => self.count_refusal(why),
+            Outcome::Refused { why } => self.count_refusal(*why),
             _ => self.answers += 1,
         }
     }
 
     /// An event was answered so, and this many frames were emitted.
-    pub fn count(&mut self, frames: u32, response: Response)
+    pub fn count(&mut self, frames: u32, response: &Response)
         requires frames { self.old.frames < 2 ^ 63 }
         requires low { AreLow self.old }
-        ensures { (seats : List TheSeat) → self.new ≡ counts_with self.old frames (answer_given seats response) }
+        ensures { (seats : List TheSeat) → self.new ≡ counts_with self.old frames (answer_given seats response.now) }
     {
         self.frames += u64::from(frames);
         match response {

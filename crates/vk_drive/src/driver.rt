@@ -1,16 +1,13 @@
 //! The storm of a number.
 
-ghost use Rattle.std.specs.Prelude.{◌≡◌, ◌≤◌, ◌<◌, [], List, length, true, Err, IfOk, OnOk};
-ghost use Rattle.vk_base.specs.declared.call.Call.TheVariants as calls;
+ghost use Rattle.std.specs.Prelude.{◌≡◌, ◌≤◌, [], List, length, Some, Err, IfOk, OnOk};
 ghost use Rattle.vk_base.specs.declared.limits.TheConstants.{EVENTS};
-ghost use Rattle.vk_schedule.specs.Lawful.{has_actors};
-ghost use Rattle.vk_schedule.specs.Views.{event_by};
 ghost use Rattle.vk_schedule.specs.declared.event.Event.{Event as TheEvent};
+ghost use Rattle.vk_frame.specs.declared.header.Header.{Header as TheHeader};
 ghost use Rattle.vk_rules.specs.Histories.{Happened, history_of};
-ghost use Rattle.vk_drive.specs.Driving.{EmitsFewBytes, EmitsManyBytes, IsCourse, IsDriver, IsPlayed, IsStormOpen, counts_of, is_of_no_process};
+ghost use Rattle.vk_drive.specs.Driving.{AreActors, EmitsFewBytes, EmitsManyBytes, IsChosen, IsDriver, IsNextOf, IsOfStation, IsPlayed, IsStormOpen, counts_of, last_of};
 ghost use Rattle.vk_drive.specs.Storms.{IsStormTooMuch, StormFits, choice, chosen, delivery_choice, delivery_of, process_choice, storm_schedule_of, summary_by, summary_of, tick_choice};
-ghost use Rattle.vk_drive.specs.Tasks.{settings, specs};
-ghost use Rattle.vk_drive.specs.Told.{all_emitted};
+ghost use Rattle.vk_drive.specs.Tasks.{settings};
 
 use crate::actor::Actor;
 use crate::actors::{choose, hear, new_actors};
@@ -18,12 +15,13 @@ use crate::counts::StormCounts;
 use crate::course::StormCourse;
 use crate::next::NextEvent;
 use crate::summary::{StormRefusal, StormSummary};
-use crate::tasks::settings;
+use crate::tasks::{is_station, settings};
+use circular_buffer::HeapCircularBuffer;
 use std::alloc::Global;
 use vk_base::{Config, List, NoMemory};
 use vk_frame::Header;
 use vk_generator::Generator;
-use vk_schedule::{EventKind, Schedule};
+use vk_schedule::Schedule;
 
 /// A storm under way.
 #[derive(Drop)]
@@ -36,38 +34,57 @@ struct Driver {
     next: NextEvent,
 }
 
-/// The frame with this header comes to its destination, where that is a station of the configuration.
-fn delivery_of(config: &Config, header: &Header) -> EventKind
-    requires { config.now ≡ settings }
-    ensures { event_by result calls.Receive ≡ delivery_of header.now }
+/// The frame with this header comes to its destination; or station 1 ticks, where one of its stations is none of the storm.
+fn set_delivery(next: &mut NextEvent, header: &Header)
+    ensures { next.new ≡ delivery_of header.now }
 {
-    if config.has_station(header.destination) && config.has_station(header.source) {
-        EventKind::Deliver {
-            to: header.destination,
-            from: header.source,
-            event: header.event,
-            output: header.output,
-        }
+    if is_station(header.destination) && is_station(header.source) {
+        next.set_delivery(header);
     } else {
-        EventKind::Tick { host: 1 }
+        next.set_tick(1);
     }
 }
 
 /// One of the frames that were emitted last comes; or station 1 ticks, where there is none.
-fn delivery(generator: &mut Generator, config: &Config, course: &StormCourse) -> EventKind
-    requires { config.now ≡ settings }
-    ensures { (es : List TheEvent) → IsCourse es course.now →
-        chosen generator.new (event_by result calls.Receive) ≡ delivery_choice generator.old (all_emitted (history_of settings es)) }
+fn choose_delivery(
+    generator: &mut Generator,
+    recent: &HeapCircularBuffer<Header>,
+    next: &mut NextEvent,
+)
+    ensures chosen { (fs : List TheHeader) → recent.now ≡ last_of fs → chosen generator.new next.new ≡ delivery_choice generator.old fs }
+    ensures station { IsOfStation next.new }
 {
-    let count = course.recent.len();
+    let count = recent.len();
     if count == 0 {
-        return EventKind::Tick { host: 1 };
+        next.set_tick(1);
+        return;
     }
     let back = generator.draw() as usize % count;
-    match course.recent.nth_back(back) {
-        Some(header) => delivery_of(config, header),
-        None => EventKind::Tick { host: 1 },
+    match recent.nth_back(back) {
+        Some(header) => set_delivery(next, header),
+        None => next.set_tick(1),
     }
+}
+
+/// A station ticks.
+fn choose_tick(generator: &mut Generator, next: &mut NextEvent)
+    ensures chosen { chosen generator.new next.new ≡ tick_choice generator.old }
+    ensures station { IsOfStation next.new }
+{
+    let host = 1 + (generator.draw() % 4) as u16;
+    next.set_tick(host);
+}
+
+/// A process calls or collects, the one at the place that this gives.
+fn choose_process(generator: &mut Generator, actors: &mut Vec<Actor>, next: &mut NextEvent) -> usize
+    requires { length actors.old.items ≡ 4 }
+    ensures next { (hs : List Happened) → AreActors actors.old.items hs → IsNextOf (Some result) actors.new.items hs next.new }
+    ensures chosen { (hs : List Happened) → AreActors actors.old.items hs →
+        chosen generator.new next.new ≡ process_choice generator.old hs }
+{
+    let place = (generator.draw() % 4) as usize;
+    choose(actors, place, next);
+    place
 }
 
 /// What is told of a storm with these numbers.
@@ -102,58 +119,21 @@ impl Driver {
         })
     }
 
-    /// What was chosen happens, an event of no process.
-    fn happen(&mut self, alloc: Global) -> Result<(), StormRefusal>
-        requires more { IsStormOpen self.old }
-        requires quiet { is_of_no_process self.old.next ≡ true }
-        requires actors { has_actors specs self.old.next ≡ true }
-        ensures played { (es : List TheEvent) → IsDriver es self.old →
-            OnOk result (IsPlayed es self.new (chosen self.old.generator self.old.next)) }
-        ensures limit { (es : List TheEvent) → IsDriver es self.old → result ≡ Err StormRefusal.Limit → EmitsManyBytes es }
-        ensures memory { (es : List TheEvent) → IsDriver es self.old → result ≡ Err StormRefusal.NoMemory → EmitsFewBytes es }
+    /// Chooses what comes next. Gives the place of the process that calls or collects, where one does.
+    fn choose(&mut self) -> Option<usize>
+        requires { length self.old.actors.items ≡ 4 }
+        ensures { (es : List TheEvent) → IsDriver es self.old → IsChosen es self.old self.new result }
     {
-        let _advance = self.course.happen(alloc, &self.next.view())?;
-        Ok(())
-    }
-
-    /// A process calls or collects.
-    fn act(&mut self, alloc: Global) -> Result<(), StormRefusal>
-        requires { IsStormOpen self.old }
-        ensures played { (es : List TheEvent) → IsDriver es self.old →
-            OnOk result (IsPlayed es self.new (process_choice self.old.generator (history_of settings es))) }
-        ensures limit { (es : List TheEvent) → IsDriver es self.old → result ≡ Err StormRefusal.Limit → EmitsManyBytes es }
-        ensures memory { (es : List TheEvent) → IsDriver es self.old → result ≡ Err StormRefusal.NoMemory → EmitsFewBytes es }
-    {
-        let place = (self.generator.draw() % 4) as usize;
-        choose(&mut self.actors, place, &mut self.next);
-        let advance = self.course.happen(alloc, &self.next.view())?;
-        hear(&mut self.actors, place, &self.course.cluster, advance);
-        Ok(())
-    }
-
-    /// A frame comes.
-    fn deliver(&mut self, alloc: Global) -> Result<(), StormRefusal>
-        requires { IsStormOpen self.old }
-        ensures played { (es : List TheEvent) → IsDriver es self.old →
-            OnOk result (IsPlayed es self.new (delivery_choice self.old.generator (all_emitted (history_of settings es)))) }
-        ensures limit { (es : List TheEvent) → IsDriver es self.old → result ≡ Err StormRefusal.Limit → EmitsManyBytes es }
-        ensures memory { (es : List TheEvent) → IsDriver es self.old → result ≡ Err StormRefusal.NoMemory → EmitsFewBytes es }
-    {
-        let kind = delivery(&mut self.generator, &self.config, &self.course);
-        self.next.set(kind);
-        self.happen(alloc)
-    }
-
-    /// A station ticks.
-    fn tick(&mut self, alloc: Global) -> Result<(), StormRefusal>
-        requires { IsStormOpen self.old }
-        ensures played { (es : List TheEvent) → IsDriver es self.old → OnOk result (IsPlayed es self.new (tick_choice self.old.generator)) }
-        ensures limit { (es : List TheEvent) → IsDriver es self.old → result ≡ Err StormRefusal.Limit → EmitsManyBytes es }
-        ensures memory { (es : List TheEvent) → IsDriver es self.old → result ≡ Err StormRefusal.NoMemory → EmitsFewBytes es }
-    {
-        let host = 1 + (self.generator.draw() % 4) as u16;
-        self.next.set(EventKind::Tick { host });
-        self.happen(alloc)
+        let kind = self.generator.draw() % 8;
+        if kind < 3 {
+            Some(choose_process(&mut self.generator, &mut self.actors, &mut self.next))
+        } else if kind < 6 {
+            choose_delivery(&mut self.generator, &self.course.recent, &mut self.next);
+            None
+        } else {
+            choose_tick(&mut self.generator, &mut self.next);
+            None
+        }
     }
 
     /// The next event.
@@ -164,14 +144,10 @@ impl Driver {
         ensures limit { (es : List TheEvent) → IsDriver es self.old → result ≡ Err StormRefusal.Limit → EmitsManyBytes es }
         ensures memory { (es : List TheEvent) → IsDriver es self.old → result ≡ Err StormRefusal.NoMemory → EmitsFewBytes es }
     {
-        let kind = self.generator.draw() % 8;
-        if kind < 3 {
-            self.act(alloc)
-        } else if kind < 6 {
-            self.deliver(alloc)
-        } else {
-            self.tick(alloc)
-        }
+        let place = self.choose();
+        let at = self.course.happen(alloc, &self.next.view())?;
+        hear(&mut self.actors, place, &self.course, at);
+        Ok(())
     }
 }
 

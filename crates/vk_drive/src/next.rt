@@ -1,13 +1,12 @@
 //! The event that a storm comes to, in few bytes.
 
 ghost use Rattle.std.specs.Prelude.{◌≡◌};
-ghost use Rattle.vk_base.specs.declared.call.Call.TheVariants as calls;
-ghost use Rattle.vk_schedule.specs.Views.{event_by};
 ghost use Rattle.vk_schedule.specs.declared.event.Event.TheVariants as events;
 
 use std::marker::Model;
 use vk_base::{Call, Pid};
 use vk_brief::{BriefCall, CallBuffer};
+use vk_frame::Header;
 use vk_schedule::{EventKind, EventView};
 
 /// Room for any event, which contracts see: the one that happens next, or happened last.
@@ -38,12 +37,30 @@ impl NextEvent {
         }
     }
 
-    /// An event of this kind from now on; where that is a call, of a Receive.
-    pub fn set(&mut self, kind: EventKind)
-        ensures { self.new ≡ event_by kind calls.Receive }
+    /// The process collects from now on.
+    pub fn set_collect(&mut self, pid: Pid)
+        ensures { self.new ≡ events.Collect pid }
     {
-        self.kind = kind;
-        self.call.set(BriefCall::Receive);
+        self.kind = EventKind::Collect { pid };
+    }
+
+    /// The station ticks from now on.
+    pub fn set_tick(&mut self, host: u16)
+        ensures { self.new ≡ events.Tick host }
+    {
+        self.kind = EventKind::Tick { host };
+    }
+
+    /// The frame with this header comes to its destination from now on.
+    pub fn set_delivery(&mut self, header: &Header)
+        ensures { self.new ≡ events.Deliver header.now.destination header.now.source header.now.event header.now.output }
+    {
+        self.kind = EventKind::Deliver {
+            to: header.destination,
+            from: header.source,
+            event: header.event,
+            output: header.output,
+        };
     }
 
     /// This call of the process from now on.

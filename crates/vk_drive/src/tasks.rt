@@ -1,7 +1,8 @@
 //! The four processes of a storm.
 
 ghost use Rattle.std.specs.Prelude.{◌≡◌, IfOk};
-ghost use Rattle.vk_drive.specs.Tasks.{client, server, settings, tasks};
+ghost use Rattle.vk_base.specs.Settings.{has_station};
+ghost use Rattle.vk_drive.specs.Tasks.{client, server, settings, specs, tasks};
 
 use std::alloc::Global;
 use vk_base::{Config, NoMemory, Pid, ProcessSpec};
@@ -74,4 +75,11 @@ pub fn settings(alloc: Global) -> Result<Config, NoMemory>
         }
     }
     Ok(config)
+}
+
+/// Whether the host is one of the four stations.
+pub fn is_station(host: u16) -> bool
+    ensures { result ≡ has_station specs host }
+{
+    host >= 1 && host <= 4
 }

@@ -17,16 +17,16 @@ pub note-requires-clause-advanced : goal.note-requires-clause-advanced
 note-requires-clause-advanced c =
     let es = c.requires.course.0 in
     let e = c.args.event.now in
-    (es, e, advanced es c.args.self.now c.advance.new.self e c.in_ok-told.told c.requires.course.1 c.requires.actors c.in_ok-told.ensures.step)
+    (es, e, advanced es c.args.self.now c.advance_with.new.self e _ c.requires.course.1 c.requires.actors c.in_ok-place.ensures.step)
 
 pub returns-clause-happened : goal.returns-clause-happened
 returns-clause-happened c es is =
     let e = c.args.event.now in
-    let now = c.advance.new.self in
-    let had = advanced es c.args.self.now now e c.in_ok-told.told is c.requires.actors c.in_ok-told.ensures.step in
+    let now = c.advance_with.new.self in
+    let had = advanced es c.args.self.now now e _ is c.requires.actors c.in_ok-place.ensures.step in
     record {
       course =
           course_next es c.args.self.now _ e had.report is had.reported.next (c.note.ensures.noted es e had is.noted) c.note.ensures.few;
-      told = tells es now e c.in_ok-told.told had;
-      below = below es c.args.self.now is c.in_ok-told.ensures.room;
+      told = tells es now e _ had;
+      below = below es c.args.self.now is c.in_ok-place.ensures.room;
     }
