@@ -1,6 +1,7 @@
 //! What calls do at their station.
 
 use crate::head::Config;
+use crate::report::Listener;
 use crate::station::{Moving, Stage, State, Station, Work, OWN_SENDERS};
 use crate::telling::Telling;
 use crate::values::{lies_in, Answer, Call, Message, Pid, Places, Registration, Scope, DATA_BYTES, MOVE_BYTES, SEGMENT_BYTES};
@@ -39,7 +40,15 @@ impl Station {
 
     /// A call of a process, of which the line is this. The bytes are those of a Store.
     #[inline]
-    pub fn call(&mut self, config: &Config, caller: usize, call: &Call, bytes: &[u8], line: &[u8], out: &mut Telling) {
+    pub fn call<L: Listener>(
+        &mut self,
+        config: &Config,
+        caller: usize,
+        call: &Call,
+        bytes: &[u8],
+        line: &[u8],
+        out: &mut Telling<L>,
+    ) {
         let process = &mut self.processes[caller];
         if !process.is_alive {
             return out.called(b"dead\n", line);
@@ -71,7 +80,15 @@ impl Station {
     }
 
     #[inline(never)]
-    fn other_call(&mut self, config: &Config, caller: usize, call: &Call, bytes: &[u8], line: &[u8], out: &mut Telling) {
+    fn other_call<L: Listener>(
+        &mut self,
+        config: &Config,
+        caller: usize,
+        call: &Call,
+        bytes: &[u8],
+        line: &[u8],
+        out: &mut Telling<L>,
+    ) {
         let process = &mut self.processes[caller];
         match call {
             Call::ReplySegment { message, to, places } => {
@@ -168,8 +185,26 @@ impl Station {
         }
     }
 
+    /// What a load gives, where it is allowed.
+    pub fn loaded(&self, caller: usize, start: u32, count: u32) -> Option<&[u8]> {
+        let process = &self.processes[caller];
+        if process.is_alive && count <= DATA_BYTES && lies_in(start, count, process.memory.len()) {
+            Some(&process.memory[start as usize..(start + count) as usize])
+        } else {
+            None
+        }
+    }
+
     #[inline]
-    fn send(&mut self, config: &Config, caller: usize, target: Pid, message: &Message, line: &[u8], out: &mut Telling) {
+    fn send<L: Listener>(
+        &mut self,
+        config: &Config,
+        caller: usize,
+        target: Pid,
+        message: &Message,
+        line: &[u8],
+        out: &mut Telling<L>,
+    ) {
         let process = &self.processes[caller];
         if !message.fits(process.memory.len()) {
             return out.called(b"badsegment\n", line);
@@ -205,7 +240,15 @@ impl Station {
 
     /// Replies to a message that is held, with the bytes at these places.
     #[inline]
-    fn reply(&mut self, caller: usize, held: &Held, message: &Message, places: &Places, line: &[u8], out: &mut Telling) {
+    fn reply<L: Listener>(
+        &mut self,
+        caller: usize,
+        held: &Held,
+        message: &Message,
+        places: &Places,
+        line: &[u8],
+        out: &mut Telling<L>,
+    ) {
         out.called(b"ok\n", line);
         match *held {
             Held::Own(sender) => {
@@ -235,7 +278,16 @@ impl Station {
 
     /// Hands a message that is held on to another process of the station.
     #[allow(clippy::too_many_arguments)]
-    fn forward(&mut self, config: &Config, caller: usize, message: &Message, from: Pid, to: Pid, line: &[u8], out: &mut Telling) {
+    fn forward<L: Listener>(
+        &mut self,
+        config: &Config,
+        caller: usize,
+        message: &Message,
+        from: Pid,
+        to: Pid,
+        line: &[u8],
+        out: &mut Telling<L>,
+    ) {
         let Some(held) = self.held(config, caller, from) else { return out.called(b"notawaiting\n", line) };
         let Some(to) = self.live(config, to) else { return out.called(b"noprocess\n", line) };
         out.called(b"ok\n", line);
@@ -286,7 +338,7 @@ impl Station {
         }
     }
 
-    fn begin_move(&mut self, caller: usize, slot: usize, state: State, line: &[u8], out: &mut Telling) {
+    fn begin_move<L: Listener>(&mut self, caller: usize, slot: usize, state: State, line: &[u8], out: &mut Telling<L>) {
         let process = &mut self.processes[caller];
         let alien = &mut self.aliens[slot];
         alien.moves += 1;
@@ -299,7 +351,7 @@ impl Station {
         out.round(process);
     }
 
-    fn exit(&mut self, caller: usize, line: &[u8], out: &mut Telling) {
+    fn exit<L: Listener>(&mut self, caller: usize, line: &[u8], out: &mut Telling<L>) {
         out.called(b"ok\n", line);
         let pid = self.processes[caller].pid;
         self.processes[caller].is_alive = false;

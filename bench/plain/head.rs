@@ -62,6 +62,16 @@ impl Config {
         }
     }
 
+    /// The configuration of these processes, with the times and pools of which a text tells none.
+    pub fn usual(processes: &[(Pid, u32)]) -> Config {
+        let mut config = Config::new();
+        for &(pid, size) in processes {
+            config.add(pid, size);
+        }
+        config.index();
+        config
+    }
+
     /// Whether format 1 tells all of it.
     pub fn is_usual(&self) -> bool {
         self.times == Times::USUAL && self.pools.iter().all(|&pool| pool == USUAL_POOL)

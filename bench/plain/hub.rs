@@ -3,6 +3,7 @@
 use std::collections::VecDeque;
 use std::sync::{Mutex, MutexGuard, PoisonError};
 
+use crate::generator::Generator;
 use crate::scenario::Plan;
 use crate::wire::{Outbox, EVERY_STATION};
 
@@ -25,8 +26,7 @@ pub struct Hub {
 
 struct Links {
     plan: Plan,
-    /// The generator's state.
-    state: u64,
+    generator: Generator,
     inboxes: Vec<Inbox>,
     /// The programs that have not come to their end.
     programs: usize,
@@ -48,9 +48,9 @@ pub fn locked<T>(mutex: &Mutex<T>) -> MutexGuard<'_, T> {
 impl Hub {
     pub fn new(hosts: &[u16], plan: Plan, programs: usize) -> Hub {
         let inbox = |&host: &u16| Inbox { host, ring: VecDeque::with_capacity(RING), held: None };
-        let state = plan.seed;
+        let generator = Generator::new(plan.seed);
         let inboxes = hosts.iter().map(inbox).collect();
-        Hub { links: Mutex::new(Links { plan, state, inboxes, programs, is_halted: false, entries: 0 }) }
+        Hub { links: Mutex::new(Links { plan, generator, inboxes, programs, is_halted: false, entries: 0 }) }
     }
 
     /// Posts the frames of the outbox from this one on, which this station emitted.
@@ -107,8 +107,7 @@ impl Links {
 
     /// A draw of the generator, of 256.
     fn draw(&mut self) -> u8 {
-        self.state = self.state.wrapping_mul(6_364_136_223_846_793_005).wrapping_add(1_442_695_040_888_963_407);
-        (self.state >> 33) as u8
+        self.generator.draw() as u8
     }
 
     fn post(&mut self, source: u16, destination: u16, frame: &[u8]) {

@@ -1,8 +1,9 @@
-//! `plain replay`, `plain replay --trace`, `plain check` and `plain run`: a plain, fast program of the rules of `vkernel`, for measuring. And
-//! `plain stations`, which plays texts of single stations, for comparing.
+//! `plain replay`, `plain replay --trace`, `plain check`, `plain run` and `plain storm N`: a plain, fast program of the rules of `vkernel`, for
+//! measuring. And `plain stations`, which plays texts of single stations, for comparing.
 
 mod calls;
 mod exchange;
+mod generator;
 mod head;
 mod hub;
 mod machine;
@@ -14,6 +15,7 @@ mod report;
 mod run;
 mod scenario;
 mod station;
+mod storm;
 mod telling;
 mod text;
 mod trace;
@@ -42,22 +44,38 @@ fn main() -> ExitCode {
         ["check"] => trace::check,
         ["run"] => run::run,
         ["stations"] => played::played,
-        _ => return fail(2, "usage: plain replay [--trace] | check | run | stations"),
+        ["storm", word] => match storm::number(word) {
+            Some(number) => return end(storm::storm(number)),
+            None => return usage(),
+        },
+        _ => return usage(),
     };
+    match read() {
+        Ok(text) => end(work(&text)),
+        Err(status) => status,
+    }
+}
+
+/// The input, with a line feed at its end.
+fn read() -> Result<Vec<u8>, ExitCode> {
     let mut text = Vec::new();
     if std::io::stdin().lock().take(INPUT_BYTES + 1).read_to_end(&mut text).is_err() {
-        return fail(4, "reading failed");
+        return Err(fail(4, "reading failed"));
     }
     if text.len() as u64 > INPUT_BYTES {
-        return fail(8, "limit reached");
+        return Err(fail(8, "limit reached"));
     }
     if text.is_empty() {
-        return fail(3, "line 1 is not valid");
+        return Err(fail(3, "line 1 is not valid"));
     }
     if !text.ends_with(b"\n") {
         text.push(b'\n');
     }
-    let (output, ending) = work(&text);
+    Ok(text)
+}
+
+/// Writes what the work gave.
+fn end((output, ending): (Vec<u8>, Ending)) -> ExitCode {
     let mut standard = std::io::stdout().lock();
     if standard.write_all(&output).and_then(|()| standard.flush()).is_err() {
         return fail(5, "writing failed");
@@ -68,6 +86,10 @@ fn main() -> ExitCode {
         Ending::BadLine(line) => fail(3, &format!("line {line} is not valid")),
         Ending::Limit => fail(8, "limit reached"),
     }
+}
+
+fn usage() -> ExitCode {
+    fail(2, "usage: plain replay [--trace] | check | run | storm N | stations")
 }
 
 fn fail(status: u8, text: &str) -> ExitCode {

@@ -1,6 +1,7 @@
 //! What the packets that come amount to at a station.
 
 use crate::head::Config;
+use crate::report::Listener;
 use crate::station::{State, Station, Work};
 use crate::telling::Telling;
 use crate::values::{Answer, Message, Pid, Places, DATA_BYTES};
@@ -9,7 +10,7 @@ use crate::wire::{decode, open, Packet, EVERY_STATION, HEADER_BYTES};
 impl Station {
     /// A frame comes, which is this one of the outbox.
     #[inline]
-    pub fn deliver(&mut self, config: &Config, frame: usize, out: &mut Telling) {
+    pub fn deliver<L: Listener>(&mut self, config: &Config, frame: usize, out: &mut Telling<L>) {
         let range = out.outbox.range(frame);
         let end = range.end;
         let bytes = &out.outbox.bytes[range];
@@ -32,7 +33,7 @@ impl Station {
     }
 
     #[inline]
-    fn packet(&mut self, config: &Config, packet: Packet, stamp: u64, out: &mut Telling) {
+    fn packet<L: Listener>(&mut self, config: &Config, packet: Packet, stamp: u64, out: &mut Telling<L>) {
         match packet {
             Packet::Send { from, to, number, message, part } => self.sent(config, from, to, number, &message, part, stamp, out),
             Packet::Reply { from, to, number, message, dest, bytes } => {
@@ -170,7 +171,7 @@ impl Station {
 
     #[allow(clippy::too_many_arguments)]
     #[inline]
-    fn sent(
+    fn sent<L: Listener>(
         &mut self,
         config: &Config,
         from: Pid,
@@ -179,7 +180,7 @@ impl Station {
         message: &Message,
         part: std::ops::Range<usize>,
         stamp: u64,
-        out: &mut Telling,
+        out: &mut Telling<L>,
     ) {
         let slot = self.slot_of(from);
         if let Some(slot) = slot {
@@ -208,7 +209,16 @@ impl Station {
     }
 
     #[allow(clippy::too_many_arguments)]
-    fn acknowledged(&mut self, config: &Config, from: Pid, to: Pid, number: u64, moving: u64, received: u32, out: &mut Telling) {
+    fn acknowledged<L: Listener>(
+        &mut self,
+        config: &Config,
+        from: Pid,
+        to: Pid,
+        number: u64,
+        moving: u64,
+        received: u32,
+        out: &mut Telling<L>,
+    ) {
         let Some(place) = self.own(config, to) else { return };
         let process = &mut self.processes[place];
         let State::MovingTo(Places { count, .. }) = process.state else { return };

@@ -1,18 +1,20 @@
 //! What processes do by themselves: scripts, page servers and page clients.
 
+use std::borrow::Cow;
+
 use crate::text::{put_bytes, put_decimal, put_message, put_pid, Reader};
 use crate::values::{Answer, Call, Message, Pid, Places};
 
 pub const PAGE_BYTES: usize = 512;
 
 /// What a process was answered last, as far as programs ask for it.
-pub enum Last {
+pub enum Last<'a> {
     Nothing,
     Collected(Answer),
-    Loaded(Vec<u8>),
+    Loaded(Cow<'a, [u8]>),
 }
 
-/// A call that a program makes: its value, the bytes of a Store, and its line in a schedule.
+/// A call that a program makes: its value, the bytes of a Store, and, where it is asked for, its line in a schedule.
 pub struct Made {
     pub call: Call,
     pub bytes: Vec<u8>,
@@ -24,69 +26,56 @@ impl Made {
         Made { call: Call::Exit, bytes: Vec::new(), line: Vec::new() }
     }
 
-    fn begin(&mut self, caller: Pid, call: Call, word: &[u8]) {
-        self.call = call;
-        self.line.clear();
-        self.line.extend_from_slice(b"call ");
-        put_pid(&mut self.line, caller);
-        self.line.push(b' ');
-        self.line.extend_from_slice(word);
-    }
-
-    fn numbers(&mut self, numbers: &[u32]) {
-        for &number in numbers {
-            self.line.push(b' ');
-            put_decimal(&mut self.line, u64::from(number));
-        }
-    }
-
-    fn message_to(&mut self, message: &Message, pid: Pid) {
-        self.line.push(b' ');
-        put_message(&mut self.line, message);
-        self.line.push(b' ');
-        put_pid(&mut self.line, pid);
-    }
-
-    fn exit(&mut self, caller: Pid) {
-        self.begin(caller, Call::Exit, b"exit");
-    }
-
-    fn receive_segment(&mut self, caller: Pid, start: u32, count: u32) {
-        self.begin(caller, Call::ReceiveSegment { start, count }, b"receivesegment");
-        self.numbers(&[start, count]);
-    }
-
-    fn load(&mut self, caller: Pid, start: u32, count: u32) {
-        self.begin(caller, Call::Load { start, count }, b"load");
-        self.numbers(&[start, count]);
-    }
-
-    fn store(&mut self, caller: Pid, start: u32, bytes: &[u8]) {
-        self.begin(caller, Call::Store { start }, b"store");
-        self.numbers(&[start]);
+    fn store(&mut self, start: u32, bytes: &[u8]) {
+        self.call = Call::Store { start };
         self.bytes.clear();
         self.bytes.extend_from_slice(bytes);
-        self.line.push(b' ');
-        put_bytes(&mut self.line, bytes);
     }
 
-    fn send(&mut self, caller: Pid, target: Pid, message: Message) {
-        self.begin(caller, Call::Send { target, message }, b"send ");
-        put_pid(&mut self.line, target);
-        self.line.push(b' ');
-        put_message(&mut self.line, &message);
+    /// Puts the line of a call that a page server or a page client makes.
+    fn put_line(&mut self, caller: Pid) {
+        let line = &mut self.line;
+        line.clear();
+        line.extend_from_slice(b"call ");
+        put_pid(line, caller);
+        match &self.call {
+            Call::ReceiveSegment { start, count } => put_numbers(line, b" receivesegment", &[*start, *count]),
+            Call::Load { start, count } => put_numbers(line, b" load", &[*start, *count]),
+            Call::Store { start } => {
+                put_numbers(line, b" store", &[*start]);
+                line.push(b' ');
+                put_bytes(line, &self.bytes);
+            }
+            Call::Send { target, message } => {
+                line.extend_from_slice(b" send ");
+                put_pid(line, *target);
+                line.push(b' ');
+                put_message(line, message);
+            }
+            Call::Reply { message, to } => put_reply(line, b" reply ", message, *to),
+            Call::ReplySegment { message, to, places } => {
+                put_reply(line, b" replysegment ", message, *to);
+                put_numbers(line, b"", &[places.dest, places.src, places.count]);
+            }
+            _ => line.extend_from_slice(b" exit"),
+        }
+        line.push(b'\n');
     }
+}
 
-    fn reply(&mut self, caller: Pid, message: Message, to: Pid) {
-        self.begin(caller, Call::Reply { message, to }, b"reply");
-        self.message_to(&message, to);
+fn put_numbers(line: &mut Vec<u8>, word: &[u8], numbers: &[u32]) {
+    line.extend_from_slice(word);
+    for &number in numbers {
+        line.push(b' ');
+        put_decimal(line, u64::from(number));
     }
+}
 
-    fn reply_segment(&mut self, caller: Pid, message: Message, to: Pid, places: Places) {
-        self.begin(caller, Call::ReplySegment { message, to, places }, b"replysegment");
-        self.message_to(&message, to);
-        self.numbers(&[places.dest, places.src, places.count]);
-    }
+fn put_reply(line: &mut Vec<u8>, word: &[u8], message: &Message, to: Pid) {
+    line.extend_from_slice(word);
+    put_message(line, message);
+    line.push(b' ');
+    put_pid(line, to);
 }
 
 pub enum Program {
@@ -98,13 +87,19 @@ pub enum Program {
 impl Program {
     /// Puts the next call behind this answer. False at the end.
     pub fn next(&mut self, caller: Pid, last: &Last, made: &mut Made) -> bool {
-        let is_made = match self {
+        match self {
             Program::Script(script) => script.next(made),
-            Program::Server(server) => server.next(caller, last, made),
+            Program::Server(server) => server.next(last, made),
             Program::Client(client) => client.next(caller, made),
-        };
-        if is_made {
-            made.line.push(b'\n');
+        }
+    }
+
+    /// Puts the next call with its line.
+    pub fn next_with_line(&mut self, caller: Pid, last: &Last, made: &mut Made) -> bool {
+        let is_made = self.next(caller, last, made);
+        // a script has put the line that it was given
+        if is_made && !matches!(self, Program::Script(_)) {
+            made.put_line(caller);
         }
         is_made
     }
@@ -130,7 +125,7 @@ impl Script {
         let Some(line) = self.lines.get(self.at) else { return false };
         self.at += 1;
         made.line.clear();
-        made.line.extend_from_slice(&line[..line.len() - 1]);
+        made.line.extend_from_slice(line);
         let mut reader = Reader::new(line);
         let call = reader.skip(b"call ").and_then(|()| reader.pid()).and_then(|_| reader.space()).and_then(|()| reader.call());
         made.call = call.unwrap_or(Call::Exit);
@@ -172,19 +167,19 @@ impl Server {
         page as usize * PAGE_BYTES..(page as usize + 1) * PAGE_BYTES
     }
 
-    fn next(&mut self, caller: Pid, last: &Last, made: &mut Made) -> bool {
+    fn next(&mut self, last: &Last, made: &mut Made) -> bool {
         match self.serving {
             Serving::Ended => return false,
             Serving::Receive if self.left == 0 => {
                 self.serving = Serving::Ended;
-                made.exit(caller);
+                made.call = Call::Exit;
             }
             Serving::Receive => {
                 self.serving = Serving::Receiving;
-                made.receive_segment(caller, 0, PAGE_BYTES as u32);
+                made.call = Call::ReceiveSegment { start: 0, count: PAGE_BYTES as u32 };
             }
             Serving::Receiving => match last {
-                Last::Collected(Answer::ReceivedSegment(from, message, _)) => self.take(caller, *from, message, made),
+                Last::Collected(Answer::ReceivedSegment(from, message, _)) => self.take(*from, message, made),
                 _ => {
                     self.serving = Serving::Ended;
                     return false;
@@ -194,7 +189,7 @@ impl Server {
                 Last::Loaded(bytes) if bytes.len() == PAGE_BYTES => {
                     let range = self.page(page);
                     self.pages[range].copy_from_slice(bytes);
-                    self.reply(caller, from, page, 0, made);
+                    self.reply(from, page, 0, made);
                 }
                 _ => {
                     self.serving = Serving::Ended;
@@ -205,35 +200,35 @@ impl Server {
                 self.left -= 1;
                 self.serving = Serving::Receive;
                 let places = Places { dest, src: 0, count: PAGE_BYTES as u32 };
-                made.reply_segment(caller, page_message(0, 0, page), from, places);
+                made.call = Call::ReplySegment { message: page_message(0, 0, page), to: from, places };
             }
         }
         true
     }
 
     /// Takes a request.
-    fn take(&mut self, caller: Pid, from: Pid, message: &Message, made: &mut Made) {
+    fn take(&mut self, from: Pid, message: &Message, made: &mut Made) {
         let (code, page) = (message.0[1], message.word(4));
         let (start, length) = message.segment();
         if code != 1 && code != 2 {
-            self.reply(caller, from, page, 2, made);
+            self.reply(from, page, 2, made);
         } else if page as usize >= self.pages.len() / PAGE_BYTES {
-            self.reply(caller, from, page, 1, made);
+            self.reply(from, page, 1, made);
         } else if code == 1 && message.grants_write() && length as usize >= PAGE_BYTES {
             self.serving = Serving::Storing { from, page, dest: start };
-            made.store(caller, 0, &self.pages[self.page(page)]);
+            made.store(0, &self.pages[self.page(page)]);
         } else if code == 2 && message.grants_read() && length as usize == PAGE_BYTES {
             self.serving = Serving::Loading { from, page };
-            made.load(caller, 0, PAGE_BYTES as u32);
+            made.call = Call::Load { start: 0, count: PAGE_BYTES as u32 };
         } else {
-            self.reply(caller, from, page, 2, made);
+            self.reply(from, page, 2, made);
         }
     }
 
-    fn reply(&mut self, caller: Pid, to: Pid, page: u32, code: u8, made: &mut Made) {
+    fn reply(&mut self, to: Pid, page: u32, code: u8, made: &mut Made) {
         self.left -= 1;
         self.serving = Serving::Receive;
-        made.reply(caller, page_message(0, code, page), to);
+        made.call = Call::Reply { message: page_message(0, code, page), to };
     }
 }
 
@@ -257,11 +252,12 @@ impl Client {
         }
         self.at += 1;
         let size = PAGE_BYTES as u32;
+        let (target, page) = (self.server, round % self.pages);
         match call {
-            0 => made.store(caller, 0, &[(u64::from(round) + u64::from(caller.host())) as u8; PAGE_BYTES]),
-            1 => made.send(caller, self.server, granting(page_message(1, 2, round % self.pages), 0, size)),
-            2 => made.send(caller, self.server, granting(page_message(2, 1, round % self.pages), size, size)),
-            _ => made.load(caller, size, size),
+            0 => made.store(0, &[(u64::from(round) + u64::from(caller.host())) as u8; PAGE_BYTES]),
+            1 => made.call = Call::Send { target, message: granting(page_message(1, 2, page), 0, size) },
+            2 => made.call = Call::Send { target, message: granting(page_message(2, 1, page), size, size) },
+            _ => made.call = Call::Load { start: size, count: size },
         }
         true
     }

@@ -7,9 +7,9 @@ use crate::text::Reader;
 use crate::values::Call;
 use crate::Ending;
 
-const EVENTS: usize = 100_000;
+pub const EVENTS: usize = 100_000;
 /// An event is refused behind more bytes of frames.
-const LAST_BYTES: usize = 266_076_160;
+pub const LAST_BYTES: usize = 266_076_160;
 
 /// An event. Stations are told by their places, and processes by theirs among all processes.
 pub enum Event {

@@ -14,15 +14,76 @@ pub struct Report {
     frames: u64,
 }
 
+/// Hears what events tell, as it is told.
+pub trait Listener {
+    /// Whether frames are found by the events that emitted them, so that stations keep which these are.
+    const FINDS_FRAMES: bool;
+
+    /// An event of this station begins, which is so manyth of its own.
+    fn begin(&mut self, host: u16, own: u64);
+    /// An answer that is this line.
+    fn answer_line(&mut self, line: &[u8]);
+    fn answer(&mut self, answer: &Answer);
+    fn answer_loaded(&mut self, bytes: &[u8]);
+    fn answer_tick(&mut self, now: u64);
+    /// A step whose words are this line of the schedule: a text has one spelling.
+    fn step_line(&mut self, line: &[u8]);
+    /// A step of a process, behind this word.
+    fn step_of(&mut self, word: &[u8], pid: Pid);
+    /// A step of a process and these last words.
+    fn step_ending(&mut self, word: &[u8], pid: Pid, ending: &[u8]);
+    /// A step of a process and these numbers.
+    fn step_numbers(&mut self, word: &[u8], pid: Pid, numbers: &[u64]);
+    fn step_hear(&mut self, asker: Pid, lookup: u64, pid: Pid);
+    fn step_found(&mut self, asker: Pid, pid: Pid);
+    /// A frame of this kind, which stands between its spaces, and of this length.
+    fn frame(&mut self, header: &Header, kind: &[u8], length: usize);
+}
+
 impl Report {
     pub fn new(is_trace: bool) -> Report {
         let title: &[u8] = if is_trace { b"vkernel trace 1\n" } else { b"vkernel report 1\n" };
         Report { text: title.to_vec(), is_trace, place: 0..0, events: 0, steps: 0, frames: 0 }
     }
 
+    pub fn missing(&mut self, host: u16) {
+        self.events += 1;
+        if !self.is_trace {
+            put_decimal(&mut self.text, self.events);
+            self.text.push(b' ');
+            put_decimal(&mut self.text, u64::from(host));
+            self.text.extend_from_slice(b":- missing\n");
+        }
+    }
+
+    #[inline(always)]
+    fn step(&mut self, words: &[u8]) {
+        self.steps += 1;
+        if !self.is_trace {
+            self.text.extend_from_slice(b"step ");
+        }
+        self.text.extend_from_slice(words);
+    }
+
+    /// `end EVENTS STEPS FRAMES`
+    pub fn end(&mut self) {
+        if !self.is_trace {
+            self.text.extend_from_slice(b"end");
+            for count in [self.events, self.steps, self.frames] {
+                self.text.push(b' ');
+                put_decimal(&mut self.text, count);
+            }
+            self.text.push(b'\n');
+        }
+    }
+}
+
+impl Listener for Report {
+    const FINDS_FRAMES: bool = true;
+
     /// `N H:E `
     #[inline]
-    pub fn begin(&mut self, host: u16, own: u64) {
+    fn begin(&mut self, host: u16, own: u64) {
         self.events += 1;
         if !self.is_trace {
             put_decimal(&mut self.text, self.events);
@@ -36,25 +97,14 @@ impl Report {
         }
     }
 
-    pub fn missing(&mut self, host: u16) {
-        self.events += 1;
-        if !self.is_trace {
-            put_decimal(&mut self.text, self.events);
-            self.text.push(b' ');
-            put_decimal(&mut self.text, u64::from(host));
-            self.text.extend_from_slice(b":- missing\n");
-        }
-    }
-
-    /// An answer that is this line.
     #[inline(always)]
-    pub fn answer_line(&mut self, line: &[u8]) {
+    fn answer_line(&mut self, line: &[u8]) {
         if !self.is_trace {
             self.text.extend_from_slice(line);
         }
     }
 
-    pub fn answer(&mut self, answer: &Answer) {
+    fn answer(&mut self, answer: &Answer) {
         if self.is_trace {
             return;
         }
@@ -88,7 +138,7 @@ impl Report {
         text.push(b'\n');
     }
 
-    pub fn answer_loaded(&mut self, bytes: &[u8]) {
+    fn answer_loaded(&mut self, bytes: &[u8]) {
         if !self.is_trace {
             self.text.extend_from_slice(b"ok ");
             put_bytes(&mut self.text, bytes);
@@ -96,7 +146,7 @@ impl Report {
         }
     }
 
-    pub fn answer_tick(&mut self, now: u64) {
+    fn answer_tick(&mut self, now: u64) {
         if !self.is_trace {
             self.text.extend_from_slice(b"now ");
             put_decimal(&mut self.text, now);
@@ -105,39 +155,26 @@ impl Report {
     }
 
     #[inline(always)]
-    fn step(&mut self, words: &[u8]) {
-        self.steps += 1;
-        if !self.is_trace {
-            self.text.extend_from_slice(b"step ");
-        }
-        self.text.extend_from_slice(words);
-    }
-
-    /// A step whose words are this line of the schedule: a text has one spelling.
-    #[inline(always)]
-    pub fn step_line(&mut self, line: &[u8]) {
+    fn step_line(&mut self, line: &[u8]) {
         self.step(line);
     }
 
-    /// A step of a process, behind this word.
     #[inline(always)]
-    pub fn step_of(&mut self, word: &[u8], pid: Pid) {
+    fn step_of(&mut self, word: &[u8], pid: Pid) {
         self.step(word);
         put_pid(&mut self.text, pid);
         self.text.push(b'\n');
     }
 
-    /// A step of a process and these last words.
     #[inline(always)]
-    pub fn step_ending(&mut self, word: &[u8], pid: Pid, ending: &[u8]) {
+    fn step_ending(&mut self, word: &[u8], pid: Pid, ending: &[u8]) {
         self.step(word);
         put_pid(&mut self.text, pid);
         self.text.extend_from_slice(ending);
     }
 
-    /// A step of a process and these numbers.
     #[inline(always)]
-    pub fn step_numbers(&mut self, word: &[u8], pid: Pid, numbers: &[u64]) {
+    fn step_numbers(&mut self, word: &[u8], pid: Pid, numbers: &[u64]) {
         self.step(word);
         put_pid(&mut self.text, pid);
         for &number in numbers {
@@ -147,7 +184,7 @@ impl Report {
         self.text.push(b'\n');
     }
 
-    pub fn step_hear(&mut self, asker: Pid, lookup: u64, pid: Pid) {
+    fn step_hear(&mut self, asker: Pid, lookup: u64, pid: Pid) {
         self.step(b"hear ");
         put_pid(&mut self.text, asker);
         self.text.push(b' ');
@@ -157,7 +194,7 @@ impl Report {
         self.text.push(b'\n');
     }
 
-    pub fn step_found(&mut self, asker: Pid, pid: Pid) {
+    fn step_found(&mut self, asker: Pid, pid: Pid) {
         self.step(b"found ");
         put_pid(&mut self.text, asker);
         self.text.push(b' ');
@@ -167,7 +204,7 @@ impl Report {
 
     /// `frame H:E.O DEST KIND LENGTH`, where the kind stands between its spaces.
     #[inline(always)]
-    pub fn frame(&mut self, header: &Header, kind: &[u8], length: usize) {
+    fn frame(&mut self, header: &Header, kind: &[u8], length: usize) {
         self.frames += 1;
         if self.is_trace {
             return;
@@ -185,17 +222,5 @@ impl Report {
         self.text.extend_from_slice(kind);
         put_decimal(&mut self.text, length as u64);
         self.text.push(b'\n');
-    }
-
-    /// `end EVENTS STEPS FRAMES`
-    pub fn end(&mut self) {
-        if !self.is_trace {
-            self.text.extend_from_slice(b"end");
-            for count in [self.events, self.steps, self.frames] {
-                self.text.push(b' ');
-                put_decimal(&mut self.text, count);
-            }
-            self.text.push(b'\n');
-        }
     }
 }

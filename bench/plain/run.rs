@@ -1,6 +1,7 @@
 //! Stations as threads: one for each program, one for each station that takes what comes for it, and one that is the clock. They
 //! share the stations, each under a lock, and the hub. What happened is written as a schedule.
 
+use std::borrow::Cow;
 use std::sync::Mutex;
 use std::thread::{sleep, yield_now};
 use std::time::Duration;
@@ -12,7 +13,7 @@ use crate::scenario::{read_scenario, Scenario};
 use crate::station::{State, Station};
 use crate::telling::Telling;
 use crate::text::{put_decimal, put_pid};
-use crate::values::{lies_in, Answer, Call, Pid, DATA_BYTES};
+use crate::values::{Answer, Call, Pid};
 use crate::wire::open;
 use crate::Ending;
 
@@ -117,7 +118,7 @@ impl Port<'_> {
     }
 
     /// A call of the process with this place among all, and what it is answered at once; nothing where it is begun.
-    fn call(&mut self, process: usize, made: &Made) -> Result<Option<Last>, Full> {
+    fn call(&mut self, process: usize, made: &Made) -> Result<Option<Last<'static>>, Full> {
         self.line.clear();
         self.line.extend_from_slice(&made.line);
         let answered = self.enter(0, |station, config, out| {
@@ -203,13 +204,8 @@ impl Port<'_> {
 }
 
 /// What a load gives.
-fn loaded(station: &Station, caller: usize, start: u32, count: u32) -> Last {
-    let process = &station.processes[caller];
-    if process.is_alive && count <= DATA_BYTES && lies_in(start, count, process.memory.len()) {
-        Last::Loaded(process.memory[start as usize..(start + count) as usize].to_vec())
-    } else {
-        Last::Nothing
-    }
+fn loaded(station: &Station, caller: usize, start: u32, count: u32) -> Last<'static> {
+    station.loaded(caller, start, count).map_or(Last::Nothing, |bytes| Last::Loaded(Cow::Owned(bytes.to_vec())))
 }
 
 /// Runs a process by its program, until that is at its end or the hub has stopped.
@@ -219,7 +215,7 @@ fn play(place: &Workplace, process: usize, mut program: Program) -> Result<(), F
     let mut port = place.port(station);
     let mut made = Made::new();
     let mut last = Last::Nothing;
-    while program.next(pid, &last, &mut made) {
+    while program.next_with_line(pid, &last, &mut made) {
         last = match port.call(process, &made)? {
             Some(answer) => answer,
             None => match port.collect_waiting(process, pid)? {

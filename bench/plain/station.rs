@@ -2,6 +2,7 @@
 //! packets do in `packets`.
 
 use crate::head::{Config, Times, POOL};
+use crate::report::Listener;
 use crate::telling::Telling;
 use crate::values::{Answer, Message, Names, Pid, Places};
 use crate::wire::{Header, Outputs, EVERY_STATION};
@@ -197,6 +198,7 @@ pub struct Station {
     pub names: Names,
     /// Who is behind a sender in a queue.
     next: [u8; OWN_SENDERS + POOL],
+    /// Of each event, where frames are found by the events that emitted them.
     outputs: Vec<Outputs>,
 }
 
@@ -254,7 +256,7 @@ impl Station {
 
     /// A frame of another station is addressed to this one.
     #[inline]
-    pub fn is_addressed(&self, frame: usize, out: &Telling) -> bool {
+    pub fn is_addressed<L: Listener>(&self, frame: usize, out: &Telling<L>) -> bool {
         let destination = out.outbox.destination(frame);
         destination == self.host || destination == EVERY_STATION
     }
@@ -266,19 +268,21 @@ impl Station {
 
     /// Begins an event, to which this Lamport number came.
     #[inline]
-    pub fn begin(&mut self, came: u64, out: &mut Telling) {
+    pub fn begin<L: Listener>(&mut self, came: u64, out: &mut Telling<L>) {
         self.events += 1;
         self.number = (self.number.max(came) + 1).min(i64::MAX as u64);
         out.header =
             Header { source: self.host, destination: 0, stamp: self.now, number: self.number, event: self.events, output: 0 };
-        self.outputs.push(Outputs { first: out.outbox.count() as u32, count: 0 });
+        if L::FINDS_FRAMES {
+            self.outputs.push(Outputs { first: out.outbox.count() as u32, count: 0 });
+        }
         out.report.begin(self.host, self.events);
     }
 
     /// Ends an event.
     #[inline]
-    pub fn end(&mut self, out: &Telling) {
-        if out.header.output > 0 {
+    pub fn end<L: Listener>(&mut self, out: &Telling<L>) {
+        if L::FINDS_FRAMES && out.header.output > 0 {
             if let Some(outputs) = self.outputs.last_mut() {
                 outputs.count = u32::from(out.header.output);
             }
@@ -325,7 +329,7 @@ impl Station {
 
     /// A process that is blocked in a receive takes the first of its queue, where there is one.
     #[inline]
-    pub fn take(&mut self, taker: usize, out: &mut Telling) {
+    pub fn take<L: Listener>(&mut self, taker: usize, out: &mut Telling<L>) {
         let first = self.processes[taker].queue_first;
         if first == NOBODY || !self.processes[taker].is_receiving() {
             return;
@@ -346,7 +350,7 @@ impl Station {
     }
 
     #[inline]
-    pub fn collect(&mut self, caller: usize, line: &[u8], out: &mut Telling) {
+    pub fn collect<L: Listener>(&mut self, caller: usize, line: &[u8], out: &mut Telling<L>) {
         let process = &mut self.processes[caller];
         if let State::Done(answer) = &process.state {
             out.report.answer(answer);
@@ -364,7 +368,7 @@ impl Station {
         self.now += 1;
     }
 
-    pub fn tick(&mut self, out: &mut Telling) {
+    pub fn tick<L: Listener>(&mut self, out: &mut Telling<L>) {
         let now = self.now;
         let span = self.times.span();
         out.report.answer_tick(now);
@@ -426,7 +430,7 @@ impl Station {
     /// A message arrives in this slot, and drops what was there.
     #[allow(clippy::too_many_arguments)]
     #[inline]
-    pub fn arrive(
+    pub fn arrive<L: Listener>(
         &mut self,
         slot: usize,
         target: usize,
@@ -435,7 +439,7 @@ impl Station {
         stamp: u64,
         message: &Message,
         part: &[u8],
-        out: &mut Telling,
+        out: &mut Telling<L>,
     ) {
         out.report.step_numbers(b"arrive ", sender, &[number]);
         if self.aliens[slot].sender.is_some() && self.aliens[slot].stage == Stage::Queued {
@@ -463,7 +467,7 @@ impl Station {
 
 impl Alien {
     /// What its sender is told, in the name of its target, whoever has the message.
-    pub fn tell(&self, out: &mut Telling) {
+    pub fn tell<L: Listener>(&self, out: &mut Telling<L>) {
         let Some(sender) = self.sender else { return };
         match self.stage {
             Stage::Queued | Stage::Taken => out.pending(self.target, sender, self.number),

@@ -1,13 +1,13 @@
 //! What events tell: the report, and the frames that they emit.
 
-use crate::report::Report;
+use crate::report::{Listener, Report};
 use crate::station::{Process, State};
 use crate::values::{piece_length, Message, Pid, Places, DATA_BYTES};
 use crate::wire::{front, put_long, put_word, Header, Outbox, EVERY_STATION};
 
-/// What is told of events, and the frames that they emit.
-pub struct Telling {
-    pub report: Report,
+/// What is told of events, to a report where no other listener is named, and the frames that they emit.
+pub struct Telling<L = Report> {
+    pub report: L,
     pub outbox: Outbox,
     /// The header of the event's last frame, or where there is none yet that of the output 0.
     pub header: Header,
@@ -15,8 +15,14 @@ pub struct Telling {
 
 impl Telling {
     pub fn new(is_trace: bool) -> Telling {
+        Telling::to(Report::new(is_trace))
+    }
+}
+
+impl<L: Listener> Telling<L> {
+    pub fn to(report: L) -> Telling<L> {
         let header = Header { source: 0, destination: 0, stamp: 0, number: 0, event: 0, output: 0 };
-        Telling { report: Report::new(is_trace), outbox: Outbox::default(), header }
+        Telling { report, outbox: Outbox::default(), header }
     }
 
     #[inline(always)]

@@ -93,6 +93,16 @@ impl<'a> Reader<'a> {
         }
     }
 
+    /// Goes behind this front of the rest, where it stands there.
+    #[inline(always)]
+    fn skips(&mut self, rest: &[u8], front: &[u8]) -> bool {
+        let is_next = rest.starts_with(front);
+        if is_next {
+            self.at += front.len();
+        }
+        is_next
+    }
+
     #[inline(always)]
     fn byte(&mut self, byte: u8) -> Option<()> {
         if self.peek() == byte {
@@ -256,12 +266,15 @@ impl<'a> Reader<'a> {
     }
 
     fn scope(&mut self) -> Option<Scope> {
-        if self.skip(b"local").is_some() {
+        let rest = self.text.get(self.at..)?;
+        if self.skips(rest, b"local") {
             Some(Scope::Local)
-        } else if self.skip(b"remote").is_some() {
+        } else if self.skips(rest, b"remote") {
             Some(Scope::Remote)
+        } else if self.skips(rest, b"both") {
+            Some(Scope::Both)
         } else {
-            self.skip(b"both").map(|()| Scope::Both)
+            None
         }
     }
 
@@ -303,46 +316,49 @@ impl<'a> Reader<'a> {
 
     #[inline(never)]
     fn other_call(&mut self) -> Option<Call> {
-        if self.skip(b"receivesegment").is_some() {
+        let rest = self.text.get(self.at..)?;
+        if self.skips(rest, b"receivesegment") {
             let (start, count) = self.range()?;
             Some(Call::ReceiveSegment { start, count })
-        } else if self.skip(b"replysegment ").is_some() {
+        } else if self.skips(rest, b"replysegment ") {
             let message = self.message()?;
             self.space()?;
             let to = self.pid()?;
             Some(Call::ReplySegment { message, to, places: self.places()? })
-        } else if self.skip(b"forward ").is_some() {
+        } else if self.skips(rest, b"forward ") {
             let message = self.message()?;
             self.space()?;
             let from = self.pid()?;
             self.space()?;
             Some(Call::Forward { message, from, to: self.pid()? })
-        } else if self.skip(b"moveto ").is_some() {
+        } else if self.skips(rest, b"moveto ") {
             let partner = self.pid()?;
             Some(Call::MoveTo { partner, places: self.places()? })
-        } else if self.skip(b"movefrom ").is_some() {
+        } else if self.skips(rest, b"movefrom ") {
             let partner = self.pid()?;
             Some(Call::MoveFrom { partner, places: self.places()? })
-        } else if self.skip(b"setpid ").is_some() {
+        } else if self.skips(rest, b"setpid ") {
             let logical = self.count()?;
             self.space()?;
             let pid = self.pid()?;
             self.space()?;
             Some(Call::SetPid { logical, pid, scope: self.scope()? })
-        } else if self.skip(b"getpid ").is_some() {
+        } else if self.skips(rest, b"getpid ") {
             let logical = self.count()?;
             self.space()?;
             Some(Call::GetPid { logical, scope: self.scope()? })
-        } else if self.skip(b"load").is_some() {
+        } else if self.skips(rest, b"load") {
             let (start, count) = self.range()?;
             Some(Call::Load { start, count })
-        } else if self.skip(b"store ").is_some() {
+        } else if self.skips(rest, b"store ") {
             let start = self.count()?;
             self.space()?;
             self.store_bytes()?;
             Some(Call::Store { start })
+        } else if self.skips(rest, b"exit") {
+            Some(Call::Exit)
         } else {
-            self.skip(b"exit").map(|()| Call::Exit)
+            None
         }
     }
 }

@@ -236,6 +236,18 @@ impl Outbox {
         self.ends.len()
     }
 
+    /// Forgets all frames but the last so many, and tells how many they were, and how many bytes.
+    pub fn keep_last(&mut self, count: usize) -> (usize, usize) {
+        let first = self.ends.len().saturating_sub(count);
+        let start = if first == 0 { 0 } else { self.ends[first - 1] };
+        self.bytes.drain(..start as usize);
+        self.ends.drain(..first);
+        for end in &mut self.ends {
+            *end -= start;
+        }
+        (first, start as usize)
+    }
+
     pub fn clear(&mut self) {
         self.bytes.clear();
         self.ends.clear();
