@@ -1,23 +1,18 @@
 -- A history with what happened at one event more.
-use Rattle.std.proofs.Common.{◌≡◌, ℕ, ◌+◌, ◌≤◌, Bool, cond, List, [], ◌∷◌, ◌++◌, length, sym, ap, ◌∙◌, length-append, arith}
+use Rattle.std.proofs.Common.{◌≡◌, ℕ, ◌+◌, ◌≤◌, Bool, cond, List, [], ◌∷◌, ◌++◌, length, ap, ◌∙◌, length-append, arith}
 use Rattle.std.proofs.lemmas.Grind.{flat_map-append}
 use Rattle.std.proofs.lemmas.List.{append-nil, length-map}
 use Rattle.std.proofs.lemmas.List.Sums.{sum_by-append, count_by-le-length}
-use Rattle.vk_base.proofs.BoolLemmas.{plus_zero}
-use Rattle.circular_buffer.specs.Buffer.{Buffer}
 use Rattle.vk_types.specs.Types.{EventAnswer, Pid}
-use Rattle.vk_frame.specs.declared.header.Header.{Header}
 use Rattle.vk_schedule.specs.declared.event.Event.{Event}
 use Rattle.vk_rules.specs.Entries.{Entry, is_frame_taken}
-use Rattle.vk_rules.specs.Histories.{At, Happened, Missing, happened, history_of, no_entries}
-use Rattle.vk_cluster.specs.declared.report.StepReport.{StepReport}
-use Rattle.vk_cluster.specs.Standing.{IsNextReported, logs_of}
+use Rattle.vk_rules.specs.Histories.{At, Happened, happened, history_of, no_entries}
+use Rattle.vk_cluster.specs.Standing.{logs_of}
 use Rattle.vk_cluster.proofs.Logs.{history_more}
-use Rattle.vk_drive.specs.declared.course.StormCourse.{StormCourse}
 use Rattle.vk_drive.specs.Tasks.{settings}
 use Rattle.vk_drive.specs.declared.counts.StormCounts.{StormCounts}
-use Rattle.vk_drive.specs.Driving.{AreLow, IsCourse, IsNoted, counts_of, counts_with, last_of, one_if}
-use Rattle.vk_drive.specs.Told.{all_emitted, answered_in, answered_to, count_answered, emitted_in, has_answer, headers, is_old, is_timed_out, tells_answer}
+use Rattle.vk_drive.specs.Driving.{AreLow, counts_of, counts_with, one_if}
+use Rattle.vk_drive.specs.Told.{all_emitted, answered_in, answered_to, count_answered, emitted_in, has_answer, is_old, is_timed_out, tells_answer}
 
 module _ (hs : List Happened) (h : Happened) where
   pub emitted_more : all_emitted (hs ++ h ∷ []) ≡ all_emitted hs ++ emitted_in h
@@ -42,7 +37,7 @@ pub history_with : (es : List Event) (e : Event) (h : Happened) → happened set
     history_of settings (es ++ e ∷ []) ≡ history_of settings es ++ h ∷ []
 history_with es e h is = history_more settings es no_entries e ∙ ap (λ x. history_of settings es ++ x ∷ []) is
 
--- the numbers, with an entry more, and with nothing to deliver
+-- the numbers, with an entry more
 pub counts_at : (hs : List Happened) (host event : ℕ) (e : Entry) →
     counts_of (hs ++ At host event e ∷ []) ≡ counts_with (counts_of hs) (length e.frames) e.answer
 counts_at hs host event e =
@@ -57,40 +52,13 @@ counts_at hs host event e =
       timedout = count_more hs h is_timed_out i;
     })
 
-pub counts_missing : (hs : List Happened) (host : ℕ) → counts_of (hs ++ Missing host ∷ []) ≡ counts_of hs
-counts_missing hs host =
-    let h : Happened = Missing host in
-    (λ i. record {
-      frames = (frames_count hs h ∙ plus_zero (length (all_emitted hs))) i;
-      taken = (count_more hs h is_frame_taken ∙ plus_zero (count_answered is_frame_taken hs)) i;
-      late = (count_more hs h is_old ∙ plus_zero (count_answered is_old hs)) i;
-      answers = (count_more hs h tells_answer ∙ plus_zero (count_answered tells_answer hs)) i;
-      timedout = (count_more hs h is_timed_out ∙ plus_zero (count_answered is_timed_out hs)) i;
-    })
-
-pub noted_missing : (hs : List Happened) (host : ℕ) (recent : Buffer Header) (counts : StormCounts) → IsNoted hs recent counts →
-    IsNoted (hs ++ Missing host ∷ []) recent counts
-noted_missing hs host recent counts noted = record {
-  recent_is = noted.recent_is ∙ ap last_of (sym (emitted_more hs (Missing host) ∙ append-nil (all_emitted hs)));
-  counts_are = noted.counts_are ∙ sym (counts_missing hs host);
-}
-
-pub noted_at : (hs : List Happened) (host event : ℕ) (e : Entry) (recent : Buffer Header) (counts after : StormCounts) (frames : ℕ) (a : EventAnswer) →
-    frames ≡ length e.frames → a ≡ e.answer → counts ≡ counts_of hs → recent ≡ last_of (all_emitted hs ++ headers e.frames) →
-    after ≡ counts_with counts frames a → IsNoted (hs ++ At host event e ∷ []) recent after
-noted_at hs host event e recent counts after frames a many given before recent_is counted_is = record {
-  recent_is = recent_is ∙ ap last_of (sym (emitted_more hs (At host event e)));
-  counts_are = counted_is ∙ (λ i. counts_with (before i) (many i) (given i)) ∙ sym (counts_at hs host event e);
-}
-
 -- there is room in the numbers for one event more
-pub low : (hs : List Happened) (recent : Buffer Header) (counts : StormCounts) → IsNoted hs recent counts → length hs ≤ 100000 →
-    AreLow counts
-low hs recent counts noted few =
-    let taken : counts.taken ≡ count_answered is_frame_taken hs = ap (λ (c : StormCounts). c.taken) noted.counts_are in
-    let late : counts.late ≡ count_answered is_old hs = ap (λ (c : StormCounts). c.late) noted.counts_are in
-    let answers : counts.answers ≡ count_answered tells_answer hs = ap (λ (c : StormCounts). c.answers) noted.counts_are in
-    let timedout : counts.timedout ≡ count_answered is_timed_out hs = ap (λ (c : StormCounts). c.timedout) noted.counts_are in
+pub low : (hs : List Happened) (counts : StormCounts) → counts ≡ counts_of hs → length hs ≤ 100000 → AreLow counts
+low hs counts are few =
+    let taken : counts.taken ≡ count_answered is_frame_taken hs = ap (λ (c : StormCounts). c.taken) are in
+    let late : counts.late ≡ count_answered is_old hs = ap (λ (c : StormCounts). c.late) are in
+    let answers : counts.answers ≡ count_answered tells_answer hs = ap (λ (c : StormCounts). c.answers) are in
+    let timedout : counts.timedout ≡ count_answered is_timed_out hs = ap (λ (c : StormCounts). c.timedout) are in
     let one = count_by-le-length (has_answer is_frame_taken) hs in
     let two = count_by-le-length (has_answer is_old) hs in
     let three = count_by-le-length (has_answer tells_answer) hs in
@@ -101,14 +69,3 @@ low hs recent counts noted few =
       answers = omega (arith, answers, three, few);
       timedout = omega (arith, timedout, four, few);
     }
-
--- the event happened, and was noted
-pub course_next : (es : List Event) (old new : StormCourse) (e : Event) (r : StepReport) → IsCourse es old →
-    IsNextReported settings es new.cluster e r →
-    IsNoted (history_of settings (es ++ e ∷ [])) new.recent new.counts → new.counts.frames ≤ old.counts.frames + 4294967295 →
-    IsCourse (es ++ e ∷ []) new
-course_next es old new e r is happens noted few = record {
-  stands = happens.stands;
-  noted = noted;
-  few = let long = length-append es (e ∷ []) in let before = is.few in omega (arith, few, before, long);
-}

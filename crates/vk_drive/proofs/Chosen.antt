@@ -10,6 +10,7 @@ use Rattle.vk_cluster.specs.Standing.{step_report}
 use Rattle.vk_schedule.specs.declared.event.Event.{Event}
 use Rattle.vk_schedule.specs.declared.event.Event.TheVariants as events
 use Rattle.vk_schedule.specs.Lawful.{has_actors}
+use Rattle.vk_event.specs.declared.task.Task.{Task}
 use Rattle.vk_frame.specs.declared.header.Header.{Header}
 use Rattle.vk_rules.specs.Entries.{Called, Collected}
 use Rattle.vk_rules.specs.Frames.{Frame}
@@ -18,7 +19,7 @@ unfoldable use Rattle.vk_rules.specs.Histories.{happened}
 unfoldable use Rattle.vk_rules.specs.Right.{right_entry}
 use Rattle.vk_rules.specs.Right.{entry_of}
 use Rattle.vk_drive.specs.declared.actor.Actor.{Actor}
-use Rattle.vk_drive.specs.Driving.{IsNextOf, IsOfStation, is_of_no_process}
+use Rattle.vk_drive.specs.Driving.{IsNextOf, IsOfStation, is_delivery, is_of_no_process}
 use Rattle.vk_drive.specs.Storms.{call_event, delivery_of, process_event}
 use Rattle.vk_drive.specs.Tasks.{specs, task_at}
 use Rattle.vk_drive.specs.Told.{answered_in, answered_to, is_waiting}
@@ -54,6 +55,15 @@ pub next_acts : (place : Option ℕ) (actors : List Actor) (hs : List Happened) 
 next_acts (Some place) actors hs e next =
     ap (has_actors specs) next.1.event ∙ process_acts place (answered_to (task_at place).pid hs) next.0
 next_acts None actors hs e next = next.1.acts
+
+-- the event of a process is no delivery
+none_comes : (pid : Pid) (b : Bool) (o : Option Call) → is_delivery (cond b (events.Collect pid) (call_event pid o)) ≡ false
+none_comes pid true o = refl
+none_comes pid false None = refl
+none_comes pid false (Some call) = refl
+
+pub process_comes : (t : Task) (heard : List EventAnswer) (e : Event) → e ≡ process_event t heard → is_delivery e ≡ false
+process_comes t heard e is = ap is_delivery is ∙ none_comes t.pid (is_waiting heard) _
 
 -- a tick, or a delivery, is of a station
 pub ticks_at : (d : ℕ) → d < 4 → IsOfStation (events.Tick (1 + d))

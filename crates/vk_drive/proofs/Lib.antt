@@ -1,10 +1,14 @@
+mod Acted
 pub mod Acting
 pub mod Behind
 pub mod Chosen
+mod Drawn
+mod Emitted
+mod Coming
+mod Counted
 pub mod Fronts
-mod Noted
+mod Kept
 mod Opening
 mod Places
 mod Playing
-mod Recent
 mod SoFar

@@ -1,5 +1,5 @@
 -- The storm of a number, under way behind so many of its events.
-use Rattle.std.proofs.Common.{◌≡◌, ℕ, ◌+◌, ◌<◌, ◌≤◌, List, [], ◌∷◌, ◌++◌, refl, sym, ap, subst, ◌∙◌, arith}
+use Rattle.std.proofs.Common.{◌≡◌, ℕ, ◌+◌, ◌<◌, ◌≤◌, List, [], ◌∷◌, ◌++◌, length, refl, sym, ap, subst, ◌∙◌, arith}
 use Rattle.vk_base.specs.declared.limits.TheConstants.{EVENTS}
 use Rattle.vk_schedule.specs.declared.event.Event.{Event}
 use Rattle.vk_rules.specs.Histories.{history_of}
@@ -20,10 +20,12 @@ pub begun : (n : ℕ) (d : Driver) → IsDriver [] d → d.generator ≡ n → I
 unfolding storm_after
 begun n d is state = record { driver = is; state = state; fits = λ count low. absurd (omega arith) }
 
+-- there may be more
+pub few_events : (n count : ℕ) → count < n → n ≤ EVENTS → length (storm_after n count).events < EVENTS
+few_events n count low few = let long = storm_count n count in omega (arith, long, low, few)
+
 pub may_go_on : (n count : ℕ) (d : Driver) → IsStormSoFar n count d → count < n → n ≤ EVENTS → IsStormOpen d
-may_go_on n count d so_far low few =
-    let long = storm_count n count in
-    ((storm_after n count).events, so_far.driver, omega (arith, long, low, few))
+may_go_on n count d so_far low few = ((storm_after n count).events, so_far.driver, few_events n count low few)
 
 -- one event more
 pub goes_on : (n count : ℕ) (old new : Driver) → IsStormSoFar n count old →

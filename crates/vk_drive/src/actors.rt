@@ -1,10 +1,10 @@
 //! The four processes of a storm, in order.
 
-ghost use Rattle.std.specs.Prelude.{◌≡◌, ◌≢◌, ◌<◌, [], ◌∷◌, ◌++◌, ℕ, List, length, IfOk};
+ghost use Rattle.std.specs.Prelude.{◌≡◌, ◌≢◌, ◌<◌, [], ◌∷◌, ◌++◌, ℕ, List, length, slice_get, Some, IfOk};
 ghost use Rattle.vk_base.specs.declared.event.EventAnswer.{EventAnswer as TheAnswer};
-ghost use Rattle.vk_cluster.specs.declared.report.ClusterAnswer.TheVariants as answered;
-ghost use Rattle.vk_cluster.specs.declared.report.StepReport.{StepReport as TheReport};
-ghost use Rattle.vk_cluster.specs.Standing.{TellsReport, advanced, logs_of};
+ghost use Rattle.vk_cluster.specs.Standing.{logs_of};
+ghost use Rattle.vk_host.specs.Responses.{answer_of};
+ghost use Rattle.vk_host.specs.Values.{StationValue};
 ghost use Rattle.vk_schedule.specs.declared.event.Event.{Event as TheEvent};
 ghost use Rattle.vk_rules.specs.Histories.{Happened, happened, history_of};
 ghost use Rattle.vk_drive.specs.Driving.{AreActors, HasHappened, HasPassedOn, IsChosenAt, IsNextOf};
@@ -40,23 +40,21 @@ pub fn choose(actors: &mut Vec<Actor>, place: usize, next: &mut NextEvent)
 }
 
 /// The last event was that of the process at this place, which is told what the station at the other answered.
-fn hear_at(actors: &mut Vec<Actor>, place: usize, course: &StormCourse, at: Option<usize>)
+fn hear_at(actors: &mut Vec<Actor>, place: usize, course: &StormCourse, at: usize)
     requires within { place < length actors.old.items }
     requires none { HasPassedOn actors.old.items place }
-    requires told { (host : ℕ) × (r : TheReport) × TellsReport course.now.cluster (advanced host course.now.response at) r }
-    ensures { (hs : List Happened) (h : Happened) (a : TheAnswer) (host : ℕ) (r : TheReport) → AreActors actors.old.items hs →
-        TellsReport course.now.cluster (advanced host course.now.response at) r → r.answer ≡ answered.Event a →
+    requires there { at < length course.now.stations.hosts.items }
+    ensures { (hs : List Happened) (h : Happened) (a : TheAnswer) (s : StationValue) → AreActors actors.old.items hs →
+        slice_get course.now.stations.hosts.items at ≡ Some s → answer_of s course.now.response ≡ a →
         answered_in (task_at place).pid h ≡ a ∷ [] → ((q : ℕ) → q < 4 → q ≢ place → answered_in (task_at q).pid h ≡ []) →
         AreActors actors.new.items (hs ++ h ∷ []) }
 {
-    if let Some(at) = at {
-        let station = course.cluster.station(at);
-        actors[place].hear(station, &course.response);
-    }
+    let station = course.stations.station(at);
+    actors[place].hear(station, &course.response);
 }
 
 /// The last event was that of the process at this place, where there is one, and of the station at the other: the process is told of it.
-pub fn hear(actors: &mut Vec<Actor>, place: Option<usize>, course: &StormCourse, at: Option<usize>)
+pub fn hear(actors: &mut Vec<Actor>, place: Option<usize>, course: &StormCourse, at: usize)
     requires { (es : List TheEvent) × (e : TheEvent) × IsNextOf place actors.old.items (history_of settings es) e
         × HasHappened es course.now e at }
     ensures { (es : List TheEvent) (e : TheEvent) → IsNextOf place actors.old.items (history_of settings es) e →

@@ -1,22 +1,23 @@
 //! The storm of a number.
 
-ghost use Rattle.std.specs.Prelude.{◌≡◌, ◌≤◌, [], List, length, Some, Err, IfOk, OnOk};
+ghost use Rattle.std.specs.Prelude.{◌≡◌, ◌≤◌, ◌<◌, [], List, length, Some, Err, IfOk, OnOk};
 ghost use Rattle.vk_base.specs.declared.limits.TheConstants.{EVENTS};
 ghost use Rattle.vk_schedule.specs.declared.event.Event.{Event as TheEvent};
-ghost use Rattle.vk_frame.specs.declared.header.Header.{Header as TheHeader};
+ghost use Rattle.vk_rules.specs.Frames.{Frame as TheFrame};
 ghost use Rattle.vk_rules.specs.Histories.{Happened, history_of};
-ghost use Rattle.vk_drive.specs.Driving.{AreActors, EmitsFewBytes, EmitsManyBytes, IsChosen, IsDriver, IsNextOf, IsOfStation, IsPlayed, IsStormOpen, counts_of, last_of};
+ghost use Rattle.vk_drive.specs.Driving.{AreActors, ComesFrom, EmitsManyBytes, IsChosen, IsDriver, IsNextOf, IsOfStation, IsPlayed, IsStormOpen, KeepsRecent, counts_of};
 ghost use Rattle.vk_drive.specs.Storms.{IsStormTooMuch, StormFits, choice, chosen, delivery_choice, delivery_of, process_choice, storm_schedule_of, summary_by, summary_of, tick_choice};
 ghost use Rattle.vk_drive.specs.Tasks.{settings};
+ghost use Rattle.vk_drive.specs.Told.{headers};
 
 use crate::actor::Actor;
 use crate::actors::{choose, hear, new_actors};
 use crate::counts::StormCounts;
 use crate::course::StormCourse;
 use crate::next::NextEvent;
+use crate::recent::RecentFrames;
 use crate::summary::{StormRefusal, StormSummary};
 use crate::tasks::{is_station, settings};
-use circular_buffer::HeapCircularBuffer;
 use std::alloc::Global;
 use vk_base::{Config, List, NoMemory};
 use vk_frame::Header;
@@ -32,6 +33,8 @@ struct Driver {
     course: StormCourse,
     /// What happens next, once it is chosen; until then what happened last.
     next: NextEvent,
+    /// The place of the frame that comes, where one does.
+    frame: usize,
 }
 
 /// The frame with this header comes to its destination; or station 1 ticks, where one of its stations is none of the storm.
@@ -45,25 +48,22 @@ fn set_delivery(next: &mut NextEvent, header: &Header)
     }
 }
 
-/// One of the frames that were emitted last comes; or station 1 ticks, where there is none.
-fn choose_delivery(
-    generator: &mut Generator,
-    recent: &HeapCircularBuffer<Header>,
-    next: &mut NextEvent,
-)
-    ensures chosen { (fs : List TheHeader) → recent.now ≡ last_of fs → chosen generator.new next.new ≡ delivery_choice generator.old fs }
+/// One of the frames that were emitted last comes, the one in the place that this gives; or station 1 ticks, where there is none.
+fn choose_delivery(generator: &mut Generator, recent: &RecentFrames, next: &mut NextEvent) -> usize
+    requires { (fs : List TheFrame) × KeepsRecent fs recent.now }
+    ensures chosen { (fs : List TheFrame) → KeepsRecent fs recent.now →
+        chosen generator.new next.new ≡ delivery_choice generator.old (headers fs) }
     ensures station { IsOfStation next.new }
+    ensures frame { (fs : List TheFrame) → KeepsRecent fs recent.now → ComesFrom fs recent.now next.new result }
 {
     let count = recent.len();
     if count == 0 {
         next.set_tick(1);
-        return;
+        return 0;
     }
-    let back = generator.draw() as usize % count;
-    match recent.nth_back(back) {
-        Some(header) => set_delivery(next, header),
-        None => next.set_tick(1),
-    }
+    let place = recent.place(generator.draw() as usize % count);
+    set_delivery(next, &recent.get(place).header);
+    place
 }
 
 /// A station ticks.
@@ -116,19 +116,24 @@ impl Driver {
             actors,
             course,
             next: NextEvent::new(),
+            frame: 0,
         })
     }
 
     /// Chooses what comes next. Gives the place of the process that calls or collects, where one does.
     fn choose(&mut self) -> Option<usize>
-        requires { length self.old.actors.items ≡ 4 }
+        requires { IsStormOpen self.old }
         ensures { (es : List TheEvent) → IsDriver es self.old → IsChosen es self.old self.new result }
     {
         let kind = self.generator.draw() % 8;
         if kind < 3 {
             Some(choose_process(&mut self.generator, &mut self.actors, &mut self.next))
         } else if kind < 6 {
-            choose_delivery(&mut self.generator, &self.course.recent, &mut self.next);
+            self.frame = choose_delivery(
+                &mut self.generator,
+                &self.course.stations.recent,
+                &mut self.next,
+            );
             None
         } else {
             choose_tick(&mut self.generator, &mut self.next);
@@ -137,15 +142,14 @@ impl Driver {
     }
 
     /// The next event.
-    fn advance(&mut self, alloc: Global) -> Result<(), StormRefusal>
+    fn advance(&mut self) -> Result<(), StormRefusal>
         requires { IsStormOpen self.old }
-        ensures played { (es : List TheEvent) → IsDriver es self.old →
+        ensures played { (es : List TheEvent) → IsDriver es self.old → length es < EVENTS →
             OnOk result (IsPlayed es self.new (choice self.old.generator (history_of settings es))) }
         ensures limit { (es : List TheEvent) → IsDriver es self.old → result ≡ Err StormRefusal.Limit → EmitsManyBytes es }
-        ensures memory { (es : List TheEvent) → IsDriver es self.old → result ≡ Err StormRefusal.NoMemory → EmitsFewBytes es }
     {
         let place = self.choose();
-        let at = self.course.happen(alloc, &self.next.view())?;
+        let at = self.course.happen(&self.next, self.frame)?;
         hear(&mut self.actors, place, &self.course, at);
         Ok(())
     }
@@ -166,7 +170,7 @@ pub fn storm(alloc: Global, n: u32) -> Result<StormSummary, StormRefusal>
 {
     let mut driver = Driver::new(alloc, n)?;
     for _event in 0..n {
-        driver.advance(alloc)?;
+        driver.advance()?;
     }
     Ok(summary_by(n, &driver.course.counts))
 }
@@ -185,7 +189,7 @@ pub fn storm_schedule(alloc: Global, n: u32) -> Result<Schedule, StormRefusal>
     let mut driver = Driver::new(alloc, n)?;
     let mut events = List::empty(alloc);
     for _event in 0..n {
-        driver.advance(alloc)?;
+        driver.advance()?;
         events.push(driver.next.view().whole())?;
     }
     Ok(Schedule {

@@ -1,11 +1,14 @@
 //! The event that a storm comes to, in few bytes.
 
 ghost use Rattle.std.specs.Prelude.{◌≡◌};
+ghost use Rattle.vk_types.specs.Types.{Call as TheCall, Pid as ThePid};
 ghost use Rattle.vk_schedule.specs.declared.event.Event.TheVariants as events;
+ghost use Rattle.vk_schedule.specs.Views.{event_by};
+ghost use Rattle.vk_rules.specs.Laws.{station_of};
 
 use std::marker::Model;
 use vk_base::{Call, Pid};
-use vk_brief::{BriefCall, CallBuffer};
+use vk_brief::{BriefCall, CallBuffer, CallView};
 use vk_frame::Header;
 use vk_schedule::{EventKind, EventView};
 
@@ -75,6 +78,31 @@ impl NextEvent {
                 self.call.set(brief);
             }
         }
+    }
+
+    /// The station that acts at it.
+    pub fn station(&self) -> u16
+        ensures { result ≡ station_of self.now }
+    {
+        match self.kind {
+            EventKind::Call { pid } | EventKind::Collect { pid } => pid.host,
+            EventKind::Tick { host } => host,
+            EventKind::Deliver { to, .. } => to,
+        }
+    }
+
+    /// What kind of event is in it.
+    pub fn kind(&self) -> EventKind
+        ensures { (call : TheCall) × (self.now ≡ event_by result call) }
+    {
+        self.kind
+    }
+
+    /// The call, where one is made.
+    pub fn call(&self) -> CallView<'_>
+        ensures { (pid : ThePid) (call : TheCall) → self.now ≡ events.Call pid call → result ≡ call }
+    {
+        self.call.view()
     }
 
     /// The event that is in it.

@@ -1,12 +1,10 @@
 //! What is told of a storm.
 
-ghost use Rattle.std.specs.Prelude.{◌≡◌, if◌then◌else◌};
-ghost use Rattle.vk_cluster.specs.Standing.{is_limit};
-ghost use Rattle.vk_drive.specs.declared.summary.StormRefusal.TheVariants.{Limit as too_much, NoMemory as memory_wanting};
+ghost use Rattle.std.specs.Prelude.{◌≡◌};
+ghost use Rattle.vk_drive.specs.declared.summary.StormRefusal.TheVariants.{NoMemory as memory_wanting};
 
 use thiserror::Error;
 use vk_base::NoMemory;
-use vk_cluster::ClusterRefusal;
 
 /// What happened in a storm.
 #[derive(Clone, Copy, Debug, PartialEq, Eq)]
@@ -40,16 +38,5 @@ impl From<NoMemory> for StormRefusal {
 
     fn from(_refused: NoMemory) -> StormRefusal {
         StormRefusal::NoMemory
-    }
-}
-
-impl From<ClusterRefusal> for StormRefusal {
-    ghost from_gives = { λ refused e. e ≡ (if is_limit refused then too_much else memory_wanting) };
-
-    fn from(refused: ClusterRefusal) -> StormRefusal {
-        match refused {
-            ClusterRefusal::Limit => StormRefusal::Limit,
-            ClusterRefusal::NoMemory => StormRefusal::NoMemory,
-        }
     }
 }

@@ -5,7 +5,7 @@ use Rattle.vk_drive.specs.Storms.{summary_by}
 unfoldable use Rattle.vk_drive.specs.Storms.{storm_after}
 use Rattle.vk_drive.specs.Tasks.{settings}
 use Rattle.vk_drive.proofs.Fronts.{FitsFront, fits_all, too_much}
-use Rattle.vk_drive.proofs.SoFar.{begun, goes_on, may_go_on}
+use Rattle.vk_drive.proofs.SoFar.{begun, few_events, goes_on, may_go_on}
 use Rattle.vk_drive.proofs.driver.storm.Goals as goal
 
 pub loop-event-init : goal.loop-event-init
@@ -18,7 +18,8 @@ advance-requires c =
 pub loop-event-preserved : goal.loop-event-preserved
 loop-event-preserved c =
     let so_far = c.loop-event.invariant in
-    goes_on c.args.n c.loop-event._event c.loop-event.driver _ so_far (c.in_ok-advance.ensures.played _ so_far.driver)
+    let low = few_events c.args.n c.loop-event._event c.loop-event-test.true c.requires in
+    goes_on c.args.n c.loop-event._event c.loop-event.driver _ so_far (c.in_ok-advance.ensures.played _ so_far.driver low)
 
 pub returns-in_err-advance-clause-limit : goal.returns-in_err-advance-clause-limit
 returns-in_err-advance-clause-limit c is =
@@ -31,7 +32,7 @@ returns-clause-summary c =
     let n = c.args.n in
     let all : c.loop-event._event ≡ n = omega arith in
     c.summary_by.ensures (history_of settings (storm_after n c.loop-event._event).events)
-    c.loop-event.invariant.driver.course.noted.counts_are
+    c.loop-event.invariant.driver.course.counts_are
     ∙ ap (λ k. summary_by n (history_of settings (storm_after n k).events)) all
 
 pub returns-clause-fits : goal.returns-clause-fits

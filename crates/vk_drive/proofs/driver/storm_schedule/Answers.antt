@@ -2,7 +2,7 @@ use Rattle.std.proofs.Common.{◌≡◌, ap, subst, ◌∙◌, arith}
 use Rattle.std.proofs.lemmas.Grind.{common_steps}
 unfoldable use Rattle.vk_drive.specs.Storms.{storm_after}
 use Rattle.vk_drive.proofs.Fronts.{FitsFront, fits_all, too_much}
-use Rattle.vk_drive.proofs.SoFar.{begun, events_more, goes_on, may_go_on, no_events}
+use Rattle.vk_drive.proofs.SoFar.{begun, events_more, few_events, goes_on, may_go_on, no_events}
 use Rattle.vk_drive.proofs.driver.storm_schedule.Goals as goal
 
 pub loop-event-init : goal.loop-event-init
@@ -18,7 +18,8 @@ advance-requires c =
 pub loop-event-preserved : goal.loop-event-preserved
 loop-event-preserved c =
     let so_far = c.loop-event.invariant.so_far in
-    let played = c.in_ok-advance.ensures.played _ so_far.driver in
+    let low = few_events c.args.n c.loop-event._event c.loop-event-test.true c.requires in
+    let played = c.in_ok-advance.ensures.played _ so_far.driver low in
     record {
       so_far = goes_on c.args.n c.loop-event._event c.loop-event.driver _ so_far played;
       events_are =

@@ -2,8 +2,8 @@ use Rattle.std.proofs.Common.{◌≡◌, ◌+◌, sym, ap, ◌∙◌, option_map
 use Rattle.std.proofs.lemmas.Option.{slice_get-map}
 use Rattle.vk_rules.specs.Frames.{Frame}
 use Rattle.vk_cluster.proofs.Shown.{told}
-use Rattle.vk_drive.proofs.Recent.{header_at}
-use Rattle.vk_drive.proofs.course.header_of.Goals as goal
+use Rattle.vk_drive.proofs.Kept.{header_at}
+use Rattle.vk_drive.proofs.recent.header_of.Goals as goal
 
 pub returns : goal.returns
 returns c fs shows =
