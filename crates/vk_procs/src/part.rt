@@ -28,7 +28,7 @@ impl Model for Part {
 }
 
 impl Part {
-    /// No bytes, with room for as many as may be let read of a memory of this size, at most 1,024.
+    /// No bytes, with room for as many as may be let read of a memory of this size, at most 512.
     ///
     /// # Errors
     ///
