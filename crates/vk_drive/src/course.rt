@@ -1,6 +1,6 @@
 //! What happens in a storm, and what is told of it.
 
-ghost use Rattle.std.specs.Prelude.{◌≡◌, [], List, IfOk, OnErr};
+ghost use Rattle.std.specs.Prelude.{◌≡◌, [], List, IfErr, IfOk, OnErr};
 ghost use Rattle.vk_schedule.specs.declared.event.Event.{Event as TheEvent};
 ghost use Rattle.vk_drive.specs.Driving.{EmitsManyBytes, HasHappened, IsCourse, MayHappen};
 ghost use Rattle.vk_drive.specs.Tasks.{settings};
@@ -49,6 +49,7 @@ impl StormCourse {
         ensures happened { (es : List TheEvent) → IsCourse es self.old → MayHappen es self.old.stations next.now frame →
             IfOk result (HasHappened es self.new next.now) }
         ensures limit { (es : List TheEvent) → IsCourse es self.old → OnErr result (EmitsManyBytes es) }
+        ensures cause { IfErr result (λ e. e ≡ StormRefusal.Limit) }
     {
         if self.stations.is_full() {
             return Err(StormRefusal::Limit);

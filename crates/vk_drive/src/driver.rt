@@ -1,6 +1,6 @@
 //! The storm of a number.
 
-ghost use Rattle.std.specs.Prelude.{◌≡◌, ◌≤◌, ◌<◌, [], List, length, Some, Err, IfOk, OnOk};
+ghost use Rattle.std.specs.Prelude.{◌≡◌, ◌≤◌, ◌<◌, [], List, length, Some, Err, IfErr, IfOk, OnOk};
 ghost use Rattle.vk_base.specs.declared.limits.TheConstants.{EVENTS};
 ghost use Rattle.vk_schedule.specs.declared.event.Event.{Event as TheEvent};
 ghost use Rattle.vk_rules.specs.Frames.{Frame as TheFrame};
@@ -147,6 +147,7 @@ impl Driver {
         ensures played { (es : List TheEvent) → IsDriver es self.old → length es < EVENTS →
             OnOk result (IsPlayed es self.new (choice self.old.generator (history_of settings es))) }
         ensures limit { (es : List TheEvent) → IsDriver es self.old → result ≡ Err StormRefusal.Limit → EmitsManyBytes es }
+        ensures cause { IfErr result (λ e. e ≡ StormRefusal.Limit) }
     {
         let place = self.choose();
         let at = self.course.happen(&self.next, self.frame)?;
