@@ -5,7 +5,8 @@ use std::ops::Range;
 use crate::text::Reader;
 use crate::values::Pid;
 
-const STATIONS: usize = 16;
+/// The most stations of a configuration.
+pub const STATIONS: usize = 16;
 const STATION_PROCESSES: usize = 32;
 const MEMORY_BYTES: u64 = 131_072;
 const TRIES: u64 = 16;

@@ -3,11 +3,11 @@
 
 use std::borrow::Cow;
 use std::sync::Mutex;
-use std::thread::{sleep, yield_now};
+use std::thread::sleep;
 use std::time::Duration;
 
 use crate::head::{Config, USUAL_POOL};
-use crate::hub::{locked, Fetched, Full, Hub};
+use crate::hub::{locked, places, Fetched, Full, Hub};
 use crate::programs::{Last, Made, Program};
 use crate::scenario::{read_scenario, Scenario};
 use crate::station::{State, Station};
@@ -22,12 +22,6 @@ const EMITTED_BYTES: usize = 268_435_456;
 /// The most that the frames of one event have.
 const EVENT_BYTES: usize = 2_359_296;
 const PACE: Duration = Duration::from_millis(1);
-/// How a thread waits that finds nothing to do: it lets others have its processor so many times, and then sleeps, each time twice as long,
-/// up to the longest sleep of those that wait for an answer, and of those that wait for frames.
-const YIELDS: u32 = 8;
-const FIRST_SLEEP: Duration = Duration::from_micros(50);
-const ANSWER_SLEEP: Duration = Duration::from_millis(20);
-const FRAME_SLEEP: Duration = Duration::from_millis(1);
 
 /// What a station did, as lines of a schedule, and the Lamport number and the end of each.
 #[derive(Default)]
@@ -41,6 +35,8 @@ struct Log {
 struct Workstation {
     station: Station,
     log: Log,
+    /// The processes whose threads wait for an answer, bit by bit.
+    waiting: u32,
 }
 
 /// What all threads share.
@@ -54,46 +50,38 @@ struct Workplace {
 struct Port<'a> {
     place: &'a Workplace,
     station: usize,
+    /// Where it is a process's, the place of that among all.
+    process: Option<usize>,
     out: Telling,
     line: Vec<u8>,
 }
 
-/// How a thread waits that found nothing to do.
-struct Patience {
-    longest: Duration,
-    waits: u32,
-}
-
-impl Patience {
-    fn new(longest: Duration) -> Patience {
-        Patience { longest, waits: 0 }
-    }
-
-    fn wait(&mut self) {
-        if self.waits < YIELDS {
-            yield_now();
-        } else {
-            sleep((FIRST_SLEEP * (1 << (self.waits - YIELDS).min(16))).min(self.longest));
-        }
-        self.waits += 1;
-    }
-}
-
 enum Pumped {
-    Delivered,
+    /// And whether more frames wait.
+    Delivered(bool),
     Nothing,
     Stopped,
 }
 
+impl Workstation {
+    /// Of the processes whose threads wait those that have an answer now, bit by bit.
+    fn take_done(&mut self) -> u32 {
+        let is_done = |&place: &usize| matches!(self.station.processes[place].state, State::Done(_));
+        let done = places(self.waiting).filter(is_done).fold(0, |done, place| done | 1 << place);
+        self.waiting &= !done;
+        done
+    }
+}
+
 impl Workplace {
-    fn port(&self, station: usize) -> Port<'_> {
-        Port { place: self, station, out: Telling::new(true), line: Vec::new() }
+    fn port(&self, station: usize, process: Option<usize>) -> Port<'_> {
+        Port { place: self, station, process, out: Telling::new(true), line: Vec::new() }
     }
 }
 
 impl Port<'_> {
-    /// An event under the station's lock, whose line stands in `line`; then the frames of the outbox from `first` on are posted.
-    /// Where the event gives nothing it has not happened.
+    /// An event under the station's lock, whose line stands in `line`; then the processes that it gives an answer are told, and the frames of
+    /// the outbox from `first` on are posted. Where the event gives nothing it has not happened, and its process waits.
     fn enter<T>(
         &mut self,
         first: usize,
@@ -101,16 +89,23 @@ impl Port<'_> {
     ) -> Result<Option<T>, Full> {
         let count = self.place.stations.len();
         let mut workstation = locked(&self.place.stations[self.station]);
-        let Workstation { station, log } = &mut *workstation;
+        let own = self.process.map_or(0, |process| 1 << workstation.station.place(process));
+        let Workstation { station, log, waiting } = &mut *workstation;
         let is_full = log.lines.len() >= EVENTS / count || log.bytes > EMITTED_BYTES / count - EVENT_BYTES;
         let before = self.out.outbox.bytes.len();
         let Some(told) = (if is_full { None } else { event(station, &self.place.config, &mut self.out) }) else {
+            *waiting |= own;
             return if is_full { Err(Full) } else { Ok(None) };
         };
+        *waiting &= !own;
         log.bytes += self.out.outbox.bytes.len() - before;
         log.text.extend_from_slice(&self.line);
         log.lines.push((self.out.header.number, log.text.len()));
+        let (done, first_process) = (workstation.take_done(), workstation.station.first);
         drop(workstation);
+        for place in places(done) {
+            self.place.hub.ring(first_process + place);
+        }
         self.place.hub.post(self.out.header.source, &self.out.outbox, first)?;
         self.out.report.text.clear();
         self.out.outbox.clear();
@@ -137,7 +132,7 @@ impl Port<'_> {
 
     /// Waits until the process is done, and collects. Nothing where the hub has stopped before.
     fn collect_waiting(&mut self, process: usize, pid: Pid) -> Result<Option<Answer>, Full> {
-        let mut patience = Patience::new(ANSWER_SLEEP);
+        let mut leaves = false;
         loop {
             self.line.clear();
             self.line.extend_from_slice(b"collect ");
@@ -152,11 +147,17 @@ impl Port<'_> {
                 Some(answer)
             })?;
             if collected.is_some() {
+                if leaves {
+                    self.place.hub.leave(self.station, process);
+                }
                 return Ok(collected);
             }
             match self.pump()? {
-                Pumped::Delivered => patience.waits = 0,
-                Pumped::Nothing => patience.wait(),
+                Pumped::Delivered(has_more) => leaves = has_more,
+                Pumped::Nothing => {
+                    self.place.hub.wait(self.station, Some(process));
+                    leaves = true;
+                }
                 Pumped::Stopped => return Ok(None),
             }
         }
@@ -164,8 +165,8 @@ impl Port<'_> {
 
     /// Fetches once, and delivers what it fetched.
     fn pump(&mut self) -> Result<Pumped, Full> {
-        let frame = match self.place.hub.fetch(self.station)? {
-            Fetched::Frame(frame) => frame,
+        let (frame, has_more) = match self.place.hub.fetch(self.station, self.process)? {
+            Fetched::Frame(frame, has_more) => (frame, has_more),
             Fetched::Nothing => return Ok(Pumped::Nothing),
             Fetched::Stopped => return Ok(Pumped::Stopped),
         };
@@ -184,7 +185,7 @@ impl Port<'_> {
             station.deliver(config, 0, out);
             Some(())
         })?;
-        Ok(Pumped::Delivered)
+        Ok(Pumped::Delivered(has_more))
     }
 
     fn tick(&mut self) -> Result<(), Full> {
@@ -212,7 +213,7 @@ fn loaded(station: &Station, caller: usize, start: u32, count: u32) -> Last<'sta
 fn play(place: &Workplace, process: usize, mut program: Program) -> Result<(), Full> {
     let pid = place.config.processes[process].0;
     let Some(station) = place.config.station(pid.host()) else { return Ok(()) };
-    let mut port = place.port(station);
+    let mut port = place.port(station, Some(process));
     let mut made = Made::new();
     let mut last = Last::Nothing;
     while program.next_with_line(pid, &last, &mut made) {
@@ -228,12 +229,11 @@ fn play(place: &Workplace, process: usize, mut program: Program) -> Result<(), F
 }
 
 fn pump_on(place: &Workplace, station: usize) -> Result<(), Full> {
-    let mut port = place.port(station);
-    let mut patience = Patience::new(FRAME_SLEEP);
+    let mut port = place.port(station, None);
     loop {
         match port.pump()? {
-            Pumped::Delivered => patience.waits = 0,
-            Pumped::Nothing => patience.wait(),
+            Pumped::Delivered(_) => {}
+            Pumped::Nothing => place.hub.wait(station, None),
             Pumped::Stopped => return Ok(()),
         }
     }
@@ -241,7 +241,7 @@ fn pump_on(place: &Workplace, station: usize) -> Result<(), Full> {
 
 /// Ticks all stations so many times, or until the first port hears that the hub has stopped.
 fn tick_on(place: &Workplace, rounds: u32) -> Result<(), Full> {
-    let mut ports: Vec<_> = (0..place.stations.len()).map(|station| place.port(station)).collect();
+    let mut ports: Vec<_> = (0..place.stations.len()).map(|station| place.port(station, None)).collect();
     for _ in 0..rounds {
         sleep(PACE);
         for port in &mut ports {
@@ -269,9 +269,9 @@ pub fn run(text: &[u8]) -> (Vec<u8>, Ending) {
         Ok(scenario) => scenario,
         Err(line) => return (Vec::new(), Ending::BadLine(line)),
     };
-    let new = |&host: &u16| Mutex::new(Workstation { station: Station::new(&config, host), log: Log::default() });
+    let new = |&host: &u16| Mutex::new(Workstation { station: Station::new(&config, host), log: Log::default(), waiting: 0 });
     let stations = config.hosts.iter().map(new).collect();
-    let hub = Hub::new(&config.hosts, plan, programs.len());
+    let hub = Hub::new(&config, plan);
     let place = Workplace { config, stations, hub };
     let was_cut = std::thread::scope(|scope| {
         let place = &place;

@@ -192,7 +192,7 @@ pub struct Station {
     number: u64,
     events: u64,
     /// The place of its first process among all processes.
-    first: usize,
+    pub first: usize,
     pub processes: Vec<Process>,
     pub aliens: Vec<Alien>,
     pub names: Names,
