@@ -9,6 +9,7 @@ ghost use Rattle.vk_base.specs.Settings.{stations_of};
 ghost use Rattle.vk_hub.specs.Hubs.{fetched_as, fetched_from, fetched_in, has_halt, is_at_limit, is_ready, others, traffic_of};
 ghost use Rattle.vk_hub.specs.Posts.{IsFromPost};
 
+use crate::bells::Bells;
 use crate::event::{Arrival, Fetched, HubEvent};
 use crate::out::HubOut;
 use crate::places::{Dispatch, Request};
@@ -25,6 +26,7 @@ use vk_schedule::LinkPlan;
 pub struct Hub {
     cell: TurnCell<HubState>,
     alloc: Global,
+    bells: Bells,
 }
 
 impl Model for Hub {
@@ -54,10 +56,16 @@ impl Hub {
         ensures each { IfOk result (λ made. (k : ℕ) → k < seats → slice_get made.1.items k ≡ Some (fresh made.0 k)) }
     {
         let state = HubState::new(alloc, config, plan, programs)?;
+        let bells = Bells::new(alloc, config)?;
         match TurnCell::new(alloc, state, seats) {
-            Ok((cell, seats)) => Ok((Hub { cell, alloc }, seats)),
+            Ok((cell, seats)) => Ok((Hub { cell, alloc, bells }, seats)),
             Err(_) => Err(NoMemory),
         }
+    }
+
+    /// Where its threads wait.
+    pub fn bells(&self) -> &Bells {
+        &self.bells
     }
 
     /// Posts the frame to the stations that it is addressed to. A frame without a lawful header goes nowhere.
@@ -101,7 +109,13 @@ impl Hub {
         ensures err { OnErr result (HasLooked seat.old seat.new × (out.new ≡ out.old)) }
         ensures refused { IfErr result (λ why. is_at_limit seat.new.seen (HubEvent.Post dispatch.now) ≡ is_full why) }
     {
-        self.cell.step(rt, alloc, seat, dispatch.event(), out)
+        match self.cell.step(rt, alloc, seat, dispatch.event(), out) {
+            Ok(()) => {
+                self.bells.call(out.reached);
+                Ok(())
+            }
+            Err(why) => Err(why),
+        }
     }
 
     /// The oldest frame that waits for the station, or that the hub has ended. Both are entries, for which there was room. Where neither is
@@ -215,8 +229,18 @@ impl Hub {
         ensures refused { IfErr result (λ why. is_at_limit seat.new.seen HubEvent.Finished ≡ is_full why) }
     {
         let mut out = HubOut::new();
-        self.cell
+        match self
+            .cell
             .step(rt, alloc, seat, &HubEvent::Finished, &mut out)
+        {
+            Ok(()) => {
+                if out.ended {
+                    self.bells.call_all();
+                }
+                Ok(())
+            }
+            Err(why) => Err(why),
+        }
     }
 
     /// Halts the hub, unless it is halted already: then it enters nothing. It takes no memory, and is never refused.
@@ -235,7 +259,7 @@ impl Hub {
             .cell
             .step_when_ready(rt, self.alloc, seat, &HubEvent::Halt, &mut out)
         {
-            Ok(_) => {}
+            Ok(_) => self.bells.call_all(),
             Err(_) => unreachable!(),
         }
     }
@@ -258,7 +282,7 @@ impl Hub {
         ensures one_halt { length result.history ≤ others result.history + 1 }
         ensures few { others result.history ≤ 200000 }
     {
-        let Hub { cell, alloc: _ } = self;
+        let Hub { cell, .. } = self;
         let state = cell.close(seats);
         let _few = state.entry_count();
         state

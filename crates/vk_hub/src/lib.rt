@@ -9,6 +9,8 @@
 //! a station does with frames it does not ask.
 #![tactic(auto)]
 
+mod bell;
+mod bells;
 mod event;
 mod hub;
 mod inbox;
@@ -18,6 +20,8 @@ mod out;
 mod places;
 mod state;
 
+pub use bell::Bell;
+pub use bells::Bells;
 pub use event::{Arrival, Fetched, HubEvent};
 pub use hub::Hub;
 pub use law::{fetches_are_posts, stopped_stays_stopped};

@@ -58,16 +58,21 @@ fn post_all(
     plan: &LinkPlan,
     generator: &mut Generator,
     frame: &FrameBytes,
-)
+) -> u32
     ensures { posted_all plan.now generator.old inboxes.old.items (header_of frame.now) frame.now ≡ (generator.new, inboxes.new.items) }
 {
     let header = header_of(frame);
+    let mut reached = 0;
     for i in 0..inboxes.len() {
         let inbox = &mut inboxes[i];
         if is_addressed(header, inbox.station()) {
             inbox.post(plan, generator, frame);
+            if inbox.has_frame() && i < 32 {
+                reached |= 1 << i as u32;
+            }
         }
     }
+    reached
 }
 
 // Whether a frame waits for the station.
@@ -140,10 +145,14 @@ impl Links {
     {
         out.arrival = match event {
             HubEvent::Post { frame } => {
-                post_all(&mut self.inboxes, plan, &mut self.generator, frame);
+                out.reached = post_all(&mut self.inboxes, plan, &mut self.generator, frame);
                 None
             }
-            HubEvent::Fetch { host } => Some(self.fetch(programs, *host, &mut out.delivery)),
+            HubEvent::Fetch { host } => {
+                let arrival = self.fetch(programs, *host, &mut out.delivery);
+                out.more = has_frame_for(&self.inboxes, *host);
+                Some(arrival)
+            }
             HubEvent::Finished => {
                 self.finished += 1;
                 None
@@ -153,6 +162,7 @@ impl Links {
                 None
             }
         };
+        out.ended = self.is_stopped(programs);
     }
 
     // Takes what a fetch of the station gives, and puts the frame there.

@@ -11,6 +11,12 @@ use crate::places::Delivery;
 pub struct HubOut {
     pub arrival: Option<Arrival>,
     pub delivery: Delivery,
+    /// For which stations a frame waits after a post, by their places, bit by bit.
+    pub reached: u32,
+    /// A frame is left for the station of a fetch.
+    pub more: bool,
+    /// The hub has ended.
+    pub ended: bool,
 }
 
 impl HubOut {
@@ -22,6 +28,9 @@ impl HubOut {
         HubOut {
             arrival: None,
             delivery: Delivery::new(),
+            reached: 0,
+            more: false,
+            ended: false,
         }
     }
 

@@ -32,6 +32,12 @@ pub trait Halt {
 
 /// Waits for a while. It promises nothing.
 pub trait Pacer {
+    /// Where it is late, at most so many waits behind one another end at once.
+    fn catch_up(&mut self, _most: u32) {}
+
+    /// Its next wait is late, whatever clock it has.
+    fn hurry(&mut self) {}
+
     fn wait<R: Wait + Clock>(&mut self, rt: &R);
 }
 

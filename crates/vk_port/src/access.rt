@@ -18,7 +18,7 @@ use std::marker::Model;
 use std::sync::Wait;
 use turn_cell::{Ready, Room, TurnCell, TurnSeat};
 use vk_base::StationEvent;
-use vk_hub::{Arrival, Hub, HubOut, HubState, Request};
+use vk_hub::{Arrival, Bells, Hub, HubOut, HubState, Request};
 
 /// A seat at a station's cell, and one at the hub.
 #[derive(Drop)]
@@ -87,6 +87,11 @@ impl<'a> Access<'a> {
             ticks,
             posted: HubOut::new(),
         }
+    }
+
+    /// Where the threads at its hub wait.
+    pub fn bells(&self) -> &'a Bells {
+        self.hub.bells()
     }
 
     /// Hands both seats back.
@@ -194,7 +199,10 @@ impl<'a> Access<'a> {
                     out,
                     &mut self.posted,
                 ) {
-                    Ok(()) => Ok(Ready::Done),
+                    Ok(()) => {
+                        out.woken().ring(self.hub.bells());
+                        Ok(Ready::Done)
+                    }
                     Err(why) => Err(why),
                 }
             }

@@ -1,6 +1,6 @@
 //! A caller's access to a station and to the links.
 
-ghost use Rattle.std.specs.Prelude.{◌≡◌, [], true, false, if◌then◌else◌, IfOk, IfErr, OnErr};
+ghost use Rattle.std.specs.Prelude.{◌≡◌, [], true, false, if◌then◌else◌, IfOk, IfErr, OnOk, OnErr};
 ghost use Rattle.turn_cell.specs.Seats.{IsComplete, IsSeatOf};
 ghost use Rattle.vk_port.specs.Ports.{Does, HasPumped, HasMade, HasWaited, IsCutEvent, IsCutPump, IsRefused, IsWaitRefused, answer_as, pumped_as};
 ghost use Rattle.vk_types.specs.Types.{EventAnswer as TheAnswer};
@@ -8,7 +8,7 @@ ghost use Rattle.vk_port.specs.Stations.{is_own, is_process_of};
 ghost use Rattle.vk_port.specs.Turns.{is_collect};
 
 use crate::access::Access;
-use crate::patience::Patience;
+use crate::rest::{Rest, Sleep};
 use crate::station::Station;
 use crate::station_out::StationOut;
 use std::alloc::Global;
@@ -19,10 +19,7 @@ use std::time::Clock;
 use turn_cell::{Ready, Room, TurnCell, TurnSeat};
 use vk_base::limits::{ROUND_PACKETS, TICK_PACKETS};
 use vk_base::{Answer, Call, CallOutcome, EventAnswer, FrameBytes, Pid, StationEvent};
-use vk_hub::{Arrival, Hub, HubOut, HubState};
-
-/// Microseconds of the longest sleep of a thread that waits for an answer. Deliveries do not wait for it where another thread pumps.
-const LONGEST_SLEEP: u32 = 20_000;
+use vk_hub::{Arrival, Delivery, Hub, HubOut, HubState};
 
 /// There was no memory for a port: both seats come back.
 #[derive(Drop)]
@@ -172,7 +169,8 @@ impl<'a> Port<'a> {
     }
 
     /// Waits until the process is done, and collects its answer. Between two tries it pumps once; where a pump hears that the hub has
-    /// ended, it waits no longer. Where nothing was there it waits by a [`Patience`], with sleeps of at most 20 milliseconds.
+    /// ended, it waits no longer. Where nothing was there it sleeps until its bell rings: it is rung for what ends the process's wait, and
+    /// called for a frame for which it is to pump.
     ///
     /// # Errors
     ///
@@ -188,24 +186,25 @@ impl<'a> Port<'a> {
         ensures err { IfErr result (IsWaitRefused self.old self.new pid) }
     {
         let mut answer = Answer::Ok;
-        match self.collect_into(rt, alloc, pid, &mut answer) {
+        match self.collect_into(rt, alloc, pid, &mut answer, &Sleep) {
             Ok(true) => Ok(Collected::Answered { answer }),
             Ok(false) => Ok(Collected::Stopped),
             Err(why) => Err(why),
         }
     }
 
-    /// The same, where the answer is put there. Whether it is: else the hub has ended.
+    /// The same, where the answer is put there, and the process waits as `rest` does. Whether there is an answer: else the hub has ended.
     ///
     /// # Errors
     ///
     /// As [`Port::collect_waiting`].
-    pub fn collect_into<R: Wait + Clock>(
+    pub fn collect_into<R: Wait + Clock, W: Rest>(
         &mut self,
         rt: &R,
         alloc: Global,
         pid: Pid,
         answer: &mut Answer,
+        rest: &W,
     ) -> Result<bool, Room>
         requires { is_process_of self.old.station.origin pid ≡ true }
         ensures ok { IfOk result (λ came. HasWaited self.old self.new pid
@@ -215,16 +214,25 @@ impl<'a> Port<'a> {
         ensures kept_err { OnErr result (answer.new ≡ answer.old) }
     {
         let event = StationEvent::Collect { pid };
-        let mut patience = Patience::new(LONGEST_SLEEP);
+        let bells = self.access.bells();
+        let bell = bells.of_process(pid);
+        let mut are_left = false;
         for _ in rt.forever() {
+            are_left = bell.look() || are_left;
             match self.try_collect(rt, alloc, &event, answer) {
-                Ok(true) => return Ok(true),
+                Ok(true) => {
+                    bells.leave(pid, bell, are_left);
+                    return Ok(true);
+                }
                 Ok(false) => {}
                 Err(why) => return Err(why),
             }
             match self.pump_once(rt, alloc) {
-                Ok(Arrival::Frame) => patience.renew(),
-                Ok(Arrival::Nothing) => patience.wait(rt),
+                Ok(Arrival::Frame) => are_left = self.heard.more,
+                Ok(Arrival::Nothing) => {
+                    are_left = false;
+                    rest.wait(rt, bells, bell);
+                }
                 Ok(Arrival::Stopped) => return Ok(false),
                 Err(why) => return Err(why),
             }
@@ -297,13 +305,34 @@ impl<'a> Port<'a> {
         ensures err { IfErr result (λ why. IsRefused self.old self.new why []
             (IsCutEvent self.old.station.origin (StationEvent.Deliver frame.now))) }
     {
-        let event = StationEvent::Deliver {
-            frame: frame.copy(),
-        };
-        match self.access.enter(rt, alloc, &event, &mut self.out) {
+        let mut delivery = Delivery::new();
+        delivery.fill(frame.as_slice());
+        match self
+            .access
+            .enter(rt, alloc, delivery.event(), &mut self.out)
+        {
             Ok(()) => Ok(self.out.given()),
             Err(why) => Err(why),
         }
+    }
+
+    /// The same, where the frame stands in an event already, and without the answer.
+    ///
+    /// # Errors
+    ///
+    /// As [`Port::call`].
+    pub fn deliver_in_place<R: Wait>(
+        &mut self,
+        rt: &R,
+        alloc: Global,
+        delivery: &Delivery,
+    ) -> Result<(), Room>
+        ensures ok { OnOk result ((given : TheAnswer) × HasMade self.old self.new [] (StationEvent.Deliver delivery.now) given) }
+        ensures err { IfErr result (λ why. IsRefused self.old self.new why []
+            (IsCutEvent self.old.station.origin (StationEvent.Deliver delivery.now))) }
+    {
+        self.access
+            .enter(rt, alloc, delivery.event(), &mut self.out)
     }
 
     /// Hands both seats back.
@@ -316,6 +345,11 @@ impl<'a> Port<'a> {
         ensures hub_complete { IsComplete result.1 }
     {
         self.access.end()
+    }
+
+    /// Whether its last event gave frames.
+    pub fn has_posted(&self) -> bool {
+        self.out.frame_count() > 0
     }
 
     /// Collects what the process is answered, if it is done, and puts it there: `event` is that collect. Whether it is.

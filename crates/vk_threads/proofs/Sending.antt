@@ -27,8 +27,8 @@ seats_send = search (sendable, crosses, seat_send, hub_state_send, station_send)
 pub end_send : IsSend end_row.the_row
 end_send = search (sendable, crosses, seats_send) depth 40 fits 20000
 
-pub process_send : (κ : NamedLft) (G : RattleType) (g : Ghosts G.Denot) → IsSend G → IsSend (process_row.the_row κ G g)
-process_send κ G g s = search (sendable, crosses, hub_sync, port_send, seats_send) depth 40 fits 20000
+pub process_send : (κ : NamedLft) (G W : RattleType) (g : Ghosts G.Denot) → IsSend G → IsSend W → IsSend (process_row.the_row κ G W g)
+process_send κ G W g s t = search (sendable, crosses, hub_sync, port_send, seats_send) depth 40 fits 20000
 
 pump_send : (κ : NamedLft) → IsSend (pump_row.the_row κ)
 pump_send κ = search (sendable, crosses, hub_sync, port_send, seats_send) depth 40 fits 20000

@@ -152,7 +152,7 @@ fn has_ended<R: Wait>(rt: &R, alloc: Global, ports: &mut [Port]) -> Result<bool,
 }
 
 /// Waits once.
-pub fn wait_once<P: Pacer, R: Wait + Clock>(rt: &R, pacer: &Mutex<&mut P>) {
+fn wait_once<P: Pacer, R: Wait + Clock>(rt: &R, pacer: &Mutex<&mut P>) {
     let mut held = pacer.lock(rt);
     held.wait(rt);
 }

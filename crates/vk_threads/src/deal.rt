@@ -19,7 +19,7 @@ use turn_cell::{TurnCell, TurnSeat};
 use vk_base::NoMemory;
 use vk_hub::{Hub, HubState};
 use vk_io::Pacer;
-use vk_port::{Port, Station};
+use vk_port::{Port, Sleep, Station};
 use vk_program::{Assigned, Program};
 
 /// The stations and the hub, and their seats that no port has yet.
@@ -142,7 +142,7 @@ impl<'a> Stock<'a> {
         for assigned in programs {
             let Assigned { pid, program } = assigned;
             let port = self.port_at(pid.host, false)?;
-            let work = ProcessWork::new(self.alloc, self.hub, port, pid, program)?;
+            let work = ProcessWork::new(self.alloc, self.hub, port, pid, program, Sleep)?;
             jobs.push(Work::Process(work))?;
         }
         Ok(())
@@ -191,6 +191,8 @@ pub fn jobs_of<'a, 'p, G: Program, P: Pacer>(
     } = roster;
     let mut stock = stock;
     let (alloc, hub) = (stock.alloc, stock.hub);
+    hub.bells().add_threads(programs.len());
+    hub.bells().add_threads(stations.len());
     let mut jobs = Vec::new(alloc);
     stock.add_programs(programs, &mut jobs)?;
     stock.add_pumps(&stations, &mut jobs)?;

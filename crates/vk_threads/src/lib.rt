@@ -20,7 +20,6 @@ mod record;
 mod run;
 mod work;
 
-pub use clock::wait_once;
 pub use crew::ThreadCrew;
 pub use deal::take_hub_seat;
 pub use end::{End, Seats};

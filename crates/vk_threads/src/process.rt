@@ -12,21 +12,22 @@ use std::time::Clock;
 use turn_cell::Room;
 use vk_base::{Answer, Call, NoMemory, Pid};
 use vk_hub::Hub;
-use vk_port::Port;
+use vk_port::{Port, Rest};
 use vk_program::Program;
 
 /// Runs a process with its program, to the program's end or until the hub has ended. There is room for the seats of its port.
 #[derive(Drop)]
-pub struct ProcessWork<'a, G: Program> {
+pub struct ProcessWork<'a, G: Program, W: Rest> {
     alloc: Global,
     hub: &'a Hub,
     port: Port<'a>,
     pid: Pid,
     program: G,
+    rest: W,
     seats: Vec<Seats>,
 }
 
-impl<'a, G: Program> Model for ProcessWork<'a, G> {
+impl<'a, G: Program, W: Rest> Model for ProcessWork<'a, G, W> {
     ghost use Rattle.std.specs.Prelude.{◌≡◌, ◌≤◌, [], true, vec_capacity};
     ghost use Rattle.vk_port.specs.Stations.{is_process_of};
     ghost use Rattle.vk_threads.specs.Duties.{ProcessDuty};
@@ -39,7 +40,7 @@ impl<'a, G: Program> Model for ProcessWork<'a, G> {
         × G.is_after w.program [] × (w.seats.items ≡ []) × (1 ≤ vec_capacity w.seats) };
 }
 
-impl<'a, G: Program> ProcessWork<'a, G> {
+impl<'a, G: Program, W: Rest> ProcessWork<'a, G, W> {
     /// The job of this process.
     pub fn new(
         alloc: Global,
@@ -47,7 +48,8 @@ impl<'a, G: Program> ProcessWork<'a, G> {
         port: Port<'a>,
         pid: Pid,
         program: G,
-    ) -> Result<ProcessWork<'a, G>, NoMemory>
+        rest: W,
+    ) -> Result<ProcessWork<'a, G, W>, NoMemory>
         requires hub { port.hub ≡ hub.now }
         requires process { is_process_of port.station.origin pid ≡ true }
         requires host { pid.host ≡ port.host }
@@ -61,13 +63,24 @@ impl<'a, G: Program> ProcessWork<'a, G> {
             port,
             pid,
             program,
+            rest,
             seats,
         })
     }
 }
 
 /// Does the work.
-pub fn process_end<G: Program, R: Wait + Clock>(rt: &R, work: ProcessWork<G>) -> End
+pub fn process_end<G: Program, W: Rest, R: Wait + Clock>(rt: &R, work: ProcessWork<G, W>) -> End
+    ensures { EndsProcess work.entry.port work.entry.pid (G.task work.entry.program) result.seats.items result.met }
+{
+    let (hub, host) = (work.hub, work.pid.host);
+    let end = play_out(rt, work);
+    hub.bells().end_one(host);
+    end
+}
+
+/// Plays the program, and then gives the seats back.
+fn play_out<G: Program, W: Rest, R: Wait + Clock>(rt: &R, work: ProcessWork<G, W>) -> End
     ensures { EndsProcess work.entry.port work.entry.pid (G.task work.entry.program) result.seats.items result.met }
 {
     let ProcessWork {
@@ -76,9 +89,10 @@ pub fn process_end<G: Program, R: Wait + Clock>(rt: &R, work: ProcessWork<G>) ->
         mut port,
         pid,
         mut program,
+        rest,
         mut seats,
     } = work;
-    match play(rt, alloc, &mut port, pid, &mut program) {
+    match play(rt, alloc, &mut port, pid, &mut program, &rest) {
         Ok(true) => {
             let (closed, met) = finish_port(rt, alloc, port, hub, pid.host);
             seats.push_reserved(closed);
@@ -97,21 +111,26 @@ pub fn process_end<G: Program, R: Wait + Clock>(rt: &R, work: ProcessWork<G>) ->
 }
 
 /// Makes a call, waits for its answer, and puts it there. Whether it came: else the hub has ended before.
-fn make<R: Wait + Clock>(
+fn make<W: Rest, R: Wait + Clock>(
     rt: &R,
     alloc: Global,
     port: &mut Port,
     pid: Pid,
     call: Call,
     answer: &mut Answer,
+    rest: &W,
 ) -> Result<bool, Room>
     requires { is_process_of port.old.station.origin pid ≡ true }
     ensures made { IfOk result (λ came. HasCalled port.old port.new pid call (if came then Some answer.new else None)) }
     ensures cut { IfErr result (λ why. HasCalledCut port.old port.new pid call why) }
 {
-    match port.call_into(rt, alloc, pid, call, answer) {
+    let called = port.call_into(rt, alloc, pid, call, answer);
+    if port.has_posted() {
+        rest.posted(rt);
+    }
+    match called {
         Ok(true) => Ok(true),
-        Ok(false) => port.collect_into(rt, alloc, pid, answer),
+        Ok(false) => port.collect_into(rt, alloc, pid, answer, rest),
         Err(why) => Err(why),
     }
 }
@@ -125,12 +144,13 @@ fn last_of(is_answered: bool, answer: &Answer) -> Option<&Answer>
 
 /// Makes the program's calls one after the other, each after the answer to the one before. True where the program came to its end,
 /// false where the hub ended before.
-pub fn play<G: Program, R: Wait + Clock>(
+pub fn play<G: Program, W: Rest, R: Wait + Clock>(
     rt: &R,
     alloc: Global,
     port: &mut Port,
     pid: Pid,
     program: &mut G,
+    rest: &W,
 ) -> Result<bool, Room>
     requires process { is_process_of port.old.station.origin pid ≡ true }
     requires fresh { G.is_after program.old [] }
@@ -144,7 +164,7 @@ pub fn play<G: Program, R: Wait + Clock>(
         let Some(call) = program.next(last) else {
             return Ok(true);
         };
-        match make(rt, alloc, port, pid, call, &mut answer) {
+        match make(rt, alloc, port, pid, call, &mut answer, rest) {
             Ok(true) => is_answered = true,
             Ok(false) => return Ok(false),
             Err(why) => return Err(why),

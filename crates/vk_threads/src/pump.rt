@@ -8,14 +8,10 @@ use crate::end::{End, Seats, close_port};
 use std::alloc::Global;
 use std::marker::Model;
 use std::sync::Wait;
-use std::time::Clock;
 use turn_cell::Room;
 use vk_base::NoMemory;
-use vk_hub::{Arrival, Hub};
-use vk_port::{Patience, Port};
-
-/// Microseconds of the longest sleep of a thread that waits for frames.
-const LONGEST_SLEEP: u32 = 1_000;
+use vk_hub::{Arrival, Bells, Hub};
+use vk_port::Port;
 
 /// Delivers what comes for a station, until the hub has ended. There is room for the seats of its port.
 #[derive(Drop)]
@@ -62,7 +58,7 @@ impl<'a> PumpWork<'a> {
 }
 
 /// Does the work.
-pub fn pump_end<R: Wait + Clock>(rt: &R, work: PumpWork) -> End
+pub fn pump_end<R: Wait>(rt: &R, work: PumpWork) -> End
     ensures { MayEnd (work.entry ∷ []) (Pumps ∷ []) 0 result.seats.items result.met }
 {
     let PumpWork {
@@ -72,7 +68,7 @@ pub fn pump_end<R: Wait + Clock>(rt: &R, work: PumpWork) -> End
         mut port,
         mut seats,
     } = work;
-    match pump_on(rt, alloc, &mut port) {
+    match pump_on(rt, alloc, hub.bells(), host, &mut port) {
         Ok(()) => {
             seats.push_reserved(close_port(rt, port, hub, host, None));
             End { seats, met: None }
@@ -85,17 +81,24 @@ pub fn pump_end<R: Wait + Clock>(rt: &R, work: PumpWork) -> End
     }
 }
 
-/// Delivers frame after frame, until the hub has ended. It sleeps where nothing came: a process that waits for an answer looks for frames
-/// itself.
-pub fn pump_on<R: Wait + Clock>(rt: &R, alloc: Global, port: &mut Port) -> Result<(), Room>
+/// Delivers frame after frame, until the hub has ended. Where nothing came it sleeps until it is called: for a frame that comes while no
+/// process waits at the station, or for the end.
+pub fn pump_on<R: Wait>(
+    rt: &R,
+    alloc: Global,
+    bells: &Bells,
+    host: u16,
+    port: &mut Port,
+) -> Result<(), Room>
     ensures stopped { IfOk result (λ _. HasPumped port.old port.new) }
     ensures cut { IfErr result (λ why. HasPumpedCut port.old port.new why) }
 {
-    let mut patience = Patience::of_sleeper(LONGEST_SLEEP);
+    let bell = bells.of_pump(host);
     for _ in rt.forever() {
+        let _called = bell.look();
         match port.pump_once(rt, alloc) {
-            Ok(Arrival::Frame) => patience.renew(),
-            Ok(Arrival::Nothing) => patience.wait(rt),
+            Ok(Arrival::Frame) => {}
+            Ok(Arrival::Nothing) => bells.sleep(rt, bell),
             Ok(Arrival::Stopped) => return Ok(()),
             Err(why) => return Err(why),
         }

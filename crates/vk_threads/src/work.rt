@@ -9,12 +9,13 @@ use std::sync::Wait;
 use std::thread::Threads;
 use std::time::Clock;
 use vk_io::{Job, Pacer};
+use vk_port::Sleep;
 use vk_program::Program;
 
 /// A job of a run: a process with its program, what delivers at a station, or the clock.
 #[derive(Drop)]
 pub enum Work<'a, 'p, G: Program, P: Pacer> {
-    Process(ProcessWork<'a, G>),
+    Process(ProcessWork<'a, G, Sleep>),
     Pump(PumpWork<'a>),
     Clock(ClockWork<'a, 'p, P>),
 }

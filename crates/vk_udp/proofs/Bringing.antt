@@ -56,11 +56,11 @@ whole_front xs = ([], append-nil xs)
 prefix_behind : {A : Type 0} (front xs ys : List A) → IsPrefix xs ys → IsPrefix (front ++ xs) (front ++ ys)
 prefix_behind front xs ys p = (p.0, append_assoc front xs p.0 ∙ ap (λ l. front ++ l) p.1)
 
-module _ {L : Type 0} (handed : L → Option (List Frame)) (host : ℕ) where
+module _ (host : ℕ) where
   abbrev keep : List Frame → List Frame
   keep = filter (is_kept host)
 
-  pub brought_none : (p : PortValue) (l m : L) → handed m ≡ handed l → HasBrought handed host p p l m None
+  pub brought_none : (p : PortValue) (l m : Option (List Frame)) → m ≡ l → HasBrought host p p l m None
   brought_none p l m told = record {
     acts = [];
     got = [];
@@ -68,12 +68,12 @@ module _ {L : Type 0} (handed : L → Option (List Frame)) (host : ℕ) where
     brings = tt;
     brought = whole_front [];
     whole = λ none. refl;
-    told = told ∙ told_nothing (handed l);
+    told = told ∙ told_nothing l;
   }
 
   -- one stretch behind another, in which no Room was met
-  pub brought_more : (p q r : PortValue) (k l m : L) (met : Option Room) → HasBrought handed host p q k l None → HasBrought handed host q r l m met
-      → HasBrought handed host p r k m met
+  pub brought_more : (p q r : PortValue) (k l m : Option (List Frame)) (met : Option Room) → HasBrought host p q k l None → HasBrought host q r l m met
+      → HasBrought host p r k m met
   brought_more p q r k l m met one two =
       let acts = brought_append one.acts two.acts ∙ ap (λ x. x ++ brought_by two.acts) (one.whole refl) in
       let got : keep (one.got ++ two.got) ≡ keep one.got ++ keep two.got = filter-append (is_kept host) one.got two.got in record {
@@ -84,7 +84,7 @@ module _ {L : Type 0} (handed : L → Option (List Frame)) (host : ℕ) where
         brought = subst (λ x. IsPrefix x (keep (one.got ++ two.got))) (sym acts)
             (subst (IsPrefix (keep one.got ++ brought_by two.acts)) (sym got) (prefix_behind (keep one.got) (brought_by two.acts) (keep two.got) two.brought));
         whole = λ none. acts ∙ (ap (λ x. keep one.got ++ x) (two.whole none) ∙ sym got);
-        told = two.told ∙ (ap (λ t. option_map (λ all. all ++ two.got) t) one.told ∙ told_append (handed k) one.got two.got);
+        told = two.told ∙ (ap (λ t. option_map (λ all. all ++ two.got) t) one.told ∙ told_append k one.got two.got);
       }
 
   kept_one : (frame : Frame) → is_kept host frame ≡ true → keep (frame ∷ []) ≡ frame ∷ []
@@ -94,8 +94,8 @@ module _ {L : Type 0} (handed : L → Option (List Frame)) (host : ℕ) where
   dropped_one frame is = ap (λ b. cond b (frame ∷ []) []) is
 
   -- a datagram that is no frame for this station
-  pub brought_dropped : (p : PortValue) (l m : L) (frame : Frame) → is_kept host frame ≡ false
-      → handed m ≡ option_map (λ all. all ++ frame ∷ []) (handed l) → HasBrought handed host p p l m None
+  pub brought_dropped : (p : PortValue) (l m : Option (List Frame)) (frame : Frame) → is_kept host frame ≡ false
+      → m ≡ option_map (λ all. all ++ frame ∷ []) l → HasBrought host p p l m None
   brought_dropped p l m frame is told = record {
     acts = [];
     got = frame ∷ [];
@@ -107,8 +107,8 @@ module _ {L : Type 0} (handed : L → Option (List Frame)) (host : ℕ) where
   }
 
   -- one that was delivered
-  pub brought_one : (p q : PortValue) (l m : L) (frame : Frame) (a : EventAnswer) → is_kept host frame ≡ true
-      → handed m ≡ option_map (λ all. all ++ frame ∷ []) (handed l) → HasMade p q [] (events.Deliver frame) a → HasBrought handed host p q l m None
+  pub brought_one : (p q : PortValue) (l m : Option (List Frame)) (frame : Frame) (a : EventAnswer) → is_kept host frame ≡ true
+      → m ≡ option_map (λ all. all ++ frame ∷ []) l → HasMade p q [] (events.Deliver frame) a → HasBrought host p q l m None
   brought_one p q l m frame a is told made = record {
     acts = Enters made.before (events.Deliver frame) (length (frames_at p.station.origin made.before (events.Deliver frame))) ∷ [];
     got = frame ∷ [];
@@ -135,9 +135,9 @@ module _ {L : Type 0} (handed : L → Option (List Frame)) (host : ℕ) where
   cut_brings o frame (Hears heard ∷ xs) m cut = absurd cut
 
   -- one whose delivery met a Room
-  pub brought_cut : (p q : PortValue) (l m : L) (frame : Frame) (why : Room) → is_kept host frame ≡ true
-      → handed m ≡ option_map (λ all. all ++ frame ∷ []) (handed l) → IsRefused p q why [] (IsCutEvent p.station.origin (events.Deliver frame))
-      → HasBrought handed host p q l m (Some why)
+  pub brought_cut : (p q : PortValue) (l m : Option (List Frame)) (frame : Frame) (why : Room) → is_kept host frame ≡ true
+      → m ≡ option_map (λ all. all ++ frame ∷ []) l → IsRefused p q why [] (IsCutEvent p.station.origin (events.Deliver frame))
+      → HasBrought host p q l m (Some why)
   brought_cut p q l m frame why is told it =
       let cut = cut_brings p.station.origin frame it.last it.met it.cut in record {
         acts = it.last;
@@ -181,15 +181,15 @@ full_delivery host p q frame why is it full =
     (subst (λ (w : Room). IsMet q w it.met) (the_room why full) it.is_met))
 
 -- one datagram that was handed out
-pub heard_one : {L : Type 0} (handed : L → Option (List Frame)) (host : ℕ) (p q : PortValue) (l m : L) (frame : Frame) (result : Result Heard Room)
-    → IsBrought host p q frame result → handed m ≡ option_map (λ all. all ++ frame ∷ []) (handed l)
-    → HasBrought handed host p q l m (room_in result)
-heard_one handed host p q l m frame (Ok heard.Datagram) (inl (dropped, same)) told =
-    subst (λ x. HasBrought handed host p x l m None) (sym same) (brought_dropped handed host p l m frame dropped told)
-heard_one handed host p q l m frame (Ok heard.Datagram) (inr (kept, a, made)) told = brought_one handed host p q l m frame a kept told made
-heard_one handed host p q l m frame (Ok heard.Nothing) is told = absurd is
-heard_one handed host p q l m frame (Ok heard.Failed) is told = absurd is
-heard_one handed host p q l m frame (Err why) is told = brought_cut handed host p q l m frame why is.0 told is.1
+pub heard_one : (host : ℕ) (p q : PortValue) (l m : Option (List Frame)) (frame : Frame) (result : Result Heard Room)
+    → IsBrought host p q frame result → m ≡ option_map (λ all. all ++ frame ∷ []) l
+    → HasBrought host p q l m (room_in result)
+heard_one host p q l m frame (Ok heard.Datagram) (inl (dropped, same)) told =
+    subst (λ x. HasBrought host p x l m None) (sym same) (brought_dropped host p l m frame dropped told)
+heard_one host p q l m frame (Ok heard.Datagram) (inr (kept, a, made)) told = brought_one host p q l m frame a kept told made
+heard_one host p q l m frame (Ok heard.Nothing) is told = absurd is
+heard_one host p q l m frame (Ok heard.Failed) is told = absurd is
+heard_one host p q l m frame (Err why) is told = brought_cut host p q l m frame why is.0 told is.1
 
 pub heard_full : (host : ℕ) (p q : PortValue) (frame : Frame) (result : Result Heard Room) → IsBrought host p q frame result
     → room_in result ≡ Some rooms.Full → IsPortFull p q

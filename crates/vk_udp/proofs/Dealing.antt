@@ -1,10 +1,9 @@
 -- Seats of a station and of the hub that are dealt to the jobs of its node, and what is left.
-use Rattle.std.proofs.Common.{◌≡◌, ℕ, suc, ◌+◌, Bool, true, false, List, [], ◌∷◌, ◌++◌, append_assoc, length, refl, sym, ap, ◌∙◌, subst, arith}
+use Rattle.std.proofs.Common.{◌≡◌, ℕ, suc, ◌+◌, Bool, true, false, Option, List, [], ◌∷◌, ◌++◌, append_assoc, length, refl, sym, ap, ◌∙◌, subst, arith}
 use Rattle.std.proofs.lemmas.List.{length-append}
 use Rattle.vk_types.specs.Types.{ProcessSpec, StationEvent}
 use Rattle.turn_cell.specs.Seats.{Cell, IsSeatOf, Sitting, fresh}
 use Rattle.vk_base.specs.Settings.{has_process}
-use Rattle.vk_event.specs.declared.port.StationPort.{StationPort}
 use Rattle.vk_hub.specs.declared.event.HubEvent.{HubEvent}
 use Rattle.vk_hub.specs.Hubs.{HubLog}
 use Rattle.vk_port.specs.Ports.{PortValue, stand_of}
@@ -59,7 +58,7 @@ module _ (cell : Cell StationHistory) (hub : Cell HubLog) (host : ℕ) where
     may = refl;
   })
 
-  job_push : {G P L : Type 0} (front : List (Assigned G)) (ws : List (NodeWork G P L)) (a : Assigned G) (w : NodeWork G P L)
+  job_push : {G P L S : Type 0} (front : List (Assigned G)) (ws : List (NodeWork G P L S)) (a : Assigned G) (w : NodeWork G P L S)
       → AreProcesses cell hub host front ws → IsProcessJob cell hub host a w → AreProcesses cell hub host (front ++ a ∷ []) (ws ++ w ∷ [])
   job_push [] [] a w are is = (is, tt)
   job_push [] (v ∷ ws) a w are is = absurd are
@@ -67,12 +66,12 @@ module _ (cell : Cell StationHistory) (hub : Cell HubLog) (host : ℕ) where
   job_push (b ∷ front) (v ∷ ws) a w are is = (are.0, job_push front ws a w are.1 is)
 
   -- one program's job more
-  pub program_job : {G P L : Type 0} (front yielded : List (Assigned G)) (jobs new : List (NodeWork G P L)) (a : Assigned G) (port : PortValue)
+  pub program_job : {G P L S : Type 0} (front yielded : List (Assigned G)) (jobs new : List (NodeWork G P L S)) (a : Assigned G) (port : PortValue)
       (duty : ProcessDuty G) → duty ≡ record { port = port; pid = a.pid; program = a.program } → new ≡ jobs ++ works.Process duty ∷ []
       → IsNodePort cell hub host false port → AreProcesses cell hub host (front ++ yielded) jobs
       → AreProcesses cell hub host (front ++ (yielded ++ a ∷ [])) new
-  program_job {G} {P} {L} front yielded jobs new a port duty is grown made are =
-      let job : IsProcessJob {G = G} {P = P} {L = L} cell hub host a (works.Process duty) = record {
+  program_job {G} {P} {L} {S} front yielded jobs new a port duty is grown made are =
+      let job : IsProcessJob {G = G} {P = P} {L = L} {S = S} cell hub host a (works.Process duty) = record {
         duty = duty;
         is = refl;
         pid = ap (λ (d : ProcessDuty G). d.pid) is;
@@ -84,28 +83,22 @@ module _ (cell : Cell StationHistory) (hub : Cell HubLog) (host : ℕ) where
       (job_push (front ++ yielded) jobs a (works.Process duty) are job))
 
   -- all jobs, of which the clock's and the last one were added behind those of the programs
-  pub node_dealt : {G P L : Type 0} (programs : List (Assigned G)) (rounds : ℕ) (ports : List StationPort) (carrier : Sitting HubLog HubEvent)
-      (link : L) (first second jobs : List (NodeWork G P L)) (clock_port port : PortValue) (clock : ClockDuty) (last : CarrierDuty L)
+  pub node_dealt : {G P L S : Type 0} (programs : List (Assigned G)) (rounds : ℕ) (duty last : Option CarrierDuty)
+      (first second jobs : List (NodeWork G P L S)) (clock_port : PortValue) (clock : ClockDuty)
       → AreProcesses cell hub host programs first → second ≡ first ++ works.Clock clock ∷ [] → jobs ≡ second ++ works.Carrier last ∷ []
-      → IsNodePort cell hub host true clock_port → clock ≡ record { port = clock_port; rounds = rounds } → IsNodePort cell hub host false port
-      → last ≡ record { port = port; carrier = carrier; ports = ports; link = link }
-      → AreNodeDealt cell hub host programs rounds ports carrier link jobs
-  node_dealt {G} {P} {L} programs rounds ports carrier link first second jobs clock_port port clock last each one two ticks clock_is carries
-      last_is = record {
-        first = first;
-        clock = clock;
-        last = last;
-        all = two ∙ (ap (λ l. l ++ works.Carrier last ∷ []) one ∙ append_assoc first (works.Clock clock ∷ []) (works.Carrier last ∷ []));
-        each = each;
-        clock_port = subst (IsNodePort cell hub host true) (sym (ap (λ (d : ClockDuty). d.port) clock_is)) ticks;
-        so_many = ap (λ (d : ClockDuty). d.rounds) clock_is;
-        port = subst (IsNodePort cell hub host false) (sym (ap (λ (d : CarrierDuty L). d.port) last_is)) carries;
-        seat = ap (λ (d : CarrierDuty L). d.carrier) last_is;
-        to = ap (λ (d : CarrierDuty L). d.ports) last_is;
-        over = ap (λ (d : CarrierDuty L). d.link) last_is;
-      }
+      → IsNodePort cell hub host true clock_port → clock ≡ record { port = clock_port; rounds = rounds } → last ≡ duty
+      → AreNodeDealt cell hub host programs rounds duty jobs
+  node_dealt {G} {P} {L} {S} programs rounds duty last first second jobs clock_port clock each one two ticks clock_is last_is = record {
+    first = first;
+    clock = clock;
+    all = two ∙ (ap (λ l. l ++ works.Carrier last ∷ []) one ∙ append_assoc first (works.Clock clock ∷ []) (works.Carrier last ∷ []))
+        ∙ ap (λ d. first ++ works.Clock clock ∷ works.Carrier d ∷ []) last_is;
+    each = each;
+    clock_port = subst (IsNodePort cell hub host true) (sym (ap (λ (d : ClockDuty). d.port) clock_is)) ticks;
+    so_many = ap (λ (d : ClockDuty). d.rounds) clock_is;
+  }
 
-  process_count : {G P L : Type 0} (programs : List (Assigned G)) (ws : List (NodeWork G P L)) → AreProcesses cell hub host programs ws
+  process_count : {G P L S : Type 0} (programs : List (Assigned G)) (ws : List (NodeWork G P L S)) → AreProcesses cell hub host programs ws
       → length ws ≡ length programs
   process_count [] [] are = refl
   process_count [] (w ∷ ws) are = absurd are
@@ -113,10 +106,10 @@ module _ (cell : Cell StationHistory) (hub : Cell HubLog) (host : ℕ) where
   process_count (a ∷ programs) (w ∷ ws) are = ap suc (process_count programs ws are.1)
 
   -- how many jobs there are
-  pub dealt_count : {G P L : Type 0} (programs : List (Assigned G)) (rounds : ℕ) (ports : List StationPort) (carrier : Sitting HubLog HubEvent)
-      (link : L) (jobs : List (NodeWork G P L)) → AreNodeDealt cell hub host programs rounds ports carrier link jobs → length jobs ≡ length programs + 2
-  dealt_count programs rounds ports carrier link jobs d =
-      let size = ap length d.all ∙ length-append d.first (works.Clock d.clock ∷ works.Carrier d.last ∷ []) in
+  pub dealt_count : {G P L S : Type 0} (programs : List (Assigned G)) (rounds : ℕ) (duty : Option CarrierDuty) (jobs : List (NodeWork G P L S))
+      → AreNodeDealt cell hub host programs rounds duty jobs → length jobs ≡ length programs + 2
+  dealt_count programs rounds duty jobs d =
+      let size = ap length d.all ∙ length-append d.first (works.Clock d.clock ∷ works.Carrier duty ∷ []) in
       let each = process_count programs d.first d.each in
       omega arith
 

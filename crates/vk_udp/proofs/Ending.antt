@@ -1,5 +1,5 @@
 -- From what jobs did to their ends.
-use Rattle.std.proofs.Common.{◌≡◌, ◌≢◌, ℕ, ◌⊎◌, inl, inr, true, false, Option, Some, None, List, [], ◌∷◌, ◌++◌, refl, sym, ap, ◌∙◌, subst, append-nil, arith, ◌≤◌}
+use Rattle.std.proofs.Common.{◌≡◌, ◌≢◌, ℕ, ◌⊎◌, inl, inr, true, false, Option, None, List, [], ◌∷◌, ◌++◌, refl, sym, ap, ◌∙◌, subst, append-nil, arith, ◌≤◌}
 use mathlib.Core.List.{IsPrefix}
 use Rattle.turn_cell.proofs.Histories.{prefix_self}
 use Rattle.turn_cell.specs.declared.replay.Room.{Room}
@@ -23,8 +23,9 @@ use Rattle.vk_rules.specs.Each.{Each}
 use Rattle.vk_udp.specs.Asked.{Ask, errands_in}
 use Rattle.vk_udp.specs.Carried.{HasBrought, HasGoneAround, HasHaltedBy, IsHubFull, IsPortFull, IsStationPort, TellsStop, is_failed, met_by, stops_of}
 use Rattle.vk_udp.specs.Clocked.{HasClocked, HasStopped}
+use Rattle.vk_udp.specs.Docked.{HasLeftOff, HasLeftOffSince}
 use Rattle.vk_io.specs.Causes.{Rose}
-use Rattle.vk_udp.specs.Jobs.{EndsCarrier, EndsClock}
+use Rattle.vk_udp.specs.Jobs.{EndsCarried, EndsCarrier, EndsClock}
 use Rattle.vk_udp.specs.Values.{CarrierDuty}
 use Rattle.vk_udp.specs.Wires.{Datagram}
 use Rattle.vk_udp.specs.declared.work.Carried.{Carried}
@@ -133,9 +134,20 @@ failed_stop before now stops.Ended tells is = absurd (cc is)
 failed_stop before now stops.Failed tells is = tells
 failed_stop before now (stops.Met why) tells is = absurd (cc is)
 
-module _ {L : Type 0} (handed : L → Option (List Frame)) (given : L → Option (List Datagram)) (faults : L → ℕ) (d : CarrierDuty L) (e : Carried L) (q : PortValue) (mid : HubSeat) (s : Seats)
-    (stop : Stop) (b : HasBrought handed d.port.host d.port q d.link e.link (met_by stop))
-    (f : HasGoneAround given d.port.hub.origin d.ports d.carrier mid d.link e.link (stops_of stop)) (r : (rest : List HubEvent) × IsRest mid e.hub_seat stop rest) where
+module _ {L : Type 0} (handed : L → Option (List Frame)) (given : L → Option (List Datagram)) (faults : L → ℕ) (d : CarrierDuty) (e : Carried L) (q : PortValue) (s : Seats)
+    (stop : Stop) (left : HasLeftOff handed given faults d q e.hub_seat e.link stop) where
+  abbrev mid : HubSeat
+  mid = left.before
+
+  abbrev b : HasBrought d.port.host d.port q d.handed (handed e.link) (met_by stop)
+  b = left.brought
+
+  abbrev f : HasGoneAround d.port.hub.origin d.ports d.carrier mid d.sent (given e.link) (stops_of stop)
+  f = left.fetched
+
+  abbrev r : (rest : List HubEvent) × IsRest mid e.hub_seat stop rest
+  r = rest_of mid e.hub_seat stop left.halted
+
   abbrev asks : List Ask
   asks = f.fetched.asked.asks
 
@@ -185,10 +197,9 @@ module _ {L : Type 0} (handed : L → Option (List Frame)) (given : L → Option
     carried = r.1.mine;
   }
 
-  pub carried : (met_by stop ≡ Some rooms.Full → IsPortFull d.port q ⊎ IsHubFull mid) → TellsStop (faults d.link) (faults e.link) stop
-      → e.end.met ≡ met_by stop → e.end.seats.items ≡ s ∷ [] → s.host ≡ d.port.host → s.seat ≡ q.seat → s.hub_seat ≡ q.hub_seat
+  pub carried : e.end.met ≡ met_by stop → e.end.seats.items ≡ s ∷ [] → s.host ≡ d.port.host → s.seat ≡ q.seat → s.hub_seat ≡ q.hub_seat
       → EndsCarrier handed given faults d e
-  carried full tells met seats host seat hub_seat = record {
+  carried met seats host seat hub_seat = record {
     end = linked;
     seat = s;
     seats = seats;
@@ -201,8 +212,8 @@ module _ {L : Type 0} (handed : L → Option (List Frame)) (given : L → Option
       errands_are = refl;
       sent = f.fetched.told;
     };
-    sound = sound_stop (faults d.link) (faults e.link) stop tells;
-    failed = failed_stop (faults d.link) (faults e.link) stop tells;
+    sound = sound_stop d.faults (faults e.link) stop left.tells;
+    failed = failed_stop d.faults (faults e.link) stop left.tells;
     job = λ c of ports. record {
       stations = asks_of (λ h. has_station c.specs h ≡ true) asks
           (subst (Each (IsStationPort c)) (sym f.fetched.asked.there) (each_around (IsStationPort c) f.rounds d.ports f.last f.front ports));
@@ -212,7 +223,16 @@ module _ {L : Type 0} (handed : L → Option (List Frame)) (given : L → Option
       halts = λ none sound. (refl, r.1.none none sound);
       brought = b.brought;
       whole = b.whole;
-      full = λ is. link_full c of (full is);
+      full = λ is. link_full c of (left.full is);
     };
     ended = link_ended r.1.ended;
   }
+
+-- the same, where the duty is known by a type alone
+pub carried_since : {L : Type 0} (handed : L → Option (List Frame)) (given : L → Option (List Datagram)) (faults : L → ℕ)
+    (start : Option CarrierDuty) (e : Carried L) (q : PortValue) (s : Seats) (stop : Stop)
+    → HasLeftOffSince handed given faults start s.host q e.hub_seat e.link stop → e.end.met ≡ met_by stop → e.end.seats.items ≡ s ∷ []
+    → s.seat ≡ q.seat → s.hub_seat ≡ q.hub_seat → EndsCarried handed given faults start e
+carried_since handed given faults start e q s stop left met seats seat hub_seat =
+    subst (λ d. EndsCarried handed given faults d e) (sym left.is)
+    (carried handed given faults left.duty e q s stop left.left met seats (sym left.at) seat hub_seat)

@@ -17,7 +17,7 @@ use Rattle.vk_hub.specs.Posts.{IsFromPost}
 use Rattle.v_node.specs.Links.{is_stop}
 use Rattle.v_node.specs.Seats.{hub_stand_of}
 use Rattle.vk_udp.specs.Asked.{AreAsks, Ask, rounds_of, sending, sent_for}
-use Rattle.vk_udp.specs.Carried.{HasFetchedFor, HasGoneAround, HasGoneRound, room_in, stops_in}
+use Rattle.vk_udp.specs.Carried.{AreRounds, HasFetchedFor, HasGoneAround, HasGoneRound, room_in, stops_in}
 use Rattle.vk_udp.specs.Wires.{Datagram, IsMore}
 use Rattle.vk_udp.specs.declared.carrier.Sent.{Sent}
 use Rattle.vk_udp.proofs.Asking.{asks_append, asks_stops, more_more, sent_append, there_append}
@@ -72,12 +72,15 @@ pub gone : (ended : Bool) → ended ≡ true → ◌≡◌ {A = ℕ} (cond ended
 gone true is = refl
 gone false is = absurd (cc is)
 
-module _ {L : Type 0} (sent : L → Option (List Datagram)) (o : HubLog) where
-  abbrev Fetches : List StationPort → HubSeat → HubSeat → L → L → ℕ → Type 0
-  Fetches = HasFetchedFor sent o
+module _ (o : HubLog) where
+  abbrev Told : Type 0
+  Told = Option (List Datagram)
+
+  abbrev Fetches : List StationPort → HubSeat → HubSeat → Told → Told → ℕ → Type 0
+  Fetches = HasFetchedFor o
 
   -- ONE FETCH: it was refused
-  pub fetched_refused : (s t : HubSeat) (l m : L) → IsSameSeat s t → HasLooked s t → IsMore (sent l) (sent m) [] → Fetches [] s t l m 0
+  pub fetched_refused : (s t : HubSeat) (l m : Told) → IsSameSeat s t → HasLooked s t → IsMore l m [] → Fetches [] s t l m 0
   fetched_refused s t l m same looked told = record {
     same = same;
     asked = record { asks = []; are = looked; there = refl };
@@ -85,12 +88,12 @@ module _ {L : Type 0} (sent : L → Option (List Datagram)) (o : HubLog) where
     told = told;
   }
 
-  pub fetched_none : (s : HubSeat) (l : L) → IsMore (sent l) (sent l) [] → Fetches [] s s l l 0
+  pub fetched_none : (s : HubSeat) (l : Told) → IsMore l l [] → Fetches [] s s l l 0
   fetched_none s l told = fetched_refused s s l l (refl, refl, refl) (prefix_self s.seen, refl) told
 
   -- it found nothing
-  pub fetched_nothing : (p : StationPort) (s t : HubSeat) (l m : L) → IsSameSeat s t → IsComplete t → HasLooked s t
-      → fetched_from o.programs (traffic_of o t.seen) p.host ≡ fetched.Nothing → IsMore (sent l) (sent m) [] → Fetches (p ∷ []) s t l m 0
+  pub fetched_nothing : (p : StationPort) (s t : HubSeat) (l m : Told) → IsSameSeat s t → IsComplete t → HasLooked s t
+      → fetched_from o.programs (traffic_of o t.seen) p.host ≡ fetched.Nothing → IsMore l m [] → Fetches (p ∷ []) s t l m 0
   fetched_nothing p s t l m same complete looked nothing told = record {
     same = same;
     asked = record {
@@ -111,8 +114,8 @@ module _ {L : Type 0} (sent : L → Option (List Datagram)) (o : HubLog) where
   }
 
   -- it was entered
-  fetched_given : (p : StationPort) (s t : HubSeat) (l m : L) (f : Fetched) → IsSameSeat s t → IsComplete t → f ≢ fetched.Nothing → HasGot o p s t f
-      → IsFromPost f p.host t.seen → IsMore (sent l) (sent m) (sending p f) → Fetches (p ∷ []) s t l m (is_stop f)
+  fetched_given : (p : StationPort) (s t : HubSeat) (l m : Told) (f : Fetched) → IsSameSeat s t → IsComplete t → f ≢ fetched.Nothing → HasGot o p s t f
+      → IsFromPost f p.host t.seen → IsMore l m (sending p f) → Fetches (p ∷ []) s t l m (is_stop f)
   fetched_given p s t l m (fetched.Frame frame) same complete some turn posted told = record {
     same = same;
     asked = record {
@@ -159,15 +162,15 @@ module _ {L : Type 0} (sent : L → Option (List Datagram)) (o : HubLog) where
   }
   fetched_given p s t l m fetched.Nothing same complete some turn posted told = absurd (some refl)
 
-  pub fetched_as : (p : StationPort) (s t : HubSeat) (l m : L) (f g : Fetched) → f ≡ g → g ≢ fetched.Nothing → IsSameSeat s t → IsComplete t
-      → (f ≢ fetched.Nothing → HasGot o p s t f) → IsFromPost f p.host t.seen → IsMore (sent l) (sent m) (sending p g)
+  pub fetched_as : (p : StationPort) (s t : HubSeat) (l m : Told) (f g : Fetched) → f ≡ g → g ≢ fetched.Nothing → IsSameSeat s t → IsComplete t
+      → (f ≢ fetched.Nothing → HasGot o p s t f) → IsFromPost f p.host t.seen → IsMore l m (sending p g)
       → Fetches (p ∷ []) s t l m (is_stop g)
   fetched_as p s t l m f g is some same complete turn posted told =
       fetched_given p s t l m g same complete some (subst (λ x. x ≢ fetched.Nothing → HasGot o p s t x) is turn some)
       (subst (λ x. IsFromPost x p.host t.seen) is posted) told
 
   -- ONE BEHIND THE OTHER
-  pub fetched_on : (ps qs : List StationPort) (s t u : HubSeat) (k l m : L) (a b : ℕ) → Fetches ps s t k l 0 → Fetches qs t u l m a → a ≡ b
+  pub fetched_on : (ps qs : List StationPort) (s t u : HubSeat) (k l m : Told) (a b : ℕ) → Fetches ps s t k l 0 → Fetches qs t u l m a → a ≡ b
       → Fetches (ps ++ qs) s u k m b
   fetched_on ps qs s t u k l m a b one two is =
       let xs = one.asked.asks in
@@ -181,33 +184,33 @@ module _ {L : Type 0} (sent : L → Option (List Datagram)) (o : HubLog) where
           there = there_append xs ys ∙ (ap (λ l. l ++ map (λ (x : Ask). x.there) ys) one.asked.there ∙ ap (λ l. ps ++ l) two.asked.there);
         };
         stopped = (let sum = asks_stops xs ys in let x = one.stopped in let y = two.stopped in omega arith);
-        told = subst (IsMore (sent k) (sent m)) (sym (sent_append xs ys))
-            (more_more (sent k) (sent l) (sent m) (sent_for xs) (sent_for ys) one.told two.told);
+        told = subst (IsMore k m) (sym (sent_append xs ys))
+            (more_more k l m (sent_for xs) (sent_for ys) one.told two.told);
       }
 
   -- the link was given nothing more to send
-  pub fetched_still : (ps : List StationPort) (s t : HubSeat) (k l m : L) (n : ℕ) → Fetches ps s t k l n → sent m ≡ sent l → Fetches ps s t k m n
+  pub fetched_still : (ps : List StationPort) (s t : HubSeat) (k l m : Told) (n : ℕ) → Fetches ps s t k l n → m ≡ l → Fetches ps s t k m n
   fetched_still ps s t k l m n it is = record {
     same = it.same;
     asked = it.asked;
     stopped = it.stopped;
-    told = subst (λ x. IsMore (sent k) x (sent_for it.asked.asks)) (sym is) it.told;
+    told = subst (λ x. IsMore k x (sent_for it.asked.asks)) (sym is) it.told;
   }
 
   -- ONE ROUND, of which so many ports are done
-  pub round_none : (ports : List StationPort) (s : HubSeat) (l : L) → IsMore (sent l) (sent l) [] → Fetches (take 0 ports) s s l l 0
+  pub round_none : (ports : List StationPort) (s : HubSeat) (l : Told) → IsMore l l [] → Fetches (take 0 ports) s s l l 0
   round_none [] s l told = fetched_none s l told
   round_none (p ∷ ps) s l told = fetched_none s l told
 
-  pub round_more : (ports : List StationPort) (i : ℕ) (d : StationPort) (s t u : HubSeat) (k l m : L) (a : ℕ) → i < length ports
+  pub round_more : (ports : List StationPort) (i : ℕ) (d : StationPort) (s t u : HubSeat) (k l m : Told) (a : ℕ) → i < length ports
       → Fetches (take i ports) s t k l 0 → Fetches (get_or ports i d ∷ []) t u l m a → a ≡ 0 → Fetches (take (i + 1) ports) s u k m 0
   round_more ports i d s t u k l m a low one two is =
       subst (λ ps. Fetches ps s u k m 0) (sym (take_more ports i d low))
       (fetched_on (take i ports) (get_or ports i d ∷ []) s t u k l m a 0 one two is)
 
-  pub round_ended : (ports : List StationPort) (i : ℕ) (d : StationPort) (s t u : HubSeat) (k l m : L) (answer : Sent) → i < length ports
+  pub round_ended : (ports : List StationPort) (i : ℕ) (d : StationPort) (s t u : HubSeat) (k l m : Told) (answer : Sent) → i < length ports
       → answer.ended ≡ true → Fetches (take i ports) s t k l 0 → Fetches (get_or ports i d ∷ []) t u l m (stops_in (Ok answer))
-      → HasGoneRound sent o ports s u k m (Ok answer)
+      → HasGoneRound o ports s u k m (Ok answer)
   round_ended ports i d s t u k l m answer low ended one two = record {
     asked = take i ports ++ get_or ports i d ∷ [];
     front = front_more ports i d low;
@@ -215,8 +218,8 @@ module _ {L : Type 0} (sent : L → Option (List Datagram)) (o : HubLog) where
     fetched = fetched_on (take i ports) (get_or ports i d ∷ []) s t u k l m (cond answer.ended 1 0) (cond answer.ended 1 0) one two refl;
   }
 
-  pub round_refused : (ports : List StationPort) (i : ℕ) (s t u : HubSeat) (k l m : L) (why : Room)
-      → Fetches (take i ports) s t k l 0 → Fetches [] t u l m 0 → HasGoneRound sent o ports s u k m (Err why)
+  pub round_refused : (ports : List StationPort) (i : ℕ) (s t u : HubSeat) (k l m : Told) (why : Room)
+      → Fetches (take i ports) s t k l 0 → Fetches [] t u l m 0 → HasGoneRound o ports s u k m (Err why)
   round_refused ports i s t u k l m why one two = record {
     asked = take i ports;
     front = front_at ports i;
@@ -224,8 +227,8 @@ module _ {L : Type 0} (sent : L → Option (List Datagram)) (o : HubLog) where
     fetched = subst (λ ps. Fetches ps s u k m 0) (append-nil (take i ports)) (fetched_on (take i ports) [] s t u k l m 0 0 one two refl);
   }
 
-  pub round_whole : (ports : List StationPort) (i : ℕ) (s t : HubSeat) (k l : L) (answer : Sent) → length ports ≤ i → answer.ended ≡ false
-      → Fetches (take i ports) s t k l 0 → HasGoneRound sent o ports s t k l (Ok answer)
+  pub round_whole : (ports : List StationPort) (i : ℕ) (s t : HubSeat) (k l : Told) (answer : Sent) → length ports ≤ i → answer.ended ≡ false
+      → Fetches (take i ports) s t k l 0 → HasGoneRound o ports s t k l (Ok answer)
   round_whole ports i s t k l answer all ended one = record {
     asked = ports;
     front = ([], append-nil ports);
@@ -235,22 +238,19 @@ module _ {L : Type 0} (sent : L → Option (List Datagram)) (o : HubLog) where
   }
 
   -- ROUND AFTER ROUND
-  abbrev pub AreRounds : List StationPort → HubSeat → HubSeat → L → L → Type 0
-  AreRounds ports s t k l = (n : ℕ) × Fetches (rounds_of n ports) s t k l 0
-
-  pub rounds_on : (ports : List StationPort) (s t u : HubSeat) (k l m : L) (result : Result Sent Room) → AreRounds ports s t k l
-      → HasGoneRound sent o ports t u l m result → stops_in result ≡ 0 → room_in result ≡ None → AreRounds ports s u k m
+  pub rounds_on : (ports : List StationPort) (s t u : HubSeat) (k l m : Told) (result : Result Sent Room) → AreRounds o ports s t k l
+      → HasGoneRound o ports t u l m result → stops_in result ≡ 0 → room_in result ≡ None → AreRounds o ports s u k m
   rounds_on ports s t u k l m result one two stops met = (
     suc one.0,
     subst (λ ps. Fetches (rounds_of one.0 ports ++ ps) s u k m 0) (two.whole stops met)
         (fetched_on (rounds_of one.0 ports) two.asked s t u k l m (stops_in result) 0 one.1 two.fetched stops),
   )
 
-  pub rounds_still : (ports : List StationPort) (s t : HubSeat) (k l m : L) → AreRounds ports s t k l → sent m ≡ sent l → AreRounds ports s t k m
+  pub rounds_still : (ports : List StationPort) (s t : HubSeat) (k l m : Told) → AreRounds o ports s t k l → m ≡ l → AreRounds o ports s t k m
   rounds_still ports s t k l m one is = (one.0, fetched_still (rounds_of one.0 ports) s t k l m 0 one.1 is)
 
-  pub around_cut : (ports : List StationPort) (s t u : HubSeat) (k l m : L) (result : Result Sent Room) (b : ℕ) → AreRounds ports s t k l
-      → HasGoneRound sent o ports t u l m result → stops_in result ≡ b → HasGoneAround sent o ports s u k m b
+  pub around_cut : (ports : List StationPort) (s t u : HubSeat) (k l m : Told) (result : Result Sent Room) (b : ℕ) → AreRounds o ports s t k l
+      → HasGoneRound o ports t u l m result → stops_in result ≡ b → HasGoneAround o ports s u k m b
   around_cut ports s t u k l m result b one two stops = record {
     rounds = one.0;
     last = two.asked;
@@ -258,7 +258,7 @@ module _ {L : Type 0} (sent : L → Option (List Datagram)) (o : HubLog) where
     fetched = fetched_on (rounds_of one.0 ports) two.asked s t u k l m (stops_in result) b one.1 two.fetched stops;
   }
 
-  pub around_whole : (ports : List StationPort) (s t : HubSeat) (k l : L) → AreRounds ports s t k l → HasGoneAround sent o ports s t k l 0
+  pub around_whole : (ports : List StationPort) (s t : HubSeat) (k l : Told) → AreRounds o ports s t k l → HasGoneAround o ports s t k l 0
   around_whole ports s t k l one = record {
     rounds = one.0;
     last = [];

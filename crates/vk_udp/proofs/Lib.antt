@@ -2,8 +2,10 @@ mod Clocking
 mod Bringing
 mod Asking
 mod Fetching
+mod Docking
 mod Ending
 mod Closed
+mod RunJobs
 mod WholeNode
 mod Recorded
 mod LinkBack

@@ -1,5 +1,5 @@
 -- The link that came back with the last end, and what the wire tells of it.
-use Rattle.std.proofs.Common.{◌≡◌, ℕ, Bool, true, false, Option, Some, None, List, [], ◌∷◌, ◌++◌, map, refl, sym, ap, ◌∙◌, subst, arith}
+use Rattle.std.proofs.Common.{◌≡◌, ℕ, zero, suc, Bool, true, false, Option, Some, None, List, [], ◌∷◌, ◌++◌, map, refl, sym, ap, ◌∙◌, subst, arith}
 use Rattle.std.specs.Prelude.{option_map}
 use Rattle.vk_types.specs.Types.{StationEvent}
 use Rattle.turn_cell.specs.Seats.{Cell, Sitting}
@@ -19,7 +19,7 @@ use Rattle.vk_udp.specs.Asked.{sent_for}
 use Rattle.vk_udp.specs.Ended.{HasNodeEnds, HaveNodeEnded}
 use Rattle.vk_udp.specs.Gathered.{own_end}
 use Rattle.vk_udp.specs.Node.{HandedOut, HasSent, IsNodeRecord, IsRecordOf}
-use Rattle.vk_udp.specs.Wires.{Datagram, HasNothing, IsClosed, IsMore, IsNewLink}
+use Rattle.vk_udp.specs.Wires.{CountsLink, Datagram, HasNothing, IsClosed, IsMore, IsNewLink}
 use Rattle.vk_udp.specs.declared.work.Carried.{Carried}
 use Rattle.vk_udp.specs.declared.work.NodeEnd.{NodeEnd}
 use Rattle.vk_udp.specs.declared.work.NodeEnd.TheVariants as ends
@@ -56,6 +56,11 @@ sent_between (Some all) start link None own new told closed = tt
 sent_between (Some all) start None (Some now) own new told closed = absurd closed
 sent_between (Some all) start (Some link) (Some now) own new told closed =
     let is : link ≡ own = subst (λ x. IsMore x (Some link) own) new told in closed ∙ ap (λ l. all ++ l) is
+
+-- A link without a fault is no fault of its wire.
+pub counts_nothing : (link before now : ℕ) → link ≡ 0 → CountsLink link before now → now ≡ before
+counts_nothing zero before now none same = same
+counts_nothing (suc n) before now none next = absurd (omega (arith, none))
 
 -- A link without a fault has not failed.
 not_failed : (failed : Bool) (before now : ℕ) → before ≡ 0 → now ≡ 0 → (failed ≡ true → Rose before now) → failed ≡ false

@@ -11,7 +11,6 @@ use Rattle.vk_hub.specs.declared.event.HubEvent.{HubEvent}
 use Rattle.vk_hub.specs.Hubs.{HubLog}
 use Rattle.vk_hub.specs.Links.{Frame}
 use Rattle.vk_io.specs.Causes.{Rose}
-use Rattle.vk_io.specs.Crews.{AllEnd}
 use Rattle.vk_port.specs.Ports.{Berth, IsLog, PortValue, Stand, berth_of}
 use Rattle.vk_port.specs.Stations.{StationHistory}
 use Rattle.vk_program.specs.declared.assigned.Assigned.{Assigned}
@@ -30,24 +29,22 @@ use Rattle.vk_threads.specs.declared.end.End.{End}
 use Rattle.vk_threads.specs.declared.end.Seats.{Seats}
 use Rattle.vk_threads.specs.declared.opening.Site.{Site}
 use Rattle.vk_threads.specs.Dealt.{runs_by}
-use Rattle.vk_threads.specs.Duties.{ProcessDuty}
 use Rattle.vk_threads.specs.Ended.{AllLeft, AreEndsOf, AreLeft, cell_at}
 use Rattle.vk_threads.specs.Ends.{AreThrough, EndsProcess, IsOf, role_of}
 use Rattle.vk_threads.specs.Ends.{FinishesOrWaits as FinishesOrWaitsAt}
 use Rattle.vk_threads.proofs.Dealt.{AreApartRoles, IsOwn, all_left, apart_roles, duties_apart, duty_role, duty_tasks, left_by, passages_by, passage_by, tasks_by, tasks_by_roles}
 use Rattle.vk_udp.specs.Asked.{HasCarried}
 use Rattle.vk_udp.specs.Carried.{IsStationPort}
-use Rattle.vk_udp.specs.Dealt.{AreProcesses, IsNodePort, IsProcessJob}
-use Rattle.vk_udp.specs.Ended.{HasFetched, HasNodeEnds, HasRunNodeJobs, clock_job, link_job, link_passage}
+use Rattle.vk_udp.specs.Dealt.{IsNodePort}
+use Rattle.vk_udp.specs.Docked.{duty_of}
+use Rattle.vk_udp.specs.Ended.{AreNodeEnds, HasFetched, HasNodeEnds, HasRunNodeJobs, clock_job, link_job, link_passage}
 use Rattle.vk_udp.specs.Gathered.{own_end, site_of}
-use Rattle.vk_udp.specs.Jobs.{EndsCarrier, EndsClock, ends_as}
+use Rattle.vk_udp.specs.Jobs.{EndsCarrier, EndsClock}
 use Rattle.vk_udp.specs.Values.{CarrierDuty, ClockDuty}
 use Rattle.vk_udp.specs.Wires.{Datagram}
 use Rattle.vk_udp.specs.declared.work.Carried.{Carried}
 use Rattle.vk_udp.specs.declared.work.NodeEnd.{NodeEnd}
 use Rattle.vk_udp.specs.declared.work.NodeEnd.TheVariants as ends
-use Rattle.vk_udp.specs.declared.work.NodeWork.{NodeWork}
-use Rattle.vk_udp.specs.declared.work.NodeWork.TheVariants as works
 use Rattle.vk_udp.proofs.Closed.{each_with}
 
 module _ (c : Settings) (host : ℕ) (cell : Cell StationHistory) (hub : Cell HubLog) (origin : cell.origin ≡ fresh_station c host) where
@@ -110,28 +107,26 @@ module _ (c : Settings) (host : ℕ) (cell : Cell StationHistory) (hub : Cell Hu
       all_wait o gs is here.1 each.1,
     )
 
-    program_end : (a : Assigned G) (d : ProcessDuty G) (e : End) → d.pid ≡ a.pid → d.program ≡ a.program → IsNodePort cell hub host false d.port
-        → EndsProcess d.port d.pid (task d.program) e.seats.items e.met → HasEnd a e
-    program_end a d e pid program port ended =
+    program_end : (a : Assigned G) (p : PortValue) (e : End) → IsNodePort cell hub host false p
+        → EndsProcess p a.pid (task a.program) e.seats.items e.met → HasEnd a e
+    program_end a p e port ended =
         let m = ended.may in
-        let own = own_port false d.port port in
-        let of = of_port false d.port port in
-        let roles : map role_of m.passages ≡ Runs a.pid (task a.program) ∷ [] =
-        m.each ∙ ap (λ p. Runs p (task d.program) ∷ []) pid ∙ ap (λ x. Runs a.pid (task x) ∷ []) program in
-        let here = passages_here d.port e.seats.items m.passages port.at m.through in
+        let own = own_port false p port in
+        let of = of_port false p port in
+        let here = passages_here p e.seats.items m.passages port.at m.through in
         record {
           job = record { passages = m.passages; met = e.met };
-          left = all_left sites hub (d.port ∷ []) e.seats.items m.passages (own, tt) m.through;
+          left = all_left sites hub (p ∷ []) e.seats.items m.passages (own, tt) m.through;
           met = refl;
-          passages = passages_by sites hub c (d.port ∷ []) e.seats.items m.passages (own, tt) (of, tt) m.through;
+          passages = passages_by sites hub c (p ∷ []) e.seats.items m.passages (own, tt) (of, tt) m.through;
           here = here;
           program = record {
             job = m.job c (of, tt);
-            one = one_passage d.port e.seats.items m.passages m.through;
-            runs = each_runs a m.passages roles;
-            waits = λ none. all_wait d.port.station.origin m.passages (of ∙ ap (fresh_station c) port.at) here (ended.waits none);
+            one = one_passage p e.seats.items m.passages m.through;
+            runs = each_runs a m.passages m.each;
+            waits = λ none. all_wait p.station.origin m.passages (of ∙ ap (fresh_station c) port.at) here (ended.waits none);
           };
-          roles = roles;
+          roles = m.each;
         }
 
   -- THE CLOCK'S JOB
@@ -214,10 +209,10 @@ module _ (c : Settings) (host : ℕ) (cell : Cell StationHistory) (hub : Cell Hu
     }
 
     -- and what it carried are frames of this hub, for these ports
-    link_carried : (d : CarrierDuty L) (fetches : Sitting HubLog HubEvent) (ports : List StationPort) (start : L) (x : Carried L) (l : LinkEnd)
-        → IsNodePort cell hub host false d.port → d.carrier ≡ fetches → d.ports ≡ ports → d.link ≡ start → hub_stand_of fetches ≡ nothing_heard
+    link_carried : (d : CarrierDuty) (fetches : Sitting HubLog HubEvent) (ports : List StationPort) (start : L) (x : Carried L) (l : LinkEnd)
+        → IsNodePort cell hub host false d.port → d.carrier ≡ fetches → d.ports ≡ ports → d.sent ≡ given start → hub_stand_of fetches ≡ nothing_heard
         → l.carrier ≡ d.carrier.number
-        → HasCarried d.carrier.number d.port.hub.origin (hub_stand_of d.carrier) d.ports l.reached l.errands (given d.link) (given x.link)
+        → HasCarried d.carrier.number d.port.hub.origin (hub_stand_of d.carrier) d.ports l.reached l.errands d.sent (given x.link)
         → HasCarried l.carrier hub.origin nothing_heard ports l.reached l.errands (given start) (given x.link)
     link_carried d fetches ports start x l port seat to over new number it =
         subst (λ (k : ℕ). HasCarried k hub.origin nothing_heard ports l.reached l.errands (given start) (given x.link)) (sym number)
@@ -226,13 +221,15 @@ module _ (c : Settings) (host : ℕ) (cell : Cell StationHistory) (hub : Cell Hu
         (ap hub_stand_of seat ∙ new)
         (subst (λ (ps : List StationPort). HasCarried d.carrier.number d.port.hub.origin (hub_stand_of d.carrier) ps l.reached l.errands (given start) (given
         x.link)) to
-        (subst (λ (k : L). HasCarried d.carrier.number d.port.hub.origin (hub_stand_of d.carrier) d.ports l.reached l.errands (given k) (given x.link)) over
+        (subst (λ (told : Option (List Datagram)). HasCarried d.carrier.number d.port.hub.origin (hub_stand_of d.carrier) d.ports l.reached l.errands told
+        (given x.link)) over
         it))))
 
-    link_end : (d : CarrierDuty L) (fetches : Sitting HubLog HubEvent) (ports : List StationPort) (start : L) (x : Carried L)
-        → IsNodePort cell hub host false d.port → d.carrier ≡ fetches → d.ports ≡ ports → d.link ≡ start → IsSeatOf hub fetches
-        → hub_stand_of fetches ≡ nothing_heard → Each (IsStationPort c) ports → EndsCarrier handed given faults d x → HasLinkEnd ports start x
-    link_end d fetches ports start x port seat to over of new stations ended =
+    link_end : (d : CarrierDuty) (fetches : Sitting HubLog HubEvent) (ports : List StationPort) (start : L) (x : Carried L)
+        → IsNodePort cell hub host false d.port → d.carrier ≡ fetches → d.ports ≡ ports → d.handed ≡ handed start → d.sent ≡ given start
+        → d.faults ≡ faults start → IsSeatOf hub fetches → hub_stand_of fetches ≡ nothing_heard → Each (IsStationPort c) ports
+        → EndsCarrier handed given faults d x → HasLinkEnd ports start x
+    link_end d fetches ports start x port seat to over_handed over_sent over_faults of new stations ended =
         let t = ended.through in
         let own = own_port false d.port port in
         let seat_of : IsSeatOf hub d.carrier = subst (λ (s : Sitting HubLog HubEvent). IsSeatOf hub s) (sym seat) of in
@@ -246,9 +243,9 @@ module _ (c : Settings) (host : ℕ) (cell : Cell StationHistory) (hub : Cell Hu
           is = subst (λ (h : ℕ). IsLinkEnd c h ended.end) port.at
               (ended.job c (of_port false d.port port) (subst (Each (IsStationPort c)) (sym to) stations));
           fetched = link_fetched d.port d.carrier x.hub_seat ended.seat.hub_seat ended.seat ended.end seat_of t;
-          told = ended.told ∙ ap (λ (l : L). option_map (λ all. all ++ ended.end.handed) (handed l)) over;
-          carried = link_carried d fetches ports start x ended.end port seat to over new t.carrier ended.carried;
-          failed = λ is. subst (λ (l : L). Rose (faults l) (faults x.link)) over (ended.failed is);
+          told = ended.told ∙ ap (option_map (λ all. all ++ ended.end.handed)) over_handed;
+          carried = link_carried d fetches ports start x ended.end port seat to over_sent new t.carrier ended.carried;
+          failed = λ is. subst (λ (n : ℕ). Rose n (faults x.link)) over_faults (ended.failed is);
         }
 
     -- ALL JOBS, with their ends
@@ -288,32 +285,19 @@ module _ (c : Settings) (host : ℕ) (cell : Cell StationHistory) (hub : Cell Hu
         count = ap suc rest.count;
       }
 
-      module _ (P : Type 0) where
-        abbrev pub EndEach : List (NodeWork G P L) → List (NodeEnd L) → Type 0
-        EndEach [] [] = Unit {0}
-        EndEach (w ∷ ws) (e ∷ es) = ends_as task handed given faults w e × EndEach ws es
-        EndEach ws es = ⊥
-
-        end_each : (ws : List (NodeWork G P L)) (es : List (NodeEnd L)) → AllEnd (ends_as task handed given faults) ws es → EndEach ws es
-        end_each [] [] all = tt
-        end_each [] (e ∷ es) all = let n : suc (length es) ≡ 0 = all.0 in absurd (omega arith)
-        end_each (w ∷ ws) [] all = let n : 0 ≡ suc (length ws) = all.0 in absurd (omega arith)
-        end_each (w ∷ ws) (e ∷ es) all =
-            let n : suc (length es) ≡ suc (length ws) = all.0 in
-            (all.1 0 w e refl refl, end_each ws es (omega arith, λ k j x at_job at_end. all.1 (suc k) j x at_job at_end))
-
-        last_parts : (k : ClockDuty) (d : CarrierDuty L) (rounds : ℕ) (ports : List StationPort) (start : L) (es : List (NodeEnd L))
-            → ((e : End) → EndsClock k.port k.rounds e.seats.items e.met → HasClockEnd rounds e)
-            → ((x : Carried L) → EndsCarrier handed given faults d x → HasLinkEnd ports start x)
-            → EndEach (works.Clock k ∷ works.Carrier d ∷ []) es → HasParts [] rounds ports start es
-        last_parts k d rounds ports start [] of_clock of_link m = absurd m
-        last_parts k d rounds ports start (e ∷ []) of_clock of_link m = absurd m.1
-        last_parts k d rounds ports start (ends.Carried x ∷ f ∷ es) of_clock of_link m = absurd m.0
-        last_parts k d rounds ports start (ends.Own e ∷ ends.Own f ∷ es) of_clock of_link m = absurd m.1.0
-        last_parts k d rounds ports start (ends.Own e ∷ ends.Carried x ∷ f ∷ es) of_clock of_link m = absurd m.1.1
-        last_parts k d rounds ports start (ends.Own e ∷ ends.Carried x ∷ []) of_clock of_link m =
+      -- the ends of all jobs, with what is known of the clock's and of that of what carried frames
+      module _ (k : ClockDuty) (d : CarrierDuty) (rounds : ℕ) (ports : List StationPort) (start : L)
+          (of_clock : (e : End) → EndsClock k.port k.rounds e.seats.items e.met → HasClockEnd rounds e)
+          (of_link : (x : Carried L) → EndsCarrier handed given faults d x → HasLinkEnd ports start x) where
+        last_parts : (es : List (NodeEnd L)) → AreNodeEnds task handed given faults cell hub host k d [] es → HasParts [] rounds ports start es
+        last_parts [] m = absurd m
+        last_parts (ends.Carried x ∷ es) m = absurd m
+        last_parts (ends.Own e ∷ []) m = absurd m
+        last_parts (ends.Own e ∷ ends.Own f ∷ es) m = absurd m
+        last_parts (ends.Own e ∷ ends.Carried x ∷ f ∷ es) m = absurd m
+        last_parts (ends.Own e ∷ ends.Carried x ∷ []) m =
             let clock = of_clock e m.0 in
-            let link = of_link x m.1.0 in
+            let link = of_link x m.1 in
             record {
               js = [];
               own = e;
@@ -330,77 +314,62 @@ module _ (c : Settings) (host : ℕ) (cell : Cell StationHistory) (hub : Cell Hu
               count = refl;
             }
 
-        own_parts : (a : Assigned G) (others : List (Assigned G)) (rounds : ℕ) (ports : List StationPort) (start : L) (w : NodeWork G P L) (e : NodeEnd L) (es : List (NodeEnd L))
-            → IsProcessJob cell hub host a w → ends_as task handed given faults w e → HasParts others rounds ports start es
-            → HasParts (a ∷ others) rounds ports start (e ∷ es)
-        own_parts a others rounds ports start w e es job ended rest =
-            by_end e (subst (λ (x : NodeWork G P L). ends_as task handed given faults x e) job.is ended)
-          where
-            by_end : (e : NodeEnd L) → ends_as {G = G} {P = P} task handed given faults (works.Process job.duty) e → HasParts (a ∷ others) rounds ports start (e ∷ es)
-            by_end (ends.Own e) ended =
-                more_parts a others rounds ports start e es (program_end task a job.duty e job.pid job.program job.port ended) rest
-            by_end (ends.Carried x) ended = absurd ended
+        all_parts : (programs : List (Assigned G)) (es : List (NodeEnd L)) → AreNodeEnds task handed given faults cell hub host k d programs es
+            → HasParts programs rounds ports start es
+        all_parts [] es m = last_parts es m
+        all_parts (a ∷ others) [] m = absurd m
+        all_parts (a ∷ others) (ends.Carried x ∷ es) m = absurd m
+        all_parts (a ∷ others) (ends.Own e ∷ es) m =
+            more_parts a others rounds ports start e es (program_end task a m.0.port e m.0.at m.0.ended) (all_parts others es m.1)
 
-        all_parts : (programs : List (Assigned G)) (first : List (NodeWork G P L)) (k : ClockDuty) (d : CarrierDuty L) (rounds : ℕ) (ports : List StationPort) (start : L)
-            (es : List (NodeEnd L)) → ((e : End) → EndsClock k.port k.rounds e.seats.items e.met → HasClockEnd rounds e)
-            → ((x : Carried L) → EndsCarrier handed given faults d x → HasLinkEnd ports start x) → AreProcesses cell hub host programs first
-            → EndEach (first ++ works.Clock k ∷ works.Carrier d ∷ []) es → HasParts programs rounds ports start es
-        all_parts [] [] k d rounds ports start es of_clock of_link are m = last_parts k d rounds ports start es of_clock of_link m
-        all_parts [] (w ∷ ws) k d rounds ports start es of_clock of_link are m = absurd are
-        all_parts (a ∷ others) [] k d rounds ports start es of_clock of_link are m = absurd are
-        all_parts (a ∷ others) (w ∷ ws) k d rounds ports start [] of_clock of_link are m = absurd m
-        all_parts (a ∷ others) (w ∷ ws) k d rounds ports start (e ∷ es) of_clock of_link are m =
-            own_parts a others rounds ports start w e es are.0 m.0 (all_parts others ws k d rounds ports start es of_clock of_link are.1 m.1)
-
-        -- THE WHOLE
-        pub have_ended : (programs : List (Assigned G)) (rounds : ℕ) (ports : List StationPort) (fetches : Sitting HubLog HubEvent) (start : L)
-            (es : List (NodeEnd L)) (halt : Sitting HubLog HubEvent) → cell.seats ≡ length programs + 2 → hub.seats ≡ length programs + 4
-            → hub.origin.programs ≡ length programs + 1 → length programs ≤ 512 → AreDifferent (map pid_of programs) → IsSeatOf hub fetches
-            → hub_stand_of fetches ≡ nothing_heard → Each (IsStationPort c) ports
-            → HasRunNodeJobs G P L task handed given faults cell hub host programs rounds ports fetches start es halt
-            → HasNodeEnds handed given faults c host cell hub rounds ports (map (program_task task) programs) start es halt
-        have_ended programs rounds ports fetches start es halt seats hub_seats one_more few different of new stations run =
-            let d = run.dealt in
-            let m = end_each (d.first ++ works.Clock d.clock ∷ works.Carrier d.last ∷ []) es
-            (subst (λ (l : List (NodeWork G P L)). AllEnd (ends_as task handed given faults) l es) d.all run.each_end) in
-            let it = all_parts programs d.first d.clock d.last rounds ports start es
-            (λ e ended. clock_end d.clock rounds e d.clock_port d.so_many ended)
-            (λ x ended. link_end d.last fetches ports start x d.port d.seat d.to d.over of new stations ended) d.each m in
-            let gs = passages_of it.js in
-            let k = it.clock.clock in
-            let n : AllEnds = record { programs = it.js; clock = k; link = it.link.link } in
-            let roles = it.roles ∙ ap (map duty_role) (sym (append-nil (map (runs_by task) programs)))
-            ∙ sym (append-nil (map duty_role (map (runs_by task) programs ++ []))) in
-            let so_many : length gs ≡ length programs =
-            sym (length-map gs role_of) ∙ ap length it.roles ∙ length-map (map (runs_by task) programs) duty_role ∙ length-map programs (runs_by task) in
-            let and_clock : length (gs ++ k.passage ∷ []) ≡ length gs + 1 = length-append gs (k.passage ∷ []) in
-            let count = it.count in
-            record {
-              n = n;
-              front = it.front;
-              last = it.last;
-              are = it.are;
-              ended = record {
-                each_end = it.each_end;
-                fetched = it.link.fetched;
-                passages = each_with (IsPassage c hub.origin) gs k.passage it.passages it.clock.passage;
-                here = each_with (λ (g : Passage). host_of g ≡ host) gs k.passage it.here it.clock.here;
-                way = it.link.way;
-                are_jobs = record {
-                  programs = it.each_program;
-                  clock = it.clock.is;
-                  link = it.link.is;
-                  apart = apart_roles gs (subst AreApartRoles (sym roles) (duties_apart task programs [] [] different));
-                  few = omega (arith, count, few);
-                  one_more = omega (arith, count, one_more);
-                };
-                are_tasks = tasks_by_roles gs ∙ ap tasks_by roles ∙ duty_tasks task programs [] [];
-                seats = omega (arith, so_many, and_clock, seats);
-                hub_seats = omega (arith, so_many, and_clock, hub_seats);
-                halt_seat = run.seat;
-                unhalted = run.unhalted;
+      -- THE WHOLE
+      pub have_ended : (programs : List (Assigned G)) (rounds : ℕ) (ports : List StationPort) (fetches : Sitting HubLog HubEvent) (start : L)
+          (es : List (NodeEnd L)) (halt : Sitting HubLog HubEvent) → cell.seats ≡ length programs + 2 → hub.seats ≡ length programs + 4
+          → hub.origin.programs ≡ length programs + 1 → length programs ≤ 512 → AreDifferent (map pid_of programs) → IsSeatOf hub fetches
+          → hub_stand_of fetches ≡ nothing_heard → Each (IsStationPort c) ports
+          → HasRunNodeJobs task handed given faults cell hub host programs rounds ports fetches start es halt
+          → HasNodeEnds handed given faults c host cell hub rounds ports (map (program_task task) programs) start es halt
+      have_ended programs rounds ports fetches start es halt seats hub_seats one_more few different of new stations run =
+          let d = run.ran in
+          let it = all_parts d.clock (duty_of handed given faults run.port fetches ports start) rounds ports start
+          (λ e ended. clock_end d.clock rounds e d.clock_port d.so_many ended)
+          (λ x ended. link_end (duty_of handed given faults run.port fetches ports start) fetches ports start x run.at refl refl refl refl refl of new stations
+          ended) programs es d.each_end in
+          let gs = passages_of it.js in
+          let k = it.clock.clock in
+          let n : AllEnds = record { programs = it.js; clock = k; link = it.link.link } in
+          let roles = it.roles ∙ ap (map duty_role) (sym (append-nil (map (runs_by task) programs)))
+          ∙ sym (append-nil (map duty_role (map (runs_by task) programs ++ []))) in
+          let so_many : length gs ≡ length programs =
+          sym (length-map gs role_of) ∙ ap length it.roles ∙ length-map (map (runs_by task) programs) duty_role ∙ length-map programs (runs_by task) in
+          let and_clock : length (gs ++ k.passage ∷ []) ≡ length gs + 1 = length-append gs (k.passage ∷ []) in
+          let count = it.count in
+          record {
+            n = n;
+            front = it.front;
+            last = it.last;
+            are = it.are;
+            ended = record {
+              each_end = it.each_end;
+              fetched = it.link.fetched;
+              passages = each_with (IsPassage c hub.origin) gs k.passage it.passages it.clock.passage;
+              here = each_with (λ (g : Passage). host_of g ≡ host) gs k.passage it.here it.clock.here;
+              way = it.link.way;
+              are_jobs = record {
+                programs = it.each_program;
+                clock = it.clock.is;
+                link = it.link.is;
+                apart = apart_roles gs (subst AreApartRoles (sym roles) (duties_apart task programs [] [] different));
+                few = omega (arith, count, few);
+                one_more = omega (arith, count, one_more);
               };
-              told = it.link.told;
-              carried = it.link.carried;
-              failed = it.link.failed;
-            }
+              are_tasks = tasks_by_roles gs ∙ ap tasks_by roles ∙ duty_tasks task programs [] [];
+              seats = omega (arith, so_many, and_clock, seats);
+              hub_seats = omega (arith, so_many, and_clock, hub_seats);
+              halt_seat = d.seat;
+              unhalted = d.unhalted;
+            };
+            told = it.link.told;
+            carried = it.link.carried;
+            failed = it.link.failed;
+          }

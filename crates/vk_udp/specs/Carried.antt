@@ -35,15 +35,14 @@ stops_in (Ok sent) = cond sent.ended 1 0
 stops_in (Err why) = 0
 
 -- The link handed out these datagrams, and of them the port delivered those that are kept, in order: all, where no Room was met.
-pub record HasBrought {L : Type 0} (handed : L → Option (List Frame)) (host : ℕ) (old new : PortValue) (before now : L) (met : Option Room)
-    : Type 0 where
+pub record HasBrought (host : ℕ) (old new : PortValue) (before now : Option (List Frame)) (met : Option Room) : Type 0 where
   pub acts : List Action
   pub got : List Frame
   pub does : Does old new acts
   pub brings : OnlyBrings acts
   pub brought : IsPrefix (brought_by acts) (filter (is_kept host) got)
   pub whole : met ≡ None → brought_by acts ≡ filter (is_kept host) got
-  pub told : handed now ≡ option_map (λ all. all ++ got) (handed before)
+  pub told : now ≡ option_map (λ all. all ++ got) before
 
 -- the history of its station is used up, or that of the hub is at its limit
 abbrev pub IsPortFull : PortValue → PortValue → Type 0
@@ -72,12 +71,12 @@ IsStationPort c p = has_station c.specs p.host ≡ true
 
 -- The seat asked for the stations of these ports, one behind the other, and just so often heard that the hub had ended. What the link was
 -- given to send are the frames that it was answered, in order, each for its station's port.
-pub record HasFetchedFor {L : Type 0} (sent : L → Option (List Datagram)) (o : HubLog) (ports : List StationPort)
-    (old new : Sitting HubLog HubEvent) (before now : L) (stops : ℕ) : Type 0 where
+pub record HasFetchedFor (o : HubLog) (ports : List StationPort) (old new : Sitting HubLog HubEvent) (before now : Option (List Datagram))
+    (stops : ℕ) : Type 0 where
   pub same : IsSameSeat old new
   pub asked : HasAsked old.number o (hub_stand_of old) ports (hub_stand_of new)
   pub stopped : stop_count (errands_in asked.asks) ≡ stops
-  pub told : IsMore (sent before) (sent now) (sent_for asked.asks)
+  pub told : IsMore before now (sent_for asked.asks)
 
 -- where the hub refuses the fetch, nothing was asked
 abbrev pub asked_by : StationPort → Result Sent Room → List StationPort
@@ -85,20 +84,25 @@ asked_by there (Ok sent) = there ∷ []
 asked_by there (Err why) = []
 
 -- A round asks for the stations of all these ports, and leaves off only where it heard that the hub had ended, or met a Room.
-pub record HasGoneRound {L : Type 0} (sent : L → Option (List Datagram)) (o : HubLog) (ports : List StationPort)
-    (old new : Sitting HubLog HubEvent) (before now : L) (result : Result Sent Room) : Type 0 where
+pub record HasGoneRound (o : HubLog) (ports : List StationPort) (old new : Sitting HubLog HubEvent) (before now : Option (List Datagram))
+    (result : Result Sent Room) : Type 0 where
   pub asked : List StationPort
   pub front : IsPrefix asked ports
   pub whole : stops_in result ≡ 0 → room_in result ≡ None → asked ≡ ports
-  pub fetched : HasFetchedFor sent o asked old new before now (stops_in result)
+  pub fetched : HasFetchedFor o asked old new before now (stops_in result)
+
+-- rounds one behind the other, each for all ports, in which it did not hear that the hub had ended
+abbrev pub AreRounds : HubLog → List StationPort → Sitting HubLog HubEvent → Sitting HubLog HubEvent → Option (List Datagram)
+    → Option (List Datagram) → Type 0
+AreRounds o ports old new before now = (rounds : ℕ) × HasFetchedFor o (rounds_of rounds ports) old new before now 0
 
 -- Rounds one behind the other, and a last one that may have left off.
-pub record HasGoneAround {L : Type 0} (sent : L → Option (List Datagram)) (o : HubLog) (ports : List StationPort)
-    (old new : Sitting HubLog HubEvent) (before now : L) (stops : ℕ) : Type 0 where
+pub record HasGoneAround (o : HubLog) (ports : List StationPort) (old new : Sitting HubLog HubEvent) (before now : Option (List Datagram))
+    (stops : ℕ) : Type 0 where
   pub rounds : ℕ
   pub last : List StationPort
   pub front : IsPrefix last ports
-  pub fetched : HasFetchedFor sent o (rounds_of rounds ports ++ last) old new before now stops
+  pub fetched : HasFetchedFor o (rounds_of rounds ports ++ last) old new before now stops
 
 -- the hub's history is at its limit
 abbrev pub IsHubFull : Sitting HubLog HubEvent → Type 0

@@ -1,5 +1,5 @@
 -- Seats that are dealt to the jobs of a node.
-use Rattle.std.specs.Prelude.{ℕ, ◌≡◌, ◌++◌, Bool, true, false, List, [], ◌∷◌, length}
+use Rattle.std.specs.Prelude.{ℕ, ◌≡◌, ◌++◌, Bool, true, false, Option, List, [], ◌∷◌, length}
 use Rattle.vk_types.specs.Types.{StationEvent}
 use Rattle.turn_cell.specs.Seats.{Cell, IsSeatOf, Sitting, fresh}
 use Rattle.vk_hub.specs.declared.event.HubEvent.{HubEvent}
@@ -11,7 +11,6 @@ use Rattle.v_run.specs.Passages.{nowhere}
 use Rattle.vk_program.specs.declared.assigned.Assigned.{Assigned}
 use Rattle.vk_threads.specs.Duties.{ProcessDuty}
 use Rattle.vk_udp.specs.Values.{CarrierDuty, ClockDuty}
-use Rattle.vk_event.specs.declared.port.StationPort.{StationPort}
 use Rattle.vk_udp.specs.declared.work.NodeWork.{NodeWork}
 use Rattle.vk_udp.specs.declared.work.NodeWork.TheVariants as works
 
@@ -39,32 +38,25 @@ pub record IsNodePort (cell : Cell StationHistory) (hub : Cell HubLog) (host : �
   pub may : p.ticks ≡ ticks
 
 -- The job of this process with its program.
-pub record IsProcessJob {G P L : Type 0} (cell : Cell StationHistory) (hub : Cell HubLog) (host : ℕ) (a : Assigned G)
-    (w : NodeWork G P L) : Type
-    0 where
+pub record IsProcessJob {G P L S : Type 0} (cell : Cell StationHistory) (hub : Cell HubLog) (host : ℕ) (a : Assigned G)
+    (w : NodeWork G P L S) : Type 0 where
   pub duty : ProcessDuty G
   pub is : w ≡ works.Process duty
   pub pid : duty.pid ≡ a.pid
   pub program : duty.program ≡ a.program
   pub port : IsNodePort cell hub host false duty.port
 
-abbrev pub AreProcesses : {G P L : Type 0} → Cell StationHistory → Cell HubLog → ℕ → List (Assigned G) → List (NodeWork G P L) → Type 0
+abbrev pub AreProcesses : {G P L S : Type 0} → Cell StationHistory → Cell HubLog → ℕ → List (Assigned G) → List (NodeWork G P L S) → Type 0
 AreProcesses cell hub host [] [] = Unit {0}
 AreProcesses cell hub host (a ∷ all) (w ∷ ws) = IsProcessJob cell hub host a w × AreProcesses cell hub host all ws
 AreProcesses cell hub host all ws = ⊥
 
 -- THE JOBS OF A NODE: one for each program, the clock, and what carries frames.
-pub record AreNodeDealt {G P L : Type 0} (cell : Cell StationHistory) (hub : Cell HubLog) (host : ℕ) (programs : List (Assigned G))
-    (rounds : ℕ)
-    (ports : List StationPort) (carrier : Sitting HubLog HubEvent) (link : L) (jobs : List (NodeWork G P L)) : Type 0 where
-  pub first : List (NodeWork G P L)
+pub record AreNodeDealt {G P L S : Type 0} (cell : Cell StationHistory) (hub : Cell HubLog) (host : ℕ) (programs : List (Assigned G))
+    (rounds : ℕ) (duty : Option CarrierDuty) (jobs : List (NodeWork G P L S)) : Type 0 where
+  pub first : List (NodeWork G P L S)
   pub clock : ClockDuty
-  pub last : CarrierDuty L
-  pub all : jobs ≡ first ++ works.Clock clock ∷ works.Carrier last ∷ []
+  pub all : jobs ≡ first ++ works.Clock clock ∷ works.Carrier duty ∷ []
   pub each : AreProcesses cell hub host programs first
   pub clock_port : IsNodePort cell hub host true clock.port
   pub so_many : clock.rounds ≡ rounds
-  pub port : IsNodePort cell hub host false last.port
-  pub seat : last.carrier ≡ carrier
-  pub to : last.ports ≡ ports
-  pub over : last.link ≡ link

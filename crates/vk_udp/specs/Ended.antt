@@ -1,5 +1,5 @@
 -- What has come back once all jobs of a node have ended.
-use Rattle.std.specs.Prelude.{ℕ, ◌≡◌, ◌+◌, ◌++◌, true, Option, List, [], ◌∷◌, length, map, option_map}
+use Rattle.std.specs.Prelude.{ℕ, ◌≡◌, ◌+◌, ◌++◌, true, false, Option, List, [], ◌∷◌, length, map, option_map}
 use mathlib.Core.List.{IsPrefix}
 use Rattle.vk_types.specs.Types.{Answer, Call}
 use Rattle.turn_cell.specs.Seats.{Cell, IsSeatOf, Sitting}
@@ -8,8 +8,8 @@ use Rattle.vk_event.specs.declared.port.StationPort.{StationPort}
 use Rattle.vk_hub.specs.declared.event.HubEvent.{HubEvent}
 use Rattle.vk_hub.specs.Hubs.{HubLog}
 use Rattle.vk_hub.specs.Links.{Frame}
-use Rattle.vk_io.specs.Crews.{AllEnd}
 use Rattle.vk_io.specs.Causes.{Rose}
+use Rattle.vk_port.specs.Ports.{PortValue}
 use Rattle.vk_port.specs.Stations.{StationHistory}
 use Rattle.vk_program.specs.declared.assigned.Assigned.{Assigned}
 use Rattle.vk_rules.specs.Each.{Each}
@@ -23,26 +23,54 @@ use Rattle.v_run.specs.Passages.{IsPassage, Passage, Pumps, host_of}
 use Rattle.v_run.specs.Runs.{passages_of, tasks_of}
 use Rattle.vk_threads.specs.declared.end.End.{End}
 use Rattle.vk_threads.specs.Ended.{AreEndsOf}
+use Rattle.vk_threads.specs.Ends.{EndsProcess}
 use Rattle.vk_udp.specs.declared.work.Carried.{Carried}
 use Rattle.vk_udp.specs.declared.work.NodeEnd.{NodeEnd}
 use Rattle.vk_udp.specs.declared.work.NodeEnd.TheVariants as ends
-use Rattle.vk_udp.specs.declared.work.NodeWork.{NodeWork}
 use Rattle.vk_udp.specs.Asked.{HasCarried}
-use Rattle.vk_udp.specs.Dealt.{AreNodeDealt}
+use Rattle.vk_udp.specs.Dealt.{IsNodePort}
+use Rattle.vk_udp.specs.Docked.{duty_of}
 use Rattle.vk_udp.specs.Gathered.{own_end, site_of}
-use Rattle.vk_udp.specs.Jobs.{ends_as}
+use Rattle.vk_udp.specs.Jobs.{EndsCarrier, EndsClock}
+use Rattle.vk_udp.specs.Values.{CarrierDuty, ClockDuty}
 use Rattle.vk_udp.specs.Wires.{Datagram}
 
--- All jobs of a node were run, and ended so; the seat of the halt is as it was.
-pub record HasRunNodeJobs (G P L : Type 0) (task : G → List Answer → Option Call) (handed : L → Option (List Frame))
+-- A program's job, which had a port of the station, may end so.
+pub record EndsProgram {G : Type 0} (task : G → List Answer → Option Call) (cell : Cell StationHistory) (hub : Cell HubLog) (host : ℕ)
+    (a : Assigned G) (e : End) : Type 0 where
+  pub port : PortValue
+  pub at : IsNodePort cell hub host false port
+  pub ended : EndsProcess port a.pid (task a.program) e.seats.items e.met
+
+-- The ends of all jobs: those of the programs, the clock's with this duty, and that of what carried frames.
+abbrev pub AreNodeEnds : {G L : Type 0} → (G → List Answer → Option Call) → (L → Option (List Frame)) → (L → Option (List Datagram))
+    → (L → ℕ) → Cell StationHistory → Cell HubLog → ℕ → ClockDuty → CarrierDuty → List (Assigned G) → List (NodeEnd L) → Type 0
+AreNodeEnds task handed sent faults cell hub host clock duty [] (ends.Own e ∷ ends.Carried x ∷ []) =
+    EndsClock clock.port clock.rounds e.seats.items e.met × EndsCarrier handed sent faults duty x
+AreNodeEnds task handed sent faults cell hub host clock duty (a ∷ programs) (ends.Own e ∷ all) =
+    EndsProgram task cell hub host a e × AreNodeEnds task handed sent faults cell hub host clock duty programs all
+AreNodeEnds task handed sent faults cell hub host clock duty programs all = ⊥
+
+-- All jobs of a node were run, where what carries frames had this duty, and ended so; the seat of the halt is as it was.
+pub record HasRunJobs {G L : Type 0} (task : G → List Answer → Option Call) (handed : L → Option (List Frame))
+    (sent : L → Option (List Datagram)) (faults : L → ℕ) (cell : Cell StationHistory) (hub : Cell HubLog) (host : ℕ)
+    (programs : List (Assigned G)) (rounds : ℕ) (duty : CarrierDuty) (all : List (NodeEnd L)) (halt : Sitting HubLog HubEvent)
+    : Type 0 where
+  pub clock : ClockDuty
+  pub clock_port : IsNodePort cell hub host true clock.port
+  pub so_many : clock.rounds ≡ rounds
+  pub each_end : AreNodeEnds task handed sent faults cell hub host clock duty programs all
+  pub seat : IsSeatOf hub halt
+  pub unhalted : halt.mine ≡ []
+
+-- and carried frames to these ports over this link, by a port of the station
+pub record HasRunNodeJobs {G L : Type 0} (task : G → List Answer → Option Call) (handed : L → Option (List Frame))
     (sent : L → Option (List Datagram)) (faults : L → ℕ) (cell : Cell StationHistory) (hub : Cell HubLog) (host : ℕ)
     (programs : List (Assigned G)) (rounds : ℕ) (ports : List StationPort) (fetches : Sitting HubLog HubEvent) (link : L)
     (all : List (NodeEnd L)) (halt : Sitting HubLog HubEvent) : Type 0 where
-  pub jobs : List (NodeWork G P L)
-  pub dealt : AreNodeDealt cell hub host programs rounds ports fetches link jobs
-  pub each_end : AllEnd (ends_as task handed sent faults) jobs all
-  pub seat : IsSeatOf hub halt
-  pub unhalted : halt.mine ≡ []
+  pub port : PortValue
+  pub at : IsNodePort cell hub host false port
+  pub ran : HasRunJobs task handed sent faults cell hub host programs rounds (duty_of handed sent faults port fetches ports link) all halt
 
 -- The clock's job and the link's, as other jobs are: what the link's port did, as a passage.
 abbrev pub clock_job : ClockEnd → JobEnd

@@ -2,6 +2,7 @@ pub mod Wires
 pub mod Values
 pub mod Asked
 pub mod Carried
+pub mod Docked
 pub mod Clocked
 pub mod Jobs
 pub mod Dealt

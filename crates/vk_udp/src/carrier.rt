@@ -1,10 +1,11 @@
 //! The job that carries frames between the hub and the link.
-ghost use Rattle.std.specs.Prelude.{◌≡◌, ◌≤◌, ◌⊎◌, List, [], true, None, Some, IfErr, IfOk};
-ghost use Rattle.turn_cell.specs.Seats.{IsSameSeat, IsSeatOf};
+ghost use Rattle.std.specs.Prelude.{◌≡◌, ◌≤◌, List, [], true, None, Some, IfErr, IfOk};
+ghost use Rattle.turn_cell.specs.Seats.{IsSeatOf};
 ghost use Rattle.v_node.specs.Links.{is_kept};
-ghost use Rattle.vk_udp.specs.Carried.{HasBrought, HasFetchedFor, HasGoneAround, HasGoneRound, HasHaltedBy, IsBrought, IsHubFull, IsPortFull, TellsHeard, TellsStop, asked_by, is_failed, met_by, room_in, stops_in, stops_of};
-ghost use Rattle.vk_udp.specs.Jobs.{EndsCarrier};
+ghost use Rattle.vk_udp.specs.Carried.{HasBrought, HasFetchedFor, HasGoneRound, IsBrought, IsHubFull, IsPortFull, TellsHeard, asked_by, met_by, room_in, stops_in};
+ghost use Rattle.vk_udp.specs.Jobs.{EndsCarried};
 
+use crate::dock::{Dock, LeftOff, Start};
 use crate::link::Link;
 use crate::work::Carried;
 use std::alloc::Global;
@@ -16,13 +17,10 @@ use vk_base::limits::LAST_NUMBER;
 use vk_base::{FrameBytes, NoMemory};
 use vk_event::StationPort;
 use vk_frame::unseal;
-use vk_hub::{Fetched, Hub, HubState};
+use vk_hub::{Arrival, Bells, Delivery, Hub, HubOut, HubState};
 use vk_io::Failed;
-use vk_port::{Patience, Port};
+use vk_port::Port;
 use vk_threads::{End, Seats};
-
-/// Microseconds of the longest sleep of a thread that waits for frames.
-const LONGEST_SLEEP: u32 = 1_000;
 
 /// The destination of a frame that is for all stations.
 const TO_ALL: u16 = u16::MAX;
@@ -36,83 +34,106 @@ pub struct Route<'a> {
     pub ports: &'a [StationPort],
 }
 
-/// Sends what is posted for the other stations to their ports, and delivers at its own what comes at the link, until the hub has ended.
-/// There is room for the seats of its port.
+/// Carries frames where no process does, until the hub has ended, and then takes back what carried them. There is room for the seats of its
+/// port. `S` names what its dock began with.
 #[derive(Drop)]
-pub struct Carrier<'a, L: Link> {
-    route: Route<'a>,
-    port: Port<'a>,
-    hub_seat: TurnSeat<HubState>,
-    link: L,
+pub struct Carrier<'s, 'a, L: Link, S: Start> {
+    hub: &'a Hub,
+    host: u16,
+    dock: &'s Dock<'a, L, S>,
     seats: Vec<Seats>,
 }
 
-impl<'a, L: Link> Model for Carrier<'a, L> {
-    ghost use Rattle.std.specs.Prelude.{◌≡◌, ◌≤◌, [], vec_capacity};
-    ghost use Rattle.turn_cell.specs.Seats.{IsComplete, IsSeatOf};
+impl<'s, 'a, L: Link, S: Start> Model for Carrier<'s, 'a, L, S> {
+    ghost use Rattle.std.specs.Prelude.{◌≡◌, ◌≤◌, [], Option, vec_capacity};
     ghost use Rattle.vk_udp.specs.Values.{CarrierDuty};
 
-    ghost Value = { CarrierDuty L };
+    ghost Value = { Option CarrierDuty };
 
-    ghost view = { λ w. record { port = w.port; carrier = w.hub_seat; ports = w.route.ports.now; link = w.link } };
+    ghost view = { λ w. S.duty };
 
-    ghost invariant = { λ w. (w.port.hub ≡ w.route.hub.now) × (w.route.host ≡ w.port.host) × IsSeatOf w.route.hub.now w.hub_seat
-        × (w.seats.items ≡ []) × (1 ≤ vec_capacity w.seats) };
+    ghost invariant = { λ w. (w.seats.items ≡ []) × (1 ≤ vec_capacity w.seats) };
 }
 
-impl<'a, L: Link> Carrier<'a, L> {
-    /// The job that carries frames so, by this port, with this seat at the hub and this link.
+impl<'s, 'a, L: Link, S: Start> Carrier<'s, 'a, L, S> {
+    /// The job of this dock.
     pub fn new(
-        route: Route<'a>,
-        port: Port<'a>,
-        hub_seat: TurnSeat<HubState>,
-        link: L,
-    ) -> Result<Carrier<'a, L>, NoMemory>
-        requires hub { port.hub ≡ route.hub.now }
-        requires host { route.host ≡ port.host }
-        requires seat { IsSeatOf route.hub.now hub_seat }
-        ensures { IfOk result (λ w. w ≡ record { port = port.entry; carrier = hub_seat; ports = route.entry.ports.now; link = link }) }
+        alloc: Global,
+        hub: &'a Hub,
+        host: u16,
+        dock: &'s Dock<'a, L, S>,
+    ) -> Result<Carrier<'s, 'a, L, S>, NoMemory>
+        ensures { IfOk result (λ w. w ≡ S.duty) }
     {
-        let seats = Vec::with_capacity(route.alloc, 1)?;
+        let seats = Vec::with_capacity(alloc, 1)?;
         Ok(Carrier {
-            route,
-            port,
-            hub_seat,
-            link,
+            hub,
+            host,
+            dock,
             seats,
         })
     }
 }
 
-/// Does the work.
-pub fn carrier_end<L: Link, R: Wait + Clock>(rt: &R, work: Carrier<L>) -> Carried<L>
-    ensures { EndsCarrier L.handed L.sent L.fault_count work.entry result }
+/// Does the work: it carries when it is called, or where all processes sleep or have ended.
+pub fn carrier_end<L: Link, S: Start, R: Wait + Clock>(rt: &R, work: Carrier<L, S>) -> Carried<L>
+    ensures { EndsCarried L.handed L.sent L.fault_count work.entry result }
 {
     let Carrier {
-        route,
-        mut port,
-        mut hub_seat,
-        mut link,
+        hub,
+        host,
+        dock,
         mut seats,
     } = work;
-    let stop = carry_on(rt, &route, &mut port, &mut hub_seat, &mut link);
-    let met = halt_by(rt, route.hub, &mut hub_seat, stop);
+    carry_on(rt, hub.bells(), host, dock);
+    dock.tell_traffic();
+    let LeftOff {
+        host,
+        port,
+        hub_seat,
+        link,
+        stop,
+    } = dock.take(rt);
     let (seat, port_seat) = port.end();
     seats.push_reserved(Seats {
-        host: route.host,
+        host,
         seat,
         hub_seat: port_seat,
     });
     Carried {
-        end: End { seats, met },
+        end: End {
+            seats,
+            met: met_by(stop),
+        },
         hub_seat,
         link,
     }
 }
 
+/// Sends what is posted when it is called, and receives where it is called or all others sleep, until nothing is carried any more.
+fn carry_on<L: Link, S: Start, R: Wait + Clock>(
+    rt: &R,
+    bells: &Bells,
+    host: u16,
+    dock: &Dock<L, S>,
+) {
+    let bell = bells.of_pump(host);
+    for _ in rt.forever() {
+        let _called = bell.look();
+        dock.send(rt);
+        if dock.has_stopped(rt) {
+            return;
+        }
+        if bells.sleep_unless_last(rt, bell) || bell.is_called() {
+            let _called = bell.look();
+            dock.receive(rt, bell);
+        }
+    }
+}
+
 /// Why it carries no more.
-#[derive(Drop)]
-enum Stop {
+#[derive(Clone, Copy)]
+pub enum Stop {
     /// The hub has ended.
     Ended,
     /// The link failed.
@@ -121,27 +142,38 @@ enum Stop {
     Met { why: Room },
 }
 
-/// Halts the hub, unless it has ended. Gives the `Room` that was met.
-fn halt_by<R: Wait>(
-    rt: &R,
-    hub: &Hub,
-    hub_seat: &mut TurnSeat<HubState>,
-    stop: Stop,
-) -> Option<Room>
-    requires { IsSeatOf hub.now hub_seat.old }
-    ensures met { result ≡ met_by stop }
-    ensures halted { HasHaltedBy hub_seat.old hub_seat.new stop }
+/// The `Room` that it met.
+fn met_by(stop: Stop) -> Option<Room>
+    ensures { result ≡ met_by stop }
 {
     match stop {
-        Stop::Ended => None,
-        Stop::Failed => {
-            hub.stop(rt, hub_seat);
-            None
+        Stop::Ended | Stop::Failed => None,
+        Stop::Met { why } => Some(why),
+    }
+}
+
+/// Places for what a fetch and a receive give, which are used again, and the greatest stamp of a frame that came.
+#[derive(Drop)]
+pub struct Place {
+    fetched: HubOut,
+    datagram: FrameBytes,
+    delivery: Delivery,
+    latest: u64,
+}
+
+impl Place {
+    pub fn new() -> Place {
+        Place {
+            fetched: HubOut::new(),
+            datagram: no_bytes(),
+            delivery: Delivery::new(),
+            latest: 0,
         }
-        Stop::Met { why } => {
-            hub.stop(rt, hub_seat);
-            Some(why)
-        }
+    }
+
+    /// The greatest stamp of a frame that came.
+    pub fn latest(&self) -> u64 {
+        self.latest
     }
 }
 
@@ -154,122 +186,76 @@ fn no_bytes() -> FrameBytes
     }
 }
 
-/// Carries frames until the hub has ended, or the link fails, or a `Room` is met.
-fn carry_on<L: Link, R: Wait + Clock>(
-    rt: &R,
-    route: &Route,
-    port: &mut Port,
-    hub_seat: &mut TurnSeat<HubState>,
-    link: &mut L,
-) -> Stop
-    requires seat { IsSeatOf route.now.hub.now hub_seat.old }
-    ensures brought { HasBrought L.handed route.now.host port.old port.new link.old link.new (met_by result) }
-    ensures fetched { HasGoneAround L.sent route.now.hub.now.origin route.now.ports.now hub_seat.old hub_seat.new link.old link.new
-        (stops_of result) }
-    ensures full { met_by result ≡ Some Room.Full → IsPortFull port.old port.new ⊎ IsHubFull hub_seat.new }
-    ensures faults { TellsStop (L.fault_count link.old) (L.fault_count link.new) result }
-{
-    let mut patience = Patience::new(LONGEST_SLEEP);
-    let mut datagram = no_bytes();
-    for _ in rt.forever() {
-        let sent = match send_each(rt, route.alloc, route.hub, hub_seat, route.ports, link) {
-            Ok(sent) => sent,
-            Err(why) => return Stop::Met { why },
-        };
-        if sent.ended {
-            return Stop::Ended;
-        }
-        match hear(rt, route.alloc, route.host, port, link, &mut datagram) {
-            Ok(Heard::Nothing) => rest(rt, &mut patience, sent.moved),
-            Ok(Heard::Datagram) => patience.renew(),
-            Ok(Heard::Failed) => return Stop::Failed,
-            Err(why) => return Stop::Met { why },
-        }
-    }
-    unreachable!()
-}
-
-/// Waits where nothing was moved.
-fn rest<R: Clock>(rt: &R, patience: &mut Patience, moved: bool) {
-    if moved {
-        patience.renew();
-    } else {
-        patience.wait(rt);
-    }
-}
-
 /// What a round of fetches came to.
 #[derive(Clone, Copy)]
-struct Sent {
-    /// A frame was sent.
-    moved: bool,
+pub struct Sent {
+    /// A frame more waits for one of the stations.
+    pub more: bool,
     /// The hub has ended.
-    ended: bool,
+    pub ended: bool,
 }
 
 /// Fetches once for each of these stations, in order, and sends what it got to that station's port.
-fn send_each<L: Link, R: Wait + Clock>(
+pub fn send_each<L: Link, R: Wait + Clock>(
     rt: &R,
-    alloc: Global,
-    hub: &Hub,
+    route: &Route,
     hub_seat: &mut TurnSeat<HubState>,
-    ports: &[StationPort],
     link: &mut L,
+    place: &mut Place,
 ) -> Result<Sent, Room>
-    requires { IsSeatOf hub.now hub_seat.old }
-    ensures fetched { HasGoneRound L.sent hub.now.origin ports.now hub_seat.old hub_seat.new link.old link.new result }
+    requires { IsSeatOf route.now.hub.now hub_seat.old }
+    ensures fetched { HasGoneRound route.now.hub.now.origin route.now.ports.now hub_seat.old hub_seat.new (L.sent link.old)
+        (L.sent link.new) result }
     ensures full { room_in result ≡ Some Room.Full → IsHubFull hub_seat.new }
     ensures handed { L.handed link.new ≡ L.handed link.old }
     ensures faults { L.fault_count link.new ≡ L.fault_count link.old }
 {
-    let mut moved = false;
-    for there in ports {
-        match send_one(rt, alloc, hub, hub_seat, *there, link) {
+    let mut more = false;
+    for there in route.ports {
+        match send_one(rt, route, hub_seat, *there, link, &mut place.fetched) {
             Ok(sent) => {
                 if sent.ended {
                     return Ok(sent);
                 }
-                moved = moved | sent.moved;
+                more = more | sent.more;
             }
             Err(why) => return Err(why),
         }
     }
-    Ok(Sent {
-        moved,
-        ended: false,
-    })
+    Ok(Sent { more, ended: false })
 }
 
 /// Fetches once for this station, and sends what it got to the station's port.
 fn send_one<L: Link, R: Wait + Clock>(
     rt: &R,
-    alloc: Global,
-    hub: &Hub,
+    route: &Route,
     hub_seat: &mut TurnSeat<HubState>,
     there: StationPort,
     link: &mut L,
+    out: &mut HubOut,
 ) -> Result<Sent, Room>
-    requires { IsSeatOf hub.now hub_seat.old }
-    ensures fetched { HasFetchedFor L.sent hub.now.origin (asked_by there result) hub_seat.old hub_seat.new link.old link.new
-        (stops_in result) }
+    requires { IsSeatOf route.now.hub.now hub_seat.old }
+    ensures fetched { HasFetchedFor route.now.hub.now.origin (asked_by there result) hub_seat.old hub_seat.new (L.sent link.old)
+        (L.sent link.new) (stops_in result) }
     ensures full { room_in result ≡ Some Room.Full → IsHubFull hub_seat.new }
     ensures handed { L.handed link.new ≡ L.handed link.old }
     ensures faults { L.fault_count link.new ≡ L.fault_count link.old }
 {
-    match hub.fetch(rt, alloc, hub_seat, there.host) {
-        Ok(Fetched::Frame { frame }) => {
-            link.send(rt, there.port, &frame);
+    let hub = route.hub;
+    match hub.fetch_in_place(rt, route.alloc, hub_seat, there.host, out) {
+        Ok(Arrival::Frame) => {
+            link.send(rt, there.port, out.delivery.frame());
             Ok(Sent {
-                moved: true,
+                more: out.more,
                 ended: false,
             })
         }
-        Ok(Fetched::Nothing) => Ok(Sent {
-            moved: false,
+        Ok(Arrival::Nothing) => Ok(Sent {
+            more: false,
             ended: false,
         }),
-        Ok(Fetched::Stopped) => Ok(Sent {
-            moved: false,
+        Ok(Arrival::Stopped) => Ok(Sent {
+            more: false,
             ended: true,
         }),
         Err(why) => Err(why),
@@ -278,7 +264,7 @@ fn send_one<L: Link, R: Wait + Clock>(
 
 /// What a receive came to.
 #[derive(Drop)]
-enum Heard {
+pub enum Heard {
     Nothing,
     Datagram,
     /// The link failed.
@@ -286,21 +272,23 @@ enum Heard {
 }
 
 /// Receives once, and delivers what came where it is a frame for this station.
-fn hear<L: Link, R: Wait + Clock>(
+pub fn hear<L: Link, R: Wait + Clock>(
     rt: &R,
-    alloc: Global,
-    host: u16,
+    route: &Route,
     port: &mut Port,
     link: &mut L,
-    datagram: &mut FrameBytes,
+    place: &mut Place,
 ) -> Result<Heard, Room>
-    ensures brought { HasBrought L.handed host port.old port.new link.old link.new (room_in result) }
+    ensures brought { HasBrought route.now.host port.old port.new (L.handed link.old) (L.handed link.new) (room_in result) }
     ensures full { room_in result ≡ Some Room.Full → IsPortFull port.old port.new }
     ensures sent { L.sent link.new ≡ L.sent link.old }
     ensures faults { TellsHeard (L.fault_count link.old) (L.fault_count link.new) result }
 {
-    match link.receive(rt, datagram) {
-        Ok(true) => bring(rt, alloc, host, port, datagram),
+    match link.receive(rt, &mut place.datagram) {
+        Ok(true) => {
+            place.latest = place.latest.max(stamp_of(&place.datagram));
+            bring(rt, route, port, &place.datagram, &mut place.delivery)
+        }
         Ok(false) => Ok(Heard::Nothing),
         Err(Failed) => Ok(Heard::Failed),
     }
@@ -309,19 +297,28 @@ fn hear<L: Link, R: Wait + Clock>(
 /// Delivers the datagram where it is a frame for this station.
 fn bring<R: Wait>(
     rt: &R,
-    alloc: Global,
-    host: u16,
+    route: &Route,
     port: &mut Port,
     datagram: &FrameBytes,
+    delivery: &mut Delivery,
 ) -> Result<Heard, Room>
-    ensures { IsBrought host port.old port.new datagram.now result }
+    ensures { IsBrought route.now.host port.old port.new datagram.now result }
 {
-    if !is_kept(host, datagram.as_slice()) {
+    if !is_kept(route.host, datagram.as_slice()) {
         return Ok(Heard::Datagram);
     }
-    match port.deliver(rt, alloc, datagram) {
-        Ok(_) => Ok(Heard::Datagram),
+    delivery.fill(datagram.as_slice());
+    match port.deliver_in_place(rt, route.alloc, delivery) {
+        Ok(()) => Ok(Heard::Datagram),
         Err(why) => Err(why),
+    }
+}
+
+/// The stamp of a frame, 0 where these bytes are none.
+fn stamp_of(frame: &FrameBytes) -> u64 {
+    match unseal(frame.as_slice()) {
+        Some((header, _)) => header.stamp,
+        None => 0,
     }
 }
 

@@ -4,30 +4,33 @@ ghost use Rattle.vk_udp.specs.Clocked.{HasClocked, HasLookedOn, HasStopped};
 ghost use Rattle.vk_port.specs.Ports.{IsCutPump, IsRefused};
 ghost use Rattle.vk_udp.specs.Jobs.{EndsClock};
 
+use crate::beat::Beat;
+use crate::dock::Start;
+use crate::link::Link;
 use std::alloc::Global;
 use std::marker::Model;
-use std::sync::{Mutex, Wait};
+use std::sync::Wait;
 use std::time::Clock;
 use turn_cell::Room;
 use vk_base::NoMemory;
 use vk_hub::Hub;
 use vk_io::Pacer;
 use vk_port::{Port, Pumped};
-use vk_threads::{End, Seats, wait_once};
+use vk_threads::{End, Seats};
 
 /// Ticks the station, so many rounds or until the hub has ended, and then stops the hub. There is room for the seats of its port.
 #[derive(Drop)]
-pub struct NodeClock<'a, 'p, P: Pacer> {
+pub struct NodeClock<'s, 'a, 'p, P: Pacer, L: Link, S: Start> {
     alloc: Global,
     hub: &'a Hub,
     host: u16,
     port: Port<'a>,
     rounds: u32,
-    pacer: &'a Mutex<&'p mut P>,
+    beat: Beat<'s, 'a, 'p, P, L, S>,
     seats: Vec<Seats>,
 }
 
-impl<'a, 'p, P: Pacer> Model for NodeClock<'a, 'p, P> {
+impl<'s, 'a, 'p, P: Pacer, L: Link, S: Start> Model for NodeClock<'s, 'a, 'p, P, L, S> {
     ghost use Rattle.std.specs.Prelude.{◌≡◌, ◌≤◌, [], true, vec_capacity};
     ghost use Rattle.vk_udp.specs.Values.{ClockDuty};
 
@@ -39,7 +42,7 @@ impl<'a, 'p, P: Pacer> Model for NodeClock<'a, 'p, P> {
         × (1 ≤ vec_capacity w.seats) };
 }
 
-impl<'a, 'p, P: Pacer> NodeClock<'a, 'p, P> {
+impl<'s, 'a, 'p, P: Pacer, L: Link, S: Start> NodeClock<'s, 'a, 'p, P, L, S> {
     /// The clock of this port.
     pub fn new(
         alloc: Global,
@@ -47,8 +50,8 @@ impl<'a, 'p, P: Pacer> NodeClock<'a, 'p, P> {
         host: u16,
         port: Port<'a>,
         rounds: u32,
-        pacer: &'a Mutex<&'p mut P>,
-    ) -> Result<NodeClock<'a, 'p, P>, NoMemory>
+        beat: Beat<'s, 'a, 'p, P, L, S>,
+    ) -> Result<NodeClock<'s, 'a, 'p, P, L, S>, NoMemory>
         requires hub { port.hub ≡ hub.now }
         requires host { host ≡ port.host }
         requires may { port.ticks ≡ true }
@@ -61,14 +64,17 @@ impl<'a, 'p, P: Pacer> NodeClock<'a, 'p, P> {
             host,
             port,
             rounds,
-            pacer,
+            beat,
             seats,
         })
     }
 }
 
 /// Does the work.
-pub fn clock_end<P: Pacer, R: Wait + Clock>(rt: &R, work: NodeClock<P>) -> End
+pub fn clock_end<P: Pacer, L: Link, S: Start, R: Wait + Clock>(
+    rt: &R,
+    work: NodeClock<P, L, S>,
+) -> End
     ensures { EndsClock work.entry.port work.entry.rounds result.seats.items result.met }
 {
     let NodeClock {
@@ -77,29 +83,30 @@ pub fn clock_end<P: Pacer, R: Wait + Clock>(rt: &R, work: NodeClock<P>) -> End
         host,
         mut port,
         rounds,
-        pacer,
+        mut beat,
         mut seats,
     } = work;
-    let met = tick_on(rt, alloc, &mut port, rounds, pacer);
+    beat.begin(rt, rounds);
+    let met = tick_on(rt, alloc, &mut port, rounds, &mut beat);
     seats.push_reserved(stop_port(rt, port, hub, host));
     End { seats, met }
 }
 
 /// Waits and ticks the station, so many times, or until the hub has ended. Gives the `Room` that it met, if it met one.
-fn tick_on<P: Pacer, R: Wait + Clock>(
+fn tick_on<P: Pacer, L: Link, S: Start, R: Wait + Clock>(
     rt: &R,
     alloc: Global,
     port: &mut Port,
     rounds: u32,
-    pacer: &Mutex<&mut P>,
+    beat: &mut Beat<P, L, S>,
 ) -> Option<Room>
     requires { port.old.ticks ≡ true }
     ensures { HasClocked port.old port.new rounds result }
 {
     for _ in 0..rounds {
-        wait_once(rt, pacer);
+        beat.wait(rt);
         match port.tick(rt, alloc) {
-            Ok(_) => {}
+            Ok(now) => beat.see_to_link(rt, now, port.has_posted()),
             Err(why) => return Some(why),
         }
         match has_ended(rt, alloc, port) {

@@ -6,8 +6,10 @@ ghost use Rattle.vk_rules.specs.Each.{Each};
 ghost use Rattle.vk_udp.specs.Dealt.{AreNodeDealt, AreProcesses, IsNodePort, IsStocked};
 ghost use Rattle.vk_program.specs.declared.assigned.Assigned.{Assigned};
 
-use crate::carrier::{Carrier, Route};
+use crate::beat::Beat;
+use crate::carrier::Carrier;
 use crate::clock::NodeClock;
+use crate::dock::{Carrying, Dock, Start};
 use crate::link::Link;
 use crate::work::NodeWork;
 use std::alloc::Global;
@@ -32,12 +34,19 @@ pub struct NodeStock<'a> {
     pub hub_seats: Vec<TurnSeat<HubState>>,
 }
 
-/// What the jobs of a node are given: the programs, the rounds of ticks at most, and for what carries frames the ports of all stations, a
-/// seat at the hub and the link.
+/// What the jobs of a node are given beside their seats: the programs, the rounds of ticks at most, the pace of these, and how many there
+/// may be at once where the clock is late.
 #[derive(Drop)]
-pub struct NodeRoster<'a, G: Program, L: Link> {
+pub struct NodeRoster<'a, 'p, G: Program, P: Pacer> {
     pub programs: Vec<Assigned<G>>,
     pub rounds: u32,
+    pub pacer: &'a Mutex<&'p mut P>,
+    pub leap: u32,
+}
+
+/// Over what frames are carried: the ports of all stations, a seat at the hub and the link.
+#[derive(Drop)]
+pub struct Line<'a, L: Link> {
     pub ports: &'a [StationPort],
     pub fetches: TurnSeat<HubState>,
     pub link: L,
@@ -56,7 +65,7 @@ fn take_seat(seats: &mut Vec<TurnSeat<Station>>) -> TurnSeat<Station>
 
 impl<'a> NodeStock<'a> {
     /// A port with the next two seats.
-    fn port(&mut self, ticks: bool) -> Result<Port<'a>, NoMemory>
+    pub fn port(&mut self, ticks: bool) -> Result<Port<'a>, NoMemory>
         requires { (n : ℕ) × IsStocked self.old.cell.now self.old.hub.now self.old.host
             (suc n) self.old.seats.items self.old.hub_seats.items }
         ensures host { self.new.host ≡ self.old.host }
@@ -79,10 +88,11 @@ impl<'a> NodeStock<'a> {
 }
 
 /// Adds a job for each program.
-fn add_programs<'a, 'p, G: Program, P: Pacer, L: Link>(
+fn add_programs<'s, 'a, 'p, G: Program, P: Pacer, L: Link, S: Start>(
     stock: &mut NodeStock<'a>,
     programs: Vec<Assigned<G>>,
-    jobs: &mut Vec<NodeWork<'a, 'p, G, P, L>>,
+    dock: &'s Dock<'a, L, S>,
+    jobs: &mut Vec<NodeWork<'s, 'a, 'p, G, P, L, S>>,
 ) -> Result<(), NoMemory>
     requires stock { (n : ℕ) × IsStocked stock.old.cell.now stock.old.hub.now stock.old.host
         (length programs.items + n) stock.old.seats.items
@@ -103,48 +113,43 @@ fn add_programs<'a, 'p, G: Program, P: Pacer, L: Link>(
     for assigned in programs {
         let Assigned { pid, program } = assigned;
         let port = stock.port(false)?;
-        let work = ProcessWork::new(stock.alloc, stock.hub, port, pid, program)?;
+        let rest = Carrying { dock };
+        let work = ProcessWork::new(stock.alloc, stock.hub, port, pid, program, rest)?;
         jobs.push(NodeWork::Process(work))?;
     }
     Ok(())
 }
 
 /// The jobs of a node: one for each program, the clock, and what carries frames.
-pub fn jobs_of<'a, 'p, G: Program, P: Pacer, L: Link>(
+pub fn jobs_of<'s, 'a, 'p, G: Program, P: Pacer, L: Link, S: Start>(
     stock: NodeStock<'a>,
-    roster: NodeRoster<'a, G, L>,
-    pacer: &'a Mutex<&'p mut P>,
-) -> Result<Vec<NodeWork<'a, 'p, G, P, L>>, NoMemory>
-    requires stock { IsStocked stock.cell.now stock.hub.now stock.host (length roster.programs.items + 2) stock.seats.items
+    roster: NodeRoster<'a, 'p, G, P>,
+    dock: &'s Dock<'a, L, S>,
+) -> Result<Vec<NodeWork<'s, 'a, 'p, G, P, L, S>>, NoMemory>
+    requires stock { IsStocked stock.cell.now stock.hub.now stock.host (length roster.programs.items + 1) stock.seats.items
         stock.hub_seats.items }
     requires processes { Each (λ (a : Assigned G). is_process_of stock.cell.now.origin a.pid ≡ true) roster.programs.items }
     requires fresh { Each (λ (a : Assigned G). G.is_after a.program []) roster.programs.items }
-    requires seat { IsSeatOf stock.hub.now roster.fetches }
     ensures { IfOk result (λ jobs. AreNodeDealt stock.entry.cell.now stock.entry.hub.now stock.entry.host roster.entry.programs.items
-        roster.entry.rounds roster.entry.ports.now roster.entry.fetches roster.entry.link jobs.items) }
+        roster.entry.rounds S.duty jobs.items) }
 {
     let NodeRoster {
         programs,
         rounds,
-        ports,
-        fetches,
-        link,
+        pacer,
+        leap,
     } = roster;
     let mut stock = stock;
     let (alloc, hub, host) = (stock.alloc, stock.hub, stock.host);
+    hub.bells().add_threads(programs.len());
+    hub.bells().add_threads(1);
     let mut jobs = Vec::new(alloc);
-    add_programs(&mut stock, programs, &mut jobs)?;
+    add_programs(&mut stock, programs, dock, &mut jobs)?;
     let port = stock.port(true)?;
-    let clock = NodeClock::new(alloc, hub, host, port, rounds, pacer)?;
+    let beat = Beat::new(pacer, dock, hub.bells(), host, leap);
+    let clock = NodeClock::new(alloc, hub, host, port, rounds, beat)?;
     jobs.push(NodeWork::Clock(clock))?;
-    let port = stock.port(false)?;
-    let route = Route {
-        alloc,
-        hub,
-        host,
-        ports,
-    };
-    let carrier = Carrier::new(route, port, fetches, link)?;
+    let carrier = Carrier::new(alloc, hub, host, dock)?;
     jobs.push(NodeWork::Carrier(carrier))?;
     Ok(jobs)
 }

@@ -7,9 +7,11 @@
 //! the jobs of `vk_threads`. `src/udp.rt` is the edge to the system's sockets; nothing else here knows of them.
 #![tactic(auto)]
 
+mod beat;
 mod carrier;
 mod clock;
 mod deal;
+mod dock;
 mod gather;
 mod link;
 mod memory;

@@ -10,21 +10,25 @@ ghost use Rattle.vk_program.specs.declared.assigned.Assigned.{Assigned};
 ghost use Rattle.vk_rules.specs.Each.{Each};
 ghost use Rattle.vk_threads.specs.Assigned.{AreDifferent, pid_of, program_task};
 ghost use Rattle.vk_udp.specs.Dealt.{IsStocked};
-ghost use Rattle.vk_udp.specs.Ended.{HasRunNodeJobs};
+ghost use Rattle.vk_udp.specs.Docked.{IsCargo, duty_of};
+ghost use Rattle.vk_udp.specs.Ended.{HasRunJobs, HasRunNodeJobs};
 ghost use Rattle.vk_udp.specs.Node.{HasSent, HavePort, IsNodeRecord, IsProcessAt, TellsCrew, TellsNodeFault, TellsNodeJobs};
 
-use crate::deal::{NodeRoster, NodeStock, jobs_of};
+use crate::carrier::Route;
+use crate::deal::{Line, NodeRoster, NodeStock, jobs_of};
+use crate::dock::{Cargo, Dock, Start};
 use crate::gather::NodeSite;
 use crate::link::{Link, Wire};
 use crate::record::{NodeRecord, NodeRefusal, record_of};
 use crate::work::NodeEnd;
 use std::alloc::Global;
+use std::marker::Brand;
 use std::net::Net;
 use std::sync::{Mutex, Wait};
 use std::thread::Threads;
 use std::time::Clock;
 use turn_cell::{TurnCell, TurnSeat};
-use vk_base::Config;
+use vk_base::{Config, Times};
 use vk_event::{LinkPlan, StationPort};
 use vk_hub::{Hub, HubState};
 use vk_io::{Crew, CrewError, Pacer};
@@ -32,7 +36,54 @@ use vk_port::Station;
 use vk_program::{Assigned, Program};
 use vk_threads::{HubHalt, take_hub_seat};
 
-/// Deals seats to jobs and has the crew run them. Gives what they ended with, and the seat of the halt, which has halted nothing.
+/// Deals seats to jobs and has the crew run them, where what carries frames begins with this. Gives what they ended with, and the seat of
+/// the halt, which has halted nothing.
+fn run_docked<
+    'a,
+    'p,
+    G: Program + Send,
+    C: Crew,
+    P: Pacer + Send,
+    L: Link + Send,
+    S: Start + Send + Sync,
+    R: Wait + Threads + Clock + Sync,
+>(
+    rt: &R,
+    stock: NodeStock<'a>,
+    halt: TurnSeat<HubState>,
+    roster: NodeRoster<'a, 'p, G, P>,
+    cargo: Cargo<'a, L>,
+    crew: &mut C,
+) -> Result<(Vec<NodeEnd<L>>, TurnSeat<HubState>), NodeRefusal>
+    requires halt { IsSeatOf stock.hub.now halt }
+    requires unhalted { halt.mine ≡ [] }
+    requires stock { IsStocked stock.cell.now stock.hub.now stock.host (length roster.programs.items + 1) stock.seats.items
+        stock.hub_seats.items }
+    requires processes { Each (λ (a : Assigned G). is_process_of stock.cell.now.origin a.pid ≡ true) roster.programs.items }
+    requires fresh { Each (λ (a : Assigned G). G.is_after a.program []) roster.programs.items }
+    requires cargo { IsCargo cargo.route.host cargo.route.hub.now cargo.port cargo.hub_seat }
+    requires start { S.duty ≡ Some (duty_of L.handed L.sent L.fault_count cargo.port cargo.hub_seat cargo.route.ports.now cargo.link) }
+    ensures ended { IfOk result (λ r. HasRunJobs G.task L.handed L.sent L.fault_count stock.entry.cell.now stock.entry.hub.now
+        stock.entry.host roster.entry.programs.items roster.entry.rounds
+        (duty_of L.handed L.sent L.fault_count cargo.entry.port cargo.entry.hub_seat cargo.entry.route.ports.now cargo.entry.link)
+        r.0.items r.1) }
+    ensures crew { TellsCrew (C.fault_count crew.old) (C.fault_count crew.new) (C.job_count crew.old)
+        (min (C.job_count crew.old + (length roster.entry.programs.items + 2)) (2 ^ 64 - 1)) (C.job_count crew.new) result }
+{
+    let (alloc, hub) = (stock.alloc, stock.hub);
+    let mut halt = HubHalt::new(hub, halt);
+    let dock = Dock::<L, S>::new(cargo);
+    let Ok(jobs) = jobs_of(stock, roster, &dock) else {
+        return Err(NodeRefusal::NoMemory);
+    };
+    match crew.run_all(rt, alloc, jobs, &mut halt) {
+        Ok(ends) => Ok((ends, halt.into_seat())),
+        Err(CrewError::Failed) => Err(NodeRefusal::CrewFault),
+        Err(CrewError::NoMemory) => Err(NodeRefusal::NoMemory),
+    }
+}
+
+/// The same, where frames are carried to these ports over this link, by this seat at the hub and a port with the next two seats.
 fn run_jobs<
     'a,
     'p,
@@ -45,9 +96,9 @@ fn run_jobs<
     rt: &R,
     stock: NodeStock<'a>,
     halt: TurnSeat<HubState>,
-    roster: NodeRoster<'a, G, L>,
+    roster: NodeRoster<'a, 'p, G, P>,
+    line: Line<'a, L>,
     crew: &mut C,
-    pacer: &'a Mutex<&'p mut P>,
 ) -> Result<(Vec<NodeEnd<L>>, TurnSeat<HubState>), NodeRefusal>
     requires halt { IsSeatOf stock.hub.now halt }
     requires unhalted { halt.mine ≡ [] }
@@ -55,23 +106,35 @@ fn run_jobs<
         stock.hub_seats.items }
     requires processes { Each (λ (a : Assigned G). is_process_of stock.cell.now.origin a.pid ≡ true) roster.programs.items }
     requires fresh { Each (λ (a : Assigned G). G.is_after a.program []) roster.programs.items }
-    requires seat { IsSeatOf stock.hub.now roster.fetches }
-    ensures ended { IfOk result (λ r. HasRunNodeJobs G P L G.task L.handed L.sent L.fault_count stock.entry.cell.now
-        stock.entry.hub.now stock.entry.host roster.entry.programs.items roster.entry.rounds roster.entry.ports.now roster.entry.fetches
-        roster.entry.link r.0.items r.1) }
+    requires seat { IsSeatOf stock.hub.now line.fetches }
+    ensures ended { IfOk result (λ r. HasRunNodeJobs G.task L.handed L.sent L.fault_count stock.entry.cell.now
+        stock.entry.hub.now stock.entry.host roster.entry.programs.items roster.entry.rounds line.entry.ports.now line.entry.fetches
+        line.entry.link r.0.items r.1) }
     ensures crew { TellsCrew (C.fault_count crew.old) (C.fault_count crew.new) (C.job_count crew.old)
         (min (C.job_count crew.old + (length roster.entry.programs.items + 2)) (2 ^ 64 - 1)) (C.job_count crew.new) result }
 {
-    let (alloc, hub) = (stock.alloc, stock.hub);
-    let mut halt = HubHalt::new(hub, halt);
-    let Ok(jobs) = jobs_of(stock, roster, pacer) else {
+    let Line {
+        ports,
+        fetches,
+        link,
+    } = line;
+    let mut stock = stock;
+    let Ok(port) = stock.port(false) else {
         return Err(NodeRefusal::NoMemory);
     };
-    match crew.run_all(rt, alloc, jobs, &mut halt) {
-        Ok(ends) => Ok((ends, halt.into_seat())),
-        Err(CrewError::Failed) => Err(NodeRefusal::CrewFault),
-        Err(CrewError::NoMemory) => Err(NodeRefusal::NoMemory),
-    }
+    let route = Route {
+        alloc: stock.alloc,
+        hub: stock.hub,
+        host: stock.host,
+        ports,
+    };
+    let cargo = Cargo {
+        route,
+        port,
+        hub_seat: fetches,
+        link,
+    };
+    run_docked::<G, C, P, L, Brand, R>(rt, stock, halt, roster, cargo, crew)
 }
 
 /// The port of the station.
@@ -161,15 +224,22 @@ pub fn run_node<
         seats,
         hub_seats,
     };
+    let Times { interval, life, .. } = config.times();
+    let leap = interval.min(life / 2);
+    pacer.catch_up(leap);
+    let shared = Mutex::new(&mut *pacer);
     let roster = NodeRoster {
         programs,
         rounds,
+        pacer: &shared,
+        leap,
+    };
+    let line = Line {
         ports,
         fetches,
         link,
     };
-    let shared = Mutex::new(&mut *pacer);
-    match run_jobs(rt, stock, halt, roster, crew, &shared) {
+    match run_jobs(rt, stock, halt, roster, line, crew) {
         Ok((ends, halt)) => {
             let node = NodeSite { host, cell, hub };
             record_of(alloc, &config, node, ends, halt, wire)

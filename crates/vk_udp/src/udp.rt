@@ -5,7 +5,7 @@ use crate::link::{Link, Wire};
 use std::io;
 use std::io::ErrorKind;
 use std::net::{Ipv4Addr, Net, SocketAddrV4, UdpSocket};
-use std::time::Clock;
+use std::time::{Clock, Duration};
 use vk_base::FrameBytes;
 use vk_base::limits::FRAME_BYTES;
 use vk_io::Failed;
@@ -13,10 +13,12 @@ use vk_io::Failed;
 /// One byte more than a datagram has that is handed out.
 const ROOM: usize = FRAME_BYTES + 1;
 
-/// A UDP socket on the loopback address, which never waits. A datagram of more than 1,152 bytes it skips.
+/// A UDP socket on the loopback address, at which a receive waits for some milliseconds. A datagram of more than 1,152 bytes it skips.
 #[derive(Drop)]
 pub struct UdpLink {
     socket: UdpSocket,
+    /// Where a datagram is put first.
+    bytes: [u8; ROOM],
     faults: u64,
 }
 
@@ -36,9 +38,8 @@ impl Link for UdpLink {
     }
 
     fn receive<R: Clock>(&mut self, _rt: &R, into: &mut FrameBytes) -> Result<bool, Failed> {
-        let mut bytes = [0; ROOM];
-        match self.socket.recv_from(&mut bytes) {
-            Ok((count, _)) => Ok(take_bytes(&bytes[..count], into)),
+        match self.socket.recv_from(&mut self.bytes) {
+            Ok((count, _)) => Ok(take_bytes(&self.bytes[..count], into)),
             Err(error) if is_no_fault(&error) => Ok(false),
             Err(_) => {
                 self.faults = self.faults.saturating_add(1);
@@ -50,20 +51,22 @@ impl Link for UdpLink {
 
 /// Makes these bytes the frame's, unless there are too many.
 fn take_bytes(bytes: &[u8], into: &mut FrameBytes) -> bool {
-    match FrameBytes::new(bytes) {
-        Some(frame) => {
-            *into = frame;
-            true
-        }
-        None => false,
+    let fits = bytes.len() <= FRAME_BYTES;
+    if fits {
+        into.clear();
+        into.append(bytes);
     }
+    fits
 }
 
 /// Nothing is there yet, or an earlier datagram found nobody.
 fn is_no_fault(error: &io::Error) -> bool {
     matches!(
         error.kind(),
-        ErrorKind::WouldBlock | ErrorKind::Interrupted | ErrorKind::ConnectionRefused
+        ErrorKind::WouldBlock
+            | ErrorKind::TimedOut
+            | ErrorKind::Interrupted
+            | ErrorKind::ConnectionRefused
     )
 }
 
@@ -101,7 +104,11 @@ impl Wire for UdpWire {
 
     fn open<R: Net>(&mut self, rt: &R, port: u16) -> Result<UdpLink, Failed> {
         match opened(rt, port) {
-            Ok(socket) => Ok(UdpLink { socket, faults: 0 }),
+            Ok(socket) => Ok(UdpLink {
+                socket,
+                bytes: [0; ROOM],
+                faults: 0,
+            }),
             Err(_) => {
                 self.faults = self.faults.saturating_add(1);
                 Err(Failed)
@@ -116,9 +123,9 @@ impl Wire for UdpWire {
     }
 }
 
-/// A socket at this port, which never waits.
+/// A socket at this port, at which a receive waits for a millisecond, or for as long as the system counts it.
 fn opened<R: Net>(rt: &R, port: u16) -> io::Result<UdpSocket> {
     let socket = UdpSocket::bind(rt, loopback(port))?;
-    socket.set_nonblocking(true)?;
+    socket.set_read_timeout(Some(Duration::from_millis(1)))?;
     Ok(socket)
 }

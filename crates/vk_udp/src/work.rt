@@ -3,6 +3,7 @@ ghost use Rattle.vk_udp.specs.Jobs.{ends_as};
 
 use crate::carrier::{Carrier, carrier_end};
 use crate::clock::{NodeClock, clock_end};
+use crate::dock::{Carrying, Start};
 use crate::link::Link;
 use std::sync::Wait;
 use std::thread::Threads;
@@ -15,10 +16,10 @@ use vk_threads::{End, ProcessWork, process_end};
 
 /// A job of a node: a process with its program, the clock, or what carries frames between the hub and the link.
 #[derive(Drop)]
-pub enum NodeWork<'a, 'p, G: Program, P: Pacer, L: Link> {
-    Process(ProcessWork<'a, G>),
-    Clock(NodeClock<'a, 'p, P>),
-    Carrier(Carrier<'a, L>),
+pub enum NodeWork<'s, 'a, 'p, G: Program, P: Pacer, L: Link, S: Start> {
+    Process(ProcessWork<'a, G, Carrying<'s, 'a, L, S>>),
+    Clock(NodeClock<'s, 'a, 'p, P, L, S>),
+    Carrier(Carrier<'s, 'a, L, S>),
 }
 
 /// What a job of a node gives back.
@@ -36,7 +37,8 @@ pub struct Carried<L: Link> {
     pub link: L,
 }
 
-impl<'a, 'p, G: Program + Send, P: Pacer + Send, L: Link + Send> Job for NodeWork<'a, 'p, G, P, L> {
+impl<'s, 'a, 'p, G: Program + Send, P: Pacer + Send, L: Link + Send, S: Start + Send + Sync> Job
+    for NodeWork<'s, 'a, 'p, G, P, L, S> {
     type End = NodeEnd<L>;
 
     ghost ends = { ends_as G.task L.handed L.sent L.fault_count };

@@ -7,20 +7,21 @@ use Rattle.vk_udp.proofs.carrier.hear.Goals as goal
 pub returns-in-Ok-true-clause-brought : goal.returns-in-Ok-true-clause-brought
 returns-in-Ok-true-clause-brought g c =
     let handed = g.L.Link.handed in
-    heard_one handed c.args.host c.args.port.now c.bring.new.port c.args.link.now c.receive.new.self c.receive.new.into c.bring.result c.bring.ensures
+    heard_one c.args.route.now.host c.args.port.now c.bring.new.port (handed c.args.link.now) (handed c.receive.new.self) c.receive.new.into c.bring.result
+    c.bring.ensures
     (subst (λ b. handed c.receive.new.self ≡ received (handed c.args.link.now) (Ok b) c.receive.new.into) c.in-Ok-true.field-0-test
     c.in-Ok-true.ensures.handed)
 
 pub returns-in-Ok-true-clause-full : goal.returns-in-Ok-true-clause-full
-returns-in-Ok-true-clause-full g c = heard_full c.args.host c.args.port.now c.bring.new.port c.receive.new.into c.bring.result c.bring.ensures
+returns-in-Ok-true-clause-full g c = heard_full c.args.route.now.host c.args.port.now c.bring.new.port c.receive.new.into c.bring.result c.bring.ensures
 
 pub returns-in-Ok-false-clause-brought : goal.returns-in-Ok-false-clause-brought
 returns-in-Ok-false-clause-brought g c =
     let handed = g.L.Link.handed in
-    brought_none handed c.args.host c.args.port.now c.args.link.now c.receive.new.self
+    brought_none c.args.route.now.host c.args.port.now (handed c.args.link.now) (handed c.receive.new.self)
     (subst (λ b. handed c.receive.new.self ≡ received (handed c.args.link.now) (Ok b) c.receive.new.into) c.in-Ok-false.field-0-test
     c.in-Ok-false.ensures.handed)
 
 pub returns-in-Err-clause-brought : goal.returns-in-Err-clause-brought
 returns-in-Err-clause-brought g c =
-    brought_none g.L.Link.handed c.args.host c.args.port.now c.args.link.now c.receive.new.self c.in-Err.ensures.handed
+    brought_none c.args.route.now.host c.args.port.now (g.L.Link.handed c.args.link.now) (g.L.Link.handed c.receive.new.self) c.in-Err.ensures.handed

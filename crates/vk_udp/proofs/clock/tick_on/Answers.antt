@@ -15,18 +15,18 @@ returns-in-Err g c =
 pub returns-in-Ok-true : goal.returns-in-Ok-true
 returns-in-Ok-true g c =
     clocks_stopped (c.loop.counter + 1) c.args.rounds c.args.port.now c.tick.new.self c.has_ended.new.port (omega arith)
-    (clocks_tick c.loop.counter c.args.port.now c.loop.port c.tick.new.self (answers.Ticked c.in-Ok.field-0) c.loop.invariant.so_far c.in-Ok.ensures.ok)
+    (clocks_tick c.loop.counter c.args.port.now c.loop.port c.tick.new.self (answers.Ticked c.in-Ok.now) c.loop.invariant.so_far c.in-Ok.ensures.ok)
     (subst (HasLookedOn c.tick.new.self c.has_ended.new.port) c.in-Ok-true.field-0-test c.in-Ok-true.ensures.looked)
 
 pub returns-in-Err-has_ended : goal.returns-in-Err-has_ended
 returns-in-Err-has_ended g c =
     clocks_cut_pump (c.loop.counter + 1) c.args.rounds c.args.port.now c.tick.new.self c.has_ended.new.port c.in-Err-has_ended.why (omega arith)
-    (clocks_tick c.loop.counter c.args.port.now c.loop.port c.tick.new.self (answers.Ticked c.in-Ok.field-0) c.loop.invariant.so_far c.in-Ok.ensures.ok)
+    (clocks_tick c.loop.counter c.args.port.now c.loop.port c.tick.new.self (answers.Ticked c.in-Ok.now) c.loop.invariant.so_far c.in-Ok.ensures.ok)
     c.in-Err-has_ended.ensures.cut
 
 pub loop-preserved : goal.loop-preserved
 loop-preserved g c =
     let so = clocks_looked (c.loop.counter + 1) c.args.port.now c.tick.new.self c.has_ended.new.port
-    (clocks_tick c.loop.counter c.args.port.now c.loop.port c.tick.new.self (answers.Ticked c.in-Ok.field-0) c.loop.invariant.so_far c.in-Ok.ensures.ok)
+    (clocks_tick c.loop.counter c.args.port.now c.loop.port c.tick.new.self (answers.Ticked c.in-Ok.now) c.loop.invariant.so_far c.in-Ok.ensures.ok)
     (subst (HasLookedOn c.tick.new.self c.has_ended.new.port) c.in-Ok-false.field-0-test c.in-Ok-false.ensures.looked) in
     record { so_far = so; may = still_ticks (c.loop.counter + 1) c.args.port.now c.has_ended.new.port so c.requires }

@@ -75,7 +75,7 @@ record_of-requires-clause-ended g c κs within =
       c.args.ports.now,
       map (program_task g.G.Program.task) programs,
       c.in-Ok.link,
-      have_ended c.args.config c.args.host c.in-Ok-new-2.cell c.in-Ok-new-3.hub origin g.W.L.Link.handed g.W.L.Link.sent g.W.L.Link.fault_count g.G.Program.task _ programs
+      have_ended c.args.config c.args.host c.in-Ok-new-2.cell c.in-Ok-new-3.hub origin g.W.L.Link.handed g.W.L.Link.sent g.W.L.Link.fault_count g.G.Program.task programs
           c.args.rounds c.args.ports.now c.take_hub_seat-fetches.result c.in-Ok.link c.in-Ok-run_jobs.ends.items c.in-Ok-run_jobs.halt
           (omega (arith, c.in-Ok-new-2.ensures.cell.1, counted)) (omega (arith, c.in-Ok-new-3.ensures.seats, counted))
           (omega (arith, c.in-Ok-new-3.ensures.programs, counted)) (omega (arith, counted, c.count_of-count.ensures.few)) c.requires.apart
@@ -93,7 +93,7 @@ returns-in-Ok-run_jobs-clause-ran g c =
     c.take_hub_seat-fetches.ensures in
     let origin = c.in-Ok-new-2.ensures.cell.0 ∙ ap (λ x. fresh_station x c.in-Ok-new.station.host) c.in-Ok-new.ensures.config
     ∙ ap (fresh_station c.args.config) c.in-Ok-new.ensures.host in
-    let it = have_ended c.args.config c.args.host c.in-Ok-new-2.cell c.in-Ok-new-3.hub origin g.W.L.Link.handed g.W.L.Link.sent g.W.L.Link.fault_count g.G.Program.task _
+    let it = have_ended c.args.config c.args.host c.in-Ok-new-2.cell c.in-Ok-new-3.hub origin g.W.L.Link.handed g.W.L.Link.sent g.W.L.Link.fault_count g.G.Program.task
     programs c.args.rounds c.args.ports.now c.take_hub_seat-fetches.result c.in-Ok.link c.in-Ok-run_jobs.ends.items c.in-Ok-run_jobs.halt
     (omega (arith, c.in-Ok-new-2.ensures.cell.1, counted)) (omega (arith, c.in-Ok-new-3.ensures.seats, counted))
     (omega (arith, c.in-Ok-new-3.ensures.programs, counted)) (omega (arith, counted, c.count_of-count.ensures.few)) c.requires.apart
@@ -114,7 +114,7 @@ returns-in-Ok-run_jobs-clause-sent g c =
     c.take_hub_seat-fetches.ensures in
     let origin = c.in-Ok-new-2.ensures.cell.0 ∙ ap (λ x. fresh_station x c.in-Ok-new.station.host) c.in-Ok-new.ensures.config
     ∙ ap (fresh_station c.args.config) c.in-Ok-new.ensures.host in
-    let it = have_ended c.args.config c.args.host c.in-Ok-new-2.cell c.in-Ok-new-3.hub origin g.W.L.Link.handed g.W.L.Link.sent g.W.L.Link.fault_count g.G.Program.task _
+    let it = have_ended c.args.config c.args.host c.in-Ok-new-2.cell c.in-Ok-new-3.hub origin g.W.L.Link.handed g.W.L.Link.sent g.W.L.Link.fault_count g.G.Program.task
     programs c.args.rounds c.args.ports.now c.take_hub_seat-fetches.result c.in-Ok.link c.in-Ok-run_jobs.ends.items c.in-Ok-run_jobs.halt
     (omega (arith, c.in-Ok-new-2.ensures.cell.1, counted)) (omega (arith, c.in-Ok-new-3.ensures.seats, counted))
     (omega (arith, c.in-Ok-new-3.ensures.programs, counted)) (omega (arith, counted, c.count_of-count.ensures.few)) c.requires.apart

@@ -1,5 +1,5 @@
 use Rattle.std.proofs.Common.{arith, ◌≡◌}
-use Rattle.vk_udp.proofs.LinkBack.{ended, node_record, node_sent, sound_link}
+use Rattle.vk_udp.proofs.LinkBack.{counts_nothing, ended, node_record, node_sent, sound_link}
 use Rattle.vk_udp.proofs.record.record_of.Goals as goal
 
 pub whole_record-requires-clause-ended : goal.whole_record-requires-clause-ended
@@ -44,3 +44,9 @@ returns-in-Ok-whole_record-clause-sent g c = λ rounds ports tasks start new it 
     (c.in-Ok-whole_record.ensures.own rounds tasks it.n
     (ended handed given faults c.args.config.now c.args.node.host c.args.node.cell c.args.node.hub rounds ports tasks start c.args.ends.items c.args.halt it rest x
     c.take_carried-end.ensures c.in-Ok.all.items c.in-Ok.ensures))
+
+pub returns-in-Ok-whole_record-clause-fault : goal.returns-in-Ok-whole_record-clause-fault
+returns-in-Ok-whole_record-clause-fault g c =
+    let faults = g.W.L.Link.fault_count c.take_carried-end.result.link in
+    let sound : faults ≡ 0 = omega (arith, c.faults-failed.ensures, c.if-failed.false) in
+    counts_nothing faults (g.W.Wire.fault_count c.args.wire.now) (g.W.Wire.fault_count c.close.new.self) sound c.close.ensures.faults

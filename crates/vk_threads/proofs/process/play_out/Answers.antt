@@ -2,7 +2,7 @@ use Rattle.std.proofs.Common.{◌∙◌, ◌++◌, ◌∷◌, [], Some, None, ap
 use Rattle.vk_threads.specs.Ends.{EndsProcess}
 use Rattle.vk_threads.specs.Works.{HasPlayed}
 use Rattle.vk_threads.proofs.Ending.{process_cut, process_done, process_here, process_stopped}
-use Rattle.vk_threads.proofs.process.process_end.Goals as goal
+use Rattle.vk_threads.proofs.process.play_out.Goals as goal
 
 pub returns-in-Ok-true : goal.returns-in-Ok-true
 returns-in-Ok-true g c =
