@@ -22,7 +22,7 @@ const ASLEEP: u64 = 2;
 /// Something has happened since the thread began to look.
 const RUNG: u64 = 3;
 
-/// A frame has come since the thread began to look, which it is to fetch.
+/// Since the thread began to look it was called: a frame may have come, or the hub has ended.
 const CALLED: u64 = 4;
 
 /// How often the thread looks at its bell before it sleeps: what comes at once costs no sleep, and no call of the system to end it.
@@ -41,8 +41,8 @@ impl Bell {
         }
     }
 
-    /// The thread begins to look: what is there from now on is rung for. Whether a frame has come since it began to look before, which it
-    /// is still to fetch.
+    /// The thread begins to look: what is there from now on is rung for. Whether it was called since it began to look before, so that there
+    /// may be a frame that nobody else looks for.
     pub fn look(&self) -> bool {
         self.state.swap(LOOKING, SeqCst) == CALLED
     }
@@ -52,12 +52,7 @@ impl Bell {
         self.state.load(SeqCst) >= RUNG
     }
 
-    /// Whether a frame has come since the thread began to look.
-    pub fn is_called(&self) -> bool {
-        self.state.load(SeqCst) == CALLED
-    }
-
-    /// The thread waits no longer. Whether a frame has come since it began to look.
+    /// The thread waits no longer. Whether it was called since it began to look.
     pub(crate) fn leave(&self) -> bool {
         self.state.swap(AWAKE, SeqCst) == CALLED
     }
@@ -102,7 +97,8 @@ impl Bell {
         self.tell(awake, RUNG);
     }
 
-    /// A frame has come. Whether the thread waits, so that it fetches it. One that sleeps is counted as awake, and woken.
+    /// A frame may have come, or the hub has ended. Whether the thread waits, so that it sees to that. One that sleeps is counted as awake,
+    /// and woken.
     pub(crate) fn call(&self, awake: &AtomicU64) -> bool {
         self.tell(awake, CALLED)
     }

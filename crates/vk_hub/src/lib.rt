@@ -6,7 +6,7 @@
 //! knows the header, by `vk_frame`; numbers are drawn by `vk_generator`. What a link plan does is `specs/Links.antt`. The rings are
 //! private: `src/inbox.rt` is what waits for one station, `src/links.rt` all that is under way, `src/state.rt` that beside its history,
 //! which has no bytes. That what is fetched was posted is [`fetches_are_posts`], that a hub ends for good [`stopped_stays_stopped`]. What
-//! a station does with frames it does not ask.
+//! a station does with frames it does not ask. Threads that find nothing to do wait at its [`Bells`].
 #![tactic(auto)]
 
 mod bell;

@@ -52,7 +52,8 @@ fn is_addressed(header: Option<Header>, station: u16) -> bool
     }
 }
 
-// Posts the frame to each station that it is addressed to, by three draws of the generator for each.
+// Posts the frame to each station that it is addressed to, by three draws of the generator for each. For which stations a frame waits then,
+// by their places, bit by bit: there are 16 at most.
 fn post_all(
     inboxes: &mut Vec<Inbox>,
     plan: &LinkPlan,

@@ -13,7 +13,7 @@ pub struct HubOut {
     pub delivery: Delivery,
     /// For which stations a frame waits after a post, by their places, bit by bit.
     pub reached: u32,
-    /// A frame is left for the station of a fetch.
+    /// A frame is left for the station of the last fetch that was entered.
     pub more: bool,
     /// The hub has ended.
     pub ended: bool,

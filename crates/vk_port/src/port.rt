@@ -347,7 +347,7 @@ impl<'a> Port<'a> {
         self.access.end()
     }
 
-    /// Whether its last event gave frames.
+    /// Whether the last event that it entered gave frames.
     pub fn has_posted(&self) -> bool {
         self.out.frame_count() > 0
     }

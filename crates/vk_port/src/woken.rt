@@ -1,11 +1,9 @@
 //! Which processes an event gave something to collect.
 
 use vk_base::Pid;
+use vk_base::limits::STEPS;
 use vk_brief::{BriefCall, BriefStep, Steps};
 use vk_hub::Bells;
-
-/// As many steps as an event has at most.
-const MOST: usize = 40;
 
 /// Stands in the places that are not used.
 const FIRST: Pid = Pid { host: 1, local: 1 };
@@ -14,7 +12,7 @@ const FIRST: Pid = Pid { host: 1, local: 1 };
 /// itself whether it is done.
 #[derive(Drop)]
 pub struct Woken {
-    pids: [Pid; MOST],
+    pids: [Pid; STEPS],
     count: usize,
     /// Any process of this station may have something to collect.
     all_at: Option<u16>,
@@ -24,7 +22,7 @@ impl Woken {
     /// Of no event.
     pub fn new() -> Woken {
         Woken {
-            pids: [FIRST; MOST],
+            pids: [FIRST; STEPS],
             count: 0,
             all_at: None,
         }
@@ -50,7 +48,7 @@ impl Woken {
             | BriefStep::End { pid, .. }
             | BriefStep::Found { asker: pid, .. }
             | BriefStep::Lost { asker: pid } => {
-                if self.count < MOST {
+                if self.count < STEPS {
                     self.pids[self.count] = *pid;
                     self.count += 1;
                 } else {

@@ -10,7 +10,7 @@ use Rattle.vk_port.specs.Stations.{StationHistory}
 use Rattle.vk_program.specs.declared.assigned.Assigned.{Assigned}
 use Rattle.vk_threads.specs.Ends.{EndsProcess}
 use Rattle.vk_udp.specs.Dealt.{AreNodeDealt, AreProcesses, IsProcessJob}
-use Rattle.vk_udp.specs.Ended.{AreNodeEnds, HasRunJobs}
+use Rattle.vk_udp.specs.Ended.{AreNodeEnds, HasRunDocked}
 use Rattle.vk_udp.specs.Jobs.{ends_as}
 use Rattle.vk_udp.specs.Values.{CarrierDuty, ClockDuty}
 use Rattle.vk_udp.specs.Wires.{Datagram}
@@ -75,7 +75,7 @@ module _ {G L : Type 0} (P S : Type 0) (task : G → List Answer → Option Call
   pub have_run : (programs : List (Assigned G)) (rounds : ℕ) (start : Option CarrierDuty) (d : CarrierDuty) (jobs : List (NodeWork G P L S))
       (es : List (NodeEnd L)) (halt : Sitting HubLog HubEvent) → start ≡ Some d → AreNodeDealt cell hub host programs rounds start jobs
       → AllEnd (ends_as task handed given faults) jobs es → IsSeatOf hub halt → halt.mine ≡ []
-      → HasRunJobs task handed given faults cell hub host programs rounds d es halt
+      → HasRunDocked task handed given faults cell hub host programs rounds d es halt
   have_run programs rounds start d jobs es halt is dealt each seat unhalted = record {
     clock = dealt.clock;
     clock_port = dealt.clock_port;

@@ -1,4 +1,4 @@
--- What the job that carries frames asks of the hub, and what it sends for the answers.
+-- What who carries frames asks of the hub, and what it sends for the answers.
 use Rattle.std.specs.Prelude.{ℕ, zero, suc, ◌≡◌, ◌++◌, Option, List, [], ◌∷◌, map}
 use mathlib.Core.List.{IsPrefix}
 use Rattle.turn_cell.specs.History.{events_of}

@@ -1,4 +1,4 @@
--- What the job that carries frames does with its port, its seat at the hub and the link.
+-- What one turn of carrying frames does with the port, the seat at the hub and the link.
 use Rattle.std.specs.Prelude.{ℕ, ◌≡◌, ◌≤◌, ◌⊎◌, Bool, true, false, Option, Some, None, List, [], ◌∷◌, ◌++◌, cond, filter, Result, Ok, Err, option_map}
 use mathlib.Core.List.{IsPrefix}
 use Rattle.vk_types.specs.Types.{EventAnswer}

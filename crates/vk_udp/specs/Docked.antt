@@ -28,8 +28,8 @@ module _ {L : Type 0} (handed : L → Option (List Frame)) (sent : L → Option 
     faults = faults link;
   }
 
-  -- SINCE THE BEGINNING: the port delivered what the link handed out, and the seat asked for all stations, round after round; what it was
-  -- answered the link was given to send. Nothing stopped it so far.
+  -- SINCE THE BEGINNING: the port delivered what is kept of what the link handed out, and the seat asked for all stations, round after
+  -- round; what it was answered the link was given to send. Nothing stopped it so far.
   pub record HasCarriedOn (d : CarrierDuty) (port : PortValue) (seat : Sitting HubLog HubEvent) (link : L) : Type 0 where
     pub brought : HasBrought d.port.host d.port port d.handed (handed link) None
     pub fetched : AreRounds d.port.hub.origin d.ports d.carrier seat d.sent (sent link)

@@ -52,7 +52,7 @@ AreNodeEnds task handed sent faults cell hub host clock duty (a ∷ programs) (e
 AreNodeEnds task handed sent faults cell hub host clock duty programs all = ⊥
 
 -- All jobs of a node were run, where what carries frames had this duty, and ended so; the seat of the halt is as it was.
-pub record HasRunJobs {G L : Type 0} (task : G → List Answer → Option Call) (handed : L → Option (List Frame))
+pub record HasRunDocked {G L : Type 0} (task : G → List Answer → Option Call) (handed : L → Option (List Frame))
     (sent : L → Option (List Datagram)) (faults : L → ℕ) (cell : Cell StationHistory) (hub : Cell HubLog) (host : ℕ)
     (programs : List (Assigned G)) (rounds : ℕ) (duty : CarrierDuty) (all : List (NodeEnd L)) (halt : Sitting HubLog HubEvent)
     : Type 0 where
@@ -70,7 +70,7 @@ pub record HasRunNodeJobs {G L : Type 0} (task : G → List Answer → Option Ca
     (all : List (NodeEnd L)) (halt : Sitting HubLog HubEvent) : Type 0 where
   pub port : PortValue
   pub at : IsNodePort cell hub host false port
-  pub ran : HasRunJobs task handed sent faults cell hub host programs rounds (duty_of handed sent faults port fetches ports link) all halt
+  pub ran : HasRunDocked task handed sent faults cell hub host programs rounds (duty_of handed sent faults port fetches ports link) all halt
 
 -- The clock's job and the link's, as other jobs are: what the link's port did, as a passage.
 abbrev pub clock_job : ClockEnd → JobEnd

@@ -7,6 +7,9 @@ use std::time::{Clock, Duration};
 use vk_hub::Bells;
 use vk_io::Pacer;
 
+/// Milliseconds for which a clock that waits for the first frame does not look at the link.
+const SLICE: u32 = 4;
+
 /// The pace of a node's clock, of which no contract speaks. It begins with the first frame that is sent or comes: until then a tick has
 /// nothing to do, and a node that waits for others is as old as they are when they come. One that sees no frame as long as its ticks take
 /// makes them all at once then. A node that hears from one that is much older hurries until it is nearly as old: else its frames would be
@@ -17,7 +20,7 @@ pub struct Beat<'s, 'a, 'p, P: Pacer, L: Link, S: Start> {
     dock: &'s Dock<'a, L, S>,
     bells: &'a Bells,
     host: u16,
-    /// How many ticks it may be younger than others.
+    /// How many ticks it may be younger than others, and may make at once.
     leap: u32,
     /// Whether there was traffic, so that its waits take time.
     is_paced: bool,
@@ -47,10 +50,17 @@ impl<'s, 'a, 'p, P: Pacer, L: Link, S: Start> Beat<'s, 'a, 'p, P, L, S> {
         }
     }
 
-    /// Waits for the first frame, at most as many milliseconds as there are to be ticks.
+    /// Waits for the first frame, at most as many milliseconds as there are to be ticks, or until nothing is carried any more. Meanwhile it
+    /// sees to the link, as behind a tick.
     pub fn begin<R: Wait + Clock>(&mut self, rt: &R, ticks: u32) {
-        let most = Duration::from_millis(u64::from(ticks));
-        self.is_paced = self.dock.wait_for_traffic(rt, most);
+        for _ in 0..ticks / SLICE + 1 {
+            let most = Duration::from_millis(u64::from(SLICE));
+            if self.dock.wait_for_traffic(rt, most) || self.dock.send(rt) {
+                return;
+            }
+            self.see_to_receives();
+        }
+        self.is_paced = false;
     }
 
     /// Waits for the next tick.
@@ -76,6 +86,11 @@ impl<'s, 'a, 'p, P: Pacer, L: Link, S: Start> Beat<'s, 'a, 'p, P, L, S> {
         if has_posted {
             self.dock.try_send(rt);
         }
+        self.see_to_receives();
+    }
+
+    /// Where nobody received since it was here last, the job of the link is called to.
+    fn see_to_receives(&mut self) {
         if self.dock.is_unread_since(self.receives) {
             self.bells.call_pump(self.host);
         }

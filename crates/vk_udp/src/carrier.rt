@@ -1,5 +1,5 @@
-//! The job that carries frames between the hub and the link.
-ghost use Rattle.std.specs.Prelude.{◌≡◌, ◌≤◌, List, [], true, None, Some, IfErr, IfOk};
+//! How frames are carried between the hub and the link, once; and the job that does it where no process does.
+ghost use Rattle.std.specs.Prelude.{◌≡◌, ◌≤◌, [], true, None, Some, IfOk};
 ghost use Rattle.turn_cell.specs.Seats.{IsSeatOf};
 ghost use Rattle.v_node.specs.Links.{is_kept};
 ghost use Rattle.vk_udp.specs.Carried.{HasBrought, HasFetchedFor, HasGoneRound, IsBrought, IsHubFull, IsPortFull, TellsHeard, asked_by, met_by, room_in, stops_in};
@@ -118,16 +118,16 @@ fn carry_on<L: Link, S: Start, R: Wait + Clock>(
     dock: &Dock<L, S>,
 ) {
     let bell = bells.of_pump(host);
+    let mut receives = bell.look();
     for _ in rt.forever() {
-        let _called = bell.look();
-        dock.send(rt);
-        if dock.has_stopped(rt) {
+        if dock.send(rt) {
             return;
         }
-        if bells.sleep_unless_last(rt, bell) || bell.is_called() {
-            let _called = bell.look();
+        if receives {
             dock.receive(rt, bell);
         }
+        let is_last = bells.sleep_unless_last(rt, bell);
+        receives = bell.look() || is_last;
     }
 }
 
@@ -286,7 +286,7 @@ pub fn hear<L: Link, R: Wait + Clock>(
 {
     match link.receive(rt, &mut place.datagram) {
         Ok(true) => {
-            place.latest = place.latest.max(stamp_of(&place.datagram));
+            place.latest = place.latest.max(stamp_of(route.host, &place.datagram));
             bring(rt, route, port, &place.datagram, &mut place.delivery)
         }
         Ok(false) => Ok(Heard::Nothing),
@@ -314,11 +314,12 @@ fn bring<R: Wait>(
     }
 }
 
-/// The stamp of a frame, 0 where these bytes are none.
-fn stamp_of(frame: &FrameBytes) -> u64 {
-    match unseal(frame.as_slice()) {
-        Some((header, _)) => header.stamp,
-        None => 0,
+/// The stamp of a frame for the station, 0 where these bytes are none.
+fn stamp_of(host: u16, datagram: &FrameBytes) -> u64 {
+    let bytes = datagram.as_slice();
+    match unseal(bytes) {
+        Some((header, _)) if is_kept(host, bytes) => header.stamp,
+        _ => 0,
     }
 }
 

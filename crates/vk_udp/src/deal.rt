@@ -1,6 +1,5 @@
 //! Jobs of a node, each with its port.
 ghost use Rattle.std.specs.Prelude.{◌≡◌, ◌<◌, ◌+◌, ◌++◌, ◌∷◌, [], ℕ, List, suc, true, IfOk, length, vec_len};
-ghost use Rattle.turn_cell.specs.Seats.{IsSeatOf};
 ghost use Rattle.vk_port.specs.Stations.{is_process_of};
 ghost use Rattle.vk_rules.specs.Each.{Each};
 ghost use Rattle.vk_udp.specs.Dealt.{AreNodeDealt, AreProcesses, IsNodePort, IsStocked};

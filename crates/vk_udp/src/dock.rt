@@ -237,11 +237,15 @@ impl<'a, L: Link, S: Start> Dock<'a, L, S> {
         }
     }
 
-    /// Sends what is posted.
-    pub fn send<R: Wait + Clock>(&self, rt: &R) {
+    /// Sends what is posted. Whether nothing is carried any more.
+    pub fn send<R: Wait + Clock>(&self, rt: &R) -> bool {
         let mut held = self.carry.lock(rt);
-        if let Some(carry) = &mut *held {
-            carry.send(rt);
+        match &mut *held {
+            Some(carry) => {
+                carry.send(rt);
+                carry.has_stopped()
+            }
+            None => true,
         }
     }
 
@@ -318,15 +322,6 @@ impl<'a, L: Link, S: Start> Dock<'a, L, S> {
         unreachable!()
     }
 
-    /// Whether nothing is carried any more.
-    pub fn has_stopped<R: Wait>(&self, rt: &R) -> bool {
-        let held = self.carry.lock(rt);
-        match &*held {
-            Some(carry) => carry.has_stopped(),
-            None => true,
-        }
-    }
-
     /// Takes out what carried, once nothing is carried any more.
     pub fn take<R: Wait>(&self, rt: &R) -> LeftOff<'a, L>
         ensures { HasLeftOffSince L.handed L.sent L.fault_count S.duty result.host result.port result.hub_seat result.link result.stop }
@@ -364,7 +359,7 @@ pub struct Carrying<'s, 'a, L: Link, S: Start> {
 impl<'s, 'a, L: Link, S: Start> Rest for Carrying<'s, 'a, L, S> {
     fn posted<R: Wait + Clock>(&self, rt: &R) {
         self.dock.tell_traffic();
-        self.dock.send(rt);
+        let _stopped = self.dock.send(rt);
     }
 
     fn wait<R: Wait + Clock>(&self, rt: &R, bells: &Bells, bell: &Bell) {

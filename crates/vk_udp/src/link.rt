@@ -29,8 +29,8 @@ pub trait Link: Drop {
         ensures handed { handed self.new ≡ handed self.old }
         ensures faults { fault_count self.new ≡ fault_count self.old };
 
-    /// Hands out one datagram, if one is there, for which it may wait a short while: then it answers true, and `into` has its bytes, of
-    /// which there are at most 1,152.
+    /// Hands out one datagram, if one is there: it is to wait for one a few milliseconds, since who got none asks again at once. Then it
+    /// answers true, and `into` has its bytes, of which there are at most 1,152.
     fn receive<R: Clock>(&mut self, rt: &R, into: &mut FrameBytes) -> Result<bool, Failed>
         ensures handed { handed self.new ≡ received (handed self.old) result into.new }
         ensures sent { sent self.new ≡ sent self.old }

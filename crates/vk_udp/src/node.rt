@@ -11,7 +11,7 @@ ghost use Rattle.vk_rules.specs.Each.{Each};
 ghost use Rattle.vk_threads.specs.Assigned.{AreDifferent, pid_of, program_task};
 ghost use Rattle.vk_udp.specs.Dealt.{IsStocked};
 ghost use Rattle.vk_udp.specs.Docked.{IsCargo, duty_of};
-ghost use Rattle.vk_udp.specs.Ended.{HasRunJobs, HasRunNodeJobs};
+ghost use Rattle.vk_udp.specs.Ended.{HasRunDocked, HasRunNodeJobs};
 ghost use Rattle.vk_udp.specs.Node.{HasSent, HavePort, IsNodeRecord, IsProcessAt, TellsCrew, TellsNodeFault, TellsNodeJobs};
 
 use crate::carrier::Route;
@@ -63,7 +63,7 @@ fn run_docked<
     requires fresh { Each (λ (a : Assigned G). G.is_after a.program []) roster.programs.items }
     requires cargo { IsCargo cargo.route.host cargo.route.hub.now cargo.port cargo.hub_seat }
     requires start { S.duty ≡ Some (duty_of L.handed L.sent L.fault_count cargo.port cargo.hub_seat cargo.route.ports.now cargo.link) }
-    ensures ended { IfOk result (λ r. HasRunJobs G.task L.handed L.sent L.fault_count stock.entry.cell.now stock.entry.hub.now
+    ensures ended { IfOk result (λ r. HasRunDocked G.task L.handed L.sent L.fault_count stock.entry.cell.now stock.entry.hub.now
         stock.entry.host roster.entry.programs.items roster.entry.rounds
         (duty_of L.handed L.sent L.fault_count cargo.entry.port cargo.entry.hub_seat cargo.entry.route.ports.now cargo.entry.link)
         r.0.items r.1) }
@@ -225,7 +225,7 @@ pub fn run_node<
         hub_seats,
     };
     let Times { interval, life, .. } = config.times();
-    let leap = interval.min(life / 2);
+    let leap = interval.min(life / 2).max(1);
     pacer.catch_up(leap);
     let shared = Mutex::new(&mut *pacer);
     let roster = NodeRoster {
