@@ -15,7 +15,7 @@ use Rattle.vk_files.specs.declared.disk.Telling.TheVariants.{Done, Lost, Landed}
 use Rattle.vk_files.specs.declared.entry.Entry.{Entry}
 use Rattle.vk_files.specs.declared.entry.File.{File}
 use Rattle.vk_files.specs.declared.limits.TheConstants.{BLOCK_BYTES}
-use Rattle.vk_files.specs.declared.serving.Serving.TheVariants as stages
+use Rattle.vk_files.specs.declared.serving.FileServing.TheVariants as stages
 use Rattle.vk_files.specs.declared.serving.Turn.{Turn}
 use Rattle.vk_files.specs.declared.serving.Turn.TheVariants as turns
 use Rattle.v_pages.specs.Requests.{Request}

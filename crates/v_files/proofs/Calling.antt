@@ -28,8 +28,8 @@ use Rattle.vk_files.specs.declared.disk.Telling.TheVariants.{Done, Lost, Landed}
 use Rattle.vk_files.specs.declared.entry.Entry.{Entry}
 use Rattle.vk_files.specs.declared.entry.File.{File}
 use Rattle.vk_files.specs.declared.limits.TheConstants.{BLOCK_BYTES, FILE_BYTES}
-use Rattle.vk_files.specs.declared.serving.Serving.{Serving}
-use Rattle.vk_files.specs.declared.serving.Serving.TheVariants as stages
+use Rattle.vk_files.specs.declared.serving.FileServing.{FileServing}
+use Rattle.vk_files.specs.declared.serving.FileServing.TheVariants as stages
 use Rattle.vk_files.specs.declared.serving.Turn.TheVariants as turns
 use Rattle.v_laws.specs.Reached.{IsReached}
 use Rattle.v_laws.specs.Sizes.{IsSized, size_in}
@@ -60,12 +60,12 @@ pub record IsKernelKnown (specs : List ProcessSpec) (k : Kernel) : Type 0 where
   pub sized : IsSized (size_in specs) k
   pub reached : IsReached k
 
-abbrev pub at_stage : List (List ℕ) → ℕ → Serving → Server
+abbrev pub at_stage : List (List ℕ) → ℕ → FileServing → Server
 at_stage kept replies stage = record { blocks = kept; replies = replies; stage = stage }
 
 -- A server that was answered.
 pub answered_with : (blocks : List (List ℕ)) (requests : ℕ) (telling : List Answer → Telling) (r : Pid) (made : ℕ) (given : List Answer)
-    (all : List Request) (replies : ℕ) (kept : List (List ℕ)) (stage : Serving) (a : Answer) (o : Option Answer) (k : Kernel)
+    (all : List Request) (replies : ℕ) (kept : List (List ℕ)) (stage : FileServing) (a : Answer) (o : Option Answer) (k : Kernel)
     (y : Process) → server_after blocks requests telling given ≡ at_stage kept replies stage → made ≡ length (given ++ a ∷ []) →
     o ≡ Some a → y.state ≡ states.Ready →
     After (length blocks) (files_of blocks) r (telling (given ++ a ∷ [])) kept all k y (turn_at (files_of blocks) requests replies stage a) →
@@ -83,7 +83,7 @@ answered_with blocks requests telling r made given all replies kept stage a o k 
 
 -- A server that calls.
 pub record IsAtCall (specs : List ProcessSpec) (blocks : List (List ℕ)) (requests : ℕ) (telling : List Answer → Telling) (r : Pid)
-    (made : ℕ) (given : List Answer) (replies : ℕ) (kept : List (List ℕ)) (stage : Serving) (k : Kernel) (e : Effect) (p y : Process) :
+    (made : ℕ) (given : List Answer) (replies : ℕ) (kept : List (List ℕ)) (stage : FileServing) (k : Kernel) (e : Effect) (p y : Process) :
     Type 0 where
   pub server : server_after blocks requests telling given ≡ at_stage kept replies stage
   pub count : made ≡ length given
@@ -99,7 +99,7 @@ record IsTold (r : Pid) (e : Effect) (y : Process) : Type 0 where
   ready : y.state ≡ states.Ready
 
 told_more : (specs : List ProcessSpec) (blocks : List (List ℕ)) (requests : ℕ) (telling : List Answer → Telling) (r : Pid) (made : ℕ)
-    (given : List Answer) (all : List Request) (replies : ℕ) (kept : List (List ℕ)) (stage : Serving) (k : Kernel) (e : Effect)
+    (given : List Answer) (all : List Request) (replies : ℕ) (kept : List (List ℕ)) (stage : FileServing) (k : Kernel) (e : Effect)
     (p y : Process) → IsAtCall specs blocks requests telling r made given replies kept stage k e p y → (t : IsTold r e y) →
     After (length blocks) (files_of blocks) r (telling (given ++ t.answer ∷ [])) kept all e.after y
     (turn_at (files_of blocks) requests replies stage t.answer) →
@@ -453,7 +453,7 @@ receive_call specs blocks requests telling r made given all replies kept k e p y
 
 -- Each of its calls.
 pub call_on : (specs : List ProcessSpec) (blocks : List (List ℕ)) (requests : ℕ) (telling : List Answer → Telling) (r : Pid) (made : ℕ)
-    (given : List Answer) (all : List Request) (replies : ℕ) (kept : List (List ℕ)) (stage : Serving) (k : Kernel) (c : Call) (e : Effect)
+    (given : List Answer) (all : List Request) (replies : ℕ) (kept : List (List ℕ)) (stage : FileServing) (k : Kernel) (c : Call) (e : Effect)
     (p y : Process) → IsAtCall specs blocks requests telling r made given replies kept stage k e p y →
     effect k (steps.Call r c) ≡ Some e → Standing (length blocks) (files_of blocks) r kept all k p stage → stage_call stage ≡ Some c →
     CallOutcome k r p c e → ServerAt blocks requests telling r (suc made) (given ++ option_to_list (told r e)) all e.after y

@@ -21,8 +21,8 @@ use Rattle.vk_files.specs.declared.disk.Telling.TheVariants.{Done, Lost, Landed}
 use Rattle.vk_files.specs.declared.entry.Entry.{Entry}
 use Rattle.vk_files.specs.declared.entry.File.{File}
 use Rattle.vk_files.specs.declared.limits.TheConstants.{BLOCK_BYTES, FILE_BYTES}
-use Rattle.vk_files.specs.declared.serving.Serving.{Serving}
-use Rattle.vk_files.specs.declared.serving.Serving.TheVariants as stages
+use Rattle.vk_files.specs.declared.serving.FileServing.{FileServing}
+use Rattle.vk_files.specs.declared.serving.FileServing.TheVariants as stages
 use Rattle.vk_files.specs.declared.serving.Turn.{Turn}
 use Rattle.vk_files.specs.declared.serving.Turn.TheVariants as turns
 use Rattle.v_files.specs.Volumes.{IsVolume, blocks_from}
@@ -160,7 +160,7 @@ moved_writes P from f answers.Ok = tt
 moved_writes P from f _ = tt
 
 -- only a page that was loaded is written
-pub turn_writes : (P : List ℕ → Type 0) (files : List Entry) (requests replies : ℕ) (stage : Serving) (a : Answer) →
+pub turn_writes : (P : List ℕ → Type 0) (files : List Entry) (requests replies : ℕ) (stage : FileServing) (a : Answer) →
     ((from : Pid) (f : File) (page : ℕ) (bytes : List ℕ) → stage ≡ stages.Load from f page → length bytes ≡ BLOCK_BYTES → P bytes) →
     IfWrites P (turn_at files requests replies stage a)
 turn_writes P files requests replies stages.Receive a such = received_writes P files a

@@ -18,8 +18,8 @@ use Rattle.vk_files.specs.Volumes.{files_of}
 use Rattle.vk_files.specs.declared.disk.Telling.{Telling}
 use Rattle.vk_files.specs.declared.entry.Entry.{Entry}
 use Rattle.vk_files.specs.declared.limits.TheConstants.{BLOCK_BYTES}
-use Rattle.vk_files.specs.declared.serving.Serving.{Serving}
-use Rattle.vk_files.specs.declared.serving.Serving.TheVariants as stages
+use Rattle.vk_files.specs.declared.serving.FileServing.{FileServing}
+use Rattle.vk_files.specs.declared.serving.FileServing.TheVariants as stages
 use Rattle.v_laws.specs.Places.{IsReplyAt, before, given_by, is_forward, taken_at}
 use Rattle.v_pages.specs.Followed.{FollowsTask, answers_before, call_at, call_by, calls_before}
 use Rattle.v_pages.specs.Requests.{Request, request_at, requests_before}
@@ -33,7 +33,7 @@ use Rattle.v_files.proofs.Standing.{Doing, HasLoaded, IsAnswering, IsOther, IsSe
 use Rattle.v_files.proofs.Turns.{IsRoomy, ready_when, server_keeps}
 
 -- A file server hands nothing on.
-forwards_none : (stage : Serving) (m : Message) (from to : Pid) → stage_call stage ≡ Some (calls.Forward m from to) → ⊥
+forwards_none : (stage : FileServing) (m : Message) (from to : Pid) → stage_call stage ≡ Some (calls.Forward m from to) → ⊥
 forwards_none stages.Receive m from to h = cc
 forwards_none (stages.Load q f page) m from to h = cc
 forwards_none (stages.Store q f page dest bytes) m from to h = cc
@@ -93,7 +93,7 @@ gives_nothing : {A : Type 0} (p : Process) (c d : Call) (x : Given) → Some c �
 gives_nothing p c d x same none gives = absurd (none-some x (sym none ∙ ap (given_by p) (same_Some c d same) ∙ gives))
 
 gives_on : (count : ℕ) (files : List Entry) (r : Pid) (blocks : List (List ℕ)) (all : List Request) (k : Kernel) (p : Process)
-    (stage : Serving) (s : Pid) (reply : Message) (dest : ℕ) (bytes : List ℕ) (c : Call) → Standing count files r blocks all k p stage →
+    (stage : FileServing) (s : Pid) (reply : Message) (dest : ℕ) (bytes : List ℕ) (c : Call) → Standing count files r blocks all k p stage →
     stage_call stage ≡ Some c → given_by p c ≡ Some (s, reply, dest, bytes) → Gives files blocks all k r s reply bytes
 gives_on count files r blocks all k p stages.Receive s reply dest bytes c standing next gives =
     gives_nothing p (calls.ReceiveSegment 0 BLOCK_BYTES) c (s, reply, dest, bytes) next refl gives

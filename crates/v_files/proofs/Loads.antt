@@ -19,7 +19,7 @@ use Rattle.vk_files.specs.Volumes.{files_of}
 use Rattle.vk_files.specs.declared.disk.Telling.{Telling}
 use Rattle.vk_files.specs.declared.entry.Entry.{Entry}
 use Rattle.vk_files.specs.declared.entry.File.{File}
-use Rattle.vk_files.specs.declared.serving.Serving.TheVariants as stages
+use Rattle.vk_files.specs.declared.serving.FileServing.TheVariants as stages
 use Rattle.v_laws.specs.Places.{IsReplyAt, before, seen_at, taken_at}
 use Rattle.v_laws.specs.Reached.{saw}
 use Rattle.v_laws.proofs.Held.{holding_is}

@@ -16,8 +16,8 @@ use Rattle.vk_files.specs.declared.disk.Telling.{Telling}
 use Rattle.vk_files.specs.declared.entry.Entry.{Entry}
 use Rattle.vk_files.specs.declared.entry.File.{File}
 use Rattle.vk_files.specs.declared.limits.TheConstants.{BLOCK_BYTES}
-use Rattle.vk_files.specs.declared.serving.Serving.{Serving}
-use Rattle.vk_files.specs.declared.serving.Serving.TheVariants as stages
+use Rattle.vk_files.specs.declared.serving.FileServing.{FileServing}
+use Rattle.vk_files.specs.declared.serving.FileServing.TheVariants as stages
 use Rattle.vk_files.specs.declared.serving.Turn.{Turn}
 use Rattle.v_pages.specs.Requests.{Request}
 use Rattle.v_files.specs.Volumes.{blocks_from, file_bytes}
@@ -76,7 +76,7 @@ pub record IsAnswering (files : List Entry) (blocks : List (List ℕ)) (all : Li
       HasLoaded files blocks k r from number long serving.request.message
 
 -- before its next call
-abbrev pub Standing : ℕ → List Entry → Pid → List (List ℕ) → List Request → Kernel → Process → Serving → Type 0
+abbrev pub Standing : ℕ → List Entry → Pid → List (List ℕ) → List Request → Kernel → Process → FileServing → Type 0
 Standing count files r blocks all k p stages.Receive = Unit {0}
 Standing count files r blocks all k p (stages.Load from f page) = IsOther all from
 Standing count files r blocks all k p (stages.Store from f page dest bytes) = IsOther all from
@@ -95,7 +95,7 @@ pub record IsServerInMove (count : ℕ) (files : List Entry) (r : Pid) (blocks :
   pub size : length (file_bytes blocks f) ≡ f.length
   pub moving : IsMoving k r from p dest (file_bytes blocks f)
 
-abbrev pub Waits : ℕ → List Entry → Pid → List (List ℕ) → List Request → Kernel → Process → Call → Serving → Type 0
+abbrev pub Waits : ℕ → List Entry → Pid → List (List ℕ) → List Request → Kernel → Process → Call → FileServing → Type 0
 Waits count files r blocks all k p c stages.Receive = c ≡ calls.ReceiveSegment 0 BLOCK_BYTES
 Waits count files r blocks all k p c (stages.Move from f dest) = IsServerInMove count files r blocks all k p c from f dest
 Waits count files r blocks all k p c _ = ⊥
@@ -114,7 +114,7 @@ pub record IsOverMove (count : ℕ) (files : List Entry) (r : Pid) (blocks : Lis
   pub size : length (file_bytes blocks f) ≡ f.length
   pub moved : a ≡ answers.Ok → IsMoved k r from dest (file_bytes blocks f)
 
-abbrev pub HasAnswer : ℕ → List Entry → Pid → List (List ℕ) → List Request → Kernel → Answer → Serving → Type 0
+abbrev pub HasAnswer : ℕ → List Entry → Pid → List (List ℕ) → List Request → Kernel → Answer → FileServing → Type 0
 HasAnswer count files r blocks all k a stages.Receive = HasReceived all a
 HasAnswer count files r blocks all k a (stages.Move from f dest) = IsOverMove count files r blocks all k a from f dest
 HasAnswer count files r blocks all k a _ = ⊥

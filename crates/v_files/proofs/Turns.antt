@@ -25,8 +25,8 @@ use Rattle.vk_files.specs.declared.disk.Telling.{Telling}
 use Rattle.vk_files.specs.declared.entry.Entry.{Entry}
 use Rattle.vk_files.specs.declared.entry.File.{File}
 use Rattle.vk_files.specs.declared.limits.TheConstants.{BLOCK_BYTES, FILE_BYTES}
-use Rattle.vk_files.specs.declared.serving.Serving.{Serving}
-use Rattle.vk_files.specs.declared.serving.Serving.TheVariants as stages
+use Rattle.vk_files.specs.declared.serving.FileServing.{FileServing}
+use Rattle.vk_files.specs.declared.serving.FileServing.TheVariants as stages
 use Rattle.v_laws.specs.Places.{before}
 use Rattle.v_laws.specs.Sizes.{size_in}
 use Rattle.v_laws.specs.Sound.{IsSound}
@@ -102,12 +102,12 @@ call_next specs blocks requests telling r made given all k c e p y known roomy a
     does standing next (outcome_of k r p c e there does)))
 
 -- It takes a request.
-record IsWaiting (stage : Serving) (c : Call) : Type 0 where
+record IsWaiting (stage : FileServing) (c : Call) : Type 0 where
   call : c ≡ calls.ReceiveSegment 0 BLOCK_BYTES
   receives : stage ≡ stages.Receive
 
 waits_at : (count : ℕ) (files : List Entry) (r : Pid) (blocks : List (List ℕ)) (all : List Request) (k : Kernel) (p : Process) (d c : Call)
-    (stage : Serving) → Waits count files r blocks all k p d stage → as_receive d ≡ Some c → IsWaiting stage c
+    (stage : FileServing) → Waits count files r blocks all k p d stage → as_receive d ≡ Some c → IsWaiting stage c
 waits_at count files r blocks all k p d c stages.Receive w is =
     record { call = sym (same_Some (calls.ReceiveSegment 0 BLOCK_BYTES) c (ap as_receive (sym w) ∙ is)); receives = refl }
 waits_at count files r blocks all k p d c (stages.Load from f page) w is = absurd w
@@ -119,7 +119,7 @@ waits_at count files r blocks all k p d c (stages.Reply from code file number) w
 waits_at count files r blocks all k p d c stages.Exit w is = absurd w
 waits_at count files r blocks all k p d c stages.Ended w is = absurd w
 
-record IsWaitingNow (made given : ℕ) (stage : Serving) (c : Call) : Type 0 where
+record IsWaitingNow (made given : ℕ) (stage : FileServing) (c : Call) : Type 0 where
   more : made ≡ given + 1
   is : IsWaiting stage c
 
@@ -219,7 +219,7 @@ collect_mild r = record { takes = λ e. not_take e; hands = λ m from to e. not_
     not_call c e = cc
 
 collected_on : (specs : List ProcessSpec) (blocks : List (List ℕ)) (requests : ℕ) (telling : List Answer → Telling) (r : Pid) (made : ℕ)
-    (given : List Answer) (all : List Request) (replies : ℕ) (kept : List (List ℕ)) (stage : Serving) (k : Kernel) (e : Effect)
+    (given : List Answer) (all : List Request) (replies : ℕ) (kept : List (List ℕ)) (stage : FileServing) (k : Kernel) (e : Effect)
     (y : Process) (a : Answer) → IsSound k → IsVolume blocks → server_after blocks requests telling given ≡ at_stage kept replies stage →
     made ≡ length (given ++ a ∷ []) → effect k (steps.Collect r) ≡ Some e → y.alive ≡ true → told r e ≡ Some a →
     y.state ≡ states.Ready → HasAnswer (length blocks) (files_of blocks) r kept all k a stage →
@@ -282,7 +282,7 @@ other_mild r s other = record {
     not_own t own same = both_ways (own_step r s) other (ap (own_step r) same ∙ own)
 
 standing_step : (count : ℕ) (files : List Entry) (r : Pid) (blocks : List (List ℕ)) (all : List Request) (k : Kernel) (s : Step) (e : Effect)
-    (p : Process) (stage : Serving) → IsSound k → effect k s ≡ Some e → IsMild r s → Standing count files r blocks all k p stage →
+    (p : Process) (stage : FileServing) → IsSound k → effect k s ≡ Some e → IsMild r s → Standing count files r blocks all k p stage →
     Standing count files r blocks all e.after p stage
 standing_step count files r blocks all k s e p stages.Receive sound does mild st = st
 standing_step count files r blocks all k s e p (stages.Load from f page) sound does mild st = st
@@ -307,7 +307,7 @@ standing_step count files r blocks all k s e p stages.Exit sound does mild st = 
 standing_step count files r blocks all k s e p stages.Ended sound does mild st = st
 
 answer_step : (count : ℕ) (files : List Entry) (r : Pid) (blocks : List (List ℕ)) (all : List Request) (k : Kernel) (s : Step) (e : Effect)
-    (a : Answer) (stage : Serving) → IsSound k → effect k s ≡ Some e → IsMild r s → HasAnswer count files r blocks all k a stage →
+    (a : Answer) (stage : FileServing) → IsSound k → effect k s ≡ Some e → IsMild r s → HasAnswer count files r blocks all k a stage →
     HasAnswer count files r blocks all e.after a stage
 answer_step count files r blocks all k s e a stages.Receive sound does mild h = h
 answer_step count files r blocks all k s e a (stages.Load from f page) sound does mild h = h
@@ -427,7 +427,7 @@ in_move_on specs count files r s made given all k t e p y c from f dest known th
     ]
 
 waits_on : (specs : List ProcessSpec) (count : ℕ) (files : List Entry) (r : Pid) (s : Server) (made given : ℕ) (all : List Request)
-    (k : Kernel) (t : Step) (e : Effect) (p y : Process) (c : Call) (stage : Serving) → IsKernelKnown specs k → k.procs r ≡ Some p →
+    (k : Kernel) (t : Step) (e : Effect) (p y : Process) (c : Call) (stage : FileServing) → IsKernelKnown specs k → k.procs r ≡ Some p →
     e.after.procs r ≡ Some y → effect k t ≡ Some e → own_step r t ≡ false → p.state ≡ states.Blocked c → s.stage ≡ stage →
     made ≡ given + 1 → Waits count files r s.blocks all k p c stage → Touched k t r p y →
     Doing count files r s made given all e.after y y.state

@@ -15,8 +15,8 @@ use Rattle.vk_group.specs.declared.notes.Note.{Note}
 use Rattle.vk_event.specs.declared.pair.HelperPair.{HelperPair}
 use Rattle.vk_group.specs.declared.request.Request.{Request}
 use Rattle.vk_group.specs.declared.request.Request.TheVariants as requests
-use Rattle.vk_group.specs.declared.stage.Asked.{Asked}
-use Rattle.vk_group.specs.declared.stage.Job.{Job}
+use Rattle.vk_group.specs.declared.stage.OpenSend.{OpenSend}
+use Rattle.vk_group.specs.declared.stage.HelperJob.{HelperJob}
 use Rattle.vk_group.specs.declared.stage.Stage.{Stage}
 use Rattle.vk_group.specs.declared.stage.Stage.TheVariants as stages
 use Rattle.vk_group.specs.declared.stage.Wait.{Wait}
@@ -104,7 +104,7 @@ waiting_calm g (Some w) = settled_calm g w (slice_get g.notes 0)
 waiting_calm g None =
     cond_both (is_ending g) (told_next g (helper_due g)) stages.Receive Calm (λ t. told_calm g (helper_due g) (helper_calm g)) (λ f. tt)
 
-by_job_calm : (g : Group) (o : Option Job) → Calm (by_job g o)
+by_job_calm : (g : Group) (o : Option HelperJob) → Calm (by_job g o)
 by_job_calm g (Some j) = tt
 by_job_calm g None = waiting_calm g g.waiting
 
@@ -243,7 +243,7 @@ pub due : (pairs : List HelperPair) (replies : ℕ) (given : List Answer) → Is
 due pairs replies given = due_by pairs replies given (ends given)
 
 -- Where the current group Send began.
-pub record HasBegun (pairs : List HelperPair) (replies : ℕ) (given : List Answer) (asked : Asked) : Type 0 where
+pub record HasBegun (pairs : List HelperPair) (replies : ℕ) (given : List Answer) (asked : OpenSend) : Type 0 where
   pub front : List Answer
   pub answer : Answer
   pub later : List Answer
@@ -251,8 +251,8 @@ pub record HasBegun (pairs : List HelperPair) (replies : ℕ) (given : List Answ
   pub deed : deed_of (group_after pairs replies front) answer ≡ Some (Began asked)
 
 -- the current one is that of before, and none begins, or it begins
-pub asked_or : (h : Account) (o : Option Deed) (asked : Asked) → (accounted h o).asked ≡ Some asked →
-    ((h.asked ≡ Some asked) × ((a : Asked) → o ≡ Some (Began a) → ⊥)) ⊎ (o ≡ Some (Began asked))
+pub asked_or : (h : Account) (o : Option Deed) (asked : OpenSend) → (accounted h o).asked ≡ Some asked →
+    ((h.asked ≡ Some asked) × ((a : OpenSend) → o ≡ Some (Began a) → ⊥)) ⊎ (o ≡ Some (Began asked))
 asked_or h None asked e = inl (e, λ a is. none-some (Began a) is)
 asked_or h (Some (Began a)) asked e = inr (ap (λ x. Some (Began x)) (same_Some a asked e))
 asked_or h (Some (Gave number)) asked e = inl (e, λ a is. gave_not number a (same_Some (Gave number) (Began a) is))
@@ -260,7 +260,7 @@ asked_or h (Some (Heard r)) asked e = inl (e, λ a is. heard_not r a (same_Some 
 asked_or h (Some (Handed n)) asked e = inl (e, λ a is. handed_not n a (same_Some (Handed n) (Began a) is))
 
 begun_from : (pairs : List HelperPair) (replies : ℕ) (before : List Answer) (g : Group) (h : Account) (given : List Answer)
-    (asked : Asked) → group_after pairs replies before ≡ g → (account_from g h given).asked ≡ Some asked →
+    (asked : OpenSend) → group_after pairs replies before ≡ g → (account_from g h given).asked ≡ Some asked →
     (h.asked ≡ Some asked) ⊎ HasBegun pairs replies (before ++ given) asked
 begun_from pairs replies before g h [] asked is e = inl e
 begun_from pairs replies before g h (a ∷ later) asked is e =
@@ -280,7 +280,7 @@ begun_from pairs replies before g h (a ∷ later) asked is e =
       | inr b ↦ inr (subst (λ l. HasBegun pairs replies l asked) (append_assoc before (a ∷ []) later) b)
     ]
 
-pub has_begun : (pairs : List HelperPair) (replies : ℕ) (given : List Answer) (asked : Asked) →
+pub has_begun : (pairs : List HelperPair) (replies : ℕ) (given : List Answer) (asked : OpenSend) →
     (account_after pairs replies given).asked ≡ Some asked → HasBegun pairs replies given asked
 has_begun pairs replies given asked e = elim (begun_from pairs replies [] (new_group pairs replies) (nothing_for None) given asked refl e) [
   | inl none ↦ absurd (none-some asked none)
@@ -299,17 +299,17 @@ verdict_plain g m e = elim (cases_Bool (grants_read m || grants_write m)) [
   | inr f ↦ let parts = or_parts (grants_read m) (grants_write m) f in record { read = parts.0; write = parts.1 }
 ]
 
-deed_asked : (a b : Asked) → Began a ≡ Began b → a ≡ b
+deed_asked : (a b : OpenSend) → Began a ≡ Began b → a ≡ b
 deed_asked a b e = cc
 
-began_plain : (g : Group) (client : Pid) (m : Message) (asked : Asked) (o : Option Code) → verdict g m ≡ o →
+began_plain : (g : Group) (client : Pid) (m : Message) (asked : OpenSend) (o : Option Code) → verdict g m ≡ o →
     began client m o ≡ Some (Began asked) → IsPlainMessage asked.message
 began_plain g client m asked (Some code) is e = absurd (none-some (Began asked) e)
 began_plain g client m asked None is e =
     let same = deed_asked (record { client = client; message = m }) asked (same_Some _ (Began asked) e) in
-    subst (λ (x : Asked). IsPlainMessage x.message) same (verdict_plain g m is)
+    subst (λ (x : OpenSend). IsPlainMessage x.message) same (verdict_plain g m is)
 
-loaded_plain : (g : Group) (client : Pid) (asked : Asked) (o : Option Message) → loaded g client o ≡ Some (Began asked) →
+loaded_plain : (g : Group) (client : Pid) (asked : OpenSend) (o : Option Message) → loaded g client o ≡ Some (Began asked) →
     IsPlainMessage asked.message
 loaded_plain g client asked None e = absurd (none-some (Began asked) e)
 loaded_plain g client asked (Some m) e = began_plain g client m asked (verdict g m) refl e
@@ -318,29 +318,29 @@ abbrev is_heard : Deed → Bool
 is_heard (Heard r) = true
 is_heard d = false
 
-not_heard : (number : ℕ) (replied : Bool) (o : Option Message) (asked : Asked) →
+not_heard : (number : ℕ) (replied : Bool) (o : Option Message) (asked : OpenSend) →
     option_map (report_of number replied) o ≡ Some (Began asked) → ⊥
 not_heard number replied None asked e = none-some (Began asked) e
 not_heard number replied (Some m) asked e =
     other (report_of number replied m) asked (same_Some (report_of number replied m) (Began asked) e) refl
   where
-    other : (d : Deed) (asked : Asked) → d ≡ Began asked → is_heard d ≡ true → ⊥
+    other : (d : Deed) (asked : OpenSend) → d ≡ Began asked → is_heard d ≡ true → ⊥
     other (Began b) asked e t = both_ways false refl t
     other (Gave n) asked e t = cc
     other (Heard r) asked e t = cc
     other (Handed n) asked e t = cc
 
-pub begun_plain : (stage : Stage) (g : Group) (a : Answer) (asked : Asked) → deed_at stage g a ≡ Some (Began asked) →
+pub begun_plain : (stage : Stage) (g : Group) (a : Answer) (asked : OpenSend) → deed_at stage g a ≡ Some (Began asked) →
     IsPlainMessage asked.message
 begun_plain (stages.LoadSend client dest) g a asked e = loaded_plain g client asked (message_in a) e
 begun_plain (stages.GiveJob j) g a asked e = absurd (other j.member asked (same_Some (Gave j.member) (Began asked) e))
   where
-    other : (n : ℕ) (asked : Asked) → Gave n ≡ Began asked → ⊥
+    other : (n : ℕ) (asked : OpenSend) → Gave n ≡ Began asked → ⊥
     other n asked e = cc
 begun_plain (stages.LoadResult number helper replied) g a asked e = absurd (not_heard number replied (message_in a) asked e)
 begun_plain (stages.HandOver w n) g a asked e = absurd (not_handed a e)
   where
-    other : (n : Note) (asked : Asked) → Handed n ≡ Began asked → ⊥
+    other : (n : Note) (asked : OpenSend) → Handed n ≡ Began asked → ⊥
     other n asked e = cc
 
     not_handed : (a : Answer) → hands n a ≡ Some (Began asked) → ⊥

@@ -11,7 +11,7 @@ use Rattle.vk_base.specs.Ranges.{range_of, bytes_in}
 use Rattle.vk_base.specs.Steps.{Run, run}
 use Rattle.v_laws.specs.Places.{process_at}
 use Rattle.vk_event.specs.declared.pair.HelperPair.{HelperPair}
-use Rattle.vk_group.specs.declared.stage.Asked.{Asked}
+use Rattle.vk_group.specs.declared.stage.OpenSend.{OpenSend}
 use Rattle.vk_group.specs.Accounts.{Account, Began, account_after, deed_of}
 use Rattle.vk_group.specs.Deeds.{IsGroupSendBegun, IsDeedDone}
 use Rattle.vk_group.specs.Groups.{coordinator_call, group_after}
@@ -25,7 +25,7 @@ use Rattle.v_group.proofs.Requests.{send_count}
 use Rattle.v_group.proofs.Since.{IsDoneSince, deed_done, done_since}
 
 -- A group Send begins at a place, with what its client brought.
-pub record IsBegunAt (specs : List ProcessSpec) (ss : List Step) (r : Pid) (pairs : List HelperPair) (replies i : ℕ) (asked : Asked) :
+pub record IsBegunAt (specs : List ProcessSpec) (ss : List Step) (r : Pid) (pairs : List HelperPair) (replies i : ℕ) (asked : OpenSend) :
     Type 0 where
   pub since : IsDoneSince specs ss r pairs replies i (Began asked)
   pub begun : IsGroupSendBegun pairs replies (answers_before specs ss r since.place) since.done.answer asked
@@ -33,13 +33,13 @@ pub record IsBegunAt (specs : List ProcessSpec) (ss : List Step) (r : Pid) (pair
 
 module _ (specs : List ProcessSpec) (ss : List Step) (whole : Run) (r : Pid) (pairs : List HelperPair) (replies : ℕ)
     (g : run (initial_kernel specs) ss ≡ Some whole) (follows : FollowsTask (coordinator_call pairs replies) specs ss r) where
-  begun_there : (i : ℕ) (a : Answer) (asked : Asked) →
+  begun_there : (i : ℕ) (a : Answer) (asked : OpenSend) →
       deed_of (group_after pairs replies (answers_before specs ss r i)) a ≡ Some (Began asked) →
       IsGroupSendBegun pairs replies (answers_before specs ss r i) a asked
   begun_there i a asked deed = subst (λ o. IfSome o (IsDeedDone pairs replies (answers_before specs ss r i) a)) deed
       (deeds_done pairs replies (answers_before specs ss r i) a)
 
-  pub begun_at : (i : ℕ) (asked : Asked) → (account_after pairs replies (answers_before specs ss r i)).asked ≡ Some asked →
+  pub begun_at : (i : ℕ) (asked : OpenSend) → (account_after pairs replies (answers_before specs ss r i)).asked ≡ Some asked →
       IsBegunAt specs ss r pairs replies i asked
   begun_at i asked e = record {
     since = s;
@@ -63,7 +63,7 @@ module _ (specs : List ProcessSpec) (ss : List Step) (whole : Run) (r : Pid) (pa
       b = begun_there s.place s.done.answer asked s.done.deed
 
   -- the group Send that an account shows is the current one
-  pub current_at : (i : ℕ) (asked : Asked) → (account_after pairs replies (answers_before specs ss r i)).asked ≡ Some asked →
+  pub current_at : (i : ℕ) (asked : OpenSend) → (account_after pairs replies (answers_before specs ss r i)).asked ≡ Some asked →
       IsCurrentAt specs ss r pairs replies i asked
   current_at i asked e = record {
     ask = sent.made.place;

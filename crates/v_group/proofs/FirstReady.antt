@@ -15,12 +15,12 @@ use Rattle.vk_group.specs.declared.code.Code.{Code}
 use Rattle.vk_group.specs.declared.code.Code.TheVariants as codes
 use Rattle.vk_group.specs.declared.group.Group.{Group}
 use Rattle.vk_group.specs.declared.member.Member.{Member}
-use Rattle.vk_group.specs.declared.member.Work.TheVariants as works
+use Rattle.vk_group.specs.declared.member.Progress.TheVariants as works
 use Rattle.vk_group.specs.declared.notes.Note.{Note}
 use Rattle.vk_event.specs.declared.pair.HelperPair.{HelperPair}
 use Rattle.vk_group.specs.declared.request.Request.{Request}
 use Rattle.vk_group.specs.declared.request.Request.TheVariants as requests
-use Rattle.vk_group.specs.declared.stage.Job.{Job}
+use Rattle.vk_group.specs.declared.stage.HelperJob.{HelperJob}
 use Rattle.vk_group.specs.declared.stage.Stage.{Stage}
 use Rattle.vk_group.specs.declared.stage.Stage.TheVariants as stages
 use Rattle.vk_group.specs.declared.stage.Wait.{Wait}
@@ -102,7 +102,7 @@ module _ (pairs : List HelperPair) where
       absurd (both_ways false refl (ap is_ready x.2 ∙ ready))
 
   -- what is done between two requests
-  job_first : (g : Group) → Firsts g.members → IfSome (job_due g) (λ (j : Job). first_of pairs j.helper ≡ Some j.member)
+  job_first : (g : Group) → Firsts g.members → IfSome (job_due g) (λ (j : HelperJob). first_of pairs j.helper ≡ Some j.member)
   job_first g firsts =
       if_bound g.asked _ _ (λ a asked. if_bound (position is_due g.members) _ _ (λ n at. if_bound (slice_get g.members n) _ _ (λ m is.
       if_bound m.ready _ _ (λ dest ready. firsts n m is (ap is_some ready)))))
@@ -127,7 +127,7 @@ module _ (pairs : List HelperPair) where
       cond_both (is_ending g) (told_next g (helper_due g)) stages.Receive IsFirstDue
       (λ t. told_first g (helper_due g) (helper_first g)) (λ f. tt)
 
-  by_job_first : (g : Group) (o : Option Job) → IfSome o (λ (j : Job). first_of pairs j.helper ≡ Some j.member) → IsFirstDue (by_job g o)
+  by_job_first : (g : Group) (o : Option HelperJob) → IfSome o (λ (j : HelperJob). first_of pairs j.helper ≡ Some j.member) → IsFirstDue (by_job g o)
   by_job_first g (Some j) is = is
   by_job_first g None is = waiting_first g g.waiting
 

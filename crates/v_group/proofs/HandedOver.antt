@@ -7,7 +7,7 @@ use Rattle.vk_types.specs.Types.{Answer, Message, Pid, ProcessSpec, Step}
 use Rattle.vk_base.specs.Kernel.{initial_kernel}
 use Rattle.vk_base.specs.Steps.{Run, run}
 use Rattle.vk_group.specs.declared.notes.Note.{Note}
-use Rattle.vk_group.specs.declared.stage.Asked.{Asked}
+use Rattle.vk_group.specs.declared.stage.OpenSend.{OpenSend}
 use Rattle.vk_event.specs.declared.pair.HelperPair.{HelperPair}
 use Rattle.vk_group.specs.Accounts.{Account, Began, Deed, Gave, Handed, Heard, Report, account_after, accounted, note_in}
 use Rattle.vk_group.proofs.Told.{handed_over_once}
@@ -67,7 +67,7 @@ noted_as number (Some m) n e =
 
 -- a report is in the account where it was there before, and no group Send begins, or where it is made
 reports_or : (h : Account) (o : Option Deed) (l : ℕ) (r : Report) → slice_get (accounted h o).reports l ≡ Some r →
-    ((slice_get h.reports l ≡ Some r) × ((asked : Asked) → o ≡ Some (Began asked) → ⊥)) ⊎ (o ≡ Some (Heard r))
+    ((slice_get h.reports l ≡ Some r) × ((asked : OpenSend) → o ≡ Some (Began asked) → ⊥)) ⊎ (o ≡ Some (Heard r))
 reports_or h None l r e = inl (e, λ asked is. none-some (Began asked) is)
 reports_or h (Some (Began a)) l r e = absurd (none_at l r e)
 reports_or h (Some (Gave number)) l r e = inl (e, λ asked is. gave_not number asked (same_Some (Gave number) (Began asked) is))

@@ -19,7 +19,7 @@ use Rattle.vk_group.specs.declared.code.Code.TheVariants as codes
 use Rattle.vk_group.specs.declared.helping.Helping.TheVariants as helpings
 use Rattle.vk_group.specs.declared.notes.Note.{Note}
 use Rattle.vk_event.specs.declared.pair.HelperPair.{HelperPair}
-use Rattle.vk_group.specs.declared.stage.Job.{Job}
+use Rattle.vk_group.specs.declared.stage.HelperJob.{HelperJob}
 use Rattle.vk_group.specs.declared.stage.Stage.{Stage}
 use Rattle.vk_group.specs.declared.stage.Stage.TheVariants as stages
 use Rattle.vk_group.specs.declared.stage.Wait.{Wait}
@@ -41,7 +41,7 @@ abbrev Given : Type 0
 Given = Pid × Message × ℕ × List ℕ
 
 pub data IsJobReply (stage : Stage) (h : Pid) (dest : ℕ) (bytes : List ℕ) (caller : Process) : Type 0 where
-  brings : (j : Job) → stage ≡ stages.GiveJob j → j.helper ≡ h → j.dest ≡ dest → bytes ≡ bytes_in (range_of 0 MESSAGE_BYTES) caller.memory →
+  brings : (j : HelperJob) → stage ≡ stages.GiveJob j → j.helper ≡ h → j.dest ≡ dest → bytes ≡ bytes_in (range_of 0 MESSAGE_BYTES) caller.memory →
       IsJobReply stage h dest bytes caller
   thanks : stage ≡ stages.Thank h → IsJobReply stage h dest bytes caller
   hands : (w : Wait) (n : Note) → stage ≡ stages.HandOver w n → w.client ≡ h → IsJobReply stage h dest bytes caller
@@ -115,7 +115,7 @@ pub record IsOwnJob (specs : List ProcessSpec) (ss : List Step) (r : Pid) (pairs
     (message : Message) : Type 0 where
   pub given : IsJobGiven specs ss r pairs replies h i message
   pub round : rounds_at specs ss h given.place ≡ rounds_at specs ss h i
-  pub job : Job
+  pub job : HelperJob
   pub stage : (group_after pairs replies (answers_before specs ss r given.place)).stage ≡ stages.GiveJob job
   pub member : given.number ≡ job.member
   pub helper : job.helper ≡ h

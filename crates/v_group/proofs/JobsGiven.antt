@@ -28,8 +28,8 @@ use Rattle.v_laws.proofs.Tables.{same_pid_is}
 use Rattle.vk_group.specs.declared.code.Code.TheVariants as codes
 use Rattle.vk_group.specs.declared.notes.Note.{Note}
 use Rattle.vk_event.specs.declared.pair.HelperPair.{HelperPair}
-use Rattle.vk_group.specs.declared.stage.Asked.{Asked}
-use Rattle.vk_group.specs.declared.stage.Job.{Job}
+use Rattle.vk_group.specs.declared.stage.OpenSend.{OpenSend}
+use Rattle.vk_group.specs.declared.stage.HelperJob.{HelperJob}
 use Rattle.vk_group.specs.declared.stage.Stage.{Stage}
 use Rattle.vk_group.specs.declared.stage.Stage.TheVariants as stages
 use Rattle.vk_group.specs.declared.stage.Wait.{Wait}
@@ -81,7 +81,7 @@ message_same : (m n : Message) → m.0 ≡ n.0 → m ≡ n
 message_same m n e = λ i. record { 0 = e i }
 
 -- who is the client of a group Send
-client_is : (o : Option Asked) (c : Pid) → is_client o c ≡ true → (a : Asked) × (o ≡ Some a) × (same_pid a.client c ≡ true)
+client_is : (o : Option OpenSend) (c : Pid) → is_client o c ≡ true → (a : OpenSend) × (o ≡ Some a) × (same_pid a.client c ≡ true)
 client_is None c t = absurd (both_ways false refl t)
 client_is (Some a) c t = (a, refl, t)
 
@@ -207,7 +207,7 @@ module _ (specs : List ProcessSpec) (ss : List Step) (whole : Run) (r : Pid) (pa
       waits : is_client (group_after pairs replies given).asked w.client ≡ true
       waits = (subst (IsDueTo pairs replies given (group_after pairs replies given).asked) is (tracked pairs replies given).due).0
 
-      client : (a : Asked) × ((group_after pairs replies given).asked ≡ Some a) × (same_pid a.client w.client ≡ true)
+      client : (a : OpenSend) × ((group_after pairs replies given).asked ≡ Some a) × (same_pid a.client w.client ≡ true)
       client = client_is (group_after pairs replies given).asked w.client waits
 
       b : IsBegunAt specs ss r pairs replies x client.0
@@ -227,14 +227,14 @@ module _ (specs : List ProcessSpec) (ss : List Step) (whole : Run) (r : Pid) (pa
     given : IsGiven pairs replies (answers_before specs ss r x) number
     helper : given.pair.helper ≡ h
     called : slice_get ss x ≡ Some (steps.Call r (calls.ReplySegment (reply_of codes.Done 0) h dest 0 MESSAGE_BYTES))
-    job : Job
+    job : HelperJob
     stage : (group_after pairs replies (answers_before specs ss r x)).stage ≡ stages.GiveJob job
     member : number ≡ job.member
     own : job.helper ≡ h
     start : dest ≡ 0
     bytes_are : bytes ≡ given.asked.message.0
 
-  asked_size : (given : List Answer) (asked : Asked) → (account_after pairs replies given).asked ≡ Some asked →
+  asked_size : (given : List Answer) (asked : OpenSend) → (account_after pairs replies given).asked ≡ Some asked →
       length asked.message.0 ≡ MESSAGE_BYTES
   asked_size given asked is =
       let b = has_begun pairs replies given asked is in
@@ -242,7 +242,7 @@ module _ (specs : List ProcessSpec) (ss : List Step) (whole : Run) (r : Pid) (pa
       subst (λ o. IfSome o (IsDeedDone pairs replies b.front b.answer)) b.deed (deeds_done pairs replies b.front b.answer) in
       (message_is b.answer asked.message begun.from_client.loaded).1
 
-  given_at : (h : Pid) (x : ℕ) (p : Process) (q : IsAsking h x p) (c : Call) (e : Effect) (dest : ℕ) (bytes : List ℕ) (j : Job) →
+  given_at : (h : Pid) (x : ℕ) (p : Process) (q : IsAsking h x p) (c : Call) (e : Effect) (dest : ℕ) (bytes : List ℕ) (j : HelperJob) →
       slice_get ss x ≡ Some (steps.Call r c) → task (answers_before specs ss r x) ≡ Some c → IsFit q.kernel r p c →
       (group_after pairs replies (answers_before specs ss r x)).stage ≡ stages.GiveJob j → j.helper ≡ h → j.dest ≡ dest →
       bytes ≡ bytes_in (range_of 0 MESSAGE_BYTES) p.memory → IsGivenAt h x p dest bytes

@@ -18,10 +18,10 @@ use Rattle.v_laws.proofs.OnceLemmas.{taken_at_is, taken_over}
 use Rattle.v_laws.proofs.Queues.{taken_was_queued}
 use Rattle.v_laws.proofs.Tables.{same_pid_is}
 use Rattle.vk_group.specs.declared.group.Group.{Group}
-use Rattle.vk_group.specs.declared.member.Work.{Work}
-use Rattle.vk_group.specs.declared.member.Work.TheVariants as works
+use Rattle.vk_group.specs.declared.member.Progress.{Progress}
+use Rattle.vk_group.specs.declared.member.Progress.TheVariants as works
 use Rattle.vk_event.specs.declared.pair.HelperPair.{HelperPair}
-use Rattle.vk_group.specs.declared.stage.Asked.{Asked}
+use Rattle.vk_group.specs.declared.stage.OpenSend.{OpenSend}
 use Rattle.vk_group.specs.Accounts.{Began, Gave, Heard, Report, deed_at, deed_of}
 use Rattle.vk_group.specs.Deeds.{IsDeedDone, IsReported}
 use Rattle.vk_group.specs.Groups.{answered, answered_at, coordinator_call, group_after, new_group}
@@ -66,10 +66,10 @@ taken_again specs ss r never i j n first second receives less =
     low_reach : (x z : Exchange) → x ≡ z → 2 ≤ reach x.stage → reach z.stage ≡ 1 → ⊥
     low_reach x z same far near = let one = ap (λ (w : Exchange). reach w.stage) same in omega arith
 
-open_given : Path (Option Work) (Some works.Open) (Some works.Given) → ⊥
+open_given : Path (Option Progress) (Some works.Open) (Some works.Given) → ⊥
 open_given e = open_not works.Open works.Given (same_Some works.Open works.Given e) refl refl
   where
-    open_not : (a b : Work) → a ≡ b → is_given a ≡ false → is_given b ≡ true → ⊥
+    open_not : (a b : Progress) → a ≡ b → is_given a ≡ false → is_given b ≡ true → ⊥
     open_not a b same f t = both_ways (is_given a) f (ap is_given same ∙ t)
 
 module _ (specs : List ProcessSpec) (ss : List Step) (whole : Run) (r : Pid) (pairs : List HelperPair) (replies : ℕ)
@@ -139,7 +139,7 @@ module _ (specs : List ProcessSpec) (ss : List Step) (whole : Run) (r : Pid) (pa
     ]
 
     -- so no group Send begins
-    pub none_begins : (i : ℕ) → NotHeard n x i → (l : ℕ) (asked : Asked) → x < l → l < i →
+    pub none_begins : (i : ℕ) → NotHeard n x i → (l : ℕ) (asked : OpenSend) → x < l → l < i →
         IsDoneAt specs ss r pairs replies l (Began asked) → ⊥
     none_begins i none l asked more less d =
         by_deed (goes_on n (GroupAt l).stage (GroupAt l) d.answer (at_work l more (λ k heard a b. none k heard a (omega arith))))
@@ -260,7 +260,7 @@ module _ (specs : List ProcessSpec) (ss : List Step) (whole : Run) (r : Pid) (pa
 
   -- no group Send begins between a job and the report of it
   no_other_send : (i number : ℕ) (pair : HelperPair) → slice_get pairs number ≡ Some pair → (t : IsReportBy pair.helper i) →
-      (l : ℕ) (asked : Asked) → t.own.given.place < l → l < i → IsDoneAt specs ss r pairs replies l (Began asked) → ⊥
+      (l : ℕ) (asked : OpenSend) → t.own.given.place < l → l < i → IsDoneAt specs ss r pairs replies l (Began asked) → ⊥
   no_other_send i number pair its t =
       none_begins pair.helper t.send t.message t.own i (by_all_below NoneBetween none_next i number pair its t)
 

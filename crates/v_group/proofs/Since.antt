@@ -5,7 +5,7 @@ use Rattle.std.proofs.lemmas.Option.{same_Some, none-some}
 use Rattle.vk_types.specs.Types.{Answer, Call, Pid, ProcessSpec, Step}
 use Rattle.vk_base.specs.Kernel.{◌>>=◌}
 use Rattle.vk_group.specs.declared.group.Group.{Group}
-use Rattle.vk_group.specs.declared.stage.Asked.{Asked}
+use Rattle.vk_group.specs.declared.stage.OpenSend.{OpenSend}
 use Rattle.vk_event.specs.declared.pair.HelperPair.{HelperPair}
 use Rattle.vk_group.specs.Accounts.{Account, Began, Deed, account_after, account_from, accounted, deed_of, nothing_for}
 use Rattle.vk_group.specs.Groups.{answered, answered_all, coordinator_call, group_after, new_group}
@@ -34,7 +34,7 @@ answered_there specs ss r pairs replies i d done = ap (λ o. o >>= answer_in r) 
 
 -- What an account shows is there of before, where no group Send begins, or by this deed.
 abbrev pub IsShownBy : (Account → Type 0) → Deed → Type 0
-IsShownBy P d = (h : Account) (o : Option Deed) → P (accounted h o) → (P h × ((asked : Asked) → o ≡ Some (Began asked) → ⊥)) ⊎ (o ≡ Some d)
+IsShownBy P d = (h : Account) (o : Option Deed) → P (accounted h o) → (P h × ((asked : OpenSend) → o ≡ Some (Began asked) → ⊥)) ⊎ (o ≡ Some d)
 
 module _ (specs : List ProcessSpec) (ss : List Step) (r : Pid) (pairs : List HelperPair) (replies : ℕ)
     (follows : FollowsTask (coordinator_call pairs replies) specs ss r) where
@@ -52,7 +52,7 @@ module _ (specs : List ProcessSpec) (ss : List Step) (r : Pid) (pairs : List Hel
       let own = own_answer (coordinator_call pairs replies) specs ss r (coordinator_plain pairs replies) follows i a c is next quick in
       record { call = own.call; answer = a; is = own.is; seen = own.seen; deed = deed }
 
-  done_later : (i : ℕ) (d : Deed) → ((asked : Asked) → IsDoneAt specs ss r pairs replies i (Began asked) → ⊥) →
+  done_later : (i : ℕ) (d : Deed) → ((asked : OpenSend) → IsDoneAt specs ss r pairs replies i (Began asked) → ⊥) →
       IsDoneSince specs ss r pairs replies i d → IsDoneSince specs ss r pairs replies (suc i) d
   done_later i d none h = record {
     place = h.place;
@@ -103,7 +103,7 @@ module _ (specs : List ProcessSpec) (ss : List Step) (r : Pid) (pairs : List Hel
 -- Where a deed was done that begins none, and none began up to there, none began at all.
 pub done_joined : (specs : List ProcessSpec) (ss : List Step) (r : Pid) (pairs : List HelperPair) (replies i j : ℕ) (d : Deed)
     (h : IsDoneSince specs ss r pairs replies j d) → IsSameSend specs ss r pairs replies i h.place →
-    ((asked : Asked) → d ≡ Began asked → ⊥) → IsSameSend specs ss r pairs replies i j
+    ((asked : OpenSend) → d ≡ Began asked → ⊥) → IsSameSend specs ss r pairs replies i j
 done_joined specs ss r pairs replies i j d h before other l asked more less b = elim (cases_order l h.place) [
   | inl same ↦
       let there : IsDoneAt specs ss r pairs replies h.place (Began asked) =

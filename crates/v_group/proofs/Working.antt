@@ -12,12 +12,12 @@ use Rattle.vk_group.specs.declared.code.Code.{Code}
 use Rattle.vk_group.specs.declared.code.Code.TheVariants as codes
 use Rattle.vk_group.specs.declared.group.Group.{Group}
 use Rattle.vk_group.specs.declared.member.Member.{Member}
-use Rattle.vk_group.specs.declared.member.Work.TheVariants as works
-use Rattle.vk_group.specs.declared.member.Work.{Work}
+use Rattle.vk_group.specs.declared.member.Progress.TheVariants as works
+use Rattle.vk_group.specs.declared.member.Progress.{Progress}
 use Rattle.vk_group.specs.declared.notes.Note.{Note}
 use Rattle.vk_group.specs.declared.request.Request.{Request}
 use Rattle.vk_group.specs.declared.request.Request.TheVariants as requests
-use Rattle.vk_group.specs.declared.stage.Asked.{Asked}
+use Rattle.vk_group.specs.declared.stage.OpenSend.{OpenSend}
 use Rattle.vk_group.specs.declared.stage.Stage.{Stage}
 use Rattle.vk_group.specs.declared.stage.Stage.TheVariants as stages
 use Rattle.vk_group.specs.Accounts.{Began, Deed, Gave, Handed, Heard, Report, began, deed_at, hands, loaded, reply_if, report_of}
@@ -33,9 +33,9 @@ IsGroupAtWork n g = (work_at g.members n ≡ Some works.Given) × (is_some g.ask
 -- what comes of an answer then: it reports, or has the job still and no group Send began
 pub data GroupGoesOn (n : ℕ) (o : Option Deed) (new : Group) : Type 0 where
   tells : (r : Report) → o ≡ Some (Heard r) → r.member ≡ n → GroupGoesOn n o new
-  stays : ((asked : Asked) → o ≡ Some (Began asked) → ⊥) → IsGroupAtWork n new → GroupGoesOn n o new
+  stays : ((asked : OpenSend) → o ≡ Some (Began asked) → ⊥) → IsGroupAtWork n new → GroupGoesOn n o new
 
-none_began : (asked : Asked) → (let o : Option Deed = None in o ≡ Some (Began asked)) → ⊥
+none_began : (asked : OpenSend) → (let o : Option Deed = None in o ≡ Some (Began asked)) → ⊥
 none_began asked e = none-some (Began asked) e
 
 not_all : (ms : List Member) (n : ℕ) → work_at ms n ≡ Some works.Given → list_all has_reported ms ≡ true → ⊥
@@ -93,13 +93,13 @@ send_on n g client dest (Some m) w =
     (λ t. GroupGoesOn.stays none_began w)
     (λ f. cond_both (is_busy g) (Some codes.Busy) None P (λ busy. GroupGoesOn.stays none_began w) (λ free. absurd (busy_then n g w free)))
 
-pub heard_not : (r : Report) (asked : Asked) → Heard r ≡ Began asked → ⊥
+pub heard_not : (r : Report) (asked : OpenSend) → Heard r ≡ Began asked → ⊥
 heard_not r asked e = cc
 
-pub gave_not : (n : ℕ) (asked : Asked) → Gave n ≡ Began asked → ⊥
+pub gave_not : (n : ℕ) (asked : OpenSend) → Gave n ≡ Began asked → ⊥
 gave_not n asked e = cc
 
-pub handed_not : (n : Note) (asked : Asked) → Handed n ≡ Began asked → ⊥
+pub handed_not : (n : Note) (asked : OpenSend) → Handed n ≡ Began asked → ⊥
 handed_not n asked e = cc
 
 report_on : (n : ℕ) (g : Group) (number : ℕ) (helper : Pid) (replied : Bool) (o : Option Message) → IsGroupAtWork n g →
@@ -118,7 +118,7 @@ report_on n g number helper replied (Some m) w =
       ]
     ]
 
-hands_not : (x : Note) (a : Answer) (asked : Asked) → hands x a ≡ Some (Began asked) → ⊥
+hands_not : (x : Note) (a : Answer) (asked : OpenSend) → hands x a ≡ Some (Began asked) → ⊥
 hands_not x answers.Ok asked e = handed_not x asked (same_Some (Handed x) (Began asked) e)
 hands_not x (answers.Replied m) asked e = none_began asked e
 hands_not x (answers.Received from m) asked e = none_began asked e
@@ -132,7 +132,7 @@ given_on n ms number is = elim (cases_order number n) [
   | inl same ↦
       ap (work_at (given number ms)) (sym same)
       ∙ work_here (λ m. record m { ready = None; work = works.Given }) (λ w. works.Given) (λ m. refl) ms number
-      ∙ ap (λ k. option_map (λ w. works.Given) (work_at ms k)) same ∙ ap (option_map (λ (w : Work). works.Given)) is
+      ∙ ap (λ k. option_map (λ w. works.Given) (work_at ms k)) same ∙ ap (option_map (λ (w : Progress). works.Given)) is
   | inr apart ↦ elim apart [
     | inl below ↦ others_given ms number n (λ same. absurd (omega (arith, same, below))) ∙ is
     | inr above ↦ others_given ms number n (λ same. absurd (omega (arith, same, above))) ∙ is

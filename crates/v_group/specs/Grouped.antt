@@ -14,7 +14,7 @@ use Rattle.vk_group.specs.declared.helping.Helping.TheVariants as helpings
 use Rattle.vk_group.specs.declared.code.Code.TheVariants as codes
 use Rattle.vk_event.specs.declared.pair.HelperPair.{HelperPair}
 use Rattle.vk_group.specs.declared.notes.Note.{Note}
-use Rattle.vk_group.specs.declared.stage.Asked.{Asked}
+use Rattle.vk_group.specs.declared.stage.OpenSend.{OpenSend}
 use Rattle.vk_group.specs.Accounts.{Began, Deed, Heard, Report, account_after, deed_of}
 use Rattle.vk_group.specs.Deeds.{IsGiven}
 use Rattle.vk_group.specs.Groups.{coordinator_call, group_after}
@@ -40,12 +40,12 @@ pub record IsDoneAt (specs : List ProcessSpec) (ss : List Step) (r : Pid) (pairs
 -- Between these two places the coordinator r begins no group Send: the one that is current at the later place is that of the earlier one.
 abbrev pub IsSameSend : List ProcessSpec → List Step → Pid → List HelperPair → ℕ → ℕ → ℕ → Type 0
 IsSameSend specs ss r pairs replies i j =
-    (l : ℕ) (asked : Asked) → i < l → l < j → IsDoneAt specs ss r pairs replies l (Began asked) → ⊥
+    (l : ℕ) (asked : OpenSend) → i < l → l < j → IsDoneAt specs ss r pairs replies l (Began asked) → ⊥
 
 -- The group Send that is the current one of the coordinator r at place i. Its message is what stood in a segment of its client when that
 -- called for a Send, and r took the Send of the client that was its next one there. Behind the Take r began the group Send, and from there
 -- to place i it began no other.
-pub record IsCurrentAt (specs : List ProcessSpec) (ss : List Step) (r : Pid) (pairs : List HelperPair) (replies i : ℕ) (asked : Asked) :
+pub record IsCurrentAt (specs : List ProcessSpec) (ss : List Step) (r : Pid) (pairs : List HelperPair) (replies i : ℕ) (asked : OpenSend) :
     Type 0 where
   -- the client asks
   pub ask : ℕ

@@ -8,7 +8,7 @@ use Rattle.vk_base.specs.Calls.{first_that_holds, is_granted, is_own}
 use Rattle.vk_base.specs.Kernel.{Kernel, held, held_exchange, name_of}
 use Rattle.vk_base.specs.Messages.{grants_of, segment_of}
 use Rattle.vk_base.specs.Ranges.{range_of, lies_in, lies_within}
-use Rattle.v_machine.specs.declared.calls.access.Access.{Access}
+use Rattle.v_machine.specs.declared.calls.access.SegmentAccess.{SegmentAccess}
 use Rattle.v_machine.specs.Access.{is_allowed_to, access_tests}
 use Rattle.v_machine.proofs.StepLemmas.{found, tests_held}
 
@@ -17,7 +17,7 @@ allowed_is : (write : Bool) (e : Exchange) (g : Grants) → g ≡ grants_of e.me
 allowed_is true e g is = ap (λ (x : Grants). x.write) (sym is)
 allowed_is false e g is = ap (λ (x : Grants). x.read) (sym is)
 
-pub tests_found : (k : Kernel) (pid : Pid) (p : Process) (a : Access) (number : ℕ) (e : Exchange) (g : Grants) (may own : Bool) →
+pub tests_found : (k : Kernel) (pid : Pid) (p : Process) (a : SegmentAccess) (number : ℕ) (e : Exchange) (g : Grants) (may own : Bool) →
     nat_lt a.limit a.own.len ≡ false → held k pid a.partner ≡ Some number → k.exchanges (name_of a.partner number) ≡ Some e →
     g ≡ grants_of e.message →
     may ≡ (if a.write then g.write else g.read) → own ≡ is_own p a.own.start a.own.len →
@@ -38,7 +38,7 @@ not_any false false true d w x y z e = absurd (none-some y (sym e))
 not_any false false false true w x y z e = absurd (none-some z (sym e))
 not_any false false false false w x y z e = refl
 
-pub ranges_lie : (k : Kernel) (pid : Pid) (p : Process) (a : Access) (number : ℕ) (e : Exchange) → held k pid a.partner ≡ Some number →
+pub ranges_lie : (k : Kernel) (pid : Pid) (p : Process) (a : SegmentAccess) (number : ℕ) (e : Exchange) → held k pid a.partner ≡ Some number →
     k.exchanges (name_of a.partner number) ≡ Some e → first_that_holds (access_tests k pid p a) ≡ None →
     (lies_within a.granted (segment_of e.message) ≡ true) × (lies_in a.own (length p.memory) ≡ true)
 ranges_lie k pid p a number e holds at none =

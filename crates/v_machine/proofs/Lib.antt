@@ -26,6 +26,7 @@ pub mod LeanExchanges
 pub mod LeanSteps
 pub mod Leaving
 pub mod Live
+pub mod Looking
 pub mod MoveCalls
 pub mod MoveLemmas
 pub mod MoveSteps

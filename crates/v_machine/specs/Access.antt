@@ -4,7 +4,7 @@ use Rattle.vk_types.specs.Types.{Exchange, Pid, Process, Refusal}
 use Rattle.vk_base.specs.declared.answer.Refusal.TheVariants as refusals
 use Rattle.vk_base.specs.Calls.{first_that_holds, may_write, may_read, is_granted, is_own}
 use Rattle.vk_base.specs.Kernel.{Kernel, held, held_exchange}
-use Rattle.v_machine.specs.declared.calls.access.Access.{Access}
+use Rattle.v_machine.specs.declared.calls.access.SegmentAccess.{SegmentAccess}
 use Rattle.v_machine.specs.declared.calls.held.Holding.{Holding}
 use Rattle.v_machine.specs.declared.tables.Store.{Store}
 use Rattle.v_machine.specs.Kept.{IsAt, kernel_in}
@@ -14,7 +14,7 @@ is_allowed_to true e = may_write e
 is_allowed_to false e = may_read e
 
 -- the refusals of an access, in order, each with its test
-abbrev pub access_tests : Kernel → Pid → Process → Access → List (Bool × Refusal)
+abbrev pub access_tests : Kernel → Pid → Process → SegmentAccess → List (Bool × Refusal)
 access_tests k pid p a =
     (nat_lt a.limit a.own.len, refusals.TooLong)
     ∷ (is_none (held k pid a.partner), refusals.NotAwaiting)
@@ -23,7 +23,7 @@ access_tests k pid p a =
     ∷ []
 
 -- the Send that is held, or the first refusal
-abbrev pub Accesses : Store → Pid → Access → Result Holding Refusal → Type 0
+abbrev pub Accesses : Store → Pid → SegmentAccess → Result Holding Refusal → Type 0
 Accesses s pid a (Ok h) = (p : Process) → (kernel_in s).procs pid ≡ Some p →
     (first_that_holds (access_tests (kernel_in s) pid p a) ≡ None) × (held (kernel_in s) pid a.partner ≡ Some h.number) ×
     IsAt s a.partner h.at

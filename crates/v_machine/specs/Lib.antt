@@ -13,6 +13,7 @@ pub mod Lean
 pub mod Leaving
 pub mod Lends
 pub mod Lists
+pub mod Look
 pub mod Moves
 pub mod Names
 pub mod Places

@@ -19,7 +19,7 @@ use vk_brief::StepView;
 /// before all others of their sender.
 #[derive(Drop)]
 pub struct LeanMachine {
-    machine: Machine,
+    pub(crate) machine: Machine,
 }
 
 impl Model for LeanMachine {

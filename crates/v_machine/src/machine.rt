@@ -22,7 +22,7 @@ use vk_brief::{BriefStep, CallView, StepView};
 /// The one-machine kernel.
 #[derive(Drop)]
 pub struct Machine {
-    store: Store,
+    pub(crate) store: Store,
     noted: u64,
 }
 

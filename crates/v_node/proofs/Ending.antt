@@ -17,16 +17,16 @@ use Rattle.vk_port.specs.Ports.{Action, Enters, Delivers, Drops, Hears, IsLog, B
 use Rattle.vk_port.specs.Stations.{StationHistory, frames_at}
 use Rattle.vk_rules.specs.Each.{Each}
 use Rattle.vk_rules.proofs.Lists.{each_front, each_behind, each_both}
-use Rattle.v_run.specs.Jobs.{EndsRole, JobEnd}
+use Rattle.v_run.specs.Jobs.{EndsRole, HaltsNot, JobEnd}
 use Rattle.v_run.specs.Passages.{HasHeard, IsLast, Passage, Pumps, Role, Runs, Ticks, fresh_station, hub_number_of, nowhere}
 use Rattle.v_run.specs.Runs.{passages_of}
 use Rattle.v_run.proofs.Dealt.{all_once}
-use Rattle.v_run.proofs.Ended.{each_of, finish_few, finished_after, finishes, halted_after, halts, is_program, no_halt_last, no_sends, of_each, stopped_by, summed, summed_is, summed_prefix}
+use Rattle.v_run.proofs.Ended.{each_of, finish_few, finished_after, finishes, halted_after, halts, is_program, no_halt_last, no_sends, of_each, program_one, stopped_by, summed, summed_is, summed_prefix}
 use Rattle.v_run.proofs.Heard.{log_is_later, prefix_front, prefix_over, weight_of_events}
 use Rattle.v_run.proofs.Totals.{added, added_append, added_map, by_seats, events_append, places, weight}
 use Rattle.v_run.proofs.Whole.{from_jobs}
 use Rattle.v_node.specs.Closed.{IsNodeClosed, numbers_at_hub}
-use Rattle.v_node.specs.Jobs.{AreNodeJobs, HaltsAtMost, IsProgramEnd, NodeEnd, NoneMet, passages_in}
+use Rattle.v_node.specs.Jobs.{AreNodeJobs, HaltsAtMost, IsProgramEnd, NodeEnd, NoneMet, RunsProcess, passages_in}
 use Rattle.v_node.specs.Links.{Errand}
 use Rattle.v_node.proofs.Carried.{fetches_of}
 use Rattle.v_node.proofs.Sums.{DHere, all_here, carrier_sent, events_at_hub, link_sent, same_host, sent_by}
@@ -87,10 +87,11 @@ clock_no_finish last (inl is) other = ap (added finishes) is
 clock_no_finish last (inr (inl is)) other = absurd (other is)
 clock_no_finish last (inr (inr is)) other = ap (added finishes) is
 
-one_program : (role : Role) → is_program role ≤ 1
-one_program (Runs r task) = omega arith
-one_program Pumps = omega arith
-one_program Ticks = omega arith
+-- a program's passage, where its job met no Room
+halts_not : (g : Passage) (role : Role) → RunsProcess role → HaltsNot g role → g.last ≢ hub_events.Halt ∷ []
+halts_not g (Runs r task) runs not = not
+halts_not g Pumps runs not = absurd runs
+halts_not g Ticks runs not = absurd runs
 
 added_zero : {A : Type 0} (P : A → Type 0) (f : A → ℕ) (xs : List A) → ((x : A) → P x → f x ≡ 0) → Each P xs → added f xs ≡ 0
 added_zero P f [] none each = refl
@@ -144,7 +145,7 @@ module _ (c : Settings) (host : ℕ) (o : HubLog) (rounds : ℕ) (history : List
       (λ g d.
       let sent = no_sends u (λ x. refl) (λ h. refl) O host g.actions in
       let last = finish_few c g g.role d.1 d.0.0.0.last in
-      let one = one_program g.role in
+      let one = program_one g.role in
       omega arith) (each_both H (λ (g : Passage). EndsRole c g g.role) ps programs_here roles) in
       let count = so_many c n.programs jobs.programs in
       let clock_sent = no_sends u (λ x. refl) (λ h. refl) O host n.clock.passage.actions in
@@ -172,7 +173,10 @@ module _ (c : Settings) (host : ℕ) (o : HubLog) (rounds : ℕ) (history : List
     program_none =
         let unhalted : Each (λ (g : Passage). g.last ≢ hub_events.Halt ∷ []) ps =
         from_jobs _ n.programs (each_of _ n.programs (λ j among.
-        (of_each (IsProgramEnd c) n.programs j jobs.programs among).job.halts (of_each _ n.programs j none.0 among))) in
+        let end = of_each (IsProgramEnd c) n.programs j jobs.programs among in
+        each_of _ j.passages (λ g within.
+        halts_not g g.role (of_each _ j.passages g end.runs within)
+        (of_each _ j.passages g (end.job.halts (of_each _ n.programs j none.0 among)) within)))) in
         each_of _ ps (λ g among.
         let d = of_each H ps g programs_here among in
         let most = halted_most (hub_number_of g) in

@@ -7,8 +7,8 @@ use Rattle.vk_base.specs.Ranges.{range_of, bytes_in}
 use Rattle.vk_event.specs.declared.task.TheConstants.{PAGE_BYTES}
 use Rattle.vk_pages.specs.Messages.{code_of, page_of}
 use Rattle.vk_pages.specs.Servers.{taken}
-use Rattle.vk_pages.specs.declared.serving.Serving.{Serving}
-use Rattle.vk_pages.specs.declared.serving.Serving.TheVariants as stages
+use Rattle.vk_pages.specs.declared.serving.PageServing.{PageServing}
+use Rattle.vk_pages.specs.declared.serving.PageServing.TheVariants as stages
 use Rattle.v_pages.specs.PageMap.{code_for, is_lawful_read, is_lawful_write, map_after}
 use Rattle.v_pages.specs.Requests.{Request}
 use Rattle.v_pages.proofs.Standing.{IsServing, Keeps, Standing, keeps_unwritten}
@@ -119,7 +119,7 @@ asked pages kept all p earlier q last alive room bytes keeps =
     there : Bool
     there = nat_lt (page_of m) pages
 
-    none : Serving
+    none : PageServing
     none = stages.Reply from (page_of m) 1
 
     may_write : Bool
@@ -128,16 +128,16 @@ asked pages kept all p earlier q last alive room bytes keeps =
     may_read : Bool
     may_read = grants_read m && (segment_of m).len == PAGE_BYTES
 
-    by_read : Serving
+    by_read : PageServing
     by_read = cond may_write (stages.Store from (page_of m) (segment_of m).start) (stages.Reply from (page_of m) 2)
 
-    by_write : Serving
+    by_write : PageServing
     by_write = cond may_read (stages.Load from (page_of m)) (stages.Reply from (page_of m) 2)
 
     serving : IsServing all p from (page_of m)
     serving = record { earlier = earlier; request = q; last = last; sender = refl; asked = refl; alive = alive; room = room }
 
-    choose : (b : Bool) (x y : Serving) → (b ≡ true → Standing pages kept all p x) → (b ≡ false → Standing pages kept all p y) →
+    choose : (b : Bool) (x y : PageServing) → (b ≡ true → Standing pages kept all p x) → (b ≡ false → Standing pages kept all p y) →
         Standing pages kept all p (cond b x y)
     choose b x y f g = cond_both b x y (Standing pages kept all p) f g
 

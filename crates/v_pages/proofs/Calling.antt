@@ -21,8 +21,8 @@ use Rattle.vk_base.specs.Messages.{grants_write, segment_of}
 use Rattle.vk_pages.specs.Messages.{code_of, page_of, reply_of}
 use Rattle.vk_pages.specs.Pages.{with_page}
 use Rattle.vk_pages.specs.Servers.{IsServerAfter, answered, between, loaded, one_more, seen, stage_call}
-use Rattle.vk_pages.specs.declared.serving.Serving.{Serving}
-use Rattle.vk_pages.specs.declared.serving.Serving.TheVariants as stages
+use Rattle.vk_pages.specs.declared.serving.PageServing.{PageServing}
+use Rattle.vk_pages.specs.declared.serving.PageServing.TheVariants as stages
 use Rattle.vk_pages.proofs.Answering.{after_answer, after_none}
 use Rattle.v_laws.specs.Reached.{saw}
 use Rattle.v_laws.proofs.MoveLists.{all_bytes}
@@ -74,7 +74,7 @@ pub one_given : (given : List Answer) (a : Answer) → length (given ++ a ∷ []
 one_given given a = length-append given (a ∷ [])
 
 -- a call that is answered at once
-pub answer_more : (pages requests made replies more : ℕ) (kept now : List (List ℕ)) (stage next : Serving) (given : List Answer)
+pub answer_more : (pages requests made replies more : ℕ) (kept now : List (List ℕ)) (stage next : PageServing) (given : List Answer)
     (a : Answer)
     (o : Option Answer) (all : List Request) (y : Process) → o ≡ Some a → made ≡ length given →
     IsServerAfter kept pages requests replies stage given →
@@ -261,7 +261,7 @@ give_outcome k r p m to dest src count e (CallOutcome.allowed fit g) =
     record { answer = answers.Ok; seen = x.1; same = x.0 }
 
 -- then it receives again, or ends
-replies_on : (pages requests made replies : ℕ) (kept : List (List ℕ)) (stage : Serving) (given : List Answer) (all : List Request)
+replies_on : (pages requests made replies : ℕ) (kept : List (List ℕ)) (stage : PageServing) (given : List Answer) (all : List Request)
     (k : Kernel) (r : Pid) (c : Call) (e : Effect) (p y : Process) → IsCalling k r e p y → made ≡ length given →
     IsServerAfter kept pages requests replies stage given → Keeps pages kept (map_after pages all) → IsReplied k r c e →
     ((a : Answer) → seen kept (one_more requests replies) (between requests (one_more requests replies)) ≡ answered requests
@@ -303,7 +303,7 @@ there_of pages m page lawful same =
     let two = and_parts (code_of m == 1) (nat_lt (page_of m) pages) three.0 in
     subst (λ n. n < pages) same (ltb-true (page_of m) pages two.1)
 
-pub call_on : (pages requests made replies : ℕ) (kept : List (List ℕ)) (stage : Serving) (given : List Answer) (all : List Request)
+pub call_on : (pages requests made replies : ℕ) (kept : List (List ℕ)) (stage : PageServing) (given : List Answer) (all : List Request)
     (k : Kernel) (r : Pid) (c : Call) (e : Effect) (p y : Process) → IsCalling k r e p y → made ≡ length given →
     IsServerAfter kept pages requests replies stage given → Standing pages kept all p stage → stage_call kept stage ≡ Some c →
     CallOutcome k r p c e → ServerAt pages requests (suc made) (given ++ option_to_list (told r e)) all y

@@ -12,8 +12,8 @@ use Rattle.vk_base.proofs.OptionLemmas.{bind_is}
 use Rattle.vk_event.specs.declared.task.TheConstants.{PAGE_BYTES}
 use Rattle.vk_pages.specs.Messages.{page_of, reply_of}
 use Rattle.vk_pages.specs.Servers.{server_call, stage_call}
-use Rattle.vk_pages.specs.declared.serving.Serving.{Serving}
-use Rattle.vk_pages.specs.declared.serving.Serving.TheVariants as stages
+use Rattle.vk_pages.specs.declared.serving.PageServing.{PageServing}
+use Rattle.vk_pages.specs.declared.serving.PageServing.TheVariants as stages
 use Rattle.vk_pages.proofs.Answering.{called_after}
 use Rattle.v_laws.specs.Places.{IsReplyAt, before, given_by, taken_at}
 use Rattle.v_laws.proofs.MoveLists.{all_bytes}
@@ -59,7 +59,7 @@ stored_nothing pages all s reply dest bytes p None d next gives = absurd (none-s
 stored_nothing pages all s reply dest bytes p (Some b) d next gives =
     gives_nothing pages all s reply dest bytes p (calls.Store 0 b) d (same_Some (calls.Store 0 b) d next) refl gives
 
-gives_on : (pages : ℕ) (kept : List (List ℕ)) (stage : Serving) (all : List Request) (s : Pid) (reply : Message) (dest : ℕ)
+gives_on : (pages : ℕ) (kept : List (List ℕ)) (stage : PageServing) (all : List Request) (s : Pid) (reply : Message) (dest : ℕ)
     (bytes : List ℕ) (p : Process) (c : Call) → Standing pages kept all p stage → stage_call kept stage ≡ Some c →
     given_by p c ≡ Some (s, reply, dest, bytes) → Gives pages all s reply dest bytes
 gives_on pages kept stages.Receive all s reply dest bytes p c standing next gives =

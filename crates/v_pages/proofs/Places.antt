@@ -15,7 +15,7 @@ use Rattle.vk_base.proofs.PidLemmas.{same_pid_self}
 use Rattle.vk_event.specs.declared.task.TheConstants.{PAGE_BYTES}
 use Rattle.vk_pages.specs.Pages.{zero_pages}
 use Rattle.vk_pages.specs.Servers.{between, server_call}
-use Rattle.vk_pages.specs.declared.serving.Serving.TheVariants as stages
+use Rattle.vk_pages.specs.declared.serving.PageServing.TheVariants as stages
 use Rattle.v_laws.specs.Places.{before, process_after}
 use Rattle.v_laws.proofs.PlaceLemmas.{ComesOfStep, at_place, before_first, before_next, before_sound}
 use Rattle.v_laws.proofs.SoundLemmas.{initial_ready}

@@ -12,8 +12,8 @@ use Rattle.vk_event.specs.declared.task.TheConstants.{PAGE_BYTES}
 use Rattle.vk_pages.specs.Messages.{page_of}
 use Rattle.vk_pages.specs.Pages.{with_page, zero_page, zero_pages}
 use Rattle.vk_pages.specs.Servers.{IsServerAfter, taken}
-use Rattle.vk_pages.specs.declared.serving.Serving.{Serving}
-use Rattle.vk_pages.specs.declared.serving.Serving.TheVariants as stages
+use Rattle.vk_pages.specs.declared.serving.PageServing.{PageServing}
+use Rattle.vk_pages.specs.declared.serving.PageServing.TheVariants as stages
 use Rattle.v_pages.specs.PageMap.{PageMap, after_request, after_requests, code_for, is_lawful_read, is_lawful_write, map_after}
 use Rattle.v_pages.specs.Requests.{Request}
 use Rattle.v_pages.proofs.Lists.{set_here, set_other, get_replicate}
@@ -58,7 +58,7 @@ pub record IsReplying (pages : ℕ) (kept : List (List ℕ)) (taken : List Reque
   pub keeps : Keeps pages kept (map_after pages taken)
 
 -- before its next call
-abbrev pub Standing : ℕ → List (List ℕ) → List Request → Process → Serving → Type 0
+abbrev pub Standing : ℕ → List (List ℕ) → List Request → Process → PageServing → Type 0
 Standing pages kept taken p stages.Receive = Keeps pages kept (map_after pages taken)
 Standing pages kept taken p (stages.Load from page) = IsLoading pages kept taken p from page
 Standing pages kept taken p (stages.Store from page dest) = IsStoring pages kept taken p from page dest
@@ -68,14 +68,14 @@ Standing pages kept taken p stages.Exit = Unit {0}
 Standing pages kept taken p stages.Ended = Unit {0}
 
 -- while it waits for a request, and when it has one to collect
-pub record IsReceiving (pages : ℕ) (kept : List (List ℕ)) (taken : List Request) (p : Process) (stage : Serving) (c : Call) : Type 0 where
+pub record IsReceiving (pages : ℕ) (kept : List (List ℕ)) (taken : List Request) (p : Process) (stage : PageServing) (c : Call) : Type 0 where
   pub call : c ≡ calls.ReceiveSegment 0 PAGE_BYTES
   pub receives : stage ≡ stages.Receive
   pub keeps : Keeps pages kept (map_after pages taken)
   pub alive : p.alive ≡ true
   pub room : PAGE_BYTES ≤ length p.memory
 
-pub record HasReceived (pages : ℕ) (kept : List (List ℕ)) (taken : List Request) (p : Process) (stage : Serving) (a : Answer) : Type 0 where
+pub record HasReceived (pages : ℕ) (kept : List (List ℕ)) (taken : List Request) (p : Process) (stage : PageServing) (a : Answer) : Type 0 where
   pub receives : stage ≡ stages.Receive
   pub earlier : List Request
   pub request : Request
@@ -88,7 +88,7 @@ pub record HasReceived (pages : ℕ) (kept : List (List ℕ)) (taken : List Requ
   pub room : PAGE_BYTES ≤ length p.memory
 
 -- in each state of its process, where it has made so many calls and got so many answers
-abbrev pub Doing : ℕ → List (List ℕ) → List Request → Process → Serving → (made given : ℕ) → State → Type 0
+abbrev pub Doing : ℕ → List (List ℕ) → List Request → Process → PageServing → (made given : ℕ) → State → Type 0
 Doing pages kept taken p stage made given states.Ready = (made ≡ given) × Standing pages kept taken p stage
 Doing pages kept taken p stage made given (states.Blocked c) = (made ≡ given + 1) × IsReceiving pages kept taken p stage c
 Doing pages kept taken p stage made given (states.Done c a) = (made ≡ given + 1) × HasReceived pages kept taken p stage a
@@ -96,7 +96,7 @@ Doing pages kept taken p stage made given (states.Done c a) = (made ≡ given + 
 pub record ServerAt (pages requests made : ℕ) (given : List Answer) (taken : List Request) (p : Process) : Type 0 where
   pub kept : List (List ℕ)
   pub replies : ℕ
-  pub stage : Serving
+  pub stage : PageServing
   pub is : IsServerAfter kept pages requests replies stage given
   pub doing : Doing pages kept taken p stage made (length given) p.state
 

@@ -12,8 +12,8 @@ use Rattle.vk_base.specs.Pids.{same_pid}
 use Rattle.vk_base.specs.Steps.{effect}
 use Rattle.vk_base.proofs.PidLemmas.{same_pid_self}
 use Rattle.vk_pages.specs.Servers.{answered_all, new_server, server_call, stage_call}
-use Rattle.vk_pages.specs.declared.serving.Serving.{Serving}
-use Rattle.vk_pages.specs.declared.serving.Serving.TheVariants as stages
+use Rattle.vk_pages.specs.declared.serving.PageServing.{PageServing}
+use Rattle.vk_pages.specs.declared.serving.PageServing.TheVariants as stages
 use Rattle.v_laws.specs.Places.{before}
 use Rattle.v_laws.specs.Sound.{IsSound}
 use Rattle.v_laws.proofs.Changes.{StageOn}
@@ -31,7 +31,7 @@ stored_not : (o : Option (List ℕ)) (c : Call) → option_map (λ bytes. calls.
 stored_not None c e = absurd (none-some c e)
 stored_not (Some bytes) c e = ap gives_away (sym (same_Some (calls.Store 0 bytes) c e))
 
-never_gives : (kept : List (List ℕ)) (stage : Serving) (c : Call) → stage_call kept stage ≡ Some c → gives_away c ≡ false
+never_gives : (kept : List (List ℕ)) (stage : PageServing) (c : Call) → stage_call kept stage ≡ Some c → gives_away c ≡ false
 never_gives kept stages.Receive c e = ap gives_away (sym (same_Some _ c e))
 never_gives kept (stages.Load from page) c e = ap gives_away (sym (same_Some _ c e))
 never_gives kept (stages.Store from page dest) c e = stored_not _ c e

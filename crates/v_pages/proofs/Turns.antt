@@ -17,8 +17,8 @@ use Rattle.vk_base.proofs.OptionLemmas.{bind_is}
 use Rattle.vk_base.proofs.PidLemmas.{same_pid_self}
 use Rattle.vk_event.specs.declared.task.TheConstants.{PAGE_BYTES}
 use Rattle.vk_pages.specs.Servers.{IsServerAfter, seen, server_call, taken}
-use Rattle.vk_pages.specs.declared.serving.Serving.{Serving}
-use Rattle.vk_pages.specs.declared.serving.Serving.TheVariants as stages
+use Rattle.vk_pages.specs.declared.serving.PageServing.{PageServing}
+use Rattle.vk_pages.specs.declared.serving.PageServing.TheVariants as stages
 use Rattle.vk_pages.proofs.Answering.{called_after}
 use Rattle.v_laws.specs.Sound.{IsSound}
 use Rattle.v_laws.proofs.Sizes.{length-with_bytes, taken_most}
@@ -54,7 +54,7 @@ next_by pages requests made given all c d a b q w y cd ab qw next =
     (subst (λ z. ServerNext pages requests made given all d b z y) (sym qw) next))
 
 -- Its own call.
-pub ready_when : (pages : ℕ) (kept : List (List ℕ)) (all : List Request) (p : Process) (stage : Serving) (made given : ℕ) (t : State) →
+pub ready_when : (pages : ℕ) (kept : List (List ℕ)) (all : List Request) (p : Process) (stage : PageServing) (made given : ℕ) (t : State) →
     Doing pages kept all p stage made given t → given ≡ made → t ≡ states.Ready
 ready_when pages kept all p stage made given states.Ready doing same = refl
 ready_when pages kept all p stage made given (states.Blocked c) doing same = let more = doing.0 in absurd (omega arith)
@@ -75,13 +75,13 @@ call_next pages requests made given all k r c e p y at count next there later do
     (called_after at.kept pages requests at.replies at.stage given at.is ∙ next) (outcome_of k r p c e there does)))
 
 -- It takes a request.
-pub record IsTakingNext (pages : ℕ) (kept : List (List ℕ)) (all : List Request) (p : Process) (stage : Serving) (made given : ℕ) (c : Call) :
+pub record IsTakingNext (pages : ℕ) (kept : List (List ℕ)) (all : List Request) (p : Process) (stage : PageServing) (made given : ℕ) (c : Call) :
     Type 0 where
   pub more : made ≡ given + 1
   pub call : c ≡ calls.ReceiveSegment 0 PAGE_BYTES
   pub is : IsReceiving pages kept all p stage c
 
-pub waiting_when : (pages : ℕ) (kept : List (List ℕ)) (all : List Request) (p : Process) (stage : Serving) (made given : ℕ) (t : State)
+pub waiting_when : (pages : ℕ) (kept : List (List ℕ)) (all : List Request) (p : Process) (stage : PageServing) (made given : ℕ) (t : State)
     (c : Call) → Doing pages kept all p stage made given t → receiving t ≡ Some c → IsTakingNext pages kept all p stage made given c
 waiting_when pages kept all p stage made given states.Ready c doing is = absurd (none-some c is)
 waiting_when pages kept all p stage made given (states.Blocked d) c doing is =
@@ -232,12 +232,12 @@ take_next pages requests made given all k r e p y at there later does =
     q = record { name = t.name; message = t.exchange.shown; bytes = bytes_in (range_of 0 PAGE_BYTES) y.memory }
 
 -- It collects a request.
-record IsCollected (pages : ℕ) (kept : List (List ℕ)) (all : List Request) (p : Process) (stage : Serving) (made given : ℕ) (a : Answer) :
+record IsCollected (pages : ℕ) (kept : List (List ℕ)) (all : List Request) (p : Process) (stage : PageServing) (made given : ℕ) (a : Answer) :
     Type 0 where
   more : made ≡ given + 1
   is : HasReceived pages kept all p stage a
 
-collected_when : (pages : ℕ) (kept : List (List ℕ)) (all : List Request) (p : Process) (stage : Serving) (made given : ℕ) (t : State)
+collected_when : (pages : ℕ) (kept : List (List ℕ)) (all : List Request) (p : Process) (stage : PageServing) (made given : ℕ) (t : State)
     (d : Call × Answer) → Doing pages kept all p stage made given t → finished_call t ≡ Some d →
     IsCollected pages kept all p stage made given d.1
 collected_when pages kept all p stage made given states.Ready d doing is = absurd (none-some d is)
@@ -249,7 +249,7 @@ collected_when pages kept all p stage made given (states.Done c a) d doing is = 
 
 -- what it does with it
 collected_on : (pages requests made replies : ℕ) (kept : List (List ℕ)) (given : List Answer) (all : List Request) (p y : Process)
-    (stage : Serving) (a : Answer) (o : Option Answer) → o ≡ Some a → IsServerAfter kept pages requests replies stage given →
+    (stage : PageServing) (a : Answer) (o : Option Answer) → o ≡ Some a → IsServerAfter kept pages requests replies stage given →
     IsCollected pages kept all p stage made (length given) a → record p { state = states.Ready } ≡ y →
     ServerAt pages requests made (given ++ option_to_list o) all y
 collected_on pages requests made replies kept given all p y stage a o some is got after =
@@ -278,7 +278,7 @@ collect_next pages requests made given all k r e p y at there later does =
     (collected_on pages requests made at.replies at.kept given all p y at.stage b.answer (told r e) b.sees at.is got b.after))
 
 -- Others leave it alone.
-not_waiting : (pages : ℕ) (kept : List (List ℕ)) (all : List Request) (p : Process) (stage : Serving) (made given : ℕ) (t : State) →
+not_waiting : (pages : ℕ) (kept : List (List ℕ)) (all : List Request) (p : Process) (stage : PageServing) (made given : ℕ) (t : State) →
     Doing pages kept all p stage made given t → is_waiting t ≡ false
 not_waiting pages kept all p stage made given states.Ready doing = refl
 not_waiting pages kept all p stage made given (states.Blocked c) doing = ap (λ c. is_waiting (states.Blocked c)) doing.1.call

@@ -11,8 +11,8 @@ use Rattle.vk_base.proofs.PidLemmas.{same_pid_self}
 use Rattle.vk_pipe.specs.declared.limits.TheConstants.{WAITING_REQUESTS}
 use Rattle.vk_pipe.specs.declared.news.News.{News}
 use Rattle.vk_pipe.specs.declared.news.News.TheVariants as brings
-use Rattle.vk_pipe.specs.declared.serving.Serving.{Serving}
-use Rattle.vk_pipe.specs.declared.serving.Serving.TheVariants as stages
+use Rattle.vk_pipe.specs.declared.serving.PipeServing.{PipeServing}
+use Rattle.vk_pipe.specs.declared.serving.PipeServing.TheVariants as stages
 use Rattle.vk_pipe.specs.declared.serving.Verdict.TheVariants as verdicts
 use Rattle.vk_pipe.specs.declared.waiting.Read.{Read}
 use Rattle.vk_pipe.specs.declared.waiting.Write.{Write}
@@ -34,7 +34,7 @@ pub data Waits (s : Pid) (m : Message) (b : List ℕ) (ws : List Write) (rs : Li
   read : is_read m ≡ true → writes_of s ws ≡ [] → reads_of s rs ≡ read_of s m ∷ [] → Waits s m b ws rs
 
 -- whether a call is made for s
-abbrev pub about : Pid → Serving → Bool
+abbrev pub about : Pid → PipeServing → Bool
 about s (stages.Load from count) = same_pid from s
 about s (stages.Store r) = same_pid r.from s
 about s (stages.ReplyBytes r) = same_pid r.from s
@@ -58,7 +58,7 @@ pub record IsPut (s : Pid) (m : Message) (b : List ℕ) (put : List Write) (coun
   pub size : count ≡ length b
 
 -- what such a call has to do with the message, behind these writes that were put into the pipe
-abbrev pub Suits : Pid → Message → List ℕ → List Write → Serving → Type 0
+abbrev pub Suits : Pid → Message → List ℕ → List Write → PipeServing → Type 0
 Suits s m b put (stages.Load from count) = is_write m ≡ true
 Suits s m b put (stages.Store r) = IsAsked s m r
 Suits s m b put (stages.ReplyBytes r) = IsAsked s m r
@@ -67,7 +67,7 @@ Suits s m b put (stages.Reply to verdicts.Closed) = is_close m ≡ true
 Suits s m b put stage = Unit {0}
 
 -- the server keeps of s this request and no other
-pub data Has (s : Pid) (m : Message) (b : List ℕ) (put : List Write) (p : Pipe) (stage : Serving) : Type 0 where
+pub data Has (s : Pid) (m : Message) (b : List ℕ) (put : List Write) (p : Pipe) (stage : PipeServing) : Type 0 where
   elsewhere : about s stage ≡ false → Waits s m b p.writes p.reads → Has s m b put p stage
   serves : about s stage ≡ true → writes_of s p.writes ≡ [] → reads_of s p.reads ≡ [] → Suits s m b put stage → Has s m b put p stage
 
@@ -180,7 +180,7 @@ abbrev pub HasNews : Pid → Message → List ℕ → List Write → Pipe → Ne
 HasNews s m b put p n = HasBy s m b put (with_news p n) (rule_for (with_news p n) n)
 
 -- a call that is due puts nothing in
-due_has : (s : Pid) (m : Message) (b : List ℕ) (put : List Write) (p : Pipe) (stage : Serving) → Has s m b put p stage →
+due_has : (s : Pid) (m : Message) (b : List ℕ) (put : List Write) (p : Pipe) (stage : PipeServing) → Has s m b put p stage →
     Has s m b (put ++ []) p stage
 due_has s m b put p stage has = subst (λ (ws : List Write). Has s m b ws p stage) (sym (append-nil put)) has
 
@@ -202,7 +202,7 @@ own_judged s m b put p count none =
     either_way (HasNews s m b put p) (is_write m) _ _ (λ writes. due (stages.Load s count) refl writes)
     (λ no_write. reads (asks_read (is_write m) (is_read m) (is_close m) asks open_still no_write))))))
   where
-    due : (stage : Serving) → about s stage ≡ same_pid s s → Suits s m b put stage → HasNews s m b put p (brings.Due stage)
+    due : (stage : PipeServing) → about s stage ≡ same_pid s s → Suits s m b put stage → HasNews s m b put p (brings.Due stage)
     due stage mine suits =
         due_has s m b put p stage (Has.serves (mine ∙ same_pid_self s) none.writes none.reads suits)
 
@@ -227,7 +227,7 @@ other_judged s m b put p from asked count other waits =
     either_way (HasNews s m b put p) (waiting p == WAITING_REQUESTS) _ _ (λ e. due (stages.Reply from verdicts.Full) other) (λ e.
     either_way (HasNews s m b put p) (is_write asked) _ _ (λ e. due (stages.Load from count) other) (λ e. reads)))))
   where
-    due : (stage : Serving) → about s stage ≡ false → HasNews s m b put p (brings.Due stage)
+    due : (stage : PipeServing) → about s stage ≡ false → HasNews s m b put p (brings.Due stage)
     due stage not = due_has s m b put p stage (Has.elsewhere not waits)
 
     closes : HasNews s m b put p (brings.Close from)
@@ -247,13 +247,13 @@ brings_of s (answers.ReceivedSegment from asked count) = same_pid from s
 brings_of s a = false
 
 -- it is none that brings another request of s, and what it loads for s are these bytes
-abbrev pub NotAgain : Pid → List ℕ → Serving → Answer → Type 0
+abbrev pub NotAgain : Pid → List ℕ → PipeServing → Answer → Type 0
 NotAgain s b stages.Receive a = brings_of s a ≡ false
 NotAgain s b (stages.Load from count) a = same_pid from s ≡ true → (x : List ℕ) → a ≡ answers.Loaded x → x ≡ b
 NotAgain s b stage a = Unit {0}
 
 -- what waits, whatever call is made
-pub waits_of : (s : Pid) (m : Message) (b : List ℕ) (put : List Write) (p : Pipe) (stage : Serving) → Has s m b put p stage →
+pub waits_of : (s : Pid) (m : Message) (b : List ℕ) (put : List Write) (p : Pipe) (stage : PipeServing) → Has s m b put p stage →
     Waits s m b p.writes p.reads
 waits_of s m b put p stage (Has.elsewhere not waits) = waits
 waits_of s m b put p stage (Has.serves mine a c suits) = Waits.nothing a c
@@ -300,7 +300,7 @@ stored_has : (s : Pid) (m : Message) (b : List ℕ) (put : List Write) (p : Pipe
 stored_has s m b put p r (Has.elsewhere other waits) = Has.elsewhere other waits
 stored_has s m b put p r (Has.serves mine a c asked) = Has.serves mine a c asked
 
-pub has_next : (s : Pid) (m : Message) (b : List ℕ) (put : List Write) (p : Pipe) (stage : Serving) (a : Answer) →
+pub has_next : (s : Pid) (m : Message) (b : List ℕ) (put : List Write) (p : Pipe) (stage : PipeServing) (a : Answer) →
     Has s m b put p stage → NotAgain s b stage a → HasNews s m b put p (news_of p stage a)
 has_next s m b put p stages.Receive a has again = received_has s m b put p a (waits_of s m b put p stages.Receive has) again
 has_next s m b put p (stages.Load from count) a has again = loaded_has s m b put p from count a has again
@@ -314,13 +314,13 @@ has_next s m b put p stages.Exit a has again = ended_has s m b put p (waits_of s
 has_next s m b put p stages.Ended a has again = ended_has s m b put p (waits_of s m b put p stages.Ended has)
 
 -- what a call for s has to do with its message
-pub suits_own : (s : Pid) (m : Message) (b : List ℕ) (put : List Write) (p : Pipe) (stage : Serving) → Has s m b put p stage →
+pub suits_own : (s : Pid) (m : Message) (b : List ℕ) (put : List Write) (p : Pipe) (stage : PipeServing) → Has s m b put p stage →
     about s stage ≡ true → Suits s m b put stage
 suits_own s m b put p stage (Has.elsewhere other waits) mine = absurd (both_ways (about s stage) other mine)
 suits_own s m b put p stage (Has.serves own a c suits) mine = suits
 
 -- whether it loads the bytes of a write of s
-abbrev pub loads_of : Pid → Serving → Bool
+abbrev pub loads_of : Pid → PipeServing → Bool
 loads_of s (stages.Load from count) = same_pid from s
 loads_of s stage = false
 
@@ -348,7 +348,7 @@ delivered_loads : (s : Pid) (p : Pipe) (r : Read) (a : Answer) → LoadsNone s p
 delivered_loads s p r answers.Ok = settled_loads s (with_news p (brings.Delivered r))
 delivered_loads s p r a = settled_loads s (with_news p brings.Replied)
 
-pub loads_next : (s : Pid) (b : List ℕ) (p : Pipe) (stage : Serving) (a : Answer) → NotAgain s b stage a →
+pub loads_next : (s : Pid) (b : List ℕ) (p : Pipe) (stage : PipeServing) (a : Answer) → NotAgain s b stage a →
     LoadsNone s p (news_of p stage a)
 loads_next s b p stages.Receive a again = received_loads s p a again
 loads_next s b p (stages.Load from count) a again = loaded_loads s p from count a
@@ -359,7 +359,7 @@ loads_next s b p stages.Exit a again = refl
 loads_next s b p stages.Ended a again = refl
 
 -- what it loads of a request that was just taken has this many bytes
-abbrev pub LoadsOnly : ℕ → Serving → Type 0
+abbrev pub LoadsOnly : ℕ → PipeServing → Type 0
 LoadsOnly count (stages.Load from n) = n ≡ count
 LoadsOnly count stage = Unit {0}
 

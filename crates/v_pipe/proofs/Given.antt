@@ -24,8 +24,8 @@ use Rattle.v_pages.proofs.Lists.{up_to_some}
 use Rattle.v_pages.proofs.Places.{answer_here, call_here}
 use Rattle.v_pages.proofs.Replied.{shows_refusal}
 use Rattle.v_pages.proofs.Staying.{NeverHands, gives_away, never_hands, task_keeps}
-use Rattle.vk_pipe.specs.declared.serving.Serving.{Serving}
-use Rattle.vk_pipe.specs.declared.serving.Serving.TheVariants as stages
+use Rattle.vk_pipe.specs.declared.serving.PipeServing.{PipeServing}
+use Rattle.vk_pipe.specs.declared.serving.PipeServing.TheVariants as stages
 use Rattle.vk_pipe.specs.declared.serving.Verdict.{Verdict}
 use Rattle.vk_pipe.specs.declared.waiting.Read.{Read}
 use Rattle.vk_pipe.specs.Pipes.{Pipe, at, piece_len, piece_of, pipe_call, server_after, stage_call}
@@ -34,7 +34,7 @@ use Rattle.v_pipe.proofs.Standing.{Doing, Gives}
 use Rattle.v_pipe.proofs.Turns.{pipe_before, ready_when}
 
 -- It calls for no move, and hands nothing on.
-never_gives : (q : Pipe) (stage : Serving) (c : Call) → stage_call q stage ≡ Some c → gives_away c ≡ false
+never_gives : (q : Pipe) (stage : PipeServing) (c : Call) → stage_call q stage ≡ Some c → gives_away c ≡ false
 never_gives q stages.Receive c e = ap gives_away (sym (same_Some _ c e))
 never_gives q (stages.Load from count) c e = ap gives_away (sym (same_Some _ c e))
 never_gives q (stages.Store x) c e = ap gives_away (sym (same_Some _ c e))
@@ -51,7 +51,7 @@ pipe_keeps requests specs ss r follows = never_hands ss r (task_keeps (pipe_call
     never_gives s.pipe s.stage c told) follows)
 
 -- A reply: the bytes of a read, or none.
-pub data Reply (q : Pipe) (stage : Serving) (s : Pid) (reply : Message) (dest : ℕ) (bytes : List ℕ) : Type 0 where
+pub data Reply (q : Pipe) (stage : PipeServing) (s : Pid) (reply : Message) (dest : ℕ) (bytes : List ℕ) : Type 0 where
   of_read : (x : Read) → stage ≡ stages.ReplyBytes x → x.from ≡ s → reply ≡ reply_of 0 (piece_len q x) → dest ≡ x.start →
       bytes ≡ piece_of q x → Reply q stage s reply dest bytes
   without : (verdict : Verdict) → stage ≡ stages.Reply s verdict → reply ≡ message_for verdict → bytes ≡ [] →
@@ -60,12 +60,12 @@ pub data Reply (q : Pipe) (stage : Serving) (s : Pid) (reply : Message) (dest : 
 abbrev Given : Type 0
 Given = Pid × Message × ℕ × List ℕ
 
-none_given : (q : Pipe) (stage : Serving) (s : Pid) (reply : Message) (dest : ℕ) (bytes : List ℕ) (p : Process) (c d : Call) →
+none_given : (q : Pipe) (stage : PipeServing) (s : Pid) (reply : Message) (dest : ℕ) (bytes : List ℕ) (p : Process) (c d : Call) →
     c ≡ d → given_by p c ≡ None → given_by p d ≡ Some (s, reply, dest, bytes) → Reply q stage s reply dest bytes
 none_given q stage s reply dest bytes p c d same none gives =
     absurd (none-some (s, reply, dest, bytes) (sym none ∙ ap (given_by p) same ∙ gives))
 
-reply_on : (q : Pipe) (stage : Serving) (s : Pid) (reply : Message) (dest : ℕ) (bytes : List ℕ) (p : Process) (c : Call) →
+reply_on : (q : Pipe) (stage : PipeServing) (s : Pid) (reply : Message) (dest : ℕ) (bytes : List ℕ) (p : Process) (c : Call) →
     stage_call q stage ≡ Some c → given_by p c ≡ Some (s, reply, dest, bytes) →
     ((x : Read) → stage ≡ stages.ReplyBytes x → bytes_in (range_of 0 (piece_len q x)) p.memory ≡ piece_of q x) →
     Reply q stage s reply dest bytes
@@ -111,7 +111,7 @@ segment_room k r p m to dest count fit =
     let within = leb-true (0 + count) (length p.memory) fits.2 in
     omega (arith, within)
 
-stands_when : (q : Pipe) (stage : Serving) (k : Kernel) (r : Pid) (p : Process) (c : Call) → Gives (at q stage) p →
+stands_when : (q : Pipe) (stage : PipeServing) (k : Kernel) (r : Pid) (p : Process) (c : Call) → Gives (at q stage) p →
     stage_call q stage ≡ Some c → IsFit k r p c →
     (x : Read) → stage ≡ stages.ReplyBytes x → bytes_in (range_of 0 (piece_len q x)) p.memory ≡ piece_of q x
 stands_when q stage k r p c gives next fit x is =

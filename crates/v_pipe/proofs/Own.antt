@@ -27,8 +27,8 @@ use Rattle.v_pages.proofs.Own.{which_step}
 use Rattle.v_pages.proofs.Places.{answer_here}
 use Rattle.v_pages.proofs.Seen.{answer_none}
 use Rattle.v_pages.proofs.Taken.{IsRequestAt, never_both, request_is, request_of, request_taken}
-use Rattle.vk_pipe.specs.declared.serving.Serving.{Serving}
-use Rattle.vk_pipe.specs.declared.serving.Serving.TheVariants as stages
+use Rattle.vk_pipe.specs.declared.serving.PipeServing.{PipeServing}
+use Rattle.vk_pipe.specs.declared.serving.PipeServing.TheVariants as stages
 use Rattle.vk_pipe.specs.declared.serving.Verdict.{Verdict}
 use Rattle.vk_pipe.specs.declared.serving.Verdict.TheVariants as verdicts
 use Rattle.vk_pipe.specs.declared.waiting.Read.{Read}
@@ -179,11 +179,11 @@ not_read s m b put verdicts.Full suits code reads = let same : 5 ≡ 0 = code in
 not_read s m b put verdicts.End suits code reads = let same : 6 ≡ 0 = code in absurd (omega (arith, same))
 not_read s m b put verdicts.Shut suits code reads = let same : 7 ≡ 0 = code in absurd (omega (arith, same))
 
-pub suits_at : (s : Pid) (m : Message) (b : List ℕ) (put : List Write) (q : Pipe) (stage next : Serving) → Has s m b put q stage →
+pub suits_at : (s : Pid) (m : Message) (b : List ℕ) (put : List Write) (q : Pipe) (stage next : PipeServing) → Has s m b put q stage →
     stage ≡ next → about s next ≡ true → Suits s m b put next
 suits_at s m b put q stage next has is mine = suits_own s m b put q next (subst (Has s m b put q) is has) mine
 
-own_by : (s : Pid) (m : Message) (b : List ℕ) (put : List Write) (q : Pipe) (stage : Serving) (reply : Message) (dest : ℕ)
+own_by : (s : Pid) (m : Message) (b : List ℕ) (put : List Write) (q : Pipe) (stage : PipeServing) (reply : Message) (dest : ℕ)
     (bytes : List ℕ) → Has s m b put q stage → IsPipeStocked q stage → Reply q stage s reply dest bytes → IsOwnReply m reply dest bytes
 own_by s m b put q stage reply dest bytes has stocked (Reply.of_read x is from told place same) =
     let asked : IsAsked s m x =

@@ -9,7 +9,7 @@ use Rattle.vk_base.specs.declared.answer.Answer.TheVariants as answers
 use Rattle.vk_base.specs.Ranges.{range_of, bytes_in}
 use Rattle.v_pages.specs.Followed.{answer_at, answers_before}
 use Rattle.v_pages.proofs.Lists.{up_to_later}
-use Rattle.vk_pipe.specs.declared.serving.Serving.{Serving}
+use Rattle.vk_pipe.specs.declared.serving.PipeServing.{PipeServing}
 use Rattle.vk_pipe.specs.Kept.{pipe_after}
 use Rattle.vk_pipe.specs.Pipes.{Pipe, Server, answered, answered_all, new_server, piece_of, server_after}
 use Rattle.vk_pipe.specs.Told.{Piece, along, bytes_had, news_at, piece_in, pieces}
@@ -44,12 +44,12 @@ had_one requests given a =
     ∙ ap (λ (l : List Piece). bytes_had requests given ++ bytes_of l) (append-nil (handed (server_after requests given) a))
 
 -- by a reply that is answered ok
-handed_by : (q : Pipe) (stage : Serving) (s : Pid) (reply : Message) (dest : ℕ) (bytes : List ℕ) → Reply q stage s reply dest bytes →
+handed_by : (q : Pipe) (stage : PipeServing) (s : Pid) (reply : Message) (dest : ℕ) (bytes : List ℕ) → Reply q stage s reply dest bytes →
     bytes_of (handed (record { pipe = q; stage = stage }) answers.Ok) ≡ bytes
 handed_by q stage s reply dest bytes (Reply.of_read x is from told place same) =
-    ap (λ (t : Serving). bytes_of (handed (record { pipe = q; stage = t }) answers.Ok)) is ∙ append-nil (piece_of q x) ∙ sym same
+    ap (λ (t : PipeServing). bytes_of (handed (record { pipe = q; stage = t }) answers.Ok)) is ∙ append-nil (piece_of q x) ∙ sym same
 handed_by q stage s reply dest bytes (Reply.without verdict is told none) =
-    ap (λ (t : Serving). bytes_of (handed (record { pipe = q; stage = t }) answers.Ok)) is ∙ sym none
+    ap (λ (t : PipeServing). bytes_of (handed (record { pipe = q; stage = t }) answers.Ok)) is ∙ sym none
 
 -- Between what stands before it and behind it.
 between : (xs ys zs : List ℕ) → bytes_in (range_of (length xs) (length ys)) ((xs ++ ys) ++ zs) ≡ ys

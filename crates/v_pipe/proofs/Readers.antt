@@ -26,7 +26,7 @@ use Rattle.v_pages.proofs.Replied.{reply_room}
 use Rattle.v_pages.proofs.Senders.{replier}
 use Rattle.v_pages.proofs.Touched.{has_reply}
 use Rattle.v_pages.proofs.Taken.{one_take, request_at_take, request_is}
-use Rattle.vk_pipe.specs.declared.serving.Serving.{Serving}
+use Rattle.vk_pipe.specs.declared.serving.PipeServing.{PipeServing}
 use Rattle.vk_pipe.specs.Kept.{pipe_after}
 use Rattle.vk_pipe.specs.Pipes.{Pipe, pipe_call}
 use Rattle.vk_pipe.specs.Requests.{reply_of}
@@ -38,7 +38,7 @@ use Rattle.v_pipe.proofs.Pieces.{piece_here}
 use Rattle.v_pipe.proofs.Standing.{piece_size}
 
 -- a reply with bytes says how many
-counted : (q : Pipe) (stage : Serving) (s : Pid) (reply : Message) (dest : ℕ) (bytes : List ℕ) → Reply q stage s reply dest bytes →
+counted : (q : Pipe) (stage : PipeServing) (s : Pid) (reply : Message) (dest : ℕ) (bytes : List ℕ) → Reply q stage s reply dest bytes →
     (bytes ≡ [] → ⊥) → reply ≡ reply_of 0 (length bytes)
 counted q stage s reply dest bytes (Reply.of_read x is from told place same) some =
     told ∙ ap (reply_of 0) (sym (ap length same ∙ piece_size q x))

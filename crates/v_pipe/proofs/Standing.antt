@@ -16,8 +16,8 @@ use Rattle.v_pages.proofs.Calling.{CallOutcome, IsCalling, exited_ready, give_ou
 use Rattle.v_pages.proofs.Lists.{read_back}
 use Rattle.vk_pipe.specs.declared.news.News.{News}
 use Rattle.vk_pipe.specs.declared.news.News.TheVariants as brings
-use Rattle.vk_pipe.specs.declared.serving.Serving.{Serving}
-use Rattle.vk_pipe.specs.declared.serving.Serving.TheVariants as stages
+use Rattle.vk_pipe.specs.declared.serving.PipeServing.{PipeServing}
+use Rattle.vk_pipe.specs.declared.serving.PipeServing.TheVariants as stages
 use Rattle.vk_pipe.specs.declared.waiting.Read.{Read}
 use Rattle.vk_pipe.specs.Pipes.{Pipe, Rule, Server, after_news, answered, at, by_rule, delivered, loaded, new_server, piece_len, piece_of, received, server_after, settled, stage_call, with_news}
 use Rattle.vk_pipe.specs.Requests.{message_for, read_of, reply_of}
@@ -41,11 +41,11 @@ abbrev pub PipeAt : ℕ → ℕ → List Answer → Process → Type 0
 PipeAt requests made given p = Doing (server_after requests given) p made (length given) p.state
 
 -- What it does next is no reply with bytes, unless it stored them.
-abbrev pub gives_bytes : Serving → Bool
+abbrev pub gives_bytes : PipeServing → Bool
 gives_bytes (stages.ReplyBytes x) = true
 gives_bytes stage = false
 
-abbrev pub stores_bytes : Serving → Bool
+abbrev pub stores_bytes : PipeServing → Bool
 stores_bytes (stages.Store x) = true
 stores_bytes stage = false
 
@@ -73,7 +73,7 @@ delivered_none : (q : Pipe) (x : Read) (a : Answer) → NoBytes q (delivered x a
 delivered_none q x answers.Ok = settled_none (with_news q (brings.Delivered x))
 delivered_none q x a = settled_none (with_news q brings.Replied)
 
-none_next : (q : Pipe) (stage : Serving) (a : Answer) → stores_bytes stage ≡ false → gives_bytes (answered (at q stage) a).stage ≡ false
+none_next : (q : Pipe) (stage : PipeServing) (a : Answer) → stores_bytes stage ≡ false → gives_bytes (answered (at q stage) a).stage ≡ false
 none_next q stages.Receive a no_store = received_none q a
 none_next q (stages.Load from count) a no_store = loaded_none q from count a
 none_next q (stages.Store x) a no_store = absurd (both_ways true no_store refl)
@@ -86,10 +86,10 @@ pub gives_nothing : (s : Server) (y : Process) → gives_bytes s.stage ≡ false
 gives_nothing s y none x is alive room = absurd (both_ways (gives_bytes s.stage) none (ap gives_bytes is))
 
 -- An answer.
-abbrev pub Stands : ℕ → List Answer → Pipe → Serving → Type 0
+abbrev pub Stands : ℕ → List Answer → Pipe → PipeServing → Type 0
 Stands requests given q stage = server_after requests given ≡ at q stage
 
-answer_more : (requests made : ℕ) (given : List Answer) (q : Pipe) (stage : Serving) (a : Answer) (o : Option Answer) (y : Process) →
+answer_more : (requests made : ℕ) (given : List Answer) (q : Pipe) (stage : PipeServing) (a : Answer) (o : Option Answer) (y : Process) →
     Stands requests given q stage → o ≡ Some a → made ≡ length given → y.state ≡ states.Ready → Gives (answered (at q stage) a) y →
     PipeAt requests (suc made) (given ++ option_to_list o) y
 answer_more requests made given q stage a o y is some count ready gives =
@@ -106,7 +106,7 @@ record IsAnswered (r : Pid) (e : Effect) (y : Process) : Type 0 where
   ready : y.state ≡ states.Ready
 
 -- a call that is answered at once, and that stores no bytes
-quiet_on : (requests made : ℕ) (given : List Answer) (q : Pipe) (stage : Serving) (r : Pid) (e : Effect) (y : Process) →
+quiet_on : (requests made : ℕ) (given : List Answer) (q : Pipe) (stage : PipeServing) (r : Pid) (e : Effect) (y : Process) →
     Stands requests given q stage → made ≡ length given → stores_bytes stage ≡ false → IsAnswered r e y →
     PipeAt requests (suc made) (given ++ option_to_list (told r e)) y
 quiet_on requests made given q stage r e y is count no_store a =
@@ -232,7 +232,7 @@ exit_is k r e p y call (CallOutcome.allowed fit g) =
     }
 
 -- Each of its calls.
-pub call_on : (requests made : ℕ) (given : List Answer) (q : Pipe) (stage : Serving) (k : Kernel) (r : Pid) (c : Call) (e : Effect)
+pub call_on : (requests made : ℕ) (given : List Answer) (q : Pipe) (stage : PipeServing) (k : Kernel) (r : Pid) (c : Call) (e : Effect)
     (p y : Process) → Stands requests given q stage → IsCalling k r e p y → made ≡ length given → stage_call q stage ≡ Some c →
     CallOutcome k r p c e → PipeAt requests (suc made) (given ++ option_to_list (told r e)) y
 call_on requests made given q stages.Receive k r c e p y is call count next out =
@@ -271,12 +271,12 @@ collected_on requests made given q a o y is some count ready =
 -- What comes of each call, for who follows one request.
 
 -- a receive that is refused brings no request, and a load brings the bytes that stand in its memory
-abbrev pub Tells : Process → Serving → Answer → Type 0
+abbrev pub Tells : Process → PipeServing → Answer → Type 0
 Tells p stages.Receive a = (s : Pid) → brings_of s a ≡ false
 Tells p (stages.Load from n) a = (x : List ℕ) → a ≡ answers.Loaded x → x ≡ bytes_in (range_of 0 n) p.memory
 Tells p stage a = Unit {0}
 
-pub data CallDone (stage : Serving) (r : Pid) (e : Effect) (p y : Process) : Type 0 where
+pub data CallDone (stage : PipeServing) (r : Pid) (e : Effect) (p y : Process) : Type 0 where
   answered_by : (a : Answer) → told r e ≡ Some a → y.state ≡ states.Ready → Tells p stage a → CallDone stage r e p y
   blocks : told r e ≡ None → stage ≡ stages.Receive → y.state ≡ states.Blocked (calls.ReceiveSegment 0 SEGMENT_BYTES) →
       CallDone stage r e p y
@@ -330,7 +330,7 @@ store_is k r e p y bytes call (CallOutcome.allowed fit g) =
           ∙ call.ready;
     }
 
-pub call_done : (q : Pipe) (stage : Serving) (k : Kernel) (r : Pid) (c : Call) (e : Effect) (p y : Process) → IsCalling k r e p y →
+pub call_done : (q : Pipe) (stage : PipeServing) (k : Kernel) (r : Pid) (c : Call) (e : Effect) (p y : Process) → IsCalling k r e p y →
     stage_call q stage ≡ Some c → CallOutcome k r p c e → CallDone stage r e p y
 call_done q stages.Receive k r c e p y call next out =
     receive_done k r e p y call (subst (λ c. CallOutcome k r p c e) (sym (same_Some (calls.ReceiveSegment 0 SEGMENT_BYTES) c next)) out)

@@ -4,15 +4,15 @@ use Rattle.vk_types.specs.Types.{Answer, Pid}
 use Rattle.vk_base.specs.declared.answer.Answer.TheVariants as answers
 use Rattle.vk_pipe.specs.declared.news.News.{News}
 use Rattle.vk_pipe.specs.declared.news.News.TheVariants as brings
-use Rattle.vk_pipe.specs.declared.serving.Serving.{Serving}
-use Rattle.vk_pipe.specs.declared.serving.Serving.TheVariants as stages
+use Rattle.vk_pipe.specs.declared.serving.PipeServing.{PipeServing}
+use Rattle.vk_pipe.specs.declared.serving.PipeServing.TheVariants as stages
 use Rattle.vk_pipe.specs.declared.waiting.Read.{Read}
 use Rattle.vk_pipe.specs.Pipes.{Pipe, Rule, Server, answered, answered_all, by_rule, delivered, empty_pipe, loaded, new_server, news_of, received, rule_for, server_after, settled, with_news}
 use Rattle.vk_pipe.specs.Requests.{read_of}
 use Rattle.vk_pipe.proofs.Rules.{either_way, judged_goes, settled_goes}
 
 -- what a read is served from has a byte
-abbrev pub IsPipeStocked : Pipe → Serving → Type 0
+abbrev pub IsPipeStocked : Pipe → PipeServing → Type 0
 IsPipeStocked p (stages.Store r) = 0 < length p.bytes
 IsPipeStocked p (stages.ReplyBytes r) = 0 < length p.bytes
 IsPipeStocked p stage = Unit {0}
@@ -44,7 +44,7 @@ delivered_stocked : (p : Pipe) (r : Read) (a : Answer) → IsStockedWith p (deli
 delivered_stocked p r answers.Ok = settled_stocked (with_news p (brings.Delivered r))
 delivered_stocked p r a = settled_stocked (with_news p brings.Replied)
 
-news_stocked : (p : Pipe) (stage : Serving) (a : Answer) → IsPipeStocked p stage → IsStockedWith p (news_of p stage a)
+news_stocked : (p : Pipe) (stage : PipeServing) (a : Answer) → IsPipeStocked p stage → IsStockedWith p (news_of p stage a)
 news_stocked p stages.Receive a some = received_stocked p a
 news_stocked p (stages.Load from count) a some = loaded_stocked p from count a
 news_stocked p (stages.Store r) a some = some

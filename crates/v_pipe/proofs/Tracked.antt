@@ -25,8 +25,8 @@ use Rattle.v_pages.proofs.Lists.{read_back}
 use Rattle.v_pages.proofs.Own.{OwnStep, other_told}
 use Rattle.v_pages.proofs.Touched.{touched}
 use Rattle.v_pages.proofs.Turns.{after_take, left_alone}
-use Rattle.vk_pipe.specs.declared.serving.Serving.{Serving}
-use Rattle.vk_pipe.specs.declared.serving.Serving.TheVariants as stages
+use Rattle.vk_pipe.specs.declared.serving.PipeServing.{PipeServing}
+use Rattle.vk_pipe.specs.declared.serving.PipeServing.TheVariants as stages
 use Rattle.vk_pipe.specs.declared.waiting.Write.{Write}
 use Rattle.vk_pipe.specs.Kept.{pipe_after}
 use Rattle.vk_pipe.specs.Pipes.{Pipe, Server, answered, at, new_server, news_of, server_after}
@@ -39,7 +39,7 @@ use Rattle.v_pipe.proofs.Standing.{CallDone, PipeAt, Stands, Tells, call_done}
 use Rattle.v_pipe.proofs.Turns.{HasReceived, MayCall, IsCollected, collected_is, not_waiting, ready_when, received_when, receiving_when}
 
 -- where it loads the bytes of a write of s, they stand in its memory
-abbrev pub LoadsStand : Pid → List ℕ → Serving → Process → Type 0
+abbrev pub LoadsStand : Pid → List ℕ → PipeServing → Process → Type 0
 LoadsStand s b (stages.Load from count) p = same_pid from s ≡ true → bytes_in (range_of 0 count) p.memory ≡ b
 LoadsStand s b stage p = Unit {0}
 
@@ -64,7 +64,7 @@ put_more requests given a =
     along_append (λ t a. put_by (rule_at t a)) (new_server requests) given (a ∷ [])
     ∙ ap (λ (l : List Write). writes_put requests given ++ l) (append-nil (put_by (rule_at (server_after requests given) a)))
 
-tracked_more : (requests : ℕ) (s : Pid) (m : Message) (b : List ℕ) (given : List Answer) (q : Pipe) (stage : Serving) (a : Answer)
+tracked_more : (requests : ℕ) (s : Pid) (m : Message) (b : List ℕ) (given : List Answer) (q : Pipe) (stage : PipeServing) (a : Answer)
     (o : Option Answer) (y : Process) → Stands requests given q stage → o ≡ Some a →
     HasNews s m b (writes_put requests given) q (news_of q stage a) →
     LoadsStand s b (answered (at q stage) a).stage y → y.state ≡ states.Ready → TrackedBy requests s m b (given ++ option_to_list o) y
@@ -86,7 +86,7 @@ tracked_none requests s m b given o y none is =
     (subst (λ (gs : List Answer). TrackedBy requests s m b gs y) (sym (append-nil given)) is)
 
 -- A call of its own.
-not_again : (s : Pid) (b : List ℕ) (p : Process) (stage : Serving) (a : Answer) → LoadsStand s b stage p → Tells p stage a →
+not_again : (s : Pid) (b : List ℕ) (p : Process) (stage : PipeServing) (a : Answer) → LoadsStand s b stage p → Tells p stage a →
     NotAgain s b stage a
 not_again s b p stages.Receive a loads tells = tells s
 not_again s b p (stages.Load from count) a loads tells = λ mine x is. tells x is ∙ loads mine
@@ -96,7 +96,7 @@ not_again s b p (stages.Reply to verdict) a loads tells = tt
 not_again s b p stages.Exit a loads tells = tt
 not_again s b p stages.Ended a loads tells = tt
 
-loads_nothing : (s : Pid) (b : List ℕ) (stage : Serving) (p : Process) → loads_of s stage ≡ false → LoadsStand s b stage p
+loads_nothing : (s : Pid) (b : List ℕ) (stage : PipeServing) (p : Process) → loads_of s stage ≡ false → LoadsStand s b stage p
 loads_nothing s b stages.Receive p none = tt
 loads_nothing s b (stages.Load from count) p none = λ mine. absurd (both_ways (same_pid from s) none mine)
 loads_nothing s b (stages.Store x) p none = tt
@@ -105,7 +105,7 @@ loads_nothing s b (stages.Reply to verdict) p none = tt
 loads_nothing s b stages.Exit p none = tt
 loads_nothing s b stages.Ended p none = tt
 
-loads_own : (s : Pid) (b : List ℕ) (stage : Serving) (p : Process) (count : ℕ) → LoadsOnly count stage →
+loads_own : (s : Pid) (b : List ℕ) (stage : PipeServing) (p : Process) (count : ℕ) → LoadsOnly count stage →
     bytes_in (range_of 0 count) p.memory ≡ b → LoadsStand s b stage p
 loads_own s b stages.Receive p count only stands = tt
 loads_own s b (stages.Load from n) p count only stands = λ mine. ap (λ n. bytes_in (range_of 0 n) p.memory) only ∙ stands
@@ -115,7 +115,7 @@ loads_own s b (stages.Reply to verdict) p count only stands = tt
 loads_own s b stages.Exit p count only stands = tt
 loads_own s b stages.Ended p count only stands = tt
 
-kept_on : (requests : ℕ) (s : Pid) (m : Message) (b : List ℕ) (given : List Answer) (q : Pipe) (stage : Serving) (a : Answer)
+kept_on : (requests : ℕ) (s : Pid) (m : Message) (b : List ℕ) (given : List Answer) (q : Pipe) (stage : PipeServing) (a : Answer)
     (o : Option Answer) (y : Process) → Stands requests given q stage → o ≡ Some a → Has s m b (writes_put requests given) q stage →
     NotAgain s b stage a → y.state ≡ states.Ready → TrackedBy requests s m b (given ++ option_to_list o) y
 kept_on requests s m b given q stage a o y is some has again ready =
@@ -136,7 +136,7 @@ call_tracked requests s m b given r e p y ready (CallDone.answered_by a tells af
 call_tracked requests s m b given r e p y ready (CallDone.blocks none receives after) (Tracked.kept has loads others) =
     let t = server_after requests given in
     tracked_none requests s m b given (told r e) y none
-    (Tracked.kept has (subst (λ (stage : Serving). LoadsStand s b stage y) (sym receives) tt) (subst (Others s) (sym after) tt))
+    (Tracked.kept has (subst (λ (stage : PipeServing). LoadsStand s b stage y) (sym receives) tt) (subst (Others s) (sym after) tt))
 
 -- It takes a request of another process.
 not_receiving : (t : State) (c d : Call) (a : Answer) → receiving t ≡ Some c → t ≡ states.Done d a → ⊥
@@ -165,7 +165,7 @@ take_tracked requests made s m b given k r e p y doing there later does other tr
     by_track {c} receives at others (Tracked.comes count state none stands) =
         absurd (not_receiving p.state c (calls.ReceiveSegment 0 SEGMENT_BYTES) (answers.ReceivedSegment s m count) receives state)
     by_track {c} receives at others (Tracked.kept has loads before) =
-        Tracked.kept has (subst (λ (stage : Serving). LoadsStand s b stage y) (sym at) tt) others
+        Tracked.kept has (subst (λ (stage : PipeServing). LoadsStand s b stage y) (sym at) tt) others
 
 -- It collects a request.
 collect_tracked : (requests made : ℕ) (s : Pid) (m : Message) (b : List ℕ) (given : List Answer) (k : Kernel) (r : Pid) (e : Effect)

@@ -32,7 +32,7 @@ use Rattle.v_pages.proofs.Places.{answer_here}
 use Rattle.v_pages.proofs.Seen.{answer_none}
 use Rattle.v_pages.proofs.Touched.{is_waiting, touched}
 use Rattle.v_pages.proofs.Turns.{after_take, left_alone}
-use Rattle.vk_pipe.specs.declared.serving.Serving.TheVariants as stages
+use Rattle.vk_pipe.specs.declared.serving.PipeServing.TheVariants as stages
 use Rattle.vk_pipe.specs.Pipes.{Server, empty_pipe, new_server, pipe_call, server_after}
 use Rattle.v_pipe.proofs.Standing.{Doing, Gives, PipeAt, call_on, collected_on, gives_nothing, settled_none}
 

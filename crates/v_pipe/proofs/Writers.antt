@@ -31,8 +31,8 @@ use Rattle.v_pages.proofs.Lists.{front_same, up_to_some, up_to_later}
 use Rattle.v_pages.proofs.Sent.{made_at}
 use Rattle.v_pages.proofs.Staying.{as_sent}
 use Rattle.v_pages.proofs.Taken.{request_is}
-use Rattle.vk_pipe.specs.declared.serving.Serving.{Serving}
-use Rattle.vk_pipe.specs.declared.serving.Serving.TheVariants as stages
+use Rattle.vk_pipe.specs.declared.serving.PipeServing.{PipeServing}
+use Rattle.vk_pipe.specs.declared.serving.PipeServing.TheVariants as stages
 use Rattle.vk_pipe.specs.declared.serving.Verdict.{Verdict}
 use Rattle.vk_pipe.specs.declared.serving.Verdict.TheVariants as verdicts
 use Rattle.vk_pipe.specs.declared.waiting.Write.{Write}
@@ -54,7 +54,7 @@ use Rattle.v_pipe.proofs.Readers.{reads_pieces}
 use Rattle.v_pipe.proofs.Tracked.{put_more}
 
 -- Of the server at the reply.
-pub record PutBy (s : Pid) (b : List ℕ) (put : List Write) (stage : Serving) (reply : Message) : Type 0 where
+pub record PutBy (s : Pid) (b : List ℕ) (put : List Write) (stage : PipeServing) (reply : Message) : Type 0 where
   pub count : ℕ
   pub tells : stage ≡ stages.Reply s (verdicts.Written count)
   pub size : count ≡ length b
@@ -62,7 +62,7 @@ pub record PutBy (s : Pid) (b : List ℕ) (put : List Write) (stage : Serving) (
   pub earlier : List Write
   pub last : put ≡ earlier ++ write_by s b ∷ []
 
-put_verdict : (s : Pid) (m : Message) (b : List ℕ) (put : List Write) (stage : Serving) (reply : Message) (verdict : Verdict) →
+put_verdict : (s : Pid) (m : Message) (b : List ℕ) (put : List Write) (stage : PipeServing) (reply : Message) (verdict : Verdict) →
     stage ≡ stages.Reply s verdict → reply ≡ message_for verdict → Suits s m b put (stages.Reply s verdict) → code_of m ≡ 7 →
     code_of (message_for verdict) ≡ 0 → PutBy s b put stage reply
 put_verdict s m b put stage reply (verdicts.Written count) is told suits writes code = record {
@@ -80,7 +80,7 @@ put_verdict s m b put stage reply verdicts.Full is told suits writes code = let 
 put_verdict s m b put stage reply verdicts.End is told suits writes code = let same : 6 ≡ 0 = code in absurd (omega (arith, same))
 put_verdict s m b put stage reply verdicts.Shut is told suits writes code = let same : 7 ≡ 0 = code in absurd (omega (arith, same))
 
-put_by_reply : (s : Pid) (m : Message) (b : List ℕ) (put : List Write) (q : Pipe) (stage : Serving) (reply : Message) (dest : ℕ)
+put_by_reply : (s : Pid) (m : Message) (b : List ℕ) (put : List Write) (q : Pipe) (stage : PipeServing) (reply : Message) (dest : ℕ)
     (bytes : List ℕ) → Has s m b put q stage → Reply q stage s reply dest bytes → code_of m ≡ 7 → code_of reply ≡ 0 →
     PutBy s b put stage reply
 put_by_reply s m b put q stage reply dest bytes has (Reply.of_read x is from told place same) writes code =

@@ -1,27 +1,24 @@
--- Where no job met a Room every program has finished: one that was told to stop has not, so the hub was halted, or another finished twice.
-use Rattle.std.proofs.Common.{◌≡◌, ◌≢◌, ℕ, ◌+◌, ◌*◌, ◌<◌, ◌≤◌, Bool, true, false, Option, Some, None, List, [], ◌∷◌, ◌++◌, cond, refl, sym, ap, ◌∙◌, subst, arith, ◌⊎◌, inl, inr, nat_le}
-use Rattle.std.proofs.lemmas.Bool.{leb-true}
+-- Where as many programs have finished as there are each has, since none finishes twice; where not so many have, one has not.
+use Rattle.std.proofs.Common.{◌≡◌, ◌≢◌, ℕ, ◌+◌, ◌*◌, ◌<◌, ◌≤◌, Bool, true, false, Option, Some, None, List, [], ◌∷◌, ◌++◌, cond, refl, sym, ap, ◌∙◌, subst, arith, ◌⊎◌, inl, inr, nat_le, nat_lt, ltb-true, ltb-false}
+use Rattle.std.proofs.lemmas.Bool.{leb-false, leb-true}
 use mathlib.Core.List.{IsPrefix}
 use Rattle.std.specs.Prelude.{if◌then◌else◌}
-use Rattle.vk_types.specs.Types.{Answer, Call, Pid, StationEvent}
-use Rattle.vk_base.specs.declared.event.StationEvent.TheVariants as events
+use Rattle.vk_types.specs.Types.{StationEvent}
 use Rattle.vk_base.specs.Settings.{Settings}
-use Rattle.vk_base.proofs.BoolLemmas.{or_rest}
 use Rattle.vk_schedule.specs.declared.plan.LinkPlan.{LinkPlan}
 use Rattle.vk_hub.specs.declared.event.Fetched.TheVariants as fetched
 use Rattle.vk_hub.specs.declared.event.HubEvent.{HubEvent}
 use Rattle.vk_hub.specs.declared.event.HubEvent.TheVariants as hub_events
 use Rattle.vk_hub.specs.Hubs.{HubLog, Traffic, changed, first_for, first_traffic, found, is_halt, is_stopped, traffic_after, traffic_of}
 use Rattle.vk_hub.specs.Links.{Frame}
-use Rattle.vk_port.specs.Ports.{Action, Enters, Delivers, Drops, Hears, IsLog, Berth, Stand, entered_at, fetched_at}
+use Rattle.vk_port.specs.Ports.{Action}
 use Rattle.vk_port.specs.Stations.{StationHistory}
 use Rattle.vk_rules.specs.Each.{Each}
-use Rattle.vk_rules.proofs.Lists.{each_both}
 use Rattle.v_run.specs.Closed.{AreClosed}
-use Rattle.v_run.specs.Jobs.{EndsRole, GoesOn}
-use Rattle.v_run.specs.Passages.{HasHeard, IsAtEnd, IsLast, Passage, Pumps, Role, Runs, Ticks, answers_by, calls_by, fresh_station, host_of, nowhere}
+use Rattle.v_run.specs.Jobs.{EndsRole}
+use Rattle.v_run.specs.Passages.{IsAtEnd, IsLast, Passage, Pumps, Role, Runs, Ticks, answers_by, calls_by, fresh_station, host_of}
 use Rattle.v_run.proofs.Totals.{Place, added, added_none, total, weight}
-use Rattle.v_run.proofs.Heard.{log_is_later, prefix_front, prefix_over, sends}
+use Rattle.v_run.proofs.Heard.{sends}
 use Rattle.vk_port.specs.Stations.{frames_at}
 use Rattle.v_run.proofs.Logs.{entered_places}
 use Rattle.v_run.proofs.Counts.{fetch_count, sends_few}
@@ -85,22 +82,6 @@ pub stopped_by : (programs h : ℕ) (t : Traffic) (b : Bool) → is_stopped prog
 stopped_by programs h t true is stop = is
 stopped_by programs h t false is stop = absurd (found_is_no_stop (first_for h t.waiting) stop)
 
--- where a passage heard that the hub had ended, it had, in what was seen in the end
-heard_where : (p : Berth) (acts : List Action) (s t : Stand) → IsLog p s acts t → HasHeard acts
-    → (heard : List (ℕ × HubEvent)) × IsPrefix heard t.heard × (is_stopped p.hub.programs (traffic_of p.hub heard) ≡ true)
-heard_where p [] s t log has = absurd has
-heard_where p (Enters before e posted ∷ acts) s t log has = heard_where p acts (entered_at p s before e posted) t log.1 has
-heard_where p (Delivers heard frame before posted ∷ acts) s t log has =
-    heard_where p acts (entered_at p (fetched_at p s heard) before (events.Deliver frame) posted) t log.1 has
-heard_where p (Drops heard frame ∷ acts) s t log has = heard_where p acts (fetched_at p s heard) t log.1 has
-heard_where p (Hears heard ∷ acts) s t log has =
-    let later = log_is_later p acts (fetched_at p s heard) t log.1 in
-    let traffic = traffic_of p.hub heard in (
-      heard,
-      prefix_front heard ((p.hub_number, hub_events.Fetch p.host) ∷ []) t.heard later.1,
-      stopped_by p.hub.programs p.host traffic (is_stopped p.hub.programs traffic) refl log.0.answered,
-    )
-
 -- Jobs that met no Room.
 abbrev pub is_program : Role → ℕ
 is_program (Runs r task) = 1
@@ -145,18 +126,18 @@ abbrev pub HasEnded : Settings → Passage → Role → Type 0
 HasEnded c g (Runs r task) = IsAtEnd task (calls_by g.actions) (answers_by (fresh_station c (host_of g)) g.actions)
 HasEnded c g role = Unit {0}
 
-ended_by_last : (c : Settings) (g : Passage) (r : Pid) (task : List Answer → Option Call) → EndsRole c g (Runs r task) → IsLast g.last
-    → g.last ≢ hub_events.Halt ∷ [] → (added finishes g.last ≡ 0 → ⊥) → HasEnded c g (Runs r task)
-ended_by_last c g r task ends (inl is) halt never = absurd (never (ap (added finishes) is))
-ended_by_last c g r task ends (inr (inl is)) halt never = ends is
-ended_by_last c g r task ends (inr (inr is)) halt never = absurd (halt is)
+ended_one : (c : Settings) (g : Passage) (role : Role) → EndsRole c g role → IsLast g.last
+    → (1 ≤ is_program role → added finishes g.last ≡ 0 → ⊥) → HasEnded c g role
+ended_one c g (Runs r task) ends (inl is) never = absurd (never (omega arith) (ap (added finishes) is))
+ended_one c g (Runs r task) ends (inr (inl is)) never = ends is
+ended_one c g (Runs r task) ends (inr (inr is)) never = absurd (never (omega arith) (ap (added finishes) is))
+ended_one c g Pumps ends last never = tt
+ended_one c g Ticks ends last never = tt
 
-ended_one : (c : Settings) (g : Passage) (role : Role) → EndsRole c g role → IsLast g.last → g.last ≢ hub_events.Halt ∷ [] → GoesOn g role
-    → (HasHeard g.actions → 1 ≤ is_program role → added finishes g.last ≡ 0 → ⊥) → HasEnded c g role
-ended_one c g (Runs r task) ends last halt (inl is) never = ends is
-ended_one c g (Runs r task) ends last halt (inr has) never = ended_by_last c g r task ends last halt (never has (omega arith))
-ended_one c g Pumps ends last halt goes never = tt
-ended_one c g Ticks ends last halt goes never = tt
+pub program_one : (role : Role) → is_program role ≤ 1
+program_one (Runs r task) = omega arith
+program_one Pumps = omega arith
+program_one Ticks = omega arith
 
 -- one of a list
 abbrev pub Among : {A : Type 0} → A → List A → Type 0
@@ -181,38 +162,37 @@ added_less f h (y ∷ ys) x most (inl is) less =
     added_most_list f h xs most = added_most_each (λ y. f y ≤ h y) f h xs (λ y few. few) most
 added_less f h (y ∷ ys) x most (inr among) less = let rest = added_less f h ys x most.1 among less in let one = most.0 in omega arith
 
+-- where a sum is less than another one, so is one of its parts
+less_one : {A : Type 0} (f h : A → ℕ) (xs : List A) → added f xs < added h xs → (x : A) × Among x xs × (f x < h x)
+less_one f h [] less = absurd (omega arith)
+less_one {A = A} f h (x ∷ xs) less = by (less_one f h xs) (nat_lt (f x) (h x)) refl
+  where
+    by : (added f xs < added h xs → (y : A) × Among y xs × (f y < h y)) → (b : Bool) → nat_lt (f x) (h x) ≡ b
+        → (y : A) × Among y (x ∷ xs) × (f y < h y)
+    by more true is = (x, inl refl, ltb-true (f x) (h x) is)
+    by more false is =
+        let most = ltb-false (f x) (h x) is in let rest = more (omega arith) in (rest.0, inr rest.1, rest.2)
+
 module _ (c : Settings) (o : HubLog) (histories : ℕ → List (ℕ × StationEvent)) (heard : List (ℕ × HubEvent)) (gs : List Passage)
     (k : AreClosed c o histories heard gs) (programs : o.programs ≡ added (λ (g : Passage). is_program g.role) gs)
-    (roles : Each (λ (g : Passage). EndsRole c g g.role) gs) (no_halts : Each (λ (g : Passage). g.last ≢ hub_events.Halt ∷ []) gs)
-    (goes : Each (λ (g : Passage). GoesOn g g.role) gs) where
+    (roles : Each (λ (g : Passage). EndsRole c g g.role) gs) where
   abbrev D : Passage → Type 0
   D = IsDone c o histories heard
 
   done : (g : Passage) → Among g gs → D g
   done g among = of_each D gs g (all_done c o histories heard gs k) among
 
-  halts_none : summed halts heard ≡ 0
-  halts_none =
-      sym (summed_is halts [] heard) ∙ (events_at_hub c o histories heard gs k halts
-      ∙ (added_same_each (λ g. D g × (g.last ≢ hub_events.Halt ∷ []))
-      (λ g. added halts (sends (fresh_station c (host_of g)) (host_of g) g.actions) + added halts g.last) (λ g. 0) gs
-      (λ g d. both (added halts (sends (fresh_station c (host_of g)) (host_of g) g.actions)) (added halts g.last)
-      (no_sends halts (λ f. refl) (λ h. refl) (fresh_station c (host_of g)) (host_of g) g.actions) (no_halt_last g.last
-      d.0.0.last d.1))
-      (each_both D (λ g. g.last ≢ hub_events.Halt ∷ []) gs (all_done c o histories heard gs k) no_halts)
-      ∙ added_none (λ (g : Passage). 0) gs (λ g. refl)))
-    where
-      both : (a b : ℕ) → a ≡ 0 → b ≡ 0 → a + b ≡ 0
-      both a b one two = omega arith
-
-  finished_are : summed finishes heard ≡ added (λ (g : Passage). added finishes g.last) gs
+  finished_are : (traffic_of o heard).finished ≡ added (λ (g : Passage). added finishes g.last) gs
   finished_are =
+      let so_many = finished_after o.plan o.programs (first_traffic o.plan o.stations) heard in
+      let all : summed finishes heard ≡ added (λ (g : Passage). added finishes g.last) gs =
       sym (summed_is finishes [] heard) ∙ (events_at_hub c o histories heard gs k finishes
       ∙ added_same_each D (λ g. added finishes (sends (fresh_station c (host_of g)) (host_of g) g.actions) + added finishes g.last)
       (λ g. added finishes g.last) gs
       (λ g d. second (added finishes (sends (fresh_station c (host_of g)) (host_of g) g.actions)) (added finishes g.last)
       (no_sends finishes (λ f. refl) (λ h. refl) (fresh_station c (host_of g)) (host_of g) g.actions))
-      (all_done c o histories heard gs k))
+      (all_done c o histories heard gs k)) in
+      omega arith
     where
       second : (a b : ℕ) → a ≡ 0 → a + b ≡ b
       second a b none = omega arith
@@ -220,29 +200,24 @@ module _ (c : Settings) (o : HubLog) (histories : ℕ → List (ℕ × StationEv
   few_each : Each (λ (g : Passage). added finishes g.last ≤ is_program g.role) gs
   few_each = each_of _ gs (λ g among. finish_few c g g.role (of_each _ gs g roles among) (done g among).0.last)
 
-  -- a program that has not finished was not told to stop
-  never : (g : Passage) → Among g gs → HasHeard g.actions → 1 ≤ is_program g.role → added finishes g.last ≡ 0 → ⊥
-  never g among has program none =
-      let d = done g among in
-      let at = heard_where g.berth g.actions nowhere g.left d.0.log has in
-      let before = at.0 in
-      let pre : IsPrefix before heard = prefix_over before g.left.heard heard at.1 d.1.heard in
-      let t : Traffic = traffic_of o before in
-      let stop : is_stopped o.programs t ≡ true =
-      subst (λ (h : HubLog). is_stopped h.programs (traffic_of h before) ≡ true) d.0.hub at.2 in
-      let few_halts = summed_prefix halts before heard pre in
-      let no_halt : summed halts before ≡ 0 = let all = halts_none in omega arith in
-      let going : t.halted ≡ false = halted_after o.plan o.programs (first_traffic o.plan o.stations) before no_halt in
-      let all_finished : nat_le o.programs t.finished ≡ true = or_rest t.halted (nat_le o.programs t.finished) stop going in
-      let count : o.programs ≤ t.finished = leb-true o.programs t.finished all_finished in
-      let so_many = finished_after o.plan o.programs (first_traffic o.plan o.stations) before in
-      let few = summed_prefix finishes before heard pre in
-      let all = finished_are in
-      let less =
-      added_less (λ (h : Passage). added finishes h.last) (λ (h : Passage). is_program h.role) gs g few_each among (omega arith) in
-      omega arith
+  pub all_ended : nat_le o.programs (traffic_of o heard).finished ≡ true → Each (λ (g : Passage). HasEnded c g g.role) gs
+  all_ended enough = each_of _ gs (λ g among. ended_one c g g.role (of_each _ gs g roles among) (done g among).0.last (never g among))
+    where
+      never : (g : Passage) → Among g gs → 1 ≤ is_program g.role → added finishes g.last ≡ 0 → ⊥
+      never g among program none =
+          let count : o.programs ≤ (traffic_of o heard).finished = leb-true o.programs (traffic_of o heard).finished enough in
+          let all = finished_are in
+          let less =
+          added_less (λ (h : Passage). added finishes h.last) (λ (h : Passage). is_program h.role) gs g few_each among (omega arith) in
+          omega arith
 
-  pub all_ended : Each (λ (g : Passage). HasEnded c g g.role) gs
-  all_ended = each_of _ gs (λ g among.
-      ended_one c g g.role (of_each _ gs g roles among) (done g among).0.last (of_each _ gs g no_halts among) (of_each _ gs g goes among)
-      (never g among))
+  -- a program that has not finished
+  pub one_left : nat_le o.programs (traffic_of o heard).finished ≡ false
+      → (g : Passage) × Among g gs × (is_program g.role ≡ 1) × (added finishes g.last ≡ 0)
+  one_left wanting =
+      let count : (traffic_of o heard).finished < o.programs = leb-false o.programs (traffic_of o heard).finished wanting in
+      let all = finished_are in
+      let it = less_one (λ (h : Passage). added finishes h.last) (λ (h : Passage). is_program h.role) gs (omega arith) in
+      let less = it.2 in
+      let one = program_one it.0.role in
+      (it.0, it.1, omega arith, omega arith)

@@ -288,7 +288,7 @@ seen_in r c es distinct actors collected xs (scheduled.Tick host) ys is = tt
 seen_in r c es distinct actors collected xs (scheduled.Deliver to from event output) ys is = tt
 
 pub runs_follow_tasks : RunsFollowTasks
-runs_follow_tasks c plan rounds tasks limited s lawful run = record {
+runs_follow_tasks c plan rounds tasks end s lawful run = record {
   schedule = record { distinct = distinct; callers = of_actors c.specs s.events run.actors };
   follows = each tasks run.outcome.follows;
 }

@@ -21,6 +21,7 @@ pub mod Unique
 pub mod Reasons
 pub mod Framed
 pub mod Whole
+mod Still
 pub mod Stations
 pub mod Logged
 pub mod Outputs

@@ -81,12 +81,12 @@ closed_runs_are_joined unseal frames packets outputs c o histories heard js logs
 
 pub joined_runs_are_runs : FramesUnsealAgain → FramesAreSpelledOnce → NothingElseIsRead → BytesAreOfStations → AnsweredWorksEndByFrames →
     JoinedRunsAreRuns
-joined_runs_are_runs unseal frames packets bytes works c o rounds histories heard js logs s limited k jobs are given j none some =
-    let outcome : IsOutcome c o.plan rounds (tasks_of (passages_of js)) limited (logs_of c s.events) =
-    subst (IsOutcome c o.plan rounds (tasks_of (passages_of js)) limited) (sym (same frames packets c histories logs are given
+joined_runs_are_runs unseal frames packets bytes works c o rounds histories heard js logs s end k jobs are given j may =
+    let outcome : IsOutcome c o.plan rounds (tasks_of (passages_of js)) end (logs_of c s.events) =
+    subst (IsOutcome c o.plan rounds (tasks_of (passages_of js)) end) (sym (same frames packets c histories logs are given
     unseal s j))
     (come_to c o rounds histories heard js k jobs (all_sound frames packets c histories logs are given unseal s j)
-    (own frames packets c histories logs are given unseal s j) works limited none some) in
+    (own frames packets c histories logs are given unseal s j) works end may) in
     record {
       config = j.config;
       there = j.there;

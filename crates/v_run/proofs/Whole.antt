@@ -1,5 +1,5 @@
 -- What jobs come to: the parts put together.
-use Rattle.std.proofs.Common.{◌≡◌, ℕ, ◌+◌, ◌*◌, ◌<◌, Bool, true, false, Option, Some, None, List, [], ◌∷◌, ◌++◌, length, refl, sym, ap, ◌∙◌, subst, arith, ◌⊎◌, inl, inr}
+use Rattle.std.proofs.Common.{◌≡◌, ℕ, ◌+◌, ◌*◌, ◌<◌, true, false, Option, Some, None, List, [], ◌∷◌, ◌++◌, length, refl, sym, ap, ◌∙◌, subst, arith, ◌⊎◌, inl, inr, nat_le}
 use Rattle.vk_types.specs.Types.{Answer, Call, Pid, StationEvent}
 use Rattle.turn_cell.specs.declared.replay.Room.TheVariants as rooms
 use Rattle.vk_base.specs.Pids.{same_pid}
@@ -7,26 +7,29 @@ use Rattle.vk_base.specs.Settings.{Settings, has_station}
 use Rattle.vk_base.proofs.PidLemmas.{same_pid_self}
 use Rattle.v_laws.proofs.Tables.{same_pid_is}
 use Rattle.vk_hub.specs.declared.event.HubEvent.{HubEvent}
-use Rattle.vk_hub.specs.Hubs.{HubLog}
+use Rattle.vk_hub.specs.Hubs.{HubLog, traffic_of}
 use Rattle.vk_port.specs.Stations.{is_own}
 use Rattle.vk_rules.specs.Each.{Each}
 use Rattle.vk_rules.specs.Entries.{Entry}
 use Rattle.vk_rules.proofs.Lists.{each_append}
 use Rattle.v_run.specs.Closed.{AreClosed}
-use Rattle.v_run.specs.Jobs.{EndsRole, IsJobEnd, JobEnd, MetFull, OneOf, runs_pid}
+use Rattle.v_run.specs.declared.run_end.RunEnd.{RunEnd}
+use Rattle.v_run.specs.Laws.{IsStill, MayEndAs}
+use Rattle.v_run.specs.Jobs.{EndsRole, GoesOn, IsJobEnd, JobEnd, MetFull, OneOf, runs_pid}
 use Rattle.v_ended.specs.Answered.{AnsweredWorksEndByFrames, ComeInTime, answers_of, calls_of}
 use Rattle.v_ended.specs.Ends.{EachWorkIsEndedByFrame, NoTickEnds}
-use Rattle.v_run.specs.Outcomes.{AreBusy, Assignment, FollowsTask, HasUsedUp, IsOutcome}
+use Rattle.v_run.specs.Outcomes.{AreBusy, Assignment, FollowsTask, HasUsedUp, IsOutcome, IsWaiting, StandsStill}
 use Rattle.v_run.specs.Passages.{IsAtEnd, IsRole, Passage, Pumps, Role, Runs, Ticks, answers_by, calls_by, fresh_station, host_of, number_of}
 use Rattle.v_run.specs.Runs.{AreApart, AreJobs, IsApart, logs_in, passages_of, task_in, tasks_of}
 use Rattle.v_run.proofs.Sound.{AreSound}
 use Rattle.v_run.proofs.Totals.{added}
 use Rattle.v_run.proofs.Sums.{IsDone, all_done, placed_whole}
-use Rattle.v_run.proofs.Ended.{Among, HasEnded, all_ended, each_of, is_program, of_each}
+use Rattle.v_run.proofs.Ended.{Among, HasEnded, all_ended, each_of, finishes, is_program, of_each, one_left}
+use Rattle.v_run.proofs.Still.{none_collects}
 use Rattle.v_run.proofs.Clock as clock
 use Rattle.v_run.proofs.Playing.{Stands, whole}
 use Rattle.v_run.proofs.Alone as alone
-use Rattle.v_run.proofs.Patience.{built_at, no_tick_ends}
+use Rattle.v_run.proofs.Patience.{built_at, no_tick_ends, now_is}
 use Rattle.v_run.proofs.Framed.{framed}
 use Rattle.v_run.proofs.Ready.{in_time}
 use Rattle.v_run.proofs.Reasons.{reason}
@@ -76,6 +79,22 @@ programs_are (g ∷ gs) =
 pub from_tasks : (P : Assignment → Type 0) (gs : List Passage) → Each (λ (g : Passage). Each P (task_in g.role)) gs → Each P (tasks_of gs)
 from_tasks P [] each = tt
 from_tasks P (g ∷ gs) each = each_append P (task_in g.role) (tasks_of gs) each.0 (from_tasks P gs each.1)
+
+-- what holds of one passage's task holds of one of all
+one_before : {A : Type 0} (P : A → Type 0) (xs ys : List A) → OneOf P xs → OneOf P (xs ++ ys)
+one_before P [] ys one = absurd one
+one_before P (x ∷ xs) ys (inl p) = inl p
+one_before P (x ∷ xs) ys (inr one) = inr (one_before P xs ys one)
+
+one_behind : {A : Type 0} (P : A → Type 0) (xs ys : List A) → OneOf P ys → OneOf P (xs ++ ys)
+one_behind P [] ys one = one
+one_behind P (x ∷ xs) ys one = inr (one_behind P xs ys one)
+
+one_task_of : (P : Assignment → Type 0) (gs : List Passage) (g : Passage) → Among g gs → OneOf P (task_in g.role) → OneOf P (tasks_of gs)
+one_task_of P [] g among one = absurd among
+one_task_of P (x ∷ gs) g (inl is) one =
+    one_before P (task_in x.role) (tasks_of gs) (subst (λ (y : Passage). OneOf P (task_in y.role)) (sym is) one)
+one_task_of P (x ∷ gs) g (inr among) one = one_behind P (task_in x.role) (tasks_of gs) (one_task_of P gs g among one)
 
 -- no process is run twice
 no_runs : (r : Pid) (g : Passage) (n : ℕ) → runs_pid r g.role ≡ false → runs_pid r g.role ≡ true → number_of g ≡ n
@@ -160,11 +179,67 @@ module _ (c : Settings) (o : HubLog) (rounds : ℕ) (histories : ℕ → List (�
   roles : Each (λ (g : Passage). EndsRole c g g.role) gs
   roles = from_jobs _ js (each_of _ js (λ j among. (of_each (IsJobEnd c) js j jobs.ends among).roles))
 
-  ended : Each (λ (j : JobEnd). j.met ≡ None) js → Each (λ (g : Passage). HasEnded c g g.role) gs
-  ended none =
-      all_ended c o histories heard gs k (jobs.programs ∙ programs_are gs) roles
-      (from_jobs _ js (each_of _ js (λ j among. (of_each (IsJobEnd c) js j jobs.ends among).halts (of_each _ js j none among))))
-      (from_jobs _ js (each_of _ js (λ j among. (of_each (IsJobEnd c) js j jobs.ends among).goes_on (of_each _ js j none among))))
+  ended : nat_le o.programs (traffic_of o heard).finished ≡ true → Each (λ (g : Passage). HasEnded c g g.role) gs
+  ended enough = all_ended c o histories heard gs k (jobs.programs ∙ programs_are gs) roles enough
+
+  -- where none met a Room
+  goes : Each (λ (j : JobEnd). j.met ≡ None) js → Each (λ (g : Passage). GoesOn c g g.role) gs
+  goes none = from_jobs _ js (each_of _ js (λ j among. (of_each (IsJobEnd c) js j jobs.ends among).goes_on (of_each _ js j none among)))
+
+  -- the calls and answers of a passage are those of its process
+  abbrev OfPassage : (List Call → List Answer → Type 0) → Pid → Type 0
+  OfPassage P r = P (calls_of r (logs r.host)) (answers_of r (logs r.host))
+
+  of_passage : (P : List Call → List Answer → Type 0) (g : Passage) → Among g gs → (r : Pid) (task : List Answer → Option Call)
+      → g.role ≡ Runs r task → P (calls_by g.actions) (answers_by (fresh_station c (host_of g)) g.actions) → OfPassage P r
+  of_passage P g among r task is here =
+      let stands = stands_one g among r task is in
+      let at : P (calls_of r (logs (host_of g))) (answers_of r (logs (host_of g))) =
+      subst (λ (x : List Call × List Answer). P x.0 x.1) (λ i. (sym stands.calls i, sym stands.answers i)) here in
+      subst (λ h. P (calls_of r (logs h)) (answers_of r (logs h))) (sym (home g among r task is)) at
+
+  abbrev Stops : Assignment → Type 0
+  Stops a = OfPassage (λ calls answers. IsAtEnd a.task calls answers ⊎ IsWaiting calls answers) a.pid
+
+  abbrev Waits : Assignment → Type 0
+  Waits a = OfPassage IsWaiting a.pid
+
+  stops_by : (g : Passage) → Among g gs → EndsRole c g g.role → GoesOn c g g.role → (role : Role) → g.role ≡ role → Each Stops (task_in role)
+  stops_by g among ends goes (Runs r task) is = (
+    of_passage (λ calls answers. IsAtEnd task calls answers ⊎ IsWaiting calls answers) g among r task is
+        (either (subst (EndsRole c g) is ends) (subst (GoesOn c g) is goes)),
+    tt,
+  )
+    where
+      either : EndsRole c g (Runs r task) → GoesOn c g (Runs r task)
+          → IsAtEnd task (calls_by g.actions) (answers_by (fresh_station c (host_of g)) g.actions)
+          ⊎ IsWaiting (calls_by g.actions) (answers_by (fresh_station c (host_of g)) g.actions)
+      either ends (inl finished) = inl (ends finished)
+      either ends (inr waits) = inr waits.1
+  stops_by g among ends goes Pumps is = tt
+  stops_by g among ends goes Ticks is = tt
+
+  waits_by : (g : Passage) → Among g gs → is_program g.role ≡ 1 → added finishes g.last ≡ 0 → GoesOn c g g.role → (role : Role)
+      → g.role ≡ role → OneOf Waits (task_in role)
+  waits_by g among program none goes (Runs r task) is =
+      inl (of_passage IsWaiting g among r task is (later (subst (GoesOn c g) is goes)))
+    where
+      later : GoesOn c g (Runs r task) → IsWaiting (calls_by g.actions) (answers_by (fresh_station c (host_of g)) g.actions)
+      later (inl finished) = let one : added finishes g.last ≡ 1 = ap (added finishes) finished in absurd (omega arith)
+      later (inr waits) = waits.1
+  waits_by g among program none goes Pumps is = let no : is_program g.role ≡ 0 = ap is_program is in absurd (omega arith)
+  waits_by g among program none goes Ticks is = let no : is_program g.role ≡ 0 = ap is_program is in absurd (omega arith)
+
+  one_waits : Each (λ (j : JobEnd). j.met ≡ None) js → nat_le o.programs (traffic_of o heard).finished ≡ false → OneOf Waits (tasks_of gs)
+  one_waits none wanting =
+      let it = one_left c o histories heard gs k (jobs.programs ∙ programs_are gs) roles wanting in
+      one_task_of Waits gs it.0 it.1 (waits_by it.0 it.1 it.2 it.3 (of_each _ gs it.0 (goes none) it.1) it.0.role refl)
+
+  still_at : (h : ℕ) → IsStill c.specs rounds (fresh_station c h) (histories h) → StandsStill c h rounds (logs h)
+  still_at h still = record {
+    ticks = sym (now_is c h (logs h) (built_at c h (histories h))) ∙ still.ticked;
+    none_done = none_collects (fresh_station c h) (histories h) still.none_ready;
+  }
 
   in_time_at : (h : ℕ) → has_station c.specs h ≡ true → ComeInTime c h (logs h)
   in_time_at h there = in_time c o histories heard gs k h there
@@ -216,9 +291,11 @@ module _ (c : Settings) (o : HubLog) (rounds : ℕ) (histories : ℕ → List (�
       reason c o histories heard gs k sound.rise sound.opens sound.low js refl jobs.ends jobs.few met.0 (among_jobs met.0 job.0 js job.1
       met.1) met.2
 
-  pub come_to : (limited : Bool) → (limited ≡ false → Each (λ (j : JobEnd). j.met ≡ None) js)
-      → (limited ≡ true → OneOf (λ (j : JobEnd). j.met ≡ Some rooms.Full) js) → IsOutcome c o.plan rounds (tasks_of gs) limited logs
-  come_to limited none some = record {
+  abbrev MayBe : RunEnd → Type 0
+  MayBe end = MayEndAs c o rounds histories heard js end
+
+  pub come_to : (end : RunEnd) → MayBe end → IsOutcome c o.plan rounds (tasks_of gs) end logs
+  come_to end may = record {
     collected = in_time_at;
     seldom = λ h from event output there. seldom from event output h c o histories heard gs k sound.rise sound.opens there;
     few_ticks = λ h there. clock.few c o histories heard gs k jobs.done rounds jobs.time h there (jobs.clocks h there);
@@ -227,11 +304,19 @@ module _ (c : Settings) (o : HubLog) (rounds : ℕ) (histories : ℕ → List (�
         let low = clock.at_least c o histories heard gs k jobs.done rounds jobs.time h two (jobs.clocks h two) in
         omega arith;
     follows = from_tasks Follows gs (each_of _ gs (λ g among. follows_by g among g.role refl));
-    ended = λ is. from_tasks Ends gs (each_of _ gs (λ g among. ends_by g among (of_each _ gs g (ended (none is)) among) g.role refl));
+    ended = λ is.
+        from_tasks Ends gs
+        (each_of _ gs (λ g among. ends_by g among (of_each _ gs g (ended (subst MayBe is may).1) among) g.role refl));
+    waits = λ is.
+        from_tasks Stops gs
+        (each_of _ gs (λ g among.
+        stops_by g among (of_each _ gs g roles among) (of_each _ gs g (goes (subst MayBe is may).0) among) g.role refl));
+    one_waits = λ is. one_waits (subst MayBe is may).0 (subst MayBe is may).1;
+    still = λ is h there. still_at h ((subst MayBe is may).2 h there);
     idle = λ r not_it there. alone.idle r c o histories heard gs k r.host there (none_runs r not_it);
-    limited = λ is. reasons (some is);
+    limited = λ is. reasons (subst MayBe is may);
     early = early_at;
     by_frames = λ is short.
         from_tasks Framed gs
-        (each_of _ gs (λ g among. frames_by short g among (of_each _ gs g (ended (none is)) among) g.role refl));
+        (each_of _ gs (λ g among. frames_by short g among (of_each _ gs g (ended (subst MayBe is may).1) among) g.role refl));
   }

@@ -48,18 +48,26 @@ EndsRole c g (Runs r task) =
     g.last ≡ hub_events.Finished ∷ [] → IsAtEnd task (calls_by g.actions) (answers_by (fresh_station c (host_of g)) g.actions)
 EndsRole c g role = g.last ≢ hub_events.Finished ∷ []
 
--- where its job met no Room, a process finished or heard that the hub had ended, and what delivers heard it
-abbrev pub GoesOn : Passage → Role → Type 0
-GoesOn g (Runs r task) = (g.last ≡ hub_events.Finished ∷ []) ⊎ HasHeard g.actions
-GoesOn g Pumps = HasHeard g.actions
-GoesOn g Ticks = Unit {0}
+-- Where its job met no Room, a process finished, or heard that the hub had ended, and then its last call was begun and is not answered;
+-- what delivers heard that.
+abbrev pub GoesOn : Settings → Passage → Role → Type 0
+GoesOn c g (Runs r task) =
+    (g.last ≡ hub_events.Finished ∷ [])
+    ⊎ (HasHeard g.actions × (length (calls_by g.actions) ≡ length (answers_by (fresh_station c (host_of g)) g.actions) + 1))
+GoesOn c g Pumps = HasHeard g.actions
+GoesOn c g Ticks = Unit {0}
+
+-- and none but the clock halted the hub
+abbrev pub HaltsNot : Passage → Role → Type 0
+HaltsNot g Ticks = Unit {0}
+HaltsNot g role = g.last ≢ hub_events.Halt ∷ []
 
 pub record IsJobEnd (c : Settings) (j : JobEnd) : Type 0 where
   pub losses : losses j.passages ≤ 2
   pub last_entries : last_entries j.passages ≤ 1
   pub roles : Each (λ g. EndsRole c g g.role) j.passages
-  pub halts : j.met ≡ None → Each (λ g. g.last ≢ hub_events.Halt ∷ []) j.passages
-  pub goes_on : j.met ≡ None → Each (λ g. GoesOn g g.role) j.passages
+  pub halts : j.met ≡ None → Each (λ g. HaltsNot g g.role) j.passages
+  pub goes_on : j.met ≡ None → Each (λ g. GoesOn c g g.role) j.passages
   pub full : j.met ≡ Some rooms.Full → OneOf (MetFull c) j.passages
 
 -- The clock ticks all stations alike: n times, and some of them once more, and none more often than there are rounds.

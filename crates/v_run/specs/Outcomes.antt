@@ -1,6 +1,8 @@
 -- What a run comes to, said of the entries that its stations have in the end, of which the newest comes first.
 use Rattle.std.specs.Prelude.{ℕ, ◌≡◌, ◌≤◌, ◌<◌, ◌+◌, ◌*◌, ◌==◌, ◌&&◌, ◌⊎◌, Bool, true, false, Option, List, [], ◌∷◌, length, cond}
-use Rattle.vk_types.specs.Types.{Answer, Call, Pid}
+use Rattle.vk_types.specs.Types.{Answer, Call, Pid, ProcessSpec}
+use Rattle.vk_base.specs.declared.step.Step.TheVariants as steps
+use Rattle.vk_base.specs.Steps.{is_allowed}
 use Rattle.vk_base.specs.Pids.{same_pid}
 use Rattle.vk_base.specs.Settings.{Settings, has_station, stations_of}
 use Rattle.vk_frame.specs.declared.header.Header.{Header}
@@ -14,6 +16,10 @@ use Rattle.vk_rules.specs.Histories.{Logs}
 use Rattle.v_ended.specs.Answered.{ComeInTime, answers_of, calls_of}
 use Rattle.v_ended.specs.Ends.{EachWorkIsEndedByFrame, NoTickEnds}
 use Rattle.v_pages.specs.Followed.{IsNextCall}
+use Rattle.vk_rules.specs.Readings.{reading}
+use Rattle.v_run.specs.declared.run_end.RunEnd.{RunEnd}
+use Rattle.v_run.specs.declared.run_end.RunEnd.TheVariants as ends
+use Rattle.v_run.specs.Jobs.{OneOf}
 use Rattle.v_run.specs.Passages.{IsAtEnd}
 
 -- How often a station ticks, and how often it takes the output with these numbers.
@@ -85,8 +91,17 @@ abbrev pub AreBusy : Settings → Logs → Type 0
 AreBusy c logs =
     198000 ≤ over (λ h. frames_in (logs h)) (stations_of c.specs) + over (λ h. deliveries_in (logs h)) (stations_of c.specs)
 
--- WHAT A RUN COMES TO.
-pub record IsOutcome (c : Settings) (plan : LinkPlan) (rounds : ℕ) (tasks : List Assignment) (was_limited : Bool) (logs : Logs) : Type 0
+-- a call was begun and is not answered
+abbrev pub IsWaiting : List Call → List Answer → Type 0
+IsWaiting calls answers = length calls ≡ length answers + 1
+
+-- a station ticked so often, and no process of it has an answer to collect
+pub record StandsStill (c : Settings) (h rounds : ℕ) (es : List Entry) : Type 0 where
+  pub ticks : ticks_in es ≡ rounds
+  pub none_done : Each (λ (p : ProcessSpec). p.pid.host ≡ h → is_allowed (reading c h es).view (steps.Collect p.pid) ≡ false) c.specs
+
+-- WHAT A RUN COMES TO, which ended so.
+pub record IsOutcome (c : Settings) (plan : LinkPlan) (rounds : ℕ) (tasks : List Assignment) (end : RunEnd) (logs : Logs) : Type 0
   where
     -- each collect is of a process that has an answer
     pub collected : (h : ℕ) → has_station c.specs h ≡ true → ComeInTime c h (logs h)
@@ -95,16 +110,24 @@ pub record IsOutcome (c : Settings) (plan : LinkPlan) (rounds : ℕ) (tasks : Li
     -- each station ticks at most once a round, and no two differ by more than one tick
     pub few_ticks : (h : ℕ) → has_station c.specs h ≡ true → ticks_in (logs h) ≤ rounds
     pub even : (g h : ℕ) → has_station c.specs g ≡ true → has_station c.specs h ≡ true → ticks_in (logs g) ≤ ticks_in (logs h) + 1
-    -- each process makes just the calls of its task, where the run was not limited all of them; a process without a task does nothing
+    -- each process makes just the calls of its task, at Done all of them; a process without a task does nothing
     pub follows : Each (λ (a : Assignment). FollowsTask a.task a.pid (logs a.pid.host)) tasks
-    pub ended : was_limited ≡ false
+    pub ended : end ≡ ends.Done
         → Each (λ (a : Assignment). IsAtEnd a.task (calls_of a.pid (logs a.pid.host)) (answers_of a.pid (logs a.pid.host))) tasks
     pub idle : (r : Pid) → Each (λ (a : Assignment). same_pid a.pid r ≡ false) tasks → has_station c.specs r.host ≡ true
         → DoesNothing r (logs r.host)
+    -- At Waiting each process made its task's calls to their end, or up to one that was begun and is not answered, at least one of them;
+    -- each station ticked all rounds, and no process has an answer to collect.
+    pub waits : end ≡ ends.Waiting
+        → Each (λ (a : Assignment). IsAtEnd a.task (calls_of a.pid (logs a.pid.host)) (answers_of a.pid (logs a.pid.host))
+        ⊎ IsWaiting (calls_of a.pid (logs a.pid.host)) (answers_of a.pid (logs a.pid.host))) tasks
+    pub one_waits : end ≡ ends.Waiting
+        → OneOf (λ (a : Assignment). IsWaiting (calls_of a.pid (logs a.pid.host)) (answers_of a.pid (logs a.pid.host))) tasks
+    pub still : end ≡ ends.Waiting → (h : ℕ) → has_station c.specs h ≡ true → StandsStill c h rounds (logs h)
     -- it was limited only where a station used up its share, or the links were near their limit
-    pub limited : was_limited ≡ true → HasUsedUp c logs ⊎ AreBusy c logs
+    pub limited : end ≡ ends.Limited → HasUsedUp c logs ⊎ AreBusy c logs
     -- With fewer rounds than a work waits in all, none ends by a tick. Then each that a task began, a remote Send or move or a lookup,
-    -- was ended by a frame, where the run was not limited.
+    -- was ended by a frame, at Done.
     pub early : rounds < c.times.tries * c.times.interval → (h : ℕ) → has_station c.specs h ≡ true → NoTickEnds (logs h)
-    pub by_frames : was_limited ≡ false → rounds < c.times.tries * c.times.interval
+    pub by_frames : end ≡ ends.Done → rounds < c.times.tries * c.times.interval
         → Each (λ (a : Assignment). EachWorkIsEndedByFrame c a.pid.host a.pid (logs a.pid.host)) tasks

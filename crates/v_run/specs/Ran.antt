@@ -1,5 +1,5 @@
 -- What a run is that was told as a schedule.
-use Rattle.std.specs.Prelude.{ℕ, ◌≡◌, ◌≤◌, ◌<◌, Bool, true, List, length, take, is_some}
+use Rattle.std.specs.Prelude.{ℕ, ◌≡◌, ◌≤◌, ◌<◌, true, List, length, take, is_some}
 use Rattle.std.specs.List.{list_all}
 use Rattle.vk_types.specs.Types.{EventAnswer}
 use Rattle.vk_base.specs.declared.limits.TheConstants.{EVENTS}
@@ -14,6 +14,7 @@ use Rattle.vk_rules.specs.Each.{Each}
 use Rattle.vk_rules.specs.Entries.{Collected, Input}
 use Rattle.vk_rules.specs.Histories.{At, Happened, Missing, history_of}
 use Rattle.vk_rules.specs.Observed.{IsRunOf, handed_out}
+use Rattle.v_run.specs.declared.run_end.RunEnd.{RunEnd}
 use Rattle.v_run.specs.Outcomes.{Assignment, IsOutcome}
 
 -- a collect hands out an answer, which is not that it comes too early
@@ -25,8 +26,8 @@ abbrev pub IsAnswered : Happened → Type 0
 IsAnswered (At host event e) = HandsOut e.input e.answer
 IsAnswered (Missing host) = Unit {0}
 
--- WHAT A RUN IS: the schedule that it gives, and what happens in its history.
-pub record IsRun (c : Settings) (plan : LinkPlan) (rounds : ℕ) (tasks : List Assignment) (was_limited : Bool) (s : Schedule) : Type 0 where
+-- WHAT A RUN IS, which ended so: the schedule that it gives, and what happens in its history.
+pub record IsRun (c : Settings) (plan : LinkPlan) (rounds : ℕ) (tasks : List Assignment) (end : RunEnd) (s : Schedule) : Type 0 where
   pub config : s.config ≡ c
   -- nothing is missing, and what happens rises by Lamport number and station
   pub there : Each IsThere (history_of c s.events)
@@ -36,7 +37,7 @@ pub record IsRun (c : Settings) (plan : LinkPlan) (rounds : ℕ) (tasks : List A
   -- its steps are a run with exactly its observations
   pub run : IsRunOf c s.events
   -- what its stations did
-  pub outcome : IsOutcome c plan rounds tasks was_limited (logs_of c s.events)
+  pub outcome : IsOutcome c plan rounds tasks end (logs_of c s.events)
   -- no event of it is refused for want of room: there are at most 100,000, and before each the frames have at most 266,076,160 bytes
   pub few : length s.events ≤ EVENTS
   pub low : (n : ℕ) → n < length s.events → emitted_bytes (history_of c (take n s.events)) ≤ LAST_BYTES

@@ -12,5 +12,7 @@
 #![tactic(auto)]
 
 mod law;
+mod run_end;
 
 pub use law::{closed_runs_are_joined, joined_runs_are_runs, runs_follow_tasks};
+pub use run_end::RunEnd;

@@ -12,8 +12,8 @@ use Rattle.vk_rules.specs.Each.{Each}
 use Rattle.vk_rules.proofs.Lists.{each_at}
 use Rattle.v_lawful.proofs.Bytes.{zero_bytes}
 use Rattle.v_lawful.proofs.Lists.{each_set}
-use Rattle.vk_pages.specs.declared.serving.Serving.{Serving}
-use Rattle.vk_pages.specs.declared.serving.Serving.TheVariants as stages
+use Rattle.vk_pages.specs.declared.serving.PageServing.{PageServing}
+use Rattle.vk_pages.specs.declared.serving.PageServing.TheVariants as stages
 use Rattle.vk_pages.specs.Messages.{code_of, page_of, reply_of}
 use Rattle.vk_pages.specs.Pages.{zero_page}
 use Rattle.vk_pages.specs.Servers.{Server, answered, answered_all, answered_at, loaded, new_server, one_more, page_in, received, replied, stage_call, taken}
@@ -24,7 +24,7 @@ use Rattle.v_storm.proofs.Messages.{reply_message, start_small, word_small}
 use Rattle.v_storm.proofs.Ours.{our_pid}
 
 -- what it does next is no end
-abbrev pub IsGoodStage : Serving → Type 0
+abbrev pub IsGoodStage : PageServing → Type 0
 IsGoodStage stages.Receive = Unit {0}
 IsGoodStage (stages.Load from page) = IsOurs from × (page < 2 ^ 32)
 IsGoodStage (stages.Store from page dest) = IsOurs from × (page < 16) × (dest < 2 ^ 32)
@@ -80,7 +80,7 @@ received_good pages (answers.ReceivedSegment from m count) all is = taken_good f
 received_good pages a all is = absurd is
 
 -- One answer more.
-abbrev IsAnswerAt : Serving → Answer → Type 0
+abbrev IsAnswerAt : PageServing → Answer → Type 0
 IsAnswerAt stages.Receive a = IsReceived a
 IsAnswerAt (stages.Load from page) a = (bytes : List ℕ) × (a ≡ answers.Loaded bytes) × (length bytes ≡ 512) × IsBytes bytes
 IsAnswerAt stage a = Unit {0}
@@ -112,7 +112,7 @@ loaded_on most s from page a bytes count pages replies ours small is long are =
       stage = (ours, small, omega arith);
     })
 
-serving_at : (stage : Serving) (most : ℕ) (s : Server) (a : Answer) → most + 1 < requests → length s.pages ≡ 16 → Each IsPage s.pages →
+serving_at : (stage : PageServing) (most : ℕ) (s : Server) (a : Answer) → most + 1 < requests → length s.pages ≡ 16 → Each IsPage s.pages →
     s.replies ≤ most → IsGoodStage stage → IsAnswerAt stage a → IsServing (most + 1) (answered_at stage requests s a)
 serving_at stages.Receive most s a few count pages replies good is =
     record { count = count; pages = pages; replies = omega (arith, replies); stage = received_good (length s.pages) a count is }
@@ -149,7 +149,7 @@ there [] page low = absurd (omega arith)
 there (x ∷ xs) zero low = (x, refl)
 there (x ∷ xs) (suc page) low = there xs page (omega arith)
 
-call_at : (stage : Serving) (pages : List (List ℕ)) → length pages ≡ 16 → Each IsPage pages → IsGoodStage stage →
+call_at : (stage : PageServing) (pages : List (List ℕ)) → length pages ≡ 16 → Each IsPage pages → IsGoodStage stage →
     IsGoodCall (stage_call pages stage)
 call_at stages.Receive pages count all good = record {
   call = calls.ReceiveSegment 0 512;
@@ -190,7 +190,7 @@ pub serving_calls : (most : ℕ) (s : Server) → IsServing most s → IsGoodCal
 serving_calls most s is = call_at s.stage s.pages is.count is.pages is.stage
 
 -- an answer to that call
-answers_at : (stage : Serving) (pages : List (List ℕ)) (c : Call) (a : Answer) → stage_call pages stage ≡ Some c → IsAnswerTo c a →
+answers_at : (stage : PageServing) (pages : List (List ℕ)) (c : Call) (a : Answer) → stage_call pages stage ≡ Some c → IsAnswerTo c a →
     IsAnswerAt stage a
 answers_at stages.Receive pages c a is told = subst (λ z. IsAnswerTo z a) (sym (same_Some (calls.ReceiveSegment 0 512) c is)) told
 answers_at (stages.Load from page) pages c a is told = subst (λ z. IsAnswerTo z a) (sym (same_Some (calls.Load 0 512) c is)) told

@@ -9,12 +9,12 @@ use vk_base::limits::STEPS;
 
 /// The steps of one event without their bytes, at most 40. Contracts see their list.
 #[derive(Drop)]
-pub struct Places {
+pub struct StepPlaces {
     steps: [BriefStep; STEPS],
     used: usize,
 }
 
-impl Model for Places {
+impl Model for StepPlaces {
     ghost use Rattle.std.specs.Prelude.{List, length, take, ◌≡◌, ◌≤◌};
     ghost use Rattle.vk_brief.specs.declared.step.BriefStep.{BriefStep as TheStep};
 
@@ -25,12 +25,12 @@ impl Model for Places {
     ghost invariant = { λ p. (p.used ≤ 40) × (length p.steps ≡ 40) };
 }
 
-impl Places {
+impl StepPlaces {
     /// No steps.
     pub fn new() -> Self
         ensures { result ≡ [] }
     {
-        Places {
+        StepPlaces {
             steps: [BriefStep::default(); STEPS],
             used: 0,
         }

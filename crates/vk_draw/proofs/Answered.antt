@@ -1,5 +1,5 @@
 -- From the picture of a text to the answer to an input.
-use Rattle.std.proofs.Common.{◌≡◌, ℕ, ◌+◌, ◌*◌, ◌<◌, ◌≤◌, ◌==◌, Bool, true, false, cond, List, [], ◌∷◌, length, take, Option, Some, None, Ok, Err, ◌⊎◌, inl, inr, refl, ap, subst, sym, ◌∙◌, arith, length-append}
+use Rattle.std.proofs.Common.{◌≡◌, ℕ, ◌+◌, ◌*◌, ◌<◌, ◌≤◌, ◌==◌, ◌&&◌, Bool, true, false, cond, List, [], ◌∷◌, length, take, Option, Some, None, Ok, Err, ◌⊎◌, inl, inr, refl, ap, subst, sym, ◌∙◌, arith, length-append}
 use Rattle.std.specs.Prelude.{IfSome}
 use Rattle.std.specs.Io.KnownBytes.{Appends}
 use Rattle.vk_cluster.specs.declared.report.ClusterRefusal.{ClusterRefusal}
@@ -23,8 +23,14 @@ use Rattle.vk_picture.specs.declared.svg.TheConstants.{ROWS}
 use Rattle.vk_picture.specs.Places.{columns_of, place_behind, station_column}
 use Rattle.vk_draw.specs.declared.status.Status.{Status}
 use Rattle.vk_draw.specs.declared.status.Status.TheVariants as status
-use Rattle.vk_draw.specs.Statuses.{refused, refused_event, unread}
-use Rattle.vk_draw.specs.Top.{IsPicture, IsRefusal, IsTooLarge}
+use Rattle.vk_draw.specs.declared.page.TheConstants.{PAGE_BYTES}
+use Rattle.vk_draw.specs.declared.words.Drawing.{Drawing}
+use Rattle.vk_draw.specs.declared.words.Drawing.TheVariants as asked
+use Rattle.vk_draw.specs.Frames.{frames_text}
+use Rattle.vk_draw.specs.Statuses.{many_for, refused, refused_event, unread}
+use Rattle.vk_draw.specs.Top.{FitsPicture, IsMade, IsPage, IsRefusal, IsTooLarge, report_text}
+use Rattle.vk_page.specs.Page.{is_plain, page_text}
+use Rattle.vk_page.specs.declared.parts.PageParts.{PageParts}
 use Rattle.vk_draw.specs.Work.{IsAnswered, IsOutcome}
 
 -- a process brings two columns at the most
@@ -62,15 +68,20 @@ wanted_some [] (inl some) = absurd (empty_bare some)
 wanted_some [] (inr is) = let bad = empty_bad in absurd (cc)
 wanted_some (b ∷ bs) why = omega arith
 
+-- too many events
+many_refused : (a : Drawing) (text : List ℕ) → schedule_of text ≡ Err schedules.Limit → IsRefusal a text (many_for a)
+many_refused asked.Picture text is = (refl, inl is)
+many_refused asked.Page text is = inl is
+
 -- why a text is not read
-pub refused_text : (text : List ℕ) (e : TextRefusal) → ((e ≡ schedules.NoMemory) × HasProcess text) ⊎ (schedule_of text ≡ Err e)
-    → IsRefusal text (refused e)
-refused_text text (schedules.BadInput line) (inl wanted) = absurd (grind (arith, wanted))
-refused_text text (schedules.BadInput line) (inr is) = is
-refused_text text schedules.Limit (inl wanted) = absurd (grind (arith, wanted))
-refused_text text schedules.Limit (inr is) = inl is
-refused_text text schedules.NoMemory (inl wanted) = wanted_some text (inl wanted.1)
-refused_text text schedules.NoMemory (inr is) = wanted_some text (inr is)
+pub refused_text : (a : Drawing) (text : List ℕ) (e : TextRefusal) → ((e ≡ schedules.NoMemory) × HasProcess text) ⊎ (schedule_of text ≡ Err e)
+    → IsRefusal a text (refused a e)
+refused_text a text (schedules.BadInput line) (inl wanted) = absurd (grind (arith, wanted))
+refused_text a text (schedules.BadInput line) (inr is) = is
+refused_text a text schedules.Limit (inl wanted) = absurd (grind (arith, wanted))
+refused_text a text schedules.Limit (inr is) = many_refused a text is
+refused_text a text schedules.NoMemory (inl wanted) = wanted_some text (inl wanted.1)
+refused_text a text schedules.NoMemory (inr is) = wanted_some text (inr is)
 
 -- why its events are not played
 pub event_refused : (e : ClusterRefusal) (TooLarge : Type 0) → (e ≡ clusters.Limit → TooLarge)
@@ -80,36 +91,89 @@ event_refused clusters.NoMemory TooLarge large = inl refl
 
 -- why nothing is drawn of a schedule
 pub refusal_by : (text : List ℕ) (s : Schedule) (e : Status) → schedule_of text ≡ Ok s → length s.events ≤ ROWS
-    → (e ≡ status.NoMemory) ⊎ ((e ≡ status.Limit) × IsTooLarge s) → IsRefusal text e
-refusal_by text s e spells few (inl is) = subst (IsRefusal text) (sym is) (spelled_some text s spells)
-refusal_by text s e spells few (inr is) = subst (IsRefusal text) (sym is.0) (s, spells, few, is.1)
+    → (e ≡ status.NoMemory) ⊎ ((e ≡ status.Limit) × IsTooLarge s) → IsRefusal asked.Picture text e
+refusal_by text s e spells few (inl is) = subst (IsRefusal asked.Picture text) (sym is) (spelled_some text s spells)
+refusal_by text s e spells few (inr is) = subst (IsRefusal asked.Picture text) (sym is.0) (s, spells, few, is.1)
+
+-- why no page is made of it
+pub page_refusal_by : (text : List ℕ) (s : Schedule) (e : Status) → schedule_of text ≡ Ok s
+    → (e ≡ status.NoMemory) ⊎ ((e ≡ status.Limit) × IsTooLarge s) → IsRefusal asked.Page text e
+page_refusal_by text s e spells (inl is) = subst (IsRefusal asked.Page text) (sym is) (spelled_some text s spells)
+page_refusal_by text s e spells (inr is) = subst (IsRefusal asked.Page text) (sym is.0) (inr (s, spells, is.1))
+
+-- why its texts make none
+pub texts_refused : (text report frames : List ℕ) (s : Schedule) (e : Status) → schedule_of text ≡ Ok s → FitsPicture s
+    → report ≡ report_text s → frames ≡ frames_text s
+    → ((e ≡ status.TooMuchText) × (PAGE_BYTES < length text + length report + length frames))
+    ⊎ ((e ≡ status.NotPlain) × (length text + length report + length frames ≤ PAGE_BYTES)
+    × ((is_plain text && is_plain report && is_plain frames) ≡ false)) → IsRefusal asked.Page text e
+texts_refused text report frames s e spells fits reports frame_lines (inl is) =
+    subst (IsRefusal asked.Page text) (sym is.0) (
+      refl,
+      (
+        s,
+        spells,
+        fits,
+        subst (λ r. PAGE_BYTES < length text + length r + length (frames_text s)) reports
+            (subst (λ f. PAGE_BYTES < length text + length report + length f) frame_lines is.1),
+      ),
+    )
+texts_refused text report frames s e spells fits reports frame_lines (inr is) =
+    subst (IsRefusal asked.Page text) (sym is.0) (
+      refl,
+      (
+        s,
+        spells,
+        fits,
+        subst (λ r. length text + length r + length (frames_text s) ≤ PAGE_BYTES) reports
+            (subst (λ f. length text + length report + length f ≤ PAGE_BYTES) frame_lines is.1),
+        subst (λ r. (is_plain text && is_plain r && is_plain (frames_text s)) ≡ false) reports
+            (subst (λ f. (is_plain text && is_plain report && is_plain f) ≡ false) frame_lines is.2),
+      ),
+    )
+
+-- the page
+pub page_is : (parts : PageParts) (text report frames made : List ℕ) (s : Schedule) → schedule_of text ≡ Ok s → FitsPicture s
+    → report ≡ report_text s → frames ≡ frames_text s → length text + length report + length frames ≤ PAGE_BYTES
+    → (is_plain text && is_plain report && is_plain frames) ≡ true → made ≡ page_text parts text report frames → IsPage parts text made
+page_is parts text report frames made s spells fits reports frame_lines short plain is = record {
+  schedule = s;
+  spells = spells;
+  fits = fits;
+  short = subst (λ r. length text + length r + length (frames_text s) ≤ PAGE_BYTES) reports
+      (subst (λ f. length text + length report + length f ≤ PAGE_BYTES) frame_lines short);
+  plain = subst (λ r. (is_plain text && is_plain r && is_plain (frames_text s)) ≡ true) reports
+      (subst (λ f. (is_plain text && is_plain report && is_plain f) ≡ true) frame_lines plain);
+  is = is ∙ (λ i. page_text parts text (reports i) (frame_lines i));
+}
 
 -- all was written, or a write failed
-pub written_is : (Unchanged : Type 0) (text drawn : List ℕ) (old new : Option (List ℕ)) (s : Status) → length text ≤ INPUT_BYTES
-    → IsPicture text drawn → IsWritten status.Done status.WriteFault drawn old new s → (n : ℕ) × Appends old new (take n drawn) → IsAnswered Unchanged text old new s
-written_is Unchanged text drawn old new s small picture (inl (is, written)) front =
-    subst (IsAnswered Unchanged text old new) (sym is) (record {
+pub written_is : (Unchanged : Type 0) (a : Drawing) (parts : PageParts) (text drawn : List ℕ) (old new : Option (List ℕ)) (s : Status)
+    → length text ≤ INPUT_BYTES → IsMade a parts text drawn → IsWritten status.Done status.WriteFault drawn old new s
+    → (n : ℕ) × Appends old new (take n drawn) → IsAnswered Unchanged a parts text old new s
+written_is Unchanged a parts text drawn old new s small made (inl (is, written)) front =
+    subst (IsAnswered Unchanged a parts text old new) (sym is) (record {
       kinds = (λ e. grind (arith, e), λ e. grind (arith, e));
-      done = λ e. record { small = small; drawn = drawn; picture = picture; output = written };
+      done = λ e. record { small = small; drawn = drawn; made = made; output = written };
       refused = λ told. absurd told;
       memory = λ e. absurd (grind (arith, e));
       nothing = λ early. absurd early;
       front = λ e. absurd (grind (arith, e));
     })
-written_is Unchanged text drawn old new s small picture (inr is) front =
-    subst (IsAnswered Unchanged text old new) (sym is) (record {
+written_is Unchanged a parts text drawn old new s small made (inr is) front =
+    subst (IsAnswered Unchanged a parts text old new) (sym is) (record {
       kinds = (λ e. grind (arith, e), λ e. grind (arith, e));
       done = λ e. absurd (grind (arith, e));
       refused = λ told. absurd told;
       memory = λ e. absurd (grind (arith, e));
       nothing = λ early. absurd early;
-      front = λ e. record { small = small; drawn = drawn; picture = picture; count = front.0; written = front.1 };
+      front = λ e. record { small = small; drawn = drawn; made = made; count = front.0; written = front.1 };
     })
 
 -- nothing is written of a text
-pub refused_is : (Unchanged : Type 0) (text : List ℕ) (old : Option (List ℕ)) (s : Status) → Unchanged → IsRefusal text s
-    → IsAnswered Unchanged text old old s
-refused_is Unchanged text old (status.BadInput line) same why = record {
+pub refused_is : (Unchanged : Type 0) (a : Drawing) (parts : PageParts) (text : List ℕ) (old : Option (List ℕ)) (s : Status) → Unchanged
+    → IsRefusal a text s → IsAnswered Unchanged a parts text old old s
+refused_is Unchanged a parts text old (status.BadInput line) same why = record {
   kinds = (λ e. grind (arith, e), λ e. grind (arith, e));
   done = λ e. absurd (grind (arith, e));
   refused = λ told. why;
@@ -117,7 +181,7 @@ refused_is Unchanged text old (status.BadInput line) same why = record {
   nothing = λ early. same;
   front = λ e. absurd (grind (arith, e));
 }
-refused_is Unchanged text old status.TooManyEvents same why = record {
+refused_is Unchanged a parts text old status.TooManyEvents same why = record {
   kinds = (λ e. grind (arith, e), λ e. grind (arith, e));
   done = λ e. absurd (grind (arith, e));
   refused = λ told. why;
@@ -125,7 +189,7 @@ refused_is Unchanged text old status.TooManyEvents same why = record {
   nothing = λ early. same;
   front = λ e. absurd (grind (arith, e));
 }
-refused_is Unchanged text old status.Limit same why = record {
+refused_is Unchanged a parts text old status.Limit same why = record {
   kinds = (λ e. grind (arith, e), λ e. grind (arith, e));
   done = λ e. absurd (grind (arith, e));
   refused = λ told. why;
@@ -133,7 +197,23 @@ refused_is Unchanged text old status.Limit same why = record {
   nothing = λ early. same;
   front = λ e. absurd (grind (arith, e));
 }
-refused_is Unchanged text old status.NoMemory same why = record {
+refused_is Unchanged a parts text old status.TooMuchText same why = record {
+  kinds = (λ e. grind (arith, e), λ e. grind (arith, e));
+  done = λ e. absurd (grind (arith, e));
+  refused = λ told. why;
+  memory = λ e. absurd (grind (arith, e));
+  nothing = λ early. same;
+  front = λ e. absurd (grind (arith, e));
+}
+refused_is Unchanged a parts text old status.NotPlain same why = record {
+  kinds = (λ e. grind (arith, e), λ e. grind (arith, e));
+  done = λ e. absurd (grind (arith, e));
+  refused = λ told. why;
+  memory = λ e. absurd (grind (arith, e));
+  nothing = λ early. same;
+  front = λ e. absurd (grind (arith, e));
+}
+refused_is Unchanged a parts text old status.NoMemory same why = record {
   kinds = (λ e. grind (arith, e), λ e. grind (arith, e));
   done = λ e. absurd (grind (arith, e));
   refused = λ told. absurd told;
@@ -141,10 +221,10 @@ refused_is Unchanged text old status.NoMemory same why = record {
   nothing = λ early. same;
   front = λ e. absurd (grind (arith, e));
 }
-refused_is Unchanged text old status.Done same why = absurd why
-refused_is Unchanged text old status.Usage same why = absurd why
-refused_is Unchanged text old status.ReadFault same why = absurd why
-refused_is Unchanged text old status.WriteFault same why = absurd why
+refused_is Unchanged a parts text old status.Done same why = absurd why
+refused_is Unchanged a parts text old status.Usage same why = absurd why
+refused_is Unchanged a parts text old status.ReadFault same why = absurd why
+refused_is Unchanged a parts text old status.WriteFault same why = absurd why
 
 -- the input
 
@@ -159,10 +239,10 @@ not_whole (Some i) None lost = absurd lost.front
 not_whole (Some i) (Some ys) lost =
     λ small. absurd (omega (arith, small, lost.count, ap length lost.front, length-append lost.bytes ys))
 
-pub read_is : (Unchanged : Type 0) (left rest old new : Option (List ℕ)) (text seen : List ℕ) (s : Status) → IsText left rest text
-    → seen ≡ text → IsAnswered Unchanged seen old new s → IsOutcome Unchanged left rest old new s
-read_is Unchanged left rest old new text seen s read same given =
-    let answered = subst (λ t. IsAnswered Unchanged t old new s) same given in
+pub read_is : (Unchanged : Type 0) (a : Drawing) (parts : PageParts) (left rest old new : Option (List ℕ)) (text seen : List ℕ) (s : Status)
+    → IsText left rest text → seen ≡ text → IsAnswered Unchanged a parts seen old new s → IsOutcome Unchanged a parts left rest old new s
+read_is Unchanged a parts left rest old new text seen s read same given =
+    let answered = subst (λ t. IsAnswered Unchanged a parts t old new s) same given in
     let all = is_all left rest text read in
     record {
       kinds = answered.kinds.0;
@@ -174,9 +254,9 @@ read_is Unchanged left rest old new text seen s read same given =
       front = λ is. record { input = text; all = all; holds = answered.front is };
     }
 
-unread_as : (Unchanged : Type 0) (left rest old : Option (List ℕ)) (r : ReadRefusal) → Unchanged → IsUnread left rest r
-    → IsOutcome Unchanged left rest old old (unread r)
-unread_as Unchanged left rest old reads.Failed same why = record {
+unread_as : (Unchanged : Type 0) (a : Drawing) (parts : PageParts) (left rest old : Option (List ℕ)) (r : ReadRefusal) → Unchanged
+    → IsUnread left rest r → IsOutcome Unchanged a parts left rest old old (unread r)
+unread_as Unchanged a parts left rest old reads.Failed same why = record {
   kinds = λ e. grind (arith, e);
   done = λ e. absurd (grind (arith, e));
   whole = λ late. absurd late;
@@ -185,7 +265,7 @@ unread_as Unchanged left rest old reads.Failed same why = record {
   nothing = λ early. same;
   front = λ e. absurd (grind (arith, e));
 }
-unread_as Unchanged left rest old reads.TooLong same why =
+unread_as Unchanged a parts left rest old reads.TooLong same why =
     let many = too_many left rest why in record {
       kinds = λ e. grind (arith, e);
       done = λ e. absurd (grind (arith, e));
@@ -195,7 +275,7 @@ unread_as Unchanged left rest old reads.TooLong same why =
       nothing = λ early. same;
       front = λ e. absurd (grind (arith, e));
     }
-unread_as Unchanged left rest old reads.NoMemory same why = record {
+unread_as Unchanged a parts left rest old reads.NoMemory same why = record {
   kinds = λ e. grind (arith, e);
   done = λ e. absurd (grind (arith, e));
   whole = λ late. absurd late;
@@ -205,10 +285,10 @@ unread_as Unchanged left rest old reads.NoMemory same why = record {
   front = λ e. absurd (grind (arith, e));
 }
 
-pub unread_is : (Unchanged : Type 0) (left rest old : Option (List ℕ)) (r : ReadRefusal) (s : Status) → s ≡ unread r → Unchanged
-    → IsUnread left rest r → IsOutcome Unchanged left rest old old s
-unread_is Unchanged left rest old r s is same why =
-    subst (IsOutcome Unchanged left rest old old) (sym is) (unread_as Unchanged left rest old r same why)
+pub unread_is : (Unchanged : Type 0) (a : Drawing) (parts : PageParts) (left rest old : Option (List ℕ)) (r : ReadRefusal) (s : Status)
+    → s ≡ unread r → Unchanged → IsUnread left rest r → IsOutcome Unchanged a parts left rest old old s
+unread_is Unchanged a parts left rest old r s is same why =
+    subst (IsOutcome Unchanged a parts left rest old old) (sym is) (unread_as Unchanged a parts left rest old r same why)
 
 -- what is told where the input was not read
 

@@ -1,3 +1,4 @@
+pub mod Frames
 pub mod Playing
 pub mod Rows
 pub mod Statuses

@@ -17,7 +17,7 @@ use Rattle.vk_picture.specs.declared.picture.CallKind.{CallKind}
 use Rattle.vk_picture.specs.declared.picture.CallKind.TheVariants as kinds
 use Rattle.vk_picture.specs.declared.picture.FrameMark.{FrameMark}
 use Rattle.vk_picture.specs.declared.picture.Picture.{Picture}
-use Rattle.vk_picture.specs.declared.picture.Row.{Row}
+use Rattle.vk_picture.specs.declared.picture.EventRow.{EventRow}
 use Rattle.vk_picture.specs.declared.picture.Said.{Said}
 use Rattle.vk_picture.specs.declared.picture.Said.TheVariants as said
 use Rattle.vk_picture.specs.declared.picture.StepKind.TheVariants as marks
@@ -88,7 +88,7 @@ abbrev pub frame_mark : Frame → FrameMark
 frame_mark f = record { kind = kind_of f.packet; output = f.header.output }
 
 -- an event of this number in the schedule, and what happened at it
-abbrev pub picture_row : ℕ → Event → Happened → Row
+abbrev pub picture_row : ℕ → Event → Happened → EventRow
 picture_row number e (At host own entry) = record {
   number = number;
   host = host;
@@ -102,12 +102,12 @@ picture_row number e (Missing host) =
     record { number = number; host = host; own = 0; act = act_of e; said = said.Missing; steps = []; frames = [] }
 
 -- the rows of events behind so many others, which left these entries
-unfoldable pub rows_from : Settings → Logs → ℕ → List Event → List Row
+unfoldable pub rows_from : Settings → Logs → ℕ → List Event → List EventRow
 rows_from c logs before [] = []
 rows_from c logs before (e ∷ es) =
     picture_row (before + 1) e (happened c logs e) ∷ rows_from c (logs_after logs (happened c logs e)) (before + 1) es
 
-abbrev pub rows_of : Settings → List Event → List Row
+abbrev pub rows_of : Settings → List Event → List EventRow
 rows_of c es = rows_from c no_entries 0 es
 
 -- what is drawn of the history of a schedule

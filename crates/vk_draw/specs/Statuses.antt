@@ -9,6 +9,8 @@ use Rattle.vk_schedule.specs.declared.schedule.TextRefusal.{TextRefusal}
 use Rattle.vk_schedule.specs.declared.schedule.TextRefusal.TheVariants as schedules
 use Rattle.vk_draw.specs.declared.status.Status.{Status}
 use Rattle.vk_draw.specs.declared.status.Status.TheVariants as status
+use Rattle.vk_draw.specs.declared.words.Drawing.{Drawing}
+use Rattle.vk_draw.specs.declared.words.Drawing.TheVariants as asked
 
 abbrev pub number_of : Status → ℕ
 number_of status.Done = DONE
@@ -19,16 +21,20 @@ number_of status.WriteFault = WRITE_FAULT
 number_of status.NoMemory = NO_MEMORY
 number_of status.Limit = LIMIT
 number_of status.TooManyEvents = 9
+number_of status.TooMuchText = 10
+number_of status.NotPlain = 11
 
 abbrev pub text_of : Status → List ℕ
 text_of status.Done = []
-text_of status.Usage = codes "vkdraw: usage: vkdraw"
+text_of status.Usage = codes "vkdraw: usage: vkdraw [--page]"
 text_of (status.BadInput line) = codes "vkdraw: line " ++ decimal line ++ codes " is not valid"
 text_of status.ReadFault = codes "vkdraw: reading failed"
 text_of status.WriteFault = codes "vkdraw: writing failed"
 text_of status.NoMemory = codes "vkdraw: out of memory"
 text_of status.Limit = codes "vkdraw: limit reached"
-text_of status.TooManyEvents = codes "vkdraw: more than 500 events"
+text_of status.TooManyEvents = codes "vkdraw: more than 500 events; vkdraw --page makes a page of them"
+text_of status.TooMuchText = codes "vkdraw: more than 67108864 bytes of text"
+text_of status.NotPlain = codes "vkdraw: a text cannot stand in a page"
 
 -- the answer to an input that is not read whole
 abbrev pub unread : ReadRefusal → Status
@@ -36,11 +42,16 @@ unread reads.Failed = status.ReadFault
 unread reads.TooLong = status.Limit
 unread reads.NoMemory = status.NoMemory
 
+-- the answer to too many events in a text
+abbrev pub many_for : Drawing → Status
+many_for asked.Picture = status.TooManyEvents
+many_for asked.Page = status.Limit
+
 -- the answer to a text that is not read; only code can want memory
-abbrev pub refused : TextRefusal → Status
-refused (schedules.BadInput line) = status.BadInput line
-refused schedules.Limit = status.TooManyEvents
-refused schedules.NoMemory = status.NoMemory
+abbrev pub refused : Drawing → TextRefusal → Status
+refused a (schedules.BadInput line) = status.BadInput line
+refused a schedules.Limit = many_for a
+refused a schedules.NoMemory = status.NoMemory
 
 -- the answer where an event is refused
 abbrev pub refused_event : ClusterRefusal → Status

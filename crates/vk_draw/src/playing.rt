@@ -22,7 +22,7 @@ use std::alloc::Global;
 use vk_base::{EventAnswer, List, NoMemory};
 use vk_cluster::{Cluster, ClusterAnswer, ClusterRefusal, StepReport};
 use vk_host::Host;
-use vk_picture::{Picture, ROWS, Row, Said, columns_of};
+use vk_picture::{EventRow, Picture, ROWS, Said, columns_of};
 use vk_schedule::{Event, Schedule};
 
 /// The station's last event, of which the cluster reports, and which was answered so.
@@ -33,12 +33,12 @@ fn station_row(
     event: &Event,
     report: &StepReport,
     answer: &EventAnswer,
-) -> Result<Row, NoMemory>
+) -> Result<EventRow, NoMemory>
     requires { (e : Entry) × IsLastEvent station.now answer.now e }
     ensures { IfOk result (λ row. (e : Entry) → IsLastEvent station.now answer.now e →
         row ≡ picture_row number event.now (At report.now.host report.now.event e)) }
 {
-    Ok(Row {
+    Ok(EventRow {
         number,
         host: report.host,
         own: report.event,
@@ -50,10 +50,10 @@ fn station_row(
 }
 
 /// A delivery to this station, of what was not emitted for it.
-fn missing_row(alloc: Global, number: u16, event: &Event, host: u16) -> Row
+fn missing_row(alloc: Global, number: u16, event: &Event, host: u16) -> EventRow
     ensures { result ≡ picture_row number event.now (Missing host) }
 {
-    Row {
+    EventRow {
         number,
         host,
         own: 0,
@@ -71,7 +71,7 @@ fn row_by(
     number: u16,
     event: &Event,
     report: &StepReport,
-) -> Result<Row, NoMemory>
+) -> Result<EventRow, NoMemory>
     requires { (c : Settings) × (es : List TheEvent) × HasReported c es cluster.now event.now report.now }
     ensures { IfOk result (λ row. (c : Settings) (es : List TheEvent) → HasReported c es cluster.now event.now report.now →
         row ≡ next_row c es event.now number) }
@@ -89,7 +89,7 @@ fn row_by(
 fn put_report(
     alloc: Global,
     cluster: &Cluster,
-    rows: &mut List<Row>,
+    rows: &mut List<EventRow>,
     event: &Event,
     report: &StepReport,
 ) -> Result<(), NoMemory>
@@ -107,7 +107,7 @@ fn put_report(
 fn put_event(
     alloc: Global,
     cluster: &mut Cluster,
-    rows: &mut List<Row>,
+    rows: &mut List<EventRow>,
     event: &Event,
 ) -> Result<(), ClusterRefusal>
     requires few { length rows.old < ROWS }
@@ -134,7 +134,7 @@ fn rows_of(
     cluster: &mut Cluster,
     schedule: &Schedule,
     events: &[Event],
-) -> Result<List<Row>, Status>
+) -> Result<List<EventRow>, Status>
     requires lawful { IsLawful schedule.now }
     requires events { events.now ≡ schedule.now.events }
     requires few { length events.now ≤ ROWS }

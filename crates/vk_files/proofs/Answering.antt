@@ -9,7 +9,7 @@ use Rattle.vk_files.specs.Volumes.{files_of}
 use Rattle.vk_files.specs.declared.disk.Telling.{Telling}
 use Rattle.vk_files.specs.declared.disk.Telling.TheVariants.{Done}
 use Rattle.vk_files.specs.declared.entry.Entry.{Entry}
-use Rattle.vk_files.specs.declared.serving.Serving.{Serving}
+use Rattle.vk_files.specs.declared.serving.FileServing.{FileServing}
 
 -- one answer more
 stepped_more : (files : List Entry) (requests : ℕ) (coming : List Telling) (c : Course) (given : List Answer) (a : Answer)
@@ -60,7 +60,7 @@ as_foretold false coming made t old new left is =
     record { told = is.0; left = ap (λ (d : DiskState). d.coming) is.1 ∙ left }
 
 -- one step, by the parts of both states
-step_parts : (first : DiskState) (requests : ℕ) (given : List Answer) (a : Answer) (t : Telling) (replies more : ℕ) (stage next : Serving)
+step_parts : (first : DiskState) (requests : ℕ) (given : List Answer) (a : Answer) (t : Telling) (replies more : ℕ) (stage next : FileServing)
     (reading now : DiskAhead)
     → IsAfter (record { first = first; requests = requests; replies = replies; stage = stage; reading = reading }) given
     → Works (work_of (turn_at (files_of first.blocks) requests replies stage a)) t reading now

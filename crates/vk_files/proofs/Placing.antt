@@ -18,8 +18,8 @@ use Rattle.vk_files.specs.declared.disk.Telling.TheVariants.{Done, Lost, Landed}
 use Rattle.vk_files.specs.declared.entry.Entry.{Entry}
 use Rattle.vk_files.specs.declared.entry.File.{File}
 use Rattle.vk_files.specs.declared.limits.TheConstants.{BLOCK_BYTES, FILE_BYTES}
-use Rattle.vk_files.specs.declared.serving.Serving.{Serving}
-use Rattle.vk_files.specs.declared.serving.Serving.TheVariants as stages
+use Rattle.vk_files.specs.declared.serving.FileServing.{FileServing}
+use Rattle.vk_files.specs.declared.serving.FileServing.TheVariants as stages
 use Rattle.vk_files.specs.declared.serving.Turn.{Turn}
 use Rattle.vk_files.specs.declared.serving.Turn.TheVariants as turns
 
@@ -118,7 +118,7 @@ between_placed count requests replies = either (IsPlaced count) (replies == requ
 
 between_calm : (requests replies : ℕ) → is_failure (between requests replies) ≡ false
 between_calm requests replies =
-    either (λ (s : Serving). is_failure s ≡ false) (replies == requests) stages.Exit stages.Receive (λ _. refl) (λ _. refl)
+    either (λ (s : FileServing). is_failure s ≡ false) (replies == requests) stages.Exit stages.Receive (λ _. refl) (λ _. refl)
 
 went_on_fine : (count : ℕ) (f : File) (page requests replies : ℕ) → IsOnDisk count f
     → IsFine count (went_on f page (between requests replies))
@@ -131,7 +131,7 @@ went_on_fine count f page requests replies on =
     })
     (λ _. record { reach = between_placed count requests replies; calm = between_calm requests replies })
 
-pub turn_fine : (count : ℕ) (files : List Entry) (requests replies : ℕ) (stage : Serving) (a : Answer) → AreOnDisk count files
+pub turn_fine : (count : ℕ) (files : List Entry) (requests replies : ℕ) (stage : FileServing) (a : Answer) → AreOnDisk count files
     → IsPlaced count stage → IsFine count (turn_at files requests replies stage a)
 turn_fine count files requests replies stages.Receive a on placed = received_fine count files a on
 turn_fine count files requests replies (stages.Load from f page) a on placed = loaded_fine count from f page (page_in a) placed
@@ -205,7 +205,7 @@ code_is code file number from to h =
     let same : reply_of code file number ≡ reply_of 3 0 0 = cc in
     ap (λ (m : Message). slice_index m.0 1) same
 
-pub failure_called : (stage : Serving) (from : Pid) → stage_call stage ≡ Some (calls.Reply (reply_of 3 0 0) from) → is_failure stage ≡ true
+pub failure_called : (stage : FileServing) (from : Pid) → stage_call stage ≡ Some (calls.Reply (reply_of 3 0 0) from) → is_failure stage ≡ true
 failure_called stages.Receive from h = absurd (cc)
 failure_called (stages.Load to f page) from h = absurd (cc)
 failure_called (stages.Store to f page dest bytes) from h = absurd (cc)

@@ -18,11 +18,11 @@ use Rattle.vk_files.specs.Volumes.{files_of}
 use Rattle.vk_files.specs.declared.disk.Telling.{Telling}
 use Rattle.vk_files.specs.declared.disk.Telling.TheVariants.{Done, Lost, Landed}
 use Rattle.vk_files.specs.declared.entry.Entry.{Entry}
-use Rattle.vk_files.specs.declared.serving.Serving.{Serving}
+use Rattle.vk_files.specs.declared.serving.FileServing.{FileServing}
 use Rattle.vk_files.specs.declared.serving.Turn.{Turn}
 
 -- the turn of a server asks for what lies on its disk
-pub serving_fine : (first : DiskState) (files seen : List Entry) (requests replies : ℕ) (stage : Serving) (reading : DiskAhead) (a : Answer)
+pub serving_fine : (first : DiskState) (files seen : List Entry) (requests replies : ℕ) (stage : FileServing) (reading : DiskAhead) (a : Answer)
     (turn : Turn) → IsServing first files stage reading → seen ≡ files → turn ≡ turn_at seen requests replies stage a
     → IsFine (length reading.disk.blocks) turn
 serving_fine first files seen requests replies stage reading a turn is same made =
@@ -41,7 +41,7 @@ same_count (Writes block bytes) Lost blocks = refl
 same_count (Writes block bytes) Landed blocks = length-set blocks block bytes
 
 -- what a server keeps to, after a turn
-pub still_serving : (first : DiskState) (files : List Entry) (stage next : Serving) (reading now : DiskAhead) (turn : Turn)
+pub still_serving : (first : DiskState) (files : List Entry) (stage next : FileServing) (reading now : DiskAhead) (turn : Turn)
     → IsServing first files stage reading → IsFine (length reading.disk.blocks) turn → IsActed turn reading now next
     → IsServing first files next now
 still_serving first files stage next reading now turn is fine acted =
@@ -56,7 +56,7 @@ still_serving first files stage next reading now turn is fine acted =
     }
 
 -- what a server does with an answer is its step
-pub step_made : (first : DiskState) (files seen : List Entry) (requests replies more : ℕ) (stage next : Serving) (reading now : DiskAhead)
+pub step_made : (first : DiskState) (files seen : List Entry) (requests replies more : ℕ) (stage next : FileServing) (reading now : DiskAhead)
     (a : Answer) (turn : Turn) → IsServing first files stage reading → seen ≡ files → turn ≡ turn_at seen requests replies stage a
     → more ≡ replies_after requests stage replies → IsActed turn reading now next
     → IsServerStep a (record { first = first; requests = requests; replies = replies; stage = stage; reading = reading })

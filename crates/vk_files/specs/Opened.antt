@@ -9,12 +9,12 @@ use Rattle.vk_files.specs.Tasks.{FileState}
 use Rattle.vk_files.specs.Volumes.{files_of, first_bad}
 use Rattle.vk_files.specs.declared.disk.Telling.TheVariants.{Done}
 use Rattle.vk_files.specs.declared.entry.Entry.{Entry}
-use Rattle.vk_files.specs.declared.serving.Serving.{Serving}
+use Rattle.vk_files.specs.declared.serving.FileServing.{FileServing}
 use Rattle.vk_files.specs.declared.volume.VolumeFault.{VolumeFault}
 use Rattle.vk_files.specs.declared.volume.VolumeFault.TheVariants as faults
 
 -- what a server keeps to, which was made over this disk: the directory is its first block and lawful, and what it does lies on the disk
-pub record IsServing (first : DiskState) (entries : List Entry) (doing : Serving) (reading : DiskAhead) : Type 0 where
+pub record IsServing (first : DiskState) (entries : List Entry) (doing : FileServing) (reading : DiskAhead) : Type 0 where
   pub few : length first.blocks < 2 ^ 32
   pub files : entries ≡ files_of first.blocks
   pub lawful : first_bad (length first.blocks) (files_of first.blocks) ≡ None

@@ -3,8 +3,8 @@ use Rattle.std.specs.Prelude.{◌≡◌, ℕ, ◌+◌, ◌<◌, ◌≤◌, List,
 use Rattle.vk_files.specs.Volumes.{file_at}
 use Rattle.vk_files.specs.declared.entry.Entry.{Entry}
 use Rattle.vk_files.specs.declared.entry.File.{File}
-use Rattle.vk_files.specs.declared.serving.Serving.{Serving}
-use Rattle.vk_files.specs.declared.serving.Serving.TheVariants as stages
+use Rattle.vk_files.specs.declared.serving.FileServing.{FileServing}
+use Rattle.vk_files.specs.declared.serving.FileServing.TheVariants as stages
 use Rattle.vk_files.specs.declared.serving.Turn.{Turn}
 use Rattle.vk_files.specs.declared.serving.Turn.TheVariants as turns
 
@@ -23,7 +23,7 @@ pub record IsPageOn (count : ℕ) (f : File) (page : ℕ) : Type 0 where
   pub within : page < f.blocks
 
 -- what a server does speaks of such pages
-abbrev pub IsPlaced : ℕ → Serving → Type 0
+abbrev pub IsPlaced : ℕ → FileServing → Type 0
 IsPlaced count stages.Receive = Unit {0}
 IsPlaced count (stages.Load from f page) = IsPageOn count f page
 IsPlaced count (stages.Store from f page dest bytes) = IsPageOn count f page

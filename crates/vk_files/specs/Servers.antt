@@ -12,8 +12,8 @@ use Rattle.vk_files.specs.declared.disk.Telling.TheVariants.{Done, Lost, Landed}
 use Rattle.vk_files.specs.declared.entry.Entry.{Entry}
 use Rattle.vk_files.specs.declared.entry.File.{File}
 use Rattle.vk_files.specs.declared.limits.TheConstants.{BLOCK_BYTES}
-use Rattle.vk_files.specs.declared.serving.Serving.{Serving}
-use Rattle.vk_files.specs.declared.serving.Serving.TheVariants as stages
+use Rattle.vk_files.specs.declared.serving.FileServing.{FileServing}
+use Rattle.vk_files.specs.declared.serving.FileServing.TheVariants as stages
 use Rattle.vk_files.specs.declared.serving.Turn.{Turn}
 use Rattle.vk_files.specs.declared.serving.Turn.TheVariants as turns
 
@@ -21,7 +21,7 @@ use Rattle.vk_files.specs.declared.serving.Turn.TheVariants as turns
 pub record Server : Type 0 where
   pub blocks : List (List ℕ)
   pub replies : ℕ
-  pub stage : Serving
+  pub stage : FileServing
 
 -- a reply that the request was not done, for this reason
 abbrev pub refused : Pid → ℕ → Turn
@@ -89,7 +89,7 @@ moved from f answers.Ok = turns.Goes (stages.Reply from 0 f.number f.length)
 moved from f _ = refused from 4
 
 -- behind so many replies, of which there are to be so many
-abbrev pub between : ℕ → ℕ → Serving
+abbrev pub between : ℕ → ℕ → FileServing
 between requests replies = if replies == requests then stages.Exit else stages.Receive
 
 -- one reply more, of at most so many
@@ -97,11 +97,11 @@ abbrev pub one_more : ℕ → ℕ → ℕ
 one_more requests replies = min (replies + 1) requests
 
 -- after a page was read, whatever the reply was answered, the page behind it is fetched ahead, if there is one
-abbrev pub went_on : File → ℕ → Serving → Turn
+abbrev pub went_on : File → ℕ → FileServing → Turn
 went_on f page next = if nat_lt (page + 1) f.blocks then turns.GoesAhead f (page + 1) next else turns.Goes next
 
 -- what it does after its last call was answered so
-abbrev pub turn_at : List Entry → ℕ → ℕ → Serving → Answer → Turn
+abbrev pub turn_at : List Entry → ℕ → ℕ → FileServing → Answer → Turn
 turn_at files requests replies stages.Receive a = received files a
 turn_at files requests replies (stages.Load from f page) a = loaded from f page (page_in a)
 turn_at files requests replies (stages.Store from f page dest bytes) a = turns.Goes (stages.ReplyPage from f page dest)
@@ -113,7 +113,7 @@ turn_at files requests replies stages.Exit a = turns.Goes stages.Ended
 turn_at files requests replies stages.Ended a = turns.Goes stages.Ended
 
 -- each reply counts, whatever it was answered
-abbrev pub replies_after : ℕ → Serving → ℕ → ℕ
+abbrev pub replies_after : ℕ → FileServing → ℕ → ℕ
 replies_after requests (stages.ReplyPage from f page dest) replies = one_more requests replies
 replies_after requests (stages.Reply from code file number) replies = one_more requests replies
 replies_after requests _ replies = replies
@@ -140,23 +140,23 @@ blocks_after (Fetches block) t blocks = blocks
 blocks_after (FetchesAhead block) t blocks = blocks
 
 -- a page that was fetched
-abbrev pub stored : Pid → File → ℕ → ℕ → Option (List ℕ) → Serving
+abbrev pub stored : Pid → File → ℕ → ℕ → Option (List ℕ) → FileServing
 stored from f page dest None = stages.Reply from 3 0 0
 stored from f page dest (Some bytes) = stages.Store from f page dest bytes
 
 -- a block of a file that is loaded
-abbrev pub put_there : Pid → File → ℕ → ℕ → Option (List ℕ) → Serving
+abbrev pub put_there : Pid → File → ℕ → ℕ → Option (List ℕ) → FileServing
 put_there from f at dest None = stages.Reply from 3 0 0
 put_there from f at dest (Some bytes) = stages.Gather from f at dest bytes
 
 -- a page that was written, or not
-abbrev pub answered_write : Pid → File → ℕ → Telling → Serving
+abbrev pub answered_write : Pid → File → ℕ → Telling → FileServing
 answered_write from f page Done = stages.Reply from 0 f.number page
 answered_write from f page Lost = stages.Reply from 3 0 0
 answered_write from f page Landed = stages.Reply from 3 0 0
 
 -- what it does after a turn, by what the disk told and the blocks that were there
-abbrev pub stage_after : Turn → Telling → List (List ℕ) → Serving
+abbrev pub stage_after : Turn → Telling → List (List ℕ) → FileServing
 stage_after (turns.Goes next) t blocks = next
 stage_after (turns.GoesAhead f page next) t blocks = next
 stage_after (turns.FetchPage from f page dest) t blocks = stored from f page dest (fetched t blocks (f.start + page))
@@ -174,7 +174,7 @@ answered files requests s t a =
     }
 
 -- a reply that the disk failed
-abbrev pub is_failure : Serving → Bool
+abbrev pub is_failure : FileServing → Bool
 is_failure (stages.Reply from code file number) = code == 3
 is_failure stages.Receive = false
 is_failure (stages.Load from f page) = false
@@ -186,7 +186,7 @@ is_failure stages.Exit = false
 is_failure stages.Ended = false
 
 -- what it calls
-abbrev pub stage_call : Serving → Option Call
+abbrev pub stage_call : FileServing → Option Call
 stage_call stages.Receive = Some (calls.ReceiveSegment 0 BLOCK_BYTES)
 stage_call (stages.Load from f page) = Some (calls.Load 0 BLOCK_BYTES)
 stage_call (stages.Store from f page dest bytes) = Some (calls.Store 0 bytes)

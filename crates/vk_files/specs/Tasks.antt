@@ -9,7 +9,7 @@ use Rattle.vk_files.specs.Volumes.{files_of}
 use Rattle.vk_files.specs.declared.disk.Telling.{Telling}
 use Rattle.vk_files.specs.declared.disk.Telling.TheVariants.{Done}
 use Rattle.vk_files.specs.declared.entry.Entry.{Entry}
-use Rattle.vk_files.specs.declared.serving.Serving.{Serving}
+use Rattle.vk_files.specs.declared.serving.FileServing.{FileServing}
 use Rattle.vk_files.specs.declared.serving.Turn.{Turn}
 
 -- after these answers, behind others, where behind each list of answers the disk tells this
@@ -74,7 +74,7 @@ pub record FileState : Type 0 where
   pub first : DiskState
   pub requests : ℕ
   pub replies : ℕ
-  pub stage : Serving
+  pub stage : FileServing
   pub reading : DiskAhead
 
 abbrev pub server_of : FileState → Server
@@ -90,7 +90,7 @@ pub record IsAfter (s : FileState) (given : List Answer) : Type 0 where
   pub ahead : (course_of s.first.blocks s.requests coming given).ahead ≡ s.reading.ahead
 
 -- this turn was taken with the disk, and this is next
-pub record IsActed (turn : Turn) (old new : DiskAhead) (stage : Serving) : Type 0 where
+pub record IsActed (turn : Turn) (old new : DiskAhead) (stage : FileServing) : Type 0 where
   pub told : Telling
   pub works : Works (work_of turn) told old new
   pub next : stage ≡ stage_after turn told old.disk.blocks

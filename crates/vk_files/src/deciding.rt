@@ -9,7 +9,7 @@ use crate::directory::{file_at, file_named};
 use crate::entry::{Entry, File};
 use crate::limits::{BLOCK_BYTES, FILES};
 use crate::message::{code_of, file_of, name_of, page_of, reply_of};
-use crate::serving::{Serving, Turn};
+use crate::serving::{FileServing, Turn};
 use vk_base::{Answer, Call, Data, Message, Pid};
 
 /// A reply that the request was not done, for this reason.
@@ -17,7 +17,7 @@ fn refused(from: Pid, code: u8) -> Turn
     ensures { result ≡ refused from code }
 {
     Turn::Goes {
-        next: Serving::Reply {
+        next: FileServing::Reply {
             from,
             code,
             file: 0,
@@ -31,7 +31,7 @@ fn with_length(from: Pid, file: File) -> Turn
     ensures { result ≡ opened from (Some file) }
 {
     Turn::Goes {
-        next: Serving::Reply {
+        next: FileServing::Reply {
             from,
             code: 0,
             file: file.number,
@@ -94,7 +94,7 @@ fn asked_to_write(from: Pid, message: &Message, file: Option<File>) -> Turn
         refused(from, 1)
     } else if grants.read && grants.range.len == BLOCK_BYTES as u32 {
         Turn::Goes {
-            next: Serving::Load { from, file, page },
+            next: FileServing::Load { from, file, page },
         }
     } else {
         refused(from, 2)
@@ -114,7 +114,7 @@ fn gathered(from: Pid, file: File, at: u32, dest: u32) -> Turn
         }
     } else {
         Turn::Goes {
-            next: Serving::Move { from, file, dest },
+            next: FileServing::Move { from, file, dest },
         }
     }
 }
@@ -156,7 +156,7 @@ fn received(files: &[Entry], answer: &Answer) -> Turn
     match answer {
         Answer::ReceivedSegment { from, message, .. } => taken(files, *from, message),
         _ => Turn::Goes {
-            next: Serving::Ended,
+            next: FileServing::Ended,
         },
     }
 }
@@ -182,7 +182,7 @@ fn loaded(from: Pid, file: File, page: u32, bytes: Option<[u8; BLOCK_BYTES]>) ->
 {
     match bytes {
         None => Turn::Goes {
-            next: Serving::Ended,
+            next: FileServing::Ended,
         },
         Some(bytes) => Turn::WritePage {
             from,
@@ -204,13 +204,13 @@ fn moved(from: Pid, file: File, answer: &Answer) -> Turn
 }
 
 /// What it does behind so many replies of so many.
-pub fn between(requests: u32, replies: u32) -> Serving
+pub fn between(requests: u32, replies: u32) -> FileServing
     ensures { result ≡ between requests replies }
 {
     if replies == requests {
-        Serving::Exit
+        FileServing::Exit
     } else {
-        Serving::Receive
+        FileServing::Receive
     }
 }
 
@@ -222,7 +222,7 @@ fn one_more(requests: u32, replies: u32) -> u32
 }
 
 /// After a page of a file was read.
-fn went_on(file: File, page: u32, next: Serving) -> Turn
+fn went_on(file: File, page: u32, next: FileServing) -> Turn
     requires { page < file.blocks }
     ensures { result ≡ went_on file page next }
 {
@@ -235,54 +235,60 @@ fn went_on(file: File, page: u32, next: Serving) -> Turn
 }
 
 /// What a server of these files does after its last call was answered so, where it is to make so many replies and has made so many.
-pub fn turn(files: &[Entry], requests: u32, replies: u32, stage: &Serving, answer: &Answer) -> Turn
+pub fn turn(
+    files: &[Entry],
+    requests: u32,
+    replies: u32,
+    stage: &FileServing,
+    answer: &Answer,
+) -> Turn
     requires files { length files.now ≤ FILES }
     requires placed { (count : ℕ) × IsPlaced count stage.now }
     ensures { result ≡ turn_at files.now requests replies stage.now answer.now }
 {
     match *stage {
-        Serving::Receive => received(files, answer),
-        Serving::Load { from, file, page } => loaded(from, file, page, page_in(answer)),
-        Serving::Store {
+        FileServing::Receive => received(files, answer),
+        FileServing::Load { from, file, page } => loaded(from, file, page, page_in(answer)),
+        FileServing::Store {
             from,
             file,
             page,
             dest,
             ..
         } => Turn::Goes {
-            next: Serving::ReplyPage {
+            next: FileServing::ReplyPage {
                 from,
                 file,
                 page,
                 dest,
             },
         },
-        Serving::ReplyPage { file, page, .. } => {
+        FileServing::ReplyPage { file, page, .. } => {
             went_on(file, page, between(requests, one_more(requests, replies)))
         }
-        Serving::Gather {
+        FileServing::Gather {
             from,
             file,
             at,
             dest,
             ..
         } => gathered(from, file, at + 1, dest),
-        Serving::Move { from, file, .. } => moved(from, file, answer),
-        Serving::Reply { .. } => Turn::Goes {
+        FileServing::Move { from, file, .. } => moved(from, file, answer),
+        FileServing::Reply { .. } => Turn::Goes {
             next: between(requests, one_more(requests, replies)),
         },
-        Serving::Exit | Serving::Ended => Turn::Goes {
-            next: Serving::Ended,
+        FileServing::Exit | FileServing::Ended => Turn::Goes {
+            next: FileServing::Ended,
         },
     }
 }
 
 /// How many replies it has made then.
-pub fn replies_after(requests: u32, stage: &Serving, replies: u32) -> u32
+pub fn replies_after(requests: u32, stage: &FileServing, replies: u32) -> u32
     ensures { result ≡ replies_after requests stage.now replies }
 {
     match *stage {
-        Serving::ReplyPage { .. } | Serving::Reply { .. } => one_more(requests, replies),
+        FileServing::ReplyPage { .. } | FileServing::Reply { .. } => one_more(requests, replies),
         _ => replies,
     }
 }
@@ -319,34 +325,34 @@ fn reply_page(from: Pid, file: File, page: u32, dest: u32) -> Option<Call>
 }
 
 /// What it calls.
-pub fn call_of(stage: &Serving) -> Option<Call>
+pub fn call_of(stage: &FileServing) -> Option<Call>
     requires { (count : ℕ) × IsPlaced count stage.now }
     ensures { result ≡ stage_call stage.now }
 {
     match *stage {
-        Serving::Receive => Some(Call::ReceiveSegment {
+        FileServing::Receive => Some(Call::ReceiveSegment {
             start: 0,
             count: BLOCK_BYTES as u32,
         }),
-        Serving::Load { .. } => Some(Call::Load {
+        FileServing::Load { .. } => Some(Call::Load {
             start: 0,
             count: BLOCK_BYTES as u32,
         }),
-        Serving::Store { ref bytes, .. } => store(0, bytes),
-        Serving::ReplyPage {
+        FileServing::Store { ref bytes, .. } => store(0, bytes),
+        FileServing::ReplyPage {
             from,
             file,
             page,
             dest,
         } => reply_page(from, file, page, dest),
-        Serving::Gather { at, ref bytes, .. } => store(BLOCK_BYTES as u32 * at, bytes),
-        Serving::Move { from, file, dest } => Some(Call::MoveTo {
+        FileServing::Gather { at, ref bytes, .. } => store(BLOCK_BYTES as u32 * at, bytes),
+        FileServing::Move { from, file, dest } => Some(Call::MoveTo {
             partner: from,
             dest,
             src: 0,
             count: file.length,
         }),
-        Serving::Reply {
+        FileServing::Reply {
             from,
             code,
             file,
@@ -355,7 +361,7 @@ pub fn call_of(stage: &Serving) -> Option<Call>
             message: reply_of(code, file, number),
             to: from,
         }),
-        Serving::Exit => Some(Call::Exit),
-        Serving::Ended => None,
+        FileServing::Exit => Some(Call::Exit),
+        FileServing::Ended => None,
     }
 }

@@ -12,7 +12,7 @@ ghost use Rattle.vk_files.specs.Opened.{IsServerOpened, IsVolumeRefused};
 ghost use Rattle.vk_files.specs.Placed.{IsInReach};
 ghost use Rattle.vk_files.specs.Servers.{FetchesAhead, answered_write, put_there, stage_call, stored};
 ghost use Rattle.vk_files.specs.Tasks.{IsActed, IsAfter, IsServerStep, IsStepBy, asked_of_disk, file_task};
-ghost use Rattle.vk_files.specs.declared.serving.Serving.TheVariants as stages;
+ghost use Rattle.vk_files.specs.declared.serving.FileServing.TheVariants as stages;
 
 use crate::ahead::ReadAhead;
 use crate::deciding::{between, call_of, replies_after, turn};
@@ -20,7 +20,7 @@ use crate::directory::{entries_in, first_bad};
 use crate::disk::Disk;
 use crate::entry::{Entry, File};
 use crate::limits::BLOCK_BYTES;
-use crate::serving::{Serving, Turn};
+use crate::serving::{FileServing, Turn};
 use crate::volume::{VolumeFault, VolumeRefusal};
 use std::alloc::Global;
 use std::marker::Model;
@@ -37,7 +37,7 @@ pub struct FileServer<D: Disk> {
     files: List<Entry>,
     requests: u32,
     replies: u32,
-    stage: Serving,
+    stage: FileServing,
 }
 
 impl<D: Disk> Model for FileServer<D> {
@@ -58,10 +58,10 @@ impl<D: Disk> Model for FileServer<D> {
 }
 
 /// A reply that the disk failed.
-fn failed(from: Pid) -> Serving
+fn failed(from: Pid) -> FileServing
     ensures { result ≡ stages.Reply from 3 0 0 }
 {
-    Serving::Reply {
+    FileServing::Reply {
         from,
         code: 3,
         file: 0,
@@ -70,12 +70,18 @@ fn failed(from: Pid) -> Serving
 }
 
 /// A page that was fetched.
-fn stored(from: Pid, file: File, page: u32, dest: u32, bytes: Option<[u8; BLOCK_BYTES]>) -> Serving
+fn stored(
+    from: Pid,
+    file: File,
+    page: u32,
+    dest: u32,
+    bytes: Option<[u8; BLOCK_BYTES]>,
+) -> FileServing
     ensures { result ≡ stored from file page dest bytes }
 {
     match bytes {
         None => failed(from),
-        Some(bytes) => Serving::Store {
+        Some(bytes) => FileServing::Store {
             from,
             file,
             page,
@@ -86,12 +92,18 @@ fn stored(from: Pid, file: File, page: u32, dest: u32, bytes: Option<[u8; BLOCK_
 }
 
 /// A block of a file that is loaded.
-fn put_there(from: Pid, file: File, at: u32, dest: u32, bytes: Option<[u8; BLOCK_BYTES]>) -> Serving
+fn put_there(
+    from: Pid,
+    file: File,
+    at: u32,
+    dest: u32,
+    bytes: Option<[u8; BLOCK_BYTES]>,
+) -> FileServing
     ensures { result ≡ put_there from file at dest bytes }
 {
     match bytes {
         None => failed(from),
-        Some(bytes) => Serving::Gather {
+        Some(bytes) => FileServing::Gather {
             from,
             file,
             at,
@@ -102,11 +114,11 @@ fn put_there(from: Pid, file: File, at: u32, dest: u32, bytes: Option<[u8; BLOCK
 }
 
 /// A page that was written, or not.
-fn answered_write(from: Pid, file: File, page: u32, done: bool) -> Serving
+fn answered_write(from: Pid, file: File, page: u32, done: bool) -> FileServing
     ensures { (t : TheTelling) → done ≡ is_done t → result ≡ answered_write from file page t }
 {
     if done {
-        Serving::Reply {
+        FileServing::Reply {
             from,
             code: 0,
             file: file.number,
@@ -118,7 +130,7 @@ fn answered_write(from: Pid, file: File, page: u32, done: bool) -> Serving
 }
 
 /// Asks the disk what this turn wants of it, and tells what is next.
-fn act<D: Disk>(reading: &mut ReadAhead<D>, turn: &Turn) -> Serving
+fn act<D: Disk>(reading: &mut ReadAhead<D>, turn: &Turn) -> FileServing
     requires reach { IsInReach (length reading.old.disk.blocks) turn.now }
     requires few { length reading.old.disk.blocks < 2 ^ 32 }
     ensures { IsActed turn.now reading.old reading.new result }

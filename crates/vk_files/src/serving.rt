@@ -6,7 +6,7 @@ use vk_base::Pid;
 
 /// The call that a file server makes next, and for whom.
 #[derive(Clone, Copy)]
-pub enum Serving {
+pub enum FileServing {
     /// Waits for a request.
     Receive,
     /// Loads the bytes of a page that is to be written.
@@ -61,13 +61,13 @@ pub enum Serving {
 pub enum Turn {
     /// It asks nothing, and this is next.
     Goes {
-        next: Serving,
+        next: FileServing,
     },
     /// It fetches a page of a file ahead, and this is next whatever the disk tells.
     GoesAhead {
         file: File,
         page: u32,
-        next: Serving,
+        next: FileServing,
     },
     /// It fetches a page that is to be read.
     FetchPage {

@@ -11,13 +11,13 @@ use Rattle.vk_group.specs.declared.code.Code.{Code}
 use Rattle.vk_group.specs.declared.code.Code.TheVariants as codes
 use Rattle.vk_group.specs.declared.group.Group.{Group}
 use Rattle.vk_group.specs.declared.member.Member.{Member}
-use Rattle.vk_group.specs.declared.member.Work.TheVariants as works
-use Rattle.vk_group.specs.declared.member.Work.{Work}
+use Rattle.vk_group.specs.declared.member.Progress.TheVariants as works
+use Rattle.vk_group.specs.declared.member.Progress.{Progress}
 use Rattle.vk_group.specs.declared.notes.Note.{Note}
 use Rattle.vk_event.specs.declared.pair.HelperPair.{HelperPair}
 use Rattle.vk_group.specs.declared.request.Request.{Request}
 use Rattle.vk_group.specs.declared.request.Request.TheVariants as requests
-use Rattle.vk_group.specs.declared.stage.Asked.{Asked}
+use Rattle.vk_group.specs.declared.stage.OpenSend.{OpenSend}
 use Rattle.vk_group.specs.declared.stage.Stage.{Stage}
 use Rattle.vk_group.specs.declared.stage.Stage.TheVariants as stages
 use Rattle.vk_group.specs.Accounts.{Account, Report, accounted, account_from, account_after, began, deed_at, deed_of, hands, loaded, note_in, note_member, nothing_for, report_member, report_of}
@@ -40,7 +40,7 @@ pub record Books (ms : List Member) (notes : List Note) (h : Account) : Type 0 w
   pub whole : h.handed_over ++ notes ≡ filter_map note_in h.reports
 
 -- nothing was done yet
-books_none : (o : Option Asked) (ms : List Member) → ((i : ℕ) → was_given (work_at ms i) ≡ false) →
+books_none : (o : Option OpenSend) (ms : List Member) → ((i : ℕ) → was_given (work_at ms i) ≡ false) →
     ((i : ℕ) → was_done (work_at ms i) ≡ false) → ((i : ℕ) → was_replied (work_at ms i) ≡ false) → Books ms [] (nothing_for o)
 unfolding IsDistinct
 books_none o ms given done replied = record {
@@ -181,7 +181,7 @@ kept_ready g h from dest (Some n) b =
     kept_rest (record g { members = made_ready n dest g.members }) h
     (books_same g.members (made_ready n dest g.members) g.notes h (work_made_ready g.members n dest) b)
 
-given_is : (w : Work) → is_given w ≡ true → w ≡ works.Given
+given_is : (w : Progress) → is_given w ≡ true → w ≡ works.Given
 given_is works.Open e = cc
 given_is works.Given e = refl
 given_is works.Replied e = cc

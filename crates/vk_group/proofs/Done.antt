@@ -11,8 +11,8 @@ use Rattle.vk_group.specs.declared.group.Group.{Group}
 use Rattle.vk_group.specs.declared.notes.Note.{Note}
 use Rattle.vk_event.specs.declared.pair.HelperPair.{HelperPair}
 use Rattle.vk_group.specs.declared.request.Request.TheVariants as requests
-use Rattle.vk_group.specs.declared.stage.Asked.{Asked}
-use Rattle.vk_group.specs.declared.stage.Job.{Job}
+use Rattle.vk_group.specs.declared.stage.OpenSend.{OpenSend}
+use Rattle.vk_group.specs.declared.stage.HelperJob.{HelperJob}
 use Rattle.vk_group.specs.declared.stage.Stage.{Stage}
 use Rattle.vk_group.specs.declared.stage.Stage.TheVariants as stages
 use Rattle.vk_group.specs.declared.stage.Wait.{Wait}
@@ -62,7 +62,7 @@ module _ (pairs : List HelperPair) (replies : ℕ) (before : List Answer) (a : A
     reply = refl;
   }
 
-  given_is : (asked : Option Asked) (j : Job) → (account_after pairs replies before).asked ≡ asked →
+  given_is : (asked : Option OpenSend) (j : HelperJob) → (account_after pairs replies before).asked ≡ asked →
       coordinator_call pairs replies before ≡ stage_call (stages.GiveJob j) → IsJobFor pairs asked j →
       IsStored pairs replies before j.message → IsTrue (Gave j.member)
   given_is asked j is called job stored = record {
@@ -78,7 +78,7 @@ module _ (pairs : List HelperPair) (replies : ℕ) (before : List Answer) (a : A
     };
   }
 
-  handed_is : (asked : Option Asked) (w : Wait) (n : Note) (b : Answer) → a ≡ b → (account_after pairs replies before).asked ≡ asked →
+  handed_is : (asked : Option OpenSend) (w : Wait) (n : Note) (b : Answer) → a ≡ b → (account_after pairs replies before).asked ≡ asked →
       coordinator_call pairs replies before ≡ stage_call (stages.HandOver w n) → is_client asked w.client ≡ true →
       IsStored pairs replies before n.message → IfSome (hands n b) IsTrue
   handed_is asked w n answers.Ok same is called client stored = record {
@@ -89,7 +89,7 @@ module _ (pairs : List HelperPair) (replies : ℕ) (before : List Answer) (a : A
   }
   handed_is asked w n _ same is called client stored = tt
 
-  done_at : (stage : Stage) (g : Group) (asked : Option Asked) → (account_after pairs replies before).asked ≡ asked →
+  done_at : (stage : Stage) (g : Group) (asked : Option OpenSend) → (account_after pairs replies before).asked ≡ asked →
       coordinator_call pairs replies before ≡ stage_call stage → IsDueTo pairs replies before asked stage →
       IfSome (deed_at stage g a) IsTrue
   done_at stages.Receive g asked is called due = tt

@@ -12,10 +12,10 @@ use Rattle.vk_group.specs.declared.code.Code.{Code}
 use Rattle.vk_group.specs.declared.code.Code.TheVariants as codes
 use Rattle.vk_group.specs.declared.group.Group.{Group}
 use Rattle.vk_group.specs.declared.member.Member.{Member}
-use Rattle.vk_group.specs.declared.member.Work.TheVariants as works
-use Rattle.vk_group.specs.declared.member.Work.{Work}
+use Rattle.vk_group.specs.declared.member.Progress.TheVariants as works
+use Rattle.vk_group.specs.declared.member.Progress.{Progress}
 use Rattle.vk_group.specs.declared.notes.Note.{Note}
-use Rattle.vk_group.specs.declared.stage.Job.{Job}
+use Rattle.vk_group.specs.declared.stage.HelperJob.{HelperJob}
 use Rattle.vk_group.specs.declared.stage.Stage.{Stage}
 use Rattle.vk_group.specs.declared.stage.Stage.TheVariants as stages
 use Rattle.vk_group.specs.declared.stage.Wait.{Wait}
@@ -54,7 +54,7 @@ pub if_bound : {A B : Type 0} (o : Option A) (f : A → Option B) (P : B → Typ
 if_bound None f P holds = tt
 if_bound (Some a) f P holds = holds a refl
 
-open_is : (w : Work) → is_open w ≡ true → w ≡ works.Open
+open_is : (w : Progress) → is_open w ≡ true → w ≡ works.Open
 open_is works.Open e = refl
 open_is works.Given e = cc
 open_is works.Replied e = cc
@@ -67,7 +67,7 @@ due_is ms n m at is =
     ap is_due (sym (get_or_from_slice_get ms n m m is)) ∙ (position-Some is_due ms n m at).1 in
     ap (option_map work_in) is ∙ ap Some (open_is m.work (and_parts (is_some m.ready) (is_open m.work) passes).1)
 
-job_staged : (g : Group) → IfSome (job_due g) (λ (j : Job). work_at g.members j.member ≡ Some works.Open)
+job_staged : (g : Group) → IfSome (job_due g) (λ (j : HelperJob). work_at g.members j.member ≡ Some works.Open)
 job_staged g =
     if_bound g.asked _ _ (λ a asked. if_bound (position is_due g.members) _ _ (λ n at. if_bound (slice_get g.members n) _ _ (λ m is.
     if_bound m.ready _ _ (λ dest ready. due_is g.members n m at is))))
@@ -106,7 +106,7 @@ waiting_staged g None =
     cond_both (is_ending g) (told_next g (helper_due g)) stages.Receive (IsStaged g.members g.notes)
     (λ t. told_staged g (helper_due g) (helper_staged g g.notes)) (λ f. tt)
 
-by_job_staged : (g : Group) (o : Option Job) → IfSome o (λ (j : Job). work_at g.members j.member ≡ Some works.Open) →
+by_job_staged : (g : Group) (o : Option HelperJob) → IfSome o (λ (j : HelperJob). work_at g.members j.member ≡ Some works.Open) →
     IsStaged g.members g.notes (by_job g o)
 by_job_staged g (Some j) due = due
 by_job_staged g None due = waiting_staged g g.waiting

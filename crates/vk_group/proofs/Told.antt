@@ -12,8 +12,8 @@ use Rattle.vk_base.proofs.ListLemmas.{front_distinct}
 use Rattle.vk_group.specs.declared.code.Code.{Code}
 use Rattle.vk_group.specs.declared.code.Code.TheVariants as codes
 use Rattle.vk_group.specs.declared.member.Member.{Member}
-use Rattle.vk_group.specs.declared.member.Work.TheVariants as works
-use Rattle.vk_group.specs.declared.member.Work.{Work}
+use Rattle.vk_group.specs.declared.member.Progress.TheVariants as works
+use Rattle.vk_group.specs.declared.member.Progress.{Progress}
 use Rattle.vk_group.specs.declared.notes.Note.{Note}
 use Rattle.vk_event.specs.declared.pair.HelperPair.{HelperPair}
 use Rattle.vk_event.specs.declared.pair.TheConstants.{GROUP_MEMBERS}
@@ -46,7 +46,7 @@ handed_over_once pairs requests given =
       reported = b.whole;
     }
 
-given_if_done : (o : Option Work) → was_done o ≡ true → was_given o ≡ true
+given_if_done : (o : Option Progress) → was_done o ≡ true → was_given o ≡ true
 given_if_done None e = absurd (false≢true e)
 given_if_done (Some works.Open) e = absurd (false≢true e)
 given_if_done (Some works.Given) e = refl
@@ -238,7 +238,7 @@ within [] n e = absurd (false≢true e)
 within (m ∷ ms) zero e = omega arith
 within (m ∷ ms) (suc n) e = let below : n < length ms = within ms n e in omega (arith, below)
 
-given_if_replied : (o : Option Work) → was_replied o ≡ true → was_given o ≡ true
+given_if_replied : (o : Option Progress) → was_replied o ≡ true → was_given o ≡ true
 given_if_replied None e = absurd (false≢true e)
 given_if_replied (Some works.Open) e = absurd (false≢true e)
 given_if_replied (Some works.Given) e = refl

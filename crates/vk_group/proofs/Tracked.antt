@@ -18,8 +18,8 @@ use Rattle.vk_group.specs.declared.notes.Note.{Note}
 use Rattle.vk_event.specs.declared.pair.HelperPair.{HelperPair}
 use Rattle.vk_group.specs.declared.request.Request.{Request}
 use Rattle.vk_group.specs.declared.request.Request.TheVariants as requests
-use Rattle.vk_group.specs.declared.stage.Asked.{Asked}
-use Rattle.vk_group.specs.declared.stage.Job.{Job}
+use Rattle.vk_group.specs.declared.stage.OpenSend.{OpenSend}
+use Rattle.vk_group.specs.declared.stage.HelperJob.{HelperJob}
 use Rattle.vk_group.specs.declared.stage.Stage.{Stage}
 use Rattle.vk_group.specs.declared.stage.Stage.TheVariants as stages
 use Rattle.vk_group.specs.declared.stage.Wait.{Wait}
@@ -34,8 +34,8 @@ use Rattle.vk_group.proofs.Staged.{if_bound}
 use Rattle.vk_group.proofs.Works.{pairs_changed, pairs_restarted}
 
 -- a job is for the helper of its member, with the message of the current group Send
-pub record IsJobFor (pairs : List HelperPair) (asked : Option Asked) (j : Job) : Type 0 where
-  pub current : Asked
+pub record IsJobFor (pairs : List HelperPair) (asked : Option OpenSend) (j : HelperJob) : Type 0 where
+  pub current : OpenSend
   pub is : asked ≡ Some current
   pub message : j.message ≡ current.message
   pub pair : HelperPair
@@ -61,7 +61,7 @@ module _ (pairs : List HelperPair) (replies : ℕ) where
     pub same : same_pid pair.helper helper ≡ true
     pub asked : IsAskedBy given helper (requests.Result replied)
 
-  abbrev pub IsDueTo : List Answer → Option Asked → Stage → Type 0
+  abbrev pub IsDueTo : List Answer → Option OpenSend → Stage → Type 0
   IsDueTo given asked (stages.LoadSend client dest) = IsAskedBy given client (requests.GroupSend dest)
   IsDueTo given asked (stages.LoadResult number helper replied) = IsReportOf given number helper replied
   IsDueTo given asked (stages.StoreJob j) = IsJobFor pairs asked j
@@ -77,7 +77,7 @@ module _ (pairs : List HelperPair) (replies : ℕ) where
   IsDueTo given asked stages.Ended = Unit {0}
 
   -- who waits is the client of the current group Send
-  abbrev pub IsWaiting : Option Asked → Option Wait → Type 0
+  abbrev pub IsWaiting : Option OpenSend → Option Wait → Type 0
   IsWaiting asked None = Unit {0}
   IsWaiting asked (Some w) = is_client asked w.client ≡ true
 
@@ -127,7 +127,7 @@ module _ (pairs : List HelperPair) (replies : ℕ) where
         cond_both (is_ending g) (told_next g (helper_due g)) stages.Receive (IsDueTo given g.asked)
         (λ t. told_is g (helper_due g) (helper_is g)) (λ f. tt)
 
-    by_job_is : (g : Group) (o : Option Job) → IsWaiting g.asked g.waiting → IfSome o (IsJobFor pairs g.asked) →
+    by_job_is : (g : Group) (o : Option HelperJob) → IsWaiting g.asked g.waiting → IfSome o (IsJobFor pairs g.asked) →
         IsDueTo given g.asked (by_job g o)
     by_job_is g (Some j) waits is = is
     by_job_is g None waits is = waiting_is g g.waiting waits

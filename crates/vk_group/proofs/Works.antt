@@ -2,28 +2,28 @@
 use Rattle.std.proofs.Common.{◌≡◌, ◌≢◌, ℕ, zero, suc, Bool, true, false, List, [], ◌∷◌, Option, Some, None, refl, ap, ◌∙◌}
 use Rattle.std.specs.Prelude.{option_map, slice_get}
 use Rattle.vk_group.specs.declared.member.Member.{Member}
-use Rattle.vk_group.specs.declared.member.Work.TheVariants as works
-use Rattle.vk_group.specs.declared.member.Work.{Work}
+use Rattle.vk_group.specs.declared.member.Progress.TheVariants as works
+use Rattle.vk_group.specs.declared.member.Progress.{Progress}
 use Rattle.vk_group.specs.Members.{change, changed, given, is_done, is_replied, made_ready, pairs_of, reported, restarted, told, work_of}
 
-abbrev pub work_in : Member → Work
+abbrev pub work_in : Member → Progress
 work_in m = m.work
 
-abbrev pub work_at : List Member → ℕ → Option Work
+abbrev pub work_at : List Member → ℕ → Option Progress
 work_at ms number = option_map work_in (slice_get ms number)
 
 -- what has come of a job
-abbrev pub was_given : Option Work → Bool
+abbrev pub was_given : Option Progress → Bool
 was_given (Some works.Given) = true
 was_given (Some works.Replied) = true
 was_given (Some works.Failed) = true
 was_given _ = false
 
-abbrev pub was_done : Option Work → Bool
+abbrev pub was_done : Option Progress → Bool
 was_done None = false
 was_done (Some w) = is_done w
 
-abbrev pub was_replied : Option Work → Bool
+abbrev pub was_replied : Option Progress → Bool
 was_replied None = false
 was_replied (Some w) = is_replied w
 
@@ -74,12 +74,12 @@ pairs_restarted (m ∷ ms) = ap (λ ps. m.pair ∷ ps) (pairs_restarted ms)
 pub work_elsewhere : (f : Member → Member) (ms : List Member) (n i : ℕ) → i ≢ n → work_at (change n f ms) i ≡ work_at ms i
 work_elsewhere f ms n i apart = ap (option_map work_in) (unchanged f ms n i apart)
 
-work_by : (f : Member → Member) (k : Work → Work) → ((m : Member) → (f m).work ≡ k m.work) → (o : Option Member) →
+work_by : (f : Member → Member) (k : Progress → Progress) → ((m : Member) → (f m).work ≡ k m.work) → (o : Option Member) →
     option_map work_in (option_map f o) ≡ option_map k (option_map work_in o)
 work_by f k is None = refl
 work_by f k is (Some m) = ap Some (is m)
 
-pub work_here : (f : Member → Member) (k : Work → Work) → ((m : Member) → (f m).work ≡ k m.work) → (ms : List Member) (n : ℕ) →
+pub work_here : (f : Member → Member) (k : Progress → Progress) → ((m : Member) → (f m).work ≡ k m.work) → (ms : List Member) (n : ℕ) →
     work_at (change n f ms) n ≡ option_map k (work_at ms n)
 work_here f k is ms n = ap (option_map work_in) (changed_here f ms n) ∙ work_by f k is (slice_get ms n)
 

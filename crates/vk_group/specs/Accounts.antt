@@ -7,7 +7,7 @@ use Rattle.vk_group.specs.declared.code.Code.{Code}
 use Rattle.vk_group.specs.declared.group.Group.{Group}
 use Rattle.vk_group.specs.declared.notes.Note.{Note}
 use Rattle.vk_event.specs.declared.pair.HelperPair.{HelperPair}
-use Rattle.vk_group.specs.declared.stage.Asked.{Asked}
+use Rattle.vk_group.specs.declared.stage.OpenSend.{OpenSend}
 use Rattle.vk_group.specs.declared.stage.Stage.{Stage}
 use Rattle.vk_group.specs.declared.stage.Stage.TheVariants as stages
 use Rattle.vk_group.specs.Groups.{answered, new_group, verdict}
@@ -21,7 +21,7 @@ pub record Report : Type 0 where
 -- What an answer brought about: a group Send became the current one, the helper of a member was given the job, the helper of a member
 -- reported, or the reply of a member was handed over to the client.
 pub data Deed : Type 0 where
-  Began : Asked → Deed
+  Began : OpenSend → Deed
   Gave : ℕ → Deed
   Heard : Report → Deed
   Handed : Note → Deed
@@ -60,13 +60,13 @@ deed_of g a = deed_at g.stage g a
 -- The current group Send, and what was done for it: which members' helpers were given the job, what helpers reported, and which replies
 -- were handed over, each in order.
 pub record Account : Type 0 where
-  pub asked : Option Asked
+  pub asked : Option OpenSend
   pub jobs : List ℕ
   pub reports : List Report
   pub handed_over : List Note
 
 -- nothing yet
-abbrev pub nothing_for : Option Asked → Account
+abbrev pub nothing_for : Option OpenSend → Account
 nothing_for asked = record { asked = asked; jobs = []; reports = []; handed_over = [] }
 
 abbrev pub after_deed : Account → Deed → Account

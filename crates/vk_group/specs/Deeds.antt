@@ -9,7 +9,7 @@ use Rattle.vk_group.specs.declared.code.Code.TheVariants as codes
 use Rattle.vk_group.specs.declared.notes.Note.{Note}
 use Rattle.vk_event.specs.declared.pair.HelperPair.{HelperPair}
 use Rattle.vk_group.specs.declared.request.Request.TheVariants as requests
-use Rattle.vk_group.specs.declared.stage.Asked.{Asked}
+use Rattle.vk_group.specs.declared.stage.OpenSend.{OpenSend}
 use Rattle.vk_group.specs.Accounts.{Deed, Began, Gave, Handed, Heard, Report, account_after, deed_of, reply_if}
 use Rattle.vk_group.specs.Groups.{coordinator_call, group_after, is_client}
 use Rattle.vk_group.specs.Messages.{message_in, reply_of, request_in}
@@ -35,7 +35,7 @@ pub record IsLoaded (pairs : List HelperPair) (replies : ℕ) (given : List Answ
   pub loaded : message_in a ≡ Some m
 
 -- A group Send begins: its client asked for it, and its message was loaded.
-pub record IsGroupSendBegun (pairs : List HelperPair) (replies : ℕ) (given : List Answer) (a : Answer) (asked : Asked) : Type 0 where
+pub record IsGroupSendBegun (pairs : List HelperPair) (replies : ℕ) (given : List Answer) (a : Answer) (asked : OpenSend) : Type 0 where
   pub asks : Message
   pub count : ℕ
   pub dest : ℕ
@@ -44,7 +44,7 @@ pub record IsGroupSendBegun (pairs : List HelperPair) (replies : ℕ) (given : L
 
 -- A job is given: the message of the current group Send goes to the helper of the member of this number.
 pub record IsGiven (pairs : List HelperPair) (replies : ℕ) (given : List Answer) (number : ℕ) : Type 0 where
-  pub asked : Asked
+  pub asked : OpenSend
   pub current : (account_after pairs replies given).asked ≡ Some asked
   pub pair : HelperPair
   pub its : slice_get pairs number ≡ Some pair

@@ -17,8 +17,8 @@ use Rattle.vk_event.specs.declared.pair.HelperPair.{HelperPair}
 use Rattle.vk_event.specs.declared.pair.TheConstants.{GROUP_MEMBERS}
 use Rattle.vk_group.specs.declared.request.Request.{Request}
 use Rattle.vk_group.specs.declared.request.Request.TheVariants as requests
-use Rattle.vk_group.specs.declared.stage.Asked.{Asked}
-use Rattle.vk_group.specs.declared.stage.Job.{Job}
+use Rattle.vk_group.specs.declared.stage.OpenSend.{OpenSend}
+use Rattle.vk_group.specs.declared.stage.HelperJob.{HelperJob}
 use Rattle.vk_group.specs.declared.stage.Stage.{Stage}
 use Rattle.vk_group.specs.declared.stage.Stage.TheVariants as stages
 use Rattle.vk_group.specs.declared.stage.Wait.{Wait}
@@ -38,7 +38,7 @@ abbrev pub is_ending : Group → Bool
 is_ending g = g.left == 0 && not (list_any has_job g.members)
 
 -- who made the current group Send
-abbrev pub is_client : Option Asked → Pid → Bool
+abbrev pub is_client : Option OpenSend → Pid → Bool
 is_client None from = false
 is_client (Some a) from = same_pid a.client from
 
@@ -49,7 +49,7 @@ number_of g helper = position (is_helper helper) g.members
 -- What is done between two requests: jobs are given; then a client that waits is settled; and at the end helpers are told.
 
 -- the first ready helper that has not got the job
-abbrev pub job_due : Group → Option Job
+abbrev pub job_due : Group → Option HelperJob
 job_due g = do
   a ← g.asked
   number ← position is_due g.members
@@ -81,7 +81,7 @@ abbrev pub by_waiting : Group → Option Wait → Stage
 by_waiting g (Some w) = settled g w (slice_get g.notes 0)
 by_waiting g None = if is_ending g then told_next g (helper_due g) else stages.Receive
 
-abbrev pub by_job : Group → Option Job → Stage
+abbrev pub by_job : Group → Option HelperJob → Stage
 by_job g (Some j) = stages.StoreJob j
 by_job g None = by_waiting g g.waiting
 

@@ -4,8 +4,8 @@ use Rattle.std.specs.Option.{is_some}
 use Rattle.vk_types.specs.Types.{Pid}
 use Rattle.vk_base.specs.Pids.{same_pid}
 use Rattle.vk_group.specs.declared.member.Member.{Member}
-use Rattle.vk_group.specs.declared.member.Work.TheVariants as works
-use Rattle.vk_group.specs.declared.member.Work.{Work}
+use Rattle.vk_group.specs.declared.member.Progress.TheVariants as works
+use Rattle.vk_group.specs.declared.member.Progress.{Progress}
 use Rattle.vk_event.specs.declared.pair.HelperPair.{HelperPair}
 
 -- before anything was asked
@@ -21,19 +21,19 @@ pairs_of ms = map pair_of ms
 
 -- how far a member is with the current group Send
 
-abbrev pub is_open : Work → Bool
+abbrev pub is_open : Progress → Bool
 is_open works.Open = true
 is_open _ = false
 
-abbrev pub is_given : Work → Bool
+abbrev pub is_given : Progress → Bool
 is_given works.Given = true
 is_given _ = false
 
-abbrev pub is_replied : Work → Bool
+abbrev pub is_replied : Progress → Bool
 is_replied works.Replied = true
 is_replied _ = false
 
-abbrev pub is_done : Work → Bool
+abbrev pub is_done : Progress → Bool
 is_done works.Replied = true
 is_done works.Failed = true
 is_done _ = false
@@ -82,7 +82,7 @@ abbrev pub given : ℕ → List Member → List Member
 given number ms = change number (λ m. record m { ready = None; work = works.Given }) ms
 
 -- its helper reported
-abbrev pub work_of : Bool → Work
+abbrev pub work_of : Bool → Progress
 work_of true = works.Replied
 work_of false = works.Failed
 

@@ -8,7 +8,7 @@ use crate::members::Members;
 use crate::message::{bringing, message_in, replying, storing};
 use crate::notes::{Note, Notes};
 use crate::request::{Request, request_in};
-use crate::stage::{Asked, Job, Stage, Wait};
+use crate::stage::{HelperJob, OpenSend, Stage, Wait};
 use vk_base::limits::{MESSAGE_BYTES, SEGMENT_BYTES};
 use vk_base::{Answer, Call, Message, Pid};
 use vk_event::HelperPair;
@@ -18,7 +18,7 @@ use vk_event::HelperPair;
 pub struct Group {
     pub members: Members,
     /// The current group Send.
-    pub asked: Option<Asked>,
+    pub asked: Option<OpenSend>,
     /// The replies to it that were not handed over.
     pub notes: Notes,
     /// The client that waits for one.
@@ -83,14 +83,14 @@ impl Group {
     }
 
     /// The job of the first helper that is ready and has not got it.
-    fn job_due(&self) -> Option<Job>
+    fn job_due(&self) -> Option<HelperJob>
         ensures { result ≡ job_due self.now }
     {
         let asked = self.asked?;
         let member = self.members.first_due()?;
         let due = self.members.get(member)?;
         let dest = due.ready?;
-        Some(Job {
+        Some(HelperJob {
             member,
             helper: due.pair.helper,
             dest,
@@ -301,7 +301,7 @@ impl Group {
         ensures { self.new ≡ begun self.old client dest message }
     {
         self.members.restart();
-        self.asked = Some(Asked { client, message });
+        self.asked = Some(OpenSend { client, message });
         self.notes.clear();
         self.waiting = Some(Wait { client, dest });
         self.rest();

@@ -5,7 +5,7 @@ use vk_event::HelperPair;
 
 /// How far a member is with the current group Send.
 #[derive(Clone, Copy, Debug, PartialEq, Eq)]
-pub enum Work {
+pub enum Progress {
     /// Its helper has not got the job yet.
     Open,
     /// Its helper has the job.
@@ -22,7 +22,7 @@ pub struct Member {
     pub pair: HelperPair,
     /// Where its helper waits for a job: the place in the helper's memory to which the message goes.
     pub ready: Option<u32>,
-    pub work: Work,
+    pub work: Progress,
     /// Whether its helper was told that there are no jobs any more.
     pub told: bool,
 }
@@ -35,28 +35,28 @@ impl Member {
     pub fn is_due(&self) -> bool
         ensures { result ≡ is_due self.now }
     {
-        self.ready.is_some() && matches!(self.work, Work::Open)
+        self.ready.is_some() && matches!(self.work, Progress::Open)
     }
 
     /// Whether its helper has the job.
     pub fn has_job(&self) -> bool
         ensures { result ≡ has_job self.now }
     {
-        matches!(self.work, Work::Given)
+        matches!(self.work, Progress::Given)
     }
 
     /// A new group Send begins.
     pub fn reopen(&mut self)
         ensures { self.new ≡ reopened self.old }
     {
-        self.work = Work::Open;
+        self.work = Progress::Open;
     }
 
     /// Whether it replied.
     pub fn has_replied(&self) -> bool
         ensures { result ≡ has_replied self.now }
     {
-        matches!(self.work, Work::Replied)
+        matches!(self.work, Progress::Replied)
     }
 
     /// Whether its helper reported.
@@ -64,8 +64,8 @@ impl Member {
         ensures { result ≡ has_reported self.now }
     {
         match self.work {
-            Work::Replied => true,
-            Work::Failed => true,
+            Progress::Replied => true,
+            Progress::Failed => true,
             _ => false,
         }
     }
@@ -80,7 +80,7 @@ impl Default for Member {
                 member: pid,
             },
             ready: None,
-            work: Work::Open,
+            work: Progress::Open,
             told: false,
         }
     }

@@ -5,7 +5,7 @@ ghost use Rattle.std.specs.List.{list_any, list_all, position};
 ghost use Rattle.vk_group.specs.Members.{given, has_job, has_replied, has_reported, is_due, is_helper, is_ready, made_ready, new_member, reopened, reported, restarted, told, was_told, work_of};
 ghost use Rattle.vk_event.specs.declared.pair.TheConstants.{GROUP_MEMBERS as MOST};
 
-use crate::member::{Member, Work};
+use crate::member::{Member, Progress};
 use arrayvec::ArrayVec;
 use std::marker::Model;
 use vk_base::Pid;
@@ -33,7 +33,7 @@ fn new_member(pair: HelperPair) -> Member
     Member {
         pair,
         ready: None,
-        work: Work::Open,
+        work: Progress::Open,
         told: false,
     }
 }
@@ -91,10 +91,14 @@ fn were_told(list: &[Member]) -> bool
 }
 
 /// How far a member is that was reported on.
-fn work_of(replied: bool) -> Work
+fn work_of(replied: bool) -> Progress
     ensures { result ≡ work_of replied }
 {
-    if replied { Work::Replied } else { Work::Failed }
+    if replied {
+        Progress::Replied
+    } else {
+        Progress::Failed
+    }
 }
 
 /// Puts a member into this place, where there is one.
@@ -211,7 +215,7 @@ impl Members {
     {
         if let Some(member) = self.get(number) {
             let ready = None;
-            let work = Work::Given;
+            let work = Progress::Given;
             let member = Member {
                 ready,
                 work,

@@ -6,7 +6,7 @@ use vk_base::{Message, Pid};
 
 /// A group Send, and who made it.
 #[derive(Clone, Copy)]
-pub struct Asked {
+pub struct OpenSend {
     pub client: Pid,
     pub message: Message,
 }
@@ -20,7 +20,7 @@ pub struct Wait {
 
 /// A job for the helper of a member: the message, and the place in the helper's memory to which it goes.
 #[derive(Clone, Copy)]
-pub struct Job {
+pub struct HelperJob {
     pub member: u32,
     pub helper: Pid,
     pub dest: u32,
@@ -55,11 +55,11 @@ pub enum Stage {
     },
     /// Puts the message of a job at the beginning of its memory.
     StoreJob {
-        job: Job,
+        job: HelperJob,
     },
     /// Gives the job that stands there.
     GiveJob {
-        job: Job,
+        job: HelperJob,
     },
     /// Puts a reply at the beginning of its memory.
     StoreReply {

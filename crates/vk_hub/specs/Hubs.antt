@@ -1,5 +1,5 @@
 -- What a hub's history makes of its links, and what it answers.
-use Rattle.std.specs.Prelude.{ℕ, ◌+◌, ◌==◌, ◌||◌, not, Bool, true, false, Option, Some, None, List, [], ◌∷◌, map, is_some, nat_le, if◌then◌else◌, cond}
+use Rattle.std.specs.Prelude.{ℕ, ◌+◌, ◌==◌, ◌&&◌, ◌||◌, not, Bool, true, false, Option, Some, None, List, [], ◌∷◌, map, is_some, nat_le, if◌then◌else◌, cond}
 use Rattle.vk_hub.specs.Links.{Frame, Waiting, first_of, header_of, posted_all, rest_of}
 use Rattle.vk_schedule.specs.declared.plan.LinkPlan.{LinkPlan}
 use Rattle.vk_hub.specs.declared.event.HubEvent.{HubEvent}
@@ -63,6 +63,18 @@ traffic_after plan programs t (x ∷ xs) = traffic_after plan programs (changed 
 -- the traffic after a history of this hub
 abbrev pub traffic_of : HubLog → List (ℕ × HubEvent) → Traffic
 traffic_of o history = traffic_after o.plan o.programs (first_traffic o.plan o.stations) history
+
+-- no frame waits for any station, and none is held back
+abbrev pub waits_nowhere : List Waiting → Bool
+waits_nowhere [] = true
+waits_nowhere (w ∷ ws) = not (is_some (first_of w.ring w.held)) && waits_nowhere ws
+
+-- whether as many programs have finished as are to, and whether no frame is on its way
+abbrev pub have_finished : HubLog → Bool
+have_finished h = nat_le h.programs (traffic_of (origin_of h) h.history).finished
+
+abbrev pub is_idle : HubLog → Bool
+is_idle h = waits_nowhere (traffic_of (origin_of h) h.history).waiting
 
 abbrev pub found : Option Frame → Fetched
 found (Some frame) = fetched.Frame frame

@@ -1,7 +1,8 @@
 //! The bells of all threads at a hub, and who rings which.
 //!
-//! Each process has a bell, and so has what delivers at each station. An event that gives processes something to collect rings for them; a
-//! frame that waits for a station calls one process that waits there, or else what delivers there; the end of the hub calls all.
+//! Each process has a bell, and so have what delivers at each station and the clock. An event that gives processes something to collect
+//! rings for them; a frame that waits for a station calls one process that waits there, or else what delivers there; where no thread is
+//! awake any more the clock's bell rings; the end of the hub calls all.
 
 use crate::bell::Bell;
 use std::alloc::Global;
@@ -31,6 +32,7 @@ pub struct Bells {
     stations: Vec<StationBells>,
     /// Of whoever is no process and delivers at no station of the configuration. Nobody is.
     stranger: Bell,
+    clock: Bell,
     awake: AtomicU64,
 }
 
@@ -79,6 +81,7 @@ impl Bells {
         Ok(Bells {
             stations,
             stranger: Bell::new(),
+            clock: Bell::new(),
             awake: AtomicU64::new(0),
         })
     }
@@ -117,17 +120,30 @@ impl Bells {
         }
     }
 
-    /// Sleeps until a ring of this bell, unless something has happened since its thread began to look.
+    /// The bell of the clock.
+    pub fn of_clock(&self) -> &Bell {
+        &self.clock
+    }
+
+    /// Sleeps until a ring of this bell, unless something has happened since its thread began to look. The last to fall asleep rings for the
+    /// clock.
     pub fn sleep<R: Wait>(&self, rt: &R, bell: &Bell) {
         if bell.is_quiet() && bell.lie_down() {
-            self.awake.fetch_sub(1, SeqCst);
+            if self.awake.fetch_sub(1, SeqCst) == 1 {
+                self.clock.ring(&self.awake);
+            }
             bell.sleep(rt);
         }
     }
 
+    /// Whether all threads but one sleep or have ended: the one that asks.
+    pub fn is_last(&self) -> bool {
+        self.awake.load(SeqCst) == 1
+    }
+
     /// The same, unless all other threads sleep. Whether they do.
     pub fn sleep_unless_last<R: Wait>(&self, rt: &R, bell: &Bell) -> bool {
-        if self.awake.load(SeqCst) == 1 {
+        if self.is_last() {
             return true;
         }
         if !bell.is_quiet() || !bell.lie_down() {
@@ -199,5 +215,6 @@ impl Bells {
             station.pump.call(&self.awake);
         }
         self.stranger.call(&self.awake);
+        self.clock.call(&self.awake);
     }
 }

@@ -35,6 +35,7 @@ pub enum Arrival {
 }
 
 impl HubEvent {
+    /// Whether it ends the hub.
     pub fn is_halt(&self) -> bool
         ensures { result ≡ is_halt self.now }
     {

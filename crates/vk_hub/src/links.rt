@@ -1,6 +1,6 @@
 // The links between all stations.
-ghost use Rattle.std.specs.Prelude.{false, ◌≡◌, ◌<◌, ◌^◌, Some, None, if◌then◌else◌, is_some};
-ghost use Rattle.vk_hub.specs.Hubs.{answered, changed, fetched_as, fetched_from, fetched_in, first_for, is_ready, is_stopped, without_first};
+ghost use Rattle.std.specs.Prelude.{false, ◌≡◌, ◌<◌, ◌^◌, Some, None, if◌then◌else◌, is_some, nat_le};
+ghost use Rattle.vk_hub.specs.Hubs.{answered, changed, fetched_as, fetched_from, fetched_in, first_for, is_ready, is_stopped, waits_nowhere, without_first};
 ghost use Rattle.vk_hub.specs.Links.{header_of, is_addressed, posted_all};
 
 use crate::event::{Arrival, HubEvent};
@@ -88,6 +88,18 @@ fn has_frame_for(inboxes: &Vec<Inbox>, host: u16) -> bool
     false
 }
 
+// Whether no frame waits for any station.
+fn are_empty(inboxes: &Vec<Inbox>) -> bool
+    ensures { result ≡ waits_nowhere inboxes.now.items }
+{
+    for inbox in inboxes {
+        if inbox.has_frame() {
+            return false;
+        }
+    }
+    true
+}
+
 // Takes the frame that waits longest for the station, and puts it there. Whether there was one.
 fn take_for(inboxes: &mut Vec<Inbox>, host: u16, into: &mut Delivery) -> bool
     ensures value { first_for host inboxes.old.items ≡ (if result then Some into.new else None) }
@@ -124,6 +136,20 @@ impl Links {
         ensures { result ≡ is_stopped programs self.now }
     {
         self.halted || self.finished >= u64::from(programs)
+    }
+
+    /// Whether so many programs have finished.
+    pub fn have_finished(&self, programs: u32) -> bool
+        ensures { result ≡ nat_le programs self.now.finished }
+    {
+        self.finished >= u64::from(programs)
+    }
+
+    /// Whether nothing waits.
+    pub fn is_idle(&self) -> bool
+        ensures { result ≡ waits_nowhere self.now.waiting }
+    {
+        are_empty(&self.inboxes)
     }
 
     pub fn is_ready(&self, programs: u32, event: &HubEvent) -> bool

@@ -1,6 +1,6 @@
 ghost use Rattle.std.specs.Prelude.{◌≡◌, ◌+◌, ◌≤◌, false, [], length, map, IfOk};
 ghost use Rattle.vk_base.specs.Settings.{stations_of};
-ghost use Rattle.vk_hub.specs.Hubs.{answered, fetched_in, is_at_limit, is_halt, is_ready, nothing_for, origin_of, others, traffic_of};
+ghost use Rattle.vk_hub.specs.Hubs.{answered, fetched_in, have_finished, is_at_limit, is_halt, is_idle, is_ready, nothing_for, origin_of, others, traffic_of};
 
 use crate::event::HubEvent;
 use crate::inbox::Inbox;
@@ -94,6 +94,20 @@ impl HubState {
         ensures few { others self.now.history ≤ 200000 }
     {
         self.others + self.links.is_halted() as usize
+    }
+
+    /// Whether as many programs have finished as are to.
+    pub fn has_finished(&self) -> bool
+        ensures { result ≡ have_finished self.now }
+    {
+        self.links.have_finished(self.programs)
+    }
+
+    /// Whether no frame waits for any station, and none is held back.
+    pub fn is_idle(&self) -> bool
+        ensures { result ≡ is_idle self.now }
+    {
+        self.links.is_idle()
     }
 }
 

@@ -17,6 +17,7 @@ pub trait Job: Send + Drop {
     /// The end that a job may come to.
     ghost ends: { Self → Self.End → Type 0 };
 
+    /// Does the work to its end.
     fn work<R: Wait + Threads + Clock + Sync>(self, rt: &R) -> Self::End
         ensures { ends self result };
 }
@@ -26,6 +27,7 @@ pub trait Halt {
     /// It has halted them.
     ghost is_halted: { Self → Type 0 };
 
+    /// Halts them. It comes back at once: their ends come later.
     fn halt<R: Wait + Threads + Clock + Sync>(&mut self, rt: &R)
         ensures { is_halted self.new };
 }

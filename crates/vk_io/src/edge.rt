@@ -28,6 +28,7 @@ pub struct Tally {
 }
 
 impl Tally {
+    /// No call was made yet.
     pub fn new() -> Tally
         ensures { result ≡ record { made = 0; interrupted = 0; faults = 0 } }
     {
@@ -57,6 +58,7 @@ pub trait Reader {
 
     ghost answered: { Self → Tally };
 
+    /// How its calls were answered so far.
     fn tally(&self) -> Tally
         ensures { result ≡ answered self.now };
 
@@ -78,6 +80,7 @@ pub trait Writer {
     /// A flush went well, and no write has gone well since.
     ghost flushed: { Self → Type 0 };
 
+    /// How its calls were answered so far.
     fn tally(&self) -> Tally
         ensures { result ≡ answered self.now };
 

@@ -34,6 +34,7 @@ impl<T: Reader + Drop> Model for ReaderSource<T> {
 }
 
 impl<R: Read + Drop> ReaderSource<StdReader<R>> {
+    /// Over a reader of std, without a fault yet.
     pub fn new(inner: R) -> ReaderSource<StdReader<R>>
         ensures inner { result.inner.inner ≡ inner }
         ensures faults { result.faults ≡ 0 }
@@ -43,6 +44,7 @@ impl<R: Read + Drop> ReaderSource<StdReader<R>> {
 }
 
 impl<T: Reader + Drop> ReaderSource<T> {
+    /// Over this reader, without a fault yet.
     pub fn over(inner: T) -> ReaderSource<T>
         ensures { result ≡ record { inner = inner; faults = 0 } }
     {
@@ -99,6 +101,7 @@ impl<T: Writer + Drop> Model for WriterSink<T> {
 }
 
 impl<W: Write + Drop> WriterSink<StdWriter<W>> {
+    /// Over a writer of std, without a fault yet.
     pub fn new(inner: W) -> WriterSink<StdWriter<W>>
         ensures inner { result.inner.inner ≡ inner }
         ensures faults { result.faults ≡ 0 }
@@ -108,6 +111,7 @@ impl<W: Write + Drop> WriterSink<StdWriter<W>> {
 }
 
 impl<T: Writer + Drop> WriterSink<T> {
+    /// Over this writer, without a fault yet.
     pub fn over(inner: T) -> WriterSink<T>
         ensures { result ≡ record { inner = inner; faults = 0 } }
     {

@@ -25,7 +25,7 @@ pub struct Transfer {
 
 /// Which bytes are asked for: of `total` in all, which start at `src`, those from `offset` on.
 #[derive(Clone, Copy)]
-pub struct Asked {
+pub struct WantedBytes {
     pub src: u32,
     pub total: u32,
     pub offset: u32,

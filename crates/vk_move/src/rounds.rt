@@ -9,7 +9,7 @@ ghost use Rattle.vk_move.specs.Moved.{CanGoOn, asked_packets, going, round_by, r
 ghost use Rattle.vk_procs.specs.Seats.{seat_in};
 ghost use Rattle.vk_stands.specs.Rules.{post_of, posted};
 
-use crate::moves::{Asked, Subject, Transfer};
+use crate::moves::{Subject, Transfer, WantedBytes};
 use vk_base::limits::DATA_BYTES;
 use vk_base::{Activity, Direction, Memory, Pid, Waiting};
 use vk_packet::{Outbox, PacketView};
@@ -104,7 +104,13 @@ fn post_request(out: &mut Outbox, subject: Subject, transfer: Transfer, from: u3
 }
 
 /// One packet of the bytes that a mover asked for, from `offset` on.
-fn post_bytes_piece(memory: &Memory, out: &mut Outbox, subject: Subject, asked: Asked, offset: u32)
+fn post_bytes_piece(
+    memory: &Memory,
+    out: &mut Outbox,
+    subject: Subject,
+    asked: WantedBytes,
+    offset: u32,
+)
     requires numbers { (is_number subject.name.exchange.number && is_number subject.name.number) ≡ true }
     requires place { is_place asked.total offset ≡ true }
     requires inside { asked.src + asked.total ≤ length memory.now }
@@ -132,7 +138,7 @@ fn post_bytes_piece(memory: &Memory, out: &mut Outbox, subject: Subject, asked: 
 }
 
 /// The bytes that a mover asked for.
-pub fn post_bytes(memory: &Memory, out: &mut Outbox, subject: Subject, asked: Asked)
+pub fn post_bytes(memory: &Memory, out: &mut Outbox, subject: Subject, asked: WantedBytes)
     requires numbers { (is_number subject.name.exchange.number && is_number subject.name.number) ≡ true }
     requires place { is_place asked.total asked.offset ≡ true }
     requires inside { asked.src + asked.total ≤ length memory.now }

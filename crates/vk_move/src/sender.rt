@@ -11,7 +11,7 @@ ghost use Rattle.vk_rules.specs.PacketOutcomes.{copies_bytes};
 ghost use Rattle.vk_rules.specs.Rounds.{list_if};
 ghost use Rattle.vk_stands.specs.Rules.{posted};
 
-use crate::moves::{Asked, Piece, Subject, end_of};
+use crate::moves::{Piece, Subject, WantedBytes, end_of};
 use crate::places::write_piece;
 use crate::rounds::post_bytes;
 use vk_base::{Activity, Message, MoveName, Pid, Waiting};
@@ -295,7 +295,7 @@ pub fn take_data(
 
 /// All bytes that were asked for are posted.
 #[tactic(auto, using(crate::proofs::Pieces::none_posted))]
-fn post_asked(procs: &Procs, out: &mut Outbox, subject: Subject, asked: Asked)
+fn post_asked(procs: &Procs, out: &mut Outbox, subject: Subject, asked: WantedBytes)
     requires numbers { (is_number subject.name.exchange.number && is_number subject.name.number) ≡ true }
     requires place { is_place asked.total asked.offset ≡ true }
     requires inside { IsSourceReadable asked.src asked.total (seat_in procs.now subject.name.exchange.sender) }
@@ -314,7 +314,7 @@ pub fn take_request(
     out: &mut Outbox,
     steps: &mut Steps,
     subject: Subject,
-    asked: Asked,
+    asked: WantedBytes,
 )
     requires numbers { (is_number subject.name.exchange.number && is_number subject.name.number) ≡ true }
     requires place { is_place asked.total asked.offset ≡ true }

@@ -10,7 +10,7 @@ ghost use Rattle.vk_packet.specs.Views.{value_of};
 ghost use Rattle.vk_stands.specs.Rules.{posted};
 
 use crate::mover::{take_ack, take_bytes, take_gone};
-use crate::moves::{Asked, Piece, subject_by};
+use crate::moves::{Piece, WantedBytes, subject_by};
 use crate::sender::{take_data, take_request};
 use vk_base::Times;
 use vk_brief::Steps;
@@ -63,7 +63,7 @@ pub fn take_packet(
             total,
             offset,
         } => {
-            let asked = Asked { src, total, offset };
+            let asked = WantedBytes { src, total, offset };
             let subject = subject_by(from, to, number, moving);
             take_request(procs, out, steps, subject, asked);
         }

@@ -7,21 +7,21 @@ use Rattle.vk_base.specs.declared.call.Call.TheVariants as calls
 use Rattle.vk_event.specs.declared.task.TheConstants.{PAGE_BYTES}
 use Rattle.vk_pages.specs.Messages.{code_of, page_of, reply_of}
 use Rattle.vk_pages.specs.Pages.{with_page, zero_pages}
-use Rattle.vk_pages.specs.declared.serving.Serving.{Serving}
-use Rattle.vk_pages.specs.declared.serving.Serving.TheVariants as stages
+use Rattle.vk_pages.specs.declared.serving.PageServing.{PageServing}
+use Rattle.vk_pages.specs.declared.serving.PageServing.TheVariants as stages
 
 -- its pages, how many replies it has made, and what it does
 pub record Server : Type 0 where
   pub pages : List (List ℕ)
   pub replies : ℕ
-  pub stage : Serving
+  pub stage : PageServing
 
 -- a server with these pages and replies, which does this
-abbrev pub seen : List (List ℕ) → ℕ → Serving → Server
+abbrev pub seen : List (List ℕ) → ℕ → PageServing → Server
 seen pages replies stage = record { pages = pages; replies = replies; stage = stage }
 
 -- what it does with a request, of which so many pages there are
-abbrev pub taken : ℕ → Pid → Message → Serving
+abbrev pub taken : ℕ → Pid → Message → PageServing
 taken pages from m =
     if not (code_of m == 1 || code_of m == 2) then stages.Reply from (page_of m) 2
     else if not (nat_lt (page_of m) pages) then stages.Reply from (page_of m) 1
@@ -32,11 +32,11 @@ taken pages from m =
     else stages.Reply from (page_of m) 2
 
 -- behind so many replies, of which there are to be so many
-abbrev pub between : ℕ → ℕ → Serving
+abbrev pub between : ℕ → ℕ → PageServing
 between requests replies = if replies == requests then stages.Exit else stages.Receive
 
 -- what it does once it has received
-abbrev pub received : ℕ → Answer → Serving
+abbrev pub received : ℕ → Answer → PageServing
 received pages (answers.ReceivedSegment from message count) = taken pages from message
 received pages _ = stages.Ended
 
@@ -59,7 +59,7 @@ abbrev pub replied : ℕ → Server → Server
 replied requests s = record s { replies = one_more requests s.replies; stage = between requests (one_more requests s.replies) }
 
 -- after its last call was answered so
-abbrev pub answered_at : Serving → ℕ → Server → Answer → Server
+abbrev pub answered_at : PageServing → ℕ → Server → Answer → Server
 answered_at stages.Receive requests s a = record s { stage = received (length s.pages) a }
 answered_at (stages.Load from page) requests s a = loaded s from page (page_in a)
 answered_at (stages.Store from page dest) requests s a = record s { stage = stages.ReplyPage from page dest }
@@ -72,7 +72,7 @@ abbrev pub answered : ℕ → Server → Answer → Server
 answered requests s a = answered_at s.stage requests s a
 
 -- what it calls; a page that is to be read is there
-abbrev pub stage_call : List (List ℕ) → Serving → Option Call
+abbrev pub stage_call : List (List ℕ) → PageServing → Option Call
 stage_call pages stages.Receive = Some (calls.ReceiveSegment 0 PAGE_BYTES)
 stage_call pages (stages.Load from page) = Some (calls.Load 0 PAGE_BYTES)
 stage_call pages (stages.Store from page dest) = option_map (λ bytes. calls.Store 0 bytes) (slice_get pages page)
@@ -96,6 +96,6 @@ server_call pages requests given =
     let s = answered_all requests (new_server pages requests) given in stage_call s.pages s.stage
 
 -- after these answers the server has these pages, of which there are so many, has made so many replies, and does this
-pub record IsServerAfter (held : List (List ℕ)) (count requests replies : ℕ) (stage : Serving) (given : List Answer) : Type 0 where
+pub record IsServerAfter (held : List (List ℕ)) (count requests replies : ℕ) (stage : PageServing) (given : List Answer) : Type 0 where
   pub state : answered_all requests (new_server count requests) given ≡ seen held replies stage
   pub size : length held ≡ count

@@ -14,5 +14,5 @@ mod store;
 pub use any::{AnyProgram, are_any_kinds};
 pub use client::PageClient;
 pub use server::PageServer;
-pub use serving::Serving;
+pub use serving::PageServing;
 pub use store::{MemoryPages, PageStore};

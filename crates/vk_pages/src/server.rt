@@ -7,7 +7,7 @@ ghost use Rattle.vk_pages.specs.Pages.{zero_pages};
 ghost use Rattle.vk_pages.specs.Servers.{IsServerAfter, answered, between, loaded, one_more, page_in, received, seen, server_call, stage_call, taken};
 
 use crate::message::{page_of, reply_of};
-use crate::serving::Serving;
+use crate::serving::PageServing;
 use crate::store::PageStore;
 use vk_base::{Answer, Call, Data, Message, Pid};
 use vk_event::PAGE_BYTES;
@@ -20,24 +20,24 @@ pub struct PageServer<S> {
     pages: u32,
     requests: u32,
     replies: u32,
-    stage: Serving,
+    stage: PageServing,
 }
 
 /// What a server with so many pages does with a request.
-fn taken(pages: u32, from: Pid, message: &Message) -> Serving
+fn taken(pages: u32, from: Pid, message: &Message) -> PageServing
     ensures { result ≡ taken pages from message.now }
 {
     let code = message.0[1];
     let page = page_of(message);
     let grants = message.grants();
     if code != 1 && code != 2 {
-        Serving::Reply {
+        PageServing::Reply {
             from,
             page,
             code: 2,
         }
     } else if page >= pages {
-        Serving::Reply {
+        PageServing::Reply {
             from,
             page,
             code: 1,
@@ -45,18 +45,18 @@ fn taken(pages: u32, from: Pid, message: &Message) -> Serving
     } else if code == 1 {
         if grants.write && grants.range.len >= PAGE_BYTES as u32 {
             let dest = grants.range.start;
-            Serving::Store { from, page, dest }
+            PageServing::Store { from, page, dest }
         } else {
-            Serving::Reply {
+            PageServing::Reply {
                 from,
                 page,
                 code: 2,
             }
         }
     } else if grants.read && grants.range.len == PAGE_BYTES as u32 {
-        Serving::Load { from, page }
+        PageServing::Load { from, page }
     } else {
-        Serving::Reply {
+        PageServing::Reply {
             from,
             page,
             code: 2,
@@ -65,23 +65,23 @@ fn taken(pages: u32, from: Pid, message: &Message) -> Serving
 }
 
 /// What a server does that has made so many replies of so many.
-fn between(requests: u32, replies: u32) -> Serving
+fn between(requests: u32, replies: u32) -> PageServing
     ensures { result ≡ between requests replies }
 {
     if replies == requests {
-        Serving::Exit
+        PageServing::Exit
     } else {
-        Serving::Receive
+        PageServing::Receive
     }
 }
 
 /// What a server with so many pages does with this answer to its receive.
-fn received(pages: u32, answer: &Answer) -> Serving
+fn received(pages: u32, answer: &Answer) -> PageServing
     ensures { result ≡ received pages answer.now }
 {
     match answer {
         Answer::ReceivedSegment { from, message, .. } => taken(pages, *from, message),
-        _ => Serving::Ended,
+        _ => PageServing::Ended,
     }
 }
 
@@ -155,13 +155,13 @@ impl<S: PageStore> PageServer<S> {
         match bytes {
             Some(bytes) => {
                 let _known = self.store.write(page, &bytes);
-                self.stage = Serving::Reply {
+                self.stage = PageServing::Reply {
                     from,
                     page,
                     code: 0,
                 };
             }
-            None => self.stage = Serving::Ended,
+            None => self.stage = PageServing::Ended,
         }
     }
 
@@ -174,14 +174,14 @@ impl<S: PageStore> PageServer<S> {
         ensures requests { self.new.requests ≡ self.old.requests }
     {
         match self.stage {
-            Serving::Receive => self.stage = received(self.pages, answer),
-            Serving::Load { from, page } => self.load(from, page, page_in(answer)),
-            Serving::Store { from, page, dest } => {
-                self.stage = Serving::ReplyPage { from, page, dest }
+            PageServing::Receive => self.stage = received(self.pages, answer),
+            PageServing::Load { from, page } => self.load(from, page, page_in(answer)),
+            PageServing::Store { from, page, dest } => {
+                self.stage = PageServing::ReplyPage { from, page, dest }
             }
-            Serving::ReplyPage { .. } | Serving::Reply { .. } => self.count_reply(),
-            Serving::Exit => self.stage = Serving::Ended,
-            Serving::Ended => {}
+            PageServing::ReplyPage { .. } | PageServing::Reply { .. } => self.count_reply(),
+            PageServing::Exit => self.stage = PageServing::Ended,
+            PageServing::Ended => {}
         }
     }
 
@@ -190,34 +190,34 @@ impl<S: PageStore> PageServer<S> {
         ensures { result ≡ stage_call (S.pages self.now.store) self.now.stage }
     {
         match self.stage {
-            Serving::Receive => Some(Call::ReceiveSegment {
+            PageServing::Receive => Some(Call::ReceiveSegment {
                 start: 0,
                 count: PAGE_BYTES as u32,
             }),
-            Serving::Load { .. } => Some(Call::Load {
+            PageServing::Load { .. } => Some(Call::Load {
                 start: 0,
                 count: PAGE_BYTES as u32,
             }),
-            Serving::Store { page, .. } => {
+            PageServing::Store { page, .. } => {
                 let bytes = self.store.read(page)?;
                 Some(Call::Store {
                     start: 0,
                     bytes: data_of(&bytes),
                 })
             }
-            Serving::ReplyPage { from, page, dest } => Some(Call::ReplySegment {
+            PageServing::ReplyPage { from, page, dest } => Some(Call::ReplySegment {
                 message: reply_of(0, page),
                 to: from,
                 dest,
                 src: 0,
                 count: PAGE_BYTES as u32,
             }),
-            Serving::Reply { from, page, code } => Some(Call::Reply {
+            PageServing::Reply { from, page, code } => Some(Call::Reply {
                 message: reply_of(code, page),
                 to: from,
             }),
-            Serving::Exit => Some(Call::Exit),
-            Serving::Ended => None,
+            PageServing::Exit => Some(Call::Exit),
+            PageServing::Ended => None,
         }
     }
 }

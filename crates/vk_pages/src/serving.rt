@@ -4,7 +4,7 @@ use vk_base::Pid;
 
 /// The call that a page server makes next, and for whom.
 #[derive(Clone, Copy)]
-pub enum Serving {
+pub enum PageServing {
     /// Waits for a request.
     Receive,
     /// Loads the bytes of a page that is to be written.

@@ -9,7 +9,7 @@ use Rattle.vk_picture.specs.declared.picture.Act.{Act}
 use Rattle.vk_picture.specs.declared.picture.Act.TheVariants as acts
 use Rattle.vk_picture.specs.declared.picture.CallKind.{CallKind}
 use Rattle.vk_picture.specs.declared.picture.CallKind.TheVariants as calls
-use Rattle.vk_picture.specs.declared.picture.Row.{Row}
+use Rattle.vk_picture.specs.declared.picture.EventRow.{EventRow}
 use Rattle.vk_picture.specs.declared.picture.Said.{Said}
 use Rattle.vk_picture.specs.declared.picture.Said.TheVariants as said
 use Rattle.vk_picture.specs.declared.picture.StepKind.{StepKind}
@@ -66,7 +66,7 @@ after_steps p [] = None
 after_steps p (s ∷ ss) = or_else (after_step p s) (after_steps p ss)
 
 -- what an event makes of a process: its steps tell it, else its answer
-abbrev pub turn_of : Pid → Activity → Row → Option Activity
+abbrev pub turn_of : Pid → Activity → EventRow → Option Activity
 turn_of p a r = or_else (after_steps p r.steps) (after_act p a r.act r.said)
 
 abbrev pub activity_word : Activity → List ℕ

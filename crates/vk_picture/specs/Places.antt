@@ -7,7 +7,7 @@ use Rattle.vk_base.specs.Pids.{same_pid}
 use Rattle.vk_picture.specs.declared.picture.Act.{Act}
 use Rattle.vk_picture.specs.declared.picture.Act.TheVariants as acts
 use Rattle.vk_picture.specs.declared.picture.Column.{Column}
-use Rattle.vk_picture.specs.declared.picture.Row.{Row}
+use Rattle.vk_picture.specs.declared.picture.EventRow.{EventRow}
 
 -- Columns.
 
@@ -57,7 +57,7 @@ abbrev pub row_y : ℕ → ℕ
 row_y number = 64 + 26 * number
 
 -- where the lines of columns end
-abbrev pub bottom_y : List Row → ℕ
+abbrev pub bottom_y : List EventRow → ℕ
 bottom_y rows = row_y (length rows + 1)
 
 -- the steps stand behind the last column
@@ -65,10 +65,10 @@ abbrev pub steps_x : List Column → ℕ
 steps_x columns = 100 + 110 * length columns
 
 -- the most steps of an event
-abbrev pub most_steps : ℕ → List Row → ℕ
+abbrev pub most_steps : ℕ → List EventRow → ℕ
 most_steps most [] = most
 most_steps most (r ∷ rs) = most_steps (max most (length r.steps)) rs
 
 -- no event has more steps than that many
-abbrev pub width_of : List Column → List Row → ℕ
+abbrev pub width_of : List Column → List EventRow → ℕ
 width_of columns rows = steps_x columns + 120 * min (most_steps 0 rows) STEPS + 20

@@ -13,7 +13,7 @@ use Rattle.vk_picture.specs.declared.picture.Act.TheVariants as acts
 use Rattle.vk_picture.specs.declared.picture.Column.{Column}
 use Rattle.vk_picture.specs.declared.picture.FrameMark.{FrameMark}
 use Rattle.vk_picture.specs.declared.picture.Picture.{Picture}
-use Rattle.vk_picture.specs.declared.picture.Row.{Row}
+use Rattle.vk_picture.specs.declared.picture.EventRow.{EventRow}
 use Rattle.vk_picture.specs.declared.picture.StepMark.{StepMark}
 use Rattle.vk_picture.specs.declared.places.Point.{Point}
 use Rattle.vk_picture.specs.declared.style.TheConstants.{STYLE}
@@ -95,10 +95,10 @@ sign_shape (acts.Deliver to from event output) = codes "m-3-3h6v6h-6z"
 abbrev pub sign_text : Point → Act → List ℕ
 sign_text at act = shape_text (codes "event") (sign_word act) at (sign_shape act)
 
-abbrev pub label_at_text : Point → Option PacketKind → Row → List ℕ
+abbrev pub label_at_text : Point → Option PacketKind → EventRow → List ℕ
 label_at_text at brings r = words_text (codes "label") at (codes " dx=\"8\" dy=\"-5\">") (label_text brings r.act r.said)
 
-abbrev pub event_text : Row → Point → Option PacketKind → List ℕ
+abbrev pub event_text : EventRow → Point → Option PacketKind → List ℕ
 event_text r at brings = sign_text at r.act ++ label_at_text at brings r
 
 abbrev pub mark_text : Mark → List ℕ
@@ -112,19 +112,19 @@ abbrev pub marks_text : List Mark → List ℕ
 marks_text marks = flat_map mark_text marks
 
 -- the arrow to an event
-unfoldable pub arrow_line : Picture → Row → List ℕ
+unfoldable pub arrow_line : Picture → EventRow → List ℕ
 arrow_line p r = marks_text (arrow_marks p r)
 
 -- a frame, and its cross
-unfoldable pub frame_line : Picture → Row → FrameMark → List ℕ
+unfoldable pub frame_line : Picture → EventRow → FrameMark → List ℕ
 frame_line p r f = marks_text (frame_marks p r f)
 
 -- a message that an event hands on
-unfoldable pub hand_line : Picture → Row → List ℕ
+unfoldable pub hand_line : Picture → EventRow → List ℕ
 hand_line p r = marks_text (hand_marks p r)
 
 -- the frames of an event, what it hands on, and the event
-unfoldable pub row_line : Picture → Row → List ℕ
+unfoldable pub row_line : Picture → EventRow → List ℕ
 row_line p r = flat_map (frame_line p r) r.frames ++ hand_line p r ++ mark_text (event_mark p r)
 
 -- Rows and columns.
@@ -142,7 +142,7 @@ steps_text x y steps =
     words_text (codes "step") (record { x = x; y = y }) (codes " dy=\"4\">") (flat_map step_text steps)
 
 -- the line of an event, its number, and its steps in the margin
-unfoldable pub ruler_text : ℕ → ℕ → Row → List ℕ
+unfoldable pub ruler_text : ℕ → ℕ → EventRow → List ℕ
 ruler_text steps width r =
     across_text (row_y r.number) width ++ number_text (row_y r.number) r.number ++ steps_text steps (row_y r.number) r.steps
 
@@ -158,12 +158,12 @@ abbrev pub turned : Activity → Option Activity → Activity
 turned a None = a
 turned a (Some b) = b
 
-abbrev pub turns_text : Pid → ℕ → Activity → List Row → List ℕ
+abbrev pub turns_text : Pid → ℕ → Activity → List EventRow → List ℕ
 turns_text pid x a [] = []
 turns_text pid x a (r ∷ rs) = turn_text x (row_y r.number) (turn_of pid a r) ++ turns_text pid x (turned a (turn_of pid a r)) rs
 
 -- the line of a process, which is ready at first
-abbrev pub lane_text : Pid → ℕ → ℕ → List Row → List ℕ
+abbrev pub lane_text : Pid → ℕ → ℕ → List EventRow → List ℕ
 lane_text pid x bottom rows =
     shape_start (codes "ready") (codes "line") (record { x = x; y = 50 }) ++ codes "V" ++ turns_text pid x activities.Ready rows
     ++ decimal bottom ++ codes "\"/>\n"
@@ -182,12 +182,12 @@ abbrev pub name_text : Column → ℕ → List ℕ
 name_text c y =
     words_text (codes "name") (record { x = column_x c; y = y }) (codes ">") (name_words c.host c.process)
 
-abbrev pub column_line : ℕ → ℕ → List Row → Option Pid → List ℕ
+abbrev pub column_line : ℕ → ℕ → List EventRow → Option Pid → List ℕ
 column_line x bottom rows None = station_text x bottom
 column_line x bottom rows (Some pid) = lane_text pid x bottom rows
 
 -- a column with its name above and below
-unfoldable pub column_text : ℕ → List Row → Column → List ℕ
+unfoldable pub column_text : ℕ → List EventRow → Column → List ℕ
 column_text bottom rows c = column_line (column_x c) bottom rows c.process ++ name_text c 40 ++ name_text c (bottom + 20)
 
 -- The whole.

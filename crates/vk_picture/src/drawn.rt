@@ -13,7 +13,7 @@ use crate::labels::{write_label, write_steps};
 use crate::marks::{
     Start, arrives, brought, event_point, frame_point, handed, is_light, kind_brought,
 };
-use crate::picture::{Act, FrameMark, Picture, Row, StepMark};
+use crate::picture::{Act, EventRow, FrameMark, Picture, StepMark};
 use crate::places::{Point, process_x, row_y};
 use std::alloc::Global;
 use vk_base::NoMemory;
@@ -63,7 +63,7 @@ pub(crate) fn write_arrow_to(
     alloc: Global,
     text: &mut Vec<u8>,
     picture: &Picture,
-    row: &Row,
+    row: &EventRow,
 ) -> Result<(), NoMemory>
     ensures { OnOk result (text.new.items ≡ text.old.items ++ arrow_line picture.now row.now) }
 {
@@ -102,7 +102,7 @@ fn write_end(
     alloc: Global,
     text: &mut Vec<u8>,
     picture: &Picture,
-    row: &Row,
+    row: &EventRow,
     frame: &FrameMark,
 ) -> Result<(), NoMemory>
     ensures { OnOk result (text.new.items ≡ text.old.items ++ marks_text (cross_marks picture.now row.now frame.now)) }
@@ -120,7 +120,7 @@ fn write_frame(
     alloc: Global,
     text: &mut Vec<u8>,
     picture: &Picture,
-    row: &Row,
+    row: &EventRow,
     frame: &FrameMark,
 ) -> Result<(), NoMemory>
     ensures { OnOk result (text.new.items ≡ text.old.items ++ frame_line picture.now row.now frame.now) }
@@ -146,7 +146,7 @@ fn write_handed(
     alloc: Global,
     text: &mut Vec<u8>,
     picture: &Picture,
-    row: &Row,
+    row: &EventRow,
 ) -> Result<(), NoMemory>
     ensures { OnOk result (text.new.items ≡ text.old.items ++ hand_line picture.now row.now) }
 {
@@ -194,7 +194,7 @@ fn write_label_at(
     text: &mut Vec<u8>,
     at: Point,
     brings: Option<PacketKind>,
-    row: &Row,
+    row: &EventRow,
 ) -> Result<(), NoMemory>
     ensures { OnOk result (text.new.items ≡ text.old.items ++ label_at_text at brings row.now) }
 {
@@ -207,7 +207,7 @@ fn write_label_at(
 fn write_event(
     alloc: Global,
     text: &mut Vec<u8>,
-    row: &Row,
+    row: &EventRow,
     at: Point,
     brings: Option<PacketKind>,
 ) -> Result<(), NoMemory>
@@ -221,7 +221,7 @@ fn write_frames(
     alloc: Global,
     text: &mut Vec<u8>,
     picture: &Picture,
-    row: &Row,
+    row: &EventRow,
     frames: &[FrameMark],
 ) -> Result<(), NoMemory>
     ensures { OnOk result (text.new.items ≡ text.old.items ++ flat_map (frame_line picture.now row.now) frames.now) }
@@ -238,7 +238,7 @@ pub(crate) fn write_row(
     alloc: Global,
     text: &mut Vec<u8>,
     picture: &Picture,
-    row: &Row,
+    row: &EventRow,
 ) -> Result<(), NoMemory>
     ensures { OnOk result (text.new.items ≡ text.old.items ++ row_line picture.now row.now) }
 {
@@ -290,7 +290,7 @@ pub(crate) fn write_ruler(
     text: &mut Vec<u8>,
     steps: u64,
     width: u64,
-    row: &Row,
+    row: &EventRow,
 ) -> Result<(), NoMemory>
     ensures { OnOk result (text.new.items ≡ text.old.items ++ ruler_text steps width row.now) }
 {

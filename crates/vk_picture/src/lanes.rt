@@ -3,7 +3,7 @@
 ghost use Rattle.std.specs.Prelude.{◌≡◌};
 ghost use Rattle.vk_picture.specs.Lanes.{waiting, is_bereft, after_exit, after_forward, after_call, after_act, after_kind, after_step, after_steps, turn_of, activity_word};
 
-use crate::picture::{Act, CallKind, Row, Said, StepKind, StepMark};
+use crate::picture::{Act, CallKind, EventRow, Said, StepKind, StepMark};
 use vk_base::Pid;
 
 /// What a process does.
@@ -150,7 +150,7 @@ fn after_steps(pid: Pid, steps: &[StepMark]) -> Option<Activity>
 }
 
 /// What an event makes of a process, where it makes anything of it.
-pub(crate) fn turn_of(pid: Pid, activity: Activity, row: &Row) -> Option<Activity>
+pub(crate) fn turn_of(pid: Pid, activity: Activity, row: &EventRow) -> Option<Activity>
     ensures { result ≡ turn_of pid activity row.now }
 {
     match after_steps(pid, row.steps.as_slice()) {

@@ -22,5 +22,5 @@ mod words;
 
 pub use columns::columns_of;
 pub use law::each_has_one_mark;
-pub use picture::{Act, CallKind, Column, FrameMark, Picture, Row, Said, StepKind, StepMark};
+pub use picture::{Act, CallKind, Column, EventRow, FrameMark, Picture, Said, StepKind, StepMark};
 pub use svg::{COLUMNS, ROWS, picture_text};

@@ -7,7 +7,7 @@ ghost use Rattle.vk_picture.specs.declared.lanes.Activity.TheVariants as activit
 use crate::elements::{write_line, write_open, write_shape_start};
 use crate::labels::write_name;
 use crate::lanes::{Activity, activity_word, turn_of};
-use crate::picture::{Column, Row};
+use crate::picture::{Column, EventRow};
 use crate::places::{Point, column_x, row_y};
 use std::alloc::Global;
 use vk_base::{NoMemory, Pid};
@@ -64,7 +64,7 @@ fn write_turns(
     text: &mut Vec<u8>,
     pid: Pid,
     x: u64,
-    rows: &[Row],
+    rows: &[EventRow],
 ) -> Result<(), NoMemory>
     ensures { OnOk result (text.new.items ≡ text.old.items ++ turns_text pid x activities.Ready rows.now) }
 {
@@ -83,7 +83,7 @@ fn write_lane(
     pid: Pid,
     x: u64,
     bottom: u64,
-    rows: &[Row],
+    rows: &[EventRow],
 ) -> Result<(), NoMemory>
     ensures { OnOk result (text.new.items ≡ text.old.items ++ lane_text pid x bottom rows.now) }
 {
@@ -106,7 +106,7 @@ fn write_column_line(
     text: &mut Vec<u8>,
     x: u64,
     bottom: u64,
-    rows: &[Row],
+    rows: &[EventRow],
     process: Option<Pid>,
 ) -> Result<(), NoMemory>
     ensures { OnOk result (text.new.items ≡ text.old.items ++ column_line x bottom rows.now process) }
@@ -134,7 +134,7 @@ pub(crate) fn write_column(
     alloc: Global,
     text: &mut Vec<u8>,
     bottom: u64,
-    rows: &[Row],
+    rows: &[EventRow],
     column: &Column,
 ) -> Result<(), NoMemory>
     requires { bottom < 2 ^ 32 }

@@ -3,7 +3,7 @@
 ghost use Rattle.std.specs.Prelude.{◌≡◌, find, option_copied};
 ghost use Rattle.vk_picture.specs.Marks.{event_point, frame_point, is_missing, is_taken, is_event, is_output, start_in, start_of, brought_by, brought, kind_brought, is_light, is_delivery, is_arrival, arrives, handed_to, handed_by, handed};
 
-use crate::picture::{Act, CallKind, Column, FrameMark, Picture, Row, Said};
+use crate::picture::{Act, CallKind, Column, EventRow, FrameMark, Picture, Said};
 use crate::places::{Point, act_x, row_y};
 use vk_base::Pid;
 use vk_report::PacketKind;
@@ -16,7 +16,7 @@ pub(crate) struct Start {
 }
 
 /// Where an event stands.
-pub(crate) fn event_point(columns: &[Column], row: &Row) -> Point
+pub(crate) fn event_point(columns: &[Column], row: &EventRow) -> Point
     ensures { result ≡ event_point columns.now row.now }
 {
     Point {
@@ -26,7 +26,7 @@ pub(crate) fn event_point(columns: &[Column], row: &Row) -> Point
 }
 
 /// Where a frame of the event begins.
-pub(crate) fn frame_point(columns: &[Column], row: &Row, output: u16) -> Point
+pub(crate) fn frame_point(columns: &[Column], row: &EventRow, output: u16) -> Point
     ensures { result ≡ frame_point columns.now row.now output }
 {
     Point {
@@ -53,13 +53,13 @@ fn is_taken(said: Said) -> bool
     }
 }
 
-fn is_event(row: &Row, host: u16, own: u64) -> bool
+fn is_event(row: &EventRow, host: u16, own: u64) -> bool
     ensures { result ≡ is_event host own row.now }
 {
     row.host == host && row.own == own
 }
 
-fn start_in(columns: &[Column], row: &Row, output: u16) -> Option<Start>
+fn start_in(columns: &[Column], row: &EventRow, output: u16) -> Option<Start>
     ensures { result ≡ start_in columns.now row.now output }
 {
     match row.frames.as_slice().iter().find(|f| f.output == output) {
@@ -72,7 +72,7 @@ fn start_in(columns: &[Column], row: &Row, output: u16) -> Option<Start>
 }
 
 /// The event with this number of a station.
-fn row_of(rows: &[Row], host: u16, own: u64) -> Option<&Row>
+fn row_of(rows: &[EventRow], host: u16, own: u64) -> Option<&EventRow>
     ensures { option_copied result ≡ find (is_event host own) rows.now }
 {
     rows.iter().find(|r| is_event(r, host, own))
@@ -86,7 +86,7 @@ fn start_of(picture: &Picture, host: u16, own: u64, output: u16) -> Option<Start
 }
 
 /// The frame that comes at the event, where one does.
-pub(crate) fn brought(picture: &Picture, row: &Row) -> Option<Start>
+pub(crate) fn brought(picture: &Picture, row: &EventRow) -> Option<Start>
     ensures { result ≡ brought picture.now row.now }
 {
     match row.act {
@@ -107,7 +107,7 @@ pub(crate) fn brought(picture: &Picture, row: &Row) -> Option<Start>
 }
 
 /// Its kind.
-pub(crate) fn kind_brought(picture: &Picture, row: &Row) -> Option<PacketKind>
+pub(crate) fn kind_brought(picture: &Picture, row: &EventRow) -> Option<PacketKind>
     ensures { result ≡ kind_brought picture.now row.now }
 {
     match brought(picture, row) {
@@ -117,13 +117,13 @@ pub(crate) fn kind_brought(picture: &Picture, row: &Row) -> Option<PacketKind>
 }
 
 /// Whether what comes at the event changes nothing that is seen.
-pub(crate) fn is_light(row: &Row) -> bool
+pub(crate) fn is_light(row: &EventRow) -> bool
     ensures { result ≡ is_light row.now }
 {
     !is_taken(row.said) || (row.steps.len() == 0 && row.frames.len() == 0)
 }
 
-fn is_arrival(row: &Row, host: u16, own: u64, number: u16) -> bool
+fn is_arrival(row: &EventRow, host: u16, own: u64, number: u16) -> bool
     ensures { result ≡ is_arrival host own number row.now }
 {
     match row.act {
@@ -138,7 +138,7 @@ fn is_arrival(row: &Row, host: u16, own: u64, number: u16) -> bool
 }
 
 /// Whether this output of the event comes somewhere.
-pub(crate) fn arrives(picture: &Picture, row: &Row, output: u16) -> bool
+pub(crate) fn arrives(picture: &Picture, row: &EventRow, output: u16) -> bool
     ensures { result ≡ arrives picture.now row.now output }
 {
     picture
@@ -158,7 +158,7 @@ fn handed_to(kind: CallKind, partner: Option<Pid>, said: Said) -> Option<Pid>
 }
 
 /// The process to which the event, which is a Forward, brings a message.
-pub(crate) fn handed(row: &Row) -> Option<Pid>
+pub(crate) fn handed(row: &EventRow) -> Option<Pid>
     ensures { result ≡ handed row.now }
 {
     match row.act {

@@ -100,7 +100,7 @@ pub struct FrameMark {
 
 /// An event of the schedule and what happened at it.
 #[derive(Drop)]
-pub struct Row {
+pub struct EventRow {
     /// Which event of the schedule, from 1.
     pub number: u16,
     /// The station whose event it is.
@@ -130,5 +130,5 @@ pub struct Picture {
     /// From left to right.
     pub columns: List<Column>,
     /// In order of the schedule.
-    pub rows: List<Row>,
+    pub rows: List<EventRow>,
 }

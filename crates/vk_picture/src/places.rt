@@ -3,7 +3,7 @@
 ghost use Rattle.std.specs.Prelude.{◌≡◌, ◌<◌, ◌^◌, find, option_copied};
 ghost use Rattle.vk_picture.specs.Places.{act_x, column_x, is_of_process, is_of_station, process_x, station_x, row_y, most_steps};
 
-use crate::picture::{Act, Column, Row};
+use crate::picture::{Act, Column, EventRow};
 use vk_base::Pid;
 
 /// A place on the page.
@@ -89,7 +89,7 @@ pub(crate) fn row_y(number: u16) -> u64
 }
 
 /// The most steps of an event, or this many.
-pub(crate) fn most_steps(rows: &[Row]) -> usize
+pub(crate) fn most_steps(rows: &[EventRow]) -> usize
     ensures { result ≡ most_steps 0 rows.now }
 {
     let mut most = 0;

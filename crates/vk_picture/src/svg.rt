@@ -7,7 +7,7 @@ ghost use Rattle.vk_picture.specs.Svg.{arrow_line, column_text, picture_text, ro
 use crate::drawn::{write_arrow_to, write_row, write_ruler};
 use crate::elements::{write_opening, write_page};
 use crate::lines::write_column;
-use crate::picture::{Column, Picture, Row};
+use crate::picture::{Column, EventRow, Picture};
 use crate::places::most_steps;
 use crate::style::STYLE;
 use std::alloc::Global;
@@ -21,7 +21,7 @@ pub const ROWS: usize = 500;
 pub const COLUMNS: usize = 1_024;
 
 /// Where the lines of columns end.
-fn bottom_y(rows: &[Row]) -> u64
+fn bottom_y(rows: &[EventRow]) -> u64
     requires { length rows.now ≤ ROWS }
     ensures { result ≡ bottom_y rows.now }
 {
@@ -36,7 +36,7 @@ fn steps_x(columns: &[Column]) -> u64
     100 + 110 * columns.len() as u64
 }
 
-fn width_of(columns: &[Column], rows: &[Row]) -> u64
+fn width_of(columns: &[Column], rows: &[EventRow]) -> u64
     requires { length columns.now ≤ COLUMNS }
     ensures { result ≡ width_of columns.now rows.now }
 {
@@ -58,7 +58,7 @@ fn write_rulers(
     text: &mut Vec<u8>,
     steps: u64,
     width: u64,
-    rows: &[Row],
+    rows: &[EventRow],
 ) -> Result<(), NoMemory>
     ensures { OnOk result (text.new.items ≡ text.old.items ++ flat_map (ruler_text steps width) rows.now) }
 {
@@ -72,7 +72,7 @@ fn write_columns(
     alloc: Global,
     text: &mut Vec<u8>,
     bottom: u64,
-    rows: &[Row],
+    rows: &[EventRow],
     columns: &[Column],
 ) -> Result<(), NoMemory>
     requires { bottom < 2 ^ 32 }
@@ -88,7 +88,7 @@ fn write_arrows(
     alloc: Global,
     text: &mut Vec<u8>,
     picture: &Picture,
-    rows: &[Row],
+    rows: &[EventRow],
 ) -> Result<(), NoMemory>
     ensures { OnOk result (text.new.items ≡ text.old.items ++ flat_map (arrow_line picture.now) rows.now) }
 {
@@ -102,7 +102,7 @@ fn write_rows(
     alloc: Global,
     text: &mut Vec<u8>,
     picture: &Picture,
-    rows: &[Row],
+    rows: &[EventRow],
 ) -> Result<(), NoMemory>
     ensures { OnOk result (text.new.items ≡ text.old.items ++ flat_map (row_line picture.now) rows.now) }
 {

@@ -6,8 +6,8 @@ use Rattle.vk_base.specs.declared.answer.Answer.TheVariants as answers
 use Rattle.vk_base.specs.declared.call.Call.TheVariants as calls
 use Rattle.vk_pipe.specs.declared.news.News.{News}
 use Rattle.vk_pipe.specs.declared.news.News.TheVariants as brings
-use Rattle.vk_pipe.specs.declared.serving.Serving.{Serving}
-use Rattle.vk_pipe.specs.declared.serving.Serving.TheVariants as stages
+use Rattle.vk_pipe.specs.declared.serving.PipeServing.{PipeServing}
+use Rattle.vk_pipe.specs.declared.serving.PipeServing.TheVariants as stages
 use Rattle.vk_pipe.specs.declared.waiting.Read.{Read}
 use Rattle.vk_pipe.specs.declared.waiting.Write.{Write}
 use Rattle.vk_pipe.proofs.Hearing.{one_more_answer}
@@ -103,7 +103,7 @@ delivered_done : (m : Message) (to : Pid) (p : Pipe) (r : Read) (a : Answer) →
 delivered_done m to p r answers.Ok is coded = inl (settled_done m to (with_news p (brings.Delivered r)) is coded)
 delivered_done m to p r a is coded = inl (settled_done m to (with_news p brings.Replied) is coded)
 
-step_done : (m : Message) (to : Pid) (p : Pipe) (stage : Serving) (a : Answer) → IsDoneStep m to p (news_of p stage a) a
+step_done : (m : Message) (to : Pid) (p : Pipe) (stage : PipeServing) (a : Answer) → IsDoneStep m to p (news_of p stage a) a
 step_done m to p stages.Receive a is coded = received_done m to p a is coded
 step_done m to p (stages.Load from count) a is coded = loaded_done m to p from count a is coded
 step_done m to p (stages.Store r) a is coded = other_call _ m to refl is coded

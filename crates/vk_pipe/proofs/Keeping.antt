@@ -6,8 +6,8 @@ use Rattle.std.proofs.lemmas.Option.{none-some}
 use Rattle.vk_types.specs.Types.{Answer, Call}
 use Rattle.vk_base.specs.declared.limits.TheConstants.{SEGMENT_BYTES}
 use Rattle.vk_pipe.specs.declared.limits.TheConstants.{WAITING_REQUESTS}
-use Rattle.vk_pipe.specs.declared.serving.Serving.{Serving}
-use Rattle.vk_pipe.specs.declared.serving.Serving.TheVariants as stages
+use Rattle.vk_pipe.specs.declared.serving.PipeServing.{PipeServing}
+use Rattle.vk_pipe.specs.declared.serving.PipeServing.TheVariants as stages
 use Rattle.vk_pipe.specs.declared.serving.Verdict.TheVariants as verdicts
 use Rattle.vk_pipe.specs.declared.waiting.Read.{Read}
 use Rattle.vk_pipe.specs.declared.waiting.Write.{Write}
@@ -107,15 +107,15 @@ replies_are requests given =
 
 -- What its call tells of the pipe.
 
-end_is : (p : Pipe) (stage : Serving) → IsRightStage p stage → is_reply 6 (stage_call p stage) ≡ true → IsAtEnd p
+end_is : (p : Pipe) (stage : PipeServing) → IsRightStage p stage → is_reply 6 (stage_call p stage) ≡ true → IsAtEnd p
 end_is p (stages.Reply to verdicts.End) right h = right
 end_is p stage right h = absurd (false≢true h)
 
-full_is : (p : Pipe) (stage : Serving) → IsRightStage p stage → is_reply 5 (stage_call p stage) ≡ true → waiting p ≡ WAITING_REQUESTS
+full_is : (p : Pipe) (stage : PipeServing) → IsRightStage p stage → is_reply 5 (stage_call p stage) ≡ true → waiting p ≡ WAITING_REQUESTS
 full_is p (stages.Reply to verdicts.Full) right h = right
 full_is p stage right h = absurd (false≢true h)
 
-rest_is : (p : Pipe) (stage : Serving) → IsRightStage p stage → is_receive (stage_call p stage) ≡ true → NothingSettles p
+rest_is : (p : Pipe) (stage : PipeServing) → IsRightStage p stage → is_receive (stage_call p stage) ≡ true → NothingSettles p
 rest_is p stages.Receive right h = right
 rest_is p stage right h = absurd (false≢true h)
 

@@ -5,8 +5,8 @@ use Rattle.vk_base.specs.declared.answer.Answer.TheVariants as answers
 use Rattle.vk_pipe.specs.declared.limits.TheConstants.{PIPE_BYTES, WAITING_REQUESTS}
 use Rattle.vk_pipe.specs.declared.news.News.{News}
 use Rattle.vk_pipe.specs.declared.news.News.TheVariants as brings
-use Rattle.vk_pipe.specs.declared.serving.Serving.{Serving}
-use Rattle.vk_pipe.specs.declared.serving.Serving.TheVariants as stages
+use Rattle.vk_pipe.specs.declared.serving.PipeServing.{PipeServing}
+use Rattle.vk_pipe.specs.declared.serving.PipeServing.TheVariants as stages
 use Rattle.vk_pipe.specs.declared.waiting.Read.{Read}
 use Rattle.vk_pipe.specs.declared.waiting.Write.{Write}
 use Rattle.vk_pipe.proofs.Rules.{either_way, judged_goes, settled_goes}
@@ -14,7 +14,7 @@ use Rattle.vk_pipe.specs.Pipes.{Pipe, Rule, Server, answered, answered_all, by_r
 use Rattle.vk_pipe.specs.Requests.{read_of}
 
 -- a write whose bytes are being loaded has its place
-abbrev pub places : Serving → ℕ
+abbrev pub places : PipeServing → ℕ
 places (stages.Load from count) = 1
 places stage = 0
 
@@ -22,7 +22,7 @@ abbrev pub places_in : News → ℕ
 places_in (brings.Due stage) = places stage
 places_in n = 0
 
-pub record IsRoomy (p : Pipe) (stage : Serving) : Type 0 where
+pub record IsRoomy (p : Pipe) (stage : PipeServing) : Type 0 where
   pub few : waiting p + places stage ≤ WAITING_REQUESTS
   pub small : length p.bytes ≤ PIPE_BYTES
 
@@ -56,7 +56,7 @@ delivered_room : (p : Pipe) (r : Read) (a : Answer) → waiting p ≤ 16 → Lea
 delivered_room p r answers.Ok few = omega (arith, few)
 delivered_room p r a few = omega (arith, few)
 
-pub news_room : (p : Pipe) (stage : Serving) (a : Answer) → waiting p + places stage ≤ 16 → LeavesRoom p (news_of p stage a)
+pub news_room : (p : Pipe) (stage : PipeServing) (a : Answer) → waiting p + places stage ≤ 16 → LeavesRoom p (news_of p stage a)
 news_room p stages.Receive a few = received_room p a (omega (arith, few))
 news_room p (stages.Load from count) a few = loaded_room p from count a few
 news_room p (stages.Store r) a few = few
@@ -95,7 +95,7 @@ rule_room p n few small = settled_room p (omega (arith, few)) small
 
 -- Answers do.
 
-answer_room : (p : Pipe) (stage : Serving) (a : Answer) → IsRoomy p stage
+answer_room : (p : Pipe) (stage : PipeServing) (a : Answer) → IsRoomy p stage
     → IsRoomyBy (with_news p (news_of p stage a)) (rule_for (with_news p (news_of p stage a)) (news_of p stage a))
 answer_room p stage a room =
     let n : News = news_of p stage a in

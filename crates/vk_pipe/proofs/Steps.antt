@@ -8,8 +8,8 @@ use Rattle.vk_base.specs.declared.answer.Answer.TheVariants as answers
 use Rattle.vk_pipe.specs.declared.limits.TheConstants.{WAITING_REQUESTS}
 use Rattle.vk_pipe.specs.declared.news.News.{News}
 use Rattle.vk_pipe.specs.declared.news.News.TheVariants as brings
-use Rattle.vk_pipe.specs.declared.serving.Serving.{Serving}
-use Rattle.vk_pipe.specs.declared.serving.Serving.TheVariants as stages
+use Rattle.vk_pipe.specs.declared.serving.PipeServing.{PipeServing}
+use Rattle.vk_pipe.specs.declared.serving.PipeServing.TheVariants as stages
 use Rattle.vk_pipe.specs.declared.serving.Verdict.TheVariants as verdicts
 use Rattle.vk_pipe.specs.declared.waiting.Read.{Read}
 use Rattle.vk_pipe.specs.declared.waiting.Write.{Write}
@@ -19,14 +19,14 @@ use Rattle.vk_pipe.specs.Pipes.{Calls, Ends, Pipe, Puts, Rule, Serves, Server, a
 use Rattle.vk_pipe.specs.Told.{Piece, news_at, piece_in, put_by, read_due, read_in, read_reply, rule_at, served_by, write_in, written_call}
 
 -- what is right of a pipe where this is called
-abbrev pub IsRightStage : Pipe → Serving → Type 0
+abbrev pub IsRightStage : Pipe → PipeServing → Type 0
 IsRightStage p stages.Receive = NothingSettles p
 IsRightStage p (stages.Reply to verdicts.Full) = waiting p ≡ WAITING_REQUESTS
 IsRightStage p (stages.Reply to verdicts.End) = IsAtEnd p
 IsRightStage p stage = Unit {0}
 
 -- a call that is right, and tells no write and no read of its bytes
-pub record Quiet (p : Pipe) (stage : Serving) : Type 0 where
+pub record Quiet (p : Pipe) (stage : PipeServing) : Type 0 where
   pub no_write : written_call stage ≡ []
   pub no_read : read_due stage ≡ []
   pub right : IsRightStage p stage
@@ -40,7 +40,7 @@ pub record Settles (p : Pipe) (rule : Rule) : Type 0 where
   pub served : map (λ (r : Read). r.from) (served_by rule) ≡ read_due (by_rule p rule).stage
   pub right : IsRightStage (by_rule p rule).pipe (by_rule p rule).stage
 
-called : (p : Pipe) (stage : Serving) → Quiet p stage → Settles p (Calls stage)
+called : (p : Pipe) (stage : PipeServing) → Quiet p stage → Settles p (Calls stage)
 called p stage q =
     record {
       writes = refl;
@@ -149,7 +149,7 @@ pub record IsPipeStep (s : Server) (a : Answer) : Type 0 where
       ≡ read_reply s.stage ++ read_due (answered s a).stage
   pub right : IsRightStage (answered s a).pipe (answered s a).stage
 
-step_by : (p : Pipe) (stage : Serving) (a : Answer) → read_due stage ≡ read_reply stage → IsQuietNews p (news_of p stage a)
+step_by : (p : Pipe) (stage : PipeServing) (a : Answer) → read_due stage ≡ read_reply stage → IsQuietNews p (news_of p stage a)
     → IsPipeStep (at p stage) a
 step_by p stage a same quiet =
     let n : News = news_of p stage a in
@@ -172,7 +172,7 @@ step_by p stage a same quiet =
       right = does.right;
     }
 
-pub step : (p : Pipe) (stage : Serving) (a : Answer) → IsPipeStep (at p stage) a
+pub step : (p : Pipe) (stage : PipeServing) (a : Answer) → IsPipeStep (at p stage) a
 step p stages.Receive a = step_by p stages.Receive a refl (received_is p a)
 step p (stages.Load from count) a = step_by p (stages.Load from count) a refl (loaded_is p from count a)
 step p (stages.Store r) a =

@@ -7,8 +7,8 @@ use Rattle.vk_base.specs.declared.limits.TheConstants.{SEGMENT_BYTES}
 use Rattle.vk_pipe.specs.declared.limits.TheConstants.{PIPE_BYTES, WAITING_REQUESTS}
 use Rattle.vk_pipe.specs.declared.news.News.{News}
 use Rattle.vk_pipe.specs.declared.news.News.TheVariants as brings
-use Rattle.vk_pipe.specs.declared.serving.Serving.{Serving}
-use Rattle.vk_pipe.specs.declared.serving.Serving.TheVariants as stages
+use Rattle.vk_pipe.specs.declared.serving.PipeServing.{PipeServing}
+use Rattle.vk_pipe.specs.declared.serving.PipeServing.TheVariants as stages
 use Rattle.vk_pipe.specs.declared.serving.Verdict.TheVariants as verdicts
 use Rattle.vk_pipe.specs.declared.waiting.Read.{Read}
 use Rattle.vk_pipe.specs.declared.waiting.Write.{Write}
@@ -26,9 +26,9 @@ pub record Pipe : Type 0 where
 -- a pipe, and what is done with it: the call that waits for its answer
 pub record Server : Type 0 where
   pub pipe : Pipe
-  pub stage : Serving
+  pub stage : PipeServing
 
-abbrev pub at : Pipe → Serving → Server
+abbrev pub at : Pipe → PipeServing → Server
 at p stage = record { pipe = p; stage = stage }
 
 -- how many requests wait
@@ -69,7 +69,7 @@ abbrev pub delivered : Read → Answer → News
 delivered r answers.Ok = brings.Delivered r
 delivered r _ = brings.Replied
 
-abbrev pub news_of : Pipe → Serving → Answer → News
+abbrev pub news_of : Pipe → PipeServing → Answer → News
 news_of p stages.Receive a = received p a
 news_of p (stages.Load from count) a = loaded from count a
 news_of p (stages.Store r) a = brings.Due (stages.ReplyBytes r)
@@ -91,7 +91,7 @@ with_news p brings.Replied = record p { left = p.left - 1 }
 
 -- a call is due; the first write goes in; the first read is served, or is at the end
 pub data Rule : Type 0 where
-  Calls : (stage : Serving) → Rule
+  Calls : (stage : PipeServing) → Rule
   Puts : (w : Write) → Rule
   Serves : (r : Read) → Rule
   Ends : (r : Read) → Rule
@@ -158,7 +158,7 @@ abbrev pub server_after : ℕ → List Answer → Server
 server_after requests given = answered_all (new_server requests) given
 
 -- what it calls
-abbrev pub stage_call : Pipe → Serving → Option Call
+abbrev pub stage_call : Pipe → PipeServing → Option Call
 stage_call p stages.Receive = Some (calls.ReceiveSegment 0 SEGMENT_BYTES)
 stage_call p (stages.Load from count) = Some (calls.Load 0 count)
 stage_call p (stages.Store r) = Some (calls.Store 0 (piece_of p r))

@@ -5,8 +5,8 @@ use Rattle.vk_types.specs.Types.{Answer, Call, Pid}
 use Rattle.vk_base.specs.declared.call.Call.TheVariants as calls
 use Rattle.vk_pipe.specs.declared.news.News.{News}
 use Rattle.vk_pipe.specs.declared.news.News.TheVariants as brings
-use Rattle.vk_pipe.specs.declared.serving.Serving.{Serving}
-use Rattle.vk_pipe.specs.declared.serving.Serving.TheVariants as stages
+use Rattle.vk_pipe.specs.declared.serving.PipeServing.{PipeServing}
+use Rattle.vk_pipe.specs.declared.serving.PipeServing.TheVariants as stages
 use Rattle.vk_pipe.specs.declared.serving.Verdict.TheVariants as verdicts
 use Rattle.vk_pipe.specs.declared.waiting.Read.{Read}
 use Rattle.vk_pipe.specs.declared.waiting.Write.{Write}
@@ -55,18 +55,18 @@ rule_at s a = let n = news_at s a in rule_for (with_news s.pipe n) n
 -- Of one call.
 
 -- the reply to a write whose bytes are in the pipe
-abbrev pub written_call : Serving → List Call
+abbrev pub written_call : PipeServing → List Call
 written_call (stages.Reply to (verdicts.Written count)) = calls.Reply (reply_of 0 count) to ∷ []
 written_call stage = []
 
 -- whose read it replies to, with bytes or with the end
-abbrev pub read_reply : Serving → List Pid
+abbrev pub read_reply : PipeServing → List Pid
 read_reply (stages.ReplyBytes r) = r.from ∷ []
 read_reply (stages.Reply to verdicts.End) = to ∷ []
 read_reply stage = []
 
 -- whose read was served last and has no answered reply
-abbrev pub read_due : Serving → List Pid
+abbrev pub read_due : PipeServing → List Pid
 read_due (stages.Store r) = r.from ∷ []
 read_due stage = read_reply stage
 

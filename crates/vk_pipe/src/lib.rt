@@ -21,5 +21,5 @@ mod waiting;
 pub use law::pipes_keep_their_bytes;
 pub use limits::{PIPE_BYTES, WAITING_REQUESTS};
 pub use server::PipeServer;
-pub use serving::{Serving, Verdict};
+pub use serving::{PipeServing, Verdict};
 pub use waiting::{Read, Write};

@@ -1,6 +1,6 @@
 //! What an answer brings.
 
-use crate::serving::Serving;
+use crate::serving::PipeServing;
 use crate::waiting::{Read, Write};
 use vk_base::Pid;
 
@@ -8,7 +8,7 @@ use vk_base::Pid;
 #[derive(Drop)]
 pub enum News {
     /// A call that is due at once.
-    Due { stage: Serving },
+    Due { stage: PipeServing },
     /// The pipe is closed by this process.
     Close { from: Pid },
     /// A write waits from now on.

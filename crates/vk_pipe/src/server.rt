@@ -11,7 +11,7 @@ use crate::limits::{PIPE_BYTES, WAITING_REQUESTS};
 use crate::message::{is_close, is_request, is_write, message_for, read_of, reply_of};
 use crate::news::News;
 use crate::queue::Queue;
-use crate::serving::{Serving, Verdict};
+use crate::serving::{PipeServing, Verdict};
 use crate::waiting::{Read, Write};
 use std::alloc::Global;
 use vk_base::limits::SEGMENT_BYTES;
@@ -29,22 +29,22 @@ pub struct PipeServer {
     left: u32,
     /// How many it makes in all.
     requests: u32,
-    stage: Serving,
+    stage: PipeServing,
 }
 
 /// This process is told so.
 fn refused(to: Pid, verdict: Verdict) -> News
-    ensures { result ≡ News.Due (Serving.Reply to verdict) }
+    ensures { result ≡ News.Due (PipeServing.Reply to verdict) }
 {
-    let stage = Serving::Reply { to, verdict };
+    let stage = PipeServing::Reply { to, verdict };
     News::Due { stage }
 }
 
 /// The server is at its end.
 fn ended() -> News
-    ensures { result ≡ News.Due Serving.Ended }
+    ensures { result ≡ News.Due PipeServing.Ended }
 {
-    let stage = Serving::Ended;
+    let stage = PipeServing::Ended;
     News::Due { stage }
 }
 
@@ -103,7 +103,7 @@ impl PipeServer {
             closed: false,
             left: requests,
             requests,
-            stage: Serving::Exit,
+            stage: PipeServing::Exit,
         };
         server.settle();
         Ok(server)
@@ -129,7 +129,7 @@ impl PipeServer {
         } else if self.writes.len() + self.reads.len() == WAITING_REQUESTS {
             refused(from, Verdict::Full)
         } else if is_write(message) {
-            let stage = Serving::Load { from, count };
+            let stage = PipeServing::Load { from, count };
             News::Due { stage }
         } else {
             let read = read_of(from, message);
@@ -156,15 +156,15 @@ impl PipeServer {
         ensures { result ≡ news_of (pipe_of self.now) self.now.stage answer.now }
     {
         match self.stage {
-            Serving::Receive => self.receive(answer),
-            Serving::Load { from, count } => loaded(from, count, answer),
-            Serving::Store { read } => News::Due {
-                stage: Serving::ReplyBytes { read },
+            PipeServing::Receive => self.receive(answer),
+            PipeServing::Load { from, count } => loaded(from, count, answer),
+            PipeServing::Store { read } => News::Due {
+                stage: PipeServing::ReplyBytes { read },
             },
-            Serving::ReplyBytes { read } => delivered(read, answer),
-            Serving::Reply { .. } => News::Replied,
-            Serving::Exit => ended(),
-            Serving::Ended => ended(),
+            PipeServing::ReplyBytes { read } => delivered(read, answer),
+            PipeServing::Reply { .. } => News::Replied,
+            PipeServing::Exit => ended(),
+            PipeServing::Ended => ended(),
         }
     }
 
@@ -173,12 +173,12 @@ impl PipeServer {
         requires { length self.old.bytes + length write.bytes ≤ PIPE_BYTES }
         ensures { self.new ≡ record self.old {
           bytes = self.old.bytes ++ write.bytes;
-          stage = Serving.Reply write.from (Verdict.Written (length write.bytes));
+          stage = PipeServing.Reply write.from (Verdict.Written (length write.bytes));
         } }
     {
         let bytes = write.bytes.as_slice();
         self.bytes.put(bytes);
-        self.stage = Serving::Reply {
+        self.stage = PipeServing::Reply {
             to: write.from,
             verdict: Verdict::Written {
                 count: bytes.len() as u32,
@@ -187,7 +187,7 @@ impl PipeServer {
     }
 
     /// Serves the first read so.
-    fn serve(&mut self, stage: Serving)
+    fn serve(&mut self, stage: PipeServing)
         ensures { self.new ≡ record self.old { reads = drop 1 self.old.reads; stage = stage } }
     {
         let _served = self.reads.pop();
@@ -201,17 +201,17 @@ impl PipeServer {
         ensures requests { self.new.requests ≡ self.old.requests }
     {
         match self.reads.first().copied() {
-            None => self.stage = Serving::Receive,
+            None => self.stage = PipeServing::Receive,
             Some(read) => {
                 if self.bytes.len() != 0 {
-                    self.serve(Serving::Store { read });
+                    self.serve(PipeServing::Store { read });
                 } else if self.closed && self.writes.len() == 0 {
-                    self.serve(Serving::Reply {
+                    self.serve(PipeServing::Reply {
                         to: read.from,
                         verdict: Verdict::End,
                     });
                 } else {
-                    self.stage = Serving::Receive;
+                    self.stage = PipeServing::Receive;
                 }
             }
         }
@@ -223,7 +223,7 @@ impl PipeServer {
         ensures requests { self.new.requests ≡ self.old.requests }
     {
         if self.left == 0 {
-            self.stage = Serving::Exit;
+            self.stage = PipeServing::Exit;
             return;
         }
         let held = self.bytes.len();
@@ -243,7 +243,7 @@ impl PipeServer {
             News::Due { stage } => self.stage = stage,
             News::Close { from } => {
                 self.closed = true;
-                self.stage = Serving::Reply {
+                self.stage = PipeServing::Reply {
                     to: from,
                     verdict: Verdict::Closed,
                 };
@@ -286,16 +286,16 @@ impl PipeServer {
         ensures { result ≡ stage_call (pipe_of self.now) self.now.stage }
     {
         match self.stage {
-            Serving::Receive => Some(Call::ReceiveSegment {
+            PipeServing::Receive => Some(Call::ReceiveSegment {
                 start: 0,
                 count: SEGMENT_BYTES,
             }),
-            Serving::Load { count, .. } => Some(Call::Load { start: 0, count }),
-            Serving::Store { read } => Some(Call::Store {
+            PipeServing::Load { count, .. } => Some(Call::Load { start: 0, count }),
+            PipeServing::Store { read } => Some(Call::Store {
                 start: 0,
                 bytes: self.bytes.front(self.piece_len(read) as usize),
             }),
-            Serving::ReplyBytes { read } => {
+            PipeServing::ReplyBytes { read } => {
                 let count = self.piece_len(read);
                 Some(Call::ReplySegment {
                     message: reply_of(0, count),
@@ -305,12 +305,12 @@ impl PipeServer {
                     count,
                 })
             }
-            Serving::Reply { to, verdict } => Some(Call::Reply {
+            PipeServing::Reply { to, verdict } => Some(Call::Reply {
                 message: message_for(verdict),
                 to,
             }),
-            Serving::Exit => Some(Call::Exit),
-            Serving::Ended => None,
+            PipeServing::Exit => Some(Call::Exit),
+            PipeServing::Ended => None,
         }
     }
 }

@@ -22,7 +22,7 @@ pub enum Verdict {
 
 /// The call that a pipe server makes next, and for whom.
 #[derive(Clone, Copy)]
-pub enum Serving {
+pub enum PipeServing {
     /// Waits for a request.
     Receive,
     /// Loads the bytes that came with a write.

@@ -94,6 +94,10 @@ is_ready o history (events.Collect pid) =
     is_process_of o pid && is_allowed (reading o.config o.host (entries_at o history)).view (steps.Collect pid)
 is_ready o history e = true
 
+-- the station's tick
+abbrev pub tick_of : StationHistory → ℕ
+tick_of s = (reading s.config s.host (entries_at s s.history)).now
+
 -- The place for what an event gives: the answer of the last event, `None` before the first; its frames; and for how many there is room.
 pub record EntryShown : Type 0 where
   pub answer : Option EventAnswer

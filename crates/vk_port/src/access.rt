@@ -22,7 +22,7 @@ use vk_hub::{Arrival, Bells, Hub, HubOut, HubState, Request};
 
 /// A seat at a station's cell, and one at the hub.
 #[derive(Drop)]
-pub struct Access<'a> {
+pub struct StationAccess<'a> {
     /// The station's, for what waits for it at the hub.
     request: Request,
     station: &'a TurnCell<Station>,
@@ -34,7 +34,7 @@ pub struct Access<'a> {
     posted: HubOut,
 }
 
-impl<'a> Model for Access<'a> {
+impl<'a> Model for StationAccess<'a> {
     ghost use Rattle.std.specs.Prelude.{◌≡◌};
     ghost use Rattle.turn_cell.specs.Seats.{IsComplete, IsSeatOf};
     ghost use Rattle.vk_port.specs.Ports.{PortValue};
@@ -54,7 +54,7 @@ impl<'a> Model for Access<'a> {
         × IsComplete p.seat × IsComplete p.hub_seat };
 }
 
-impl<'a> Access<'a> {
+impl<'a> StationAccess<'a> {
     /// By these two seats.
     pub fn new(
         host: u16,
@@ -63,7 +63,7 @@ impl<'a> Access<'a> {
         hub: &'a Hub,
         hub_seat: TurnSeat<HubState>,
         ticks: bool,
-    ) -> Access<'a>
+    ) -> StationAccess<'a>
         requires host { station.now.origin.host ≡ host }
         requires seat { IsSeatOf station.now seat }
         requires hub_seat { IsSeatOf hub.now hub_seat }
@@ -78,7 +78,7 @@ impl<'a> Access<'a> {
           ticks = ticks;
         } }
     {
-        Access {
+        StationAccess {
             request: Request::new(host),
             station,
             seat,
@@ -103,7 +103,7 @@ impl<'a> Access<'a> {
         ensures complete { IsComplete result.0 }
         ensures hub_complete { IsComplete result.1 }
     {
-        let Access { seat, hub_seat, .. } = self;
+        let StationAccess { seat, hub_seat, .. } = self;
         (seat, hub_seat)
     }
 

@@ -7,7 +7,7 @@ ghost use Rattle.vk_types.specs.Types.{EventAnswer as TheAnswer};
 ghost use Rattle.vk_port.specs.Stations.{is_own, is_process_of};
 ghost use Rattle.vk_port.specs.Turns.{is_collect};
 
-use crate::access::Access;
+use crate::access::StationAccess;
 use crate::rest::{Rest, Sleep};
 use crate::station::Station;
 use crate::station_out::StationOut;
@@ -57,7 +57,7 @@ pub enum Pumped {
 /// station's number, its cell and the hub, the seats, and whether it may tick.
 #[derive(Drop)]
 pub struct Port<'a> {
-    access: Access<'a>,
+    access: StationAccess<'a>,
     out: StationOut,
     heard: HubOut,
 }
@@ -107,7 +107,7 @@ impl<'a> Port<'a> {
     {
         match StationOut::new(alloc, if ticks { TICK_PACKETS } else { ROUND_PACKETS }) {
             Ok(out) => {
-                let access = Access::new(host, station, seat, hub, hub_seat, ticks);
+                let access = StationAccess::new(host, station, seat, hub, hub_seat, ticks);
                 let heard = HubOut::new();
                 Ok(Port { access, out, heard })
             }

@@ -8,7 +8,7 @@ ghost use Rattle.vk_log.specs.Logs.{event_of as event_seen};
 ghost use Rattle.vk_rules.specs.Each.{Each};
 ghost use Rattle.vk_rules.specs.Frames.{number_in, unsealed_of};
 ghost use Rattle.vk_port.specs.Kept.{IsHeldEvent};
-ghost use Rattle.vk_port.specs.Stations.{IsLawfulHistory, brings_last_number, entry_at, entry_shown, event_of, is_full, is_own, is_ready, is_used_up_by, most_frames, origin_of};
+ghost use Rattle.vk_port.specs.Stations.{IsLawfulHistory, brings_last_number, entry_at, entry_shown, event_of, is_full, is_own, is_ready, is_used_up_by, most_frames, origin_of, tick_of};
 
 use crate::entries::Entries;
 use crate::opened::frame_is;
@@ -84,6 +84,13 @@ impl Station {
         ensures lawful { IsLawfulHistory self.now }
     {
         self.entries.len() as u32
+    }
+
+    /// The station's tick: how often it ticked.
+    pub fn tick(&self) -> u64
+        ensures { result ≡ tick_of self.now }
+    {
+        self.host.now()
     }
 
     /// The event with this number, counted from 0.

@@ -35,18 +35,18 @@ take 1.1
 ";
 
 /// A command and its input.
-type Asked = (&'static str, &'static str);
+type Given = (&'static str, &'static str);
 
-const REPLAY: Asked = ("replay", PING);
+const REPLAY: Given = ("replay", PING);
 
-const CHECK: Asked = ("check", PING_TRACE);
+const CHECK: Given = ("check", PING_TRACE);
 
-const REFUSAL: Asked = ("check", REFUSED);
+const REFUSAL: Given = ("check", REFUSED);
 
 /// Runs it where the read and the write or flush of these numbers fail, 0 for none. Both are counted from 1.
 fn run_failing(
     alloc: Global,
-    asked: Asked,
+    asked: Given,
     read: u64,
     write: u64,
 ) -> Result<(Status, MemorySink), AllocError> {
@@ -57,7 +57,7 @@ fn run_failing(
 /// The status, and how many bytes were written.
 fn ended(
     alloc: Global,
-    asked: Asked,
+    asked: Given,
     read: u64,
     write: u64,
 ) -> Result<(Status, usize), AllocError> {

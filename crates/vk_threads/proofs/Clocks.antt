@@ -1,5 +1,5 @@
 -- What the clock's ports do, one stretch behind the other.
-use Rattle.std.proofs.Common.{◌≡◌, ℕ, zero, suc, ◌+◌, ◌≤◌, ◌<◌, true, List, [], ◌∷◌, ◌++◌, length, get_or, slice_set, refl, sym, ◌∙◌, subst, arith, inl, inr}
+use Rattle.std.proofs.Common.{◌≡◌, ℕ, zero, suc, ◌+◌, ◌≤◌, ◌<◌, Bool, true, false, List, [], ◌∷◌, ◌++◌, length, get_or, slice_set, refl, sym, ◌∙◌, subst, arith, inl, inr}
 use Rattle.vk_types.specs.Types.{EventAnswer}
 use Rattle.turn_cell.specs.declared.replay.Room.{Room}
 use Rattle.vk_base.specs.declared.event.StationEvent.TheVariants as events
@@ -10,7 +10,7 @@ use Rattle.vk_port.specs.Stations.{frames_at}
 use Rattle.vk_port.proofs.Logs.{does_more, does_nothing}
 use Rattle.vk_rules.specs.Each.{Each}
 use Rattle.v_run.specs.Passages.{HasHeard, OnlyTicks, lost_count, tick_count}
-use Rattle.vk_threads.specs.Clocks.{AreTicked, FirstPumps, HaveLooked, HaveRounds, HaveRoundsCut, HaveTicked, HaveTickedCut, OneFindsFull, OneHears, TickBetween, all_lost, may_tick}
+use Rattle.vk_threads.specs.Clocks.{AreTicked, FirstPumps, HaveLooked, HaveRounds, HaveRoundsCut, HaveTicked, HaveTickedCut, HaveWatched, OneFindsFull, OneHears, TickBetween, all_lost, may_tick}
 use Rattle.vk_threads.specs.Works.{FindsFull}
 use Rattle.vk_threads.proofs.Playing.{heard_append, lost_append, met_own, met_pump}
 use Rattle.vk_threads.proofs.Full.{full_after}
@@ -393,6 +393,54 @@ rounds_over n rounds ps qs whole so = record {
   ticked = record { acts = so.acts; does = so.does; ticks = so.ticks; few = (let none = so.few in omega arith) };
   all = inl whole;
 }
+
+-- looks behind all rounds
+pub looked_more : (ps qs rs : List PortValue) → HaveTicked 0 0 0 ps qs → HaveTicked 0 0 0 qs rs → HaveTicked 0 0 0 ps rs
+looked_more ps qs rs one two = ticked_more 0 0 0 0 0 0 ps qs rs one two
+
+pub looked_end : (ps qs rs : List PortValue) → HaveTicked 0 0 0 ps qs → HaveLooked qs rs true → HaveWatched ps rs false
+looked_end ps qs rs one last =
+    let look = last.0 in (
+      record {
+        acts = joined one.acts look.acts;
+        does = joined_ticked ps qs rs one.acts look.acts one.does look.does;
+        ticks = joined_between 0 0 0 0 one.acts look.acts one.ticks look.ticks;
+        few = (let sum = joined_lost one.acts look.acts in let x = one.few in let y = look.few in omega arith);
+      },
+      joined_hears ps qs rs one.acts look.acts one.does look.does last.1,
+    )
+
+pub looked_cut : (ps qs rs : List PortValue) (why : Room) → HaveTicked 0 0 0 ps qs → HaveTickedCut 0 0 1 qs rs why
+    → HaveTickedCut 0 0 1 ps rs why
+looked_cut ps qs rs why one two = ticked_cut 0 0 0 0 0 1 ps qs rs why one two
+
+pub rounds_watched : (rounds : ℕ) (ps qs rs : List PortValue) → HaveTicked rounds rounds 0 ps qs → (idle : Bool) → HaveWatched qs rs idle
+    → HaveRounds rounds ps rs
+rounds_watched rounds ps qs rs gone true still =
+    let sum = ticked_more rounds rounds 0 0 0 0 ps qs rs gone still in
+    let e : rounds + 0 ≡ rounds = omega arith in
+    rounds_over rounds rounds ps rs refl (subst (λ m. HaveTicked m m 0 ps rs) e sum)
+rounds_watched rounds ps qs rs gone false last =
+    let sum = ticked_more rounds rounds 0 0 0 1 ps qs rs gone last.0 in
+    let e : rounds + 0 ≡ rounds = omega arith in
+    record {
+      done = rounds;
+      few = omega arith;
+      ticked = subst (λ m. HaveTicked m m 1 ps rs) e sum;
+      all = inl refl;
+    }
+
+pub watched_cut : (rounds : ℕ) (ps qs rs : List PortValue) (why : Room) → HaveTicked rounds rounds 0 ps qs → HaveTickedCut 0 0 1 qs rs why
+    → HaveRoundsCut rounds ps rs why
+watched_cut rounds ps qs rs why one two =
+    let sum = ticked_cut rounds rounds 0 0 0 1 ps qs rs why one two in
+    record {
+      done = rounds + 0;
+      high = rounds + 0;
+      near = omega arith;
+      few = omega arith;
+      ticked = record { acts = sum.acts; does = sum.does; ticks = sum.ticks; few = (let none = sum.few in omega arith); full = sum.full };
+    }
 
 pub rounds_cut : (n rounds : ℕ) (ps qs rs : List PortValue) (why : Room) → n + 1 ≤ rounds → HaveTicked n n 0 ps qs → HaveTickedCut 0 1 0 qs rs why
     → HaveRoundsCut rounds ps rs why

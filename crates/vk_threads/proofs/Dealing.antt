@@ -15,9 +15,9 @@ use Rattle.vk_rules.proofs.Lists.{each_append, each_front, each_behind}
 use Rattle.v_run.specs.Passages.{Role, Runs}
 use Rattle.vk_threads.specs.declared.opening.Site.{Site}
 use Rattle.vk_threads.specs.declared.opening.Spare.{Spare}
-use Rattle.vk_threads.specs.declared.work.Work.{Work}
+use Rattle.vk_threads.specs.declared.work.RunJob.{RunJob}
 use Rattle.vk_program.specs.declared.assigned.Assigned.{Assigned}
-use Rattle.vk_threads.specs.declared.work.Work.TheVariants as works
+use Rattle.vk_threads.specs.declared.work.RunJob.TheVariants as works
 use Rattle.vk_event.specs.declared.task.Task.{Task}
 use Rattle.vk_pages.specs.Any.{IsAfter, call_by}
 use Rattle.vk_pages.specs.Programs.{task_call}
@@ -148,7 +148,7 @@ module _ (sites : List Site) (hub : Cell HubLog) where
   port_push ticks (g ∷ hs) (q ∷ ps) h p are is = (are.0, port_push ticks hs ps h p are.1 is)
 
   module _ {G P : Type 0} (task : G → List Answer → Option Call) where
-    pub job_push : (ds : List (ℕ × Role)) (ws : List (Work G P)) (d : ℕ × Role) (w : Work G P) → AreJobsAt task sites hub ds ws
+    pub job_push : (ds : List (ℕ × Role)) (ws : List (RunJob G P)) (d : ℕ × Role) (w : RunJob G P) → AreJobsAt task sites hub ds ws
         → IsJobAt task sites hub d w → AreJobsAt task sites hub (ds ++ d ∷ []) (ws ++ w ∷ [])
     job_push [] [] d w are is = (is, tt)
     job_push [] (v ∷ ws) d w are is = absurd are
@@ -210,12 +210,12 @@ ports_by sites sites2 hub hub2 ps hosts shown one two same are =
     subst (λ l. ArePorts l hub true hosts ps) one (subst (λ h. ArePorts sites2 h true hosts ps) two (subst (λ l. ArePorts sites2 hub2 true l ps) same are))
 
 module _ {G P : Type 0} (task : G → List Answer → Option Call) where
-  pub jobs_by : (sites sites2 : List Site) (hub hub2 : Cell HubLog) (ds : List (ℕ × Role)) (ws : List (Work G P)) → sites2 ≡ sites → hub2 ≡ hub
+  pub jobs_by : (sites sites2 : List Site) (hub hub2 : Cell HubLog) (ds : List (ℕ × Role)) (ws : List (RunJob G P)) → sites2 ≡ sites → hub2 ≡ hub
       → AreJobsAt task sites hub ds ws → AreJobsAt task sites2 hub2 ds ws
   jobs_by sites sites2 hub hub2 ds ws one two are =
       subst (λ l. AreJobsAt task l hub2 ds ws) (sym one) (subst (λ h. AreJobsAt task sites h ds ws) (sym two) are)
 
-  pub jobs_dealt : (sites : List Site) (hub : Cell HubLog) (programs : List (Assigned G)) (stations shown : List ℕ) (rounds : ℕ) (first jobs : List (Work G P))
+  pub jobs_dealt : (sites : List Site) (hub : Cell HubLog) (programs : List (Assigned G)) (stations shown : List ℕ) (rounds : ℕ) (first jobs : List (RunJob G P))
       (ports : List PortValue) (clock : ClockDuty) → jobs ≡ first ++ works.Clock clock ∷ [] → shown ≡ stations
       → AreJobsAt task sites hub (map (runs_by task) programs ++ map pumps_at shown) first → ArePorts sites hub true stations ports
       → clock ≡ record { ports = ports; rounds = rounds } → AreDealt task sites hub programs stations rounds jobs
@@ -264,7 +264,7 @@ stock_next sites sites2 hub hub2 old new before after h more all one two is stoc
 
 -- one job more
 module _ {G P : Type 0} (task : G → List Answer → Option Call) (sites sites2 : List Site) (hub hub2 : Cell HubLog) (ds : List (ℕ × Role))
-    (jobs new : List (Work G P)) (port : PortValue) (one : sites2 ≡ sites) (two : hub2 ≡ hub) where
+    (jobs new : List (RunJob G P)) (port : PortValue) (one : sites2 ≡ sites) (two : hub2 ≡ hub) where
   pub program_job : (yielded : List (Assigned G)) (a : Assigned G) (duty : ProcessDuty G) → duty ≡ record { port = port; pid = a.pid; program = a.program }
       → new ≡ jobs ++ works.Process duty ∷ [] → IsPort sites2 hub2 false a.pid.host port
       → AreJobsAt task sites hub (ds ++ map (runs_by task) yielded) jobs → AreJobsAt task sites hub (ds ++ map (runs_by task) (yielded ++ a ∷ [])) new

@@ -20,8 +20,8 @@ use Rattle.vk_threads.specs.declared.end.End.{End}
 use Rattle.vk_threads.specs.declared.end.Seats.{Seats}
 use Rattle.vk_threads.specs.declared.opening.Site.{Site}
 use Rattle.vk_program.specs.declared.assigned.Assigned.{Assigned}
-use Rattle.vk_threads.specs.declared.work.Work.{Work}
-use Rattle.vk_threads.specs.declared.work.Work.TheVariants as works
+use Rattle.vk_threads.specs.declared.work.RunJob.{RunJob}
+use Rattle.vk_threads.specs.declared.work.RunJob.TheVariants as works
 use Rattle.vk_threads.specs.Assigned.{AreDifferent, pid_of, program_task}
 use Rattle.vk_threads.specs.Dealt.{AreJobsAt, ArePorts, IsPort, pumps_at, runs_by}
 use Rattle.vk_threads.specs.Dealt.{host_of as program_host}
@@ -262,12 +262,12 @@ module _ (sites : List Site) (hub : Cell HubLog) where
 
   -- ALL JOBS, with their ends
   module _ {G P : Type 0} (task : G → List Answer → Option Call) where
-    abbrev pub EndEach : List (Work G P) → List End → Type 0
+    abbrev pub EndEach : List (RunJob G P) → List End → Type 0
     EndEach [] [] = Unit {0}
     EndEach (w ∷ ws) (e ∷ es) = ends_as task w e × EndEach ws es
     EndEach ws es = ⊥
 
-    pub end_each : (ws : List (Work G P)) (es : List End) → AllEnd (ends_as task) ws es → EndEach ws es
+    pub end_each : (ws : List (RunJob G P)) (es : List End) → AllEnd (ends_as task) ws es → EndEach ws es
     end_each [] [] all = tt
     end_each [] (e ∷ es) all = let n : suc (length es) ≡ 0 = all.0 in absurd (omega arith)
     end_each (w ∷ ws) [] all = let n : 0 ≡ suc (length ws) = all.0 in absurd (omega arith)
@@ -275,26 +275,26 @@ module _ (sites : List Site) (hub : Cell HubLog) where
         let n : suc (length es) ≡ suc (length ws) = all.0 in
         (all.1 0 w e refl refl, end_each ws es (omega arith, λ k j x at_job at_end. all.1 (suc k) j x at_job at_end))
 
-    pub ends_of : (ws : List (Work G P)) (es : List End) → EndEach ws es → List JobEnd
+    pub ends_of : (ws : List (RunJob G P)) (es : List End) → EndEach ws es → List JobEnd
     ends_of [] [] m = []
     ends_of [] (e ∷ es) m = []
     ends_of (w ∷ ws) [] m = []
     ends_of (w ∷ ws) (e ∷ es) m = record { passages = m.0.passages; met = e.met } ∷ ends_of ws es m.1
 
-    abbrev pub AreOwn : List (Work G P) → Type 0
-    AreOwn ws = Each (λ (w : Work G P). Each IsOwn (ports_of w)) ws
+    abbrev pub AreOwn : List (RunJob G P) → Type 0
+    AreOwn ws = Each (λ (w : RunJob G P). Each IsOwn (ports_of w)) ws
 
-    abbrev pub AreOf : Settings → List (Work G P) → Type 0
-    AreOf c ws = Each (λ (w : Work G P). Each (IsOf c) (ports_of w)) ws
+    abbrev pub AreOf : Settings → List (RunJob G P) → Type 0
+    AreOf c ws = Each (λ (w : RunJob G P). Each (IsOf c) (ports_of w)) ws
 
-    pub are_ends : (ws : List (Work G P)) (es : List End) (m : EndEach ws es) → AreOwn ws → AreEndsOf sites hub es (ends_of ws es m)
+    pub are_ends : (ws : List (RunJob G P)) (es : List End) (m : EndEach ws es) → AreOwn ws → AreEndsOf sites hub es (ends_of ws es m)
     unfolding ends_of
     are_ends [] [] m own = tt
     are_ends [] (e ∷ es) m own = absurd m
     are_ends (w ∷ ws) [] m own = absurd m
     are_ends (w ∷ ws) (e ∷ es) m own = ((all_left (ports_of w) e.seats.items m.0.passages own.0 m.0.through, refl), are_ends ws es m.1 own.1)
 
-    pub are_passages : (c : Settings) (ws : List (Work G P)) (es : List End) (m : EndEach ws es) → AreOwn ws → AreOf c ws
+    pub are_passages : (c : Settings) (ws : List (RunJob G P)) (es : List End) (m : EndEach ws es) → AreOwn ws → AreOf c ws
         → Each (IsPassage c hub.origin) (passages_of (ends_of ws es m))
     unfolding ends_of
     are_passages c [] [] m own of = tt
@@ -304,14 +304,14 @@ module _ (sites : List Site) (hub : Cell HubLog) where
         each_append (IsPassage c hub.origin) m.0.passages (passages_of (ends_of ws es m.1))
         (passages_by c (ports_of w) e.seats.items m.0.passages own.0 of.0 m.0.through) (are_passages c ws es m.1 own.1 of.1)
 
-    pub are_job_ends : (c : Settings) (ws : List (Work G P)) (es : List End) (m : EndEach ws es) → AreOf c ws → Each (IsJobEnd c) (ends_of ws es m)
+    pub are_job_ends : (c : Settings) (ws : List (RunJob G P)) (es : List End) (m : EndEach ws es) → AreOf c ws → Each (IsJobEnd c) (ends_of ws es m)
     unfolding ends_of
     are_job_ends c [] [] m of = tt
     are_job_ends c [] (e ∷ es) m of = absurd m
     are_job_ends c (w ∷ ws) [] m of = absurd m
     are_job_ends c (w ∷ ws) (e ∷ es) m of = (m.0.job c of.0, are_job_ends c ws es m.1 of.1)
 
-    pub end_count : (ws : List (Work G P)) (es : List End) (m : EndEach ws es) → length (ends_of ws es m) ≡ length ws
+    pub end_count : (ws : List (RunJob G P)) (es : List End) (m : EndEach ws es) → length (ends_of ws es m) ≡ length ws
     unfolding ends_of
     end_count [] [] m = refl
     end_count [] (e ∷ es) m = absurd m
@@ -320,10 +320,10 @@ module _ (sites : List Site) (hub : Cell HubLog) where
 
     -- their roles and stations
     module _ (clock : ClockDuty) where
-      abbrev pub and_clock : List (Work G P) → List (Work G P)
+      abbrev pub and_clock : List (RunJob G P) → List (RunJob G P)
       and_clock ws = ws ++ works.Clock clock ∷ []
 
-      pub all_roles : (ds : List (ℕ × Role)) (ws : List (Work G P)) (es : List End) (m : EndEach (and_clock ws) es) → AreJobsAt task sites hub ds ws
+      pub all_roles : (ds : List (ℕ × Role)) (ws : List (RunJob G P)) (es : List End) (m : EndEach (and_clock ws) es) → AreJobsAt task sites hub ds ws
           → map role_of (passages_of (ends_of (and_clock ws) es m)) ≡ map duty_role ds ++ ticking clock.ports
       unfolding ends_of
       all_roles [] [] [] m are = absurd m
@@ -337,7 +337,7 @@ module _ (sites : List Site) (hub : Cell HubLog) where
           ∙ ap (λ l. l ++ map role_of (passages_of (ends_of (and_clock ws) es m.1))) (m.0.each ∙ are.0.roles)
           ∙ ap (λ l. d.1 ∷ l) (all_roles ds ws es m.1 are.1)
 
-      pub all_hosts : (ds : List (ℕ × Role)) (ws : List (Work G P)) (es : List End) (m : EndEach (and_clock ws) es) → AreJobsAt task sites hub ds ws
+      pub all_hosts : (ds : List (ℕ × Role)) (ws : List (RunJob G P)) (es : List End) (m : EndEach (and_clock ws) es) → AreJobsAt task sites hub ds ws
           → map host_of (passages_of (ends_of (and_clock ws) es m)) ≡ map duty_host ds ++ map port_host clock.ports
       unfolding ends_of
       all_hosts [] [] [] m are = absurd m
@@ -352,13 +352,13 @@ module _ (sites : List Site) (hub : Cell HubLog) where
           (hosts_by (ports_of w) e.seats.items m.0.passages m.0.through ∙ ap (map port_host) are.0.ports ∙ ap (λ n. n ∷ []) are.0.is.at)
           ∙ ap (λ l. d.0 ∷ l) (all_hosts ds ws es m.1 are.1)
 
-      pub clock_done : (ws : List (Work G P)) (es : List End) → EndEach (and_clock ws) es → ℕ
+      pub clock_done : (ws : List (RunJob G P)) (es : List End) → EndEach (and_clock ws) es → ℕ
       clock_done [] [] m = 0
       clock_done [] (e ∷ es) m = m.0.done
       clock_done (w ∷ ws) [] m = 0
       clock_done (w ∷ ws) (e ∷ es) m = clock_done ws es m.1
 
-      pub all_time : (rounds : ℕ) (ds : List (ℕ × Role)) (ws : List (Work G P)) (es : List End) (m : EndEach (and_clock ws) es) → AreJobsAt task sites hub ds ws
+      pub all_time : (rounds : ℕ) (ds : List (ℕ × Role)) (ws : List (RunJob G P)) (es : List End) (m : EndEach (and_clock ws) es) → AreJobsAt task sites hub ds ws
           → clock.rounds ≡ rounds → Each IsNoClock ds
           → Each (λ (g : Passage). KeepsTime (clock_done ws es m) rounds g g.role) (passages_of (ends_of (and_clock ws) es m))
       unfolding ends_of clock_done
@@ -376,14 +376,14 @@ module _ (sites : List Site) (hub : Cell HubLog) where
           (subst (Each (λ (r : Role). is_clock r ≡ 0)) (sym (m.0.each ∙ are.0.roles)) (none.0, tt)))
           (all_time rounds ds ws es m.1 are.1 same none.1)
 
-      pub all_own : (ds : List (ℕ × Role)) (ws : List (Work G P)) → AreJobsAt task sites hub ds ws → Each IsOwn clock.ports → AreOwn (and_clock ws)
+      pub all_own : (ds : List (ℕ × Role)) (ws : List (RunJob G P)) → AreJobsAt task sites hub ds ws → Each IsOwn clock.ports → AreOwn (and_clock ws)
       all_own [] [] are own_clock = (own_clock, tt)
       all_own [] (w ∷ ws) are own_clock = absurd are
       all_own (d ∷ ds) [] are own_clock = absurd are
       all_own (d ∷ ds) (w ∷ ws) are own_clock =
           (subst (Each IsOwn) (sym are.0.ports) (own false d.0 are.0.port are.0.is, tt), all_own ds ws are.1 own_clock)
 
-      pub job_count : (ds : List (ℕ × Role)) (ws : List (Work G P)) → AreJobsAt task sites hub ds ws → length ws ≡ length ds
+      pub job_count : (ds : List (ℕ × Role)) (ws : List (RunJob G P)) → AreJobsAt task sites hub ds ws → length ws ≡ length ds
       job_count [] [] are = refl
       job_count [] (w ∷ ws) are = absurd are
       job_count (d ∷ ds) [] are = absurd are

@@ -1,5 +1,5 @@
 -- From what a job did through its one port, and what came behind that, to its end.
-use Rattle.std.proofs.Common.{◌≡◌, ◌≢◌, ℕ, ◌≤◌, true, false, Option, Some, None, is_some, List, [], ◌∷◌, ◌++◌, length, refl, sym, ap, ◌∙◌, subst, arith, append-nil, ◌==◌, ◌⊎◌, inl, inr}
+use Rattle.std.proofs.Common.{◌≡◌, ◌≢◌, ℕ, ◌+◌, ◌≤◌, true, false, Option, Some, None, is_some, List, [], ◌∷◌, ◌++◌, length, refl, sym, ap, ◌∙◌, subst, arith, append-nil, ◌==◌, ◌⊎◌, inl, inr}
 use Rattle.std.proofs.lemmas.Bool.Decides.{nat_tests}
 use mathlib.Core.List.{IsPrefix}
 use Rattle.vk_types.specs.Types.{Answer, Call, Pid}
@@ -16,7 +16,7 @@ use Rattle.vk_port.specs.Ports.{Action, Berth, Does, IsLog, PortValue, Stand, af
 use Rattle.vk_port.specs.Stations.{StationHistory, is_process_of, is_used_up}
 use Rattle.vk_port.proofs.Fronts.{prefix_over}
 use Rattle.vk_rules.specs.Each.{Each}
-use Rattle.v_run.specs.Jobs.{EndsRole, GoesOn, KeepsTime, MetFull}
+use Rattle.v_run.specs.Jobs.{EndsRole, GoesOn, HaltsNot, KeepsTime, MetFull}
 use Rattle.v_run.specs.Passages.{IsAtEnd, IsLast, IsRole, Passage, Pumps, Role, Runs, answers_by, calls_by, fresh_station, lost_count}
 use Rattle.vk_threads.specs.declared.end.Seats.{Seats}
 use Rattle.vk_threads.specs.Works.{FindsFull, HasClosed, HasEnded, HasHalted, HasPlayed, HasPlayedCut, HasPumped, HasPumpedCut}
@@ -101,7 +101,8 @@ one_end : (p q : PortValue) (acts : List Action) (role : Role) (s : Seats) (last
     → Does p q acts → Behind q s last looked → s.host ≡ p.host → IsRole role p.station.origin acts → IsLast last → lost_count acts ≤ 1 → length last ≤ 1
     → KeepsTime 0 0 (passage_of p q acts role last looked) role
     → ((c : Settings) → IsOf c p → EndsRole c (passage_of p q acts role last looked) role)
-    → (met ≡ None → last ≢ hub_events.Halt ∷ []) → (met ≡ None → GoesOn (passage_of p q acts role last looked) role)
+    → (met ≡ None → HaltsNot (passage_of p q acts role last looked) role)
+    → ((c : Settings) → IsOf c p → met ≡ None → GoesOn c (passage_of p q acts role last looked) role)
     → ((c : Settings) → IsOf c p → met ≡ Some rooms.Full → MetFull c (passage_of p q acts role last looked))
     → TicksAll 0 (passage_of p q acts role last looked) role → (is_some met ≡ true → has_halt s.hub_seat.seen ≡ true)
     → (may : MayEnd (p ∷ []) (role ∷ []) 0 (s ∷ []) met) × (may.passages ≡ passage_of p q acts role last looked ∷ [])
@@ -119,15 +120,15 @@ one_end p q acts role s last looked met does behind host keeps ends few short ti
       last_entries = omega arith;
       roles = (at_end c of.0, tt);
       halts = λ is. (halts is, tt);
-      goes_on = λ is. (goes is, tt);
+      goes_on = λ is. (goes c of.0 is, tt);
       full = λ is. inl (full c of.0 is);
     };
   },
   refl,
 )
 
--- A port that was closed without a Room.
-pub closed_behind : (q : PortValue) (s : Seats) → HasClosed q s.seat s.hub_seat None → Behind q s [] q.hub_seat.seen
+-- A port that was closed without a halt.
+pub closed_behind : (q : PortValue) (s : Seats) → HasClosed q s.seat s.hub_seat false → Behind q s [] q.hub_seat.seen
 closed_behind q s it = record {
   seat = it.seat;
   same = it.same;
@@ -136,13 +137,13 @@ closed_behind q s it = record {
   sent = it.sent ∙ sym (append-nil q.hub_seat.mine);
 }
 
--- Where a Room was met, the hub was halted, or was so before.
-pub halted_behind : (q : PortValue) (s : Seats) (looked : List (ℕ × HubEvent)) (why : Room) → s.seat ≡ q.seat → IsSameSeat q.hub_seat s.hub_seat
-    → IsPrefix q.hub_seat.seen looked → IsPrefix looked s.hub_seat.seen → HasHalted q.hub_seat.mine s.hub_seat.mine (Some why)
+-- Where it was to be halted, the hub was halted, or was so before.
+pub halted_behind : (q : PortValue) (s : Seats) (looked : List (ℕ × HubEvent)) → s.seat ≡ q.seat → IsSameSeat q.hub_seat s.hub_seat
+    → IsPrefix q.hub_seat.seen looked → IsPrefix looked s.hub_seat.seen → HasHalted q.hub_seat.mine s.hub_seat.mine true
     → (Behind q s [] looked) ⊎ (Behind q s (hub_events.Halt ∷ []) looked)
-halted_behind q s looked why seat same later heard (inl sent) =
+halted_behind q s looked seat same later heard (inl sent) =
     inl (record { seat = seat; same = same; later = later; heard = heard; sent = sent ∙ sym (append-nil q.hub_seat.mine) })
-halted_behind q s looked why seat same later heard (inr sent) = inr (record { seat = seat; same = same; later = later; heard = heard; sent = sent })
+halted_behind q s looked seat same later heard (inr sent) = inr (record { seat = seat; same = same; later = later; heard = heard; sent = sent })
 
 -- A job that met a Room.
 cut_end : (p q : PortValue) (acts : List Action) (role : Role) (s : Seats) (looked : List (ℕ × HubEvent)) (why : Room)
@@ -154,14 +155,14 @@ cut_end : (p q : PortValue) (acts : List Action) (role : Role) (s : Seats) (look
     → (Behind q s [] looked) ⊎ (Behind q s (hub_events.Halt ∷ []) looked) → MayEnd (p ∷ []) (role ∷ []) 0 (s ∷ []) (Some why)
 cut_end p q acts role s looked why does host keeps few time at_end full all halted (inl behind) =
     (one_end p q acts role s [] looked (Some why) does behind host keeps last_none few (omega arith) (time [])
-    (λ c of. at_end c [] none_finished) (λ is. absurd (cc is)) (λ is. absurd (cc is)) (λ c of is. full c [] of (some_is why rooms.Full is))
+    (λ c of. at_end c [] none_finished) (λ is. absurd (cc is)) (λ c of is. absurd (cc is)) (λ c of is. full c [] of (some_is why rooms.Full is))
     (all []) (λ is. halted)).0
   where
     some_is : (x y : Room) → Some x ≡ Some y → x ≡ y
     some_is x y is = cc is
 cut_end p q acts role s looked why does host keeps few time at_end full all halted (inr behind) =
     (one_end p q acts role s (hub_events.Halt ∷ []) looked (Some why) does behind host keeps last_halt few (omega arith) (time (hub_events.Halt ∷ []))
-    (λ c of. at_end c (hub_events.Halt ∷ []) halt_finished) (λ is. absurd (cc is)) (λ is. absurd (cc is))
+    (λ c of. at_end c (hub_events.Halt ∷ []) halt_finished) (λ is. absurd (cc is)) (λ c of is. absurd (cc is))
     (λ c of is. full c (hub_events.Halt ∷ []) of (some_is why rooms.Full is)) (all (hub_events.Halt ∷ [])) (λ is. halted)).0
   where
     some_is : (x y : Room) → Some x ≡ Some y → x ≡ y
@@ -173,22 +174,24 @@ module _ (p q : PortValue) (pid : Pid) (task : List Answer → Option Call) (s :
   halted why may = record { may = may; waits = λ is. absurd (cc is) }
 
   -- it was told that the hub had ended
-  pub process_stopped : HasPlayed p q pid task false → HasClosed q s.seat s.hub_seat None → EndsProcess p pid task (s ∷ []) None
+  pub process_stopped : HasPlayed p q pid task false → HasClosed q s.seat s.hub_seat false → EndsProcess p pid task (s ∷ []) None
   process_stopped played closed =
       let end = one_end p q played.0 (Runs pid task) s [] q.hub_seat.seen None played.1 (closed_behind q s closed) host (here, played.2) last_none played.4
-      (omega arith) tt (λ c of is. absurd (none_finished is)) (λ is. none_halt) (λ is. inr played.3) (λ c of is. absurd (cc is)) tt
+      (omega arith) tt (λ c of is. absurd (none_finished is)) (λ is. none_halt)
+      (λ c of is. inr (played.3, subst (λ o. length (calls_by played.0) ≡ length (answers_by o played.0) + 1) of played.5))
+      (λ c of is. absurd (cc is)) tt
       (λ is. absurd (cc is)) in
       record { may = end.0; waits = λ is. subst (Each (FinishesOrWaits p.station.origin)) (sym end.1) (inr played.5, tt) }
 
   -- it met a Room
-  pub process_cut : (why : Room) → HasPlayedCut p q pid task why → HasClosed q s.seat s.hub_seat (Some why)
+  pub process_cut : (why : Room) → HasPlayedCut p q pid task why → HasClosed q s.seat s.hub_seat true
       → EndsProcess p pid task (s ∷ []) (Some why)
   process_cut why played closed =
       halted why (cut_end p q played.0 (Runs pid task) s q.hub_seat.seen why played.1 host (here, played.2) played.3 (λ last. tt)
       (λ c last never is. absurd (never is))
       (λ c last of full. met_full c p q played.0 (Runs pid task) last of played.1 (played.4 full))
       (λ last. tt) (closed.halted refl)
-      (halted_behind q s q.hub_seat.seen why closed.seat closed.same (prefix_self q.hub_seat.seen) closed.heard closed.sent))
+      (halted_behind q s q.hub_seat.seen closed.seat closed.same (prefix_self q.hub_seat.seen) closed.heard closed.sent))
 
   -- it came to its end
   pub process_finished : HasPlayed p q pid task true → HasEnded q s.seat s.hub_seat None → EndsProcess p pid task (s ∷ []) None
@@ -197,7 +200,7 @@ module _ (p q : PortValue) (pid : Pid) (task : List Answer → Option Call) (s :
       (record { seat = ended.seat; same = ended.same; later = prefix_self q.hub_seat.seen; heard = ended.finished.1; sent = ended.finished.0 })
       host (here, played.2) last_finished (let none = played.4 in omega arith) (omega arith) tt
       (λ c of is. subst (λ o. IsAtEnd task (calls_by played.0) (answers_by o played.0)) of played.3)
-      (λ is. finished_halt) (λ is. inl refl) (λ c of is. absurd (cc is)) tt (λ is. absurd (cc is)) in
+      (λ is. finished_halt) (λ c of is. inl refl) (λ c of is. absurd (cc is)) tt (λ is. absurd (cc is)) in
       record { may = end.0; waits = λ is. subst (Each (FinishesOrWaits p.station.origin)) (sym end.1) (inl refl, tt) }
 
   -- it came to its end, but met a Room there
@@ -207,7 +210,7 @@ module _ (p q : PortValue) (pid : Pid) (task : List Answer → Option Call) (s :
       let it = ended.finished in
       halted why (cut_end p q played.0 (Runs pid task) s it.0 why played.1 host (here, played.2) (let none = played.4 in omega arith) (λ last. tt)
       (λ c last never is. absurd (never is)) (λ c last of full. inr (inr (it.4 full))) (λ last. tt) it.5
-      (halted_behind q s it.0 why ended.seat ended.same it.1 it.2 it.3))
+      (halted_behind q s it.0 ended.seat ended.same it.1 it.2 it.3))
 
 -- however it ended
 pub process_done : (p q : PortValue) (pid : Pid) (task : List Answer → Option Call) (s : Seats) → s.host ≡ p.host → pid.host ≡ p.station.origin.host
@@ -217,18 +220,18 @@ process_done p q pid task s host here played (Some why) ended = process_unfinish
 
 -- PUMPS.
 module _ (p q : PortValue) (s : Seats) (host : s.host ≡ p.host) where
-  pub pump_stopped : HasPumped p q → HasClosed q s.seat s.hub_seat None → MayEnd (p ∷ []) (Pumps ∷ []) 0 (s ∷ []) None
+  pub pump_stopped : HasPumped p q → HasClosed q s.seat s.hub_seat false → MayEnd (p ∷ []) (Pumps ∷ []) 0 (s ∷ []) None
   pump_stopped pumped closed =
       (one_end p q pumped.0 Pumps s [] q.hub_seat.seen None pumped.1 (closed_behind q s closed) host pumped.2 last_none pumped.3 (omega arith) tt
-      (λ c of. none_finished) (λ is. none_halt) (λ is. pumped.4) (λ c of is. absurd (cc is)) tt (λ is. absurd (cc is))).0
+      (λ c of. none_finished) (λ is. none_halt) (λ c of is. pumped.4) (λ c of is. absurd (cc is)) tt (λ is. absurd (cc is))).0
 
-  pub pump_cut : (why : Room) → HasPumpedCut p q why → HasClosed q s.seat s.hub_seat (Some why) → MayEnd (p ∷ []) (Pumps ∷ []) 0 (s ∷ []) (Some why)
+  pub pump_cut : (why : Room) → HasPumpedCut p q why → HasClosed q s.seat s.hub_seat true → MayEnd (p ∷ []) (Pumps ∷ []) 0 (s ∷ []) (Some why)
   pump_cut why pumped closed =
       cut_end p q pumped.0 Pumps s q.hub_seat.seen why pumped.1 host pumped.2 pumped.3 (λ last. tt)
       (λ c last never. never)
       (λ c last of full. met_full c p q pumped.0 Pumps last of pumped.1 (pumped.4 full))
       (λ last. tt) (closed.halted refl)
-      (halted_behind q s q.hub_seat.seen why closed.seat closed.same (prefix_self q.hub_seat.seen) closed.heard closed.sent)
+      (halted_behind q s q.hub_seat.seen closed.seat closed.same (prefix_self q.hub_seat.seen) closed.heard closed.sent)
 
 pub process_here : (o : StationHistory) (pid : Pid) → is_process_of o pid ≡ true → pid.host ≡ o.host
 process_here o pid is = let same = and_second (has_process o.config.specs pid) (pid.host == o.host) is in grind (arith, nat_tests)

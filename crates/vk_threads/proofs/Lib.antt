@@ -6,6 +6,7 @@ pub mod Ending
 pub mod Finishing
 pub mod Ticking
 pub mod Sitting
+mod Looking
 pub mod Returned
 pub mod Recorded
 pub mod Opened

@@ -25,7 +25,9 @@ use Rattle.vk_join.specs.Stray.{join_refusal}
 use Rattle.vk_port.specs.Stations.{StationHistory}
 use Rattle.vk_rules.specs.Each.{Each}
 use Rattle.v_run.specs.Closed.{AreClosed}
-use Rattle.v_run.specs.Laws.{AreLogsOf, ClosedRunsAreJoined, JoinedRunsAreRuns, LogsMayBeJoined}
+use Rattle.v_run.specs.declared.run_end.RunEnd.{RunEnd}
+use Rattle.v_run.specs.declared.run_end.RunEnd.TheVariants as run_ends
+use Rattle.v_run.specs.Laws.{AreLogsOf, ClosedRunsAreJoined, IsStill, JoinedRunsAreRuns, LogsMayBeJoined, MayEndAs}
 use Rattle.v_run.specs.Outcomes.{Assignment}
 use Rattle.v_run.specs.Passages.{Passage, fresh_station, hub_number_of}
 use Rattle.v_run.specs.Ran.{IsRun}
@@ -33,6 +35,7 @@ use Rattle.v_run.specs.Runs.{passages_of}
 use Rattle.vk_threads.specs.Ended.{AllLeft, AreSites, HaveEnded, cell_at}
 use Rattle.vk_threads.specs.Gathered.{AreReady, AreShut, HaveClosed, HaveComeBack, all_hub_seats, all_seats, all_spares, met_full, met_no_memory, seats_at, with_halt}
 use Rattle.vk_threads.specs.declared.end.End.{End}
+use Rattle.vk_threads.specs.declared.gather.Closed.{Closed}
 use Rattle.vk_threads.specs.declared.opening.Site.{Site}
 use Rattle.vk_threads.proofs.Returned.{all_closed, all_left, at_stations, hub_numbers, hub_seats, limited, of_cell, sat_at, station_numbers, unlimited}
 use Rattle.vk_threads.proofs.Sitting.{AreAllOf, AreSingle, histories, logs_of_sites, logs_say, ready, shut_at, site_host, there}
@@ -143,18 +146,21 @@ module _ (c : Settings) (sites : List Site) (hub : Cell HubLog) (rounds : ℕ) (
   known : (h : ℕ) → list_any (λ x. x == h) (map site_host sites) ≡ has_station c.specs h
   known h = ap (list_any (λ x. x == h)) are.hosts ∙ among_stations c.specs h
 
-  module _ (logs : List StationLog) (are_all : HaveClosed sites hub ends halt logs) where
+  module _ (closed : Closed) (are_all : HaveClosed c.specs rounds sites hub ends halt closed) where
+    abbrev logs : List StationLog
+    logs = closed.logs.items
+
     abbrev heard : List (ℕ × HubEvent)
     heard = are_all.heard
 
     abbrev back : HaveComeBack hub.seats (with_halt ends halt) are_all.heard
     back = are_all.back
 
-    abbrev shut : AreShut sites (all_spares ends) logs
+    abbrev shut : AreShut c.specs rounds closed.still sites (all_spares ends) logs
     shut = are_all.shut
 
     abbrev pub closed_at : ℕ → List (ℕ × StationEvent)
-    closed_at = histories sites (all_spares ends) logs shut
+    closed_at = histories c.specs rounds closed.still sites (all_spares ends) logs shut
 
     cell_of : (h : ℕ) → has_station c.specs h ≡ true → (cell : Cell StationHistory) × (cell_at sites h ≡ Some cell)
     cell_of h is = there sites h (known h ∙ is)
@@ -179,7 +185,7 @@ module _ (c : Settings) (sites : List Site) (hub : Cell HubLog) (rounds : ℕ) (
     are_closed = record {
       passages = ended.passages;
       closed = all_closed sites hub closed_at heard (all_seats ends) gs left
-          (λ h cell found. let it = (shut_at sites (all_spares ends) logs shut h cell found).back in (it.seen, it.mine)) (
+          (λ h cell found. let it = (shut_at c.specs rounds closed.still sites (all_spares ends) logs shut h cell found).back in (it.seen, it.mine)) (
             all_before (λ (s : Sitting HubLog HubEvent). IsPrefix s.seen heard) (all_hub_seats ends) (halt ∷ []) back.seen,
             all_before (λ (s : Sitting HubLog HubEvent). events_of s.number heard ≡ s.mine) (all_hub_seats ends) (halt ∷ []) back.mine,
           );
@@ -187,10 +193,10 @@ module _ (c : Settings) (sites : List Site) (hub : Cell HubLog) (rounds : ℕ) (
       numbers = λ h is.
           let cell = cell_of h is in
           subst (IsDistinct eqb) (station_numbers sites hub (all_seats ends) gs h left)
-          (shut_at sites (all_spares ends) logs shut h cell.0 cell.1).back.different;
+          (shut_at c.specs rounds closed.still sites (all_spares ends) logs shut h cell.0 cell.1).back.different;
       known = λ h is k none.
           let cell = cell_of h is in
-          unknown cell.0.seats (sat_at h (all_seats ends)) (closed_at h) (shut_at sites (all_spares ends) logs shut h cell.0 cell.1).back k
+          unknown cell.0.seats (sat_at h (all_seats ends)) (closed_at h) (shut_at c.specs rounds closed.still sites (all_spares ends) logs shut h cell.0 cell.1).back k
           (ap (list_any (λ n. n == k)) (station_numbers sites hub (all_seats ends) gs h left) ∙ none);
       hub_numbers = front_distinct (map hub_number_of gs) (halt.number ∷ []) (subst (IsDistinct eqb) numbers_all back.different);
       hub_known = λ k none. hub_unknown k none (halt.number == k) refl;
@@ -198,11 +204,11 @@ module _ (c : Settings) (sites : List Site) (hub : Cell HubLog) (rounds : ℕ) (
 
     pub are_logs : AreLogsOf c closed_at logs
     are_logs = record {
-      hosts = logs_of_sites sites (all_spares ends) logs shut ∙ are.hosts;
-      events = logs_say sites (all_spares ends) logs shut;
+      hosts = logs_of_sites c.specs rounds closed.still sites (all_spares ends) logs shut ∙ are.hosts;
+      events = logs_say c.specs rounds closed.still sites (all_spares ends) logs shut;
       lawful = λ h is.
           let cell = cell_of h is in
-          (shut_at sites (all_spares ends) logs shut h cell.0 cell.1).lawful c h (site_of c h sites cell.0 are.cells cell.1);
+          (shut_at c.specs rounds closed.still sites (all_spares ends) logs shut h cell.0 cell.1).lawful c h (site_of c h sites cell.0 are.cells cell.1);
     }
 
     pub asked : LogsMayBeJoined → AreLawful c → AreLogs c logs
@@ -212,10 +218,32 @@ module _ (c : Settings) (sites : List Site) (hub : Cell HubLog) (rounds : ℕ) (
     pub none_refused : ClosedRunsAreJoined → AreGiven c logs → join_refusal c logs ≡ None
     none_refused law given = law c hub.origin closed_at heard ended.jobs logs are_closed are_logs given
 
-    pub ran : JoinedRunsAreRuns → AreGiven c logs → (s : Schedule) → IsJoined c logs s → (was_limited : Bool) → list_any met_no_memory ends ≡ false
-        → list_any met_full ends ≡ was_limited → IsRun c hub.origin.plan rounds tasks was_limited s
-    ran law given s joined was_limited wanting full =
-        subst (λ (l : List Assignment). IsRun c hub.origin.plan rounds l was_limited s) ended.are_tasks
-        (law c hub.origin rounds closed_at heard ended.jobs logs s was_limited are_closed ended.are_jobs are_logs given joined
-        (λ none. unlimited sites hub ends ended.jobs ended.each_end wanting (full ∙ none))
-        (λ is. limited sites hub ends ended.jobs ended.each_end (full ∙ is)))
+    -- each station stands still where the code says so
+    still_at : closed.still ≡ true → (h : ℕ) → has_station c.specs h ≡ true → IsStill c.specs rounds (fresh_station c h) (closed_at h)
+    still_at is h here =
+        let cell = cell_of h here in
+        (shut_at c.specs rounds closed.still sites (all_spares ends) logs shut h cell.0 cell.1).looked c h
+        (site_of c h sites cell.0 are.cells cell.1) is
+
+    module _ (wanting : list_any met_no_memory ends ≡ false) where
+      may_end : (end : RunEnd) → (end ≡ run_ends.Done → (list_any met_full ends ≡ false) × (closed.finished ≡ true))
+          → (end ≡ run_ends.Limited → list_any met_full ends ≡ true)
+          → (end ≡ run_ends.Waiting → (list_any met_full ends ≡ false) × (closed.finished ≡ false) × (closed.still ≡ true))
+          → MayEndAs c hub.origin rounds closed_at heard ended.jobs end
+      may_end run_ends.Done done limits waits =
+          let it = done refl in
+          (unlimited sites hub ends ended.jobs ended.each_end wanting it.0, sym are_all.finished ∙ it.1)
+      may_end run_ends.Limited done limits waits = limited sites hub ends ended.jobs ended.each_end (limits refl)
+      may_end run_ends.Waiting done limits waits =
+          let it = waits refl in
+          (unlimited sites hub ends ended.jobs ended.each_end wanting it.0, sym are_all.finished ∙ it.1, still_at it.2)
+
+      pub ran : JoinedRunsAreRuns → AreGiven c logs → (s : Schedule) → IsJoined c logs s → (end : RunEnd)
+          → (end ≡ run_ends.Done → (list_any met_full ends ≡ false) × (closed.finished ≡ true))
+          → (end ≡ run_ends.Limited → list_any met_full ends ≡ true)
+          → (end ≡ run_ends.Waiting → (list_any met_full ends ≡ false) × (closed.finished ≡ false) × (closed.still ≡ true))
+          → IsRun c hub.origin.plan rounds tasks end s
+      ran law given s joined end done limits waits =
+          subst (λ (l : List Assignment). IsRun c hub.origin.plan rounds l end s) ended.are_tasks
+          (law c hub.origin rounds closed_at heard ended.jobs logs s end are_closed ended.are_jobs are_logs given joined
+          (may_end end done limits waits))

@@ -15,7 +15,7 @@ use Rattle.vk_threads.specs.contracts.end.End as end_row
 use Rattle.vk_threads.specs.contracts.process.ProcessWork as process_row
 use Rattle.vk_threads.specs.contracts.pump.PumpWork as pump_row
 use Rattle.vk_threads.specs.contracts.clock.ClockWork as clock_row
-use Rattle.vk_threads.specs.contracts.work.Work as work_row
+use Rattle.vk_threads.specs.contracts.work.RunJob as work_row
 
 pub port_send : (κ : NamedLft) → IsSend (port_row.the_row κ)
 port_send κ =

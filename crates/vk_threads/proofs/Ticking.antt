@@ -1,5 +1,5 @@
 -- From what the clock did with its ports, and how it closed them, to its end.
-use Rattle.std.proofs.Common.{◌≡◌, ◌≢◌, ℕ, ◌+◌, ◌≤◌, true, Option, Some, None, List, [], ◌∷◌, ◌++◌, ◌⊎◌, inl, inr, length, map, drop, take, get_or, zero, suc, refl, sym, ap, ◌∙◌, subst, arith}
+use Rattle.std.proofs.Common.{◌≡◌, ◌≢◌, ℕ, ◌+◌, ◌≤◌, Bool, true, false, Option, Some, None, List, [], ◌∷◌, ◌++◌, ◌⊎◌, inl, inr, length, map, drop, take, get_or, zero, suc, refl, sym, ap, ◌∙◌, subst, arith}
 use Rattle.turn_cell.proofs.Histories.{prefix_self}
 use Rattle.turn_cell.specs.Seats.{Cell}
 use Rattle.turn_cell.specs.declared.replay.Room.{Room}
@@ -11,7 +11,7 @@ use Rattle.vk_hub.specs.declared.event.HubEvent.{HubEvent}
 use Rattle.vk_hub.specs.declared.event.HubEvent.TheVariants as hub_events
 use Rattle.vk_port.specs.Ports.{Action, PortValue}
 use Rattle.vk_rules.specs.Each.{Each}
-use Rattle.v_run.specs.Jobs.{EndsRole, GoesOn, KeepsTime, MetFull, OneOf, last_entries, losses}
+use Rattle.v_run.specs.Jobs.{EndsRole, GoesOn, HaltsNot, KeepsTime, MetFull, OneOf, last_entries, losses}
 use Rattle.v_run.specs.Passages.{HasHeard, Passage, Ticks}
 use Rattle.vk_threads.specs.declared.end.Seats.{Seats}
 use Rattle.vk_threads.specs.Clocks.{AreTicked, HaveRounds, HaveRoundsCut, OneFindsFull, OneHears, TickBetween, all_lost}
@@ -30,7 +30,7 @@ abbrev pub AreHalted : List HubEvent → Type 0
 AreHalted last = (last ≡ []) ⊎ (last ≡ hub_events.Halt ∷ [])
 
 -- What does not depend on how the first was closed.
-quiet_through : (ps qs : List PortValue) (all : List (List Action)) (ss : List Seats) → AreTicked ps qs all → ArePortsClosed qs ss None
+quiet_through : (ps qs : List PortValue) (all : List (List Action)) (ss : List Seats) → AreTicked ps qs all → ArePortsClosed qs ss false
     → AreThrough ps ss (quiet ps qs all)
 quiet_through [] [] [] [] does closed = tt
 quiet_through [] [] [] (s ∷ ss) does closed = absurd closed
@@ -88,21 +88,22 @@ quiet_ends c (p ∷ ps) [] all does = absurd does
 quiet_ends c (p ∷ ps) (x ∷ qs) [] does = absurd does
 
 quiet_halts : (ps qs : List PortValue) (all : List (List Action)) → AreTicked ps qs all
-    → Each (λ (g : Passage). g.last ≢ hub_events.Halt ∷ []) (quiet ps qs all)
+    → Each (λ (g : Passage). HaltsNot g g.role) (quiet ps qs all)
 quiet_halts [] [] [] does = tt
-quiet_halts (p ∷ ps) (q ∷ qs) (a ∷ all) does = (none_halt, quiet_halts ps qs all does.2)
+quiet_halts (p ∷ ps) (q ∷ qs) (a ∷ all) does = (tt, quiet_halts ps qs all does.2)
 quiet_halts [] (x ∷ qs) all does = absurd does
 quiet_halts [] [] (a ∷ all) does = absurd does
 quiet_halts (p ∷ ps) [] all does = absurd does
 quiet_halts (p ∷ ps) (x ∷ qs) [] does = absurd does
 
-quiet_goes : (ps qs : List PortValue) (all : List (List Action)) → AreTicked ps qs all → Each (λ (g : Passage). GoesOn g g.role) (quiet ps qs all)
-quiet_goes [] [] [] does = tt
-quiet_goes (p ∷ ps) (q ∷ qs) (a ∷ all) does = (tt, quiet_goes ps qs all does.2)
-quiet_goes [] (x ∷ qs) all does = absurd does
-quiet_goes [] [] (a ∷ all) does = absurd does
-quiet_goes (p ∷ ps) [] all does = absurd does
-quiet_goes (p ∷ ps) (x ∷ qs) [] does = absurd does
+quiet_goes : (c : Settings) (ps qs : List PortValue) (all : List (List Action)) → AreTicked ps qs all
+    → Each (λ (g : Passage). GoesOn c g g.role) (quiet ps qs all)
+quiet_goes c [] [] [] does = tt
+quiet_goes c (p ∷ ps) (q ∷ qs) (a ∷ all) does = (tt, quiet_goes c ps qs all does.2)
+quiet_goes c [] (x ∷ qs) all does = absurd does
+quiet_goes c [] [] (a ∷ all) does = absurd does
+quiet_goes c (p ∷ ps) [] all does = absurd does
+quiet_goes c (p ∷ ps) (x ∷ qs) [] does = absurd does
 
 -- they went all rounds, or one of them heard that the hub had ended
 quiet_all : (rounds : ℕ) (ps qs : List PortValue) (all : List (List Action)) → AreTicked ps qs all → TickBetween rounds rounds all
@@ -140,10 +141,10 @@ quiet_full c [] [] (a ∷ all) does of full = absurd does
 quiet_full c (p ∷ ps) [] all does of full = absurd does
 quiet_full c (p ∷ ps) (x ∷ qs) [] does of full = absurd does
 
--- No Room was met.
-pub clock_done : (rounds : ℕ) (ps qs : List PortValue) (ss : List Seats) → HaveRounds rounds ps qs → ArePortsClosed qs ss None
+-- No Room was met, and the hub was not halted.
+clock_over : (rounds : ℕ) (ps qs : List PortValue) (ss : List Seats) → HaveRounds rounds ps qs → ArePortsClosed qs ss false
     → MayEnd ps (ticking ps) rounds ss None
-clock_done rounds ps qs ss it closed =
+clock_over rounds ps qs ss it closed =
     let t = it.ticked in
     record {
       passages = quiet ps qs t.acts;
@@ -158,7 +159,7 @@ clock_done rounds ps qs ss it closed =
         last_entries = (let none = quiet_last ps qs t.acts t.does in omega arith);
         roles = quiet_ends c ps qs t.acts t.does;
         halts = λ is. quiet_halts ps qs t.acts t.does;
-        goes_on = λ is. quiet_goes ps qs t.acts t.does;
+        goes_on = λ is. quiet_goes c ps qs t.acts t.does;
         full = λ is. absurd (cc is);
       };
     }
@@ -168,7 +169,7 @@ some_is x y is = cc is
 
 -- A Room was met: the first port halted the hub, or found it halted.
 halted_through : (p q : PortValue) (ps qs : List PortValue) (a : List Action) (all : List (List Action)) (s : Seats) (ss : List Seats) (last : List HubEvent)
-    → AreHalted last → AreTicked (p ∷ ps) (q ∷ qs) (a ∷ all) → Behind q s last q.hub_seat.seen → s.host ≡ q.host → ArePortsClosed qs ss None
+    → AreHalted last → AreTicked (p ∷ ps) (q ∷ qs) (a ∷ all) → Behind q s last q.hub_seat.seen → s.host ≡ q.host → ArePortsClosed qs ss false
     → AreThrough (p ∷ ps) (s ∷ ss) (passage_of p q a Ticks last q.hub_seat.seen ∷ quiet ps qs all)
 halted_through p q ps qs a all s ss last (inl is) does behind host closed = (
   is_through p q a Ticks s last q.hub_seat.seen does.0 behind (host ∙ does.0.same.host) does.1 (inl is),
@@ -196,7 +197,7 @@ halted_full c p q ps qs a all last does of (inr full) = inr (quiet_full c ps qs 
 first_end : (rounds done high : ℕ) (p q : PortValue) (ps qs : List PortValue) (a : List Action) (all : List (List Action)) (s : Seats) (ss : List Seats)
     (why : Room) (last : List HubEvent) → AreHalted last → high ≤ done + 1 → high ≤ rounds → AreTicked (p ∷ ps) (q ∷ qs) (a ∷ all)
     → TickBetween done high (a ∷ all) → all_lost (a ∷ all) ≤ 1 → (why ≡ rooms.Full → OneFindsFull (q ∷ qs) (a ∷ all))
-    → Behind q s last q.hub_seat.seen → has_halt s.hub_seat.seen ≡ true → s.host ≡ q.host → ArePortsClosed qs ss None
+    → Behind q s last q.hub_seat.seen → has_halt s.hub_seat.seen ≡ true → s.host ≡ q.host → ArePortsClosed qs ss false
     → MayEnd (p ∷ ps) (ticking (p ∷ ps)) rounds (s ∷ ss) (Some why)
 first_end rounds done high p q ps qs a all s ss why last ends near few does ticks lost full behind halted host closed = record {
   passages = passage_of p q a Ticks last q.hub_seat.seen ∷ quiet ps qs all;
@@ -217,7 +218,7 @@ first_end rounds done high p q ps qs a all s ss why last ends near few does tick
 }
 
 cut_end : (rounds done high : ℕ) (ps qs : List PortValue) (all : List (List Action)) (ss : List Seats) (why : Room) → high ≤ done + 1 → high ≤ rounds
-    → AreTicked ps qs all → TickBetween done high all → all_lost all ≤ 1 → (why ≡ rooms.Full → OneFindsFull qs all) → ArePortsClosed qs ss (Some why)
+    → AreTicked ps qs all → TickBetween done high all → all_lost all ≤ 1 → (why ≡ rooms.Full → OneFindsFull qs all) → ArePortsClosed qs ss true
     → MayEnd ps (ticking ps) rounds ss (Some why)
 cut_end rounds done high [] [] [] [] why near few does ticks lost full closed = record {
   passages = [];
@@ -239,7 +240,7 @@ cut_end rounds done high [] [] [] [] why near few does ticks lost full closed = 
 cut_end rounds done high [] [] [] (s ∷ ss) why near few does ticks lost full closed = absurd closed
 cut_end rounds done high (p ∷ ps) (q ∷ qs) (a ∷ all) [] why near few does ticks lost full closed = absurd closed
 cut_end rounds done high (p ∷ ps) (q ∷ qs) (a ∷ all) (s ∷ ss) why near few does ticks lost full closed =
-    either (halted_behind q s q.hub_seat.seen why closed.1.seat closed.1.same (prefix_self q.hub_seat.seen) closed.1.heard closed.1.sent)
+    either (halted_behind q s q.hub_seat.seen closed.1.seat closed.1.same (prefix_self q.hub_seat.seen) closed.1.heard closed.1.sent)
   where
     either : (Behind q s [] q.hub_seat.seen) ⊎ (Behind q s (hub_events.Halt ∷ []) q.hub_seat.seen)
         → MayEnd (p ∷ ps) (ticking (p ∷ ps)) rounds (s ∷ ss) (Some why)
@@ -254,16 +255,81 @@ cut_end rounds done high [] [] (a ∷ all) ss why near few does ticks lost full 
 cut_end rounds done high (p ∷ ps) [] all ss why near few does ticks lost full closed = absurd does
 cut_end rounds done high (p ∷ ps) (x ∷ qs) [] ss why near few does ticks lost full closed = absurd does
 
-pub clock_cut : (rounds : ℕ) (ps qs : List PortValue) (ss : List Seats) (why : Room) → HaveRoundsCut rounds ps qs why → ArePortsClosed qs ss (Some why)
+pub clock_cut : (rounds : ℕ) (ps qs : List PortValue) (ss : List Seats) (why : Room) → HaveRoundsCut rounds ps qs why → ArePortsClosed qs ss true
     → MayEnd ps (ticking ps) rounds ss (Some why)
 clock_cut rounds ps qs ss why it closed =
     let t = it.ticked in
     cut_end rounds it.done it.high ps qs t.acts ss why it.near it.few t.does t.ticks t.few t.full closed
 
+-- No Room was met, and the first port halted the hub, or found it halted.
+first_over : (rounds done : ℕ) (p q : PortValue) (ps qs : List PortValue) (a : List Action) (all : List (List Action)) (s : Seats) (ss : List Seats)
+    (last : List HubEvent) → AreHalted last → done ≤ rounds → AreTicked (p ∷ ps) (q ∷ qs) (a ∷ all) → TickBetween done done (a ∷ all)
+    → all_lost (a ∷ all) ≤ 1 → (done ≡ rounds) ⊎ OneHears (a ∷ all) → Behind q s last q.hub_seat.seen → s.host ≡ q.host
+    → ArePortsClosed qs ss false → MayEnd (p ∷ ps) (ticking (p ∷ ps)) rounds (s ∷ ss) None
+first_over rounds done p q ps qs a all s ss last ends few does ticks lost whole behind host closed = record {
+  passages = passage_of p q a Ticks last q.hub_seat.seen ∷ quiet ps qs all;
+  through = halted_through p q ps qs a all s ss last ends does behind host closed;
+  each = ap (λ l. Ticks ∷ l) (quiet_roles ps qs all does.2);
+  done = done;
+  time = (let most = ticks.1 in ((ticks.0, omega arith, omega arith), quiet_time done done rounds ps qs all (omega arith) few does.2 ticks.2));
+  whole = λ is. quiet_whole rounds done (p ∷ ps) (q ∷ qs) (a ∷ all) does ticks whole;
+  halted = λ is. absurd (cc is);
+  job = λ c of. record {
+    losses = (let rest = quiet_losses ps qs all does.2 in omega arith);
+    last_entries = (let none = quiet_last ps qs all does.2 in let one = halted_few last ends in omega arith);
+    roles = (halted_unfinished last ends, quiet_ends c ps qs all does.2);
+    halts = λ is. (tt, quiet_halts ps qs all does.2);
+    goes_on = λ is. (tt, quiet_goes c ps qs all does.2);
+    full = λ is. absurd (cc is);
+  };
+}
+
+halted_over : (rounds done : ℕ) (ps qs : List PortValue) (all : List (List Action)) (ss : List Seats) → done ≤ rounds → AreTicked ps qs all
+    → TickBetween done done all → all_lost all ≤ 1 → (done ≡ rounds) ⊎ OneHears all → ArePortsClosed qs ss true
+    → MayEnd ps (ticking ps) rounds ss None
+halted_over rounds done [] [] [] [] few does ticks lost whole closed = record {
+  passages = [];
+  through = tt;
+  each = refl;
+  done = done;
+  time = tt;
+  whole = λ is. inl tt;
+  halted = λ is. tt;
+  job = λ c of. record {
+    losses = omega arith;
+    last_entries = omega arith;
+    roles = tt;
+    halts = λ is. tt;
+    goes_on = λ is. tt;
+    full = λ is. absurd (cc is);
+  };
+}
+halted_over rounds done [] [] [] (s ∷ ss) few does ticks lost whole closed = absurd closed
+halted_over rounds done (p ∷ ps) (q ∷ qs) (a ∷ all) [] few does ticks lost whole closed = absurd closed
+halted_over rounds done (p ∷ ps) (q ∷ qs) (a ∷ all) (s ∷ ss) few does ticks lost whole closed =
+    either (halted_behind q s q.hub_seat.seen closed.1.seat closed.1.same (prefix_self q.hub_seat.seen) closed.1.heard closed.1.sent)
+  where
+    either : (Behind q s [] q.hub_seat.seen) ⊎ (Behind q s (hub_events.Halt ∷ []) q.hub_seat.seen)
+        → MayEnd (p ∷ ps) (ticking (p ∷ ps)) rounds (s ∷ ss) None
+    either (inl behind) = first_over rounds done p q ps qs a all s ss [] (inl refl) few does ticks lost whole behind closed.0 closed.2
+    either (inr behind) =
+        first_over rounds done p q ps qs a all s ss (hub_events.Halt ∷ []) (inr refl) few does ticks lost whole behind closed.0 closed.2
+halted_over rounds done [] (x ∷ qs) all ss few does ticks lost whole closed = absurd does
+halted_over rounds done [] [] (a ∷ all) ss few does ticks lost whole closed = absurd does
+halted_over rounds done (p ∷ ps) [] all ss few does ticks lost whole closed = absurd does
+halted_over rounds done (p ∷ ps) (x ∷ qs) [] ss few does ticks lost whole closed = absurd does
+
+-- No Room was met.
+pub clock_done : (rounds : ℕ) (ps qs : List PortValue) (ss : List Seats) (halts : Bool) → HaveRounds rounds ps qs → ArePortsClosed qs ss halts
+    → MayEnd ps (ticking ps) rounds ss None
+clock_done rounds ps qs ss false it closed = clock_over rounds ps qs ss it closed
+clock_done rounds ps qs ss true it closed =
+    let t = it.ticked in halted_over rounds it.done ps qs t.acts ss it.few t.does t.ticks t.few it.all closed
+
 -- THE PORTS ARE CLOSED, one behind the other.
-pub closed_first : (p : PortValue) (ps : List PortValue) (s : Seats) (ss : List Seats) (met : Option Room) → s.host ≡ p.host
-    → HasClosed p s.seat s.hub_seat met → ArePortsClosed ps ss None → ArePortsClosed (p ∷ ps) (s ∷ ss) met
-closed_first p ps s ss met host one others = (host, one, others)
+pub closed_first : (p : PortValue) (ps : List PortValue) (s : Seats) (ss : List Seats) (halts : Bool) → s.host ≡ p.host
+    → HasClosed p s.seat s.hub_seat halts → ArePortsClosed ps ss false → ArePortsClosed (p ∷ ps) (s ∷ ss) halts
+closed_first p ps s ss halts host one others = (host, one, others)
 
 drop_next : (xs : List ℕ) (n y : ℕ) (ys : List ℕ) → y ∷ ys ≡ drop n xs → (get_or xs n 0 ≡ y) × (ys ≡ drop (suc n) xs)
 drop_next [] zero y ys is = absurd (cc is)
@@ -310,14 +376,14 @@ module _ (ps shown qs : List PortValue) (n : ℕ) (value : shown ≡ ps) (count 
   closing_hosts hosts told all does are is =
       ap (map port_host) whole ∙ still_hosts shown qs all does ∙ ap (map port_host) value ∙ are ∙ sym is
 
-  pub closing_done : (rounds : ℕ) (ss : List Seats) → HaveRounds rounds shown qs → ArePortsClosed (take n (qs ++ drop (length qs) ps)) ss None
-      → MayEnd ps (ticking ps) rounds ss None
-  closing_done rounds ss it closed =
+  pub closing_done : (rounds : ℕ) (ss : List Seats) (halts : Bool) → HaveRounds rounds shown qs
+      → ArePortsClosed (take n (qs ++ drop (length qs) ps)) ss halts → MayEnd ps (ticking ps) rounds ss None
+  closing_done rounds ss halts it closed =
       subst (λ l. MayEnd l (ticking l) rounds ss None) value
-      (clock_done rounds shown qs ss it (subst (λ l. ArePortsClosed l ss None) whole closed))
+      (clock_done rounds shown qs ss halts it (subst (λ l. ArePortsClosed l ss halts) whole closed))
 
   pub closing_cut : (rounds : ℕ) (ss : List Seats) (why : Room) → HaveRoundsCut rounds shown qs why
-      → ArePortsClosed (take n (qs ++ drop (length qs) ps)) ss (Some why) → MayEnd ps (ticking ps) rounds ss (Some why)
+      → ArePortsClosed (take n (qs ++ drop (length qs) ps)) ss true → MayEnd ps (ticking ps) rounds ss (Some why)
   closing_cut rounds ss why it closed =
       subst (λ l. MayEnd l (ticking l) rounds ss (Some why)) value
-      (clock_cut rounds shown qs ss why it (subst (λ l. ArePortsClosed l ss (Some why)) whole closed))
+      (clock_cut rounds shown qs ss why it (subst (λ l. ArePortsClosed l ss true) whole closed))

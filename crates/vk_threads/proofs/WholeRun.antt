@@ -31,8 +31,8 @@ use Rattle.vk_threads.specs.declared.end.End.{End}
 use Rattle.vk_threads.specs.declared.opening.Site.{Site}
 use Rattle.vk_threads.specs.declared.opening.Spare.{Spare}
 use Rattle.vk_program.specs.declared.assigned.Assigned.{Assigned}
-use Rattle.vk_threads.specs.declared.work.Work.{Work}
-use Rattle.vk_threads.specs.declared.work.Work.TheVariants as works
+use Rattle.vk_threads.specs.declared.work.RunJob.{RunJob}
+use Rattle.vk_threads.specs.declared.work.RunJob.TheVariants as works
 use Rattle.vk_threads.specs.Assigned.{AreDifferent, pid_of, program_task}
 use Rattle.vk_threads.specs.Dealt.{AreDealt, HasRunJobs, IsNewAt, IsOwnAt, IsStocked, hosts_for}
 use Rattle.vk_threads.specs.Dealt.{host_of as program_host}
@@ -77,7 +77,7 @@ module _ {G P : Type 0} (task : G → List Answer → Option Call) (c : Settings
   have_ended is opened count seats few_programs few_stations different ran =
       let hosts = hosts_for programs stations in
       let d = ran.dealt in
-      let ws : List (Work G P) = d.first ++ works.Clock d.clock ∷ [] in
+      let ws : List (RunJob G P) = d.first ++ works.Clock d.clock ∷ [] in
       let ds = parts.duties task programs stations in
       let m = parts.end_each sites hub task ws ends (subst (λ l. AllEnd (ends_as task) l ends) d.all ran.each_end) in
       let js = parts.ends_of sites hub task ws ends m in
@@ -88,8 +88,8 @@ module _ {G P : Type 0} (task : G → List Answer → Option Call) (c : Settings
       ∙ ap (λ l. l ++ map port_host d.clock.ports) (parts.duty_hosts task programs stations)
       ∙ ap (λ l. (map program_host programs ++ stations) ++ l) (parts.clock_hosts sites hub stations d.clock.ports d.ports) in
       let own = parts.all_own sites hub task d.clock ds d.first d.each (parts.own_ports sites hub stations d.clock.ports d.ports) in
-      let of : Each (λ (w : Work G P). Each (IsOf c) (ports_of w)) ws =
-      each_weaker (λ (w : Work G P). Each (parts.IsOwn sites hub) (ports_of w)) (λ (w : Work G P). Each (IsOf c) (ports_of w)) ws own
+      let of : Each (λ (w : RunJob G P). Each (IsOf c) (ports_of w)) ws =
+      each_weaker (λ (w : RunJob G P). Each (parts.IsOwn sites hub) (ports_of w)) (λ (w : RunJob G P). Each (IsOf c) (ports_of w)) ws own
       (λ w each. each_weaker (parts.IsOwn sites hub) (IsOf c) (ports_of w) each
       (λ p mine. (opened_cell c hosts stations sites spares p.host p.station opened mine.cell).origin)) in
       let tasks : tasks_of gs ≡ map (program_task task) programs =
@@ -224,7 +224,7 @@ hub_seats_new hub count seats left last all each is =
 
 -- how many jobs there are
 pub dealt_count : {G P : Type 0} (task : G → List Answer → Option Call) (sites : List Site) (hub : Cell HubLog) (programs : List (Assigned G))
-    (stations : List ℕ) (rounds : ℕ) (jobs : List (Work G P)) → AreDealt task sites hub programs stations rounds jobs
+    (stations : List ℕ) (rounds : ℕ) (jobs : List (RunJob G P)) → AreDealt task sites hub programs stations rounds jobs
     → length jobs ≡ length programs + length stations + 1
 dealt_count task sites hub programs stations rounds jobs d =
     ap length d.all ∙ length-append d.first (works.Clock d.clock ∷ [])
@@ -268,8 +268,8 @@ module _ {G P : Type 0} (task : G → List Answer → Option Call) (c : Settings
 -- the record of a run that has ended so
 pub ran_as : {E : Type 0} (r : Result RunRecord E) (c : Settings) (sites : List Site) (hub : Cell HubLog) (plan : LinkPlan) (rounds : ℕ)
     (tasks : List Assignment) (ends : List End) (halt : Sitting HubLog HubEvent) → hub.origin.plan ≡ plan → HaveEnded c sites hub rounds tasks ends halt
-    → IfOk r (λ x. (n : ℕ) (ts : List Assignment) → HaveEnded c sites hub n ts ends halt → IsRun c hub.origin.plan n ts x.limited x.schedule)
-    → IfOk r (λ x. IsRun c plan rounds tasks x.limited x.schedule)
+    → IfOk r (λ x. (ts : List Assignment) → HaveEnded c sites hub rounds ts ends halt → IsRun c hub.origin.plan rounds ts x.end x.schedule)
+    → IfOk r (λ x. IsRun c plan rounds tasks x.end x.schedule)
 ran_as (Ok x) c sites hub plan rounds tasks ends halt same ended ran =
-    subst (λ p. IsRun c p rounds tasks x.limited x.schedule) same (ran rounds tasks ended)
+    subst (λ p. IsRun c p rounds tasks x.end x.schedule) same (ran tasks ended)
 ran_as (Err e) c sites hub plan rounds tasks ends halt same ended ran = tt

@@ -2,6 +2,8 @@
 use Rattle.std.specs.Prelude.{ℕ, ◌≡◌, ◌≤◌, ◌+◌, ◌⊎◌, Bool, true, false, List, [], ◌∷◌}
 use Rattle.turn_cell.specs.declared.replay.Room.{Room}
 use Rattle.turn_cell.specs.declared.replay.Room.TheVariants as rooms
+use Rattle.vk_hub.specs.declared.event.Arrival.{Arrival}
+use Rattle.vk_hub.specs.declared.event.Arrival.TheVariants as arrivals
 use Rattle.vk_port.specs.declared.port.Pumped.{Pumped}
 use Rattle.vk_port.specs.Ports.{Action, Does, HasPumped, PortValue}
 use Rattle.v_run.specs.Passages.{HasHeard, OnlyTicks, lost_count, tick_count}
@@ -59,12 +61,28 @@ abbrev pub HaveLooked : List PortValue → List PortValue → Bool → Type 0
 HaveLooked old new true = (t : HaveTicked 0 0 1 old new) × OneHears t.acts
 HaveLooked old new false = HaveTicked 0 0 0 old new × FirstPumps old new
 
+-- that the hub has ended
+abbrev pub is_stop : Arrival → Bool
+is_stop arrivals.Stopped = true
+is_stop arrivals.Frame = false
+is_stop arrivals.Nothing = false
+
+-- The clock looked again and again: until it heard that the hub had ended, or while it did not.
+abbrev pub HaveWatched : List PortValue → List PortValue → Bool → Type 0
+HaveWatched old new true = HaveTicked 0 0 0 old new
+HaveWatched old new false = (t : HaveTicked 0 0 1 old new) × OneHears t.acts
+
 -- The clock went just so many rounds, or fewer where it heard that the hub had ended; and where it met a Room, a part of one more.
 pub record HaveRounds (rounds : ℕ) (old new : List PortValue) : Type 0 where
   pub done : ℕ
   pub few : done ≤ rounds
   pub ticked : HaveTicked done done 1 old new
   pub all : (done ≡ rounds) ⊎ OneHears ticked.acts
+
+-- it heard that the hub had ended, or went all rounds and did not hear it
+abbrev pub HaveGone : ℕ → List PortValue → List PortValue → Bool → Type 0
+HaveGone rounds old new true = HaveRounds rounds old new
+HaveGone rounds old new false = HaveTicked rounds rounds 0 old new
 
 pub record HaveRoundsCut (rounds : ℕ) (old new : List PortValue) (why : Room) : Type 0 where
   pub done : ℕ

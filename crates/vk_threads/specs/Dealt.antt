@@ -11,8 +11,8 @@ use Rattle.v_run.specs.Passages.{Pumps, Role, Runs, nowhere}
 use Rattle.vk_threads.specs.declared.opening.Site.{Site}
 use Rattle.vk_threads.specs.declared.opening.Spare.{Spare}
 use Rattle.vk_program.specs.declared.assigned.Assigned.{Assigned}
-use Rattle.vk_threads.specs.declared.work.Work.{Work}
-use Rattle.vk_threads.specs.declared.work.Work.TheVariants as works
+use Rattle.vk_threads.specs.declared.work.RunJob.{RunJob}
+use Rattle.vk_threads.specs.declared.work.RunJob.TheVariants as works
 use Rattle.vk_threads.specs.Duties.{ClockDuty}
 use Rattle.vk_threads.specs.Ended.{cell_at}
 use Rattle.vk_threads.specs.Jobs.{ends_as, ports_of, roles_of}
@@ -74,13 +74,13 @@ ArePorts sites hub may_tick hs ps = ⊥
 
 -- A job with one port, at this station and in this role.
 pub record IsJobAt {G P : Type 0} (task : G → List Answer → Option Call) (sites : List Site) (hub : Cell HubLog) (duty : ℕ × Role)
-    (w : Work G P) : Type 0 where
+    (w : RunJob G P) : Type 0 where
   pub port : PortValue
   pub ports : ports_of w ≡ port ∷ []
   pub roles : roles_of task w ≡ duty.1 ∷ []
   pub is : IsPort sites hub false duty.0 port
 
-abbrev pub AreJobsAt : {G P : Type 0} → (G → List Answer → Option Call) → List Site → Cell HubLog → List (ℕ × Role) → List (Work G P)
+abbrev pub AreJobsAt : {G P : Type 0} → (G → List Answer → Option Call) → List Site → Cell HubLog → List (ℕ × Role) → List (RunJob G P)
     → Type 0
 AreJobsAt task sites hub [] [] = Unit {0}
 AreJobsAt task sites hub (d ∷ ds) (w ∷ ws) = IsJobAt task sites hub d w × AreJobsAt task sites hub ds ws
@@ -106,8 +106,8 @@ hosts_for programs stations = map host_of programs ++ stations ++ stations
 
 -- THE JOBS OF A RUN: one for each program, one for each station that delivers there, and the clock.
 pub record AreDealt {G P : Type 0} (task : G → List Answer → Option Call) (sites : List Site) (hub : Cell HubLog)
-    (programs : List (Assigned G)) (stations : List ℕ) (rounds : ℕ) (jobs : List (Work G P)) : Type 0 where
-  pub first : List (Work G P)
+    (programs : List (Assigned G)) (stations : List ℕ) (rounds : ℕ) (jobs : List (RunJob G P)) : Type 0 where
+  pub first : List (RunJob G P)
   pub clock : ClockDuty
   pub all : jobs ≡ first ++ works.Clock clock ∷ []
   pub each : AreJobsAt task sites hub (map (runs_by task) programs ++ map pumps_at stations) first
@@ -117,7 +117,7 @@ pub record AreDealt {G P : Type 0} (task : G → List Answer → Option Call) (s
 -- All jobs were run, and ended so; the seat of the halt is as it was.
 pub record HasRunJobs (G P : Type 0) (task : G → List Answer → Option Call) (sites : List Site) (hub : Cell HubLog)
     (programs : List (Assigned G)) (stations : List ℕ) (rounds : ℕ) (ends : List End) (halt : Sitting HubLog HubEvent) : Type 0 where
-  pub jobs : List (Work G P)
+  pub jobs : List (RunJob G P)
   pub dealt : AreDealt task sites hub programs stations rounds jobs
   pub each_end : AllEnd (ends_as task) jobs ends
   pub seat : IsSeatOf hub halt

@@ -1,5 +1,5 @@
 -- What the end of a job may be.
-use Rattle.std.specs.Prelude.{ℕ, ◌≡◌, ◌+◌, ◌⊎◌, true, List, [], ◌∷◌, ◌++◌, Option, None, is_some, length, map}
+use Rattle.std.specs.Prelude.{ℕ, ◌≡◌, ◌+◌, ◌⊎◌, Bool, true, false, List, [], ◌∷◌, ◌++◌, Option, None, is_some, length, map}
 use mathlib.Core.List.{IsPrefix}
 use Rattle.vk_types.specs.Types.{Answer, Call, Pid}
 use Rattle.turn_cell.specs.Seats.{Cell, IsSameSeat}
@@ -89,8 +89,8 @@ IsAt hub p = p.hub ≡ hub
 abbrev pub port_host : PortValue → ℕ
 port_host p = p.host
 
--- Each port was closed; the first halted the hub where this Room was met.
-abbrev pub ArePortsClosed : List PortValue → List Seats → Option Room → Type 0
-ArePortsClosed [] [] met = Unit {0}
-ArePortsClosed (p ∷ ps) (s ∷ ss) met = (s.host ≡ p.host) × HasClosed p s.seat s.hub_seat met × ArePortsClosed ps ss None
-ArePortsClosed ps ss met = ⊥
+-- Each port was closed; the first halted the hub where it was to be halted.
+abbrev pub ArePortsClosed : List PortValue → List Seats → Bool → Type 0
+ArePortsClosed [] [] halts = Unit {0}
+ArePortsClosed (p ∷ ps) (s ∷ ss) halts = (s.host ≡ p.host) × HasClosed p s.seat s.hub_seat halts × ArePortsClosed ps ss false
+ArePortsClosed ps ss halts = ⊥

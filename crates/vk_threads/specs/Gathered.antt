@@ -1,19 +1,21 @@
 -- What comes back from jobs in order, and what is closed with it.
-use Rattle.std.specs.Prelude.{ℕ, ◌≡◌, ◌≤◌, ◌==◌, not, Bool, true, false, Option, Some, None, List, [], ◌∷◌, ◌++◌, All, eqb, filter, flat_map, length, map}
+use Rattle.std.specs.Prelude.{ℕ, ◌≡◌, ◌≤◌, ◌==◌, not, Bool, true, false, Option, Some, None, List, [], ◌∷◌, ◌++◌, All, eqb, filter, flat_map, length, map, nat_le}
 use Rattle.std.specs.List.{IsDistinct, range_with_len}
 use Rattle.std.specs.List.Sorted.{IsPermutation}
 use mathlib.Core.List.{IsPrefix}
-use Rattle.vk_types.specs.Types.{StationEvent}
+use Rattle.vk_types.specs.Types.{ProcessSpec, StationEvent}
 use Rattle.turn_cell.specs.History.{events_of}
 use Rattle.turn_cell.specs.Seats.{Cell, IsSeatOf, Sitting, numbers_of}
 use Rattle.turn_cell.specs.declared.replay.Room.{Room}
 use Rattle.turn_cell.specs.declared.replay.Room.TheVariants as rooms
 use Rattle.vk_hub.specs.declared.event.HubEvent.{HubEvent}
-use Rattle.vk_hub.specs.Hubs.{HubLog}
+use Rattle.vk_hub.specs.Hubs.{HubLog, traffic_of, waits_nowhere}
 use Rattle.vk_schedule.specs.declared.log.StationLog.{StationLog}
 use Rattle.vk_port.specs.Stations.{IsLawfulHistory, StationHistory, event_of, origin_of}
+use Rattle.v_run.specs.Laws.{IsStill}
 use Rattle.vk_threads.specs.declared.end.End.{End}
 use Rattle.vk_threads.specs.declared.end.Seats.{Seats}
+use Rattle.vk_threads.specs.declared.gather.Closed.{Closed}
 use Rattle.vk_threads.specs.declared.gather.Gathered.{Gathered}
 use Rattle.vk_threads.specs.declared.opening.Site.{Site}
 use Rattle.vk_threads.specs.declared.opening.Spare.{Spare}
@@ -83,14 +85,16 @@ pub record HaveComeBack {S E : Type 0} (count : ℕ) (seats : List (Sitting S E)
   pub different : IsDistinct eqb (numbers_of seats)
   pub numbers : IsPermutation (numbers_of seats) (range_with_len 0 count)
 
--- The station was closed with these seats, and this is the log of its history.
-pub record HasShut (site : Site) (seats : List (Sitting StationHistory StationEvent)) (log : StationLog) : Type 0 where
+-- The station was closed with these seats, and this is the log of its history. It is told to stand still only where it ticked so often and
+-- none of these processes may collect there.
+pub record HasShut (specs : List ProcessSpec) (rounds : ℕ) (still : Bool) (site : Site) (seats : List (Sitting StationHistory StationEvent)) (log : StationLog) : Type 0 where
   pub closed : StationHistory
   pub host : log.host ≡ site.host
   pub events : log.events ≡ map event_of closed.history
   pub lawful : IsLawfulHistory closed
   pub origin : origin_of closed ≡ site.cell.origin
   pub back : HaveComeBack site.cell.seats seats closed.history
+  pub looked : still ≡ true → IsStill specs rounds (origin_of closed) closed.history
 
 -- all seats of each station are there, among these
 abbrev pub AreReady : List Site → List Spare → Type 0
@@ -100,14 +104,19 @@ AreReady (s ∷ ss) spares =
     × AreReady ss (filter (is_elsewhere s.host) spares)
 
 -- each station was closed with its seats among these
-abbrev pub AreShut : List Site → List Spare → List StationLog → Type 0
-AreShut [] spares [] = Unit {0}
-AreShut (s ∷ ss) spares (l ∷ ls) = HasShut s (seats_at s.host spares) l × AreShut ss (filter (is_elsewhere s.host) spares) ls
-AreShut ss spares ls = ⊥
+module _ (specs : List ProcessSpec) (rounds : ℕ) (still : Bool) where
+  abbrev pub AreShut : List Site → List Spare → List StationLog → Type 0
+  AreShut [] spares [] = Unit {0}
+  AreShut (s ∷ ss) spares (l ∷ ls) =
+      HasShut specs rounds still s (seats_at s.host spares) l × AreShut ss (filter (is_elsewhere s.host) spares) ls
+  AreShut ss spares ls = ⊥
 
--- Once all seats of these ends and the halt's have come back, the hub has this history, and the stations have these logs.
-pub record HaveClosed (sites : List Site) (hub : Cell HubLog) (ends : List End) (halt : Sitting HubLog HubEvent) (logs : List StationLog)
-    : Type 0 where
+-- Once all seats of these ends and the halt's have come back, the hub has this history, and the stations have these logs. It is told whether
+-- as many programs have finished as are to, and that all stands still only where each station does and no frame is on its way.
+pub record HaveClosed (specs : List ProcessSpec) (rounds : ℕ) (sites : List Site) (hub : Cell HubLog) (ends : List End)
+    (halt : Sitting HubLog HubEvent) (closed : Closed) : Type 0 where
   pub heard : List (ℕ × HubEvent)
   pub back : HaveComeBack hub.seats (with_halt ends halt) heard
-  pub shut : AreShut sites (all_spares ends) logs
+  pub shut : AreShut specs rounds closed.still sites (all_spares ends) closed.logs.items
+  pub finished : closed.finished ≡ nat_le hub.origin.programs (traffic_of hub.origin heard).finished
+  pub idle : closed.still ≡ true → waits_nowhere (traffic_of hub.origin heard).waiting ≡ true

@@ -62,25 +62,25 @@ abbrev pub HasPumpedCut : PortValue → PortValue → Room → Type 0
 HasPumpedCut old new why =
     (acts : List Action) × Does old new acts × OnlyPumps acts × (lost_count acts ≤ 1) × (why ≡ rooms.Full → FindsFull new acts)
 
--- A port's two seats, once it has ended: nothing was entered behind its end but a halt, where a Room was met. The hub is halted then.
-abbrev pub HasHalted : List HubEvent → List HubEvent → Option Room → Type 0
-HasHalted before after None = after ≡ before
-HasHalted before after (Some why) = (after ≡ before) ⊎ (after ≡ before ++ hub_events.Halt ∷ [])
+-- A port's two seats, once it has ended: nothing was entered behind its end but a halt, where it was to halt the hub. The hub is halted then.
+abbrev pub HasHalted : List HubEvent → List HubEvent → Bool → Type 0
+HasHalted before after false = after ≡ before
+HasHalted before after true = (after ≡ before) ⊎ (after ≡ before ++ hub_events.Halt ∷ [])
 
-pub record HasClosed (p : PortValue) (station : Sitting StationHistory StationEvent) (hub : Sitting HubLog HubEvent) (met : Option Room)
+pub record HasClosed (p : PortValue) (station : Sitting StationHistory StationEvent) (hub : Sitting HubLog HubEvent) (halts : Bool)
     : Type 0 where
   pub seat : station ≡ p.seat
   pub same : IsSameSeat p.hub_seat hub
   pub heard : IsPrefix p.hub_seat.seen hub.seen
-  pub sent : HasHalted p.hub_seat.mine hub.mine met
-  pub halted : is_some met ≡ true → has_halt hub.seen ≡ true
+  pub sent : HasHalted p.hub_seat.mine hub.mine halts
+  pub halted : halts ≡ true → has_halt hub.seen ≡ true
 
 -- The two seats of a port whose program has finished: it said so to the hub, or met a Room there and halted it.
 abbrev pub HasFinished : PortValue → List HubEvent → List (ℕ × HubEvent) → Option Room → Type 0
 HasFinished p sent heard None = (sent ≡ p.hub_seat.mine ++ hub_events.Finished ∷ []) × IsPrefix p.hub_seat.seen heard
 HasFinished p sent heard (Some why) =
     (looked : List (ℕ × HubEvent)) × IsPrefix p.hub_seat.seen looked × IsPrefix looked heard
-    × HasHalted p.hub_seat.mine sent (Some why) × (why ≡ rooms.Full → 200000 ≤ others looked) × (has_halt heard ≡ true)
+    × HasHalted p.hub_seat.mine sent true × (why ≡ rooms.Full → 200000 ≤ others looked) × (has_halt heard ≡ true)
 
 pub record HasEnded (p : PortValue) (station : Sitting StationHistory StationEvent) (hub : Sitting HubLog HubEvent) (met : Option Room)
     : Type 0 where

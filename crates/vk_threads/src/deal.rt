@@ -12,7 +12,7 @@ use crate::clock::ClockWork;
 use crate::opening::{Site, Spare};
 use crate::process::ProcessWork;
 use crate::pump::PumpWork;
-use crate::work::Work;
+use crate::work::RunJob;
 use std::alloc::Global;
 use std::sync::Mutex;
 use turn_cell::{TurnCell, TurnSeat};
@@ -124,7 +124,7 @@ impl<'a> Stock<'a> {
     fn add_programs<'p, G: Program, P: Pacer>(
         &mut self,
         programs: Vec<Assigned<G>>,
-        jobs: &mut Vec<Work<'a, 'p, G, P>>,
+        jobs: &mut Vec<RunJob<'a, 'p, G, P>>,
     ) -> Result<(), NoMemory>
         requires due { AreDue (IsStocked self.old.sites.now self.old.hub.now self.old.spares.items self.old.hub_seats.items)
             (map host_of programs.items) }
@@ -143,7 +143,7 @@ impl<'a> Stock<'a> {
             let Assigned { pid, program } = assigned;
             let port = self.port_at(pid.host, false)?;
             let work = ProcessWork::new(self.alloc, self.hub, port, pid, program, Sleep)?;
-            jobs.push(Work::Process(work))?;
+            jobs.push(RunJob::Process(work))?;
         }
         Ok(())
     }
@@ -152,7 +152,7 @@ impl<'a> Stock<'a> {
     fn add_pumps<'p, G: Program, P: Pacer>(
         &mut self,
         stations: &[u16],
-        jobs: &mut Vec<Work<'a, 'p, G, P>>,
+        jobs: &mut Vec<RunJob<'a, 'p, G, P>>,
     ) -> Result<(), NoMemory>
         requires { AreDue (IsStocked self.old.sites.now self.old.hub.now self.old.spares.items self.old.hub_seats.items) stations.now }
         ensures sites { self.new.sites ≡ self.old.sites }
@@ -165,7 +165,7 @@ impl<'a> Stock<'a> {
     {
         for host in stations {
             let port = self.port_at(*host, false)?;
-            jobs.push(Work::Pump(PumpWork::new(self.alloc, self.hub, *host, port)?))?;
+            jobs.push(RunJob::Pump(PumpWork::new(self.alloc, self.hub, *host, port)?))?;
         }
         Ok(())
     }
@@ -176,7 +176,7 @@ pub fn jobs_of<'a, 'p, G: Program, P: Pacer>(
     stock: Stock<'a>,
     roster: Roster<G>,
     pacer: &'a Mutex<&'p mut P>,
-) -> Result<Vec<Work<'a, 'p, G, P>>, NoMemory>
+) -> Result<Vec<RunJob<'a, 'p, G, P>>, NoMemory>
     requires stock { IsStocked stock.sites.now stock.hub.now stock.spares.items stock.hub_seats.items
         (hosts_for roster.programs.items roster.stations.items) }
     requires processes { Each (IsOwnAt stock.sites.now) roster.programs.items }
@@ -193,11 +193,12 @@ pub fn jobs_of<'a, 'p, G: Program, P: Pacer>(
     let (alloc, hub) = (stock.alloc, stock.hub);
     hub.bells().add_threads(programs.len());
     hub.bells().add_threads(stations.len());
+    hub.bells().add_threads(1);
     let mut jobs = Vec::new(alloc);
     stock.add_programs(programs, &mut jobs)?;
     stock.add_pumps(&stations, &mut jobs)?;
     let ports = stock.clock_ports(&stations)?;
     let clock = ClockWork::new(alloc, hub, stations, ports, rounds, pacer)?;
-    jobs.push(Work::Clock(clock))?;
+    jobs.push(RunJob::Clock(clock))?;
     Ok(jobs)
 }

@@ -23,14 +23,14 @@ pub struct End {
     pub met: Option<Room>,
 }
 
-/// Takes both seats back, and halts the hub where a `Room` was met.
-pub fn close_port<R: Wait>(rt: &R, port: Port, hub: &Hub, host: u16, met: Option<Room>) -> Seats
+/// Takes both seats back, and halts the hub where it is to be halted.
+pub fn close_port<R: Wait>(rt: &R, port: Port, hub: &Hub, host: u16, halts: bool) -> Seats
     requires { port.hub ≡ hub.now }
     ensures host { result.host ≡ host }
-    ensures closed { HasClosed port.entry result.seat result.hub_seat met }
+    ensures closed { HasClosed port.entry result.seat result.hub_seat halts }
 {
     let (seat, mut hub_seat) = port.end();
-    if met.is_some() {
+    if halts {
         hub.stop(rt, &mut hub_seat);
     }
     Seats {

@@ -1,14 +1,16 @@
 //! What comes back from jobs, and the histories that it closes.
-ghost use Rattle.std.specs.Prelude.{◌≡◌, ℕ, ◌++◌, ◌∷◌, [], All, length, map, vec_len, filter, flat_map, IfOk, OnOk, not};
+ghost use Rattle.std.specs.Prelude.{◌≡◌, ◌&&◌, ℕ, true, ◌++◌, ◌∷◌, [], All, length, map, vec_len, filter, flat_map, IfOk, OnOk, not};
 ghost use Rattle.std.specs.List.{list_any};
 ghost use Rattle.turn_cell.specs.Seats.{IsSeatOf};
+ghost use Rattle.v_run.specs.Laws.{IsStill, NoneIsReady};
+ghost use Rattle.vk_port.specs.Stations.{origin_of};
 ghost use Rattle.vk_threads.specs.Gathered.{AreReady, AreShut, HasGathered, HasShut, HaveClosed, all_spares, with_halt, hub_seat_in, is_at, is_elsewhere, met_full, met_no_memory, seat_in, seats_at, spare_of};
 
 use crate::end::{End, Seats};
 use crate::opening::{Site, Spare};
 use std::alloc::Global;
-use turn_cell::{Room, TurnSeat};
-use vk_base::NoMemory;
+use turn_cell::{Replay, Room, TurnSeat};
+use vk_base::{NoMemory, ProcessSpec, StationEvent};
 use vk_hub::{Hub, HubState};
 use vk_join::BriefLog;
 use vk_port::Station;
@@ -95,55 +97,113 @@ fn parted(
     Ok((own, others))
 }
 
-/// The log of a station, all of whose seats have come back.
-fn shut(site: Site, own: Vec<TurnSeat<Station>>) -> BriefLog
+/// Whether none of these processes has an answer to collect at the station.
+fn none_is_done(station: &Station, specs: &[ProcessSpec]) -> bool
+    ensures { result ≡ true → NoneIsReady specs.now (origin_of station.now) station.now.history }
+{
+    for spec in specs {
+        if station.is_ready(&StationEvent::Collect { pid: spec.pid }) {
+            return false;
+        }
+    }
+    true
+}
+
+/// Whether the station ticked so often, and none of these processes has an answer to collect there.
+fn is_still(station: &Station, specs: &[ProcessSpec], rounds: u32) -> bool
+    ensures { result ≡ true → IsStill specs.now rounds (origin_of station.now) station.now.history }
+{
+    station.tick() == u64::from(rounds) && none_is_done(station, specs)
+}
+
+/// The log of a station, all of whose seats have come back, and whether it ticked so often and none of these processes has an answer to
+/// collect there.
+fn shut(
+    site: Site,
+    own: Vec<TurnSeat<Station>>,
+    specs: &[ProcessSpec],
+    rounds: u32,
+) -> (BriefLog, bool)
     requires seats { All (λ s. IsSeatOf site.cell s) own.items }
     requires all { vec_len own ≡ site.cell.seats }
-    ensures { HasShut site own.items result }
+    ensures { HasShut specs.now rounds result.1 site own.items result.0 }
 {
     let Site { host, cell } = site;
     let station = cell.close(own);
     let _count = station.event_count();
-    BriefLog::new(host, station.into_events())
+    let still = is_still(&station, specs, rounds);
+    (BriefLog::new(host, station.into_events()), still)
 }
 
-/// The logs of all stations, whose seats have come back.
+/// The logs of all stations, whose seats have come back, and whether each ticked so often and none of these processes has an answer to
+/// collect.
 pub fn close_all(
     alloc: Global,
     sites: Vec<Site>,
     seats: Vec<Spare>,
-) -> Result<Vec<BriefLog>, NoMemory>
+    specs: &[ProcessSpec],
+    rounds: u32,
+) -> Result<(Vec<BriefLog>, bool), NoMemory>
     requires { AreReady sites.items seats.items }
-    ensures { IfOk result (λ logs. AreShut sites.items seats.items logs.items) }
+    ensures { IfOk result (λ r. AreShut specs.now rounds r.1 sites.items seats.items r.0.items) }
 {
     let mut logs = Vec::new(alloc);
+    let mut all_still = true;
     let mut left = seats;
     for site in sites {
         let (own, others) = parted(alloc, left, site.host)?;
         left = others;
-        logs.push(shut(site, own))?;
+        let (log, still) = shut(site, own, specs, rounds);
+        logs.push(log)?;
+        all_still = all_still && still;
     }
-    Ok(logs)
+    Ok((logs, all_still))
 }
 
-/// Closes all stations and the hub, once all jobs have ended. Gives the stations' logs.
+fn are_both(one: bool, two: bool) -> bool
+    ensures { result ≡ (one && two) }
+{
+    one && two
+}
+
+/// What was closed of a run.
+#[derive(Drop)]
+pub struct Closed {
+    /// The logs of the stations, by rising hosts.
+    pub logs: Vec<BriefLog>,
+    /// All programs have finished.
+    pub finished: bool,
+    /// Each station ticked all rounds, no process has an answer to collect, and no frame is on its way.
+    pub still: bool,
+}
+
+/// Closes all stations and the hub, once all jobs have ended.
 pub fn close_run(
     alloc: Global,
     sites: Vec<Site>,
     hub: Hub,
     ends: Vec<End>,
     halt: TurnSeat<HubState>,
-) -> Result<Vec<BriefLog>, NoMemory>
+    specs: &[ProcessSpec],
+    rounds: u32,
+) -> Result<Closed, NoMemory>
     requires ready { AreReady sites.items (all_spares ends.items) }
     requires seats { All (λ s. IsSeatOf hub s) (with_halt ends.items halt) }
     requires all { length (with_halt ends.items halt) ≡ hub.seats }
-    ensures { IfOk result (λ logs. HaveClosed sites.items hub ends.items halt logs.items) }
+    ensures { IfOk result (HaveClosed specs.now rounds sites.items hub ends.items halt) }
 {
     let Gathered {
         seats,
         mut hub_seats,
     } = gather_all(alloc, ends)?;
     hub_seats.push(halt)?;
-    let _closed = hub.close(hub_seats);
-    close_all(alloc, sites, seats)
+    let closed = hub.close(hub_seats);
+    let finished = closed.has_finished();
+    let idle = closed.is_idle();
+    let (logs, still) = close_all(alloc, sites, seats, specs, rounds)?;
+    Ok(Closed {
+        logs,
+        finished,
+        still: are_both(idle, still),
+    })
 }

@@ -31,6 +31,7 @@ impl<'a> Model for HubHalt<'a> {
 }
 
 impl<'a> HubHalt<'a> {
+    /// Over the hub, with a seat of it.
     pub fn new(hub: &'a Hub, seat: TurnSeat<HubState>) -> HubHalt<'a>
         requires { IsSeatOf hub.now seat }
         ensures { result ≡ seat }

@@ -16,6 +16,7 @@ pub struct SleepPacer {
 }
 
 impl SleepPacer {
+    /// A pacer that has not waited yet. Its first wait begins its count of milliseconds.
     pub fn new() -> SleepPacer {
         SleepPacer {
             due: None,

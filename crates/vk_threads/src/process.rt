@@ -99,12 +99,12 @@ fn play_out<G: Program, W: Rest, R: Wait + Clock>(rt: &R, work: ProcessWork<G, W
             End { seats, met }
         }
         Ok(false) => {
-            seats.push_reserved(close_port(rt, port, hub, pid.host, None));
+            seats.push_reserved(close_port(rt, port, hub, pid.host, false));
             End { seats, met: None }
         }
         Err(why) => {
             let met = Some(why);
-            seats.push_reserved(close_port(rt, port, hub, pid.host, met));
+            seats.push_reserved(close_port(rt, port, hub, pid.host, true));
             End { seats, met }
         }
     }

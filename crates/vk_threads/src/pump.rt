@@ -70,12 +70,12 @@ pub fn pump_end<R: Wait>(rt: &R, work: PumpWork) -> End
     } = work;
     match pump_on(rt, alloc, hub.bells(), host, &mut port) {
         Ok(()) => {
-            seats.push_reserved(close_port(rt, port, hub, host, None));
+            seats.push_reserved(close_port(rt, port, hub, host, false));
             End { seats, met: None }
         }
         Err(why) => {
             let met = Some(why);
-            seats.push_reserved(close_port(rt, port, hub, host, met));
+            seats.push_reserved(close_port(rt, port, hub, host, true));
             End { seats, met }
         }
     }

@@ -110,7 +110,7 @@ pub fn run_programs<G: Program + Send, C: Crew, P: Pacer + Send, R: Wait + Threa
     requires processes { Each (λ (a : Assigned G). has_process config.specs a.pid ≡ true) programs.items }
     requires apart { AreDifferent (map pid_of programs.items) }
     requires fresh { Each (λ (a : Assigned G). G.is_after a.program []) programs.items }
-    ensures ran { IfOk result (λ r. IsRun config plan rounds (map (program_task G.task) programs.items) r.limited r.schedule) }
+    ensures ran { IfOk result (λ r. IsRun config plan rounds (map (program_task G.task) programs.items) r.end r.schedule) }
     ensures jobs { OnOk result (C.job_count crew.new
         ≡ min (C.job_count crew.old + (length programs.items + length (stations_of config.specs) + 1)) (2 ^ 64 - 1)) }
     ensures no_jobs { IfErr result (LeavesJobs (C.job_count crew.old)
@@ -147,7 +147,7 @@ pub fn run_programs<G: Program + Send, C: Crew, P: Pacer + Send, R: Wait + Threa
     };
     let shared = Mutex::new(&mut *pacer);
     match run_jobs(rt, stock, halt, roster, crew, &shared) {
-        Ok((ends, halt)) => record_of(alloc, config, sites, hub, ends, halt),
+        Ok((ends, halt)) => record_of(rt, alloc, config, sites, hub, ends, halt, rounds),
         Err(why) => Err(why),
     }
 }
@@ -186,7 +186,7 @@ pub fn run_stations<C: Crew, P: Pacer + Send, R: Wait + Threads + Clock + Sync>(
 ) -> Result<RunRecord, RunRefusal>
     requires lawful { IsLawfulScenario scenario }
     requires kinds { are_any_kinds scenario.tasks ≡ true }
-    ensures ran { IfOk result (λ r. IsRun scenario.config scenario.plan scenario.rounds (assignments_of scenario.tasks) r.limited
+    ensures ran { IfOk result (λ r. IsRun scenario.config scenario.plan scenario.rounds (assignments_of scenario.tasks) r.end
         r.schedule) }
     ensures jobs { OnOk result (C.job_count crew.new
         ≡ min (C.job_count crew.old + (length scenario.tasks + length (stations_of scenario.config.specs) + 1)) (2 ^ 64 - 1)) }

@@ -14,22 +14,22 @@ use vk_program::Program;
 
 /// A job of a run: a process with its program, what delivers at a station, or the clock.
 #[derive(Drop)]
-pub enum Work<'a, 'p, G: Program, P: Pacer> {
+pub enum RunJob<'a, 'p, G: Program, P: Pacer> {
     Process(ProcessWork<'a, G, Sleep>),
     Pump(PumpWork<'a>),
     Clock(ClockWork<'a, 'p, P>),
 }
 
-impl<'a, 'p, G: Program + Send, P: Pacer + Send> Job for Work<'a, 'p, G, P> {
+impl<'a, 'p, G: Program + Send, P: Pacer + Send> Job for RunJob<'a, 'p, G, P> {
     type End = End;
 
     ghost ends = { ends_as G.task };
 
     fn work<R: Wait + Threads + Clock + Sync>(self, rt: &R) -> End {
         match self {
-            Work::Process(job) => process_end(rt, job),
-            Work::Pump(job) => pump_end(rt, job),
-            Work::Clock(job) => clock_end(rt, job),
+            RunJob::Process(job) => process_end(rt, job),
+            RunJob::Pump(job) => pump_end(rt, job),
+            RunJob::Clock(job) => clock_end(rt, job),
         }
     }
 }

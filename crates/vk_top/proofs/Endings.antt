@@ -12,7 +12,7 @@ use Rattle.v_trace.specs.Traces.{trace_of}
 use Rattle.vk_report.specs.declared.entry.Form.{Form}
 use Rattle.vk_top.proofs.Told.{process_wanted, trace_wanted}
 use Rattle.vk_top.specs.Work.{KeepsLines}
-use Rattle.vk_top.specs.declared.words.Asked.TheVariants as asked
+use Rattle.vk_top.specs.declared.words.TextCommand.TheVariants as asked
 
 pub untitled_schedule : (form : Form) (text : List ℕ) (e : TextRefusal)
     → ((e ≡ schedules.NoMemory) × HasProcess text) ⊎ ((line : ℕ) × (e ≡ schedules.BadInput line) × (front_of text ≡ unopened line))

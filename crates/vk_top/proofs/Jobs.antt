@@ -9,29 +9,29 @@ use Rattle.vk_top.proofs.Storms.{no_other}
 use Rattle.vk_top.proofs.Told.{nothing_more}
 use Rattle.vk_top.specs.declared.status.Status.{Status}
 use Rattle.vk_top.specs.declared.status.Status.TheVariants as status
-use Rattle.vk_top.specs.declared.words.Asked.{Asked}
-use Rattle.vk_top.specs.declared.words.Job.{Job}
-use Rattle.vk_top.specs.declared.words.Job.TheVariants as jobs
+use Rattle.vk_top.specs.declared.words.TextCommand.{TextCommand}
+use Rattle.vk_top.specs.declared.words.Invocation.{Invocation}
+use Rattle.vk_top.specs.declared.words.Invocation.TheVariants as jobs
 use Rattle.vk_top.specs.Jobs.{Asks, IsAloneAnswer, IsFront, IsJobBadAt, IsJobCutShort, IsJobDecided, IsJobDone, IsJobNotARun, IsJobOverLimit, IsJobPart, IsJobStrayAt, IsJobToWrite, IsStormAnswered}
 use Rattle.vk_top.specs.Top.{IsEarly}
 use Rattle.vk_top.specs.Work.{IsOutcome}
 use Rattle.vk_top.specs.Words.{is_threaded, job_of}
 
-asks : (words : List Text) (j : Job) (told : Option (List ℕ)) (Holds : Job → List ℕ → Type 0) → Some j ≡ job_of words
+asks : (words : List Text) (j : Invocation) (told : Option (List ℕ)) (Holds : Invocation → List ℕ → Type 0) → Some j ≡ job_of words
     → OfInput told (Holds j) → Asks words told Holds
-asks words j told Holds is given = subst (λ (o : Option Job). IsSomeAnd o (λ k. OfInput told (Holds k))) is given
+asks words j told Holds is given = subst (λ (o : Option Invocation). IsSomeAnd o (λ k. OfInput told (Holds k))) is given
 
 -- whatever the input is
-asks_anyhow : (words : List Text) (j : Job) (told : Option (List ℕ)) (Holds : Job → List ℕ → Type 0) → Some j ≡ job_of words
+asks_anyhow : (words : List Text) (j : Invocation) (told : Option (List ℕ)) (Holds : Invocation → List ℕ → Type 0) → Some j ≡ job_of words
     → ((i : List ℕ) → Holds j i) → Asks words told Holds
 asks_anyhow words j told Holds is given = asks words j told Holds is (some_input told (Holds j) given)
 
-front_for : (words : List Text) (j : Job) (i : List ℕ) (old new : Option (List ℕ)) → Some j ≡ job_of words
+front_for : (words : List Text) (j : Invocation) (i : List ℕ) (old new : Option (List ℕ)) → Some j ≡ job_of words
     → Appends old new [] ⊎ IsJobPart j i old new → IsFront words i old new
 front_for words j i old new is (inl none) = inl none
-front_for words j i old new is (inr part) = inr (subst (λ (o : Option Job). IsSomeAnd o (λ k. IsJobPart k i old new)) is part)
+front_for words j i old new is (inr part) = inr (subst (λ (o : Option Invocation). IsSomeAnd o (λ k. IsJobPart k i old new)) is part)
 
-front_is : (words : List Text) (j : Job) (told old new : Option (List ℕ)) → Some j ≡ job_of words
+front_is : (words : List Text) (j : Invocation) (told old new : Option (List ℕ)) → Some j ≡ job_of words
     → OfInput told (λ i. Appends old new [] ⊎ IsJobPart j i old new) → OfInput told (λ i. IsFront words i old new)
 front_is words j told old new is given = record {
   input = given.input;
@@ -46,18 +46,18 @@ clash : {A B : Type 0} (a : A) (o : Option A) → Some a ≡ o → o ≡ None �
 clash a o is none = cc
 
 -- two jobs of the same words are one
-differ : {B : Type 0} (j k : Job) (o : Option Job) → Some j ≡ o → o ≡ Some k → (j ≡ k → B) → B
+differ : {B : Type 0} (j k : Invocation) (o : Option Invocation) → Some j ≡ o → o ≡ Some k → (j ≡ k → B) → B
 differ j k o is same follows = let e : j ≡ k = cc in follows e
 
-decided_for : (j k : Job) (o : Option Job) (told : Option (List ℕ)) (s : Status) → Some k ≡ o → o ≡ Some j → IsJobDecided k told s
+decided_for : (j k : Invocation) (o : Option Invocation) (told : Option (List ℕ)) (s : Status) → Some k ≡ o → o ≡ Some j → IsJobDecided k told s
     → IsJobDecided j told s
 decided_for j k o told s is same given =
-    let P : Job → Type 0 = λ x. IsJobDecided x told s in
+    let P : Invocation → Type 0 = λ x. IsJobDecided x told s in
     let e : k ≡ j = cc in
     subst P e given
 
 -- The answer to a text.
-pub text_answer : (Unread Unwritten : Type 0) (words : List Text) (a : Asked) (left rest old new : Option (List ℕ)) (s : Status) →
+pub text_answer : (Unread Unwritten : Type 0) (words : List Text) (a : TextCommand) (left rest old new : Option (List ℕ)) (s : Status) →
     Some (jobs.OfText a) ≡ job_of words → IsOutcome Unwritten a left rest old new s → (IsEarly s → Unwritten) →
     IsAloneAnswer Unread Unwritten words left rest old new s
 text_answer Unread Unwritten words a left rest old new s job outcome nothing = record {
@@ -87,7 +87,7 @@ pub storm_answer : (Unread Unwritten : Type 0) (words : List Text) (n : ℕ) (le
     Some (jobs.Storm n) ≡ job_of words → Unread → IsStormAnswered Unwritten n old new s → (IsEarly s → Unwritten) →
     IsAloneAnswer Unread Unwritten words left left old new s
 storm_answer Unread Unwritten words n left old new s job unread answered nothing =
-    let j : Job = jobs.Storm n in
+    let j : Invocation = jobs.Storm n in
     record {
       usage = λ is. no_other s status.Usage answered.kinds is (λ e. grind (arith, e)) (λ e. grind (arith, e)) (λ e. grind (arith, e)) (λ e. grind (arith, e));
       useless = λ none. clash j (job_of words) job none;
@@ -137,7 +137,7 @@ useless_answer Unread Unwritten words left old none unread unwritten = record {
   front = nothing_written words left old;
 }
 
-wanted : (j : Job) (told : Option (List ℕ)) → IsJobDecided j told status.NoMemory
+wanted : (j : Invocation) (told : Option (List ℕ)) → IsJobDecided j told status.NoMemory
 wanted (jobs.OfText a) told = tt
 wanted jobs.Run told = refl
 wanted (jobs.Node host) told = refl
@@ -168,5 +168,5 @@ wanting_answer Unread Unwritten words left old unread unwritten = record {
 }
 
 -- No text and no storm is asked for where what is asked for is done in threads.
-pub not_threaded : {B : Type 0} (j : Job) (o : Option Job) → Some j ≡ o → is_threaded o ≡ true → ¬ (is_threaded (Some j) ≡ true) → B
+pub not_threaded : {B : Type 0} (j : Invocation) (o : Option Invocation) → Some j ≡ o → is_threaded o ≡ true → ¬ (is_threaded (Some j) ≡ true) → B
 not_threaded j o is threaded other = absurd (other (ap is_threaded is ∙ threaded))

@@ -26,8 +26,8 @@ use Rattle.vk_text.specs.Lines.{lines_of}
 use Rattle.vk_top.proofs.Told.{empty_bad, join_bad}
 use Rattle.vk_top.specs.declared.status.Status.{Status}
 use Rattle.vk_top.specs.declared.status.Status.TheVariants as status
-use Rattle.vk_top.specs.declared.top.Work.{Work}
-use Rattle.vk_top.specs.declared.words.Asked.TheVariants as asked
+use Rattle.vk_top.specs.declared.top.TextOutput.{TextOutput}
+use Rattle.vk_top.specs.declared.words.TextCommand.TheVariants as asked
 use Rattle.vk_top.specs.Joins.{IsJoinOutput, in_order, join_status, nodes_refusal, nodes_status, put_log, refused_join}
 use Rattle.vk_top.specs.Statuses.{refused}
 use Rattle.vk_top.specs.Top.{text_status}
@@ -285,7 +285,7 @@ unjoined_nodes text n joins.NoMemory is lawful why = some_read text n is
 pub unwritten_nodes : (text : List ℕ) (n : NodeTexts) → nodes_of text ≡ Ok n → IsRefusal asked.Join text status.NoMemory
 unwritten_nodes text n is = some_read text n is
 
-pub join_work : (text : List ℕ) (w : Work) → IsJoinOutput text w.text.items → w.status ≡ status.Done → IsWork asked.Join text w
+pub join_work : (text : List ℕ) (w : TextOutput) → IsJoinOutput text w.text.items → w.status ≡ status.Done → IsWork asked.Join text w
 join_work text w output done = record {
   late = subst IsLate (sym done) tt;
   limit = λ limit. let clash : status.Done ≡ status.Limit = sym done ∙ limit in absurd (grind (arith, clash));

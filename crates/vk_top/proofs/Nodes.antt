@@ -22,8 +22,9 @@ use Rattle.vk_top.proofs.Stations.{station_have, station_own}
 use Rattle.vk_top.specs.declared.program.TopProgram.{TopProgram}
 use Rattle.vk_top.specs.declared.status.Status.{Status}
 use Rattle.vk_top.specs.declared.status.Status.TheVariants as status
-use Rattle.vk_top.specs.declared.top.Work.{Work}
-use Rattle.vk_top.specs.Nodes.{IsNodeFailure, Passed, TellsNode, for_station, jobs_at, node_asked, node_scenario}
+use Rattle.vk_top.specs.declared.top.TextOutput.{TextOutput}
+use Rattle.v_run.specs.declared.run_end.RunEnd.TheVariants as ends
+use Rattle.vk_top.specs.Nodes.{IsNodeFailure, Passed, TellsNode, for_station, jobs_at, node_asked, node_end, node_scenario}
 use Rattle.vk_top.specs.Programs.{AreTopPrograms, assignments_at, tasks_at}
 use Rattle.vk_top.specs.Statuses.{refused, refused_node}
 use Rattle.vk_top.specs.Threaded.{IsTextRefusal, IsThreadedRefusal, IsThreadedWork, counted, ended, scenario_status}
@@ -39,7 +40,7 @@ pub node_refused : (host : ℕ) (text : List ℕ) (e : TextRefusal) →
     ((e ≡ texts.NoMemory) × HasScenarioProcess text) ⊎ (scenario_of text ≡ Err e) →
     IsTextRefusal (node_asked host) text (refused e)
 node_refused host text (texts.BadInput line) (inl wanted) = absurd (grind (arith, wanted))
-node_refused host text (texts.BadInput line) (inr bad) = ap (scenario_status false) (ap (for_station host text) bad)
+node_refused host text (texts.BadInput line) (inr bad) = ap (scenario_status ends.Done) (ap (for_station host text) bad)
 node_refused host text texts.Limit (inl wanted) = absurd (grind (arith, wanted))
 node_refused host text texts.Limit (inr bad) = absurd (no_limit text bad)
 node_refused host text texts.NoMemory (inl wanted) = some_process text wanted.1
@@ -115,17 +116,19 @@ station_ports s host lawful has =
 
 -- What is written of a node.
 
-pub node_told : (host : ℕ) (before now : Passed) (text : List ℕ) (s : Scenario) (limited : Bool) (log : StationLog) (r : Result Work Status) →
+pub node_told : (host : ℕ) (before now : Passed) (text : List ℕ) (s : Scenario) (limited : Bool) (log : StationLog) (r : Result TextOutput Status) →
     length text ≤ 16777216 → node_scenario host text ≡ Ok s →
     IsNodeRecord s.config host s.rounds (assignments_at host s.tasks) before.handed now.handed limited log →
     now.jobs ≡ min (before.jobs + jobs_at host s) 18446744073709551615 →
     OnOk r (nodes_of (node_text s.config host log.events) ≡ Ok (one_log s.config host log.events)) →
-    IfOk r (λ w. (w.text.items ≡ node_text s.config host log.events) × (w.status ≡ ended limited)) →
+    IfOk r (λ w. (w.text.items ≡ node_text s.config host log.events) × (w.status ≡ ended (node_end limited))) →
     IfOk r (IsThreadedWork (TellsNode host before now) (node_asked host) text)
 node_told host before now text s limited log (Err e) small is record_is jobs read work = tt
 node_told host before now text s limited log (Ok w) small is record_is jobs read work = record {
-  limited = limited;
+  end = node_end limited;
   tells = record {
+    limited = limited;
+    ends_so = refl;
     scenario = s;
     events = log.events;
     ran = record {
@@ -140,5 +143,5 @@ node_told host before now text s limited log (Ok w) small is record_is jobs read
     lines = work.0;
   };
   status = work.1;
-  asked_for = ap (scenario_status limited) (sym is);
+  asked_for = ap (scenario_status (node_end limited)) (sym is);
 }

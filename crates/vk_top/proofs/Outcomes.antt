@@ -13,8 +13,8 @@ use Rattle.vk_top.specs.Top.{IsBehindText, IsDecided, IsEarly, IsOverLimit, stat
 use Rattle.vk_top.specs.Work.{IsAnswered, IsLate, IsOutcome}
 use Rattle.vk_top.specs.declared.status.Status.{Status}
 use Rattle.vk_top.specs.declared.status.Status.TheVariants as status
-use Rattle.vk_top.specs.declared.words.Asked.{Asked}
-use Rattle.vk_top.specs.declared.words.Asked.TheVariants as asked
+use Rattle.vk_top.specs.declared.words.TextCommand.{TextCommand}
+use Rattle.vk_top.specs.declared.words.TextCommand.TheVariants as asked
 
 -- an answer behind a write tells no fault, and is none at which nothing is written
 
@@ -33,6 +33,7 @@ late_not_early status.NoMemory late early = late
 late_not_early status.CrewFault late early = late
 late_not_early status.LinkFault late early = late
 late_not_early (status.Stray host event) late early = late
+late_not_early status.Waiting late early = early
 
 pub written_late : (text : List ℕ) (told : Status) (old new : Option (List ℕ)) (s : Status) → IsLate told →
     IsWritten told status.WriteFault text old new s → IsEarly s → ⊥
@@ -63,7 +64,7 @@ unread_counts reads.NoMemory s before now is same = inr (λ fault. let clash : s
 
 -- the answers to an input
 
-decided : (a : Asked) (told : Option (List ℕ)) (s : Status) → OfInput told (λ i. s ≡ status_of a i) → IsDecided a told s
+decided : (a : TextCommand) (told : Option (List ℕ)) (s : Status) → OfInput told (λ i. s ≡ status_of a i) → IsDecided a told s
 decided a told status.Done given = given
 decided a told (status.NotARun step) given = given
 decided a told status.Usage given = given
@@ -75,14 +76,15 @@ decided a told status.CrewFault given = given
 decided a told status.Limit given = given
 decided a told status.LinkFault given = given
 decided a told (status.Stray host event) given = given
+decided a told status.Waiting given = given
 
-by_text : (a : Asked) (left rest : Option (List ℕ)) (text : List ℕ) (s : Status) → IsText left rest text →
+by_text : (a : TextCommand) (left rest : Option (List ℕ)) (text : List ℕ) (s : Status) → IsText left rest text →
     (s ≡ status.NoMemory) ⊎ (s ≡ status.WriteFault) ⊎ (s ≡ status_of a text) → IsDecided a left s
 by_text a left rest text s read (inl is) = subst (IsDecided a left) (sym is) tt
 by_text a left rest text s read (inr (inl is)) = subst (IsDecided a left) (sym is) tt
 by_text a left rest text s read (inr (inr is)) = decided a left s (of_text left rest text (λ i. s ≡ status_of a i) read is)
 
-answered_is : (Unchanged : Type 0) (a : Asked) (left rest old new : Option (List ℕ)) (text : List ℕ) (s : Status) → IsText left rest text →
+answered_is : (Unchanged : Type 0) (a : TextCommand) (left rest old new : Option (List ℕ)) (text : List ℕ) (s : Status) → IsText left rest text →
     IsAnswered Unchanged a text old new s → IsOutcome Unchanged a left rest old new s
 answered_is Unchanged a left rest old new text s read answered =
     let all = is_all left rest text read in
@@ -103,20 +105,20 @@ answered_is Unchanged a left rest old new text s read answered =
     }
 
 -- the text that was read is the one that was answered to
-pub served_is : (Unchanged : Type 0) (a : Asked) (left rest old new : Option (List ℕ)) (text seen : List ℕ) (s : Status) →
+pub served_is : (Unchanged : Type 0) (a : TextCommand) (left rest old new : Option (List ℕ)) (text seen : List ℕ) (s : Status) →
     IsText left rest text → seen ≡ text → IsAnswered Unchanged a seen old new s → IsOutcome Unchanged a left rest old new s
 served_is Unchanged a left rest old new text seen s read same answered =
     answered_is Unchanged a left rest old new text s read (subst (λ t. IsAnswered Unchanged a t old new s) same answered)
 
-over_limit : (a : Asked) (i : List ℕ) → 16777216 < length i → IsOverLimit a i
+over_limit : (a : TextCommand) (i : List ℕ) → 16777216 < length i → IsOverLimit a i
 over_limit (asked.Replay form) i many = inl many
 over_limit asked.Check i many = inl many
 over_limit asked.Join i many = inl many
 
-limit_status : (a : Asked) (i : List ℕ) → 16777216 < length i → status.Limit ≡ status_of a i
+limit_status : (a : TextCommand) (i : List ℕ) → 16777216 < length i → status.Limit ≡ status_of a i
 limit_status a i many = sym (cond-true _ _ _ (lt-ltb 16777216 (length i) many))
 
-unread_as : (Unchanged : Type 0) (a : Asked) (left rest old : Option (List ℕ)) (r : ReadRefusal) → Unchanged → IsUnread left rest r →
+unread_as : (Unchanged : Type 0) (a : TextCommand) (left rest old : Option (List ℕ)) (r : ReadRefusal) → Unchanged → IsUnread left rest r →
     IsOutcome Unchanged a left rest old old (unread r)
 unread_as Unchanged a left rest old reads.Failed same why = record {
   kinds = (λ is. grind (arith, is), λ is. grind (arith, is), λ is. grind (arith, is));
@@ -164,7 +166,7 @@ unread_as Unchanged a left rest old reads.NoMemory same why = record {
   front = some_input left _ (λ i. inl (nothing_more old));
 }
 
-pub unread_is : (Unchanged : Type 0) (a : Asked) (left rest old : Option (List ℕ)) (r : ReadRefusal) (s : Status) → s ≡ unread r → Unchanged →
+pub unread_is : (Unchanged : Type 0) (a : TextCommand) (left rest old : Option (List ℕ)) (r : ReadRefusal) (s : Status) → s ≡ unread r → Unchanged →
     IsUnread left rest r → IsOutcome Unchanged a left rest old old s
 unread_is Unchanged a left rest old r s is same why =
     subst (IsOutcome Unchanged a left rest old old) (sym is) (unread_as Unchanged a left rest old r same why)

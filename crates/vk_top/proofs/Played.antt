@@ -36,7 +36,7 @@ use Rattle.vk_top.specs.Pieces.{ArePlayed, GoesWay, HasCome, HasPlayedAll, IsPie
 use Rattle.vk_top.specs.Playing.{AreFew, HasPlayed, IsHad, IsUnderWay, IsWrittenOf}
 use Rattle.vk_top.specs.Report.{is_cut, written_text}
 use Rattle.vk_top.specs.Work.{KeepsLines}
-use Rattle.vk_top.specs.declared.words.Asked.TheVariants as asked
+use Rattle.vk_top.specs.declared.words.TextCommand.TheVariants as asked
 
 -- Lists.
 

@@ -1,5 +1,5 @@
 -- The answer to a scenario.
-use Rattle.std.proofs.Common.{◌≡◌, ℕ, ◌<◌, ◌≤◌, false, List, [], ◌∷◌, length, Ok, Err, ◌⊎◌, inl, inr, ap, sym, ◌∙◌, arith, refl}
+use Rattle.std.proofs.Common.{◌≡◌, ℕ, ◌<◌, ◌≤◌, List, [], ◌∷◌, length, Ok, Err, ◌⊎◌, inl, inr, ap, sym, ◌∙◌, arith, refl}
 use Rattle.vk_event.specs.declared.scenario.Scenario.{Scenario}
 use Rattle.vk_schedule.specs.declared.schedule.TextRefusal.{TextRefusal}
 use Rattle.vk_schedule.specs.declared.schedule.TextRefusal.TheVariants as texts
@@ -7,6 +7,7 @@ use Rattle.vk_event.proofs.ScenarioRefusals.{no_limit, no_want}
 use Rattle.vk_event.specs.Scenario.{HasScenarioProcess, scenario_by, scenario_of}
 use Rattle.vk_text.specs.Lines.{lines_of}
 use Rattle.vk_text.specs.Openings.{opening_of}
+use Rattle.v_run.specs.declared.run_end.RunEnd.TheVariants as ends
 use Rattle.vk_top.specs.Runs.{IsRunFailure, jobs_of, run_asked}
 use Rattle.vk_top.specs.Statuses.{refused, refused_run}
 use Rattle.vk_top.specs.Threaded.{IsTextRefusal, IsThreadedRefusal, counted, scenario_status}
@@ -35,7 +36,7 @@ some_process (b ∷ bs) some = omega arith
 pub refused_text : (text : List ℕ) (e : TextRefusal) → ((e ≡ texts.NoMemory) × HasScenarioProcess text) ⊎ (scenario_of text ≡ Err e) →
     IsTextRefusal run_asked text (refused e)
 refused_text text (texts.BadInput line) (inl wanted) = absurd (grind (arith, wanted))
-refused_text text (texts.BadInput line) (inr bad) = ap (scenario_status false) bad
+refused_text text (texts.BadInput line) (inr bad) = ap (scenario_status ends.Done) bad
 refused_text text texts.Limit (inl wanted) = absurd (grind (arith, wanted))
 refused_text text texts.Limit (inr bad) = absurd (no_limit text bad)
 refused_text text texts.NoMemory (inl wanted) = some_process text wanted.1

@@ -1,5 +1,5 @@
 -- The answer where what happened in a run is told in a text.
-use Rattle.std.proofs.Common.{◌≡◌, ℕ, ◌<◌, ◌≤◌, Bool, true, false, List, length, take, Option, Some, None, ◌⊎◌, inl, inr, refl, subst, sym, ◌∙◌, arith}
+use Rattle.std.proofs.Common.{◌≡◌, ℕ, ◌<◌, ◌≤◌, List, length, take, Option, Some, None, ◌⊎◌, inl, inr, refl, subst, sym, ◌∙◌, arith}
 use Rattle.std.specs.Io.KnownBytes.{Appends}
 use Rattle.std.proofs.lemmas.Bool.{cond-false, cond-true, le-ltb, lt-ltb}
 use Rattle.vk_edge.proofs.Answers.{other_than, tells_none}
@@ -9,35 +9,39 @@ use Rattle.vk_edge.specs.Inputs.{IsReadOver, IsReadWithin, IsText, IsUnread, IsW
 use Rattle.vk_io.specs.declared.whole.ReadRefusal.{ReadRefusal}
 use Rattle.vk_io.specs.declared.whole.ReadRefusal.TheVariants as reads
 use Rattle.vk_top.proofs.Outcomes.{written_late}
+use Rattle.v_run.specs.declared.run_end.RunEnd.{RunEnd}
+use Rattle.v_run.specs.declared.run_end.RunEnd.TheVariants as ends
 use Rattle.vk_top.specs.Statuses.{unread}
 use Rattle.vk_top.specs.declared.status.Status.{Status}
 use Rattle.vk_top.specs.declared.status.Status.TheVariants as status
-use Rattle.vk_top.specs.declared.top.Work.{Work}
+use Rattle.vk_top.specs.declared.top.TextOutput.{TextOutput}
 use Rattle.vk_top.specs.Threaded.{IsBadScenario, IsFailure, IsRanInPart, IsRunDecided, IsTextRefusal, IsThreadedAnswer, IsThreadedAnswered, IsThreadedRefusal, IsThreadedWork, asked_of, ended}
 use Rattle.vk_top.specs.Top.{IsBehindText, IsEarly}
 use Rattle.vk_top.specs.Work.{IsLate}
 
 -- The answer behind a write.
 
-ended_late : (limited : Bool) → IsLate (ended limited)
-ended_late true = tt
-ended_late false = tt
+ended_late : (end : RunEnd) → IsLate (ended end)
+ended_late ends.Done = tt
+ended_late ends.Limited = tt
+ended_late ends.Waiting = tt
 
-pub work_late : (Tells : Bool → List ℕ → List ℕ → Type 0) (asked : Bool → List ℕ → Status) (text : List ℕ) (w : Work) →
+pub work_late : (Tells : RunEnd → List ℕ → List ℕ → Type 0) (asked : RunEnd → List ℕ → Status) (text : List ℕ) (w : TextOutput) →
     IsThreadedWork Tells asked text w → IsLate w.status
-work_late Tells asked text w work = subst IsLate (sym work.status) (ended_late work.limited)
+work_late Tells asked text w work = subst IsLate (sym work.status) (ended_late work.end)
 
-module _ (Tells : Bool → List ℕ → List ℕ → Type 0) (asked : Bool → List ℕ → Status) (Fails : Status → List ℕ → Type 0) where
-  asked_for : (limited : Bool) (text : List ℕ) (s : Status) → length text ≤ 16777216 → s ≡ asked limited text → s ≡ asked_of asked limited text
-  asked_for limited text s small is =
-      is ∙ sym (cond-false _ status.Limit (asked limited text) (le-ltb 16777216 (length text) small))
+module _ (Tells : RunEnd → List ℕ → List ℕ → Type 0) (asked : RunEnd → List ℕ → Status) (Fails : Status → List ℕ → Type 0) where
+  asked_for : (end : RunEnd) (text : List ℕ) (s : Status) → length text ≤ 16777216 → s ≡ asked end text → s ≡ asked_of asked end text
+  asked_for end text s small is =
+      is ∙ sym (cond-false _ status.Limit (asked end text) (le-ltb 16777216 (length text) small))
 
-  all_written : (Unwritten Unasked : Type 0) (limited : Bool) (text : List ℕ) (output : List ℕ) (old new : Option (List ℕ)) →
-      length text ≤ 16777216 → Tells limited text output → ended limited ≡ asked limited text → Appends old new output →
-      IsThreadedAnswered Tells asked Fails Unwritten Unasked text old new (ended limited)
-  all_written Unwritten Unasked false text output old new small tells is written = record {
+  all_written : (Unwritten Unasked : Type 0) (end : RunEnd) (text : List ℕ) (output : List ℕ) (old new : Option (List ℕ)) →
+      length text ≤ 16777216 → Tells end text output → ended end ≡ asked end text → Appends old new output →
+      IsThreadedAnswered Tells asked Fails Unwritten Unasked text old new (ended end)
+  all_written Unwritten Unasked ends.Done text output old new small tells is written = record {
     done = λ is. record { output = output; tells = tells; written = written };
     limit = λ is. absurd (grind (arith, is));
+    waiting = λ is. absurd (grind (arith, is));
     writing = λ is. absurd (grind (arith, is));
     bad = λ line is. absurd (grind (arith, is));
     memory = λ is. absurd (grind (arith, is));
@@ -45,11 +49,12 @@ module _ (Tells : Bool → List ℕ → List ℕ → Type 0) (asked : Bool → L
     kinds = (λ is. grind (arith, is), λ step is. grind (arith, is), λ host event is. grind (arith, is));
     reading = λ is. grind (arith, is);
     nothing = λ early. absurd early;
-    complete = inr (inr (inr (inr (false, asked_for false text status.Done small is))));
+    complete = inr (inr (inr (inr (ends.Done, asked_for ends.Done text status.Done small is))));
   }
-  all_written Unwritten Unasked true text output old new small tells is written = record {
+  all_written Unwritten Unasked ends.Limited text output old new small tells is written = record {
     done = λ is. absurd (grind (arith, is));
     limit = λ is. record { output = output; tells = tells; written = written };
+    waiting = λ is. absurd (grind (arith, is));
     writing = λ is. absurd (grind (arith, is));
     bad = λ line is. absurd (grind (arith, is));
     memory = λ is. absurd (grind (arith, is));
@@ -57,7 +62,20 @@ module _ (Tells : Bool → List ℕ → List ℕ → Type 0) (asked : Bool → L
     kinds = (λ is. grind (arith, is), λ step is. grind (arith, is), λ host event is. grind (arith, is));
     reading = λ is. grind (arith, is);
     nothing = λ early. absurd early;
-    complete = inr (inr (inr (inr (true, asked_for true text status.Limit small is))));
+    complete = inr (inr (inr (inr (ends.Limited, asked_for ends.Limited text status.Limit small is))));
+  }
+  all_written Unwritten Unasked ends.Waiting text output old new small tells is written = record {
+    done = λ is. absurd (grind (arith, is));
+    limit = λ is. absurd (grind (arith, is));
+    waiting = λ is. record { output = output; tells = tells; written = written };
+    writing = λ is. absurd (grind (arith, is));
+    bad = λ line is. absurd (grind (arith, is));
+    memory = λ is. absurd (grind (arith, is));
+    failed = λ failure. absurd failure;
+    kinds = (λ is. grind (arith, is), λ step is. grind (arith, is), λ host event is. grind (arith, is));
+    reading = λ is. grind (arith, is);
+    nothing = λ early. absurd early;
+    complete = inr (inr (inr (inr (ends.Waiting, asked_for ends.Waiting text status.Waiting small is))));
   }
 
   failed_is : (Unwritten Unasked : Type 0) (text : List ℕ) (old new : Option (List ℕ)) → IsRanInPart Tells text old new →
@@ -65,6 +83,7 @@ module _ (Tells : Bool → List ℕ → List ℕ → Type 0) (asked : Bool → L
   failed_is Unwritten Unasked text old new part = record {
     done = λ is. absurd (grind (arith, is));
     limit = λ is. absurd (grind (arith, is));
+    waiting = λ is. absurd (grind (arith, is));
     writing = λ is. part;
     bad = λ line is. absurd (grind (arith, is));
     memory = λ is. absurd (grind (arith, is));
@@ -75,27 +94,28 @@ module _ (Tells : Bool → List ℕ → List ℕ → Type 0) (asked : Bool → L
     complete = inr (inl refl);
   }
 
-  pub work_written : (Unwritten Unasked : Type 0) (text : List ℕ) (w : Work) (old new : Option (List ℕ)) (s : Status) →
+  pub work_written : (Unwritten Unasked : Type 0) (text : List ℕ) (w : TextOutput) (old new : Option (List ℕ)) (s : Status) →
       length text ≤ 16777216 → IsThreadedWork Tells asked text w → IsWritten w.status status.WriteFault w.text.items old new s →
       (n : ℕ) × Appends old new (take n w.text.items) → IsThreadedAnswered Tells asked Fails Unwritten Unasked text old new s
   work_written Unwritten Unasked text w old new s small work (inl (same, written)) front =
       subst (IsThreadedAnswered Tells asked Fails Unwritten Unasked text old new) (sym (same ∙ work.status))
-      (all_written Unwritten Unasked work.limited text w.text.items old new small work.tells work.asked_for written)
+      (all_written Unwritten Unasked work.end text w.text.items old new small work.tells work.asked_for written)
   work_written Unwritten Unasked text w old new s small work (inr failed) (n, some) =
       subst (IsThreadedAnswered Tells asked Fails Unwritten Unasked text old new) (sym failed)
       (failed_is Unwritten Unasked text old new
-      (record { limited = work.limited; output = w.text.items; tells = work.tells; count = n; written = some }))
+      (record { end = work.end; output = w.text.items; tells = work.tells; count = n; written = some }))
 
   refused_is : (Unwritten Unasked : Type 0) (text : List ℕ) (old : Option (List ℕ)) (s : Status) → Unwritten → ¬ (s ≡ status.Done) →
-      ¬ (s ≡ status.Limit) → ¬ (s ≡ status.WriteFault) →
+      ¬ (s ≡ status.Limit) → ¬ (s ≡ status.Waiting) → ¬ (s ≡ status.WriteFault) →
       ((line : ℕ) → s ≡ status.BadInput line → IsBadScenario asked text line × Unasked) →
       (s ≡ status.NoMemory → 0 < length text) → (IsFailure s → Fails s text) → ¬ (s ≡ status.Usage) →
       ((step : ℕ) → ¬ (s ≡ status.NotARun step)) → ((host event : ℕ) → ¬ (s ≡ status.Stray host event)) → ¬ (s ≡ status.ReadFault) →
       (s ≡ status.NoMemory) ⊎ (s ≡ status.WriteFault) ⊎ (s ≡ status.CrewFault) ⊎ (s ≡ status.LinkFault)
-      ⊎ ((limited : Bool) × (s ≡ asked_of asked limited text)) → IsThreadedAnswered Tells asked Fails Unwritten Unasked text old old s
-  refused_is Unwritten Unasked text old s same done limit fault bad memory failed usage refuted stray reading complete = record {
+      ⊎ ((end : RunEnd) × (s ≡ asked_of asked end text)) → IsThreadedAnswered Tells asked Fails Unwritten Unasked text old old s
+  refused_is Unwritten Unasked text old s same done limit waiting fault bad memory failed usage refuted stray reading complete = record {
     done = λ is. absurd (done is);
     limit = λ is. absurd (limit is);
+    waiting = λ is. absurd (waiting is);
     writing = λ is. absurd (fault is);
     bad = bad;
     memory = memory;
@@ -110,20 +130,20 @@ module _ (Tells : Bool → List ℕ → List ℕ → Type 0) (asked : Bool → L
       IsThreadedRefusal asked Fails Unasked text s → IsThreadedAnswered Tells asked Fails Unwritten Unasked text old old s
   run_refused Unwritten Unasked text old (status.BadInput line) same small why =
       refused_is Unwritten Unasked text old (status.BadInput line) same (λ is. grind (arith, is)) (λ is. grind (arith, is))
-      (λ is. grind (arith, is)) (λ n is. (record { small = small; bad = why.0 ∙ is }, why.1)) (λ is. absurd (grind (arith, is)))
+      (λ is. grind (arith, is)) (λ is. grind (arith, is)) (λ n is. (record { small = small; bad = why.0 ∙ is }, why.1)) (λ is. absurd (grind (arith, is)))
       (λ failure. absurd failure) (λ is. grind (arith, is)) (λ step is. grind (arith, is)) (λ host event is. grind (arith, is))
-      (λ is. grind (arith, is)) (inr (inr (inr (inr (false, asked_for false text (status.BadInput line) small (sym why.0))))))
+      (λ is. grind (arith, is)) (inr (inr (inr (inr (ends.Done, asked_for ends.Done text (status.BadInput line) small (sym why.0))))))
   run_refused Unwritten Unasked text old status.NoMemory same small why =
       refused_is Unwritten Unasked text old status.NoMemory same (λ is. grind (arith, is)) (λ is. grind (arith, is)) (λ is. grind (arith, is))
-      (λ n is. absurd (grind (arith, is))) (λ is. why.0) (λ failure. why.1) (λ is. grind (arith, is)) (λ step is. grind (arith, is))
+      (λ is. grind (arith, is)) (λ n is. absurd (grind (arith, is))) (λ is. why.0) (λ failure. why.1) (λ is. grind (arith, is)) (λ step is. grind (arith, is))
       (λ host event is. grind (arith, is)) (λ is. grind (arith, is)) (inl refl)
   run_refused Unwritten Unasked text old status.CrewFault same small why =
       refused_is Unwritten Unasked text old status.CrewFault same (λ is. grind (arith, is)) (λ is. grind (arith, is)) (λ is. grind (arith, is))
-      (λ n is. absurd (grind (arith, is))) (λ is. absurd (grind (arith, is))) (λ failure. why) (λ is. grind (arith, is))
+      (λ is. grind (arith, is)) (λ n is. absurd (grind (arith, is))) (λ is. absurd (grind (arith, is))) (λ failure. why) (λ is. grind (arith, is))
       (λ step is. grind (arith, is)) (λ host event is. grind (arith, is)) (λ is. grind (arith, is)) (inr (inr (inl refl)))
   run_refused Unwritten Unasked text old status.LinkFault same small why =
       refused_is Unwritten Unasked text old status.LinkFault same (λ is. grind (arith, is)) (λ is. grind (arith, is)) (λ is. grind (arith, is))
-      (λ n is. absurd (grind (arith, is))) (λ is. absurd (grind (arith, is))) (λ failure. why) (λ is. grind (arith, is))
+      (λ is. grind (arith, is)) (λ n is. absurd (grind (arith, is))) (λ is. absurd (grind (arith, is))) (λ failure. why) (λ is. grind (arith, is))
       (λ step is. grind (arith, is)) (λ host event is. grind (arith, is)) (λ is. grind (arith, is)) (inr (inr (inr (inl refl))))
   run_refused Unwritten Unasked text old status.Done same small why = absurd why
   run_refused Unwritten Unasked text old (status.NotARun step) same small why = absurd why
@@ -132,10 +152,11 @@ module _ (Tells : Bool → List ℕ → List ℕ → Type 0) (asked : Bool → L
   run_refused Unwritten Unasked text old status.WriteFault same small why = absurd why
   run_refused Unwritten Unasked text old status.Limit same small why = absurd why
   run_refused Unwritten Unasked text old (status.Stray host event) same small why = absurd why
+  run_refused Unwritten Unasked text old status.Waiting same small why = absurd why
 
   -- The answer to an input.
 
-  decided : (told : Option (List ℕ)) (s : Status) → OfInput told (λ i. (limited : Bool) × (s ≡ asked_of asked limited i)) →
+  decided : (told : Option (List ℕ)) (s : Status) → OfInput told (λ i. (end : RunEnd) × (s ≡ asked_of asked end i)) →
       IsRunDecided asked told s
   decided told status.Done given = given
   decided told (status.NotARun step) given = given
@@ -148,16 +169,17 @@ module _ (Tells : Bool → List ℕ → List ℕ → Type 0) (asked : Bool → L
   decided told status.LinkFault given = tt
   decided told status.Limit given = given
   decided told (status.Stray host event) given = given
+  decided told status.Waiting given = given
 
   by_text : (left rest : Option (List ℕ)) (text : List ℕ) (s : Status) → IsText left rest text →
       (s ≡ status.NoMemory) ⊎ (s ≡ status.WriteFault) ⊎ (s ≡ status.CrewFault) ⊎ (s ≡ status.LinkFault)
-      ⊎ ((limited : Bool) × (s ≡ asked_of asked limited text)) → IsRunDecided asked left s
+      ⊎ ((end : RunEnd) × (s ≡ asked_of asked end text)) → IsRunDecided asked left s
   by_text left rest text s read (inl is) = subst (IsRunDecided asked left) (sym is) tt
   by_text left rest text s read (inr (inl is)) = subst (IsRunDecided asked left) (sym is) tt
   by_text left rest text s read (inr (inr (inl is))) = subst (IsRunDecided asked left) (sym is) tt
   by_text left rest text s read (inr (inr (inr (inl is)))) = subst (IsRunDecided asked left) (sym is) tt
   by_text left rest text s read (inr (inr (inr (inr is)))) =
-      decided left s (of_text left rest text (λ i. (limited : Bool) × (s ≡ asked_of asked limited i)) read is)
+      decided left s (of_text left rest text (λ i. (end : RunEnd) × (s ≡ asked_of asked end i)) read is)
 
   answered_is : (Unread Unwritten Unasked : Type 0) (left rest old new : Option (List ℕ)) (text : List ℕ) (s : Status) →
       IsText left rest text → IsThreadedAnswered Tells asked Fails Unwritten Unasked text old new s →
@@ -168,6 +190,7 @@ module _ (Tells : Bool → List ℕ → List ℕ → Type 0) (asked : Bool → L
       record {
         done = λ is. record { input = text; all = all; holds = answered.done is };
         limit = λ is. inr (whole, record { input = text; all = all; holds = answered.limit is });
+        waiting = λ is. record { input = text; all = all; holds = answered.waiting is };
         writing = λ is. record { input = text; all = all; holds = answered.writing is };
         whole = λ behind. whole;
         bad = λ line is. (record { input = text; all = all; holds = (answered.bad line is).0 }, (answered.bad line is).1);
@@ -187,8 +210,8 @@ module _ (Tells : Bool → List ℕ → List ℕ → Type 0) (asked : Bool → L
       answered_is Unread Unwritten Unasked left rest old new text s read
       (subst (λ t. IsThreadedAnswered Tells asked Fails Unwritten Unasked t old new s) same answered)
 
-  limit_status : (i : List ℕ) → 16777216 < length i → (limited : Bool) × (status.Limit ≡ asked_of asked limited i)
-  limit_status i many = (false, sym (cond-true _ _ _ (lt-ltb 16777216 (length i) many)))
+  limit_status : (i : List ℕ) → 16777216 < length i → (end : RunEnd) × (status.Limit ≡ asked_of asked end i)
+  limit_status i many = (ends.Done, sym (cond-true _ _ _ (lt-ltb 16777216 (length i) many)))
 
   -- an answer without a run
   nothing_ran : (Unread Unwritten Unasked : Type 0) (left rest old : Option (List ℕ)) (s : Status) → Unwritten → Unasked →
@@ -199,6 +222,7 @@ module _ (Tells : Bool → List ℕ → List ℕ → Type 0) (asked : Bool → L
   nothing_ran Unread Unwritten Unasked left rest old s same idle early usage reading limit memory failed complete = record {
     done = λ is. absurd (early (subst IsBehindText (sym is) tt));
     limit = λ is. inl (limit is, same, idle);
+    waiting = λ is. absurd (early (subst IsBehindText (sym is) tt));
     writing = λ is. absurd (early (subst IsBehindText (sym is) tt));
     whole = λ behind. absurd (early behind);
     bad = λ line is. absurd (early (subst IsBehindText (sym is) tt));
@@ -269,7 +293,7 @@ module _ (Tells : Bool → List ℕ → List ℕ → Type 0) (asked : Bool → L
 
 -- Where a text is not run.
 
-pub not_run : (asked : Bool → List ℕ → Status) (Fails : Status → List ℕ → Type 0) (Unasked : Type 0) (text : List ℕ) (s : Status) →
+pub not_run : (asked : RunEnd → List ℕ → Status) (Fails : Status → List ℕ → Type 0) (Unasked : Type 0) (text : List ℕ) (s : Status) →
     Unasked → Fails status.NoMemory text → IsTextRefusal asked text s → IsThreadedRefusal asked Fails Unasked text s
 not_run asked Fails Unasked text (status.BadInput line) same wanting why = (why, same)
 not_run asked Fails Unasked text status.NoMemory same wanting why = (why, wanting)
@@ -282,10 +306,11 @@ not_run asked Fails Unasked text status.CrewFault same wanting why = absurd why
 not_run asked Fails Unasked text status.Limit same wanting why = absurd why
 not_run asked Fails Unasked text status.LinkFault same wanting why = absurd why
 not_run asked Fails Unasked text (status.Stray host event) same wanting why = absurd why
+not_run asked Fails Unasked text status.Waiting same wanting why = absurd why
 
 -- What is told of faults: none where a text is not run, and none was counted.
 
-pub not_run_tells : (asked : Bool → List ℕ → Status) (why : Status) (text : List ℕ) (s : Status) (before : ℕ) →
+pub not_run_tells : (asked : RunEnd → List ℕ → Status) (why : Status) (text : List ℕ) (s : Status) (before : ℕ) →
     ¬ (IsTextRefusal asked text why) → IsTextRefusal asked text s → TellsFaults why s before before
 not_run_tells asked why text s before none refusal =
     tells_none why s before before (other_than (IsTextRefusal asked text) s why refusal none) refl

@@ -42,10 +42,10 @@ use Rattle.vk_report.specs.declared.entry.Form.{Form}
 use Rattle.vk_top.specs.declared.status.Status.{Status}
 use Rattle.vk_top.specs.declared.status.Status.TheVariants as status
 use Rattle.vk_top.specs.declared.replay.Written.{Written}
-use Rattle.vk_top.specs.declared.top.Work.{Work}
+use Rattle.vk_top.specs.declared.top.TextOutput.{TextOutput}
 use Rattle.vk_top.specs.Playing.{IsWrittenOf}
-use Rattle.vk_top.specs.declared.words.Asked.{Asked}
-use Rattle.vk_top.specs.declared.words.Asked.TheVariants as asked
+use Rattle.vk_top.specs.declared.words.TextCommand.{TextCommand}
+use Rattle.vk_top.specs.declared.words.TextCommand.TheVariants as asked
 
 -- schedules
 
@@ -250,7 +250,7 @@ check_stray (Err traces.NoMemory) host event is = grind (arith, is)
 
 -- what a text asks for
 
-done_is : (a : Asked) (text output : List ℕ) (old new : Option (List ℕ)) → length text ≤ 16777216 → text_status a text ≡ status.Done
+done_is : (a : TextCommand) (text output : List ℕ) (old new : Option (List ℕ)) → length text ≤ 16777216 → text_status a text ≡ status.Done
     → IsTextOutput a text output → Appends old new output → IsDone a text old new
 done_is (asked.Replay form) text output old new small done is written =
     replayed form text old new (schedule_of text) small refl done (subst (Appends old new) is written)
@@ -263,32 +263,32 @@ done_is asked.Join text output old new small done is written = record {
   output = subst (Appends old new) is.lines written;
 }
 
-no_is : (a : Asked) (text output : List ℕ) (old new : Option (List ℕ)) (step : ℕ) → length text ≤ 16777216
+no_is : (a : TextCommand) (text output : List ℕ) (old new : Option (List ℕ)) (step : ℕ) → length text ≤ 16777216
     → text_status a text ≡ status.NotARun step → IsTextOutput a text output → Appends old new output → IsNotARun a text step old new
 no_is (asked.Replay form) text output old new step small refused is written = replay_no (schedule_of text) step refused
 no_is asked.Check text output old new step small refused is written =
     check_no text old new step (trace_of text) small refl refused (subst (Appends old new) is written)
 no_is asked.Join text output old new step small refused is written = join_no (nodes_of text) step refused
 
-bad_is : (a : Asked) (text : List ℕ) (line : ℕ) → length text ≤ 16777216 → text_status a text ≡ status.BadInput line → IsBadAt a text line
+bad_is : (a : TextCommand) (text : List ℕ) (line : ℕ) → length text ≤ 16777216 → text_status a text ≡ status.BadInput line → IsBadAt a text line
 bad_is (asked.Replay form) text line small is = record { small = small; bad = replay_bad (schedule_of text) line is }
 bad_is asked.Check text line small is = record { small = small; bad = check_bad (trace_of text) line is }
 bad_is asked.Join text line small is = record { small = small; bad = join_bad (nodes_of text) line is }
 
-stray_is : (a : Asked) (text : List ℕ) (host event : ℕ) → length text ≤ 16777216 → text_status a text ≡ status.Stray host event →
+stray_is : (a : TextCommand) (text : List ℕ) (host event : ℕ) → length text ≤ 16777216 → text_status a text ≡ status.Stray host event →
     IsStrayAt a text host event
 stray_is (asked.Replay form) text host event small is = replay_stray (schedule_of text) host event is
 stray_is asked.Check text host event small is = check_stray (trace_of text) host event is
 stray_is asked.Join text host event small is = join_stray text host event small (nodes_of text) refl is
 
-cut_is : (a : Asked) (text output : List ℕ) (old new : Option (List ℕ)) → length text ≤ 16777216 → IsRefusedLate a text
+cut_is : (a : TextCommand) (text output : List ℕ) (old new : Option (List ℕ)) → length text ≤ 16777216 → IsRefusedLate a text
     → IsTextOutput a text output → Appends old new output → IsCutShort a text old new
 cut_is (asked.Replay form) text output old new small refused is written =
     cut_short form text old new small refused (subst (Appends old new) is written)
 cut_is asked.Check text output old new small refused is written = refused
 cut_is asked.Join text output old new small refused is written = refused
 
-small_status : (a : Asked) (text : List ℕ) → length text ≤ 16777216 → text_status a text ≡ status_of a text
+small_status : (a : TextCommand) (text : List ℕ) → length text ≤ 16777216 → text_status a text ≡ status_of a text
 small_status a text small = sym (cond-false _ _ _ (le-ltb 16777216 (length text) small))
 
 -- the answers
@@ -297,7 +297,7 @@ pub nothing_more : (o : Option (List ℕ)) → Appends o o []
 nothing_more None = tt
 nothing_more (Some xs) = sym (append-nil xs)
 
-pub refused_is : (a : Asked) (text : List ℕ) (old : Option (List ℕ)) (Unchanged : Type 0) (s : Status) → Unchanged → length text ≤ 16777216
+pub refused_is : (a : TextCommand) (text : List ℕ) (old : Option (List ℕ)) (Unchanged : Type 0) (s : Status) → Unchanged → length text ≤ 16777216
     → IsRefusal a text s → IsAnswered Unchanged a text old old s
 refused_is a text old Unchanged (status.BadInput line) same small why = record {
   kinds = (λ is. grind (arith, is), λ is. grind (arith, is), λ is. grind (arith, is), λ is. grind (arith, is));
@@ -354,6 +354,7 @@ refused_is a text old Unchanged status.ReadFault same small why = absurd why
 refused_is a text old Unchanged status.WriteFault same small why = absurd why
 refused_is a text old Unchanged status.CrewFault same small why = absurd why
 refused_is a text old Unchanged status.LinkFault same small why = absurd why
+refused_is a text old Unchanged status.Waiting same small why = absurd why
 
 -- an answer behind a write is that of the work
 late_kinds : (s : Status) → IsLate s
@@ -366,6 +367,8 @@ late_kinds (status.NotARun step) late =
     (λ is. grind (arith, is), λ is. grind (arith, is), λ is. grind (arith, is), λ line is. grind (arith, is), λ is. grind (arith, is), λ is. grind (arith, is), λ is. grind (arith, is), λ host event is. grind (arith, is))
 late_kinds status.Limit late =
     (λ is. grind (arith, is), λ is. grind (arith, is), λ is. grind (arith, is), λ line is. grind (arith, is), λ is. grind (arith, is), λ is. grind (arith, is), λ is. grind (arith, is), λ host event is. grind (arith, is))
+late_kinds status.Waiting late =
+    (λ is. grind (arith, is), λ is. grind (arith, is), λ is. grind (arith, is), λ line is. grind (arith, is), λ is. grind (arith, is), λ is. grind (arith, is), λ is. grind (arith, is), λ host event is. grind (arith, is))
 late_kinds status.Usage late = absurd late
 late_kinds (status.BadInput line) late = absurd late
 late_kinds status.ReadFault late = absurd late
@@ -375,11 +378,12 @@ late_kinds status.CrewFault late = absurd late
 late_kinds status.LinkFault late = absurd late
 late_kinds (status.Stray host event) late = absurd late
 
-late_is : (a : Asked) (text : List ℕ) (s : Status) → length text ≤ 16777216 → IsLate s → (s ≡ status.Limit → IsRefusedLate a text)
+late_is : (a : TextCommand) (text : List ℕ) (s : Status) → length text ≤ 16777216 → IsLate s → (s ≡ status.Limit → IsRefusedLate a text)
     → s ≡ status_of a text → IsToWrite a text
 late_is a text status.Limit small late limit is = inr (small, limit refl)
 late_is a text status.Done small late limit is = inl (subst IsToldWhole is tt)
 late_is a text (status.NotARun step) small late limit is = inl (subst IsToldWhole is tt)
+late_is a text status.Waiting small late limit is = inl (subst IsToldWhole is tt)
 late_is a text status.Usage small late limit is = absurd late
 late_is a text (status.BadInput line) small late limit is = absurd late
 late_is a text status.ReadFault small late limit is = absurd late
@@ -389,7 +393,7 @@ late_is a text status.CrewFault small late limit is = absurd late
 late_is a text status.LinkFault small late limit is = absurd late
 late_is a text (status.Stray host event) small late limit is = absurd late
 
-all_written : (Unchanged : Type 0) (a : Asked) (text output : List ℕ) (old new : Option (List ℕ)) (s : Status) → length text ≤ 16777216
+all_written : (Unchanged : Type 0) (a : TextCommand) (text output : List ℕ) (old new : Option (List ℕ)) (s : Status) → length text ≤ 16777216
     → s ≡ text_status a text → IsLate s → (s ≡ status.Limit → IsRefusedLate a text) → IsTextOutput a text output → Appends old new output
     → IsPart a text old new → IsAnswered Unchanged a text old new s
 all_written Unchanged a text output old new s small same late limit is_output written front =
@@ -407,7 +411,7 @@ all_written Unchanged a text output old new s small same late limit is_output wr
       front = inr front;
     }
 
-failed_is : (Unchanged : Type 0) (a : Asked) (text : List ℕ) (old new : Option (List ℕ)) → IsToWrite a text
+failed_is : (Unchanged : Type 0) (a : TextCommand) (text : List ℕ) (old new : Option (List ℕ)) → IsToWrite a text
     → IsPart a text old new → IsAnswered Unchanged a text old new status.WriteFault
 failed_is Unchanged a text old new late front = record {
   kinds = (λ is. grind (arith, is), λ is. grind (arith, is), λ is. grind (arith, is), λ is. grind (arith, is));
@@ -422,12 +426,12 @@ failed_is Unchanged a text old new late front = record {
   front = inr front;
 }
 
-part_is : (a : Asked) (text : List ℕ) (w : Work) (old new : Option (List ℕ)) (n : ℕ) → length text ≤ 16777216 → IsWork a text w
+part_is : (a : TextCommand) (text : List ℕ) (w : TextOutput) (old new : Option (List ℕ)) (n : ℕ) → length text ≤ 16777216 → IsWork a text w
     → Appends old new (take n w.text.items) → IsPart a text old new
 part_is a text w old new n small work some =
     record { small = small; output = w.text.items; asked_for = work.output; count = n; written = some }
 
-pub written_is : (Unchanged : Type 0) (a : Asked) (text : List ℕ) (w : Work) (old new : Option (List ℕ)) (s : Status)
+pub written_is : (Unchanged : Type 0) (a : TextCommand) (text : List ℕ) (w : TextOutput) (old new : Option (List ℕ)) (s : Status)
     → length text ≤ 16777216 → IsWork a text w → IsWritten w.status status.WriteFault w.text.items old new s
     → (n : ℕ) × Appends old new (take n w.text.items) → IsAnswered Unchanged a text old new s
 written_is Unchanged a text w old new s small work (inl (same, written)) (n, some) =
@@ -441,13 +445,13 @@ written_is Unchanged a text w old new s small work (inr failed) (n, some) =
 
 -- the empty text is bad in its first line
 
-pub empty_bad : (a : Asked) → text_status a [] ≡ status.BadInput 1
+pub empty_bad : (a : TextCommand) → text_status a [] ≡ status.BadInput 1
 unfolding lines_of head_of opening_of behind_head node_opening
 empty_bad (asked.Replay form) = refl
 empty_bad asked.Check = refl
 empty_bad asked.Join = refl
 
-kept_some : (a : Asked) (text : List ℕ) → KeepsLines a text → 0 < length text
+kept_some : (a : TextCommand) (text : List ℕ) → KeepsLines a text → 0 < length text
 kept_some a [] kept = absurd (omega (arith, kept 1 (empty_bad a)))
 kept_some a (b ∷ bs) kept = omega arith
 
@@ -510,6 +514,7 @@ told_by text t v s is same (inr h) =
 told_late : (s : Status) → IsToldWhole s → IsLate s × ¬ (s ≡ status.Limit)
 told_late status.Done told = (tt, λ is. grind (arith, is))
 told_late (status.NotARun step) told = (tt, λ is. grind (arith, is))
+told_late status.Waiting told = (tt, λ is. grind (arith, is))
 told_late status.Usage told = absurd told
 told_late (status.BadInput line) told = absurd told
 told_late status.ReadFault told = absurd told
@@ -520,7 +525,7 @@ told_late status.LinkFault told = absurd told
 told_late (status.Stray host event) told = absurd told
 told_late status.Limit told = absurd told
 
-pub check_work : (text : List ℕ) (w : Work) (t : Trace) (v : TraceVerdict) → trace_of text ≡ Ok t → v ≡ verdict_of t
+pub check_work : (text : List ℕ) (w : TextOutput) (t : Trace) (v : TraceVerdict) → trace_of text ≡ Ok t → v ≡ verdict_of t
     → (w.text.items ≡ verdict_text v) × (w.status ≡ verdict_status v) × IsToldWhole w.status → IsWork asked.Check text w
 check_work text w t v is same told =
     let late = told_late w.status told.2 in

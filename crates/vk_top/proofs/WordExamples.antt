@@ -2,8 +2,8 @@
 use Rattle.std.proofs.Common.{◌≡◌, true, [], ◌∷◌, Some, None, codes, refl}
 use Rattle.clap.proofs.OnLiterals.{clap_on_literals}
 use Rattle.clap.specs.Faults.{is_simple_and_free}
-use Rattle.vk_top.specs.declared.words.Asked.TheVariants as asked
-use Rattle.vk_top.specs.declared.words.Job.TheVariants as jobs
+use Rattle.vk_top.specs.declared.words.TextCommand.TheVariants as asked
+use Rattle.vk_top.specs.declared.words.Invocation.TheVariants as jobs
 use Rattle.vk_report.specs.declared.entry.Form.TheVariants as forms
 use Rattle.vk_text.specs.Words.{number_of, positive_of}
 use Rattle.vk_top.specs.Words.{the_app, job_of}

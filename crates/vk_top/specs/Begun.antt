@@ -12,12 +12,12 @@ use Rattle.vk_top.specs.Work.{IsRefusal, IsWork}
 use Rattle.vk_top.specs.declared.begun.Begun.{Begun}
 use Rattle.vk_top.specs.declared.begun.Begun.TheVariants as begun
 use Rattle.vk_top.specs.declared.status.Status.{Status}
-use Rattle.vk_top.specs.declared.top.Work.{Work}
-use Rattle.vk_top.specs.declared.words.Asked.{Asked}
-use Rattle.vk_top.specs.declared.words.Asked.TheVariants as asked
+use Rattle.vk_top.specs.declared.top.TextOutput.{TextOutput}
+use Rattle.vk_top.specs.declared.words.TextCommand.{TextCommand}
+use Rattle.vk_top.specs.declared.words.TextCommand.TheVariants as asked
 
 -- the work has come to the end of these bytes, whatever stands behind them
-abbrev pub HasBegun : Asked → List ℕ → Begun → Type 0
+abbrev pub HasBegun : TextCommand → List ℕ → Begun → Type 0
 HasBegun (asked.Replay form) text (begun.Replay playing) = HasCome form text playing
 HasBegun (asked.Replay form) text (begun.Check checking) = ⊥
 HasBegun asked.Check text (begun.Replay playing) = ⊥
@@ -25,7 +25,7 @@ HasBegun asked.Check text (begun.Check checking) = HasChecked text checking
 HasBegun asked.Join text b = ⊥
 
 -- the work has come to the end of this text
-abbrev pub HasReadAll : Asked → List ℕ → Begun → Type 0
+abbrev pub HasReadAll : TextCommand → List ℕ → Begun → Type 0
 HasReadAll (asked.Replay form) text (begun.Replay playing) = HasPlayedAll form text playing
 HasReadAll (asked.Replay form) text (begun.Check checking) = ⊥
 HasReadAll asked.Check text (begun.Replay playing) = ⊥
@@ -33,12 +33,12 @@ HasReadAll asked.Check text (begun.Check checking) = HasCheckedAll text checking
 HasReadAll asked.Join text b = ⊥
 
 -- a text is refused so, and where it ends a line also whatever stands behind it
-abbrev pub StaysRefused : Asked → List ℕ → List ℕ → Status → Type 0
+abbrev pub StaysRefused : TextCommand → List ℕ → List ℕ → Status → Type 0
 StaysRefused a text piece s =
     IsRefusal a (text ++ piece) s × (EndsLine piece → (more : List ℕ) → IsRefusal a ((text ++ piece) ++ more) s)
 
 -- so far the work has come, and was so much of the input read: these bytes, and those behind the piece
-pub record IsOnWay (a : Asked) (left rest : Option (List ℕ)) (p : Pieces) (b : Begun) : Type 0 where
+pub record IsOnWay (a : TextCommand) (left rest : Option (List ℕ)) (p : Pieces) (b : Begun) : Type 0 where
   pub text : List ℕ
   pub taken : Consumes left rest (text ++ p.behind)
   pub count : p.count ≡ length (text ++ p.behind)
@@ -48,7 +48,7 @@ pub record IsOnWay (a : Asked) (left rest : Option (List ℕ)) (p : Pieces) (b :
   pub all : p.is_last ≡ true → HasReadAll a text b × (p.behind ≡ []) × IsAtEnd rest
 
 -- the text that was read so far is refused so, and where more is to come, also whatever that is
-pub record IsRefusedAt (a : Asked) (left rest : Option (List ℕ)) (p : Pieces) (s : Status) : Type 0 where
+pub record IsRefusedAt (a : TextCommand) (left rest : Option (List ℕ)) (p : Pieces) (s : Status) : Type 0 where
   pub text : List ℕ
   pub taken : Consumes left rest (text ++ p.behind)
   pub count : p.count ≡ length (text ++ p.behind)
@@ -61,17 +61,17 @@ abbrev pub IsFirstPiece : Option (List ℕ) → Option (List ℕ) → Pieces →
 IsFirstPiece left rest p = IsNextPiece left rest [] 0 p
 
 -- what is written of the text that was read
-pub record IsWorkOfInput (a : Asked) (left rest : Option (List ℕ)) (w : Work) : Type 0 where
+pub record IsWorkOfInput (a : TextCommand) (left rest : Option (List ℕ)) (w : TextOutput) : Type 0 where
   pub text : List ℕ
   pub read : IsText left rest text
   pub work : IsWork a text w
 
 -- why nothing is written of a text that was read
-pub record IsTextRefused (a : Asked) (left rest : Option (List ℕ)) (s : Status) : Type 0 where
+pub record IsTextRefused (a : TextCommand) (left rest : Option (List ℕ)) (s : Status) : Type 0 where
   pub text : List ℕ
   pub read : IsText left rest text
   pub why : IsRefusal a text s
 
 -- why nothing is written of an input: its text is refused, or was not read whole
-abbrev pub IsInputRefused : Asked → Option (List ℕ) → Option (List ℕ) → Status → Type 0
+abbrev pub IsInputRefused : TextCommand → Option (List ℕ) → Option (List ℕ) → Status → Type 0
 IsInputRefused a left rest s = IsTextRefused a left rest s ⊎ ((r : ReadRefusal) × (s ≡ unread r) × IsUnread left rest r)

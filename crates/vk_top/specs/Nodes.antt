@@ -11,6 +11,8 @@ use Rattle.vk_event.specs.Scenario.{scenario_of}
 use Rattle.vk_schedule.specs.declared.schedule.TextRefusal.{TextRefusal}
 use Rattle.vk_schedule.specs.declared.schedule.TextRefusal.TheVariants as texts
 use Rattle.v_node.specs.Outcomes.{IsNodeRun}
+use Rattle.v_run.specs.declared.run_end.RunEnd.{RunEnd}
+use Rattle.v_run.specs.declared.run_end.RunEnd.TheVariants as ends
 use Rattle.vk_top.specs.declared.status.Status.{Status}
 use Rattle.vk_top.specs.Programs.{assignments_at, tasks_at}
 use Rattle.vk_top.specs.Threaded.{IsThreadedAnswer, LeavesCrew, scenario_status}
@@ -48,16 +50,22 @@ pub record HasNodeRun (host : ℕ) (before now : Passed) (limited : Bool) (input
   pub jobs : now.jobs ≡ min (before.jobs + jobs_at host scenario) (2 ^ 64 - 1)
   pub read : nodes_of (node_text scenario.config host events) ≡ Ok (one_log scenario.config host events)
 
+-- the end of a node's run, which was limited or not; none ends since it waits
+abbrev pub node_end : Bool → RunEnd
+node_end limited = if limited then ends.Limited else ends.Done
+
 -- and this is the node text
-pub record TellsNode (host : ℕ) (before now : Passed) (limited : Bool) (input output : List ℕ) : Type 0 where
+pub record TellsNode (host : ℕ) (before now : Passed) (end : RunEnd) (input output : List ℕ) : Type 0 where
+  pub limited : Bool
+  pub ends_so : end ≡ node_end limited
   pub scenario : Scenario
   pub events : List StationEvent
   pub ran : HasNodeRun host before now limited input scenario events
   pub lines : output ≡ node_text scenario.config host events
 
--- what a text asks for, where the station's run is limited or not
-abbrev pub node_asked : ℕ → Bool → List ℕ → Status
-node_asked host limited text = scenario_status limited (node_scenario host text)
+-- what a text asks for, where the station's run ends so
+abbrev pub node_asked : ℕ → RunEnd → List ℕ → Status
+node_asked host end text = scenario_status end (node_scenario host text)
 
 -- the input is the text of a scenario for this station, for whose run a crew has so many jobs
 pub record NeedsNode (host : ℕ) (input : List ℕ) (jobs : ℕ) : Type 0 where

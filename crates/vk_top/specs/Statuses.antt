@@ -26,6 +26,7 @@ number_of status.CrewFault = 7
 number_of status.Limit = LIMIT
 number_of status.LinkFault = 9
 number_of (status.Stray host event) = 10
+number_of status.Waiting = 11
 
 abbrev pub text_of : Status → List ℕ
 text_of status.Done = []
@@ -39,6 +40,7 @@ text_of status.CrewFault = codes "vkernel: the crew failed"
 text_of status.Limit = codes "vkernel: limit reached"
 text_of status.LinkFault = codes "vkernel: the link failed"
 text_of (status.Stray host event) = codes "vkernel: station " ++ decimal host ++ codes " took a stray frame at event " ++ decimal event
+text_of status.Waiting = codes "vkernel: processes wait and nothing is on its way"
 
 -- the answer to an input that is not read whole
 abbrev pub unread : ReadRefusal → Status

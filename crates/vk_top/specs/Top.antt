@@ -18,8 +18,8 @@ use Rattle.vk_top.specs.declared.check.TraceVerdict.{TraceVerdict}
 use Rattle.vk_top.specs.declared.check.TraceVerdict.TheVariants as verdicts
 use Rattle.vk_top.specs.declared.status.Status.{Status}
 use Rattle.vk_top.specs.declared.status.Status.TheVariants as status
-use Rattle.vk_top.specs.declared.words.Asked.{Asked}
-use Rattle.vk_top.specs.declared.words.Asked.TheVariants as asked
+use Rattle.vk_top.specs.declared.words.TextCommand.{TextCommand}
+use Rattle.vk_top.specs.declared.words.TextCommand.TheVariants as asked
 use Rattle.vk_report.specs.declared.entry.Form.{Form}
 use Rattle.vk_event.specs.Nodes.{nodes_of}
 use Rattle.vk_top.specs.Joins.{EmitsTooMuch, HasStray, IsJoinOutput, IsJoinWritten, join_status}
@@ -50,41 +50,41 @@ pub record IsCut (form : Form) (input : List ℕ) (old new : Option (List ℕ)) 
   pub output : Appends old new (front_text form count schedule)
   pub run : IsRunOf schedule.config (take count schedule.events)
 
-abbrev pub IsDone : Asked → List ℕ → Option (List ℕ) → Option (List ℕ) → Type 0
+abbrev pub IsDone : TextCommand → List ℕ → Option (List ℕ) → Option (List ℕ) → Type 0
 IsDone (asked.Replay form) input old new = IsReplayed form input old new
 IsDone asked.Check input old new = IsYes input old new
 IsDone asked.Join input old new = IsJoinWritten input old new
 
-abbrev pub IsNotARun : Asked → List ℕ → ℕ → Option (List ℕ) → Option (List ℕ) → Type 0
+abbrev pub IsNotARun : TextCommand → List ℕ → ℕ → Option (List ℕ) → Option (List ℕ) → Type 0
 IsNotARun (asked.Replay form) input step old new = ⊥
 IsNotARun asked.Check input step old new = IsNo input step old new
 IsNotARun asked.Join input step old new = ⊥
 
 -- the event of this host is the first stray delivery of the text
-abbrev pub IsStrayAt : Asked → List ℕ → ℕ → ℕ → Type 0
+abbrev pub IsStrayAt : TextCommand → List ℕ → ℕ → ℕ → Type 0
 IsStrayAt (asked.Replay form) input host event = ⊥
 IsStrayAt asked.Check input host event = ⊥
 IsStrayAt asked.Join input host event = HasStray input host event
 
 -- the line is the first of the text that is bad
-abbrev pub IsBadLine : Asked → List ℕ → ℕ → Type 0
+abbrev pub IsBadLine : TextCommand → List ℕ → ℕ → Type 0
 IsBadLine (asked.Replay form) input line = schedule_of input ≡ Err (schedules.BadInput line)
 IsBadLine asked.Check input line = trace_of input ≡ Err (traces.BadInput line)
 IsBadLine asked.Join input line = nodes_of input ≡ Err (schedules.BadInput line)
 
-pub record IsBadAt (a : Asked) (input : List ℕ) (line : ℕ) : Type 0 where
+pub record IsBadAt (a : TextCommand) (input : List ℕ) (line : ℕ) : Type 0 where
   pub small : length input ≤ INPUT_BYTES
   pub bad : IsBadLine a input line
 
 -- there are too many bytes; or too many events in a schedule, or in texts of stations; or a trace that notes too much for remote moves, or
 -- stations that emit too much
-abbrev pub IsOverLimit : Asked → List ℕ → Type 0
+abbrev pub IsOverLimit : TextCommand → List ℕ → Type 0
 IsOverLimit (asked.Replay form) input = (INPUT_BYTES < length input) ⊎ (schedule_of input ≡ Err schedules.Limit)
 IsOverLimit asked.Check input = (INPUT_BYTES < length input) ⊎ IsTooMuch input
 IsOverLimit asked.Join input = (INPUT_BYTES < length input) ⊎ (nodes_of input ≡ Err schedules.Limit) ⊎ EmitsTooMuch input
 
 -- an event of the schedule is refused, and what comes before it is written
-abbrev pub IsCutShort : Asked → List ℕ → Option (List ℕ) → Option (List ℕ) → Type 0
+abbrev pub IsCutShort : TextCommand → List ℕ → Option (List ℕ) → Option (List ℕ) → Type 0
 IsCutShort (asked.Replay form) input old new = IsCut form input old new
 IsCutShort asked.Check input old new = ⊥
 IsCutShort asked.Join input old new = ⊥
@@ -112,23 +112,23 @@ abbrev pub check_output : Result Trace TraceRefusal → List ℕ
 check_output (Ok trace) = verdict_text (verdict_of trace)
 check_output (Err why) = []
 
-abbrev pub text_status : Asked → List ℕ → Status
+abbrev pub text_status : TextCommand → List ℕ → Status
 text_status (asked.Replay form) text = replay_status (schedule_of text)
 text_status asked.Check text = check_status (trace_of text)
 text_status asked.Join text = join_status (nodes_of text)
 
 -- what is to be written of a text; of texts of stations it is the text of a schedule that says the same
-abbrev pub IsTextOutput : Asked → List ℕ → List ℕ → Type 0
+abbrev pub IsTextOutput : TextCommand → List ℕ → List ℕ → Type 0
 IsTextOutput (asked.Replay form) text output = output ≡ replay_output form (schedule_of text)
 IsTextOutput asked.Check text output = output ≡ check_output (trace_of text)
 IsTextOutput asked.Join text output = IsJoinOutput text output
 
 -- what the input asks for where nothing fails
-abbrev pub status_of : Asked → List ℕ → Status
+abbrev pub status_of : TextCommand → List ℕ → Status
 status_of a input = if nat_lt INPUT_BYTES (length input) then status.Limit else text_status a input
 
 -- so many bytes of what is to be written of the input stand behind what stood written
-pub record IsPart (a : Asked) (input : List ℕ) (old new : Option (List ℕ)) : Type 0 where
+pub record IsPart (a : TextCommand) (input : List ℕ) (old new : Option (List ℕ)) : Type 0 where
   pub small : length input ≤ INPUT_BYTES
   pub output : List ℕ
   pub asked_for : IsTextOutput a input output
@@ -148,6 +148,7 @@ IsToldWhole status.CrewFault = ⊥
 IsToldWhole status.Limit = ⊥
 IsToldWhole status.LinkFault = ⊥
 IsToldWhole (status.Stray host event) = ⊥
+IsToldWhole status.Waiting = Unit {0}
 
 -- the input is the text of a schedule of which an event is refused
 pub record HasRefused (input : List ℕ) : Type 0 where
@@ -155,7 +156,7 @@ pub record HasRefused (input : List ℕ) : Type 0 where
   pub text : schedule_of input ≡ Ok schedule
   pub cut : is_cut schedule ≡ true
 
-abbrev pub IsRefusedLate : Asked → List ℕ → Type 0
+abbrev pub IsRefusedLate : TextCommand → List ℕ → Type 0
 IsRefusedLate (asked.Replay form) input = HasRefused input
 IsRefusedLate asked.Check input = ⊥
 IsRefusedLate asked.Join input = ⊥
@@ -166,6 +167,7 @@ IsBehindText status.Done = Unit {0}
 IsBehindText (status.NotARun step) = Unit {0}
 IsBehindText (status.BadInput line) = Unit {0}
 IsBehindText (status.Stray host event) = Unit {0}
+IsBehindText status.Waiting = Unit {0}
 IsBehindText status.WriteFault = Unit {0}
 IsBehindText status.CrewFault = Unit {0}
 IsBehindText status.LinkFault = Unit {0}
@@ -175,11 +177,11 @@ IsBehindText status.NoMemory = ⊥
 IsBehindText status.Limit = ⊥
 
 -- something is to be written
-abbrev pub IsToWrite : Asked → List ℕ → Type 0
+abbrev pub IsToWrite : TextCommand → List ℕ → Type 0
 IsToWrite a input = IsToldWhole (status_of a input) ⊎ ((length input ≤ INPUT_BYTES) × IsRefusedLate a input)
 
 -- the input and memory decide the answer, unless a fault is told
-abbrev pub IsDecided : Asked → Option (List ℕ) → Status → Type 0
+abbrev pub IsDecided : TextCommand → Option (List ℕ) → Status → Type 0
 IsDecided a told status.ReadFault = Unit {0}
 IsDecided a told status.WriteFault = Unit {0}
 IsDecided a told status.NoMemory = Unit {0}
@@ -195,6 +197,7 @@ IsEarly status.CrewFault = Unit {0}
 IsEarly status.LinkFault = Unit {0}
 IsEarly (status.Stray host event) = Unit {0}
 IsEarly status.Limit = ⊥
+IsEarly status.Waiting = ⊥
 IsEarly status.Done = ⊥
 IsEarly (status.NotARun step) = ⊥
 IsEarly status.WriteFault = ⊥

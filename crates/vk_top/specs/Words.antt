@@ -9,9 +9,9 @@ use Rattle.clap.specs.Walk.{Row, Rule, Text, first_of, is_empty}
 use Rattle.clap.specs.declared.builder.action.ArgAction.TheVariants.{SetTrue}
 use Rattle.vk_base.specs.declared.limits.TheConstants.{EVENTS}
 use Rattle.vk_text.specs.Words.{number_of, station_of}
-use Rattle.vk_top.specs.declared.words.Asked.TheVariants as asked
-use Rattle.vk_top.specs.declared.words.Job.{Job}
-use Rattle.vk_top.specs.declared.words.Job.TheVariants as jobs
+use Rattle.vk_top.specs.declared.words.TextCommand.TheVariants as asked
+use Rattle.vk_top.specs.declared.words.Invocation.{Invocation}
+use Rattle.vk_top.specs.declared.words.Invocation.TheVariants as jobs
 use Rattle.vk_report.specs.declared.entry.Form.TheVariants as forms
 
 -- the flag `--trace`, and the words that are no flag: a command, which has to be there, and a number
@@ -33,15 +33,15 @@ abbrev pub the_app : App
 the_app = with_rule (with_rule (with_rule (on_top with_settings (new_app (codes "vkernel"))) trace) command) number
 
 -- a storm, where the word spells a number from 0 to 100,000
-abbrev pub storm_of : Text → Option Job
+abbrev pub storm_of : Text → Option Invocation
 storm_of word = option_map jobs.Storm (number_of EVENTS word)
 
 -- a node, where the word spells a station, from 1 to 65,534
-abbrev pub node_of : Text → Option Job
+abbrev pub node_of : Text → Option Invocation
 node_of word = option_map jobs.Node (station_of word)
 
 -- the table: what a command asks for, with or without `--trace`; a storm and a node, and nothing else, go with a number
-abbrev pub job_for : Option Text → Bool → Option Text → Option Job
+abbrev pub job_for : Option Text → Bool → Option Text → Option Invocation
 job_for (Some word) has_trace None =
     if bytes_eq word (codes "replay") then Some (jobs.OfText (asked.Replay (if has_trace then forms.Trace else forms.Report)))
     else if bytes_eq word (codes "check") && not has_trace then Some (jobs.OfText asked.Check)
@@ -59,25 +59,25 @@ abbrev pub is_set : Option Text → Bool
 is_set value = option_map_or (λ t. bytes_eq t (codes "true")) value false
 
 -- what is asked for by what clap found
-abbrev pub job_by : List Row → Option Job
+abbrev pub job_by : List Row → Option Invocation
 job_by rows = job_for (first_of (codes "command") rows) (is_set (first_of (codes "trace") rows)) (first_of (codes "number") rows)
 
 -- what the words ask for: nothing exactly where clap refuses them, or they are no row of the table
-abbrev pub job_of : List Text → Option Job
+abbrev pub job_of : List Text → Option Invocation
 job_of words = if is_empty (fault_of the_app words) then job_by (matches_of the_app words) else None
 
 -- a storm has at most 100,000 events
-abbrev pub IsFew : Job → Type 0
+abbrev pub IsFew : Invocation → Type 0
 IsFew (jobs.OfText a) = Unit {0}
 IsFew jobs.Run = Unit {0}
 IsFew (jobs.Node host) = Unit {0}
 IsFew (jobs.Storm n) = n ≤ EVENTS
 
-abbrev pub AreFewIn : Option Job → Type 0
+abbrev pub AreFewIn : Option Invocation → Type 0
 AreFewIn o = IfSome o IsFew
 
 -- what the words ask for is done in threads
-abbrev pub is_threaded : Option Job → Bool
+abbrev pub is_threaded : Option Invocation → Bool
 is_threaded None = false
 is_threaded (Some (jobs.OfText a)) = false
 is_threaded (Some jobs.Run) = true

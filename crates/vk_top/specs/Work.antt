@@ -4,16 +4,16 @@ use Rattle.std.specs.Io.KnownBytes.{Appends}
 use Rattle.vk_edge.specs.Inputs.{IsReadOver, IsReadPartly, IsReadWhole, IsReadWithin, OfInput}
 use Rattle.vk_top.specs.declared.status.Status.{Status}
 use Rattle.vk_top.specs.declared.status.Status.TheVariants as status
-use Rattle.vk_top.specs.declared.top.Work.{Work}
-use Rattle.vk_top.specs.declared.words.Asked.{Asked}
+use Rattle.vk_top.specs.declared.top.TextOutput.{TextOutput}
+use Rattle.vk_top.specs.declared.words.TextCommand.{TextCommand}
 use Rattle.vk_top.specs.Top.{IsBadAt, IsBehindText, IsCutShort, IsDecided, IsDone, IsNotARun, IsOverLimit, IsPart, IsRefusedLate, IsStrayAt, IsTextOutput, IsToWrite, IsToldWhole, status_of, text_status}
 
 -- no line before the third is the first that is refused, so that one stands before it that is kept, or that memory is wanted for
-abbrev pub KeepsLines : Asked → List ℕ → Type 0
+abbrev pub KeepsLines : TextCommand → List ℕ → Type 0
 KeepsLines a text = (line : ℕ) → text_status a text ≡ status.BadInput line → 2 < line
 
 -- why nothing is written of a text
-abbrev pub IsRefusal : Asked → List ℕ → Status → Type 0
+abbrev pub IsRefusal : TextCommand → List ℕ → Status → Type 0
 IsRefusal a text (status.BadInput line) = text_status a text ≡ status.BadInput line
 IsRefusal a text (status.Stray host event) = text_status a text ≡ status.Stray host event
 IsRefusal a text status.Limit = (text_status a text ≡ status.Limit) × IsOverLimit a text
@@ -26,7 +26,7 @@ IsLate status.Limit = Unit {0}
 IsLate s = IsToldWhole s
 
 -- what is written of a text, and the answer then
-pub record IsWork (a : Asked) (text : List ℕ) (w : Work) : Type 0 where
+pub record IsWork (a : TextCommand) (text : List ℕ) (w : TextOutput) : Type 0 where
   pub late : IsLate w.status
   pub limit : w.status ≡ status.Limit → IsRefusedLate a text
   pub output : IsTextOutput a text w.text.items
@@ -34,11 +34,11 @@ pub record IsWork (a : Asked) (text : List ℕ) (w : Work) : Type 0 where
 
 -- Limit is answered without a change, of an input that is over a limit; or an event of a schedule is refused, and what comes before it is
 -- written
-abbrev pub IsLimit : Type 0 → Asked → List ℕ → Option (List ℕ) → Option (List ℕ) → Type 0
+abbrev pub IsLimit : Type 0 → TextCommand → List ℕ → Option (List ℕ) → Option (List ℕ) → Type 0
 IsLimit Unchanged a input old new = (IsOverLimit a input × Unchanged) ⊎ IsCutShort a input old new
 
 -- what the answer to a text says, which was read whole
-pub record IsAnswered (Unchanged : Type 0) (a : Asked) (text : List ℕ) (old new : Option (List ℕ)) (s : Status) : Type 0 where
+pub record IsAnswered (Unchanged : Type 0) (a : TextCommand) (text : List ℕ) (old new : Option (List ℕ)) (s : Status) : Type 0 where
   pub kinds : ¬ (s ≡ status.Usage) × ¬ (s ≡ status.ReadFault) × ¬ (s ≡ status.CrewFault) × ¬ (s ≡ status.LinkFault)
   pub done : s ≡ status.Done → IsDone a text old new
   pub no : (step : ℕ) → s ≡ status.NotARun step → IsNotARun a text step old new
@@ -51,7 +51,7 @@ pub record IsAnswered (Unchanged : Type 0) (a : Asked) (text : List ℕ) (old ne
   pub front : Appends old new [] ⊎ IsPart a text old new
 
 -- what the answer to an input says, which has these bytes left and then those
-pub record IsOutcome (Unchanged : Type 0) (a : Asked) (left rest old new : Option (List ℕ)) (s : Status) : Type 0 where
+pub record IsOutcome (Unchanged : Type 0) (a : TextCommand) (left rest old new : Option (List ℕ)) (s : Status) : Type 0 where
   pub kinds : ¬ (s ≡ status.Usage) × ¬ (s ≡ status.CrewFault) × ¬ (s ≡ status.LinkFault)
   pub done : s ≡ status.Done → OfInput left (λ i. IsDone a i old new)
   pub no : (step : ℕ) → s ≡ status.NotARun step → OfInput left (λ i. IsNotARun a i step old new)

@@ -7,13 +7,13 @@ ghost use Rattle.vk_top.specs.Begun.{HasBegun, HasReadAll, StaysRefused};
 ghost use Rattle.vk_top.specs.Checking.{HasChecked, HasCheckedAll};
 ghost use Rattle.vk_top.specs.Pieces.{HasCome, HasPlayedAll};
 ghost use Rattle.vk_top.specs.Work.{IsRefusal, IsWork};
-ghost use Rattle.vk_top.specs.declared.words.Asked.TheVariants as asked;
+ghost use Rattle.vk_top.specs.declared.words.TextCommand.TheVariants as asked;
 
 use crate::checking::Checking;
 use crate::playing::Playing;
 use crate::status::Status;
-use crate::top::{Work, told, work_of};
-use crate::words::Asked;
+use crate::top::{TextOutput, told, work_of};
+use crate::words::TextCommand;
 use crate::{checking, playing};
 use std::alloc::Global;
 use vk_report::Form;
@@ -28,20 +28,20 @@ pub(crate) enum Begun {
 }
 
 /// The work on a text that begins with this piece, where it can be begun before more is read.
-pub(crate) fn begin(alloc: Global, asked: Asked, piece: &[u8]) -> Option<Begun>
+pub(crate) fn begin(alloc: Global, asked: TextCommand, piece: &[u8]) -> Option<Begun>
     requires { length piece.now ≤ INPUT_BYTES }
     ensures { IfSome result (λ b. EndsLine piece.now → HasBegun asked piece.now b) }
 {
     match asked {
-        Asked::Replay { form } => match playing::begin(alloc, form, piece) {
+        TextCommand::Replay { form } => match playing::begin(alloc, form, piece) {
             Some(playing) => Some(Begun::Replay { playing }),
             None => None,
         },
-        Asked::Check => match checking::begin(alloc, piece) {
+        TextCommand::Check => match checking::begin(alloc, piece) {
             Some(checking) => Some(Begun::Check { checking }),
             None => None,
         },
-        Asked::Join => None,
+        TextCommand::Join => None,
     }
 }
 
@@ -77,7 +77,7 @@ fn check_on(alloc: Global, checking: Checking, piece: &[u8]) -> Result<Begun, St
 }
 
 /// What is written of a schedule that was read whole.
-fn played(form: Form, playing: Playing) -> Result<Work, Status>
+fn played(form: Form, playing: Playing) -> Result<TextOutput, Status>
     ensures work { (text : List ℕ) → HasPlayedAll form text playing → IfOk result (IsWork (asked.Replay form) text) }
     ensures refused { (text : List ℕ) → HasPlayedAll form text playing → 0 < length text →
         IfErr result (IsRefusal (asked.Replay form) text) }
@@ -89,7 +89,7 @@ fn played(form: Form, playing: Playing) -> Result<Work, Status>
 }
 
 /// What is written of a trace that was read whole.
-fn checked(alloc: Global, checking: &Checking) -> Result<Work, Status>
+fn checked(alloc: Global, checking: &Checking) -> Result<TextOutput, Status>
     ensures work { (text : List ℕ) → HasCheckedAll text checking.now → IfOk result (IsWork asked.Check text) }
     ensures refused { (text : List ℕ) → HasCheckedAll text checking.now → 0 < length text →
         IfErr result (IsRefusal asked.Check text) }
@@ -102,7 +102,12 @@ fn checked(alloc: Global, checking: &Checking) -> Result<Work, Status>
 
 impl Begun {
     /// Goes on with the next piece.
-    pub(crate) fn go_on(self, alloc: Global, asked: Asked, piece: &[u8]) -> Result<Begun, Status>
+    pub(crate) fn go_on(
+        self,
+        alloc: Global,
+        asked: TextCommand,
+        piece: &[u8],
+    ) -> Result<Begun, Status>
         requires { (text : List ℕ) × HasBegun asked text self × (length text + length piece.now ≤ INPUT_BYTES) }
         ensures more { IfOk result (λ b. (text : List ℕ) → HasBegun asked text self → EndsLine piece.now →
             HasBegun asked (text ++ piece.now) b) }
@@ -111,34 +116,34 @@ impl Begun {
     {
         match self {
             Begun::Replay { playing } => match asked {
-                Asked::Replay { form } => play_on(alloc, form, playing, piece),
-                Asked::Check => unreachable!(),
-                Asked::Join => unreachable!(),
+                TextCommand::Replay { form } => play_on(alloc, form, playing, piece),
+                TextCommand::Check => unreachable!(),
+                TextCommand::Join => unreachable!(),
             },
             Begun::Check { checking } => match asked {
-                Asked::Check => check_on(alloc, checking, piece),
-                Asked::Replay { .. } => unreachable!(),
-                Asked::Join => unreachable!(),
+                TextCommand::Check => check_on(alloc, checking, piece),
+                TextCommand::Replay { .. } => unreachable!(),
+                TextCommand::Join => unreachable!(),
             },
         }
     }
 
     /// What is written of a text that was read whole.
-    pub(crate) fn finish(self, alloc: Global, asked: Asked) -> Result<Work, Status>
+    pub(crate) fn finish(self, alloc: Global, asked: TextCommand) -> Result<TextOutput, Status>
         requires { (text : List ℕ) × HasReadAll asked text self }
         ensures work { (text : List ℕ) → HasReadAll asked text self → IfOk result (IsWork asked text) }
         ensures refused { (text : List ℕ) → HasReadAll asked text self → 0 < length text → IfErr result (IsRefusal asked text) }
     {
         match self {
             Begun::Replay { playing } => match asked {
-                Asked::Replay { form } => played(form, playing),
-                Asked::Check => unreachable!(),
-                Asked::Join => unreachable!(),
+                TextCommand::Replay { form } => played(form, playing),
+                TextCommand::Check => unreachable!(),
+                TextCommand::Join => unreachable!(),
             },
             Begun::Check { checking } => match asked {
-                Asked::Check => checked(alloc, &checking),
-                Asked::Replay { .. } => unreachable!(),
-                Asked::Join => unreachable!(),
+                TextCommand::Check => checked(alloc, &checking),
+                TextCommand::Replay { .. } => unreachable!(),
+                TextCommand::Join => unreachable!(),
             },
         }
     }

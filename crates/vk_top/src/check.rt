@@ -7,7 +7,7 @@ ghost use Rattle.v_trace.specs.Traces.{trace_of};
 ghost use Rattle.vk_top.specs.Check.{IsVerdictOf, without_steps, verdict_of};
 ghost use Rattle.vk_top.specs.Checking.{IsFound};
 ghost use Rattle.vk_top.specs.Work.{KeepsLines};
-ghost use Rattle.vk_top.specs.declared.words.Asked.TheVariants as asked;
+ghost use Rattle.vk_top.specs.declared.words.TextCommand.TheVariants as asked;
 
 use std::alloc::Global;
 use v_machine::{ApplyRefusal, LeanMachine};

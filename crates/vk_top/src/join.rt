@@ -9,7 +9,7 @@ ghost use Rattle.vk_schedule.specs.declared.log.StationLog.{StationLog as TheLog
 ghost use Rattle.vk_event.specs.NodeLaws.{IsLawfulNodes};
 ghost use Rattle.vk_top.specs.Joins.{IsJoinOutput, in_order, nodes_refusal, put_log};
 ghost use Rattle.vk_top.specs.Work.{IsRefusal};
-ghost use Rattle.vk_top.specs.declared.words.Asked.TheVariants as asked;
+ghost use Rattle.vk_top.specs.declared.words.TextCommand.TheVariants as asked;
 
 use crate::status::Status;
 use std::alloc::Global;

@@ -7,19 +7,21 @@ ghost use Rattle.vk_event.specs.NodeLaws.{IsLawfulNodes, node_text, one_log};
 ghost use Rattle.vk_event.specs.Nodes.{nodes_of};
 ghost use Rattle.vk_event.specs.Ports.{has_all_ports};
 ghost use Rattle.vk_event.specs.ScenarioLaws.{IsLawfulScenario};
-ghost use Rattle.vk_top.specs.Nodes.{IsNodeAnswer, IsNodeFailure, Passed, TellsNode, jobs_at, node_asked, node_scenario};
+ghost use Rattle.vk_top.specs.Nodes.{IsNodeAnswer, IsNodeFailure, Passed, TellsNode, jobs_at, node_asked, node_end, node_scenario};
 ghost use Rattle.vk_top.specs.Programs.{assignments_at};
 ghost use Rattle.vk_top.specs.Threaded.{IsTextRefusal, IsThreadedAnswered, IsThreadedRefusal, IsThreadedWork, ended};
 ghost use Rattle.vk_udp.specs.Node.{IsNodeRecord, TellsNodeFault, TellsNodeJobs};
 
 use crate::program::programs_at;
+use crate::run::ended_as;
 use crate::status::Status;
-use crate::top::{Work, ended, write_work};
+use crate::top::{TextOutput, write_work};
 use std::alloc::Global;
 use std::net::Net;
 use std::sync::Wait;
 use std::thread::Threads;
 use std::time::Clock;
+use v_run::RunEnd;
 use vk_base::{Config, StationEvent};
 use vk_edge::read_text;
 use vk_event::{Scenario, has_all_ports, line_behind, read_scenario, write_node};
@@ -59,6 +61,17 @@ fn read_for(alloc: Global, host: u16, text: &[u8]) -> Result<Scenario, Status>
     }
 }
 
+/// How a node's run ended, which was limited or not.
+fn node_end(limited: bool) -> RunEnd
+    ensures { result ≡ node_end limited }
+{
+    if limited {
+        RunEnd::Limited
+    } else {
+        RunEnd::Done
+    }
+}
+
 /// The node text of the station with these events, and the answer then.
 fn written(
     alloc: Global,
@@ -66,16 +79,16 @@ fn written(
     host: u16,
     events: &[StationEvent],
     limited: bool,
-) -> Result<Work, Status>
+) -> Result<TextOutput, Status>
     requires { IsLawfulNodes (one_log config.now host events.now) }
-    ensures work { IfOk result (λ w. (w.text.items ≡ node_text config.now host events.now) × (w.status ≡ ended limited)) }
+    ensures work { IfOk result (λ w. (w.text.items ≡ node_text config.now host events.now) × (w.status ≡ ended (node_end limited))) }
     ensures read { OnOk result (nodes_of (node_text config.now host events.now) ≡ Ok (one_log config.now host events.now)) }
     ensures refused { IfErr result (λ s. s ≡ Status.NoMemory) }
 {
     let text = write_node(alloc, config, host, events)?;
-    Ok(Work {
+    Ok(TextOutput {
         text,
-        status: ended(limited),
+        status: ended_as(node_end(limited)),
     })
 }
 
@@ -131,7 +144,7 @@ fn node_work<C: Crew, P: Pacer + Send, W: Wire, R: Wait + Threads + Clock + Net 
     crew: &mut C,
     pacer: &mut P,
     wire: &mut W,
-) -> Result<Work, Status>
+) -> Result<TextOutput, Status>
     requires { length asked.now.text.now ≤ INPUT_BYTES }
     ensures work { IfOk result (IsThreadedWork (TellsNode asked.now.host
         (record { handed = W.handed wire.old; jobs = C.job_count crew.old })

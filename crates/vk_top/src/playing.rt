@@ -10,7 +10,7 @@ ghost use Rattle.vk_text.specs.Texts.{shown};
 ghost use Rattle.vk_top.specs.Pieces.{ArePlayed, GoesWay, HasCome, HasPlayedAll, IsPiecePlayed, IsUnwritten};
 ghost use Rattle.vk_top.specs.Playing.{IsWrittenOf, without_events};
 ghost use Rattle.vk_top.specs.Work.{KeepsLines};
-ghost use Rattle.vk_top.specs.declared.words.Asked.TheVariants as asked;
+ghost use Rattle.vk_top.specs.declared.words.TextCommand.TheVariants as asked;
 
 use crate::replay::{EventSlot, Manner, Written, ended, keep_room, own_line, put_event};
 use std::alloc::Global;

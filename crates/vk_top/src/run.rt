@@ -15,28 +15,40 @@ ghost use Rattle.vk_top.specs.Threaded.{IsThreadedAnswered, IsThreadedRefusal, I
 
 use crate::program::programs_of;
 use crate::status::Status;
-use crate::top::{Work, ended, write_work};
+use crate::top::{TextOutput, write_work};
 use std::alloc::Global;
 use std::sync::Wait;
 use std::thread::Threads;
 use std::time::Clock;
+use v_run::RunEnd;
 use vk_edge::read_text;
 use vk_event::{Scenario, read_scenario};
 use vk_io::{Crew, Pacer, Sink, Source};
 use vk_join::JoinedSchedule;
 use vk_threads::{RunRecord, RunRefusal, run_programs};
 
+/// The answer to a run that ended so.
+pub(crate) fn ended_as(end: RunEnd) -> Status
+    ensures { result ≡ ended end }
+{
+    match end {
+        RunEnd::Done => Status::Done,
+        RunEnd::Limited => Status::Limit,
+        RunEnd::Waiting => Status::Waiting,
+    }
+}
+
 /// The text of the schedule that a run gave, and the answer then.
-fn written(alloc: Global, schedule: &JoinedSchedule, limited: bool) -> Result<Work, Status>
+fn written(alloc: Global, schedule: &JoinedSchedule, end: RunEnd) -> Result<TextOutput, Status>
     requires { IsLawful schedule.now }
-    ensures work { IfOk result (λ w. (w.text.items ≡ schedule_text schedule.now) × (w.status ≡ ended limited)) }
+    ensures work { IfOk result (λ w. (w.text.items ≡ schedule_text schedule.now) × (w.status ≡ ended end)) }
     ensures read { OnOk result (schedule_of (schedule_text schedule.now) ≡ Ok schedule.now) }
     ensures refused { IfErr result (λ s. s ≡ Status.NoMemory) }
 {
     let text = schedule.write(alloc)?;
-    Ok(Work {
+    Ok(TextOutput {
         text,
-        status: ended(limited),
+        status: ended_as(end),
     })
 }
 
@@ -49,7 +61,7 @@ fn run_scenario<C: Crew, P: Pacer + Send, R: Wait + Threads + Clock + Sync>(
     pacer: &mut P,
 ) -> Result<RunRecord, RunRefusal>
     requires { IsLawfulScenario scenario }
-    ensures ran { IfOk result (λ r. IsRun scenario.config scenario.plan scenario.rounds (assignments_of scenario.tasks) r.limited
+    ensures ran { IfOk result (λ r. IsRun scenario.config scenario.plan scenario.rounds (assignments_of scenario.tasks) r.end
         r.schedule) }
     ensures jobs { OnOk result (C.job_count crew.new ≡ min (C.job_count crew.old + jobs_of scenario) (2 ^ 64 - 1)) }
     ensures no_jobs { IfErr result (LeavesJobs (C.job_count crew.old)
@@ -78,7 +90,7 @@ fn run_text<C: Crew, P: Pacer + Send, R: Wait + Threads + Clock + Sync>(
     text: &[u8],
     crew: &mut C,
     pacer: &mut P,
-) -> Result<Work, Status>
+) -> Result<TextOutput, Status>
     requires { length text.now ≤ INPUT_BYTES }
     ensures work { IfOk result (IsThreadedWork (TellsRun (C.job_count crew.old) (C.job_count crew.new)) run_asked text.now) }
     ensures refused { IfErr result (IsThreadedRefusal run_asked (IsRunFailure (C.job_count crew.old) (C.job_count crew.new))
@@ -89,7 +101,7 @@ fn run_text<C: Crew, P: Pacer + Send, R: Wait + Threads + Clock + Sync>(
 {
     let scenario = read_scenario(alloc, text)?;
     let ran = run_scenario(rt, alloc, scenario, crew, pacer)?;
-    written(alloc, &ran.schedule, ran.limited)
+    written(alloc, &ran.schedule, ran.end)
 }
 
 /// The whole work on the text of a scenario that was read.

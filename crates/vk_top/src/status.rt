@@ -40,12 +40,14 @@ pub enum Status {
     LinkFault,
     /// This event of this station, counted from 1, is the first delivery of a frame that no station emitted for it.
     Stray { host: u16, event: u64 },
+    /// A run came to a point where its clocks have gone all rounds, processes wait, and nothing is on its way that could end that.
+    Waiting,
 }
 
 impl Status {
     ghost use Rattle.vk_top.specs.Statuses.{number_of, text_of};
 
-    /// The status with which the program exits: 0 for `Done`, else 1 to 10.
+    /// The status with which the program exits: 0 for `Done`, else 1 to 11.
     pub fn number(&self) -> u8
         ensures { result ≡ number_of self.now }
     {
@@ -61,6 +63,7 @@ impl Status {
             Status::Limit => numbers::LIMIT,
             Status::LinkFault => 9,
             Status::Stray { .. } => 10,
+            Status::Waiting => 11,
         }
     }
 
@@ -82,6 +85,7 @@ impl Status {
             Status::Limit => short_text(b"vkernel: limit reached"),
             Status::LinkFault => short_text(b"vkernel: the link failed"),
             Status::Stray { host, event } => stray_text(host, event),
+            Status::Waiting => short_text(b"vkernel: processes wait and nothing is on its way"),
         }
     }
 }

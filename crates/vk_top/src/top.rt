@@ -11,8 +11,8 @@ ghost use Rattle.vk_top.specs.Playing.{IsWrittenOf};
 ghost use Rattle.vk_top.specs.Top.{IsEarly, IsToldWhole, verdict_status};
 ghost use Rattle.vk_top.specs.Work.{IsLate, IsOutcome, IsRefusal, IsWork};
 ghost use Rattle.vk_top.specs.Words.{is_threaded, job_of};
-ghost use Rattle.vk_top.specs.declared.words.Asked.{Asked as TheAsked};
-ghost use Rattle.vk_top.specs.declared.words.Asked.TheVariants as asked;
+ghost use Rattle.vk_top.specs.declared.words.TextCommand.{TextCommand as TheAsked};
+ghost use Rattle.vk_top.specs.declared.words.TextCommand.TheVariants as asked;
 
 use crate::begun::{Begun, begin};
 use crate::check::{TraceVerdict, put_line, verdict_of};
@@ -21,7 +21,7 @@ use crate::playing::output;
 use crate::replay::Written;
 use crate::status::Status;
 use crate::storm::summary_of;
-use crate::words::{Asked, Job, read_words};
+use crate::words::{Invocation, TextCommand, read_words};
 use std::alloc::Global;
 use vk_base::NoMemory;
 use vk_drive::StormRefusal;
@@ -31,7 +31,7 @@ use vk_report::Form;
 
 /// What a text asks to be written, and the answer then.
 #[derive(Drop)]
-pub(crate) struct Work {
+pub(crate) struct TextOutput {
     pub text: Vec<u8>,
     pub status: Status,
 }
@@ -44,18 +44,18 @@ pub(crate) fn ended(limited: bool) -> Status
 }
 
 /// The work on a schedule of which this is written.
-pub(crate) fn work_of(written: Written) -> Work
+pub(crate) fn work_of(written: Written) -> TextOutput
     ensures { (form : TheForm) (text : List ℕ) → IsWrittenOf form text written → IsWork (asked.Replay form) text result }
 {
     let Written { text, is_cut } = written;
-    Work {
+    TextOutput {
         text,
         status: ended(is_cut),
     }
 }
 
 /// `replay`: the report or the trace of a schedule.
-fn replay(alloc: Global, form: Form, text: &[u8]) -> Result<Work, Status>
+fn replay(alloc: Global, form: Form, text: &[u8]) -> Result<TextOutput, Status>
     ensures work { IfOk result (IsWork (asked.Replay form) text.now) }
     ensures refused { IfErr result (IsRefusal (asked.Replay form) text.now) }
 {
@@ -64,7 +64,7 @@ fn replay(alloc: Global, form: Form, text: &[u8]) -> Result<Work, Status>
 }
 
 /// What is told of a trace, by its verdict.
-pub(crate) fn told(alloc: Global, verdict: TraceVerdict) -> Result<Work, Status>
+pub(crate) fn told(alloc: Global, verdict: TraceVerdict) -> Result<TextOutput, Status>
     ensures work { IfOk result (λ w. (w.text.items ≡ verdict_text verdict) × (w.status ≡ verdict_status verdict) × IsToldWhole w.status) }
     ensures refused { IfErr result (λ s. (¬ (verdict ≡ TraceVerdict.TooMuch) × (s ≡ Status.NoMemory))
         ⊎ ((verdict ≡ TraceVerdict.TooMuch) × (s ≡ Status.Limit))) }
@@ -76,11 +76,11 @@ pub(crate) fn told(alloc: Global, verdict: TraceVerdict) -> Result<Work, Status>
     };
     let mut text = Vec::new(alloc);
     put_line(alloc, &mut text, word, number)?;
-    Ok(Work { text, status })
+    Ok(TextOutput { text, status })
 }
 
 /// `check`: whether the steps of a trace are a run.
-fn check(alloc: Global, text: &[u8]) -> Result<Work, Status>
+fn check(alloc: Global, text: &[u8]) -> Result<TextOutput, Status>
     ensures work { IfOk result (IsWork asked.Check text.now) }
     ensures refused { IfErr result (IsRefusal asked.Check text.now) }
 {
@@ -89,31 +89,31 @@ fn check(alloc: Global, text: &[u8]) -> Result<Work, Status>
 }
 
 /// `join`: the schedule that texts of stations say.
-fn join(alloc: Global, text: &[u8]) -> Result<Work, Status>
+fn join(alloc: Global, text: &[u8]) -> Result<TextOutput, Status>
     ensures work { IfOk result (IsWork asked.Join text.now) }
     ensures refused { IfErr result (IsRefusal asked.Join text.now) }
 {
     let schedule = joined_text(alloc, text)?;
-    Ok(Work {
+    Ok(TextOutput {
         text: schedule,
         status: Status::Done,
     })
 }
 
 /// What is asked for of a text.
-fn work_on(alloc: Global, asked: Asked, text: &[u8]) -> Result<Work, Status>
+fn work_on(alloc: Global, asked: TextCommand, text: &[u8]) -> Result<TextOutput, Status>
     ensures work { IfOk result (IsWork asked text.now) }
     ensures refused { IfErr result (IsRefusal asked text.now) }
 {
     match asked {
-        Asked::Replay { form } => replay(alloc, form, text),
-        Asked::Check => check(alloc, text),
-        Asked::Join => join(alloc, text),
+        TextCommand::Replay { form } => replay(alloc, form, text),
+        TextCommand::Check => check(alloc, text),
+        TextCommand::Join => join(alloc, text),
     }
 }
 
 /// Writes the whole text and flushes. The answer is that of the work, unless one of these fails.
-pub(crate) fn write_work<K: Sink>(output: &mut K, work: &Work) -> Status
+pub(crate) fn write_work<K: Sink>(output: &mut K, work: &TextOutput) -> Status
     requires { IsLate work.now.status }
     ensures written { IsWritten work.now.status Status.WriteFault work.now.text.items (K.written output.old) (K.written output.new) result }
     ensures front { (n : ℕ) × Appends (K.written output.old) (K.written output.new) (take n work.now.text.items) }
@@ -127,10 +127,10 @@ pub(crate) fn write_work<K: Sink>(output: &mut K, work: &Work) -> Status
 /// What is asked for of a text that is not begun by its first piece: it is read whole first.
 fn work_on_rest<S: Source>(
     alloc: Global,
-    asked: Asked,
+    asked: TextCommand,
     pieces: &mut TextPieces,
     input: &mut S,
-) -> Result<Work, Status>
+) -> Result<TextOutput, Status>
     ensures work { (left : Option (List ℕ)) → IsFirstPiece left (S.left input.old) pieces.old →
         IfOk result (IsWorkOfInput asked left (S.left input.new)) }
     ensures refused { (left : Option (List ℕ)) → IsFirstPiece left (S.left input.old) pieces.old →
@@ -149,7 +149,7 @@ fn work_on_rest<S: Source>(
 }
 
 /// The work on the text, where its first piece is not all of it and begins it.
-fn begun_by(alloc: Global, asked: Asked, pieces: &TextPieces) -> Option<Begun>
+fn begun_by(alloc: Global, asked: TextCommand, pieces: &TextPieces) -> Option<Begun>
     requires { length pieces.now.piece ≤ INPUT_BYTES }
     ensures { IfSome result (λ b. (pieces.now.is_last ≡ false) × (EndsLine pieces.now.piece → HasBegun asked pieces.now.piece b)) }
 {
@@ -177,7 +177,11 @@ fn refused_late<S: Source>(status: Status, pieces: &mut TextPieces, input: &mut 
 }
 
 /// What is asked for of the text that the input holds, which is read piece by piece.
-fn work_on_input<S: Source>(alloc: Global, asked: Asked, input: &mut S) -> Result<Work, Status>
+fn work_on_input<S: Source>(
+    alloc: Global,
+    asked: TextCommand,
+    input: &mut S,
+) -> Result<TextOutput, Status>
     ensures work { IfOk result (IsWorkOfInput asked (S.left input.old) (S.left input.new)) }
     ensures refused { IfErr result (IsInputRefused asked (S.left input.old) (S.left input.new)) }
     ensures kept { OnOk result (S.fault_count input.new ≡ S.fault_count input.old) }
@@ -205,7 +209,12 @@ fn work_on_input<S: Source>(alloc: Global, asked: Asked, input: &mut S) -> Resul
 }
 
 /// The whole work that is asked for.
-fn serve<S: Source, K: Sink>(alloc: Global, asked: Asked, input: &mut S, output: &mut K) -> Status
+fn serve<S: Source, K: Sink>(
+    alloc: Global,
+    asked: TextCommand,
+    input: &mut S,
+    output: &mut K,
+) -> Status
     ensures outcome { IsOutcome (output.new ≡ output.old) asked (S.left input.old) (S.left input.new)
         (K.written output.old) (K.written output.new) result }
     ensures nothing { IsEarly result → output.new ≡ output.old }
@@ -233,7 +242,7 @@ fn storm<K: Sink>(alloc: Global, n: u32, output: &mut K) -> Status
     match summary_of(alloc, n) {
         Ok(text) => write_work(
             output,
-            &Work {
+            &TextOutput {
                 text,
                 status: Status::Done,
             },
@@ -279,9 +288,9 @@ pub fn vkernel_alone<S: Source, K: Sink>(
     ensures write_faults_never_fall { K.fault_count output.old ≤ K.fault_count output.new }
 {
     match read_words(alloc, words) {
-        Ok(Some(Job::OfText { asked })) => Some(serve(alloc, asked, input, output)),
-        Ok(Some(Job::Run | Job::Node { .. })) => None,
-        Ok(Some(Job::Storm { n })) => Some(storm(alloc, n, output)),
+        Ok(Some(Invocation::OfText { asked })) => Some(serve(alloc, asked, input, output)),
+        Ok(Some(Invocation::Run | Invocation::Node { .. })) => None,
+        Ok(Some(Invocation::Storm { n })) => Some(storm(alloc, n, output)),
         Ok(None) => Some(Status::Usage),
         Err(NoMemory) => Some(Status::NoMemory),
     }

@@ -11,7 +11,7 @@ use crate::node::node;
 use crate::run::run;
 use crate::status::Status;
 use crate::top::vkernel_alone;
-use crate::words::{Job, read_words};
+use crate::words::{Invocation, read_words};
 use std::alloc::Global;
 use std::net::Net;
 use std::sync::Wait;
@@ -56,12 +56,12 @@ pub fn vkernel<
         (K.written output.old) (K.written output.new) result }
     ensures idle { is_threaded (job_of (map string_bytes words.now)) ≡ false → (crew.new ≡ crew.old) × (wire.new ≡ wire.old) }
     // The words of `run` have their own answers, without the wire.
-    ensures run { job_of (map string_bytes words.now) ≡ Some Job.Run →
+    ensures run { job_of (map string_bytes words.now) ≡ Some Invocation.Run →
         IsRunAnswer (input.new ≡ input.old) (output.new ≡ output.old) (crew.new ≡ crew.old) (S.left input.old) (S.left input.new)
         (C.job_count crew.old) (C.job_count crew.new) (K.written output.old) (K.written output.new) result }
-    ensures unlinked { job_of (map string_bytes words.now) ≡ Some Job.Run → wire.new ≡ wire.old }
+    ensures unlinked { job_of (map string_bytes words.now) ≡ Some Invocation.Run → wire.new ≡ wire.old }
     // And so have those of `node H`.
-    ensures node { (host : ℕ) → job_of (map string_bytes words.now) ≡ Some (Job.Node host) →
+    ensures node { (host : ℕ) → job_of (map string_bytes words.now) ≡ Some (Invocation.Node host) →
         IsNodeAnswer host (input.new ≡ input.old) (output.new ≡ output.old) ((crew.new ≡ crew.old) × (wire.new ≡ wire.old))
         (S.left input.old) (S.left input.new)
         (record { handed = W.handed wire.old; jobs = C.job_count crew.old })
@@ -83,8 +83,10 @@ pub fn vkernel<
     match vkernel_alone(alloc, words, input, output) {
         Some(status) => status,
         None => match read_words(alloc, words) {
-            Ok(Some(Job::Run)) => run(rt, alloc, input, output, crew, pacer),
-            Ok(Some(Job::Node { host })) => node(rt, alloc, host, input, output, crew, pacer, wire),
+            Ok(Some(Invocation::Run)) => run(rt, alloc, input, output, crew, pacer),
+            Ok(Some(Invocation::Node { host })) => node(
+                rt, alloc, host, input, output, crew, pacer, wire,
+            ),
             Ok(_) => unreachable!(),
             Err(NoMemory) => Status::NoMemory,
         },

@@ -15,7 +15,7 @@ use vk_text::number;
 
 /// What is asked of a text.
 #[derive(Clone, Copy, Debug, PartialEq, Eq)]
-pub(crate) enum Asked {
+pub(crate) enum TextCommand {
     /// `replay`, with `--trace` for the trace: a schedule is read, and this is written of it.
     Replay { form: Form },
     /// `check`: a trace is read, and whether its steps are a run is written.
@@ -26,9 +26,9 @@ pub(crate) enum Asked {
 
 /// What the words ask for.
 #[derive(Clone, Copy, Debug, PartialEq, Eq)]
-pub(crate) enum Job {
+pub(crate) enum Invocation {
     /// The input is read, and this is asked of its text.
-    OfText { asked: Asked },
+    OfText { asked: TextCommand },
     /// `run`: a scenario is read, its stations are run beside each other, and the schedule of what happened is written.
     Run,
     /// `node H`: a scenario is read, its station of this number, 1 to 65,534, is run, and what happened there is written.
@@ -56,12 +56,12 @@ fn the_command<'a>(alloc: Global) -> Result<Command<'a>, AllocError>
 }
 
 /// The storm of the number that the word spells.
-fn storm_of(word: &str) -> Option<Job>
+fn storm_of(word: &str) -> Option<Invocation>
     ensures job { result ≡ storm_of word.now }
     ensures few { AreFewIn result }
 {
     let n = number(word.as_bytes(), EVENTS as u64)?;
-    Some(Job::Storm { n: n as u32 })
+    Some(Invocation::Storm { n: n as u32 })
 }
 
 /// The station that the word spells.
@@ -74,30 +74,30 @@ fn station(word: &str) -> Option<u16>
 }
 
 /// The node of the station that the word spells.
-fn node_of(word: &str) -> Option<Job>
+fn node_of(word: &str) -> Option<Invocation>
     ensures job { result ≡ node_of word.now }
     ensures few { AreFewIn result }
 {
     let host = station(word)?;
-    Some(Job::Node { host })
+    Some(Invocation::Node { host })
 }
 
 /// What the values ask for, by the table.
-fn job_for(command: Option<&str>, has_trace: bool, number: Option<&str>) -> Option<Job>
+fn job_for(command: Option<&str>, has_trace: bool, number: Option<&str>) -> Option<Invocation>
     ensures job { result ≡ job_for (option_map (λ s. s.now) command.entry) has_trace (option_map (λ s. s.now) number.entry) }
     ensures few { AreFewIn result }
 {
     let asked = match (command, number) {
-        (Some("replay"), None) if has_trace => Asked::Replay { form: Form::Trace },
-        (Some("replay"), None) => Asked::Replay { form: Form::Report },
-        (Some("check"), None) if !has_trace => Asked::Check,
-        (Some("join"), None) if !has_trace => Asked::Join,
-        (Some("run"), None) if !has_trace => return Some(Job::Run),
+        (Some("replay"), None) if has_trace => TextCommand::Replay { form: Form::Trace },
+        (Some("replay"), None) => TextCommand::Replay { form: Form::Report },
+        (Some("check"), None) if !has_trace => TextCommand::Check,
+        (Some("join"), None) if !has_trace => TextCommand::Join,
+        (Some("run"), None) if !has_trace => return Some(Invocation::Run),
         (Some("storm"), Some(word)) if !has_trace => return storm_of(word),
         (Some("node"), Some(word)) if !has_trace => return node_of(word),
         _ => return None,
     };
-    Some(Job::OfText { asked })
+    Some(Invocation::OfText { asked })
 }
 
 /// Whether this is the value of a flag that was given.
@@ -108,7 +108,7 @@ fn is_set(value: Option<&str>) -> bool
 }
 
 /// What is asked for by words that clap took.
-fn job_by(matches: &ArgMatches<'_>) -> Option<Job>
+fn job_by(matches: &ArgMatches<'_>) -> Option<Invocation>
     ensures job { result ≡ job_by (rows_of (found_of matches.now)) }
     ensures few { AreFewIn result }
 {
@@ -120,7 +120,7 @@ fn job_by(matches: &ArgMatches<'_>) -> Option<Job>
 }
 
 /// What the words, without the program's own name, ask for; `None` where they ask for nothing that the program does.
-pub(crate) fn read_words(alloc: Global, words: &[String]) -> Result<Option<Job>, NoMemory>
+pub(crate) fn read_words(alloc: Global, words: &[String]) -> Result<Option<Invocation>, NoMemory>
     ensures job { IfOk result (λ job. job ≡ job_of (map string_bytes words.now)) }
     ensures few { IfOk result AreFewIn }
 {

@@ -152,13 +152,13 @@ module _ (c : Settings) (host : ℕ) (cell : Cell StationHistory) (hub : Cell Hu
     heard = closed.heard
 
     abbrev at_each : ℕ → List (ℕ × StationEvent)
-    at_each = histories sites (all_spares ends) (log ∷ []) closed.shut
+    at_each = histories [] 0 false sites (all_spares ends) (log ∷ []) closed.shut
 
     abbrev pub history : List (ℕ × StationEvent)
     history = at_each host
 
-    shut : IsShut cell (sat_at host ss) history
-    shut = shut_at sites (all_spares ends) (log ∷ []) closed.shut host cell found
+    shut : IsShut [] 0 false cell (sat_at host ss) history
+    shut = shut_at [] 0 false sites (all_spares ends) (log ∷ []) closed.shut host cell found
 
     pub lawful : IsLawfulHistory (closed_station c host history)
     lawful = shut.lawful c host origin
@@ -169,10 +169,10 @@ module _ (c : Settings) (host : ℕ) (cell : Cell StationHistory) (hub : Cell Hu
     pub events : log.events ≡ map event_of history
     events =
         sym (ap (λ b. cond b log.events []) (eq-eqb log.host host log_host))
-        ∙ logs_say sites (all_spares ends) (log ∷ []) closed.shut host
+        ∙ logs_say [] 0 false sites (all_spares ends) (log ∷ []) closed.shut host
 
     says : StationSays sites hub at_each ss
-    says = λ h own there. let it = (shut_at sites (all_spares ends) (log ∷ []) closed.shut h own there).back in (it.seen, it.mine)
+    says = λ h own there. let it = (shut_at [] 0 false sites (all_spares ends) (log ∷ []) closed.shut h own there).back in (it.seen, it.mine)
 
     hub_seen : All (λ (s : Sitting HubLog HubEvent). IsPrefix s.seen heard) (hub_seats_of ends fetches halt)
     hub_seen = closed.back.seen

@@ -58,7 +58,7 @@ clock_by p q s rounds met last it host ends never behind halted = record {
 pub clock_ended : (p q : PortValue) (s : Seats) (rounds : ℕ) (met : Option Room) → HasClocked p q rounds met → s.host ≡ p.host
     → HasStopped q s.seat s.hub_seat → EndsClock p rounds (s ∷ []) met
 clock_ended p q s rounds met it host stopped =
-    either_way (halted_behind q s q.hub_seat.seen rooms.NoMemory stopped.seat stopped.same (prefix_self q.hub_seat.seen) stopped.heard stopped.sent)
+    either_way (halted_behind q s q.hub_seat.seen stopped.seat stopped.same (prefix_self q.hub_seat.seen) stopped.heard stopped.sent)
   where
     either_way : (Behind q s [] q.hub_seat.seen) ⊎ (Behind q s (hub_events.Halt ∷ []) q.hub_seat.seen) → EndsClock p rounds (s ∷ []) met
     either_way (inl behind) = clock_by p q s rounds met [] it host last_none none_finished behind stopped.halted

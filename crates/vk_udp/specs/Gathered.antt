@@ -1,5 +1,5 @@
 -- What comes back from the jobs of a node, and what is closed with it.
-use Rattle.std.specs.Prelude.{ℕ, ◌≤◌, List, [], ◌∷◌, ◌++◌, length}
+use Rattle.std.specs.Prelude.{ℕ, ◌≤◌, false, List, [], ◌∷◌, ◌++◌, length}
 use Rattle.vk_types.specs.Types.{StationEvent}
 use Rattle.turn_cell.specs.Seats.{Cell, Sitting}
 use Rattle.vk_base.specs.declared.event.StationEvent.TheVariants as events
@@ -32,7 +32,7 @@ pub record HasClosedNode (host : ℕ) (cell : Cell StationHistory) (hub : Cell H
     (log : StationLog) : Type 0 where
   pub heard : List (ℕ × HubEvent)
   pub back : HaveComeBack hub.seats (hub_seats_of all fetches halt) heard
-  pub shut : AreShut (site_of host cell ∷ []) (all_spares all) (log ∷ [])
+  pub shut : AreShut [] 0 false (site_of host cell ∷ []) (all_spares all) (log ∷ [])
 
 -- a frame has at most 1,152 bytes
 abbrev pub Fits : StationEvent → Type 0

@@ -109,7 +109,7 @@ pub fn close_node(
     hub_seats.push(halt)?;
     let _closed = hub.close(hub_seats);
     let sites = one_site(alloc, host, cell)?;
-    let logs = close_all(alloc, sites, seats)?;
+    let (logs, _still) = close_all(alloc, sites, seats, &[], 0)?;
     let log = one_log(logs);
     log.whole(alloc)
 }

@@ -82,6 +82,7 @@ pub struct UdpWire {
 }
 
 impl UdpWire {
+    /// A wire that has met no fault yet.
     pub fn new() -> UdpWire
         ensures { result.faults ≡ 0 }
     {

@@ -1,11 +1,12 @@
-//! The program: it hands the words, standard input and standard output to the top call, tells on standard error how that
-//! ended where it did not end well, and exits with the status's number. Stands on vk_draw; no rule stands here.
+//! The program: it hands the words, the fixed text of pages, standard input and standard output to the top call, tells on standard error
+//! how that ended where it did not end well, and exits with the status's number. Stands on vk_draw; no rule stands here.
 #![tactic(auto)]
 
 use std::process::ExitCode;
 use vk_draw::{Status, vkdraw};
 use vk_edge::program_words;
 use vk_io::{StdSink, StdSource};
+use vk_page::fixed_parts;
 
 /// Reads standard input and writes standard output.
 fn run(rt: &HostRuntime) -> Status {
@@ -15,7 +16,7 @@ fn run(rt: &HostRuntime) -> Status {
     };
     let mut input = StdSource::new(rt.stdin());
     let mut output = StdSink::new(rt.stdout());
-    vkdraw(rt.alloc(), &words, &mut input, &mut output)
+    vkdraw(rt.alloc(), &words, &fixed_parts(), &mut input, &mut output)
 }
 
 fn main(rt: HostRuntime) -> ExitCode {

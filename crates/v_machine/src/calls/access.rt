@@ -19,7 +19,7 @@ use vk_base::{Grants, Pid, Range, Refusal};
 
 /// What is asked for: to write or to read a range of a partner's segment, from or into a range of the caller's memory.
 #[derive(Clone, Copy)]
-pub struct Access {
+pub struct SegmentAccess {
     pub partner: Pid,
     /// The most bytes.
     pub limit: u32,
@@ -29,7 +29,12 @@ pub struct Access {
 }
 
 /// The Send that grants the access, or why there is none.
-pub fn held_for(store: &Store, at: usize, pid: Pid, access: Access) -> Result<Holding, Refusal>
+pub fn held_for(
+    store: &Store,
+    at: usize,
+    pid: Pid,
+    access: SegmentAccess,
+) -> Result<Holding, Refusal>
     requires kept { IsKept store.now }
     requires here { IsAt store.now pid at }
     ensures { Accesses store.now pid access result }

@@ -12,7 +12,7 @@ ghost use Rattle.v_machine.specs.Moves.{JudgesBegun, Copies, Begins, BeginsOrNot
 ghost use Rattle.v_machine.specs.Places.{place_in};
 ghost use Rattle.v_machine.specs.Rules.{IsLive, Judges, Stays};
 
-use crate::calls::access::{Access, held_for};
+use crate::calls::access::{SegmentAccess, held_for};
 use crate::calls::caller::Caller;
 use crate::calls::held::Holding;
 use crate::calls::response::Response;
@@ -51,7 +51,7 @@ pub fn move_to(
         start: asked.src,
         len: asked.count,
     };
-    let access = Access {
+    let access = SegmentAccess {
         partner: asked.partner,
         limit: MOVE_BYTES,
         write: true,
@@ -88,7 +88,7 @@ pub fn move_from(
         start: asked.src,
         len: asked.count,
     };
-    let access = Access {
+    let access = SegmentAccess {
         partner: asked.partner,
         limit: MOVE_BYTES,
         write: false,

@@ -4,7 +4,7 @@ ghost use Rattle.std.specs.Prelude.{Ok};
 ghost use Rattle.v_machine.specs.Kept.{IsKept, IsAt};
 ghost use Rattle.v_machine.specs.Rules.{Judges};
 
-use crate::calls::access::{Access, held_for};
+use crate::calls::access::{SegmentAccess, held_for};
 use crate::calls::held::held;
 use crate::calls::response::Response;
 use crate::refusal::ApplyRefusal;
@@ -52,7 +52,7 @@ pub fn reply_segment(
     requires here { IsAt store.old pid at }
     ensures { Judges pid (Call.ReplySegment reply.message reply.to reply.dest reply.src reply.count) store.old store.new result }
 {
-    let access = Access {
+    let access = SegmentAccess {
         partner: reply.to,
         limit: SEGMENT_BYTES,
         write: true,

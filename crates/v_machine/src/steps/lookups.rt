@@ -43,7 +43,7 @@ fn hears(names: &[Registration], asker: Pid, logical: u32, pid: Pid) -> bool
 }
 
 /// Whether the station of a process tells others that it has registered the process under this logical id.
-fn is_told(names: &[Registration], logical: u32, pid: Pid) -> bool
+pub fn is_told(names: &[Registration], logical: u32, pid: Pid) -> bool
     ensures { result ≡ list_any (tells_of logical pid) names.now }
 {
     names.iter().any(|r| tells_of(r, logical, pid))
@@ -81,7 +81,7 @@ pub fn found(store: &mut Store, asker: Pid, pid: Pid) -> Option<()>
 }
 
 /// How many lookups the process of this place has begun.
-fn lookups_of(store: &Store, at: usize) -> u64
+pub fn lookups_of(store: &Store, at: usize) -> u64
     requires { at < length store.now.asked.items }
     ensures { result ≡ count_at store.now.asked.items at }
 {
@@ -111,7 +111,7 @@ pub fn lost(store: &mut Store, asker: Pid) -> Option<()>
 }
 
 /// A lookup of the process of this place.
-fn lookup_of(store: &Store, at: usize, number: u64) -> Option<&Lookup>
+pub fn lookup_of(store: &Store, at: usize, number: u64) -> Option<&Lookup>
     requires { at < length store.now.asked.items }
     ensures { (pid : ThePid) → place_in store.now.places pid ≡ Some at → (kernel_in store.now).lookups pid number ≡ option_copied result }
 {

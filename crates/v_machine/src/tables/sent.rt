@@ -86,12 +86,14 @@ impl Sent {
         })
     }
 
+    /// The process that it was sent to.
     pub fn target(&self) -> Pid
         ensures { result ≡ self.now.target }
     {
         self.target
     }
 
+    /// The message as it was sent.
     pub fn message(&self) -> &Message
         ensures { result.now ≡ self.now.message }
     {
@@ -126,42 +128,49 @@ impl Sent {
         }
     }
 
+    /// The bytes that go with the message.
     pub fn part(&self) -> &[u8]
         ensures { result.now ≡ self.now.part }
     {
         self.apart.part()
     }
 
+    /// The remote moves that were begun under it.
     pub fn moves(&self) -> &[Move]
         ensures { result.now ≡ self.now.moves }
     {
         self.apart.moves()
     }
 
+    /// The number of the move that was opened last, 0 where none was.
     pub fn opened(&self) -> u64
         ensures { result ≡ self.now.opened }
     {
         self.apart.opened()
     }
 
+    /// How many bytes of that move were written.
     pub fn done(&self) -> u32
         ensures { result ≡ self.now.done }
     {
         self.apart.done()
     }
 
+    /// Whether it is on its way to another station.
     pub fn is_posted(&self) -> bool
         ensures { result ≡ is_posted self.now.stage }
     {
         matches!(self.phase, Phase::Posted)
     }
 
+    /// Whether it waits to be received.
     pub fn is_queued(&self) -> bool
         ensures { result ≡ is_queued self.now.stage }
     {
         matches!(self.phase, Phase::Queued)
     }
 
+    /// Whether it was received, and neither replied to nor handed on.
     pub fn is_taken(&self) -> bool
         ensures { result ≡ is_taken self.now.stage }
     {
@@ -186,12 +195,14 @@ impl Sent {
         }
     }
 
+    /// It waits to be received from now on.
     pub fn queue(&mut self)
         ensures { self.new ≡ at_stage stages.Queued self.old }
     {
         self.phase = Phase::Queued;
     }
 
+    /// It is received.
     pub fn take(&mut self)
         ensures { self.new ≡ at_stage stages.Taken self.old }
     {
@@ -209,6 +220,7 @@ impl Sent {
         Ok(())
     }
 
+    /// It is dropped: nobody replies to it.
     pub fn drop_it(&mut self)
         ensures { self.new ≡ at_stage stages.Dropped self.old }
     {

@@ -32,8 +32,8 @@ loop-port-preserved g c =
       count = omega (arith, was.count, steps.1);
       room = omega (arith, was.room, steps.1, c.push_reserved.ensures.len, c.push_reserved.ensures.capacity);
       closed = λ ss others.
-          subst (λ l. ArePortsClosed c.args.ports.items (l ++ ss) c.args.met) (sym c.push_reserved.ensures.items)
-          (subst (λ l. ArePortsClosed c.args.ports.items l c.args.met) (sym (append_assoc c.loop-port.seats.items (s ∷ []) ss))
+          subst (λ l. ArePortsClosed c.args.ports.items (l ++ ss) c.args.halts) (sym c.push_reserved.ensures.items)
+          (subst (λ l. ArePortsClosed c.args.ports.items l c.args.halts) (sym (append_assoc c.loop-port.seats.items (s ∷ []) ss))
           (was.closed (s ∷ ss) (subst (λ l. ArePortsClosed l (s ∷ ss) c.loop-port.left) (sym steps.0)
           (closed_first p left s ss c.loop-port.left (c.close_port.ensures.host ∙ next.0) c.close_port.ensures.closed others))));
     }
@@ -42,5 +42,5 @@ pub returns : goal.returns
 returns g c =
     let done : c.loop-port.port-iterator.rest.items ≡ [] =
     empty c.loop-port.port-iterator.rest.items (omega (arith, c.in-None.ensures.steps.0, c.loop-port.port-iterator.rest.ok.0)) in
-    subst (λ l. ArePortsClosed c.args.ports.items l c.args.met) (append-nil c.loop-port.seats.items)
+    subst (λ l. ArePortsClosed c.args.ports.items l c.args.halts) (append-nil c.loop-port.seats.items)
     (c.loop-port.invariant.closed [] (subst (λ l. ArePortsClosed l [] c.loop-port.left) (sym done) tt))

@@ -10,5 +10,5 @@ invariant-loop-port g l = record {
   hosts : map port_host l.port-iterator.rest.items ≡ drop l.at l.fn.hosts;
   count : l.at + l.port-iterator.rest.len ≡ length l.fn.hosts;
   room : vec_len l.seats + l.port-iterator.rest.len ≤ vec_capacity l.seats;
-  closed : (ss : List Seats) → ArePortsClosed l.port-iterator.rest.items ss l.left → ArePortsClosed l.fn.ports.items (l.seats.items ++ ss) l.fn.met;
+  closed : (ss : List Seats) → ArePortsClosed l.port-iterator.rest.items ss l.left → ArePortsClosed l.fn.ports.items (l.seats.items ++ ss) l.fn.halts;
 }

@@ -1,6 +1,6 @@
 use Rattle.std.proofs.Common.{arith, subst}
-use Rattle.vk_threads.specs.Clocks.{HaveLooked}
-use Rattle.vk_threads.proofs.Clocks.{rounds_cut, rounds_cut_late, rounds_end, rounds_more, rounds_over, still, ticked_none}
+use Rattle.vk_threads.specs.Clocks.{HaveLooked, HaveTicked}
+use Rattle.vk_threads.proofs.Clocks.{rounds_cut, rounds_cut_late, rounds_end, rounds_more, still, ticked_none}
 use Rattle.vk_threads.proofs.clock.tick_on.Goals as goal
 
 pub loop-init : goal.loop-init
@@ -34,4 +34,4 @@ loop-preserved g c =
 
 pub returns-clause-ticked : goal.returns-clause-ticked
 returns-clause-ticked g c =
-    rounds_over c.loop.counter c.args.rounds c.args.ports.now c.loop.ports (omega arith) c.loop.invariant.so_far
+    subst (λ m. HaveTicked m m 0 c.args.ports.now c.loop.ports) (omega arith) c.loop.invariant.so_far

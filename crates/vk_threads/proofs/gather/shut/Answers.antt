@@ -15,6 +15,7 @@ returns c =
       lawful = c.event_count-count.ensures.lawful;
       origin = closed.origin;
       back = record { seen = closed.seen; mine = closed.mine; others = closed.others; different = closed.different; numbers = closed.numbers };
+      looked = c.is_still-still.ensures;
     }
 
 pub close-station-requires-send-S : goal.close-station-requires-send-S

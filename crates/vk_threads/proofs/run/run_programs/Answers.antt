@@ -81,7 +81,7 @@ record_of-requires-clause-ended g c =
     c.args.rounds c.in-Ok-run_jobs.ends.items c.in-Ok-run_jobs.halt c.in-Ok-open_all.spares.items c.in-Ok.ensures.stations opened
     (c.in-Ok-new.ensures.programs ∙ counted) (omega (arith, c.in-Ok-new.ensures.seats, c.len.ensures, c.in-Ok-hosts_of.hosts.ok.0, size))
     (omega (arith, counted, c.count_of-count.ensures.few)) c.in-Ok.ensures.few c.requires.apart c.deref-6.ensures.value c.in-Ok-run_jobs.ensures.ended in
-    (c.args.rounds, map (program_task g.G.Program.task) programs, ended)
+    (map (program_task g.G.Program.task) programs, ended)
 
 pub returns-in-Ok-run_jobs-clause-ran : goal.returns-in-Ok-run_jobs-clause-ran
 returns-in-Ok-run_jobs-clause-ran g c =

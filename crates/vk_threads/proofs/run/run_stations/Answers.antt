@@ -28,7 +28,7 @@ run_programs-requires-clause-fresh g c κs within = programs_fresh c.as_slice.re
 pub returns-clause-ran : goal.returns-clause-ran
 returns-clause-ran g c =
     let s = c.args.scenario in
-    subst (λ ts. IfOk c.run_programs.result (λ r. IsRun s.config s.plan s.rounds ts r.limited r.schedule))
+    subst (λ ts. IfOk c.run_programs.result (λ r. IsRun s.config s.plan s.rounds ts r.end r.schedule))
     (programs_tasks s.tasks c.in-Ok.programs.items (subst (λ l. ArePrograms l c.in-Ok.programs.items) c.as_slice.ensures c.in-Ok.ensures))
     c.run_programs.ensures.ran
 

@@ -1,7 +1,7 @@
 use Rattle.std.proofs.Common.{◌++◌, inr, subst, sym}
 use Rattle.vk_top.proofs.Told.{replay_refused}
 use Rattle.vk_top.specs.Work.{IsRefusal}
-use Rattle.vk_top.specs.declared.words.Asked.TheVariants as asked
+use Rattle.vk_top.specs.declared.words.TextCommand.TheVariants as asked
 use Rattle.vk_top.proofs.begun.play_on.Goals as goal
 
 pub returns-in-Err-clause-refused : goal.returns-in-Err-clause-refused

@@ -5,7 +5,7 @@ use Rattle.vk_event.specs.NodeLaws.{node_text, one_log}
 use Rattle.vk_event.specs.Nodes.{nodes_of}
 use Rattle.vk_top.proofs.Nodes.{node_failed, node_grown, node_tells_crew, node_tells_link, node_told}
 use Rattle.vk_top.proofs.Threaded.{not_run, not_run_tells}
-use Rattle.vk_top.specs.Nodes.{IsNodeFailure, node_asked}
+use Rattle.vk_top.specs.Nodes.{IsNodeFailure, node_asked, node_end}
 use Rattle.vk_top.specs.Threaded.{IsThreadedRefusal, ended}
 use Rattle.vk_top.proofs.node.node_work.Goals as goal
 
@@ -62,7 +62,7 @@ returns-clause-work g c =
     let Read : List StationEvent → Type 0 =
     λ e. OnOk c.written.result (nodes_of (node_text s.config c.args.asked.now.host e) ≡ Ok (one_log s.config c.args.asked.now.host e)) in
     let Wrote : List StationEvent → Type 0 = λ e. IfOk c.written.result
-    (λ w. (w.text.items ≡ node_text s.config c.args.asked.now.host e) × (w.status ≡ ended c.in_ok-ran.ran.limited)) in
+    (λ w. (w.text.items ≡ node_text s.config c.args.asked.now.host e) × (w.status ≡ ended (node_end c.in_ok-ran.ran.limited))) in
     node_told c.args.asked.now.host
     (record { handed = g.W.Wire.handed c.args.wire.now; jobs = g.C.Crew.job_count c.args.crew.now })
     (record { handed = g.W.Wire.handed c.run_station.new.wire; jobs = g.C.Crew.job_count c.run_station.new.crew })

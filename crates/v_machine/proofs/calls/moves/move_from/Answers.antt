@@ -3,7 +3,7 @@ use Rattle.std.proofs.lemmas.Bool.{leb-true, le-leb}
 use Rattle.vk_types.specs.Types.{Pid}
 use Rattle.vk_base.specs.Ranges.{range_of}
 use Rattle.v_laws.proofs.Held.{holding_is}
-use Rattle.v_machine.specs.declared.calls.access.Access.{Access}
+use Rattle.v_machine.specs.declared.calls.access.SegmentAccess.{SegmentAccess}
 use Rattle.v_machine.specs.Kept.{kernel_in}
 use Rattle.v_machine.specs.Moves.{Copies}
 use Rattle.v_machine.specs.Rules.{Stays}
@@ -13,7 +13,7 @@ use Rattle.v_machine.proofs.Stores.{process_at, stays, is_error}
 use Rattle.v_machine.proofs.Live.{live_held}
 use Rattle.v_machine.proofs.calls.moves.move_from.Goals as goal
 
-abbrev asked_for : Pid → ℕ → ℕ → ℕ → Access
+abbrev asked_for : Pid → ℕ → ℕ → ℕ → SegmentAccess
 asked_for partner dest src count =
     record { partner = partner; limit = 65536; write = false; granted = range_of src count; own = range_of dest count }
 

@@ -2,7 +2,7 @@ use Rattle.std.proofs.Common.{ℕ, true, sym, subst, ◌∙◌}
 use Rattle.vk_types.specs.Types.{Pid}
 use Rattle.vk_base.specs.Ranges.{range_of}
 use Rattle.v_laws.proofs.Held.{holding_is}
-use Rattle.v_machine.specs.declared.calls.access.Access.{Access}
+use Rattle.v_machine.specs.declared.calls.access.SegmentAccess.{SegmentAccess}
 use Rattle.v_machine.specs.Kept.{kernel_in}
 use Rattle.v_machine.specs.Moves.{Copies}
 use Rattle.v_machine.specs.Rules.{Stays}
@@ -12,7 +12,7 @@ use Rattle.v_machine.proofs.Stores.{process_at, stays, is_error}
 use Rattle.v_machine.proofs.Live.{live_held}
 use Rattle.v_machine.proofs.calls.moves.move_to.Goals as goal
 
-abbrev asked_for : Pid → ℕ → ℕ → ℕ → Access
+abbrev asked_for : Pid → ℕ → ℕ → ℕ → SegmentAccess
 asked_for partner dest src count =
     record { partner = partner; limit = 65536; write = true; granted = range_of dest count; own = range_of src count }
 

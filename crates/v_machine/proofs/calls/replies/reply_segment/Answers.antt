@@ -6,7 +6,7 @@ use Rattle.vk_base.specs.Calls.{called}
 use Rattle.vk_base.specs.Kernel.{name_of, with_stage}
 use Rattle.vk_base.specs.Ranges.{range_of, bytes_in}
 use Rattle.v_laws.proofs.Held.{holding_is}
-use Rattle.v_machine.specs.declared.calls.access.Access.{Access}
+use Rattle.v_machine.specs.declared.calls.access.SegmentAccess.{SegmentAccess}
 use Rattle.v_machine.specs.Kept.{kernel_in}
 use Rattle.v_machine.proofs.Accessing.{ranges_lie}
 use Rattle.v_machine.proofs.Stores.{process_at, is_error}
@@ -45,7 +45,7 @@ returns c = λ p there ready.
     let ok = c.in-Ok.ensures p there in
     let x = holding_is k c.args.pid r.to h.number ok.1 in
     let call = calls.ReplySegment r.message r.to r.dest r.src r.count in
-    let a : Access =
+    let a : SegmentAccess =
     record { partner = r.to; limit = 512; write = true; granted = range_of r.dest r.count; own = range_of r.src r.count } in
     let lies = ranges_lie k c.args.pid p a h.number x.exchange ok.1 x.is ok.0 in
     let bytes : c.in_ok-bytes.bytes ≡ bytes_in (range_of r.src r.count) p.memory =

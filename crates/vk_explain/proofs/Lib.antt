@@ -1,0 +1,3 @@
+mod Answered
+mod Explains
+pub mod Sighted

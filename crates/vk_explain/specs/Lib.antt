@@ -1,0 +1,6 @@
+pub mod Explained
+pub mod Reading
+pub mod Statuses
+pub mod Told
+pub mod Top
+pub mod Words

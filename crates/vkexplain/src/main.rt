@@ -1,0 +1,28 @@
+//! The program: it hands the words, standard input and standard output to the top call, tells on standard error how that
+//! ended where it did not end well, and exits with the status's number. Stands on vk_explain; no rule stands here.
+#![tactic(auto)]
+
+use std::process::ExitCode;
+use vk_edge::program_words;
+use vk_explain::{Status, vkexplain};
+use vk_io::{StdSink, StdSource};
+
+/// Reads standard input and writes standard output.
+fn run(rt: &HostRuntime) -> Status {
+    let words = match program_words(rt, Status::Usage, Status::NoMemory) {
+        Ok(words) => words,
+        Err(status) => return status,
+    };
+    let mut input = StdSource::new(rt.stdin());
+    let mut output = StdSink::new(rt.stdout());
+    vkexplain(rt.alloc(), &words, &mut input, &mut output)
+}
+
+fn main(rt: HostRuntime) -> ExitCode {
+    let status = run(&rt);
+    if status != Status::Right && status != Status::Wrong {
+        // Nothing is left to tell it to where this fails too.
+        let _ = eprintln!(rt; "{status}");
+    }
+    ExitCode::from(status.number())
+}
