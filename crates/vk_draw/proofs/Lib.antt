@@ -4,5 +4,8 @@ mod Marked
 mod MarkedSteps
 mod Opened
 mod Places
+mod PlainFrames
+mod PlainSchedules
+mod PlainTexts
 mod Played
 mod Reported

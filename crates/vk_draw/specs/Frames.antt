@@ -1,10 +1,12 @@
 -- The text of the frames of a history.
-use Rattle.std.specs.Prelude.{◌≡◌, ℕ, List, [], ◌++◌, flat_map, map}
+use Rattle.std.specs.Prelude.{◌≡◌, ℕ, true, List, [], ◌++◌, flat_map, map, Ok}
 use Rattle.vk_base.specs.Settings.{Settings}
 use Rattle.vk_schedule.specs.declared.event.Event.{Event}
 use Rattle.vk_schedule.specs.declared.schedule.Schedule.{Schedule}
+use Rattle.vk_schedule.specs.Schedule.{schedule_of}
 use Rattle.vk_cluster.specs.Standing.{logs_of}
 use Rattle.vk_frame_text.specs.Frames.{frame_line, title_line}
+use Rattle.vk_page.specs.Page.{is_plain}
 use Rattle.vk_report.specs.declared.entry.Form.TheVariants as forms
 use Rattle.vk_report.specs.Histories.{frames_from}
 use Rattle.vk_report.specs.Report as reports
@@ -38,3 +40,8 @@ abbrev pub EachFrameHasOneLine : Type 0
 EachFrameHasOneLine = (c : Settings) (es : List Event) (e : Event) (host own : ℕ) (entry : Entry) →
     happened c (logs_of c es) e ≡ At host own entry →
     frames_from forms.Report host own 0 (map emitted_of entry.frames) ≡ flat_map report_line_of entry.frames
+
+-- Of a text that is read as a schedule all bytes are plain, and so are those of the text of the frames of its history.
+abbrev pub ScheduleAndFramesArePlain : Type 0
+ScheduleAndFramesArePlain =
+    (text : List ℕ) (s : Schedule) → schedule_of text ≡ Ok s → (is_plain text ≡ true) × (is_plain (frames_text s) ≡ true)

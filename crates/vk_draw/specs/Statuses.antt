@@ -2,7 +2,6 @@
 use Rattle.std.specs.Prelude.{ℕ, List, [], ◌++◌, codes, decimal}
 use Rattle.vk_cluster.specs.declared.report.ClusterRefusal.{ClusterRefusal}
 use Rattle.vk_cluster.specs.declared.report.ClusterRefusal.TheVariants as clusters
-use Rattle.vk_edge.specs.declared.numbers.TheConstants.{BAD_INPUT, DONE, LIMIT, NO_MEMORY, READ_FAULT, USAGE, WRITE_FAULT}
 use Rattle.vk_io.specs.declared.whole.ReadRefusal.{ReadRefusal}
 use Rattle.vk_io.specs.declared.whole.ReadRefusal.TheVariants as reads
 use Rattle.vk_schedule.specs.declared.schedule.TextRefusal.{TextRefusal}
@@ -13,13 +12,13 @@ use Rattle.vk_draw.specs.declared.words.Drawing.{Drawing}
 use Rattle.vk_draw.specs.declared.words.Drawing.TheVariants as asked
 
 abbrev pub number_of : Status → ℕ
-number_of status.Done = DONE
-number_of status.Usage = USAGE
-number_of (status.BadInput line) = BAD_INPUT
-number_of status.ReadFault = READ_FAULT
-number_of status.WriteFault = WRITE_FAULT
-number_of status.NoMemory = NO_MEMORY
-number_of status.Limit = LIMIT
+number_of status.Done = 0
+number_of status.Usage = 2
+number_of (status.BadInput line) = 3
+number_of status.ReadFault = 4
+number_of status.WriteFault = 5
+number_of status.NoMemory = 6
+number_of status.Limit = 8
 number_of status.TooManyEvents = 9
 number_of status.TooMuchText = 10
 number_of status.NotPlain = 11

@@ -9,7 +9,8 @@ use Rattle.vk_page.specs.declared.parts.PageParts.{PageParts}
 use Rattle.vk_draw.specs.Top.{IsDrawn, IsEarly, IsFront, IsLate, IsOfText, IsRefusal, IsRefused}
 
 -- what the answer to a text says, which was read whole
-pub record IsAnswered (Unchanged : Type 0) (a : Drawing) (parts : PageParts) (text : List ℕ) (old new : Option (List ℕ)) (s : Status) : Type 0 where
+pub record IsAnswered (Unchanged : Type 0) (a : Drawing) (parts : PageParts) (text : List ℕ) (old new : Option (List ℕ))
+    (s : Status) : Type 0 where
   pub kinds : ¬ (s ≡ status.Usage) × ¬ (s ≡ status.ReadFault)
   pub done : s ≡ status.Done → IsDrawn a parts text old new
   pub refused : IsOfText s → IsRefusal a text s
@@ -18,7 +19,8 @@ pub record IsAnswered (Unchanged : Type 0) (a : Drawing) (parts : PageParts) (te
   pub front : s ≡ status.WriteFault → IsFront a parts text old new
 
 -- what the answer to an input says, which has these bytes left and then those
-pub record IsOutcome (Unchanged : Type 0) (a : Drawing) (parts : PageParts) (left rest old new : Option (List ℕ)) (s : Status) : Type 0 where
+pub record IsOutcome (Unchanged : Type 0) (a : Drawing) (parts : PageParts) (left rest old new : Option (List ℕ))
+    (s : Status) : Type 0 where
   pub kinds : ¬ (s ≡ status.Usage)
   pub done : s ≡ status.Done → OfInput left (λ i. IsDrawn a parts i old new)
   pub whole : IsLate s → IfSome left (λ i. length i ≤ INPUT_BYTES → rest ≡ Some [])

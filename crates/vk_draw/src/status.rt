@@ -79,6 +79,11 @@ impl Status {
 }
 
 impl fmt::Display for Status {
+    ghost use Rattle.std.specs.Prelude.{Some};
+    ghost use Rattle.vk_draw.specs.Statuses.{text_of};
+
+    ghost output = { λ s. Some (text_of s) };
+
     fn fmt<W: fmt::Write>(&self, f: &mut fmt::Formatter<W>) -> fmt::Result {
         put_short(self.text().as_slice(), f)
     }

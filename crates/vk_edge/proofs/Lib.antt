@@ -1,4 +1,5 @@
 pub mod Answers
 mod Gathering
 pub mod Inputs
+mod LineEnds
 pub mod PieceTexts

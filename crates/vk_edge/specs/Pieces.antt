@@ -1,5 +1,5 @@
 -- A text that is read piece by piece.
-use Rattle.std.specs.Prelude.{ℕ, ◌≡◌, ◌<◌, ◌≤◌, ◌+◌, Bool, true, false, List, [], ◌∷◌, ◌++◌, length, take, Option}
+use Rattle.std.specs.Prelude.{ℕ, ◌≡◌, ◌≢◌, ◌<◌, ◌≤◌, ◌+◌, Bool, true, false, List, [], ◌∷◌, ◌++◌, length, take, drop, All, Option}
 use Rattle.std.specs.Io.KnownBytes.{Consumes, IsAtEnd}
 use Rattle.vk_base.specs.declared.limits.TheConstants.{INPUT_BYTES}
 use Rattle.vk_io.specs.Causes.{LosesFront}
@@ -18,20 +18,25 @@ pub record Pieces : Type 0 where
 abbrev pub EndsLine : List ℕ → Type 0
 EndsLine piece = (front : List ℕ) × (piece ≡ front ++ 10 ∷ [])
 
+-- no byte is a line feed
+abbrev pub EndsNone : List ℕ → Type 0
+EndsNone bytes = All (λ byte. byte ≢ 10) bytes
+
 -- these bytes were read on, and not too many in all
 pub record IsReadOn (left rest : Option (List ℕ)) (bytes : List ℕ) (before now : ℕ) : Type 0 where
   pub taken : Consumes left rest bytes
   pub count : now ≡ before + length bytes
   pub few : now ≤ INPUT_BYTES
 
--- A piece more: what was read behind the last one, and these bytes, are the piece and what stands behind it. It ends a line, or nothing is
--- behind it and the source is at its end. One that is not the last brought bytes.
+-- A piece more: what was read behind the last one, and these bytes, are the piece and what stands behind it. It ends the last line that
+-- ends in them, or nothing is behind it and the source is at its end. One that is not the last brought bytes.
 pub record IsNextPiece (left rest : Option (List ℕ)) (before : List ℕ) (count : ℕ) (p : Pieces) : Type 0 where
   pub bytes : List ℕ
   pub read : IsReadOn left rest bytes count p.count
   pub text : before ++ bytes ≡ p.piece ++ p.behind
   pub some : p.is_last ≡ false → 0 < length bytes
   pub ends : p.is_last ≡ false → EndsLine p.piece
+  pub behind_ends_none : p.is_last ≡ false → EndsNone p.behind
   pub last : p.is_last ≡ true → (p.behind ≡ []) × IsAtEnd rest
 
 -- why the text is not read on behind so many bytes
@@ -87,4 +92,5 @@ pub record IsCut (left rest : Option (List ℕ)) (old new : Gathered) (at : ℕ)
   pub within : at ≤ length new.bytes
   pub some : is_last ≡ false → old.count < new.count
   pub ends : is_last ≡ false → EndsLine (take at new.bytes)
+  pub behind_ends_none : is_last ≡ false → EndsNone (drop at new.bytes)
   pub last : is_last ≡ true → (at ≡ length new.bytes) × IsAtEnd rest

@@ -1,9 +1,9 @@
 //! The buffer of a text that is read piece by piece.
 
-ghost use Rattle.std.specs.Prelude.{◌≡◌, ◌<◌, ◌≤◌, ◌+◌, ◌++◌, [], length, take, drop, Err, IfSome, IfOk, IfErr, OnOk, OnErr};
+ghost use Rattle.std.specs.Prelude.{◌≡◌, ◌<◌, ◌≤◌, ◌+◌, ◌++◌, [], length, take, drop, None, Err, IfSome, IfOk, IfErr, OnOk, OnErr};
 ghost use Rattle.std.specs.Io.KnownBytes.{IsAtEnd, Keeps};
 ghost use Rattle.vk_io.specs.Causes.{HasCause, TellsFault};
-ghost use Rattle.vk_edge.specs.Pieces.{EndsLine, IsCut, IsFilled, IsGathered, IsReadBehind, IsReadOut, IsUnreadBehind};
+ghost use Rattle.vk_edge.specs.Pieces.{EndsLine, EndsNone, IsCut, IsFilled, IsGathered, IsReadBehind, IsReadOut, IsUnreadBehind};
 
 use std::alloc::Global;
 use std::marker::Model;
@@ -42,7 +42,8 @@ impl Model for Buffer {
 
 /// Where the last line ends that ends behind `from`.
 fn line_end(bytes: &[u8], from: usize) -> Option<usize>
-    ensures { IfSome result (λ at. (at ≤ length bytes.now) × EndsLine (take at bytes.now)) }
+    ensures last { IfSome result (λ at. (at ≤ length bytes.now) × EndsLine (take at bytes.now) × EndsNone (drop at bytes.now)) }
+    ensures none { result ≡ None → EndsNone (drop from bytes.now) }
 {
     let mut at = bytes.len();
     while at > from {

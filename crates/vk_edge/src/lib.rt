@@ -21,4 +21,4 @@ pub use input::read_text;
 pub use output::write_text;
 pub use pieces::TextPieces;
 pub use short::{numbered_text, put_short, short_text, twice_numbered_text};
-pub use words::program_words;
+pub use words::{program_words, words_behind_name};

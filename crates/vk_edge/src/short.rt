@@ -1,6 +1,7 @@
 //! Texts of at most 96 bytes, which take no memory.
 
 ghost use Rattle.std.specs.Prelude.{◌≡◌, ◌≤◌, ◌+◌, ◌++◌, length, decimal};
+ghost use Rattle.std.specs.Fmt.{WritesOnOk, WritesStyledOnOk};
 
 use arrayvec::ArrayVec;
 use itoa::Buffer;
@@ -68,7 +69,10 @@ pub fn twice_numbered_text(
 }
 
 /// Writes the text where a value is shown.
-pub fn put_short<W: fmt::Write>(text: &[u8], to: &mut fmt::Formatter<W>) -> fmt::Result {
+pub fn put_short<W: fmt::Write>(text: &[u8], to: &mut fmt::Formatter<W>) -> fmt::Result
+    ensures writes { WritesOnOk W.write_str_gives to.old result text.now to.new }
+    ensures styled { WritesStyledOnOk W.write_str_gives to.old result text.now to.new }
+{
     match str::from_utf8(text) {
         Ok(text) => to.write_str(text),
         Err(_) => Err(fmt::Error),

@@ -1,5 +1,5 @@
 -- Lines that are read one after another.
-use Rattle.std.proofs.Common.{◌≡◌, ℕ, ◌+◌, Bool, true, false, cond, ◌&&◌, List, [], ◌∷◌, ◌++◌, length, Option, Some, None, Result, Ok, Err, OnOk, is_none, option_map, refl, sym, ap, subst, ◌∙◌, arith, length-append, append_assoc, append-nil}
+use Rattle.std.proofs.Common.{◌≡◌, ℕ, ◌+◌, Bool, true, false, cond, ◌&&◌, List, [], ◌∷◌, ◌++◌, length, Option, Some, None, Result, Ok, Err, OnOk, codes, is_none, option_map, refl, sym, ap, subst, ◌∙◌, arith, length-append, append_assoc, append-nil}
 use Rattle.std.specs.Prelude.{option_to_list}
 use Rattle.std.specs.Option.{option_map_or}
 use Rattle.vk_types.specs.Types.{Observation, ProcessSpec, Step}
@@ -15,8 +15,12 @@ use Rattle.v_trace.specs.Remaining.{IsNextStep, Remaining, acting, left_by, step
 use Rattle.v_trace.specs.Steps.{step_of}
 use Rattle.v_trace.specs.Traces.{has_actor}
 use Rattle.v_trace.specs.declared.trace.TraceRefusal.TheVariants as refusals
-use Rattle.v_obstacle.specs.Sights.{Agrees, Sight, answers_of, may_see, told_in, with_answer, with_line, with_lines, with_step, with_told}
+use Rattle.v_obstacle.specs.Sights.{Agrees, Sight, answers_of, may_see, steps_of, told_in, with_answer, with_line, with_lines, with_step, with_told}
 use Rattle.vk_explain.specs.declared.reading.Last.TheVariants as lasts
+use Rattle.vk_explain.specs.Observed.{asked_lines, observed_by, observed_from, seen_lines}
+use Rattle.vk_explain.specs.declared.words.Asked.{Asked}
+use Rattle.vk_explain.specs.declared.words.Asked.TheVariants as asks
+use Rattle.vk_text.specs.Heads.{head_text}
 use Rattle.vk_explain.specs.declared.reading.Reading.{Reading}
 use Rattle.vk_explain.specs.declared.fault.Fault.{Fault}
 use Rattle.vk_explain.specs.declared.fault.Fault.TheVariants as faults
@@ -44,6 +48,34 @@ noted_more k l (v ∷ vs) w e (d, allowed, a, rest) does =
     let short : noted_from k (v ∷ vs) ≡ notes k v.step + noted_from d.after vs =
     ap (λ (o : Option Effect). option_map_or (λ d. notes k v.step + noted_from d.after vs) o 0) allowed in
     omega (arith, long, short, noted_more d.after l vs w e rest does)
+
+-- and its lines stand behind those before
+pub lines_more : (k l : Kernel) (ws : List Sight) (w : Sight) (e : Effect) → IsSeenTo k ws l → effect l w.step ≡ Some e
+    → observed_from k (steps_of (ws ++ w ∷ [])) ≡ observed_from k (steps_of ws) ++ seen_lines w.step e.seen
+lines_more k l [] w e come does =
+    let here : effect k w.step ≡ Some e = subst (λ (x : Kernel). effect x w.step ≡ Some e) (sym come) does in
+    ap (λ (o : Option Effect). option_map_or (λ d. seen_lines w.step d.seen ++ []) o []) here ∙ append-nil (seen_lines w.step e.seen)
+lines_more k l (v ∷ vs) w e (d, allowed, a, rest) does =
+    ap (λ (o : Option Effect). option_map_or (λ d. seen_lines v.step d.seen ++ observed_from d.after (steps_of (vs ++ w ∷ []))) o [])
+    allowed
+    ∙ ap (λ t. seen_lines v.step d.seen ++ t) (lines_more d.after l vs w e rest does)
+    ∙ sym (append_assoc (seen_lines v.step d.seen) (observed_from d.after (steps_of vs)) (seen_lines w.step e.seen))
+    ∙ ap (λ (o : Option Effect). option_map_or (λ d. seen_lines v.step d.seen ++ observed_from d.after (steps_of vs)) o []
+    ++ seen_lines w.step e.seen) (sym allowed)
+
+pub observed_more : (asked : Asked) (specs : List ProcessSpec) (l : Kernel) (ws : List Sight) (w : Sight) (e : Effect)
+    → IsSeenTo (initial_kernel specs) ws l → effect l w.step ≡ Some e
+    → observed_by asked specs (steps_of (ws ++ w ∷ [])) ≡ observed_by asked specs (steps_of ws) ++ asked_lines asked w.step e.seen
+observed_more asks.Verdict specs l ws w e come does = refl
+observed_more asks.Answers specs l ws w e come does =
+    ap (λ t. head_text (codes "vkernel observed 1") specs ++ t) (lines_more (initial_kernel specs) l ws w e come does)
+    ∙ sym (append_assoc (head_text (codes "vkernel observed 1") specs) (observed_from (initial_kernel specs) (steps_of ws))
+    (seen_lines w.step e.seen))
+
+-- an answer that is told changes no step
+pub same_steps : (ws : List Sight) (s : Step) (a : List ℕ) → steps_of (ws ++ untold s ∷ []) ≡ steps_of (ws ++ told_of s a ∷ [])
+same_steps [] s a = refl
+same_steps (v ∷ vs) s a = ap (λ (ss : List Step). v.step ∷ ss) (same_steps vs s a)
 
 -- an answer is told of the last step
 mapped_if : {A B : Type 0} (f : A → B) (b : Bool) (x : A) → option_map f (cond b (Some x) None) ≡ cond b (Some (f x)) None
@@ -123,8 +155,9 @@ last_is specs ws k s after seen false come does may =
 pub stepped : (specs : List ProcessSpec) (ws : List Sight) (old new : Reading) (s : Step) (seen : Option Observation)
     → HasRead specs ws old → ((k : Kernel) → StandsFor old.machine k → Takes k s old.machine new.machine seen)
     → new.config ≡ old.config → new.answers ≡ old.answers → new.steps ≡ old.steps + 1 → new.last ≡ last_of s seen
+    → new.observed.items ≡ old.observed.items ++ asked_lines old.asked s seen → new.asked ≡ old.asked
     → HasRead specs (ws ++ untold s ∷ []) new
-stepped specs ws old new s seen had takes config answers steps last =
+stepped specs ws old new s seen had takes config answers steps last observed asked =
     let t = takes had.kernel had.stands in
     record {
       config = ap (λ (c : Settings). c.specs) config ∙ had.config;
@@ -137,6 +170,9 @@ stepped specs ws old new s seen had takes config answers steps last =
       answers = omega (arith, answers, had.answers, count_more ws (untold s));
       noted = t.noted ∙ ap (λ n. n + notes had.kernel s) had.noted
           ∙ sym (noted_more (initial_kernel specs) had.kernel ws (untold s) (record { after = t.after; seen = seen }) had.come t.is);
+      observed = observed ∙ ap (λ t. t ++ asked_lines old.asked s seen) had.observed
+          ∙ sym (observed_more old.asked specs had.kernel ws (untold s) (record { after = t.after; seen = seen }) had.come t.is)
+          ∙ ap (λ (a : Asked). observed_by a specs (steps_of (ws ++ untold s ∷ []))) (sym asked);
     }
 
 -- Behind an answer.
@@ -155,8 +191,8 @@ over vs s a b false may =
 pub answered : (specs : List ProcessSpec) (ws : List Sight) (old new : Reading) (a : List ℕ) (seen : Option Observation)
     → (had : HasRead specs ws old) → (is : IsSeenLast specs ws had.kernel seen) → Agrees (Some a) seen
     → new.config ≡ old.config → new.machine ≡ old.machine → new.steps ≡ old.steps → new.answers ≡ old.answers + 1 → new.last ≡ lasts.Over
-    → HasRead specs (is.before ++ told_of is.step a ∷ []) new
-answered specs ws old new a seen had is agrees config machine steps answers last = record {
+    → new.observed ≡ old.observed → new.asked ≡ old.asked → HasRead specs (is.before ++ told_of is.step a ∷ []) new
+answered specs ws old new a seen had is agrees config machine steps answers last observed asked = record {
   config = ap (λ (c : Settings). c.specs) config ∙ had.config;
   kernel = had.kernel;
   come = seen_more (initial_kernel specs) is.kernel is.before (told_of is.step a) (record { after = had.kernel; seen = seen }) is.come is.does agrees;
@@ -183,6 +219,9 @@ answered specs ws old new a seen had is agrees config machine steps answers last
       ∙ noted_more (initial_kernel specs) is.kernel is.before (untold is.step) (record { after = had.kernel; seen = seen }) is.come is.does
       ∙ sym (noted_more (initial_kernel specs) is.kernel is.before (told_of is.step a) (record { after = had.kernel; seen = seen }) is.come
       is.does);
+  observed = ap (λ t. t.items) observed ∙ had.observed ∙ ap (λ (xs : List Sight). observed_by old.asked specs (steps_of xs)) is.are
+      ∙ ap (observed_by old.asked specs) (same_steps is.before is.step a)
+      ∙ ap (λ (x : Asked). observed_by x specs (steps_of (is.before ++ told_of is.step a ∷ []))) (sym asked);
 }
 
 -- Lines more.
@@ -213,6 +252,7 @@ numbered tells specs ws line n r goes =
         steps = had.steps;
         answers = had.answers;
         noted = had.noted;
+        observed = had.observed;
       };
     }
 
@@ -224,16 +264,17 @@ pub record Comes (specs : List ProcessSpec) (ws : List Sight) (old new : Reading
   pub on : IsReadOn old.tells specs ws old.line before sights new.line
   pub read : HasRead specs sights new
   pub same : new.tells ≡ old.tells
+  pub asked : new.asked ≡ old.asked
 
 pub comes_first : (specs : List ProcessSpec) (ws : List Sight) (old : Reading) (all : List (List ℕ)) → HasRead specs ws old
     → Comes specs ws old old all all
 comes_first specs ws old all had =
-    record { before = []; are = refl; sights = ws; on = on_none old.tells specs ws old.line; read = had; same = refl }
+    record { before = []; are = refl; sights = ws; on = on_none old.tells specs ws old.line; read = had; same = refl; asked = refl }
 
 pub comes_more : (specs : List ProcessSpec) (ws : List Sight) (first old new : Reading) (all ls left : List (List ℕ)) (l : List ℕ)
     → (come : Comes specs ws first old all ls) → ls ≡ l ∷ left → Goes old.tells specs come.sights l new → new.tells ≡ old.tells
-    → new.line ≡ old.line + 1 → Comes specs ws first new all left
-comes_more specs ws first old new all ls left l come is goes tells line = record {
+    → new.asked ≡ old.asked → new.line ≡ old.line + 1 → Comes specs ws first new all left
+comes_more specs ws first old new all ls left l come is goes tells asked line = record {
   before = come.before ++ l ∷ [];
   are = come.are ∙ ap (λ (xs : List (List ℕ)). come.before ++ xs) is ∙ sym (append_assoc come.before (l ∷ []) left);
   sights = goes.sights;
@@ -242,6 +283,7 @@ comes_more specs ws first old new all ls left l come is goes tells line = record
       (subst (λ b. with_line b specs come.sights l ≡ Some goes.sights) come.same goes.reads));
   read = goes.read;
   same = tells ∙ come.same;
+  asked = asked ∙ come.asked;
 }
 
 pub comes_over : (specs : List ProcessSpec) (ws : List Sight) (first old : Reading) (all left : List (List ℕ))
@@ -253,6 +295,7 @@ comes_over specs ws first old all left come none =
       on = subst (λ xs. IsReadOn first.tells specs ws first.line xs come.sights old.line) (sym are) come.on;
       read = come.read;
       same = come.same;
+      asked = come.asked;
     }
 
 pub comes_wrong : (specs : List ProcessSpec) (ws : List Sight) (first old : Reading) (all ls left : List (List ℕ)) (l told : List ℕ) (f : Fault)

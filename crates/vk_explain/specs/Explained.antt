@@ -4,7 +4,9 @@ use Rattle.vk_types.specs.Types.{ProcessSpec}
 use Rattle.vk_base.specs.Kernel.{initial_kernel}
 use Rattle.vk_text.specs.Heads.{head_of}
 use Rattle.v_trace.specs.declared.trace.TraceRefusal.TheVariants as refusals
-use Rattle.v_obstacle.specs.Sights.{IsSeen, Sight, answers_of, behind_head, sights_of}
+use Rattle.v_obstacle.specs.Sights.{IsSeen, Sight, answers_of, behind_head, sights_of, steps_of}
+use Rattle.vk_explain.specs.declared.words.Asked.{Asked}
+use Rattle.vk_explain.specs.Observed.{observed_by}
 use Rattle.vk_explain.specs.Reading.{IsOverIn, IsWrongIn}
 use Rattle.vk_explain.specs.Told.{bad_line_text}
 
@@ -16,6 +18,14 @@ pub record IsRight (text : List ℕ) (steps answers : ℕ) : Type 0 where
   pub seen : IsSeen (initial_kernel specs) sights
   pub steps_are : steps ≡ length sights
   pub answers_are : answers ≡ length (answers_of sights)
+
+-- the steps are a run, the answers that it tells are those that the kernel gives to see, and this is the text with all of them
+pub record IsObserved (asked : Asked) (text observed : List ℕ) : Type 0 where
+  pub specs : List ProcessSpec
+  pub sights : List Sight
+  pub reads : sights_of text ≡ Ok (specs, sights)
+  pub seen : IsSeen (initial_kernel specs) sights
+  pub is : observed ≡ observed_by asked specs (steps_of sights)
 
 -- its first line is no title, and this is told
 pub record IsUntitled (text told : List ℕ) : Type 0 where

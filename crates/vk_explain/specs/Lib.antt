@@ -1,4 +1,6 @@
 pub mod Explained
+pub mod Observed
+pub mod Pages
 pub mod Reading
 pub mod Statuses
 pub mod Told

@@ -7,7 +7,11 @@ use Rattle.vk_base.specs.Kernel.{Kernel, initial_kernel}
 use Rattle.vk_base.specs.Steps.{effect}
 use Rattle.v_machine.specs.Apply.{most, notes}
 use Rattle.v_machine.specs.Follows.{StandsFor}
-use Rattle.v_obstacle.specs.Sights.{Agrees, Sight, answers_of, may_see, told_in, with_answer, with_line, with_lines}
+use Rattle.v_machine.specs.Spent.{lean_kernel}
+use Rattle.v_obstacle.specs.declared.obstacle.Obstacle.{Obstacle}
+use Rattle.v_obstacle.specs.Obstacles.{obstacle}
+use Rattle.v_obstacle.specs.Sights.{Agrees, Sight, answers_of, may_see, steps_of, told_in, with_answer, with_line, with_lines}
+use Rattle.vk_explain.specs.Observed.{observed_by}
 use Rattle.vk_explain.specs.declared.fault.Fault.{Fault}
 use Rattle.vk_explain.specs.declared.fault.Fault.TheVariants as faults
 use Rattle.vk_explain.specs.declared.fault.Stop.{Stop}
@@ -58,6 +62,7 @@ pub record HasRead (specs : List ProcessSpec) (ws : List Sight) (r : Reading) : 
   pub steps : r.steps ≡ length ws
   pub answers : r.answers ≡ length (answers_of ws)
   pub noted : r.machine.noted ≡ noted_from (initial_kernel specs) ws
+  pub observed : r.observed.items ≡ observed_by r.asked specs (steps_of ws)
 
 -- what may be told of a step, at which this is seen
 abbrev pub last_of : Step → Option Observation → Last
@@ -69,13 +74,14 @@ pub record Goes (tells : Bool) (specs : List ProcessSpec) (ws : List Sight) (lin
   pub reads : with_line tells specs ws line ≡ Some sights
   pub read : HasRead specs sights new
 
--- the line is a step that is not allowed behind these
-pub record IsRefusedAt (tells : Bool) (specs : List ProcessSpec) (ws : List Sight) (line : List ℕ) (number : ℕ) : Type 0 where
+-- the line is a step that is not allowed behind these, and this is why, where nothing is known of exchanges that are over
+pub record IsRefusedAt (tells : Bool) (specs : List ProcessSpec) (ws : List Sight) (line : List ℕ) (number : ℕ) (why : Obstacle) : Type 0 where
   pub kernel : Kernel
   pub step : Step
   pub come : IsSeenTo (initial_kernel specs) ws kernel
   pub reads : with_line tells specs ws line ≡ Some (ws ++ untold step ∷ [])
   pub refused : effect kernel step ≡ None
+  pub since : obstacle (lean_kernel kernel) step ≡ Some why
   pub counts : number ≡ length ws + 1
 
 -- the line tells of the last of these steps another answer than what is seen of it
@@ -103,7 +109,7 @@ IsUncounted ws number = (2 ^ 64 ≤ number + 1) ⊎ (2 ^ 64 ≤ length ws + 1) �
 -- what is wrong in a line of this number behind these steps
 abbrev pub IsFault : Bool → List ProcessSpec → List Sight → ℕ → List ℕ → Fault → Type 0
 IsFault tells specs ws number line (faults.BadLine n) = (n ≡ number) × (with_line tells specs ws line ≡ None)
-IsFault tells specs ws number line (faults.Refused step) = IsRefusedAt tells specs ws line step
+IsFault tells specs ws number line (faults.Refused step why) = IsRefusedAt tells specs ws line step why
 IsFault tells specs ws number line (faults.OtherAnswer step given) = IsOtherAt tells specs ws line step given
 IsFault tells specs ws number line faults.Limit = IsOverAt tells specs ws line ⊎ IsUncounted ws number
 IsFault tells specs ws number line faults.NoMemory = ⊤
@@ -143,6 +149,7 @@ pub record AreRead (specs : List ProcessSpec) (ws : List Sight) (ls : List (List
   pub on : IsReadOn old.tells specs ws old.line ls sights new.line
   pub read : HasRead specs sights new
   pub same : new.tells ≡ old.tells
+  pub asked : new.asked ≡ old.asked
 
 -- where the reading ends since something is wrong, this holds of what is told, and that where a limit was met
 abbrev pub Stops : (List ℕ → Type 0) → Type 0 → Stop → Type 0

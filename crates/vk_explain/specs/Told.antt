@@ -2,6 +2,8 @@
 use Rattle.std.specs.Prelude.{ℕ, List, ◌++◌, decimal, codes, Option, Some, None}
 use Rattle.vk_types.specs.Types.{Observation}
 use Rattle.v_trace.specs.Texts.{answer_text}
+use Rattle.v_obstacle.specs.declared.obstacle.Obstacle.{Obstacle}
+use Rattle.vk_why.specs.Reasons.{reason_text}
 use Rattle.vk_explain.specs.declared.fault.Fault.{Fault}
 use Rattle.vk_explain.specs.declared.fault.Fault.TheVariants as faults
 
@@ -24,13 +26,13 @@ given_text (Some seen) = answer_text seen.answer
 abbrev pub other_answer_text : ℕ → List ℕ → Option Observation → List ℕ
 other_answer_text step line given = step_text step ++ line ++ codes ", the kernel gives " ++ given_text given ++ codes "\n"
 
-abbrev pub refused_text : ℕ → List ℕ
-refused_text step = step_text step ++ codes "the step is not allowed\n"
+abbrev pub refused_text : ℕ → Obstacle → List ℕ
+refused_text step why = step_text step ++ reason_text why ++ codes "\n"
 
 -- what is told of what is wrong in this line; a limit and want of memory are told by the status
 abbrev pub fault_text : Fault → List ℕ → Option (List ℕ)
 fault_text (faults.BadLine number) line = Some (bad_line_text number line)
-fault_text (faults.Refused step) line = Some (refused_text step)
+fault_text (faults.Refused step why) line = Some (refused_text step why)
 fault_text (faults.OtherAnswer step given) line = Some (other_answer_text step line given)
 fault_text faults.Limit line = None
 fault_text faults.NoMemory line = None

@@ -3,13 +3,14 @@
 ghost use Rattle.std.specs.Prelude.{◌≡◌, ◌≤◌, ◌⊎◌, length, drop, None, Some, IfOk, IfErr, codes};
 ghost use Rattle.vk_text.specs.Heads.{head_of};
 ghost use Rattle.vk_text.specs.Lines.{lines_of};
-ghost use Rattle.vk_explain.specs.Explained.{IsOver, IsRight, IsTitled, IsWrong};
+ghost use Rattle.vk_explain.specs.Explained.{IsObserved, IsOver, IsRight, IsTitled, IsWrong};
 ghost use Rattle.vk_explain.specs.Reading.{Stops};
 ghost use Rattle.vk_explain.specs.Told.{bad_line_text};
 
 use crate::fault::Stop;
 use crate::reading::{Reading, behind};
 use crate::told::bad_line_text;
+use crate::words::Asked;
 use std::alloc::Global;
 use vk_base::NoMemory;
 use vk_text::{Head, HeadRefusal, next_line, read_head};
@@ -57,8 +58,9 @@ fn untitled(alloc: Global, line: &[u8]) -> Stop
 }
 
 /// Reads the text to its end, or to the first line in which something is wrong.
-pub(crate) fn explain(alloc: Global, text: &[u8]) -> Result<Reading, Stop>
+pub(crate) fn explain(alloc: Global, asked: Asked, text: &[u8]) -> Result<Reading, Stop>
     ensures right { IfOk result (λ r. IsRight text.now r.steps r.answers) }
+    ensures observed { IfOk result (λ r. IsObserved asked text.now r.observed.items) }
     ensures wrong { IfErr result (Stops (IsWrong text.now) (IsOver text.now)) }
 {
     let Titled { head, tells } = match read_title(alloc, text) {
@@ -66,10 +68,12 @@ pub(crate) fn explain(alloc: Global, text: &[u8]) -> Result<Reading, Stop>
         Err(HeadRefusal::NoMemory) => return Err(Stop::NoMemory),
         Err(HeadRefusal::NoTitle) => return Err(untitled(alloc, first_line(text))),
     };
-    let mut reading = match Reading::new(alloc, head.config, tells) {
+    let mut reading = match Reading::new(alloc, head.config, tells, asked) {
         Ok(reading) => reading,
         Err(NoMemory) => return Err(Stop::NoMemory),
     };
-    reading.take_lines(alloc, behind(text, head.at))?;
-    Ok(reading)
+    match reading.take_lines(alloc, behind(text, head.at)) {
+        Ok(()) => Ok(reading),
+        Err(stop) => Err(stop),
+    }
 }

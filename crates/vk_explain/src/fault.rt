@@ -1,5 +1,6 @@
 //! What is wrong in a text.
 
+use v_obstacle::Obstacle;
 use vk_base::Observation;
 
 /// Why the reading of a text ends at one of its lines.
@@ -9,9 +10,10 @@ pub(crate) enum Fault {
     BadLine {
         line: u64,
     },
-    /// This step, counted from 1, is not allowed.
+    /// This step, counted from 1, is not allowed, and this is why.
     Refused {
         step: u64,
+        why: Obstacle,
     },
     /// Behind this step another answer is told than the one that the kernel gives, if it gives one.
     OtherAnswer {

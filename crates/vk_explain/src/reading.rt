@@ -1,24 +1,35 @@
 //! The lines of a text, one after another: each step is applied, and each answer that is told is compared.
 
-ghost use Rattle.std.specs.Prelude.{◌≡◌, ◌≤◌, ◌+◌, ◌∷◌, ℕ, List, [], if◌then◌else◌, length, drop, Some, None, option_map, IfOk, IfErr, OnOk, bytes_eq};
+ghost use Rattle.std.specs.Prelude.{◌≡◌, ◌≤◌, ◌+◌, ◌∷◌, ◌++◌, ℕ, List, [], if◌then◌else◌, length, drop, Some, None, option_map, IfOk, IfErr, OnOk, bytes_eq};
 ghost use Rattle.vk_types.specs.Types.{ProcessSpec};
+ghost use Rattle.vk_base.specs.Kernel.{Kernel};
+ghost use Rattle.vk_base.specs.Steps.{effect};
 ghost use Rattle.vk_text.specs.Lines.{lines_of, words_from};
+ghost use Rattle.v_machine.specs.Follows.{StandsFor};
+ghost use Rattle.v_machine.specs.Spent.{lean_kernel};
+ghost use Rattle.v_machine.specs.Tables.{kernel_of};
 ghost use Rattle.v_trace.specs.Remaining.{acting};
 ghost use Rattle.v_trace.specs.Steps.{step_of};
 ghost use Rattle.v_trace.specs.Texts.{answer_text};
+ghost use Rattle.v_obstacle.specs.Obstacles.{obstacle};
 ghost use Rattle.v_obstacle.specs.Sights.{Sight, may_see, told_in, with_line};
+ghost use Rattle.vk_explain.specs.Observed.{asked_lines};
 ghost use Rattle.vk_explain.specs.Reading.{AreRead, Goes, HasRead, IsFault, IsOverIn, IsWrongIn, Stops, last_of};
 ghost use Rattle.vk_explain.specs.Told.{fault_text};
 
 use crate::fault::{Fault, Stop};
+use crate::observing::{begun, put_seen};
 use crate::told::fault_text;
+use crate::words::Asked;
 use std::alloc::Global;
 use std::mem;
 use v_machine::{ApplyRefusal, LeanMachine};
+use v_obstacle::Obstacle;
 use v_trace::{StepBuffer, StepReader, put_answer};
 use vk_base::{Config, NoMemory, Observation, Pid};
 use vk_brief::BriefStep;
 use vk_text::{empty_config, leads, next_line};
+use vk_why::why;
 
 /// Any pid.
 const FIRST: Pid = Pid { host: 1, local: 1 };
@@ -45,6 +56,9 @@ pub(crate) struct Reading {
     /// The number of the next line.
     line: u64,
     last: Last,
+    asked: Asked,
+    /// The steps with their answers, where they are asked for.
+    observed: Vec<u8>,
 }
 
 /// The step of the first line of this text, where it is one that these processes may have.
@@ -108,14 +122,41 @@ fn told_in(tells: bool, line: &[u8]) -> Option<&[u8]>
     }
 }
 
+/// The lines of a step, at which this is seen, where they are asked for.
+fn put_asked(
+    alloc: Global,
+    asked: Asked,
+    into: &mut Vec<u8>,
+    step: &StepBuffer,
+    seen: &Option<Observation>,
+) -> Result<(), Fault>
+    ensures text { OnOk result (into.new.items ≡ into.old.items ++ asked_lines asked step.now seen.now) }
+    ensures err { IfErr result (λ f. f ≡ Fault.NoMemory) }
+{
+    match asked {
+        Asked::Verdict => Ok(()),
+        Asked::Answers => match put_seen(alloc, into, &step.view(), seen) {
+            Ok(()) => Ok(()),
+            Err(NoMemory) => Err(Fault::NoMemory),
+        },
+    }
+}
+
 impl Reading {
     /// Nothing of the text was read but its head.
-    pub(crate) fn new(alloc: Global, config: Config, tells: bool) -> Result<Reading, NoMemory>
+    pub(crate) fn new(
+        alloc: Global,
+        config: Config,
+        tells: bool,
+        asked: Asked,
+    ) -> Result<Reading, NoMemory>
         ensures read { IfOk result (HasRead config.specs []) }
         ensures tells { IfOk result (λ r. r.tells ≡ tells) }
+        ensures asked { IfOk result (λ r. r.asked ≡ asked) }
         ensures line { IfOk result (λ r. r.line ≡ length config.specs + 2) }
     {
         let machine = LeanMachine::new(alloc, &config)?;
+        let observed = begun(alloc, asked, &config)?;
         let line = config.specs().len() as u64 + 2;
         Ok(Reading {
             config,
@@ -125,6 +166,8 @@ impl Reading {
             answers: 0,
             line,
             last: Last::Over,
+            asked,
+            observed,
         })
     }
 
@@ -142,6 +185,13 @@ impl Reading {
         self.answers
     }
 
+    /// The steps with their answers, where they are asked for.
+    pub(crate) fn into_observed(self) -> Vec<u8>
+        ensures { result ≡ self.observed }
+    {
+        self.observed
+    }
+
     /// The answer that a line tells of the last step.
     fn take_answer(&mut self, alloc: Global, told: &[u8]) -> Result<(), Fault>
         ensures more { OnOk result ((specs : List ProcessSpec) (ws : List Sight) (line : List ℕ) → HasRead specs ws self.old →
@@ -149,6 +199,7 @@ impl Reading {
         ensures wrong { IfErr result (λ f. (specs : List ProcessSpec) (ws : List Sight) (line : List ℕ) → HasRead specs ws self.old →
             told_in self.old.tells line ≡ Some told.now → IsFault self.old.tells specs ws self.old.line line f) }
         ensures tells { self.new.tells ≡ self.old.tells }
+        ensures asked { self.new.asked ≡ self.old.asked }
     {
         let Some(answers) = self.answers.checked_add(1) else {
             return Err(Fault::Limit);
@@ -182,6 +233,7 @@ impl Reading {
             HasRead specs ws self.old → lines_of text.now ≡ line ∷ ls → told_in self.old.tells line ≡ None →
             IsFault self.old.tells specs ws self.old.line line f) }
         ensures tells { self.new.tells ≡ self.old.tells }
+        ensures asked { self.new.asked ≡ self.old.asked }
     {
         let Some(steps) = self.steps.checked_add(1) else {
             return Err(Fault::Limit);
@@ -192,11 +244,15 @@ impl Reading {
         }
         match self.machine.advance(alloc, &step.view()) {
             Ok(seen) => {
+                put_asked(alloc, self.asked, &mut self.observed, &step, &seen)?;
                 self.steps = steps;
                 self.last = last_of(&step, seen);
                 Ok(())
             }
-            Err(ApplyRefusal::NotAllowed) => Err(Fault::Refused { step: steps }),
+            Err(ApplyRefusal::NotAllowed) => Err(Fault::Refused {
+                step: steps,
+                why: why_refused(&self.machine, &step),
+            }),
             Err(ApplyRefusal::Limit) => Err(Fault::Limit),
             Err(ApplyRefusal::NoMemory) => Err(Fault::NoMemory),
         }
@@ -210,6 +266,7 @@ impl Reading {
             HasRead specs ws self.old → lines_of text.now ≡ line.now ∷ ls →
             IsFault self.old.tells specs ws self.old.line line.now f) }
         ensures tells { self.new.tells ≡ self.old.tells }
+        ensures asked { self.new.asked ≡ self.old.asked }
     {
         match told_in(self.tells, line) {
             Some(told) => self.take_answer(alloc, told),
@@ -225,6 +282,7 @@ impl Reading {
             HasRead specs ws self.old → lines_of text.now ≡ line.now ∷ ls →
             IsFault self.old.tells specs ws self.old.line line.now f) }
         ensures tells { self.new.tells ≡ self.old.tells }
+        ensures asked { self.new.asked ≡ self.old.asked }
         ensures line { OnOk result (self.new.line ≡ self.old.line + 1) }
     {
         let Some(next) = self.line.checked_add(1) else {
@@ -252,6 +310,14 @@ impl Reading {
         }
         Ok(())
     }
+}
+
+/// Why the machine refuses the step.
+fn why_refused(machine: &LeanMachine, step: &StepBuffer) -> Obstacle
+    requires { effect (kernel_of machine.now) step.now ≡ None }
+    ensures { (k : Kernel) → StandsFor machine.now k → obstacle (lean_kernel k) step.now ≡ Some result }
+{
+    why(machine, &step.view())
 }
 
 /// What may be told of this step, at which this is seen.

@@ -7,7 +7,7 @@ use vk_edge::{numbers, put_short, short_text};
 /// What a call of the program ended with.
 #[derive(Clone, Copy, Debug, PartialEq, Eq)]
 pub enum Status {
-    /// All was read, and nothing is wrong.
+    /// All was read, and nothing is wrong; or a page was asked for, and is told.
     Right,
     /// Something is wrong, and told.
     Wrong,
@@ -48,7 +48,9 @@ impl Status {
         match *self {
             Status::Right => ArrayVec::new(),
             Status::Wrong => ArrayVec::new(),
-            Status::Usage => short_text(b"vkexplain: usage: vkexplain"),
+            Status::Usage => short_text(
+                b"vkexplain: usage: vkexplain [--answers | --help | --version]",
+            ),
             Status::ReadFault => short_text(b"vkexplain: reading failed"),
             Status::WriteFault => short_text(b"vkexplain: writing failed"),
             Status::NoMemory => short_text(b"vkexplain: out of memory"),
@@ -58,6 +60,11 @@ impl Status {
 }
 
 impl fmt::Display for Status {
+    ghost use Rattle.std.specs.Prelude.{Some};
+    ghost use Rattle.vk_explain.specs.Statuses.{text_of};
+
+    ghost output = { λ s. Some (text_of s) };
+
     fn fmt<W: fmt::Write>(&self, f: &mut fmt::Formatter<W>) -> fmt::Result {
         put_short(self.text().as_slice(), f)
     }

@@ -5,9 +5,11 @@ ghost use Rattle.vk_explain.specs.Told.{bad_line_text, fault_text, given_text, o
 
 use crate::fault::Fault;
 use std::alloc::Global;
+use v_obstacle::Obstacle;
 use v_trace::put_answer;
 use vk_base::{NoMemory, Observation};
 use vk_text::{put, put_number};
+use vk_why::put_reason;
 
 /// `yes STEPS ANSWERS`
 pub(crate) fn right_text(alloc: Global, steps: u64, answers: u64) -> Result<Vec<u8>, NoMemory>
@@ -73,12 +75,13 @@ fn other_answer_text(
     Ok(text)
 }
 
-/// `no STEP: the step is not allowed`
-fn refused_text(alloc: Global, step: u64) -> Result<Vec<u8>, NoMemory>
-    ensures { IfOk result (λ text. text.items ≡ refused_text step) }
+/// `no STEP: REASON`
+fn refused_text(alloc: Global, step: u64, why: &Obstacle) -> Result<Vec<u8>, NoMemory>
+    ensures { IfOk result (λ text. text.items ≡ refused_text step why.now) }
 {
     let mut text = step_text(alloc, step)?;
-    put(&mut text, b"the step is not allowed\n")?;
+    put_reason(alloc, &mut text, why)?;
+    put(&mut text, b"\n")?;
     Ok(text)
 }
 
@@ -93,7 +96,7 @@ pub(crate) fn fault_text(
 {
     let text = match fault {
         Fault::BadLine { line: number } => bad_line_text(alloc, *number, line)?,
-        Fault::Refused { step } => refused_text(alloc, *step)?,
+        Fault::Refused { step, why } => refused_text(alloc, *step, why)?,
         Fault::OtherAnswer { step, given } => other_answer_text(alloc, *step, line, given)?,
         Fault::Limit => return Ok(None),
         Fault::NoMemory => return Err(NoMemory),

@@ -21,7 +21,8 @@ packet_words (MoveRequest from to number moving src total offset) =
     codes "moverequest" ∷ pid_text from ∷ pid_text to ∷ decimal number ∷ decimal moving ∷ decimal src ∷ decimal total ∷ decimal offset ∷ []
 packet_words (MoveBytes from to number moving total offset bytes) =
     codes "movebytes" ∷ pid_text from ∷ pid_text to ∷ decimal number ∷ decimal moving ∷ decimal total ∷ decimal offset ∷ []
-packet_words (MoveNegative from to number moving) = codes "movenegative" ∷ pid_text from ∷ pid_text to ∷ decimal number ∷ decimal moving ∷ []
+packet_words (MoveNegative from to number moving) =
+    codes "movenegative" ∷ pid_text from ∷ pid_text to ∷ decimal number ∷ decimal moving ∷ []
 packet_words (AskPid asker lookup logical) = codes "askpid" ∷ pid_text asker ∷ decimal lookup ∷ decimal logical ∷ []
 packet_words (TellPid found asker lookup) = codes "tellpid" ∷ pid_text found ∷ pid_text asker ∷ decimal lookup ∷ []
 

@@ -45,6 +45,11 @@ pub done_flushed : (Flushed : Type 0) (s : Status) → (¬ (s ≡ status.WriteFa
 done_flushed Flushed s flushed is =
     flushed (λ failed. let clash : status.Done ≡ status.WriteFault = sym is ∙ failed in grind (arith, clash))
 
+-- what was flushed, or not written, since a point at which nothing was written is so from the beginning
+pub flushed_since : {O : Type 0} (old mid new : O) (Flushed : Type 0) → mid ≡ old → (new ≡ mid) ⊎ Flushed → (new ≡ old) ⊎ Flushed
+flushed_since old mid new Flushed none (inl same) = inl (same ∙ none)
+flushed_since old mid new Flushed none (inr flushed) = inr flushed
+
 -- an input that was not read
 
 not_behind : (r : ReadRefusal) → IsBehindText (unread r) → ⊥

@@ -3,6 +3,7 @@ pub mod Check
 pub mod Checking
 pub mod Jobs
 pub mod Joins
+pub mod Limits
 pub mod Nodes
 pub mod Pieces
 pub mod Playing

@@ -2,7 +2,6 @@
 use Rattle.std.specs.Prelude.{ℕ, List, [], ◌++◌, codes, decimal}
 use Rattle.v_trace.specs.declared.trace.TraceRefusal.{TraceRefusal}
 use Rattle.v_trace.specs.declared.trace.TraceRefusal.TheVariants as traces
-use Rattle.vk_edge.specs.declared.numbers.TheConstants.{BAD_INPUT, DONE, LIMIT, NO_MEMORY, READ_FAULT, USAGE, WRITE_FAULT}
 use Rattle.vk_io.specs.declared.whole.ReadRefusal.{ReadRefusal}
 use Rattle.vk_io.specs.declared.whole.ReadRefusal.TheVariants as reads
 use Rattle.vk_schedule.specs.declared.schedule.TextRefusal.{TextRefusal}
@@ -15,15 +14,15 @@ use Rattle.vk_top.specs.declared.status.Status.{Status}
 use Rattle.vk_top.specs.declared.status.Status.TheVariants as status
 
 abbrev pub number_of : Status → ℕ
-number_of status.Done = DONE
+number_of status.Done = 0
 number_of (status.NotARun step) = 1
-number_of status.Usage = USAGE
-number_of (status.BadInput line) = BAD_INPUT
-number_of status.ReadFault = READ_FAULT
-number_of status.WriteFault = WRITE_FAULT
-number_of status.NoMemory = NO_MEMORY
+number_of status.Usage = 2
+number_of (status.BadInput line) = 3
+number_of status.ReadFault = 4
+number_of status.WriteFault = 5
+number_of status.NoMemory = 6
 number_of status.CrewFault = 7
-number_of status.Limit = LIMIT
+number_of status.Limit = 8
 number_of status.LinkFault = 9
 number_of (status.Stray host event) = 10
 number_of status.Waiting = 11

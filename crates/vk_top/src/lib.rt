@@ -34,7 +34,7 @@ mod top;
 mod whole;
 mod words;
 
-pub use law::verdicts_are_exact;
+pub use law::{limits_are_their_numbers, verdicts_are_exact};
 pub use program::TopProgram;
 pub use status::Status;
 pub use top::vkernel_alone;

@@ -1,6 +1,6 @@
 //! `run`: all stations of a scenario, beside each other.
 
-ghost use Rattle.std.specs.Prelude.{◌≡◌, ◌≤◌, ◌+◌, ◌-◌, ◌^◌, min, length, Ok, IfOk, IfErr, OnOk};
+ghost use Rattle.std.specs.Prelude.{◌≡◌, ◌≢◌, ◌≤◌, ◌⊎◌, ◌+◌, ◌-◌, ◌^◌, min, length, Ok, IfOk, IfErr, OnOk};
 ghost use Rattle.vk_base.specs.declared.limits.TheConstants.{INPUT_BYTES};
 ghost use Rattle.vk_edge.specs.Answers.{CountsFaults, TellsFaults};
 ghost use Rattle.v_run.specs.Ran.{IsRun};
@@ -118,6 +118,7 @@ fn answer_run<K: Sink, C: Crew, P: Pacer + Send, R: Wait + Threads + Clock + Syn
         (IsRunFailure (C.job_count crew.old) (C.job_count crew.new)) (output.new ≡ output.old) (crew.new ≡ crew.old)
         text.now (K.written output.old) (K.written output.new) result }
     ensures flushed { result ≡ Status.Done → K.flushed output.new }
+    ensures all_flushed { result ≢ Status.WriteFault → (output.new ≡ output.old) ⊎ K.flushed output.new }
     ensures write_count { CountsFaults Status.WriteFault result (K.fault_count output.old) (K.fault_count output.new) }
     ensures crew_faults { TellsFaults Status.CrewFault result (C.fault_count crew.old) (C.fault_count crew.new) }
     ensures write_faults_never_fall { K.fault_count output.old ≤ K.fault_count output.new }
@@ -142,6 +143,7 @@ pub(crate) fn run<S: Source, K: Sink, C: Crew, P: Pacer + Send, R: Wait + Thread
         (S.left input.old) (S.left input.new) (C.job_count crew.old) (C.job_count crew.new)
         (K.written output.old) (K.written output.new) result }
     ensures flushed { result ≡ Status.Done → K.flushed output.new }
+    ensures all_flushed { result ≢ Status.WriteFault → (output.new ≡ output.old) ⊎ K.flushed output.new }
     ensures read_count { CountsFaults Status.ReadFault result (S.fault_count input.old) (S.fault_count input.new) }
     ensures write_count { CountsFaults Status.WriteFault result (K.fault_count output.old) (K.fault_count output.new) }
     ensures crew_faults { TellsFaults Status.CrewFault result (C.fault_count crew.old) (C.fault_count crew.new) }

@@ -103,6 +103,11 @@ fn stray_text(host: u16, event: u64) -> ArrayVec<u8, 96>
 }
 
 impl fmt::Display for Status {
+    ghost use Rattle.std.specs.Prelude.{Some};
+    ghost use Rattle.vk_top.specs.Statuses.{text_of};
+
+    ghost output = { λ s. Some (text_of s) };
+
     fn fmt<W: fmt::Write>(&self, f: &mut fmt::Formatter<W>) -> fmt::Result {
         put_short(self.text().as_slice(), f)
     }

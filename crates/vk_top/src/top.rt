@@ -219,6 +219,7 @@ fn serve<S: Source, K: Sink>(
         (K.written output.old) (K.written output.new) result }
     ensures nothing { IsEarly result → output.new ≡ output.old }
     ensures flushed { result ≡ Status.Done → K.flushed output.new }
+    ensures all_flushed { result ≢ Status.WriteFault → (output.new ≡ output.old) ⊎ K.flushed output.new }
     ensures read_count { CountsFaults Status.ReadFault result (S.fault_count input.old) (S.fault_count input.new) }
     ensures write_count { CountsFaults Status.WriteFault result (K.fault_count output.old) (K.fault_count output.new) }
     ensures read_faults_never_fall { S.fault_count input.old ≤ S.fault_count input.new }
@@ -235,6 +236,7 @@ fn storm<K: Sink>(alloc: Global, n: u32, output: &mut K) -> Status
     requires { n ≤ EVENTS }
     ensures answered { IsStormAnswered (output.new ≡ output.old) n (K.written output.old) (K.written output.new) result }
     ensures flushed { result ≡ Status.Done → K.flushed output.new }
+    ensures all_flushed { result ≢ Status.WriteFault → (output.new ≡ output.old) ⊎ K.flushed output.new }
     ensures count { CountsFaults Status.WriteFault result (K.fault_count output.old) (K.fault_count output.new) }
     ensures nothing { IsEarly result → output.new ≡ output.old }
     ensures never_falls { K.fault_count output.old ≤ K.fault_count output.new }
@@ -278,8 +280,9 @@ pub fn vkernel_alone<S: Source, K: Sink>(
         ((result ≡ None) ⊎ (result ≡ Some Status.NoMemory)) × (input.new ≡ input.old) × (output.new ≡ output.old) }
     ensures answer { IfSome result (IsAloneAnswer (input.new ≡ input.old) (output.new ≡ output.old) (map string_bytes words.now)
         (S.left input.old) (S.left input.new) (K.written output.old) (K.written output.new)) }
-    // At Done what was written is flushed.
+    // What was written is flushed, unless a write failed, or the flush did: at Done, and at each other answer that writes a text.
     ensures flushed { IfSome result (λ s. s ≡ Status.Done → K.flushed output.new) }
+    ensures all_flushed { IfSome result (λ s. s ≢ Status.WriteFault → (output.new ≡ output.old) ⊎ K.flushed output.new) }
 
     // ReadFault and WriteFault are answered only where a fault of the input and of the output was counted, and every such fault is told so.
     ensures read_faults { IfSome result (λ s. TellsFaults Status.ReadFault s (S.fault_count input.old) (S.fault_count input.new)) }

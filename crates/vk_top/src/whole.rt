@@ -1,6 +1,6 @@
 //! The whole top call: what runs in threads, and behind it all that needs no runtime.
 
-ghost use Rattle.std.specs.Prelude.{◌≡◌, ◌≤◌, ℕ, false, Some, map, string_bytes};
+ghost use Rattle.std.specs.Prelude.{◌≡◌, ◌≢◌, ◌≤◌, ◌⊎◌, ℕ, false, Some, map, string_bytes};
 ghost use Rattle.vk_edge.specs.Answers.{TellsFaults};
 ghost use Rattle.vk_top.specs.Jobs.{IsAloneAnswer};
 ghost use Rattle.vk_top.specs.Nodes.{IsNodeAnswer, Passed};
@@ -66,8 +66,9 @@ pub fn vkernel<
         (S.left input.old) (S.left input.new)
         (record { handed = W.handed wire.old; jobs = C.job_count crew.old })
         (record { handed = W.handed wire.new; jobs = C.job_count crew.new }) (K.written output.old) (K.written output.new) result }
-    // At Done what was written is flushed.
+    // What was written is flushed, unless a write failed, or the flush did: at Done, and at each other answer that writes a text.
     ensures flushed { result ≡ Status.Done → K.flushed output.new }
+    ensures all_flushed { result ≢ Status.WriteFault → (output.new ≡ output.old) ⊎ K.flushed output.new }
 
     // ReadFault, WriteFault, CrewFault and LinkFault are answered only where a fault of the input, the output, the crew and the wire was
     // counted, and every such fault is told so. The counts never fall.

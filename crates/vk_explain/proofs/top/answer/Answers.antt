@@ -5,23 +5,23 @@ use Rattle.vk_explain.proofs.Answered.{answer_other, quiet_kinds, quiet_limit, s
 use Rattle.vk_explain.proofs.top.answer.Goals as goal
 
 pub write_text-requires : goal.write_text-requires
-write_text-requires g c = told_other c.args.text.now c.in-Ok.told.text.items c.in-Ok.told.status c.in-Ok.ensures.told
+write_text-requires g c = told_other c.args.asked c.args.text.now c.in-Ok.told.text.items c.in-Ok.told.status c.in-Ok.ensures.told
 
 pub returns-in-Ok-clause-written : goal.returns-in-Ok-clause-written
 returns-in-Ok-clause-written g c =
-    said c.args.text.now _ _ _ _ _ (subst (λ b. IsTold c.args.text.now b c.in-Ok.told.status) (sym c.deref.ensures.value) c.in-Ok.ensures.told)
+    said c.args.asked c.args.text.now _ _ _ _ _ (subst (λ b. IsTold c.args.asked c.args.text.now b c.in-Ok.told.status) (sym c.deref.ensures.value) c.in-Ok.ensures.told)
     c.write_text.ensures.written
 
 pub returns-in-Ok-clause-kinds : goal.returns-in-Ok-clause-kinds
 returns-in-Ok-clause-kinds g c =
-    said_kinds c.args.text.now _ _ _ _ _ (subst (λ b. IsTold c.args.text.now b c.in-Ok.told.status) (sym c.deref.ensures.value) c.in-Ok.ensures.told)
+    said_kinds c.args.asked c.args.text.now _ _ _ _ _ (subst (λ b. IsTold c.args.asked c.args.text.now b c.in-Ok.told.status) (sym c.deref.ensures.value) c.in-Ok.ensures.told)
     c.write_text.ensures.written
 
 pub returns-in-Ok-clause-front : goal.returns-in-Ok-clause-front
 returns-in-Ok-clause-front g c = λ fault. record {
   told = c.deref.result.now;
   status_is = c.in-Ok.told.status;
-  is = subst (λ b. IsTold c.args.text.now b c.in-Ok.told.status) (sym c.deref.ensures.value) c.in-Ok.ensures.told;
+  is = subst (λ b. IsTold c.args.asked c.args.text.now b c.in-Ok.told.status) (sym c.deref.ensures.value) c.in-Ok.ensures.told;
   count = c.write_text.ensures.front.0;
   output = c.write_text.ensures.front.1;
 }
@@ -46,8 +46,8 @@ returns-in-Err-clause-count g c = inr ((quiet_kinds c.in-Err.status (IsOver c.ar
 
 pub returns-in-Ok-clause-nothing : goal.returns-in-Ok-clause-nothing
 returns-in-Ok-clause-nothing g c =
-    λ early. absurd (said_late c.args.text.now _ _ _ _ _
-    (subst (λ b. IsTold c.args.text.now b c.in-Ok.told.status) (sym c.deref.ensures.value) c.in-Ok.ensures.told)
+    λ early. absurd (said_late c.args.asked c.args.text.now _ _ _ _ _
+    (subst (λ b. IsTold c.args.asked c.args.text.now b c.in-Ok.told.status) (sym c.deref.ensures.value) c.in-Ok.ensures.told)
     c.write_text.ensures.written early)
 
 pub returns-in-Err-clause-nothing : goal.returns-in-Err-clause-nothing
@@ -55,8 +55,8 @@ returns-in-Err-clause-nothing g c = λ early. refl
 
 pub returns-in-Ok-clause-limit : goal.returns-in-Ok-clause-limit
 returns-in-Ok-clause-limit g c =
-    λ is. absurd (said_late c.args.text.now _ _ _ _ _
-    (subst (λ b. IsTold c.args.text.now b c.in-Ok.told.status) (sym c.deref.ensures.value) c.in-Ok.ensures.told)
+    λ is. absurd (said_late c.args.asked c.args.text.now _ _ _ _ _
+    (subst (λ b. IsTold c.args.asked c.args.text.now b c.in-Ok.told.status) (sym c.deref.ensures.value) c.in-Ok.ensures.told)
     c.write_text.ensures.written (subst IsEarly (sym is) tt))
 
 pub returns-in-Err-clause-limit : goal.returns-in-Err-clause-limit

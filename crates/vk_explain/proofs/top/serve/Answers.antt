@@ -6,11 +6,11 @@ use Rattle.vk_explain.proofs.top.serve.Goals as goal
 
 pub returns-in-Ok-clause-written : goal.returns-in-Ok-clause-written
 returns-in-Ok-clause-written g c =
-    λ is. of_said _ _ _ _ _ _ _ c.in-Ok.ensures.text c.deref.ensures.value (c.answer.ensures.written is)
+    λ is. of_said c.args.asked _ _ _ _ _ _ _ c.in-Ok.ensures.text c.deref.ensures.value (c.answer.ensures.written is)
 
 pub returns-in-Ok-clause-front : goal.returns-in-Ok-clause-front
 returns-in-Ok-clause-front g c =
-    λ is. of_front _ _ _ _ _ _ c.in-Ok.ensures.text c.deref.ensures.value (c.answer.ensures.front is)
+    λ is. of_front c.args.asked _ _ _ _ _ _ c.in-Ok.ensures.text c.deref.ensures.value (c.answer.ensures.front is)
 
 pub returns-in-Ok-clause-read_count : goal.returns-in-Ok-clause-read_count
 returns-in-Ok-clause-read_count g c = inr (c.answer.ensures.kinds.1, c.in-Ok.ensures.cause)

@@ -1,4 +1,4 @@
-use Rattle.std.proofs.Common.{◌≡◌, inr, refl}
+use Rattle.std.proofs.Common.{◌≡◌, inr, refl, inl}
 use Rattle.vk_edge.proofs.Answers.{other_than}
 use Rattle.vk_top.proofs.Outcomes.{done_flushed}
 use Rattle.vk_top.proofs.Threaded.{run_refused, work_late, work_written, written_tells}
@@ -17,6 +17,9 @@ returns-in-Ok-clause-answered g c =
 pub returns-in-Ok-clause-flushed : goal.returns-in-Ok-clause-flushed
 returns-in-Ok-clause-flushed g c = done_flushed _ _ c.write_work.ensures.flushed
 
+pub returns-in-Ok-clause-all_flushed : goal.returns-in-Ok-clause-all_flushed
+returns-in-Ok-clause-all_flushed g c = λ whole. inr (c.write_work.ensures.flushed whole)
+
 pub returns-in-Ok-clause-crew_faults : goal.returns-in-Ok-clause-crew_faults
 returns-in-Ok-clause-crew_faults g c =
     written_tells _ _ _ _ _ _ _ _ tt (work_late _ _ _ _ c.in-Ok.ensures.work) c.write_work.ensures.written c.in-Ok.ensures.kept.0
@@ -34,6 +37,9 @@ returns-in-Err-clause-flushed g c =
     let Unasked = (c.node_work.new.crew ≡ c.args.crew.now) × (c.node_work.new.wire ≡ c.args.wire.now) in
     let Refusal = IsThreadedRefusal (node_asked c.args.asked.now.host) Failure Unasked c.args.asked.now.text.now in
     λ is. absurd (other_than Refusal c.in-Err.status status.Done c.in-Err.ensures.refused (λ none. none) is)
+
+pub returns-in-Err-clause-all_flushed : goal.returns-in-Err-clause-all_flushed
+returns-in-Err-clause-all_flushed g c = λ whole. inl refl
 
 pub returns-in-Err-clause-write_count : goal.returns-in-Err-clause-write_count
 returns-in-Err-clause-write_count g c =

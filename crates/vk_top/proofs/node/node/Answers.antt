@@ -19,6 +19,9 @@ returns-in-Err-clause-answer g c =
 pub returns-in-Err-clause-flushed : goal.returns-in-Err-clause-flushed
 returns-in-Err-clause-flushed g c = λ is. absurd (unread_other c.in-Err.refusal _ status.Done c.from.ensures tt is)
 
+pub returns-in-Err-clause-all_flushed : goal.returns-in-Err-clause-all_flushed
+returns-in-Err-clause-all_flushed g c = λ whole. inl refl
+
 pub returns-in-Err-clause-read_count : goal.returns-in-Err-clause-read_count
 returns-in-Err-clause-read_count g c = unread_counts c.in-Err.refusal _ _ _ c.from.ensures c.in-Err.ensures.cause
 

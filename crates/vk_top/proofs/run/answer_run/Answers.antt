@@ -1,4 +1,4 @@
-use Rattle.std.proofs.Common.{◌≡◌, inr, refl}
+use Rattle.std.proofs.Common.{◌≡◌, inr, refl, inl}
 use Rattle.vk_edge.proofs.Answers.{other_than}
 use Rattle.vk_top.proofs.Outcomes.{done_flushed}
 use Rattle.vk_top.proofs.Threaded.{run_refused, work_late, work_written, written_tells}
@@ -17,6 +17,9 @@ returns-in-Ok-clause-answered g c =
 pub returns-in-Ok-clause-flushed : goal.returns-in-Ok-clause-flushed
 returns-in-Ok-clause-flushed g c = done_flushed _ _ c.write_work.ensures.flushed
 
+pub returns-in-Ok-clause-all_flushed : goal.returns-in-Ok-clause-all_flushed
+returns-in-Ok-clause-all_flushed g c = λ whole. inr (c.write_work.ensures.flushed whole)
+
 pub returns-in-Ok-clause-crew_faults : goal.returns-in-Ok-clause-crew_faults
 returns-in-Ok-clause-crew_faults g c =
     written_tells _ _ _ _ _ _ _ _ tt (work_late _ _ _ _ c.in-Ok.ensures.work) c.write_work.ensures.written c.in-Ok.ensures.kept
@@ -29,6 +32,9 @@ returns-in-Err-clause-flushed g c =
     let Failure = IsRunFailure (g.C.Crew.job_count c.args.crew.now) (g.C.Crew.job_count c.run_text.new.crew) in
     let Refusal = IsThreadedRefusal run_asked Failure (c.run_text.new.crew ≡ c.args.crew.now) c.args.text.now in
     λ is. absurd (other_than Refusal c.in-Err.status status.Done c.in-Err.ensures.refused (λ none. none) is)
+
+pub returns-in-Err-clause-all_flushed : goal.returns-in-Err-clause-all_flushed
+returns-in-Err-clause-all_flushed g c = λ whole. inl refl
 
 pub returns-in-Err-clause-write_count : goal.returns-in-Err-clause-write_count
 returns-in-Err-clause-write_count g c =

@@ -1,4 +1,4 @@
-use Rattle.std.proofs.Common.{inr, refl}
+use Rattle.std.proofs.Common.{inr, refl, inl}
 use Rattle.vk_top.proofs.Outcomes.{done_flushed, served_is, written_late}
 use Rattle.vk_top.proofs.PieceInputs.{refused_other, refused_outcome}
 use Rattle.vk_top.proofs.Told.{written_is}
@@ -21,12 +21,18 @@ returns-in-Ok-clause-nothing g c = λ early.
 pub returns-in-Ok-clause-flushed : goal.returns-in-Ok-clause-flushed
 returns-in-Ok-clause-flushed g c = done_flushed _ _ c.write_work.ensures.flushed
 
+pub returns-in-Ok-clause-all_flushed : goal.returns-in-Ok-clause-all_flushed
+returns-in-Ok-clause-all_flushed g c = λ whole. inr (c.write_work.ensures.flushed whole)
+
 pub returns-in-Err-clause-outcome : goal.returns-in-Err-clause-outcome
 returns-in-Err-clause-outcome g c = refused_outcome _ _ _ _ _ _ refl c.in-Err.ensures.refused
 
 pub returns-in-Err-clause-flushed : goal.returns-in-Err-clause-flushed
 returns-in-Err-clause-flushed g c = λ is.
     absurd (refused_other _ _ _ _ status.Done (λ text none. none) tt c.in-Err.ensures.refused is)
+
+pub returns-in-Err-clause-all_flushed : goal.returns-in-Err-clause-all_flushed
+returns-in-Err-clause-all_flushed g c = λ whole. inl refl
 
 pub returns-in-Err-clause-write_count : goal.returns-in-Err-clause-write_count
 returns-in-Err-clause-write_count g c =

@@ -1,4 +1,4 @@
-use Rattle.std.proofs.Common.{Some, ◌∙◌, ap, arith, refl, sym}
+use Rattle.std.proofs.Common.{Some, ◌∙◌, ap, arith, refl, sym, inl}
 use Rattle.vk_top.proofs.Jobs.{not_threaded, storm_answer, text_answer, useless_answer, wanting_answer}
 use Rattle.vk_edge.proofs.Answers.{tells, tells_none}
 use Rattle.vk_top.proofs.Storms.{no_other}
@@ -48,6 +48,9 @@ returns-in-Ok-None-clause-answer g c = useless_answer _ _ _ _ _ (sym (sym c.in-O
 pub returns-in-Ok-None-clause-flushed : goal.returns-in-Ok-None-clause-flushed
 returns-in-Ok-None-clause-flushed g c = λ is. absurd (grind (arith, is))
 
+pub returns-in-Ok-None-clause-all_flushed : goal.returns-in-Ok-None-clause-all_flushed
+returns-in-Ok-None-clause-all_flushed g c = λ whole. inl refl
+
 pub returns-in-Ok-None-clause-read_faults : goal.returns-in-Ok-None-clause-read_faults
 returns-in-Ok-None-clause-read_faults g c = tells_none _ _ _ _ (λ e. grind (arith, e)) refl
 
@@ -59,6 +62,9 @@ returns-in-Err-clause-answer g c = wanting_answer _ _ _ _ _ refl refl
 
 pub returns-in-Err-clause-flushed : goal.returns-in-Err-clause-flushed
 returns-in-Err-clause-flushed g c = λ is. absurd (grind (arith, is))
+
+pub returns-in-Err-clause-all_flushed : goal.returns-in-Err-clause-all_flushed
+returns-in-Err-clause-all_flushed g c = λ whole. inl refl
 
 pub returns-in-Err-clause-read_faults : goal.returns-in-Err-clause-read_faults
 returns-in-Err-clause-read_faults g c = tells_none _ _ _ _ (λ e. grind (arith, e)) refl

@@ -1,4 +1,5 @@
 use Rattle.std.proofs.Common.{◌≡◌, ap, arith, inl, refl, subst}
+use Rattle.vk_top.proofs.Outcomes.{flushed_since}
 use Rattle.vk_top.proofs.Threaded.{run_begun, run_wanting, wanting_is}
 use Rattle.vk_top.specs.Nodes.{IsNodeAnswer, TellsNode, node_asked}
 use Rattle.vk_top.specs.Runs.{TellsRun, run_asked}
@@ -10,6 +11,11 @@ returns-in-Ok-Some-Run-clause-run g c =
     λ is.
     let alone = c.vkernel_alone.ensures.threaded (ap is_threaded is) in
     run_begun (TellsRun _ _) run_asked _ g.S.Source.left g.K.Sink.written _ _ _ _ _ _ _ _ (alone.1, alone.2) c.run.ensures.answer
+
+pub returns-in-Ok-Some-Run-clause-all_flushed : goal.returns-in-Ok-Some-Run-clause-all_flushed
+returns-in-Ok-Some-Run-clause-all_flushed g c = λ whole.
+    let alone = c.vkernel_alone.ensures.threaded (c.vkernel_alone.ensures.none c.in-None.is) in
+    flushed_since _ _ _ _ alone.2 (c.run.ensures.all_flushed whole)
 
 pub returns-in-Ok-Some-Node-clause-node : goal.returns-in-Ok-Some-Node-clause-node
 returns-in-Ok-Some-Node-clause-node g c =
@@ -27,6 +33,11 @@ returns-in-Ok-Some-Node-clause-node g c =
     (record { handed = g.W.Wire.handed c.node.new.wire; jobs = g.C.Crew.job_count c.node.new.crew })
     (g.K.Sink.written c.vkernel_alone.new.output) (g.K.Sink.written c.node.new.output) c.node.result) same c.node.ensures.answer)
 
+pub returns-in-Ok-Some-Node-clause-all_flushed : goal.returns-in-Ok-Some-Node-clause-all_flushed
+returns-in-Ok-Some-Node-clause-all_flushed g c = λ whole.
+    let alone = c.vkernel_alone.ensures.threaded (c.vkernel_alone.ensures.none c.in-None.is) in
+    flushed_since _ _ _ _ alone.2 (c.node.ensures.all_flushed whole)
+
 pub returns-in-Err-clause-run : goal.returns-in-Err-clause-run
 returns-in-Err-clause-run g c =
     λ is.
@@ -43,6 +54,10 @@ returns-in-Err-clause-node g c =
 
 pub returns-in-Err-clause-flushed : goal.returns-in-Err-clause-flushed
 returns-in-Err-clause-flushed g c = λ is. absurd (grind (arith, is))
+
+pub returns-in-Err-clause-all_flushed : goal.returns-in-Err-clause-all_flushed
+returns-in-Err-clause-all_flushed g c = λ whole.
+    inl (c.vkernel_alone.ensures.threaded (c.vkernel_alone.ensures.none c.in-None.is)).2
 
 pub returns-in-Some-clause-run : goal.returns-in-Some-clause-run
 returns-in-Some-clause-run g c =

@@ -13,4 +13,5 @@ returns-clause-read c = record {
   steps = refl;
   answers = refl;
   noted = c.in_ok-machine.ensures.1;
+  observed = c.in_ok-observed.ensures;
 }

@@ -20,5 +20,5 @@ returns-in-Ok-true-clause-more c =
       sights = is.before ++ told_of is.step told ∷ [];
       reads = line_told c.args.self.now.tells specs ws line told tells ∙ answered_line specs ws told had.kernel (Some seen) is;
       read = answered specs ws c.args.self.now _ told (Some seen) had is (seen, refl, spelled) refl refl refl
-          (omega (arith, c.in-Some.ensures)) c.replace.ensures.after;
+          (omega (arith, c.in-Some.ensures)) c.replace.ensures.after refl refl;
     }

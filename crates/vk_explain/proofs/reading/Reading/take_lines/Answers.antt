@@ -24,7 +24,7 @@ loop-line-preserved c =
           let come = c.loop-line.invariant.come specs ws had in
           comes_more specs ws c.args.self.now c.loop-line.self c.take_line.new.self (lines_of text) (lines_of (drop c.loop-line.at text))
           left c.in-Some.line.now come c.in-Some.ensures.line (c.in-Ok.ensures.more specs come.sights left come.read here)
-          c.in-Ok.ensures.tells c.in-Ok.ensures.line;
+          c.in-Ok.ensures.tells c.in-Ok.ensures.asked c.in-Ok.ensures.line;
     }
 
 pub returns-in-Err-clause-wrong : goal.returns-in-Err-clause-wrong
