@@ -1408,7 +1408,8 @@ function find(test, way) {\n\
 }\n\
 \n\
 function stepRow(by) {\n\
-\x20 const row = view.isTold ? view.rowOf[view.chosen] + by : seen(0)[0];\n\
+\x20 const isFrom = view.isTold || !Number.isFinite(by);\n\
+\x20 const row = isFrom ? view.rowOf[view.chosen] + by : seen(0)[0];\n\
 \x20 const to = view.rows[clamp(row, 0, view.rows.length - 1)];\n\
 \x20 if (to) choose(to.first, false);\n\
 }\n\
@@ -1416,6 +1417,7 @@ function stepRow(by) {\n\
 /** Along the frame, or else along the Send. */\n\
 function stepAlong(way) {\n\
 \x20 const event = view.history.events[view.chosen];\n\
+\x20 if (!event) return;\n\
 \x20 const comes = event.frames.flatMap(frame => frame.comes);\n\
 \x20 if (way < 0 && event.frame) choose(event.frame.event);\n\
 \x20 else if (way > 0 && comes.length) choose(Math.min(...comes));\n\
@@ -1425,8 +1427,8 @@ function stepAlong(way) {\n\
 /** To the same process's, or else the same station's, event before or next. */\n\
 function stepLane(way) {\n\
 \x20 const { byPid, stations, events } = view.history;\n\
-\x20 const { pid, host } = events[view.chosen];\n\
-\x20 stepIn((pid ? byPid.get(pid) : stations.get(host)).events, way);\n\
+\x20 const event = events[view.chosen];\n\
+\x20 if (event) stepIn((event.pid ? byPid.get(event.pid) : stations.get(event.host)).events, way);\n\
 }\n\
 \n\
 /** To the one before or behind the chosen event in this list of events. */\n\
